@@ -1,0 +1,3 @@
+pub mod CategoryLemmas
+pub mod LatticeLemmas
+pub mod PolicyLemmas

@@ -1,0 +1,3 @@
+pub mod Lattice
+pub mod Labels
+pub mod Policy

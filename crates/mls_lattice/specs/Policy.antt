@@ -1,0 +1,51 @@
+-- What a policy is: its levels, categories, labels and users, and the matrix of rights.
+use Rattle.std.specs.Prelude.{◌≡◌, ℕ, ◌<◌, ◌≤◌, ◌&&◌, List, [], ◌∷◌, map, length, if◌then◌else◌, nat_eq}
+use Rattle.std.specs.Option.{IfSome}
+use Rattle.std.specs.List.{AllByRecursion}
+use Rattle.std.specs.Str.{bytes_eq}
+use Rattle.mls_lattice.specs.Lattice.{Pair, pair_of}
+use Rattle.mls_lattice.specs.Labels.{Labels, AreDistinct}
+use Rattle.mls_lattice.specs.declared.tables.NamedLabel.{NamedLabel}
+use Rattle.mls_lattice.specs.declared.tables.User.{User}
+use Rattle.mls_lattice.specs.declared.tables.Right.{Right}
+
+-- the bytes of a name
+abbrev pub Name : Type 0
+Name = List ℕ
+
+-- a declared label
+pub record Named : Type 0 where
+  pub name : Name
+  pub value : Pair
+
+-- all that a policy says, in the order of its file
+pub record Tables : Type 0 where
+  pub levels : List Name
+  pub categories : List Name
+  pub labels : List Named
+  pub users : List User
+  pub matrix : List Right
+
+abbrev pub named : NamedLabel → Named
+named l = record { name = l.name; value = pair_of l.label }
+
+-- the declared labels, by number
+abbrev pub labels_of : Tables → Labels
+labels_of p = map (λ l. l.value) p.labels
+
+-- the clearance and the trusted interval are declared labels
+pub record IsCleared (count : ℕ) (u : User) : Type 0 where
+  pub clearance : u.clearance < count
+  pub trusted : IfSome u.trusted (λ i. (i.0 < count) × (i.1 < count))
+
+-- what holds of every policy
+pub record IsPolicy (p : Tables) : Type 0 where
+  pub few_labels : length p.labels ≤ 64
+  pub few_users : length p.users ≤ 64
+  pub distinct : AreDistinct (labels_of p)
+  pub cleared : AllByRecursion (IsCleared (length p.labels)) p.users
+
+-- the modes of the entry for a user and an object, or none
+abbrev pub modes_in : List Right → ℕ → Name → ℕ
+modes_in [] user object = 0
+modes_in (r ∷ rs) user object = if nat_eq r.user user && bytes_eq r.object object then r.modes.0 else modes_in rs user object

@@ -1,0 +1,40 @@
+//! Labels, modes and policies: who may see and do what.
+#![tactic(auto)]
+
+ghost use Rattle.mls_lattice.specs.Lattice.{IsOrder, IsLeastUpperBound, IsGreatestLowerBound};
+ghost use Rattle.mls_lattice.specs.Labels.{IsOrderByNumber};
+
+mod items;
+mod label;
+mod modes;
+mod number;
+mod policy;
+mod tables;
+mod text;
+
+pub use items::Items;
+pub use label::Label;
+pub use modes::Modes;
+pub use number::{LabelNo, UserNo};
+pub use policy::Policy;
+pub use text::Str;
+
+/// Dominance is an order.
+pub fn dominance_is_an_order()
+    ensures { IsOrder }
+{}
+
+/// The join is the least upper bound.
+pub fn join_is_least()
+    ensures { IsLeastUpperBound }
+{}
+
+/// The meet is the greatest lower bound.
+pub fn meet_is_greatest()
+    ensures { IsGreatestLowerBound }
+{}
+
+/// Dominance is an order of the numbers of labels.
+pub fn numbers_are_ordered()
+    ensures { IsOrderByNumber }
+{}

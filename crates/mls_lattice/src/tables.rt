@@ -1,0 +1,28 @@
+//! The rows of a policy's tables.
+use crate::label::Label;
+use crate::modes::Modes;
+use crate::number::{LabelNo, UserNo};
+use crate::text::Str;
+
+/// A declared label.
+#[derive(Drop, Debug)]
+pub struct NamedLabel {
+    pub name: Str,
+    pub label: Label,
+}
+
+/// A user: the clearance, and the interval in which the user is trusted.
+#[derive(Drop, Debug)]
+pub struct User {
+    pub name: Str,
+    pub clearance: LabelNo,
+    pub trusted: Option<(LabelNo, LabelNo)>,
+}
+
+/// What a user may do with an object (Bell and LaPadula 1976).
+#[derive(Drop, Debug)]
+pub struct Right {
+    pub user: UserNo,
+    pub object: Str,
+    pub modes: Modes,
+}

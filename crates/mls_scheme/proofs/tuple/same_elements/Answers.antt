@@ -1,0 +1,6 @@
+use Rattle.std.proofs.Common.{rules}
+use Rattle.std.proofs.lemmas.Slice.Eq.{slice_eq-Decides}
+use Rattle.mls_scheme.proofs.tuple.same_elements.Goals as goal
+
+pub returns : goal.returns
+returns c = slice_eq-Decides (λ a b. search rules) _ _ _ c.eq.ensures

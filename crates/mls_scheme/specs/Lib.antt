@@ -1,0 +1,5 @@
+pub mod Value
+pub mod Tuple
+pub mod Table
+pub mod Scheme
+pub mod Fits

@@ -1,0 +1,43 @@
+-- The table of a relation: a finite map from places to elements.
+use Rattle.std.specs.Prelude.{◌≡◌, ℕ, List, Some}
+use Rattle.std.specs.Ordering.{nat_cmp, on, then_cmp}
+use Rattle.std.specs.declared.cmp.Ordering.{Ordering}
+use Rattle.std.specs.Cmp.Lexicographic.{slice_cmp}
+use Rattle.std.specs.FinMap.{FinMap, get}
+use Rattle.mls_scheme.specs.declared.value.Value.{Value}
+use Rattle.mls_scheme.specs.declared.tuple.Element.{Element}
+use Rattle.mls_scheme.specs.declared.tuple.Tuple.{Tuple}
+use Rattle.mls_scheme.specs.Value.{value_cmp}
+
+-- an entity (a key with its class), and the class of one of its tuples
+pub record Place : Type 0 where
+  pub key : List Value
+  pub key_class : ℕ
+  pub class : ℕ
+
+-- by key, key class number and class number
+unfoldable pub place_cmp : Place → Place → Ordering
+place_cmp = then_cmp (on (λ p. p.key) (slice_cmp value_cmp)) (then_cmp (on (λ p. p.key_class) nat_cmp) (on (λ p. p.class) nat_cmp))
+
+-- what a relation holds: at most one tuple for each entity and class
+abbrev pub Table : Type 0
+Table = FinMap place_cmp (List Element)
+
+-- a table for each relation, by its number
+abbrev pub Database : Type 0
+Database = ℕ → Table
+
+abbrev pub tuple_at : Place → List Element → Tuple
+tuple_at p es = record { key = p.key; key_class = p.key_class; elements = es }
+
+-- the place of a tuple of a class
+abbrev pub place_of : ℕ → Tuple → Place
+place_of class t = record { key = t.key; key_class = t.key_class; class = class }
+
+-- the tuple stands in the table, with this class
+abbrev pub Has : Table → ℕ → Tuple → Type 0
+Has T class t = get T (place_of class t) ≡ Some t.elements
+
+-- the tuple stands in the table
+abbrev pub IsIn : Table → Tuple → Type 0
+IsIn T t = (class : ℕ) × Has T class t

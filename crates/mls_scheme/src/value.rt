@@ -1,0 +1,88 @@
+ghost use Rattle.std.specs.Prelude.{◌≡◌, ◌↔◌, IsTrue, IfOk};
+ghost use Rattle.std.specs.Cmp.Lexicographic.{slice_cmp};
+ghost use Rattle.mls_scheme.specs.Value.{kind_of, is_kind, value_cmp};
+
+use mls_lattice::{Items, Str};
+use std::alloc::AllocError;
+use std::cmp::Ordering;
+
+/// What kind of value an attribute holds.
+#[derive(Clone, Copy, PartialEq, Eq, Debug)]
+pub enum Kind {
+    /// 64 signed bits.
+    Int,
+    /// A text of fewer than 4,294,967,296 bytes.
+    Text,
+}
+
+/// A value that is not null. Numbers come before texts; numbers go by value, texts by their bytes.
+#[derive(Clone, PartialEq, Eq, PartialOrd, Ord, Drop, Debug)]
+pub enum Value {
+    Int(i64),
+    Text(Str),
+}
+
+impl Value {
+    /// The kind of the value.
+    pub fn kind(&self) -> Kind
+        ensures { result ≡ kind_of self.now }
+    {
+        match self {
+            Value::Int(_) => Kind::Int,
+            Value::Text(_) => Kind::Text,
+        }
+    }
+
+    /// Whether the value is of a kind.
+    pub fn is_kind(&self, kind: Kind) -> bool
+        ensures { result ≡ is_kind self.now kind }
+    {
+        match (self, kind) {
+            (Value::Int(_), Kind::Int) => true,
+            (Value::Text(_), Kind::Text) => true,
+            _ => false,
+        }
+    }
+
+    /// An equal value.
+    pub fn copy(&self) -> Result<Value, AllocError>
+        ensures { IfOk result (λ v. v ≡ self.now) }
+    {
+        self.clone()
+    }
+
+    /// Whether two values are the same.
+    pub fn same(&self, other: &Value) -> bool
+        ensures { IsTrue result ↔ (self.now ≡ other.now) }
+    {
+        self == other
+    }
+
+    /// The order of two values.
+    pub fn order(&self, other: &Value) -> Ordering
+        ensures { result ≡ value_cmp self.now other.now }
+    {
+        self.cmp(other)
+    }
+}
+
+/// An equal key.
+pub fn copy_key(key: &Items<Value>) -> Result<Items<Value>, AllocError>
+    ensures { IfOk result (λ k. k ≡ key.now) }
+{
+    key.clone()
+}
+
+/// Whether two keys are the same.
+pub fn same_key(left: &[Value], right: &[Value]) -> bool
+    ensures { IsTrue result ↔ (left.now ≡ right.now) }
+{
+    left == right
+}
+
+/// The order of two keys: the first values that differ decide.
+pub fn order_keys(left: &Items<Value>, right: &Items<Value>) -> Ordering
+    ensures { result ≡ slice_cmp value_cmp left.now right.now }
+{
+    left.cmp(right)
+}

@@ -1,0 +1,41 @@
+-- The laws of views and of the stored form.
+use Rattle.std.specs.Prelude.{◌≡◌, ℕ, ◌<◌, true, length, ◌↔◌, List, map, Some, IsTrue}
+use Rattle.std.specs.List.{AllByRecursion, filter}
+use Rattle.std.specs.FinMap.{get, is_sorted}
+use Rattle.mls_lattice.specs.Labels.{Labels, label_of, below, AreDistinct}
+use Rattle.mls_scheme.specs.declared.tuple.Element.{Element}
+use Rattle.mls_scheme.specs.declared.tuple.Tuple.{Tuple}
+use Rattle.mls_scheme.specs.Tuple.{tuple_class}
+use Rattle.mls_scheme.specs.Table.{Place, place_cmp, Table, Has, IsIn, tuple_at}
+use Rattle.mls_filterview.specs.Subsumption.{IsMax, is_max_among}
+use Rattle.mls_filterview.specs.View.{View, low, rows, IsAmong}
+use Rattle.mls_filterview.specs.Stored.{IsStored}
+use Rattle.mls_filterview.specs.Integrity.{HasIntegrity}
+
+-- the stored form has the four integrity properties
+abbrev pub StoredHasIntegrity : Type 0
+StoredHasIntegrity = (ls : Labels) (n : ℕ) (T : Table) → IsStored ls n T → HasIntegrity ls T
+
+-- the view at c is what is not subsumed among the tuples of classes that c dominates
+abbrev pub ViewIsMaxOfLow : Type 0
+ViewIsMaxOfLow = (ls : Labels) (n : ℕ) (T : Table) → IsStored ls n T → (c : ℕ) (t : Tuple) → View ls (IsIn T) c t ↔ IsMax (IsIn (low ls c T)) t
+
+-- the tuples of a class m that c dominates are those of class m in the view at m of the view at c
+abbrev pub ViewTellsLow : Type 0
+ViewTellsLow =
+    (ls : Labels) → AreDistinct ls → (n : ℕ) (T : Table) → IsStored ls n T → (c m : ℕ) (t : Tuple) → m < length ls → below ls m c ≡ true
+    → Has T m t ↔ (View ls (View ls (IsIn T) c) m t × (tuple_class ls t ≡ label_of ls m))
+
+-- the rows are just the tuples of the view, in the order of places
+abbrev pub RowsAreTheView : Type 0
+RowsAreTheView =
+    (ls : Labels) → AreDistinct ls → (n : ℕ) (T : Table) → IsStored ls n T → (c : ℕ)
+    → ((t : Tuple) → IsAmong t (rows ls c T) ↔ View ls (IsIn T) c t)
+    × ((es : List (Place × List Element)) × (rows ls c T ≡ map (λ e. tuple_at e.0 e.1) es) × IsTrue (is_sorted place_cmp es) × AllByRecursion (λ e. get T e.0 ≡ Some e.1) es)
+
+-- the rows may be computed from any list in order of just the tuples of classes that c dominates
+abbrev pub RowsComeFromLow : Type 0
+RowsComeFromLow =
+    (ls : Labels) (c : ℕ) (T : Table) (es : List (Place × List Element)) → is_sorted place_cmp es ≡ true
+    → ((e : Place × List Element) → IsAmong e es ↔ ((get T e.0 ≡ Some e.1) × (below ls e.0.class c ≡ true)))
+    → map (λ e. tuple_at e.0 e.1) (filter (is_max_among es) es) ≡ rows ls c T

@@ -1,0 +1,5 @@
+pub mod Subsumption
+pub mod View
+pub mod Stored
+pub mod Integrity
+pub mod Laws

@@ -1,0 +1,3 @@
+pub mod Outcome
+pub mod Writes
+pub mod Laws

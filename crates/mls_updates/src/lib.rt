@@ -1,0 +1,11 @@
+//! The three writes of a multilevel relation, and their laws.
+#![tactic(auto)]
+
+mod laws;
+mod outcome;
+
+pub use laws::{
+    high_writes_are_unseen, high_writes_leave_low, low_writes_see_low, writes_keep_content,
+    writes_keep_form,
+};
+pub use outcome::Outcome;

@@ -1,0 +1,56 @@
+ghost use Rattle.std.specs.Prelude.{◌≡◌};
+ghost use Rattle.mls_updates.specs.Outcome.{code_of, word_of};
+
+/// What became of a write. Every outcome but Done changes nothing.
+#[derive(Clone, Copy, PartialEq, Eq, Debug)]
+pub enum Outcome {
+    Done,
+    /// A key value is null.
+    KeyNull,
+    /// The entity of this key and the writer's class is there.
+    Duplicate,
+    /// The entity has no tuple of that class.
+    NoTuple,
+    /// A null above the key class.
+    NullAboveKey,
+    /// The class of a named element is not the writer's.
+    Inherited,
+    /// The writer's label lies outside an attribute's interval.
+    OutOfInterval,
+    /// The entity has a tuple of the writer's class.
+    AlreadyDerived,
+}
+
+impl Outcome {
+    /// The number of the outcome: 0, or 11 to 17.
+    pub fn code(self) -> u8
+        ensures { result ≡ code_of self }
+    {
+        match self {
+            Outcome::Done => 0,
+            Outcome::KeyNull => 11,
+            Outcome::Duplicate => 12,
+            Outcome::NoTuple => 13,
+            Outcome::NullAboveKey => 14,
+            Outcome::Inherited => 15,
+            Outcome::OutOfInterval => 16,
+            Outcome::AlreadyDerived => 17,
+        }
+    }
+
+    /// The name of the outcome.
+    pub fn word(self) -> &'static str
+        ensures { result.now ≡ word_of self }
+    {
+        match self {
+            Outcome::Done => "Done",
+            Outcome::KeyNull => "KeyNull",
+            Outcome::Duplicate => "Duplicate",
+            Outcome::NoTuple => "NoTuple",
+            Outcome::NullAboveKey => "NullAboveKey",
+            Outcome::Inherited => "Inherited",
+            Outcome::OutOfInterval => "OutOfInterval",
+            Outcome::AlreadyDerived => "AlreadyDerived",
+        }
+    }
+}

@@ -1,5 +1,6 @@
 pub mod Value
 pub mod Tuple
 pub mod Table
+pub mod Order
 pub mod Scheme
 pub mod Fits

@@ -1,8 +1,15 @@
 //! Values, tuples and schemes: what a relation is, and what a tuple of it is.
 #![tactic(auto)]
 
+ghost use Rattle.mls_scheme.specs.Order.{AreOrdered};
+
 mod tuple;
 mod value;
 
 pub use tuple::{Element, Tuple, same_elements, tuple_class};
 pub use value::{Kind, Value, copy_key, order_keys, same_key};
+
+/// The orders of values and of places are total, and only equal ones tie.
+pub fn places_are_ordered()
+    ensures { AreOrdered }
+{}

@@ -1,1 +1,2 @@
 pub mod OrderLemmas
+pub mod TableLemmas

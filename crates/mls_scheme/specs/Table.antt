@@ -1,9 +1,9 @@
 -- The table of a relation: a finite map from places to elements.
-use Rattle.std.specs.Prelude.{◌≡◌, ℕ, List, Some}
+use Rattle.std.specs.Prelude.{◌≡◌, ℕ, List, Some, map}
 use Rattle.std.specs.Ordering.{nat_cmp, on, then_cmp}
 use Rattle.std.specs.declared.cmp.Ordering.{Ordering}
 use Rattle.std.specs.Cmp.Lexicographic.{slice_cmp}
-use Rattle.std.specs.FinMap.{FinMap, get}
+use Rattle.std.specs.FinMap.{FinMap, get, entries, from_sorted}
 use Rattle.mls_scheme.specs.declared.value.Value.{Value}
 use Rattle.mls_scheme.specs.declared.tuple.Element.{Element}
 use Rattle.mls_scheme.specs.declared.tuple.Tuple.{Tuple}
@@ -41,3 +41,7 @@ Has T class t = get T (place_of class t) ≡ Some t.elements
 -- the tuple stands in the table
 abbrev pub IsIn : Table → Tuple → Type 0
 IsIn T t = (class : ℕ) × Has T class t
+
+-- a table with each tuple changed, each in its place
+unfoldable pub change : (Place → List Element → List Element) → Table → Table
+change f T = from_sorted (map (λ e. (e.0, f e.0 e.1)) (entries T))

@@ -2,13 +2,13 @@
 use Rattle.std.specs.Prelude.{◌≡◌, ℕ, suc, Bool, true, not, ◌&&◌, if◌then◌else◌, cond, nat_eq, List, [], ◌∷◌, map, Option, Some, None, is_some, is_none, length, ◌<◌}
 use Rattle.std.specs.List.{list_any, list_all, AllByRecursion}
 use Rattle.std.specs.Ordering.{eq_by_cmp}
-use Rattle.std.specs.FinMap.{get, insert, retain_keys, entries, from_sorted}
+use Rattle.std.specs.FinMap.{get, insert, retain_keys}
 use Rattle.mls_lattice.specs.Labels.{Labels, below}
 use Rattle.mls_scheme.specs.declared.value.Value.{Value}
 use Rattle.mls_scheme.specs.declared.tuple.Element.{Element}
 use Rattle.mls_scheme.specs.Value.{fits_kind}
 use Rattle.mls_scheme.specs.Tuple.{at}
-use Rattle.mls_scheme.specs.Table.{Place, place_cmp, Table, Database}
+use Rattle.mls_scheme.specs.Table.{Place, place_cmp, Table, Database, change}
 use Rattle.mls_scheme.specs.Scheme.{Scheme, other_of}
 use Rattle.mls_scheme.specs.Fits.{in_interval, HaveKinds}
 use Rattle.mls_updates.specs.declared.outcome.Outcome.{Outcome}
@@ -75,10 +75,6 @@ set_at (s ∷ ss) i = if nat_eq s.0 i then Some s.1 else set_at ss i
 abbrev pub each_from : ℕ → (ℕ → Element → Element) → List Element → List Element
 each_from k f [] = []
 each_from k f (e ∷ es) = f k e ∷ each_from (suc k) f es
-
--- a table with each tuple changed, each in its place
-unfoldable pub change : (Place → List Element → List Element) → Table → Table
-change f T = from_sorted (map (λ e. (e.0, f e.0 e.1)) (entries T))
 
 abbrev pub set_element : ℕ → Option (Option Value) → Element → Element
 set_element w None e = e

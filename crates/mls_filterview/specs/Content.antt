@@ -1,0 +1,50 @@
+-- What a base holds: a table for each relation, and the audit list.
+use Rattle.std.specs.Prelude.{ℕ, Bool, true, false, if◌then◌else◌, nat_eq, List, [], ◌∷◌, ◌++◌}
+use Rattle.std.specs.FinMap.{empty}
+use Rattle.mls_scheme.specs.Table.{Table, Database}
+use Rattle.mls_filterview.specs.declared.base.BaseFault.{BaseFault}
+use Rattle.mls_filterview.specs.declared.base.BaseFault.TheVariants.{Store, Memory, NotBegun, Begun}
+
+pub record Content : Type 0 where
+  pub db : Database
+  pub audit : List (List ℕ)
+
+abbrev pub no_content : Content
+no_content = record { db = λ rel. empty; audit = [] }
+
+-- a database with one relation changed
+abbrev pub with_table : Database → ℕ → Table → Database
+with_table db rel T r = if nat_eq r rel then T else db r
+
+-- the content now, as of the last commit, and whether a change is begun
+pub record State : Type 0 where
+  pub now : Content
+  pub kept : Content
+  pub begun : Bool
+
+abbrev pub begun_change : State → State
+begun_change s = record { now = s.now; kept = s.now; begun = true }
+
+abbrev pub committed : State → State
+committed s = record { now = s.now; kept = s.now; begun = false }
+
+-- back at the last commit
+abbrev pub ended : State → State
+ended s = record { now = s.kept; kept = s.kept; begun = false }
+
+abbrev pub with_relation : State → ℕ → Table → State
+with_relation s rel T = record s { now = record { db = with_table s.now.db rel T; audit = s.now.audit } }
+
+abbrev pub with_entry : State → List ℕ → State
+with_entry s bytes = record s { now = record { db = s.now.db; audit = s.now.audit ++ bytes ∷ [] } }
+
+-- a change that fails ends; what fails outside a change leaves all as it was
+abbrev pub failed : State → State
+failed s = if s.begun then ended s else s
+
+-- the state after a call that answered a fault
+abbrev pub after : BaseFault → State → State
+after Store s = failed s
+after Memory s = failed s
+after NotBegun s = s
+after Begun s = s

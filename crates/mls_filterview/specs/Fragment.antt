@@ -1,0 +1,45 @@
+-- What one label holds of a relation: its tuples without values, and the elements of that class in them.
+use Rattle.std.specs.Prelude.{◌≡◌, ◌≢◌, ℕ, suc, ◌<◌, if◌then◌else◌, nat_eq, List, [], ◌∷◌, map, length, Some, IsPermutation}
+use Rattle.std.specs.List.{filter, flat_map}
+use Rattle.std.specs.FinMap.{get, entries}
+use Rattle.mls_scheme.specs.declared.tuple.Element.{Element}
+use Rattle.mls_scheme.specs.Tuple.{at}
+use Rattle.mls_scheme.specs.Table.{Place, Table}
+use Rattle.mls_filterview.specs.Stored.{with_class}
+use Rattle.mls_filterview.specs.declared.fragment.Node.{Node}
+use Rattle.mls_filterview.specs.declared.fragment.Cell.{Cell}
+use Rattle.mls_filterview.specs.declared.fragment.Fragment.{Fragment}
+
+-- the tuples of a class, in the order of places
+abbrev pub of_class : ℕ → Table → List (Place × List Element)
+of_class m T = filter (λ e. nat_eq e.0.class m) (entries T)
+
+-- a tuple without its values
+abbrev pub node_of : Place × List Element → Node
+node_of e = record { key = e.0.key; key_class = e.0.key_class; label = e.0.class; pattern = map (λ x. x.class) e.1 }
+
+abbrev pub cell_at : Place → ℕ → Element → Cell
+cell_at p i e = record { key = p.key; key_class = p.key_class; attr = i; label = e.class; value = e.value }
+
+-- the elements of a tuple's own class, numbered from k
+abbrev pub cells_from : ℕ → Place → List Element → List Cell
+cells_from k p [] = []
+cells_from k p (e ∷ es) = if nat_eq e.class p.class then cell_at p k e ∷ cells_from (suc k) p es else cells_from (suc k) p es
+
+abbrev pub cells_of : Place × List Element → List Cell
+cells_of e = cells_from 0 e.0 e.1
+
+-- the fragment of a label, in any order
+pub record IsFragment (T : Table) (m : ℕ) (f : Fragment) : Type 0 where
+  pub nodes : IsPermutation (map node_of (of_class m T)) f.nodes
+  pub cells : IsPermutation (flat_map cells_of (of_class m T)) f.cells
+
+abbrev pub place_of_node : Node → Place
+place_of_node n = record { key = n.key; key_class = n.key_class; class = n.label }
+
+-- the node and the cells of its label are those of a tuple with the elements es, whose other elements the entity's tuples
+-- of their classes have
+pub record IsMadeOf (T : Table) (n : Node) (cells : List Cell) (es : List Element) : Type 0 where
+  pub pattern : n.pattern ≡ map (λ e. e.class) es
+  pub own : cells ≡ cells_from 0 (place_of_node n) es
+  pub others : (i : ℕ) → i < length es → (at es i).class ≢ n.label → (fs : List Element) × (get T (with_class (place_of_node n) (at es i).class) ≡ Some fs) × (at fs i ≡ at es i)

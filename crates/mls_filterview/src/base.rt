@@ -1,0 +1,115 @@
+//! Where content is kept.
+ghost use Rattle.std.specs.Prelude.{◌≡◌, ◌↔◌, ◌<◌, ◌≤◌, ℕ, List, false, true, IfOk, IfErr, IsErrOf, OnOk, map, None};
+ghost use Rattle.std.specs.FinMap.{get, insert};
+ghost use Rattle.mls_scheme.specs.declared.tuple.Element.{Element as SpecElement};
+ghost use Rattle.mls_filterview.specs.Content.{State, begun_change, committed, ended, after, with_relation};
+ghost use Rattle.mls_filterview.specs.Fragment.{IsFragment, IsMadeOf, place_of_node};
+
+use crate::fragment::{Cell, Fragment, Node};
+use mls_lattice::LabelNo;
+use mls_scheme::RelNo;
+use std::alloc::{AllocError, AllocFailed};
+
+/// Why a call over a base gives no answer.
+#[derive(Clone, Copy, PartialEq, Eq, Debug)]
+pub enum BaseFault {
+    /// The store failed in this call.
+    Store,
+    /// A growth was refused.
+    Memory,
+    /// The call belongs into a change, and none is begun.
+    NotBegun,
+    /// A change is begun already.
+    Begun,
+}
+
+impl From<AllocError> for BaseFault {
+    ghost use Rattle.mls_filterview.specs.declared.base.BaseFault.TheVariants.{Memory};
+
+    ghost from_gives = { λ _ e. e ≡ Memory };
+
+    fn from(_e: AllocError) -> BaseFault {
+        BaseFault::Memory
+    }
+}
+
+impl<T: Drop> From<AllocFailed<T>> for BaseFault {
+    ghost use Rattle.mls_filterview.specs.declared.base.BaseFault.TheVariants.{Memory};
+
+    ghost from_gives = { λ _ e. e ≡ Memory };
+
+    fn from(_e: AllocFailed<T>) -> BaseFault {
+        BaseFault::Memory
+    }
+}
+
+/// Where tuples and audit entries are kept.
+///
+/// Contracts see the content now, that of the last commit, and whether a change is begun; how many calls of the store
+/// have failed; and whether the store gives back what was written to it. A store can be found unclean at any call and
+/// never becomes clean again, so what is said of content has the premise that the store is clean after the call.
+/// After `Store` or `Memory` inside a change the change has ended, with the content of the last commit.
+pub trait Base {
+    ghost state: { Self → State };
+
+    ghost failures: { Self → ℕ };
+
+    ghost is_clean: { Self → Type 0 };
+
+    /// Whether a change is begun.
+    fn is_begun(&self) -> bool
+        ensures { result ≡ (state self.now).begun };
+
+    /// Begins a change.
+    fn begin(&mut self) -> Result<(), BaseFault>
+        ensures clean { is_clean self.new → is_clean self.old }
+        ensures count { failures self.old ≤ failures self.new }
+        ensures store { IsErrOf result BaseFault.Store → failures self.old < failures self.new }
+        ensures begun { (result ≡ Err BaseFault.Begun) ↔ ((state self.old).begun ≡ true) }
+        ensures no_other { IsErrOf result BaseFault.NotBegun → ⊥ }
+        ensures done { is_clean self.new → OnOk result (state self.new ≡ begun_change (state self.old)) }
+        ensures failed { is_clean self.new → IfErr result (λ e. state self.new ≡ after e (state self.old)) };
+
+    /// Keeps what the change did, and ends it.
+    fn commit(&mut self) -> Result<(), BaseFault>
+        ensures clean { is_clean self.new → is_clean self.old }
+        ensures count { failures self.old ≤ failures self.new }
+        ensures store { IsErrOf result BaseFault.Store → failures self.old < failures self.new }
+        ensures not_begun { (result ≡ Err BaseFault.NotBegun) ↔ ((state self.old).begun ≡ false) }
+        ensures no_other { IsErrOf result BaseFault.Begun → ⊥ }
+        ensures done { is_clean self.new → OnOk result (state self.new ≡ committed (state self.old)) }
+        ensures failed { is_clean self.new → IfErr result (λ e. state self.new ≡ after e (state self.old)) };
+
+    /// Goes back to the last commit, and ends the change.
+    fn rollback(&mut self) -> Result<(), BaseFault>
+        ensures clean { is_clean self.new → is_clean self.old }
+        ensures count { failures self.old ≤ failures self.new }
+        ensures store { IsErrOf result BaseFault.Store → failures self.old < failures self.new }
+        ensures not_begun { (result ≡ Err BaseFault.NotBegun) ↔ ((state self.old).begun ≡ false) }
+        ensures no_other { IsErrOf result BaseFault.Begun → ⊥ }
+        ensures done { is_clean self.new → OnOk result (state self.new ≡ ended (state self.old)) }
+        ensures failed { is_clean self.new → IfErr result (λ e. state self.new ≡ after e (state self.old)) };
+
+    /// What a label holds of a relation.
+    fn fragment(&mut self, rel: RelNo, label: LabelNo) -> Result<Fragment, BaseFault>
+        ensures clean { is_clean self.new → is_clean self.old }
+        ensures count { failures self.old ≤ failures self.new }
+        ensures store { IsErrOf result BaseFault.Store → failures self.old < failures self.new }
+        ensures no_other { IfErr result (λ e. (e ≡ BaseFault.NotBegun → ⊥) × (e ≡ BaseFault.Begun → ⊥)) }
+        ensures found { is_clean self.new → IfOk result (IsFragment ((state self.old).now.db rel) label) }
+        ensures same { is_clean self.new → OnOk result (state self.new ≡ state self.old) }
+        ensures failed { is_clean self.new → IfErr result (λ e. state self.new ≡ after e (state self.old)) };
+
+    /// Adds a tuple: its node, and the cells of its class in the order of attributes.
+    fn add(&mut self, rel: RelNo, node: Node, cells: &[Cell]) -> Result<(), BaseFault>
+        requires absent { is_clean self.old → get ((state self.old).now.db rel) (place_of_node node) ≡ None }
+        requires made { is_clean self.old → (es : List SpecElement) × IsMadeOf ((state self.old).now.db rel) node cells.now es }
+        ensures clean { is_clean self.new → is_clean self.old }
+        ensures count { failures self.old ≤ failures self.new }
+        ensures store { IsErrOf result BaseFault.Store → failures self.old < failures self.new }
+        ensures not_begun { (result ≡ Err BaseFault.NotBegun) ↔ ((state self.old).begun ≡ false) }
+        ensures no_other { IsErrOf result BaseFault.Begun → ⊥ }
+        ensures done { is_clean self.new → (es : List SpecElement) → IsMadeOf ((state self.old).now.db rel) node cells.now es
+            → OnOk result (state self.new ≡ with_relation (state self.old) rel (insert ((state self.old).now.db rel) (place_of_node node) es)) }
+        ensures failed { is_clean self.new → IfErr result (λ e. state self.new ≡ after e (state self.old)) };
+}

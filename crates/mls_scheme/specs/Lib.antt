@@ -2,4 +2,5 @@ pub mod Value
 pub mod Tuple
 pub mod Table
 pub mod Scheme
+pub mod Fault
 pub mod Fits

@@ -1,12 +1,12 @@
 -- Laws of pairs.
-use Rattle.std.proofs.Common.{◌≡◌, ℕ, ◌<◌, ◌≤◌, max, min, Bool, true, false, ◌&&◌, ◌||◌, length, refl, sym, ap, ◌∙◌, inl, inr, arith}
-use Rattle.std.specs.Prelude.{◌⊎◌, ◌↔◌, nat_le}
+use Rattle.std.proofs.Common.{◌≡◌, ℕ, ◌<◌, Bool, true, false, ◌||◌, length, refl, sym, ◌∙◌, inl, inr, arith}
+use Rattle.std.specs.Prelude.{◌↔◌, nat_le}
 use Rattle.std.specs.Ordering.{nat_cmp}
 use Rattle.std.specs.FinSet as set
 use Rattle.std.specs.FinSet.{nat_cmp-IsAntisymmetric}
 use Rattle.std.proofs.lemmas.Cmp.{nat_cmp_total}
-use Rattle.std.proofs.lemmas.Bool.{and_parts, and_from, or_cases, leb-true, le-leb, cases_Bool}
-use Rattle.mls_lattice.specs.Lattice.{Categories, Pair, Dominates, join, meet, bottom, ◌⊑◌, IsOrder, IsLeastUpperBound, IsGreatestLowerBound}
+use Rattle.std.proofs.lemmas.Bool.{and_parts, and_from, or_cases, leb-true, le-leb}
+use Rattle.mls_lattice.specs.Lattice.{Pair, Dominates, join, meet, bottom, ◌⊑◌, IsOrder, IsLeastUpperBound, IsGreatestLowerBound}
 use Rattle.mls_lattice.specs.Labels.{Labels, label_of, below, AreDistinct, IsOrderByNumber}
 
 -- the test is the relation

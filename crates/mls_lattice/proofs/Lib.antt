@@ -1,3 +1,4 @@
 pub mod CategoryLemmas
+pub mod ReadingLemmas
 pub mod LatticeLemmas
 pub mod PolicyLemmas

@@ -1,10 +1,10 @@
 -- The tables of a policy, seen through the view of its labels.
-use Rattle.std.proofs.Common.{◌≡◌, ℕ, ◌<◌, Bool, true, false, List, [], ◌∷◌, length, map, get_or, cond, not, nat_lt, ◌+◌, Some, None, refl, ap, ◌∙◌, sym}
+use Rattle.std.proofs.Common.{◌≡◌, ℕ, ◌<◌, Bool, List, [], ◌∷◌, length, map, get_or, cond, not, nat_lt, ◌+◌, Some, None, refl, ap, ◌∙◌}
 use Rattle.std.specs.List.{position, prefix_len}
 use Rattle.std.specs.Str.{bytes_eq}
 use Rattle.std.proofs.lemmas.List.{get_or-map, length-map}
-use Rattle.mls_lattice.specs.Lattice.{pair_of, bottom, ◌⊑◌}
-use Rattle.mls_lattice.specs.Labels.{Labels, label_of, below}
+use Rattle.mls_lattice.specs.Lattice.{pair_of, bottom}
+use Rattle.mls_lattice.specs.Labels.{label_of}
 use Rattle.mls_lattice.specs.Policy.{Name, Named, named}
 use Rattle.mls_lattice.specs.declared.tables.NamedLabel.{NamedLabel}
 

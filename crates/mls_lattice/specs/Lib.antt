@@ -1,3 +1,6 @@
+pub mod Fault
+pub mod Name
 pub mod Lattice
 pub mod Labels
 pub mod Policy
+pub mod Reading

@@ -4,17 +4,22 @@
 ghost use Rattle.mls_lattice.specs.Lattice.{IsOrder, IsLeastUpperBound, IsGreatestLowerBound};
 ghost use Rattle.mls_lattice.specs.Labels.{IsOrderByNumber};
 
+pub mod document;
+mod fault;
 mod items;
 mod label;
 mod modes;
+mod name;
 mod number;
 mod policy;
 mod tables;
 mod text;
 
+pub use fault::PolicyFault;
 pub use items::Items;
 pub use label::Label;
 pub use modes::Modes;
+pub use name::{is_name, is_name_byte, is_reserved};
 pub use number::{LabelNo, UserNo};
 pub use policy::Policy;
 pub use text::Str;

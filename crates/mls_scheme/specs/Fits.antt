@@ -6,11 +6,16 @@ use Rattle.mls_scheme.specs.declared.value.Value.{Value}
 use Rattle.mls_scheme.specs.declared.tuple.Element.{Element}
 use Rattle.mls_scheme.specs.Value.{is_kind, fits_kind}
 use Rattle.mls_scheme.specs.Table.{Place}
+use Rattle.mls_scheme.specs.declared.attributes.Column.{Column}
 use Rattle.mls_scheme.specs.Scheme.{Attribute, Scheme}
 
 -- whether a class lies in an attribute's interval
 abbrev pub in_interval : Labels → ℕ → Attribute → Bool
 in_interval ls class a = below ls a.low class && below ls class a.high
+
+-- the same of what is kept of an attribute
+abbrev pub in_column : Labels → ℕ → Column → Bool
+in_column ls class c = below ls c.low class && below ls class c.high
 
 -- values or nulls have the number and the kinds of attributes
 abbrev pub HaveKinds : List Attribute → List (Option Value) → Type 0

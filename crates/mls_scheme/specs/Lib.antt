@@ -3,4 +3,5 @@ pub mod Tuple
 pub mod Table
 pub mod Order
 pub mod Scheme
+pub mod Fault
 pub mod Fits

@@ -1,8 +1,11 @@
 -- Multilevel schemes (Jajodia and Sandhu 1991): relations, their attributes and the intervals of these.
-use Rattle.std.specs.Prelude.{ℕ, List, [], slice_index_or}
+use Rattle.std.specs.Prelude.{◌≡◌, ℕ, ◌<◌, ◌≤◌, List, [], ◌++◌, map, length, slice_index_or, String, string_bytes}
+use Rattle.std.specs.List.{AllByRecursion, IsDistinct}
+use Rattle.std.specs.Str.{bytes_eq}
 use Rattle.mls_lattice.specs.Policy.{Name}
 use Rattle.mls_scheme.specs.declared.value.Kind.{Kind}
 use Rattle.mls_scheme.specs.declared.value.Kind.TheVariants.{Int}
+use Rattle.mls_scheme.specs.declared.attributes.Column.{Column}
 
 -- low and high are numbers of labels
 pub record Attribute : Type 0 where
@@ -34,3 +37,45 @@ no_attribute = record { name = []; kind = Int; low = 0; high = 0 }
 -- an attribute outside the key, by its number
 abbrev pub other_of : Scheme → ℕ → Attribute
 other_of scheme i = slice_index_or scheme.others i no_attribute
+
+-- ---- what is kept of an attribute beside its name
+
+abbrev pub column_of : Attribute → Column
+column_of a = record { kind = a.kind; low = a.low; high = a.high }
+
+abbrev pub attribute_of : {Z : Type 0} → String Z × Column → Attribute
+attribute_of e = record { name = string_bytes e.0; kind = e.1.kind; low = e.1.low; high = e.1.high }
+
+-- ---- what holds of all schemes
+
+-- the attribute whose interval all key attributes have
+abbrev pub first_key : Scheme → Attribute
+first_key scheme = slice_index_or scheme.keys 0 no_attribute
+
+abbrev pub HasInterval : Attribute → Attribute → Type 0
+HasInterval a b = (b.low ≡ a.low) × (b.high ≡ a.high)
+
+pub record IsScheme (scheme : Scheme) : Type 0 where
+  pub some_key : 0 < length scheme.keys
+  pub few_keys : length scheme.keys ≤ 4
+  pub few_others : length scheme.others ≤ 15
+  pub distinct : IsDistinct bytes_eq (map (λ a. a.name) (scheme.keys ++ scheme.others))
+  pub one_interval : AllByRecursion (HasInterval (first_key scheme)) scheme.keys
+
+pub record AreSchemes (schemes : Schemes) : Type 0 where
+  pub few : length schemes ≤ 16
+  pub each : AllByRecursion IsScheme schemes
+  pub distinct : IsDistinct bytes_eq (map (λ s. s.name) schemes)
+
+-- low and high are numbers of count labels
+pub record IsAmongLabels (count : ℕ) (a : Attribute) : Type 0 where
+  pub low : a.low < count
+  pub high : a.high < count
+
+pub record IsUnder (count : ℕ) (scheme : Scheme) : Type 0 where
+  pub keys : AllByRecursion (IsAmongLabels count) scheme.keys
+  pub others : AllByRecursion (IsAmongLabels count) scheme.others
+
+-- schemes that speak of count labels
+abbrev pub AreUnder : ℕ → Schemes → Type 0
+AreUnder count = AllByRecursion (IsUnder count)

@@ -3,9 +3,19 @@
 
 ghost use Rattle.mls_scheme.specs.Order.{AreOrdered};
 
+mod attributes;
+mod fault;
+mod fits;
+mod number;
+mod scheme;
 mod tuple;
 mod value;
 
+pub use attributes::{Attributes, Column};
+pub use fault::SchemeFault;
+pub use fits::{fits_kind, in_interval};
+pub use number::RelNo;
+pub use scheme::{Scheme, Schemes};
 pub use tuple::{Element, Tuple, same_elements, tuple_class};
 pub use value::{Kind, Value, copy_key, order_keys, same_key};
 

@@ -1,0 +1,65 @@
+-- What a field of a document says, or its fault.
+use Rattle.std.specs.Prelude.{◌≡◌, ℕ, suc, ℤ, List, Bool, true, nat_lt, ◌==◌, ◌&&◌, if◌then◌else◌, Option, Some, None, is_some, Result, Ok, Err, ok_or}
+use Rattle.toml.specs.Data.{Data, Items, no_items, item, Members, get_member, as_str, as_integer, as_array, as_table}
+use Rattle.mls_lattice.specs.declared.fault.PolicyFault.{PolicyFault}
+use Rattle.mls_lattice.specs.declared.fault.PolicyFault.TheVariants.{MissingField, WrongKind, TooMany, BadName, Memory}
+use Rattle.mls_lattice.specs.Name.{is_name}
+
+-- one step after another, up to the first fault
+infixl 10 ◌>>=◌
+abbrev pub ◌>>=◌ : {A B E : Type 0} → Result A E → (A → Result B E) → Result B E
+(Ok x) >>= f = f x
+(Err e) >>= f = Err e
+
+-- What a function returned, seen by view, is what reading gives, unless memory ran out.
+abbrev pub Gives : {X Y : Type 0} → (X → Y) → Result X PolicyFault → Result Y PolicyFault → Type 0
+Gives view (Ok x) read = read ≡ Ok (view x)
+Gives view (Err e) read = (e ≡ Memory → ⊥) → read ≡ Err e
+
+-- the value at a key
+abbrev pub wanted : List ℕ → Members → Result Data PolicyFault
+wanted key fields = ok_or (get_member key fields) MissingField
+
+abbrev pub text_at : Data → Result (List ℕ) PolicyFault
+text_at d = ok_or (as_str d) WrongKind
+
+abbrev pub integer_at : Data → Result ℤ PolicyFault
+integer_at d = ok_or (as_integer d) WrongKind
+
+abbrev pub array_at : Data → Result Items PolicyFault
+array_at d = ok_or (as_array d) WrongKind
+
+abbrev pub table_at : Data → Result Members PolicyFault
+table_at d = ok_or (as_table d) WrongKind
+
+-- a text that is a name
+abbrev pub name_at : Data → Result (List ℕ) PolicyFault
+name_at d = text_at d >>= λ text. if is_name text then Ok text else Err BadName
+
+abbrev pub items_len : Items → ℕ
+items_len no_items = 0
+items_len (item d ds) = suc (items_len ds)
+
+abbrev pub all_items : (Data → Bool) → Items → Bool
+all_items p no_items = true
+all_items p (item d ds) = p d && all_items p ds
+
+-- an array of texts, and one of tables
+abbrev pub texts_at : Data → Result Items PolicyFault
+texts_at d = array_at d >>= λ ds. if all_items (λ x. is_some (as_str x)) ds then Ok ds else Err WrongKind
+
+abbrev pub tables_at : Data → Result Items PolicyFault
+tables_at d = array_at d >>= λ ds. if all_items (λ x. is_some (as_table x)) ds then Ok ds else Err WrongKind
+
+-- the same of a field that may be missing: then there are no items
+abbrev pub optional : (Data → Result Items PolicyFault) → Option Data → Result Items PolicyFault
+optional read None = Ok no_items
+optional read (Some d) = read d
+
+-- no more items than these
+abbrev pub at_most : ℕ → Items → Result Items PolicyFault
+at_most most ds = if nat_lt most (items_len ds) then Err TooMany else Ok ds
+
+-- as many, and one at least
+abbrev pub some_of : ℕ → Items → Result Items PolicyFault
+some_of most ds = if items_len ds == 0 then Err MissingField else at_most most ds

@@ -1,0 +1,161 @@
+//! The fields of a TOML document, as policies and schemes read them.
+ghost use Rattle.std.specs.Prelude.{◌≡◌, ◌≢◌, IfErr, option_map, is_some};
+ghost use Rattle.std.specs.List.{list_all};
+ghost use Rattle.toml.specs.Data.{get_member, as_str, as_table};
+ghost use Rattle.toml.specs.View.{view, items_view, table_view};
+ghost use Rattle.mls_lattice.specs.Reading.{Gives, wanted, text_at, integer_at, array_at, table_at, name_at, texts_at, tables_at, optional, at_most, some_of};
+
+use crate::fault::PolicyFault;
+use crate::name::is_name;
+use toml::{Table, Value};
+
+/// The value at a key.
+pub fn wanted<'a>(table: &'a Table, key: &str) -> Result<&'a Value, PolicyFault>
+    ensures reads { Gives (λ v. view v.now) result (wanted key.now (table_view table.now)) }
+    ensures toml { IfErr result (λ e. e ≢ PolicyFault.NotToml) }
+{
+    table.get(key).ok_or(PolicyFault::MissingField)
+}
+
+/// The value at a key that may be missing.
+pub fn field<'a>(table: &'a Table, key: &str) -> Option<&'a Value>
+    ensures { option_map (λ v. view v.now) result ≡ get_member key.now (table_view table.now) }
+{
+    table.get(key)
+}
+
+/// A string.
+pub fn text_of(value: &Value) -> Result<&str, PolicyFault>
+    ensures reads { Gives (λ s. s.now) result (text_at (view value.now)) }
+    ensures toml { IfErr result (λ e. e ≢ PolicyFault.NotToml) }
+{
+    value.as_str().ok_or(PolicyFault::WrongKind)
+}
+
+/// An integer.
+pub fn integer_of(value: &Value) -> Result<i64, PolicyFault>
+    ensures reads { Gives (λ n. n) result (integer_at (view value.now)) }
+    ensures toml { IfErr result (λ e. e ≢ PolicyFault.NotToml) }
+{
+    value.as_integer().ok_or(PolicyFault::WrongKind)
+}
+
+/// The items of an array, of any kind.
+pub fn items_of(value: &Value) -> Result<&[Value], PolicyFault>
+    ensures reads { Gives (λ items. items_view items.now) result (array_at (view value.now)) }
+    ensures toml { IfErr result (λ e. e ≢ PolicyFault.NotToml) }
+{
+    match value.as_array() {
+        Some(items) => Ok(items.as_slice()),
+        None => Err(PolicyFault::WrongKind),
+    }
+}
+
+/// The fields of a table.
+pub fn table_of(value: &Value) -> Result<&Table, PolicyFault>
+    ensures reads { Gives (λ t. table_view t.now) result (table_at (view value.now)) }
+    ensures toml { IfErr result (λ e. e ≢ PolicyFault.NotToml) }
+{
+    value.as_table().ok_or(PolicyFault::WrongKind)
+}
+
+/// A string that is a name.
+pub fn name_of(value: &Value) -> Result<&str, PolicyFault>
+    ensures reads { Gives (λ s. s.now) result (name_at (view value.now)) }
+    ensures toml { IfErr result (λ e. e ≢ PolicyFault.NotToml) }
+{
+    let text = text_of(value)?;
+    if is_name(text) {
+        Ok(text)
+    } else {
+        Err(PolicyFault::BadName)
+    }
+}
+
+fn are_texts(items: &[Value]) -> bool
+    ensures { result ≡ list_all (λ x. is_some (as_str (view x))) items.now }
+{
+    items.iter().all(|item| item.is_str())
+}
+
+fn are_tables(items: &[Value]) -> bool
+    ensures { result ≡ list_all (λ x. is_some (as_table (view x))) items.now }
+{
+    items.iter().all(|item| item.is_table())
+}
+
+/// The items of an array of strings.
+#[tactic(auto, using(crate::proofs::ReadingLemmas::counts))]
+pub fn texts_of(value: &Value) -> Result<&[Value], PolicyFault>
+    ensures reads { Gives (λ items. items_view items.now) result (texts_at (view value.now)) }
+    ensures toml { IfErr result (λ e. e ≢ PolicyFault.NotToml) }
+{
+    let items = items_of(value)?;
+    if are_texts(items) {
+        Ok(items)
+    } else {
+        Err(PolicyFault::WrongKind)
+    }
+}
+
+/// The items of an array of tables.
+#[tactic(auto, using(crate::proofs::ReadingLemmas::counts))]
+pub fn tables_of(value: &Value) -> Result<&[Value], PolicyFault>
+    ensures reads { Gives (λ items. items_view items.now) result (tables_at (view value.now)) }
+    ensures toml { IfErr result (λ e. e ≢ PolicyFault.NotToml) }
+{
+    let items = items_of(value)?;
+    if are_tables(items) {
+        Ok(items)
+    } else {
+        Err(PolicyFault::WrongKind)
+    }
+}
+
+/// The strings at a key, none where it is missing.
+pub fn optional_texts<'a>(table: &'a Table, key: &str) -> Result<&'a [Value], PolicyFault>
+    ensures reads { Gives (λ items. items_view items.now) result (optional texts_at (get_member key.now (table_view table.now))) }
+    ensures toml { IfErr result (λ e. e ≢ PolicyFault.NotToml) }
+{
+    match field(table, key) {
+        Some(value) => texts_of(value),
+        None => Ok(&[]),
+    }
+}
+
+/// The tables at a key, none where it is missing.
+pub fn optional_tables<'a>(table: &'a Table, key: &str) -> Result<&'a [Value], PolicyFault>
+    ensures reads { Gives (λ items. items_view items.now) result (optional tables_at (get_member key.now (table_view table.now))) }
+    ensures toml { IfErr result (λ e. e ≢ PolicyFault.NotToml) }
+{
+    match field(table, key) {
+        Some(value) => tables_of(value),
+        None => Ok(&[]),
+    }
+}
+
+/// The same items, if they are no more than these.
+#[tactic(auto, using(crate::proofs::ReadingLemmas::counts))]
+pub fn at_most(items: &[Value], most: usize) -> Result<&[Value], PolicyFault>
+    ensures reads { Gives (λ items. items_view items.now) result (at_most most (items_view items.now)) }
+    ensures toml { IfErr result (λ e. e ≢ PolicyFault.NotToml) }
+{
+    if items.len() > most {
+        Err(PolicyFault::TooMany)
+    } else {
+        Ok(items)
+    }
+}
+
+/// The same items, if there is one and they are no more than these.
+#[tactic(auto, using(crate::proofs::ReadingLemmas::counts))]
+pub fn some_of(items: &[Value], most: usize) -> Result<&[Value], PolicyFault>
+    ensures reads { Gives (λ items. items_view items.now) result (some_of most (items_view items.now)) }
+    ensures toml { IfErr result (λ e. e ≢ PolicyFault.NotToml) }
+{
+    if items.is_empty() {
+        Err(PolicyFault::MissingField)
+    } else {
+        at_most(items, most)
+    }
+}

@@ -1,0 +1,77 @@
+ghost use Rattle.std.specs.Prelude.{◌≡◌};
+ghost use Rattle.mls_scheme.specs.declared.fault.SchemeFault.TheVariants.{Memory};
+ghost use Rattle.mls_scheme.specs.Fault.{code_of, word_of};
+
+use std::alloc::{AllocError, AllocFailed};
+use thiserror::Error;
+
+/// Why schemes are refused.
+#[derive(Clone, Copy, PartialEq, Eq, Debug, Error)]
+pub enum SchemeFault {
+    #[error("no TOML document")]
+    NotToml,
+    #[error("a field is missing")]
+    MissingField,
+    #[error("a field has the wrong kind")]
+    WrongKind,
+    #[error("a name stands twice")]
+    Repeated,
+    #[error("a name is unknown")]
+    UnknownName,
+    #[error("a list is too long")]
+    TooMany,
+    #[error("a name is no name")]
+    BadName,
+    #[error("an interval is empty")]
+    EmptyInterval,
+    #[error("out of memory")]
+    Memory,
+    #[error("a relation has no key")]
+    NoKey,
+    #[error("key attributes have different intervals")]
+    KeyIntervals,
+}
+
+impl SchemeFault {
+    /// The number of the fault.
+    pub fn code(self) -> u8
+        ensures { result ≡ code_of self }
+    {
+        self as u8 + 1
+    }
+
+    /// The name of the fault.
+    pub fn word(self) -> &'static str
+        ensures { result.now ≡ word_of self }
+    {
+        match self {
+            SchemeFault::NotToml => "NotToml",
+            SchemeFault::MissingField => "MissingField",
+            SchemeFault::WrongKind => "WrongKind",
+            SchemeFault::Repeated => "Repeated",
+            SchemeFault::UnknownName => "UnknownName",
+            SchemeFault::TooMany => "TooMany",
+            SchemeFault::BadName => "BadName",
+            SchemeFault::EmptyInterval => "EmptyInterval",
+            SchemeFault::Memory => "Memory",
+            SchemeFault::NoKey => "NoKey",
+            SchemeFault::KeyIntervals => "KeyIntervals",
+        }
+    }
+}
+
+impl From<AllocError> for SchemeFault {
+    ghost from_gives = { λ _ e. e ≡ Memory };
+
+    fn from(_e: AllocError) -> SchemeFault {
+        SchemeFault::Memory
+    }
+}
+
+impl<T: Drop> From<AllocFailed<T>> for SchemeFault {
+    ghost from_gives = { λ _ e. e ≡ Memory };
+
+    fn from(_e: AllocFailed<T>) -> SchemeFault {
+        SchemeFault::Memory
+    }
+}

@@ -1,0 +1,107 @@
+ghost use Rattle.std.specs.Prelude.{◌≡◌, ◌<◌, ◌≤◌, length, position, slice_get, Some, IfSome};
+ghost use Rattle.std.specs.Str.{bytes_eq};
+ghost use Rattle.mls_scheme.specs.Scheme.{scheme_of, IsScheme, AreSchemes};
+
+use crate::attributes::Attributes;
+use crate::number::RelNo;
+use mls_lattice::{Items, Str};
+use std::marker::Model;
+
+/// A relation: its name, its key attributes and the others (Jajodia and Sandhu 1991).
+#[derive(Drop)]
+pub struct Scheme {
+    name: Str,
+    keys: Attributes,
+    others: Attributes,
+}
+
+impl Model for Scheme {
+    ghost use Rattle.mls_scheme.specs.Scheme.{Scheme as Relation, IsScheme};
+
+    ghost Value = { Relation };
+
+    ghost view = { λ a. record { name = a.name; keys = a.keys; others = a.others } };
+
+    ghost invariant = { λ a. IsScheme (record { name = a.name; keys = a.keys; others = a.others }) };
+}
+
+impl Scheme {
+    /// The name of the relation.
+    pub fn name(&self) -> &str
+        ensures { result.now ≡ self.now.name }
+    {
+        self.name.as_str()
+    }
+
+    /// The key attributes.
+    pub fn keys(&self) -> &Attributes
+        ensures keys { result.now ≡ self.now.keys }
+        ensures valid { IsScheme self.now }
+    {
+        &self.keys
+    }
+
+    /// The attributes outside the key.
+    pub fn others(&self) -> &Attributes
+        ensures others { result.now ≡ self.now.others }
+        ensures valid { IsScheme self.now }
+    {
+        &self.others
+    }
+}
+
+/// The relations, in the order of their file.
+#[derive(Drop)]
+pub struct Schemes {
+    relations: Items<Scheme>,
+}
+
+impl Model for Schemes {
+    ghost use Rattle.std.specs.Prelude.{List};
+    ghost use Rattle.mls_scheme.specs.Scheme.{Scheme as Relation, AreSchemes};
+
+    ghost Value = { List Relation };
+
+    ghost view = { λ a. a.relations };
+
+    ghost invariant = { λ a. AreSchemes a.relations };
+}
+
+impl Schemes {
+    /// How many relations there are.
+    pub fn count(&self) -> usize
+        ensures count { result ≡ length self.now }
+        ensures valid { AreSchemes self.now }
+    {
+        self.relations.len()
+    }
+
+    /// The number of the relation of a name.
+    pub fn relation(&self, name: &str) -> Option<RelNo>
+        ensures exact { result ≡ position (λ s. bytes_eq s.name name.now) self.now }
+        ensures within { IfSome result (λ rel. rel < length self.now) }
+    {
+        match position_of(&self.relations, name) {
+            Some(place) => Some(RelNo::new(place as u8)),
+            None => None,
+        }
+    }
+
+    /// A relation by its number.
+    pub fn scheme(&self, rel: RelNo) -> &Scheme
+        requires { rel < length self.now }
+        ensures row { result.now ≡ scheme_of self.now rel }
+        ensures valid { IsScheme result.now }
+    {
+        let scheme = &self.relations[rel.index()];
+        let _keys = scheme.keys();
+        scheme
+    }
+}
+
+fn position_of(relations: &[Scheme], name: &str) -> Option<usize>
+    ensures exact { result ≡ position (λ s. bytes_eq s.name name.now) relations.now }
+    ensures within { IfSome result (λ place. place < length relations.now) }
+{
+    relations.iter().position(|scheme| scheme.name() == name)
+}

@@ -4,6 +4,7 @@
 mod base;
 mod fragment;
 mod laws;
+mod rows;
 
 pub use base::{Base, BaseFault};
 pub use fragment::{Cell, Fragment, Node};

@@ -4,16 +4,10 @@ use Rattle.std.specs.Ordering.{nat_cmp, on, then_cmp}
 use Rattle.std.specs.declared.cmp.Ordering.{Ordering}
 use Rattle.std.specs.Cmp.Lexicographic.{slice_cmp}
 use Rattle.std.specs.FinMap.{FinMap, get, entries, from_sorted}
-use Rattle.mls_scheme.specs.declared.value.Value.{Value}
+pub use Rattle.mls_scheme.specs.declared.place.Place.{Place}
 use Rattle.mls_scheme.specs.declared.tuple.Element.{Element}
 use Rattle.mls_scheme.specs.declared.tuple.Tuple.{Tuple}
 use Rattle.mls_scheme.specs.Value.{value_cmp}
-
--- an entity (a key with its class), and the class of one of its tuples
-pub record Place : Type 0 where
-  pub key : List Value
-  pub key_class : ℕ
-  pub class : ℕ
 
 -- by key, key class number and class number
 unfoldable pub place_cmp : Place → Place → Ordering

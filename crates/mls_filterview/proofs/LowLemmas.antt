@@ -2,7 +2,8 @@
 use Rattle.std.proofs.Common.{◌≡◌, ℕ, cond, None}
 use Rattle.std.specs.FinMap.{get}
 use Rattle.mls_lattice.specs.Labels.{Labels, below}
-use Rattle.mls_scheme.specs.Table.{Place, Table}
+use Rattle.mls_scheme.specs.Table.{Table}
+use Rattle.mls_scheme.specs.declared.place.Place.{Place}
 use Rattle.mls_scheme.proofs.TableLemmas.{get_kept}
 use Rattle.mls_filterview.specs.View.{low}
 

@@ -4,7 +4,8 @@ use Rattle.std.specs.List.{filter, flat_map}
 use Rattle.std.specs.FinMap.{get, entries}
 use Rattle.mls_scheme.specs.declared.tuple.Element.{Element}
 use Rattle.mls_scheme.specs.Tuple.{at}
-use Rattle.mls_scheme.specs.Table.{Place, Table}
+use Rattle.mls_scheme.specs.Table.{Table}
+use Rattle.mls_scheme.specs.declared.place.Place.{Place}
 use Rattle.mls_filterview.specs.Stored.{with_class}
 use Rattle.mls_filterview.specs.declared.fragment.Node.{Node}
 use Rattle.mls_filterview.specs.declared.fragment.Cell.{Cell}

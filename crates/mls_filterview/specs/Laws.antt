@@ -6,7 +6,8 @@ use Rattle.mls_lattice.specs.Labels.{Labels, label_of, below, AreDistinct}
 use Rattle.mls_scheme.specs.declared.tuple.Element.{Element}
 use Rattle.mls_scheme.specs.declared.tuple.Tuple.{Tuple}
 use Rattle.mls_scheme.specs.Tuple.{tuple_class}
-use Rattle.mls_scheme.specs.Table.{Place, place_cmp, Table, Has, IsIn, tuple_at}
+use Rattle.mls_scheme.specs.Table.{place_cmp, Table, Has, IsIn, tuple_at}
+use Rattle.mls_scheme.specs.declared.place.Place.{Place}
 use Rattle.mls_filterview.specs.Subsumption.{IsMax, is_max_among}
 use Rattle.mls_filterview.specs.View.{View, low, rows, IsAmong}
 use Rattle.mls_filterview.specs.Stored.{IsStored}

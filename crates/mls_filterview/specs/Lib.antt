@@ -4,4 +4,5 @@ pub mod Stored
 pub mod Integrity
 pub mod Content
 pub mod Fragment
+pub mod Assembly
 pub mod Laws

@@ -4,7 +4,8 @@ use Rattle.std.specs.FinMap.{get}
 use Rattle.mls_lattice.specs.Labels.{Labels, below}
 use Rattle.mls_scheme.specs.declared.tuple.Element.{Element}
 use Rattle.mls_scheme.specs.Tuple.{at}
-use Rattle.mls_scheme.specs.Table.{Place, Table, Database}
+use Rattle.mls_scheme.specs.Table.{Table, Database}
+use Rattle.mls_scheme.specs.declared.place.Place.{Place}
 use Rattle.mls_scheme.specs.Scheme.{Scheme, Schemes, scheme_of}
 use Rattle.mls_scheme.specs.Fits.{Fits}
 

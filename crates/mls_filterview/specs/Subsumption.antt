@@ -7,7 +7,8 @@ use Rattle.mls_scheme.specs.declared.tuple.Element.{Element}
 use Rattle.mls_scheme.specs.declared.tuple.Tuple.{Tuple}
 use Rattle.mls_scheme.specs.Value.{value_eq}
 use Rattle.mls_scheme.specs.Tuple.{at}
-use Rattle.mls_scheme.specs.Table.{Place, place_cmp}
+use Rattle.mls_scheme.specs.Table.{place_cmp}
+use Rattle.mls_scheme.specs.declared.place.Place.{Place}
 
 -- a is b, or has a value where b has none
 abbrev pub Covers : Element → Element → Type 0

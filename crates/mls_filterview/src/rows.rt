@@ -2,9 +2,10 @@
 ghost use Rattle.std.specs.Prelude.{◌≡◌, OnOk, Some};
 ghost use Rattle.std.specs.BTreeMap.{Updates, IsOrdered, get};
 ghost use Rattle.mls_scheme.specs.Table.{place_cmp};
+ghost use Rattle.mls_filterview.specs.Assembly.{spot_cmp};
 
 use mls_lattice::Items;
-use mls_scheme::{Element, Place};
+use mls_scheme::{Element, Place, Value};
 use std::alloc::AllocFailed;
 use std::collections::BTreeMap;
 
@@ -12,7 +13,6 @@ use std::collections::BTreeMap;
 pub type Rows = BTreeMap<Place, Items<Element>>;
 
 /// Puts elements at a place.
-#[tactic(auto, unfolding(mls_scheme::specs::Table::place_cmp))]
 pub fn put_row(
     rows: &mut Rows,
     place: Place,
@@ -22,5 +22,21 @@ pub fn put_row(
     ensures ordered { OnOk result (IsOrdered place_cmp rows.new) }
 {
     rows.insert(place, elements)?;
+    Ok(())
+}
+
+/// Values by the places of their tuples and the numbers of their attributes.
+pub type Values = BTreeMap<(Place, usize), Option<Value>>;
+
+/// Puts a value at a place and an attribute.
+pub fn put_value(
+    values: &mut Values,
+    place: Place,
+    attr: usize,
+    value: Option<Value>,
+) -> Result<(), AllocFailed<((Place, usize), Option<Value>)>>
+    ensures updates { OnOk result (Updates spot_cmp values.old values.new (place, attr) (Some value)) }
+{
+    values.insert((place, attr), value)?;
     Ok(())
 }

@@ -6,7 +6,8 @@ use Rattle.std.specs.Ordering.{is_lt}
 use Rattle.std.specs.Option.{option_map}
 use lib.Dec.{T as IsSo}
 use Rattle.mls_scheme.specs.declared.tuple.Element.{Element}
-use Rattle.mls_scheme.specs.Table.{Place, place_cmp, Table, change}
+use Rattle.mls_scheme.specs.Table.{place_cmp, Table, change}
+use Rattle.mls_scheme.specs.declared.place.Place.{Place}
 use Rattle.mls_scheme.proofs.OrderLemmas.{place_total, place_exact, is_place, is_place-true}
 
 -- two tables that answer alike are one

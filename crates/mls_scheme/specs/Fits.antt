@@ -5,7 +5,7 @@ use Rattle.mls_lattice.specs.Labels.{Labels, below}
 use Rattle.mls_scheme.specs.declared.value.Value.{Value}
 use Rattle.mls_scheme.specs.declared.tuple.Element.{Element}
 use Rattle.mls_scheme.specs.Value.{is_kind, fits_kind}
-use Rattle.mls_scheme.specs.Table.{Place}
+use Rattle.mls_scheme.specs.declared.place.Place.{Place}
 use Rattle.mls_scheme.specs.declared.attributes.Column.{Column}
 use Rattle.mls_scheme.specs.Scheme.{Attribute, Scheme}
 

@@ -5,3 +5,4 @@ pub mod Order
 pub mod Scheme
 pub mod Fault
 pub mod Fits
+pub mod PlaceOrder

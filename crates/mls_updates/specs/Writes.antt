@@ -8,7 +8,8 @@ use Rattle.mls_scheme.specs.declared.value.Value.{Value}
 use Rattle.mls_scheme.specs.declared.tuple.Element.{Element}
 use Rattle.mls_scheme.specs.Value.{fits_kind}
 use Rattle.mls_scheme.specs.Tuple.{at}
-use Rattle.mls_scheme.specs.Table.{Place, place_cmp, Table, Database, change}
+use Rattle.mls_scheme.specs.Table.{place_cmp, Table, Database, change}
+use Rattle.mls_scheme.specs.declared.place.Place.{Place}
 use Rattle.mls_scheme.specs.Scheme.{Scheme, other_of}
 use Rattle.mls_scheme.specs.Fits.{in_interval, HaveKinds}
 use Rattle.mls_updates.specs.declared.outcome.Outcome.{Outcome}

@@ -1,1 +1,2 @@
 pub mod LowLemmas
+pub mod SubsumptionLemmas

@@ -1,2 +1,4 @@
 pub mod LowLemmas
 pub mod SubsumptionLemmas
+pub mod ViewLemmas
+pub mod TopLemmas

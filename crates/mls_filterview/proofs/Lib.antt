@@ -4,3 +4,4 @@ pub mod ViewLemmas
 pub mod TopLemmas
 pub mod ClassLemmas
 pub mod LevelLemmas
+pub mod IntegrityLemmas

@@ -5,3 +5,5 @@ pub mod TopLemmas
 pub mod ClassLemmas
 pub mod LevelLemmas
 pub mod IntegrityLemmas
+pub mod AmongLemmas
+pub mod RowLemmas

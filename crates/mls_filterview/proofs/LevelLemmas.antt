@@ -16,6 +16,7 @@ use Rattle.mls_scheme.specs.Table.{Place, Table, Has, IsIn, tuple_at, place_of}
 use Rattle.mls_filterview.specs.Subsumption.{Covers, Subsumes, IsMax}
 use Rattle.mls_filterview.specs.View.{hide, filtered, Filter, View, low}
 use Rattle.mls_filterview.specs.Stored.{Occurs, with_class, AgreesBelow, IsStoredTuple, IsStored}
+use Rattle.mls_filterview.specs.Laws.{ViewsAndLowAgree}
 use Rattle.mls_filterview.proofs.LowLemmas.{same_low, from_low, to_low}
 use Rattle.mls_filterview.proofs.SubsumptionLemmas.{Subsumes-trans, Subsumes-antisym, same_tuple, same_elements}
 use Rattle.mls_filterview.proofs.ClassLemmas.{join_of-least, below-Dominates, Dominates-below, class_of_stored}
@@ -184,3 +185,6 @@ views_from_low ls n m S T s t c h u = (
   (λ v. (view-low ls m T t c u).1 (subst (λ L. IsMax (IsIn L) u) h ((view-low ls n S s c u).0 v))),
   (λ v. (view-low ls n S s c u).1 (subst (λ L. IsMax (IsIn L) u) (sym h) ((view-low ls m T t c u).0 v))),
 )
+
+pub views_and_low_agree : ViewsAndLowAgree
+views_and_low_agree ls distinct n S T s t c = (low_from_views ls distinct n n S T s t c, views_from_low ls n n S T s t c)

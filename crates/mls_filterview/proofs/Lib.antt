@@ -6,4 +6,5 @@ pub mod ClassLemmas
 pub mod LevelLemmas
 pub mod IntegrityLemmas
 pub mod AmongLemmas
+pub mod EntryLemmas
 pub mod RowLemmas

@@ -18,7 +18,8 @@ use Rattle.mls_filterview.specs.Laws.{RowsAreTheView, RowsComeFromLow}
 use Rattle.mls_filterview.proofs.LowLemmas.{get_low_in, from_low}
 use Rattle.mls_filterview.proofs.SubsumptionLemmas.{same_tuple, subsumes_entry-true, subsumes_entry-from}
 use Rattle.mls_filterview.proofs.ViewLemmas.{view-low}
-use Rattle.mls_filterview.proofs.AmongLemmas.{Row, among_map, map_among, among_filter, filter_among, none_of, all_none, among_entries, entries_among, sorted_filter, each_among, so_true, so_from, entries_are}
+use Rattle.mls_filterview.proofs.AmongLemmas.{among_map, map_among, among_filter, filter_among, none_of, all_none, each_among}
+use Rattle.mls_filterview.proofs.EntryLemmas.{Row, among_entries, entries_among, sorted_filter, so_true, so_from, entries_are}
 
 module _ (ls : Labels) (distinct : AreDistinct ls) (n : ℕ) (T : Table) (stored : IsStored ls n T) (c : ℕ) where
   abbrev L : Table

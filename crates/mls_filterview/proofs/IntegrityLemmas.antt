@@ -17,7 +17,7 @@ use Rattle.mls_filterview.specs.View.{hide, filtered, View, low}
 use Rattle.mls_filterview.specs.Stored.{IsStoredTuple, IsStored}
 use Rattle.mls_filterview.specs.Integrity.{EntityIntegrity, NullIntegrity, InterInstanceIntegrity, PolyinstantiationIntegrity, HasIntegrity}
 use Rattle.mls_filterview.proofs.LowLemmas.{from_low, to_low}
-use Rattle.mls_filterview.proofs.SubsumptionLemmas.{Subsumes-trans, Subsumes-antisym}
+use Rattle.mls_filterview.proofs.SubsumptionLemmas.{no_value, Subsumes-trans, Subsumes-antisym}
 use Rattle.mls_filterview.proofs.ViewLemmas.{hide-in, hide-out, at_filtered, filter_low, view-low, view_stored}
 use Rattle.mls_filterview.proofs.TopLemmas.{top}
 
@@ -46,19 +46,13 @@ module _ (ls : Labels) (n : ℕ) (T : Table) (stored : IsStored ls n T) where
       covers : (i : ℕ) → i < length t.elements → Covers (at v.elements i) (at t.elements i) → Covers (at (map (hide ls d v.key_class) v.elements) i) (at t.elements i)
       covers i l x = subst (λ y. Covers y (at t.elements i)) (sym (at_filtered ls d v.key_class v.elements i (subst (λ j. i < j) (sym k.count) l))) (by_cover x (cases_Bool (below ls (at v.elements i).class d)))
         where
-          nothing : Element
-          nothing = record { value = None; class = v.key_class }
-
-          -- null, so of the key class
-          by_value : (o : Option Value) → (at t.elements i).value ≡ o → is_some (at t.elements i).value ≡ false → nothing ≡ at t.elements i
-          by_value None e z = λ j. record { value = sym e j; class = (k.key_class ∙ sym (st.null_at_key i l e)) j }
-          by_value (Some o) e z = absurd (true≢false (sym (ap is_some e) ∙ z))
-
           by_cover : Covers (at v.elements i) (at t.elements i) → (below ls (at v.elements i).class d ≡ true) ⊎ (below ls (at v.elements i).class d ≡ false) → Covers (hide ls d v.key_class (at v.elements i)) (at t.elements i)
           by_cover x (inl q) = subst (λ y. Covers y (at t.elements i)) (sym (hide-in ls d v.key_class (at v.elements i) q)) x
           by_cover (inl x) (inr q) =
               absurd (true≢false (sym (ap (λ y. below ls y.class d) x ∙ below-trans ls (at t.elements i).class m d (st.greatest (at t.elements i).class (inr (i, l, refl))) b) ∙ q))
-          by_cover (inr x) (inr q) = inl (hide-out ls d v.key_class (at v.elements i) q ∙ by_value (at t.elements i).value refl x.1)
+          by_cover (inr x) (inr q) =
+              let none = no_value (at t.elements i).value x.1 in
+              inl (hide-out ls d v.key_class (at v.elements i) q ∙ (λ j. record { value = sym none j; class = (k.key_class ∙ sym (st.null_at_key i l none)) j }))
 
   -- a tuple on top at c subsumes each stored tuple of a class below
   top_view : (c m : ℕ) (t : Tuple) → Has T m t → below ls m c ≡ true → (v : Tuple) × View ls (IsIn T) c v × Subsumes v t

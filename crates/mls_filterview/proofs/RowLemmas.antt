@@ -1,5 +1,5 @@
 -- The rows are the view, in the order of places.
-use Rattle.std.proofs.Common.{◌≡◌, ℕ, true, false, not, ◌&&◌, List, map, Some, refl, sym, ap, ◌∙◌, subst, inl, inr}
+use Rattle.std.proofs.Common.{◌≡◌, ℕ, true, not, ◌&&◌, List, map, Some, refl, sym, ap, ◌∙◌, subst, inl, inr}
 use Rattle.std.specs.Prelude.{◌↔◌, IsTrue}
 use Rattle.std.specs.List.{filter, AllByRecursion}
 use Rattle.std.specs.FinMap.{get, entries, entries_sorted, is_sorted}
@@ -9,14 +9,15 @@ use Rattle.mls_lattice.specs.Labels.{Labels, below, AreDistinct}
 use Rattle.mls_lattice.proofs.LatticeLemmas.{below-antisym}
 use Rattle.mls_scheme.specs.declared.tuple.Element.{Element}
 use Rattle.mls_scheme.specs.declared.tuple.Tuple.{Tuple}
-use Rattle.mls_scheme.specs.Table.{Place, place_cmp, Table, IsIn, tuple_at, place_of}
+use Rattle.mls_scheme.specs.Table.{Place, place_cmp, Table, Has, IsIn, tuple_at, place_of}
 use Rattle.mls_scheme.proofs.OrderLemmas.{is_place, is_place-true, is_place-same}
 use Rattle.mls_filterview.specs.Subsumption.{IsMax, subsumes_entry, is_max_among}
 use Rattle.mls_filterview.specs.View.{View, low, rows, IsAmong}
 use Rattle.mls_filterview.specs.Stored.{Occurs, IsStoredTuple, IsStored}
-use Rattle.mls_filterview.specs.Laws.{RowsAreTheView, RowsComeFromLow}
+use Rattle.mls_filterview.specs.Laws.{RowsAreTheView}
 use Rattle.mls_filterview.proofs.LowLemmas.{get_low_in, from_low}
 use Rattle.mls_filterview.proofs.SubsumptionLemmas.{same_tuple, subsumes_entry-true, subsumes_entry-from}
+use Rattle.mls_filterview.proofs.ClassLemmas.{one_class}
 use Rattle.mls_filterview.proofs.ViewLemmas.{view-low}
 use Rattle.mls_filterview.proofs.AmongLemmas.{among_map, map_among, among_filter, filter_among, none_of, all_none, each_among}
 use Rattle.mls_filterview.proofs.EntryLemmas.{Row, among_entries, entries_among, sorted_filter, so_true, so_from, entries_are}
@@ -25,21 +26,14 @@ module _ (ls : Labels) (distinct : AreDistinct ls) (n : ℕ) (T : Table) (stored
   abbrev L : Table
   L = low ls c T
 
-  low_stored : (q : Place) (us : List Element) → get L q ≡ Some us → IsStoredTuple ls n T q us
-  low_stored q us h = stored q us (from_low ls c T (tuple_at q us) q.class h).0
+  in_table : (e : Row) → get L e.0 ≡ Some e.1 → Has T e.0.class (tuple_at e.0 e.1)
+  in_table e h = (from_low ls c T (tuple_at e.0 e.1) e.0.class h).0
 
-  -- a tuple has one class
-  one_class : (d e : Row) → get L d.0 ≡ Some d.1 → get L e.0 ≡ Some e.1 → tuple_at d.0 d.1 ≡ tuple_at e.0 e.1 → d.0 ≡ e.0
-  one_class d e h k q =
-      let sd = low_stored d.0 d.1 h in
-      let se = low_stored e.0 e.1 k in
-      let key = ap (λ (t : Tuple). t.key) q in
-      let kc = ap (λ (t : Tuple). t.key_class) q in
-      let es = ap (λ (t : Tuple). t.elements) q in
-      let same : d.0.class ≡ e.0.class = below-antisym ls distinct d.0.class e.0.class (sd.declared d.0.class sd.own) (se.declared e.0.class se.own)
-      (se.greatest d.0.class (subst (λ xs. Occurs e.0 xs d.0.class) es (elim sd.own [ inl x ↦ inl (x ∙ kc) | inr x ↦ inr x ])))
-      (sd.greatest e.0.class (subst (λ xs. Occurs d.0 xs e.0.class) (sym es) (elim se.own [ inl x ↦ inl (x ∙ sym kc) | inr x ↦ inr x ]))) in
-      λ i. record { key = key i; key_class = kc i; class = same i }
+  -- entries of one tuple are one
+  one_place : (d e : Row) → get L d.0 ≡ Some d.1 → get L e.0 ≡ Some e.1 → tuple_at d.0 d.1 ≡ tuple_at e.0 e.1 → d.0 ≡ e.0
+  one_place d e h k q =
+      let same = one_class ls distinct n T stored d.0.class e.0.class (tuple_at e.0 e.1) (subst (Has T d.0.class) q (in_table d h)) (in_table e k) in
+      λ i. record { key = (q i).key; key_class = (q i).key_class; class = same i }
 
   max-true : (e : Row) → get L e.0 ≡ Some e.1 → is_max_among (entries L) e ≡ true → IsMax (IsIn L) (tuple_at e.0 e.1)
   max-true e h m = (
@@ -56,7 +50,7 @@ module _ (ls : Labels) (distinct : AreDistinct ls) (n : ℕ) (T : Table) (stored
       let p = and_parts _ _ t in
       let g = among_entries L d i in
       let q = m.1 (tuple_at d.0 d.1) (d.0.class, g) (subsumes_entry-true d e p.1) in
-      true≢false (sym (is_place-same d.0 e.0 (one_class d e g h q)) ∙ not-true _ p.0))))
+      true≢false (sym (is_place-same d.0 e.0 (one_place d e g h q)) ∙ not-true _ p.0))))
 
   -- the rows are just the tuples of the view
   pub rows-view : (t : Tuple) → IsAmong t (rows ls c T) ↔ View ls (IsIn T) c t
@@ -80,7 +74,7 @@ module _ (ls : Labels) (distinct : AreDistinct ls) (n : ℕ) (T : Table) (stored
     refl,
     sorted_filter (is_max_among (entries L)) (entries L) (so_true _ (entries_sorted L)),
     each_among (λ e. get T e.0 ≡ Some e.1) (filter (is_max_among (entries L)) (entries L)) (λ e i.
-        (from_low ls c T (tuple_at e.0 e.1) e.0.class (among_entries L e (among_filter (is_max_among (entries L)) (entries L) e i).0)).0),
+        in_table e (among_entries L e (among_filter (is_max_among (entries L)) (entries L) e i).0)),
   )
 
 -- so the rows may be computed from the tuples of classes that c dominates, in order

@@ -46,6 +46,14 @@ Subsumes-antisym s t h k =
     same_tuple s t h.key h.key_class
     (same_elements s.elements t.elements h.count (λ i l. Covers-antisym (at s.elements i) (at t.elements i) (h.each i (subst (λ n. i < n) h.count l)) (k.each i l)))
 
+-- each element of the first list covers that of the second
+abbrev pub EachCovers : List Element → List Element → Type 0
+EachCovers as' bs = (i : ℕ) → i < length bs → Covers (at as' i) (at bs i)
+
+pub no_value : (v : Option Value) → is_some v ≡ false → v ≡ None
+no_value None h = refl
+no_value (Some v) h = absurd (true≢false h)
+
 -- ---- the tests
 
 pub same_value-true : (v w : Option Value) → option_eq value_eq v w ≡ true → v ≡ w
@@ -70,7 +78,7 @@ covers-from a b (inl e) =
     or_left _ _ (and_from _ _ (subst (λ x. option_eq value_eq a.value x.value ≡ true) e (same_value-refl a.value)) (eq-eqb a.class b.class (ap (λ x. x.class) e)))
 covers-from a b (inr k) = or_right (option_eq value_eq a.value b.value && nat_eq a.class b.class) _ (and_from _ _ k.0 (not_from_false _ k.1))
 
-pub all_cover-true : (as' bs : List Element) → all_cover as' bs ≡ true → (length as' ≡ length bs) × ((i : ℕ) → i < length bs → Covers (at as' i) (at bs i))
+pub all_cover-true : (as' bs : List Element) → all_cover as' bs ≡ true → (length as' ≡ length bs) × EachCovers as' bs
 all_cover-true [] [] h = (refl, λ i l. absurd (omega arith))
 all_cover-true [] (b ∷ bs) h = absurd (false≢true h)
 all_cover-true (a ∷ as') [] h = absurd (false≢true h)
@@ -79,11 +87,11 @@ all_cover-true (a ∷ as') (b ∷ bs) h =
     let r = all_cover-true as' bs p.1 in
     (ap suc r.0, at_each a b as' bs (covers-true a b p.0) r.1)
   where
-    at_each : (a b : Element) (as' bs : List Element) → Covers a b → ((i : ℕ) → i < length bs → Covers (at as' i) (at bs i)) → (i : ℕ) → i < suc (length bs) → Covers (at (a ∷ as') i) (at (b ∷ bs) i)
+    at_each : (a b : Element) (as' bs : List Element) → Covers a b → EachCovers as' bs → EachCovers (a ∷ as') (b ∷ bs)
     at_each a b as' bs p f zero l = p
     at_each a b as' bs p f (suc i) l = f i (omega arith)
 
-pub all_cover-from : (as' bs : List Element) → length as' ≡ length bs → ((i : ℕ) → i < length bs → Covers (at as' i) (at bs i)) → all_cover as' bs ≡ true
+pub all_cover-from : (as' bs : List Element) → length as' ≡ length bs → EachCovers as' bs → all_cover as' bs ≡ true
 all_cover-from [] [] n h = refl
 all_cover-from [] (b ∷ bs) n h = absurd (omega arith)
 all_cover-from (a ∷ as') [] n h = absurd (omega arith)

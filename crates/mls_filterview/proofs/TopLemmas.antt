@@ -11,7 +11,7 @@ use Rattle.mls_scheme.specs.Tuple.{at}
 use Rattle.mls_scheme.specs.Table.{Place, Table, IsIn, tuple_at, place_of}
 use Rattle.mls_scheme.proofs.OrderLemmas.{is_place, is_place-true}
 use Rattle.mls_filterview.specs.Subsumption.{Covers, Subsumes, subsumes_entry}
-use Rattle.mls_filterview.proofs.SubsumptionLemmas.{Subsumes-refl, Subsumes-trans, same_tuple, subsumes_entry-true, subsumes_entry-from}
+use Rattle.mls_filterview.proofs.SubsumptionLemmas.{EachCovers, Subsumes-refl, Subsumes-trans, same_tuple, subsumes_entry-true, subsumes_entry-from}
 
 -- ---- nulls
 
@@ -38,7 +38,7 @@ null_at a b (inr k) = (subst (λ x. cond x 0 1 ≤ null_count b) (sym k.0) (omeg
 fewer_step : (a b m n : ℕ) → a ≤ b → m ≤ n → (a + m ≤ b + n) × (b + n ≤ a + m → (b ≤ a) × (n ≤ m))
 fewer_step a b m n h k = (omega arith, λ l. (omega arith, omega arith))
 
-fewer : (as' bs : List Element) → length as' ≡ length bs → ((i : ℕ) → i < length bs → Covers (at as' i) (at bs i)) → (nulls as' ≤ nulls bs) × (nulls bs ≤ nulls as' → as' ≡ bs)
+fewer : (as' bs : List Element) → length as' ≡ length bs → EachCovers as' bs → (nulls as' ≤ nulls bs) × (nulls bs ≤ nulls as' → as' ≡ bs)
 fewer [] [] n h = (omega arith, λ _. refl)
 fewer [] (b ∷ bs) n h = absurd (omega arith)
 fewer (a ∷ as') [] n h = absurd (omega arith)

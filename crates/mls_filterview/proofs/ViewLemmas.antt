@@ -37,12 +37,16 @@ filtered_whole ls c t h =
 
 -- ---- the stored tuple that says what c sees of a tuple
 
+-- m dominates the classes of the first k elements that c dominates
+abbrev pub EachBelow : Labels → ℕ → List Element → ℕ → ℕ → Type 0
+EachBelow ls c es k m = (i : ℕ) → i < k → below ls (at es i).class c ≡ true → below ls (at es i).class m ≡ true
+
 -- m is the greatest that c dominates of the classes of the key and the first k elements
 pub record GreatestBelow (ls : Labels) (c : ℕ) (p : Place) (es : List Element) (k : ℕ) (m : ℕ) : Type 0 where
   pub occurs : Occurs p es m
   pub seen : below ls m c ≡ true
   pub key_class : below ls p.key_class m ≡ true
-  pub each : (i : ℕ) → i < k → below ls (at es i).class c ≡ true → below ls (at es i).class m ≡ true
+  pub each : EachBelow ls c es k m
 
 module _ (ls : Labels) (n : ℕ) (T : Table) (stored : IsStored ls n T) where
   pub greatest_below : (c : ℕ) (p : Place) (es : List Element) → IsStoredTuple ls n T p es → below ls p.key_class c ≡ true → (k : ℕ) → k ≤ length es → (m : ℕ) × GreatestBelow ls c p es k m
@@ -53,7 +57,7 @@ module _ (ls : Labels) (n : ℕ) (T : Table) (stored : IsStored ls n T) where
       e : ℕ
       e = (at es k).class
 
-      up_to : (m : ℕ) → below ls e m ≡ true → ((i : ℕ) → i < k → below ls (at es i).class c ≡ true → below ls (at es i).class m ≡ true) → (i : ℕ) → i < suc k → below ls (at es i).class c ≡ true → below ls (at es i).class m ≡ true
+      up_to : (m : ℕ) → below ls e m ≡ true → EachBelow ls c es k m → EachBelow ls c es (suc k) m
       up_to m at_k before i b =
           elim (cases_lt i k) [ inl a ↦ before i a | inr a ↦ (let j : k ≡ i = omega arith in λ _. subst (λ j. below ls (at es j).class m ≡ true) j at_k) ]
 

@@ -2,7 +2,7 @@
 use Rattle.std.proofs.Common.{◌≡◌, ℕ, zero, suc, ◌<◌, true, List, [], ◌∷◌, length, arith, subst, sym, ◌∙◌, refl, inl, inr}
 use Rattle.mls_lattice.specs.Lattice.{Pair, join, Dominates}
 use Rattle.mls_lattice.specs.Labels.{Labels, label_of, below, AreDistinct}
-use Rattle.mls_lattice.proofs.LatticeLemmas.{⊑-Dominates, Dominates-⊑, Dominates-refl, Dominates-trans, Dominates-antisym, join-left, join-right, join-least}
+use Rattle.mls_lattice.proofs.LatticeLemmas.{⊑-Dominates, Dominates-refl, Dominates-trans, Dominates-antisym, join-left, join-right, join-least}
 use Rattle.mls_scheme.specs.declared.tuple.Element.{Element}
 use Rattle.mls_scheme.specs.declared.tuple.Tuple.{Tuple}
 use Rattle.mls_scheme.specs.Tuple.{at, join_of, tuple_class}
@@ -29,10 +29,6 @@ join_of-least ls p q (e ∷ es) h k = join_of-least ls (join p (label_of ls e.cl
 pub below-Dominates : (ls : Labels) (a b : ℕ) → below ls a b ≡ true → Dominates (label_of ls b) (label_of ls a)
 unfolding below
 below-Dominates ls a b h = ⊑-Dominates (label_of ls a) (label_of ls b) h
-
-pub Dominates-below : (ls : Labels) (a b : ℕ) → Dominates (label_of ls b) (label_of ls a) → below ls a b ≡ true
-unfolding below
-Dominates-below ls a b d = Dominates-⊑ (label_of ls a) (label_of ls b) d
 
 -- a stored tuple stands at its class
 pub class_of_stored : (ls : Labels) (n : ℕ) (T : Table) → IsStored ls n T → (m : ℕ) (t : Tuple) → Has T m t → tuple_class ls t ≡ label_of ls m

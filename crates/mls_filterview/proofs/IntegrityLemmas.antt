@@ -1,14 +1,12 @@
 -- The stored form has the four integrity properties.
-use Rattle.std.proofs.Common.{◌≡◌, ℕ, ◌<◌, true, false, length, map, Option, Some, None, refl, sym, ap, ◌∙◌, subst, inl, inr}
-use Rattle.std.specs.Prelude.{is_some, ◌⊎◌}
+use Rattle.std.proofs.Common.{◌≡◌, ℕ, ◌<◌, true, false, length, map, refl, sym, ap, ◌∙◌, subst, inl, inr}
+use Rattle.std.specs.Prelude.{◌⊎◌}
 use Rattle.std.specs.FinMap.{get}
 use Rattle.std.proofs.lemmas.Bool.{true≢false, cases_Bool}
 use Rattle.std.proofs.lemmas.List.{length-map}
 use Rattle.std.proofs.lemmas.Option.{same_Some}
 use Rattle.mls_lattice.specs.Labels.{Labels, below}
 use Rattle.mls_lattice.proofs.LatticeLemmas.{below-refl, below-trans}
-use Rattle.mls_scheme.specs.declared.value.Value.{Value}
-use Rattle.mls_scheme.specs.declared.tuple.Element.{Element}
 use Rattle.mls_scheme.specs.declared.tuple.Tuple.{Tuple}
 use Rattle.mls_scheme.specs.Tuple.{at}
 use Rattle.mls_scheme.specs.Table.{Table, Has, IsIn, tuple_at, place_of}

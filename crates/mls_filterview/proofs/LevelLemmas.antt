@@ -1,21 +1,17 @@
 -- The view at a level and the stored tuples of classes that it dominates determine each other.
-use Rattle.std.proofs.Common.{◌≡◌, ℕ, ◌<◌, true, false, List, length, map, Option, Some, None, refl, sym, ap, ◌∙◌, subst, inl, inr}
-use Rattle.std.specs.Prelude.{is_some, ◌⊎◌, ◌↔◌}
+use Rattle.std.proofs.Common.{◌≡◌, ℕ, ◌<◌, true, List, length, Option, Some, None, refl, sym, ap, ◌∙◌, subst, inl, inr}
+use Rattle.std.specs.Prelude.{◌↔◌}
 use Rattle.std.specs.FinMap.{get}
-use Rattle.std.proofs.lemmas.Bool.{true≢false, cases_Bool}
-use Rattle.std.proofs.lemmas.List.{length-map}
 use Rattle.std.proofs.lemmas.Option.{same_Some}
-use Rattle.mls_lattice.specs.Lattice.{Dominates}
 use Rattle.mls_lattice.specs.Labels.{Labels, label_of, below, AreDistinct}
 use Rattle.mls_lattice.proofs.LatticeLemmas.{below-refl, below-antisym}
-use Rattle.mls_scheme.specs.declared.value.Value.{Value}
 use Rattle.mls_scheme.specs.declared.tuple.Element.{Element}
 use Rattle.mls_scheme.specs.declared.tuple.Tuple.{Tuple}
 use Rattle.mls_scheme.specs.Tuple.{at, tuple_class}
 use Rattle.mls_scheme.specs.Table.{Place, Table, Has, IsIn, tuple_at, place_of}
 use Rattle.mls_filterview.specs.Subsumption.{Covers, Subsumes, IsMax}
-use Rattle.mls_filterview.specs.View.{hide, filtered, Filter, View, low}
-use Rattle.mls_filterview.specs.Stored.{Occurs, with_class, AgreesBelow, IsStoredTuple, IsStored}
+use Rattle.mls_filterview.specs.View.{Filter, View, low}
+use Rattle.mls_filterview.specs.Stored.{Occurs, IsStoredTuple, IsStored}
 use Rattle.mls_filterview.specs.Laws.{ViewsAndLowAgree}
 use Rattle.mls_filterview.proofs.LowLemmas.{same_low, from_low, to_low}
 use Rattle.mls_filterview.proofs.SubsumptionLemmas.{no_value, same_tuple}

@@ -1,19 +1,18 @@
 -- The rows are the view, in the order of places.
-use Rattle.std.proofs.Common.{◌≡◌, ℕ, true, not, ◌&&◌, List, map, Some, refl, sym, ap, ◌∙◌, subst, inl, inr}
+use Rattle.std.proofs.Common.{◌≡◌, ℕ, true, not, ◌&&◌, List, map, Some, refl, sym, ap, ◌∙◌, subst}
 use Rattle.std.specs.Prelude.{◌↔◌, IsTrue}
 use Rattle.std.specs.List.{filter, AllByRecursion}
 use Rattle.std.specs.FinMap.{get, entries, entries_sorted, is_sorted}
 use Rattle.std.proofs.lemmas.Bool.{true≢false, and_parts, and_from, not-true, not_from_false, false_from_ne_true, true_from_ne_false}
 use Rattle.std.proofs.lemmas.Option.{same_Some}
 use Rattle.mls_lattice.specs.Labels.{Labels, below, AreDistinct}
-use Rattle.mls_lattice.proofs.LatticeLemmas.{below-antisym}
 use Rattle.mls_scheme.specs.declared.tuple.Element.{Element}
 use Rattle.mls_scheme.specs.declared.tuple.Tuple.{Tuple}
 use Rattle.mls_scheme.specs.Table.{Place, place_cmp, Table, Has, IsIn, tuple_at, place_of}
 use Rattle.mls_scheme.proofs.OrderLemmas.{is_place, is_place-true, is_place-same}
 use Rattle.mls_filterview.specs.Subsumption.{IsMax, subsumes_entry, is_max_among}
 use Rattle.mls_filterview.specs.View.{View, low, rows, IsAmong}
-use Rattle.mls_filterview.specs.Stored.{Occurs, IsStoredTuple, IsStored}
+use Rattle.mls_filterview.specs.Stored.{IsStored}
 use Rattle.mls_filterview.specs.Laws.{RowsAreTheView}
 use Rattle.mls_filterview.proofs.LowLemmas.{get_low_in, from_low}
 use Rattle.mls_filterview.proofs.SubsumptionLemmas.{same_tuple, subsumes_entry-true, subsumes_entry-from}

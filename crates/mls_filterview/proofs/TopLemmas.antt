@@ -7,7 +7,6 @@ use Rattle.std.proofs.lemmas.Bool.{true≢false, false≢true, cases_lt, cases_B
 use Rattle.std.proofs.lemmas.Option.{same_Some, none-some}
 use Rattle.mls_scheme.specs.declared.tuple.Element.{Element}
 use Rattle.mls_scheme.specs.declared.tuple.Tuple.{Tuple}
-use Rattle.mls_scheme.specs.Tuple.{at}
 use Rattle.mls_scheme.specs.Table.{Place, Table, IsIn, tuple_at, place_of}
 use Rattle.mls_scheme.proofs.OrderLemmas.{is_place, is_place-true}
 use Rattle.mls_filterview.specs.Subsumption.{Covers, Subsumes, subsumes_entry}

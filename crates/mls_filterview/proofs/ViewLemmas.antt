@@ -45,12 +45,11 @@ EachBelow ls c es k m = (i : ℕ) → i < k → below ls (at es i).class c ≡ t
 pub record GreatestBelow (ls : Labels) (c : ℕ) (p : Place) (es : List Element) (k : ℕ) (m : ℕ) : Type 0 where
   pub occurs : Occurs p es m
   pub seen : below ls m c ≡ true
-  pub key_class : below ls p.key_class m ≡ true
   pub each : EachBelow ls c es k m
 
 module _ (ls : Labels) (n : ℕ) (T : Table) (stored : IsStored ls n T) where
   pub greatest_below : (c : ℕ) (p : Place) (es : List Element) → IsStoredTuple ls n T p es → below ls p.key_class c ≡ true → (k : ℕ) → k ≤ length es → (m : ℕ) × GreatestBelow ls c p es k m
-  greatest_below c p es st h zero l = (p.key_class, record { occurs = inl refl; seen = h; key_class = below-refl ls p.key_class; each = λ i b. absurd (omega arith) })
+  greatest_below c p es st h zero l = (p.key_class, record { occurs = inl refl; seen = h; each = λ i b. absurd (omega arith) })
   greatest_below c p es st h (suc k) l =
       one_more (greatest_below c p es st h k (omega arith)) (cases_Bool (below ls (at es k).class c))
     where
@@ -67,20 +66,18 @@ module _ (ls : Labels) (n : ℕ) (T : Table) (stored : IsStored ls n T) where
         record {
           occurs = g.occurs;
           seen = g.seen;
-          key_class = g.key_class;
           each = λ i b s.
               elim (cases_lt i k) [ inl a ↦ g.each i a s | inr a ↦ (let j : i ≡ k = omega arith in absurd (true≢false (sym s ∙ ap (λ j. below ls (at es j).class c) j ∙ out))) ];
         },
       )
       one_more (m, g) (inl in') =
           elim (st.comparable e m (inr (k, omega arith, refl)) g.occurs) [
-            | inl a ↦ (m, record { occurs = g.occurs; seen = g.seen; key_class = g.key_class; each = up_to m a g.each })
+            | inl a ↦ (m, record { occurs = g.occurs; seen = g.seen; each = up_to m a g.each })
             | inr a ↦ (
               e,
               record {
                 occurs = inr (k, omega arith, refl);
                 seen = in';
-                key_class = below-trans ls p.key_class m e g.key_class a;
                 each = up_to e (below-refl ls e) (λ i b s. below-trans ls (at es i).class m e (g.each i b s) a);
               },
             )

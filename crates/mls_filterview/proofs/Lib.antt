@@ -8,3 +8,4 @@ pub mod IntegrityLemmas
 pub mod AmongLemmas
 pub mod EntryLemmas
 pub mod RowLemmas
+pub mod SampleLemmas

@@ -11,7 +11,7 @@ use Rattle.mls_scheme.specs.declared.tuple.Tuple.{Tuple}
 use Rattle.mls_scheme.specs.Tuple.{at}
 use Rattle.mls_scheme.specs.Table.{Table, Has, IsIn, tuple_at, place_of}
 use Rattle.mls_filterview.specs.Subsumption.{Covers, Subsumes}
-use Rattle.mls_filterview.specs.View.{hide, filtered, View, low}
+use Rattle.mls_filterview.specs.View.{hide, filtered, Filter, View, low}
 use Rattle.mls_filterview.specs.Stored.{IsStoredTuple, IsStored}
 use Rattle.mls_filterview.specs.Integrity.{EntityIntegrity, NullIntegrity, InterInstanceIntegrity, PolyinstantiationIntegrity, HasIntegrity}
 use Rattle.mls_filterview.proofs.LowLemmas.{from_low, to_low}
@@ -52,36 +52,40 @@ module _ (ls : Labels) (n : ℕ) (T : Table) (stored : IsStored ls n T) where
               let none = no_value (at t.elements i).value x.1 in
               inl (hide-out ls d v.key_class (at v.elements i) q ∙ (λ j. record { value = sym none j; class = (k.key_class ∙ sym (st.null_at_key i l none)) j }))
 
-  -- a tuple on top at c subsumes each stored tuple of a class below
-  top_view : (c m : ℕ) (t : Tuple) → Has T m t → below ls m c ≡ true → (v : Tuple) × View ls (IsIn T) c v × Subsumes v t
-  top_view c m t h b =
-      let r = top (low ls c T) (place_of m t) t.elements (to_low ls c T t m h b) in
+  -- what d sees of some tuple of the view at c subsumes a stored tuple of a class that d dominates
+  seen_above : (c d m : ℕ) (t : Tuple) → below ls d c ≡ true → Has T m t → below ls m d ≡ true → (v : Tuple) × Filter ls (View ls (IsIn T) c) d v × Subsumes v t
+  seen_above c d m t b h l =
+      let r = top (low ls c T) (place_of m t) t.elements (to_low ls c T t m h (below-trans ls m d c l b)) in
       let v = tuple_at r.0 r.1 in
-      (v, (view-low ls n T stored c v).1 ((r.0.class, r.2), r.4), r.3)
+      let st = stored (place_of m t) t.elements h in
+      let key_class = subst (λ x. below ls x d ≡ true) (sym r.3.key_class) (below-trans ls t.key_class m d (st.above_key m st.own) l) in (
+        filtered ls d v,
+        (v, (view-low ls n T stored c v).1 ((r.0.class, r.2), r.4), key_class, refl),
+        seen_subsumes d m v t h l r.3,
+      )
+
+  -- what d sees of a tuple of the view at c, it sees of a stored tuple
+  seen_stored : (c d : ℕ) (t : Tuple) → Filter ls (View ls (IsIn T) c) d t → Filter ls (IsIn T) d t
+  seen_stored c d t f = let w = view_stored ls n T stored c f.0 f.1 in (f.0, (w.0, w.1), f.2, f.3)
 
   between_in : (c d : ℕ) → below ls d c ≡ true → (t : Tuple) → View ls (IsIn T) d t → View ls (View ls (IsIn T) c) d t
   between_in c d b t v =
       let w = view_stored ls n T stored d t v in
-      let r = top_view c w.0 t w.1 (below-trans ls w.0 d c w.2 b) in
-      let kc : below ls r.0.key_class d ≡ true = subst (λ x. below ls x d ≡ true) (sym r.2.key_class) (below-trans ls t.key_class w.0 d ((stored (place_of w.0 t) t.elements w.1).above_key w.0 (stored (place_of w.0 t) t.elements w.1).own) w.2) in
-      let x = view_stored ls n T stored c r.0 r.1 in
-      let e : filtered ls d r.0 ≡ t = v.1 (filtered ls d r.0) (r.0, (x.0, x.1), kc, refl) (seen_subsumes d w.0 r.0 t w.1 w.2 r.2) in
-      ((r.0, r.1, kc, sym e), λ u f k. (let y = view_stored ls n T stored c f.0 f.1 in v.1 u (f.0, (y.0, y.1), f.2, f.3) k))
+      let r = seen_above c d w.0 t b w.1 w.2 in
+      let same : r.0 ≡ t = v.1 r.0 (seen_stored c d r.0 r.1) r.2 in
+      (subst (Filter ls (View ls (IsIn T) c) d) same r.1, λ u f k. v.1 u (seen_stored c d u f) k)
 
   between_out : (c d : ℕ) → below ls d c ≡ true → (t : Tuple) → View ls (View ls (IsIn T) c) d t → View ls (IsIn T) d t
-  between_out c d b t v =
-      let y = view_stored ls n T stored c v.0.0 v.0.1 in (
-        (v.0.0, (y.0, y.1), v.0.2, v.0.3),
-        λ u f k.
-            let s = filter_low ls n T stored d u f in
-            let i = from_low ls d T s.0 s.1.0 s.1.1 in
-            let st = stored (place_of s.1.0 s.0) s.0.elements i.0 in
-            let r = top_view c s.1.0 s.0 i.0 (below-trans ls s.1.0 d c i.1 b) in
-            let kc : below ls r.0.key_class d ≡ true = subst (λ x. below ls x d ≡ true) (sym r.2.key_class) (below-trans ls s.0.key_class s.1.0 d (st.above_key s.1.0 st.own) i.1) in
-            let z : Subsumes (filtered ls d r.0) u = Subsumes-trans (filtered ls d r.0) s.0 u (seen_subsumes d s.1.0 r.0 s.0 i.0 i.1 r.2) s.2 in
-            let e : filtered ls d r.0 ≡ t = v.1 (filtered ls d r.0) (r.0, r.1, kc, refl) (Subsumes-trans (filtered ls d r.0) u t z k) in
-            Subsumes-antisym u t k (subst (λ x. Subsumes x u) e z),
-      )
+  between_out c d b t v = (
+    seen_stored c d t v.0,
+    λ u f k.
+        let s = filter_low ls n T stored d u f in
+        let i = from_low ls d T s.0 s.1.0 s.1.1 in
+        let r = seen_above c d s.1.0 s.0 b i.0 i.1 in
+        let over = Subsumes-trans r.0 s.0 u r.2 s.2 in
+        let same : r.0 ≡ t = v.1 r.0 r.1 (Subsumes-trans r.0 u t over k) in
+        Subsumes-antisym u t k (subst (λ x. Subsumes x u) same over),
+  )
 
   pub entity_integrity : EntityIntegrity ls T
   entity_integrity c t v i l = let w = view_stored ls n T stored c t v in (stored (place_of w.0 t) t.elements w.1).above_key (at t.elements i).class (inr (i, l, refl))

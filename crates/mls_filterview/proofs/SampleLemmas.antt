@@ -4,12 +4,9 @@ use Rattle.std.specs.Prelude.{codes}
 use Rattle.std.specs.List.{filter}
 use Rattle.mls_scheme.specs.declared.value.Value.{Value}
 use Rattle.mls_scheme.specs.declared.value.Value.TheVariants.{Text}
-use Rattle.mls_scheme.specs.declared.tuple.Element.{Element}
-use Rattle.mls_scheme.specs.Table.{Place, place_cmp}
+use Rattle.mls_scheme.specs.Table.{place_cmp}
 use Rattle.mls_filterview.specs.Subsumption.{is_max_among}
-
-abbrev Entry : Type 0
-Entry = Place × List Element
+use Rattle.mls_filterview.proofs.EntryLemmas.{Entry}
 
 abbrev word : List ℕ → Option Value
 word text = Some (Text text)

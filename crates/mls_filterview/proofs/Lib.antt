@@ -1,1 +1,11 @@
 pub mod LowLemmas
+pub mod SubsumptionLemmas
+pub mod ViewLemmas
+pub mod TopLemmas
+pub mod ClassLemmas
+pub mod LevelLemmas
+pub mod IntegrityLemmas
+pub mod AmongLemmas
+pub mod EntryLemmas
+pub mod RowLemmas
+pub mod SampleLemmas

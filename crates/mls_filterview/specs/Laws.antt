@@ -27,6 +27,12 @@ ViewTellsLow =
     (ls : Labels) → AreDistinct ls → (n : ℕ) (T : Table) → IsStored ls n T → (c m : ℕ) (t : Tuple) → m < length ls → below ls m c ≡ true
     → Has T m t ↔ (View ls (View ls (IsIn T) c) m t × (tuple_class ls t ≡ label_of ls m))
 
+-- the view at c and the tuples of classes that c dominates determine each other
+abbrev pub ViewsAndLowAgree : Type 0
+ViewsAndLowAgree =
+    (ls : Labels) → AreDistinct ls → (n : ℕ) (S T : Table) → IsStored ls n S → IsStored ls n T → (c : ℕ)
+    → ((t : Tuple) → View ls (IsIn S) c t ↔ View ls (IsIn T) c t) ↔ (low ls c S ≡ low ls c T)
+
 -- the rows are just the tuples of the view, in the order of places
 abbrev pub RowsAreTheView : Type 0
 RowsAreTheView =

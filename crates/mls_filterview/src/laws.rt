@@ -1,5 +1,5 @@
 //! The laws of views and of the stored form, each the contract of a function.
-ghost use Rattle.mls_filterview.specs.Laws.{StoredHasIntegrity, ViewIsMaxOfLow, ViewTellsLow, RowsAreTheView, RowsComeFromLow};
+ghost use Rattle.mls_filterview.specs.Laws.{StoredHasIntegrity, ViewIsMaxOfLow, ViewTellsLow, ViewsAndLowAgree, RowsAreTheView, RowsComeFromLow};
 
 /// The stored form has the four integrity properties.
 pub fn stored_has_integrity()
@@ -14,6 +14,11 @@ pub fn view_is_max_of_low()
 /// The view at a level tells the stored tuples of each class that it dominates.
 pub fn view_tells_low()
     ensures { ViewTellsLow }
+{}
+
+/// Two tables look alike at a level just where they have the same tuples of classes that it dominates.
+pub fn views_and_low_agree()
+    ensures { ViewsAndLowAgree }
 {}
 
 /// The rows of a level are the tuples of its view, in the order of places.

@@ -9,5 +9,6 @@ mod rows;
 pub use base::{Base, BaseFault};
 pub use fragment::{Cell, Fragment, Node};
 pub use laws::{
-    rows_are_the_view, rows_come_from_low, stored_has_integrity, view_is_max_of_low, view_tells_low,
+    rows_are_the_view, rows_come_from_low, stored_has_integrity, view_is_max_of_low,
+    view_tells_low, views_and_low_agree,
 };

@@ -6,7 +6,6 @@ use Rattle.std.specs.Option.{option_map, unwrap_or}
 use Rattle.std.specs.FinMap.{get, insert, retain_keys}
 use Rattle.std.proofs.lemmas.Bool.{true≢false, false≢true, cases_Bool, cond_both, cond-true, cond-false, and_parts, and_from, and_cases, eqb-true, eq-eqb, not-false, not-true, false_from_ne_true}
 use Rattle.std.proofs.lemmas.List.{get_or-map, length-map}
-use Rattle.std.proofs.lemmas.Option.{none-some}
 use Rattle.mls_lattice.specs.Labels.{Labels, below, AreDistinct}
 use Rattle.mls_lattice.proofs.LatticeLemmas.{below-refl, below-trans, below-antisym}
 use Rattle.mls_scheme.specs.declared.value.Value.{Value}
@@ -20,7 +19,7 @@ use Rattle.mls_updates.specs.declared.outcome.Outcome.{Outcome}
 use Rattle.mls_updates.specs.Outcome.{is_done}
 use Rattle.mls_updates.specs.Writes.{Sets, Write, Insert, Update, Delete, WriteFits, first_refusal, place, is_entity, is_above, root, set_element, derived, updated, update_in, insert_refusals, update_own_refusals, update_own, update_below_refusals, update_below, delete_refusals, write}
 use Rattle.mls_updates.proofs.SetLemmas.{none_among, IsSet, some_set, length-derived, length-updated, at-derived, at-updated, derived_cases, updated_cases, updated_class}
-use Rattle.mls_updates.proofs.ChangeLemmas.{get_new, get_old, get_again, inserted_cases, kept_cases, changed_cases, entity_decides}
+use Rattle.mls_updates.proofs.ChangeLemmas.{get_new, get_again, inserted_cases, kept_cases, changed_cases, entity_decides}
 
 -- ---- outcomes
 

@@ -4,7 +4,7 @@ use Rattle.std.specs.Prelude.{is_some, is_none, nat_eq, ◌⊎◌}
 use Rattle.std.specs.List.{list_any}
 use Rattle.std.specs.Option.{option_map, unwrap_or}
 use Rattle.std.specs.FinMap.{get, insert, retain_keys}
-use Rattle.std.proofs.lemmas.Bool.{true≢false, cases_Bool, cond_both, false_from_ne_true, and_parts, and_right, ne_eqb}
+use Rattle.std.proofs.lemmas.Bool.{true≢false, cases_Bool, false_from_ne_true, and_parts, and_right, ne_eqb}
 use Rattle.std.proofs.lemmas.List.{ext_get_or}
 use Rattle.mls_lattice.specs.Labels.{Labels, below}
 use Rattle.mls_lattice.proofs.LatticeLemmas.{below-trans}
@@ -18,34 +18,13 @@ use Rattle.mls_scheme.proofs.OrderLemmas.{is_place, is_place-true}
 use Rattle.mls_scheme.proofs.TableLemmas.{same_table, get_put, get_kept, get_change}
 use Rattle.mls_filterview.specs.View.{low}
 use Rattle.mls_filterview.specs.Stored.{IsStored}
-use Rattle.mls_filterview.proofs.LowLemmas.{get_low}
+use Rattle.mls_filterview.proofs.LowLemmas.{get_low, get_low_in, same_low}
 use Rattle.mls_updates.specs.declared.outcome.Outcome.{Outcome}
 use Rattle.mls_updates.specs.declared.outcome.Outcome.TheVariants.{KeyNull, NoTuple, AlreadyDerived, NullAboveKey, OutOfInterval}
 use Rattle.mls_updates.specs.Outcome.{is_done}
 use Rattle.mls_updates.specs.Writes.{Key, Sets, Write, Insert, Update, Delete, Written, first_refusal, written, has_null, place, is_entity, is_above, root, derived, updated, update_in, insert_refusals, insert_row, update_own_refusals, update_own, update_below_refusals, update_below, update_row, delete_refusals, delete_row, write}
 use Rattle.mls_updates.proofs.SetLemmas.{length-updated, updated_other}
 use Rattle.mls_updates.proofs.ChangeLemmas.{get_old}
-
--- ---- low tables
-
--- at a class that c dominates a low table has what the table has
-pub get_low_in : (ls : Labels) (c : ℕ) (T : Table) (q : Place) → below ls q.class c ≡ true → get (low ls c T) q ≡ get T q
-get_low_in ls c T q h = get_low ls c T q ∙ ap (λ b. cond b (get T q) None) h
-
-pub get_low_out : (ls : Labels) (c : ℕ) (T : Table) (q : Place) → below ls q.class c ≡ false → get (low ls c T) q ≡ None
-get_low_out ls c T q h = get_low ls c T q ∙ ap (λ b. cond b (get T q) None) h
-
--- the low tables of two tables are one where these agree at the classes that c dominates
-pub same_low : (ls : Labels) (c : ℕ) (S T : Table) → ((q : Place) → below ls q.class c ≡ true → get S q ≡ get T q) → low ls c S ≡ low ls c T
-same_low ls c S T h = same_table _ _ (λ q.
-    elim (cases_Bool (below ls q.class c)) [
-      | inl b ↦ get_low_in ls c S q b ∙ h q b ∙ sym (get_low_in ls c T q b)
-      | inr b ↦ get_low_out ls c S q b ∙ sym (get_low_out ls c T q b)
-    ])
-
--- and the other way round
-pub from_same_low : (ls : Labels) (c : ℕ) (S T : Table) → low ls c S ≡ low ls c T → (q : Place) → below ls q.class c ≡ true → get S q ≡ get T q
-from_same_low ls c S T h q b = sym (get_low_in ls c S q b) ∙ ap (λ m. get m q) h ∙ get_low_in ls c T q b
 
 -- ---- the changes of a low table
 

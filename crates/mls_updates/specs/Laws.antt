@@ -1,5 +1,5 @@
 -- The laws of writes.
-use Rattle.std.specs.Prelude.{◌≡◌, ℕ, ◌<◌, true, false, length, ◌↔◌}
+use Rattle.std.specs.Prelude.{◌≡◌, ℕ, true, false, length, ◌↔◌}
 use Rattle.mls_lattice.specs.Labels.{Labels, below, AreDistinct}
 use Rattle.mls_scheme.specs.declared.tuple.Tuple.{Tuple}
 use Rattle.mls_scheme.specs.Table.{Table, IsIn}

@@ -1,5 +1,5 @@
 -- The three writes of a multilevel relation: what each does to the table, and its outcome.
-use Rattle.std.specs.Prelude.{◌≡◌, ℕ, ◌<◌, Bool, true, not, ◌&&◌, if◌then◌else◌, nat_eq, List, [], ◌∷◌, map, length, Option, Some, is_some, is_none, ⊤}
+use Rattle.std.specs.Prelude.{◌≡◌, ℕ, ◌<◌, Bool, true, not, ◌&&◌, if◌then◌else◌, nat_eq, List, [], ◌∷◌, map, length, Option, is_some, is_none, ⊤}
 use Rattle.std.specs.List.{list_any, list_all, filter_map, enumerate_from, AllByRecursion}
 use Rattle.std.specs.Option.{unwrap_or}
 use Rattle.std.specs.Ordering.{eq_by_cmp}

@@ -72,18 +72,18 @@ module _ (ls : Labels) (scheme : Scheme) where
     derived_fits es within h = each_fits es (derived w sets es) (length-derived w sets es) h (λ i l f. elim (derived_cases w sets es i l) [
       | inl e ↦ subst (FitsAt (other_of scheme i)) (sym e) f
       | inr s ↦ subst (FitsAt (other_of scheme i)) (sym s.2) (
-          all_among (λ r. fits_kind r.1 (other_of scheme r.0).kind ≡ true) sets (i, s.0) kinds s.1,
-          not-false _ (none_among (λ r. not (in_interval ls w (other_of scheme r.0))) sets (i, s.0) within s.1),
-        )
+        all_among (λ r. fits_kind r.1 (other_of scheme r.0).kind ≡ true) sets (i, s.0) kinds s.1,
+        not-false _ (none_among (λ r. not (in_interval ls w (other_of scheme r.0))) sets (i, s.0) within s.1),
+      )
     ])
 
     updated_fits : (es : List Element) → AllZip FitsAt scheme.others es → AllZip FitsAt scheme.others (updated w sets es)
     updated_fits es h = each_fits es (updated w sets es) (length-updated w sets es) h (λ i l f. elim (updated_cases w sets es i l) [
       | inl e ↦ subst (FitsAt (other_of scheme i)) (sym e) f
       | inr s ↦ subst (FitsAt (other_of scheme i)) (sym s.1.2) (
-          all_among (λ r. fits_kind r.1 (other_of scheme r.0).kind ≡ true) sets (i, s.1.0) kinds s.1.1,
-          subst (λ k. in_interval ls k (other_of scheme i) ≡ true) s.0 f.1,
-        )
+        all_among (λ r. fits_kind r.1 (other_of scheme r.0).kind ≡ true) sets (i, s.1.0) kinds s.1.1,
+        subst (λ k. in_interval ls k (other_of scheme i) ≡ true) s.0 f.1,
+      )
     ])
 
   -- ---- tables

@@ -26,7 +26,7 @@ low_use_low ls scheme c w T wr h = let e = sym (write-low ls scheme c w h T wr) 
 pub low_see_low : LowWritesSeeLow
 low_see_low ls distinct scheme n c w S T s t wr fits h views =
     let both : low_written ls c (write ls scheme w wr S) ≡ low_written ls c (write ls scheme w wr T) =
-        sym (write-low ls scheme c w h S wr) ∙ ap (write ls scheme w wr) (low_from_views ls distinct n n S T s t c views) ∙ write-low ls scheme c w h T wr in (
+    sym (write-low ls scheme c w h S wr) ∙ ap (write ls scheme w wr) (low_from_views ls distinct n n S T s t c views) ∙ write-low ls scheme c w h T wr in (
       ap (λ r. r.outcome) both,
       views_from_low ls n n _ _ (write-stored ls distinct scheme n w S s wr fits) (write-stored ls distinct scheme n w T t wr fits) c (ap (λ r. r.table) both),
     )

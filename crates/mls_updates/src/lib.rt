@@ -3,6 +3,8 @@
 
 mod laws;
 mod outcome;
+#[cfg(test)]
+mod tests;
 
 pub use laws::{
     high_writes_are_unseen, high_writes_leave_low, low_writes_see_low, low_writes_use_low,

@@ -1,5 +1,5 @@
 -- The laws of writes.
-use Rattle.std.specs.Prelude.{◌≡◌, ℕ, ◌<◌, true, false, length, ◌↔◌}
+use Rattle.std.specs.Prelude.{◌≡◌, ℕ, true, false, length, ◌↔◌}
 use Rattle.mls_lattice.specs.Labels.{Labels, below, AreDistinct}
 use Rattle.mls_scheme.specs.declared.tuple.Tuple.{Tuple}
 use Rattle.mls_scheme.specs.Table.{Table, IsIn}
@@ -23,8 +23,16 @@ WritesKeepContent =
 -- a write at a label that c does not dominate leaves the tuples of classes that c dominates
 abbrev pub HighWritesLeaveLow : Type 0
 HighWritesLeaveLow =
-    (ls : Labels) → AreDistinct ls → (scheme : Scheme) (n c w : ℕ) (T : Table) → IsStored ls n T → (wr : Write) → WriteFits ls n w wr → below ls w c ≡ false
+    (ls : Labels) (scheme : Scheme) (n c w : ℕ) (T : Table) → IsStored ls n T → (wr : Write) → below ls w c ≡ false
     → low ls c (write ls scheme w wr T).table ≡ low ls c T
+
+-- a write at a label that c dominates: its outcome and the tuples of classes that c dominates afterwards are those of
+-- the same write on these tuples alone
+abbrev pub LowWritesUseLow : Type 0
+LowWritesUseLow =
+    (ls : Labels) (scheme : Scheme) (c w : ℕ) (T : Table) (wr : Write) → below ls w c ≡ true
+    → ((write ls scheme w wr T).outcome ≡ (write ls scheme w wr (low ls c T)).outcome)
+    × (low ls c (write ls scheme w wr T).table ≡ (write ls scheme w wr (low ls c T)).table)
 
 -- a write at a label that c does not dominate leaves the view at c
 abbrev pub HighWritesAreUnseen : Type 0

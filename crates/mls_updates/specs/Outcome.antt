@@ -1,7 +1,11 @@
 -- The numbers and names of outcomes.
-use Rattle.std.specs.Prelude.{ℕ, List, codes}
+use Rattle.std.specs.Prelude.{ℕ, Bool, true, false, List, codes}
 use Rattle.mls_updates.specs.declared.outcome.Outcome.{Outcome}
 use Rattle.mls_updates.specs.declared.outcome.Outcome.TheVariants.{Done, KeyNull, Duplicate, NoTuple, NullAboveKey, Inherited, OutOfInterval, AlreadyDerived}
+
+abbrev pub is_done : Outcome → Bool
+is_done Done = true
+is_done o = false
 
 abbrev pub code_of : Outcome → ℕ
 code_of Done = 0

@@ -1,6 +1,7 @@
--- The three writes: what each does to a table, and its outcome.
-use Rattle.std.specs.Prelude.{◌≡◌, ℕ, suc, Bool, true, not, ◌&&◌, if◌then◌else◌, cond, nat_eq, List, [], ◌∷◌, map, Option, Some, None, is_some, is_none, length, ◌<◌}
-use Rattle.std.specs.List.{list_any, list_all, AllByRecursion}
+-- The three writes of a multilevel relation: what each does to the table, and its outcome.
+use Rattle.std.specs.Prelude.{◌≡◌, ℕ, ◌<◌, Bool, true, not, ◌&&◌, if◌then◌else◌, nat_eq, List, [], ◌∷◌, map, length, Option, is_some, is_none, ⊤}
+use Rattle.std.specs.List.{list_any, list_all, filter_map, enumerate_from, AllByRecursion}
+use Rattle.std.specs.Option.{unwrap_or}
 use Rattle.std.specs.Ordering.{eq_by_cmp}
 use Rattle.std.specs.FinMap.{get, insert, retain_keys}
 use Rattle.mls_lattice.specs.Labels.{Labels, below}
@@ -12,167 +13,20 @@ use Rattle.mls_scheme.specs.Table.{place_cmp, Table, Database, change}
 use Rattle.mls_scheme.specs.declared.place.Place.{Place}
 use Rattle.mls_scheme.specs.Scheme.{Scheme, other_of}
 use Rattle.mls_scheme.specs.Fits.{in_interval, HaveKinds}
+use Rattle.mls_filterview.specs.Stored.{with_class}
 use Rattle.mls_updates.specs.declared.outcome.Outcome.{Outcome}
 use Rattle.mls_updates.specs.declared.outcome.Outcome.TheVariants.{Done, KeyNull, Duplicate, NoTuple, NullAboveKey, Inherited, OutOfInterval, AlreadyDerived}
+use Rattle.mls_updates.specs.Outcome.{is_done}
+
+-- ---- what a write says
 
 -- a key that may have nulls
 abbrev pub Key : Type 0
 Key = List (Option Value)
 
--- new values for attributes, by their numbers
+-- new values of attributes outside the key, by their numbers
 abbrev pub Sets : Type 0
 Sets = List (ℕ × Option Value)
-
-abbrev pub has_null : Key → Bool
-has_null key = list_any (λ v. is_none v) key
-
--- the values of a key without nulls
-abbrev pub known : Key → List Value
-known [] = []
-known (Some v ∷ vs) = v ∷ known vs
-known (None ∷ vs) = known vs
-
--- the first condition that holds gives the outcome
-abbrev pub first_refusal : List (Bool × Outcome) → Outcome
-first_refusal [] = Done
-first_refusal (r ∷ rs) = cond r.0 r.1 (first_refusal rs)
-
--- a relation after a write, and the outcome
-pub record Written : Type 0 where
-  pub table : Table
-  pub outcome : Outcome
-
--- the table changes where the outcome is Done
-abbrev pub when_done : Outcome → Table → Table → Table
-when_done Done new old = new
-when_done KeyNull new old = old
-when_done Duplicate new old = old
-when_done NoTuple new old = old
-when_done NullAboveKey new old = old
-when_done Inherited new old = old
-when_done OutOfInterval new old = old
-when_done AlreadyDerived new old = old
-
-abbrev pub written : Outcome → Table → Table → Written
-written o new old = record { table = when_done o new old; outcome = o }
-
-abbrev pub place : Key → ℕ → ℕ → Place
-place key key_class class = record { key = known key; key_class = key_class; class = class }
-
--- the tuple at a place, if there is one
-abbrev pub or_nothing : Option (List Element) → List Element
-or_nothing None = []
-or_nothing (Some es) = es
-
-abbrev pub is_entity : Place → Place → Bool
-is_entity p q = eq_by_cmp place_cmp (record { key = p.key; key_class = p.key_class; class = q.class }) q
-
--- what is set at an attribute
-abbrev pub set_at : Sets → ℕ → Option (Option Value)
-set_at [] i = None
-set_at (s ∷ ss) i = if nat_eq s.0 i then Some s.1 else set_at ss i
-
--- each element by its number
-abbrev pub each_from : ℕ → (ℕ → Element → Element) → List Element → List Element
-each_from k f [] = []
-each_from k f (e ∷ es) = f k e ∷ each_from (suc k) f es
-
-abbrev pub set_element : ℕ → Option (Option Value) → Element → Element
-set_element w None e = e
-set_element w (Some v) e = record { value = v; class = w }
-
--- the named attributes new at w, the others as they are
-unfoldable pub derived : ℕ → Sets → List Element → List Element
-derived w sets es = each_from 0 (λ i e. set_element w (set_at sets i) e) es
-
--- the named attributes of class w new, the others as they are
-unfoldable pub updated : ℕ → Sets → List Element → List Element
-updated w sets es = each_from 0 (λ i e. if nat_eq e.class w then set_element w (set_at sets i) e else e) es
-
--- the elements of a root of class w
-abbrev pub root : ℕ → List (Option Value) → List Element
-root w values = map (λ v. record { value = v; class = w }) values
-
--- the tuples of one entity updated, the others as they are
-abbrev pub update_in : Place → ℕ → Sets → Place → List Element → List Element
-update_in entity w sets p es = if is_entity entity p then updated w sets es else es
-
--- the tuples of one entity whose class dominates w
-abbrev pub is_above : Labels → Place → ℕ → Place → Bool
-is_above ls entity w p = is_entity entity p && below ls w p.class
-
--- Each outcome is a function of the tuples that were found.
-module _ (ls : Labels) (scheme : Scheme) where
-  -- found: the entity's root
-  abbrev pub insert_refusals : ℕ → Key → Option (List Element) → List (Bool × Outcome)
-  insert_refusals w key found =
-      (has_null key, KeyNull)
-      ∷ (is_some found, Duplicate)
-      ∷ (not (list_all (in_interval ls w) scheme.keys && list_all (in_interval ls w) scheme.others), OutOfInterval) ∷ []
-
-  unfoldable pub insert_outcome : ℕ → Key → Option (List Element) → Outcome
-  insert_outcome w key found = first_refusal (insert_refusals w key found)
-
-  -- a root of class w
-  abbrev pub insert_row : Table → ℕ → Key → List (Option Value) → Written
-  insert_row T w key values =
-      written (insert_outcome w key (get T (place key w w))) (insert T (place key w w) (root w values)) T
-
-  abbrev pub is_missing : ℕ → ℕ → ℕ → Option (List Element) → Bool
-  is_missing w key_class from found = not (is_some found && (below ls key_class from && below ls from w))
-
-  -- found: the entity's tuple of class w
-  abbrev pub update_own_refusals : ℕ → Key → ℕ → Sets → Option (List Element) → List (Bool × Outcome)
-  update_own_refusals w key key_class sets found =
-      (has_null key, KeyNull)
-      ∷ (is_missing w key_class w found, NoTuple)
-      ∷ (list_any (λ s. not (nat_eq (at (or_nothing found) s.0).class w)) sets, Inherited)
-      ∷ (not (nat_eq w key_class) && list_any (λ s. is_none s.1) sets, NullAboveKey) ∷ []
-
-  unfoldable pub update_own_outcome : ℕ → Key → ℕ → Sets → Option (List Element) → Outcome
-  update_own_outcome w key key_class sets found = first_refusal (update_own_refusals w key key_class sets found)
-
-  -- in every tuple of the entity the named attributes of class w get the new values
-  abbrev pub update_own : Table → ℕ → Key → ℕ → Sets → Written
-  update_own T w key key_class sets =
-      written (update_own_outcome w key key_class sets (get T (place key key_class w)))
-      (change (update_in (place key key_class w) w sets) T) T
-
-  -- found, own: the entity's tuples of class from and of class w
-  abbrev pub update_below_refusals : ℕ → Key → ℕ → ℕ → Sets → Option (List Element) → Option (List Element) → List (Bool × Outcome)
-  update_below_refusals w key key_class from sets found own =
-      (has_null key, KeyNull)
-      ∷ (is_missing w key_class from found, NoTuple)
-      ∷ (is_some own, AlreadyDerived)
-      ∷ (list_any (λ s. is_none s.1) sets, NullAboveKey)
-      ∷ (list_any (λ s. not (in_interval ls w (other_of scheme s.0))) sets, OutOfInterval) ∷ []
-
-  unfoldable pub update_below_outcome : ℕ → Key → ℕ → ℕ → Sets → Option (List Element) → Option (List Element) → Outcome
-  update_below_outcome w key key_class from sets found own = first_refusal (update_below_refusals w key key_class from sets found own)
-
-  -- a new tuple of class w, made from the one of class from
-  abbrev pub update_below : Table → ℕ → Key → ℕ → ℕ → Sets → Written
-  update_below T w key key_class from sets =
-      written (update_below_outcome w key key_class from sets (get T (place key key_class from)) (get T (place key key_class w)))
-      (insert T (place key key_class w) (derived w sets (or_nothing (get T (place key key_class from))))) T
-
-  abbrev pub update_row : Table → ℕ → Key → ℕ → ℕ → Sets → Written
-  update_row T w key key_class from sets =
-      if nat_eq from w then update_own T w key key_class sets else update_below T w key key_class from sets
-
-  -- found: the entity's tuple of class w
-  abbrev pub delete_refusals : ℕ → Key → ℕ → Option (List Element) → List (Bool × Outcome)
-  delete_refusals w key key_class found =
-      (has_null key, KeyNull) ∷ (is_missing w key_class w found, NoTuple) ∷ []
-
-  unfoldable pub delete_outcome : ℕ → Key → ℕ → Option (List Element) → Outcome
-  delete_outcome w key key_class found = first_refusal (delete_refusals w key key_class found)
-
-  -- without the entity's tuples whose class dominates w
-  abbrev pub delete_row : Table → ℕ → Key → ℕ → Written
-  delete_row T w key key_class =
-      written (delete_outcome w key key_class (get T (place key key_class w)))
-      (retain_keys T (λ p. not (is_above ls (place key key_class w) w p))) T
 
 -- a write, at one label
 pub data Write : Type 0 where
@@ -180,28 +34,141 @@ pub data Write : Type 0 where
   Update : (key : Key) (key_class from : ℕ) (sets : Sets) → Write
   Delete : (key : Key) (key_class : ℕ) → Write
 
+-- ---- what it answers
+
+-- a table after a write, and the outcome
+pub record Written : Type 0 where
+  pub table : Table
+  pub outcome : Outcome
+
+-- the outcome whose condition holds first, or Done
+unfoldable pub first_refusal : List (Bool × Outcome) → Outcome
+first_refusal [] = Done
+first_refusal (r ∷ rs) = if r.0 then r.1 else first_refusal rs
+
+-- the table is new where the outcome is Done
+abbrev pub written : Outcome → Table → Table → Written
+written o new old = record { table = if is_done o then new else old; outcome = o }
+
+-- ---- keys and places
+
+abbrev pub has_null : Key → Bool
+has_null key = list_any (λ v. is_none v) key
+
+-- the place of the entity's tuple of a class; a key with nulls is refused
+abbrev pub place : Key → ℕ → ℕ → Place
+place key key_class class = record { key = filter_map (λ v. v) key; key_class = key_class; class = class }
+
+-- two places differ in class at most
+abbrev pub is_entity : Place → Place → Bool
+is_entity p q = eq_by_cmp place_cmp p (with_class q p.class)
+
+-- a place of the same entity, whose class dominates that of the first
+abbrev pub is_above : Labels → Place → Place → Bool
+is_above ls p q = is_entity p q && below ls p.class q.class
+
+-- ---- elements
+
+-- all of class w
+abbrev pub root : ℕ → List (Option Value) → List Element
+root w values = map (λ v. record { value = v; class = w }) values
+
+-- the element of attribute i, with its new value of class w if there is one
+abbrev pub set_element : ℕ → Sets → ℕ → Element → Element
+set_element w [] i e = e
+set_element w (s ∷ ss) i e = if nat_eq s.0 i then record { value = s.1; class = w } else set_element w ss i e
+
+-- all named attributes new, at class w
+unfoldable pub derived : ℕ → Sets → List Element → List Element
+derived w sets es = map (λ d. set_element w sets d.0 d.1) (enumerate_from 0 es)
+
+-- the named attributes of class w new
+unfoldable pub updated : ℕ → Sets → List Element → List Element
+updated w sets es = map (λ d. if nat_eq d.1.class w then set_element w sets d.0 d.1 else d.1) (enumerate_from 0 es)
+
+-- so in each tuple of the entity of p, w being its class
+abbrev pub update_in : Place → Sets → Place → List Element → List Element
+update_in p sets q es = if is_entity p q then updated p.class sets es else es
+
+-- ---- the writes at w
+-- Refusals look at no more of a table than the tuples that were found.
+module _ (ls : Labels) (scheme : Scheme) (w : ℕ) where
+  -- there is no tuple of class from, or not key_class <= from <= w
+  abbrev pub is_missing : ℕ → ℕ → Option (List Element) → Bool
+  is_missing key_class from found = not (is_some found && (below ls key_class from && below ls from w))
+
+  abbrev pub insert_refusals : Key → Option (List Element) → List (Bool × Outcome)
+  insert_refusals key found =
+      (has_null key, KeyNull)
+      ∷ (is_some found, Duplicate)
+      ∷ (not (list_all (in_interval ls w) scheme.keys && list_all (in_interval ls w) scheme.others), OutOfInterval) ∷ []
+
+  -- a tuple of one class, w
+  abbrev pub insert_row : Key → List (Option Value) → Table → Written
+  insert_row key values T =
+      let p = place key w w in
+      written (first_refusal (insert_refusals key (get T p))) (insert T p (root w values)) T
+
+  abbrev pub update_own_refusals : Key → ℕ → Sets → Option (List Element) → List (Bool × Outcome)
+  update_own_refusals key key_class sets found =
+      (has_null key, KeyNull)
+      ∷ (is_missing key_class w found, NoTuple)
+      ∷ (list_any (λ s. not (nat_eq (at (unwrap_or found []) s.0).class w)) sets, Inherited)
+      ∷ (not (nat_eq w key_class) && list_any (λ s. is_none s.1) sets, NullAboveKey) ∷ []
+
+  -- the entity has a tuple of class w: in each of its tuples the named attributes of class w get the new values
+  abbrev pub update_own : Key → ℕ → Sets → Table → Written
+  update_own key key_class sets T =
+      let p = place key key_class w in
+      written (first_refusal (update_own_refusals key key_class sets (get T p))) (change (update_in p sets) T) T
+
+  abbrev pub update_below_refusals : Key → ℕ → ℕ → Sets → Option (List Element) → Option (List Element) → List (Bool × Outcome)
+  update_below_refusals key key_class from sets found own =
+      (has_null key, KeyNull)
+      ∷ (is_missing key_class from found, NoTuple)
+      ∷ (is_some own, AlreadyDerived)
+      ∷ (list_any (λ s. is_none s.1) sets, NullAboveKey)
+      ∷ (list_any (λ s. not (in_interval ls w (other_of scheme s.0))) sets, OutOfInterval) ∷ []
+
+  -- a new tuple of class w: the one of class from, with the named attributes new
+  abbrev pub update_below : Key → ℕ → ℕ → Sets → Table → Written
+  update_below key key_class from sets T =
+      let p = place key key_class w in
+      let found = get T (place key key_class from) in
+      written (first_refusal (update_below_refusals key key_class from sets found (get T p))) (insert T p (derived w sets (unwrap_or found []))) T
+
+  abbrev pub update_row : Key → ℕ → ℕ → Sets → Table → Written
+  update_row key key_class from sets T =
+      if nat_eq from w then update_own key key_class sets T else update_below key key_class from sets T
+
+  abbrev pub delete_refusals : Key → ℕ → Option (List Element) → List (Bool × Outcome)
+  delete_refusals key key_class found = (has_null key, KeyNull) ∷ (is_missing key_class w found, NoTuple) ∷ []
+
+  -- without the entity's tuples whose class dominates w
+  abbrev pub delete_row : Key → ℕ → Table → Written
+  delete_row key key_class T =
+      let p = place key key_class w in
+      written (first_refusal (delete_refusals key key_class (get T p))) (retain_keys T (λ q. not (is_above ls p q))) T
+
 abbrev pub write : Labels → Scheme → ℕ → Write → Table → Written
-write ls scheme w (Insert key values) T = insert_row ls scheme T w key values
-write ls scheme w (Update key key_class from sets) T = update_row ls scheme T w key key_class from sets
-write ls scheme w (Delete key key_class) T = delete_row ls scheme T w key key_class
+write ls scheme w (Insert key values) T = insert_row ls scheme w key values T
+write ls scheme w (Update key key_class from sets) T = update_row ls scheme w key key_class from sets T
+write ls scheme w (Delete key key_class) T = delete_row ls scheme w key key_class T
 
 -- a database with one relation changed
 abbrev pub with_table : Database → ℕ → Table → Database
 with_table db rel T r = if nat_eq r rel then T else db r
 
--- sets name at least one attribute, each below n
-abbrev pub AreNamed : ℕ → Sets → Type 0
-AreNamed n [] = ⊥
-AreNamed n (s ∷ ss) = (s.0 < n) × AllByRecursion (λ t. t.0 < n) ss
+-- ---- what a write must fit
 
--- a write is of a relation with n attributes outside its key, at a declared label
+-- a relation with n attributes outside its key, and a declared label; an update names at least one attribute
 abbrev pub WriteFits : Labels → ℕ → ℕ → Write → Type 0
 WriteFits ls n w (Insert key values) = (w < length ls) × (length values ≡ n)
-WriteFits ls n w (Update key key_class from sets) = (w < length ls) × AreNamed n sets
-WriteFits ls n w (Delete key key_class) = Unit {0}
+WriteFits ls n w (Update key key_class from sets) = (w < length ls) × (0 < length sets) × AllByRecursion (λ s. s.0 < n) sets
+WriteFits ls n w (Delete key key_class) = ⊤
 
--- the values of a write have the numbers and kinds of their attributes, or are null
+-- the numbers and kinds of attributes
 abbrev pub WriteKinds : Scheme → Write → Type 0
 WriteKinds scheme (Insert key values) = HaveKinds scheme.keys key × HaveKinds scheme.others values
 WriteKinds scheme (Update key key_class from sets) = AllByRecursion (λ s. fits_kind s.1 (other_of scheme s.0).kind ≡ true) sets
-WriteKinds scheme (Delete key key_class) = Unit {0}
+WriteKinds scheme (Delete key key_class) = ⊤

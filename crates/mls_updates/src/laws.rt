@@ -1,5 +1,5 @@
 //! The laws of writes, each the contract of a function.
-ghost use Rattle.mls_updates.specs.Laws.{WritesKeepForm, WritesKeepContent, HighWritesLeaveLow, HighWritesAreUnseen, LowWritesSeeLow};
+ghost use Rattle.mls_updates.specs.Laws.{WritesKeepForm, WritesKeepContent, HighWritesLeaveLow, LowWritesUseLow, HighWritesAreUnseen, LowWritesSeeLow};
 
 /// Each write keeps the stored form.
 pub fn writes_keep_form()
@@ -14,6 +14,11 @@ pub fn writes_keep_content()
 /// A write at a label that a level does not dominate leaves the stored tuples of classes that the level dominates.
 pub fn high_writes_leave_low()
     ensures { HighWritesLeaveLow }
+{}
+
+/// A write at a label that a level dominates uses no more than the stored tuples of classes that the level dominates.
+pub fn low_writes_use_low()
+    ensures { LowWritesUseLow }
 {}
 
 /// A write at a label that a level does not dominate leaves the level's view.

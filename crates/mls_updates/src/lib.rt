@@ -3,9 +3,11 @@
 
 mod laws;
 mod outcome;
+#[cfg(test)]
+mod tests;
 
 pub use laws::{
-    high_writes_are_unseen, high_writes_leave_low, low_writes_see_low, writes_keep_content,
-    writes_keep_form,
+    high_writes_are_unseen, high_writes_leave_low, low_writes_see_low, low_writes_use_low,
+    writes_keep_content, writes_keep_form,
 };
 pub use outcome::Outcome;

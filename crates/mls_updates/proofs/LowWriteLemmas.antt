@@ -1,0 +1,196 @@
+-- A write and the tuples of classes that a level dominates.
+use Rattle.std.proofs.Common.{◌≡◌, ℕ, ◌<◌, Bool, true, false, cond, not, ◌&&◌, List, [], ◌∷◌, length, Option, Some, None, refl, sym, ap, ◌∙◌, subst, inl, inr}
+use Rattle.std.specs.Prelude.{is_some, is_none, nat_eq, ◌⊎◌}
+use Rattle.std.specs.List.{list_any}
+use Rattle.std.specs.Option.{option_map, unwrap_or}
+use Rattle.std.specs.FinMap.{get, insert, retain_keys}
+use Rattle.std.proofs.lemmas.Bool.{true≢false, cases_Bool, false_from_ne_true, and_parts, and_right, ne_eqb}
+use Rattle.std.proofs.lemmas.List.{ext_get_or}
+use Rattle.mls_lattice.specs.Labels.{Labels, below}
+use Rattle.mls_lattice.proofs.LatticeLemmas.{below-trans}
+use Rattle.mls_scheme.specs.declared.value.Value.{Value}
+use Rattle.mls_scheme.specs.declared.tuple.Element.{Element}
+use Rattle.mls_scheme.specs.Tuple.{at, null_element}
+use Rattle.mls_scheme.specs.Table.{Place, Table, change}
+use Rattle.mls_scheme.specs.Scheme.{Scheme, other_of}
+use Rattle.mls_scheme.specs.Fits.{in_interval}
+use Rattle.mls_scheme.proofs.OrderLemmas.{is_place, is_place-true}
+use Rattle.mls_scheme.proofs.TableLemmas.{same_table, get_put, get_kept, get_change}
+use Rattle.mls_filterview.specs.View.{low}
+use Rattle.mls_filterview.specs.Stored.{IsStored}
+use Rattle.mls_filterview.proofs.LowLemmas.{get_low, get_low_in, same_low}
+use Rattle.mls_updates.specs.declared.outcome.Outcome.{Outcome}
+use Rattle.mls_updates.specs.declared.outcome.Outcome.TheVariants.{KeyNull, NoTuple, AlreadyDerived, NullAboveKey, OutOfInterval}
+use Rattle.mls_updates.specs.Outcome.{is_done}
+use Rattle.mls_updates.specs.Writes.{Key, Sets, Write, Insert, Update, Delete, Written, first_refusal, written, has_null, place, is_entity, is_above, root, derived, updated, update_in, insert_refusals, insert_row, update_own_refusals, update_own, update_below_refusals, update_below, update_row, delete_refusals, delete_row, write}
+use Rattle.mls_updates.proofs.SetLemmas.{length-updated, updated_other}
+use Rattle.mls_updates.proofs.ChangeLemmas.{get_old}
+
+-- ---- the changes of a low table
+
+low_insert : (ls : Labels) (c : ℕ) (T : Table) (p : Place) (es : List Element) → below ls p.class c ≡ true → low ls c (insert T p es) ≡ insert (low ls c T) p es
+low_insert ls c T p es h = same_table _ _ (λ q.
+    get_low ls c (insert T p es) q
+    ∙ ap (λ o. cond (below ls q.class c) o None) (get_put T p es q)
+    ∙ elim (is_place q p) as (λ b. is_place q p ≡ b → cond (below ls q.class c) (cond b (Some es) (get T q)) None ≡ cond b (Some es) (cond (below ls q.class c) (get T q) None)) [
+      | true ↦ λ e. ap (λ b. cond b (Some es) None) (ap (λ r. below ls r.class c) (is_place-true q p e) ∙ h)
+      | false ↦ λ e. refl
+    ] refl
+    ∙ ap (λ o. cond (is_place q p) (Some es) o) (sym (get_low ls c T q))
+    ∙ sym (get_put (low ls c T) p es q))
+
+low_change : (ls : Labels) (c : ℕ) (T : Table) (f : Place → List Element → List Element) → low ls c (change f T) ≡ change f (low ls c T)
+low_change ls c T f = same_table _ _ (λ q.
+    get_low ls c (change f T) q
+    ∙ ap (λ o. cond (below ls q.class c) o None) (get_change f T q)
+    ∙ elim (below ls q.class c) as (λ b. cond b (option_map (f q) (get T q)) None ≡ option_map (f q) (cond b (get T q) None)) [ true ↦ refl | false ↦ refl ]
+    ∙ ap (option_map (f q)) (sym (get_low ls c T q))
+    ∙ sym (get_change f (low ls c T) q))
+
+-- two filters in either order
+both_filters : (a b : Bool) (o : Option (List Element)) → cond a (cond b o None) None ≡ cond b (cond a o None) None
+both_filters true b o = refl
+both_filters false true o = refl
+both_filters false false o = refl
+
+low_kept : (ls : Labels) (c : ℕ) (T : Table) (test : Place → Bool) → low ls c (retain_keys T test) ≡ retain_keys (low ls c T) test
+low_kept ls c T test = same_table _ _ (λ q.
+    get_low ls c (retain_keys T test) q
+    ∙ ap (λ o. cond (below ls q.class c) o None) (get_kept T test q)
+    ∙ both_filters (below ls q.class c) (test q) (get T q)
+    ∙ ap (λ o. cond (test q) o None) (sym (get_low ls c T q))
+    ∙ sym (get_kept (low ls c T) test q))
+
+-- ---- a write at a label that c dominates
+
+-- what is left of a write's result for c
+abbrev pub low_written : Labels → ℕ → Written → Written
+low_written ls c r = record { table = low ls c r.table; outcome = r.outcome }
+
+low_if : (ls : Labels) (c : ℕ) (b : Bool) (S T : Table) → cond b (low ls c S) (low ls c T) ≡ low ls c (cond b S T)
+low_if ls c true S T = refl
+low_if ls c false S T = refl
+
+low_done : (ls : Labels) (c : ℕ) (o p : Outcome) (S R T : Table) → o ≡ p → S ≡ low ls c R → written o S (low ls c T) ≡ low_written ls c (written p R T)
+low_done ls c o p S R T e h = λ i. record { table = ((λ j. cond (is_done (e j)) (h j) (low ls c T)) ∙ low_if ls c (is_done p) R T) i; outcome = e i }
+
+module _ (ls : Labels) (scheme : Scheme) (c w : ℕ) (h : below ls w c ≡ true) (T : Table) where
+  insert_low : (key : Key) (values : List (Option Value)) → insert_row ls scheme w key values (low ls c T) ≡ low_written ls c (insert_row ls scheme w key values T)
+  insert_low key values =
+      let p = place key w w in
+      low_done ls c _ _ _ (insert T p (root w values)) T
+      (ap (λ o. first_refusal (insert_refusals ls scheme w key o)) (get_low_in ls c T p h))
+      (sym (low_insert ls c T p (root w values) h))
+
+  update_own_low : (key : Key) (key_class : ℕ) (sets : Sets) → update_own ls scheme w key key_class sets (low ls c T) ≡ low_written ls c (update_own ls scheme w key key_class sets T)
+  update_own_low key key_class sets =
+      let p = place key key_class w in
+      low_done ls c _ _ _ (change (update_in p sets) T) T
+      (ap (λ o. first_refusal (update_own_refusals ls scheme w key key_class sets o)) (get_low_in ls c T p h))
+      (sym (low_change ls c T (update_in p sets)))
+
+  delete_low : (key : Key) (key_class : ℕ) → delete_row ls scheme w key key_class (low ls c T) ≡ low_written ls c (delete_row ls scheme w key key_class T)
+  delete_low key key_class =
+      let p = place key key_class w in
+      low_done ls c _ _ _ (retain_keys T (λ q. not (is_above ls p q))) T
+      (ap (λ o. first_refusal (delete_refusals ls scheme w key key_class o)) (get_low_in ls c T p h))
+      (sym (low_kept ls c T (λ q. not (is_above ls p q))))
+
+  -- a tuple of a class that w does not dominate is not found
+  unfound : Key → Outcome
+  unfound key = first_refusal ((has_null key, KeyNull) ∷ (true, NoTuple) ∷ [])
+
+  update_unfound : (key : Key) (key_class from : ℕ) (sets : Sets) (found own : Option (List Element)) → below ls from w ≡ false
+      → first_refusal (update_below_refusals ls scheme w key key_class from sets found own) ≡ unfound key
+  unfolding first_refusal unfound
+  update_unfound key key_class from sets found own out =
+      ap (λ b. first_refusal ((has_null key, KeyNull) ∷ (not b, NoTuple) ∷ (is_some own, AlreadyDerived)
+      ∷ (list_any (λ s. is_none s.1) sets, NullAboveKey)
+      ∷ (list_any (λ s. not (in_interval ls w (other_of scheme s.0))) sets, OutOfInterval) ∷ []))
+      (and_right (is_some found) (below ls key_class from && below ls from w) (and_right (below ls key_class from) (below ls from w) out))
+
+  undone : (key : Key) (S R : Table) → written (unfound key) S R ≡ record { table = R; outcome = unfound key }
+  unfolding first_refusal unfound
+  undone key S R = elim (has_null key) as (λ b. written (cond b KeyNull NoTuple) S R ≡ record { table = R; outcome = cond b KeyNull NoTuple }) [ true ↦ refl | false ↦ refl ]
+
+  update_below_low : (key : Key) (key_class from : ℕ) (sets : Sets) → update_below ls scheme w key key_class from sets (low ls c T) ≡ low_written ls c (update_below ls scheme w key key_class from sets T)
+  update_below_low key key_class from sets = by_from (cases_Bool (below ls from w))
+    where
+      p : Place
+      p = place key key_class w
+
+      q : Place
+      q = place key key_class from
+
+      outcome : Option (List Element) → Option (List Element) → Outcome
+      outcome found own = first_refusal (update_below_refusals ls scheme w key key_class from sets found own)
+
+      refused : below ls from w ≡ false → (S R : Table) (found own : Option (List Element)) → written (outcome found own) S R ≡ record { table = R; outcome = unfound key }
+      refused out S R found own = ap (λ o. written o S R) (update_unfound key key_class from sets found own out) ∙ undone key S R
+
+      by_from : (below ls from w ≡ true) ⊎ (below ls from w ≡ false) → update_below ls scheme w key key_class from sets (low ls c T) ≡ low_written ls c (update_below ls scheme w key key_class from sets T)
+      by_from (inl b) =
+          let found : get (low ls c T) q ≡ get T q = get_low_in ls c T q (below-trans ls from w c b h) in
+          low_done ls c _ _ _ (insert T p (derived w sets (unwrap_or (get T q) []))) T
+          (λ i. outcome (found i) (get_low_in ls c T p h i))
+          (ap (λ o. insert (low ls c T) p (derived w sets (unwrap_or o []))) found ∙ sym (low_insert ls c T p (derived w sets (unwrap_or (get T q) [])) h))
+      by_from (inr b) = refused b _ _ _ _ ∙ sym (ap (low_written ls c) (refused b _ _ _ _))
+
+  update_low : (key : Key) (key_class from : ℕ) (sets : Sets) → update_row ls scheme w key key_class from sets (low ls c T) ≡ low_written ls c (update_row ls scheme w key key_class from sets T)
+  update_low key key_class from sets =
+      elim (nat_eq from w) as (λ b. cond b (update_own ls scheme w key key_class sets (low ls c T)) (update_below ls scheme w key key_class from sets (low ls c T))
+      ≡ low_written ls c (cond b (update_own ls scheme w key key_class sets T) (update_below ls scheme w key key_class from sets T))) [
+        | true ↦ update_own_low key key_class sets
+        | false ↦ update_below_low key key_class from sets
+      ]
+
+-- its outcome, and what c then may see, are those of the same write on what c may see
+pub write-low : (ls : Labels) (scheme : Scheme) (c w : ℕ) → below ls w c ≡ true → (T : Table) (wr : Write) → write ls scheme w wr (low ls c T) ≡ low_written ls c (write ls scheme w wr T)
+write-low ls scheme c w h T (Insert key values) = insert_low ls scheme c w h T key values
+write-low ls scheme c w h T (Update key key_class from sets) = update_low ls scheme c w h T key key_class from sets
+write-low ls scheme c w h T (Delete key key_class) = delete_low ls scheme c w h T key key_class
+
+-- ---- a write at a label that c does not dominate
+
+module _ (ls : Labels) (c w : ℕ) (out : below ls w c ≡ false) where
+  -- what dominates w is not dominated by c
+  not_seen : (m : ℕ) → below ls w m ≡ true → below ls m c ≡ true → ⊥
+  not_seen m a b = true≢false (sym (below-trans ls w m c a b) ∙ out)
+
+  high_insert : (T : Table) (p : Place) (es : List Element) → p.class ≡ w → low ls c (insert T p es) ≡ low ls c T
+  high_insert T p es e = same_low ls c _ _ (λ q h.
+      get_old T p es q (λ s. true≢false (sym h ∙ ap (λ m. below ls m c) (ap (λ r. r.class) s ∙ e) ∙ out)))
+
+  high_kept : (T : Table) (p : Place) → p.class ≡ w → low ls c (retain_keys T (λ q. not (is_above ls p q))) ≡ low ls c T
+  high_kept T p e = same_low ls c _ _ (λ q h.
+      get_kept T (λ q. not (is_above ls p q)) q
+      ∙ ap (λ b. cond (not b) (get T q) None) (false_from_ne_true (is_above ls p q) (λ t. not_seen q.class (ap (λ m. below ls m q.class) (sym e) ∙ (and_parts _ _ t).1) h)))
+
+  -- there is no element of class w
+  unchanged : (sets : Sets) (es : List Element) → ((i : ℕ) → i < length es → (at es i).class ≡ w → ⊥) → updated w sets es ≡ es
+  unchanged sets es none = ext_get_or null_element (updated w sets es) es (length-updated w sets es) (λ i l.
+      let l' : i < length es = subst (λ k. i < k) (length-updated w sets es) l in
+      updated_other w sets es i l' (ne_eqb _ _ (none i l')))
+
+  high_change : (n : ℕ) (T : Table) → IsStored ls n T → (p : Place) → p.class ≡ w → (sets : Sets) → low ls c (change (update_in p sets) T) ≡ low ls c T
+  high_change n T stored p e sets = same_low ls c _ _ (λ q h. get_change (update_in p sets) T q ∙ same q h (get T q) refl)
+    where
+      same : (q : Place) → below ls q.class c ≡ true → (o : Option (List Element)) → get T q ≡ o → option_map (update_in p sets q) o ≡ o
+      same q h None f = refl
+      same q h (Some es) f =
+          let stays : updated p.class sets es ≡ es = ap (λ m. updated m sets es) e ∙ unchanged sets es (λ i l s. not_seen q.class ((stored q es f).greatest w (inr (i, l, sym s))) h) in
+          ap Some (elim (is_entity p q) as (λ b. cond b (updated p.class sets es) es ≡ es) [ true ↦ stays | false ↦ refl ])
+
+  high_if : (b : Bool) (S T : Table) → low ls c S ≡ low ls c T → low ls c (cond b S T) ≡ low ls c T
+  high_if true S T e = e
+  high_if false S T e = refl
+
+  -- it leaves what c may see
+  pub write-high : (scheme : Scheme) (n : ℕ) (T : Table) → IsStored ls n T → (wr : Write) → low ls c (write ls scheme w wr T).table ≡ low ls c T
+  write-high scheme n T stored (Insert key values) = high_if _ _ T (high_insert T (place key w w) (root w values) refl)
+  write-high scheme n T stored (Update key key_class from sets) =
+      elim (nat_eq from w) as (λ b. low ls c (cond b (update_own ls scheme w key key_class sets T) (update_below ls scheme w key key_class from sets T)).table ≡ low ls c T) [
+        | true ↦ high_if _ _ T (high_change n T stored (place key key_class w) refl sets)
+        | false ↦ high_if _ _ T (high_insert T (place key key_class w) _ refl)
+      ]
+  write-high scheme n T stored (Delete key key_class) = high_if _ _ T (high_kept T (place key key_class w) refl)

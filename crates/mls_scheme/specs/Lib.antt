@@ -4,3 +4,6 @@ pub mod Table
 pub mod Order
 pub mod Scheme
 pub mod Fits
+pub mod Spelling
+pub mod KeyReading
+pub mod KeyWords

@@ -3,9 +3,13 @@
 
 ghost use Rattle.mls_scheme.specs.Order.{AreOrdered};
 
+mod key_fault;
+mod key_writing;
 mod tuple;
 mod value;
 
+pub use key_fault::KeyFault;
+pub use key_writing::{key_bytes, value_bytes};
 pub use tuple::{Element, Tuple, same_elements, tuple_class};
 pub use value::{Kind, Value, copy_key, order_keys, same_key};
 

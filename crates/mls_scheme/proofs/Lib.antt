@@ -1,1 +1,3 @@
 pub mod OrderLemmas
+pub mod KeySteps
+pub mod KeyLemmas

@@ -2,13 +2,16 @@
 #![tactic(auto)]
 
 ghost use Rattle.mls_scheme.specs.Order.{AreOrdered};
+ghost use Rattle.mls_scheme.specs.Spelling.{AreUnambiguous};
 
 mod key_fault;
+mod key_reading;
 mod key_writing;
 mod tuple;
 mod value;
 
 pub use key_fault::KeyFault;
+pub use key_reading::{key_of, value_of};
 pub use key_writing::{key_bytes, value_bytes};
 pub use tuple::{Element, Tuple, same_elements, tuple_class};
 pub use value::{Kind, Value, copy_key, order_keys, same_key};
@@ -16,4 +19,9 @@ pub use value::{Kind, Value, copy_key, order_keys, same_key};
 /// The orders of values and of places are total, and only equal ones tie.
 pub fn places_are_ordered()
     ensures { AreOrdered }
+{}
+
+/// No two keys have one spelling, and no value's spelling begins another's.
+pub fn spellings_are_unambiguous()
+    ensures { AreUnambiguous }
 {}

@@ -1,5 +1,5 @@
 -- A key that is read is spelled so, and what is spelled so is read again.
-use Rattle.std.proofs.Common.{◌≡◌, ℕ, zero, suc, ◌+◌, ◌^◌, ◌<◌, ◌≤◌, Bool, true, false, cond, nat_lt, nat_le, ◌&&◌, ◌==◌, List, [], ◌∷◌, ◌++◌, length, get_or, take, drop, ℤ, pos, negsuc, Result, Ok, Err, refl, sym, ap, subst, ◌∙◌, append_assoc, arith, inl, inr}
+use Rattle.std.proofs.Common.{◌≡◌, ℕ, zero, suc, ◌+◌, ◌-◌, ◌^◌, ◌<◌, ◌≤◌, Bool, true, false, cond, nat_lt, nat_le, ◌&&◌, ◌==◌, List, [], ◌∷◌, ◌++◌, length, get_or, take, drop, ℤ, pos, negsuc, Result, Ok, Err, refl, sym, ap, subst, ◌∙◌, append_assoc, arith, inl, inr}
 use Rattle.std.specs.Prelude.{IfOk, FitsSigned, IsUtf8}
 use Rattle.std.specs.Global.{Vec}
 use Rattle.std.specs.Str.{is_utf8}
@@ -130,13 +130,13 @@ int_again z rest fits = rw (number_again w64 (2 ^ 64) wide64 (cast_unsigned w64 
 text_takes : (bytes text rest : List ℕ) → IsBytes bytes → text_at bytes ≡ Ok (text, rest) → Takes bytes (to_be_bytes w32 (length text) ++ text) rest × (IsUtf8 text × (length text < 2 ^ 32))
 unfolding text_at utf8_at
 text_takes bytes text rest fits e =
-    let b = bind_ok (number_at w32 bytes) _ (text, rest) e in
+    let b = bind_ok (number_at w32 bytes) (λ n. cond (nat_lt (length n.1) n.0) (Err Short) (utf8_at (take n.0 n.1) >>= (λ s. Ok (s, drop n.0 n.1)))) (text, rest) e in
     let n = b.0 in
     let t = number_takes w32 (2 ^ 32) wide32 bytes n.0 n.1 fits b.1 in
-    let g = guard_ok (nat_lt (length n.1) n.0) Short _ (text, rest) b.2 in
-    let u = bind_ok (utf8_at (take n.0 n.1)) _ (text, rest) g.1 in
+    let g = guard_ok (nat_lt (length n.1) n.0) Short (utf8_at (take n.0 n.1) >>= (λ s. Ok (s, drop n.0 n.1))) (text, rest) b.2 in
+    let u = bind_ok (utf8_at (take n.0 n.1)) (λ s. Ok (s, drop n.0 n.1)) (text, rest) g.1 in
     let v = pass_ok (is_utf8 (take n.0 n.1)) BadText (Ok (take n.0 n.1)) u.0 u.1 in
-    let pair : (u.0, drop n.0 n.1) ≡ (text, rest) = ok_is _ _ u.2 in
+    let pair : (u.0, drop n.0 n.1) ≡ (text, rest) = ok_is (u.0, drop n.0 n.1) (text, rest) u.2 in
     let same : take n.0 n.1 ≡ u.0 = ok_is _ _ v.1 in
     let utf8 : IsUtf8 (take n.0 n.1) = IsUtf8-from_is_utf8 (take n.0 n.1) v.0 in
     let long : n.0 ≤ length n.1 = ltb-false _ _ g.0 in
@@ -242,6 +242,35 @@ key_again key h =
 pub is_found : (bytes : List ℕ) (r : Result (Vec Value) KeyFault) → IsBytes bytes → Gives (λ v. v.items) r (key_at bytes) → IfOk r (λ v. IsSpelledKey v.items × (bytes ≡ key_spelling v.items))
 is_found bytes (Ok v) fits given = key_found bytes v.items fits given
 is_found bytes (Err e) fits given = tt
+
+-- ---- the value at the front
+
+-- what a value and the bytes after it say of the whole
+pub record Front (bytes : List ℕ) (v : Value) (rest : List ℕ) : Type 0 where
+  pub within : length rest ≤ length bytes
+  pub taken : length bytes - length rest ≡ length (value_spelling v)
+  pub after : drop (length bytes - length rest) bytes ≡ rest
+
+pub front : (bytes : List ℕ) (v : Value) (rest : List ℕ) → IsBytes bytes → value_at bytes ≡ Ok (v, rest) → Front bytes v rest
+front bytes v rest fits e =
+    let parts : bytes ≡ value_spelling v ++ rest = (value_takes bytes v rest fits e).0.parts in
+    let len : length bytes ≡ length (value_spelling v) + length rest = ap length parts ∙ length-append (value_spelling v) rest in
+    let taken : length bytes - length rest ≡ length (value_spelling v) = omega arith in
+    record {
+      within = omega arith;
+      taken = taken;
+      after = ap (λ (n : ℕ). drop n bytes) taken ∙ ap (λ (bs : List ℕ). drop (length (value_spelling v)) bs) parts ∙ drop_at (value_spelling v) rest (length (value_spelling v)) refl;
+    }
+
+pub is_value_found : (bytes : List ℕ) (r : Result (Value × ℕ) KeyFault) → IsBytes bytes → Gives (λ x. (x.0, drop x.1 bytes)) r (value_at bytes) → IfOk r (λ x. HasSpelling x.0 × (bytes ≡ value_spelling x.0 ++ drop x.1 bytes))
+is_value_found bytes (Ok x) fits given = let t = value_takes bytes x.0 (drop x.1 bytes) fits given in (t.1, t.0.parts)
+is_value_found bytes (Err e) fits given = tt
+
+pub is_value_only : (bytes : List ℕ) (r : Result (Value × ℕ) KeyFault) → Gives (λ x. (x.0, drop x.1 bytes)) r (value_at bytes) → IfOk r (λ x. x.1 ≡ length (value_spelling x.0)) → (v : Value) (rest : List ℕ) → HasSpelling v → bytes ≡ value_spelling v ++ rest → Gives (λ x. x) r (Ok (v, length (value_spelling v)))
+is_value_only bytes (Ok x) given taken v rest h e =
+    let same : v ≡ x.0 = ap (λ (p : Value × List ℕ). p.0) (ok_is (v, rest) (x.0, drop x.1 bytes) (sym (ap value_at e ∙ value_again v rest h) ∙ given)) in
+    ap Ok (λ i. (same i, (ap (λ (w : Value). length (value_spelling w)) same ∙ sym taken) i))
+is_value_only bytes (Err d) given taken v rest h e = λ other. absurd (let f : Ok (v, rest) ≡ Err d = sym (ap value_at e ∙ value_again v rest h) ∙ given other in cc)
 
 -- ---- one spelling
 

@@ -106,6 +106,14 @@ fn all_of(alloc: Global, bytes: &[u8]) -> Result<Vec<Value>, KeyFault>
     Ok(values)
 }
 
+fn sized_front_of(alloc: Global, bytes: &[u8]) -> Result<(Value, usize), KeyFault>
+    ensures taken { IfOk result (λ x. x.1 ≡ length (value_spelling x.0)) }
+    ensures exact { Gives (λ x. (x.0, drop x.1 bytes.now)) result (value_at bytes.now) }
+{
+    let (value, rest) = front_of(alloc, bytes)?;
+    Ok((value, bytes.len() - rest.len()))
+}
+
 /// The value at the front of the bytes, and how many bytes it took; never Trailing.
 pub fn value_of(alloc: Global, bytes: &[u8]) -> Result<(Value, usize), KeyFault>
     // What is read is spelled so.
@@ -117,8 +125,7 @@ pub fn value_of(alloc: Global, bytes: &[u8]) -> Result<(Value, usize), KeyFault>
     // Which fault it is.
     ensures exact { Gives (λ x. (x.0, drop x.1 bytes.now)) result (value_at bytes.now) }
 {
-    let (value, rest) = front_of(alloc, bytes)?;
-    Ok((value, bytes.len() - rest.len()))
+    sized_front_of(alloc, bytes)
 }
 
 /// The key that the bytes spell, all of the bytes.

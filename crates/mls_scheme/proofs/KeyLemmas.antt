@@ -15,7 +15,7 @@ use Rattle.mls_scheme.specs.declared.value.Value.{Value}
 use Rattle.mls_scheme.specs.declared.value.Value.TheVariants.{Int, Text}
 use Rattle.mls_scheme.specs.declared.key_fault.KeyFault.{KeyFault}
 use Rattle.mls_scheme.specs.declared.key_fault.KeyFault.TheVariants.{Short, BadTag, BadText, Trailing}
-use Rattle.mls_scheme.specs.Spelling.{value_spelling, key_spelling, HasSpelling, IsKey, IsSpelledKey, AreUnambiguous}
+use Rattle.mls_scheme.specs.Spelling.{value_spelling, key_spelling, HasSpelling, IsSpelledKey, AreUnambiguous}
 use Rattle.mls_scheme.specs.KeyReading.{◌>>=◌, Gives, number_at, int_at, utf8_at, text_at, value_at, values_at, key_at}
 use Rattle.mls_scheme.proofs.KeySteps.{utf8_at-ok}
 
@@ -127,25 +127,37 @@ int_again z rest fits = rw (number_again w64 (2 ^ 64) wide64 (cast_unsigned w64 
 
 -- ---- texts
 
-text_takes : (bytes text rest : List ℕ) → IsBytes bytes → text_at bytes ≡ Ok (text, rest) → Takes bytes (to_be_bytes w32 (length text) ++ text) rest × (IsUtf8 text × (length text < 2 ^ 32))
-unfolding text_at utf8_at
-text_takes bytes text rest fits e =
-    let b = bind_ok (number_at w32 bytes) (λ n. cond (nat_lt (length n.1) n.0) (Err Short) (utf8_at (take n.0 n.1) >>= (λ s. Ok (s, drop n.0 n.1)))) (text, rest) e in
-    let n = b.0 in
-    let t = number_takes w32 (2 ^ 32) wide32 bytes n.0 n.1 fits b.1 in
-    let g = guard_ok (nat_lt (length n.1) n.0) Short (utf8_at (take n.0 n.1) >>= (λ s. Ok (s, drop n.0 n.1))) (text, rest) b.2 in
-    let u = bind_ok (utf8_at (take n.0 n.1)) (λ s. Ok (s, drop n.0 n.1)) (text, rest) g.1 in
-    let v = pass_ok (is_utf8 (take n.0 n.1)) BadText (Ok (take n.0 n.1)) u.0 u.1 in
-    let pair : (u.0, drop n.0 n.1) ≡ (text, rest) = ok_is (u.0, drop n.0 n.1) (text, rest) u.2 in
-    let same : take n.0 n.1 ≡ u.0 = ok_is _ _ v.1 in
-    let utf8 : IsUtf8 (take n.0 n.1) = IsUtf8-from_is_utf8 (take n.0 n.1) v.0 in
-    let long : n.0 ≤ length n.1 = ltb-false _ _ g.0 in
-    let len : length (take n.0 n.1) ≡ n.0 = omega (arith, length-take n.0 n.1) in
-    let second : Takes n.1 (take n.0 n.1) (drop n.0 n.1) = record { parts = sym (take-append-drop n.0 n.1); rest_fits = IsBytes-drop n.0 n.1 t.0.rest_fits } in
-    let both = Takes-then bytes (to_be_bytes w32 n.0) n.1 (take n.0 n.1) (drop n.0 n.1) t.0 second in
-    let whole : Takes bytes (to_be_bytes w32 (length (take n.0 n.1)) ++ take n.0 n.1) (drop n.0 n.1) = subst (λ (k : ℕ). Takes bytes (to_be_bytes w32 k ++ take n.0 n.1) (drop n.0 n.1)) (sym len) both in
-    let T : List ℕ × List ℕ → Type 0 = λ p. Takes bytes (to_be_bytes w32 (length p.0) ++ p.0) p.1 × (IsUtf8 p.0 × (length p.0 < 2 ^ 32)) in
-    subst T (ap (λ (s : List ℕ). (s, drop n.0 n.1)) same ∙ pair) (whole, (utf8, omega (arith, t.1)))
+record TakesText (bytes text rest : List ℕ) : Type 0 where
+  takes : Takes bytes (to_be_bytes w32 (length text) ++ text) rest
+  utf8 : IsUtf8 text
+  short : length text < 2 ^ 32
+
+text_cut : (bytes : List ℕ) (n : ℕ) (after : List ℕ) → Takes bytes (to_be_bytes w32 n) after → n < 2 ^ 32 → n ≤ length after → IsUtf8 (take n after) → TakesText bytes (take n after) (drop n after)
+text_cut bytes n after t lt long utf8 =
+    let len : length (take n after) ≡ n = omega (arith, length-take n after) in
+    let second : Takes after (take n after) (drop n after) = record { parts = sym (take-append-drop n after); rest_fits = IsBytes-drop n after t.rest_fits } in
+    let both = Takes-then bytes (to_be_bytes w32 n) after (take n after) (drop n after) t second in
+    record { takes = subst (λ (k : ℕ). Takes bytes (to_be_bytes w32 k ++ take n after) (drop n after)) (sym len) both; utf8 = utf8; short = rw len lt }
+
+-- the text of a length, where reading it did not fail
+abbrev text_of_length : ℕ → List ℕ → Result (List ℕ × List ℕ) KeyFault
+text_of_length n after = cond (nat_lt (length after) n) (Err Short) (utf8_at (take n after) >>= (λ s. Ok (s, drop n after)))
+
+text_rest : (bytes : List ℕ) (n : ℕ) (after : List ℕ) (x : List ℕ × List ℕ) → Takes bytes (to_be_bytes w32 n) after → n < 2 ^ 32 → text_of_length n after ≡ Ok x → TakesText bytes x.0 x.1
+unfolding utf8_at
+text_rest bytes n after x t lt e =
+    let g = guard_ok (nat_lt (length after) n) Short (utf8_at (take n after) >>= (λ s. Ok (s, drop n after))) x e in
+    let u = bind_ok (utf8_at (take n after)) (λ s. Ok (s, drop n after)) x g.1 in
+    let v = pass_ok (is_utf8 (take n after)) BadText (Ok (take n after)) u.0 u.1 in
+    let same : (take n after, drop n after) ≡ x = ap (λ (s : List ℕ). (s, drop n after)) (ok_is (take n after) u.0 v.1) ∙ ok_is (u.0, drop n after) x u.2 in
+    subst (λ (p : List ℕ × List ℕ). TakesText bytes p.0 p.1) {x = (take n after, drop n after)} same (text_cut bytes n after t lt (ltb-false _ _ g.0) (IsUtf8-from_is_utf8 (take n after) v.0))
+
+text_takes : (bytes : List ℕ) (x : List ℕ × List ℕ) → IsBytes bytes → text_at bytes ≡ Ok x → TakesText bytes x.0 x.1
+unfolding text_at
+text_takes bytes x fits e =
+    let b = bind_ok (number_at w32 bytes) (λ n. text_of_length n.0 n.1) x e in
+    let t = number_takes w32 (2 ^ 32) wide32 bytes b.0.0 b.0.1 fits b.1 in
+    text_rest bytes b.0.0 b.0.1 x t.0 t.1 b.2
 
 text_again : (text rest : List ℕ) → length text < 2 ^ 32 → IsUtf8 text → text_at ((to_be_bytes w32 (length text) ++ text) ++ rest) ≡ Ok (text, rest)
 unfolding text_at
@@ -166,8 +178,8 @@ value_takes (suc zero ∷ bytes) v rest fits e =
     subst (λ (p : Value × List ℕ). Takes (1 ∷ bytes) (value_spelling p.0) p.1 × HasSpelling p.0) (ok_is (Int b.0.0, b.0.1) (v, rest) b.2) (record { parts = ap (λ (x : List ℕ). 1 ∷ x) t.0.parts; rest_fits = t.0.rest_fits }, (t.1, tt))
 value_takes (suc (suc zero) ∷ bytes) v rest fits e =
     let b = bind_ok (text_at bytes) (λ s. Ok (Text s.0, s.1)) (v, rest) e in
-    let t = text_takes bytes b.0.0 b.0.1 (IsBytes-rest 2 bytes fits) b.1 in
-    subst (λ (p : Value × List ℕ). Takes (2 ∷ bytes) (value_spelling p.0) p.1 × HasSpelling p.0) (ok_is (Text b.0.0, b.0.1) (v, rest) b.2) (record { parts = ap (λ (x : List ℕ). 2 ∷ x) t.0.parts; rest_fits = t.0.rest_fits }, t.1)
+    let t = text_takes bytes b.0 (IsBytes-rest 2 bytes fits) b.1 in
+    subst (λ (p : Value × List ℕ). Takes (2 ∷ bytes) (value_spelling p.0) p.1 × HasSpelling p.0) (ok_is (Text b.0.0, b.0.1) (v, rest) b.2) (record { parts = ap (λ (x : List ℕ). 2 ∷ x) t.takes.parts; rest_fits = t.takes.rest_fits }, (t.utf8, t.short))
 value_takes (suc (suc (suc b)) ∷ bytes) v rest fits e = absurd cc
 
 value_again : (v : Value) (rest : List ℕ) → HasSpelling v → value_at (value_spelling v ++ rest) ≡ Ok (v, rest)

@@ -25,3 +25,8 @@ pub fn places_are_ordered()
 pub fn spellings_are_unambiguous()
     ensures { AreUnambiguous }
 {}
+
+#[cfg(test)]
+mod key_tests;
+#[cfg(test)]
+mod tuple_tests;

@@ -31,9 +31,9 @@ pub fn value_bytes(alloc: Global, value: &Value) -> Result<Vec<u8>, AllocError>
     ensures writes { IfOk result (λ v. v.items ≡ value_spelling value.now) }
     ensures whole { OnOk result (IsValue value.now) }
 {
-    let mut out = Vec::new(alloc);
-    put_value(&mut out, value)?;
-    Ok(out)
+    let mut bytes = Vec::new(alloc);
+    put_value(&mut bytes, value)?;
+    Ok(bytes)
 }
 
 /// The bytes of a key: its number of values, and the values.

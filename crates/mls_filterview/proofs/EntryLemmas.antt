@@ -10,7 +10,8 @@ use Rattle.std.proofs.lemmas.Bool.{and_parts, and_from, false_from_ne_true}
 use Rattle.std.proofs.lemmas.Option.{same_Some, none-some}
 use lib.Dec.{T as IsSo}
 use Rattle.mls_scheme.specs.declared.tuple.Element.{Element}
-use Rattle.mls_scheme.specs.Table.{Place, place_cmp, Table}
+use Rattle.mls_scheme.specs.Table.{place_cmp, Table}
+use Rattle.mls_scheme.specs.declared.place.Place.{Place}
 use Rattle.mls_scheme.proofs.OrderLemmas.{place_exact, place_total, is_place, is_place-true, is_place-same}
 use Rattle.mls_filterview.specs.View.{IsAmong}
 

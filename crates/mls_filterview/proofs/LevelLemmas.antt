@@ -8,7 +8,8 @@ use Rattle.mls_lattice.proofs.LatticeLemmas.{below-refl, below-antisym}
 use Rattle.mls_scheme.specs.declared.tuple.Element.{Element}
 use Rattle.mls_scheme.specs.declared.tuple.Tuple.{Tuple}
 use Rattle.mls_scheme.specs.Tuple.{at, tuple_class}
-use Rattle.mls_scheme.specs.Table.{Place, Table, Has, IsIn, tuple_at, place_of}
+use Rattle.mls_scheme.specs.Table.{Table, Has, IsIn, tuple_at, place_of}
+use Rattle.mls_scheme.specs.declared.place.Place.{Place}
 use Rattle.mls_filterview.specs.Subsumption.{Covers, Subsumes, IsMax}
 use Rattle.mls_filterview.specs.View.{Filter, View, low}
 use Rattle.mls_filterview.specs.Stored.{Occurs, IsStoredTuple, IsStored}

@@ -9,7 +9,8 @@ use Rattle.mls_scheme.specs.declared.tuple.Element.{Element}
 use Rattle.mls_scheme.specs.declared.tuple.Tuple.{Tuple}
 use Rattle.mls_scheme.specs.Value.{value_eq}
 use Rattle.mls_scheme.specs.Tuple.{at, null_element}
-use Rattle.mls_scheme.specs.Table.{Place, tuple_at}
+use Rattle.mls_scheme.specs.Table.{tuple_at}
+use Rattle.mls_scheme.specs.declared.place.Place.{Place}
 use Rattle.mls_scheme.proofs.OrderLemmas.{value_eq-true, value_eq-same, is_place-true, is_place-same}
 use Rattle.mls_filterview.specs.Subsumption.{Covers, Subsumes, covers, all_cover, subsumes_entry}
 

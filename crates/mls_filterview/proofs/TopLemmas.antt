@@ -7,7 +7,8 @@ use Rattle.std.proofs.lemmas.Bool.{true≢false, false≢true, cases_lt, cases_B
 use Rattle.std.proofs.lemmas.Option.{same_Some, none-some}
 use Rattle.mls_scheme.specs.declared.tuple.Element.{Element}
 use Rattle.mls_scheme.specs.declared.tuple.Tuple.{Tuple}
-use Rattle.mls_scheme.specs.Table.{Place, Table, IsIn, tuple_at, place_of}
+use Rattle.mls_scheme.specs.Table.{Table, IsIn, tuple_at, place_of}
+use Rattle.mls_scheme.specs.declared.place.Place.{Place}
 use Rattle.mls_scheme.proofs.OrderLemmas.{is_place, is_place-true}
 use Rattle.mls_filterview.specs.Subsumption.{Covers, Subsumes, subsumes_entry}
 use Rattle.mls_filterview.proofs.SubsumptionLemmas.{EachCovers, Subsumes-refl, Subsumes-trans, same_tuple, subsumes_entry-true, subsumes_entry-from}

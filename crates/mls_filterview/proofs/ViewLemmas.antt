@@ -10,7 +10,8 @@ use Rattle.mls_scheme.specs.declared.value.Value.{Value}
 use Rattle.mls_scheme.specs.declared.tuple.Element.{Element}
 use Rattle.mls_scheme.specs.declared.tuple.Tuple.{Tuple}
 use Rattle.mls_scheme.specs.Tuple.{at, null_element}
-use Rattle.mls_scheme.specs.Table.{Place, Table, Has, IsIn, tuple_at, place_of}
+use Rattle.mls_scheme.specs.Table.{Table, Has, IsIn, tuple_at, place_of}
+use Rattle.mls_scheme.specs.declared.place.Place.{Place}
 use Rattle.mls_filterview.specs.Subsumption.{Covers, Subsumes, IsMax}
 use Rattle.mls_filterview.specs.View.{hide, filtered, Filter, View, low}
 use Rattle.mls_filterview.specs.Stored.{Occurs, with_class, AgreesBelow, IsStoredTuple, IsStored}

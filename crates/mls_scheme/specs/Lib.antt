@@ -6,3 +6,6 @@ pub mod Scheme
 pub mod Fault
 pub mod Fits
 pub mod PlaceOrder
+pub mod Spelling
+pub mod KeyReading
+pub mod KeyWords

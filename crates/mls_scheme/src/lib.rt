@@ -2,10 +2,14 @@
 #![tactic(auto)]
 
 ghost use Rattle.mls_scheme.specs.Order.{AreOrdered};
+ghost use Rattle.mls_scheme.specs.Spelling.{AreUnambiguous};
 
 mod attributes;
 mod fault;
 mod fits;
+mod key_fault;
+mod key_reading;
+mod key_writing;
 mod number;
 mod place;
 mod scheme;
@@ -15,6 +19,9 @@ mod value;
 pub use attributes::{Attributes, Column};
 pub use fault::SchemeFault;
 pub use fits::{fits_kind, in_interval};
+pub use key_fault::KeyFault;
+pub use key_reading::{key_of, value_of};
+pub use key_writing::{key_bytes, value_bytes};
 pub use number::RelNo;
 pub use place::Place;
 pub use scheme::{Scheme, Schemes};
@@ -25,3 +32,13 @@ pub use value::{Kind, Value, copy_key, order_keys, same_key};
 pub fn places_are_ordered()
     ensures { AreOrdered }
 {}
+
+/// No two keys have one spelling, and no value's spelling begins another's.
+pub fn spellings_are_unambiguous()
+    ensures { AreUnambiguous }
+{}
+
+#[cfg(test)]
+mod key_tests;
+#[cfg(test)]
+mod tuple_tests;

@@ -6,7 +6,8 @@ use Rattle.std.specs.FinMap.{get, insert, retain_keys}
 use Rattle.std.proofs.lemmas.Bool.{cases_Bool, cond-true, cond-false, false_from_ne_true}
 use Rattle.std.proofs.lemmas.Option.{same_Some, none-some}
 use Rattle.mls_scheme.specs.declared.tuple.Element.{Element}
-use Rattle.mls_scheme.specs.Table.{Place, Table, change}
+use Rattle.mls_scheme.specs.Table.{Table, change}
+use Rattle.mls_scheme.specs.declared.place.Place.{Place}
 use Rattle.mls_scheme.proofs.OrderLemmas.{is_place, is_place-true, is_place-same}
 use Rattle.mls_scheme.proofs.TableLemmas.{get_put, get_kept, get_change}
 use Rattle.mls_filterview.specs.Stored.{with_class}

@@ -10,7 +10,8 @@ use Rattle.mls_scheme.specs.declared.value.Value.{Value}
 use Rattle.mls_scheme.specs.declared.tuple.Element.{Element}
 use Rattle.mls_scheme.specs.Value.{is_kind, fits_kind}
 use Rattle.mls_scheme.specs.Tuple.{at, null_element}
-use Rattle.mls_scheme.specs.Table.{Place, Table, change}
+use Rattle.mls_scheme.specs.Table.{Table, change}
+use Rattle.mls_scheme.specs.declared.place.Place.{Place}
 use Rattle.mls_scheme.specs.Scheme.{Attribute, no_attribute, Scheme, other_of}
 use Rattle.mls_scheme.specs.Fits.{in_interval, HaveKinds, Fits}
 use Rattle.mls_filterview.specs.Stored.{IsContent}

@@ -11,7 +11,8 @@ use Rattle.mls_lattice.proofs.LatticeLemmas.{below-refl, below-trans, below-anti
 use Rattle.mls_scheme.specs.declared.value.Value.{Value}
 use Rattle.mls_scheme.specs.declared.tuple.Element.{Element}
 use Rattle.mls_scheme.specs.Tuple.{at, null_element}
-use Rattle.mls_scheme.specs.Table.{Place, Table, change}
+use Rattle.mls_scheme.specs.Table.{Table, change}
+use Rattle.mls_scheme.specs.declared.place.Place.{Place}
 use Rattle.mls_scheme.specs.Scheme.{Scheme}
 use Rattle.mls_scheme.proofs.TableLemmas.{get_kept, get_change}
 use Rattle.mls_filterview.specs.Stored.{IsStored, IsStoredTuple, Occurs, AgreesBelow, with_class}

@@ -11,7 +11,8 @@ use Rattle.mls_lattice.proofs.LatticeLemmas.{below-trans}
 use Rattle.mls_scheme.specs.declared.value.Value.{Value}
 use Rattle.mls_scheme.specs.declared.tuple.Element.{Element}
 use Rattle.mls_scheme.specs.Tuple.{at, null_element}
-use Rattle.mls_scheme.specs.Table.{Place, Table, change}
+use Rattle.mls_scheme.specs.Table.{Table, change}
+use Rattle.mls_scheme.specs.declared.place.Place.{Place}
 use Rattle.mls_scheme.specs.Scheme.{Scheme, other_of}
 use Rattle.mls_scheme.specs.Fits.{in_interval}
 use Rattle.mls_scheme.proofs.OrderLemmas.{is_place, is_place-true}

@@ -1,0 +1,53 @@
+ghost use Rattle.std.specs.Prelude.{◌≡◌};
+ghost use Rattle.mls_scheme.specs.declared.key_fault.KeyFault.TheVariants.{Memory};
+ghost use Rattle.mls_scheme.specs.KeyWords.{key_word_of};
+
+use std::alloc::{AllocError, AllocFailed};
+use thiserror::Error;
+
+/// Why bytes are no key, or begin with no value: the first fault from left to right.
+#[derive(Clone, Copy, PartialEq, Eq, Debug, Error)]
+pub enum KeyFault {
+    #[error("a value passes the end")]
+    Short,
+    /// Also where a key's number of values is not 1 to 4.
+    #[error("a tag is unknown")]
+    BadTag,
+    #[error("a text is no UTF-8")]
+    BadText,
+    #[error("bytes follow the key")]
+    Trailing,
+    #[error("out of memory")]
+    Memory,
+}
+
+impl KeyFault {
+    /// The name of the fault.
+    pub fn word(self) -> &'static str
+        ensures { result.now ≡ key_word_of self }
+    {
+        match self {
+            KeyFault::Short => "Short",
+            KeyFault::BadTag => "BadTag",
+            KeyFault::BadText => "BadText",
+            KeyFault::Trailing => "Trailing",
+            KeyFault::Memory => "Memory",
+        }
+    }
+}
+
+impl From<AllocError> for KeyFault {
+    ghost from_gives = { λ _ e. e ≡ Memory };
+
+    fn from(_e: AllocError) -> KeyFault {
+        KeyFault::Memory
+    }
+}
+
+impl<T: Drop> From<AllocFailed<T>> for KeyFault {
+    ghost from_gives = { λ _ e. e ≡ Memory };
+
+    fn from(_e: AllocFailed<T>) -> KeyFault {
+        KeyFault::Memory
+    }
+}

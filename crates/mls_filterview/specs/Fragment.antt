@@ -1,12 +1,13 @@
 -- What one label holds of a relation: its tuples without values, and the elements of that class in them.
-use Rattle.std.specs.Prelude.{◌≡◌, ◌≢◌, ℕ, suc, ◌<◌, if◌then◌else◌, nat_eq, List, [], ◌∷◌, map, length, Some, IsPermutation}
+use Rattle.std.specs.Prelude.{◌≡◌, ◌≢◌, ℕ, suc, ◌<◌, true, ◌&&◌, if◌then◌else◌, nat_eq, List, [], ◌∷◌, map, length, Option, Some, IsPermutation}
 use Rattle.std.specs.List.{filter, flat_map}
 use Rattle.std.specs.FinMap.{get, entries}
+use Rattle.mls_scheme.specs.declared.value.Value.{Value}
 use Rattle.mls_scheme.specs.declared.tuple.Element.{Element}
 use Rattle.mls_scheme.specs.Tuple.{at}
 use Rattle.mls_scheme.specs.Table.{Table}
 use Rattle.mls_scheme.specs.declared.place.Place.{Place}
-use Rattle.mls_filterview.specs.Stored.{with_class}
+use Rattle.mls_filterview.specs.Stored.{with_class, is_entity}
 use Rattle.mls_filterview.specs.declared.fragment.Node.{Node}
 use Rattle.mls_filterview.specs.declared.fragment.Cell.{Cell}
 use Rattle.mls_filterview.specs.declared.fragment.Fragment.{Fragment}
@@ -44,3 +45,26 @@ pub record IsMadeOf (T : Table) (n : Node) (cells : List Cell) (es : List Elemen
   pub pattern : n.pattern ≡ map (λ e. e.class) es
   pub own : cells ≡ cells_from 0 (place_of_node n) es
   pub others : (i : ℕ) → i < length es → (at es i).class ≢ n.label → (fs : List Element) × (get T (with_class (place_of_node n) (at es i).class) ≡ Some fs) × (at fs i ≡ at es i)
+
+-- ---- the changes of one cell and of one tuple
+
+-- the element of attribute attr, numbered from k, gets the value where its class is label
+abbrev pub set_from : ℕ → ℕ → Option Value → ℕ → List Element → List Element
+set_from attr label v k [] = []
+set_from attr label v k (e ∷ es) =
+    (if nat_eq k attr && nat_eq e.class label then record { value = v; class = label } else e) ∷ set_from attr label v (suc k) es
+
+-- so in each tuple of the entity of p that has the cell
+abbrev pub set_in : Place → ℕ → Option Value → Place → List Element → List Element
+set_in p attr v q es = if is_entity p q then set_from attr p.class v 0 es else es
+
+-- the entity of p has a cell of its class at attr
+abbrev pub HasCell : Table → Place → ℕ → Type 0
+HasCell T p attr =
+    (q : Place) × (es : List Element) × (is_entity p q ≡ true) × (get T q ≡ Some es) × (attr < length es) × ((at es attr).class ≡ p.class)
+
+-- no other tuple of the entity has an element of the class of p
+abbrev pub IsAlone : Table → Place → Type 0
+IsAlone T p =
+    (q : Place) (es : List Element) → get T q ≡ Some es → is_entity p q ≡ true → q.class ≢ p.class
+    → (i : ℕ) → i < length es → (at es i).class ≢ p.class

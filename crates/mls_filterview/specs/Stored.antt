@@ -1,10 +1,11 @@
 -- The form in which tuples are stored.
-use Rattle.std.specs.Prelude.{◌≡◌, ℕ, ◌<◌, true, List, length, Some, None, ◌⊎◌}
+use Rattle.std.specs.Prelude.{◌≡◌, ℕ, ◌<◌, Bool, true, List, length, Some, None, ◌⊎◌}
+use Rattle.std.specs.Ordering.{eq_by_cmp}
 use Rattle.std.specs.FinMap.{get}
 use Rattle.mls_lattice.specs.Labels.{Labels, below}
 use Rattle.mls_scheme.specs.declared.tuple.Element.{Element}
 use Rattle.mls_scheme.specs.Tuple.{at}
-use Rattle.mls_scheme.specs.Table.{Table, Database}
+use Rattle.mls_scheme.specs.Table.{place_cmp, Table, Database}
 use Rattle.mls_scheme.specs.declared.place.Place.{Place}
 use Rattle.mls_scheme.specs.Scheme.{Scheme, Schemes, scheme_of}
 use Rattle.mls_scheme.specs.Fits.{Fits}
@@ -16,6 +17,10 @@ Occurs p es m = (m ≡ p.key_class) ⊎ ((i : ℕ) × (i < length es) × (m ≡ 
 -- the place of the entity's tuple of class m
 abbrev pub with_class : Place → ℕ → Place
 with_class p m = record { key = p.key; key_class = p.key_class; class = m }
+
+-- two places differ in class at most
+abbrev pub is_entity : Place → Place → Bool
+is_entity p q = eq_by_cmp place_cmp p (with_class q p.class)
 
 -- fs agrees with es wherever m dominates the class in es
 abbrev pub AgreesBelow : Labels → ℕ → List Element → List Element → Type 0

@@ -1,13 +1,14 @@
 //! Where content is kept.
-ghost use Rattle.std.specs.Prelude.{◌≡◌, ◌↔◌, ◌<◌, ◌≤◌, ℕ, List, false, true, IfOk, IfErr, IsErrOf, OnOk, map, None};
-ghost use Rattle.std.specs.FinMap.{get, insert};
+ghost use Rattle.std.specs.Prelude.{◌≡◌, ◌≢◌, ◌↔◌, ◌<◌, ◌≤◌, ℕ, List, false, true, IfOk, IfErr, IsErrOf, OnOk, map, None};
+ghost use Rattle.std.specs.FinMap.{get, insert, remove};
 ghost use Rattle.mls_scheme.specs.declared.tuple.Element.{Element as SpecElement};
+ghost use Rattle.mls_scheme.specs.Table.{change};
 ghost use Rattle.mls_filterview.specs.Content.{State, begun_change, committed, ended, after, with_relation};
-ghost use Rattle.mls_filterview.specs.Fragment.{IsFragment, IsMadeOf, place_of_node};
+ghost use Rattle.mls_filterview.specs.Fragment.{IsFragment, IsMadeOf, place_of_node, HasCell, set_in, IsAlone};
 
 use crate::fragment::{Cell, Fragment, Node};
 use mls_lattice::LabelNo;
-use mls_scheme::RelNo;
+use mls_scheme::{Place, RelNo, Value};
 use std::alloc::{AllocError, AllocFailed};
 
 /// Why a call over a base gives no answer.
@@ -111,5 +112,35 @@ pub trait Base {
         ensures no_other { IsErrOf result BaseFault.Begun → ⊥ }
         ensures done { is_clean self.new → (es : List SpecElement) → IsMadeOf ((state self.old).now.db rel) node cells.now es
             → OnOk result (state self.new ≡ with_relation (state self.old) rel (insert ((state self.old).now.db rel) (place_of_node node) es)) }
+        ensures failed { is_clean self.new → IfErr result (λ e. state self.new ≡ after e (state self.old)) };
+
+    /// Sets the value of a cell, in every tuple of the entity that has it. `place` names the entity and the cell's class.
+    fn set(
+        &mut self,
+        rel: RelNo,
+        place: &Place,
+        attr: usize,
+        value: Option<Value>,
+    ) -> Result<(), BaseFault>
+        requires { is_clean self.old → HasCell ((state self.old).now.db rel) place.now attr }
+        ensures clean { is_clean self.new → is_clean self.old }
+        ensures count { failures self.old ≤ failures self.new }
+        ensures store { IsErrOf result BaseFault.Store → failures self.old < failures self.new }
+        ensures not_begun { (result ≡ Err BaseFault.NotBegun) ↔ ((state self.old).begun ≡ false) }
+        ensures no_other { IsErrOf result BaseFault.Begun → ⊥ }
+        ensures done { is_clean self.new
+            → OnOk result (state self.new ≡ with_relation (state self.old) rel (change (set_in place.now attr value) ((state self.old).now.db rel))) }
+        ensures failed { is_clean self.new → IfErr result (λ e. state self.new ≡ after e (state self.old)) };
+
+    /// Removes the tuple at a place and its cells; what that does is said where no other tuple has one of these cells.
+    fn drop_at(&mut self, rel: RelNo, place: &Place) -> Result<(), BaseFault>
+        requires { is_clean self.old → get ((state self.old).now.db rel) place.now ≢ None }
+        ensures clean { is_clean self.new → is_clean self.old }
+        ensures count { failures self.old ≤ failures self.new }
+        ensures store { IsErrOf result BaseFault.Store → failures self.old < failures self.new }
+        ensures not_begun { (result ≡ Err BaseFault.NotBegun) ↔ ((state self.old).begun ≡ false) }
+        ensures no_other { IsErrOf result BaseFault.Begun → ⊥ }
+        ensures done { is_clean self.new → IsAlone ((state self.old).now.db rel) place.now
+            → OnOk result (state self.new ≡ with_relation (state self.old) rel (remove ((state self.old).now.db rel) place.now)) }
         ensures failed { is_clean self.new → IfErr result (λ e. state self.new ≡ after e (state self.old)) };
 }

@@ -10,8 +10,7 @@ use Rattle.mls_scheme.specs.Table.{Table, change}
 use Rattle.mls_scheme.specs.declared.place.Place.{Place}
 use Rattle.mls_scheme.proofs.OrderLemmas.{is_place, is_place-true, is_place-same}
 use Rattle.mls_scheme.proofs.TableLemmas.{get_put, get_kept, get_change}
-use Rattle.mls_filterview.specs.Stored.{with_class}
-use Rattle.mls_updates.specs.Writes.{is_entity}
+use Rattle.mls_filterview.specs.Stored.{with_class, is_entity}
 
 -- ---- a tuple more
 

@@ -14,9 +14,9 @@ use Rattle.mls_scheme.specs.Table.{Table, change}
 use Rattle.mls_scheme.specs.declared.place.Place.{Place}
 use Rattle.mls_scheme.specs.Scheme.{Attribute, no_attribute, Scheme, other_of}
 use Rattle.mls_scheme.specs.Fits.{in_interval, HaveKinds, Fits}
-use Rattle.mls_filterview.specs.Stored.{IsContent}
+use Rattle.mls_filterview.specs.Stored.{IsContent, is_entity}
 use Rattle.mls_updates.specs.Outcome.{is_done}
-use Rattle.mls_updates.specs.Writes.{Key, Sets, Write, Insert, Update, Delete, WriteFits, WriteKinds, first_refusal, has_null, place, is_entity, is_above, root, derived, updated, update_in, insert_refusals, update_own_refusals, update_own, update_below_refusals, update_below, delete_refusals, write}
+use Rattle.mls_updates.specs.Writes.{Key, Sets, Write, Insert, Update, Delete, WriteFits, WriteKinds, first_refusal, has_null, place, is_above, root, derived, updated, update_in, insert_refusals, update_own_refusals, update_own, update_below_refusals, update_below, delete_refusals, write}
 use Rattle.mls_updates.proofs.SetLemmas.{all_among, none_among, length-derived, length-updated, derived_cases, updated_cases}
 use Rattle.mls_updates.proofs.ChangeLemmas.{inserted_cases, kept_cases, changed_cases}
 use Rattle.mls_updates.proofs.KeptLemmas.{all_passed, found_if, write-stored}

@@ -18,12 +18,12 @@ use Rattle.mls_scheme.specs.Fits.{in_interval}
 use Rattle.mls_scheme.proofs.OrderLemmas.{is_place, is_place-true}
 use Rattle.mls_scheme.proofs.TableLemmas.{same_table, get_put, get_kept, get_change}
 use Rattle.mls_filterview.specs.View.{low}
-use Rattle.mls_filterview.specs.Stored.{IsStored}
+use Rattle.mls_filterview.specs.Stored.{IsStored, is_entity}
 use Rattle.mls_filterview.proofs.LowLemmas.{get_low, get_low_in, same_low}
 use Rattle.mls_updates.specs.declared.outcome.Outcome.{Outcome}
 use Rattle.mls_updates.specs.declared.outcome.Outcome.TheVariants.{KeyNull, NoTuple, AlreadyDerived, NullAboveKey, OutOfInterval}
 use Rattle.mls_updates.specs.Outcome.{is_done}
-use Rattle.mls_updates.specs.Writes.{Key, Sets, Write, Insert, Update, Delete, Written, first_refusal, written, has_null, place, is_entity, is_above, root, derived, updated, update_in, insert_refusals, insert_row, update_own_refusals, update_own, update_below_refusals, update_below, update_row, delete_refusals, delete_row, write}
+use Rattle.mls_updates.specs.Writes.{Key, Sets, Write, Insert, Update, Delete, Written, first_refusal, written, has_null, place, is_above, root, derived, updated, update_in, insert_refusals, insert_row, update_own_refusals, update_own, update_below_refusals, update_below, update_row, delete_refusals, delete_row, write}
 use Rattle.mls_updates.proofs.SetLemmas.{length-updated, updated_other}
 use Rattle.mls_updates.proofs.ChangeLemmas.{get_old}
 

@@ -2,18 +2,17 @@
 use Rattle.std.specs.Prelude.{◌≡◌, ℕ, ◌<◌, Bool, true, not, ◌&&◌, if◌then◌else◌, nat_eq, List, [], ◌∷◌, map, length, Option, is_some, is_none, ⊤}
 use Rattle.std.specs.List.{list_any, list_all, filter_map, enumerate_from, AllByRecursion}
 use Rattle.std.specs.Option.{unwrap_or}
-use Rattle.std.specs.Ordering.{eq_by_cmp}
 use Rattle.std.specs.FinMap.{get, insert, retain_keys}
 use Rattle.mls_lattice.specs.Labels.{Labels, below}
 use Rattle.mls_scheme.specs.declared.value.Value.{Value}
 use Rattle.mls_scheme.specs.declared.tuple.Element.{Element}
 use Rattle.mls_scheme.specs.Value.{fits_kind}
 use Rattle.mls_scheme.specs.Tuple.{at}
-use Rattle.mls_scheme.specs.Table.{place_cmp, Table, Database, change}
+use Rattle.mls_scheme.specs.Table.{Table, change}
 use Rattle.mls_scheme.specs.declared.place.Place.{Place}
 use Rattle.mls_scheme.specs.Scheme.{Scheme, other_of}
 use Rattle.mls_scheme.specs.Fits.{in_interval, HaveKinds}
-use Rattle.mls_filterview.specs.Stored.{with_class}
+use Rattle.mls_filterview.specs.Stored.{is_entity}
 use Rattle.mls_updates.specs.declared.outcome.Outcome.{Outcome}
 use Rattle.mls_updates.specs.declared.outcome.Outcome.TheVariants.{Done, KeyNull, Duplicate, NoTuple, NullAboveKey, Inherited, OutOfInterval, AlreadyDerived}
 use Rattle.mls_updates.specs.Outcome.{is_done}
@@ -58,10 +57,6 @@ has_null key = list_any (λ v. is_none v) key
 -- the place of the entity's tuple of a class; a key with nulls is refused
 abbrev pub place : Key → ℕ → ℕ → Place
 place key key_class class = record { key = filter_map (λ v. v) key; key_class = key_class; class = class }
-
--- two places differ in class at most
-abbrev pub is_entity : Place → Place → Bool
-is_entity p q = eq_by_cmp place_cmp p (with_class q p.class)
 
 -- a place of the same entity, whose class dominates that of the first
 abbrev pub is_above : Labels → Place → Place → Bool
@@ -154,10 +149,6 @@ abbrev pub write : Labels → Scheme → ℕ → Write → Table → Written
 write ls scheme w (Insert key values) T = insert_row ls scheme w key values T
 write ls scheme w (Update key key_class from sets) T = update_row ls scheme w key key_class from sets T
 write ls scheme w (Delete key key_class) T = delete_row ls scheme w key key_class T
-
--- a database with one relation changed
-abbrev pub with_table : Database → ℕ → Table → Database
-with_table db rel T r = if nat_eq r rel then T else db r
 
 -- ---- what a write must fit
 

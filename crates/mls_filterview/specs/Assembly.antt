@@ -1,10 +1,50 @@
 -- Tuples put together from fragments.
-use Rattle.std.specs.Prelude.{ℕ}
+use Rattle.std.specs.Prelude.{◌≡◌, ℕ, suc, ◌<◌, true, List, [], ◌∷◌, map, Option, Some, None, ◌↔◌}
 use Rattle.std.specs.Ordering.{nat_cmp, ordering_then}
+use Rattle.std.specs.Option.{unwrap_or}
+use Rattle.std.specs.List.{flat_map}
 use Rattle.std.specs.declared.cmp.Ordering.{Ordering}
-use Rattle.mls_scheme.specs.Table.{place_cmp}
+use Rattle.mls_lattice.specs.Labels.{Labels, below}
+use Rattle.mls_scheme.specs.declared.value.Value.{Value}
+use Rattle.mls_scheme.specs.declared.tuple.Element.{Element}
 use Rattle.mls_scheme.specs.declared.place.Place.{Place}
+use Rattle.mls_scheme.specs.Table.{place_cmp, Table}
+use Rattle.mls_filterview.specs.declared.fragment.Node.{Node}
+use Rattle.mls_filterview.specs.declared.fragment.Cell.{Cell}
+use Rattle.mls_filterview.specs.View.{IsAmong}
+use Rattle.mls_filterview.specs.Stored.{with_class}
+use Rattle.mls_filterview.specs.Fragment.{of_class, node_of, cells_of, place_of_node}
+
+-- a place, and an attribute
+abbrev pub Spot : Type 0
+Spot = Place × ℕ
 
 -- places, and at one place attributes by number
-abbrev pub spot_cmp : Place × ℕ → Place × ℕ → Ordering
+abbrev pub spot_cmp : Spot → Spot → Ordering
 spot_cmp s t = ordering_then (place_cmp s.0 t.0) (nat_cmp s.1 t.1)
+
+abbrev pub spot_of : Cell → Spot
+spot_of c = (record { key = c.key; key_class = c.key_class; class = c.label }, c.attr)
+
+-- the values of cells, found by their spots
+pub record AreValues (cells : List Cell) (look : Spot → Option (Option Value)) : Type 0 where
+  pub sound : (s : Spot) (v : Option Value) → look s ≡ Some v → (c : Cell) × IsAmong c cells × (spot_of c ≡ s) × (c.value ≡ v)
+  pub complete : (c : Cell) → IsAmong c cells → (v : Option Value) × (look (spot_of c) ≡ Some v)
+
+-- the elements of a pattern, numbered from k: at each attribute the entity's value of that class, null where there is none
+abbrev pub elements_from : (Spot → Option (Option Value)) → Place → ℕ → List ℕ → List Element
+elements_from look p k [] = []
+elements_from look p k (m ∷ ms) = record { value = unwrap_or (look (with_class p m, k)) None; class = m } ∷ elements_from look p (suc k) ms
+
+abbrev pub elements_of : (Spot → Option (Option Value)) → Node → List Element
+elements_of look n = elements_from look (place_of_node n) 0 n.pattern
+
+-- the tuples of nodes, found by their places
+pub record AreRows (look : Spot → Option (Option Value)) (nodes : List Node) (found : Place → Option (List Element)) : Type 0 where
+  pub sound : (p : Place) (es : List Element) → found p ≡ Some es → (n : Node) × IsAmong n nodes × (place_of_node n ≡ p) × (elements_of look n ≡ es)
+  pub complete : (n : Node) → IsAmong n nodes → (es : List Element) × (found (place_of_node n) ≡ Some es)
+
+-- the fragments of the labels below k that c dominates, in any order
+pub record AreLow (ls : Labels) (T : Table) (c k : ℕ) (ns : List Node) (ds : List Cell) : Type 0 where
+  pub nodes : (n : Node) → IsAmong n ns ↔ ((m : ℕ) × (m < k) × (below ls m c ≡ true) × IsAmong n (map node_of (of_class m T)))
+  pub cells : (d : Cell) → IsAmong d ds ↔ ((m : ℕ) × (m < k) × (below ls m c ≡ true) × IsAmong d (flat_map cells_of (of_class m T)))

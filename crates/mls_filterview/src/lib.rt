@@ -1,10 +1,10 @@
 //! The model of a multilevel relation: subsumption, views, the stored form and the laws that hold between them.
 #![tactic(auto)]
 
+mod assembly;
 mod base;
 mod fragment;
 mod laws;
-mod rows;
 
 pub use base::{Base, BaseFault};
 pub use fragment::{Cell, Fragment, Node};

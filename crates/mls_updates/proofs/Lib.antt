@@ -4,3 +4,4 @@ pub mod LowWriteLemmas
 pub mod KeptLemmas
 pub mod FittingLemmas
 pub mod LawLemmas
+pub mod SampleLemmas

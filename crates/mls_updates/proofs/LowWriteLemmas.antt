@@ -1,10 +1,9 @@
 -- A write and the tuples of classes that a level dominates.
-use Rattle.std.proofs.Common.{◌≡◌, ℕ, ◌<◌, Bool, true, false, cond, not, ◌&&◌, List, [], ◌∷◌, length, Option, Some, None, refl, sym, ap, ◌∙◌, subst, inl, inr}
-use Rattle.std.specs.Prelude.{is_some, is_none, nat_eq, ◌⊎◌}
-use Rattle.std.specs.List.{list_any}
+use Rattle.std.proofs.Common.{◌≡◌, ℕ, ◌<◌, Bool, true, false, cond, not, List, [], ◌∷◌, length, Option, Some, None, refl, sym, ap, ◌∙◌, subst, inl, inr}
+use Rattle.std.specs.Prelude.{is_some, nat_eq, ◌⊎◌}
 use Rattle.std.specs.Option.{option_map, unwrap_or}
 use Rattle.std.specs.FinMap.{get, insert, retain_keys}
-use Rattle.std.proofs.lemmas.Bool.{true≢false, cases_Bool, false_from_ne_true, and_parts, and_right, ne_eqb}
+use Rattle.std.proofs.lemmas.Bool.{true≢false, cases_Bool, false_from_ne_true, and_parts, and_right, not_from_false, ne_eqb}
 use Rattle.std.proofs.lemmas.List.{ext_get_or}
 use Rattle.mls_lattice.specs.Labels.{Labels, below}
 use Rattle.mls_lattice.proofs.LatticeLemmas.{below-trans}
@@ -13,17 +12,16 @@ use Rattle.mls_scheme.specs.declared.tuple.Element.{Element}
 use Rattle.mls_scheme.specs.Tuple.{at, null_element}
 use Rattle.mls_scheme.specs.Table.{Table, change}
 use Rattle.mls_scheme.specs.declared.place.Place.{Place}
-use Rattle.mls_scheme.specs.Scheme.{Scheme, other_of}
-use Rattle.mls_scheme.specs.Fits.{in_interval}
+use Rattle.mls_scheme.specs.Scheme.{Scheme}
 use Rattle.mls_scheme.proofs.OrderLemmas.{is_place, is_place-true}
 use Rattle.mls_scheme.proofs.TableLemmas.{same_table, get_put, get_kept, get_change}
 use Rattle.mls_filterview.specs.View.{low}
 use Rattle.mls_filterview.specs.Stored.{IsStored, is_entity}
 use Rattle.mls_filterview.proofs.LowLemmas.{get_low, get_low_in, same_low}
 use Rattle.mls_updates.specs.declared.outcome.Outcome.{Outcome}
-use Rattle.mls_updates.specs.declared.outcome.Outcome.TheVariants.{KeyNull, NoTuple, AlreadyDerived, NullAboveKey, OutOfInterval}
+use Rattle.mls_updates.specs.declared.outcome.Outcome.TheVariants.{KeyNull, NoTuple}
 use Rattle.mls_updates.specs.Outcome.{is_done}
-use Rattle.mls_updates.specs.Writes.{Key, Sets, Write, Insert, Update, Delete, Written, first_refusal, written, has_null, place, is_above, root, derived, updated, update_in, insert_refusals, insert_row, update_own_refusals, update_own, update_below_refusals, update_below, update_row, delete_refusals, delete_row, write}
+use Rattle.mls_updates.specs.Writes.{Key, Sets, Write, Insert, Update, Delete, Written, first_refusal, written, has_null, is_missing, place, is_above, root, derived, updated, update_in, insert_refusals, insert_row, update_own_refusals, update_own, update_below_refusals, update_below, update_row, delete_refusals, delete_row, write}
 use Rattle.mls_updates.proofs.SetLemmas.{length-updated, updated_other}
 use Rattle.mls_updates.proofs.ChangeLemmas.{get_old}
 
@@ -75,6 +73,15 @@ low_if ls c false S T = refl
 low_done : (ls : Labels) (c : ℕ) (o p : Outcome) (S R T : Table) → o ≡ p → S ≡ low ls c R → written o S (low ls c T) ≡ low_written ls c (written p R T)
 low_done ls c o p S R T e h = λ i. record { table = ((λ j. cond (is_done (e j)) (h j) (low ls c T)) ∙ low_if ls c (is_done p) R T) i; outcome = e i }
 
+-- where the second condition holds no later one is asked
+second_refusal : (a b : Bool) (o p : Outcome) (rs : List (Bool × Outcome)) → b ≡ true → first_refusal ((a, o) ∷ (b, p) ∷ rs) ≡ cond a o p
+unfolding first_refusal
+second_refusal a b o p rs h = ap (λ x. cond a o (cond x p (first_refusal rs))) h
+
+undone : (b : Bool) (S R : Table) → written (cond b KeyNull NoTuple) S R ≡ record { table = R; outcome = cond b KeyNull NoTuple }
+undone true S R = refl
+undone false S R = refl
+
 module _ (ls : Labels) (scheme : Scheme) (c w : ℕ) (h : below ls w c ≡ true) (T : Table) where
   insert_low : (key : Key) (values : List (Option Value)) → insert_row ls scheme w key values (low ls c T) ≡ low_written ls c (insert_row ls scheme w key values T)
   insert_low key values =
@@ -97,23 +104,6 @@ module _ (ls : Labels) (scheme : Scheme) (c w : ℕ) (h : below ls w c ≡ true)
       (ap (λ o. first_refusal (delete_refusals ls scheme w key key_class o)) (get_low_in ls c T p h))
       (sym (low_kept ls c T (λ q. not (is_above ls p q))))
 
-  -- a tuple of a class that w does not dominate is not found
-  unfound : Key → Outcome
-  unfound key = first_refusal ((has_null key, KeyNull) ∷ (true, NoTuple) ∷ [])
-
-  update_unfound : (key : Key) (key_class from : ℕ) (sets : Sets) (found own : Option (List Element)) → below ls from w ≡ false
-      → first_refusal (update_below_refusals ls scheme w key key_class from sets found own) ≡ unfound key
-  unfolding first_refusal unfound
-  update_unfound key key_class from sets found own out =
-      ap (λ b. first_refusal ((has_null key, KeyNull) ∷ (not b, NoTuple) ∷ (is_some own, AlreadyDerived)
-      ∷ (list_any (λ s. is_none s.1) sets, NullAboveKey)
-      ∷ (list_any (λ s. not (in_interval ls w (other_of scheme s.0))) sets, OutOfInterval) ∷ []))
-      (and_right (is_some found) (below ls key_class from && below ls from w) (and_right (below ls key_class from) (below ls from w) out))
-
-  undone : (key : Key) (S R : Table) → written (unfound key) S R ≡ record { table = R; outcome = unfound key }
-  unfolding first_refusal unfound
-  undone key S R = elim (has_null key) as (λ b. written (cond b KeyNull NoTuple) S R ≡ record { table = R; outcome = cond b KeyNull NoTuple }) [ true ↦ refl | false ↦ refl ]
-
   update_below_low : (key : Key) (key_class from : ℕ) (sets : Sets) → update_below ls scheme w key key_class from sets (low ls c T) ≡ low_written ls c (update_below ls scheme w key key_class from sets T)
   update_below_low key key_class from sets = by_from (cases_Bool (below ls from w))
     where
@@ -126,8 +116,11 @@ module _ (ls : Labels) (scheme : Scheme) (c w : ℕ) (h : below ls w c ≡ true)
       outcome : Option (List Element) → Option (List Element) → Outcome
       outcome found own = first_refusal (update_below_refusals ls scheme w key key_class from sets found own)
 
-      refused : below ls from w ≡ false → (S R : Table) (found own : Option (List Element)) → written (outcome found own) S R ≡ record { table = R; outcome = unfound key }
-      refused out S R found own = ap (λ o. written o S R) (update_unfound key key_class from sets found own out) ∙ undone key S R
+      -- a tuple of a class that w does not dominate is not found
+      refused : below ls from w ≡ false → (S R : Table) (found own : Option (List Element)) → written (outcome found own) S R ≡ record { table = R; outcome = cond (has_null key) KeyNull NoTuple }
+      refused out S R found own =
+          let missing : is_missing ls scheme w key_class from found ≡ true = not_from_false _ (and_right (is_some found) _ (and_right (below ls key_class from) _ out)) in
+          ap (λ o. written o S R) (second_refusal (has_null key) _ KeyNull NoTuple _ missing) ∙ undone (has_null key) S R
 
       by_from : (below ls from w ≡ true) ⊎ (below ls from w ≡ false) → update_below ls scheme w key key_class from sets (low ls c T) ≡ low_written ls c (update_below ls scheme w key key_class from sets T)
       by_from (inl b) =

@@ -81,7 +81,7 @@ derived w sets es = map (λ d. set_element w sets d.0 d.1) (enumerate_from 0 es)
 unfoldable pub updated : ℕ → Sets → List Element → List Element
 updated w sets es = map (λ d. if nat_eq d.1.class w then set_element w sets d.0 d.1 else d.1) (enumerate_from 0 es)
 
--- so in each tuple of the entity of p, w being its class
+-- the tuple at q updated at the class of p, where both places are of one entity
 abbrev pub update_in : Place → Sets → Place → List Element → List Element
 update_in p sets q es = if is_entity p q then updated p.class sets es else es
 

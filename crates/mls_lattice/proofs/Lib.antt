@@ -2,3 +2,4 @@ pub mod CategoryLemmas
 pub mod ReadingLemmas
 pub mod LatticeLemmas
 pub mod PolicyLemmas
+pub mod PolicyReadingLemmas

@@ -4,3 +4,4 @@ pub mod Lattice
 pub mod Labels
 pub mod Policy
 pub mod Reading
+pub mod PolicyReading

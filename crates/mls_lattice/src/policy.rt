@@ -6,6 +6,7 @@ ghost use Rattle.mls_lattice.specs.Policy.{labels_of, modes_in};
 
 use crate::items::Items;
 use crate::label::Label;
+use crate::labels::position_of_label;
 use crate::modes::Modes;
 use crate::number::{LabelNo, UserNo};
 use crate::tables::{NamedLabel, Right, User};
@@ -127,13 +128,6 @@ impl Policy {
     {
         modes_of(&self.matrix, user, object)
     }
-}
-
-fn position_of_label(labels: &[NamedLabel], name: &str) -> Option<usize>
-    ensures exact { result ≡ position (λ l. bytes_eq l.name name.now) labels.now }
-    ensures within { IfSome result (λ place. place < length labels.now) }
-{
-    labels.iter().position(|label| label.name.as_str() == name)
 }
 
 fn position_of_user(users: &[User], name: &str) -> Option<usize>

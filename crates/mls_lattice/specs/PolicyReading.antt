@@ -71,17 +71,23 @@ more_categories categories cats (item d ds) =
     name_at d >>= λ name. place_in categories name >>= λ k.
     if set.contains cats k then Err Repeated else more_categories categories (set.insert cats k) ds
 
-unfoldable pub label_at : List Name → List Name → List Named → Data → Result Named PolicyFault
-label_at levels categories front d = do
-  fields ← table_at d
-  name ← name_field (codes "name") fields
-  new ← once (list_any (λ l. bytes_eq l.name name) front)
+-- the rank and the categories that the fields of a label say
+unfoldable pub value_at : List Name → List Name → Members → Result Pair PolicyFault
+value_at levels categories fields = do
   level ← name_field (codes "level") fields
   rank ← place_in levels level
   ds ← optional texts_at (get_member (codes "categories") fields)
   cats ← more_categories categories set.empty ds
-  other ← once (list_any (λ l. same_pair l.value (record { rank = rank; cats = cats })) front)
-  Ok (record { name = name; value = record { rank = rank; cats = cats } })
+  Ok (record { rank = rank; cats = cats })
+
+unfoldable pub label_at : List Name → List Name → List Named → Data → Result Named PolicyFault
+label_at levels categories front d = do
+  fields ← table_at d
+  name ← name_field (codes "name") fields
+  new_name ← once (list_any (λ l. bytes_eq l.name name) front)
+  value ← value_at levels categories fields
+  new_value ← once (list_any (λ l. same_pair l.value value) front)
+  Ok (record { name = name; value = value })
 
 unfoldable pub labels_at : List Name → List Name → Members → Result (List Named) PolicyFault
 labels_at levels categories document = do

@@ -2,11 +2,12 @@
 ghost use Rattle.std.specs.Prelude.{◌≡◌, ◌≢◌, ◌<◌, ◌≤◌, [], length, IfOk, IfErr, IfSome, map, position};
 ghost use Rattle.std.specs.List.{list_any};
 ghost use Rattle.std.specs.Str.{bytes_eq};
+ghost use Rattle.std.specs.FinSet as set;
 ghost use Rattle.toml.specs.View.{view, items_view, table_view};
 ghost use Rattle.mls_lattice.specs.Lattice.{cats_of, pair_of, same_pair};
 ghost use Rattle.mls_lattice.specs.Policy.{named};
 ghost use Rattle.mls_lattice.specs.Reading.{Gives};
-ghost use Rattle.mls_lattice.specs.PolicyReading.{rows_at, more_categories, label_at, labels_at, label_place};
+ghost use Rattle.mls_lattice.specs.PolicyReading.{rows_at, more_categories, value_at, label_at, labels_at, label_place};
 
 use crate::document::{name_field, name_of, optional_texts, some_of, table_of, tables_of, wanted};
 use crate::fault::PolicyFault;
@@ -24,7 +25,7 @@ const MAX_LABELS: usize = 64;
 #[tactic(auto, using(crate::proofs::PolicyReadingLemmas::category_steps))]
 fn categories_in(categories: &[Str], items: &[Value]) -> Result<u32, PolicyFault>
     requires { length categories.now ≤ 32 }
-    ensures reads { Gives cats_of result (more_categories categories.now (cats_of 0) (items_view items.now)) }
+    ensures reads { Gives cats_of result (more_categories categories.now set.empty (items_view items.now)) }
     ensures toml { IfErr result (λ e. e ≢ PolicyFault.NotToml) }
 {
     let mut label = Label { rank: 0, cats: 0 };
@@ -56,6 +57,19 @@ fn has_value(labels: &[NamedLabel], label: Label) -> bool
     labels.iter().any(|other| is_same(other.label, label))
 }
 
+/// The rank and the categories that the fields of a label say.
+#[tactic(auto, unfolding(crate::specs::PolicyReading::value_at))]
+fn value_of(levels: &[Str], categories: &[Str], fields: &Table) -> Result<Label, PolicyFault>
+    requires few_levels { length levels.now ≤ 16 }
+    requires few_categories { length categories.now ≤ 32 }
+    ensures reads { Gives pair_of result (value_at levels.now categories.now (table_view fields.now)) }
+    ensures toml { IfErr result (λ e. e ≢ PolicyFault.NotToml) }
+{
+    let rank = place_of(levels, name_field(fields, "level")?)? as u8;
+    let cats = categories_in(categories, optional_texts(fields, "categories")?)?;
+    Ok(Label { rank, cats })
+}
+
 #[tactic(auto, using(crate::proofs::PolicyReadingLemmas::label_views), unfolding(crate::specs::PolicyReading::label_at))]
 fn label_of(
     alloc: Global,
@@ -74,9 +88,7 @@ fn label_of(
     if has_name(labels, name) {
         return Err(PolicyFault::Repeated);
     }
-    let rank = place_of(levels, name_field(fields, "level")?)? as u8;
-    let cats = categories_in(categories, optional_texts(fields, "categories")?)?;
-    let label = Label { rank, cats };
+    let label = value_of(levels, categories, fields)?;
     if has_value(labels, label) {
         return Err(PolicyFault::Repeated);
     }

@@ -9,6 +9,7 @@ mod fault;
 mod items;
 mod label;
 mod labels;
+mod matrix;
 mod modes;
 mod name;
 mod names;
@@ -16,6 +17,7 @@ mod number;
 mod policy;
 mod tables;
 mod text;
+mod users;
 
 pub use fault::PolicyFault;
 pub use items::Items;

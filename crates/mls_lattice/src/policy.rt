@@ -11,6 +11,7 @@ use crate::modes::Modes;
 use crate::number::{LabelNo, UserNo};
 use crate::tables::{NamedLabel, Right, User};
 use crate::text::Str;
+use crate::users::position_of_user;
 use bitflags::Flags;
 use std::marker::Model;
 
@@ -128,13 +129,6 @@ impl Policy {
     {
         modes_of(&self.matrix, user, object)
     }
-}
-
-fn position_of_user(users: &[User], name: &str) -> Option<usize>
-    ensures exact { result ≡ position (λ u. bytes_eq u.name name.now) users.now }
-    ensures within { IfSome result (λ place. place < length users.now) }
-{
-    users.iter().position(|user| user.name.as_str() == name)
 }
 
 fn modes_of(matrix: &[Right], user: UserNo, object: &str) -> Modes

@@ -1,3 +1,4 @@
+pub mod CanonLemmas
 pub mod CategoryLemmas
 pub mod ReadingLemmas
 pub mod LatticeLemmas

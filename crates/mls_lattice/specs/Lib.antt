@@ -5,3 +5,5 @@ pub mod Labels
 pub mod Policy
 pub mod Reading
 pub mod PolicyReading
+pub mod Canon
+pub mod ReadsPolicy

@@ -4,6 +4,7 @@
 ghost use Rattle.mls_lattice.specs.Lattice.{IsOrder, IsLeastUpperBound, IsGreatestLowerBound};
 ghost use Rattle.mls_lattice.specs.Labels.{IsOrderByNumber};
 
+mod canon;
 pub mod document;
 mod fault;
 mod items;

@@ -1,0 +1,12 @@
+use Rattle.std.proofs.Common.{rules, ◌++◌, ap, sym, ◌∙◌, List, ℕ, string_bytes}
+use Rattle.std.specs.List.{flat_map}
+use Rattle.mls_lattice.specs.Policy.{named}
+use Rattle.mls_lattice.specs.Canon.{label_line}
+use Rattle.mls_lattice.specs.declared.tables.NamedLabel.{NamedLabel}
+use Rattle.mls_lattice.proofs.CanonLemmas.{label_lines-taken}
+use Rattle.mls_lattice.proofs.canon.labels_to.Goals as goal
+
+pub returns : goal.returns
+returns c =
+    c.loop-label.invariant
+    ∙ ap (λ (x : List ℕ). string_bytes c.args.text.now ++ x) (label_lines-taken c.args.levels.now c.args.categories.now c.args.labels.now c.loop-label.label-index c.loop-label-test.false)

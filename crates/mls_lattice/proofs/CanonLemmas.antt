@@ -3,7 +3,7 @@ use Rattle.std.proofs.Common.{◌≡◌, ℕ, zero, suc, ◌+◌, ◌<◌, ◌�
 use Rattle.std.specs.List.{flat_map}
 use Rattle.std.specs.FinSet as set
 use Rattle.std.proofs.lemmas.Option.{slice_get-map}
-use Rattle.std.proofs.lemmas.List.{drop_more, take-of_length_le}
+use Rattle.std.proofs.lemmas.List.{drop_more, take_all}
 use Rattle.std.proofs.lemmas.List.Folds.{flat_map-map}
 use Rattle.mls_lattice.specs.declared.tables.NamedLabel.{NamedLabel}
 use Rattle.mls_lattice.specs.Lattice.{Categories}
@@ -19,7 +19,7 @@ label_name-named ls n = ap or_empty (ap (option_map (λ (l : Named). l.name)) (s
 
 pub label_lines-taken : (levels categories : List Name) (ls : List NamedLabel) (i : ℕ) → length ls ≤ i → flat_map (λ l. label_line levels categories (named l)) (take i ls) ≡ flat_map (label_line levels categories) (map named ls)
 label_lines-taken levels categories ls i all =
-    ap (flat_map (λ (l : NamedLabel). label_line levels categories (named l))) (take-of_length_le all) ∙ sym (flat_map-map (label_line levels categories) named ls)
+    ap (flat_map (λ (l : NamedLabel). label_line levels categories (named l))) (take_all i ls all) ∙ sym (flat_map-map (label_line levels categories) named ls)
 
 module _ (names : List Name) (i : ℕ) (name : Name) (cats : Categories) (within : i < length names) (is : name ≡ get_or names i name) where
   -- a category that the set has, and one that it lacks

@@ -40,6 +40,7 @@ pub record IsCleared (count : ℕ) (u : User) : Type 0 where
 
 -- what holds of every policy
 pub record IsPolicy (p : Tables) : Type 0 where
+  pub few_categories : length p.categories ≤ 32
   pub few_labels : length p.labels ≤ 64
   pub few_users : length p.users ≤ 64
   pub distinct : AreDistinct (labels_of p)

@@ -1,10 +1,11 @@
 //! The labels of a document.
-ghost use Rattle.std.specs.Prelude.{◌≡◌, ◌≢◌, ◌<◌, ◌≤◌, [], length, IfOk, IfErr, IfSome, map, position};
+ghost use Rattle.std.specs.Prelude.{◌≡◌, ◌≢◌, ◌<◌, ◌≤◌, [], length, IfOk, IfErr, IfSome, false, map, position};
 ghost use Rattle.std.specs.List.{list_any};
 ghost use Rattle.std.specs.Str.{bytes_eq};
 ghost use Rattle.std.specs.FinSet as set;
 ghost use Rattle.toml.specs.View.{view, items_view, table_view};
 ghost use Rattle.mls_lattice.specs.Lattice.{cats_of, pair_of, same_pair};
+ghost use Rattle.mls_lattice.specs.Labels.{AreDistinct};
 ghost use Rattle.mls_lattice.specs.Policy.{named};
 ghost use Rattle.mls_lattice.specs.Reading.{Gives};
 ghost use Rattle.mls_lattice.specs.PolicyReading.{rows_at, more_categories, value_at, label_at, labels_at, label_place};
@@ -81,6 +82,7 @@ fn label_of(
     requires few_levels { length levels.now ≤ 16 }
     requires few_categories { length categories.now ≤ 32 }
     ensures reads { Gives named result (label_at levels.now categories.now (map named labels.now) (view value.now)) }
+    ensures new { IfOk result (λ l. list_any (λ x. same_pair (pair_of x.label) (pair_of l.label)) labels.now ≡ false) }
     ensures toml { IfErr result (λ e. e ≢ PolicyFault.NotToml) }
 {
     let fields = table_of(value)?;
@@ -96,6 +98,7 @@ fn label_of(
     Ok(NamedLabel { name, label })
 }
 
+#[tactic(auto, using(crate::proofs::TablesLemmas::distinct))]
 fn rows_of(
     alloc: Global,
     levels: &[Str],
@@ -106,6 +109,7 @@ fn rows_of(
     requires few_categories { length categories.now ≤ 32 }
     ensures reads { Gives (λ v. map named v.items) result (rows_at (label_at levels.now categories.now) [] (items_view items.now)) }
     ensures count { IfOk result (λ v. length v.items ≡ length items.now) }
+    ensures distinct { IfOk result (λ v. AreDistinct (map (λ x. x.value) (map named v.items))) }
     ensures toml { IfErr result (λ e. e ≢ PolicyFault.NotToml) }
 {
     let mut labels = Vec::new(alloc);
@@ -128,6 +132,7 @@ pub(crate) fn labels_of(
     requires few_categories { length categories.now ≤ 32 }
     ensures reads { Gives (λ v. map named v.items) result (labels_at levels.now categories.now (table_view document.now)) }
     ensures count { IfOk result (λ v. length v.items ≤ 64) }
+    ensures distinct { IfOk result (λ v. AreDistinct (map (λ x. x.value) (map named v.items))) }
     ensures toml { IfErr result (λ e. e ≢ PolicyFault.NotToml) }
 {
     let all = tables_of(wanted(document, "label")?)?;

@@ -140,12 +140,12 @@ same_pair-same p q h =
 pub same_label : (l m : Label) (b : Bool) → b ≡ (nat_eq l.rank m.rank && nat_eq l.cats m.cats) → b ≡ same_pair (pair_of l) (pair_of m)
 same_label l m b e =
     e ∙ same_bools _ _
-      (λ h.
-        let both = and_parts (nat_eq l.rank m.rank) (nat_eq l.cats m.cats) h in
-        let ranks : l.rank ≡ m.rank = eqb-true _ _ both.0 in
-        let cats : cats_of l.cats ≡ cats_of m.cats = ap cats_of (eqb-true _ _ both.1) in
-        let same : pair_of l ≡ pair_of m = λ i. record { rank = ranks i; cats = cats i } in
-        ap (same_pair (pair_of l)) (sym same) ∙ same_pair-refl (pair_of l))
-      (λ h.
-        let same = same_pair-same (pair_of l) (pair_of m) h in
-        and_from _ _ (eq-eqb _ _ (ap (λ (p : Pair). p.rank) same)) (eq-eqb _ _ (same_from_cats _ _ (ap (λ (p : Pair). p.cats) same))))
+    (λ h.
+    let both = and_parts (nat_eq l.rank m.rank) (nat_eq l.cats m.cats) h in
+    let ranks : l.rank ≡ m.rank = eqb-true _ _ both.0 in
+    let cats : cats_of l.cats ≡ cats_of m.cats = ap cats_of (eqb-true _ _ both.1) in
+    let same : pair_of l ≡ pair_of m = λ i. record { rank = ranks i; cats = cats i } in
+    ap (same_pair (pair_of l)) (sym same) ∙ same_pair-refl (pair_of l))
+    (λ h.
+    let same = same_pair-same (pair_of l) (pair_of m) h in
+    and_from _ _ (eq-eqb _ _ (ap (λ (p : Pair). p.rank) same)) (eq-eqb _ _ (same_from_cats _ _ (ap (λ (p : Pair). p.cats) same))))

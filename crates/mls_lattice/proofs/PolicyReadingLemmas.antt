@@ -1,14 +1,13 @@
 -- How the loops over the rows of a document go on.
-use Rattle.std.proofs.Common.{◌≡◌, ◌≢◌, ℕ, ◌+◌, ◌<◌, Bool, true, false, bit_and, ◌==◌, List, [], ◌∷◌, ◌++◌, length, get_or, drop, map, Result, Ok, Err, refl, sym, ap, ◌∙◌}
-use Rattle.std.specs.Prelude.{position, ◌↔◌}
+use Rattle.std.proofs.Common.{◌≡◌, ◌≢◌, ℕ, ◌+◌, ◌<◌, Bool, true, false, bit_and, ◌==◌, List, [], ◌∷◌, ◌++◌, length, get_or, drop, map, Result, Ok, Err, refl, sym, ◌∙◌}
+use Rattle.std.specs.Prelude.{◌↔◌}
 use Rattle.std.specs.Int.RustNames.{bit_or}
 use Rattle.std.specs.Ordering.{nat_cmp}
 use Rattle.std.specs.List.{list_any}
 use Rattle.std.specs.Str.{bytes_eq}
 use Rattle.std.specs.FinSet as set
-use Rattle.std.proofs.lemmas.List.{map_push}
 use Rattle.toml.specs.declared.value.Value.{Value}
-use Rattle.toml.specs.Data.{Data, Items, item}
+use Rattle.toml.specs.Data.{Data}
 use Rattle.toml.specs.View.{view, items_view}
 use Rattle.mls_lattice.specs.declared.fault.PolicyFault.{PolicyFault}
 use Rattle.mls_lattice.specs.declared.fault.PolicyFault.TheVariants.{Repeated, WrongKind}
@@ -86,5 +85,5 @@ pub interval_test : (ls : List NamedLabel) (low high i j : ℕ) (l h : NamedLabe
     → (b ≡ true ↔ Dominates (pair_of (get_or ls j h).label) (pair_of (get_or ls i l).label)) → b ≡ below (map (λ (x : Named). x.value) (map named ls)) low high
 interval_test ls low high i j l h b within_low within_high is_low is_high test =
     test-below b (map (λ (x : Named). x.value) (map named ls)) low high (pair_of (get_or ls i l).label) (pair_of (get_or ls j h).label) test
-      (rw is_low (sym (label_of-named ls low l within_low)))
-      (rw is_high (sym (label_of-named ls high h within_high)))
+    (rw is_low (sym (label_of-named ls low l within_low)))
+    (rw is_high (sym (label_of-named ls high h within_high)))

@@ -1,8 +1,14 @@
 -- What holds of the tables of a policy stays so with one row more.
-use Rattle.std.proofs.Common.{◌≡◌, ◌≢◌, ℕ, zero, suc, ◌+◌, ◌<◌, ◌≤◌, Bool, true, false, ◌||◌, List, [], ◌∷◌, ◌++◌, length, get_or, map, refl, sym, ap, ◌∙◌, inl, inr, arith}
+use Rattle.std.proofs.Common.{◌≡◌, ◌≢◌, ℕ, zero, suc, ◌+◌, ◌<◌, ◌≤◌, Bool, true, false, ◌||◌, List, [], ◌∷◌, ◌++◌, length, get_or, drop, map, Result, Ok, refl, sym, ap, ◌∙◌, inl, inr, arith}
 use Rattle.std.specs.List.{list_any, AllByRecursion}
 use Rattle.std.proofs.lemmas.Bool.{cases_lt}
 use Rattle.std.proofs.lemmas.List.{get_or_append_left, length-map, map_push}
+use Rattle.toml.specs.declared.value.Value.{Value}
+use Rattle.toml.specs.Data.{Data}
+use Rattle.toml.specs.View.{view, items_view}
+use Rattle.mls_lattice.specs.declared.fault.PolicyFault.{PolicyFault}
+use Rattle.mls_lattice.specs.PolicyReading.{rows_at}
+use Rattle.mls_lattice.proofs.PolicyReadingLemmas.{rows-more}
 use Rattle.mls_lattice.specs.declared.tables.NamedLabel.{NamedLabel}
 use Rattle.mls_lattice.specs.declared.tables.User.{User}
 use Rattle.mls_lattice.specs.Lattice.{Pair, pair_of, same_pair, bottom}
@@ -41,15 +47,15 @@ distinct_more ls p apart new a b in_a in_b same =
       | inl la ↦ elim (cases_lt b (length ls)) [
         | inl lb ↦ apart a b la lb (sym (before a la) ∙ same ∙ before b lb)
         | inr ge ↦
-          let at : b ≡ length ls = at_end b in_b ge in
-          absurd (new a la (sym (before a la) ∙ same ∙ ap (label_of (ls ++ p ∷ [])) at ∙ last_of ls p))
-        ]
+            let at : b ≡ length ls = at_end b in_b ge in
+            absurd (new a la (sym (before a la) ∙ same ∙ ap (label_of (ls ++ p ∷ [])) at ∙ last_of ls p))
+      ]
       | inr ge ↦ elim (cases_lt b (length ls)) [
         | inl lb ↦
-          let at : a ≡ length ls = at_end a in_a ge in
-          absurd (new b lb (sym (before b lb) ∙ sym same ∙ ap (label_of (ls ++ p ∷ [])) at ∙ last_of ls p))
+            let at : a ≡ length ls = at_end a in_a ge in
+            absurd (new b lb (sym (before b lb) ∙ sym same ∙ ap (label_of (ls ++ p ∷ [])) at ∙ last_of ls p))
         | inr other ↦ at_end a in_a ge ∙ sym (at_end b in_b other)
-        ]
+      ]
     ]
   where
     grown : (xs : Labels) (x : Pair) → length (xs ++ x ∷ []) ≡ length xs + 1
@@ -64,11 +70,18 @@ pub distinct-push : (ls : List NamedLabel) (l : NamedLabel) → AreDistinct (map
 distinct-push ls l apart new =
     let pushed : map (λ (x : Named). x.value) (map named (ls ++ l ∷ [])) ≡ map (λ (x : Named). x.value) (map named ls) ++ pair_of l.label ∷ [] = ap (map (λ (x : Named). x.value)) (map_push named ls l) ∙ map_push (λ (x : Named). x.value) (map named ls) (named l) in
     rw pushed (distinct_more (map (λ (x : Named). x.value) (map named ls)) (pair_of l.label) apart
-      (λ a lt. none_same ls (pair_of l.label) new a (rw (length-map (map named ls) (λ (x : Named). x.value), length-map ls named) at lt)))
+    (λ a lt. none_same ls (pair_of l.label) new a (rw (length-map (map named ls) (λ (x : Named). x.value), length-map ls named) at lt)))
 
 pub distinct-none : AreDistinct []
 distinct-none a b in_a in_b same = absurd (omega arith)
 
-pub ruleset distinct = (distinct-push, distinct-none)
+pub ruleset distinct = (distinct-none)
 
 pub ruleset cleared = (cleared-push)
+
+-- a row of labels
+pub label_rows-more : (items : List Value) (i : ℕ) (v : Value) (read : List Named → Data → Result Named PolicyFault) (front : List NamedLabel) (l : NamedLabel)
+    → i < length items → v ≡ get_or items i v → read (map named front) (view v) ≡ Ok (named l)
+    → rows_at read (map named (front ++ l ∷ [])) (items_view (drop (i + 1) items)) ≡ rows_at read (map named front) (items_view (drop i items))
+label_rows-more items i v read front l within is ok =
+    ap (λ ls. rows_at read ls (items_view (drop (i + 1) items))) (map_push named front l) ∙ rows-more items i v within is read (map named front) (named l) ok

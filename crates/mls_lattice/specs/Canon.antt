@@ -1,5 +1,5 @@
 -- The canonical text of a policy: one line each, single spaces, in the order of its file.
-use Rattle.std.specs.Prelude.{ℕ, ◌+◌, ◌==◌, bit_and, List, [], ◌∷◌, ◌++◌, map, codes, if◌then◌else◌, Option, Some, None, option_map, slice_get}
+use Rattle.std.specs.Prelude.{ℕ, ◌+◌, ◌==◌, bit_and, List, [], ◌∷◌, ◌++◌, codes, if◌then◌else◌, Option, Some, None, option_map, slice_get}
 use Rattle.std.specs.List.{flat_map}
 use Rattle.std.specs.FinSet as set
 use Rattle.mls_lattice.specs.declared.tables.User.{User}

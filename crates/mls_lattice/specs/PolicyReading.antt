@@ -1,5 +1,5 @@
 -- The policy that a document says, or its first fault.
-use Rattle.std.specs.Prelude.{◌≡◌, ℕ, pos, Bool, ◌&&◌, ◌==◌, bit_and, List, [], ◌∷◌, ◌++◌, map, codes, if◌then◌else◌, Option, Some, None, Result, Ok, Err, ok_or, position}
+use Rattle.std.specs.Prelude.{ℕ, pos, Bool, ◌==◌, bit_and, List, [], ◌∷◌, ◌++◌, map, codes, if◌then◌else◌, Option, Some, None, Result, Ok, Err, ok_or, position}
 use Rattle.std.specs.Int.RustNames.{bit_or}
 use Rattle.std.specs.Ordering.{int_eq, nat_cmp}
 use Rattle.std.specs.List.{list_any}
@@ -10,7 +10,7 @@ use Rattle.mls_lattice.specs.declared.fault.PolicyFault.{PolicyFault}
 use Rattle.mls_lattice.specs.declared.fault.PolicyFault.TheVariants.{WrongKind, Repeated, UnknownName, EmptyInterval}
 use Rattle.mls_lattice.specs.declared.tables.User.{User}
 use Rattle.mls_lattice.specs.declared.tables.Right.{Right}
-use Rattle.mls_lattice.specs.Lattice.{Pair, ◌⊑◌, same_pair}
+use Rattle.mls_lattice.specs.Lattice.{Pair, same_pair}
 use Rattle.mls_lattice.specs.Labels.{below}
 use Rattle.mls_lattice.specs.Policy.{Name, Named, Tables, is_entry}
 use Rattle.mls_lattice.specs.Reading.{◌>>=◌, wanted, text_at, integer_at, table_at, name_at, name_field, texts_at, tables_at, optional, at_most, some_of}

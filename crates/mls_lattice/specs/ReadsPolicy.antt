@@ -3,7 +3,7 @@ use Rattle.std.specs.Prelude.{◌≡◌, ℕ, List, Result, Ok, Err, Some, IsUtf
 use Rattle.toml.specs.Data.{Members}
 use Rattle.toml.specs.Parse.{parse_document}
 use Rattle.mls_lattice.specs.declared.fault.PolicyFault.{PolicyFault}
-use Rattle.mls_lattice.specs.declared.fault.PolicyFault.TheVariants.{Memory, NotToml}
+use Rattle.mls_lattice.specs.declared.fault.PolicyFault.TheVariants.{Memory}
 use Rattle.mls_lattice.specs.Policy.{Tables}
 use Rattle.mls_lattice.specs.PolicyReading.{policy_at}
 

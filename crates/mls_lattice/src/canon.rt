@@ -130,7 +130,11 @@ fn user_to(text: &mut String, labels: &[NamedLabel], user: &User) -> Result<(), 
 }
 
 /// Writes the lines of the users.
-pub(crate) fn users_to(text: &mut String, labels: &[NamedLabel], users: &[User]) -> Result<(), AllocError>
+pub(crate) fn users_to(
+    text: &mut String,
+    labels: &[NamedLabel],
+    users: &[User],
+) -> Result<(), AllocError>
     ensures { OnOk result (string_bytes text.new ≡ string_bytes text.old ++ flat_map (user_line (map named labels.now)) users.now) }
 {
     for user in users {
@@ -171,7 +175,11 @@ fn right_to(text: &mut String, users: &[User], right: &Right) -> Result<(), Allo
 }
 
 /// Writes the lines of the matrix.
-pub(crate) fn matrix_to(text: &mut String, users: &[User], matrix: &[Right]) -> Result<(), AllocError>
+pub(crate) fn matrix_to(
+    text: &mut String,
+    users: &[User],
+    matrix: &[Right],
+) -> Result<(), AllocError>
     ensures { OnOk result (string_bytes text.new ≡ string_bytes text.old ++ flat_map (right_line users.now) matrix.now) }
 {
     for right in matrix {

@@ -82,7 +82,7 @@ fn label_of(
     requires few_levels { length levels.now ≤ 16 }
     requires few_categories { length categories.now ≤ 32 }
     ensures reads { Gives named result (label_at levels.now categories.now (map named labels.now) (view value.now)) }
-    ensures new { IfOk result (λ l. list_any (λ x. same_pair (pair_of x.label) (pair_of l.label)) labels.now ≡ false) }
+    ensures unlike { IfOk result (λ l. list_any (λ x. same_pair (pair_of x.label) (pair_of l.label)) labels.now ≡ false) }
     ensures toml { IfErr result (λ e. e ≢ PolicyFault.NotToml) }
 {
     let fields = table_of(value)?;

@@ -6,9 +6,7 @@ ghost use Rattle.mls_lattice.specs.Policy.{is_entry};
 ghost use Rattle.mls_lattice.specs.Reading.{Gives};
 ghost use Rattle.mls_lattice.specs.PolicyReading.{rows_at, mode_of, more_modes, right_at, matrix_at};
 
-use crate::document::{
-    at_most, name_field, optional_tables, table_of, text_of, texts_of, wanted,
-};
+use crate::document::{at_most, name_field, optional_tables, table_of, text_of, texts_of, wanted};
 use crate::fault::PolicyFault;
 use crate::modes::Modes;
 use crate::number::UserNo;
@@ -100,7 +98,11 @@ fn rows_of(alloc: Global, users: &[User], items: &[Value]) -> Result<Vec<Right>,
 
 /// The matrix of a document.
 #[tactic(auto, unfolding(crate::specs::PolicyReading::matrix_at))]
-pub(crate) fn matrix_of(alloc: Global, users: &[User], document: &Table) -> Result<Vec<Right>, PolicyFault>
+pub(crate) fn matrix_of(
+    alloc: Global,
+    users: &[User],
+    document: &Table,
+) -> Result<Vec<Right>, PolicyFault>
     requires { length users.now ≤ 64 }
     ensures reads { Gives (λ v. v.items) result (matrix_at users.now (table_view document.now)) }
     ensures toml { IfErr result (λ e. e ≢ PolicyFault.NotToml) }

@@ -9,9 +9,7 @@ ghost use Rattle.mls_lattice.specs.Policy.{named, IsCleared};
 ghost use Rattle.mls_lattice.specs.Reading.{Gives};
 ghost use Rattle.mls_lattice.specs.PolicyReading.{rows_at, label_name_at, interval_at, trusted_at, user_at, users_at, user_place};
 
-use crate::document::{
-    at_most, field, name_field, name_of, optional_tables, table_of, texts_of,
-};
+use crate::document::{at_most, field, name_field, name_of, optional_tables, table_of, texts_of};
 use crate::fault::PolicyFault;
 use crate::labels::label_place;
 use crate::number::LabelNo;
@@ -40,10 +38,15 @@ fn is_interval(labels: &[NamedLabel], low: LabelNo, high: LabelNo) -> bool
     requires high { high < length labels.now }
     ensures { result ≡ below (map (λ x. x.value) (map named labels.now)) low high }
 {
-    labels[high.index()].label.dominates(labels[low.index()].label)
+    labels[high.index()]
+        .label
+        .dominates(labels[low.index()].label)
 }
 
-fn interval_of(labels: &[NamedLabel], items: &[Value]) -> Result<Option<(LabelNo, LabelNo)>, PolicyFault>
+fn interval_of(
+    labels: &[NamedLabel],
+    items: &[Value],
+) -> Result<Option<(LabelNo, LabelNo)>, PolicyFault>
     requires { length labels.now ≤ 64 }
     ensures reads { Gives (λ i. i) result (interval_at (map named labels.now) (items_view items.now)) }
     ensures within { IfOk result (λ o. IfSome o (λ i. (i.0 < length labels.now) × (i.1 < length labels.now))) }
@@ -61,7 +64,10 @@ fn interval_of(labels: &[NamedLabel], items: &[Value]) -> Result<Option<(LabelNo
     }
 }
 
-fn trusted_of(labels: &[NamedLabel], fields: &Table) -> Result<Option<(LabelNo, LabelNo)>, PolicyFault>
+fn trusted_of(
+    labels: &[NamedLabel],
+    fields: &Table,
+) -> Result<Option<(LabelNo, LabelNo)>, PolicyFault>
     requires { length labels.now ≤ 64 }
     ensures reads { Gives (λ i. i) result (trusted_at (map named labels.now) (get_member (codes "trusted") (table_view fields.now))) }
     ensures within { IfOk result (λ o. IfSome o (λ i. (i.0 < length labels.now) × (i.1 < length labels.now))) }
@@ -124,7 +130,11 @@ fn rows_of(alloc: Global, labels: &[NamedLabel], items: &[Value]) -> Result<Vec<
 
 /// The users of a document.
 #[tactic(auto, using(crate::proofs::ReadingLemmas::counts), unfolding(crate::specs::PolicyReading::users_at))]
-pub(crate) fn users_of(alloc: Global, labels: &[NamedLabel], document: &Table) -> Result<Vec<User>, PolicyFault>
+pub(crate) fn users_of(
+    alloc: Global,
+    labels: &[NamedLabel],
+    document: &Table,
+) -> Result<Vec<User>, PolicyFault>
     requires { length labels.now ≤ 64 }
     ensures reads { Gives (λ v. v.items) result (users_at (map named labels.now) (table_view document.now)) }
     ensures count { IfOk result (λ v. length v.items ≤ 64) }

@@ -1,8 +1,4 @@
-use Rattle.std.proofs.Common.{rules, ◌++◌, ap, sym, ◌∙◌, List, ℕ, string_bytes}
-use Rattle.std.specs.List.{flat_map}
-use Rattle.mls_lattice.specs.Policy.{named}
-use Rattle.mls_lattice.specs.Canon.{label_line}
-use Rattle.mls_lattice.specs.declared.tables.NamedLabel.{NamedLabel}
+use Rattle.std.proofs.Common.{◌++◌, ap, ◌∙◌, List, ℕ, string_bytes}
 use Rattle.mls_lattice.proofs.CanonLemmas.{label_lines-taken}
 use Rattle.mls_lattice.proofs.canon.labels_to.Goals as goal
 

@@ -3,4 +3,5 @@ pub mod Tuple
 pub mod Table
 pub mod Scheme
 pub mod Fault
+pub mod Reading
 pub mod Fits

@@ -3,6 +3,7 @@
 
 mod attributes;
 mod fault;
+mod fields;
 mod fits;
 mod number;
 mod scheme;

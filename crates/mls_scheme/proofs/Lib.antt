@@ -1,1 +1,2 @@
 pub mod AttributeLemmas
+pub mod SchemeSteps

@@ -1,6 +1,7 @@
 -- What the fields of schemes say, or the first fault.
-use Rattle.std.specs.Prelude.{◌≡◌, ℕ, pos, Bool, true, ◌&&◌, is_some, nat_eq, List, [], ◌∷◌, ◌++◌, codes, if◌then◌else◌, ◌==◌, Option, Result, Ok, Err, ok_or, position}
+use Rattle.std.specs.Prelude.{◌≡◌, ℕ, pos, Bool, true, ◌&&◌, nat_eq, List, [], ◌∷◌, ◌++◌, codes, if◌then◌else◌, ◌==◌, Option, Result, Ok, Err, ok_or, position}
 use Rattle.std.specs.Ordering.{int_eq}
+use Rattle.std.specs.List.{list_any}
 use Rattle.std.specs.Str.{bytes_eq}
 use Rattle.toml.specs.Data.{Data, Items, no_items, item, Members, get_member}
 use Rattle.mls_lattice.specs.declared.fault.PolicyFault.{PolicyFault}
@@ -24,6 +25,11 @@ Gives view (Err e) read = (e ≡ Memory → ⊥) → read ≡ Err e
 abbrev pub lift : {X : Type 0} → Result X PolicyFault → Result X SchemeFault
 lift (Ok x) = Ok x
 lift (Err e) = Err (scheme_fault_of e)
+
+-- what the items say, each after those before it
+abbrev pub gather : {A : Type 0} → (List A → Data → Result A SchemeFault) → List A → Items → Result (List A) SchemeFault
+gather step before no_items = Ok before
+gather step before (item d ds) = step before d >>= λ a. gather step (before ++ a ∷ []) ds
 
 -- ---- single fields
 
@@ -61,7 +67,7 @@ column_at p fields = do
   if below (labels_of p) low high then Ok (record { kind = kind; low = low; high = high }) else Err EmptyInterval
 
 abbrev pub has_attribute : List Attribute → Name → Bool
-has_attribute attributes name = is_some (position (λ a. bytes_eq a.name name) attributes)
+has_attribute attributes name = list_any (λ a. bytes_eq a.name name) attributes
 
 abbrev pub new_name : Bool → Result (Unit {0}) SchemeFault
 new_name taken = if taken then Err Repeated else Ok tt
@@ -80,16 +86,13 @@ abbrev pub has_key_interval : List Attribute → Column → Bool
 has_key_interval [] c = true
 has_key_interval (k ∷ ks) c = nat_eq k.low c.low && nat_eq k.high c.high
 
--- the key attributes of the items, after those before
-abbrev pub keys_in : Tables → List Attribute → Items → Result (List Attribute) SchemeFault
-keys_in p before no_items = Ok before
-keys_in p before (item d ds) =
-    attribute_at p before d >>= λ a. if has_key_interval before (column_of a) then keys_in p (before ++ a ∷ []) ds else Err KeyIntervals
+-- a key attribute after those before
+unfoldable pub key_at : Tables → List Attribute → Data → Result Attribute SchemeFault
+key_at p before d = attribute_at p before d >>= λ a. if has_key_interval before (column_of a) then Ok a else Err KeyIntervals
 
--- the others of the items, after the key attributes and those before
-abbrev pub others_in : Tables → List Attribute → List Attribute → Items → Result (List Attribute) SchemeFault
-others_in p keys before no_items = Ok before
-others_in p keys before (item d ds) = attribute_at p (keys ++ before) d >>= λ a. others_in p keys (before ++ a ∷ []) ds
+-- an attribute outside the key, after the key and those before
+unfoldable pub other_at : Tables → List Attribute → List Attribute → Data → Result Attribute SchemeFault
+other_at p keys before d = attribute_at p (keys ++ before) d
 
 -- ---- relations
 
@@ -104,7 +107,7 @@ unfoldable pub other_items : Members → Result Items SchemeFault
 other_items fields = lift (optional tables_at (get_member (codes "attribute") fields) >>= at_most 15)
 
 abbrev pub has_relation : Schemes → Name → Bool
-has_relation schemes name = is_some (position (λ s. bytes_eq s.name name) schemes)
+has_relation schemes name = list_any (λ s. bytes_eq s.name name) schemes
 
 -- a relation with a name that those before don't have
 unfoldable pub scheme_at : Tables → Schemes → Data → Result Scheme SchemeFault
@@ -113,15 +116,10 @@ scheme_at p before d = do
   name ← name_field (codes "name") fields
   new ← new_name (has_relation before name)
   key_tables ← key_items fields
-  keys ← keys_in p [] key_tables
+  keys ← gather (key_at p) [] key_tables
   other_tables ← other_items fields
-  others ← others_in p keys [] other_tables
+  others ← gather (other_at p keys) [] other_tables
   Ok (record { name = name; keys = keys; others = others })
-
--- the relations of the items, after those before
-abbrev pub schemes_in : Tables → Schemes → Items → Result Schemes SchemeFault
-schemes_in p before no_items = Ok before
-schemes_in p before (item d ds) = scheme_at p before d >>= λ s. schemes_in p (before ++ s ∷ []) ds
 
 -- from 1 to 16 tables
 unfoldable pub relation_items : Members → Result Items SchemeFault
@@ -132,4 +130,4 @@ unfoldable pub schemes_at : Tables → Members → Result Schemes SchemeFault
 schemes_at p document = do
   version ← version_at document
   tables ← relation_items document
-  schemes_in p [] tables
+  gather (scheme_at p) [] tables

@@ -6,6 +6,7 @@ mod fault;
 mod fields;
 mod fits;
 mod number;
+mod reading;
 mod scheme;
 mod tuple;
 mod value;

@@ -26,6 +26,13 @@ impl Model for Scheme {
 }
 
 impl Scheme {
+    pub(crate) fn new(name: Str, keys: Attributes, others: Attributes) -> Scheme
+        requires { IsScheme (record { name = name; keys = keys; others = others }) }
+        ensures { result ≡ record { name = name; keys = keys; others = others } }
+    {
+        Scheme { name, keys, others }
+    }
+
     /// The name of the relation.
     pub fn name(&self) -> &str
         ensures { result.now ≡ self.now.name }
@@ -68,6 +75,15 @@ impl Model for Schemes {
 }
 
 impl Schemes {
+    pub(crate) fn new(relations: Vec<Scheme>) -> Schemes
+        requires { AreSchemes relations.items }
+        ensures { result ≡ relations.items }
+    {
+        Schemes {
+            relations: Items::from(relations),
+        }
+    }
+
     /// How many relations there are.
     pub fn count(&self) -> usize
         ensures count { result ≡ length self.now }

@@ -1,2 +1,5 @@
 pub mod AttributeLemmas
 pub mod SchemeSteps
+pub mod GatherLemmas
+pub mod FieldLemmas
+pub mod SchemeLemmas

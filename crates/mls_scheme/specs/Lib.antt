@@ -4,4 +4,5 @@ pub mod Table
 pub mod Scheme
 pub mod Fault
 pub mod Reading
+pub mod Document
 pub mod Fits

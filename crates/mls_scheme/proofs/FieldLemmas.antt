@@ -58,6 +58,7 @@ kind_found word k e = by_int (bytes_eq word (codes "int")) refl e
     by_text : (b : Bool) → bytes_eq word (codes "text") ≡ b → cond b (Ok Text) (Err UnknownName) ≡ Ok k → word ≡ kind_word k
     by_text true is e = let same : Text ≡ k = cc in (bytes_decides word (codes "text")).0 is ∙ ap kind_word same
     by_text false is e = absurd cc
+
     by_int : (b : Bool) → bytes_eq word (codes "int") ≡ b → cond b (Ok Int) (cond (bytes_eq word (codes "text")) (Ok Text) (Err UnknownName)) ≡ Ok k → word ≡ kind_word k
     by_int true is e = let same : Int ≡ k = cc in (bytes_decides word (codes "int")).0 is ∙ ap kind_word same
     by_int false is e = by_text (bytes_eq word (codes "text")) refl e

@@ -3,3 +3,4 @@ pub mod SchemeSteps
 pub mod GatherLemmas
 pub mod FieldLemmas
 pub mod SchemeLemmas
+pub mod CanonLemmas

@@ -1,10 +1,10 @@
 -- Reading gives the schemes that the document says, and refuses no others.
-use Rattle.std.proofs.Common.{◌≡◌, ◌≢◌, ℕ, ◌<◌, ◌≤◌, Bool, true, false, ◌&&◌, cond, nat_eq, List, [], ◌∷◌, ◌++◌, length, map, Option, None, Some, Result, Ok, Err, refl, sym, ap, ◌∙◌, inl, inr, arith, subst}
+use Rattle.std.proofs.Common.{◌≡◌, ◌≢◌, ℕ, ◌<◌, ◌≤◌, Bool, true, false, ◌&&◌, cond, nat_eq, nat_lt, List, [], ◌∷◌, ◌++◌, length, map, Option, None, Some, Result, Ok, Err, refl, sym, ap, ◌∙◌, inl, inr, arith, subst}
 use Rattle.std.specs.Prelude.{◌⊎◌, ◌↔◌, IfOk, IfErr, codes}
-use Rattle.std.specs.List.{AllByRecursion, AllZip, IsDistinct}
+use Rattle.std.specs.List.{AllByRecursion, AllZip, IsDistinct, position}
 use Rattle.std.specs.Str.{bytes_eq}
 use Rattle.std.proofs.lemmas.List.{append-nil}
-use Rattle.std.proofs.lemmas.Bool.{eqb-true, eq-eqb, and_parts, and_from}
+use Rattle.std.proofs.lemmas.Bool.{eqb-true, ltb-true, eq-eqb, and_parts, and_from}
 use Rattle.toml.specs.Data.{Data, array, table, Items, no_items, Members, get_member, string}
 use Rattle.mls_lattice.specs.Labels.{below}
 use Rattle.mls_lattice.specs.Policy.{Name, Tables, labels_of}
@@ -13,7 +13,7 @@ use Rattle.mls_lattice.proofs.ReadingLemmas.{bind_ok, guard_ok, pass_ok}
 use Rattle.mls_scheme.specs.declared.fault.SchemeFault.{SchemeFault}
 use Rattle.mls_scheme.specs.declared.fault.SchemeFault.TheVariants.{NotToml, Memory, Repeated, EmptyInterval, KeyIntervals}
 use Rattle.mls_scheme.specs.declared.attributes.Column.{Column}
-use Rattle.mls_scheme.specs.Scheme.{Attribute, Scheme, Schemes, column_of, no_attribute, first_key, HasInterval, IsScheme, AreSchemes}
+use Rattle.mls_scheme.specs.Scheme.{Attribute, Scheme, Schemes, attribute_named, column_of, no_attribute, first_key, HasInterval, IsScheme, AreSchemes, IsAmongLabels, AreUnder}
 use Rattle.mls_scheme.specs.Reading.{Gives, lift, gather, name_field, text_field, kind_in, label_field, version_at, column_at, has_attribute, new_name, attribute_at, has_key_interval, key_at, other_at, key_items, other_items, has_relation, scheme_at, relation_items, schemes_at}
 use Rattle.mls_scheme.specs.Document.{tables_of, HoldsTables, kind_word, SaysAttribute, SaysRelation, Says, IsDocument, ReadsSchemes, SaysOnce}
 use Rattle.mls_scheme.proofs.GatherLemmas.{Each, Step, Gathered, gather_found, gather_again, items_len-tables_of, Each-left, Each-right, Each-both, distinct_found, distinct_again}
@@ -21,15 +21,12 @@ use Rattle.mls_scheme.proofs.FieldLemmas.{table_found, name_found, name_again, t
 
 -- ---- attributes
 
-abbrev attribute : Name → Column → Attribute
-attribute name c = record { name = name; kind = c.kind; low = c.low; high = c.high }
-
 -- what follows a new name
 new_found : {A : Type 0} (taken : Bool) (r : Result A SchemeFault) (x : A) → (new_name taken >>= λ _. r) ≡ Ok x → (taken ≡ false) × (r ≡ Ok x)
 new_found true r x e = absurd cc
 new_found false r x e = (refl, e)
 
-says_column : (p : Tables) (fields : Members) (name : Name) (c : Column) → name_field (codes "name") fields ≡ Ok name → column_at p fields ≡ Ok c → SaysAttribute p fields (attribute name c)
+says_column : (p : Tables) (fields : Members) (name : Name) (c : Column) → name_field (codes "name") fields ≡ Ok name → column_at p fields ≡ Ok c → SaysAttribute p fields (attribute_named name c)
 unfolding column_at
 says_column p fields name c named e =
     let n = name_found (codes "name") fields name named in
@@ -40,7 +37,7 @@ says_column p fields name c named e =
     let g = pass_ok (below (labels_of p) d.0 f.0) EmptyInterval _ c f.2 in
     let made : Result Column SchemeFault = Ok (record { kind = b.0; low = d.0; high = f.0 }) in
     let same : made ≡ Ok c = g.1 in
-    let whole : SaysAttribute p fields (attribute name (record { kind = b.0; low = d.0; high = f.0 })) = record {
+    let whole : SaysAttribute p fields (attribute_named name (record { kind = b.0; low = d.0; high = f.0 })) = record {
       name = n.0;
       named = n.1;
       kind = text_field_found (codes "kind") fields a.0 a.1 ∙ ap (λ w. Some (string w)) (kind_found a.0 b.0 b.1);
@@ -48,7 +45,7 @@ says_column p fields name c named e =
       high = label_found p (codes "high") fields f.0 f.1;
       interval = g.0;
     } in
-    subst (λ x. SaysAttribute p fields (attribute name x)) (ap (λ r. column_or r) same) whole
+    subst (λ x. SaysAttribute p fields (attribute_named name x)) (ap (λ r. column_or r) same) whole
   where
     column_or : Result Column SchemeFault → Column
     column_or (Ok x) = x
@@ -64,9 +61,9 @@ attribute_found p before d a e =
     let n = bind_ok (name_field (codes "name") f.0) _ a f.2 in
     let w = new_found (has_attribute before n.0) _ a n.2 in
     let c = bind_ok (column_at p f.0) _ a w.1 in
-    let made : Result Attribute SchemeFault = Ok (attribute n.0 c.0) in
+    let made : Result Attribute SchemeFault = Ok (attribute_named n.0 c.0) in
     let same : made ≡ Ok a = c.2 in
-    let here : attribute n.0 c.0 ≡ a = ap (λ r. attribute_or r) same in
+    let here : attribute_named n.0 c.0 ≡ a = ap (λ r. attribute_or r) same in
     let says : SaysAttribute p f.0 a = subst (SaysAttribute p f.0) here (says_column p f.0 n.0 c.0 n.1 c.1) in
     let fresh : has_attribute before a.name ≡ false = subst (λ (x : Attribute). has_attribute before x.name ≡ false) here w.0 in
     record { fields = f.0; text = table_found d f.0 f.1; says = says; follows = fresh }
@@ -168,7 +165,7 @@ parts_says p fields s named r =
     let follow : Each FollowsKeys [] s.keys = subst (Each FollowsKeys []) same_keys ks.follow in
     let keys_apart : IsDistinct bytes_eq (map (λ (a : Attribute). a.name) s.keys) = distinct_found (λ (a : Attribute). a.name) [] [] s.keys tt (Each-left (IsNewAfter []) HasKeyInterval [] s.keys follow) in
     let apart : IsDistinct bytes_eq (map (λ (a : Attribute). a.name) (s.keys ++ s.others)) =
-          distinct_found (λ (a : Attribute). a.name) s.keys [] s.others (rw (append-nil s.keys) keys_apart) (subst (Each (IsNewAfter s.keys) []) same_others os.follow) in
+    distinct_found (λ (a : Attribute). a.name) s.keys [] s.others (rw (append-nil s.keys) keys_apart) (subst (Each (IsNewAfter s.keys) []) same_others os.follow) in
     let some = k.some in
     let few = k.few in
     let few_others = o.few in
@@ -193,6 +190,7 @@ parts_says p fields s named r =
     none_of : (ts : List Members) → no_items ≡ tables_of ts → ts ≡ []
     none_of [] e = refl
     none_of (t ∷ ts) e = absurd cc
+
     here : (o : Option Data) (ds : Items) (ts : List Members) → ds ≡ tables_of ts → ((o ≡ Some (array ds)) ⊎ ((o ≡ None) × (ds ≡ no_items))) → HoldsTables o ts ⊎ ((o ≡ None) × (ts ≡ []))
     here o ds ts is (inl there) = inl (there ∙ ap (λ (x : Items). Some (array x)) is)
     here o ds ts is (inr missing) = inr (missing.0, none_of ts (sym missing.1 ∙ is))
@@ -231,11 +229,11 @@ scheme_step_again p before fields s r fresh =
     let few_others = r.valid.few_others in
     let whole : IsDistinct bytes_eq (map (λ (a : Attribute). a.name) (s.keys ++ s.others)) = r.valid.distinct in
     let follow : Each FollowsKeys [] s.keys = Each-both (IsNewAfter []) HasKeyInterval [] s.keys
-          (distinct_again (λ (a : Attribute). a.name) [] [] s.keys (front (λ (a : Attribute). a.name) s.keys s.others whole))
-          (one_interval_again s.name s.keys s.others r.valid.one_interval) in
+    (distinct_again (λ (a : Attribute). a.name) [] [] s.keys (front (λ (a : Attribute). a.name) s.keys s.others whole))
+    (one_interval_again s.name s.keys s.others r.valid.one_interval) in
     let keys : gather (key_at p) [] (tables_of r.key_tables) ≡ Ok s.keys = gather_again (key_at p) (SaysAttribute p) FollowsKeys (key_step_again p) [] r.key_tables s.keys r.keys follow in
     let others : gather (other_at p s.keys) [] (tables_of r.other_tables) ≡ Ok s.others =
-          gather_again (other_at p s.keys) (SaysAttribute p) (IsNewAfter s.keys) (other_step_again p s.keys) [] r.other_tables s.others r.others (distinct_again (λ (a : Attribute). a.name) s.keys [] s.others whole) in
+    gather_again (other_at p s.keys) (SaysAttribute p) (IsNewAfter s.keys) (other_step_again p s.keys) [] r.other_tables s.others r.others (distinct_again (λ (a : Attribute). a.name) s.keys [] s.others whole) in
     rw (
       name_again (codes "name") fields s.name r.name r.named,
       fresh,
@@ -248,11 +246,22 @@ scheme_step_again p before fields s r fresh =
     shorter : {A : Type 0} (name_of : A → Name) (n : Name) (xs ys : List A) → AllByRecursion (λ y. bytes_eq n y ≡ false) (map name_of (xs ++ ys)) → AllByRecursion (λ y. bytes_eq n y ≡ false) (map name_of xs)
     shorter name_of n [] ys h = tt
     shorter name_of n (x ∷ xs) ys h = (h.0, shorter name_of n xs ys h.1)
+
     front : {A : Type 0} (name_of : A → Name) (xs ys : List A) → IsDistinct bytes_eq (map name_of (xs ++ ys)) → IsDistinct bytes_eq (map name_of xs)
     front name_of [] ys h = tt
     front name_of (x ∷ xs) ys h = (shorter name_of (name_of x) xs ys h.0, front name_of xs ys h.1)
 
 -- ---- documents
+
+chosen_within : (k n m : ℕ) → cond (nat_lt k n) (Some k) None ≡ Some m → m < n
+chosen_within k n m e = by (nat_lt k n) refl e
+  where
+    by : (b : Bool) → nat_lt k n ≡ b → cond b (Some k) None ≡ Some m → m < n
+    by true is h = let same : k ≡ m = cc in subst (λ x. x < n) same (ltb-true k n is)
+    by false is h = absurd cc
+
+position_within : {X : Type 0} (f : X → Bool) (xs : List X) (m : ℕ) → position f xs ≡ Some m → m < length xs
+position_within f xs m e = chosen_within _ (length xs) m e
 
 each_valid : (p : Tables) (ts : List Members) (schemes : Schemes) → AllZip (SaysRelation p) ts schemes → AllByRecursion IsScheme schemes
 each_valid p [] [] h = tt
@@ -308,3 +317,61 @@ scheme_valid p fields s kd od name key keys other others =
 
 pub schemes_valid : (p : Tables) (document : Members) (ds : Items) (schemes : Schemes) → version_at document ≡ Ok tt → relation_items document ≡ Ok ds → gather (scheme_at p) [] ds ≡ Ok schemes → AreSchemes schemes
 schemes_valid p document ds schemes version text e = (relations_says p document ds schemes version text e).valid
+
+among : (p : Tables) (fields : Members) (a : Attribute) → SaysAttribute p fields a → IsAmongLabels (length p.labels) a
+among p fields a s = record { low = position_within (λ l. bytes_eq l.name s.low.name) p.labels a.low s.low.declared; high = position_within (λ l. bytes_eq l.name s.high.name) p.labels a.high s.high.declared }
+
+all_among : (p : Tables) (ts : List Members) (attributes : List Attribute) → AllZip (SaysAttribute p) ts attributes → AllByRecursion (IsAmongLabels (length p.labels)) attributes
+all_among p [] [] h = tt
+all_among p [] (a ∷ attributes) h = absurd h
+all_among p (t ∷ ts) [] h = absurd h
+all_among p (t ∷ ts) (a ∷ attributes) h = (among p t a h.0, all_among p ts attributes h.1)
+
+all_under : (p : Tables) (ts : List Members) (schemes : Schemes) → AllZip (SaysRelation p) ts schemes → AreUnder (length p.labels) schemes
+all_under p [] [] h = tt
+all_under p [] (s ∷ schemes) h = absurd h
+all_under p (t ∷ ts) [] h = absurd h
+all_under p (t ∷ ts) (s ∷ schemes) h =
+    (record { keys = all_among p h.0.key_tables s.keys h.0.keys; others = all_among p h.0.other_tables s.others h.0.others }, all_under p ts schemes h.1)
+
+-- ---- the clauses of the reader
+
+same_document : (bytes : List ℕ) (d e : Members) → IsDocument bytes d → IsDocument bytes e → d ≡ e
+same_document bytes d e is other = let a : Some d ≡ Some e = sym is.1 ∙ other.1 in cc
+
+pub read_found : (p : Tables) (bytes : List ℕ) (document : Members) (r : Result Schemes SchemeFault) → IsDocument bytes document → Gives (λ s. s) r (schemes_at p document) → IfOk r (ReadsSchemes p bytes)
+read_found p bytes document (Ok s) is given = (document, is, says_found p document s given)
+read_found p bytes document (Err e) is given = tt
+
+pub read_under : (p : Tables) (document : Members) (r : Result Schemes SchemeFault) → Gives (λ s. s) r (schemes_at p document) → IfOk r (AreUnder (length p.labels))
+read_under p document (Ok s) given = let says = says_found p document s given in all_under p says.tables s says.relations
+read_under p document (Err e) given = tt
+
+pub read_refused : (p : Tables) (bytes : List ℕ) (document : Members) (r : Result Schemes SchemeFault) → IsDocument bytes document → Gives (λ s. s) r (schemes_at p document)
+    → IfErr r (λ e. e ≢ Memory → (s : Schemes) → ReadsSchemes p bytes s → ⊥)
+read_refused p bytes document (Ok s) is given = tt
+read_refused p bytes document (Err e) is given = λ other s (read, is_read, says).
+    let ok : schemes_at p document ≡ Ok s = ap (schemes_at p) (same_document bytes document read is is_read) ∙ says_again p read s says in
+    let err : schemes_at p document ≡ Err e = given other in
+    absurd cc
+
+pub read_first : (p : Tables) (bytes : List ℕ) (document : Members) (r : Result Schemes SchemeFault) → IsDocument bytes document → Gives (λ s. s) r (schemes_at p document)
+    → IfErr r (λ e. e ≢ Memory → (d : Members) → IsDocument bytes d → schemes_at p d ≡ Err e)
+read_first p bytes document (Ok s) is given = tt
+read_first p bytes document (Err e) is given = λ other d is_read. ap (schemes_at p) (same_document bytes d document is_read is) ∙ given other
+
+pub read_not_toml : (bytes : List ℕ) (document : Members) (r : Result Schemes SchemeFault) → IsDocument bytes document → IfErr r (λ e. e ≢ NotToml)
+    → IfErr r (λ e. e ≢ Memory → (e ≡ NotToml) ↔ ((d : Members) → IsDocument bytes d → ⊥))
+read_not_toml bytes document (Ok s) is other = tt
+read_not_toml bytes document (Err e) is other = λ _. (λ same. absurd (other same), λ none. absurd (none document is))
+
+pub says_once : SaysOnce
+says_once p bytes s t (d, is, says) (e, is_too, says_too) =
+    let a : schemes_at p d ≡ Ok s = says_again p d s says in
+    let b : schemes_at p d ≡ Ok t = ap (schemes_at p) (same_document bytes d e is is_too) ∙ says_again p e t says_too in
+    let both : Ok s ≡ Ok t = sym a ∙ b in
+    ap (λ (r : Result Schemes SchemeFault). or_none r) both
+  where
+    or_none : Result Schemes SchemeFault → Schemes
+    or_none (Ok x) = x
+    or_none (Err f) = []

@@ -5,4 +5,5 @@ pub mod Scheme
 pub mod Fault
 pub mod Reading
 pub mod Document
+pub mod Canon
 pub mod Fits

@@ -1,7 +1,10 @@
 //! Values, tuples and schemes: what a relation is, and what a tuple of it is.
 #![tactic(auto)]
 
+ghost use Rattle.mls_scheme.specs.Document.{SaysOnce};
+
 mod attributes;
+mod canon;
 mod fault;
 mod fields;
 mod fits;
@@ -18,3 +21,8 @@ pub use number::RelNo;
 pub use scheme::{Scheme, Schemes};
 pub use tuple::{Element, Tuple, same_elements, tuple_class};
 pub use value::{Kind, Value, copy_key, order_keys, same_key};
+
+/// A text says at most one list of schemes under a policy.
+pub fn texts_say_schemes_once()
+    ensures { SaysOnce }
+{}

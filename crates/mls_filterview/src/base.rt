@@ -3,7 +3,7 @@ ghost use Rattle.std.specs.Prelude.{◌≡◌, ◌≢◌, ◌↔◌, ◌<◌, �
 ghost use Rattle.std.specs.FinMap.{get, insert, remove};
 ghost use Rattle.mls_scheme.specs.declared.tuple.Element.{Element as SpecElement};
 ghost use Rattle.mls_scheme.specs.Table.{change};
-ghost use Rattle.mls_filterview.specs.Content.{State, begun_change, committed, ended, after, with_relation};
+ghost use Rattle.mls_filterview.specs.Content.{State, begun_change, committed, ended, failed, after, with_relation};
 ghost use Rattle.mls_filterview.specs.Fragment.{IsFragment, IsMadeOf, place_of_node, HasCell, set_in, IsAlone};
 
 use crate::fragment::{Cell, Fragment, Node};
@@ -143,4 +143,16 @@ pub trait Base {
         ensures done { is_clean self.new → IsAlone ((state self.old).now.db rel) place.now
             → OnOk result (state self.new ≡ with_relation (state self.old) rel (remove ((state self.old).now.db rel) place.now)) }
         ensures failed { is_clean self.new → IfErr result (λ e. state self.new ≡ after e (state self.old)) };
+}
+
+/// Ends the change, if one is begun, as each call of a base does before it answers `Store` or `Memory`.
+///
+/// A call over a base that meets a fault of its own, as a refused growth, or a fault after some of its steps, does so
+/// before it answers the fault: the state is then as if it had failed at once.
+pub fn abandon<B: Base>(base: &mut B)
+    ensures clean { B.is_clean base.new → B.is_clean base.old }
+    ensures count { B.failures base.old ≤ B.failures base.new }
+    ensures failed { B.is_clean base.new → B.state base.new ≡ failed (B.state base.old) }
+{
+    let _ = base.rollback();
 }

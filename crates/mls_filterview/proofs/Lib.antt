@@ -9,3 +9,5 @@ pub mod AmongLemmas
 pub mod EntryLemmas
 pub mod RowLemmas
 pub mod SampleLemmas
+pub mod FragmentLemmas
+pub mod AssemblyLemmas

@@ -1,0 +1,3 @@
+pub mod RunLemmas
+pub mod IntLemmas
+pub mod TextLemmas

@@ -1,3 +1,5 @@
 pub mod RunLemmas
 pub mod IntLemmas
 pub mod TextLemmas
+pub mod TokenLemmas
+pub mod LineLemmas

@@ -97,11 +97,12 @@ sign_at rest (Some s) = Ok (Some (Sign_token s, rest))
 -- the token at the front of bytes that begin with no blank
 unfoldable pub unblank_at : List ℕ → Result (Option Found) ScriptCause
 unblank_at bytes =
-    if length bytes == 0 || slice_index bytes 0 == 35 then Ok None
+    if length bytes == 0 then Ok None
+    else (if slice_index bytes 0 == 35 then (utf8_of bytes >>= λ _. Ok None)
     else (if is_ascii_alphabetic (slice_index bytes 0) then (word_at bytes >>= λ x. found Word x)
     else (if starts_int bytes then (int_at bytes >>= λ x. found Int x)
     else (if slice_index bytes 0 == 34 then (quoted_at (drop 1 bytes) >>= λ x. found Text x)
-    else sign_at (drop 1 bytes) (sign_of (slice_index bytes 0)))))
+    else sign_at (drop 1 bytes) (sign_of (slice_index bytes 0))))))
 
 -- after blanks
 unfoldable pub token_at : List ℕ → Result (Option Found) ScriptCause

@@ -1,5 +1,5 @@
 -- The tokens of a whole line, with no word of how it is scanned.
-use Rattle.std.specs.Prelude.{◌≡◌, ◌≢◌, ℕ, ◌<◌, ◌≤◌, ℤ, pos, neg_ℤ, true, false, Bool, ◌||◌, ◌==◌, nat_lt, if◌then◌else◌, ◌⊎◌, List, [], ◌∷◌, ◌++◌, length, slice_index, codes, FitsSigned, IsUtf8}
+use Rattle.std.specs.Prelude.{◌≡◌, ◌≢◌, ℕ, ◌<◌, ◌≤◌, ℤ, pos, neg_ℤ, true, false, Bool, ◌||◌, ◌==◌, nat_lt, if◌then◌else◌, ◌⊎◌, List, [], ◌∷◌, ◌++◌, map, length, slice_index, codes, FitsSigned, IsUtf8}
 use Rattle.std.specs.List.{AllByRecursion, flat_map, list_any}
 use Rattle.std.specs.Int.{w64}
 use Rattle.std.specs.Char.{is_ascii_alphabetic, is_ascii_digit}
@@ -8,6 +8,7 @@ use Rattle.std.specs.Str.Parse.{digits_value}
 use Rattle.mls_lattice.specs.Name.{is_name_byte}
 use Rattle.mls_sessions.specs.declared.token.Token.{Token}
 use Rattle.mls_sessions.specs.declared.token.Token.TheVariants.{Word, Int, Text, Sign as Sign_token}
+use Rattle.mls_sessions.specs.declared.token.Placed.{Placed}
 use Rattle.mls_sessions.specs.declared.token.Sign.{Sign}
 use Rattle.mls_sessions.specs.declared.token.Sign.TheVariants.{LeftParen, RightParen, Comma, Equals, Other}
 
@@ -113,3 +114,6 @@ pub record IsOver (line : List ℕ) : Type 0 where
 abbrev pub IsLine : List Token → List ℕ → Type 0
 IsLine [] line = IsOver line
 IsLine (t ∷ ts) line = (rest : List ℕ) × Begins line t rest × IsLine ts rest
+
+abbrev pub tokens_in : List Placed → List Token
+tokens_in = map (λ p. p.token)

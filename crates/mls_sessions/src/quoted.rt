@@ -48,8 +48,9 @@ fn text_of(alloc: Global, bytes: &[u8]) -> Result<(Vec<u8>, &[u8]), ScriptCause>
     Err(ScriptCause::Token)
 }
 
+/// Bytes as a text.
 #[tactic(auto, using(crate::proofs::TextLemmas::utf8_steps))]
-fn utf8_of(bytes: &[u8]) -> Result<&str, ScriptCause>
+pub(crate) fn utf8_of(bytes: &[u8]) -> Result<&str, ScriptCause>
     ensures { Gives (λ s. s.now) result (utf8_of bytes.now) }
 {
     match std::str::from_utf8(bytes) {

@@ -3,3 +3,4 @@ pub mod IntLemmas
 pub mod TextLemmas
 pub mod TokenLemmas
 pub mod LineLemmas
+pub mod ValueSteps

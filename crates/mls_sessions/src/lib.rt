@@ -1,9 +1,12 @@
 //! Sessions: the script of their commands.
 #![tactic(auto)]
 
+mod cursor;
 mod event;
 mod fault;
+mod grammar;
 mod int;
+mod phrase;
 mod quoted;
 mod runs;
 mod scanner;

@@ -4,3 +4,5 @@ pub mod TextLemmas
 pub mod TokenLemmas
 pub mod LineLemmas
 pub mod ValueSteps
+pub mod LookupLemmas
+pub mod ScriptSteps

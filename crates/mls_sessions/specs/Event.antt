@@ -44,12 +44,20 @@ list_tokens vs = Sign LeftParen ∷ (with_commas vs ++ Sign RightParen ∷ [])
 -- ---- the tokens of an event
 
 
+abbrev pub open_tokens : Name → List Token
+open_tokens user = Word (codes "open") ∷ Word user ∷ []
+
+abbrev pub view_tokens : Name → Name → List Token
+view_tokens rel label = Word (codes "view") ∷ Word rel ∷ Word (codes "at") ∷ Word label ∷ []
+
+abbrev pub insert_tokens : Name → List (Option Value) → List (Option Value) → List Token
+insert_tokens rel key values =
+    Word (codes "insert") ∷ Word rel ∷ Word (codes "key") ∷ (list_tokens key ++ Word (codes "values") ∷ list_tokens values)
+
 abbrev pub command_tokens : Tables → Schemes → Command → List Token
-command_tokens policy schemes (Open user) = Word (codes "open") ∷ Word user ∷ []
-command_tokens policy schemes (View rel label) =
-    Word (codes "view") ∷ Word (relation_name schemes rel) ∷ Word (codes "at") ∷ Word (label_name policy label) ∷ []
-command_tokens policy schemes (Insert rel key values) =
-    Word (codes "insert") ∷ Word (relation_name schemes rel) ∷ Word (codes "key") ∷ (list_tokens key ++ Word (codes "values") ∷ list_tokens values)
+command_tokens policy schemes (Open user) = open_tokens user
+command_tokens policy schemes (View rel label) = view_tokens (relation_name schemes rel) (label_name policy label)
+command_tokens policy schemes (Insert rel key values) = insert_tokens (relation_name schemes rel) key values
 
 abbrev pub event_tokens : Tables → Schemes → Event → List Token
 event_tokens policy schemes e = Word (label_name policy e.level) ∷ Word e.session ∷ command_tokens policy schemes e.command

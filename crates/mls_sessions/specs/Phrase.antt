@@ -1,18 +1,17 @@
 -- The tokens of what the first pass gives: a line whose names are not yet looked up.
-use Rattle.std.specs.Prelude.{◌≡◌, true, ℕ, List, [], ◌∷◌, ◌++◌, Option, Some, None, codes}
+use Rattle.std.specs.Prelude.{◌≡◌, true, ℕ, List, [], ◌∷◌, Option, Some, None}
 use Rattle.mls_lattice.specs.Name.{is_name}
 use Rattle.mls_sessions.specs.declared.phrase.Phrase.{Phrase}
 use Rattle.mls_sessions.specs.declared.phrase.Phrase.TheVariants.{Open, View, Insert}
 use Rattle.mls_sessions.specs.declared.phrase.Sentence.{Sentence}
 use Rattle.mls_sessions.specs.declared.token.Token.{Token}
 use Rattle.mls_sessions.specs.declared.token.Token.TheVariants.{Word}
-use Rattle.mls_sessions.specs.Event.{list_tokens}
+use Rattle.mls_sessions.specs.Event.{open_tokens, view_tokens, insert_tokens}
 
 abbrev pub phrase_tokens : Phrase → List Token
-phrase_tokens (Open user) = Word (codes "open") ∷ Word user.text ∷ []
-phrase_tokens (View rel label) = Word (codes "view") ∷ Word rel.text ∷ Word (codes "at") ∷ Word label.text ∷ []
-phrase_tokens (Insert rel key values) =
-    Word (codes "insert") ∷ Word rel.text ∷ Word (codes "key") ∷ (list_tokens key.items ++ Word (codes "values") ∷ list_tokens values.items)
+phrase_tokens (Open user) = open_tokens user.text
+phrase_tokens (View rel label) = view_tokens rel.text label.text
+phrase_tokens (Insert rel key values) = insert_tokens rel.text key.items values.items
 
 abbrev pub sentence_tokens : Sentence → List Token
 sentence_tokens s = Word s.level.text ∷ Word s.session.text ∷ phrase_tokens s.phrase

@@ -48,3 +48,6 @@ pub fn meet_is_greatest()
 pub fn numbers_are_ordered()
     ensures { IsOrderByNumber }
 {}
+
+#[cfg(test)]
+mod tests;

@@ -4,3 +4,5 @@ pub mod Scanning
 pub mod Event
 pub mod Phrase
 pub mod Script
+pub mod Reply
+pub mod Machine

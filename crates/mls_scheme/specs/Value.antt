@@ -1,5 +1,5 @@
 -- Values, their kinds and their order.
-use Rattle.std.specs.Prelude.{Bool, true, false, Option, None, Some}
+use Rattle.std.specs.Prelude.{Bool, true, false, List, Option, None, Some}
 use Rattle.std.specs.Ordering.{nat_cmp, int_cmp, eq_by_cmp}
 use Rattle.std.specs.declared.cmp.Ordering.{Ordering}
 use Rattle.std.specs.declared.cmp.Ordering.TheVariants.{Less, Greater}

@@ -4,3 +4,6 @@ pub mod Lattice
 pub mod Labels
 pub mod Policy
 pub mod Reading
+pub mod PolicyReading
+pub mod Canon
+pub mod ReadsPolicy

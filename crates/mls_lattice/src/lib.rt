@@ -4,16 +4,21 @@
 ghost use Rattle.mls_lattice.specs.Lattice.{IsOrder, IsLeastUpperBound, IsGreatestLowerBound};
 ghost use Rattle.mls_lattice.specs.Labels.{IsOrderByNumber};
 
+mod canon;
 pub mod document;
 mod fault;
 mod items;
 mod label;
+mod labels;
+mod matrix;
 mod modes;
 mod name;
+mod names;
 mod number;
 mod policy;
 mod tables;
 mod text;
+mod users;
 
 pub use fault::PolicyFault;
 pub use items::Items;

@@ -1,13 +1,10 @@
 -- The canonical text of schemes.
-use Rattle.std.specs.Prelude.{ℕ, List, [], ◌∷◌, ◌++◌, codes, slice_get, option_map, unwrap_or}
+use Rattle.std.specs.Prelude.{ℕ, List, [], ◌∷◌, ◌++◌, codes}
 use Rattle.std.specs.List.{flat_map}
 use Rattle.mls_lattice.specs.Policy.{Name, Tables}
+use Rattle.mls_lattice.specs.Canon.{label_name}
 use Rattle.mls_scheme.specs.Scheme.{Attribute, Scheme, Schemes}
 use Rattle.mls_scheme.specs.Document.{kind_word}
-
--- the name of a label
-abbrev pub label_name : Tables → ℕ → Name
-label_name p label = unwrap_or (option_map (λ l. l.name) (slice_get p.labels label)) []
 
 -- words on a line, with single spaces
 abbrev pub line_of : List Name → List ℕ
@@ -17,7 +14,7 @@ line_of (word ∷ next ∷ words) = word ++ (codes " " ++ line_of (next ∷ word
 
 -- key or attribute, then its name, its kind, and the ends of its interval
 abbrev pub attribute_line : Tables → Name → Attribute → List ℕ
-attribute_line p word a = line_of (word ∷ a.name ∷ kind_word a.kind ∷ label_name p a.low ∷ label_name p a.high ∷ [])
+attribute_line p word a = line_of (word ∷ a.name ∷ kind_word a.kind ∷ label_name p.labels a.low ∷ label_name p.labels a.high ∷ [])
 
 abbrev pub relation_lines : Tables → Scheme → List ℕ
 relation_lines p s =

@@ -11,6 +11,8 @@ mod fits;
 mod number;
 mod reading;
 mod scheme;
+#[cfg(test)]
+mod tests;
 mod tuple;
 mod value;
 

@@ -1,5 +1,5 @@
 -- Attributes, as a list and as the entries of a map.
-use Rattle.std.proofs.Common.{◌≡◌, ℕ, suc, ◌+◌, ◌<◌, Bool, true, false, ◌||◌, List, [], ◌∷◌, ◌++◌, length, map, cond, not, nat_lt, Option, Some, None, is_some, String, string_bytes, refl, sym, ap, ◌∙◌, inl, inr, arith}
+use Rattle.std.proofs.Common.{◌≡◌, ℕ, suc, ◌+◌, Bool, true, false, ◌||◌, List, [], ◌∷◌, ◌++◌, length, map, cond, not, nat_lt, Some, None, is_some, String, string_bytes, refl, sym, ap, ◌∙◌, inl, inr, arith}
 use Rattle.std.specs.List.{position, prefix_len, list_any}
 use Rattle.std.specs.Str.{bytes_eq}
 use Rattle.std.specs.String.{string_eq}

@@ -1,19 +1,18 @@
 -- What the fields say that were read without a fault.
-use Rattle.std.proofs.Common.{◌≡◌, ℕ, suc, ◌<◌, ◌≤◌, Bool, true, false, ◌&&◌, cond, List, [], ◌∷◌, length, codes, ℤ, pos, Option, None, Some, is_some, Result, Ok, Err, refl, sym, ap, ◌∙◌, inl, inr, arith, ok_or, nat_lt, ◌==◌}
+use Rattle.std.proofs.Common.{◌≡◌, ℕ, ◌<◌, ◌≤◌, Bool, true, false, cond, List, [], ◌∷◌, codes, pos, Option, None, Some, is_some, Result, Ok, Err, refl, sym, ap, ◌∙◌, inl, inr, arith, nat_lt, ◌==◌}
 use Rattle.std.specs.Prelude.{◌⊎◌, position}
 use Rattle.std.specs.Str.{bytes_eq}
 use Rattle.std.specs.Ordering.{int_eq}
 use Rattle.std.specs.Cmp.Lexicographic.{bytes_decides}
 use Rattle.std.proofs.lemmas.Bool.{ne_eqb, le-ltb, ltb-false, eqb-false}
 use Rattle.std.proofs.lemmas.Bool.Decides.{Decides-int_eq}
-use Rattle.toml.specs.Data.{Data, string, integer, array, table, Items, no_items, item, Members, get_member, as_str, as_integer, as_array, as_table}
+use Rattle.toml.specs.Data.{Data, string, integer, array, table, Items, no_items, Members, get_member, as_str, as_integer, as_array, as_table}
 use Rattle.mls_lattice.specs.declared.fault.PolicyFault.{PolicyFault}
 use Rattle.mls_lattice.specs.declared.fault.PolicyFault.TheVariants as policy
 use Rattle.mls_lattice.specs.Name.{is_name}
-use Rattle.mls_lattice.specs.Policy.{Name, Tables, Named}
+use Rattle.mls_lattice.specs.Policy.{Name, Tables}
 use Rattle.mls_lattice.specs.Reading.{◌>>=◌, wanted, text_at, integer_at, array_at, table_at, name_at, tables_at, optional, items_len, all_items, at_most, some_of}
 use Rattle.mls_lattice.proofs.ReadingLemmas.{bind_ok, guard_ok, pass_ok, found_ok, string_from_as_str, integer_from_as_integer, array_from_as_array, table_from_as_table}
-use Rattle.mls_scheme.specs.declared.fault.SchemeFault.{SchemeFault}
 use Rattle.mls_scheme.specs.declared.fault.SchemeFault.TheVariants.{WrongKind, UnknownName, NoKey}
 use Rattle.mls_scheme.specs.declared.value.Kind.{Kind}
 use Rattle.mls_scheme.specs.declared.value.Kind.TheVariants.{Int, Text}

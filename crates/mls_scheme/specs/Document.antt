@@ -1,12 +1,12 @@
 -- The schemes that a text says, with no word of how it is read.
-use Rattle.std.specs.Prelude.{◌≡◌, ◌⊎◌, ℕ, ◌<◌, true, pos, List, [], ◌∷◌, length, codes, Option, Some, None, IsUtf8, position}
+use Rattle.std.specs.Prelude.{◌≡◌, ◌⊎◌, ℕ, ◌<◌, true, pos, List, [], ◌∷◌, length, codes, Option, Some, None, position}
 use Rattle.std.specs.List.{AllZip}
 use Rattle.std.specs.Str.{bytes_eq}
 use Rattle.toml.specs.Data.{Data, Items, no_items, item, Members, get_member, string, integer, array, table}
-use Rattle.toml.specs.Parse.{parse_document}
 use Rattle.mls_lattice.specs.Labels.{below}
 use Rattle.mls_lattice.specs.Name.{is_name}
 use Rattle.mls_lattice.specs.Policy.{Name, Tables, labels_of}
+use Rattle.mls_lattice.specs.ReadsPolicy.{IsDocument}
 use Rattle.mls_scheme.specs.declared.value.Kind.{Kind}
 use Rattle.mls_scheme.specs.declared.value.Kind.TheVariants.{Int, Text}
 use Rattle.mls_scheme.specs.Scheme.{Attribute, Scheme, Schemes, IsScheme, AreSchemes}
@@ -58,10 +58,6 @@ pub record Says (p : Tables) (document : Members) (schemes : Schemes) : Type 0 w
   pub relations : AllZip (SaysRelation p) tables schemes
   pub some_relation : 0 < length schemes
   pub valid : AreSchemes schemes
-
--- the bytes are a TOML document
-abbrev pub IsDocument : List ℕ → Members → Type 0
-IsDocument bytes document = IsUtf8 bytes × (parse_document bytes ≡ Some document)
 
 -- the bytes are the text of schemes, under a policy
 abbrev pub ReadsSchemes : Tables → List ℕ → Schemes → Type 0

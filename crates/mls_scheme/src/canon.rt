@@ -2,7 +2,8 @@
 ghost use Rattle.std.specs.Prelude.{◌≡◌, ◌<◌, ◌++◌, length, string_bytes, OnOk};
 ghost use Rattle.std.specs.List.{AllByRecursion, flat_map};
 ghost use Rattle.mls_scheme.specs.Scheme.{IsAmongLabels, IsUnder, AreUnder, attribute_named};
-ghost use Rattle.mls_scheme.specs.Canon.{label_name, attribute_line, relation_lines};
+ghost use Rattle.mls_scheme.specs.Canon.{attribute_line, relation_lines};
+ghost use Rattle.mls_lattice.specs.Canon.{label_name};
 
 use crate::attributes::{Attributes, Column};
 use crate::scheme::Scheme;
@@ -11,7 +12,7 @@ use std::alloc::AllocError;
 
 fn label_name(policy: &Policy, label: LabelNo) -> &str
     requires { label < length policy.now.labels }
-    ensures { result.now ≡ label_name policy.now label }
+    ensures { result.now ≡ label_name policy.now.labels label }
 {
     policy.name(label)
 }

@@ -17,6 +17,8 @@ mod number;
 mod place;
 mod reading;
 mod scheme;
+#[cfg(test)]
+mod tests;
 mod tuple;
 mod value;
 

@@ -1,9 +1,10 @@
 ghost use Rattle.std.specs.Prelude.{◌≡◌, ◌≢◌, ◌↔◌, ◌<◌, List, length, position, Err, IfOk, IfErr, IfSome};
 ghost use Rattle.std.specs.Str.{bytes_eq};
 ghost use Rattle.toml.specs.Data.{Members};
+ghost use Rattle.mls_lattice.specs.ReadsPolicy.{IsDocument};
 ghost use Rattle.mls_scheme.specs.Scheme.{Scheme as Relation, scheme_of, IsScheme, AreSchemes, AreUnder};
 ghost use Rattle.mls_scheme.specs.Reading.{schemes_at};
-ghost use Rattle.mls_scheme.specs.Document.{IsDocument, ReadsSchemes};
+ghost use Rattle.mls_scheme.specs.Document.{ReadsSchemes};
 ghost use Rattle.mls_scheme.specs.Canon.{canon_of};
 
 use crate::attributes::Attributes;

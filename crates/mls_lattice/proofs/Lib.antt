@@ -1,6 +1,9 @@
 pub mod CanonLemmas
 pub mod CategoryLemmas
 pub mod ReadingLemmas
+pub mod ReadsPolicyLemmas
+pub mod SaysLemmas
+pub mod SaysTablesLemmas
 pub mod TablesLemmas
 pub mod LatticeLemmas
 pub mod PolicyLemmas

@@ -6,4 +6,5 @@ pub mod Policy
 pub mod Reading
 pub mod PolicyReading
 pub mod Canon
+pub mod Says
 pub mod ReadsPolicy

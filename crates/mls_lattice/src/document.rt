@@ -14,7 +14,7 @@ pub fn wanted<'a>(table: &'a Table, key: &str) -> Result<&'a Value, PolicyFault>
     ensures reads { Gives (λ v. view v.now) result (wanted key.now (table_view table.now)) }
     ensures toml { IfErr result (λ e. e ≢ PolicyFault.NotToml) }
 {
-    table.get(key).ok_or(PolicyFault::MissingField)
+    field(table, key).ok_or(PolicyFault::MissingField)
 }
 
 /// The value at a key that may be missing.

@@ -3,6 +3,7 @@
 
 ghost use Rattle.mls_lattice.specs.Lattice.{IsOrder, IsLeastUpperBound, IsGreatestLowerBound};
 ghost use Rattle.mls_lattice.specs.Labels.{IsOrderByNumber};
+ghost use Rattle.mls_lattice.specs.ReadsPolicy.{ReadingIsExact, SaysOne};
 
 mod canon;
 pub mod document;
@@ -47,6 +48,16 @@ pub fn meet_is_greatest()
 /// Dominance is an order of the numbers of labels.
 pub fn numbers_are_ordered()
     ensures { IsOrderByNumber }
+{}
+
+/// The reading of a document gives a policy exactly where the document is that policy's.
+pub fn reading_is_exact()
+    ensures { ReadingIsExact }
+{}
+
+/// A document is that of one policy at most.
+pub fn a_document_says_one_policy()
+    ensures { SaysOne }
 {}
 
 #[cfg(test)]

@@ -2,11 +2,11 @@ ghost use Rattle.std.specs.Prelude.{◌≡◌, ◌≢◌, ◌↔◌, ◌<◌, �
 ghost use Rattle.std.specs.Str.{bytes_eq};
 ghost use Rattle.mls_lattice.specs.Lattice.{pair_of};
 ghost use Rattle.mls_lattice.specs.Labels.{label_of, below, AreDistinct};
-ghost use Rattle.mls_lattice.specs.Policy.{labels_of, modes_in};
+ghost use Rattle.mls_lattice.specs.Policy.{Tables, labels_of, modes_in};
 ghost use Rattle.mls_lattice.specs.Canon.{canon_of, lattice_of};
 ghost use Rattle.mls_lattice.specs.Reading.{Gives};
 ghost use Rattle.mls_lattice.specs.PolicyReading.{version_at, levels_at, categories_at, policy_at};
-ghost use Rattle.mls_lattice.specs.ReadsPolicy.{IsDocument, Reads};
+ghost use Rattle.mls_lattice.specs.ReadsPolicy.{IsDocument, ReadsPolicy, HasFault};
 ghost use Rattle.toml.specs.Data.{Members};
 ghost use Rattle.toml.specs.View.{table_view};
 
@@ -57,8 +57,12 @@ impl Policy {
     /// Reads the bytes of a TOML document. NotToml is the answer where they are none, and also where they are not UTF-8;
     /// the other faults come in the order of the fields, as `policy_at` has them. Memory may stand in place of any answer.
     pub fn read(alloc: Global, bytes: &[u8]) -> Result<Policy, PolicyFault>
-        // What is read is what the bytes say, or their first fault.
-        ensures reads { Reads bytes.now result }
+        // What is read is what the bytes say.
+        ensures found { IfOk result (ReadsPolicy bytes.now) }
+        // Nothing that says a policy is refused, unless memory runs out.
+        ensures refused { IfErr result (λ e. e ≢ PolicyFault.Memory → (p : Tables) → ReadsPolicy bytes.now p → ⊥) }
+        // Another fault of a document is its first.
+        ensures first { IfErr result (λ e. e ≢ PolicyFault.Memory → e ≢ PolicyFault.NotToml → HasFault bytes.now e) }
         // NotToml is the answer exactly where the bytes are no document.
         ensures not_toml { IfErr result
             (λ e. e ≢ PolicyFault.Memory → (e ≡ PolicyFault.NotToml) ↔ ((document : Members) → IsDocument bytes.now document → ⊥)) }

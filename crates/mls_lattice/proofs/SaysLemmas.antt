@@ -62,7 +62,7 @@ rows_len R front no_items (row ∷ rows) h = absurd h
 rows_len R front (item d ds) [] h = absurd h
 rows_len R front (item d ds) (row ∷ rows) h = ap suc (rows_len R (front ++ row ∷ []) ds rows h.1)
 
-rows_all : {B : Type 0} (R : List B → Data → B → Type 0) (p : Data → Bool) → ((before : List B) (d : Data) (row : B) → R before d row → p d ≡ true)
+pub rows_all : {B : Type 0} (R : List B → Data → B → Type 0) (p : Data → Bool) → ((before : List B) (d : Data) (row : B) → R before d row → p d ≡ true)
     → (front : List B) (ds : Items) (rows : List B) → Rows R front ds rows → all_items p ds ≡ true
 rows_all R p each front no_items rows h = refl
 rows_all R p each front (item d ds) [] h = absurd h

@@ -1,5 +1,5 @@
 -- Table by table: the rows that reading gives are those that the items say.
-use Rattle.std.proofs.Common.{◌≡◌, ℕ, Bool, true, ◌==◌, List, map, codes, pos, Option, None, Some, is_some, Ok, refl, sym, ap, ◌∙◌, subst, bit_and}
+use Rattle.std.proofs.Common.{◌≡◌, ℕ, Bool, true, ◌==◌, List, [], ◌∷◌, ◌++◌, append_assoc, is_some, false, map, codes, pos, Option, None, Some, Ok, refl, sym, ap, ◌∙◌, subst, bit_and}
 use Rattle.std.specs.Prelude.{position}
 use Rattle.std.specs.Int.RustNames.{bit_or}
 use Rattle.std.specs.List.{list_any}
@@ -7,19 +7,22 @@ use Rattle.std.specs.Str.{bytes_eq}
 use Rattle.std.specs.Ordering.{int_eq}
 use Rattle.std.specs.FinSet as set
 use Rattle.std.proofs.lemmas.Bool.Decides.{Decides-int_eq}
+use Rattle.std.proofs.lemmas.List.{append-nil}
+use Rattle.std.proofs.lemmas.List.Sums.{fold_push}
+use Rattle.std.specs.FinSet.{nat_cmp-IsAntisymmetric}
+use Rattle.std.proofs.lemmas.Cmp.{nat_cmp_total}
 use Rattle.toml.specs.Data.{Data, Items, no_items, item, Members, get_member, integer, array, table, as_str, as_integer, as_table}
 use Rattle.mls_lattice.specs.declared.fault.PolicyFault.TheVariants.{MissingField, WrongKind, Repeated, UnknownName, EmptyInterval}
 use Rattle.mls_lattice.specs.declared.tables.User.{User}
 use Rattle.mls_lattice.specs.declared.tables.Right.{Right}
 use Rattle.mls_lattice.specs.Lattice.{Categories, Pair, same_pair}
 use Rattle.mls_lattice.specs.Labels.{below}
-use Rattle.mls_lattice.specs.Name.{is_name}
 use Rattle.mls_lattice.specs.Policy.{Name, Named, is_entry}
-use Rattle.mls_lattice.specs.Reading.{wanted, text_at, integer_at, table_at, name_at, name_field, all_items, texts_at, optional}
+use Rattle.mls_lattice.specs.Reading.{wanted, text_at, integer_at, table_at, name_at, name_field, texts_at, optional}
 use Rattle.mls_lattice.specs.PolicyReading.{once, place_in, label_place, user_place, version_at, new_name_at, more_categories, value_at, label_at, label_name_at, interval_at, trusted_at, user_at, mode_of, more_modes, right_at}
-use Rattle.mls_lattice.specs.Says.{SaysName, SaysCategories, SaysValue, SaysLabel, SaysPlace, SaysTrusted, SaysUser, SaysModes, SaysRight}
+use Rattle.mls_lattice.specs.Says.{Rows, SaysName, SaysCategory, SaysValue, SaysLabel, SaysPlace, SaysTrusted, SaysUser, SaysMode, together, SaysRight}
 use Rattle.mls_lattice.proofs.ReadingLemmas.{bind_ok, guard_ok, pass_ok, found_ok, string_from_as_str, integer_from_as_integer, table_from_as_table}
-use Rattle.mls_lattice.proofs.SaysLemmas.{ok_same, once_ok, name_found, field_found, field_again, kind_found, optional_found, optional_again}
+use Rattle.mls_lattice.proofs.SaysLemmas.{rows_all, ok_same, once_ok, name_found, field_found, field_again, kind_found, optional_found, optional_again}
 
 is_text : Data → Bool
 is_text d = is_some (as_str d)
@@ -46,23 +49,40 @@ name_kind before d name h = rw h.text refl
 
 -- ---- labels
 
-categories_found : (categories : List Name) (cats : Categories) (ds : Items) (all : Categories) → more_categories categories cats ds ≡ Ok all → SaysCategories categories cats ds all
-categories_found categories cats no_items all e = sym (ok_same cats all (Ok cats) refl e)
-categories_found categories cats (item d ds) all e =
+categories_found : (categories : List Name) (before : List ℕ) (ds : Items) (all : Categories) → more_categories categories (set.from_list before) ds ≡ Ok all
+    → (places : List ℕ) × Rows (SaysCategory categories) before ds places × (all ≡ set.from_list (before ++ places))
+categories_found categories before no_items all e =
+    ([], tt, sym (ok_same (set.from_list before) all (Ok (set.from_list before)) refl e) ∙ ap (λ (ks : List ℕ). set.from_list ks) (sym (append-nil before)))
+categories_found categories before (item d ds) all e =
     let a = bind_ok (name_at d) _ all e in
     let b = bind_ok (place_in categories a.0) _ all a.2 in
-    let c = guard_ok (set.contains cats b.0) Repeated (more_categories categories (set.insert cats b.0) ds) all b.2 in
+    let k = b.0 in
+    let c = guard_ok (set.contains (set.from_list before) k) Repeated (more_categories categories (set.insert (set.from_list before) k) ds) all b.2 in
     let n = name_found d a.0 a.1 in
-    (a.0, b.0, n.0, n.1, found_ok (position (λ other. bytes_eq other a.0) categories) UnknownName b.0 b.1, c.0, categories_found categories (set.insert cats b.0) ds all c.1)
+    let pushed = set.from_list_push nat_cmp_total nat_cmp-IsAntisymmetric before k in
+    let more = categories_found categories (before ++ k ∷ []) ds all (ap (λ s. more_categories categories s ds) pushed ∙ c.1) in
+    let place = found_ok (position (λ other. bytes_eq other a.0) categories) UnknownName k b.1 in (
+      k ∷ more.0,
+      (record { name = a.0; text = n.0; is_name = n.1; place = place; new = sym (set.contains-from_list_nat before k) ∙ c.0 }, more.1),
+      more.2 ∙ ap (λ (ks : List ℕ). set.from_list ks) (append_assoc before (k ∷ []) more.0),
+    )
 
-categories_again : (categories : List Name) (cats : Categories) (ds : Items) (all : Categories) → SaysCategories categories cats ds all → more_categories categories cats ds ≡ Ok all
-categories_again categories cats no_items all h = ap (λ (x : Categories). Ok x) (sym h)
-categories_again categories cats (item d ds) all (name, k, text, is_name, place, new, more) =
-    rw (text, is_name, place, new) (categories_again categories (set.insert cats k) ds all more)
+categories_again : (categories : List Name) (before : List ℕ) (ds : Items) (places : List ℕ) → Rows (SaysCategory categories) before ds places
+    → more_categories categories (set.from_list before) ds ≡ Ok (set.from_list (before ++ places))
+categories_again categories before no_items [] h = ap (λ (ks : List ℕ). Ok (set.from_list ks)) (sym (append-nil before))
+categories_again categories before no_items (k ∷ places) h = absurd h
+categories_again categories before (item d ds) [] h = absurd h
+categories_again categories before (item d ds) (k ∷ places) h =
+    let c = h.0 in
+    let pushed = set.from_list_push nat_cmp_total nat_cmp-IsAntisymmetric before k in
+    let lacks : set.contains (set.from_list before) k ≡ false = set.contains-from_list_nat before k ∙ c.new in
+    rw (c.text, c.is_name, c.place, lacks)
+    (ap (λ s. more_categories categories s ds) (sym pushed)
+    ∙ categories_again categories (before ++ k ∷ []) ds places h.1
+    ∙ ap (λ (ks : List ℕ). Ok (set.from_list ks)) (append_assoc before (k ∷ []) places))
 
-categories_kind : (categories : List Name) (cats : Categories) (ds : Items) (all : Categories) → SaysCategories categories cats ds all → all_items (λ x. is_some (as_str x)) ds ≡ true
-categories_kind categories cats no_items all h = refl
-categories_kind categories cats (item d ds) all (name, k, text, is_name, place, new, more) = rw (text, categories_kind categories (set.insert cats k) ds all more) refl
+category_kind : (categories : List Name) (before : List ℕ) (d : Data) (k : ℕ) → SaysCategory categories before d k → is_some (as_str d) ≡ true
+category_kind categories before d k h = rw h.text refl
 
 value_found : (levels categories : List Name) (fields : Members) (value : Pair) → value_at levels categories fields ≡ Ok value → SaysValue levels categories fields value
 unfolding value_at
@@ -72,6 +92,7 @@ value_found levels categories fields value e =
     let c = bind_ok (optional texts_at (get_member (codes "categories") fields)) _ value b.2 in
     let d = bind_ok (more_categories categories set.empty c.0) _ value c.2 in
     let made : Pair = record { rank = b.0; cats = d.0 } in
+    let cats = categories_found categories [] c.0 d.0 d.1 in
     subst (λ (x : Pair). SaysValue levels categories fields x) (ok_same made value (Ok made) refl d.2)
     (record {
       level = a.0;
@@ -79,13 +100,17 @@ value_found levels categories fields value e =
       rank = found_ok (position (λ other. bytes_eq other a.0) levels) UnknownName b.0 b.1;
       items = c.0;
       has_items = optional_found (λ x. is_some (as_str x)) (codes "categories") fields c.0 c.1;
-      cats = categories_found categories set.empty c.0 d.0 d.1;
+      places = cats.0;
+      says_places = cats.1;
+      cats = cats.2;
     })
 
 value_again : (levels categories : List Name) (fields : Members) (value : Pair) → SaysValue levels categories fields value → value_at levels categories fields ≡ Ok value
 unfolding value_at
 value_again levels categories fields value h =
-    rw (field_again (codes "level") fields h.level h.has_level, h.rank, optional_again (λ x. is_some (as_str x)) (codes "categories") fields h.items h.has_items (categories_kind categories set.empty h.items value.cats h.cats), categories_again categories set.empty h.items value.cats h.cats) refl
+    let kinds = rows_all (SaysCategory categories) (λ x. is_some (as_str x)) (category_kind categories) [] h.items h.places h.says_places in
+    let cats : more_categories categories set.empty h.items ≡ Ok value.cats = categories_again categories [] h.items h.places h.says_places ∙ ap (λ (s : Categories). Ok s) (sym h.cats) in
+    rw (field_again (codes "level") fields h.level h.has_level, h.rank, optional_again (λ x. is_some (as_str x)) (codes "categories") fields h.items h.has_items kinds, cats) refl
 
 pub label_found : (levels categories : List Name) (before : List Named) (d : Data) (l : Named) → label_at levels categories before d ≡ Ok l → SaysLabel levels categories before d l
 unfolding label_at
@@ -180,22 +205,33 @@ user_kind labels before d u h = rw h.is_table refl
 
 -- ---- the matrix
 
-modes_found : (modes : ℕ) (ds : Items) (all : ℕ) → more_modes modes ds ≡ Ok all → SaysModes modes ds all
-modes_found modes no_items all e = sym (ok_same modes all (Ok modes) refl e)
-modes_found modes (item d ds) all e =
+modes_found : (before : List ℕ) (ds : Items) (all : ℕ) → more_modes (together before) ds ≡ Ok all → (modes : List ℕ) × Rows SaysMode before ds modes × (all ≡ together (before ++ modes))
+modes_found before no_items all e =
+    ([], tt, sym (ok_same (together before) all (Ok (together before)) refl e) ∙ ap together (sym (append-nil before)))
+modes_found before (item d ds) all e =
     let a = bind_ok (text_at d) _ all e in
     let b = bind_ok (mode_of a.0) _ all a.2 in
-    let c = guard_ok (bit_and modes b.0 == b.0) Repeated (more_modes (bit_or modes b.0) ds) all b.2 in
-    (a.0, b.0, string_from_as_str d a.0 (found_ok (as_str d) WrongKind a.0 a.1), b.1, c.0, modes_found (bit_or modes b.0) ds all c.1)
+    let m = b.0 in
+    let c = guard_ok (bit_and (together before) m == m) Repeated (more_modes (bit_or (together before) m) ds) all b.2 in
+    let more = modes_found (before ++ m ∷ []) ds all (ap (λ (n : ℕ). more_modes n ds) (fold_push bit_or 0 before m) ∙ c.1) in (
+      m ∷ more.0,
+      (record { word = a.0; text = string_from_as_str d a.0 (found_ok (as_str d) WrongKind a.0 a.1); is_word = b.1; new = c.0 }, more.1),
+      more.2 ∙ ap together (append_assoc before (m ∷ []) more.0),
+    )
 
-modes_again : (modes : ℕ) (ds : Items) (all : ℕ) → SaysModes modes ds all → more_modes modes ds ≡ Ok all
-modes_again modes no_items all h = ap (λ (x : ℕ). Ok x) (sym h)
-modes_again modes (item d ds) all (word, mode, text, is, new, more) =
-    rw (text, is, new) (modes_again (bit_or modes mode) ds all more)
+modes_again : (before : List ℕ) (ds : Items) (modes : List ℕ) → Rows SaysMode before ds modes → more_modes (together before) ds ≡ Ok (together (before ++ modes))
+modes_again before no_items [] h = ap (λ (ms : List ℕ). Ok (together ms)) (sym (append-nil before))
+modes_again before no_items (m ∷ modes) h = absurd h
+modes_again before (item d ds) [] h = absurd h
+modes_again before (item d ds) (m ∷ modes) h =
+    let c = h.0 in
+    rw (c.text, c.is_word, c.new)
+    (ap (λ (n : ℕ). more_modes n ds) (sym (fold_push bit_or 0 before m))
+    ∙ modes_again (before ++ m ∷ []) ds modes h.1
+    ∙ ap (λ (ms : List ℕ). Ok (together ms)) (append_assoc before (m ∷ []) modes))
 
-modes_kind : (modes : ℕ) (ds : Items) (all : ℕ) → SaysModes modes ds all → all_items (λ x. is_some (as_str x)) ds ≡ true
-modes_kind modes no_items all h = refl
-modes_kind modes (item d ds) all (word, mode, text, is, new, more) = rw (text, modes_kind (bit_or modes mode) ds all more) refl
+mode_kind : (before : List ℕ) (d : Data) (mode : ℕ) → SaysMode before d mode → is_some (as_str d) ≡ true
+mode_kind before d mode h = rw h.text refl
 
 pub right_found : (users : List User) (before : List Right) (d : Data) (r : Right) → right_at users before d ≡ Ok r → SaysRight users before d r
 unfolding right_at
@@ -208,6 +244,7 @@ right_found users before d r e =
     let g = bind_ok (texts_at f.0) _ r f.2 in
     let m = bind_ok (more_modes 0 g.0) _ r g.2 in
     let o = bind_ok (once (list_any (is_entry b.0 c.0) before)) _ r m.2 in
+    let modes = modes_found [] g.0 m.0 m.1 in
     let made : Right = record { user = b.0; object = c.0; modes = record { 0 = m.0 } } in
     subst (λ (x : Right). SaysRight users before d x) (ok_same made r (Ok made) refl o.2)
     (record {
@@ -219,14 +256,18 @@ right_found users before d r e =
       object = field_found (codes "object") t.0 c.0 c.1;
       items = g.0;
       has_items = found_ok (get_member (codes "modes") t.0) MissingField f.0 f.1 ∙ ap (λ (x : Data). Some x) (kind_found (λ x. is_some (as_str x)) f.0 g.0 g.1);
-      modes = modes_found 0 g.0 m.0 m.1;
+      modes = modes.0;
+      says_modes = modes.1;
+      all_modes = modes.2;
       new = once_ok _ o.0 o.1;
     })
 
 pub right_again : (users : List User) (before : List Right) (d : Data) (r : Right) → SaysRight users before d r → right_at users before d ≡ Ok r
 unfolding right_at
 right_again users before d r h =
-    rw (h.is_table, field_again (codes "user") h.fields h.name h.has_user, h.user, field_again (codes "object") h.fields r.object h.object, h.has_items, modes_kind 0 h.items r.modes.0 h.modes, modes_again 0 h.items r.modes.0 h.modes, h.new) refl
+    let kinds = rows_all SaysMode (λ x. is_some (as_str x)) mode_kind [] h.items h.modes h.says_modes in
+    let modes : more_modes 0 h.items ≡ Ok r.modes.0 = modes_again [] h.items h.modes h.says_modes ∙ ap (λ (n : ℕ). Ok n) (sym h.all_modes) in
+    rw (h.is_table, field_again (codes "user") h.fields h.name h.has_user, h.user, field_again (codes "object") h.fields r.object h.object, h.has_items, kinds, modes, h.new) refl
 
 pub right_kind : (users : List User) (before : List Right) (d : Data) (r : Right) → SaysRight users before d r → is_some (as_table d) ≡ true
 right_kind users before d r h = rw h.is_table refl

@@ -1,13 +1,13 @@
 -- The document of a policy: how each table stands in it, with no word of how it is read.
-use Rattle.std.specs.Prelude.{◌≡◌, ◌⊎◌, ℕ, pos, ◌<◌, ◌≤◌, true, false, ◌==◌, bit_and, List, [], ◌∷◌, ◌++◌, length, map, codes, Option, Some, None, Ok, position, ⊤}
+use Rattle.std.specs.Prelude.{◌≡◌, ◌⊎◌, ℕ, pos, ◌<◌, ◌≤◌, true, false, ◌==◌, bit_and, List, [], ◌∷◌, ◌++◌, length, map, codes, nat_eq, Option, Some, None, Ok, position, ⊤}
 use Rattle.std.specs.Int.RustNames.{bit_or}
-use Rattle.std.specs.List.{list_any}
+use Rattle.std.specs.List.{list_any, fold}
 use Rattle.std.specs.Str.{bytes_eq}
 use Rattle.std.specs.FinSet as set
 use Rattle.toml.specs.Data.{Data, Items, no_items, item, Members, get_member, string, integer, array, table}
 use Rattle.mls_lattice.specs.declared.tables.User.{User}
 use Rattle.mls_lattice.specs.declared.tables.Right.{Right}
-use Rattle.mls_lattice.specs.Lattice.{Categories, Pair, same_pair}
+use Rattle.mls_lattice.specs.Lattice.{Pair, same_pair}
 use Rattle.mls_lattice.specs.Labels.{below}
 use Rattle.mls_lattice.specs.Name.{is_name}
 use Rattle.mls_lattice.specs.Policy.{Name, Named, Tables, is_entry}
@@ -41,12 +41,13 @@ pub record SaysName (before : List Name) (d : Data) (name : Name) : Type 0 where
 
 -- ---- labels
 
--- the items are names of different declared categories, which with those so far are all
-abbrev pub SaysCategories : List Name → Categories → Items → Categories → Type 0
-SaysCategories categories cats no_items all = all ≡ cats
-SaysCategories categories cats (item d ds) all =
-    (name : Name) × (k : ℕ) × (d ≡ string name) × (is_name name ≡ true) × (position (λ other. bytes_eq other name) categories ≡ Some k)
-    × (set.contains cats k ≡ false) × SaysCategories categories (set.insert cats k) ds all
+-- a name of the declared category with this place, which is none of those before
+pub record SaysCategory (categories : List Name) (before : List ℕ) (d : Data) (k : ℕ) : Type 0 where
+  pub name : Name
+  pub text : d ≡ string name
+  pub is_name : is_name name ≡ true
+  pub place : position (λ other. bytes_eq other name) categories ≡ Some k
+  pub new : list_any (λ other. nat_eq other k) before ≡ false
 
 pub record SaysValue (levels categories : List Name) (fields : Members) (value : Pair) : Type 0 where
   pub level : Name
@@ -54,7 +55,9 @@ pub record SaysValue (levels categories : List Name) (fields : Members) (value :
   pub rank : position (λ other. bytes_eq other level) levels ≡ Some value.rank
   pub items : Items
   pub has_items : MayHaveItems (codes "categories") fields items
-  pub cats : SaysCategories categories set.empty items value.cats
+  pub places : List ℕ
+  pub says_places : Rows (SaysCategory categories) [] items places
+  pub cats : value.cats ≡ set.from_list places
 
 pub record SaysLabel (levels categories : List Name) (before : List Named) (d : Data) (l : Named) : Type 0 where
   pub fields : Members
@@ -92,11 +95,16 @@ pub record SaysUser (labels : List Named) (before : List User) (d : Data) (u : U
 
 -- ---- the matrix
 
--- the items are words of different modes, which with those so far are all
-abbrev pub SaysModes : ℕ → Items → ℕ → Type 0
-SaysModes modes no_items all = all ≡ modes
-SaysModes modes (item d ds) all =
-    (word : List ℕ) × (mode : ℕ) × (d ≡ string word) × (mode_of word ≡ Ok mode) × ((bit_and modes mode == mode) ≡ false) × SaysModes (bit_or modes mode) ds all
+-- the modes of a list together
+abbrev pub together : List ℕ → ℕ
+together modes = fold bit_or 0 modes
+
+-- the word of a mode that those before lack
+pub record SaysMode (before : List ℕ) (d : Data) (mode : ℕ) : Type 0 where
+  pub word : List ℕ
+  pub text : d ≡ string word
+  pub is_word : mode_of word ≡ Ok mode
+  pub new : (bit_and (together before) mode == mode) ≡ false
 
 pub record SaysRight (users : List User) (before : List Right) (d : Data) (r : Right) : Type 0 where
   pub fields : Members
@@ -107,7 +115,9 @@ pub record SaysRight (users : List User) (before : List Right) (d : Data) (r : R
   pub object : HasName (codes "object") fields r.object
   pub items : Items
   pub has_items : HasItems (codes "modes") fields items
-  pub modes : SaysModes 0 items r.modes.0
+  pub modes : List ℕ
+  pub says_modes : Rows SaysMode [] items modes
+  pub all_modes : r.modes.0 ≡ together modes
   pub new : list_any (is_entry r.user r.object) before ≡ false
 
 -- ---- all of it

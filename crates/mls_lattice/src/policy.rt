@@ -74,7 +74,7 @@ impl Policy {
         }
     }
 
-    /// The canonical text: two policies are the same exactly where their texts are. It is no TOML document.
+    /// The canonical text: the form in which policies are compared, which is no TOML document.
     pub fn canon(&self, alloc: Global) -> Result<Vec<u8>, AllocError>
         ensures { IfOk result (λ text. text.items ≡ canon_of self.now) }
     {

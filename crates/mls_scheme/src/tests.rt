@@ -150,145 +150,71 @@ fn names_the_faults_of_documents(rt: HostRuntime) -> Result<(), Fail> {
     Ok(())
 }
 
+/// The number of a fault, and the relations that have it.
+const FAULTS: &str = r#"3 1
+2 []
+3 [1]
+3 [{ name = "A" }, 1]
+2 [{ }]
+3 [{ name = 1 }]
+7 [{ name = "1x" }]
+7 [{ name = "view" }]
+7 [{ name = "abcdefghijklmnopqrstuvwxyzABCDEFG" }]
+10 [{ name = "A" }]
+10 [{ name = "A", key = [] }]
+10 [{ name = "A", attribute = 1 }]
+10 [{ name = "A" }, { name = "1x" }]
+3 [{ name = "A", key = 1 }]
+3 [{ name = "A", key = [1] }]
+3 [{ name = "A", key = [{ }, 1] }]
+6 [{ name = "A", key = [{ }, { }, { }, { }, { }] }]
+2 [{ name = "A", key = [{ }] }]
+3 [{ name = "A", key = [{ name = 1 }] }]
+7 [{ name = "A", key = [{ name = "a-b" }] }]
+7 [{ name = "A", key = [{ name = "a-b" }], attribute = 1 }]
+2 [{ name = "A", key = [{ name = "K" }] }]
+3 [{ name = "A", key = [{ name = "K", kind = 1 }] }]
+5 [{ name = "A", key = [{ name = "K", kind = "bool" }] }]
+2 [{ name = "A", key = [{ name = "K", kind = "int" }] }]
+3 [{ name = "A", key = [{ name = "K", kind = "int", low = 1 }] }]
+7 [{ name = "A", key = [{ name = "K", kind = "int", low = "1x" }] }]
+5 [{ name = "A", key = [{ name = "K", kind = "int", low = "X" }] }]
+2 [{ name = "A", key = [{ name = "K", kind = "int", low = "U" }] }]
+7 [{ name = "A", key = [{ name = "K", kind = "int", low = "U", high = "int" }] }]
+5 [{ name = "A", key = [{ name = "K", kind = "int", low = "U", high = "Z" }] }]
+8 [{ name = "A", key = [{ name = "K", kind = "int", low = "H", high = "U" }] }]
+8 [{ name = "A", key = [{ name = "K", kind = "int", low = "M", high = "S" }] }]
+11 [{ name = "A", key = [{ name = "K", kind = "int", low = "U", high = "H" }, { name = "L", kind = "int", low = "U", high = "S" }] }]
+11 [{ name = "A", key = [{ name = "K", kind = "int", low = "U", high = "H" }, { name = "L", kind = "int", low = "S", high = "H" }] }]
+8 [{ name = "A", key = [{ name = "K", kind = "int", low = "U", high = "H" }, { name = "L", kind = "int", low = "H", high = "U" }] }]
+11 [{ name = "A", key = [{ name = "K", kind = "int", low = "U", high = "H" }, { name = "L", kind = "int", low = "U", high = "S" }, { name = "M", kind = "int", low = "H", high = "U" }] }]
+4 [{ name = "A", key = [{ name = "K", kind = "int", low = "U", high = "H" }, { name = "K", kind = "int", low = "U", high = "H" }] }]
+4 [{ name = "A", key = [{ name = "K", kind = "int", low = "U", high = "H" }, { name = "K", kind = "int", low = "U", high = "S" }] }]
+3 [{ name = "A", key = [{ name = "K", kind = "int", low = "U", high = "H" }], attribute = 1 }]
+3 [{ name = "A", key = [{ name = "K", kind = "int", low = "U", high = "H" }], attribute = [1] }]
+4 [{ name = "A", key = [{ name = "K", kind = "int", low = "U", high = "H" }], attribute = [{ name = "K", kind = "int", low = "U", high = "H" }] }]
+4 [{ name = "A", key = [{ name = "K", kind = "int", low = "U", high = "H" }], attribute = [{ name = "B", kind = "int", low = "U", high = "H" }, { name = "B", kind = "int", low = "U", high = "S" }] }]
+5 [{ name = "A", key = [{ name = "K", kind = "int", low = "U", high = "H" }], attribute = [{ name = "B", kind = "date", low = "U", high = "H" }] }]
+5 [{ name = "A", key = [{ name = "K", kind = "int", low = "U", high = "H" }], attribute = [{ name = "B", kind = "int", low = "S", high = "C" }] }]
+8 [{ name = "A", key = [{ name = "K", kind = "int", low = "U", high = "H" }], attribute = [{ name = "B", kind = "int", low = "S", high = "M" }] }]
+4 [{ name = "A", key = [{ name = "K", kind = "int", low = "U", high = "H" }] }, { name = "A" }]
+10 [{ name = "A", key = [{ name = "K", kind = "int", low = "U", high = "H" }] }, { name = "B" }]
+"#;
+
 #[test]
 fn names_the_faults_of_relations(rt: HostRuntime) -> Result<(), Fail> {
     let policy = Policy::read(rt.alloc(), POLICY.as_bytes())?;
-    let cases = [
-        (r#"1"#, 3),
-        (r#"[]"#, 2),
-        (r#"[1]"#, 3),
-        (r#"[{ name = "A" }, 1]"#, 3),
-        (r#"[{ }]"#, 2),
-        (r#"[{ name = 1 }]"#, 3),
-        (r#"[{ name = "1x" }]"#, 7),
-        (r#"[{ name = "view" }]"#, 7),
-        (r#"[{ name = "abcdefghijklmnopqrstuvwxyzABCDEFG" }]"#, 7),
-        (r#"[{ name = "A" }]"#, 10),
-        (r#"[{ name = "A", key = [] }]"#, 10),
-        (r#"[{ name = "A", attribute = 1 }]"#, 10),
-        (r#"[{ name = "A" }, { name = "1x" }]"#, 10),
-        (r#"[{ name = "A", key = 1 }]"#, 3),
-        (r#"[{ name = "A", key = [1] }]"#, 3),
-        (r#"[{ name = "A", key = [{ }, 1] }]"#, 3),
-        (r#"[{ name = "A", key = [{ }, { }, { }, { }, { }] }]"#, 6),
-        (r#"[{ name = "A", key = [{ }] }]"#, 2),
-        (r#"[{ name = "A", key = [{ name = 1 }] }]"#, 3),
-        (r#"[{ name = "A", key = [{ name = "a-b" }] }]"#, 7),
-        (
-            r#"[{ name = "A", key = [{ name = "a-b" }], attribute = 1 }]"#,
-            7,
-        ),
-        (r#"[{ name = "A", key = [{ name = "K" }] }]"#, 2),
-        (r#"[{ name = "A", key = [{ name = "K", kind = 1 }] }]"#, 3),
-        (
-            r#"[{ name = "A", key = [{ name = "K", kind = "bool" }] }]"#,
-            5,
-        ),
-        (
-            r#"[{ name = "A", key = [{ name = "K", kind = "int" }] }]"#,
-            2,
-        ),
-        (
-            r#"[{ name = "A", key = [{ name = "K", kind = "int", low = 1 }] }]"#,
-            3,
-        ),
-        (
-            r#"[{ name = "A", key = [{ name = "K", kind = "int", low = "1x" }] }]"#,
-            7,
-        ),
-        (
-            r#"[{ name = "A", key = [{ name = "K", kind = "int", low = "X" }] }]"#,
-            5,
-        ),
-        (
-            r#"[{ name = "A", key = [{ name = "K", kind = "int", low = "U" }] }]"#,
-            2,
-        ),
-        (
-            r#"[{ name = "A", key = [{ name = "K", kind = "int", low = "U", high = "int" }] }]"#,
-            7,
-        ),
-        (
-            r#"[{ name = "A", key = [{ name = "K", kind = "int", low = "U", high = "Z" }] }]"#,
-            5,
-        ),
-        (
-            r#"[{ name = "A", key = [{ name = "K", kind = "int", low = "H", high = "U" }] }]"#,
-            8,
-        ),
-        (
-            r#"[{ name = "A", key = [{ name = "K", kind = "int", low = "M", high = "S" }] }]"#,
-            8,
-        ),
-        (
-            r#"[{ name = "A", key = [{ name = "K", kind = "int", low = "U", high = "H" }, { name = "L", kind = "int", low = "U", high = "S" }] }]"#,
-            11,
-        ),
-        (
-            r#"[{ name = "A", key = [{ name = "K", kind = "int", low = "U", high = "H" }, { name = "L", kind = "int", low = "S", high = "H" }] }]"#,
-            11,
-        ),
-        (
-            r#"[{ name = "A", key = [{ name = "K", kind = "int", low = "U", high = "H" }, { name = "L", kind = "int", low = "H", high = "U" }] }]"#,
-            8,
-        ),
-        (
-            r#"[{ name = "A", key = [{ name = "K", kind = "int", low = "U", high = "H" }, { name = "L", kind = "int", low = "U", high = "S" }, { name = "M", kind = "int", low = "H", high = "U" }] }]"#,
-            11,
-        ),
-        (
-            r#"[{ name = "A", key = [{ name = "K", kind = "int", low = "U", high = "H" }, { name = "K", kind = "int", low = "U", high = "H" }] }]"#,
-            4,
-        ),
-        (
-            r#"[{ name = "A", key = [{ name = "K", kind = "int", low = "U", high = "H" }, { name = "K", kind = "int", low = "U", high = "S" }] }]"#,
-            4,
-        ),
-        (
-            r#"[{ name = "A", key = [{ name = "K", kind = "int", low = "U", high = "H" }], attribute = 1 }]"#,
-            3,
-        ),
-        (
-            r#"[{ name = "A", key = [{ name = "K", kind = "int", low = "U", high = "H" }], attribute = [1] }]"#,
-            3,
-        ),
-        (
-            r#"[{ name = "A", key = [{ name = "K", kind = "int", low = "U", high = "H" }], attribute = [{ name = "K", kind = "int", low = "U", high = "H" }] }]"#,
-            4,
-        ),
-        (
-            r#"[{ name = "A", key = [{ name = "K", kind = "int", low = "U", high = "H" }], attribute = [{ name = "B", kind = "int", low = "U", high = "H" }, { name = "B", kind = "int", low = "U", high = "S" }] }]"#,
-            4,
-        ),
-        (
-            r#"[{ name = "A", key = [{ name = "K", kind = "int", low = "U", high = "H" }], attribute = [{ name = "B", kind = "date", low = "U", high = "H" }] }]"#,
-            5,
-        ),
-        (
-            r#"[{ name = "A", key = [{ name = "K", kind = "int", low = "U", high = "H" }], attribute = [{ name = "B", kind = "int", low = "S", high = "C" }] }]"#,
-            5,
-        ),
-        (
-            r#"[{ name = "A", key = [{ name = "K", kind = "int", low = "U", high = "H" }], attribute = [{ name = "B", kind = "int", low = "S", high = "M" }] }]"#,
-            8,
-        ),
-        (
-            r#"[{ name = "A", key = [{ name = "K", kind = "int", low = "U", high = "H" }] }, { name = "A" }]"#,
-            4,
-        ),
-        (
-            r#"[{ name = "A", key = [{ name = "K", kind = "int", low = "U", high = "H" }] }, { name = "B" }]"#,
-            10,
-        ),
-    ];
-    for (relations, want) in cases {
-        let text = format!(in rt.alloc(); "version = 1\nrelation = {relations}\n")?;
-        assert_eq!(rt;
-            fault_of(&rt, &policy, text.as_str()),
-            want,
-            "at {relations}"
-        );
+    let mut count = 0u64;
+    for line in FAULTS.lines() {
+        if let Some((want, relations)) = line.split_once(' ') {
+            let text = format!(in rt.alloc(); "version = 1\nrelation = {relations}\n")?;
+            let fault = fault_of(&rt, &policy, text.as_str());
+            let found = format!(in rt.alloc(); "{fault}")?;
+            assert_eq!(rt; found.as_str(), want, "at {relations}");
+            count = count.saturating_add(1);
+        }
     }
+    assert_eq!(rt; count, 48);
     Ok(())
 }
 

@@ -1,5 +1,6 @@
 use super::*;
 use mls_lattice::{LabelNo, Policy, Str};
+use std::process::Abort;
 use std::test::Fail;
 
 const POLICY: &str = r#"
@@ -72,45 +73,90 @@ fn fault_of(rt: &HostRuntime, policy: &Policy, text: &str) -> u8 {
     }
 }
 
+fn schemes_text() -> &'static str {
+    SCHEMES
+}
+
+fn canon_text() -> &'static str {
+    CANON
+}
+
+fn faults_text() -> &'static str {
+    FAULTS
+}
+
+fn sample_policy(rt: &HostRuntime) -> Result<Policy, Fail> {
+    Ok(Policy::read(rt.alloc(), POLICY.as_bytes())?)
+}
+
+fn canon_of(rt: &HostRuntime, policy: &Policy, text: &str) -> Result<Vec<u8>, Fail> {
+    let schemes = Schemes::read(rt.alloc(), policy, text.as_bytes())?;
+    Ok(schemes.canon(rt.alloc(), policy)?)
+}
+
 #[test]
 fn reads_and_prints(rt: HostRuntime) -> Result<(), Fail> {
-    let policy = Policy::read(rt.alloc(), POLICY.as_bytes())?;
-    let schemes = Schemes::read(rt.alloc(), &policy, SCHEMES.as_bytes())?;
-    let text = schemes.canon(rt.alloc(), &policy)?;
-    assert_eq!(rt; text.as_slice(), CANON.as_bytes());
+    let policy = sample_policy(&rt)?;
+    let text = canon_of(&rt, &policy, schemes_text())?;
+    assert!(rt; text.as_slice() == canon_text().as_bytes());
+    Ok(())
+}
+
+fn scheme_at<'a>(rt: &impl Abort, schemes: &'a Schemes, rel: RelNo) -> &'a Scheme {
+    assert!(rt; rel.index() < schemes.count());
+    schemes.scheme(rel)
+}
+
+/// Whether an attribute has this name, kind and interval.
+fn is_attribute(
+    rt: &impl Abort,
+    attributes: &Attributes,
+    place: usize,
+    name: &str,
+    column: Column,
+) -> bool {
+    assert!(rt; place < attributes.len());
+    attributes.name(place) == name && attributes.get(place) == column
+}
+
+fn column(kind: Kind, low: u8, high: u8) -> Column {
+    Column {
+        kind,
+        low: LabelNo::new(low),
+        high: LabelNo::new(high),
+    }
+}
+
+#[test]
+fn finds_relations(rt: HostRuntime) -> Result<(), Fail> {
+    let policy = sample_policy(&rt)?;
+    let schemes = Schemes::read(rt.alloc(), &policy, schemes_text().as_bytes())?;
+    assert!(rt; schemes.count() == 2);
+    assert!(rt; schemes.relation("SOD") == Some(RelNo::new(0)));
+    assert!(rt; schemes.relation("CREW") == Some(RelNo::new(1)));
+    assert!(rt; schemes.relation("sod").is_none());
     Ok(())
 }
 
 #[test]
-fn finds_relations_and_attributes(rt: HostRuntime) -> Result<(), Fail> {
-    let policy = Policy::read(rt.alloc(), POLICY.as_bytes())?;
-    let schemes = Schemes::read(rt.alloc(), &policy, SCHEMES.as_bytes())?;
-    assert_eq!(rt; schemes.count(), 2);
-    assert_eq!(rt; schemes.relation("SOD"), Some(RelNo::new(0)));
-    assert_eq!(rt; schemes.relation("CREW"), Some(RelNo::new(1)));
-    assert_eq!(rt; schemes.relation("sod"), None);
-    let scheme = schemes.scheme(RelNo::new(1));
-    assert_eq!(rt; scheme.name(), "CREW");
+fn finds_attributes(rt: HostRuntime) -> Result<(), Fail> {
+    let policy = sample_policy(&rt)?;
+    let schemes = Schemes::read(rt.alloc(), &policy, schemes_text().as_bytes())?;
+    let scheme = scheme_at(&rt, &schemes, RelNo::new(1));
     let keys = scheme.keys();
-    assert_eq!(rt; keys.len(), 1);
-    assert_eq!(rt; keys.name(0), "Id");
-    assert_eq!(rt; keys.get(0).kind, Kind::Int);
     let others = scheme.others();
-    assert_eq!(rt; others.len(), 1);
-    assert_eq!(rt; others.place("Post"), Some(0));
-    assert_eq!(rt; others.place("Id"), None);
-    assert!(rt; others.has("Post"));
-    assert!(rt; !others.is_empty());
-    let column = others.get(0);
-    assert_eq!(rt; column.kind, Kind::Text);
-    assert_eq!(rt; column.low, LabelNo::new(0));
-    assert_eq!(rt; column.high, LabelNo::new(2));
+    assert!(rt; scheme.name() == "CREW");
+    assert!(rt; keys.len() == 1 && others.len() == 1 && !others.is_empty());
+    assert!(rt; is_attribute(&rt, keys, 0, "Id", column(Kind::Int, 0, 0)));
+    assert!(rt; is_attribute(&rt, others, 0, "Post", column(Kind::Text, 0, 2)));
+    assert!(rt; others.has("Post") && !others.has("Id"));
+    assert!(rt; others.place("Post") == Some(0));
     Ok(())
 }
 
 #[test]
 fn tells_what_fits(rt: HostRuntime) -> Result<(), Fail> {
-    let policy = Policy::read(rt.alloc(), POLICY.as_bytes())?;
+    let policy = sample_policy(&rt)?;
     assert_eq!(rt; policy.label_count(), 4);
     let column = Column {
         kind: Kind::Text,
@@ -131,7 +177,7 @@ fn tells_what_fits(rt: HostRuntime) -> Result<(), Fail> {
 
 #[test]
 fn names_the_faults_of_documents(rt: HostRuntime) -> Result<(), Fail> {
-    let policy = Policy::read(rt.alloc(), POLICY.as_bytes())?;
+    let policy = sample_policy(&rt)?;
     let cases = [
         ("version = ", 1),
         ("", 2),
@@ -150,145 +196,71 @@ fn names_the_faults_of_documents(rt: HostRuntime) -> Result<(), Fail> {
     Ok(())
 }
 
+/// The number of a fault, and the relations that have it.
+const FAULTS: &str = r#"3 1
+2 []
+3 [1]
+3 [{ name = "A" }, 1]
+2 [{ }]
+3 [{ name = 1 }]
+7 [{ name = "1x" }]
+7 [{ name = "view" }]
+7 [{ name = "abcdefghijklmnopqrstuvwxyzABCDEFG" }]
+10 [{ name = "A" }]
+10 [{ name = "A", key = [] }]
+10 [{ name = "A", attribute = 1 }]
+10 [{ name = "A" }, { name = "1x" }]
+3 [{ name = "A", key = 1 }]
+3 [{ name = "A", key = [1] }]
+3 [{ name = "A", key = [{ }, 1] }]
+6 [{ name = "A", key = [{ }, { }, { }, { }, { }] }]
+2 [{ name = "A", key = [{ }] }]
+3 [{ name = "A", key = [{ name = 1 }] }]
+7 [{ name = "A", key = [{ name = "a-b" }] }]
+7 [{ name = "A", key = [{ name = "a-b" }], attribute = 1 }]
+2 [{ name = "A", key = [{ name = "K" }] }]
+3 [{ name = "A", key = [{ name = "K", kind = 1 }] }]
+5 [{ name = "A", key = [{ name = "K", kind = "bool" }] }]
+2 [{ name = "A", key = [{ name = "K", kind = "int" }] }]
+3 [{ name = "A", key = [{ name = "K", kind = "int", low = 1 }] }]
+7 [{ name = "A", key = [{ name = "K", kind = "int", low = "1x" }] }]
+5 [{ name = "A", key = [{ name = "K", kind = "int", low = "X" }] }]
+2 [{ name = "A", key = [{ name = "K", kind = "int", low = "U" }] }]
+7 [{ name = "A", key = [{ name = "K", kind = "int", low = "U", high = "int" }] }]
+5 [{ name = "A", key = [{ name = "K", kind = "int", low = "U", high = "Z" }] }]
+8 [{ name = "A", key = [{ name = "K", kind = "int", low = "H", high = "U" }] }]
+8 [{ name = "A", key = [{ name = "K", kind = "int", low = "M", high = "S" }] }]
+11 [{ name = "A", key = [{ name = "K", kind = "int", low = "U", high = "H" }, { name = "L", kind = "int", low = "U", high = "S" }] }]
+11 [{ name = "A", key = [{ name = "K", kind = "int", low = "U", high = "H" }, { name = "L", kind = "int", low = "S", high = "H" }] }]
+8 [{ name = "A", key = [{ name = "K", kind = "int", low = "U", high = "H" }, { name = "L", kind = "int", low = "H", high = "U" }] }]
+11 [{ name = "A", key = [{ name = "K", kind = "int", low = "U", high = "H" }, { name = "L", kind = "int", low = "U", high = "S" }, { name = "M", kind = "int", low = "H", high = "U" }] }]
+4 [{ name = "A", key = [{ name = "K", kind = "int", low = "U", high = "H" }, { name = "K", kind = "int", low = "U", high = "H" }] }]
+4 [{ name = "A", key = [{ name = "K", kind = "int", low = "U", high = "H" }, { name = "K", kind = "int", low = "U", high = "S" }] }]
+3 [{ name = "A", key = [{ name = "K", kind = "int", low = "U", high = "H" }], attribute = 1 }]
+3 [{ name = "A", key = [{ name = "K", kind = "int", low = "U", high = "H" }], attribute = [1] }]
+4 [{ name = "A", key = [{ name = "K", kind = "int", low = "U", high = "H" }], attribute = [{ name = "K", kind = "int", low = "U", high = "H" }] }]
+4 [{ name = "A", key = [{ name = "K", kind = "int", low = "U", high = "H" }], attribute = [{ name = "B", kind = "int", low = "U", high = "H" }, { name = "B", kind = "int", low = "U", high = "S" }] }]
+5 [{ name = "A", key = [{ name = "K", kind = "int", low = "U", high = "H" }], attribute = [{ name = "B", kind = "date", low = "U", high = "H" }] }]
+5 [{ name = "A", key = [{ name = "K", kind = "int", low = "U", high = "H" }], attribute = [{ name = "B", kind = "int", low = "S", high = "C" }] }]
+8 [{ name = "A", key = [{ name = "K", kind = "int", low = "U", high = "H" }], attribute = [{ name = "B", kind = "int", low = "S", high = "M" }] }]
+4 [{ name = "A", key = [{ name = "K", kind = "int", low = "U", high = "H" }] }, { name = "A" }]
+10 [{ name = "A", key = [{ name = "K", kind = "int", low = "U", high = "H" }] }, { name = "B" }]
+"#;
+
 #[test]
 fn names_the_faults_of_relations(rt: HostRuntime) -> Result<(), Fail> {
-    let policy = Policy::read(rt.alloc(), POLICY.as_bytes())?;
-    let cases = [
-        (r#"1"#, 3),
-        (r#"[]"#, 2),
-        (r#"[1]"#, 3),
-        (r#"[{ name = "A" }, 1]"#, 3),
-        (r#"[{ }]"#, 2),
-        (r#"[{ name = 1 }]"#, 3),
-        (r#"[{ name = "1x" }]"#, 7),
-        (r#"[{ name = "view" }]"#, 7),
-        (r#"[{ name = "abcdefghijklmnopqrstuvwxyzABCDEFG" }]"#, 7),
-        (r#"[{ name = "A" }]"#, 10),
-        (r#"[{ name = "A", key = [] }]"#, 10),
-        (r#"[{ name = "A", attribute = 1 }]"#, 10),
-        (r#"[{ name = "A" }, { name = "1x" }]"#, 10),
-        (r#"[{ name = "A", key = 1 }]"#, 3),
-        (r#"[{ name = "A", key = [1] }]"#, 3),
-        (r#"[{ name = "A", key = [{ }, 1] }]"#, 3),
-        (r#"[{ name = "A", key = [{ }, { }, { }, { }, { }] }]"#, 6),
-        (r#"[{ name = "A", key = [{ }] }]"#, 2),
-        (r#"[{ name = "A", key = [{ name = 1 }] }]"#, 3),
-        (r#"[{ name = "A", key = [{ name = "a-b" }] }]"#, 7),
-        (
-            r#"[{ name = "A", key = [{ name = "a-b" }], attribute = 1 }]"#,
-            7,
-        ),
-        (r#"[{ name = "A", key = [{ name = "K" }] }]"#, 2),
-        (r#"[{ name = "A", key = [{ name = "K", kind = 1 }] }]"#, 3),
-        (
-            r#"[{ name = "A", key = [{ name = "K", kind = "bool" }] }]"#,
-            5,
-        ),
-        (
-            r#"[{ name = "A", key = [{ name = "K", kind = "int" }] }]"#,
-            2,
-        ),
-        (
-            r#"[{ name = "A", key = [{ name = "K", kind = "int", low = 1 }] }]"#,
-            3,
-        ),
-        (
-            r#"[{ name = "A", key = [{ name = "K", kind = "int", low = "1x" }] }]"#,
-            7,
-        ),
-        (
-            r#"[{ name = "A", key = [{ name = "K", kind = "int", low = "X" }] }]"#,
-            5,
-        ),
-        (
-            r#"[{ name = "A", key = [{ name = "K", kind = "int", low = "U" }] }]"#,
-            2,
-        ),
-        (
-            r#"[{ name = "A", key = [{ name = "K", kind = "int", low = "U", high = "int" }] }]"#,
-            7,
-        ),
-        (
-            r#"[{ name = "A", key = [{ name = "K", kind = "int", low = "U", high = "Z" }] }]"#,
-            5,
-        ),
-        (
-            r#"[{ name = "A", key = [{ name = "K", kind = "int", low = "H", high = "U" }] }]"#,
-            8,
-        ),
-        (
-            r#"[{ name = "A", key = [{ name = "K", kind = "int", low = "M", high = "S" }] }]"#,
-            8,
-        ),
-        (
-            r#"[{ name = "A", key = [{ name = "K", kind = "int", low = "U", high = "H" }, { name = "L", kind = "int", low = "U", high = "S" }] }]"#,
-            11,
-        ),
-        (
-            r#"[{ name = "A", key = [{ name = "K", kind = "int", low = "U", high = "H" }, { name = "L", kind = "int", low = "S", high = "H" }] }]"#,
-            11,
-        ),
-        (
-            r#"[{ name = "A", key = [{ name = "K", kind = "int", low = "U", high = "H" }, { name = "L", kind = "int", low = "H", high = "U" }] }]"#,
-            8,
-        ),
-        (
-            r#"[{ name = "A", key = [{ name = "K", kind = "int", low = "U", high = "H" }, { name = "L", kind = "int", low = "U", high = "S" }, { name = "M", kind = "int", low = "H", high = "U" }] }]"#,
-            11,
-        ),
-        (
-            r#"[{ name = "A", key = [{ name = "K", kind = "int", low = "U", high = "H" }, { name = "K", kind = "int", low = "U", high = "H" }] }]"#,
-            4,
-        ),
-        (
-            r#"[{ name = "A", key = [{ name = "K", kind = "int", low = "U", high = "H" }, { name = "K", kind = "int", low = "U", high = "S" }] }]"#,
-            4,
-        ),
-        (
-            r#"[{ name = "A", key = [{ name = "K", kind = "int", low = "U", high = "H" }], attribute = 1 }]"#,
-            3,
-        ),
-        (
-            r#"[{ name = "A", key = [{ name = "K", kind = "int", low = "U", high = "H" }], attribute = [1] }]"#,
-            3,
-        ),
-        (
-            r#"[{ name = "A", key = [{ name = "K", kind = "int", low = "U", high = "H" }], attribute = [{ name = "K", kind = "int", low = "U", high = "H" }] }]"#,
-            4,
-        ),
-        (
-            r#"[{ name = "A", key = [{ name = "K", kind = "int", low = "U", high = "H" }], attribute = [{ name = "B", kind = "int", low = "U", high = "H" }, { name = "B", kind = "int", low = "U", high = "S" }] }]"#,
-            4,
-        ),
-        (
-            r#"[{ name = "A", key = [{ name = "K", kind = "int", low = "U", high = "H" }], attribute = [{ name = "B", kind = "date", low = "U", high = "H" }] }]"#,
-            5,
-        ),
-        (
-            r#"[{ name = "A", key = [{ name = "K", kind = "int", low = "U", high = "H" }], attribute = [{ name = "B", kind = "int", low = "S", high = "C" }] }]"#,
-            5,
-        ),
-        (
-            r#"[{ name = "A", key = [{ name = "K", kind = "int", low = "U", high = "H" }], attribute = [{ name = "B", kind = "int", low = "S", high = "M" }] }]"#,
-            8,
-        ),
-        (
-            r#"[{ name = "A", key = [{ name = "K", kind = "int", low = "U", high = "H" }] }, { name = "A" }]"#,
-            4,
-        ),
-        (
-            r#"[{ name = "A", key = [{ name = "K", kind = "int", low = "U", high = "H" }] }, { name = "B" }]"#,
-            10,
-        ),
-    ];
-    for (relations, want) in cases {
-        let text = format!(in rt.alloc(); "version = 1\nrelation = {relations}\n")?;
-        assert_eq!(rt;
-            fault_of(&rt, &policy, text.as_str()),
-            want,
-            "at {relations}"
-        );
+    let policy = sample_policy(&rt)?;
+    let mut count = 0u64;
+    for line in faults_text().lines() {
+        if let Some((want, relations)) = line.split_once(' ') {
+            let text = format!(in rt.alloc(); "version = 1\nrelation = {relations}\n")?;
+            let fault = fault_of(&rt, &policy, text.as_str());
+            let found = format!(in rt.alloc(); "{fault}")?;
+            assert_eq!(rt; found.as_str(), want, "at {relations}");
+            count = count.saturating_add(1);
+        }
     }
+    assert_eq!(rt; count, 48);
     Ok(())
 }
 
@@ -311,7 +283,7 @@ fn many(rt: &HostRuntime, relations: u8, keys: u8, others: u8) -> Result<String,
 
 #[test]
 fn keeps_the_limits(rt: HostRuntime) -> Result<(), Fail> {
-    let policy = Policy::read(rt.alloc(), POLICY.as_bytes())?;
+    let policy = sample_policy(&rt)?;
     let cases = [
         (16, 4, 15, 0),
         (1, 1, 0, 0),

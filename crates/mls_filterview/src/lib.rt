@@ -5,6 +5,7 @@ mod assembly;
 mod base;
 mod fragment;
 mod laws;
+mod view;
 
 pub use base::{Base, BaseFault, abandon};
 pub use fragment::{Cell, Fragment, Node};

@@ -70,11 +70,7 @@ fn value_at(values: &Values, spot: &(Place, usize)) -> Result<Option<Value>, All
 }
 
 /// The elements of a node's tuple.
-fn elements_of(
-    alloc: Global,
-    values: &Values,
-    node: &Node,
-) -> Result<Items<Element>, AllocError>
+fn elements_of(alloc: Global, values: &Values, node: &Node) -> Result<Items<Element>, AllocError>
     ensures { IfOk result (λ elements. elements ≡ elements_of (get spot_cmp values.now) node.now) }
 {
     let place = Place {
@@ -88,7 +84,10 @@ fn elements_of(
         spot.0.class = *class;
         spot.1 = attr;
         let value = value_at(values, &spot)?;
-        elements.push(Element { value, class: *class })?;
+        elements.push(Element {
+            value,
+            class: *class,
+        })?;
     }
     Ok(Items::from(elements))
 }

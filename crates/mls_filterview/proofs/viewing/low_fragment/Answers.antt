@@ -1,11 +1,11 @@
-use Rattle.std.proofs.Common.{◌≡◌, ◌∙◌, sym, ap, subst, rules, arith, false, true}
+use Rattle.std.proofs.Common.{◌∙◌, sym, ap, subst, arith}
 use Rattle.mls_lattice.specs.Labels.{below}
 use Rattle.mls_lattice.specs.Policy.{labels_of}
 use Rattle.mls_filterview.specs.Content.{State}
 use Rattle.mls_filterview.specs.Fragment.{IsFragment}
 use Rattle.mls_filterview.specs.Assembly.{AreLow}
 use Rattle.mls_filterview.proofs.FragmentLemmas.{low_same, low_more}
-use Rattle.mls_filterview.proofs.view.low_fragment.Goals as goal
+use Rattle.mls_filterview.proofs.viewing.low_fragment.Goals as goal
 
 pub loop-number-preserved-then-not-dominates : goal.loop-number-preserved-then-not-dominates
 loop-number-preserved-then-not-dominates g c = record {

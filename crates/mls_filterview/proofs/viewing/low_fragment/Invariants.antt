@@ -1,7 +1,7 @@
 use Rattle.std.proofs.Common.{◌≡◌, ◌≤◌}
 use Rattle.mls_lattice.specs.Policy.{labels_of}
 use Rattle.mls_filterview.specs.Assembly.{AreLow}
-use Rattle.mls_filterview.proofs.view.low_fragment.Given as goal
+use Rattle.mls_filterview.proofs.viewing.low_fragment.Given as goal
 
 abbrev pub invariant-loop-number : goal.invariant-loop-number
 invariant-loop-number g l =

@@ -1,5 +1,5 @@
 -- The tuples shown of a map of rows are the rows of the table.
-use Rattle.std.proofs.Common.{◌≡◌, ℕ, Bool, true, false, cond, List, [], ◌∷◌, length, map, Option, Some, refl, sym, ap, ◌∙◌}
+use Rattle.std.proofs.Common.{◌≡◌, ℕ, Bool, true, false, cond, List, [], ◌∷◌, length, map, Option, Some, refl, sym, ap, ◌∙◌, subst}
 use Rattle.std.specs.Prelude.{◌↔◌}
 use Rattle.std.specs.List.{filter, AllByRecursion}
 use Rattle.std.specs.List.Sorted.{IsStrictlySortedBy}
@@ -11,19 +11,20 @@ use Rattle.std.specs.FinMap.{find, is_sorted}
 use Rattle.std.specs.FinMap.Entries.{below_all}
 use Rattle.std.proofs.lemmas.Bool.{and_from, false_from_ne_true, false≢true}
 use Rattle.std.proofs.lemmas.Map.Keys.{sorted_head, sorted_tail}
-use Rattle.mls_lattice.specs.Labels.{Labels}
+use Rattle.mls_lattice.specs.Labels.{Labels, AreDistinct}
 use Rattle.mls_scheme.specs.declared.value.Value.{Value}
+use Rattle.mls_scheme.specs.declared.tuple.Tuple.{Tuple}
 use Rattle.mls_scheme.specs.declared.place.Place.{Place}
-use Rattle.mls_scheme.specs.Table.{place_cmp, Table, tuple_at}
+use Rattle.mls_scheme.specs.Table.{place_cmp, Table, IsIn, tuple_at}
 use Rattle.mls_scheme.proofs.OrderLemmas.{is_place, is_place-true, is_place-same}
 use Rattle.mls_filterview.specs.declared.fragment.Node.{Node}
 use Rattle.mls_filterview.specs.declared.fragment.Cell.{Cell}
 use Rattle.mls_filterview.specs.Subsumption.{is_max_among}
-use Rattle.mls_filterview.specs.View.{rows, IsAmong}
+use Rattle.mls_filterview.specs.View.{View, rows, IsAmong, AreInOrder}
 use Rattle.mls_filterview.specs.Stored.{with_class, IsStored}
 use Rattle.mls_filterview.specs.Assembly.{Spot, AreValues, AreRows, AreLow}
 use Rattle.mls_filterview.proofs.EntryLemmas.{Entry, found_in, among_found, so_from}
-use Rattle.mls_filterview.proofs.RowLemmas.{rows-listed}
+use Rattle.mls_filterview.proofs.RowLemmas.{rows-listed, rows_are_the_view}
 use Rattle.mls_filterview.proofs.AssemblyLemmas.{rows_low}
 
 -- ---- places of one entity
@@ -63,3 +64,10 @@ shown_rows ls n T c ns ds look es stored low values s found =
     rows-listed ls c T es (sorted_keys es s) (λ e.
     let r = rows_low ls n T stored c (length ls) ns ds low (λ f g. let st = stored f.0 f.1 g in st.declared f.0.class st.own) look values (λ q. lookup (is_at (place_cmp q)) es) found e in
     ((λ i. r.0 ((in_map es s e).0 i)), (λ h. (in_map es s e).1 (r.1 h))))
+
+-- so they are just the tuples of the view, each once, in the order of places
+pub shown_view : (ls : Labels) → AreDistinct ls → (n : ℕ) (T : Table) → IsStored ls n T → (c : ℕ) (ts : List Tuple) → ts ≡ rows ls c T → (t : Tuple) → IsAmong t ts ↔ View ls (IsIn T) c t
+shown_view ls distinct n T stored c ts same t = subst (λ xs. IsAmong t xs ↔ View ls (IsIn T) c t) (sym same) ((rows_are_the_view ls distinct n T stored c).0 t)
+
+pub shown_order : (ls : Labels) → AreDistinct ls → (n : ℕ) (T : Table) → IsStored ls n T → (c : ℕ) (ts : List Tuple) → ts ≡ rows ls c T → AreInOrder T ts
+shown_order ls distinct n T stored c ts same = subst (AreInOrder T) (sym same) (rows_are_the_view ls distinct n T stored c).1

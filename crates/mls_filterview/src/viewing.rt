@@ -1,13 +1,13 @@
 //! What a level sees of a relation, read from the fragments of the labels that it dominates.
-ghost use Rattle.std.specs.Prelude.{◌≡◌, ◌⊎◌, ◌<◌, ◌≤◌, ◌&&◌, not, ℕ, length, map, IfOk, IfErr, IsErrOf, OnOk};
+ghost use Rattle.std.specs.Prelude.{◌≡◌, ◌↔◌, ◌⊎◌, ◌<◌, ◌≤◌, ◌&&◌, not, ℕ, length, map, IfOk, IfErr, IsErrOf, OnOk};
 ghost use Rattle.std.specs.List.{filter, list_any};
 ghost use Rattle.std.specs.Ordering.{eq_by_cmp};
-ghost use Rattle.mls_lattice.specs.Labels.{Labels};
+ghost use Rattle.mls_lattice.specs.Labels.{Labels, AreDistinct};
 ghost use Rattle.mls_lattice.specs.Policy.{labels_of};
 ghost use Rattle.mls_scheme.specs.Table.{place_cmp, Table, IsIn, tuple_at};
 ghost use Rattle.mls_scheme.specs.declared.tuple.Tuple.{Tuple as SpecTuple};
 ghost use Rattle.mls_filterview.specs.Subsumption.{subsumes_entry, is_max_among};
-ghost use Rattle.mls_filterview.specs.View.{View, rows, IsAmong};
+ghost use Rattle.mls_filterview.specs.View.{View, rows, IsAmong, AreInOrder};
 ghost use Rattle.mls_filterview.specs.Stored.{with_class, IsStored};
 ghost use Rattle.mls_filterview.specs.Content.{after, failed};
 ghost use Rattle.mls_filterview.specs.Assembly.{AreLow};
@@ -32,6 +32,7 @@ fn low_fragment<B: Base>(
     label: LabelNo,
 ) -> Result<Fragment, BaseFault>
     requires { label < length policy.now.labels }
+    ensures distinct { AreDistinct (labels_of policy.now) }
     ensures clean { B.is_clean base.new → B.is_clean base.old }
     ensures count { B.failures base.old ≤ B.failures base.new }
     ensures store { IsErrOf result BaseFault.Store → B.failures base.old < B.failures base.new }
@@ -132,6 +133,7 @@ fn read_view<B: Base>(
 ) -> Result<Vec<Tuple>, BaseFault>
     requires label { label < length policy.now.labels }
     requires stored { B.is_clean base.old → (n : ℕ) × IsStored (labels_of policy.now) n ((B.state base.old).now.db rel) }
+    ensures distinct { AreDistinct (labels_of policy.now) }
     ensures clean { B.is_clean base.new → B.is_clean base.old }
     ensures count { B.failures base.old ≤ B.failures base.new }
     ensures store { IsErrOf result BaseFault.Store → B.failures base.old < B.failures base.new }
@@ -162,6 +164,8 @@ pub fn view<B: Base>(
     ensures store { IsErrOf result BaseFault.Store → B.failures base.old < B.failures base.new }
     ensures no_other { IfErr result (λ e. (e ≡ BaseFault.NotBegun → ⊥) × (e ≡ BaseFault.Begun → ⊥)) }
     ensures rows { B.is_clean base.new → IfOk result (λ v. v.items ≡ rows (labels_of policy.now) label ((B.state base.old).now.db rel)) }
+    ensures seen { B.is_clean base.new → IfOk result (λ v. (t : SpecTuple) → IsAmong t v.items ↔ View (labels_of policy.now) (IsIn ((B.state base.old).now.db rel)) label t) }
+    ensures ordered { B.is_clean base.new → IfOk result (λ v. AreInOrder ((B.state base.old).now.db rel) v.items) }
     ensures same { B.is_clean base.new → OnOk result (B.state base.new ≡ B.state base.old) }
     ensures failed { B.is_clean base.new → IfErr result (λ e. B.state base.new ≡ after e (B.state base.old)) }
 {

@@ -1,0 +1,288 @@
+-- Table by table: the rows that reading gives are those that the items say.
+use Rattle.std.proofs.Common.{◌≡◌, ℕ, Bool, true, ◌==◌, List, [], ◌∷◌, ◌++◌, append_assoc, is_some, false, map, codes, pos, Option, None, Some, Ok, refl, sym, ap, ◌∙◌, subst, bit_and}
+use Rattle.std.specs.Prelude.{position}
+use Rattle.std.specs.Int.RustNames.{bit_or}
+use Rattle.std.specs.List.{list_any}
+use Rattle.std.specs.Str.{bytes_eq}
+use Rattle.std.specs.Ordering.{int_eq}
+use Rattle.std.specs.FinSet as set
+use Rattle.std.proofs.lemmas.Bool.Decides.{Decides-int_eq}
+use Rattle.std.proofs.lemmas.List.{append-nil}
+use Rattle.std.proofs.lemmas.List.Sums.{fold_push}
+use Rattle.std.specs.FinSet.{nat_cmp-IsAntisymmetric}
+use Rattle.std.proofs.lemmas.Cmp.{nat_cmp_total}
+use Rattle.toml.specs.Data.{Data, Items, no_items, item, Members, get_member, integer, array, table, as_str, as_integer, as_table}
+use Rattle.mls_lattice.specs.declared.fault.PolicyFault.TheVariants.{MissingField, WrongKind, Repeated, UnknownName, EmptyInterval}
+use Rattle.mls_lattice.specs.declared.tables.User.{User}
+use Rattle.mls_lattice.specs.declared.tables.Right.{Right}
+use Rattle.mls_lattice.specs.Lattice.{Categories, Pair, same_pair}
+use Rattle.mls_lattice.specs.Labels.{below}
+use Rattle.mls_lattice.specs.Policy.{Name, Named, is_entry}
+use Rattle.mls_lattice.specs.Reading.{wanted, text_at, integer_at, table_at, name_at, name_field, texts_at, optional}
+use Rattle.mls_lattice.specs.PolicyReading.{once, place_in, label_place, user_place, version_at, new_name_at, more_categories, value_at, label_at, label_name_at, interval_at, trusted_at, user_at, mode_of, more_modes, right_at}
+use Rattle.mls_lattice.specs.Says.{Rows, SaysName, SaysCategory, SaysValue, SaysLabel, SaysPlace, SaysTrusted, SaysUser, SaysMode, together, SaysRight}
+use Rattle.mls_lattice.proofs.ReadingLemmas.{bind_ok, guard_ok, pass_ok, found_ok, string_from_as_str, integer_from_as_integer, table_from_as_table}
+use Rattle.mls_lattice.proofs.SaysLemmas.{rows_all, ok_same, once_ok, name_found, field_found, field_again, kind_found, optional_found, optional_again}
+
+is_text : Data → Bool
+is_text d = is_some (as_str d)
+
+table_found : (d : Data) (fields : Members) → table_at d ≡ Ok fields → d ≡ table fields
+table_found d fields e = table_from_as_table d fields (found_ok (as_table d) WrongKind fields e)
+
+-- ---- names
+
+pub new_name_found : (before : List Name) (d : Data) (name : Name) → new_name_at before d ≡ Ok name → SaysName before d name
+unfolding new_name_at
+new_name_found before d name e =
+    let a = bind_ok (name_at d) _ name e in
+    let b = bind_ok (once (list_any (bytes_eq a.0) before)) _ name a.2 in
+    let n = name_found d a.0 a.1 in
+    subst (λ (x : Name). SaysName before d x) (ok_same a.0 name (Ok a.0) refl b.2) (record { text = n.0; is_name = n.1; new = once_ok _ b.0 b.1 })
+
+pub new_name_again : (before : List Name) (d : Data) (name : Name) → SaysName before d name → new_name_at before d ≡ Ok name
+unfolding new_name_at
+new_name_again before d name h = rw (h.text, h.is_name, h.new) refl
+
+pub name_kind : (before : List Name) (d : Data) (name : Name) → SaysName before d name → is_some (as_str d) ≡ true
+name_kind before d name h = rw h.text refl
+
+-- ---- labels
+
+categories_found : (categories : List Name) (before : List ℕ) (ds : Items) (all : Categories) → more_categories categories (set.from_list before) ds ≡ Ok all
+    → (places : List ℕ) × Rows (SaysCategory categories) before ds places × (all ≡ set.from_list (before ++ places))
+categories_found categories before no_items all e =
+    ([], tt, sym (ok_same (set.from_list before) all (Ok (set.from_list before)) refl e) ∙ ap (λ (ks : List ℕ). set.from_list ks) (sym (append-nil before)))
+categories_found categories before (item d ds) all e =
+    let a = bind_ok (name_at d) _ all e in
+    let b = bind_ok (place_in categories a.0) _ all a.2 in
+    let k = b.0 in
+    let c = guard_ok (set.contains (set.from_list before) k) Repeated (more_categories categories (set.insert (set.from_list before) k) ds) all b.2 in
+    let n = name_found d a.0 a.1 in
+    let pushed = set.from_list_push nat_cmp_total nat_cmp-IsAntisymmetric before k in
+    let more = categories_found categories (before ++ k ∷ []) ds all (ap (λ s. more_categories categories s ds) pushed ∙ c.1) in
+    let place = found_ok (position (λ other. bytes_eq other a.0) categories) UnknownName k b.1 in (
+      k ∷ more.0,
+      (record { name = a.0; text = n.0; is_name = n.1; place = place; new = sym (set.contains-from_list_nat before k) ∙ c.0 }, more.1),
+      more.2 ∙ ap (λ (ks : List ℕ). set.from_list ks) (append_assoc before (k ∷ []) more.0),
+    )
+
+categories_again : (categories : List Name) (before : List ℕ) (ds : Items) (places : List ℕ) → Rows (SaysCategory categories) before ds places
+    → more_categories categories (set.from_list before) ds ≡ Ok (set.from_list (before ++ places))
+categories_again categories before no_items [] h = ap (λ (ks : List ℕ). Ok (set.from_list ks)) (sym (append-nil before))
+categories_again categories before no_items (k ∷ places) h = absurd h
+categories_again categories before (item d ds) [] h = absurd h
+categories_again categories before (item d ds) (k ∷ places) h =
+    let c = h.0 in
+    let pushed = set.from_list_push nat_cmp_total nat_cmp-IsAntisymmetric before k in
+    let lacks : set.contains (set.from_list before) k ≡ false = set.contains-from_list_nat before k ∙ c.new in
+    rw (c.text, c.is_name, c.place, lacks)
+    (ap (λ s. more_categories categories s ds) (sym pushed)
+    ∙ categories_again categories (before ++ k ∷ []) ds places h.1
+    ∙ ap (λ (ks : List ℕ). Ok (set.from_list ks)) (append_assoc before (k ∷ []) places))
+
+category_kind : (categories : List Name) (before : List ℕ) (d : Data) (k : ℕ) → SaysCategory categories before d k → is_some (as_str d) ≡ true
+category_kind categories before d k h = rw h.text refl
+
+value_found : (levels categories : List Name) (fields : Members) (value : Pair) → value_at levels categories fields ≡ Ok value → SaysValue levels categories fields value
+unfolding value_at
+value_found levels categories fields value e =
+    let a = bind_ok (name_field (codes "level") fields) _ value e in
+    let b = bind_ok (place_in levels a.0) _ value a.2 in
+    let c = bind_ok (optional texts_at (get_member (codes "categories") fields)) _ value b.2 in
+    let d = bind_ok (more_categories categories set.empty c.0) _ value c.2 in
+    let made : Pair = record { rank = b.0; cats = d.0 } in
+    let cats = categories_found categories [] c.0 d.0 d.1 in
+    subst (λ (x : Pair). SaysValue levels categories fields x) (ok_same made value (Ok made) refl d.2)
+    (record {
+      level = a.0;
+      has_level = field_found (codes "level") fields a.0 a.1;
+      rank = found_ok (position (λ other. bytes_eq other a.0) levels) UnknownName b.0 b.1;
+      items = c.0;
+      has_items = optional_found (λ x. is_some (as_str x)) (codes "categories") fields c.0 c.1;
+      places = cats.0;
+      says_places = cats.1;
+      cats = cats.2;
+    })
+
+value_again : (levels categories : List Name) (fields : Members) (value : Pair) → SaysValue levels categories fields value → value_at levels categories fields ≡ Ok value
+unfolding value_at
+value_again levels categories fields value h =
+    let kinds = rows_all (SaysCategory categories) (λ x. is_some (as_str x)) (category_kind categories) [] h.items h.places h.says_places in
+    let cats : more_categories categories set.empty h.items ≡ Ok value.cats = categories_again categories [] h.items h.places h.says_places ∙ ap (λ (s : Categories). Ok s) (sym h.cats) in
+    rw (field_again (codes "level") fields h.level h.has_level, h.rank, optional_again (λ x. is_some (as_str x)) (codes "categories") fields h.items h.has_items kinds, cats) refl
+
+pub label_found : (levels categories : List Name) (before : List Named) (d : Data) (l : Named) → label_at levels categories before d ≡ Ok l → SaysLabel levels categories before d l
+unfolding label_at
+label_found levels categories before d l e =
+    let t = bind_ok (table_at d) _ l e in
+    let a = bind_ok (name_field (codes "name") t.0) _ l t.2 in
+    let b = bind_ok (once (list_any (λ other. bytes_eq other.name a.0) before)) _ l a.2 in
+    let c = bind_ok (value_at levels categories t.0) _ l b.2 in
+    let f = bind_ok (once (list_any (λ other. same_pair other.value c.0) before)) _ l c.2 in
+    let made : Named = record { name = a.0; value = c.0 } in
+    subst (λ (x : Named). SaysLabel levels categories before d x) (ok_same made l (Ok made) refl f.2)
+    (record {
+      fields = t.0;
+      is_table = table_found d t.0 t.1;
+      name = field_found (codes "name") t.0 a.0 a.1;
+      new_name = once_ok _ b.0 b.1;
+      value = value_found levels categories t.0 c.0 c.1;
+      new_value = once_ok _ f.0 f.1;
+    })
+
+pub label_again : (levels categories : List Name) (before : List Named) (d : Data) (l : Named) → SaysLabel levels categories before d l → label_at levels categories before d ≡ Ok l
+unfolding label_at
+label_again levels categories before d l h =
+    rw (h.is_table, field_again (codes "name") h.fields l.name h.name, h.new_name, value_again levels categories h.fields l.value h.value, h.new_value) refl
+
+pub label_kind : (levels categories : List Name) (before : List Named) (d : Data) (l : Named) → SaysLabel levels categories before d l → is_some (as_table d) ≡ true
+label_kind levels categories before d l h = rw h.is_table refl
+
+-- ---- users
+
+place_found : (labels : List Named) (d : Data) (k : ℕ) → label_name_at labels d ≡ Ok k → SaysPlace labels d k
+place_found labels d k e =
+    let a = bind_ok (name_at d) _ k e in
+    let n = name_found d a.0 a.1 in
+    record { name = a.0; text = n.0; is_name = n.1; place = found_ok (position (λ l. bytes_eq l.name a.0) labels) UnknownName k a.2 }
+
+place_again : (labels : List Named) (d : Data) (k : ℕ) → SaysPlace labels d k → label_name_at labels d ≡ Ok k
+place_again labels d k h = rw (h.text, h.is_name, h.place) refl
+
+trusted_found : (labels : List Named) (field : Option Data) (o : Option (ℕ × ℕ)) → trusted_at labels field ≡ Ok o → SaysTrusted labels field o
+trusted_found labels None o e = subst (λ (x : Option (ℕ × ℕ)). SaysTrusted labels None x) (ok_same None o (Ok None) refl e) refl
+trusted_found labels (Some d) o e =
+    let a = bind_ok (texts_at d) (interval_at labels) o e in
+    let is : d ≡ array a.0 = kind_found (λ x. is_some (as_str x)) d a.0 a.1 in
+    subst (λ (x : Data). SaysTrusted labels (Some x) o) (sym is) (go a.0 a.2)
+  where
+    go : (ds : Items) → interval_at labels ds ≡ Ok o → SaysTrusted labels (Some (array ds)) o
+    go no_items e = absurd cc
+    go (item low no_items) e = absurd cc
+    go (item low (item high no_items)) e =
+        let l = bind_ok (label_name_at labels low) _ o e in
+        let h = bind_ok (label_name_at labels high) _ o l.2 in
+        let t = pass_ok (below (map (λ x. x.value) labels) l.0 h.0) EmptyInterval (Ok (Some (l.0, h.0))) o h.2 in
+        subst (λ (x : Option (ℕ × ℕ)). SaysTrusted labels (Some (array (item low (item high no_items)))) x) (ok_same (Some (l.0, h.0)) o (Ok (Some (l.0, h.0))) refl t.1)
+        (low, high, refl, place_found labels low l.0 l.1, place_found labels high h.0 h.1, t.0)
+    go (item low (item high (item more ds))) e = absurd cc
+
+trusted_again : (labels : List Named) (field : Option Data) (o : Option (ℕ × ℕ)) → SaysTrusted labels field o → trusted_at labels field ≡ Ok o
+trusted_again labels field None h = rw h refl
+trusted_again labels field (Some i) (low, high, is, l, h, order) =
+    rw (is, l.text, h.text, l.is_name, h.is_name, l.place, h.place, order) refl
+
+pub user_found : (labels : List Named) (before : List User) (d : Data) (u : User) → user_at labels before d ≡ Ok u → SaysUser labels before d u
+unfolding user_at
+user_found labels before d u e =
+    let t = bind_ok (table_at d) _ u e in
+    let a = bind_ok (name_field (codes "name") t.0) _ u t.2 in
+    let b = bind_ok (once (list_any (λ other. bytes_eq other.name a.0) before)) _ u a.2 in
+    let c = bind_ok (name_field (codes "clearance") t.0) _ u b.2 in
+    let f = bind_ok (label_place labels c.0) _ u c.2 in
+    let g = bind_ok (trusted_at labels (get_member (codes "trusted") t.0)) _ u f.2 in
+    let made : User = record { name = a.0; clearance = f.0; trusted = g.0 } in
+    subst (λ (x : User). SaysUser labels before d x) (ok_same made u (Ok made) refl g.2)
+    (record {
+      fields = t.0;
+      is_table = table_found d t.0 t.1;
+      name = field_found (codes "name") t.0 a.0 a.1;
+      new_name = once_ok _ b.0 b.1;
+      cleared = c.0;
+      has_clearance = field_found (codes "clearance") t.0 c.0 c.1;
+      clearance = found_ok (position (λ l. bytes_eq l.name c.0) labels) UnknownName f.0 f.1;
+      trusted = trusted_found labels (get_member (codes "trusted") t.0) g.0 g.1;
+    })
+
+pub user_again : (labels : List Named) (before : List User) (d : Data) (u : User) → SaysUser labels before d u → user_at labels before d ≡ Ok u
+unfolding user_at
+user_again labels before d u h =
+    rw (h.is_table, field_again (codes "name") h.fields u.name h.name, h.new_name, field_again (codes "clearance") h.fields h.cleared h.has_clearance, h.clearance, trusted_again labels (get_member (codes "trusted") h.fields) u.trusted h.trusted) refl
+
+pub user_kind : (labels : List Named) (before : List User) (d : Data) (u : User) → SaysUser labels before d u → is_some (as_table d) ≡ true
+user_kind labels before d u h = rw h.is_table refl
+
+-- ---- the matrix
+
+modes_found : (before : List ℕ) (ds : Items) (all : ℕ) → more_modes (together before) ds ≡ Ok all → (modes : List ℕ) × Rows SaysMode before ds modes × (all ≡ together (before ++ modes))
+modes_found before no_items all e =
+    ([], tt, sym (ok_same (together before) all (Ok (together before)) refl e) ∙ ap together (sym (append-nil before)))
+modes_found before (item d ds) all e =
+    let a = bind_ok (text_at d) _ all e in
+    let b = bind_ok (mode_of a.0) _ all a.2 in
+    let m = b.0 in
+    let c = guard_ok (bit_and (together before) m == m) Repeated (more_modes (bit_or (together before) m) ds) all b.2 in
+    let more = modes_found (before ++ m ∷ []) ds all (ap (λ (n : ℕ). more_modes n ds) (fold_push bit_or 0 before m) ∙ c.1) in (
+      m ∷ more.0,
+      (record { word = a.0; text = string_from_as_str d a.0 (found_ok (as_str d) WrongKind a.0 a.1); is_word = b.1; new = c.0 }, more.1),
+      more.2 ∙ ap together (append_assoc before (m ∷ []) more.0),
+    )
+
+modes_again : (before : List ℕ) (ds : Items) (modes : List ℕ) → Rows SaysMode before ds modes → more_modes (together before) ds ≡ Ok (together (before ++ modes))
+modes_again before no_items [] h = ap (λ (ms : List ℕ). Ok (together ms)) (sym (append-nil before))
+modes_again before no_items (m ∷ modes) h = absurd h
+modes_again before (item d ds) [] h = absurd h
+modes_again before (item d ds) (m ∷ modes) h =
+    let c = h.0 in
+    rw (c.text, c.is_word, c.new)
+    (ap (λ (n : ℕ). more_modes n ds) (sym (fold_push bit_or 0 before m))
+    ∙ modes_again (before ++ m ∷ []) ds modes h.1
+    ∙ ap (λ (ms : List ℕ). Ok (together ms)) (append_assoc before (m ∷ []) modes))
+
+mode_kind : (before : List ℕ) (d : Data) (mode : ℕ) → SaysMode before d mode → is_some (as_str d) ≡ true
+mode_kind before d mode h = rw h.text refl
+
+pub right_found : (users : List User) (before : List Right) (d : Data) (r : Right) → right_at users before d ≡ Ok r → SaysRight users before d r
+unfolding right_at
+right_found users before d r e =
+    let t = bind_ok (table_at d) _ r e in
+    let a = bind_ok (name_field (codes "user") t.0) _ r t.2 in
+    let b = bind_ok (user_place users a.0) _ r a.2 in
+    let c = bind_ok (name_field (codes "object") t.0) _ r b.2 in
+    let f = bind_ok (wanted (codes "modes") t.0) _ r c.2 in
+    let g = bind_ok (texts_at f.0) _ r f.2 in
+    let m = bind_ok (more_modes 0 g.0) _ r g.2 in
+    let o = bind_ok (once (list_any (is_entry b.0 c.0) before)) _ r m.2 in
+    let modes = modes_found [] g.0 m.0 m.1 in
+    let made : Right = record { user = b.0; object = c.0; modes = record { 0 = m.0 } } in
+    subst (λ (x : Right). SaysRight users before d x) (ok_same made r (Ok made) refl o.2)
+    (record {
+      fields = t.0;
+      is_table = table_found d t.0 t.1;
+      name = a.0;
+      has_user = field_found (codes "user") t.0 a.0 a.1;
+      user = found_ok (position (λ u. bytes_eq u.name a.0) users) UnknownName b.0 b.1;
+      object = field_found (codes "object") t.0 c.0 c.1;
+      items = g.0;
+      has_items = found_ok (get_member (codes "modes") t.0) MissingField f.0 f.1 ∙ ap (λ (x : Data). Some x) (kind_found (λ x. is_some (as_str x)) f.0 g.0 g.1);
+      modes = modes.0;
+      says_modes = modes.1;
+      all_modes = modes.2;
+      new = once_ok _ o.0 o.1;
+    })
+
+pub right_again : (users : List User) (before : List Right) (d : Data) (r : Right) → SaysRight users before d r → right_at users before d ≡ Ok r
+unfolding right_at
+right_again users before d r h =
+    let kinds = rows_all SaysMode (λ x. is_some (as_str x)) mode_kind [] h.items h.modes h.says_modes in
+    let modes : more_modes 0 h.items ≡ Ok r.modes.0 = modes_again [] h.items h.modes h.says_modes ∙ ap (λ (n : ℕ). Ok n) (sym h.all_modes) in
+    rw (h.is_table, field_again (codes "user") h.fields h.name h.has_user, h.user, field_again (codes "object") h.fields r.object h.object, h.has_items, kinds, modes, h.new) refl
+
+pub right_kind : (users : List User) (before : List Right) (d : Data) (r : Right) → SaysRight users before d r → is_some (as_table d) ≡ true
+right_kind users before d r h = rw h.is_table refl
+
+-- ---- all of it
+
+pub version_found : (document : Members) (u : Unit {0}) → version_at document ≡ Ok u → get_member (codes "version") document ≡ Some (integer (pos 1))
+unfolding version_at
+version_found document u e =
+    let a = bind_ok (wanted (codes "version") document) _ u e in
+    let b = bind_ok (integer_at a.0) _ u a.2 in
+    let c = pass_ok (int_eq b.0 (pos 1)) WrongKind (Ok tt) u b.2 in
+    found_ok (get_member (codes "version") document) MissingField a.0 a.1
+    ∙ ap (λ (d : Data). Some d) (integer_from_as_integer a.0 b.0 (found_ok (as_integer a.0) WrongKind b.0 b.1) ∙ ap integer ((Decides-int_eq b.0 (pos 1)).0 c.0))
+
+pub version_again : (document : Members) → get_member (codes "version") document ≡ Some (integer (pos 1)) → version_at document ≡ Ok tt
+unfolding version_at
+version_again document e = rw e refl

@@ -1,6 +1,6 @@
 -- The laws of views and of the stored form.
-use Rattle.std.specs.Prelude.{◌≡◌, ℕ, ◌<◌, true, length, ◌↔◌, List, map, Some, IsTrue}
-use Rattle.std.specs.List.{AllByRecursion, filter}
+use Rattle.std.specs.Prelude.{◌≡◌, ℕ, ◌<◌, true, length, ◌↔◌, List, map, Some}
+use Rattle.std.specs.List.{filter}
 use Rattle.std.specs.FinMap.{get, is_sorted}
 use Rattle.mls_lattice.specs.Labels.{Labels, label_of, below, AreDistinct}
 use Rattle.mls_scheme.specs.declared.tuple.Element.{Element}
@@ -9,7 +9,7 @@ use Rattle.mls_scheme.specs.Tuple.{tuple_class}
 use Rattle.mls_scheme.specs.Table.{place_cmp, Table, Has, IsIn, tuple_at}
 use Rattle.mls_scheme.specs.declared.place.Place.{Place}
 use Rattle.mls_filterview.specs.Subsumption.{IsMax, is_max_among}
-use Rattle.mls_filterview.specs.View.{View, low, rows, IsAmong}
+use Rattle.mls_filterview.specs.View.{View, low, rows, IsAmong, AreInOrder}
 use Rattle.mls_filterview.specs.Stored.{IsStored}
 use Rattle.mls_filterview.specs.Integrity.{HasIntegrity}
 
@@ -38,7 +38,7 @@ abbrev pub RowsAreTheView : Type 0
 RowsAreTheView =
     (ls : Labels) → AreDistinct ls → (n : ℕ) (T : Table) → IsStored ls n T → (c : ℕ)
     → ((t : Tuple) → IsAmong t (rows ls c T) ↔ View ls (IsIn T) c t)
-    × ((es : List (Place × List Element)) × (rows ls c T ≡ map (λ e. tuple_at e.0 e.1) es) × IsTrue (is_sorted place_cmp es) × AllByRecursion (λ e. get T e.0 ≡ Some e.1) es)
+    × AreInOrder T (rows ls c T)
 
 -- the rows may be computed from any list in order of just the tuples of classes that c dominates
 abbrev pub RowsComeFromLow : Type 0

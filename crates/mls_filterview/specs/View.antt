@@ -1,11 +1,12 @@
 -- What a level sees of a relation (Jajodia and Sandhu 1991).
-use Rattle.std.specs.Prelude.{◌≡◌, ℕ, Bool, true, if◌then◌else◌, List, [], ◌∷◌, map, None, ◌⊎◌}
-use Rattle.std.specs.List.{filter}
-use Rattle.std.specs.FinMap.{entries, retain_keys}
+use Rattle.std.specs.Prelude.{◌≡◌, ℕ, true, if◌then◌else◌, List, [], ◌∷◌, map, Some, None, ◌⊎◌, IsTrue}
+use Rattle.std.specs.List.{AllByRecursion, filter}
+use Rattle.std.specs.FinMap.{get, entries, retain_keys, is_sorted}
 use Rattle.mls_lattice.specs.Labels.{Labels, below}
 use Rattle.mls_scheme.specs.declared.tuple.Element.{Element}
 use Rattle.mls_scheme.specs.declared.tuple.Tuple.{Tuple}
-use Rattle.mls_scheme.specs.Table.{Table, tuple_at}
+use Rattle.mls_scheme.specs.Table.{place_cmp, Table, tuple_at}
+use Rattle.mls_scheme.specs.declared.place.Place.{Place}
 use Rattle.mls_filterview.specs.Subsumption.{IsMax, is_max_among}
 
 -- what c sees of an element: null at the key class where c does not dominate its class
@@ -36,3 +37,7 @@ rows ls c T = let es = entries (low ls c T) in map (λ e. tuple_at e.0 e.1) (fil
 abbrev pub IsAmong : {A : Type 0} → A → List A → Type 0
 IsAmong x [] = ⊥
 IsAmong x (y ∷ ys) = (x ≡ y) ⊎ IsAmong x ys
+
+-- the tuples stand in the table, each at another place, in the order of places
+abbrev pub AreInOrder : Table → List Tuple → Type 0
+AreInOrder T ts = (es : List (Place × List Element)) × (ts ≡ map (λ e. tuple_at e.0 e.1) es) × IsTrue (is_sorted place_cmp es) × AllByRecursion (λ e. get T e.0 ≡ Some e.1) es

@@ -1,5 +1,6 @@
 pub mod LowLemmas
 pub mod SubsumptionLemmas
+pub mod SubsumptionSteps
 pub mod ViewLemmas
 pub mod TopLemmas
 pub mod ClassLemmas
@@ -9,3 +10,5 @@ pub mod AmongLemmas
 pub mod EntryLemmas
 pub mod RowLemmas
 pub mod SampleLemmas
+pub mod ArrangeLemmas
+pub mod FilterLemmas

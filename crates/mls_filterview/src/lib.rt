@@ -3,12 +3,17 @@
 
 mod assembly;
 mod base;
+mod filtering;
 mod fragment;
 mod laws;
+mod row;
+mod subsumption;
 
 pub use base::{Base, BaseFault};
+pub use filtering::filter;
 pub use fragment::{Cell, Fragment, Node};
 pub use laws::{
     rows_are_the_view, rows_come_from_low, stored_has_integrity, view_is_max_of_low,
     view_tells_low, views_and_low_agree,
 };
+pub use subsumption::subsumes;

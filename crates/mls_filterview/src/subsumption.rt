@@ -1,0 +1,51 @@
+//! Subsumption (Jajodia and Sandhu 1991).
+ghost use Rattle.std.specs.Prelude.{◌≡◌, ◌↔◌, IsTrue};
+ghost use Rattle.mls_filterview.specs.Subsumption.{covers, all_cover, Subsumes};
+ghost use Rattle.mls_filterview.specs.Filtering.{subsumes_tuple};
+
+use mls_scheme::{Element, Tuple, same_key};
+
+/// Whether the first tuple says all that the second one says.
+pub fn subsumes(left: &Tuple, right: &Tuple) -> bool
+    ensures { IsTrue result ↔ Subsumes left.now right.now }
+{
+    says_all(left, right)
+}
+
+/// Whether the first tuple subsumes the second one.
+#[tactic(auto, using(crate::proofs::SubsumptionSteps::entity_steps))]
+pub(crate) fn says_all(left: &Tuple, right: &Tuple) -> bool
+    ensures { result ≡ subsumes_tuple left.now right.now }
+{
+    if left.key_class != right.key_class {
+        return false;
+    }
+    if !same_key(&left.key, &right.key) {
+        return false;
+    }
+    all_cover(&left.elements, &right.elements)
+}
+
+#[tactic(auto, using(crate::proofs::SubsumptionSteps::uneven))]
+fn all_cover(left: &[Element], right: &[Element]) -> bool
+    ensures { result ≡ all_cover left.now right.now }
+{
+    if left.len() != right.len() {
+        return false;
+    }
+    for (i, element) in left.iter().enumerate() {
+        if !covers(element, &right[i]) {
+            return false;
+        }
+    }
+    true
+}
+
+fn covers(left: &Element, right: &Element) -> bool
+    ensures { result ≡ covers left.now right.now }
+{
+    if left.same(right) {
+        return true;
+    }
+    !left.is_null() && right.is_null()
+}

@@ -1,6 +1,8 @@
 -- Membership in lists.
-use Rattle.std.proofs.Common.{◌≡◌, Bool, true, false, cond, List, [], ◌∷◌, map, refl, sym, ap, ◌∙◌, inl, inr}
-use Rattle.std.specs.List.{filter, list_any, AllByRecursion}
+use Rattle.std.proofs.Common.{◌≡◌, zero, suc, Bool, true, false, cond, List, [], ◌∷◌, ◌++◌, map, refl, sym, ap, subst, ◌∙◌, inl, inr, arith}
+use Rattle.std.specs.Prelude.{◌⊎◌, ◌↔◌, IsPermutation, Contains}
+use Rattle.std.specs.List.{filter, list_any, flat_map, AllByRecursion}
+use Rattle.std.proofs.lemmas.List.Sorted.{Contains-permutation, IsPermutation-sym}
 use Rattle.std.proofs.lemmas.Bool.{true≢false, or_parts, or_from}
 use Rattle.mls_filterview.specs.View.{IsAmong}
 
@@ -42,3 +44,51 @@ all_none p (y ∷ xs) h = or_from _ _ (h y (inl refl)) (all_none p xs (λ x i. h
 pub each_among : {A : Type 0} (P : A → Type 0) (xs : List A) → ((x : A) → IsAmong x xs → P x) → AllByRecursion P xs
 each_among P [] h = tt
 each_among P (x ∷ xs) h = (h x (inl refl), each_among P xs (λ y i. h y (inr i)))
+
+-- ---- appending, and the membership of std
+
+pub among_append : {A : Type 0} (xs ys : List A) (x : A) → IsAmong x (xs ++ ys) → IsAmong x xs ⊎ IsAmong x ys
+among_append [] ys x h = inr h
+among_append (z ∷ xs) ys x (inl e) = inl (inl e)
+among_append (z ∷ xs) ys x (inr h) = elim (among_append xs ys x h) [ inl k ↦ inl (inr k) | inr k ↦ inr k ]
+
+pub among_left : {A : Type 0} (xs ys : List A) (x : A) → IsAmong x xs → IsAmong x (xs ++ ys)
+among_left [] ys x h = absurd h
+among_left (z ∷ xs) ys x (inl e) = inl e
+among_left (z ∷ xs) ys x (inr h) = inr (among_left xs ys x h)
+
+pub among_right : {A : Type 0} (xs ys : List A) (x : A) → IsAmong x ys → IsAmong x (xs ++ ys)
+among_right [] ys x h = h
+among_right (z ∷ xs) ys x h = inr (among_right xs ys x h)
+
+pub among_push : {A : Type 0} (xs : List A) (y x : A) → IsAmong x (xs ++ y ∷ []) → IsAmong x xs ⊎ (x ≡ y)
+among_push xs y x h = elim (among_append xs (y ∷ []) x h) [ inl k ↦ inl k | inr k ↦ elim k [ inl e ↦ inr e | inr n ↦ absurd n ] ]
+
+pub push_last : {A : Type 0} (xs : List A) (y : A) → IsAmong y (xs ++ y ∷ [])
+push_last xs y = among_right xs (y ∷ []) y (inl refl)
+
+to_contains : {A : Type 0} (xs : List A) (x : A) → IsAmong x xs → Contains xs x
+to_contains [] x h = absurd h
+to_contains (y ∷ xs) x (inl e) = (0, omega arith, sym e)
+to_contains (y ∷ xs) x (inr h) = let r = to_contains xs x h in (suc r.0, omega arith, r.2)
+
+from_contains : {A : Type 0} (xs : List A) (x : A) → Contains xs x → IsAmong x xs
+from_contains [] x h = absurd (omega arith)
+from_contains (y ∷ xs) x (zero, l, e) = inl (sym e)
+from_contains (y ∷ xs) x (suc k, l, e) = inr (from_contains xs x (k, omega arith, e))
+
+pub among_permutation : {A : Type 0} (xs ys : List A) → IsPermutation xs ys → (x : A) → IsAmong x xs ↔ IsAmong x ys
+among_permutation xs ys p x = (
+  (λ h. from_contains ys x (Contains-permutation xs ys x p (to_contains xs x h))),
+  (λ h. from_contains xs x (Contains-permutation ys xs x (IsPermutation-sym xs ys p) (to_contains ys x h))),
+)
+
+pub among_flat_map : {A B : Type 0} (f : A → List B) (xs : List A) (y : B) → IsAmong y (flat_map f xs) → (x : A) × IsAmong x xs × IsAmong y (f x)
+among_flat_map f [] y h = absurd h
+among_flat_map f (x ∷ xs) y h =
+    elim (among_append (f x) (flat_map f xs) y h) [ inl k ↦ (x, inl refl, k) | inr k ↦ (let r = among_flat_map f xs y k in (r.0, inr r.1, r.2)) ]
+
+pub flat_map_among : {A B : Type 0} (f : A → List B) (xs : List A) (x : A) (y : B) → IsAmong x xs → IsAmong y (f x) → IsAmong y (flat_map f xs)
+flat_map_among f [] x y h k = absurd h
+flat_map_among f (z ∷ xs) x y (inl e) k = among_left (f z) (flat_map f xs) y (subst (λ w. IsAmong y (f w)) e k)
+flat_map_among f (z ∷ xs) x y (inr h) k = among_right (f z) (flat_map f xs) y (flat_map_among f xs x y h k)

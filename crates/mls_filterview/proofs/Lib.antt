@@ -12,3 +12,5 @@ pub mod RowLemmas
 pub mod SampleLemmas
 pub mod ArrangeLemmas
 pub mod FilterLemmas
+pub mod FragmentLemmas
+pub mod AssemblyLemmas

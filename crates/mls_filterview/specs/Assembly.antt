@@ -1,8 +1,8 @@
 -- Tuples put together from fragments.
-use Rattle.std.specs.Prelude.{◌≡◌, ℕ, suc, ◌<◌, true, List, [], ◌∷◌, map, Option, Some, None, ◌↔◌}
+use Rattle.std.specs.Prelude.{◌≡◌, ℕ, suc, ◌<◌, true, List, [], ◌∷◌, Option, Some, None, ◌↔◌}
 use Rattle.std.specs.Ordering.{nat_cmp, ordering_then}
 use Rattle.std.specs.Option.{unwrap_or}
-use Rattle.std.specs.List.{flat_map}
+use Rattle.std.specs.FinMap.{get}
 use Rattle.std.specs.declared.cmp.Ordering.{Ordering}
 use Rattle.mls_lattice.specs.Labels.{Labels, below}
 use Rattle.mls_scheme.specs.declared.value.Value.{Value}
@@ -13,7 +13,7 @@ use Rattle.mls_filterview.specs.declared.fragment.Node.{Node}
 use Rattle.mls_filterview.specs.declared.fragment.Cell.{Cell}
 use Rattle.mls_filterview.specs.View.{IsAmong}
 use Rattle.mls_filterview.specs.Stored.{with_class}
-use Rattle.mls_filterview.specs.Fragment.{of_class, node_of, cells_of, place_of_node}
+use Rattle.mls_filterview.specs.Fragment.{node_of, cells_of, place_of_node}
 
 -- a place, and an attribute
 abbrev pub Spot : Type 0
@@ -44,7 +44,11 @@ pub record AreRows (look : Spot → Option (Option Value)) (nodes : List Node) (
   pub sound : (p : Place) (es : List Element) → found p ≡ Some es → (n : Node) × IsAmong n nodes × (place_of_node n ≡ p) × (elements_of look n ≡ es)
   pub complete : (n : Node) → IsAmong n nodes → (es : List Element) × (found (place_of_node n) ≡ Some es)
 
--- the fragments of the labels below k that c dominates, in any order
+-- a tuple of the table, of a class below k that c dominates
+abbrev pub IsLowEntry : Labels → Table → ℕ → ℕ → Place × List Element → Type 0
+IsLowEntry ls T c k e = (get T e.0 ≡ Some e.1) × (e.0.class < k) × (below ls e.0.class c ≡ true)
+
+-- the nodes and the cells of these tuples, in any order
 pub record AreLow (ls : Labels) (T : Table) (c k : ℕ) (ns : List Node) (ds : List Cell) : Type 0 where
-  pub nodes : (n : Node) → IsAmong n ns ↔ ((m : ℕ) × (m < k) × (below ls m c ≡ true) × IsAmong n (map node_of (of_class m T)))
-  pub cells : (d : Cell) → IsAmong d ds ↔ ((m : ℕ) × (m < k) × (below ls m c ≡ true) × IsAmong d (flat_map cells_of (of_class m T)))
+  pub nodes : (n : Node) → IsAmong n ns ↔ ((e : Place × List Element) × IsLowEntry ls T c k e × (n ≡ node_of e))
+  pub cells : (d : Cell) → IsAmong d ds ↔ ((e : Place × List Element) × IsLowEntry ls T c k e × IsAmong d (cells_of e))

@@ -1,22 +1,21 @@
 //! Tuples put together from fragments.
-ghost use Rattle.std.specs.Prelude.{◌≡◌, OnOk, IfOk, Some, map};
+ghost use Rattle.std.specs.Prelude.{◌≡◌, OnOk, IfOk, Some, None};
+ghost use Rattle.std.specs.Option.{unwrap_or};
 ghost use Rattle.std.specs.BTreeMap.{Updates, IsOrdered, get};
-ghost use Rattle.std.specs.List.{filter};
-ghost use Rattle.mls_scheme.specs.Table.{place_cmp, tuple_at};
-ghost use Rattle.mls_filterview.specs.Subsumption.{is_max_among};
+ghost use Rattle.mls_scheme.specs.Table.{place_cmp};
 ghost use Rattle.mls_filterview.specs.Assembly.{spot_cmp, AreValues, AreRows, elements_of};
 
-use crate::fragment::{Cell, Node};
+use crate::fragment::{Cell, Fragment, Node};
 use mls_lattice::Items;
 use mls_scheme::{Element, Place, Tuple, Value, copy_key};
 use std::alloc::{AllocError, AllocFailed, Global};
 use std::collections::BTreeMap;
 
 /// Elements by the places of their tuples.
-pub type Rows = BTreeMap<Place, Items<Element>>;
+type Rows = BTreeMap<Place, Items<Element>>;
 
 /// Values by the places of their tuples and the numbers of their attributes.
-pub type Values = BTreeMap<(Place, usize), Option<Value>>;
+type Values = BTreeMap<(Place, usize), Option<Value>>;
 
 /// Puts elements at a place.
 fn put_row(
@@ -42,4 +41,79 @@ fn put_value(
 {
     values.insert((place, attr), value)?;
     Ok(())
+}
+
+/// The values of cells, by their spots.
+fn values_of(alloc: Global, cells: Items<Cell>) -> Result<Values, AllocError>
+    ensures { IfOk result (λ values. AreValues cells (get spot_cmp values)) }
+{
+    let mut values = BTreeMap::new(alloc);
+    for cell in cells.into_vec() {
+        let place = Place {
+            key: cell.key,
+            key_class: cell.key_class,
+            class: cell.label,
+        };
+        put_value(&mut values, place, cell.attr, cell.value)?;
+    }
+    Ok(values)
+}
+
+/// A copy of the value at a spot, null where there is none.
+fn value_at(values: &Values, spot: &(Place, usize)) -> Result<Option<Value>, AllocError>
+    ensures { IfOk result (λ value. value ≡ unwrap_or (get spot_cmp values.now spot.now) None) }
+{
+    match values.get(spot) {
+        Some(Some(value)) => Ok(Some(value.copy()?)),
+        _ => Ok(None),
+    }
+}
+
+/// The elements of a node's tuple.
+fn elements_of(
+    alloc: Global,
+    values: &Values,
+    node: &Node,
+) -> Result<Items<Element>, AllocError>
+    ensures { IfOk result (λ elements. elements ≡ elements_of (get spot_cmp values.now) node.now) }
+{
+    let place = Place {
+        key: copy_key(&node.key)?,
+        key_class: node.key_class,
+        class: node.label,
+    };
+    let mut spot = (place, 0);
+    let mut elements = Vec::new(alloc);
+    for (attr, class) in node.pattern.as_slice().iter().enumerate() {
+        spot.0.class = *class;
+        spot.1 = attr;
+        let value = value_at(values, &spot)?;
+        elements.push(Element { value, class: *class })?;
+    }
+    Ok(Items::from(elements))
+}
+
+/// The tuples of nodes, by their places.
+fn rows_of(alloc: Global, nodes: Items<Node>, values: &Values) -> Result<Rows, AllocError>
+    ensures { IfOk result (λ rows. AreRows (get spot_cmp values.now) nodes (get place_cmp rows)) }
+{
+    let mut rows = BTreeMap::new(alloc);
+    for node in nodes.into_vec() {
+        let elements = elements_of(alloc, values, &node)?;
+        let place = Place {
+            key: node.key,
+            key_class: node.key_class,
+            class: node.label,
+        };
+        put_row(&mut rows, place, elements)?;
+    }
+    Ok(rows)
+}
+
+/// The entries of a map, in the order of places.
+fn entries_of(alloc: Global, rows: Rows) -> Result<Vec<(Place, Items<Element>)>, AllocError>
+    ensures items { IfOk result (λ entries. entries.items ≡ rows.entries) }
+    ensures ordered { IsOrdered place_cmp rows }
+{
+    rows.into_iter().collect(alloc)
 }

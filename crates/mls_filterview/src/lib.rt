@@ -9,7 +9,7 @@ mod laws;
 mod row;
 mod subsumption;
 
-pub use base::{Base, BaseFault};
+pub use base::{Base, BaseFault, abandon};
 pub use filtering::filter;
 pub use fragment::{Cell, Fragment, Node};
 pub use laws::{

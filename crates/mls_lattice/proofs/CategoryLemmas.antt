@@ -120,3 +120,7 @@ has-mask n k within =
     sym (contains-cats_of n k ∙ bit_test (bit_at n k) (2 ^ k) (bit_at-lt n k) some ∙ ap (λ x. not (x == 0)) (sym (ap (bit_and n) (shifted k within) ∙ and_pow n k)))
 
 pub ruleset with_one = (cats_of-with)
+
+pub cats_of-none : cats_of 0 ≡ set.empty
+unfolding cats_of cats_below
+cats_of-none = refl

@@ -1,12 +1,14 @@
 -- Laws of pairs.
-use Rattle.std.proofs.Common.{◌≡◌, ℕ, ◌<◌, Bool, true, false, ◌||◌, length, refl, sym, ◌∙◌, inl, inr, arith}
+use Rattle.std.proofs.Common.{◌≡◌, ℕ, ◌<◌, Bool, true, false, ◌&&◌, ◌||◌, length, nat_eq, refl, sym, ap, ◌∙◌, inl, inr, arith}
 use Rattle.std.specs.Prelude.{◌↔◌, nat_le}
 use Rattle.std.specs.Ordering.{nat_cmp}
 use Rattle.std.specs.FinSet as set
 use Rattle.std.specs.FinSet.{nat_cmp-IsAntisymmetric}
 use Rattle.std.proofs.lemmas.Cmp.{nat_cmp_total}
-use Rattle.std.proofs.lemmas.Bool.{and_parts, and_from, or_cases, leb-true, le-leb}
-use Rattle.mls_lattice.specs.Lattice.{Pair, Dominates, join, meet, bottom, ◌⊑◌, IsOrder, IsLeastUpperBound, IsGreatestLowerBound}
+use Rattle.std.proofs.lemmas.Bool.{and_parts, and_from, or_cases, leb-true, le-leb, eqb-true, eq-eqb}
+use Rattle.mls_lattice.specs.Lattice.{Pair, Dominates, join, meet, bottom, ◌⊑◌, same_pair, cats_of, pair_of, IsOrder, IsLeastUpperBound, IsGreatestLowerBound}
+use Rattle.mls_lattice.specs.declared.label.Label.{Label}
+use Rattle.mls_lattice.proofs.CategoryLemmas.{same_from_cats}
 use Rattle.mls_lattice.specs.Labels.{Labels, label_of, below, AreDistinct, IsOrderByNumber}
 
 -- the test is the relation
@@ -123,3 +125,27 @@ pub test-below : (b : Bool) (ls : Labels) (low high : ℕ) (p q : Pair) → (b �
 unfolding below
 test-below b ls low high p q is l h =
     same_bools b (p ⊑ q) (λ t. Dominates-⊑ p q (is.0 t)) (λ t. is.1 (⊑-Dominates p q t)) ∙ (λ i. l i ⊑ h i)
+
+-- ---- labels as words
+
+pub same_pair-refl : (p : Pair) → same_pair p p ≡ true
+same_pair-refl p = let h = Dominates-⊑ p p (Dominates-refl p) in and_from _ _ h h
+
+pub same_pair-same : (p q : Pair) → same_pair p q ≡ true → p ≡ q
+same_pair-same p q h =
+    let both = and_parts (p ⊑ q) (q ⊑ p) h in
+    Dominates-antisym p q (⊑-Dominates q p both.1) (⊑-Dominates p q both.0)
+
+-- two labels are one exactly where their pairs are
+pub same_label : (l m : Label) (b : Bool) → b ≡ (nat_eq l.rank m.rank && nat_eq l.cats m.cats) → b ≡ same_pair (pair_of l) (pair_of m)
+same_label l m b e =
+    e ∙ same_bools _ _
+    (λ h.
+    let both = and_parts (nat_eq l.rank m.rank) (nat_eq l.cats m.cats) h in
+    let ranks : l.rank ≡ m.rank = eqb-true _ _ both.0 in
+    let cats : cats_of l.cats ≡ cats_of m.cats = ap cats_of (eqb-true _ _ both.1) in
+    let same : pair_of l ≡ pair_of m = λ i. record { rank = ranks i; cats = cats i } in
+    ap (same_pair (pair_of l)) (sym same) ∙ same_pair-refl (pair_of l))
+    (λ h.
+    let same = same_pair-same (pair_of l) (pair_of m) h in
+    and_from _ _ (eq-eqb _ _ (ap (λ (p : Pair). p.rank) same)) (eq-eqb _ _ (same_from_cats _ _ (ap (λ (p : Pair). p.cats) same))))

@@ -1,4 +1,10 @@
+pub mod CanonLemmas
 pub mod CategoryLemmas
 pub mod ReadingLemmas
+pub mod ReadsPolicyLemmas
+pub mod SaysLemmas
+pub mod SaysTablesLemmas
+pub mod TablesLemmas
 pub mod LatticeLemmas
 pub mod PolicyLemmas
+pub mod PolicyReadingLemmas

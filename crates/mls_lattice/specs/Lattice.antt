@@ -35,6 +35,10 @@ infix 40 ◌⊑◌
 unfoldable pub ◌⊑◌ : Pair → Pair → Bool
 p ⊑ q = nat_le p.rank q.rank && set.is_subset p.cats q.cats
 
+-- they are one pair: each dominates the other
+abbrev pub same_pair : Pair → Pair → Bool
+same_pair p q = p ⊑ q && q ⊑ p
+
 -- ---- the pair that a label's two words stand for
 
 -- the places below count at which the number has a 1

@@ -4,3 +4,7 @@ pub mod Lattice
 pub mod Labels
 pub mod Policy
 pub mod Reading
+pub mod PolicyReading
+pub mod Canon
+pub mod Says
+pub mod ReadsPolicy

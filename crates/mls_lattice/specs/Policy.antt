@@ -1,5 +1,5 @@
 -- What a policy is: its levels, categories, labels and users, and the matrix of rights.
-use Rattle.std.specs.Prelude.{ℕ, ◌<◌, ◌≤◌, ◌&&◌, List, [], ◌∷◌, map, length, if◌then◌else◌, nat_eq}
+use Rattle.std.specs.Prelude.{ℕ, ◌<◌, ◌≤◌, Bool, ◌&&◌, List, [], ◌∷◌, map, length, if◌then◌else◌, nat_eq}
 use Rattle.std.specs.Option.{IfSome}
 use Rattle.std.specs.List.{AllByRecursion}
 use Rattle.std.specs.Str.{bytes_eq}
@@ -40,12 +40,17 @@ pub record IsCleared (count : ℕ) (u : User) : Type 0 where
 
 -- what holds of every policy
 pub record IsPolicy (p : Tables) : Type 0 where
+  pub few_categories : length p.categories ≤ 32
   pub few_labels : length p.labels ≤ 64
   pub few_users : length p.users ≤ 64
   pub distinct : AreDistinct (labels_of p)
   pub cleared : AllByRecursion (IsCleared (length p.labels)) p.users
 
+-- the entry is one for this user and object
+abbrev pub is_entry : ℕ → Name → Right → Bool
+is_entry user object r = nat_eq r.user user && bytes_eq r.object object
+
 -- the modes of the entry for a user and an object, or none
 abbrev pub modes_in : List Right → ℕ → Name → ℕ
 modes_in [] user object = 0
-modes_in (r ∷ rs) user object = if nat_eq r.user user && bytes_eq r.object object then r.modes.0 else modes_in rs user object
+modes_in (r ∷ rs) user object = if is_entry user object r then r.modes.0 else modes_in rs user object

@@ -36,6 +36,10 @@ table_at d = ok_or (as_table d) WrongKind
 abbrev pub name_at : Data → Result (List ℕ) PolicyFault
 name_at d = text_at d >>= λ text. if is_name text then Ok text else Err BadName
 
+-- the name at a key
+abbrev pub name_field : List ℕ → Members → Result (List ℕ) PolicyFault
+name_field key fields = wanted key fields >>= name_at
+
 abbrev pub items_len : Items → ℕ
 items_len no_items = 0
 items_len (item d ds) = suc (items_len ds)

@@ -3,7 +3,7 @@ ghost use Rattle.std.specs.Prelude.{◌≡◌, ◌≢◌, IfErr, option_map, is_
 ghost use Rattle.std.specs.List.{list_all};
 ghost use Rattle.toml.specs.Data.{get_member, as_str, as_table};
 ghost use Rattle.toml.specs.View.{view, items_view, table_view};
-ghost use Rattle.mls_lattice.specs.Reading.{Gives, wanted, text_at, integer_at, array_at, table_at, name_at, texts_at, tables_at, optional, at_most, some_of};
+ghost use Rattle.mls_lattice.specs.Reading.{Gives, wanted, text_at, integer_at, array_at, table_at, name_at, name_field, texts_at, tables_at, optional, at_most, some_of};
 
 use crate::fault::PolicyFault;
 use crate::name::is_name;
@@ -14,7 +14,7 @@ pub fn wanted<'a>(table: &'a Table, key: &str) -> Result<&'a Value, PolicyFault>
     ensures reads { Gives (λ v. view v.now) result (wanted key.now (table_view table.now)) }
     ensures toml { IfErr result (λ e. e ≢ PolicyFault.NotToml) }
 {
-    table.get(key).ok_or(PolicyFault::MissingField)
+    field(table, key).ok_or(PolicyFault::MissingField)
 }
 
 /// The value at a key that may be missing.
@@ -158,4 +158,12 @@ pub fn some_of(items: &[Value], most: usize) -> Result<&[Value], PolicyFault>
     } else {
         at_most(items, most)
     }
+}
+
+/// The name at a key.
+pub fn name_field<'a>(table: &'a Table, key: &str) -> Result<&'a str, PolicyFault>
+    ensures reads { Gives (λ s. s.now) result (name_field key.now (table_view table.now)) }
+    ensures toml { IfErr result (λ e. e ≢ PolicyFault.NotToml) }
+{
+    name_of(wanted(table, key)?)
 }

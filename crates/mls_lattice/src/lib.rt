@@ -3,17 +3,23 @@
 
 ghost use Rattle.mls_lattice.specs.Lattice.{IsOrder, IsLeastUpperBound, IsGreatestLowerBound};
 ghost use Rattle.mls_lattice.specs.Labels.{IsOrderByNumber};
+ghost use Rattle.mls_lattice.specs.ReadsPolicy.{ReadingIsExact, SaysOne};
 
+mod canon;
 pub mod document;
 mod fault;
 mod items;
 mod label;
+mod labels;
+mod matrix;
 mod modes;
 mod name;
+mod names;
 mod number;
 mod policy;
 mod tables;
 mod text;
+mod users;
 
 pub use fault::PolicyFault;
 pub use items::Items;
@@ -43,3 +49,16 @@ pub fn meet_is_greatest()
 pub fn numbers_are_ordered()
     ensures { IsOrderByNumber }
 {}
+
+/// The reading of a document gives a policy exactly where the document is that policy's.
+pub fn reading_is_exact()
+    ensures { ReadingIsExact }
+{}
+
+/// A document is that of one policy at most.
+pub fn a_document_says_one_policy()
+    ensures { SaysOne }
+{}
+
+#[cfg(test)]
+mod tests;

@@ -37,7 +37,7 @@ impl LabelNo {
     pub fn index(self) -> usize
         ensures { result ≡ self }
     {
-        self.number as usize
+        self.byte() as usize
     }
 }
 
@@ -69,6 +69,6 @@ impl UserNo {
     pub fn index(self) -> usize
         ensures { result ≡ self }
     {
-        self.number as usize
+        usize::from(self.number)
     }
 }

@@ -1,17 +1,32 @@
-ghost use Rattle.std.specs.Prelude.{◌≡◌, ◌<◌, ◌≤◌, length, position, slice_get, Some, IfSome, option_map};
+ghost use Rattle.std.specs.Prelude.{◌≡◌, ◌≢◌, ◌↔◌, ◌<◌, ◌≤◌, length, position, slice_get, Some, IfSome, IfOk, IfErr, option_map};
 ghost use Rattle.std.specs.Str.{bytes_eq};
 ghost use Rattle.mls_lattice.specs.Lattice.{pair_of};
 ghost use Rattle.mls_lattice.specs.Labels.{label_of, below, AreDistinct};
-ghost use Rattle.mls_lattice.specs.Policy.{labels_of, modes_in};
+ghost use Rattle.mls_lattice.specs.Policy.{Tables, labels_of, modes_in};
+ghost use Rattle.mls_lattice.specs.Canon.{canon_of, lattice_of};
+ghost use Rattle.mls_lattice.specs.Reading.{Gives};
+ghost use Rattle.mls_lattice.specs.PolicyReading.{version_at, levels_at, categories_at, policy_at};
+ghost use Rattle.mls_lattice.specs.ReadsPolicy.{IsDocument, ReadsPolicy, HasFault};
+ghost use Rattle.toml.specs.Data.{Members};
+ghost use Rattle.toml.specs.View.{table_view};
 
+use crate::canon::{categories_to, labels_to, levels_to, matrix_to, users_to};
+use crate::document::{at_most, integer_of, optional_texts, some_of, texts_of, wanted};
+use crate::fault::PolicyFault;
 use crate::items::Items;
 use crate::label::Label;
+use crate::labels::{labels_of, position_of_label};
+use crate::matrix::matrix_of;
 use crate::modes::Modes;
+use crate::names::names_of;
 use crate::number::{LabelNo, UserNo};
 use crate::tables::{NamedLabel, Right, User};
 use crate::text::Str;
+use crate::users::{position_of_user, users_of};
 use bitflags::Flags;
+use std::alloc::{AllocError, Global};
 use std::marker::Model;
+use toml::Table;
 
 /// Levels, categories, labels, users and rights, as a policy file declares them.
 #[derive(Drop, Debug)]
@@ -39,6 +54,50 @@ impl Model for Policy {
 }
 
 impl Policy {
+    /// Reads the bytes of a TOML document. NotToml is the answer where they are none, and also where they are not UTF-8;
+    /// the other faults come in the order of the fields, as `policy_at` has them. Memory may stand in place of any answer.
+    pub fn read(alloc: Global, bytes: &[u8]) -> Result<Policy, PolicyFault>
+        // What is read is what the bytes say.
+        ensures found { IfOk result (ReadsPolicy bytes.now) }
+        // Nothing that says a policy is refused, unless memory runs out.
+        ensures refused { IfErr result (λ e. e ≢ PolicyFault.Memory → (p : Tables) → ReadsPolicy bytes.now p → ⊥) }
+        // Another fault of a document is its first.
+        ensures first { IfErr result (λ e. e ≢ PolicyFault.Memory → e ≢ PolicyFault.NotToml → HasFault bytes.now e) }
+        // NotToml is the answer exactly where the bytes are no document.
+        ensures not_toml { IfErr result
+            (λ e. e ≢ PolicyFault.Memory → (e ≡ PolicyFault.NotToml) ↔ ((document : Members) → IsDocument bytes.now document → ⊥)) }
+    {
+        match toml::table_from_slice(alloc, bytes) {
+            Ok(document) => policy_of(alloc, &document),
+            Err(e) if e.is_memory() => Err(PolicyFault::Memory),
+            Err(_) => Err(PolicyFault::NotToml),
+        }
+    }
+
+    /// The canonical text: two policies are the same exactly where their texts are. It is no TOML document.
+    pub fn canon(&self, alloc: Global) -> Result<Vec<u8>, AllocError>
+        ensures { IfOk result (λ text. text.items ≡ canon_of self.now) }
+    {
+        let mut text = String::from_str(alloc, "policy 1\n")?;
+        levels_to(&mut text, &self.levels)?;
+        categories_to(&mut text, &self.categories)?;
+        labels_to(&mut text, &self.levels, &self.categories, &self.labels)?;
+        users_to(&mut text, &self.labels, &self.users)?;
+        matrix_to(&mut text, &self.users, &self.matrix)?;
+        Ok(text.into_bytes())
+    }
+
+    /// The lines of the canonical text for levels, categories and labels: a store keeps them, since its rows rest on them.
+    pub fn lattice_text(&self, alloc: Global) -> Result<Vec<u8>, AllocError>
+        ensures { IfOk result (λ text. text.items ≡ lattice_of self.now) }
+    {
+        let mut text = String::new(alloc);
+        levels_to(&mut text, &self.levels)?;
+        categories_to(&mut text, &self.categories)?;
+        labels_to(&mut text, &self.levels, &self.categories, &self.labels)?;
+        Ok(text.into_bytes())
+    }
+
     /// How many labels are declared.
     pub fn label_count(&self) -> usize
         ensures count { result ≡ length self.now.labels }
@@ -129,20 +188,6 @@ impl Policy {
     }
 }
 
-fn position_of_label(labels: &[NamedLabel], name: &str) -> Option<usize>
-    ensures exact { result ≡ position (λ l. bytes_eq l.name name.now) labels.now }
-    ensures within { IfSome result (λ place. place < length labels.now) }
-{
-    labels.iter().position(|label| label.name.as_str() == name)
-}
-
-fn position_of_user(users: &[User], name: &str) -> Option<usize>
-    ensures exact { result ≡ position (λ u. bytes_eq u.name name.now) users.now }
-    ensures within { IfSome result (λ place. place < length users.now) }
-{
-    users.iter().position(|user| user.name.as_str() == name)
-}
-
 fn modes_of(matrix: &[Right], user: UserNo, object: &str) -> Modes
     ensures { result.0 ≡ modes_in matrix.now user object.now }
 {
@@ -152,4 +197,64 @@ fn modes_of(matrix: &[Right], user: UserNo, object: &str) -> Modes
         }
     }
     Modes::empty()
+}
+
+/// The most levels of a policy.
+const MAX_LEVELS: usize = 16;
+
+/// The most categories of a policy: `Label` has a bit for each.
+const MAX_CATEGORIES: usize = 32;
+
+#[tactic(auto, unfolding(crate::specs::PolicyReading::version_at))]
+fn version_of(document: &Table) -> Result<(), PolicyFault>
+    ensures reads { Gives (λ v. v) result (version_at (table_view document.now)) }
+    ensures toml { IfErr result (λ e. e ≢ PolicyFault.NotToml) }
+{
+    if integer_of(wanted(document, "version")?)? == 1 {
+        Ok(())
+    } else {
+        Err(PolicyFault::WrongKind)
+    }
+}
+
+#[tactic(auto, using(crate::proofs::ReadingLemmas::counts), unfolding(crate::specs::PolicyReading::levels_at))]
+fn levels_of(alloc: Global, document: &Table) -> Result<Vec<Str>, PolicyFault>
+    ensures reads { Gives (λ v. v.items) result (levels_at (table_view document.now)) }
+    ensures count { IfOk result (λ v. length v.items ≤ 16) }
+    ensures toml { IfErr result (λ e. e ≢ PolicyFault.NotToml) }
+{
+    let all = texts_of(wanted(document, "levels")?)?;
+    let items = some_of(all, MAX_LEVELS)?;
+    names_of(alloc, items)
+}
+
+#[tactic(auto, using(crate::proofs::ReadingLemmas::counts), unfolding(crate::specs::PolicyReading::categories_at))]
+fn categories_of(alloc: Global, document: &Table) -> Result<Vec<Str>, PolicyFault>
+    ensures reads { Gives (λ v. v.items) result (categories_at (table_view document.now)) }
+    ensures count { IfOk result (λ v. length v.items ≤ 32) }
+    ensures toml { IfErr result (λ e. e ≢ PolicyFault.NotToml) }
+{
+    let all = optional_texts(document, "categories")?;
+    let items = at_most(all, MAX_CATEGORIES)?;
+    names_of(alloc, items)
+}
+
+#[tactic(auto, unfolding(crate::specs::PolicyReading::policy_at))]
+fn policy_of(alloc: Global, document: &Table) -> Result<Policy, PolicyFault>
+    ensures reads { Gives (λ p. p) result (policy_at (table_view document.now)) }
+    ensures toml { IfErr result (λ e. e ≢ PolicyFault.NotToml) }
+{
+    version_of(document)?;
+    let levels = levels_of(alloc, document)?;
+    let categories = categories_of(alloc, document)?;
+    let labels = labels_of(alloc, &levels, &categories, document)?;
+    let users = users_of(alloc, &labels, document)?;
+    let matrix = matrix_of(alloc, &users, document)?;
+    Ok(Policy {
+        levels: Items::from(levels),
+        categories: Items::from(categories),
+        labels: Items::from(labels),
+        users: Items::from(users),
+        matrix: Items::from(matrix),
+    })
 }

@@ -56,9 +56,9 @@ ok_is : {A : Type 0} (x y : A) → done x ≡ done y → x ≡ y
 ok_is x y e = cc
 
 -- what a reader took from the front
-record Takes (bytes text rest : List ℕ) : Type 0 where
-  parts : bytes ≡ text ++ rest
-  rest_fits : IsBytes rest
+pub record Takes (bytes text rest : List ℕ) : Type 0 where
+  pub parts : bytes ≡ text ++ rest
+  pub rest_fits : IsBytes rest
 
 Takes-then : (a x b y c : List ℕ) → Takes a x b → Takes b y c → Takes a (x ++ y) c
 Takes-then a x b y c p q = record { parts = p.parts ∙ ap (λ (t : List ℕ). x ++ t) q.parts ∙ sym (append_assoc x y c); rest_fits = q.rest_fits }
@@ -168,7 +168,7 @@ text_again text rest lt utf8 =
 
 -- ---- values
 
-value_takes : (bytes : List ℕ) (v : Value) (rest : List ℕ) → IsBytes bytes → value_at bytes ≡ Ok (v, rest) → Takes bytes (value_spelling v) rest × HasSpelling v
+pub value_takes : (bytes : List ℕ) (v : Value) (rest : List ℕ) → IsBytes bytes → value_at bytes ≡ Ok (v, rest) → Takes bytes (value_spelling v) rest × HasSpelling v
 unfolding value_at
 value_takes [] v rest fits e = absurd cc
 value_takes (zero ∷ bytes) v rest fits e = absurd cc
@@ -182,7 +182,7 @@ value_takes (suc (suc zero) ∷ bytes) v rest fits e =
     subst (λ (p : Value × List ℕ). Takes (2 ∷ bytes) (value_spelling p.0) p.1 × HasSpelling p.0) (ok_is (Text b.0.0, b.0.1) (v, rest) b.2) (record { parts = ap (λ (x : List ℕ). 2 ∷ x) t.takes.parts; rest_fits = t.takes.rest_fits }, (t.utf8, t.short))
 value_takes (suc (suc (suc b)) ∷ bytes) v rest fits e = absurd cc
 
-value_again : (v : Value) (rest : List ℕ) → HasSpelling v → value_at (value_spelling v ++ rest) ≡ Ok (v, rest)
+pub value_again : (v : Value) (rest : List ℕ) → HasSpelling v → value_at (value_spelling v ++ rest) ≡ Ok (v, rest)
 unfolding value_at
 value_again (Int n) rest h = rw (int_again n rest h.0) refl
 value_again (Text s) rest h = rw (text_again s rest h.1 h.0) refl

@@ -3,3 +3,8 @@ pub mod TableLemmas
 pub mod AttributeLemmas
 pub mod KeySteps
 pub mod KeyLemmas
+pub mod SchemeSteps
+pub mod GatherLemmas
+pub mod FieldLemmas
+pub mod SchemeLemmas
+pub mod CanonLemmas

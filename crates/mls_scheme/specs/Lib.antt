@@ -4,6 +4,9 @@ pub mod Table
 pub mod Order
 pub mod Scheme
 pub mod Fault
+pub mod Reading
+pub mod Document
+pub mod Canon
 pub mod Fits
 pub mod PlaceOrder
 pub mod Spelling

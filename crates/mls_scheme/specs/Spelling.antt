@@ -24,6 +24,7 @@ abbrev pub IsShort : Value → Type 0
 IsShort (Int n) = ⊤
 IsShort (Text s) = length s < 2 ^ 32
 
+-- what a spelling can be read back to
 abbrev pub HasSpelling : Value → Type 0
 HasSpelling v = IsValue v × IsShort v
 

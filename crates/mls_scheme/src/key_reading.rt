@@ -114,7 +114,8 @@ fn sized_front_of(alloc: Global, bytes: &[u8]) -> Result<(Value, usize), KeyFaul
     Ok((value, bytes.len() - rest.len()))
 }
 
-/// The value at the front of the bytes, and how many bytes it took; never Trailing.
+/// The value at the front of the bytes, and how many bytes it took; never Trailing. No memory is asked for a length
+/// that the bytes don't have.
 pub fn value_of(alloc: Global, bytes: &[u8]) -> Result<(Value, usize), KeyFault>
     // What is read is spelled so.
     ensures found { IfOk result (λ x. HasSpelling x.0 × (bytes.now ≡ value_spelling x.0 ++ drop x.1 bytes.now)) }
@@ -128,7 +129,7 @@ pub fn value_of(alloc: Global, bytes: &[u8]) -> Result<(Value, usize), KeyFault>
     sized_front_of(alloc, bytes)
 }
 
-/// The key that the bytes spell, all of the bytes.
+/// The key that the bytes spell, all of the bytes. No memory is asked for a length that the bytes don't have.
 pub fn key_of(alloc: Global, bytes: &[u8]) -> Result<Vec<Value>, KeyFault>
     // What is read is spelled so.
     ensures found { IfOk result (λ v. IsSpelledKey v.items × (bytes.now ≡ key_spelling v.items)) }

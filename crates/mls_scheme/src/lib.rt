@@ -3,16 +3,22 @@
 
 ghost use Rattle.mls_scheme.specs.Order.{AreOrdered};
 ghost use Rattle.mls_scheme.specs.Spelling.{AreUnambiguous};
+ghost use Rattle.mls_scheme.specs.Document.{SaysOnce};
 
 mod attributes;
+mod canon;
 mod fault;
+mod fields;
 mod fits;
 mod key_fault;
 mod key_reading;
 mod key_writing;
 mod number;
 mod place;
+mod reading;
 mod scheme;
+#[cfg(test)]
+mod tests;
 mod tuple;
 mod value;
 
@@ -36,6 +42,11 @@ pub fn places_are_ordered()
 /// No two keys have one spelling, and no value's spelling begins another's.
 pub fn spellings_are_unambiguous()
     ensures { AreUnambiguous }
+{}
+
+/// A text says at most one list of schemes under a policy.
+pub fn texts_say_schemes_once()
+    ensures { SaysOnce }
 {}
 
 #[cfg(test)]

@@ -1,0 +1,137 @@
+-- Tuples put together from fragments are those of the table.
+use Rattle.std.proofs.Common.{◌≡◌, ◌+◌, ◌<◌, ℕ, zero, suc, Bool, true, false, cond, List, [], ◌∷◌, ◌++◌, length, map, Option, Some, None, refl, sym, ap, subst, ◌∙◌, zero-add, inl, inr, arith}
+use Rattle.std.specs.Prelude.{◌↔◌}
+use Rattle.std.specs.Option.{unwrap_or}
+use Rattle.std.specs.Ordering.{is_eq, nat_cmp, ordering_then}
+use Rattle.std.specs.FinMap.{get}
+use Rattle.std.proofs.lemmas.Bool.{true≢false}
+use Rattle.std.proofs.lemmas.Option.{same_Some}
+use Rattle.std.proofs.lemmas.Cmp.{tied_itself, nat_cmp_total}
+use Rattle.std.proofs.lemmas.Map.Lookups.{exact_pairs, exact_unsigned}
+use Rattle.mls_lattice.specs.Labels.{Labels, below}
+use Rattle.mls_lattice.proofs.LatticeLemmas.{below-refl, below-trans}
+use Rattle.mls_scheme.specs.declared.value.Value.{Value}
+use Rattle.mls_scheme.specs.declared.tuple.Element.{Element}
+use Rattle.mls_scheme.specs.Tuple.{at}
+use Rattle.mls_scheme.specs.declared.place.Place.{Place}
+use Rattle.mls_scheme.specs.Table.{place_cmp, Table}
+use Rattle.mls_scheme.proofs.OrderLemmas.{place_total, place_exact, is_eq-true, is_place-true, is_place-same}
+use Rattle.mls_filterview.specs.declared.fragment.Node.{Node}
+use Rattle.mls_filterview.specs.declared.fragment.Cell.{Cell}
+use Rattle.mls_filterview.specs.View.{IsAmong}
+use Rattle.mls_filterview.specs.Stored.{with_class, IsStored}
+use Rattle.mls_filterview.specs.Fragment.{node_of, cell_at, cells_of, place_of_node}
+use Rattle.mls_filterview.specs.Assembly.{Spot, spot_cmp, spot_of, AreValues, elements_from, elements_of, AreRows, IsLowEntry, AreLow}
+use Rattle.mls_filterview.proofs.AmongLemmas.{among_push, among_left, push_last}
+use Rattle.mls_filterview.proofs.EntryLemmas.{Entry}
+use Rattle.mls_filterview.proofs.FragmentLemmas.{cell_found, cell_among}
+
+-- ---- spots
+
+abbrev is_spot : Spot → Spot → Bool
+is_spot s t = is_eq (spot_cmp s t)
+
+is_spot-true : (s t : Spot) → is_spot s t ≡ true → s ≡ t
+is_spot-true s t h = exact_pairs place_cmp nat_cmp place_exact exact_unsigned s t (is_eq-true (spot_cmp s t) h)
+
+is_spot-same : (s : Spot) → is_spot s s ≡ true
+is_spot-same s = λ t. is_eq (ordering_then (tied_itself place_total s.0 t) (tied_itself nat_cmp_total s.1 t))
+
+-- ---- one more cell, one more node
+
+pub values_more : (cs : List Cell) (c : Cell) (look look' : Spot → Option (Option Value)) → AreValues cs look → ((q : Spot) → look' q ≡ cond (is_spot (spot_of c) q) (Some c.value) (look q)) → AreValues (cs ++ c ∷ []) look'
+values_more cs c look look' are update = record {
+  sound = λ s v h.
+      elim (is_spot (spot_of c) s) as (λ b. is_spot (spot_of c) s ≡ b → cond b (Some c.value) (look s) ≡ Some v → (d : Cell) × IsAmong d (cs ++ c ∷ []) × (spot_of d ≡ s) × (d.value ≡ v)) [
+        | true ↦ λ e k. (c, push_last cs c, is_spot-true (spot_of c) s e, same_Some c.value v k)
+        | false ↦ λ e k. (let r = are.sound s v k in (r.0, among_left cs (c ∷ []) r.0 r.1, r.2, r.3))
+      ] refl (sym (update s) ∙ h);
+  complete = λ d i.
+      elim (is_spot (spot_of c) (spot_of d)) as (λ b. is_spot (spot_of c) (spot_of d) ≡ b → (v : Option Value) × (look' (spot_of d) ≡ Some v)) [
+        | true ↦ λ e. (c.value, update (spot_of d) ∙ ap (λ b. cond b (Some c.value) (look (spot_of d))) e)
+        | false ↦ λ e. elim (among_push cs c d i) [
+          | inl j ↦ (let r = are.complete d j in (r.0, update (spot_of d) ∙ ap (λ b. cond b (Some c.value) (look (spot_of d))) e ∙ r.1))
+          | inr q ↦ absurd (true≢false (sym (is_spot-same (spot_of d)) ∙ ap (λ x. is_spot (spot_of x) (spot_of d)) q ∙ e))
+        ]
+      ] refl;
+}
+
+pub rows_more : (look : Spot → Option (Option Value)) (ns : List Node) (n : Node) (found found' : Place → Option (List Element)) → AreRows look ns found
+    → ((q : Place) → found' q ≡ cond (is_eq (place_cmp (place_of_node n) q)) (Some (elements_of look n)) (found q)) → AreRows look (ns ++ n ∷ []) found'
+rows_more look ns n found found' are update = record {
+  sound = λ p es h.
+      elim (is_eq (place_cmp (place_of_node n) p)) as (λ b. is_eq (place_cmp (place_of_node n) p) ≡ b → cond b (Some (elements_of look n)) (found p) ≡ Some es → (m : Node) × IsAmong m (ns ++ n ∷ []) × (place_of_node m ≡ p) × (elements_of look m ≡ es)) [
+        | true ↦ λ e k. (n, push_last ns n, is_place-true (place_of_node n) p e, same_Some (elements_of look n) es k)
+        | false ↦ λ e k. (let r = are.sound p es k in (r.0, among_left ns (n ∷ []) r.0 r.1, r.2, r.3))
+      ] refl (sym (update p) ∙ h);
+  complete = λ m i.
+      let q = place_of_node m in
+      elim (is_eq (place_cmp (place_of_node n) q)) as (λ b. is_eq (place_cmp (place_of_node n) q) ≡ b → (es : List Element) × (found' q ≡ Some es)) [
+        | true ↦ λ e. (elements_of look n, update q ∙ ap (λ b. cond b (Some (elements_of look n)) (found q)) e)
+        | false ↦ λ e. elim (among_push ns n m i) [
+          | inl j ↦ (let r = are.complete m j in (r.0, update q ∙ ap (λ b. cond b (Some (elements_of look n)) (found q)) e ∙ r.1))
+          | inr s ↦ absurd (true≢false (sym (is_place-same (place_of_node n) q (ap place_of_node (sym s))) ∙ e))
+        ]
+      ] refl;
+}
+
+-- ---- the elements of a node are those of its tuple
+
+same_elements : (look : Spot → Option (Option Value)) (p : Place) (k : ℕ) (es : List Element)
+    → ((i j : ℕ) → i < length es → j ≡ k + i → unwrap_or (look (with_class p (at es i).class, j)) None ≡ (at es i).value) → elements_from look p k (map (λ x. x.class) es) ≡ es
+same_elements look p k [] h = refl
+same_elements look p k (e ∷ es) h =
+    let rest = same_elements look p (suc k) es (λ i j l q. h (suc i) j (omega arith) (omega arith)) in
+    let first = h 0 k (omega arith) (omega arith) in
+    λ t. record { value = first t; class = e.class } ∷ rest t
+
+module _ (ls : Labels) (n : ℕ) (T : Table) (stored : IsStored ls n T) (c k : ℕ) (ns : List Node) (ds : List Cell) (low : AreLow ls T c k ns ds) (all : (e : Entry) → get T e.0 ≡ Some e.1 → e.0.class < k)
+    (look : Spot → Option (Option Value)) (are : AreValues ds look) where
+  -- a value that is found at the spot of an element of its own class is the element's
+  value_found : (p : Place) (es : List Element) → get T p ≡ Some es → (i : ℕ) → (v : Option Value) → look (p, i) ≡ Some v → v ≡ (at es i).value
+  value_found p es h i v g =
+      let r = are.sound (p, i) v g in
+      let f = (low.cells r.0).0 r.1 in
+      let d = cell_found 0 f.0.0 f.0.1 r.0 f.2 in
+      let s : spot_of (cell_at f.0.0 (0 + d.0) (at f.0.1 d.0)) ≡ (p, i) = ap spot_of (sym d.1.1) ∙ r.2 in
+      let q : f.0.0 ≡ p = λ t. record { key = (s t).0.key; key_class = (s t).0.key_class; class = (sym d.1.2 ∙ ap (λ (x : Spot). x.0.class) s) t } in
+      let same : f.0.1 ≡ es = same_Some f.0.1 es (sym f.1.0 ∙ ap (get T) q ∙ h) in
+      let number : d.0 ≡ i = sym (zero-add d.0) ∙ ap (λ (x : Spot). x.1) s in
+      sym r.3 ∙ ap (λ x. x.value) d.1.1 ∙ (λ t. (at (same t) (number t)).value)
+
+  -- at the class of an element, its entity's tuple of that class has the element
+  value_at : (p : Place) (es : List Element) → IsLowEntry ls T c k (p, es) → (i : ℕ) → i < length es → look (with_class p (at es i).class, i) ≡ Some (at es i).value
+  value_at p es e i l =
+      let m : ℕ = (at es i).class in
+      let q : Place = with_class p m in
+      let st = stored p es e.0 in
+      let cl = st.closed m (inr (i, l, refl)) in
+      let agree : at cl.0 i ≡ at es i = cl.2 i l (below-refl ls m) in
+      let within : i < length cl.0 = omega (arith, (stored q cl.0 cl.1).count, st.count) in
+      let cell : Cell = cell_at q i (at cl.0 i) in
+      let there = (low.cells cell).1 ((q, cl.0), (cl.1, all (q, cl.0) cl.1, below-trans ls m p.class c (st.greatest m (inr (i, l, refl))) e.2), cell_among 0 q cl.0 i i within (omega arith) (ap (λ x. x.class) agree)) in
+      let found = are.complete cell there in
+      let here : look (q, i) ≡ Some found.0 = ap (λ (x : Element). look (with_class p x.class, i)) (sym agree) ∙ found.1 in
+      here ∙ ap Some (value_found q cl.0 cl.1 i found.0 here ∙ ap (λ x. x.value) agree)
+
+  elements_low : (e : Entry) → IsLowEntry ls T c k e → elements_of look (node_of e) ≡ e.1
+  elements_low e h = same_elements look e.0 0 e.1 (λ i j l q.
+      ap (λ o. unwrap_or o None) (ap (λ j. look (with_class e.0 (at e.1 i).class, j)) (q ∙ zero-add i) ∙ value_at e.0 e.1 h i l))
+
+  -- so the rows are the tuples of classes that c dominates
+  pub rows_low : (found : Place → Option (List Element)) → AreRows look ns found → (e : Entry) → (found e.0 ≡ Some e.1) ↔ ((get T e.0 ≡ Some e.1) × (below ls e.0.class c ≡ true))
+  rows_low found rows e = (sound e, complete)
+    where
+      sound : (e : Entry) → found e.0 ≡ Some e.1 → (get T e.0 ≡ Some e.1) × (below ls e.0.class c ≡ true)
+      sound e g =
+          let r = rows.sound e.0 e.1 g in
+          let f = (low.nodes r.0).0 r.1 in
+          let q : f.0.0 ≡ e.0 = ap place_of_node (sym f.2) ∙ r.2 in
+          let same : f.0.1 ≡ e.1 = sym (elements_low f.0 f.1) ∙ ap (elements_of look) (sym f.2) ∙ r.3 in
+          (ap (get T) (sym q) ∙ f.1.0 ∙ ap Some same, ap (λ p. below ls p.class c) (sym q) ∙ f.1.2)
+
+      complete : (get T e.0 ≡ Some e.1) × (below ls e.0.class c ≡ true) → found e.0 ≡ Some e.1
+      complete h =
+          let r = rows.complete (node_of e) ((low.nodes (node_of e)).1 (e, (h.0, all e h.0, h.1), refl)) in
+          let s = sound (e.0, r.0) r.1 in
+          r.1 ∙ sym s.0 ∙ h.0

@@ -1,0 +1,136 @@
+-- The document of a policy: how each table stands in it, with no word of how it is read.
+use Rattle.std.specs.Prelude.{◌≡◌, ◌⊎◌, ℕ, pos, ◌<◌, ◌≤◌, true, false, ◌==◌, bit_and, List, [], ◌∷◌, ◌++◌, length, map, codes, Option, Some, None, Ok, position, ⊤}
+use Rattle.std.specs.Int.RustNames.{bit_or}
+use Rattle.std.specs.List.{list_any}
+use Rattle.std.specs.Str.{bytes_eq}
+use Rattle.std.specs.FinSet as set
+use Rattle.toml.specs.Data.{Data, Items, no_items, item, Members, get_member, string, integer, array, table}
+use Rattle.mls_lattice.specs.declared.tables.User.{User}
+use Rattle.mls_lattice.specs.declared.tables.Right.{Right}
+use Rattle.mls_lattice.specs.Lattice.{Categories, Pair, same_pair}
+use Rattle.mls_lattice.specs.Labels.{below}
+use Rattle.mls_lattice.specs.Name.{is_name}
+use Rattle.mls_lattice.specs.Policy.{Name, Named, Tables, is_entry}
+use Rattle.mls_lattice.specs.PolicyReading.{mode_of}
+
+-- the items say the rows, one each, where a row may depend on those before it
+abbrev pub Rows : {B : Type 0} → (List B → Data → B → Type 0) → List B → Items → List B → Type 0
+Rows Says before no_items [] = ⊤
+Rows Says before no_items (row ∷ rows) = ⊥
+Rows Says before (item d ds) [] = ⊥
+Rows Says before (item d ds) (row ∷ rows) = Says before d row × Rows Says (before ++ row ∷ []) ds rows
+
+-- an array of these items stands at the key
+abbrev pub HasItems : List ℕ → Members → Items → Type 0
+HasItems key fields ds = get_member key fields ≡ Some (array ds)
+
+-- the same, where the field may be missing
+abbrev pub MayHaveItems : List ℕ → Members → Items → Type 0
+MayHaveItems key fields ds = HasItems key fields ds ⊎ ((get_member key fields ≡ None) × (ds ≡ no_items))
+
+-- a name stands at the key
+pub record HasName (key : List ℕ) (fields : Members) (name : Name) : Type 0 where
+  pub text : get_member key fields ≡ Some (string name)
+  pub is_name : is_name name ≡ true
+
+-- a name that none before is equal to
+pub record SaysName (before : List Name) (d : Data) (name : Name) : Type 0 where
+  pub text : d ≡ string name
+  pub is_name : is_name name ≡ true
+  pub new : list_any (bytes_eq name) before ≡ false
+
+-- ---- labels
+
+-- the items are names of different declared categories, which with those so far are all
+abbrev pub SaysCategories : List Name → Categories → Items → Categories → Type 0
+SaysCategories categories cats no_items all = all ≡ cats
+SaysCategories categories cats (item d ds) all =
+    (name : Name) × (k : ℕ) × (d ≡ string name) × (is_name name ≡ true) × (position (λ other. bytes_eq other name) categories ≡ Some k)
+    × (set.contains cats k ≡ false) × SaysCategories categories (set.insert cats k) ds all
+
+pub record SaysValue (levels categories : List Name) (fields : Members) (value : Pair) : Type 0 where
+  pub level : Name
+  pub has_level : HasName (codes "level") fields level
+  pub rank : position (λ other. bytes_eq other level) levels ≡ Some value.rank
+  pub items : Items
+  pub has_items : MayHaveItems (codes "categories") fields items
+  pub cats : SaysCategories categories set.empty items value.cats
+
+pub record SaysLabel (levels categories : List Name) (before : List Named) (d : Data) (l : Named) : Type 0 where
+  pub fields : Members
+  pub is_table : d ≡ table fields
+  pub name : HasName (codes "name") fields l.name
+  pub new_name : list_any (λ other. bytes_eq other.name l.name) before ≡ false
+  pub value : SaysValue levels categories fields l.value
+  pub new_value : list_any (λ other. same_pair other.value l.value) before ≡ false
+
+-- ---- users
+
+-- a name of a declared label
+pub record SaysPlace (labels : List Named) (d : Data) (k : ℕ) : Type 0 where
+  pub name : Name
+  pub text : d ≡ string name
+  pub is_name : is_name name ≡ true
+  pub place : position (λ l. bytes_eq l.name name) labels ≡ Some k
+
+-- no field, or the names of two labels, of which the second dominates the first
+abbrev pub SaysTrusted : List Named → Option Data → Option (ℕ × ℕ) → Type 0
+SaysTrusted labels field None = field ≡ None
+SaysTrusted labels field (Some i) =
+    (low : Data) × (high : Data) × (field ≡ Some (array (item low (item high no_items)))) × SaysPlace labels low i.0 × SaysPlace labels high i.1
+    × (below (map (λ l. l.value) labels) i.0 i.1 ≡ true)
+
+pub record SaysUser (labels : List Named) (before : List User) (d : Data) (u : User) : Type 0 where
+  pub fields : Members
+  pub is_table : d ≡ table fields
+  pub name : HasName (codes "name") fields u.name
+  pub new_name : list_any (λ other. bytes_eq other.name u.name) before ≡ false
+  pub cleared : Name
+  pub has_clearance : HasName (codes "clearance") fields cleared
+  pub clearance : position (λ l. bytes_eq l.name cleared) labels ≡ Some u.clearance
+  pub trusted : SaysTrusted labels (get_member (codes "trusted") fields) u.trusted
+
+-- ---- the matrix
+
+-- the items are words of different modes, which with those so far are all
+abbrev pub SaysModes : ℕ → Items → ℕ → Type 0
+SaysModes modes no_items all = all ≡ modes
+SaysModes modes (item d ds) all =
+    (word : List ℕ) × (mode : ℕ) × (d ≡ string word) × (mode_of word ≡ Ok mode) × ((bit_and modes mode == mode) ≡ false) × SaysModes (bit_or modes mode) ds all
+
+pub record SaysRight (users : List User) (before : List Right) (d : Data) (r : Right) : Type 0 where
+  pub fields : Members
+  pub is_table : d ≡ table fields
+  pub name : Name
+  pub has_user : HasName (codes "user") fields name
+  pub user : position (λ u. bytes_eq u.name name) users ≡ Some r.user
+  pub object : HasName (codes "object") fields r.object
+  pub items : Items
+  pub has_items : HasItems (codes "modes") fields items
+  pub modes : SaysModes 0 items r.modes.0
+  pub new : list_any (is_entry r.user r.object) before ≡ false
+
+-- ---- all of it
+
+-- the rows that stand at a key
+abbrev pub HasRows : {B : Type 0} → (List B → Data → B → Type 0) → List ℕ → Members → List B → Type 0
+HasRows Says key document rows = (ds : Items) × HasItems key document ds × Rows Says [] ds rows
+
+abbrev pub MayHaveRows : {B : Type 0} → (List B → Data → B → Type 0) → List ℕ → Members → List B → Type 0
+MayHaveRows Says key document rows = (ds : Items) × MayHaveItems key document ds × Rows Says [] ds rows
+
+-- the document is that of the policy
+pub record Says (document : Members) (p : Tables) : Type 0 where
+  pub version : get_member (codes "version") document ≡ Some (integer (pos 1))
+  pub levels : HasRows SaysName (codes "levels") document p.levels
+  pub some_level : 0 < length p.levels
+  pub few_levels : length p.levels ≤ 16
+  pub categories : MayHaveRows SaysName (codes "categories") document p.categories
+  pub few_categories : length p.categories ≤ 32
+  pub labels : HasRows (SaysLabel p.levels p.categories) (codes "label") document p.labels
+  pub some_label : 0 < length p.labels
+  pub few_labels : length p.labels ≤ 64
+  pub users : MayHaveRows (SaysUser p.labels) (codes "user") document p.users
+  pub few_users : length p.users ≤ 64
+  pub matrix : MayHaveRows (SaysRight p.users) (codes "matrix") document p.matrix
+  pub few_rights : length p.matrix ≤ 1024

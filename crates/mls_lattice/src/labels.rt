@@ -1,0 +1,161 @@
+//! The labels of a document.
+ghost use Rattle.std.specs.Prelude.{◌≡◌, ◌≢◌, ◌<◌, ◌≤◌, [], length, IfOk, IfErr, IfSome, false, map, position};
+ghost use Rattle.std.specs.List.{list_any};
+ghost use Rattle.std.specs.Str.{bytes_eq};
+ghost use Rattle.std.specs.FinSet as set;
+ghost use Rattle.toml.specs.View.{view, items_view, table_view};
+ghost use Rattle.mls_lattice.specs.Lattice.{cats_of, pair_of, same_pair};
+ghost use Rattle.mls_lattice.specs.Labels.{AreDistinct};
+ghost use Rattle.mls_lattice.specs.Policy.{named};
+ghost use Rattle.mls_lattice.specs.Reading.{Gives};
+ghost use Rattle.mls_lattice.specs.PolicyReading.{rows_at, more_categories, value_at, label_at, labels_at, label_place};
+
+use crate::document::{name_field, name_of, optional_texts, some_of, table_of, tables_of, wanted};
+use crate::fault::PolicyFault;
+use crate::label::Label;
+use crate::names::place_of;
+use crate::tables::NamedLabel;
+use crate::text::Str;
+use std::alloc::Global;
+use toml::{Table, Value};
+
+/// The most labels of a policy.
+const MAX_LABELS: usize = 64;
+
+/// The words of a set with the categories of these names.
+#[tactic(auto, using(crate::proofs::PolicyReadingLemmas::category_steps))]
+fn categories_in(categories: &[Str], items: &[Value]) -> Result<u32, PolicyFault>
+    requires { length categories.now ≤ 32 }
+    ensures reads { Gives cats_of result (more_categories categories.now set.empty (items_view items.now)) }
+    ensures toml { IfErr result (λ e. e ≢ PolicyFault.NotToml) }
+{
+    let mut label = Label { rank: 0, cats: 0 };
+    for value in items {
+        let place = place_of(categories, name_of(value)?)? as u32;
+        if label.has(place) {
+            return Err(PolicyFault::Repeated);
+        }
+        label = label.with(place);
+    }
+    Ok(label.cats)
+}
+
+fn has_name(labels: &[NamedLabel], name: &str) -> bool
+    ensures { result ≡ list_any (λ l. bytes_eq l.name name.now) labels.now }
+{
+    labels.iter().any(|other| other.name.as_str() == name)
+}
+
+fn is_same(left: Label, right: Label) -> bool
+    ensures { result ≡ same_pair (pair_of left) (pair_of right) }
+{
+    left == right
+}
+
+fn has_value(labels: &[NamedLabel], label: Label) -> bool
+    ensures { result ≡ list_any (λ l. same_pair (pair_of l.label) (pair_of label)) labels.now }
+{
+    labels.iter().any(|other| is_same(other.label, label))
+}
+
+/// The rank and the categories that the fields of a label say.
+#[tactic(auto, unfolding(crate::specs::PolicyReading::value_at))]
+fn value_of(levels: &[Str], categories: &[Str], fields: &Table) -> Result<Label, PolicyFault>
+    requires few_levels { length levels.now ≤ 16 }
+    requires few_categories { length categories.now ≤ 32 }
+    ensures reads { Gives pair_of result (value_at levels.now categories.now (table_view fields.now)) }
+    ensures toml { IfErr result (λ e. e ≢ PolicyFault.NotToml) }
+{
+    let rank = place_of(levels, name_field(fields, "level")?)? as u8;
+    let cats = categories_in(categories, optional_texts(fields, "categories")?)?;
+    Ok(Label { rank, cats })
+}
+
+#[tactic(auto, using(crate::proofs::PolicyReadingLemmas::label_views), unfolding(crate::specs::PolicyReading::label_at))]
+fn label_of(
+    alloc: Global,
+    levels: &[Str],
+    categories: &[Str],
+    labels: &[NamedLabel],
+    value: &Value,
+) -> Result<NamedLabel, PolicyFault>
+    requires few_levels { length levels.now ≤ 16 }
+    requires few_categories { length categories.now ≤ 32 }
+    ensures reads { Gives named result (label_at levels.now categories.now (map named labels.now) (view value.now)) }
+    ensures unlike { IfOk result (λ l. list_any (λ x. same_pair (pair_of x.label) (pair_of l.label)) labels.now ≡ false) }
+    ensures toml { IfErr result (λ e. e ≢ PolicyFault.NotToml) }
+{
+    let fields = table_of(value)?;
+    let name = name_field(fields, "name")?;
+    if has_name(labels, name) {
+        return Err(PolicyFault::Repeated);
+    }
+    let label = value_of(levels, categories, fields)?;
+    if has_value(labels, label) {
+        return Err(PolicyFault::Repeated);
+    }
+    let name = Str::copy_of(alloc, name)?;
+    Ok(NamedLabel { name, label })
+}
+
+#[tactic(auto, using(crate::proofs::TablesLemmas::distinct))]
+fn rows_of(
+    alloc: Global,
+    levels: &[Str],
+    categories: &[Str],
+    items: &[Value],
+) -> Result<Vec<NamedLabel>, PolicyFault>
+    requires few_levels { length levels.now ≤ 16 }
+    requires few_categories { length categories.now ≤ 32 }
+    ensures reads { Gives (λ v. map named v.items) result (rows_at (label_at levels.now categories.now) [] (items_view items.now)) }
+    ensures count { IfOk result (λ v. length v.items ≡ length items.now) }
+    ensures distinct { IfOk result (λ v. AreDistinct (map (λ x. x.value) (map named v.items))) }
+    ensures toml { IfErr result (λ e. e ≢ PolicyFault.NotToml) }
+{
+    let mut labels = Vec::new(alloc);
+    for value in items {
+        let label = label_of(alloc, levels, categories, &labels, value)?;
+        labels.push(label)?;
+    }
+    Ok(labels)
+}
+
+/// The labels of a document.
+#[tactic(auto, using(crate::proofs::ReadingLemmas::counts), unfolding(crate::specs::PolicyReading::labels_at))]
+pub(crate) fn labels_of(
+    alloc: Global,
+    levels: &[Str],
+    categories: &[Str],
+    document: &Table,
+) -> Result<Vec<NamedLabel>, PolicyFault>
+    requires few_levels { length levels.now ≤ 16 }
+    requires few_categories { length categories.now ≤ 32 }
+    ensures reads { Gives (λ v. map named v.items) result (labels_at levels.now categories.now (table_view document.now)) }
+    ensures count { IfOk result (λ v. length v.items ≤ 64) }
+    ensures distinct { IfOk result (λ v. AreDistinct (map (λ x. x.value) (map named v.items))) }
+    ensures toml { IfErr result (λ e. e ≢ PolicyFault.NotToml) }
+{
+    let all = tables_of(wanted(document, "label")?)?;
+    let items = some_of(all, MAX_LABELS)?;
+    rows_of(alloc, levels, categories, items)
+}
+
+pub(crate) fn position_of_label(labels: &[NamedLabel], name: &str) -> Option<usize>
+    ensures exact { result ≡ position (λ l. bytes_eq l.name name.now) labels.now }
+    ensures within { IfSome result (λ place. place < length labels.now) }
+{
+    labels.iter().position(|label| label.name.as_str() == name)
+}
+
+/// The number of the label of a name.
+#[tactic(auto, using(crate::proofs::PolicyReadingLemmas::label_views))]
+pub(crate) fn label_place(labels: &[NamedLabel], name: &str) -> Result<usize, PolicyFault>
+    ensures reads { Gives (λ place. place) result (label_place (map named labels.now) name.now) }
+    ensures within { IfOk result (λ place. place < length labels.now) }
+    ensures toml { IfErr result (λ e. e ≢ PolicyFault.NotToml) }
+{
+    match position_of_label(labels, name) {
+        Some(place) => Ok(place),
+        None => Err(PolicyFault::UnknownName),
+    }
+}

@@ -1,0 +1,113 @@
+//! The matrix of a document: what users may do with objects.
+ghost use Rattle.std.specs.Prelude.{◌≡◌, ◌≢◌, ◌≤◌, [], length, IfOk, IfErr};
+ghost use Rattle.std.specs.List.{list_any};
+ghost use Rattle.toml.specs.View.{view, items_view, table_view};
+ghost use Rattle.mls_lattice.specs.Policy.{is_entry};
+ghost use Rattle.mls_lattice.specs.Reading.{Gives};
+ghost use Rattle.mls_lattice.specs.PolicyReading.{rows_at, mode_of, more_modes, right_at, matrix_at};
+
+use crate::document::{at_most, name_field, optional_tables, table_of, text_of, texts_of, wanted};
+use crate::fault::PolicyFault;
+use crate::modes::Modes;
+use crate::number::UserNo;
+use crate::tables::{Right, User};
+use crate::text::Str;
+use crate::users::user_place;
+use bitflags::Flags;
+use std::alloc::Global;
+use toml::{Table, Value};
+
+/// The most entries of a matrix.
+const MAX_RIGHTS: usize = 1024;
+
+/// The mode that a word stands for.
+fn mode_of(word: &str) -> Result<Modes, PolicyFault>
+    ensures reads { Gives (λ m. m.0) result (mode_of word.now) }
+    ensures toml { IfErr result (λ e. e ≢ PolicyFault.NotToml) }
+{
+    match word {
+        "execute" => Ok(Modes::EXECUTE),
+        "read" => Ok(Modes::READ),
+        "append" => Ok(Modes::APPEND),
+        "write" => Ok(Modes::WRITE),
+        _ => Err(PolicyFault::UnknownName),
+    }
+}
+
+/// The modes of an array of words, none of them twice.
+#[tactic(auto, using(crate::proofs::PolicyReadingLemmas::mode_steps))]
+fn modes_of(items: &[Value]) -> Result<Modes, PolicyFault>
+    ensures reads { Gives (λ m. m.0) result (more_modes 0 (items_view items.now)) }
+    ensures toml { IfErr result (λ e. e ≢ PolicyFault.NotToml) }
+{
+    let mut modes = Modes::empty();
+    for value in items {
+        let mode = mode_of(text_of(value)?)?;
+        if modes.contains(mode) {
+            return Err(PolicyFault::Repeated);
+        }
+        modes = modes.union(mode);
+    }
+    Ok(modes)
+}
+
+fn has_entry(matrix: &[Right], user: UserNo, object: &str) -> bool
+    ensures { result ≡ list_any (is_entry user object.now) matrix.now }
+{
+    matrix.iter().any(|right| right.user == user && right.object.as_str() == object)
+}
+
+#[tactic(auto, unfolding(crate::specs::PolicyReading::right_at))]
+fn right_of(
+    alloc: Global,
+    users: &[User],
+    matrix: &[Right],
+    value: &Value,
+) -> Result<Right, PolicyFault>
+    requires { length users.now ≤ 64 }
+    ensures reads { Gives (λ r. r) result (right_at users.now matrix.now (view value.now)) }
+    ensures toml { IfErr result (λ e. e ≢ PolicyFault.NotToml) }
+{
+    let fields = table_of(value)?;
+    let user = UserNo::new(user_place(users, name_field(fields, "user")?)? as u8);
+    let object = name_field(fields, "object")?;
+    let modes = modes_of(texts_of(wanted(fields, "modes")?)?)?;
+    if has_entry(matrix, user, object) {
+        return Err(PolicyFault::Repeated);
+    }
+    let object = Str::copy_of(alloc, object)?;
+    Ok(Right {
+        user,
+        object,
+        modes,
+    })
+}
+
+fn rows_of(alloc: Global, users: &[User], items: &[Value]) -> Result<Vec<Right>, PolicyFault>
+    requires { length users.now ≤ 64 }
+    ensures reads { Gives (λ v. v.items) result (rows_at (right_at users.now) [] (items_view items.now)) }
+    ensures toml { IfErr result (λ e. e ≢ PolicyFault.NotToml) }
+{
+    let mut matrix = Vec::new(alloc);
+    for value in items {
+        let right = right_of(alloc, users, &matrix, value)?;
+        matrix.push(right)?;
+    }
+    Ok(matrix)
+}
+
+/// The matrix of a document.
+#[tactic(auto, unfolding(crate::specs::PolicyReading::matrix_at))]
+pub(crate) fn matrix_of(
+    alloc: Global,
+    users: &[User],
+    document: &Table,
+) -> Result<Vec<Right>, PolicyFault>
+    requires { length users.now ≤ 64 }
+    ensures reads { Gives (λ v. v.items) result (matrix_at users.now (table_view document.now)) }
+    ensures toml { IfErr result (λ e. e ≢ PolicyFault.NotToml) }
+{
+    let all = optional_tables(document, "matrix")?;
+    let items = at_most(all, MAX_RIGHTS)?;
+    rows_of(alloc, users, items)
+}

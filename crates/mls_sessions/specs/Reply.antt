@@ -1,0 +1,14 @@
+-- The numbers and names of denials.
+use Rattle.std.specs.Prelude.{ℕ, List, codes}
+use Rattle.mls_sessions.specs.declared.reply.Denial.{Denial}
+use Rattle.mls_sessions.specs.declared.reply.Denial.TheVariants.{NoSession, AlreadyOpen, UnknownUser}
+
+abbrev pub code_of : Denial → ℕ
+code_of NoSession = 31
+code_of AlreadyOpen = 32
+code_of UnknownUser = 33
+
+abbrev pub word_of : Denial → List ℕ
+word_of NoSession = codes "NoSession"
+word_of AlreadyOpen = codes "AlreadyOpen"
+word_of UnknownUser = codes "UnknownUser"

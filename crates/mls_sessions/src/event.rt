@@ -1,0 +1,27 @@
+//! What sessions do.
+use mls_lattice::{Items, LabelNo, Str};
+use mls_scheme::{RelNo, Value};
+
+/// A command of a session, which is named by its level and its name.
+#[derive(PartialEq, Eq, Drop, Debug)]
+pub struct Event {
+    pub level: LabelNo,
+    pub session: Str,
+    pub command: Command,
+}
+
+/// What a session is to do. Numbers of labels and relations are those of the policy and the schemes that the script
+/// was read under.
+#[derive(PartialEq, Eq, Drop, Debug)]
+pub enum Command {
+    /// Opens the session for the user of a name.
+    Open(Str),
+    /// Shows what is seen of a relation at a label.
+    View { rel: RelNo, label: LabelNo },
+    /// Adds a tuple at the session's level.
+    Insert {
+        rel: RelNo,
+        key: Items<Option<Value>>,
+        values: Items<Option<Value>>,
+    },
+}

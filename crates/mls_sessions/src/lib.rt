@@ -1,0 +1,21 @@
+//! Sessions: the script of their commands.
+#![tactic(auto)]
+
+mod cursor;
+mod event;
+mod fault;
+mod grammar;
+mod int;
+mod lookup;
+mod phrase;
+mod quoted;
+mod reading;
+mod reply;
+mod runs;
+mod scanner;
+mod token;
+
+pub use event::{Command, Event};
+pub use fault::{ScriptCause, ScriptFault};
+pub use reading::script;
+pub use reply::{Denial, Reply};

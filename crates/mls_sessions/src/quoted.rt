@@ -1,0 +1,73 @@
+//! Texts between quotes.
+ghost use Rattle.std.specs.Prelude.{◌≡◌, [], false};
+ghost use Rattle.mls_sessions.specs.Tokens.{is_escaped, is_control};
+ghost use Rattle.mls_sessions.specs.Scanning.{Gives, text_at, utf8_of, quoted_at};
+
+use crate::fault::ScriptCause;
+use mls_lattice::Str;
+use std::alloc::Global;
+
+/// The most bytes of a text, after its escapes.
+const MAX_TEXT: usize = 1024;
+
+fn is_escaped(byte: u8) -> bool
+    ensures { result ≡ is_escaped byte }
+{
+    byte == b'"' || byte == b'\\'
+}
+
+fn is_control(byte: u8) -> bool
+    ensures { result ≡ is_control byte }
+{
+    byte < 32 || byte == 127
+}
+
+/// What stands before the closing quote, with its escapes resolved, and what follows.
+fn text_of(alloc: Global, bytes: &[u8]) -> Result<(Vec<u8>, &[u8]), ScriptCause>
+    ensures { Gives (λ x. (x.0.items, x.1.now)) result (text_at false [] bytes.now) }
+{
+    let mut text = Vec::new(alloc);
+    let mut escaped = false;
+    for (i, byte) in bytes.iter().enumerate() {
+        if escaped {
+            if !is_escaped(*byte) {
+                return Err(ScriptCause::Token);
+            }
+            text.push(*byte)?;
+            escaped = false;
+        } else if *byte == b'"' {
+            return Ok((text, &bytes[i + 1..]));
+        } else if *byte == b'\\' {
+            escaped = true;
+        } else if is_control(*byte) {
+            return Err(ScriptCause::Token);
+        } else {
+            text.push(*byte)?;
+        }
+    }
+    Err(ScriptCause::Token)
+}
+
+/// Bytes as a text.
+#[tactic(auto, using(crate::proofs::TextLemmas::utf8_steps))]
+pub(crate) fn utf8_of(bytes: &[u8]) -> Result<&str, ScriptCause>
+    ensures { Gives (λ s. s.now) result (utf8_of bytes.now) }
+{
+    match std::str::from_utf8(bytes) {
+        Ok(text) => Ok(text),
+        Err(_) => Err(ScriptCause::Token),
+    }
+}
+
+/// The text up to its closing quote, and what follows it.
+#[tactic(auto, unfolding(crate::specs::Scanning::quoted_at))]
+pub(crate) fn quoted_of(alloc: Global, bytes: &[u8]) -> Result<(Str, &[u8]), ScriptCause>
+    ensures { Gives (λ x. (x.0, x.1.now)) result (quoted_at bytes.now) }
+{
+    let (text, rest) = text_of(alloc, bytes)?;
+    let text = utf8_of(&text)?;
+    if text.len() > MAX_TEXT {
+        return Err(ScriptCause::TooLong);
+    }
+    Ok((Str::copy_of(alloc, text)?, rest))
+}

@@ -1,0 +1,54 @@
+//! What sessions are answered.
+ghost use Rattle.std.specs.Prelude.{◌≡◌};
+ghost use Rattle.mls_sessions.specs.Reply.{code_of, word_of};
+
+use mls_lattice::{Items, UserNo};
+use mls_scheme::Tuple;
+use mls_updates::Outcome;
+
+/// Why a command is denied. A denial changes nothing.
+#[derive(Clone, Copy, PartialEq, Eq, Debug)]
+pub enum Denial {
+    /// No such session is open.
+    NoSession,
+    /// The session is open already.
+    AlreadyOpen,
+    /// The policy has no such user.
+    UnknownUser,
+}
+
+impl Denial {
+    /// The number of the denial.
+    pub fn code(self) -> u8
+        ensures { result ≡ code_of self }
+    {
+        match self {
+            Denial::NoSession => 31,
+            Denial::AlreadyOpen => 32,
+            Denial::UnknownUser => 33,
+        }
+    }
+
+    /// The name of the denial.
+    pub fn word(self) -> &'static str
+        ensures { result.now ≡ word_of self }
+    {
+        match self {
+            Denial::NoSession => "NoSession",
+            Denial::AlreadyOpen => "AlreadyOpen",
+            Denial::UnknownUser => "UnknownUser",
+        }
+    }
+}
+
+/// What a command is answered.
+#[derive(Drop, Debug)]
+pub enum Reply {
+    /// The session is open, for this user.
+    Opened(UserNo),
+    /// The view, in the order of rows.
+    Rows(Items<Tuple>),
+    /// What became of a write.
+    Wrote(Outcome),
+    Denied(Denial),
+}

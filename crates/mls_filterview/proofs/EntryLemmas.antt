@@ -89,3 +89,6 @@ pub entries_are : (L : Table) (es : List Entry) → IsSo (is_sorted place_cmp es
 entries_are L es s h =
     same_entries place_cmp place_total place_exact es (entries L) s (entries_sorted L)
     (same_find es (entries L) s (entries_sorted L) (λ e. ((λ i. entries_among L e.0 e.1 ((h e).0 i)), (λ i. (h e).1 (among_entries L e i)))))
+
+pub same_lists : (es fs : List Entry) → is_sorted place_cmp es ≡ true → is_sorted place_cmp fs ≡ true → ((e : Entry) → IsAmong e es ↔ IsAmong e fs) → es ≡ fs
+same_lists es fs s t h = same_entries place_cmp place_total place_exact es fs (so_from _ s) (so_from _ t) (same_find es fs (so_from _ s) (so_from _ t) h)

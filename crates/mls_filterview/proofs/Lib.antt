@@ -1,5 +1,6 @@
 pub mod LowLemmas
 pub mod SubsumptionLemmas
+pub mod SubsumptionSteps
 pub mod ViewLemmas
 pub mod TopLemmas
 pub mod ClassLemmas
@@ -9,6 +10,8 @@ pub mod AmongLemmas
 pub mod EntryLemmas
 pub mod RowLemmas
 pub mod SampleLemmas
+pub mod ArrangeLemmas
+pub mod FilterLemmas
 pub mod FragmentLemmas
 pub mod AssemblyLemmas
 pub mod SubsumptionSteps

@@ -25,10 +25,10 @@ module _ (ls : Labels) (distinct : AreDistinct ls) (n : ℕ) (T : Table) (stored
   L = low ls c T
 
   -- the entries that no other one subsumes
-  abbrev on_top : List Entry
+  abbrev pub on_top : List Entry
   on_top = filter (is_max_among (entries L)) (entries L)
 
-  in_table : (e : Entry) → get L e.0 ≡ Some e.1 → Has T e.0.class (tuple_at e.0 e.1)
+  pub in_table : (e : Entry) → get L e.0 ≡ Some e.1 → Has T e.0.class (tuple_at e.0 e.1)
   in_table e h = (from_low ls c T (tuple_at e.0 e.1) e.0.class h).0
 
   -- entries of one tuple are one

@@ -9,6 +9,20 @@ use Rattle.mls_scheme.specs.Value.{value_eq}
 use Rattle.mls_scheme.specs.Tuple.{is_null}
 use Rattle.mls_filterview.specs.Subsumption.{covers, all_cover}
 use Rattle.mls_filterview.proofs.SubsumptionLemmas.{same_value-true}
+use Rattle.std.proofs.Common.{◌≡◌, ℕ, ◌==◌, Bool, true, false, ◌||◌, ◌&&◌, not, List, [], ◌∷◌, length, Option, Some, None, refl, sym, ap, ◌∙◌, arith, inl, inr}
+use Rattle.std.specs.Prelude.{is_some, is_none, nat_eq, ◌↔◌}
+use Rattle.std.specs.Option.{option_eq}
+use Rattle.std.proofs.lemmas.Bool.{and_parts, eqb-true, false_from_ne_true, false≢true, true≢false, and_right}
+use Rattle.mls_scheme.specs.declared.value.Value.{Value}
+use Rattle.mls_scheme.specs.declared.tuple.Element.{Element}
+use Rattle.mls_scheme.specs.declared.tuple.Tuple.{Tuple}
+use Rattle.mls_scheme.specs.Value.{value_eq}
+use Rattle.mls_scheme.specs.Tuple.{is_null}
+use Rattle.mls_scheme.specs.Table.{place_of}
+use Rattle.mls_scheme.proofs.OrderLemmas.{is_place-true, is_place-same}
+use Rattle.mls_filterview.specs.Subsumption.{Subsumes, covers, all_cover, subsumes_entry}
+use Rattle.mls_filterview.specs.Filtering.{subsumes_tuple}
+use Rattle.mls_filterview.proofs.SubsumptionLemmas.{same_value-true, subsumes_entry-true, subsumes_entry-from, covers-from, same_tuple}
 
 not_null : (v w : Option Value) → is_none v ≡ false → (is_some v && not (is_some w)) ≡ is_none w
 not_null None w h = absurd (true≢false h)
@@ -30,3 +44,29 @@ all_cover-uneven (a ∷ as') [] h = refl
 all_cover-uneven (a ∷ as') (b ∷ bs) h = and_right (covers a b) (all_cover as' bs) (all_cover-uneven as' bs (λ e. h (omega arith)))
 
 pub ruleset uneven = (all_cover-uneven)
+-- ---- tuples
+
+pub subsumes_tuple-true : (s t : Tuple) → subsumes_tuple s t ≡ true → Subsumes s t
+unfolding subsumes_tuple
+subsumes_tuple-true s t h = subsumes_entry-true (place_of 0 s, s.elements) (place_of 0 t, t.elements) h
+
+pub subsumes_tuple-from : (s t : Tuple) → Subsumes s t → subsumes_tuple s t ≡ true
+unfolding subsumes_tuple
+subsumes_tuple-from s t h = subsumes_entry-from (place_of 0 s, s.elements) (place_of 0 t, t.elements) h
+
+pub other_class : (s t : Tuple) → (s.key_class ≡ t.key_class → ⊥) → subsumes_tuple s t ≡ false
+other_class s t h = false_from_ne_true (subsumes_tuple s t) (λ e. h (subsumes_tuple-true s t e).key_class)
+
+pub other_key : (s t : Tuple) → (s.key ≡ t.key → ⊥) → subsumes_tuple s t ≡ false
+other_key s t h = false_from_ne_true (subsumes_tuple s t) (λ e. h (subsumes_tuple-true s t e).key)
+
+pub same_entity : (s t : Tuple) → s.key ≡ t.key → s.key_class ≡ t.key_class → all_cover s.elements t.elements ≡ subsumes_tuple s t
+unfolding subsumes_tuple
+same_entity s t k c = sym (ap (λ b. b && all_cover s.elements t.elements) (is_place-same (place_of 0 s) (place_of 0 t) (λ i. record { key = k i; key_class = c i; class = 0 })))
+
+pub ruleset uneven = (all_cover-uneven)
+
+pub ruleset entity_steps = (other_class, other_key, same_entity)
+
+pub subsumes_tuple-is : (b : Bool) (s t : Tuple) → b ≡ subsumes_tuple s t → (b ≡ true) ↔ Subsumes s t
+subsumes_tuple-is b s t e = (λ h. subsumes_tuple-true s t (sym e ∙ h), λ h. e ∙ subsumes_tuple-from s t h)

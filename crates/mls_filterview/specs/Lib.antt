@@ -5,4 +5,6 @@ pub mod Integrity
 pub mod Content
 pub mod Fragment
 pub mod Assembly
+pub mod Filtering
+pub mod RowOrder
 pub mod Laws

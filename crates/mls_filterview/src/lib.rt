@@ -3,15 +3,20 @@
 
 mod assembly;
 mod base;
+mod filtering;
 mod fragment;
 mod laws;
 mod subsumption;
 mod viewing;
+mod row;
+mod subsumption;
 
 pub use base::{Base, BaseFault, abandon};
+pub use filtering::filter;
 pub use fragment::{Cell, Fragment, Node};
 pub use laws::{
     rows_are_the_view, rows_come_from_low, stored_has_integrity, view_is_max_of_low,
     view_tells_low, views_and_low_agree,
 };
 pub use viewing::view;
+pub use subsumption::subsumes;

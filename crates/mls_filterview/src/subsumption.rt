@@ -7,6 +7,35 @@ use mls_scheme::Element;
 /// Whether each element of the first list is that of the second one, or has a value where that has none.
 #[tactic(auto, using(crate::proofs::SubsumptionSteps::uneven))]
 pub fn all_cover(left: &[Element], right: &[Element]) -> bool
+ghost use Rattle.std.specs.Prelude.{◌≡◌, ◌↔◌, IsTrue};
+ghost use Rattle.mls_filterview.specs.Subsumption.{covers, all_cover, Subsumes};
+ghost use Rattle.mls_filterview.specs.Filtering.{subsumes_tuple};
+
+use mls_scheme::{Element, Tuple, same_key};
+
+/// Whether the first tuple says all that the second one says.
+pub fn subsumes(left: &Tuple, right: &Tuple) -> bool
+    ensures { IsTrue result ↔ Subsumes left.now right.now }
+{
+    says_all(left, right)
+}
+
+/// Whether the first tuple subsumes the second one.
+#[tactic(auto, using(crate::proofs::SubsumptionSteps::entity_steps))]
+pub(crate) fn says_all(left: &Tuple, right: &Tuple) -> bool
+    ensures { result ≡ subsumes_tuple left.now right.now }
+{
+    if left.key_class != right.key_class {
+        return false;
+    }
+    if !same_key(&left.key, &right.key) {
+        return false;
+    }
+    all_cover(&left.elements, &right.elements)
+}
+
+#[tactic(auto, using(crate::proofs::SubsumptionSteps::uneven))]
+fn all_cover(left: &[Element], right: &[Element]) -> bool
     ensures { result ≡ all_cover left.now right.now }
 {
     if left.len() != right.len() {

@@ -1,0 +1,286 @@
+-- The view of a list of tuples, from its steps.
+use Rattle.std.proofs.Common.{◌≡◌, ℕ, zero, suc, ◌<◌, Bool, true, false, cond, not, ◌&&◌, List, [], ◌∷◌, length, map, Option, Some, None, refl, sym, ap, ◌∙◌, subst, arith, inl, inr, IsTrue}
+use Rattle.std.specs.Prelude.{◌↔◌, ◌⊎◌}
+use Rattle.std.specs.List.{filter, list_any, AllByRecursion}
+use Rattle.std.specs.List.Sorted.{IsStrictlySortedBy}
+use Rattle.std.specs.Ordering.{nat_cmp, on, ordering_then, is_lt}
+use Rattle.std.specs.declared.cmp.Ordering.{Ordering}
+use Rattle.std.specs.declared.cmp.Ordering.TheVariants.{Less, Equal, Greater}
+use Rattle.std.specs.Option.{option_cmp}
+use Rattle.std.specs.Cmp.{IsTotalOrder}
+use Rattle.std.specs.Cmp.Lexicographic.{slice_cmp, options_total}
+use Rattle.std.specs.FinMap.{IsAntisymmetric, slice_cmp-IsAntisymmetric, nat_cmp-IsAntisymmetric, get, entries, entries_sorted, is_sorted}
+use Rattle.std.specs.FinMap.Entries.{below_all}
+use Rattle.std.proofs.lemmas.Cmp.{on_total, then_total, nat_cmp_total, lists_total, tied_itself}
+use Rattle.std.proofs.lemmas.Bool.{true≢false, and_parts, and_from, cases_Bool, not-true, not_from_false, true_from_ne_false, false_from_ne_true}
+use Rattle.std.proofs.lemmas.Option.{same_Some}
+use Rattle.mls_lattice.specs.Labels.{Labels, below, AreDistinct}
+use Rattle.mls_lattice.proofs.LatticeLemmas.{below-antisym}
+use Rattle.mls_scheme.specs.declared.value.Value.{Value}
+use Rattle.mls_scheme.specs.declared.tuple.Element.{Element}
+use Rattle.mls_scheme.specs.declared.tuple.Tuple.{Tuple}
+use Rattle.mls_scheme.specs.declared.place.Place.{Place}
+use Rattle.mls_scheme.specs.Value.{value_cmp}
+use Rattle.mls_scheme.specs.Tuple.{at, HasClassesBelow}
+use Rattle.mls_scheme.specs.Table.{place_cmp, Table, Has, IsIn, tuple_at, place_of}
+use Rattle.mls_scheme.proofs.OrderLemmas.{value_total, value_exact, place_total, place_exact}
+use Rattle.mls_filterview.specs.Subsumption.{Subsumes, IsMax}
+use Rattle.mls_filterview.specs.View.{hide, filtered, Filter, View, low, rows, IsAmong}
+use Rattle.mls_filterview.specs.Stored.{Occurs, IsStoredTuple, IsStored}
+use Rattle.mls_filterview.specs.Filtering.{EachOnce, seen, subsumes_tuple, is_covered, uncovered, climb, class_number, row_of, element_cmp, row_cmp}
+use Rattle.mls_filterview.specs.RowOrder.{row_total}
+use Rattle.mls_filterview.proofs.SubsumptionLemmas.{Subsumes-antisym}
+use Rattle.mls_filterview.proofs.SubsumptionSteps.{subsumes_tuple-true, subsumes_tuple-from}
+use Rattle.mls_filterview.proofs.LevelLemmas.{View-same}
+use Rattle.mls_filterview.proofs.AmongLemmas.{among_map, map_among, among_filter, filter_among, none_of, all_none}
+use Rattle.mls_filterview.proofs.EntryLemmas.{Entry, among_entries, entries_among, sorted_filter, so_true, same_lists}
+use Rattle.mls_filterview.proofs.RowLemmas.{on_top, in_table, rows-view}
+
+-- ---- the order of rows
+
+then_ties : (o q : Ordering) → ordering_then o q ≡ Equal → (o ≡ Equal) × (q ≡ Equal)
+then_ties Less q e = absurd (cc)
+then_ties Equal q e = (refl, e)
+then_ties Greater q e = absurd (cc)
+
+same_value : (v w : Option Value) → option_cmp value_cmp v w ≡ Equal → v ≡ w
+same_value None None e = refl
+same_value None (Some w) e = absurd (cc)
+same_value (Some v) None e = absurd (cc)
+same_value (Some v) (Some w) e = ap Some (value_exact v w e)
+
+element_exact : IsAntisymmetric element_cmp
+element_exact e f h =
+    let t = then_ties (option_cmp value_cmp e.value f.value) (nat_cmp e.class f.class) h in
+    let v = same_value e.value f.value t.0 in
+    let c = nat_cmp-IsAntisymmetric e.class f.class t.1 in
+    λ i. record { value = v i; class = c i }
+
+pub row_exact : IsAntisymmetric row_cmp
+row_exact r s h =
+    let t = then_ties (place_cmp r.0 s.0) (slice_cmp element_cmp r.1 s.1) h in
+    let p = place_exact r.0 s.0 t.0 in
+    let e = slice_cmp-IsAntisymmetric element_exact r.1 s.1 t.1 in
+    λ i. (p i, e i)
+
+-- ---- what is seen, and what of it is not subsumed
+
+module _ (ls : Labels) (c : ℕ) (ts : List Tuple) where
+  abbrev X : Tuple → Type 0
+  X s = IsAmong s ts
+
+  seen-filter : (t : Tuple) → IsAmong t (seen ls c ts) ↔ Filter ls X c t
+  seen-filter t = (
+    (λ h.
+        let r = among_map (filtered ls c) (filter (λ t. below ls t.key_class c) ts) t h in
+        let k = among_filter (λ t. below ls t.key_class c) ts r.0 r.1 in
+        (r.0, k.0, k.1, r.2)),
+    (λ f.
+        subst (λ x. IsAmong x (seen ls c ts)) (sym f.3)
+        (map_among (filtered ls c) (filter (λ t. below ls t.key_class c) ts) f.0 (filter_among (λ t. below ls t.key_class c) ts f.0 f.1 f.2))),
+  )
+
+  pub uncovered-view : (t : Tuple) → IsAmong t (uncovered (seen ls c ts)) ↔ View ls X c t
+  uncovered-view t = (
+    (λ h.
+        let k = among_filter (λ t. not (is_covered (seen ls c ts) t)) (seen ls c ts) t h in (
+          (seen-filter t).0 k.0,
+          λ s f u.
+              let n = none_of (λ s. subsumes_tuple s t && not (subsumes_tuple t s)) (seen ls c ts) (not-true _ k.1) s ((seen-filter s).1 f) in
+              Subsumes-antisym s t u (subsumes_tuple-true t s (true_from_ne_false _ (λ z. true≢false (sym (and_from _ _ (subsumes_tuple-from s t u) (not_from_false _ z)) ∙ n)))),
+        )),
+    (λ v.
+        filter_among (λ t. not (is_covered (seen ls c ts) t)) (seen ls c ts) t ((seen-filter t).1 v.0) (not_from_false _
+        (all_none (λ s. subsumes_tuple s t && not (subsumes_tuple t s)) (seen ls c ts) (λ s i. false_from_ne_true _ (λ z.
+        let p = and_parts _ _ z in
+        let e = v.1 s ((seen-filter s).0 i) (subsumes_tuple-true s t p.0) in
+        true≢false (sym (subsumes_tuple-from t s (subst (λ x. Subsumes t x) (sym e) (subst (λ x. Subsumes x t) e (subsumes_tuple-true s t p.0)))) ∙ not-true _ p.1)))))),
+  )
+
+-- ---- classes stay in bounds
+
+bounded_map : (n : ℕ) (ls : Labels) (c k : ℕ) → k < n → (es : List Element) → AllByRecursion (λ e. e.class < n) es → AllByRecursion (λ e. e.class < n) (map (hide ls c k) es)
+bounded_map n ls c k l [] h = tt
+bounded_map n ls c k l (e ∷ es) h = (hidden (below ls e.class c), bounded_map n ls c k l es h.1)
+  where
+    hidden : (b : Bool) → (cond b e (record { value = None; class = k })).class < n
+    hidden true = h.0
+    hidden false = l
+
+filtered_bounded : (n : ℕ) (ls : Labels) (c : ℕ) (ts : List Tuple) → AllByRecursion (HasClassesBelow n) ts → AllByRecursion (HasClassesBelow n) (seen ls c ts)
+filtered_bounded n ls c [] h = tt
+filtered_bounded n ls c (t ∷ ts) h =
+    elim (below ls t.key_class c) as (λ b. AllByRecursion (HasClassesBelow n) (map (filtered ls c) (cond b (t ∷ filter (λ t. below ls t.key_class c) ts) (filter (λ t. below ls t.key_class c) ts)))) [
+      | true ↦ (record { key_class = h.0.key_class; elements = bounded_map n ls c t.key_class h.0.key_class t.elements h.0.elements }, filtered_bounded n ls c ts h.1)
+      | false ↦ filtered_bounded n ls c ts h.1
+    ]
+
+kept_bounded : {A : Type 0} (P : A → Type 0) (p : A → Bool) (xs : List A) → AllByRecursion P xs → AllByRecursion P (filter p xs)
+kept_bounded P p [] h = tt
+kept_bounded P p (x ∷ xs) h = elim (p x) as (λ b. AllByRecursion P (cond b (x ∷ filter p xs) (filter p xs))) [ true ↦ (h.0, kept_bounded P p xs h.1) | false ↦ kept_bounded P p xs h.1 ]
+
+pub uncovered_bounded : (n : ℕ) (ls : Labels) (c : ℕ) (ts : List Tuple) → AllByRecursion (HasClassesBelow n) ts → AllByRecursion (HasClassesBelow n) (uncovered (seen ls c ts))
+uncovered_bounded n ls c ts h = kept_bounded (HasClassesBelow n) (λ t. not (is_covered (seen ls c ts) t)) (seen ls c ts) (filtered_bounded n ls c ts h)
+
+-- ---- the number of a stored tuple's class
+
+climb-top : (ls : Labels) → AreDistinct ls → (m : ℕ) → m < length ls → (k : ℕ) (es : List Element) → k < length ls → below ls k m ≡ true
+    → ((i : ℕ) → i < length es → (below ls (at es i).class m ≡ true) × ((at es i).class < length ls)) → (m ≡ k) ⊎ ((i : ℕ) × (i < length es) × (m ≡ (at es i).class)) → climb ls k es ≡ m
+climb-top ls distinct m dm k [] dk b each (inl e) = sym e
+climb-top ls distinct m dm k [] dk b each (inr h) = absurd (let l = h.1 in omega arith)
+climb-top ls distinct m dm k (e ∷ es) dk b each occurs =
+    elim (below ls k e.class) as (λ t. below ls k e.class ≡ t → climb ls (cond t e.class k) es ≡ m) [
+      | true ↦ λ t. climb-top ls distinct m dm e.class es first.1 first.0 rest (up t occurs)
+      | false ↦ λ t. climb-top ls distinct m dm k es dk b rest (stays t occurs)
+    ] refl
+  where
+    first : (below ls e.class m ≡ true) × (e.class < length ls)
+    first = each 0 (omega arith)
+
+    rest : (i : ℕ) → i < length es → (below ls (at es i).class m ≡ true) × ((at es i).class < length ls)
+    rest i l = each (suc i) (omega arith)
+
+    up : below ls k e.class ≡ true → (m ≡ k) ⊎ ((i : ℕ) × (i < length (e ∷ es)) × (m ≡ (at (e ∷ es) i).class)) → (m ≡ e.class) ⊎ ((i : ℕ) × (i < length es) × (m ≡ (at es i).class))
+    up t (inl q) = inl (below-antisym ls distinct m e.class dm first.1 (subst (λ x. below ls x e.class ≡ true) (sym q) t) first.0)
+    up t (inr (zero, l, q)) = inl q
+    up t (inr (suc i, l, q)) = inr (i, omega arith, q)
+
+    stays : below ls k e.class ≡ false → (m ≡ k) ⊎ ((i : ℕ) × (i < length (e ∷ es)) × (m ≡ (at (e ∷ es) i).class)) → (m ≡ k) ⊎ ((i : ℕ) × (i < length es) × (m ≡ (at es i).class))
+    stays t (inl q) = inl q
+    stays t (inr (zero, l, q)) = absurd (true≢false (sym b ∙ ap (below ls k) q ∙ t))
+    stays t (inr (suc i, l, q)) = inr (i, omega arith, q)
+
+pub class_number-stored : (ls : Labels) → AreDistinct ls → (n : ℕ) (T : Table) → IsStored ls n T → (m : ℕ) (t : Tuple) → Has T m t → class_number ls t ≡ m
+unfolding class_number
+class_number-stored ls distinct n T stored m t h =
+    let st = stored (place_of m t) t.elements h in
+    climb-top ls distinct m (st.declared m st.own) t.key_class t.elements (st.declared t.key_class (inl refl)) (st.greatest t.key_class (inl refl))
+    (λ i l. (st.greatest (at t.elements i).class (inr (i, l, refl)), st.declared (at t.elements i).class (inr (i, l, refl)))) st.own
+
+-- ---- rows in order
+
+-- rows that come from tuples, in order and each once
+pub record AreRows (ls : Labels) (us : List Tuple) (es : List Entry) : Type 0 where
+  pub sorted : IsStrictlySortedBy row_cmp es
+  pub from : (r : Entry) → IsAmong r es → IsAmong r (map (row_of ls) us)
+  pub kept : (r : Entry) → IsAmong r (map (row_of ls) us) → (s : Entry) × IsAmong s es × (row_cmp r s ≡ Equal)
+
+abbrev tuples : List Entry → List Tuple
+tuples es = map (λ r. tuple_at r.0 r.1) es
+
+all_at : {A : Type 0} (P : A → Type 0) (xs : List A) → AllByRecursion P xs → (x : A) → IsAmong x xs → P x
+all_at P [] h x i = absurd i
+all_at P (y ∷ ys) h x (inl e) = subst P (sym e) h.0
+all_at P (y ∷ ys) h x (inr i) = all_at P ys h.1 x i
+
+not_less : (r s : Entry) → row_cmp r s ≡ Less → r ≡ s → ⊥
+not_less r s l e = less_equal (sym (subst (λ x. row_cmp r x ≡ Equal) e (tied_itself row_total r)) ∙ l)
+  where
+    less_equal : Equal ≡ Less → ⊥
+    less_equal h = cc
+
+module _ (ls : Labels) (us : List Tuple) where
+  -- a row is that of its tuple
+  of_tuple : (r : Entry) → IsAmong r (map (row_of ls) us) → r ≡ row_of ls (tuple_at r.0 r.1)
+  of_tuple r h = let x = among_map (row_of ls) us r h in x.2 ∙ ap (row_of ls) (sym (ap (λ (z : Entry). tuple_at z.0 z.1) x.2))
+
+  once_from : (es : List Entry) → IsStrictlySortedBy row_cmp es → ((r : Entry) → IsAmong r es → r ≡ row_of ls (tuple_at r.0 r.1)) → EachOnce (tuples es)
+  unfolding EachOnce IsStrictlySortedBy
+  once_from [] s h = tt
+  once_from (e ∷ es) s h = (
+    (λ i.
+        let d = among_map (λ (r : Entry). tuple_at r.0 r.1) es (tuple_at e.0 e.1) i in
+        not_less e d.0 (all_at (λ d. row_cmp e d ≡ Less) es s.0 d.0 d.1) (h e (inl refl) ∙ ap (row_of ls) d.2 ∙ sym (h d.0 (inr d.1)))),
+    once_from es s.1 (λ r i. h r (inr i)),
+  )
+
+  module _ (es : List Entry) (are : AreRows ls us es) where
+    pub rows-once : EachOnce (tuples es)
+    rows-once = once_from es are.sorted (λ r i. of_tuple r (are.from r i))
+
+    pub rows-members : (t : Tuple) → IsAmong t (tuples es) ↔ IsAmong t us
+    rows-members t = (
+      (λ h.
+          let r = among_map (λ (r : Entry). tuple_at r.0 r.1) es t h in
+          let u = among_map (row_of ls) us r.0 (are.from r.0 r.1) in
+          subst (λ x. IsAmong x us) (sym (r.2 ∙ ap (λ (z : Entry). tuple_at z.0 z.1) u.2)) u.1),
+      (λ h.
+          let s = are.kept (row_of ls t) (map_among (row_of ls) us t h) in
+          let e : row_of ls t ≡ s.0 = row_exact (row_of ls t) s.0 s.2 in
+          subst (λ x. IsAmong x (tuples es)) (sym (ap (λ (z : Entry). tuple_at z.0 z.1) e)) (map_among (λ (r : Entry). tuple_at r.0 r.1) es s.0 s.1)),
+    )
+
+-- ---- where the tuples are those of a stored table
+
+-- at most one entry stands at a place
+abbrev IsFunctional : List Entry → Type 0
+IsFunctional es = (d e : Entry) → IsAmong d es → IsAmong e es → d.0 ≡ e.0 → d ≡ e
+
+less_place : (o q : Ordering) → ordering_then o q ≡ Less → (o ≡ Equal → ⊥) → is_lt o ≡ true
+less_place Less q h n = refl
+less_place Equal q h n = absurd (n refl)
+less_place Greater q h n = absurd (cc)
+
+below_each : (e : Entry) (es : List Entry) → AllByRecursion (λ d. row_cmp e d ≡ Less) es → ((d : Entry) → IsAmong d es → e.0 ≡ d.0 → e ≡ d) → below_all place_cmp e.0 es ≡ true
+below_each e [] h f = refl
+below_each e (d ∷ es) h f =
+    and_from _ _ (less_place (place_cmp e.0 d.0) (slice_cmp element_cmp e.1 d.1) h.0 (λ q. not_less e d h.0 (f d (inl refl) (place_exact e.0 d.0 q))))
+    (below_each e es h.1 (λ x i. f x (inr i)))
+
+by_place : (es : List Entry) → IsStrictlySortedBy row_cmp es → IsFunctional es → is_sorted place_cmp es ≡ true
+unfolding IsStrictlySortedBy
+by_place [] s f = refl
+by_place (e ∷ es) s f = and_from _ _ (below_each e es s.0 (λ d i q. f e d (inl refl) (inr i) q)) (by_place es s.1 (λ d x i j q. f d x (inr i) (inr j) q))
+
+module _ (ls : Labels) (distinct : AreDistinct ls) (n : ℕ) (T : Table) (stored : IsStored ls n T) (c : ℕ) (ts : List Tuple) (same : (t : Tuple) → IsAmong t ts ↔ IsIn T t)
+    (es : List Entry) (are : AreRows ls (uncovered (seen ls c ts)) es) where
+  abbrev us : List Tuple
+  us = uncovered (seen ls c ts)
+
+  abbrev top : List Entry
+  top = on_top ls distinct n T stored c
+
+  -- a row and an entry of one tuple are one
+  is_entry : (r d : Entry) → IsAmong r es → IsAmong d top → tuple_at r.0 r.1 ≡ tuple_at d.0 d.1 → r ≡ d
+  is_entry r d i j e =
+      let h = in_table ls distinct n T stored c d (among_entries (low ls c T) d (among_filter _ (entries (low ls c T)) d j).0) in
+      of_tuple ls us r (are.from r i) ∙ (λ k. (place_of (class_number ls (e k)) (e k), (e k).elements))
+      ∙ (λ k. (place_of (class_number-stored ls distinct n T stored d.0.class (tuple_at d.0 d.1) h k) (tuple_at d.0 d.1), d.1))
+
+  in_view : (t : Tuple) → IsAmong t (tuples es) ↔ IsAmong t (rows ls c T)
+  in_view t =
+      let v = rows-view ls distinct n T stored c t in
+      let w = View-same ls c (λ s. IsAmong s ts) (IsIn T) same t in
+      let m = rows-members ls us es are t in
+      let u = uncovered-view ls c ts t in
+      ((λ h. v.1 (w.0 (u.0 (m.0 h)))), (λ h. m.1 (u.1 (w.1 (v.0 h)))))
+
+  to_entry : (r : Entry) → IsAmong r es → (d : Entry) × IsAmong d top × (r ≡ d)
+  unfolding rows
+  to_entry r i =
+      let d = among_map (λ (r : Entry). tuple_at r.0 r.1) top (tuple_at r.0 r.1) ((in_view (tuple_at r.0 r.1)).0 (map_among (λ (r : Entry). tuple_at r.0 r.1) es r i)) in
+      (d.0, d.1, is_entry r d.0 i d.1 d.2)
+
+  from_entry : (d : Entry) → IsAmong d top → IsAmong d es
+  unfolding rows
+  from_entry d j =
+      let r = among_map (λ (r : Entry). tuple_at r.0 r.1) es (tuple_at d.0 d.1) ((in_view (tuple_at d.0 d.1)).1 (map_among (λ (r : Entry). tuple_at r.0 r.1) top d j)) in
+      subst (λ x. IsAmong x es) (is_entry r.0 d r.1 j (sym r.2)) r.1
+
+  pub rows-stored : tuples es ≡ rows ls c T
+  unfolding rows
+  rows-stored = ap tuples (same_lists es top (by_place es are.sorted functional) (sorted_filter _ (entries (low ls c T)) (so_true _ (entries_sorted (low ls c T)))) (λ e. (
+    (λ i. (let d = to_entry e i in subst (λ x. IsAmong x top) (sym d.2) d.1)),
+    from_entry e,
+  )))
+    where
+      found : (d : Entry) → IsAmong d top → get (low ls c T) d.0 ≡ Some d.1
+      found d j = among_entries (low ls c T) d (among_filter _ (entries (low ls c T)) d j).0
+
+      functional : IsFunctional es
+      functional d e i j q =
+          let x = to_entry d i in
+          let y = to_entry e j in
+          let p : x.0.0 ≡ y.0.0 = sym (ap (λ (z : Entry). z.0) x.2) ∙ q ∙ ap (λ (z : Entry). z.0) y.2 in
+          let u : x.0.1 ≡ y.0.1 = same_Some x.0.1 y.0.1 (sym (found x.0 x.1) ∙ ap (get (low ls c T)) p ∙ found y.0 y.1) in
+          x.2 ∙ (λ k. (p k, u k)) ∙ sym y.2

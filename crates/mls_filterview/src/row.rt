@@ -1,0 +1,85 @@
+//! Tuples by their places.
+ghost use Rattle.std.specs.Prelude.{◌≡◌, refl, Some};
+ghost use Rattle.std.specs.Ordering.{eq_by_cmp};
+ghost use Rattle.std.specs.Cmp.{partial_equiv_from_equiv, eq_by_cmp_equiv, po};
+ghost use Rattle.std.specs.Cmp.Lexicographic.{slice_cmp};
+ghost use Rattle.mls_filterview.specs.Filtering.{element_cmp, row_cmp};
+ghost use Rattle.mls_filterview.specs.RowOrder.{row_total};
+
+use mls_lattice::Items;
+use mls_scheme::{Element, Place};
+use std::cmp::Ordering;
+use std::marker::Model;
+
+/// The place of a tuple, and its elements.
+#[derive(Drop)]
+pub(crate) struct Row {
+    pub place: Place,
+    pub elements: Items<Element>,
+}
+
+impl Model for Row {
+    ghost use Rattle.std.specs.Prelude.{List};
+    ghost use Rattle.mls_scheme.specs.declared.place.Place.{Place as At};
+    ghost use Rattle.mls_scheme.specs.declared.tuple.Element.{Element as Part};
+
+    ghost Value = { At × List Part };
+
+    ghost view = { λ a. (a.place, a.elements) };
+}
+
+impl Row {
+    /// The order of rows: by place, and at one place by elements.
+    pub fn order(&self, other: &Row) -> Ordering
+        ensures { result ≡ row_cmp self.now other.now }
+    {
+        self.place
+            .order(&other.place)
+            .then(order_elements(&self.elements, &other.elements))
+    }
+}
+
+/// The order of elements: the first that differ decide, null before values, and then by class.
+fn order_elements(left: &Items<Element>, right: &Items<Element>) -> Ordering
+    ensures { result ≡ slice_cmp element_cmp left.now right.now }
+{
+    left.cmp(right)
+}
+
+impl PartialEq for Row {
+    ghost eq = { eq_by_cmp row_cmp };
+
+    ghost laws = { partial_equiv_from_equiv (eq_by_cmp_equiv row_total) };
+
+    fn eq(&self, other: &Row) -> bool {
+        self.order(other).is_eq()
+    }
+}
+
+impl Eq for Row {
+    ghost laws = { eq_by_cmp_equiv row_total };
+}
+
+impl PartialOrd for Row {
+    ghost partial_cmp = { λ x y. Some (row_cmp x y) };
+
+    ghost laws = { po row_total (λ x y. refl) };
+
+    fn partial_cmp(&self, other: &Row) -> Option<Ordering> {
+        Some(self.order(other))
+    }
+}
+
+impl Ord for Row {
+    ghost cmp = { row_cmp };
+
+    ghost total = { row_total };
+
+    ghost matches_partial_cmp = { λ x y. refl };
+
+    ghost matches_eq = { λ x y. refl };
+
+    fn cmp(&self, other: &Row) -> Ordering {
+        self.order(other)
+    }
+}

@@ -3,7 +3,7 @@ ghost use Rattle.std.specs.Prelude.{◌≡◌, ◌≢◌, ◌↔◌, ◌<◌, �
 ghost use Rattle.std.specs.FinMap.{get, insert, remove};
 ghost use Rattle.mls_scheme.specs.declared.tuple.Element.{Element as SpecElement};
 ghost use Rattle.mls_scheme.specs.Table.{change};
-ghost use Rattle.mls_filterview.specs.Content.{State, begun_change, committed, ended, after, with_relation};
+ghost use Rattle.mls_filterview.specs.Content.{State, begun_change, committed, ended, failed, after, with_relation};
 ghost use Rattle.mls_filterview.specs.Fragment.{IsFragment, IsMadeOf, place_of_node, HasCell, set_in, IsAlone};
 
 use crate::fragment::{Cell, Fragment, Node};
@@ -48,7 +48,8 @@ impl<T: Drop> From<AllocFailed<T>> for BaseFault {
 ///
 /// Contracts see the content now, that of the last commit, and whether a change is begun; how many calls of the store
 /// have failed; and whether the store gives back what was written to it. A store can be found unclean at any call and
-/// never becomes clean again, so what is said of content has the premise that the store is clean after the call.
+/// never becomes clean again, so what is said of content has the premise that the store is clean after the call;
+/// whether a change is begun is known without it.
 /// After `Store` or `Memory` inside a change the change has ended, with the content of the last commit.
 pub trait Base {
     ghost state: { Self → State };
@@ -97,6 +98,7 @@ pub trait Base {
         ensures count { failures self.old ≤ failures self.new }
         ensures store { IsErrOf result BaseFault.Store → failures self.old < failures self.new }
         ensures no_other { IfErr result (λ e. (e ≡ BaseFault.NotBegun → ⊥) × (e ≡ BaseFault.Begun → ⊥)) }
+        ensures begun { OnOk result ((state self.new).begun ≡ (state self.old).begun) }
         ensures found { is_clean self.new → IfOk result (IsFragment ((state self.old).now.db rel) label) }
         ensures same { is_clean self.new → OnOk result (state self.new ≡ state self.old) }
         ensures failed { is_clean self.new → IfErr result (λ e. state self.new ≡ after e (state self.old)) };
@@ -110,6 +112,7 @@ pub trait Base {
         ensures store { IsErrOf result BaseFault.Store → failures self.old < failures self.new }
         ensures not_begun { (result ≡ Err BaseFault.NotBegun) ↔ ((state self.old).begun ≡ false) }
         ensures no_other { IsErrOf result BaseFault.Begun → ⊥ }
+        ensures begun { OnOk result ((state self.new).begun ≡ (state self.old).begun) }
         ensures done { is_clean self.new → (es : List SpecElement) → IsMadeOf ((state self.old).now.db rel) node cells.now es
             → OnOk result (state self.new ≡ with_relation (state self.old) rel (insert ((state self.old).now.db rel) (place_of_node node) es)) }
         ensures failed { is_clean self.new → IfErr result (λ e. state self.new ≡ after e (state self.old)) };
@@ -128,6 +131,7 @@ pub trait Base {
         ensures store { IsErrOf result BaseFault.Store → failures self.old < failures self.new }
         ensures not_begun { (result ≡ Err BaseFault.NotBegun) ↔ ((state self.old).begun ≡ false) }
         ensures no_other { IsErrOf result BaseFault.Begun → ⊥ }
+        ensures begun { OnOk result ((state self.new).begun ≡ (state self.old).begun) }
         ensures done { is_clean self.new
             → OnOk result (state self.new ≡ with_relation (state self.old) rel (change (set_in place.now attr value) ((state self.old).now.db rel))) }
         ensures failed { is_clean self.new → IfErr result (λ e. state self.new ≡ after e (state self.old)) };
@@ -140,7 +144,20 @@ pub trait Base {
         ensures store { IsErrOf result BaseFault.Store → failures self.old < failures self.new }
         ensures not_begun { (result ≡ Err BaseFault.NotBegun) ↔ ((state self.old).begun ≡ false) }
         ensures no_other { IsErrOf result BaseFault.Begun → ⊥ }
+        ensures begun { OnOk result ((state self.new).begun ≡ (state self.old).begun) }
         ensures done { is_clean self.new → IsAlone ((state self.old).now.db rel) place.now
             → OnOk result (state self.new ≡ with_relation (state self.old) rel (remove ((state self.old).now.db rel) place.now)) }
         ensures failed { is_clean self.new → IfErr result (λ e. state self.new ≡ after e (state self.old)) };
+}
+
+/// Ends the change, if one is begun, as each call of a base does before it answers `Store` or `Memory`.
+///
+/// A call over a base that meets a fault of its own, as a refused growth, or a fault after some of its steps, does so
+/// before it answers the fault: the state is then as if it had failed at once.
+pub fn abandon<B: Base>(base: &mut B)
+    ensures clean { B.is_clean base.new → B.is_clean base.old }
+    ensures count { B.failures base.old ≤ B.failures base.new }
+    ensures failed { B.is_clean base.new → B.state base.new ≡ failed (B.state base.old) }
+{
+    let _ = base.rollback();
 }

@@ -6,7 +6,7 @@ mod base;
 mod fragment;
 mod laws;
 
-pub use base::{Base, BaseFault};
+pub use base::{Base, BaseFault, abandon};
 pub use fragment::{Cell, Fragment, Node};
 pub use laws::{
     rows_are_the_view, rows_come_from_low, stored_has_integrity, view_is_max_of_low,

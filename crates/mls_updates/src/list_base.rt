@@ -34,13 +34,15 @@ impl ListBase {
         }
     }
 
-    /// Ends the change, if one is begun, with the content of the last commit.
-    fn end(&mut self)
-        ensures { state_of self.new.rows self.new.saved ≡ failed (state_of self.old.rows self.old.saved) }
+    /// Ends the change, if one is begun, where a growth was refused.
+    fn fail(&mut self) -> BaseFault
+        ensures ended { state_of self.new.rows self.new.saved ≡ failed (state_of self.old.rows self.old.saved) }
+        ensures memory { result ≡ BaseFault.Memory }
     {
         if let Some(saved) = self.saved.take() {
             self.rows = saved;
         }
+        BaseFault::Memory
     }
 
     /// Adds a tuple, its elements put together.
@@ -83,7 +85,7 @@ impl Base for ListBase {
     }
 
     fn begin(&mut self) -> Result<(), BaseFault> {
-        if self.saved.is_some() {
+        if self.is_begun() {
             return Err(BaseFault::Begun);
         }
         let rows = self.rows.copy()?;
@@ -92,7 +94,7 @@ impl Base for ListBase {
     }
 
     fn commit(&mut self) -> Result<(), BaseFault> {
-        if self.saved.is_none() {
+        if !self.is_begun() {
             return Err(BaseFault::NotBegun);
         }
         self.saved = None;
@@ -100,33 +102,29 @@ impl Base for ListBase {
     }
 
     fn rollback(&mut self) -> Result<(), BaseFault> {
-        if self.saved.is_none() {
-            return Err(BaseFault::NotBegun);
+        match self.saved.take() {
+            Some(last) => {
+                self.rows = last;
+                Ok(())
+            }
+            None => Err(BaseFault::NotBegun),
         }
-        self.end();
-        Ok(())
     }
 
     fn fragment(&mut self, rel: RelNo, label: LabelNo) -> Result<Fragment, BaseFault> {
         match self.rows.fragment(self.alloc, rel, label) {
             Ok(fragment) => Ok(fragment),
-            Err(_) => {
-                self.end();
-                Err(BaseFault::Memory)
-            }
+            Err(_) => Err(self.fail()),
         }
     }
 
     fn add(&mut self, rel: RelNo, node: Node, cells: &[Cell]) -> Result<(), BaseFault> {
-        if self.saved.is_none() {
+        if !self.is_begun() {
             return Err(BaseFault::NotBegun);
         }
         match self.add_row(rel, node, cells) {
             Ok(_) => Ok(()),
-            Err(_) => {
-                self.end();
-                Err(BaseFault::Memory)
-            }
+            Err(_) => Err(self.fail()),
         }
     }
 
@@ -137,20 +135,17 @@ impl Base for ListBase {
         attr: usize,
         value: Option<Value>,
     ) -> Result<(), BaseFault> {
-        if self.saved.is_none() {
+        if !self.is_begun() {
             return Err(BaseFault::NotBegun);
         }
         match self.rows.set(self.alloc, rel, place, attr, &value) {
             Ok(_) => Ok(()),
-            Err(_) => {
-                self.end();
-                Err(BaseFault::Memory)
-            }
+            Err(_) => Err(self.fail()),
         }
     }
 
     fn drop_at(&mut self, rel: RelNo, place: &Place) -> Result<(), BaseFault> {
-        if self.saved.is_none() {
+        if !self.is_begun() {
             return Err(BaseFault::NotBegun);
         }
         self.rows.remove(rel, place);

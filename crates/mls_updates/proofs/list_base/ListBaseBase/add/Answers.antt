@@ -15,6 +15,6 @@ returns-in-Ok-clause-done c = λ clean es is_made.
     let rows = c.args.self.now.rows in
     let none = sym (get_table rows c.args.rel (place_of_node c.args.node)) ∙ c.requires.absent tt in
     rw c.in-Ok.ensures.kept
-    (state-changed rows _ c.args.self.now.saved c.if-is_none.ensures c.args.rel _
+    (state-changed rows _ c.args.self.now.saved (sym c.is_begun.ensures ∙ c.if-not-is_begun.false) c.args.rel _
     (ap table_of c.in-Ok.ensures.done ∙ table-push rows _ none
     ∙ ap (λ fs. with_table (table_of rows) c.args.rel (insert (table_of rows c.args.rel) (place_of_node c.args.node) fs)) (made c.args.rel rows c.args.node c.args.cells.now es is_made)))

@@ -5,3 +5,6 @@ pub mod KeptLemmas
 pub mod FittingLemmas
 pub mod LawLemmas
 pub mod SampleLemmas
+pub mod RowsLemmas
+pub mod FragmentLemmas
+pub mod MadeLemmas

@@ -1,3 +1,4 @@
 pub mod Outcome
 pub mod Writes
 pub mod Laws
+pub mod Rows

@@ -8,3 +8,7 @@ pub mod SampleLemmas
 pub mod RowsLemmas
 pub mod FragmentLemmas
 pub mod MadeLemmas
+pub mod IntervalLemmas
+pub mod FindingLemmas
+pub mod KeyLemmas
+pub mod CallLemmas

@@ -2,3 +2,5 @@ pub mod Outcome
 pub mod Writes
 pub mod Laws
 pub mod Rows
+pub mod Calls
+pub mod Finding

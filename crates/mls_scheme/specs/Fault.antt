@@ -1,5 +1,7 @@
 -- The numbers and names of the faults of schemes.
 use Rattle.std.specs.Prelude.{ℕ, List, codes}
+use Rattle.mls_lattice.specs.declared.fault.PolicyFault.{PolicyFault}
+use Rattle.mls_lattice.specs.declared.fault.PolicyFault.TheVariants as policy
 use Rattle.mls_scheme.specs.declared.fault.SchemeFault.{SchemeFault}
 use Rattle.mls_scheme.specs.declared.fault.SchemeFault.TheVariants.{NotToml, MissingField, WrongKind, Repeated, UnknownName, TooMany, BadName, EmptyInterval, Memory, NoKey, KeyIntervals}
 
@@ -28,3 +30,15 @@ word_of EmptyInterval = codes "EmptyInterval"
 word_of Memory = codes "Memory"
 word_of NoKey = codes "NoKey"
 word_of KeyIntervals = codes "KeyIntervals"
+
+-- the fault of the same number
+abbrev pub scheme_fault_of : PolicyFault → SchemeFault
+scheme_fault_of policy.NotToml = NotToml
+scheme_fault_of policy.MissingField = MissingField
+scheme_fault_of policy.WrongKind = WrongKind
+scheme_fault_of policy.Repeated = Repeated
+scheme_fault_of policy.UnknownName = UnknownName
+scheme_fault_of policy.TooMany = TooMany
+scheme_fault_of policy.BadName = BadName
+scheme_fault_of policy.EmptyInterval = EmptyInterval
+scheme_fault_of policy.Memory = Memory

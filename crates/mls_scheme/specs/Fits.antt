@@ -1,5 +1,5 @@
 -- What fits a scheme: numbers, kinds and intervals.
-use Rattle.std.specs.Prelude.{◌≡◌, ℕ, Bool, true, ◌&&◌, List, Option, Some}
+use Rattle.std.specs.Prelude.{◌≡◌, ℕ, Bool, true, ◌&&◌, List, Option}
 use Rattle.std.specs.List.{AllZip}
 use Rattle.mls_lattice.specs.Labels.{Labels, below}
 use Rattle.mls_scheme.specs.declared.value.Value.{Value}

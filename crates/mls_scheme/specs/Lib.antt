@@ -4,4 +4,7 @@ pub mod Table
 pub mod Order
 pub mod Scheme
 pub mod Fault
+pub mod Reading
+pub mod Document
+pub mod Canon
 pub mod Fits

@@ -43,8 +43,11 @@ other_of scheme i = slice_index_or scheme.others i no_attribute
 abbrev pub column_of : Attribute → Column
 column_of a = record { kind = a.kind; low = a.low; high = a.high }
 
+abbrev pub attribute_named : Name → Column → Attribute
+attribute_named name c = record { name = name; kind = c.kind; low = c.low; high = c.high }
+
 abbrev pub attribute_of : {Z : Type 0} → String Z × Column → Attribute
-attribute_of e = record { name = string_bytes e.0; kind = e.1.kind; low = e.1.low; high = e.1.high }
+attribute_of e = attribute_named (string_bytes e.0) e.1
 
 -- ---- what holds of all schemes
 

@@ -1,11 +1,13 @@
-ghost use Rattle.std.specs.Prelude.{◌≡◌, ◌==◌, ◌<◌, ◌++◌, [], ◌∷◌, length, position, slice_get, Some, None, IfOk, IfSome, OnOk, option_map};
+ghost use Rattle.std.specs.Prelude.{◌≡◌, ◌==◌, ◌<◌, ◌++◌, [], ◌∷◌, false, length, position, slice_get, string_bytes, Some, IfErr, IfSome, OnOk, option_map};
 ghost use Rattle.std.specs.Str.{bytes_eq};
-ghost use Rattle.mls_scheme.specs.Scheme.{column_of};
+ghost use Rattle.mls_scheme.specs.Scheme.{attribute_of, column_of};
+ghost use Rattle.mls_scheme.specs.Reading.{has_attribute};
 
+use crate::fault::SchemeFault;
 use crate::value::Kind;
 use indexmap::IndexMap;
 use mls_lattice::LabelNo;
-use std::alloc::{AllocError, Global};
+use std::alloc::Global;
 use std::marker::Model;
 
 /// What is said of an attribute beside its name: low and high are the ends of the interval of its classes.
@@ -68,5 +70,33 @@ impl Attributes {
         ensures within { IfSome result (λ place. place < length self.now) }
     {
         self.map.get_index_of(name)
+    }
+
+    /// Whether an attribute has a name.
+    #[tactic(auto, using(crate::proofs::AttributeLemmas::place_steps))]
+    pub fn has(&self, name: &str) -> bool
+        ensures { result ≡ has_attribute self.now name.now }
+    {
+        self.place(name).is_some()
+    }
+
+    /// No attribute: takes no memory.
+    pub(crate) fn new(alloc: Global) -> Attributes
+        ensures { result ≡ [] }
+    {
+        Attributes {
+            map: IndexMap::new(alloc),
+        }
+    }
+
+    /// One attribute more, of a new name.
+    pub(crate) fn push(&mut self, attribute: (String, Column)) -> Result<(), SchemeFault>
+        requires { has_attribute self.old (string_bytes attribute.0) ≡ false }
+        ensures pushed { OnOk result (self.new ≡ self.old ++ attribute_of attribute ∷ []) }
+        ensures memory { IfErr result (λ e. e ≡ SchemeFault.Memory) }
+    {
+        let (name, column) = attribute;
+        self.map.insert(name, column)?;
+        Ok(())
     }
 }

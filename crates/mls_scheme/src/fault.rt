@@ -1,7 +1,8 @@
 ghost use Rattle.std.specs.Prelude.{◌≡◌};
 ghost use Rattle.mls_scheme.specs.declared.fault.SchemeFault.TheVariants.{Memory};
-ghost use Rattle.mls_scheme.specs.Fault.{code_of, word_of};
+ghost use Rattle.mls_scheme.specs.Fault.{code_of, word_of, scheme_fault_of};
 
+use mls_lattice::PolicyFault;
 use std::alloc::{AllocError, AllocFailed};
 use thiserror::Error;
 
@@ -73,5 +74,23 @@ impl<T: Drop> From<AllocFailed<T>> for SchemeFault {
 
     fn from(_e: AllocFailed<T>) -> SchemeFault {
         SchemeFault::Memory
+    }
+}
+
+impl From<PolicyFault> for SchemeFault {
+    ghost from_gives = { λ p s. s ≡ scheme_fault_of p };
+
+    fn from(fault: PolicyFault) -> SchemeFault {
+        match fault {
+            PolicyFault::NotToml => SchemeFault::NotToml,
+            PolicyFault::MissingField => SchemeFault::MissingField,
+            PolicyFault::WrongKind => SchemeFault::WrongKind,
+            PolicyFault::Repeated => SchemeFault::Repeated,
+            PolicyFault::UnknownName => SchemeFault::UnknownName,
+            PolicyFault::TooMany => SchemeFault::TooMany,
+            PolicyFault::BadName => SchemeFault::BadName,
+            PolicyFault::EmptyInterval => SchemeFault::EmptyInterval,
+            PolicyFault::Memory => SchemeFault::Memory,
+        }
     }
 }

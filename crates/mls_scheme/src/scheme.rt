@@ -1,10 +1,19 @@
-ghost use Rattle.std.specs.Prelude.{◌≡◌, ◌<◌, ◌≤◌, length, position, slice_get, Some, IfSome};
+ghost use Rattle.std.specs.Prelude.{◌≡◌, ◌≢◌, ◌↔◌, ◌<◌, List, length, position, Err, IfOk, IfErr, IfSome};
 ghost use Rattle.std.specs.Str.{bytes_eq};
-ghost use Rattle.mls_scheme.specs.Scheme.{scheme_of, IsScheme, AreSchemes};
+ghost use Rattle.toml.specs.Data.{Members};
+ghost use Rattle.mls_lattice.specs.ReadsPolicy.{IsDocument};
+ghost use Rattle.mls_scheme.specs.Scheme.{Scheme as Relation, scheme_of, IsScheme, AreSchemes, AreUnder};
+ghost use Rattle.mls_scheme.specs.Reading.{schemes_at};
+ghost use Rattle.mls_scheme.specs.Document.{ReadsSchemes};
+ghost use Rattle.mls_scheme.specs.Canon.{canon_of};
 
 use crate::attributes::Attributes;
+use crate::canon::relations_to;
+use crate::fault::SchemeFault;
 use crate::number::RelNo;
-use mls_lattice::{Items, Str};
+use crate::reading::schemes_of;
+use mls_lattice::{Items, Policy, Str};
+use std::alloc::{AllocError, Global};
 use std::marker::Model;
 
 /// A relation: its name, its key attributes and the others (Jajodia and Sandhu 1991).
@@ -26,6 +35,13 @@ impl Model for Scheme {
 }
 
 impl Scheme {
+    pub(crate) fn new(name: Str, keys: Attributes, others: Attributes) -> Scheme
+        requires { IsScheme (record { name = name; keys = keys; others = others }) }
+        ensures { result ≡ record { name = name; keys = keys; others = others } }
+    {
+        Scheme { name, keys, others }
+    }
+
     /// The name of the relation.
     pub fn name(&self) -> &str
         ensures { result.now ≡ self.now.name }
@@ -68,6 +84,15 @@ impl Model for Schemes {
 }
 
 impl Schemes {
+    pub(crate) fn new(relations: Vec<Scheme>) -> Schemes
+        requires { AreSchemes relations.items }
+        ensures { result ≡ relations.items }
+    {
+        Schemes {
+            relations: Items::from(relations),
+        }
+    }
+
     /// How many relations there are.
     pub fn count(&self) -> usize
         ensures count { result ≡ length self.now }
@@ -96,6 +121,35 @@ impl Schemes {
         let scheme = &self.relations[rel.index()];
         let _keys = scheme.keys();
         scheme
+    }
+
+    /// Reads the schemes of a TOML document, whose labels are those of a policy.
+    pub fn read(alloc: Global, policy: &Policy, bytes: &[u8]) -> Result<Schemes, SchemeFault>
+        // What is read is what the bytes say.
+        ensures found { IfOk result (ReadsSchemes policy.now bytes.now) }
+        ensures under { IfOk result (AreUnder (length policy.now.labels)) }
+        // Unless memory runs out, nothing that says schemes is refused, and the fault is the first of the document.
+        ensures refused { IfErr result (λ e. e ≢ SchemeFault.Memory → (s : List Relation) → ReadsSchemes policy.now bytes.now s → ⊥) }
+        ensures first { IfErr result
+            (λ e. e ≢ SchemeFault.Memory → (document : Members) → IsDocument bytes.now document → schemes_at policy.now document ≡ Err e) }
+        ensures not_toml { IfErr result
+            (λ e. e ≢ SchemeFault.Memory → (e ≡ SchemeFault.NotToml) ↔ ((document : Members) → IsDocument bytes.now document → ⊥)) }
+    {
+        match toml::table_from_slice(alloc, bytes) {
+            Ok(document) => schemes_of(alloc, policy, &document),
+            Err(e) if e.is_memory() => Err(SchemeFault::Memory),
+            Err(_) => Err(SchemeFault::NotToml),
+        }
+    }
+
+    /// The canonical text, whose labels are those of a policy. It is no TOML document.
+    pub fn canon(&self, alloc: Global, policy: &Policy) -> Result<Vec<u8>, AllocError>
+        requires { AreUnder (length policy.now.labels) self.now }
+        ensures { IfOk result (λ text. text.items ≡ canon_of policy.now self.now) }
+    {
+        let mut text = String::from_str(alloc, "schemes 1\n")?;
+        relations_to(&mut text, policy, &self.relations)?;
+        Ok(text.into_bytes())
     }
 }
 

@@ -1,6 +1,7 @@
 ghost use Rattle.std.specs.Prelude.{◌≡◌, ◌↔◌, IsTrue, IfOk};
 ghost use Rattle.std.specs.Cmp.Lexicographic.{slice_cmp};
 ghost use Rattle.mls_scheme.specs.Value.{kind_of, is_kind, value_cmp};
+ghost use Rattle.mls_scheme.specs.Document.{kind_word};
 
 use mls_lattice::{Items, Str};
 use std::alloc::AllocError;
@@ -20,6 +21,18 @@ pub enum Kind {
 pub enum Value {
     Int(i64),
     Text(Str),
+}
+
+impl Kind {
+    /// The word of the kind, as texts write it.
+    pub fn word(self) -> &'static str
+        ensures { result.now ≡ kind_word self }
+    {
+        match self {
+            Kind::Int => "int",
+            Kind::Text => "text",
+        }
+    }
 }
 
 impl Value {

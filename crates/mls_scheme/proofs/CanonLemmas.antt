@@ -1,0 +1,25 @@
+-- The lines of attributes, one after another.
+use Rattle.std.proofs.Common.{◌≡◌, ℕ, ◌+◌, List, [], ◌∷◌, ◌++◌, take, slice_get, option_map, Option, Some, None, sym, ap, ◌∙◌}
+use Rattle.std.specs.List.{flat_map}
+use Rattle.std.proofs.lemmas.List.{flat_map_more, take_more}
+use Rattle.std.proofs.lemmas.Option.{slice_get_within, get_or_from_slice_get}
+use Rattle.mls_lattice.specs.Policy.{Name}
+use Rattle.mls_scheme.specs.declared.attributes.Column.{Column}
+use Rattle.mls_scheme.specs.Scheme.{Attribute, attribute_named, column_of}
+
+-- an attribute is its name and the rest
+whole : (o : Option Attribute) (name : Name) (c : Column) → option_map (λ a. a.name) o ≡ Some name → option_map column_of o ≡ Some c → o ≡ Some (attribute_named name c)
+whole None name c e f = absurd cc
+whole (Some a) name c e f =
+    let named : a.name ≡ name = cc in
+    let rest : column_of a ≡ c = cc in
+    λ i. Some (attribute_named (named i) (rest i))
+
+pub lines_more : (f : Attribute → List ℕ) (attributes : List Attribute) (k : ℕ) (name : Name) (c : Column) (start : List ℕ)
+    → option_map (λ a. a.name) (slice_get attributes k) ≡ Some name → option_map column_of (slice_get attributes k) ≡ Some c
+    → (start ++ flat_map f (take k attributes)) ++ f (attribute_named name c) ≡ start ++ flat_map f (take (k + 1) attributes)
+lines_more f attributes k name c start e g =
+    let here = whole (slice_get attributes k) name c e g in
+    let a = attribute_named name c in
+    flat_map_more f start (take k attributes) a
+    ∙ ap (λ xs. start ++ flat_map f xs) (sym (take_more attributes k a (slice_get_within attributes k a here) ∙ ap (λ x. take k attributes ++ x ∷ []) (get_or_from_slice_get attributes k a a here)))

@@ -1,0 +1,17 @@
+use Rattle.mls_scheme.proofs.SchemeLemmas.{read_found, read_under, read_refused, read_first, read_not_toml}
+use Rattle.mls_scheme.proofs.scheme.Schemes.read.Goals as goal
+
+pub returns-in-Ok-clause-found : goal.returns-in-Ok-clause-found
+returns-in-Ok-clause-found c = read_found c.args.policy.now c.args.bytes.now _ c.schemes_of.result c.in-Ok.ensures.ok c.schemes_of.ensures.reads
+
+pub returns-in-Ok-clause-under : goal.returns-in-Ok-clause-under
+returns-in-Ok-clause-under c = read_under c.args.policy.now _ c.schemes_of.result c.schemes_of.ensures.reads
+
+pub returns-in-Ok-clause-refused : goal.returns-in-Ok-clause-refused
+returns-in-Ok-clause-refused c = read_refused c.args.policy.now c.args.bytes.now _ c.schemes_of.result c.in-Ok.ensures.ok c.schemes_of.ensures.reads
+
+pub returns-in-Ok-clause-first : goal.returns-in-Ok-clause-first
+returns-in-Ok-clause-first c = read_first c.args.policy.now c.args.bytes.now _ c.schemes_of.result c.in-Ok.ensures.ok c.schemes_of.ensures.reads
+
+pub returns-in-Ok-clause-not_toml : goal.returns-in-Ok-clause-not_toml
+returns-in-Ok-clause-not_toml c = read_not_toml c.args.bytes.now _ c.schemes_of.result c.in-Ok.ensures.ok c.schemes_of.ensures.toml

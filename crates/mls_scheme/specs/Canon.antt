@@ -1,0 +1,24 @@
+-- The canonical text of schemes.
+use Rattle.std.specs.Prelude.{ℕ, List, [], ◌∷◌, ◌++◌, codes}
+use Rattle.std.specs.List.{flat_map}
+use Rattle.mls_lattice.specs.Policy.{Name, Tables}
+use Rattle.mls_lattice.specs.Canon.{label_name}
+use Rattle.mls_scheme.specs.Scheme.{Attribute, Scheme, Schemes}
+use Rattle.mls_scheme.specs.Document.{kind_word}
+
+-- words on a line, with single spaces
+abbrev pub line_of : List Name → List ℕ
+line_of [] = codes "\n"
+line_of (word ∷ []) = word ++ codes "\n"
+line_of (word ∷ next ∷ words) = word ++ (codes " " ++ line_of (next ∷ words))
+
+-- key or attribute, then its name, its kind, and the ends of its interval
+abbrev pub attribute_line : Tables → Name → Attribute → List ℕ
+attribute_line p word a = line_of (word ∷ a.name ∷ kind_word a.kind ∷ label_name p.labels a.low ∷ label_name p.labels a.high ∷ [])
+
+abbrev pub relation_lines : Tables → Scheme → List ℕ
+relation_lines p s =
+    line_of (codes "relation" ∷ s.name ∷ []) ++ flat_map (attribute_line p (codes "key")) s.keys ++ flat_map (attribute_line p (codes "attribute")) s.others
+
+abbrev pub canon_of : Tables → Schemes → List ℕ
+canon_of p schemes = codes "schemes 1\n" ++ flat_map (relation_lines p) schemes

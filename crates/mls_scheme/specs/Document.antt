@@ -1,0 +1,68 @@
+-- The schemes that a text says, with no word of how it is read.
+use Rattle.std.specs.Prelude.{◌≡◌, ◌⊎◌, ℕ, ◌<◌, true, pos, List, [], ◌∷◌, length, codes, Option, Some, None, position}
+use Rattle.std.specs.List.{AllZip}
+use Rattle.std.specs.Str.{bytes_eq}
+use Rattle.toml.specs.Data.{Data, Items, no_items, item, Members, get_member, string, integer, array, table}
+use Rattle.mls_lattice.specs.Labels.{below}
+use Rattle.mls_lattice.specs.Name.{is_name}
+use Rattle.mls_lattice.specs.Policy.{Name, Tables, labels_of}
+use Rattle.mls_lattice.specs.ReadsPolicy.{IsDocument}
+use Rattle.mls_scheme.specs.declared.value.Kind.{Kind}
+use Rattle.mls_scheme.specs.declared.value.Kind.TheVariants.{Int, Text}
+use Rattle.mls_scheme.specs.Scheme.{Attribute, Scheme, Schemes, IsScheme, AreSchemes}
+
+-- the array of these tables
+abbrev pub tables_of : List Members → Items
+tables_of [] = no_items
+tables_of (t ∷ ts) = item (table t) (tables_of ts)
+
+abbrev pub HoldsTables : Option Data → List Members → Type 0
+HoldsTables field ts = field ≡ Some (array (tables_of ts))
+
+-- the word of a kind
+abbrev pub kind_word : Kind → Name
+kind_word Int = codes "int"
+kind_word Text = codes "text"
+
+-- the field holds the name of the label of this number
+pub record NamesLabel (p : Tables) (field : Option Data) (label : ℕ) : Type 0 where
+  pub name : Name
+  pub field_is : field ≡ Some (string name)
+  pub named : is_name name ≡ true
+  pub declared : position (λ l. bytes_eq l.name name) p.labels ≡ Some label
+
+pub record SaysAttribute (p : Tables) (fields : Members) (a : Attribute) : Type 0 where
+  pub name : get_member (codes "name") fields ≡ Some (string a.name)
+  pub named : is_name a.name ≡ true
+  pub kind : get_member (codes "kind") fields ≡ Some (string (kind_word a.kind))
+  pub low : NamesLabel p (get_member (codes "low") fields) a.low
+  pub high : NamesLabel p (get_member (codes "high") fields) a.high
+  pub interval : below (labels_of p) a.low a.high ≡ true
+
+pub record SaysRelation (p : Tables) (fields : Members) (s : Scheme) : Type 0 where
+  pub name : get_member (codes "name") fields ≡ Some (string s.name)
+  pub named : is_name s.name ≡ true
+  pub key_tables : List Members
+  pub key : HoldsTables (get_member (codes "key") fields) key_tables
+  pub keys : AllZip (SaysAttribute p) key_tables s.keys
+  pub other_tables : List Members
+  -- the field may be missing
+  pub attribute : HoldsTables (get_member (codes "attribute") fields) other_tables ⊎ ((get_member (codes "attribute") fields ≡ None) × (other_tables ≡ []))
+  pub others : AllZip (SaysAttribute p) other_tables s.others
+  pub valid : IsScheme s
+
+pub record Says (p : Tables) (document : Members) (schemes : Schemes) : Type 0 where
+  pub version : get_member (codes "version") document ≡ Some (integer (pos 1))
+  pub tables : List Members
+  pub relation : HoldsTables (get_member (codes "relation") document) tables
+  pub relations : AllZip (SaysRelation p) tables schemes
+  pub some_relation : 0 < length schemes
+  pub valid : AreSchemes schemes
+
+-- the bytes are the text of schemes, under a policy
+abbrev pub ReadsSchemes : Tables → List ℕ → Schemes → Type 0
+ReadsSchemes p bytes schemes = (document : Members) × IsDocument bytes document × Says p document schemes
+
+-- a text says at most one list of schemes
+abbrev pub SaysOnce : Type 0
+SaysOnce = (p : Tables) (bytes : List ℕ) (s t : Schemes) → ReadsSchemes p bytes s → ReadsSchemes p bytes t → s ≡ t

@@ -1,0 +1,133 @@
+-- What the fields of schemes say, or the first fault.
+use Rattle.std.specs.Prelude.{◌≡◌, ℕ, pos, Bool, true, ◌&&◌, nat_eq, List, [], ◌∷◌, ◌++◌, codes, if◌then◌else◌, ◌==◌, Result, Ok, Err, ok_or, position}
+use Rattle.std.specs.Ordering.{int_eq}
+use Rattle.std.specs.List.{list_any}
+use Rattle.std.specs.Str.{bytes_eq}
+use Rattle.toml.specs.Data.{Data, Items, no_items, item, Members, get_member}
+use Rattle.mls_lattice.specs.declared.fault.PolicyFault.{PolicyFault}
+use Rattle.mls_lattice.specs.Labels.{below}
+use Rattle.mls_lattice.specs.Policy.{Name, Tables, Named, labels_of}
+use Rattle.mls_lattice.specs.Reading.{◌>>=◌, wanted, text_at, integer_at, table_at, name_at, tables_at, optional, items_len, at_most, some_of}
+use Rattle.mls_scheme.specs.declared.fault.SchemeFault.{SchemeFault}
+use Rattle.mls_scheme.specs.declared.fault.SchemeFault.TheVariants.{WrongKind, Repeated, UnknownName, EmptyInterval, Memory, NoKey, KeyIntervals}
+use Rattle.mls_scheme.specs.declared.value.Kind.{Kind}
+use Rattle.mls_scheme.specs.declared.value.Kind.TheVariants.{Int, Text}
+use Rattle.mls_scheme.specs.declared.attributes.Column.{Column}
+use Rattle.mls_scheme.specs.Fault.{scheme_fault_of}
+use Rattle.mls_scheme.specs.Scheme.{Attribute, Scheme, Schemes, column_of}
+
+-- What a function returned, seen by view, is what reading gives, unless memory ran out.
+abbrev pub Gives : {X Y : Type 0} → (X → Y) → Result X SchemeFault → Result Y SchemeFault → Type 0
+Gives view (Ok x) read = read ≡ Ok (view x)
+Gives view (Err e) read = (e ≡ Memory → ⊥) → read ≡ Err e
+
+-- the same answer, with the fault of the same number
+abbrev pub lift : {X : Type 0} → Result X PolicyFault → Result X SchemeFault
+lift (Ok x) = Ok x
+lift (Err e) = Err (scheme_fault_of e)
+
+-- what the items say, each after those before it
+abbrev pub gather : {A : Type 0} → (List A → Data → Result A SchemeFault) → List A → Items → Result (List A) SchemeFault
+gather step before no_items = Ok before
+gather step before (item d ds) = step before d >>= λ a. gather step (before ++ a ∷ []) ds
+
+-- ---- single fields
+
+abbrev pub name_field : Name → Members → Result Name SchemeFault
+name_field key fields = lift (wanted key fields >>= name_at)
+
+abbrev pub text_field : Name → Members → Result Name SchemeFault
+text_field key fields = lift (wanted key fields >>= text_at)
+
+abbrev pub kind_in : Name → Result Kind SchemeFault
+kind_in word = if bytes_eq word (codes "int") then Ok Int else (if bytes_eq word (codes "text") then Ok Text else Err UnknownName)
+
+-- the number of the label of a name
+abbrev pub label_in : List Named → Name → Result ℕ SchemeFault
+label_in labels name = ok_or (position (λ l. bytes_eq l.name name) labels) UnknownName
+
+abbrev pub label_field : List Named → Name → Members → Result ℕ SchemeFault
+label_field labels key fields = name_field key fields >>= label_in labels
+
+-- the version is 1
+unfoldable pub version_at : Members → Result (Unit {0}) SchemeFault
+version_at document = do
+  n ← lift (wanted (codes "version") document >>= integer_at)
+  if int_eq n (pos 1) then Ok tt else Err WrongKind
+
+-- ---- attributes
+
+-- the kind and the interval, which isn't empty
+unfoldable pub column_at : Tables → Members → Result Column SchemeFault
+column_at p fields = do
+  word ← text_field (codes "kind") fields
+  kind ← kind_in word
+  low ← label_field p.labels (codes "low") fields
+  high ← label_field p.labels (codes "high") fields
+  if below (labels_of p) low high then Ok (record { kind = kind; low = low; high = high }) else Err EmptyInterval
+
+abbrev pub has_attribute : List Attribute → Name → Bool
+has_attribute attributes name = list_any (λ a. bytes_eq a.name name) attributes
+
+abbrev pub new_name : Bool → Result (Unit {0}) SchemeFault
+new_name taken = if taken then Err Repeated else Ok tt
+
+-- an attribute with a name that those before don't have
+unfoldable pub attribute_at : Tables → List Attribute → Data → Result Attribute SchemeFault
+attribute_at p before d = do
+  fields ← lift (table_at d)
+  name ← name_field (codes "name") fields
+  new ← new_name (has_attribute before name)
+  column ← column_at p fields
+  Ok (record { name = name; kind = column.kind; low = column.low; high = column.high })
+
+-- the interval of the first key attribute, where there is one
+abbrev pub has_key_interval : List Attribute → Column → Bool
+has_key_interval [] c = true
+has_key_interval (k ∷ ks) c = nat_eq k.low c.low && nat_eq k.high c.high
+
+-- a key attribute after those before
+unfoldable pub key_at : Tables → List Attribute → Data → Result Attribute SchemeFault
+key_at p before d = attribute_at p before d >>= λ a. if has_key_interval before (column_of a) then Ok a else Err KeyIntervals
+
+-- an attribute outside the key, after the key and those before
+unfoldable pub other_at : Tables → List Attribute → List Attribute → Data → Result Attribute SchemeFault
+other_at p keys before d = attribute_at p (keys ++ before) d
+
+-- ---- relations
+
+-- from 1 to 4 tables
+unfoldable pub key_items : Members → Result Items SchemeFault
+key_items fields = do
+  ds ← lift (optional tables_at (get_member (codes "key") fields))
+  if items_len ds == 0 then Err NoKey else lift (at_most 4 ds)
+
+-- up to 15 tables
+unfoldable pub other_items : Members → Result Items SchemeFault
+other_items fields = lift (optional tables_at (get_member (codes "attribute") fields) >>= at_most 15)
+
+abbrev pub has_relation : Schemes → Name → Bool
+has_relation schemes name = list_any (λ s. bytes_eq s.name name) schemes
+
+-- a relation with a name that those before don't have
+unfoldable pub scheme_at : Tables → Schemes → Data → Result Scheme SchemeFault
+scheme_at p before d = do
+  fields ← lift (table_at d)
+  name ← name_field (codes "name") fields
+  new ← new_name (has_relation before name)
+  key_tables ← key_items fields
+  keys ← gather (key_at p) [] key_tables
+  other_tables ← other_items fields
+  others ← gather (other_at p keys) [] other_tables
+  Ok (record { name = name; keys = keys; others = others })
+
+-- from 1 to 16 tables
+unfoldable pub relation_items : Members → Result Items SchemeFault
+relation_items document = lift (wanted (codes "relation") document >>= tables_at >>= some_of 16)
+
+-- all that a document says
+unfoldable pub schemes_at : Tables → Members → Result Schemes SchemeFault
+schemes_at p document = do
+  version ← version_at document
+  tables ← relation_items document
+  gather (scheme_at p) [] tables

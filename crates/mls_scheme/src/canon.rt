@@ -1,0 +1,85 @@
+//! The canonical text.
+ghost use Rattle.std.specs.Prelude.{◌≡◌, ◌<◌, ◌++◌, length, string_bytes, OnOk};
+ghost use Rattle.std.specs.List.{AllByRecursion, flat_map};
+ghost use Rattle.mls_scheme.specs.Scheme.{IsAmongLabels, IsUnder, AreUnder, attribute_named};
+ghost use Rattle.mls_scheme.specs.Canon.{attribute_line, relation_lines};
+ghost use Rattle.mls_lattice.specs.Canon.{label_name};
+
+use crate::attributes::{Attributes, Column};
+use crate::scheme::Scheme;
+use mls_lattice::{LabelNo, Policy};
+use std::alloc::AllocError;
+
+fn label_name(policy: &Policy, label: LabelNo) -> &str
+    requires { label < length policy.now.labels }
+    ensures { result.now ≡ label_name policy.now.labels label }
+{
+    policy.name(label)
+}
+
+/// Writes the line of an attribute.
+fn attribute_to(
+    text: &mut String,
+    policy: &Policy,
+    word: &str,
+    name: &str,
+    column: Column,
+) -> Result<(), AllocError>
+    requires low { column.low < length policy.now.labels }
+    requires high { column.high < length policy.now.labels }
+    ensures { OnOk result (string_bytes text.new ≡ string_bytes text.old ++ attribute_line policy.now word.now (attribute_named name.now column)) }
+{
+    let kind = column.kind.word();
+    let low = label_name(policy, column.low);
+    let high = label_name(policy, column.high);
+    writeln!(text, "{word} {name} {kind} {low} {high}")?;
+    Ok(())
+}
+
+/// Writes the lines of attributes.
+fn attributes_to(
+    text: &mut String,
+    policy: &Policy,
+    word: &str,
+    attributes: &Attributes,
+) -> Result<(), AllocError>
+    requires { AllByRecursion (IsAmongLabels (length policy.now.labels)) attributes.now }
+    ensures { OnOk result (string_bytes text.new ≡ string_bytes text.old ++ flat_map (attribute_line policy.now word.now) attributes.now) }
+{
+    for place in 0..attributes.len() {
+        attribute_to(
+            text,
+            policy,
+            word,
+            attributes.name(place),
+            attributes.get(place),
+        )?;
+    }
+    Ok(())
+}
+
+/// Writes the lines of a relation.
+fn relation_to(text: &mut String, policy: &Policy, scheme: &Scheme) -> Result<(), AllocError>
+    requires { IsUnder (length policy.now.labels) scheme.now }
+    ensures { OnOk result (string_bytes text.new ≡ string_bytes text.old ++ relation_lines policy.now scheme.now) }
+{
+    let name = scheme.name();
+    writeln!(text, "relation {name}")?;
+    attributes_to(text, policy, "key", scheme.keys())?;
+    attributes_to(text, policy, "attribute", scheme.others())
+}
+
+/// Writes the lines of relations.
+pub(crate) fn relations_to(
+    text: &mut String,
+    policy: &Policy,
+    relations: &[Scheme],
+) -> Result<(), AllocError>
+    requires { AreUnder (length policy.now.labels) relations.now }
+    ensures { OnOk result (string_bytes text.new ≡ string_bytes text.old ++ flat_map (relation_lines policy.now) relations.now) }
+{
+    for scheme in relations {
+        relation_to(text, policy, scheme)?;
+    }
+    Ok(())
+}

@@ -1,0 +1,130 @@
+//! The fields of schemes, and what they are refused for.
+ghost use Rattle.std.specs.Prelude.{◌≡◌, ◌≢◌, ◌≤◌, ◌<◌, IfOk, IfErr, length, codes};
+ghost use Rattle.toml.specs.View.{view, items_view, table_view};
+ghost use Rattle.mls_lattice.specs.Reading.{table_at};
+ghost use Rattle.mls_scheme.specs.Reading.{Gives, lift, name_field, text_field, kind_in, label_in, label_field, version_at, key_items, other_items, relation_items};
+
+use crate::fault::SchemeFault;
+use crate::value::Kind;
+use mls_lattice::document::{
+    at_most, integer_of, name_of, optional_tables, some_of, table_of, tables_of, text_of, wanted,
+};
+use mls_lattice::{LabelNo, Policy};
+use toml::{Table, Value};
+
+/// The fields of a table.
+pub(crate) fn fields_of(value: &Value) -> Result<&Table, SchemeFault>
+    ensures reads { Gives (λ t. table_view t.now) result (lift (table_at (view value.now))) }
+    ensures toml { IfErr result (λ e. e ≢ SchemeFault.NotToml) }
+{
+    Ok(table_of(value)?)
+}
+
+/// The name at a key.
+pub(crate) fn name_field<'a>(fields: &'a Table, key: &str) -> Result<&'a str, SchemeFault>
+    ensures reads { Gives (λ s. s.now) result (name_field key.now (table_view fields.now)) }
+    ensures toml { IfErr result (λ e. e ≢ SchemeFault.NotToml) }
+{
+    let value = wanted(fields, key)?;
+    Ok(name_of(value)?)
+}
+
+/// The string at a key.
+pub(crate) fn text_field<'a>(fields: &'a Table, key: &str) -> Result<&'a str, SchemeFault>
+    ensures reads { Gives (λ s. s.now) result (text_field key.now (table_view fields.now)) }
+    ensures toml { IfErr result (λ e. e ≢ SchemeFault.NotToml) }
+{
+    let value = wanted(fields, key)?;
+    Ok(text_of(value)?)
+}
+
+/// The kind of a word.
+pub(crate) fn kind_in(word: &str) -> Result<Kind, SchemeFault>
+    ensures reads { Gives (λ k. k) result (kind_in word.now) }
+    ensures toml { IfErr result (λ e. e ≢ SchemeFault.NotToml) }
+{
+    match word {
+        "int" => Ok(Kind::Int),
+        "text" => Ok(Kind::Text),
+        _ => Err(SchemeFault::UnknownName),
+    }
+}
+
+/// The label of a name.
+fn label_in(policy: &Policy, name: &str) -> Result<LabelNo, SchemeFault>
+    ensures reads { Gives (λ n. n) result (label_in policy.now.labels name.now) }
+    ensures toml { IfErr result (λ e. e ≢ SchemeFault.NotToml) }
+    ensures within { IfOk result (λ n. n < length policy.now.labels) }
+{
+    match policy.label(name) {
+        Some(label) => Ok(label),
+        None => Err(SchemeFault::UnknownName),
+    }
+}
+
+/// The label that is named at a key.
+pub(crate) fn label_field(
+    policy: &Policy,
+    fields: &Table,
+    key: &str,
+) -> Result<LabelNo, SchemeFault>
+    ensures reads { Gives (λ n. n) result (label_field policy.now.labels key.now (table_view fields.now)) }
+    ensures toml { IfErr result (λ e. e ≢ SchemeFault.NotToml) }
+    ensures within { IfOk result (λ n. n < length policy.now.labels) }
+{
+    label_in(policy, name_field(fields, key)?)
+}
+
+/// The version, which is 1.
+#[tactic(auto, unfolding(crate::specs::Reading::version_at))]
+pub(crate) fn version_of(document: &Table) -> Result<(), SchemeFault>
+    ensures reads { Gives (λ v. v) result (version_at (table_view document.now)) }
+    ensures toml { IfErr result (λ e. e ≢ SchemeFault.NotToml) }
+{
+    let value = wanted(document, "version")?;
+    if integer_of(value)? == 1 {
+        Ok(())
+    } else {
+        Err(SchemeFault::WrongKind)
+    }
+}
+
+const MAX_KEYS: usize = 4;
+
+const MAX_OTHERS: usize = 15;
+
+const MAX_RELATIONS: usize = 16;
+
+/// The tables of the key attributes.
+#[tactic(auto, using(mls_lattice::proofs::ReadingLemmas::counts), unfolding(crate::specs::Reading::key_items))]
+pub(crate) fn key_items(fields: &Table) -> Result<&[Value], SchemeFault>
+    ensures reads { Gives (λ items. items_view items.now) result (key_items (table_view fields.now)) }
+    ensures toml { IfErr result (λ e. e ≢ SchemeFault.NotToml) }
+{
+    let items = optional_tables(fields, "key")?;
+    if items.is_empty() {
+        return Err(SchemeFault::NoKey);
+    }
+    Ok(at_most(items, MAX_KEYS)?)
+}
+
+/// The tables of the attributes outside the key.
+#[tactic(auto, unfolding(crate::specs::Reading::other_items))]
+pub(crate) fn other_items(fields: &Table) -> Result<&[Value], SchemeFault>
+    ensures reads { Gives (λ items. items_view items.now) result (other_items (table_view fields.now)) }
+    ensures toml { IfErr result (λ e. e ≢ SchemeFault.NotToml) }
+{
+    let items = optional_tables(fields, "attribute")?;
+    Ok(at_most(items, MAX_OTHERS)?)
+}
+
+/// The tables of the relations.
+#[tactic(auto, unfolding(crate::specs::Reading::relation_items))]
+pub(crate) fn relation_items(document: &Table) -> Result<&[Value], SchemeFault>
+    ensures reads { Gives (λ items. items_view items.now) result (relation_items (table_view document.now)) }
+    ensures toml { IfErr result (λ e. e ≢ SchemeFault.NotToml) }
+{
+    let value = wanted(document, "relation")?;
+    let items = tables_of(value)?;
+    Ok(some_of(items, MAX_RELATIONS)?)
+}

@@ -1,0 +1,193 @@
+//! Schemes from the tables of a document.
+ghost use Rattle.std.specs.Prelude.{◌≡◌, ◌≢◌, ◌++◌, [], false, IfOk, IfErr, string_bytes};
+ghost use Rattle.toml.specs.View.{view, items_view, table_view};
+ghost use Rattle.mls_scheme.specs.Scheme.{attribute_of};
+ghost use Rattle.mls_scheme.specs.Reading.{Gives, column_at, attribute_at, has_attribute, has_key_interval, key_at, other_at, gather, has_relation, scheme_at, schemes_at};
+
+use crate::attributes::{Attributes, Column};
+use crate::fault::SchemeFault;
+use crate::fields::{
+    fields_of, key_items, kind_in, label_field, name_field, other_items, relation_items,
+    text_field, version_of,
+};
+use crate::scheme::{Scheme, Schemes};
+use mls_lattice::{Policy, Str};
+use std::alloc::Global;
+use toml::{Table, Value};
+
+#[tactic(auto, unfolding(crate::specs::Reading::column_at))]
+fn column_of(policy: &Policy, fields: &Table) -> Result<Column, SchemeFault>
+    ensures reads { Gives (λ c. c) result (column_at policy.now (table_view fields.now)) }
+    ensures toml { IfErr result (λ e. e ≢ SchemeFault.NotToml) }
+{
+    let kind = kind_in(text_field(fields, "kind")?)?;
+    let low = label_field(policy, fields, "low")?;
+    let high = label_field(policy, fields, "high")?;
+    if policy.dominates(high, low) {
+        Ok(Column { kind, low, high })
+    } else {
+        Err(SchemeFault::EmptyInterval)
+    }
+}
+
+/// Whether a name is taken by an attribute.
+#[tactic(auto, using(crate::proofs::AttributeLemmas::name_steps))]
+fn is_taken(keys: &Attributes, others: &Attributes, name: &str) -> bool
+    ensures { result ≡ has_attribute (keys.now ++ others.now) name.now }
+{
+    keys.has(name) || others.has(name)
+}
+
+#[tactic(auto, unfolding(crate::specs::Reading::attribute_at))]
+fn attribute_in(
+    alloc: Global,
+    policy: &Policy,
+    keys: &Attributes,
+    others: &Attributes,
+    value: &Value,
+) -> Result<(String, Column), SchemeFault>
+    ensures reads { Gives attribute_of result (attribute_at policy.now (keys.now ++ others.now) (view value.now)) }
+    ensures toml { IfErr result (λ e. e ≢ SchemeFault.NotToml) }
+    ensures fresh { IfOk result (λ a. has_attribute (keys.now ++ others.now) (string_bytes a.0) ≡ false) }
+{
+    let fields = fields_of(value)?;
+    let name = name_field(fields, "name")?;
+    if is_taken(keys, others, name) {
+        return Err(SchemeFault::Repeated);
+    }
+    let column = column_of(policy, fields)?;
+    Ok((String::from_str(alloc, name)?, column))
+}
+
+/// Whether an interval is that of the first key attribute, if there is one.
+fn has_key_interval(keys: &Attributes, column: Column) -> bool
+    ensures { result ≡ has_key_interval keys.now column }
+{
+    if keys.is_empty() {
+        return true;
+    }
+    let first = keys.get(0);
+    first.low == column.low && first.high == column.high
+}
+
+#[tactic(auto, unfolding(crate::specs::Reading::key_at))]
+fn key_in(
+    alloc: Global,
+    policy: &Policy,
+    keys: &Attributes,
+    value: &Value,
+) -> Result<(String, Column), SchemeFault>
+    ensures reads { Gives attribute_of result (key_at policy.now keys.now (view value.now)) }
+    ensures toml { IfErr result (λ e. e ≢ SchemeFault.NotToml) }
+    ensures fresh { IfOk result (λ a. has_attribute keys.now (string_bytes a.0) ≡ false) }
+{
+    let none = Attributes::new(alloc);
+    let attribute = attribute_in(alloc, policy, &none, keys, value)?;
+    if has_key_interval(keys, attribute.1) {
+        Ok(attribute)
+    } else {
+        Err(SchemeFault::KeyIntervals)
+    }
+}
+
+#[tactic(auto, using(crate::proofs::AttributeLemmas::name_steps), unfolding(crate::specs::Reading::other_at))]
+fn other_in(
+    alloc: Global,
+    policy: &Policy,
+    keys: &Attributes,
+    others: &Attributes,
+    value: &Value,
+) -> Result<(String, Column), SchemeFault>
+    ensures reads { Gives attribute_of result (other_at policy.now keys.now others.now (view value.now)) }
+    ensures toml { IfErr result (λ e. e ≢ SchemeFault.NotToml) }
+    ensures fresh { IfOk result (λ a. has_attribute others.now (string_bytes a.0) ≡ false) }
+{
+    attribute_in(alloc, policy, keys, others, value)
+}
+
+/// The key attributes.
+#[tactic(auto, using(crate::proofs::SchemeSteps::gather_steps))]
+fn keys_in(alloc: Global, policy: &Policy, items: &[Value]) -> Result<Attributes, SchemeFault>
+    ensures reads { Gives (λ a. a) result (gather (key_at policy.now) [] (items_view items.now)) }
+    ensures toml { IfErr result (λ e. e ≢ SchemeFault.NotToml) }
+{
+    let mut keys = Attributes::new(alloc);
+    for value in items {
+        let attribute = key_in(alloc, policy, &keys, value)?;
+        keys.push(attribute)?;
+    }
+    Ok(keys)
+}
+
+/// The attributes outside the key.
+#[tactic(auto, using(crate::proofs::SchemeSteps::gather_steps))]
+fn others_in(
+    alloc: Global,
+    policy: &Policy,
+    keys: &Attributes,
+    items: &[Value],
+) -> Result<Attributes, SchemeFault>
+    ensures reads { Gives (λ a. a) result (gather (other_at policy.now keys.now) [] (items_view items.now)) }
+    ensures toml { IfErr result (λ e. e ≢ SchemeFault.NotToml) }
+{
+    let mut others = Attributes::new(alloc);
+    for value in items {
+        let attribute = other_in(alloc, policy, keys, &others, value)?;
+        others.push(attribute)?;
+    }
+    Ok(others)
+}
+
+fn has_relation(relations: &[Scheme], name: &str) -> bool
+    ensures { result ≡ has_relation relations.now name.now }
+{
+    relations.iter().any(|scheme| scheme.name() == name)
+}
+
+#[tactic(auto, unfolding(crate::specs::Reading::scheme_at))]
+fn scheme_in(
+    alloc: Global,
+    policy: &Policy,
+    before: &[Scheme],
+    value: &Value,
+) -> Result<Scheme, SchemeFault>
+    ensures reads { Gives (λ s. s) result (scheme_at policy.now before.now (view value.now)) }
+    ensures toml { IfErr result (λ e. e ≢ SchemeFault.NotToml) }
+{
+    let fields = fields_of(value)?;
+    let name = name_field(fields, "name")?;
+    if has_relation(before, name) {
+        return Err(SchemeFault::Repeated);
+    }
+    let keys = keys_in(alloc, policy, key_items(fields)?)?;
+    let others = others_in(alloc, policy, &keys, other_items(fields)?)?;
+    let name = Str::copy_of(alloc, name)?;
+    Ok(Scheme::new(name, keys, others))
+}
+
+#[tactic(auto, using(crate::proofs::SchemeSteps::gather_steps))]
+fn relations_in(alloc: Global, policy: &Policy, items: &[Value]) -> Result<Vec<Scheme>, SchemeFault>
+    ensures reads { Gives (λ v. v.items) result (gather (scheme_at policy.now) [] (items_view items.now)) }
+    ensures toml { IfErr result (λ e. e ≢ SchemeFault.NotToml) }
+{
+    let mut relations = Vec::new(alloc);
+    for value in items {
+        let scheme = scheme_in(alloc, policy, &relations, value)?;
+        relations.push(scheme)?;
+    }
+    Ok(relations)
+}
+
+#[tactic(auto, unfolding(crate::specs::Reading::schemes_at))]
+pub(crate) fn schemes_of(
+    alloc: Global,
+    policy: &Policy,
+    document: &Table,
+) -> Result<Schemes, SchemeFault>
+    ensures reads { Gives (λ s. s) result (schemes_at policy.now (table_view document.now)) }
+    ensures toml { IfErr result (λ e. e ≢ SchemeFault.NotToml) }
+{
+    version_of(document)?;
+    let relations = relations_in(alloc, policy, relation_items(document)?)?;
+    Ok(Schemes::new(relations))
+}

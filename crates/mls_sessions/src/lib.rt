@@ -12,6 +12,8 @@ mod quoted;
 mod reading;
 mod runs;
 mod scanner;
+#[cfg(test)]
+mod tests;
 mod token;
 
 pub use event::{Command, Event};

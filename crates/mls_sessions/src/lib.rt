@@ -1,6 +1,8 @@
 //! Sessions: the script of their commands.
 #![tactic(auto)]
 
+ghost use Rattle.mls_sessions.specs.Tokens.{LinesAreOnce};
+
 mod cursor;
 mod event;
 mod fault;
@@ -19,3 +21,8 @@ mod token;
 pub use event::{Command, Event};
 pub use fault::{ScriptCause, ScriptFault};
 pub use reading::script;
+
+/// A line is the tokens of one list at most.
+pub fn lines_are_read_once()
+    ensures { LinesAreOnce }
+{}

@@ -35,7 +35,8 @@ fn sign_of(byte: u8) -> Option<Sign>
         b')' => Some(Sign::RightParen),
         b',' => Some(Sign::Comma),
         b'=' => Some(Sign::Equals),
-        b'{' | b'}' | b';' | b':' | b'.' | b'<' | b'>' | b'+' | b'-' | b'*' => Some(Sign::Other),
+        b'-' => Some(Sign::Minus),
+        b'{' | b'}' | b';' | b':' | b'.' | b'<' | b'>' | b'+' | b'*' => Some(Sign::Other),
         _ => None,
     }
 }

@@ -7,3 +7,4 @@ pub mod ValueSteps
 pub mod LookupLemmas
 pub mod ScriptSteps
 pub mod AgainLemmas
+pub mod OnceLemmas

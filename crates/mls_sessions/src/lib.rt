@@ -1,6 +1,7 @@
 //! Sessions: the script of their commands.
 #![tactic(auto)]
 
+ghost use Rattle.mls_sessions.specs.Script.{ScriptsAreOnce};
 ghost use Rattle.mls_sessions.specs.Tokens.{LinesAreOnce};
 
 mod cursor;
@@ -25,4 +26,9 @@ pub use reading::script;
 /// A line is the tokens of one list at most.
 pub fn lines_are_read_once()
     ensures { LinesAreOnce }
+{}
+
+/// A text tells the events of one list at most, where no two labels and no two relations have one name.
+pub fn scripts_are_read_once()
+    ensures { ScriptsAreOnce }
 {}

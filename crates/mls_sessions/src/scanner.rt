@@ -161,7 +161,10 @@ pub(crate) struct Tokens {
 
 impl Tokens {
     /// What is answered where one more token is wanted than there is.
-    pub fn stop(&self) -> LineFault {
+    pub fn stop(&self) -> LineFault
+        ensures fault { IfSome self.now.fault (λ fault. result ≡ fault) }
+        ensures end { self.now.fault ≡ None → (result.column ≡ self.now.end) × (result.cause ≡ ScriptCause.Expected) }
+    {
         match self.fault {
             Some(fault) => fault,
             None => LineFault {

@@ -4,6 +4,8 @@
 ghost use Rattle.mls_scheme.specs.Order.{AreOrdered};
 ghost use Rattle.mls_scheme.specs.Spelling.{AreUnambiguous};
 ghost use Rattle.mls_scheme.specs.Document.{SaysOnce};
+ghost use Rattle.mls_scheme.specs.Document.{SaysOnce};
+ghost use Rattle.mls_scheme.specs.Order.{AreOrdered};
 
 mod attributes;
 mod canon;

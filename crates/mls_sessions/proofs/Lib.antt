@@ -6,3 +6,5 @@ pub mod LineLemmas
 pub mod ValueSteps
 pub mod LookupLemmas
 pub mod ScriptSteps
+pub mod AgainLemmas
+pub mod OnceLemmas

@@ -17,8 +17,8 @@ use Rattle.mls_sessions.specs.declared.fault.ScriptCause.TheVariants.{Token as B
 use Rattle.mls_sessions.specs.declared.token.Token.{Token}
 use Rattle.mls_sessions.specs.declared.token.Token.TheVariants.{Word, Int, Text, Sign as Sign_token}
 use Rattle.mls_sessions.specs.declared.token.Sign.{Sign}
-use Rattle.mls_sessions.specs.declared.token.Sign.TheVariants.{LeftParen, RightParen, Comma, Equals, Other}
-use Rattle.mls_sessions.specs.Tokens.{is_blank, is_control, is_escaped, escape, quoted, others, IsWord, IsDigits, IsInt, IsText, IsSign, Spells, Ends, AreBlanks, Begins, IsOver}
+use Rattle.mls_sessions.specs.declared.token.Sign.TheVariants.{LeftParen, RightParen, Comma, Equals, Minus, Other}
+use Rattle.mls_sessions.specs.Tokens.{is_blank, is_control, is_escaped, escape, quoted, others, IsWord, IsDigits, IsInt, IsText, IsSign, SignEnds, Spells, Ends, AreBlanks, Begins, IsOver}
 use Rattle.mls_sessions.specs.Scanning.{Gives, Found, found, IsIntText, word_at, int_in, int_len, int_at, starts_int, text_at, utf8_of, quoted_at, sign_of, sign_at, unblank_at, token_at}
 use Rattle.mls_sessions.proofs.IntLemmas.{int_text}
 
@@ -56,7 +56,7 @@ given_is x y e = cc
 
 -- ---- runs
 
-abbrev AllAre : (ℕ → Bool) → List ℕ → Type 0
+abbrev pub AllAre : (ℕ → Bool) → List ℕ → Type 0
 AllAre p bs = AllByRecursion (λ b. p b ≡ true) bs
 
 run_all : (p : ℕ → Bool) (bs : List ℕ) → AllAre p (take (prefix_len p bs) bs)
@@ -254,20 +254,35 @@ sign_is b s e =
           | inl h ↦ subst (λ (x : Sign). IsSign x b) (some_is _ _ h.1) (eqb-true b 44 h.0)
           | inr e ↦ elim (chosen (b == 61) _ _ _ e.1) [
             | inl h ↦ subst (λ (x : Sign). IsSign x b) (some_is _ _ h.1) (eqb-true b 61 h.0)
-            | inr e ↦ elim (chosen (list_any (λ c. b == c) others) _ _ _ e.1) [
-              | inl h ↦ subst (λ (x : Sign). IsSign x b) (some_is _ _ h.1) h.0
-              | inr h ↦ absurd (let none = h.1 in cc)
+            | inr e ↦ elim (chosen (b == 45) _ _ _ e.1) [
+              | inl h ↦ subst (λ (x : Sign). IsSign x b) (some_is _ _ h.1) (eqb-true b 45 h.0)
+              | inr e ↦ elim (chosen (list_any (λ c. b == c) others) _ _ _ e.1) [
+                | inl h ↦ subst (λ (x : Sign). IsSign x b) (some_is _ _ h.1) h.0
+                | inr h ↦ absurd (let none = h.1 in cc)
+              ]
             ]
           ]
         ]
       ]
     ]
 
-sign_found : (b : ℕ) (bs : List ℕ) (o : Option Sign) (t : Token) (rest : List ℕ) → ((s : Sign) → o ≡ Some s → IsSign s b) → sign_at bs o ≡ Ok (Some (t, rest)) → First (b ∷ bs) t rest
-sign_found b bs None t rest is e = absurd cc
-sign_found b bs (Some s) t rest is e =
+minus_ends : (bs : List ℕ) → starts_int (45 ∷ bs) ≡ false → is_ascii_digit (slice_index bs 0) ≡ false
+minus_ends bs h = h
+
+sign_ends : (s : Sign) (b : ℕ) (bs : List ℕ) → IsSign s b → starts_int (b ∷ bs) ≡ false → SignEnds s bs
+sign_ends LeftParen b bs is h = tt
+sign_ends RightParen b bs is h = tt
+sign_ends Comma b bs is h = tt
+sign_ends Equals b bs is h = tt
+sign_ends Minus b bs is h = minus_ends bs (subst (λ (x : ℕ). starts_int (x ∷ bs) ≡ false) is h)
+sign_ends Other b bs is h = tt
+
+sign_found : (b : ℕ) (bs : List ℕ) (o : Option Sign) (t : Token) (rest : List ℕ) → ((s : Sign) → o ≡ Some s → IsSign s b) → starts_int (b ∷ bs) ≡ false → sign_at bs o ≡ Ok (Some (t, rest)) → First (b ∷ bs) t rest
+sign_found b bs None t rest is plain e = absurd cc
+sign_found b bs (Some s) t rest is plain e =
     let pair : (Sign_token s, bs) ≡ (t, rest) = given_is _ _ e in
-    subst (λ (p : Found). First (b ∷ bs) p.0 p.1) pair (record { text = b ∷ []; parts = refl; spells = (b, refl, is s refl); ends = tt })
+    let sign = is s refl in
+    subst (λ (p : Found). First (b ∷ bs) p.0 p.1) pair (record { text = b ∷ []; parts = refl; spells = (b, refl, sign); ends = sign_ends s b bs sign plain })
 
 -- ---- any of them
 
@@ -301,13 +316,13 @@ unblank_found bs t rest e =
           | inl word ↦ bound bs Word (word_at bs) t rest (λ s after h. word_found bs s after word.0 h) word.1
           | inr e ↦ elim (chosen (starts_int bs) _ _ _ e.1) [
             | inl number ↦ bound bs Int (int_at bs) t rest (λ z after h. int_found bs z after number.0 h) number.1
-            | inr e ↦ elim (chosen (slice_index bs 0 == 34) _ _ _ e.1) [
+            | inr plain ↦ elim (chosen (slice_index bs 0 == 34) _ _ _ plain.1) [
               | inl quote ↦
                   let whole = front_byte bs 34 some.0 quote.0 in
                   subst (λ (x : List ℕ). First x t rest) (sym whole) (bound (34 ∷ drop 1 bs) Text (quoted_at (drop 1 bs)) t rest (λ s after h. quoted_found (drop 1 bs) s after h) quote.1)
               | inr sign ↦
                   let whole = whole_front bs some.0 in
-                  subst (λ (x : List ℕ). First x t rest) (sym whole) (sign_found (slice_index bs 0) (drop 1 bs) (sign_of (slice_index bs 0)) t rest (λ s h. sign_is (slice_index bs 0) s h) sign.1)
+                  subst (λ (x : List ℕ). First x t rest) (sym whole) (sign_found (slice_index bs 0) (drop 1 bs) (sign_of (slice_index bs 0)) t rest (λ s h. sign_is (slice_index bs 0) s h) (subst (λ (x : List ℕ). starts_int x ≡ false) whole plain.0) sign.1)
             ]
           ]
         ]
@@ -374,15 +389,15 @@ over_found line e =
     let c = unblank_over (drop n line) e in
     record { blanks = take n line; rest = drop n line; parts = sym (take-append-drop n line); are_blanks = run_all is_blank line; comment = c.comment; utf8 = c.utf8 }
 
-word_some : (text : List ℕ) → IsWord text → 0 < length text
+pub word_some : (text : List ℕ) → IsWord text → 0 < length text
 word_some [] h = absurd (let l = h.letter in cc)
 word_some (b ∷ bs) h = omega arith
 
-int_some : (text : List ℕ) (z : ℤ) → IsInt text z → 0 < length text
+pub int_some : (text : List ℕ) (z : ℤ) → IsInt text z → 0 < length text
 int_some text z (fits, inl (digits, is)) = digits.some
 int_some text z (fits, inr (ds, parts, digits, is)) = rw parts (omega arith)
 
-spells_some : (text : List ℕ) (t : Token) → Spells t text → 0 < length text
+pub spells_some : (text : List ℕ) (t : Token) → Spells t text → 0 < length text
 spells_some text (Word s) (same, h) = rw same (word_some s h)
 spells_some text (Int z) h = int_some text z h
 spells_some text (Text s) (same, h) = rw same (omega arith)

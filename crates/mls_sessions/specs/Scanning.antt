@@ -11,7 +11,7 @@ use Rattle.mls_sessions.specs.declared.fault.ScriptCause.TheVariants.{Token as B
 use Rattle.mls_sessions.specs.declared.token.Token.{Token}
 use Rattle.mls_sessions.specs.declared.token.Token.TheVariants.{Word, Int, Text, Sign as Sign_token}
 use Rattle.mls_sessions.specs.declared.token.Sign.{Sign}
-use Rattle.mls_sessions.specs.declared.token.Sign.TheVariants.{LeftParen, RightParen, Comma, Equals, Other}
+use Rattle.mls_sessions.specs.declared.token.Sign.TheVariants.{LeftParen, RightParen, Comma, Equals, Minus, Other}
 use Rattle.mls_sessions.specs.Tokens.{is_blank, is_control, is_escaped, others}
 
 -- What a function returned, seen by view, is what scanning gives, unless memory ran out.
@@ -79,7 +79,8 @@ sign_of b =
     else (if b == 41 then Some RightParen
     else (if b == 44 then Some Comma
     else (if b == 61 then Some Equals
-    else (if list_any (λ c. b == c) others then Some Other else None))))
+    else (if b == 45 then Some Minus
+    else (if list_any (λ c. b == c) others then Some Other else None)))))
 
 -- ---- any of them
 

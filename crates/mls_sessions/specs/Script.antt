@@ -1,11 +1,11 @@
 -- Scripts: what events a text tells, with no word of how it is read.
-use Rattle.std.specs.Prelude.{◌≡◌, ◌≢◌, ℕ, List, [], ◌∷◌, ◌++◌, Option, Some, None}
+use Rattle.std.specs.Prelude.{◌≡◌, ◌≢◌, ℕ, ◌<◌, length, List, [], ◌∷◌, ◌++◌, Option, Some, None}
 use Rattle.std.specs.List.{AllByRecursion, flat_map, filter_map}
 use Rattle.mls_lattice.specs.Policy.{Tables}
 use Rattle.mls_scheme.specs.Scheme.{Schemes}
 use Rattle.mls_sessions.specs.declared.event.Event.{Event}
 use Rattle.mls_sessions.specs.Tokens.{IsLine}
-use Rattle.mls_sessions.specs.Event.{event_tokens, EventFits}
+use Rattle.mls_sessions.specs.Event.{label_name, relation_name, event_tokens, EventFits}
 
 -- a line without its LF, and the event that it tells, if it is not blank
 pub record Line : Type 0 where
@@ -27,3 +27,14 @@ pub record ReadsScript (policy : Tables) (schemes : Schemes) (bytes : List ℕ) 
   pub text : bytes ≡ flat_map (λ line. line.text ++ 10 ∷ []) lines
   pub told : events ≡ filter_map (λ line. line.event) lines
   pub each : AllByRecursion (IsLineOf policy schemes) lines
+
+-- no two labels and no two relations have one name
+pub record AreNamedApart (policy : Tables) (schemes : Schemes) : Type 0 where
+  pub labels : (a b : ℕ) → a < length policy.labels → b < length policy.labels → label_name policy a ≡ label_name policy b → a ≡ b
+  pub relations : (a b : ℕ) → a < length schemes → b < length schemes → relation_name schemes a ≡ relation_name schemes b → a ≡ b
+
+-- a text tells the events of one list at most
+abbrev pub ScriptsAreOnce : Type 0
+ScriptsAreOnce =
+    (policy : Tables) (schemes : Schemes) → AreNamedApart policy schemes
+    → (bytes : List ℕ) (es fs : List Event) → ReadsScript policy schemes bytes es → ReadsScript policy schemes bytes fs → es ≡ fs

@@ -10,7 +10,7 @@ use Rattle.mls_sessions.specs.declared.token.Token.{Token}
 use Rattle.mls_sessions.specs.declared.token.Token.TheVariants.{Word, Int, Text, Sign as Sign_token}
 use Rattle.mls_sessions.specs.declared.token.Placed.{Placed}
 use Rattle.mls_sessions.specs.declared.token.Sign.{Sign}
-use Rattle.mls_sessions.specs.declared.token.Sign.TheVariants.{LeftParen, RightParen, Comma, Equals, Other}
+use Rattle.mls_sessions.specs.declared.token.Sign.TheVariants.{LeftParen, RightParen, Comma, Equals, Minus, Other}
 
 -- space, tab and CR
 abbrev pub is_blank : ℕ → Bool
@@ -64,13 +64,14 @@ pub record IsText (s : List ℕ) : Type 0 where
 
 -- those that no command has, or their first bytes
 abbrev pub others : List ℕ
-others = codes "{};:.<>+-*"
+others = codes "{};:.<>+*"
 
 abbrev pub IsSign : Sign → ℕ → Type 0
 IsSign LeftParen b = b ≡ 40
 IsSign RightParen b = b ≡ 41
 IsSign Comma b = b ≡ 44
 IsSign Equals b = b ≡ 61
+IsSign Minus b = b ≡ 45
 IsSign Other b = list_any (λ c. b == c) others ≡ true
 
 -- ---- lines
@@ -82,12 +83,21 @@ Spells (Int n) text = IsInt text n
 Spells (Text s) text = (text ≡ quoted s) × IsText s
 Spells (Sign_token s) text = (b : ℕ) × (text ≡ b ∷ []) × IsSign s b
 
+-- a minus directly before a digit belongs to the number
+abbrev pub SignEnds : Sign → List ℕ → Type 0
+SignEnds LeftParen rest = Unit {0}
+SignEnds RightParen rest = Unit {0}
+SignEnds Comma rest = Unit {0}
+SignEnds Equals rest = Unit {0}
+SignEnds Minus rest = is_ascii_digit (slice_index rest 0) ≡ false
+SignEnds Other rest = Unit {0}
+
 -- what follows does not go on with the token
 abbrev pub Ends : Token → List ℕ → Type 0
 Ends (Word s) rest = is_name_byte (slice_index rest 0) ≡ false
 Ends (Int n) rest = is_ascii_digit (slice_index rest 0) ≡ false
 Ends (Text s) rest = Unit {0}
-Ends (Sign_token s) rest = Unit {0}
+Ends (Sign_token s) rest = SignEnds s rest
 
 abbrev pub AreBlanks : List ℕ → Type 0
 AreBlanks bytes = AllByRecursion (λ b. is_blank b ≡ true) bytes
@@ -117,3 +127,7 @@ IsLine (t ∷ ts) line = (rest : List ℕ) × Begins line t rest × IsLine ts re
 
 abbrev pub tokens_in : List Placed → List Token
 tokens_in = map (λ p. p.token)
+
+-- a line is the tokens of one list at most
+abbrev pub LinesAreOnce : Type 0
+LinesAreOnce = (line : List ℕ) (ts us : List Token) → IsLine ts line → IsLine us line → ts ≡ us

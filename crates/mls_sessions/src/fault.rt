@@ -94,7 +94,10 @@ pub(crate) struct LineFault {
 
 impl LineFault {
     /// The fault, in the line of a number.
-    pub fn in_line(self, line: usize) -> ScriptFault {
+    pub fn in_line(self, line: usize) -> ScriptFault
+        ensures place { (result.line ≡ line) × (result.column ≡ self.column) }
+        ensures cause { result.cause ≡ self.cause }
+    {
         ScriptFault {
             line,
             column: self.column,

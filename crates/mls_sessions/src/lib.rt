@@ -1,6 +1,9 @@
 //! Sessions: the script of their commands.
 #![tactic(auto)]
 
+ghost use Rattle.mls_sessions.specs.Script.{ScriptsAreOnce};
+ghost use Rattle.mls_sessions.specs.Tokens.{LinesAreOnce};
+
 mod cursor;
 mod event;
 mod fault;
@@ -13,9 +16,21 @@ mod reading;
 mod reply;
 mod runs;
 mod scanner;
+#[cfg(test)]
+mod tests;
 mod token;
 
 pub use event::{Command, Event};
 pub use fault::{ScriptCause, ScriptFault};
 pub use reading::script;
 pub use reply::{Denial, Reply};
+
+/// A line is the tokens of one list at most.
+pub fn lines_are_read_once()
+    ensures { LinesAreOnce }
+{}
+
+/// A text tells the events of one list at most, where no two labels and no two relations have one name.
+pub fn scripts_are_read_once()
+    ensures { ScriptsAreOnce }
+{}

@@ -35,7 +35,8 @@ fn sign_of(byte: u8) -> Option<Sign>
         b')' => Some(Sign::RightParen),
         b',' => Some(Sign::Comma),
         b'=' => Some(Sign::Equals),
-        b'{' | b'}' | b';' | b':' | b'.' | b'<' | b'>' | b'+' | b'-' | b'*' => Some(Sign::Other),
+        b'-' => Some(Sign::Minus),
+        b'{' | b'}' | b';' | b':' | b'.' | b'<' | b'>' | b'+' | b'*' => Some(Sign::Other),
         _ => None,
     }
 }
@@ -160,7 +161,10 @@ pub(crate) struct Tokens {
 
 impl Tokens {
     /// What is answered where one more token is wanted than there is.
-    pub fn stop(&self) -> LineFault {
+    pub fn stop(&self) -> LineFault
+        ensures fault { IfSome self.now.fault (λ fault. result ≡ fault) }
+        ensures end { self.now.fault ≡ None → (result.column ≡ self.now.end) × (result.cause ≡ ScriptCause.Expected) }
+    {
         match self.fault {
             Some(fault) => fault,
             None => LineFault {

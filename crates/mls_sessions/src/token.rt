@@ -25,6 +25,8 @@ pub enum Sign {
     RightParen,
     Comma,
     Equals,
+    /// A minus that belongs to no number.
+    Minus,
     /// A sign that stands in no command of a session, or the first byte of one.
     Other,
 }

@@ -1,0 +1,172 @@
+-- A text tells the events of one list at most.
+use Rattle.std.proofs.Common.{◌≡◌, ◌≢◌, ℕ, zero, suc, ◌<◌, List, [], ◌∷◌, ◌++◌, length, Option, Some, None, refl, sym, ap, ◌∙◌, subst, arith, append_assoc, length-append}
+use Rattle.std.specs.Prelude.{codes}
+use Rattle.std.specs.List.{AllByRecursion, flat_map, filter_map}
+use Rattle.mls_lattice.specs.Policy.{Name, Tables}
+use Rattle.mls_scheme.specs.declared.value.Value.{Value}
+use Rattle.mls_scheme.specs.declared.value.Value.TheVariants as values
+use Rattle.mls_scheme.specs.Scheme.{Schemes}
+use Rattle.mls_sessions.specs.declared.event.Event.{Event}
+use Rattle.mls_sessions.specs.declared.event.Command.{Command}
+use Rattle.mls_sessions.specs.declared.event.Command.TheVariants.{Open, View, Insert}
+use Rattle.mls_sessions.specs.declared.token.Token.{Token}
+use Rattle.mls_sessions.specs.declared.token.Token.TheVariants.{Word, Int, Text, Sign}
+use Rattle.mls_sessions.specs.declared.token.Sign.TheVariants.{LeftParen, RightParen, Comma}
+use Rattle.mls_sessions.specs.Tokens.{IsLine}
+use Rattle.mls_sessions.specs.Event.{label_name, relation_name, value_token, with_commas, list_tokens, command_tokens, event_tokens, CommandFits, EventFits}
+use Rattle.mls_sessions.specs.Script.{Line, Tells, IsLineOf, ReadsScript, AreNamedApart}
+use Rattle.mls_sessions.proofs.AgainLemmas.{line_once}
+
+-- ---- lists of tokens
+
+abbrev head_of : {A : Type 0} → (d : A) → List A → A
+head_of d [] = d
+head_of d (x ∷ xs) = x
+
+abbrev tail_of : {A : Type 0} → List A → List A
+tail_of [] = []
+tail_of (x ∷ xs) = xs
+
+record Same {A : Type 0} (x y : A) (xs ys : List A) : Type 0 where
+  head : x ≡ y
+  tail : xs ≡ ys
+
+uncons : {A : Type 0} (x y : A) (xs ys : List A) → (x ∷ xs) ≡ (y ∷ ys) → Same x y xs ys
+uncons x y xs ys e = record { head = ap (λ l. head_of x l) e; tail = ap tail_of e }
+
+word_is : (s t : Name) → Word s ≡ Word t → s ≡ t
+word_is s t e = cc
+
+value_is : (v w : Option Value) → value_token v ≡ value_token w → v ≡ w
+value_is None None e = refl
+value_is None (Some (values.Int n)) e = absurd cc
+value_is None (Some (values.Text s)) e = absurd cc
+value_is (Some (values.Int m)) None e = absurd cc
+value_is (Some (values.Int m)) (Some (values.Int n)) e = cc
+value_is (Some (values.Int m)) (Some (values.Text s)) e = absurd cc
+value_is (Some (values.Text s)) None e = absurd cc
+value_is (Some (values.Text s)) (Some (values.Int n)) e = absurd cc
+value_is (Some (values.Text s)) (Some (values.Text t)) e = cc
+
+no_paren : (v : Option Value) → value_token v ≡ Sign RightParen → ⊥
+no_paren None e = absurd cc
+no_paren (Some (values.Int n)) e = absurd cc
+no_paren (Some (values.Text s)) e = absurd cc
+
+no_comma : Sign Comma ≡ Sign RightParen → ⊥
+no_comma e = absurd cc
+
+abbrev behind : List (Option Value) → List Token
+behind vs = flat_map (λ w. Sign Comma ∷ value_token w ∷ []) vs
+
+record Parted (vs ws : List (Option Value)) (xs ys : List Token) : Type 0 where
+  values : vs ≡ ws
+  rest : xs ≡ ys
+
+more_once : (vs ws : List (Option Value)) (xs ys : List Token) → behind vs ++ Sign RightParen ∷ xs ≡ behind ws ++ Sign RightParen ∷ ys → Parted vs ws xs ys
+more_once [] [] xs ys e = record { values = refl; rest = (uncons _ _ xs ys e).tail }
+more_once [] (w ∷ ws) xs ys e = absurd (no_comma (sym (uncons _ _ _ _ e).head))
+more_once (v ∷ vs) [] xs ys e = absurd (no_comma (uncons _ _ _ _ e).head)
+more_once (v ∷ vs) (w ∷ ws) xs ys e =
+    let one = uncons _ _ _ _ (uncons _ _ _ _ e).tail in
+    let more = more_once vs ws xs ys one.tail in
+    record { values = λ i. value_is v w one.head i ∷ more.values i; rest = more.rest }
+
+list_once : (vs ws : List (Option Value)) (xs ys : List Token) → with_commas vs ++ Sign RightParen ∷ xs ≡ with_commas ws ++ Sign RightParen ∷ ys → Parted vs ws xs ys
+list_once [] [] xs ys e = record { values = refl; rest = (uncons _ _ xs ys e).tail }
+list_once [] (w ∷ ws) xs ys e = absurd (no_paren w (sym (uncons _ _ _ _ e).head))
+list_once (v ∷ vs) [] xs ys e = absurd (no_paren v (uncons _ _ _ _ e).head)
+list_once (v ∷ vs) (w ∷ ws) xs ys e =
+    let one = uncons _ _ _ _ e in
+    let more = more_once vs ws xs ys one.tail in
+    record { values = λ i. value_is v w one.head i ∷ more.values i; rest = more.rest }
+
+-- ---- events
+
+different : (s t : Name) (xs ys : List Token) → (s ≡ t → ⊥) → (Word s ∷ xs) ≡ (Word t ∷ ys) → ⊥
+different s t xs ys apart e = apart (word_is s t (uncons _ _ xs ys e).head)
+
+module _ (policy : Tables) (schemes : Schemes) (apart : AreNamedApart policy schemes) where
+  command_once : (c d : Command) → CommandFits policy schemes c → CommandFits policy schemes d → command_tokens policy schemes c ≡ command_tokens policy schemes d → c ≡ d
+  command_once (Open u) (Open v) f g e = ap (λ (x : Name). Open x) (word_is u v (uncons _ _ [] [] (uncons _ _ _ _ e).tail).head)
+  command_once (Open u) (View rel label) f g e = absurd (different (codes "open") (codes "view") _ _ (λ q. absurd cc) e)
+  command_once (Open u) (Insert rel key values) f g e = absurd (different (codes "open") (codes "insert") _ _ (λ q. absurd cc) e)
+  command_once (View rel label) (Open v) f g e = absurd (different (codes "view") (codes "open") _ _ (λ q. absurd cc) e)
+  command_once (View rel label) (View rel' label') f g e =
+      let first = uncons _ _ _ _ (uncons _ _ _ _ e).tail in
+      let last = uncons _ _ _ _ (uncons _ _ _ _ first.tail).tail in
+      let same_rel : rel ≡ rel' = apart.relations rel rel' f.0 g.0 (word_is _ _ first.head) in
+      let same_label : label ≡ label' = apart.labels label label' f.1 g.1 (word_is _ _ last.head) in
+      λ i. View (same_rel i) (same_label i)
+  command_once (View rel label) (Insert rel' key values) f g e = absurd (different (codes "view") (codes "insert") _ _ (λ q. absurd cc) e)
+  command_once (Insert rel key values) (Open v) f g e = absurd (different (codes "insert") (codes "open") _ _ (λ q. absurd cc) e)
+  command_once (Insert rel key values) (View rel' label) f g e = absurd (different (codes "insert") (codes "view") _ _ (λ q. absurd cc) e)
+  command_once (Insert rel key values) (Insert rel' key' values') f g e =
+      let first = uncons _ _ _ _ (uncons _ _ _ _ e).tail in
+      let open_key = uncons _ _ _ _ (uncons _ _ _ _ first.tail).tail in
+      let keys = list_once key key' _ _ (sym (append_assoc (with_commas key) (Sign RightParen ∷ []) _) ∙ open_key.tail ∙ append_assoc (with_commas key') (Sign RightParen ∷ []) _) in
+      let open_values = uncons _ _ _ _ (uncons _ _ _ _ keys.rest).tail in
+      let others = list_once values values' [] [] open_values.tail in
+      let same_rel : rel ≡ rel' = apart.relations rel rel' f.0 g.0 (word_is _ _ first.head) in
+      λ i. Insert (same_rel i) (keys.values i) (others.values i)
+
+  event_once : (e f : Event) → EventFits policy schemes e → EventFits policy schemes f → event_tokens policy schemes e ≡ event_tokens policy schemes f → e ≡ f
+  event_once e f p q h =
+      let first = uncons _ _ _ _ h in
+      let second = uncons _ _ _ _ first.tail in
+      let level : e.level ≡ f.level = apart.labels e.level f.level p.level q.level (word_is _ _ first.head) in
+      let session : e.session ≡ f.session = word_is _ _ second.head in
+      let command : e.command ≡ f.command = command_once e.command f.command p.command q.command second.tail in
+      λ i. record { level = level i; session = session i; command = command i }
+
+  tells_once : (text : List ℕ) (a b : Option Event) → Tells policy schemes text a → Tells policy schemes text b → a ≡ b
+  tells_once text None None p q = refl
+  tells_once text None (Some f) p q = absurd (let h = line_once [] (event_tokens policy schemes f) text p q.1 in cc)
+  tells_once text (Some e) None p q = absurd (let h = line_once (event_tokens policy schemes e) [] text p.1 q in cc)
+  tells_once text (Some e) (Some f) p q = ap (λ (x : Event). Some x) (event_once e f p.0 q.0 (line_once (event_tokens policy schemes e) (event_tokens policy schemes f) text p.1 q.1))
+
+  -- ---- lines
+
+  record Split (s t xs ys : List ℕ) : Type 0 where
+    text : s ≡ t
+    rest : xs ≡ ys
+
+  split_once : (s t xs ys : List ℕ) → AllByRecursion (λ b. b ≢ 10) s → AllByRecursion (λ b. b ≢ 10) t → s ++ 10 ∷ xs ≡ t ++ 10 ∷ ys → Split s t xs ys
+  split_once [] [] xs ys p q e = record { text = refl; rest = (uncons _ _ xs ys e).tail }
+  split_once [] (b ∷ t) xs ys p q e = absurd (q.0 (sym (uncons _ _ _ _ e).head))
+  split_once (a ∷ s) [] xs ys p q e = absurd (p.0 (uncons _ _ _ _ e).head)
+  split_once (a ∷ s) (b ∷ t) xs ys p q e =
+      let h = uncons _ _ _ _ e in
+      let more = split_once s t xs ys p.1 q.1 h.tail in
+      record { text = λ i. h.head i ∷ more.text i; rest = more.rest }
+
+  abbrev text_of : List Line → List ℕ
+  text_of lines = flat_map (λ line. line.text ++ 10 ∷ []) lines
+
+  abbrev events_of : List Line → List Event
+  events_of lines = filter_map (λ line. line.event) lines
+
+  some_text : (l : Line) (ls : List Line) → [] ≡ text_of (l ∷ ls) → ⊥
+  some_text l ls e = absurd (omega (arith, ap length e, length-append (l.text ++ 10 ∷ []) (text_of ls), length-append l.text (10 ∷ [])))
+
+  lines_once : (ls ms : List Line) → AllByRecursion (IsLineOf policy schemes) ls → AllByRecursion (IsLineOf policy schemes) ms → text_of ls ≡ text_of ms → events_of ls ≡ events_of ms
+  lines_once [] [] p q e = refl
+  lines_once [] (m ∷ ms) p q e = absurd (some_text m ms e)
+  lines_once (l ∷ ls) [] p q e = absurd (some_text l ls (sym e))
+  lines_once (l ∷ ls) (m ∷ ms) p q e =
+      let parts = split_once l.text m.text (text_of ls) (text_of ms) p.0.one q.0.one (sym (append_assoc l.text (10 ∷ []) (text_of ls)) ∙ e ∙ append_assoc m.text (10 ∷ []) (text_of ms)) in
+      let same : l.event ≡ m.event = tells_once m.text l.event m.event (subst (λ (x : List ℕ). Tells policy schemes x l.event) parts.text p.0.tells) q.0.tells in
+      let more = lines_once ls ms p.1 q.1 parts.rest in
+      joined l.event m.event ls ms same more
+    where
+      joined : (a b : Option Event) (ls ms : List Line) → a ≡ b → events_of ls ≡ events_of ms → filter_map (λ (line : Line). line.event) (record { text = []; event = a } ∷ ls) ≡ filter_map (λ (line : Line). line.event) (record { text = []; event = b } ∷ ms)
+      joined None None ls ms e more = more
+      joined None (Some f) ls ms e more = absurd cc
+      joined (Some x) None ls ms e more = absurd cc
+      joined (Some x) (Some y) ls ms e more = λ i. some_is x y e i ∷ more i
+        where
+          some_is : (x y : Event) → Some x ≡ Some y → x ≡ y
+          some_is x y e = cc
+
+  pub script_once : (bytes : List ℕ) (es fs : List Event) → ReadsScript policy schemes bytes es → ReadsScript policy schemes bytes fs → es ≡ fs
+  script_once bytes es fs p q = p.told ∙ lines_once p.lines q.lines p.each q.each (sym p.text ∙ q.text) ∙ sym q.told

@@ -8,6 +8,9 @@ mod grammar;
 mod int;
 mod lookup;
 mod phrase;
+mod printing;
+mod printing_replies;
+mod printing_rows;
 mod quoted;
 mod reading;
 mod reply;
@@ -17,5 +20,6 @@ mod token;
 
 pub use event::{Command, Event};
 pub use fault::{ScriptCause, ScriptFault};
+pub use printing_replies::reply_bytes;
 pub use reading::script;
 pub use reply::{Denial, Reply};

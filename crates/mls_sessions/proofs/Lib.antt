@@ -8,3 +8,4 @@ pub mod LookupLemmas
 pub mod ScriptSteps
 pub mod AgainLemmas
 pub mod OnceLemmas
+pub mod PrintingSteps

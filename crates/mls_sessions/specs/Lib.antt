@@ -5,4 +5,5 @@ pub mod Event
 pub mod Phrase
 pub mod Script
 pub mod Reply
+pub mod Output
 pub mod Machine

@@ -11,6 +11,9 @@ mod grammar;
 mod int;
 mod lookup;
 mod phrase;
+mod printing;
+mod printing_replies;
+mod printing_rows;
 mod quoted;
 mod reading;
 mod reply;
@@ -22,6 +25,7 @@ mod token;
 
 pub use event::{Command, Event};
 pub use fault::{ScriptCause, ScriptFault};
+pub use printing_replies::reply_bytes;
 pub use reading::script;
 pub use reply::{Denial, Reply};
 

@@ -14,5 +14,4 @@ pub mod ArrangeLemmas
 pub mod FilterLemmas
 pub mod FragmentLemmas
 pub mod AssemblyLemmas
-pub mod SubsumptionSteps
 pub mod ShownLemmas

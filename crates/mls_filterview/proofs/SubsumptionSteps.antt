@@ -1,14 +1,4 @@
 -- The tests of subsumption, as they are computed.
-use Rattle.std.proofs.Common.{◌≡◌, false, ◌||◌, ◌&&◌, not, List, [], ◌∷◌, length, Option, Some, None, refl, ap, ◌∙◌, arith}
-use Rattle.std.specs.Prelude.{is_some, is_none, nat_eq}
-use Rattle.std.specs.Option.{option_eq}
-use Rattle.std.proofs.lemmas.Bool.{and_parts, eqb-true, false_from_ne_true, true≢false, and_right}
-use Rattle.mls_scheme.specs.declared.value.Value.{Value}
-use Rattle.mls_scheme.specs.declared.tuple.Element.{Element}
-use Rattle.mls_scheme.specs.Value.{value_eq}
-use Rattle.mls_scheme.specs.Tuple.{is_null}
-use Rattle.mls_filterview.specs.Subsumption.{covers, all_cover}
-use Rattle.mls_filterview.proofs.SubsumptionLemmas.{same_value-true}
 use Rattle.std.proofs.Common.{◌≡◌, ℕ, ◌==◌, Bool, true, false, ◌||◌, ◌&&◌, not, List, [], ◌∷◌, length, Option, Some, None, refl, sym, ap, ◌∙◌, arith, inl, inr}
 use Rattle.std.specs.Prelude.{is_some, is_none, nat_eq, ◌↔◌}
 use Rattle.std.specs.Option.{option_eq}
@@ -43,7 +33,6 @@ all_cover-uneven [] (b ∷ bs) h = refl
 all_cover-uneven (a ∷ as') [] h = refl
 all_cover-uneven (a ∷ as') (b ∷ bs) h = and_right (covers a b) (all_cover as' bs) (all_cover-uneven as' bs (λ e. h (omega arith)))
 
-pub ruleset uneven = (all_cover-uneven)
 -- ---- tuples
 
 pub subsumes_tuple-true : (s t : Tuple) → subsumes_tuple s t ≡ true → Subsumes s t

@@ -6,10 +6,9 @@ mod base;
 mod filtering;
 mod fragment;
 mod laws;
-mod subsumption;
-mod viewing;
 mod row;
 mod subsumption;
+mod viewing;
 
 pub use base::{Base, BaseFault, abandon};
 pub use filtering::filter;
@@ -18,5 +17,8 @@ pub use laws::{
     rows_are_the_view, rows_come_from_low, stored_has_integrity, view_is_max_of_low,
     view_tells_low, views_and_low_agree,
 };
-pub use viewing::view;
 pub use subsumption::subsumes;
+pub use viewing::view;
+
+#[cfg(test)]
+mod view_tests;

@@ -1,12 +1,4 @@
 //! Subsumption (Jajodia and Sandhu 1991).
-ghost use Rattle.std.specs.Prelude.{◌≡◌};
-ghost use Rattle.mls_filterview.specs.Subsumption.{covers, all_cover};
-
-use mls_scheme::Element;
-
-/// Whether each element of the first list is that of the second one, or has a value where that has none.
-#[tactic(auto, using(crate::proofs::SubsumptionSteps::uneven))]
-pub fn all_cover(left: &[Element], right: &[Element]) -> bool
 ghost use Rattle.std.specs.Prelude.{◌≡◌, ◌↔◌, IsTrue};
 ghost use Rattle.mls_filterview.specs.Subsumption.{covers, all_cover, Subsumes};
 ghost use Rattle.mls_filterview.specs.Filtering.{subsumes_tuple};
@@ -35,7 +27,8 @@ pub(crate) fn says_all(left: &Tuple, right: &Tuple) -> bool
 }
 
 #[tactic(auto, using(crate::proofs::SubsumptionSteps::uneven))]
-fn all_cover(left: &[Element], right: &[Element]) -> bool
+/// Whether each element of the first list is that of the second one, or has a value where that has none.
+pub(crate) fn all_cover(left: &[Element], right: &[Element]) -> bool
     ensures { result ≡ all_cover left.now right.now }
 {
     if left.len() != right.len() {

@@ -1,11 +1,9 @@
 //! Values, tuples and schemes: what a relation is, and what a tuple of it is.
 #![tactic(auto)]
 
+ghost use Rattle.mls_scheme.specs.Document.{SaysOnce};
 ghost use Rattle.mls_scheme.specs.Order.{AreOrdered};
 ghost use Rattle.mls_scheme.specs.Spelling.{AreUnambiguous};
-ghost use Rattle.mls_scheme.specs.Document.{SaysOnce};
-ghost use Rattle.mls_scheme.specs.Document.{SaysOnce};
-ghost use Rattle.mls_scheme.specs.Order.{AreOrdered};
 
 mod attributes;
 mod canon;

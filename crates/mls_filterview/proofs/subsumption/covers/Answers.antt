@@ -1,4 +1,3 @@
-use Rattle.std.proofs.Common.{sym, ◌∙◌, inl, rules}
 use Rattle.std.proofs.Common.{◌≡◌, sym, ◌∙◌, inl, rules}
 use Rattle.std.proofs.lemmas.Bool.{true≢false}
 use Rattle.mls_filterview.proofs.SubsumptionLemmas.{covers-from}

@@ -15,3 +15,6 @@ pub use laws::{
     view_tells_low, views_and_low_agree,
 };
 pub use viewing::view;
+
+#[cfg(test)]
+mod view_tests;

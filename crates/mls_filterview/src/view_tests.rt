@@ -1,0 +1,303 @@
+//! Expected rows are written out by hand.
+ghost use Rattle.std.specs.Prelude.{◌≡◌, ℕ};
+ghost use Rattle.mls_filterview.specs.Content.{State, no_content};
+
+use super::*;
+use mls_lattice::{Items, LabelNo, Policy, Str};
+use mls_scheme::{Element, Place, RelNo, Tuple, Value, copy_key};
+use std::alloc::{AllocError, Global};
+use std::test::Fail;
+
+const POLICY: &str = r#"version = 1
+levels = ["U", "C", "S"]
+categories = ["N"]
+
+[[label]]
+name = "U"
+level = "U"
+
+[[label]]
+name = "M"
+level = "C"
+categories = ["N"]
+
+[[label]]
+name = "S"
+level = "S"
+
+[[label]]
+name = "H"
+level = "S"
+categories = ["N"]
+"#;
+
+const U: u8 = 0;
+
+const M: u8 = 1;
+
+const S: u8 = 2;
+
+const H: u8 = 3;
+
+/// A base of one relation, whose store fails where it reads the fragment of a label. Nothing is said of what it holds.
+#[derive(Drop)]
+struct TestBase {
+    alloc: Global,
+    rows: Vec<(Place, Items<Element>)>,
+    broken: Option<LabelNo>,
+    begun: bool,
+    failures: u64,
+}
+
+fn is_in_change(begun: bool) -> Result<(), BaseFault> {
+    if begun {
+        Ok(())
+    } else {
+        Err(BaseFault::NotBegun)
+    }
+}
+
+fn node_of(alloc: Global, row: &(Place, Items<Element>)) -> Result<Node, AllocError> {
+    let mut pattern = Vec::new(alloc);
+    for element in row.1.as_slice() {
+        pattern.push(element.class)?;
+    }
+    Ok(Node {
+        key: copy_key(&row.0.key)?,
+        key_class: row.0.key_class,
+        label: row.0.class,
+        pattern: Items::from(pattern),
+    })
+}
+
+fn push_cells(cells: &mut Vec<Cell>, row: &(Place, Items<Element>)) -> Result<(), AllocError> {
+    for (attr, element) in row.1.as_slice().iter().enumerate() {
+        if element.class == row.0.class {
+            cells.push(Cell {
+                key: copy_key(&row.0.key)?,
+                key_class: row.0.key_class,
+                attr,
+                label: element.class,
+                value: element.copy()?.value,
+            })?;
+        }
+    }
+    Ok(())
+}
+
+impl Base for TestBase {
+    ghost use Rattle.std.specs.Prelude.{ℕ};
+    ghost use Rattle.mls_filterview.specs.Content.{State, no_content};
+
+    ghost state = { λ b. record { now = no_content; kept = no_content; begun = b.begun } };
+
+    ghost failures = { λ b. b.failures };
+
+    ghost is_clean = { λ _. ⊥ };
+
+    fn is_begun(&self) -> bool {
+        self.begun
+    }
+
+    fn begin(&mut self) -> Result<(), BaseFault> {
+        if self.begun {
+            return Err(BaseFault::Begun);
+        }
+        self.begun = true;
+        Ok(())
+    }
+
+    fn commit(&mut self) -> Result<(), BaseFault> {
+        is_in_change(self.begun)?;
+        self.begun = false;
+        Ok(())
+    }
+
+    fn rollback(&mut self) -> Result<(), BaseFault> {
+        is_in_change(self.begun)?;
+        self.begun = false;
+        Ok(())
+    }
+
+    fn fragment(&mut self, _rel: RelNo, label: LabelNo) -> Result<Fragment, BaseFault> {
+        if self.broken == Some(label) {
+            self.failures = self.failures.checked_add(1).ok_or(BaseFault::Memory)?;
+            return Err(BaseFault::Store);
+        }
+        let mut nodes = Vec::new(self.alloc);
+        let mut cells = Vec::new(self.alloc);
+        for row in &self.rows {
+            if row.0.class == label {
+                nodes.push(node_of(self.alloc, row)?)?;
+                push_cells(&mut cells, row)?;
+            }
+        }
+        Ok(Fragment {
+            nodes: Items::from(nodes),
+            cells: Items::from(cells),
+        })
+    }
+
+    fn add(&mut self, _rel: RelNo, _node: Node, _cells: &[Cell]) -> Result<(), BaseFault> {
+        is_in_change(self.begun)
+    }
+
+    fn set(
+        &mut self,
+        _rel: RelNo,
+        _place: &Place,
+        _attr: usize,
+        _value: Option<Value>,
+    ) -> Result<(), BaseFault> {
+        is_in_change(self.begun)
+    }
+
+    fn drop_at(&mut self, _rel: RelNo, _place: &Place) -> Result<(), BaseFault> {
+        is_in_change(self.begun)
+    }
+}
+
+/// An empty text stands for null.
+fn element(alloc: Global, text: &str, class: u8) -> Result<Element, Fail> {
+    let value = if text.is_empty() {
+        None
+    } else {
+        Some(Value::Text(Str::copy_of(alloc, text)?))
+    };
+    Ok(Element {
+        value,
+        class: LabelNo::new(class),
+    })
+}
+
+/// A starship of key class U, with its objective and its destination.
+fn ship(
+    alloc: Global,
+    name: &str,
+    objective: (&str, u8),
+    destination: (&str, u8),
+) -> Result<Tuple, Fail> {
+    Ok(Tuple {
+        key: Items::from(vec![in alloc; Value::Text(Str::copy_of(alloc, name)?)]?),
+        key_class: LabelNo::new(U),
+        elements: Items::from(vec![in alloc;
+            element(alloc, objective.0, objective.1)?,
+            element(alloc, destination.0, destination.1)?,
+        ]?),
+    })
+}
+
+fn row(class: u8, ship: Tuple) -> (Place, Items<Element>) {
+    let place = Place {
+        key: ship.key,
+        key_class: ship.key_class,
+        class: LabelNo::new(class),
+    };
+    (place, ship.elements)
+}
+
+fn base(alloc: Global, rows: Vec<(Place, Items<Element>)>) -> TestBase {
+    TestBase {
+        alloc,
+        rows,
+        broken: None,
+        begun: false,
+        failures: 0,
+    }
+}
+
+/// Four stories about the Enterprise; they are not kept in order.
+fn enterprise(alloc: Global) -> Result<TestBase, Fail> {
+    let rows = vec![in alloc;
+        row(H, ship(alloc, "Enterprise", ("Spying", S), ("Rigel", H))?),
+        row(S, ship(alloc, "Enterprise", ("Spying", S), ("Talos", U))?),
+        row(
+            U,
+            ship(alloc, "Enterprise", ("Exploration", U), ("Talos", U))?
+        ),
+        row(M, ship(alloc, "Enterprise", ("Mapping", M), ("Talos", U))?),
+    ]?;
+    Ok(base(alloc, rows))
+}
+
+fn view_at(alloc: Global, base: &mut TestBase, label: u8) -> Result<Vec<Tuple>, Fail> {
+    let policy = Policy::read(alloc, POLICY.as_bytes())?;
+    let label = LabelNo::new(label);
+    if label.index() >= policy.label_count() {
+        return Err(Fail::new("no such label"));
+    }
+    Ok(view(alloc, base, &policy, RelNo::new(0), label)?)
+}
+
+#[test]
+fn a_level_sees_the_stories_that_it_dominates(rt: HostRuntime) -> Result<(), Fail> {
+    let mut base = enterprise(rt.alloc())?;
+    let seen = view_at(rt.alloc(), &mut base, M)?;
+    assert_eq!(rt; seen.len(), 2);
+    let first = ship(rt.alloc(), "Enterprise", ("Exploration", U), ("Talos", U))?;
+    let second = ship(rt.alloc(), "Enterprise", ("Mapping", M), ("Talos", U))?;
+    assert!(rt; seen[0].same(&first));
+    assert!(rt; seen[1].same(&second));
+    Ok(())
+}
+
+#[test]
+fn the_highest_level_sees_all_stories_in_order(rt: HostRuntime) -> Result<(), Fail> {
+    let mut base = enterprise(rt.alloc())?;
+    let seen = view_at(rt.alloc(), &mut base, H)?;
+    assert_eq!(rt; seen.len(), 4);
+    let third = ship(rt.alloc(), "Enterprise", ("Spying", S), ("Talos", U))?;
+    let fourth = ship(rt.alloc(), "Enterprise", ("Spying", S), ("Rigel", H))?;
+    assert!(rt; seen[0].same(&ship(rt.alloc(), "Enterprise", ("Exploration", U), ("Talos", U))?));
+    assert!(rt; seen[1].same(&ship(rt.alloc(), "Enterprise", ("Mapping", M), ("Talos", U))?));
+    assert!(rt; seen[2].same(&third));
+    assert!(rt; seen[3].same(&fourth));
+    Ok(())
+}
+
+/// A ship of which nothing is known at U, and of which S knows the destination.
+fn voyager(alloc: Global) -> Result<TestBase, Fail> {
+    let rows = vec![in alloc;
+        row(U, ship(alloc, "Voyager", ("", U), ("", U))?),
+        row(S, ship(alloc, "Voyager", ("", U), ("Rigel", S))?),
+    ]?;
+    Ok(base(alloc, rows))
+}
+
+#[test]
+fn a_root_hides_behind_what_subsumes_it(rt: HostRuntime) -> Result<(), Fail> {
+    let mut base = voyager(rt.alloc())?;
+    let high = view_at(rt.alloc(), &mut base, S)?;
+    assert_eq!(rt; high.len(), 1);
+    assert!(rt; high[0].same(&ship(rt.alloc(), "Voyager", ("", U), ("Rigel", S))?));
+    let low = view_at(rt.alloc(), &mut base, U)?;
+    assert_eq!(rt; low.len(), 1);
+    assert!(rt; low[0].same(&ship(rt.alloc(), "Voyager", ("", U), ("", U))?));
+    Ok(())
+}
+
+#[test]
+fn no_fragment_of_another_level_is_read(rt: HostRuntime) -> Result<(), Fail> {
+    let mut base = enterprise(rt.alloc())?;
+    base.broken = Some(LabelNo::new(S));
+    assert_eq!(rt; view_at(rt.alloc(), &mut base, M)?.len(), 2);
+    assert_eq!(rt; base.failures, 0);
+    Ok(())
+}
+
+#[test]
+fn a_failed_view_ends_the_change(rt: HostRuntime) -> Result<(), Fail> {
+    let mut base = enterprise(rt.alloc())?;
+    base.broken = Some(LabelNo::new(S));
+    base.begin()?;
+    let policy = Policy::read(rt.alloc(), POLICY.as_bytes())?;
+    let high = LabelNo::new(H);
+    assert!(rt; high.index() < policy.label_count());
+    match view(rt.alloc(), &mut base, &policy, RelNo::new(0), high) {
+        Ok(_) => assert!(rt; false),
+        Err(fault) => assert!(rt; fault == BaseFault::Store),
+    }
+    assert!(rt; !base.is_begun());
+    assert_eq!(rt; base.failures, 1);
+    Ok(())
+}

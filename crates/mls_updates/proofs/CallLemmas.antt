@@ -25,23 +25,7 @@ use Rattle.mls_updates.specs.Outcome.{is_done}
 use Rattle.mls_updates.specs.Writes.{Key, Write, Insert, WriteFits, WriteKinds, first_refusal, has_null, place, root, insert_refusals, write}
 use Rattle.mls_updates.specs.Calls.{IsWritten}
 use Rattle.mls_updates.proofs.FittingLemmas.{insert-content}
-
--- ---- a relation changed
-
--- a relation that is put back is as it was
-pub same_state : (s : State) (rel : ℕ) → with_relation s rel (s.now.db rel) ≡ s
-same_state s rel = λ i. record s { now = record { db = λ r. same r i; audit = s.now.audit } }
-  where
-    same : (r : ℕ) → with_table s.now.db rel (s.now.db rel) r ≡ s.now.db r
-    same r = by_test (nat_eq r rel) refl
-      where
-        by_test : (b : Bool) → nat_eq r rel ≡ b → cond b (s.now.db rel) (s.now.db r) ≡ s.now.db r
-        by_test true e = ap s.now.db (sym (eqb-true r rel e))
-        by_test false e = refl
-
--- the relation is the one that was put there
-pub table_of : (s : State) (rel : ℕ) (T : Table) → (with_relation s rel T).now.db rel ≡ T
-table_of s rel T = cond-true (nat_eq rel rel) T (s.now.db rel) (eq-eqb rel rel refl)
+use Rattle.mls_updates.proofs.StateLemmas.{same_state, table_of}
 
 -- ---- outcomes
 

@@ -1,12 +1,14 @@
 //! The three writes of a multilevel relation, and their laws.
 #![tactic(auto)]
 
+mod dropping;
 mod finding;
 mod growth;
 mod inserting;
 mod interval;
 mod key;
 mod laws;
+mod order;
 mod outcome;
 mod root;
 #[cfg(test)]

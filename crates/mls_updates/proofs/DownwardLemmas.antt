@@ -98,9 +98,9 @@ module _ (ls : Labels) where
     put_downwards n (x ∷ xs) l bound d =
         elim (below ls x n) as (λ b. below ls x n ≡ b → AreDownwards ls (cond b (n ∷ x ∷ xs) (x ∷ put n xs))) [
           | true ↦ λ e. (
-              (false_from_ne_true (below ls n x) (λ h. (let less = bound.0 in let same = below-antisym ls distinct n x l (omega arith) h e in absurd (omega arith))), none xs e d.0),
-              d,
-            )
+            (false_from_ne_true (below ls n x) (λ h. (let less = bound.0 in let same = below-antisym ls distinct n x l (omega arith) h e in absurd (omega arith))), none xs e d.0),
+            d,
+          )
           | false ↦ λ e. (put_all (λ k. below ls x k ≡ false) n xs e d.0, put_downwards n xs l bound.1 d.1)
         ] refl
       where

@@ -84,8 +84,8 @@ module _ (p : Place) where
           let up : below ls m q.class ≡ true = subst (λ k. below ls k q.class ≡ true) same (top q es g i l) in
           later q ne up (in' q es g ((entity_decides p q).1 ((entity_decides (with_class p m) q).0 e)) (below-trans ls p.class m q.class a.0 up))),
       alone ms (remove T (with_class p m)) d.1 a.1
-      (λ q es g. top q es (left_cases T (with_class p m) q es g).1)
-      (λ q es g e b. (let old = left_cases T (with_class p m) q es g in
+          (λ q es g. top q es (left_cases T (with_class p m) q es g).1)
+          (λ q es g e b. (let old = left_cases T (with_class p m) q es g in
           rest q (λ same. old.0 (of_entity p q e ∙ ap (with_class p) same)) (in' q es old.1 e b))),
     )
       where

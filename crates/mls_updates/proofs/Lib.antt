@@ -12,3 +12,4 @@ pub mod CallLemmas
 pub mod DropLemmas
 pub mod DownwardLemmas
 pub mod StateLemmas
+pub mod SetEachLemmas

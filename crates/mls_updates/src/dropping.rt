@@ -29,7 +29,12 @@ fn drop_one<B: Base>(base: &mut B, rel: RelNo, place: &Place) -> Result<(), Base
 }
 
 /// Removes the tuples of these classes, where there are such, of the entity of a place.
-pub(crate) fn drop_each<B: Base>(base: &mut B, rel: RelNo, place: Place, classes: &[LabelNo]) -> Result<(), BaseFault>
+pub(crate) fn drop_each<B: Base>(
+    base: &mut B,
+    rel: RelNo,
+    place: Place,
+    classes: &[LabelNo],
+) -> Result<(), BaseFault>
     requires begun { (B.state base.old).begun ≡ true }
     requires alone { B.is_clean base.old → AreAlone place classes.now ((B.state base.old).now.db rel) }
     ensures clean { B.is_clean base.new → B.is_clean base.old }

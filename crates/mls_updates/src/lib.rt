@@ -1,6 +1,7 @@
 //! The three writes of a multilevel relation, and their laws.
 #![tactic(auto)]
 
+mod deleting;
 mod dropping;
 mod finding;
 mod growth;
@@ -14,6 +15,7 @@ mod root;
 #[cfg(test)]
 mod tests;
 
+pub use deleting::delete;
 pub use inserting::insert;
 pub use laws::{
     high_writes_are_unseen, high_writes_leave_low, low_writes_see_low, low_writes_use_low,

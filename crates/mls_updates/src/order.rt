@@ -26,7 +26,11 @@ fn place_in(policy: &Policy, order: &[LabelNo], label: LabelNo) -> usize
 
 /// The labels that dominate one; none of them dominates an earlier one.
 #[tactic(auto, using(crate::proofs::DownwardLemmas::downward_steps))]
-pub(crate) fn downwards(alloc: Global, policy: &Policy, w: LabelNo) -> Result<Vec<LabelNo>, AllocError>
+pub(crate) fn downwards(
+    alloc: Global,
+    policy: &Policy,
+    w: LabelNo,
+) -> Result<Vec<LabelNo>, AllocError>
     requires { w < length policy.now.labels }
     ensures { IfOk result (λ order. AreAbove (labels_of policy.now) w order.items) }
 {

@@ -17,8 +17,8 @@ loop-number-preserved c =
     let above : below ls c.args.w n ≡ true = ap (below ls c.args.w) (sym label) ∙ sym c.dominates.ensures.order ∙ c.if-not-dominates.false in (
       new ∙ ap (λ k. insert xs k n) (at ∙ ap (λ m. before ls m xs) label) ∙ downward_put ls c.args.w n xs c.loop-number.invariant.0 above,
       subst (AllByRecursion (λ m. m < length c.args.policy.now.labels)) (sym new)
-      (insert_all (λ m. m < length c.args.policy.now.labels) xs c.place_in-place.result n c.loop-number.invariant.1
-      (let l = c.loop-number-test.true in let m = c.label_count-number-end.ensures.count in omega (arith, l, m))),
+          (insert_all (λ m. m < length c.args.policy.now.labels) xs c.place_in-place.result n c.loop-number.invariant.1
+          (let l = c.loop-number-test.true in let m = c.label_count-number-end.ensures.count in omega (arith, l, m))),
     )
 
 pub returns : goal.returns

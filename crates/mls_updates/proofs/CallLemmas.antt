@@ -2,10 +2,11 @@
 use Rattle.std.proofs.Common.{◌≡◌, ℕ, zero, suc, ◌<◌, arith, Bool, true, false, cond, not, ◌&&◌, List, [], ◌∷◌, length, map, Option, Some, None, refl, sym, ap, ◌∙◌, subst}
 use Rattle.std.specs.Prelude.{is_some, nat_eq, slice_index_or}
 use Rattle.std.specs.List.{list_all, AllByRecursion, AllZip}
-use Rattle.std.specs.FinMap.{get, insert}
+use Rattle.std.specs.FinMap.{get, insert, retain_keys}
 use Rattle.std.proofs.lemmas.Bool.{cases_Bool, cond-true, cond-false, eqb-true, eq-eqb}
 use Rattle.std.proofs.lemmas.List.{length-map, get_or-map}
-use Rattle.mls_lattice.specs.Labels.{Labels}
+use Rattle.mls_lattice.specs.Labels.{Labels, below, AreDistinct}
+use Rattle.mls_lattice.proofs.LatticeLemmas.{below-refl}
 use Rattle.mls_lattice.specs.Policy.{Tables, labels_of}
 use Rattle.mls_scheme.specs.declared.value.Value.{Value}
 use Rattle.mls_scheme.specs.declared.tuple.Element.{Element}
@@ -22,26 +23,10 @@ use Rattle.mls_scheme.specs.Tuple.{at, null_element}
 use Rattle.mls_updates.specs.declared.outcome.Outcome.{Outcome}
 use Rattle.mls_updates.specs.declared.outcome.Outcome.TheVariants.{Done, KeyNull, Duplicate, NoTuple, NullAboveKey, Inherited, OutOfInterval, AlreadyDerived}
 use Rattle.mls_updates.specs.Outcome.{is_done}
-use Rattle.mls_updates.specs.Writes.{Key, Write, Insert, WriteFits, WriteKinds, first_refusal, has_null, place, root, insert_refusals, write}
+use Rattle.mls_updates.specs.Writes.{Key, Write, Insert, Delete, is_above, delete_refusals, WriteFits, WriteKinds, first_refusal, has_null, place, root, insert_refusals, write}
 use Rattle.mls_updates.specs.Calls.{IsWritten}
-use Rattle.mls_updates.proofs.FittingLemmas.{insert-content}
-
--- ---- a relation changed
-
--- a relation that is put back is as it was
-pub same_state : (s : State) (rel : ℕ) → with_relation s rel (s.now.db rel) ≡ s
-same_state s rel = λ i. record s { now = record { db = λ r. same r i; audit = s.now.audit } }
-  where
-    same : (r : ℕ) → with_table s.now.db rel (s.now.db rel) r ≡ s.now.db r
-    same r = by_test (nat_eq r rel) refl
-      where
-        by_test : (b : Bool) → nat_eq r rel ≡ b → cond b (s.now.db rel) (s.now.db r) ≡ s.now.db r
-        by_test true e = ap s.now.db (sym (eqb-true r rel e))
-        by_test false e = refl
-
--- the relation is the one that was put there
-pub table_of : (s : State) (rel : ℕ) (T : Table) → (with_relation s rel T).now.db rel ≡ T
-table_of s rel T = cond-true (nat_eq rel rel) T (s.now.db rel) (eq-eqb rel rel refl)
+use Rattle.mls_updates.proofs.FittingLemmas.{insert-content, write-content}
+use Rattle.mls_updates.proofs.StateLemmas.{same_state, table_of}
 
 -- ---- outcomes
 
@@ -148,3 +133,48 @@ pub under_scheme : (count : ℕ) (schemes : Schemes) (rel : ℕ) → AreUnder co
 under_scheme count [] rel h l = absurd (omega arith)
 under_scheme count (scheme ∷ schemes) zero h l = h.0
 under_scheme count (scheme ∷ schemes) (suc rel) h l = under_scheme count schemes rel h.1 (omega arith)
+
+-- ---- the outcomes of a delete
+
+module _ (ls : Labels) (scheme : Scheme) (rel w : ℕ) (key : Key) (key_class : ℕ) (s : State) where
+  abbrev target : Place
+  target = place key key_class w
+
+  abbrev found : Option (List Element)
+  found = get (s.now.db rel) target
+
+  abbrev left : Table
+  left = retain_keys (s.now.db rel) (λ q. not (is_above ls target q))
+
+  abbrev answer : Outcome
+  answer = first_refusal (delete_refusals ls scheme w key key_class found)
+
+  answered : (a b : Bool) → has_null key ≡ a → (is_some found && (below ls key_class w && below ls w w)) ≡ b → answer ≡ cond a KeyNull (cond (not b) NoTuple Done)
+  unfolding first_refusal
+  answered a b h k = λ i. cond (h i) KeyNull (cond (not (k i)) NoTuple Done)
+
+  pub delete_key_null : has_null key ≡ true → IsWritten ls scheme rel w (Delete key key_class) s s KeyNull
+  delete_key_null h = let e = answered true _ h refl in record { outcome = sym e; state = refused s rel KeyNull answer left e refl }
+
+  pub delete_missing : (t : State) → has_null key ≡ false → is_some found ≡ false → t ≡ s → IsWritten ls scheme rel w (Delete key key_class) s t NoTuple
+  delete_missing t h k same =
+      let e = answered false false h (ap (λ b. b && (below ls key_class w && below ls w w)) k) in
+      record { outcome = sym e; state = same ∙ refused s rel NoTuple answer left e refl }
+
+  pub delete_above : (t : State) → has_null key ≡ false → is_some found ≡ true → below ls key_class w ≡ false → t ≡ s → IsWritten ls scheme rel w (Delete key key_class) s t NoTuple
+  delete_above t h k l same =
+      let e = answered false false h (λ i. k i && (l i && below ls w w)) in
+      record { outcome = sym e; state = same ∙ refused s rel NoTuple answer left e refl }
+
+  pub delete_done : (t : State) → has_null key ≡ false → is_some found ≡ true → below ls key_class w ≡ true → t ≡ with_relation s rel left → IsWritten ls scheme rel w (Delete key key_class) s t Done
+  delete_done t h k l g =
+      let e = answered false true h (λ i. k i && (l i && below-refl ls w i)) in
+      record { outcome = sym e; state = passed s t rel answer left e g }
+
+-- ---- what each write leaves is of the stored form
+
+pub written_content : (ls : Labels) (distinct : AreDistinct ls) (scheme : Scheme) (rel w : ℕ) (wr : Write) (s t : State) (o : Outcome) → WriteFits ls (length scheme.others) w wr → WriteKinds scheme wr
+    → IsContent ls scheme (s.now.db rel) → IsWritten ls scheme rel w wr s t o → IsContent ls scheme (t.now.db rel)
+written_content ls distinct scheme rel w wr s t o fits kinds content h =
+    let S = (write ls scheme w wr (s.now.db rel)).table in
+    subst (IsContent ls scheme) (sym (ap (λ x. x.now.db rel) h.state ∙ table_of s rel S)) (write-content ls distinct scheme w (s.now.db rel) content wr fits kinds)

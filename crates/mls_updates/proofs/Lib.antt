@@ -12,3 +12,7 @@ pub mod IntervalLemmas
 pub mod FindingLemmas
 pub mod KeyLemmas
 pub mod CallLemmas
+pub mod DropLemmas
+pub mod DownwardLemmas
+pub mod StateLemmas
+pub mod SetEachLemmas

@@ -4,3 +4,4 @@ pub mod Laws
 pub mod Rows
 pub mod Calls
 pub mod Finding
+pub mod Steps

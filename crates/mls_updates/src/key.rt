@@ -39,5 +39,9 @@ pub(crate) fn place_of(
     ensures { IfOk result (λ p. p ≡ place key.now key_class class) }
 {
     let values = values_of(alloc, key)?;
-    Ok(Place { key: Items::from(values), key_class, class })
+    Ok(Place {
+        key: Items::from(values),
+        key_class,
+        class,
+    })
 }

@@ -1,6 +1,8 @@
 //! The three writes of a multilevel relation, and their laws.
 #![tactic(auto)]
 
+mod deleting;
+mod dropping;
 mod finding;
 mod growth;
 mod inserting;
@@ -9,6 +11,7 @@ mod key;
 mod laws;
 mod list_base;
 mod making;
+mod order;
 mod outcome;
 mod row;
 mod rows;
@@ -16,6 +19,7 @@ mod root;
 #[cfg(test)]
 mod tests;
 
+pub use deleting::delete;
 pub use inserting::insert;
 pub use laws::{
     high_writes_are_unseen, high_writes_leave_low, low_writes_see_low, low_writes_use_low,

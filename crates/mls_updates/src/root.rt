@@ -9,7 +9,11 @@ use mls_scheme::{Place, Value, copy_key};
 use std::alloc::{AllocError, Global};
 
 /// The pattern of a root: its class, once for each attribute.
-fn pattern_of(alloc: Global, class: LabelNo, values: &[Option<Value>]) -> Result<Vec<LabelNo>, AllocError>
+fn pattern_of(
+    alloc: Global,
+    class: LabelNo,
+    values: &[Option<Value>],
+) -> Result<Vec<LabelNo>, AllocError>
     ensures { IfOk result (λ pattern. pattern.items ≡ map (λ e. e.class) (root class values.now)) }
 {
     let mut pattern = Vec::new(alloc);
@@ -25,11 +29,21 @@ pub(crate) fn cell_of(place: &Place, attr: usize, value: &Option<Value>) -> Resu
 {
     let key = copy_key(&place.key)?;
     let value = value.clone()?;
-    Ok(Cell { key, key_class: place.key_class, attr, label: place.class, value })
+    Ok(Cell {
+        key,
+        key_class: place.key_class,
+        attr,
+        label: place.class,
+        value,
+    })
 }
 
 /// The cells of the root at a place.
-pub(crate) fn root_cells(alloc: Global, place: &Place, values: &[Option<Value>]) -> Result<Vec<Cell>, AllocError>
+pub(crate) fn root_cells(
+    alloc: Global,
+    place: &Place,
+    values: &[Option<Value>],
+) -> Result<Vec<Cell>, AllocError>
     ensures { IfOk result (λ cells. cells.items ≡ cells_from 0 place.now (root place.now.class values.now)) }
 {
     let mut cells = Vec::new(alloc);
@@ -40,10 +54,19 @@ pub(crate) fn root_cells(alloc: Global, place: &Place, values: &[Option<Value>])
 }
 
 /// The node of the root at a place.
-pub(crate) fn root_node(alloc: Global, place: &Place, values: &[Option<Value>]) -> Result<Node, AllocError>
+pub(crate) fn root_node(
+    alloc: Global,
+    place: &Place,
+    values: &[Option<Value>],
+) -> Result<Node, AllocError>
     ensures { IfOk result (λ n. n ≡ record { key = place.now.key; key_class = place.now.key_class; label = place.now.class; pattern = map (λ e. e.class) (root place.now.class values.now) }) }
 {
     let key = copy_key(&place.key)?;
     let pattern = pattern_of(alloc, place.class, values)?;
-    Ok(Node { key, key_class: place.key_class, label: place.class, pattern: Items::from(pattern) })
+    Ok(Node {
+        key,
+        key_class: place.key_class,
+        label: place.class,
+        pattern: Items::from(pattern),
+    })
 }

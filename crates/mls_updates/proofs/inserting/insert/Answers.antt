@@ -41,9 +41,9 @@ pub add-requires-clause-made : goal.add-requires-clause-made
 add-requires-clause-made g c = λ clean. (
   root c.in_ok-place.place.class c.args.values.now,
   root_made ((g.B.Base.state c.made-3.new.base).now.db c.args.rel) c.in_ok-place.place c.args.values.now c.in_ok-node.node c.deref.result.now
-  (subst (λ r. IfOk r (λ n. n ≡ root_node c.in_ok-place.place c.args.values.now)) c.in_ok-node.ensures.value c.root_node.ensures)
-  (c.deref.ensures.value
-  ∙ subst (λ r. IfOk r (λ v. v.items ≡ cells_from 0 c.in_ok-place.place (root c.in_ok-place.place.class c.args.values.now))) c.in_ok-cells.ensures.value c.root_cells.ensures),
+      (subst (λ r. IfOk r (λ n. n ≡ root_node c.in_ok-place.place c.args.values.now)) c.in_ok-node.ensures.value c.root_node.ensures)
+      (c.deref.ensures.value
+      ∙ subst (λ r. IfOk r (λ v. v.items ≡ cells_from 0 c.in_ok-place.place (root c.in_ok-place.place.class c.args.values.now))) c.in_ok-cells.ensures.value c.root_cells.ensures),
 )
 
 pub returns-clause-done : goal.returns-clause-done

@@ -1,0 +1,19 @@
+use Rattle.std.proofs.Common.{◌≡◌, ◌≤◌, true, drop}
+use Rattle.mls_filterview.specs.Content.{with_relation}
+use Rattle.mls_updates.specs.Steps.{drop_each, AreAlone}
+use Rattle.mls_updates.proofs.dropping.drop_each.Given as goal
+
+abbrev pub invariant-loop-class : goal.invariant-loop-class
+invariant-loop-class g l =
+    let s = g.B.Base.state l.fn.base in
+    let t = g.B.Base.state l.base in
+    record {
+      clean : g.B.Base.is_clean l.base → g.B.Base.is_clean l.fn.base;
+      count : g.B.Base.failures l.fn.base ≤ g.B.Base.failures l.base;
+      begun : t.begun ≡ true;
+      key : l.place.key ≡ l.fn.place.key;
+      key_class : l.place.key_class ≡ l.fn.place.key_class;
+      alone : g.B.Base.is_clean l.base → AreAlone l.fn.place (drop l.class-index l.classes) (t.now.db l.rel);
+      way : g.B.Base.is_clean l.base
+          → with_relation t l.rel (drop_each l.fn.place (drop l.class-index l.classes) (t.now.db l.rel)) ≡ with_relation s l.rel (drop_each l.fn.place l.classes (s.now.db l.rel));
+    }

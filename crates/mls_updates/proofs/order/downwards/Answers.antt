@@ -1,0 +1,30 @@
+use Rattle.std.proofs.Common.{rules, ◌≡◌, ◌<◌, true, length, sym, ap, ◌∙◌, subst, arith}
+use Rattle.std.proofs.lemmas.List.{length-map}
+use Rattle.std.specs.List.{AllByRecursion, insert}
+use Rattle.mls_lattice.specs.Labels.{below}
+use Rattle.mls_lattice.specs.Policy.{labels_of}
+use Rattle.mls_updates.proofs.DownwardLemmas.{downward_put, downward_above, insert_all, before}
+use Rattle.mls_updates.proofs.order.downwards.Goals as goal
+
+pub loop-number-preserved : goal.loop-number-preserved
+loop-number-preserved c =
+    let ls = labels_of c.args.policy.now in
+    let xs = c.loop-number.order.items in
+    let n = c.loop-number.number in
+    let label : c.new-label.result ≡ n = search rules in
+    let at : c.place_in-place.result ≡ before ls c.new-label.result xs = c.place_in-place.ensures.exact ∙ ap (before ls c.new-label.result) c.deref.ensures.value in
+    let new : c.insert.new.self.items ≡ insert xs c.place_in-place.result n = c.in_ok-insert.ensures.items ∙ ap (insert xs c.place_in-place.result) label in
+    let above : below ls c.args.w n ≡ true = ap (below ls c.args.w) (sym label) ∙ sym c.dominates.ensures.order ∙ c.if-not-dominates.false in (
+      new ∙ ap (λ k. insert xs k n) (at ∙ ap (λ m. before ls m xs) label) ∙ downward_put ls c.args.w n xs c.loop-number.invariant.0 above,
+      subst (AllByRecursion (λ m. m < length c.args.policy.now.labels)) (sym new)
+          (insert_all (λ m. m < length c.args.policy.now.labels) xs c.place_in-place.result n c.loop-number.invariant.1
+          (let l = c.loop-number-test.true in let m = c.label_count-number-end.ensures.count in omega (arith, l, m))),
+    )
+
+pub returns : goal.returns
+returns c =
+    let n : length (labels_of c.args.policy.now) ≡ length c.args.policy.now.labels = length-map c.args.policy.now.labels (λ l. l.value) in
+    downward_above (labels_of c.args.policy.now) c.label_count-number-end.ensures.distinct c.args.w c.loop-number.order.items c.loop-number.number
+    (let l = c.loop-number-test.false in let m = c.label_count-number-end.ensures.count in omega (arith, n, l, m))
+    (let l = c.loop-number.auto.number-end in let m = c.label_count-number-end.ensures.count in omega (arith, n, l, m))
+    c.loop-number.invariant.0

@@ -13,9 +13,9 @@ mod list_base;
 mod making;
 mod order;
 mod outcome;
+mod root;
 mod row;
 mod rows;
-mod root;
 #[cfg(test)]
 mod tests;
 

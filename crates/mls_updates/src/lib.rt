@@ -3,6 +3,8 @@
 
 mod laws;
 mod list_base;
+#[cfg(test)]
+mod list_base_tests;
 mod making;
 mod outcome;
 mod row;

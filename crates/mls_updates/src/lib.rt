@@ -10,6 +10,8 @@ mod interval;
 mod key;
 mod laws;
 mod list_base;
+#[cfg(test)]
+mod list_base_tests;
 mod making;
 mod order;
 mod outcome;

@@ -1,0 +1,120 @@
+ghost use Rattle.std.specs.Prelude.{◌≡◌, ◌∷◌, [], IfOk, Some, pos};
+ghost use Rattle.mls_filterview.specs.Content.{no_content};
+
+use super::*;
+use mls_filterview::{Base, BaseFault, Cell, Node};
+use mls_lattice::{Items, LabelNo};
+use mls_scheme::{RelNo, Value};
+use std::alloc::{AllocError, Global};
+use std::test::Fail;
+
+fn key(alloc: Global) -> Result<Items<Value>, AllocError>
+    ensures { IfOk result (λ k. k ≡ Value.Int (pos 7) ∷ []) }
+{
+    Ok(Items::from(vec![in alloc; Value::Int(7)]?))
+}
+
+fn node(alloc: Global) -> Result<Node, AllocError>
+    ensures { IfOk result (λ n. n ≡ record { key = Value.Int (pos 7) ∷ []; key_class = 0; label = 0; pattern = 0 ∷ [] }) }
+{
+    Ok(Node {
+        key: key(alloc)?,
+        key_class: LabelNo::new(0),
+        label: LabelNo::new(0),
+        pattern: Items::from(vec![in alloc; LabelNo::new(0)]?),
+    })
+}
+
+fn cells(alloc: Global) -> Result<Vec<Cell>, AllocError>
+    ensures { IfOk result (λ v. v.items ≡ record { key = Value.Int (pos 7) ∷ []; key_class = 0; attr = 0; label = 0; value = Some (Value.Int (pos 5)) } ∷ []) }
+{
+    let cell = Cell {
+        key: key(alloc)?,
+        key_class: LabelNo::new(0),
+        attr: 0,
+        label: LabelNo::new(0),
+        value: Some(Value::Int(5)),
+    };
+    Ok(vec![in alloc; cell]?)
+}
+
+fn begun(alloc: Global) -> Result<ListBase, BaseFault>
+    ensures { IfOk result (λ b. (⟦<ListBase as Base>⟧.state b).now ≡ no_content) }
+{
+    let mut base = ListBase::new(alloc);
+    base.begin()?;
+    Ok(base)
+}
+
+fn add_root(base: &mut ListBase, node: Node, cells: &[Cell]) -> Result<(), BaseFault>
+    requires empty { (⟦<ListBase as Base>⟧.state base.old).now ≡ no_content }
+    requires node { node ≡ record { key = Value.Int (pos 7) ∷ []; key_class = 0; label = 0; pattern = 0 ∷ [] } }
+    requires cells { cells.now ≡ record { key = Value.Int (pos 7) ∷ []; key_class = 0; attr = 0; label = 0; value = Some (Value.Int (pos 5)) } ∷ [] }
+{
+    base.add(RelNo::new(0), node, cells)
+}
+
+fn sizes(base: &mut ListBase, rel: u8, label: u8) -> Result<(usize, usize), BaseFault> {
+    let fragment = base.fragment(RelNo::new(rel), LabelNo::new(label))?;
+    Ok((fragment.nodes.len(), fragment.cells.len()))
+}
+
+#[test]
+fn a_base_is_empty_at_first(rt: HostRuntime) {
+    let mut base = ListBase::new(rt.alloc());
+    assert!(rt; !base.is_begun());
+    assert_eq!(rt; base.commit(), Err(BaseFault::NotBegun));
+    assert_eq!(rt; base.rollback(), Err(BaseFault::NotBegun));
+    assert_eq!(rt; sizes(&mut base, 0, 0), Ok((0, 0)));
+    assert_eq!(rt; base.begin(), Ok(()));
+    assert_eq!(rt; base.begin(), Err(BaseFault::Begun));
+    assert!(rt; base.is_begun());
+    assert_eq!(rt; base.commit(), Ok(()));
+    assert!(rt; !base.is_begun());
+}
+
+#[test]
+fn a_change_is_given_up(rt: HostRuntime) -> Result<(), Fail> {
+    let mut base = begun(rt.alloc())?;
+    let cells = cells(rt.alloc())?;
+    add_root(&mut base, node(rt.alloc())?, &cells)?;
+    assert_eq!(rt; sizes(&mut base, 0, 0), Ok((1, 1)));
+    assert_eq!(rt; sizes(&mut base, 0, 1), Ok((0, 0)));
+    assert_eq!(rt; sizes(&mut base, 1, 0), Ok((0, 0)));
+    assert_eq!(rt; base.rollback(), Ok(()));
+    assert!(rt; !base.is_begun());
+    assert_eq!(rt; sizes(&mut base, 0, 0), Ok((0, 0)));
+    Ok(())
+}
+
+#[test]
+fn a_change_is_kept(rt: HostRuntime) -> Result<(), Fail> {
+    let mut base = begun(rt.alloc())?;
+    let cells = cells(rt.alloc())?;
+    add_root(&mut base, node(rt.alloc())?, &cells)?;
+    assert_eq!(rt; base.commit(), Ok(()));
+    assert_eq!(rt; base.begin(), Ok(()));
+    assert_eq!(rt; base.rollback(), Ok(()));
+    assert_eq!(rt; sizes(&mut base, 0, 0), Ok((1, 1)));
+    Ok(())
+}
+
+#[test]
+fn a_refused_growth_ends_the_change(rt: HostRuntime) -> Result<(), Fail> {
+    let node = node(rt.alloc())?;
+    let cells = cells(rt.alloc())?;
+    let mut base = begun(rt.alloc())?;
+    if let Err(fault) = add_root(&mut base, node, &cells) {
+        assert_eq!(rt; fault, BaseFault::Memory);
+        assert!(rt; !base.is_begun());
+        assert_eq!(rt; sizes(&mut base, 0, 0), Ok((0, 0)));
+        return Ok(());
+    }
+    let found = sizes(&mut base, 0, 0);
+    assert_eq!(rt; base.is_begun(), found.is_ok());
+    assert_eq!(rt;
+        sizes(&mut base, 0, 0),
+        Ok(if found.is_ok() { (1, 1) } else { (0, 0) })
+    );
+    Ok(())
+}

@@ -1,4 +1,7 @@
 pub mod RunLemmas
+pub mod ChangeLemmas
+pub mod SessionLemmas
+pub mod EngineLemmas
 pub mod IntLemmas
 pub mod TextLemmas
 pub mod TokenLemmas

@@ -6,3 +6,6 @@ pub mod Phrase
 pub mod Script
 pub mod Reply
 pub mod Machine
+pub mod Output
+pub mod Calls
+pub mod Engine

@@ -1,7 +1,9 @@
 //! Sessions: the script of their commands.
 #![tactic(auto)]
 
+mod change;
 mod cursor;
+mod engine;
 mod event;
 mod fault;
 mod grammar;
@@ -13,8 +15,11 @@ mod reading;
 mod reply;
 mod runs;
 mod scanner;
+mod session;
+mod stubs;
 mod token;
 
+pub use engine::Engine;
 pub use event::{Command, Event};
 pub use fault::{ScriptCause, ScriptFault};
 pub use reading::script;

@@ -9,3 +9,4 @@ pub mod LineLemmas
 pub mod ValueSteps
 pub mod LookupLemmas
 pub mod ScriptSteps
+pub mod PrintingSteps

@@ -5,6 +5,7 @@ pub mod Event
 pub mod Phrase
 pub mod Script
 pub mod Reply
+pub mod Output
 pub mod Machine
 pub mod Output
 pub mod Calls

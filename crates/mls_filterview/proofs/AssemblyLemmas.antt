@@ -1,5 +1,5 @@
 -- Tuples put together from fragments are those of the table.
-use Rattle.std.proofs.Common.{◌≡◌, ◌+◌, ◌<◌, ℕ, zero, suc, Bool, true, false, cond, List, [], ◌∷◌, ◌++◌, length, map, Option, Some, None, refl, sym, ap, subst, ◌∙◌, zero-add, inl, inr, arith}
+use Rattle.std.proofs.Common.{◌≡◌, ◌+◌, ◌<◌, ℕ, suc, Bool, true, false, cond, List, [], ◌∷◌, ◌++◌, length, map, Option, Some, None, refl, sym, ap, ◌∙◌, zero-add, inl, inr, arith}
 use Rattle.std.specs.Prelude.{◌↔◌}
 use Rattle.std.specs.Option.{unwrap_or}
 use Rattle.std.specs.Ordering.{is_eq, nat_cmp, ordering_then}
@@ -20,7 +20,7 @@ use Rattle.mls_filterview.specs.declared.fragment.Node.{Node}
 use Rattle.mls_filterview.specs.declared.fragment.Cell.{Cell}
 use Rattle.mls_filterview.specs.View.{IsAmong}
 use Rattle.mls_filterview.specs.Stored.{with_class, IsStored}
-use Rattle.mls_filterview.specs.Fragment.{node_of, cell_at, cells_of, place_of_node}
+use Rattle.mls_filterview.specs.Fragment.{node_of, cell_at, place_of_node}
 use Rattle.mls_filterview.specs.Assembly.{Spot, spot_cmp, spot_of, AreValues, elements_from, elements_of, AreRows, IsLowEntry, AreLow}
 use Rattle.mls_filterview.proofs.AmongLemmas.{among_push, among_left, push_last}
 use Rattle.mls_filterview.proofs.EntryLemmas.{Entry}

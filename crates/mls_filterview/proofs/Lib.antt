@@ -11,3 +11,5 @@ pub mod RowLemmas
 pub mod SampleLemmas
 pub mod FragmentLemmas
 pub mod AssemblyLemmas
+pub mod SubsumptionSteps
+pub mod ShownLemmas

@@ -1,5 +1,5 @@
 -- What a level sees of a relation (Jajodia and Sandhu 1991).
-use Rattle.std.specs.Prelude.{◌≡◌, ℕ, Bool, true, if◌then◌else◌, List, [], ◌∷◌, map, None, ◌⊎◌}
+use Rattle.std.specs.Prelude.{◌≡◌, ℕ, true, if◌then◌else◌, List, [], ◌∷◌, map, None, ◌⊎◌}
 use Rattle.std.specs.List.{filter}
 use Rattle.std.specs.FinMap.{entries, retain_keys}
 use Rattle.mls_lattice.specs.Labels.{Labels, below}

@@ -12,10 +12,10 @@ use std::alloc::{AllocError, AllocFailed, Global};
 use std::collections::BTreeMap;
 
 /// Elements by the places of their tuples.
-type Rows = BTreeMap<Place, Items<Element>>;
+pub type Rows = BTreeMap<Place, Items<Element>>;
 
 /// Values by the places of their tuples and the numbers of their attributes.
-type Values = BTreeMap<(Place, usize), Option<Value>>;
+pub type Values = BTreeMap<(Place, usize), Option<Value>>;
 
 /// Puts elements at a place.
 fn put_row(
@@ -44,7 +44,7 @@ fn put_value(
 }
 
 /// The values of cells, by their spots.
-fn values_of(alloc: Global, cells: Items<Cell>) -> Result<Values, AllocError>
+pub fn values_of(alloc: Global, cells: Items<Cell>) -> Result<Values, AllocError>
     ensures { IfOk result (λ values. AreValues cells (get spot_cmp values)) }
 {
     let mut values = BTreeMap::new(alloc);
@@ -70,11 +70,7 @@ fn value_at(values: &Values, spot: &(Place, usize)) -> Result<Option<Value>, All
 }
 
 /// The elements of a node's tuple.
-fn elements_of(
-    alloc: Global,
-    values: &Values,
-    node: &Node,
-) -> Result<Items<Element>, AllocError>
+fn elements_of(alloc: Global, values: &Values, node: &Node) -> Result<Items<Element>, AllocError>
     ensures { IfOk result (λ elements. elements ≡ elements_of (get spot_cmp values.now) node.now) }
 {
     let place = Place {
@@ -88,13 +84,16 @@ fn elements_of(
         spot.0.class = *class;
         spot.1 = attr;
         let value = value_at(values, &spot)?;
-        elements.push(Element { value, class: *class })?;
+        elements.push(Element {
+            value,
+            class: *class,
+        })?;
     }
     Ok(Items::from(elements))
 }
 
 /// The tuples of nodes, by their places.
-fn rows_of(alloc: Global, nodes: Items<Node>, values: &Values) -> Result<Rows, AllocError>
+pub fn rows_of(alloc: Global, nodes: Items<Node>, values: &Values) -> Result<Rows, AllocError>
     ensures { IfOk result (λ rows. AreRows (get spot_cmp values.now) nodes (get place_cmp rows)) }
 {
     let mut rows = BTreeMap::new(alloc);
@@ -111,7 +110,7 @@ fn rows_of(alloc: Global, nodes: Items<Node>, values: &Values) -> Result<Rows, A
 }
 
 /// The entries of a map, in the order of places.
-fn entries_of(alloc: Global, rows: Rows) -> Result<Vec<(Place, Items<Element>)>, AllocError>
+pub fn entries_of(alloc: Global, rows: Rows) -> Result<Vec<(Place, Items<Element>)>, AllocError>
     ensures items { IfOk result (λ entries. entries.items ≡ rows.entries) }
     ensures ordered { IsOrdered place_cmp rows }
 {

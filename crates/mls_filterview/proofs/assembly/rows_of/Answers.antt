@@ -1,4 +1,4 @@
-use Rattle.std.proofs.Common.{◌≡◌, ◌∙◌, ap, cond, Some}
+use Rattle.std.proofs.Common.{◌∙◌, ap, cond, Some}
 use Rattle.std.specs.BTreeMap.{get, is_at}
 use Rattle.mls_scheme.specs.Table.{place_cmp}
 use Rattle.mls_filterview.specs.Fragment.{place_of_node}

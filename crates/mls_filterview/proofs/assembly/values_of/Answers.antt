@@ -1,4 +1,3 @@
-use Rattle.std.proofs.Common.{rules}
 use Rattle.mls_filterview.proofs.AssemblyLemmas.{values_more}
 use Rattle.mls_filterview.proofs.assembly.values_of.Goals as goal
 

@@ -1,4 +1,3 @@
-use Rattle.std.proofs.Common.{take}
 use Rattle.std.specs.BTreeMap.{get}
 use Rattle.mls_filterview.specs.Assembly.{spot_cmp, AreValues}
 use Rattle.mls_filterview.proofs.assembly.values_of.Given as goal

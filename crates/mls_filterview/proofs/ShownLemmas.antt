@@ -1,0 +1,65 @@
+-- The tuples shown of a map of rows are the rows of the table.
+use Rattle.std.proofs.Common.{◌≡◌, ℕ, Bool, true, false, cond, List, [], ◌∷◌, length, map, Option, Some, refl, sym, ap, ◌∙◌}
+use Rattle.std.specs.Prelude.{◌↔◌}
+use Rattle.std.specs.List.{filter, AllByRecursion}
+use Rattle.std.specs.List.Sorted.{IsStrictlySortedBy}
+use Rattle.std.specs.Map.{lookup, keys_of}
+use Rattle.std.specs.BTreeMap.{is_at}
+use Rattle.std.specs.Ordering.{is_lt}
+use Rattle.std.specs.declared.cmp.Ordering.TheVariants.{Less}
+use Rattle.std.specs.FinMap.{find, is_sorted}
+use Rattle.std.specs.FinMap.Entries.{below_all}
+use Rattle.std.proofs.lemmas.Bool.{and_from, false_from_ne_true, false≢true}
+use Rattle.std.proofs.lemmas.Map.Keys.{sorted_head, sorted_tail}
+use Rattle.mls_lattice.specs.Labels.{Labels}
+use Rattle.mls_scheme.specs.declared.value.Value.{Value}
+use Rattle.mls_scheme.specs.declared.place.Place.{Place}
+use Rattle.mls_scheme.specs.Table.{place_cmp, Table, tuple_at}
+use Rattle.mls_scheme.proofs.OrderLemmas.{is_place, is_place-true, is_place-same}
+use Rattle.mls_filterview.specs.declared.fragment.Node.{Node}
+use Rattle.mls_filterview.specs.declared.fragment.Cell.{Cell}
+use Rattle.mls_filterview.specs.Subsumption.{is_max_among}
+use Rattle.mls_filterview.specs.View.{rows, IsAmong}
+use Rattle.mls_filterview.specs.Stored.{with_class, IsStored}
+use Rattle.mls_filterview.specs.Assembly.{Spot, AreValues, AreRows, AreLow}
+use Rattle.mls_filterview.proofs.EntryLemmas.{Entry, found_in, among_found, so_from}
+use Rattle.mls_filterview.proofs.RowLemmas.{rows-listed}
+use Rattle.mls_filterview.proofs.AssemblyLemmas.{rows_low}
+
+-- ---- places of one entity
+
+pub one_entity : (p q : Place) (b : Bool) → p.key_class ≡ q.key_class → (b ≡ true) ↔ (p.key ≡ q.key) → b ≡ is_place (with_class p q.class) q
+one_entity p q true c h = sym (is_place-same (with_class p q.class) q (λ i. record { key = h.0 refl i; key_class = c i; class = q.class }))
+one_entity p q false c h = sym (false_from_ne_true (is_place (with_class p q.class) q) (λ t. false≢true (h.1 (ap (λ x. x.key) (is_place-true (with_class p q.class) q t)))))
+
+pub other_entity : (p q : Place) → (p.key_class ≡ q.key_class → ⊥) → false ≡ is_place (with_class p q.class) q
+other_entity p q h = sym (false_from_ne_true (is_place (with_class p q.class) q) (λ t. h (ap (λ x. x.key_class) (is_place-true (with_class p q.class) q t))))
+
+-- ---- the entries of a map in order
+
+below_keys : (p : Place) (es : List Entry) → AllByRecursion (λ k. place_cmp p k ≡ Less) (keys_of es) → below_all place_cmp p es ≡ true
+below_keys p [] h = refl
+below_keys p (e ∷ es) h = and_from _ _ (ap is_lt h.0) (below_keys p es h.1)
+
+sorted_keys : (es : List Entry) → IsStrictlySortedBy place_cmp (keys_of es) → is_sorted place_cmp es ≡ true
+sorted_keys [] h = refl
+sorted_keys (e ∷ es) h = and_from _ _ (below_keys e.0 es (sorted_head place_cmp e.0 (keys_of es) h)) (sorted_keys es (sorted_tail place_cmp e.0 (keys_of es) h))
+
+find-lookup : (q : Place) (es : List Entry) → find place_cmp q es ≡ lookup (is_at (place_cmp q)) es
+find-lookup q [] = refl
+find-lookup q (e ∷ es) = ap (λ o. cond (is_place q e.0) (Some e.1) o) (find-lookup q es)
+
+in_map : (es : List Entry) → IsStrictlySortedBy place_cmp (keys_of es) → (e : Entry) → IsAmong e es ↔ (lookup (is_at (place_cmp e.0)) es ≡ Some e.1)
+in_map es s e = (
+  (λ i. sym (find-lookup e.0 es) ∙ found_in es (so_from _ (sorted_keys es s)) e i),
+  (λ h. among_found es e.0 e.1 (find-lookup e.0 es ∙ h)),
+)
+
+-- ---- the rows
+
+pub shown_rows : (ls : Labels) (n : ℕ) (T : Table) (c : ℕ) (ns : List Node) (ds : List Cell) (look : Spot → Option (Option Value)) (es : List Entry) → IsStored ls n T → AreLow ls T c (length ls) ns ds → AreValues ds look
+    → IsStrictlySortedBy place_cmp (keys_of es) → AreRows look ns (λ q. lookup (is_at (place_cmp q)) es) → map (λ e. tuple_at e.0 e.1) (filter (is_max_among es) es) ≡ rows ls c T
+shown_rows ls n T c ns ds look es stored low values s found =
+    rows-listed ls c T es (sorted_keys es s) (λ e.
+    let r = rows_low ls n T stored c (length ls) ns ds low (λ f g. let st = stored f.0 f.1 g in st.declared f.0.class st.own) look values (λ q. lookup (is_at (place_cmp q)) es) found e in
+    ((λ i. r.0 ((in_map es s e).0 i)), (λ h. (in_map es s e).1 (r.1 h))))

@@ -1,0 +1,175 @@
+//! What a level sees of a relation, read from the fragments of the labels that it dominates.
+ghost use Rattle.std.specs.Prelude.{◌≡◌, ◌⊎◌, ◌<◌, ◌≤◌, ◌&&◌, not, ℕ, length, map, IfOk, IfErr, IsErrOf, OnOk};
+ghost use Rattle.std.specs.List.{filter, list_any};
+ghost use Rattle.std.specs.Ordering.{eq_by_cmp};
+ghost use Rattle.mls_lattice.specs.Labels.{Labels};
+ghost use Rattle.mls_lattice.specs.Policy.{labels_of};
+ghost use Rattle.mls_scheme.specs.Table.{place_cmp, Table, IsIn, tuple_at};
+ghost use Rattle.mls_scheme.specs.declared.tuple.Tuple.{Tuple as SpecTuple};
+ghost use Rattle.mls_filterview.specs.Subsumption.{subsumes_entry, is_max_among};
+ghost use Rattle.mls_filterview.specs.View.{View, rows, IsAmong};
+ghost use Rattle.mls_filterview.specs.Stored.{with_class, IsStored};
+ghost use Rattle.mls_filterview.specs.Content.{after, failed};
+ghost use Rattle.mls_filterview.specs.Assembly.{AreLow};
+
+use crate::assembly::{entries_of, rows_of, values_of};
+use crate::base::{Base, BaseFault, abandon};
+use crate::fragment::Fragment;
+use crate::subsumption::all_cover;
+use mls_lattice::{Items, LabelNo, Policy};
+use mls_scheme::{Element, Place, RelNo, Tuple, copy_key, same_key};
+use std::alloc::{AllocError, Global};
+
+/// A tuple as its place and its elements.
+type Row = (Place, Items<Element>);
+
+/// The fragments of the labels that a label dominates, as one.
+fn low_fragment<B: Base>(
+    alloc: Global,
+    base: &mut B,
+    policy: &Policy,
+    rel: RelNo,
+    label: LabelNo,
+) -> Result<Fragment, BaseFault>
+    requires { label < length policy.now.labels }
+    ensures clean { B.is_clean base.new → B.is_clean base.old }
+    ensures count { B.failures base.old ≤ B.failures base.new }
+    ensures store { IsErrOf result BaseFault.Store → B.failures base.old < B.failures base.new }
+    ensures no_other { IfErr result (λ e. (e ≡ BaseFault.NotBegun → ⊥) × (e ≡ BaseFault.Begun → ⊥)) }
+    ensures low { B.is_clean base.new → IfOk result (λ f.
+        AreLow (labels_of policy.now) ((B.state base.old).now.db rel) label (length policy.now.labels) f.nodes f.cells) }
+    ensures same { B.is_clean base.new → OnOk result (B.state base.new ≡ B.state base.old) }
+    ensures failed { B.is_clean base.new → IfErr result (λ e. (B.state base.new ≡ B.state base.old) ⊎ (B.state base.new ≡ after e (B.state base.old))) }
+{
+    let mut nodes = Vec::new(alloc);
+    let mut cells = Vec::new(alloc);
+    for number in 0..policy.label_count() {
+        let low = LabelNo::new(number as u8);
+        if !policy.dominates(label, low) {
+            continue;
+        }
+        let fragment = base.fragment(rel, low)?;
+        nodes.append(&mut fragment.nodes.into_vec())?;
+        cells.append(&mut fragment.cells.into_vec())?;
+    }
+    Ok(Fragment {
+        nodes: Items::from(nodes),
+        cells: Items::from(cells),
+    })
+}
+
+/// Whether two places are of one entity.
+fn is_same_entity(left: &Place, right: &Place) -> bool
+    ensures { result ≡ eq_by_cmp place_cmp (with_class left.now right.now.class) right.now }
+{
+    left.key_class == right.key_class && same_key(&left.key, &right.key)
+}
+
+/// Whether a row subsumes another.
+fn subsumes_row(left: &Row, right: &Row) -> bool
+    ensures { result ≡ subsumes_entry left.now right.now }
+{
+    is_same_entity(&left.0, &right.0) && all_cover(&left.1, &right.1)
+}
+
+/// Whether another row subsumes this one.
+fn is_subsumed(rows: &[Row], row: &Row) -> bool
+    ensures { result ≡ list_any (λ d. not (eq_by_cmp place_cmp d.0 row.now.0) && subsumes_entry d row.now) rows.now }
+{
+    rows.iter()
+        .any(|other| other.0 != row.0 && subsumes_row(other, row))
+}
+
+/// Whether no other row subsumes this one.
+fn is_on_top(rows: &[Row], row: &Row) -> bool
+    ensures { result ≡ is_max_among rows.now row.now }
+{
+    !is_subsumed(rows, row)
+}
+
+/// A copy of a row's tuple.
+fn tuple_of(row: &Row) -> Result<Tuple, AllocError>
+    ensures { IfOk result (λ t. t ≡ tuple_at row.now.0 row.now.1) }
+{
+    Ok(Tuple {
+        key: copy_key(&row.0.key)?,
+        key_class: row.0.key_class,
+        elements: row.1.clone()?,
+    })
+}
+
+/// The tuples of rows that no other row subsumes.
+fn shown(alloc: Global, rows: &[Row]) -> Result<Vec<Tuple>, AllocError>
+    ensures { IfOk result (λ v. v.items ≡ map (λ e. tuple_at e.0 e.1) (filter (is_max_among rows.now) rows.now)) }
+{
+    let mut tuples = Vec::new(alloc);
+    for row in rows {
+        if is_on_top(rows, row) {
+            tuples.push(tuple_of(row)?)?;
+        }
+    }
+    Ok(tuples)
+}
+
+/// What a level sees of the relation whose low fragments these are.
+fn tuples_of(alloc: Global, low: Fragment) -> Result<Vec<Tuple>, AllocError>
+    ensures { IfOk result (λ v. (ls : Labels) (n : ℕ) (T : Table) (c : ℕ) → IsStored ls n T → AreLow ls T c (length ls) low.nodes low.cells
+        → v.items ≡ rows ls c T) }
+{
+    let values = values_of(alloc, low.cells)?;
+    let found = rows_of(alloc, low.nodes, &values)?;
+    let rows = entries_of(alloc, found)?;
+    shown(alloc, &rows)
+}
+
+/// What a level sees of a relation; a fault leaves a change begun, unless it is the base's.
+fn read_view<B: Base>(
+    alloc: Global,
+    base: &mut B,
+    policy: &Policy,
+    rel: RelNo,
+    label: LabelNo,
+) -> Result<Vec<Tuple>, BaseFault>
+    requires label { label < length policy.now.labels }
+    requires stored { B.is_clean base.old → (n : ℕ) × IsStored (labels_of policy.now) n ((B.state base.old).now.db rel) }
+    ensures clean { B.is_clean base.new → B.is_clean base.old }
+    ensures count { B.failures base.old ≤ B.failures base.new }
+    ensures store { IsErrOf result BaseFault.Store → B.failures base.old < B.failures base.new }
+    ensures no_other { IfErr result (λ e. (e ≡ BaseFault.NotBegun → ⊥) × (e ≡ BaseFault.Begun → ⊥)) }
+    ensures rows { B.is_clean base.new → IfOk result (λ v. v.items ≡ rows (labels_of policy.now) label ((B.state base.old).now.db rel)) }
+    ensures same { B.is_clean base.new → OnOk result (B.state base.new ≡ B.state base.old) }
+    ensures failed { B.is_clean base.new → IfErr result (λ e. (B.state base.new ≡ B.state base.old) ⊎ (B.state base.new ≡ after e (B.state base.old))) }
+{
+    let low = low_fragment(alloc, base, policy, rel, label)?;
+    Ok(tuples_of(alloc, low)?)
+}
+
+/// What a level sees of a relation, in the order of key, number of the key class and number of the class.
+///
+/// It reads the fragments of the labels that the level dominates, and no other. Where the store fails or a growth is
+/// refused, a change that is begun has ended.
+pub fn view<B: Base>(
+    alloc: Global,
+    base: &mut B,
+    policy: &Policy,
+    rel: RelNo,
+    label: LabelNo,
+) -> Result<Vec<Tuple>, BaseFault>
+    requires label { label < length policy.now.labels }
+    requires stored { B.is_clean base.old → (n : ℕ) × IsStored (labels_of policy.now) n ((B.state base.old).now.db rel) }
+    ensures clean { B.is_clean base.new → B.is_clean base.old }
+    ensures count { B.failures base.old ≤ B.failures base.new }
+    ensures store { IsErrOf result BaseFault.Store → B.failures base.old < B.failures base.new }
+    ensures no_other { IfErr result (λ e. (e ≡ BaseFault.NotBegun → ⊥) × (e ≡ BaseFault.Begun → ⊥)) }
+    ensures rows { B.is_clean base.new → IfOk result (λ v. v.items ≡ rows (labels_of policy.now) label ((B.state base.old).now.db rel)) }
+    ensures same { B.is_clean base.new → OnOk result (B.state base.new ≡ B.state base.old) }
+    ensures failed { B.is_clean base.new → IfErr result (λ e. B.state base.new ≡ after e (B.state base.old)) }
+{
+    match read_view(alloc, base, policy, rel, label) {
+        Ok(tuples) => Ok(tuples),
+        Err(fault) => {
+            abandon(base);
+            Err(fault)
+        }
+    }
+}

@@ -19,7 +19,7 @@ use Rattle.mls_updates.specs.Outcome.{is_done}
 use Rattle.mls_updates.specs.Writes.{Key, Sets, Write, Insert, Update, Delete, WriteFits, WriteKinds, first_refusal, has_null, place, is_above, root, derived, updated, update_in, insert_refusals, update_own_refusals, update_own, update_below_refusals, update_below, delete_refusals, write}
 use Rattle.mls_updates.proofs.SetLemmas.{all_among, none_among, length-derived, length-updated, derived_cases, updated_cases}
 use Rattle.mls_updates.proofs.ChangeLemmas.{inserted_cases, kept_cases, changed_cases}
-use Rattle.mls_updates.proofs.KeptLemmas.{all_passed, found_if, write-stored}
+use Rattle.mls_updates.proofs.KeptLemmas.{all_passed, found_if, insert-stored, write-stored}
 
 -- ---- two lists, place by place
 
@@ -148,4 +148,12 @@ unfolding AllFit
 write-content ls distinct scheme w T h wr fits kinds = record {
   stored = write-stored ls distinct scheme (length scheme.others) w T h.stored wr fits;
   fits = write-fits ls scheme w T h.fits wr kinds;
+}
+
+pub insert-content : (ls : Labels) (scheme : Scheme) (w : ℕ) (T : Table) → IsContent ls scheme T → (key : Key) (values : List (Option Value)) → WriteFits ls (length scheme.others) w (Insert key values) → WriteKinds scheme (Insert key values)
+    → IsContent ls scheme (write ls scheme w (Insert key values) T).table
+unfolding AllFit
+insert-content ls scheme w T h key values fits kinds = record {
+  stored = insert-stored ls scheme (length scheme.others) w T h.stored key values fits;
+  fits = write-fits ls scheme w T h.fits (Insert key values) kinds;
 }

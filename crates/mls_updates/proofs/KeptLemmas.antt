@@ -18,7 +18,7 @@ use Rattle.mls_scheme.proofs.TableLemmas.{get_kept, get_change}
 use Rattle.mls_filterview.specs.Stored.{IsStored, IsStoredTuple, Occurs, AgreesBelow, with_class, is_entity}
 use Rattle.mls_updates.specs.declared.outcome.Outcome.{Outcome}
 use Rattle.mls_updates.specs.Outcome.{is_done}
-use Rattle.mls_updates.specs.Writes.{Sets, Write, Insert, Update, Delete, WriteFits, first_refusal, place, is_above, root, set_element, derived, updated, update_in, insert_refusals, update_own_refusals, update_own, update_below_refusals, update_below, delete_refusals, write}
+use Rattle.mls_updates.specs.Writes.{Key, Sets, Write, Insert, Update, Delete, WriteFits, first_refusal, place, is_above, root, set_element, derived, updated, update_in, insert_refusals, update_own_refusals, update_own, update_below_refusals, update_below, delete_refusals, write}
 use Rattle.mls_updates.proofs.SetLemmas.{none_among, IsSet, some_set, length-derived, length-updated, at-derived, at-updated, derived_cases, updated_cases, updated_class}
 use Rattle.mls_updates.proofs.ChangeLemmas.{get_new, get_again, inserted_cases, kept_cases, changed_cases, entity_decides}
 
@@ -268,14 +268,18 @@ module _ (ls : Labels) (n : ℕ) where
 
 -- ---- all writes
 
--- each write keeps the stored form
-pub write-stored : (ls : Labels) → AreDistinct ls → (scheme : Scheme) (n w : ℕ) (T : Table) → IsStored ls n T → (wr : Write) → WriteFits ls n w wr → IsStored ls n (write ls scheme w wr T).table
-write-stored ls distinct scheme n w T stored (Insert key values) fits =
+-- an insert keeps the stored form, whether or not labels are distinct
+pub insert-stored : (ls : Labels) (scheme : Scheme) (n w : ℕ) (T : Table) → IsStored ls n T → (key : Key) (values : List (Option Value)) → WriteFits ls n w (Insert key values) → IsStored ls n (write ls scheme w (Insert key values) T).table
+insert-stored ls scheme n w T stored key values fits =
     let p = place key w w in
     let refusals = insert_refusals ls scheme w key (get T p) in
     cond_both (is_done (first_refusal refusals)) (insert T p (root w values)) T (IsStored ls n)
     (λ done. let a = all_passed refusals refl done in kept_insert ls n T p (root w values) stored (none_if _ a.1.0) (root_stored ls n T p.key w values fits.0 fits.1))
     (λ _. stored)
+
+-- each write keeps the stored form
+pub write-stored : (ls : Labels) → AreDistinct ls → (scheme : Scheme) (n w : ℕ) (T : Table) → IsStored ls n T → (wr : Write) → WriteFits ls n w wr → IsStored ls n (write ls scheme w wr T).table
+write-stored ls distinct scheme n w T stored (Insert key values) fits = insert-stored ls scheme n w T stored key values fits
 write-stored ls distinct scheme n w T stored (Update key kc from sets) fits =
     let p = place key kc w in
     let q = place key kc from in

@@ -5,3 +5,7 @@ pub mod KeptLemmas
 pub mod FittingLemmas
 pub mod LawLemmas
 pub mod SampleLemmas
+pub mod IntervalLemmas
+pub mod FindingLemmas
+pub mod KeyLemmas
+pub mod CallLemmas

@@ -1,3 +1,5 @@
 pub mod Outcome
 pub mod Writes
 pub mod Laws
+pub mod Calls
+pub mod Finding

@@ -1,11 +1,18 @@
 //! The three writes of a multilevel relation, and their laws.
 #![tactic(auto)]
 
+mod finding;
+mod growth;
+mod inserting;
+mod interval;
+mod key;
 mod laws;
 mod outcome;
+mod root;
 #[cfg(test)]
 mod tests;
 
+pub use inserting::insert;
 pub use laws::{
     high_writes_are_unseen, high_writes_leave_low, low_writes_see_low, low_writes_use_low,
     writes_keep_content, writes_keep_form,

@@ -1,0 +1,34 @@
+-- Intervals of attributes.
+use Rattle.std.proofs.Common.{◌≡◌, ℕ, zero, suc, ◌<◌, Bool, true, false, cond, not, ◌&&◌, List, [], ◌∷◌, length, Option, Some, None, refl, sym, ap, ◌∙◌, arith, drop, ◌+◌, subst}
+use Rattle.std.specs.Prelude.{slice_get}
+use Rattle.std.specs.List.{list_all, AllByRecursion}
+use Rattle.std.specs.Option.{option_map}
+use Rattle.std.proofs.lemmas.Option.{same_Some, none-some}
+use Rattle.mls_lattice.specs.Labels.{Labels}
+use Rattle.mls_scheme.specs.declared.attributes.Column.{Column}
+use Rattle.mls_scheme.specs.Scheme.{Attribute, column_of}
+use Rattle.mls_scheme.specs.Fits.{in_interval, in_column}
+
+module _ (ls : Labels) (class : ℕ) where
+  -- the intervals from the i-th on
+  step : (attributes : List Attribute) (i : ℕ) (c : Column) → option_map column_of (slice_get attributes i) ≡ Some c
+      → list_all (in_interval ls class) (drop i attributes) ≡ (in_column ls class c && list_all (in_interval ls class) (drop (suc i) attributes))
+  step [] zero c h = absurd (none-some c h)
+  step [] (suc i) c h = absurd (none-some c h)
+  step (a ∷ attributes) zero c h = ap (λ k. in_column ls class k && list_all (in_interval ls class) attributes) (same_Some (column_of a) c h)
+  step (a ∷ attributes) (suc i) c h = step attributes i c h
+
+  -- the class lies outside one of them, or what is left decides
+  pub one_out : (attributes : List Attribute) (i : ℕ) (c : Column) → option_map column_of (slice_get attributes i) ≡ Some c → in_column ls class c ≡ false
+      → list_all (in_interval ls class) (drop i attributes) ≡ list_all (in_interval ls class) attributes → false ≡ list_all (in_interval ls class) attributes
+  one_out attributes i c h out all = sym (ap (λ b. b && list_all (in_interval ls class) (drop (suc i) attributes)) out) ∙ sym (step attributes i c h) ∙ all
+
+  pub one_in : (attributes : List Attribute) (i : ℕ) (c : Column) → option_map column_of (slice_get attributes i) ≡ Some c → in_column ls class c ≡ true
+      → list_all (in_interval ls class) (drop i attributes) ≡ list_all (in_interval ls class) attributes
+      → list_all (in_interval ls class) (drop (i + 1) attributes) ≡ list_all (in_interval ls class) attributes
+  one_in attributes i c h in' all =
+      let n : i + 1 ≡ suc i = omega arith in
+      ap (λ k. list_all (in_interval ls class) (drop k attributes)) n
+      ∙ sym (ap (λ b. b && list_all (in_interval ls class) (drop (suc i) attributes)) in') ∙ sym (step attributes i c h) ∙ all
+
+pub ruleset interval_steps = (one_out, one_in)

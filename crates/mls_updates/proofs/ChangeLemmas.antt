@@ -1,9 +1,9 @@
 -- What a look-up finds in a table after a change, and the entities of places.
-use Rattle.std.proofs.Common.{◌≡◌, Bool, true, cond, List, Option, Some, None, refl, sym, ap, ◌∙◌, inl, inr}
+use Rattle.std.proofs.Common.{◌≡◌, Bool, true, false, cond, List, Option, Some, None, refl, sym, ap, ◌∙◌, inl, inr}
 use Rattle.std.specs.Prelude.{◌⊎◌, ◌↔◌}
 use Rattle.std.specs.Option.{option_map}
 use Rattle.std.specs.FinMap.{get, insert, retain_keys}
-use Rattle.std.proofs.lemmas.Bool.{cases_Bool, cond-true, cond-false, false_from_ne_true}
+use Rattle.std.proofs.lemmas.Bool.{cases_Bool, true≢false, cond-true, cond-false, false_from_ne_true}
 use Rattle.std.proofs.lemmas.Option.{same_Some, none-some}
 use Rattle.mls_scheme.specs.declared.tuple.Element.{Element}
 use Rattle.mls_scheme.specs.Table.{Table, change}
@@ -58,3 +58,8 @@ entity_decides p q = (
   λ h. (let e = is_place-true p (with_class q p.class) h in (ap (λ x. x.key) e, ap (λ x. x.key_class) e)),
   λ h. is_place-same p (with_class q p.class) (λ i. record { key = h.0 i; key_class = h.1 i; class = p.class }),
 )
+
+-- a test of keys tells the entity where the key classes are one
+pub entity_by_keys : (p q : Place) (b : Bool) → p.key_class ≡ q.key_class → (b ≡ true) ↔ (p.key ≡ q.key) → b ≡ is_entity p q
+entity_by_keys p q true e h = sym ((entity_decides p q).1 (h.0 refl, e))
+entity_by_keys p q false e h = sym (false_from_ne_true _ (λ t. true≢false (sym (h.1 ((entity_decides p q).0 t).0))))

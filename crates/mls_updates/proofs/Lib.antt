@@ -9,3 +9,6 @@ pub mod IntervalLemmas
 pub mod FindingLemmas
 pub mod KeyLemmas
 pub mod CallLemmas
+pub mod RowsLemmas
+pub mod FragmentLemmas
+pub mod MadeLemmas

@@ -3,3 +3,4 @@ pub mod Writes
 pub mod Laws
 pub mod Calls
 pub mod Finding
+pub mod Rows

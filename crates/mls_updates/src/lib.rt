@@ -7,8 +7,12 @@ mod inserting;
 mod interval;
 mod key;
 mod laws;
+mod list_base;
+mod making;
 mod outcome;
 mod root;
+mod row;
+mod rows;
 #[cfg(test)]
 mod tests;
 
@@ -17,4 +21,5 @@ pub use laws::{
     high_writes_are_unseen, high_writes_leave_low, low_writes_see_low, low_writes_use_low,
     writes_keep_content, writes_keep_form,
 };
+pub use list_base::ListBase;
 pub use outcome::Outcome;

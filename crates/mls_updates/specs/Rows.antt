@@ -1,0 +1,95 @@
+-- Plain lists of whole tuples, and the content that they are.
+use Rattle.std.specs.Prelude.{◌≡◌, ℕ, suc, Bool, not, ◌&&◌, if◌then◌else◌, nat_eq, is_some, List, [], ◌∷◌, map, Option, Some, None}
+use Rattle.std.specs.Ordering.{eq_by_cmp}
+use Rattle.std.specs.Option.{unwrap_or}
+use Rattle.std.specs.List.{filter, flat_map}
+use Rattle.std.specs.FinMap.{from_entries}
+use Rattle.mls_scheme.specs.declared.value.Value.{Value}
+use Rattle.mls_scheme.specs.declared.tuple.Element.{Element}
+use Rattle.mls_scheme.specs.declared.place.Place.{Place}
+use Rattle.mls_scheme.specs.Tuple.{at}
+use Rattle.mls_scheme.specs.Table.{place_cmp, Table}
+use Rattle.mls_filterview.specs.declared.fragment.Node.{Node}
+use Rattle.mls_filterview.specs.declared.fragment.Cell.{Cell}
+use Rattle.mls_filterview.specs.Content.{Content, State}
+use Rattle.mls_filterview.specs.Stored.{with_class}
+use Rattle.mls_filterview.specs.Fragment.{node_of, cells_of, set_in}
+use Rattle.mls_updates.specs.declared.row.Row.{Row}
+
+-- a place and the elements there
+abbrev pub Entry : Type 0
+Entry = Place × List Element
+
+abbrev pub entry_of : Row → Entry
+entry_of r = (r.place, r.elements)
+
+-- the tuples of a relation
+abbrev pub entries_of : ℕ → List Row → List Entry
+entries_of rel rows = map entry_of (filter (λ r. nat_eq r.rel rel) rows)
+
+-- at a place that stands twice, the first tuple
+unfoldable pub table_of : List Row → ℕ → Table
+table_of rows rel = from_entries (entries_of rel rows)
+
+abbrev pub content_of : List Row → Content
+content_of rows = record { db = table_of rows; audit = [] }
+
+-- rows now, and in a change those of the last commit
+abbrev pub state_of : List Row → Option (List Row) → State
+state_of rows saved = record { now = content_of rows; kept = content_of (unwrap_or saved rows); begun = is_some saved }
+
+-- ---- one tuple, by its place
+
+abbrev pub is_at : ℕ → Place → Row → Bool
+is_at rel p r = nat_eq r.rel rel && eq_by_cmp place_cmp p r.place
+
+-- the elements at a place
+abbrev pub found_at : ℕ → Place → List Row → Option (List Element)
+found_at rel p [] = None
+found_at rel p (r ∷ rs) = if is_at rel p r then Some r.elements else found_at rel p rs
+
+-- no two tuples of a relation have one place
+abbrev pub HavePlaces : List Row → Type 0
+HavePlaces [] = Unit {0}
+HavePlaces (r ∷ rs) = (found_at r.rel r.place rs ≡ None) × HavePlaces rs
+
+-- ---- what one label holds
+
+abbrev pub is_of : ℕ → ℕ → Row → Bool
+is_of rel label r = nat_eq r.rel rel && nat_eq r.place.class label
+
+abbrev pub nodes_of : ℕ → ℕ → List Row → List Node
+nodes_of rel label rows = map (λ r. node_of (entry_of r)) (filter (is_of rel label) rows)
+
+abbrev pub cells_in : ℕ → ℕ → List Row → List Cell
+cells_in rel label rows = flat_map (λ r. cells_of (entry_of r)) (filter (is_of rel label) rows)
+
+-- ---- one tuple put together
+
+-- the value at an attribute of the tuple at a place, null where there is none
+abbrev pub value_at : ℕ → Place → ℕ → List Row → Option Value
+value_at rel p i rows = (at (unwrap_or (found_at rel p rows) []) i).value
+
+-- the value at an attribute among the cells of one tuple, null where there is none
+abbrev pub value_in : ℕ → List Cell → Option Value
+value_in i [] = None
+value_in i (c ∷ cs) = if nat_eq c.attr i then c.value else value_in i cs
+
+-- the value at an attribute of class m: one of the cells, or one of the entity's tuple of class m
+abbrev pub value_of : ℕ → Place → List Cell → List Row → ℕ → ℕ → Option Value
+value_of rel p cells rows i m = if nat_eq m p.class then value_in i cells else value_at rel (with_class p m) i rows
+
+-- the elements of a pattern, numbered from k
+abbrev pub made_from : ℕ → Place → List Cell → List Row → ℕ → List ℕ → List Element
+made_from rel p cells rows k [] = []
+made_from rel p cells rows k (m ∷ ms) = record { value = value_of rel p cells rows k m; class = m } ∷ made_from rel p cells rows (suc k) ms
+
+-- ---- one cell changed
+
+abbrev pub set_row : ℕ → Place → ℕ → Option Value → Row → Row
+set_row rel p attr v r = record { rel = r.rel; place = r.place; elements = if nat_eq r.rel rel then set_in p attr v r.place r.elements else r.elements }
+
+-- ---- one tuple less
+
+abbrev pub without : ℕ → Place → List Row → List Row
+without rel p rows = filter (λ r. not (is_at rel p r)) rows

@@ -1,0 +1,93 @@
+//! A tuple put together from its node, the cells of its class, and the tuples that there are.
+ghost use Rattle.std.specs.Prelude.{◌≡◌, IfOk};
+ghost use Rattle.mls_scheme.specs.Tuple.{at};
+ghost use Rattle.mls_updates.specs.Rows.{value_at, value_in, value_of, made_from};
+
+use crate::row::Row;
+use mls_filterview::Cell;
+use mls_lattice::LabelNo;
+use mls_scheme::{Element, Place, RelNo, Value, copy_key};
+use std::alloc::{AllocError, Global};
+
+/// The elements of a pattern: of the place's own class from the cells, of other classes from the entity's tuples.
+pub(crate) fn elements_of(
+    alloc: Global,
+    rows: &[Row],
+    rel: RelNo,
+    place: &Place,
+    cells: &[Cell],
+    pattern: &[LabelNo],
+) -> Result<Vec<Element>, AllocError>
+    ensures { IfOk result (λ v. v.items ≡ made_from rel place.now cells.now rows.now 0 pattern.now) }
+{
+    let mut elements = Vec::new(alloc);
+    for (attr, class) in pattern.iter().enumerate() {
+        let value = value_of(rows, rel, place, cells, attr, *class)?;
+        elements.push(Element {
+            value,
+            class: *class,
+        })?;
+    }
+    Ok(elements)
+}
+
+/// The value at an attribute of a class.
+fn value_of(
+    rows: &[Row],
+    rel: RelNo,
+    place: &Place,
+    cells: &[Cell],
+    attr: usize,
+    class: LabelNo,
+) -> Result<Option<Value>, AllocError>
+    ensures { IfOk result (λ v. v ≡ value_of rel place.now cells.now rows.now attr class) }
+{
+    if class == place.class {
+        return value_in(cells, attr);
+    }
+    let other = Place {
+        key: copy_key(&place.key)?,
+        key_class: place.key_class,
+        class,
+    };
+    value_at(rows, rel, &other, attr)
+}
+
+/// The value at an attribute among cells, null where there is none.
+fn value_in(cells: &[Cell], attr: usize) -> Result<Option<Value>, AllocError>
+    ensures { IfOk result (λ v. v ≡ value_in attr cells.now) }
+{
+    for cell in cells {
+        if cell.attr == attr {
+            return cell.value.clone();
+        }
+    }
+    Ok(None)
+}
+
+/// The value at an attribute of the tuple at a place, null where there is none.
+fn value_at(
+    rows: &[Row],
+    rel: RelNo,
+    place: &Place,
+    attr: usize,
+) -> Result<Option<Value>, AllocError>
+    ensures { IfOk result (λ v. v ≡ value_at rel place.now attr rows.now) }
+{
+    for row in rows {
+        if row.is_at(rel, place) {
+            return value_among(&row.elements, attr);
+        }
+    }
+    Ok(None)
+}
+
+/// The value of an element, null where there is none.
+fn value_among(elements: &[Element], attr: usize) -> Result<Option<Value>, AllocError>
+    ensures { IfOk result (λ v. v ≡ (at elements.now attr).value) }
+{
+    match elements.get(attr) {
+        Some(element) => element.value.clone(),
+        None => Ok(None),
+    }
+}

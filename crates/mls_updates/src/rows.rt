@@ -1,0 +1,174 @@
+//! The tuples that a base holds.
+ghost use Rattle.std.specs.Prelude.{◌≡◌, ◌++◌, ◌∷◌, [], IfOk, OnOk, OnErr, map, None};
+ghost use Rattle.std.specs.FinMap.{get};
+ghost use Rattle.mls_filterview.specs.Fragment.{IsFragment};
+ghost use Rattle.mls_updates.specs.Rows.{table_of, nodes_of, cells_in, made_from, found_at, set_row, without};
+
+use crate::making;
+use crate::row::Row;
+use mls_filterview::{Cell, Fragment, Node};
+use mls_lattice::{Items, LabelNo};
+use mls_scheme::{Element, Place, RelNo, Value};
+use std::alloc::{AllocError, Global};
+use std::marker::Model;
+
+/// Tuples, no two of a relation at one place.
+#[derive(Drop, Debug)]
+pub(crate) struct Rows {
+    vec: Vec<Row>,
+}
+
+impl Model for Rows {
+    ghost use Rattle.std.specs.Prelude.{List};
+    ghost use Rattle.mls_updates.specs.declared.row.Row.{Row as SpecRow};
+    ghost use Rattle.mls_updates.specs.Rows.{HavePlaces};
+
+    ghost Value = { List SpecRow };
+
+    ghost view = { λ a. a.vec.items };
+
+    ghost invariant = { λ a. HavePlaces a.vec.items };
+}
+
+impl Rows {
+    /// No tuple.
+    pub(crate) fn new(alloc: Global) -> Rows
+        ensures { result ≡ [] }
+    {
+        Rows {
+            vec: Vec::new(alloc),
+        }
+    }
+
+    /// The same tuples.
+    pub(crate) fn copy(&self) -> Result<Rows, AllocError>
+        ensures { IfOk result (λ r. r ≡ self.now) }
+    {
+        let vec = copy_rows(&self.vec)?;
+        Ok(Rows { vec })
+    }
+
+    /// What a label holds of a relation.
+    pub(crate) fn fragment(
+        &self,
+        alloc: Global,
+        rel: RelNo,
+        label: LabelNo,
+    ) -> Result<Fragment, AllocError>
+        ensures { IfOk result (IsFragment (table_of self.now rel) label) }
+    {
+        let nodes = nodes_of(alloc, &self.vec, rel, label)?;
+        let cells = cells_of(alloc, &self.vec, rel, label)?;
+        Ok(Fragment {
+            nodes: Items::from(nodes),
+            cells: Items::from(cells),
+        })
+    }
+
+    /// The elements of a new tuple.
+    pub(crate) fn elements_of(
+        &self,
+        alloc: Global,
+        rel: RelNo,
+        place: &Place,
+        cells: &[Cell],
+        pattern: &[LabelNo],
+    ) -> Result<Items<Element>, AllocError>
+        ensures { IfOk result (λ es. es ≡ made_from rel place.now cells.now self.now 0 pattern.now) }
+    {
+        let elements = making::elements_of(alloc, &self.vec, rel, place, cells, pattern)?;
+        Ok(Items::from(elements))
+    }
+
+    /// Adds a tuple.
+    pub(crate) fn push(&mut self, row: Row) -> Result<(), AllocError>
+        requires { found_at row.rel row.place self.old ≡ None }
+        ensures { OnOk result (self.new ≡ self.old ++ row ∷ []) }
+    {
+        self.vec.push(row)?;
+        Ok(())
+    }
+
+    /// Sets the value of a cell, in each tuple of the entity that has it.
+    pub(crate) fn set(
+        &mut self,
+        alloc: Global,
+        rel: RelNo,
+        place: &Place,
+        attr: usize,
+        value: &Option<Value>,
+    ) -> Result<(), AllocError>
+        ensures { OnOk result (self.new ≡ map (set_row rel place.now attr value.now) self.old) }
+    {
+        self.vec = set_rows(alloc, &self.vec, rel, place, attr, value)?;
+        Ok(())
+    }
+
+    /// Removes the tuple at a place.
+    pub(crate) fn remove(&mut self, rel: RelNo, place: &Place)
+        ensures { self.new ≡ without rel place.now self.old }
+    {
+        self.vec.retain(|row| !row.is_at(rel, place));
+    }
+}
+
+/// The same rows.
+fn copy_rows(rows: &Vec<Row>) -> Result<Vec<Row>, AllocError>
+    ensures { IfOk result (λ v. v.items ≡ rows.now.items) }
+{
+    rows.clone()
+}
+
+/// The nodes of a relation and a label.
+fn nodes_of(
+    alloc: Global,
+    rows: &[Row],
+    rel: RelNo,
+    label: LabelNo,
+) -> Result<Vec<Node>, AllocError>
+    ensures { IfOk result (λ v. v.items ≡ nodes_of rel label rows.now) }
+{
+    let mut nodes = Vec::new(alloc);
+    for row in rows {
+        if row.is_of(rel, label) {
+            nodes.push(row.node(alloc)?)?;
+        }
+    }
+    Ok(nodes)
+}
+
+/// The cells of a relation and a label.
+fn cells_of(
+    alloc: Global,
+    rows: &[Row],
+    rel: RelNo,
+    label: LabelNo,
+) -> Result<Vec<Cell>, AllocError>
+    ensures { IfOk result (λ v. v.items ≡ cells_in rel label rows.now) }
+{
+    let mut cells = Vec::new(alloc);
+    for row in rows {
+        if row.is_of(rel, label) {
+            row.add_cells(&mut cells)?;
+        }
+    }
+    Ok(cells)
+}
+
+/// The rows with the value of a cell set.
+fn set_rows(
+    alloc: Global,
+    rows: &[Row],
+    rel: RelNo,
+    place: &Place,
+    attr: usize,
+    value: &Option<Value>,
+) -> Result<Vec<Row>, AllocError>
+    ensures { IfOk result (λ v. v.items ≡ map (set_row rel place.now attr value.now) rows.now) }
+{
+    let mut changed = Vec::new(alloc);
+    for row in rows {
+        changed.push(row.with_value(alloc, rel, place, attr, value)?)?;
+    }
+    Ok(changed)
+}

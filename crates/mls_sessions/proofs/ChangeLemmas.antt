@@ -8,7 +8,7 @@ use Rattle.mls_filterview.specs.declared.base.BaseFault.TheVariants.{Store, Memo
 use Rattle.mls_filterview.specs.Content.{State, Content, begun_change, committed, ended, failed, after, with_relation}
 use Rattle.mls_updates.specs.declared.outcome.Outcome.{Outcome}
 use Rattle.mls_updates.specs.Writes.{Write, write}
-use Rattle.mls_sessions.specs.Calls.{IsWritten}
+use Rattle.mls_updates.specs.Calls.{IsWritten}
 use Rattle.mls_sessions.specs.Engine.{IsKept, FellBack}
 
 -- a fault of a call inside a change goes back to where the change began

@@ -1,8 +1,11 @@
 -- The world that an engine holds, and what an engine keeps to.
-use Rattle.std.specs.Prelude.{◌≡◌, ℕ, false, Bool, ◌&&◌, if◌then◌else◌, nat_eq, List, [], ◌∷◌, length, Option, Some, None}
+use Rattle.std.specs.Prelude.{◌≡◌, ℕ, false, Bool, ◌&&◌, if◌then◌else◌, nat_eq, nat_lt, ◌<◌, ⊤, List, [], ◌∷◌, length, Option, Some, None}
+use Rattle.std.specs.List.{list_all}
 use Rattle.std.specs.Str.{bytes_eq}
 use Rattle.mls_lattice.specs.Labels.{Labels, AreDistinct}
 use Rattle.mls_lattice.specs.Policy.{Name, Tables, labels_of}
+use Rattle.mls_scheme.specs.declared.tuple.Element.{Element}
+use Rattle.mls_scheme.specs.declared.tuple.Tuple.{Tuple}
 use Rattle.mls_scheme.specs.Table.{Database}
 use Rattle.mls_scheme.specs.Scheme.{Scheme, Schemes, AreUnder}
 use Rattle.mls_filterview.specs.Content.{State, with_relation}
@@ -11,6 +14,7 @@ use Rattle.mls_updates.specs.declared.outcome.Outcome.{Outcome}
 use Rattle.mls_updates.specs.Writes.{Write, write}
 use Rattle.mls_sessions.specs.declared.event.Event.{Event}
 use Rattle.mls_sessions.specs.declared.reply.Reply.{Reply}
+use Rattle.mls_sessions.specs.declared.reply.Reply.TheVariants.{Opened, Rows, Wrote, Denied}
 use Rattle.mls_sessions.specs.declared.session.Session.{Session}
 use Rattle.mls_sessions.specs.declared.engine.Engine.{Engine}
 use Rattle.mls_sessions.specs.Machine.{Sessions, World, Step, opened, user_named}
@@ -71,3 +75,19 @@ pub record IsKept (ls : Labels) (scheme : Scheme) (rel w : ℕ) (wr : Write) (s 
 pub record FellBack (s t : State) : Type 0 where
   pub now : t.now ≡ s.now
   pub idle : t.begun ≡ false
+
+-- ---- replies of any store
+
+-- a session was opened for a user of the policy
+abbrev pub HasKnownUser : Tables → Reply → Type 0
+HasKnownUser policy (Opened user) = user < length policy.users
+HasKnownUser policy (Rows tuples) = ⊤
+HasKnownUser policy (Wrote o) = ⊤
+HasKnownUser policy (Denied d) = ⊤
+
+-- whether all classes are numbers of count labels
+abbrev pub elements_known : ℕ → List Element → Bool
+elements_known count = list_all (λ e. nat_lt e.class count)
+
+abbrev pub tuples_known : ℕ → List Tuple → Bool
+tuples_known count = list_all (λ t. nat_lt t.key_class count && elements_known count t.elements)

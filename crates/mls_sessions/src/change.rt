@@ -6,11 +6,10 @@ ghost use Rattle.mls_filterview.specs.Stored.{IsContent};
 ghost use Rattle.mls_updates.specs.Writes.{Insert, WriteKinds};
 ghost use Rattle.mls_sessions.specs.Engine.{IsKept, FellBack};
 
-use crate::stubs::insert;
 use mls_filterview::{Base, BaseFault};
 use mls_lattice::{LabelNo, Policy};
 use mls_scheme::{RelNo, Schemes, Value};
-use mls_updates::Outcome;
+use mls_updates::{Outcome, insert};
 use std::alloc::Global;
 
 /// An insert, begun and committed.

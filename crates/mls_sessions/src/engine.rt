@@ -1,18 +1,21 @@
 //! The machine of sessions over a base.
-ghost use Rattle.std.specs.Prelude.{◌≡◌, ◌<◌, ◌≤◌, false, length, IfOk, IfErr, IsErrOf, OnOk, OnErr};
+ghost use Rattle.std.specs.Prelude.{◌≡◌, ◌≢◌, ◌<◌, ◌≤◌, false, length, IfOk, IfErr, IsErrOf, OnOk, OnErr};
 ghost use Rattle.mls_lattice.specs.Policy.{labels_of};
 ghost use Rattle.mls_scheme.specs.Scheme.{AreUnder};
 ghost use Rattle.mls_filterview.specs.Stored.{AreContent};
 ghost use Rattle.mls_sessions.specs.Event.{EventFits};
+ghost use Rattle.mls_sessions.specs.Output.{reply_text, ReplyIsKnown};
 ghost use Rattle.mls_sessions.specs.Machine.{no_sessions, step};
-ghost use Rattle.mls_sessions.specs.Engine.{world_of, IsReady, HasSameRules, IsStep, IsUnchanged};
+ghost use Rattle.mls_sessions.specs.Engine.{world_of, IsReady, HasSameRules, IsStep, IsUnchanged, HasKnownUser};
 
 use crate::change::insert_kept;
 use crate::event::{Command, Event};
+use crate::known::is_known;
+use crate::printing_replies::reply_bytes;
 use crate::reply::{Denial, Reply};
+use crate::run::RunCause;
 use crate::session::{Session, open, user_of};
-use crate::stubs::view;
-use mls_filterview::{Base, BaseFault};
+use mls_filterview::{Base, BaseFault, view};
 use mls_lattice::{Items, Policy, Str};
 use mls_scheme::Schemes;
 use std::alloc::Global;
@@ -81,6 +84,7 @@ impl<'a, B: Base> Engine<'a, B> {
         ensures ready { IsReady B.state B.is_clean self.new }
         ensures done { B.is_clean self.new.base
             → IfOk result (IsStep B.state self.old (step self.old.policy.now self.old.schemes.now (world_of B.state self.old) event.now) self.new) }
+        ensures user { IfOk result (HasKnownUser self.old.policy.now) }
         ensures failed { B.is_clean self.new.base → OnErr result (IsUnchanged B.state self.old self.new) }
     {
         let user = user_of(&self.sessions, event.level, &event.session);
@@ -112,6 +116,24 @@ impl<'a, B: Base> Engine<'a, B> {
                 )?;
                 Ok(Reply::Wrote(outcome))
             }
+        }
+    }
+
+    /// The lines of the reply to an event. `Store` is the cause where a class is not declared, as may be over a store that
+    /// gives other content than was written.
+    pub(crate) fn printed(&self, event: &Event, reply: &Reply) -> Result<Vec<u8>, RunCause>
+        requires fits { EventFits self.now.policy.now self.now.schemes.now event.now }
+        requires user { HasKnownUser self.now.policy.now reply.now }
+        ensures done { IfOk result (λ v. v.items ≡ reply_text self.now.policy.now self.now.schemes.now event.now reply.now) }
+        ensures failed { ReplyIsKnown self.now.policy.now reply.now → IfErr result (λ c. c ≡ RunCause.Memory) }
+        ensures write { IfErr result (λ c. c ≢ RunCause.Write) }
+    {
+        if !is_known(self.policy, reply) {
+            return Err(RunCause::Store);
+        }
+        match reply_bytes(self.alloc, self.policy, self.schemes, event, reply) {
+            Ok(bytes) => Ok(bytes),
+            Err(_) => Err(RunCause::Memory),
         }
     }
 }

@@ -1,6 +1,6 @@
 //! Open sessions.
 ghost use Rattle.std.specs.Prelude.{◌≡◌, None, IfOk, IfErr, OnErr};
-ghost use Rattle.mls_sessions.specs.Engine.{sessions_of, IsOpening};
+ghost use Rattle.mls_sessions.specs.Engine.{sessions_of, IsOpening, HasKnownUser};
 
 use crate::event::Event;
 use crate::reply::{Denial, Reply};
@@ -41,6 +41,7 @@ pub(crate) fn open(
 ) -> Result<Reply, BaseFault>
     requires { sessions_of sessions.old.items event.now.level event.now.session ≡ None }
     ensures done { IfOk result (IsOpening policy.now schemes.now event.now name.now sessions.old.items sessions.new.items) }
+    ensures user { IfOk result (HasKnownUser policy.now) }
     ensures memory { IfErr result (λ e. e ≡ BaseFault.Memory) }
     ensures failed { OnErr result (sessions.new.items ≡ sessions.old.items) }
 {

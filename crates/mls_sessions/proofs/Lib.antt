@@ -5,6 +5,7 @@ pub mod EngineLemmas
 pub mod WritingSteps
 pub mod MachineLemmas
 pub mod KnownLemmas
+pub mod AnswerLemmas
 pub mod IntLemmas
 pub mod TextLemmas
 pub mod TokenLemmas

@@ -19,7 +19,7 @@ module _ (policy : Tables) (schemes : Schemes) where
   printed-snoc : (w : World) (es : List Event) (e : Event)
       → printed policy schemes (es ++ e ∷ []) (replies policy schemes w (es ++ e ∷ []))
       ≡ printed policy schemes es (replies policy schemes w es) ++ reply_text policy schemes e (step policy schemes (end_of policy schemes w es) e).reply
-  unfolding end_of, replies
+  unfolding end_of replies
   printed-snoc w [] e = append-nil (reply_text policy schemes e (step policy schemes w e).reply)
   printed-snoc w (d ∷ es) e =
       let first = reply_text policy schemes d (step policy schemes w d).reply in

@@ -7,9 +7,9 @@ use Rattle.mls_filterview.specs.declared.base.BaseFault.{BaseFault}
 use Rattle.mls_filterview.specs.declared.base.BaseFault.TheVariants as faults
 use Rattle.mls_filterview.specs.Integrity.{HasIntegrity}
 use Rattle.mls_sessions.specs.declared.event.Event.{Event}
-use Rattle.mls_sessions.specs.declared.run.RunCause.{RunCause}
-use Rattle.mls_sessions.specs.declared.run.RunCause.TheVariants.{Store, Memory, Write}
-use Rattle.mls_sessions.specs.declared.run.RunFault.{RunFault}
+use Rattle.mls_sessions.specs.declared.running.RunCause.{RunCause}
+use Rattle.mls_sessions.specs.declared.running.RunCause.TheVariants.{Store, Memory, Write}
+use Rattle.mls_sessions.specs.declared.running.RunFault.{RunFault}
 use Rattle.mls_sessions.specs.Machine.{World, step, end_of, replies}
 use Rattle.mls_sessions.specs.Output.{reply_text, printed}
 use Rattle.std.specs.Prelude.{codes}
@@ -62,3 +62,15 @@ pub record IsPart (before after : Option (List ℕ)) (bytes : List ℕ) : Type 0
   pub rest : List ℕ
   pub appends : Appends before after part
   pub whole : part ++ rest ≡ bytes
+
+module _ (policy : Tables) (schemes : Schemes) (w : World) (event : Event) (before after : Option (List ℕ)) (new : World) where
+  -- an event was answered, and its reply is written whole
+  pub record IsAnswered : Type 0 where
+    pub bytes : Appends before after (reply_text policy schemes event (step policy schemes w event).reply)
+    pub world : new ≡ (step policy schemes w event).world
+
+  -- it was not, or its reply is not written whole
+  pub record IsHalted (cause : RunCause) (done : Bool) : Type 0 where
+    pub reply : IsPart before after (reply_text policy schemes event (step policy schemes w event).reply)
+    pub none : cause ≢ Write → reply.part ≡ []
+    pub world : new ≡ (if done then (step policy schemes w event).world else w)

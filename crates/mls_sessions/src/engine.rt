@@ -13,7 +13,7 @@ use crate::event::{Command, Event};
 use crate::known::is_known;
 use crate::printing_replies::reply_bytes;
 use crate::reply::{Denial, Reply};
-use crate::run::RunCause;
+use crate::running::RunCause;
 use crate::session::{Session, open, user_of};
 use mls_filterview::{Base, BaseFault, view};
 use mls_lattice::{Items, Policy, Str};

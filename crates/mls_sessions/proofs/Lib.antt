@@ -1,4 +1,11 @@
 pub mod RunLemmas
+pub mod ChangeLemmas
+pub mod SessionLemmas
+pub mod EngineLemmas
+pub mod WritingSteps
+pub mod MachineLemmas
+pub mod KnownLemmas
+pub mod AnswerLemmas
 pub mod IntLemmas
 pub mod TextLemmas
 pub mod TokenLemmas

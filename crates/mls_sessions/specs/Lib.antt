@@ -7,3 +7,5 @@ pub mod Script
 pub mod Reply
 pub mod Output
 pub mod Machine
+pub mod Engine
+pub mod Run

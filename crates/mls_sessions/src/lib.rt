@@ -1,14 +1,17 @@
-//! Sessions: the script of their commands.
+//! Sessions: the script of their commands, the machine that answers them, and what is printed.
 #![tactic(auto)]
 
 ghost use Rattle.mls_sessions.specs.Script.{ScriptsAreOnce};
 ghost use Rattle.mls_sessions.specs.Tokens.{LinesAreOnce};
 
+mod change;
 mod cursor;
+mod engine;
 mod event;
 mod fault;
 mod grammar;
 mod int;
+mod known;
 mod lookup;
 mod phrase;
 mod printing;
@@ -17,17 +20,22 @@ mod printing_rows;
 mod quoted;
 mod reading;
 mod reply;
+mod running;
 mod runs;
 mod scanner;
+mod session;
 #[cfg(test)]
 mod tests;
 mod token;
+mod writing;
 
+pub use engine::Engine;
 pub use event::{Command, Event};
 pub use fault::{ScriptCause, ScriptFault};
 pub use printing_replies::reply_bytes;
 pub use reading::script;
 pub use reply::{Denial, Reply};
+pub use running::{RunCause, RunFault, run};
 
 /// A line is the tokens of one list at most.
 pub fn lines_are_read_once()

@@ -1,0 +1,117 @@
+-- What each way through a step does is the machine's step, and the engine keeps what it holds.
+use Rattle.std.proofs.Common.{◌≡◌, ℕ, Bool, true, false, cond, length, List, Option, Some, None, refl, sym, ap, ◌∙◌, subst, eqb-true, Vec, Global, Result, Ok, Err, IfOk}
+use Rattle.std.specs.Prelude.{nat_eq}
+use Rattle.mls_lattice.specs.Labels.{Labels, AreDistinct}
+use Rattle.mls_lattice.specs.Policy.{Name, Tables, labels_of}
+use Rattle.mls_scheme.specs.declared.value.Value.{Value}
+use Rattle.mls_scheme.specs.declared.tuple.Tuple.{Tuple}
+use Rattle.mls_scheme.specs.Table.{Table, Database}
+use Rattle.mls_scheme.specs.Scheme.{Schemes, scheme_of}
+use Rattle.mls_filterview.specs.declared.base.BaseFault.{BaseFault}
+use Rattle.mls_filterview.specs.Content.{State, with_table}
+use Rattle.mls_filterview.specs.Stored.{IsContent, AreContent}
+use Rattle.mls_filterview.specs.View.{rows}
+use Rattle.mls_updates.specs.declared.outcome.Outcome.{Outcome}
+use Rattle.mls_updates.specs.Writes.{Insert, write}
+use Rattle.mls_sessions.specs.declared.event.Event.{Event}
+use Rattle.mls_sessions.specs.declared.event.Command.{Command}
+use Rattle.mls_sessions.specs.declared.event.Command.TheVariants as commands
+use Rattle.mls_sessions.specs.declared.reply.Denial.TheVariants.{NoSession, AlreadyOpen}
+use Rattle.mls_sessions.specs.declared.reply.Reply.{Reply}
+use Rattle.mls_sessions.specs.declared.reply.Reply.TheVariants.{Rows, Wrote, Denied}
+use Rattle.mls_sessions.specs.declared.session.Session.{Session}
+use Rattle.mls_sessions.specs.declared.engine.Engine.{Engine}
+use Rattle.mls_sessions.specs.Machine.{World, Step, denial_in, effect_in, step_in, opened, step_outside, step_at, user_named, step}
+use Rattle.mls_sessions.specs.Engine.{world_of, sessions_of, IsReady, IsStep, IsOpening, IsKept, FellBack}
+
+-- ---- the machine's step, by session and command
+
+module _ (policy : Tables) (schemes : Schemes) (w : World) (e : Event) where
+  in_session : (user : ℕ) (command : Command) → w.sessions e.level e.session ≡ Some user → e.command ≡ command
+      → step policy schemes w e ≡ step_in policy schemes w e.level command (denial_in policy schemes command)
+  unfolding step
+  in_session user command h k = ap (step_at policy schemes w e) h ∙ ap (λ c. step_in policy schemes w e.level c (denial_in policy schemes c)) k
+
+  outside_session : (command : Command) → w.sessions e.level e.session ≡ None → e.command ≡ command → step policy schemes w e ≡ step_outside policy schemes w e command
+  unfolding step
+  outside_session command h k = ap (step_at policy schemes w e) h ∙ ap (step_outside policy schemes w e) k
+
+-- ---- content with one relation changed
+
+module _ (ls : Labels) (schemes : Schemes) (db new : Database) (rel : ℕ) (T : Table) (same : new ≡ with_table db rel T) where
+  changed_content : AreContent ls schemes db → IsContent ls (scheme_of schemes rel) (new rel) → AreContent ls schemes new
+  changed_content all one r = by_test (nat_eq r rel) refl
+    where
+      by_test : (b : Bool) → nat_eq r rel ≡ b → IsContent ls (scheme_of schemes r) (new r)
+      by_test true e = subst (λ x. IsContent ls (scheme_of schemes x) (new x)) (sym (eqb-true r rel e)) one
+      by_test false e = subst (IsContent ls (scheme_of schemes r)) (sym (ap (λ d. d r) same ∙ ap (λ b. cond b T (db r)) e)) (all r)
+
+-- ---- engines
+
+module _ {B : Type 0} (state : B → State) (is_clean : B → Type 0) (e : Engine B) (ready : IsReady state is_clean e) where
+  -- after a call that left the content
+  pub ready_fallen : (b : B) → (is_clean b → is_clean e.base) → (is_clean b → FellBack (state e.base) (state b)) → IsReady state is_clean (record e { base = b })
+  ready_fallen b clean h = record {
+    under = ready.under;
+    distinct = ready.distinct;
+    idle = λ c. (h c).idle;
+    content = λ c. subst (λ x. AreContent (labels_of e.policy.now) e.schemes.now x.db) (sym (h c).now) (ready.content (clean c))
+  }
+
+  -- after a view
+  pub ready_same : (b : B) → (is_clean b → is_clean e.base) → (is_clean b → state b ≡ state e.base) → IsReady state is_clean (record e { base = b })
+  ready_same b clean h = ready_fallen b clean (λ c. record { now = ap (λ s. s.now) (h c); idle = ap (λ s. s.begun) (h c) ∙ ready.idle (clean c) })
+
+  module _ (b : B) (clean : is_clean b → is_clean e.base) (rel w : ℕ) (key values : List (Option Value)) (o : Outcome)
+      (kept : is_clean b → IsKept (labels_of e.policy.now) (scheme_of e.schemes.now rel) rel w (Insert key values) (state e.base) (state b) o) where
+    -- after an insert
+    pub ready_kept : (is_clean b → IsContent (labels_of e.policy.now) (scheme_of e.schemes.now rel) ((state b).now.db rel)) → IsReady state is_clean (record e { base = b })
+    ready_kept content = record {
+      under = ready.under;
+      distinct = ready.distinct;
+      idle = λ c. (kept c).idle;
+      content = λ c. changed_content (labels_of e.policy.now) e.schemes.now (state e.base).now.db (state b).now.db rel _ (ap (λ x. x.db) (kept c).now) (ready.content (clean c)) (content c)
+    }
+
+module _ {B : Type 0} (state : B → State) (e : Engine B) (event : Event) where
+  abbrev w : World
+  w = world_of state e
+
+  abbrev s : Step
+  s = step e.policy.now e.schemes.now w event
+
+  is_step : (t : Step) (new : Engine B) (r : Reply) → s ≡ t → r ≡ t.reply → world_of state new ≡ t.world → (state new.base).now.audit ≡ (state e.base).now.audit → IsStep state e s new r
+  is_step t new r h reply world audit = record { reply = reply ∙ sym (ap (λ x. x.reply) h); world = world ∙ sym (ap (λ x. x.world) h); audit = audit }
+
+  pub denied_open : (user : ℕ) (name : Name) → sessions_of e.sessions.items event.level event.session ≡ Some user → event.command ≡ commands.Open name → IsStep state e s e (Denied AlreadyOpen)
+  denied_open user name h k = is_step _ e _ (in_session e.policy.now e.schemes.now w event user (commands.Open name) h k) refl refl refl
+
+  pub denied_view : (rel label : ℕ) → sessions_of e.sessions.items event.level event.session ≡ None → event.command ≡ commands.View rel label → IsStep state e s e (Denied NoSession)
+  denied_view rel label h k = is_step _ e _ (outside_session e.policy.now e.schemes.now w event (commands.View rel label) h k) refl refl refl
+
+  pub denied_insert : (rel : ℕ) (key values : List (Option Value)) → sessions_of e.sessions.items event.level event.session ≡ None → event.command ≡ commands.Insert rel key values
+      → IsStep state e s e (Denied NoSession)
+  denied_insert rel key values h k = is_step _ e _ (outside_session e.policy.now e.schemes.now w event (commands.Insert rel key values) h k) refl refl refl
+
+  pub open_answered : (name n : Name) (sessions : Vec Session Global) (r : Result Reply BaseFault) → sessions_of e.sessions.items event.level event.session ≡ None → event.command ≡ commands.Open name → n ≡ name
+      → IfOk r (IsOpening e.policy.now e.schemes.now event n e.sessions.items sessions.items) → IfOk r (IsStep state e s (record e { sessions = sessions }))
+  open_answered name n sessions (Err fault) h k m opening = tt
+  open_answered name n sessions (Ok r) h k m opening =
+      let t = opened e.policy.now e.schemes.now w event (user_named e.policy.now name) in
+      let same : opened e.policy.now e.schemes.now w event (user_named e.policy.now n) ≡ t = ap (λ x. opened e.policy.now e.schemes.now w event (user_named e.policy.now x)) m in
+      is_step t (record e { sessions = sessions }) r (outside_session e.policy.now e.schemes.now w event (commands.Open name) h k)
+      (opening.reply (state e.base).now.db ∙ ap (λ x. x.reply) same) (opening.world (state e.base).now.db ∙ ap (λ x. x.world) same) refl
+
+  pub view_done : (user rel label : ℕ) (b : B) (shown : List Tuple) → sessions_of e.sessions.items event.level event.session ≡ Some user → event.command ≡ commands.View rel label
+      → state b ≡ state e.base → shown ≡ rows (labels_of e.policy.now) label ((state e.base).now.db rel) → IsStep state e s (record e { base = b }) (Rows shown)
+  view_done user rel label b shown h k same right =
+      is_step _ (record e { base = b }) (Rows shown) (in_session e.policy.now e.schemes.now w event user (commands.View rel label) h k)
+      (ap Rows right) (ap (λ x. record { db = x.now.db; sessions = w.sessions }) same) (ap (λ x. x.now.audit) same)
+
+  pub insert_done : (user rel : ℕ) (key values : List (Option Value)) (b : B) (o : Outcome)
+      → sessions_of e.sessions.items event.level event.session ≡ Some user → event.command ≡ commands.Insert rel key values
+      → IsKept (labels_of e.policy.now) (scheme_of e.schemes.now rel) rel event.level (Insert key values) (state e.base) (state b) o
+      → IsStep state e s (record e { base = b }) (Wrote o)
+  insert_done user rel key values b o h k kept =
+      is_step _ (record e { base = b }) (Wrote o) (in_session e.policy.now e.schemes.now w event user (commands.Insert rel key values) h k)
+      (ap Wrote kept.outcome) (ap (λ x. record { db = x.db; sessions = w.sessions }) kept.now) (ap (λ x. x.audit) kept.now)

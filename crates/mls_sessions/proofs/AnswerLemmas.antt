@@ -27,7 +27,7 @@ module _ {B : Type 0} (state : B → State) (old new : Engine B) (event : Event)
   halted_before cause h = record {
     reply = record { part = []; rest = reply_text old.policy.now old.schemes.now event (step old.policy.now old.schemes.now (world_of state old) event).reply; appends = Appends-nil a; whole = refl };
     none = λ x. refl;
-    world = h.world
+    world = h.world;
   }
 
   module _ (r : Reply) (h : IsStep state old (step old.policy.now old.schemes.now (world_of state old) event) new r) (rules : HasSameRules old new) where
@@ -39,7 +39,7 @@ module _ {B : Type 0} (state : B → State) (old new : Engine B) (event : Event)
     halted_unprinted cause = record {
       reply = record { part = []; rest = reply_text old.policy.now old.schemes.now event (step old.policy.now old.schemes.now (world_of state old) event).reply; appends = Appends-nil a; whole = refl };
       none = λ x. refl;
-      world = h.world
+      world = h.world;
     }
 
     pub halted_unwritten : (bytes : List ℕ) → bytes ≡ reply_text new.policy.now new.schemes.now event r → IsPart a b bytes
@@ -47,7 +47,7 @@ module _ {B : Type 0} (state : B → State) (old new : Engine B) (event : Event)
     halted_unwritten bytes e p = record {
       reply = record { part = p.part; rest = p.rest; appends = p.appends; whole = p.whole ∙ text_of bytes e };
       none = λ x. absurd (x refl);
-      world = h.world
+      world = h.world;
     }
 
     pub answered : (bytes : List ℕ) → bytes ≡ reply_text new.policy.now new.schemes.now event r → Appends a b bytes
@@ -77,7 +77,7 @@ module _ {B : Type 0} (state : B → State) (is_clean : B → Type 0) (failures 
     rules = record { policy = refl; schemes = refl };
     ready = ready;
     bytes = λ c. Appends-nil start;
-    world = λ c. refl
+    world = λ c. refl;
   }
 
   abbrev w : World
@@ -95,7 +95,7 @@ module _ {B : Type 0} (state : B → State) (is_clean : B → Type 0) (failures 
       let all = take_all i es l in
       record {
         bytes = subst (λ x. Appends start held (printed first.policy.now first.schemes.now x (replies first.policy.now first.schemes.now w x))) all (r.bytes c);
-        world = r.world c ∙ ap (end_of first.policy.now first.schemes.now w) all
+        world = r.world c ∙ ap (end_of first.policy.now first.schemes.now w) all;
       }
 
   module _ (i : ℕ) (now : Engine B) (held : Option (List ℕ)) (r : Running state is_clean failures es first start i now held)
@@ -112,7 +112,7 @@ module _ {B : Type 0} (state : B → State) (is_clean : B → Type 0) (failures 
           rules = record { policy = rules.policy ∙ r.rules.policy; schemes = rules.schemes ∙ r.rules.schemes };
           ready = ready;
           bytes = λ c. subst (Appends start after) (sym (printed_more first.policy.now first.schemes.now w es i e within is)) (Appends-trans start held after (to i) _ (r.bytes (clean c)) (h c).bytes);
-          world = λ c. (h c).world ∙ sym (world_more first.policy.now first.schemes.now w es i e within is)
+          world = λ c. (h c).world ∙ sym (world_more first.policy.now first.schemes.now w es i e within is);
         }
       where
         least : {a b c : ℕ} → a ≤ b → b ≤ c → a ≤ c
@@ -135,9 +135,9 @@ module _ {B : Type 0} (state : B → State) (is_clean : B → Type 0) (failures 
           rest = h.reply.rest;
           bytes = subst (λ n. Appends start after (to n ++ h.reply.part)) same (Appends-trans start held after (to i) h.reply.part (r.bytes (clean c)) h.reply.appends);
           reply = ap (λ n. (to n ++ h.reply.part) ++ h.reply.rest) (sym same) ∙ append_assoc (to i) h.reply.part h.reply.rest ∙ ap (λ l. to i ++ l) h.reply.whole
-          ∙ sym (printed_more first.policy.now first.schemes.now w es i e within is);
+              ∙ sym (printed_more first.policy.now first.schemes.now w es i e within is);
           none = h.none;
-          world = left done h.world
+          world = left done h.world;
         }
       where
         same : i ≡ i + 1 - 1

@@ -55,7 +55,7 @@ module _ {B : Type 0} (state : B → State) (is_clean : B → Type 0) (e : Engin
     under = ready.under;
     distinct = ready.distinct;
     idle = λ c. (h c).idle;
-    content = λ c. subst (λ x. AreContent (labels_of e.policy.now) e.schemes.now x.db) (sym (h c).now) (ready.content (clean c))
+    content = λ c. subst (λ x. AreContent (labels_of e.policy.now) e.schemes.now x.db) (sym (h c).now) (ready.content (clean c));
   }
 
   -- after a view
@@ -70,7 +70,7 @@ module _ {B : Type 0} (state : B → State) (is_clean : B → Type 0) (e : Engin
       under = ready.under;
       distinct = ready.distinct;
       idle = λ c. (kept c).idle;
-      content = λ c. changed_content (labels_of e.policy.now) e.schemes.now (state e.base).now.db (state b).now.db rel _ (ap (λ x. x.db) (kept c).now) (ready.content (clean c)) (content c)
+      content = λ c. changed_content (labels_of e.policy.now) e.schemes.now (state e.base).now.db (state b).now.db rel _ (ap (λ x. x.db) (kept c).now) (ready.content (clean c)) (content c);
     }
 
 module _ {B : Type 0} (state : B → State) (e : Engine B) (event : Event) where

@@ -67,8 +67,8 @@ module _ (policy : Tables) (schemes : Schemes) (distinct : AreDistinct (labels_o
       let new = (write ls (scheme_of schemes rel) level (Insert key values) (w.db rel)).table in
       changed_content ls schemes w.db (with_table w.db rel new) rel new refl all
       (subst (IsContent ls (scheme_of schemes rel)) (sym (cond-true (nat_eq rel rel) new (w.db rel) (eq-eqb rel rel refl)))
-        (keep_content ls distinct (scheme_of schemes rel) level (w.db rel) (all rel) (Insert key values)
-          (subst (λ n. level < n) (sym (length-map policy.labels (λ l. l.value))) declared, zip_count _ (scheme_of schemes rel).others values fits.2) (fits.1, fits.2)))
+      (keep_content ls distinct (scheme_of schemes rel) level (w.db rel) (all rel) (Insert key values)
+      (subst (λ n. level < n) (sym (length-map policy.labels (λ l. l.value))) declared, zip_count _ (scheme_of schemes rel).others values fits.2) (fits.1, fits.2)))
 
   module _ (w : World) (e : Event) (all : AreStored w) (declared : e.level < length policy.labels) where
     in_content : (command : Command) → CommandFits policy schemes command → AreStored (step_in policy schemes w e.level command (denial_in policy schemes command)).world

@@ -49,7 +49,7 @@ module _ (policy : Tables) (schemes : Schemes) (event : Event) (name : Name) (ol
   pub opening_unknown : user_named policy name ≡ None → IsOpening policy schemes event name old old (Denied UnknownUser)
   opening_unknown e = record {
     reply = λ db. sym (ap (λ u. (opened policy schemes (record { db = db; sessions = sessions_of old }) event u).reply) e);
-    world = λ db. sym (ap (λ u. (opened policy schemes (record { db = db; sessions = sessions_of old }) event u).world) e)
+    world = λ db. sym (ap (λ u. (opened policy schemes (record { db = db; sessions = sessions_of old }) event u).world) e);
   }
 
   pub opening_done : (user : ℕ) (new : List Session) → user_named policy name ≡ Some user → sessions_of old event.level event.session ≡ None
@@ -59,7 +59,7 @@ module _ (policy : Tables) (schemes : Schemes) (event : Event) (name : Name) (ol
       let same : sessions_of new ≡ with_session (sessions_of old) event.level event.session (Some user) = ap sessions_of g ∙ (λ i level n. last old s absent level n i) in
       record {
         reply = λ db. sym (ap (λ u. (opened policy schemes (record { db = db; sessions = sessions_of old }) event u).reply) e);
-        world = λ db. ap (λ x. record { db = db; sessions = x }) same ∙ sym (ap (λ u. (opened policy schemes (record { db = db; sessions = sessions_of old }) event u).world) e)
+        world = λ db. ap (λ x. record { db = db; sessions = x }) same ∙ sym (ap (λ u. (opened policy schemes (record { db = db; sessions = sessions_of old }) event u).world) e);
       }
 
 pub ruleset opening_steps = (opening_unknown, opening_done)

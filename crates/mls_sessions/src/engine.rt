@@ -31,12 +31,7 @@ pub struct Engine<'a, B: Base> {
 
 impl<'a, B: Base> Engine<'a, B> {
     /// An engine with no session open. It takes no memory.
-    pub fn new(
-        alloc: Global,
-        base: B,
-        policy: &'a Policy,
-        schemes: &'a Schemes,
-    ) -> Engine<'a, B>
+    pub fn new(alloc: Global, base: B, policy: &'a Policy, schemes: &'a Schemes) -> Engine<'a, B>
         requires under { AreUnder (length policy.now.labels) schemes.now }
         requires idle { B.is_clean base → (B.state base).begun ≡ false }
         requires content { B.is_clean base → AreContent (labels_of policy.now) schemes.now (B.state base).now.db }

@@ -4,6 +4,8 @@
 mod change;
 mod cursor;
 mod engine;
+#[cfg(test)]
+mod engine_tests;
 mod event;
 mod fault;
 mod grammar;

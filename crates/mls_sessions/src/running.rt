@@ -64,11 +64,7 @@ fn cause_of(fault: BaseFault) -> RunCause
 }
 
 /// Answers one event, and writes the reply.
-fn answer<B: Base, W: Write>(
-    engine: &mut Engine<B>,
-    event: &Event,
-    out: &mut W,
-) -> Result<(), Stop>
+fn answer<B: Base, W: Write>(engine: &mut Engine<B>, event: &Event, out: &mut W) -> Result<(), Stop>
     requires ready { IsReady B.state B.is_clean engine.old }
     requires fits { EventFits engine.old.policy.now engine.old.schemes.now event.now }
     ensures clean { B.is_clean engine.new.base → B.is_clean engine.old.base }

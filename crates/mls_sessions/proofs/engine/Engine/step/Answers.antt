@@ -75,6 +75,6 @@ returns-in_ok-outcome-in-Insert-Some-clause-done g c =
 pub returns-in_default-None-clause-done : goal.returns-in_default-None-clause-done
 returns-in_default-None-clause-done g c =
     λ h. elim c.in_default-None.branch [
-    | in_default-None-via-in-View+in-None w ↦ denied_view g.B.Base.state c.args.self.now c.args.event.now _ _ (search rules) w.in_default-None.is-0
-    | in_default-None-via-in-Insert+in-None w ↦ denied_insert g.B.Base.state c.args.self.now c.args.event.now _ _ _ (search rules) w.in_default-None.is-0
+      | in_default-None-via-in-View+in-None w ↦ denied_view g.B.Base.state c.args.self.now c.args.event.now _ _ (search rules) w.in_default-None.is-0
+      | in_default-None-via-in-Insert+in-None w ↦ denied_insert g.B.Base.state c.args.self.now c.args.event.now _ _ _ (search rules) w.in_default-None.is-0
     ]

@@ -15,7 +15,7 @@ before_all line = record { completes = λ ts h. h }
 pub before_more : (line : List ℕ) (front : List Placed) (rest : List ℕ) (p : Placed) (after : List ℕ) → Before line front rest → Begins rest p.token after → Before line (front ++ p ∷ []) after
 before_more line front rest p after b h = record {
   completes = λ ts is. let whole : IsLine (tokens_in front ++ p.token ∷ ts) line = b.completes (p.token ∷ ts) (after, h, is) in
-      rw (map-append (λ q. q.token) front (p ∷ []), append_assoc (tokens_in front) (p.token ∷ []) ts) whole;
+    rw (map-append (λ q. q.token) front (p ∷ []), append_assoc (tokens_in front) (p.token ∷ []) ts) whole;
 }
 
 pub before_end : (line : List ℕ) (front : List Placed) (rest : List ℕ) → Before line front rest → IsOver rest → IsLine (tokens_in front) line

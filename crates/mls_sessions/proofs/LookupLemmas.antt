@@ -45,10 +45,8 @@ kinds_more attributes values i v c h here lt is column fits = record { each = λ
   where
     same : column_of (get_or attributes i no_attribute) ≡ c
     same = column_is _ _ (sym (ap (option_map column_of) (slice_get-get_or attributes i no_attribute here)) ∙ column)
-
     here_fits : fits_kind (get_or values i None) (get_or attributes i no_attribute).kind ≡ true
     here_fits = ap (λ (x : Option Value). fits_kind x (get_or attributes i no_attribute).kind) (get_or_default values i None v lt ∙ sym is) ∙ ap (λ (x : Column). fits_kind v x.kind) same ∙ fits
-
     each : (k : ℕ) → (k < i) ⊎ (i ≤ k) → k < i + 1 → fits_kind (get_or values k None) (get_or attributes k no_attribute).kind ≡ true
     each k (inl less) below = h.each k less
     each k (inr le) below = let e : k ≡ i = omega arith in subst (λ (x : ℕ). fits_kind (get_or values x None) (get_or attributes x no_attribute).kind ≡ true) (sym e) here_fits

@@ -24,8 +24,8 @@ values_none start = record { parts = refl }
 pub values_more : (start : List Token) (front : List (Option Value)) (v : Option Value) (mid after rest : List Token) → ValuesBefore start front mid → mid ≡ value_token v ∷ after → after ≡ Sign Comma ∷ rest → ValuesBefore start (front ++ v ∷ []) rest
 values_more start front v mid after rest h here comma = record {
   parts = h.parts ∙ ap (λ (x : List Token). flat_map comma_behind front ++ x) (here ∙ ap (λ (x : List Token). value_token v ∷ x) comma)
-      ∙ sym (append_assoc (flat_map comma_behind front) (comma_behind v) rest)
-      ∙ ap (λ (x : List Token). x ++ rest) (sym (flat_map-append comma_behind front (v ∷ [])));
+    ∙ sym (append_assoc (flat_map comma_behind front) (comma_behind v) rest)
+    ∙ ap (λ (x : List Token). x ++ rest) (sym (flat_map-append comma_behind front (v ∷ [])));
 }
 
 -- the commas between values are those behind all but the last

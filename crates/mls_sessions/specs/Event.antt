@@ -43,6 +43,7 @@ list_tokens vs = Sign LeftParen ∷ (with_commas vs ++ Sign RightParen ∷ [])
 
 -- ---- the tokens of an event
 
+
 abbrev pub open_tokens : Name → List Token
 open_tokens user = Word (codes "open") ∷ Word user ∷ []
 

@@ -17,10 +17,7 @@ pub enum Command {
     /// Opens the session for the user of a name.
     Open(Str),
     /// Shows what is seen of a relation at a label.
-    View {
-        rel: RelNo,
-        label: LabelNo,
-    },
+    View { rel: RelNo, label: LabelNo },
     /// Adds a tuple at the session's level.
     Insert {
         rel: RelNo,

@@ -82,13 +82,7 @@ fn view(policy: &Policy, schemes: &Schemes, rel: &Name, label: &Name) -> Result<
     Ok(Command::View { rel, label })
 }
 
-fn insert(
-    policy: &Policy,
-    schemes: &Schemes,
-    rel: &Name,
-    key: Values,
-    values: Values,
-) -> Result<Command, LineFault>
+fn insert(policy: &Policy, schemes: &Schemes, rel: &Name, key: Values, values: Values) -> Result<Command, LineFault>
     ensures tokens { IfOk result (λ c. command_tokens policy.now schemes.now c ≡ insert_tokens rel.now.text key.items values.items) }
     ensures fits { IfOk result (CommandFits policy.now schemes.now) }
 {
@@ -116,11 +110,7 @@ fn command_of(policy: &Policy, schemes: &Schemes, phrase: Phrase) -> Result<Comm
 }
 
 /// The event that a line tells. Users are not looked up: they are left to the denials.
-pub(crate) fn event_of(
-    policy: &Policy,
-    schemes: &Schemes,
-    sentence: Sentence,
-) -> Result<Event, LineFault>
+pub(crate) fn event_of(policy: &Policy, schemes: &Schemes, sentence: Sentence) -> Result<Event, LineFault>
     requires session { is_name sentence.session.text ≡ true }
     requires names { HasNames sentence.phrase }
     ensures tokens { IfOk result (λ e. event_tokens policy.now schemes.now e ≡ sentence_tokens sentence) }

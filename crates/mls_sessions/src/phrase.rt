@@ -21,15 +21,8 @@ pub(crate) struct Values {
 #[derive(Drop, Debug)]
 pub(crate) enum Phrase {
     Open(Name),
-    View {
-        rel: Name,
-        label: Name,
-    },
-    Insert {
-        rel: Name,
-        key: Values,
-        values: Values,
-    },
+    View { rel: Name, label: Name },
+    Insert { rel: Name, key: Values, values: Values },
 }
 
 /// A level, a session and its command.

@@ -23,13 +23,7 @@ fn split_line(bytes: &[u8]) -> (&[u8], bool, &[u8])
 }
 
 /// What a line tells, first pass and second. A line without its end is a fault between the two.
-fn line_event(
-    alloc: Global,
-    policy: &Policy,
-    schemes: &Schemes,
-    line: &[u8],
-    ended: bool,
-) -> Result<Option<Event>, LineFault>
+fn line_event(alloc: Global, policy: &Policy, schemes: &Schemes, line: &[u8], ended: bool) -> Result<Option<Event>, LineFault>
     ensures tells { IfOk result (Tells policy.now schemes.now line.now) }
     ensures ended { IfOk result (λ _. ended ≡ true) }
 {
@@ -49,12 +43,7 @@ fn line_event(
 /// The events of a script, in order. The first line that has a fault refuses the whole: on it 21 Token, 22 Expected, 27
 /// TooLong and 30 Unterminated come before 23 UnknownName, 24 Kind and 25 Repeated.
 #[tactic(auto, using(crate::proofs::ScriptSteps::script_steps))]
-pub fn script(
-    alloc: Global,
-    policy: &Policy,
-    schemes: &Schemes,
-    bytes: &[u8],
-) -> Result<Vec<Event>, ScriptFault>
+pub fn script(alloc: Global, policy: &Policy, schemes: &Schemes, bytes: &[u8]) -> Result<Vec<Event>, ScriptFault>
     ensures { IfOk result (λ v. ReadsScript policy.now schemes.now bytes.now v.items) }
 {
     let mut events = Vec::new(alloc);

@@ -39,7 +39,7 @@ module _ (policy : Tables) (schemes : Schemes) (w : World) (e : Event) where
 -- ---- content with one relation changed
 
 module _ (ls : Labels) (schemes : Schemes) (db new : Database) (rel : ℕ) (T : Table) (same : new ≡ with_table db rel T) where
-  changed_content : AreContent ls schemes db → IsContent ls (scheme_of schemes rel) (new rel) → AreContent ls schemes new
+  pub changed_content : AreContent ls schemes db → IsContent ls (scheme_of schemes rel) (new rel) → AreContent ls schemes new
   changed_content all one r = by_test (nat_eq r rel) refl
     where
       by_test : (b : Bool) → nat_eq r rel ≡ b → IsContent ls (scheme_of schemes r) (new r)

@@ -1,14 +1,27 @@
 -- Runs of the machine: one event more, and what they keep.
-use Rattle.std.proofs.Common.{◌≡◌, ℕ, zero, suc, ◌+◌, ◌<◌, Bool, true, false, cond, List, [], ◌∷◌, ◌++◌, length, take, get_or, Option, Some, None, refl, sym, ap, ◌∙◌, subst, arith, append_assoc, append-nil}
-use Rattle.std.specs.List.{AllByRecursion}
-use Rattle.std.proofs.lemmas.List.{take_more}
+use Rattle.std.proofs.Common.{◌≡◌, ℕ, zero, suc, ◌+◌, ◌<◌, Bool, true, false, cond, List, [], ◌∷◌, ◌++◌, length, take, get_or, Option, Some, None, refl, sym, ap, ◌∙◌, subst, arith, append_assoc, append-nil, eq-eqb}
+use Rattle.std.specs.Prelude.{nat_eq}
+use Rattle.std.specs.List.{AllByRecursion, AllZip}
+use Rattle.std.proofs.lemmas.List.{take_more, length-map}
+use Rattle.std.proofs.lemmas.Bool.{cond-true}
+use Rattle.mls_lattice.specs.Labels.{AreDistinct}
 use Rattle.mls_lattice.specs.Policy.{Tables, labels_of}
-use Rattle.mls_scheme.specs.Scheme.{Schemes}
+use Rattle.mls_scheme.specs.declared.value.Value.{Value}
+use Rattle.mls_scheme.specs.Scheme.{Schemes, scheme_of}
+use Rattle.mls_filterview.specs.Content.{with_table}
+use Rattle.mls_filterview.specs.Stored.{IsContent, AreContent}
+use Rattle.mls_filterview.proofs.IntegrityLemmas.{has_integrity}
+use Rattle.mls_updates.specs.Writes.{Insert, write}
+use Rattle.mls_updates.proofs.LawLemmas.{keep_content}
 use Rattle.mls_sessions.specs.declared.event.Event.{Event}
+use Rattle.mls_sessions.specs.declared.event.Command.{Command}
+use Rattle.mls_sessions.specs.declared.event.Command.TheVariants as commands
 use Rattle.mls_sessions.specs.declared.reply.Reply.{Reply}
-use Rattle.mls_sessions.specs.Machine.{World, Step, step, end_of, replies}
+use Rattle.mls_sessions.specs.Machine.{World, step, end_of, replies, denial_in, step_in, opened, step_outside, step_at, user_named}
+use Rattle.mls_sessions.specs.Event.{CommandFits, EventFits}
 use Rattle.mls_sessions.specs.Output.{reply_text, printed}
-use Rattle.mls_sessions.specs.Run.{printed_to, world_after}
+use Rattle.mls_sessions.specs.Run.{printed_to, world_after, KeepsIntegrity}
+use Rattle.mls_sessions.proofs.EngineLemmas.{changed_content}
 
 module _ (policy : Tables) (schemes : Schemes) where
   end_of-snoc : (w : World) (es : List Event) (e : Event) → end_of policy schemes w (es ++ e ∷ []) ≡ (step policy schemes (end_of policy schemes w es) e).world
@@ -34,3 +47,61 @@ module _ (policy : Tables) (schemes : Schemes) where
 
     pub printed_more : printed_to policy schemes w es (i + 1) ≡ printed_to policy schemes w es i ++ reply_text policy schemes e (step policy schemes (world_after policy schemes w es i) e).reply
     printed_more = ap (λ l. printed policy schemes l (replies policy schemes w l)) more ∙ printed-snoc w (take i es) e
+
+-- ---- the stored form along a run
+
+module _ (policy : Tables) (schemes : Schemes) (distinct : AreDistinct (labels_of policy)) where
+  abbrev AreStored : World → Type 0
+  AreStored w = AreContent (labels_of policy) schemes w.db
+
+  zip_count : {A C : Type 0} (R : A → C → Type 0) (xs : List A) (ys : List C) → AllZip R xs ys → length ys ≡ length xs
+  zip_count R [] [] h = refl
+  zip_count R [] (y ∷ ys) h = absurd h
+  zip_count R (x ∷ xs) [] h = absurd h
+  zip_count R (x ∷ xs) (y ∷ ys) h = ap suc (zip_count R xs ys h.1)
+
+  inserted : (w : World) (level rel : ℕ) (key values : List (Option Value)) → AreStored w → level < length policy.labels → CommandFits policy schemes (commands.Insert rel key values)
+      → AreContent (labels_of policy) schemes (with_table w.db rel (write (labels_of policy) (scheme_of schemes rel) level (Insert key values) (w.db rel)).table)
+  inserted w level rel key values all declared fits =
+      let ls = labels_of policy in
+      let new = (write ls (scheme_of schemes rel) level (Insert key values) (w.db rel)).table in
+      changed_content ls schemes w.db (with_table w.db rel new) rel new refl all
+      (subst (IsContent ls (scheme_of schemes rel)) (sym (cond-true (nat_eq rel rel) new (w.db rel) (eq-eqb rel rel refl)))
+      (keep_content ls distinct (scheme_of schemes rel) level (w.db rel) (all rel) (Insert key values)
+      (subst (λ n. level < n) (sym (length-map policy.labels (λ l. l.value))) declared, zip_count _ (scheme_of schemes rel).others values fits.2) (fits.1, fits.2)))
+
+  module _ (w : World) (e : Event) (all : AreStored w) (declared : e.level < length policy.labels) where
+    in_content : (command : Command) → CommandFits policy schemes command → AreStored (step_in policy schemes w e.level command (denial_in policy schemes command)).world
+    in_content (commands.Open name) fits = all
+    in_content (commands.View rel label) fits = all
+    in_content (commands.Insert rel key values) fits = inserted w e.level rel key values all declared fits
+
+    opened_content : (user : Option ℕ) → AreStored (opened policy schemes w e user).world
+    opened_content None = all
+    opened_content (Some user) = all
+
+    outside_content : (command : Command) → AreStored (step_outside policy schemes w e command).world
+    outside_content (commands.Open name) = opened_content (user_named policy name)
+    outside_content (commands.View rel label) = all
+    outside_content (commands.Insert rel key values) = all
+
+    at_content : (session : Option ℕ) → CommandFits policy schemes e.command → AreStored (step_at policy schemes w e session).world
+    at_content (Some user) fits = in_content e.command fits
+    at_content None fits = outside_content e.command
+
+  pub step_content : (w : World) (e : Event) → AreStored w → EventFits policy schemes e → AreStored (step policy schemes w e).world
+  unfolding step
+  step_content w e all fits = at_content w e all fits.level (w.sessions e.level e.session) fits.command
+
+  pub run_content : (w : World) (es : List Event) → AreStored w → AllByRecursion (EventFits policy schemes) es → AreStored (end_of policy schemes w es)
+  unfolding end_of
+  run_content w [] all fits = all
+  run_content w (e ∷ es) all fits = run_content (step policy schemes w e).world es (step_content w e all fits.0) fits.1
+
+  first_fit : (n : ℕ) (es : List Event) → AllByRecursion (EventFits policy schemes) es → AllByRecursion (EventFits policy schemes) (take n es)
+  first_fit zero es fits = tt
+  first_fit (suc n) [] fits = tt
+  first_fit (suc n) (e ∷ es) fits = (fits.0, first_fit n es fits.1)
+
+  pub keeps_integrity : (w : World) (es : List Event) → AreStored w → AllByRecursion (EventFits policy schemes) es → KeepsIntegrity policy schemes w es
+  keeps_integrity w es all fits n rel = has_integrity (labels_of policy) _ _ (run_content w (take n es) all (first_fit n es fits) rel).stored

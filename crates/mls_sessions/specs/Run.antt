@@ -47,11 +47,10 @@ module _ (policy : Tables) (schemes : Schemes) (w : World) (es : List Event) whe
   abbrev pub KeepsIntegrity : Type 0
   KeepsIntegrity = (n rel : ℕ) → HasIntegrity (labels_of policy) ((world_after n).db rel)
 
--- the number of an event of a run, and which faults come before its change and which after
+-- the number of an event, whose change stands where a write failed
 pub record IsFaultOf (es : List Event) (fault : RunFault) : Type 0 where
   pub first : 1 ≤ fault.event
   pub last : fault.event ≤ length es
-  pub store : fault.cause ≡ Store → fault.done ≡ false
   pub write : fault.cause ≡ Write → fault.done ≡ true
 
 -- ---- one event

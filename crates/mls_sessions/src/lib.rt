@@ -7,6 +7,8 @@ ghost use Rattle.mls_sessions.specs.Tokens.{LinesAreOnce};
 mod change;
 mod cursor;
 mod engine;
+#[cfg(test)]
+mod engine_tests;
 mod event;
 mod fault;
 mod grammar;

@@ -3,7 +3,7 @@ ghost use Rattle.std.specs.Prelude.{◌≡◌, ◌≢◌, ◌≤◌, ◌<◌, tr
 ghost use Rattle.std.specs.List.{AllByRecursion};
 ghost use Rattle.mls_sessions.specs.Event.{EventFits};
 ghost use Rattle.mls_sessions.specs.Engine.{world_of, IsReady, HasSameRules};
-ghost use Rattle.mls_sessions.specs.Run.{cause_word, IsWhole, IsStopped, IsAnswered, IsHalted};
+ghost use Rattle.mls_sessions.specs.Run.{cause_word, IsWhole, IsStopped, IsFaultOf, KeepsIntegrity, IsAnswered, IsHalted};
 
 use crate::engine::Engine;
 use crate::event::Event;
@@ -115,6 +115,9 @@ pub fn run<B: Base, W: Write>(
         (W.contents out.old) (W.contents out.new) (world_of B.state engine.new)) }
     ensures err { B.is_clean engine.new.base → IfErr result (IsStopped engine.old.policy.now engine.old.schemes.now (world_of B.state engine.old) events.now
         (W.contents out.old) (W.contents out.new) (world_of B.state engine.new)) }
+    ensures fault { IfErr result (IsFaultOf events.now) }
+    // Each database on the way has the four integrity properties.
+    ensures integrity { B.is_clean engine.new.base → KeepsIntegrity engine.old.policy.now engine.old.schemes.now (world_of B.state engine.old) events.now }
 {
     for (place, event) in events.iter().enumerate() {
         if let Err(stop) = answer(engine, event, out) {

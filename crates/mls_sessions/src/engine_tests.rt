@@ -1,0 +1,139 @@
+use super::*;
+use mls_lattice::Policy;
+use mls_scheme::Schemes;
+use mls_updates::ListBase;
+use std::io::{Error, ErrorKind, Write};
+use std::test::Fail;
+
+const POLICY: &str = r#"
+version = 1
+levels = ["U", "S"]
+
+[[label]]
+name = "U"
+level = "U"
+
+[[label]]
+name = "S"
+level = "S"
+
+[[user]]
+name = "ann"
+clearance = "U"
+
+[[user]]
+name = "bob"
+clearance = "S"
+"#;
+
+const SCHEMES: &str = r#"
+version = 1
+
+[[relation]]
+name = "SOD"
+[[relation.key]]
+name = "Starship"
+kind = "text"
+low = "U"
+high = "S"
+[[relation.attribute]]
+name = "Objective"
+kind = "text"
+low = "U"
+high = "S"
+"#;
+
+/// A writer that takes so many bytes at a time, and refuses after so many writes.
+#[derive(Drop)]
+struct Narrow {
+    bytes: Vec<u8>,
+    width: usize,
+    left: usize,
+}
+
+impl Write for Narrow {
+    fn write(&mut self, buf: &[u8]) -> std::io::Result<usize> {
+        if self.left == 0 {
+            return Err(Error::from(ErrorKind::BrokenPipe));
+        }
+        self.left -= 1;
+        let count = buf.len().min(self.width);
+        self.bytes.extend_from_slice(&buf[..count])?;
+        Ok(count)
+    }
+
+    fn flush(&mut self) -> std::io::Result<()> {
+        Ok(())
+    }
+}
+
+/// What a script prints through a writer, and the number of the event whose reply the writer refuses, or 0.
+fn played(
+    rt: &HostRuntime,
+    text: &str,
+    width: usize,
+    left: usize,
+) -> Result<(Vec<u8>, usize), Fail> {
+    let policy = Policy::read(rt.alloc(), POLICY.as_bytes())?;
+    let schemes = Schemes::read(rt.alloc(), &policy, SCHEMES.as_bytes())?;
+    let Ok(events) = script(rt.alloc(), &policy, &schemes, text.as_bytes()) else {
+        return Err(Fail::new("script"));
+    };
+    let mut engine = Engine::new(rt.alloc(), ListBase::new(rt.alloc()), &policy, &schemes);
+    let mut out = Narrow {
+        bytes: Vec::new(rt.alloc()),
+        width,
+        left,
+    };
+    let stop = match run(&mut engine, &events, &mut out) {
+        Ok(()) => 0,
+        Err(fault) if fault.cause == RunCause::Write && fault.done => fault.event,
+        Err(_) => usize::MAX,
+    };
+    let _base = engine.finish();
+    Ok((out.bytes, stop))
+}
+
+#[test]
+fn a_name_at_two_levels_is_two_sessions(rt: HostRuntime) -> Result<(), Fail> {
+    let (bytes, stop) = played(
+        &rt,
+        "U a open ann\nS a view SOD at S\nS a open bob\nU a open ann\nU b open eve\n",
+        1000,
+        1000,
+    )?;
+    assert_eq!(rt; stop, 0);
+    assert_eq!(rt;
+        bytes.as_slice(),
+        b"U U/a opened ann\nS S/a denied 31 NoSession\nS S/a opened bob\nU U/a denied 32 AlreadyOpen\nU U/b denied 33 UnknownUser\n".as_slice()
+    );
+    Ok(())
+}
+
+#[test]
+fn a_second_insert_of_a_key_is_a_duplicate(rt: HostRuntime) -> Result<(), Fail> {
+    let (bytes, stop) = played(
+        &rt,
+        "U a open ann\nU a insert SOD key (\"E\") values (\"T\")\nU a insert SOD key (\"E\") values (\"V\")\nU a view SOD at U\n",
+        3,
+        1000,
+    )?;
+    assert_eq!(rt; stop, 0);
+    assert_eq!(rt;
+        bytes.as_slice(),
+        b"U U/a opened ann\nU U/a done\nU U/a refused 12 Duplicate\nU U/a view SOD at U: Starship Objective\nU U/a row \"E\" U | \"T\" U | U\n".as_slice()
+    );
+    Ok(())
+}
+
+#[test]
+fn a_writer_that_refuses_stops_the_run(rt: HostRuntime) -> Result<(), Fail> {
+    // the first reply has 17 bytes
+    let (bytes, stop) = played(&rt, "U a open ann\nU b open ann\n", 10, 3)?;
+    assert_eq!(rt; stop, 2);
+    assert_eq!(rt;
+        bytes.as_slice(),
+        b"U U/a opened ann\nU U/b open".as_slice()
+    );
+    Ok(())
+}

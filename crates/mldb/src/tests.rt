@@ -7,6 +7,7 @@ use std::io::{Error, ErrorKind, Write};
 use std::test::Fail;
 
 /// Files by name, in memory. A name that is not there is unreadable, and `long` is too long.
+#[derive(Drop)]
 struct Files<'a> {
     script: &'a str,
     policy: &'a str,
@@ -34,25 +35,24 @@ impl<'a> Host for Files<'a> {
 
 /// What a command wrote, on standard output and standard error, and its status.
 #[derive(Drop)]
-struct Done {
+struct Written {
     out: Vec<u8>,
     err: Vec<u8>,
     status: u8,
 }
 
-fn done(alloc: Global, words: &[&str], policy: &str, script: &str) -> Done {
+fn done(alloc: Global, words: &[&str], policy: &str, script: &str) -> Written {
     let mut out = Vec::new(alloc);
     let mut err = Vec::new(alloc);
     let mut host = Files { script, policy };
     let status = act(alloc, words, &mut host, &mut out, &mut err);
-    let Files { .. } = host;
-    Done { out, err, status }
+    Written { out, err, status }
 }
 
 const RUN: [&str; 5] = ["mldb", "run", "policy", "schemes", "script"];
 
 /// Runs a script under the samples.
-fn ran(alloc: Global, script: &str) -> Done {
+fn ran(alloc: Global, script: &str) -> Written {
     done(alloc, &RUN, samples::POLICY, script)
 }
 
@@ -198,6 +198,7 @@ fn words_are_refused(rt: HostRuntime) {
 }
 
 /// A writer that takes nothing.
+#[derive(Drop)]
 struct Full;
 
 impl Write for Full {
@@ -220,8 +221,6 @@ fn a_writer_that_fails(rt: HostRuntime) -> Result<(), Fail> {
     };
     let mut full = Full;
     let status = act(alloc, &RUN, &mut host, &mut full, &mut err);
-    let Files { .. } = host;
-    let Full = full;
     assert_eq!(rt; status, 3);
     assert!(rt; err.as_slice() == b"mldb: run: Write at 1\n".as_slice());
     Ok(())

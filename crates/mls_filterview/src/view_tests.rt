@@ -49,14 +49,6 @@ struct TestBase {
     failures: u64,
 }
 
-fn is_in_change(begun: bool) -> Result<(), BaseFault> {
-    if begun {
-        Ok(())
-    } else {
-        Err(BaseFault::NotBegun)
-    }
-}
-
 fn node_of(alloc: Global, row: &(Place, Items<Element>)) -> Result<Node, AllocError> {
     let mut pattern = Vec::new(alloc);
     for element in row.1.as_slice() {
@@ -108,13 +100,17 @@ impl Base for TestBase {
     }
 
     fn commit(&mut self) -> Result<(), BaseFault> {
-        is_in_change(self.begun)?;
+        if !self.begun {
+            return Err(BaseFault::NotBegun);
+        }
         self.begun = false;
         Ok(())
     }
 
     fn rollback(&mut self) -> Result<(), BaseFault> {
-        is_in_change(self.begun)?;
+        if !self.begun {
+            return Err(BaseFault::NotBegun);
+        }
         self.begun = false;
         Ok(())
     }
@@ -139,7 +135,11 @@ impl Base for TestBase {
     }
 
     fn add(&mut self, _rel: RelNo, _node: Node, _cells: &[Cell]) -> Result<(), BaseFault> {
-        is_in_change(self.begun)
+        if self.begun {
+            Ok(())
+        } else {
+            Err(BaseFault::NotBegun)
+        }
     }
 
     fn set(
@@ -149,11 +149,19 @@ impl Base for TestBase {
         _attr: usize,
         _value: Option<Value>,
     ) -> Result<(), BaseFault> {
-        is_in_change(self.begun)
+        if self.begun {
+            Ok(())
+        } else {
+            Err(BaseFault::NotBegun)
+        }
     }
 
     fn drop_at(&mut self, _rel: RelNo, _place: &Place) -> Result<(), BaseFault> {
-        is_in_change(self.begun)
+        if self.begun {
+            Ok(())
+        } else {
+            Err(BaseFault::NotBegun)
+        }
     }
 }
 

@@ -16,3 +16,4 @@ pub mod ScriptSteps
 pub mod AgainLemmas
 pub mod OnceLemmas
 pub mod PrintingSteps
+pub mod StartLemmas

@@ -1,7 +1,11 @@
+ghost use Rattle.std.specs.Prelude.{length};
+ghost use Rattle.mls_scheme.specs.Scheme.{AreUnder};
+
 use super::*;
 use mls_lattice::Policy;
 use mls_scheme::Schemes;
 use mls_updates::ListBase;
+use std::alloc::Global;
 use std::io::{Error, ErrorKind, Write};
 use std::test::Fail;
 
@@ -67,6 +71,23 @@ impl Write for Narrow {
     }
 }
 
+/// Runs a script over an empty base.
+fn play(
+    alloc: Global,
+    policy: &Policy,
+    schemes: &Schemes,
+    text: &[u8],
+    out: &mut Narrow,
+) -> Result<Result<(), RunFault>, ScriptFault>
+    requires { AreUnder (length policy.now.labels) schemes.now }
+{
+    let events = script(alloc, policy, schemes, text)?;
+    let mut engine = Engine::new(alloc, ListBase::new(alloc), policy, schemes);
+    let outcome = run(&mut engine, &events, out);
+    let _base = engine.finish();
+    Ok(outcome)
+}
+
 /// What a script prints through a writer, and the number of the event whose reply the writer refuses, or 0.
 fn played(
     rt: &HostRuntime,
@@ -76,21 +97,16 @@ fn played(
 ) -> Result<(Vec<u8>, usize), Fail> {
     let policy = Policy::read(rt.alloc(), POLICY.as_bytes())?;
     let schemes = Schemes::read(rt.alloc(), &policy, SCHEMES.as_bytes())?;
-    let Ok(events) = script(rt.alloc(), &policy, &schemes, text.as_bytes()) else {
-        return Err(Fail::new("script"));
-    };
-    let mut engine = Engine::new(rt.alloc(), ListBase::new(rt.alloc()), &policy, &schemes);
     let mut out = Narrow {
         bytes: Vec::new(rt.alloc()),
         width,
         left,
     };
-    let stop = match run(&mut engine, &events, &mut out) {
-        Ok(()) => 0,
-        Err(fault) if fault.cause == RunCause::Write && fault.done => fault.event,
-        Err(_) => usize::MAX,
+    let stop = match play(rt.alloc(), &policy, &schemes, text.as_bytes(), &mut out) {
+        Ok(Ok(())) => 0,
+        Ok(Err(fault)) if fault.cause == RunCause::Write && fault.done => fault.event,
+        _ => usize::MAX,
     };
-    let _base = engine.finish();
     Ok((out.bytes, stop))
 }
 

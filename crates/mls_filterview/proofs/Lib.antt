@@ -15,3 +15,7 @@ pub mod FilterLemmas
 pub mod FragmentLemmas
 pub mod AssemblyLemmas
 pub mod ShownLemmas
+pub mod FittingSteps
+pub mod EntitySteps
+pub mod RuleLemmas
+pub mod CheckingLemmas

@@ -6,5 +6,7 @@ pub mod Content
 pub mod Fragment
 pub mod Assembly
 pub mod Filtering
+pub mod Rules
+pub mod Checking
 pub mod RowOrder
 pub mod Laws

@@ -3,20 +3,26 @@
 
 mod assembly;
 mod base;
+mod checking;
+mod entity_rules;
 mod filtering;
+mod fitting;
 mod fragment;
 mod laws;
 mod row;
+mod rule;
 mod subsumption;
 mod viewing;
 
 pub use base::{Base, BaseFault, abandon};
+pub use checking::integrity;
 pub use filtering::filter;
 pub use fragment::{Cell, Fragment, Node};
 pub use laws::{
     rows_are_the_view, rows_come_from_low, stored_has_integrity, view_is_max_of_low,
     view_tells_low, views_and_low_agree,
 };
+pub use rule::{Broken, Rule};
 pub use subsumption::subsumes;
 pub use viewing::view;
 

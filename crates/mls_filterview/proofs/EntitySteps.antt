@@ -1,0 +1,102 @@
+-- The tests of an entity's tuples, as they are computed.
+use Rattle.std.proofs.Common.{◌≡◌, ℕ, zero, suc, ◌<◌, ◌≤◌, ◌+◌, Bool, true, false, not, ◌&&◌, ◌||◌, List, [], ◌∷◌, length, get_or, drop, refl, sym, ap, ◌∙◌, arith}
+use Rattle.std.specs.Prelude.{nat_eq, ◌↔◌}
+use Rattle.std.specs.Option.{option_eq}
+use Rattle.std.proofs.lemmas.Bool.{and_parts, and_from, eqb-true, eq-eqb, false_from_ne_true, false≢true}
+use Rattle.mls_lattice.specs.Labels.{Labels, below}
+use Rattle.mls_scheme.specs.declared.tuple.Element.{Element}
+use Rattle.mls_scheme.specs.declared.tuple.Tuple.{Tuple}
+use Rattle.mls_scheme.specs.Value.{value_eq}
+use Rattle.mls_scheme.specs.Table.{place_of}
+use Rattle.mls_scheme.proofs.OrderLemmas.{is_place-true, is_place-same}
+use Rattle.mls_filterview.specs.Checking.{is_one_entity, same_element, has_at, has_below}
+use Rattle.mls_filterview.proofs.SubsumptionLemmas.{same_value-true, same_value-refl}
+
+-- ---- entities
+
+pub one_entity-true : (s t : Tuple) → is_one_entity s t ≡ true → (s.key ≡ t.key) × (s.key_class ≡ t.key_class)
+one_entity-true s t h = let p = is_place-true (place_of 0 s) (place_of 0 t) h in (ap (λ x. x.key) p, ap (λ x. x.key_class) p)
+
+pub one_entity-from : (s t : Tuple) → s.key ≡ t.key → s.key_class ≡ t.key_class → is_one_entity s t ≡ true
+one_entity-from s t k c = is_place-same (place_of 0 s) (place_of 0 t) (λ i. record { key = k i; key_class = c i; class = 0 })
+
+pub other_key_class : (s t : Tuple) → (s.key_class ≡ t.key_class → ⊥) → is_one_entity s t ≡ false
+other_key_class s t h = false_from_ne_true (is_one_entity s t) (λ e. h (one_entity-true s t e).1)
+
+pub one_key : (s t : Tuple) (b : Bool) → s.key_class ≡ t.key_class → (b ≡ true) ↔ (s.key ≡ t.key) → b ≡ is_one_entity s t
+one_key s t true c h = sym (one_entity-from s t (h.0 refl) c)
+one_key s t false c h = sym (false_from_ne_true (is_one_entity s t) (λ e. false≢true (h.1 (one_entity-true s t e).0)))
+
+-- ---- elements
+
+pub same_element-true : (e f : Element) → same_element e f ≡ true → e ≡ f
+same_element-true e f h =
+    let p = and_parts _ _ h in
+    let v = same_value-true e.value f.value p.0 in
+    let c = eqb-true e.class f.class p.1 in
+    λ i. record { value = v i; class = c i }
+
+pub same_element-from : (e f : Element) → e ≡ f → same_element e f ≡ true
+same_element-from e f h =
+    ap (λ (x : Element). same_element e x) (sym h) ∙ and_from _ _ (same_value-refl e.value) (eq-eqb e.class e.class refl)
+
+pub same_element-is : (e f : Element) (b : Bool) → (b ≡ true) ↔ (e ≡ f) → b ≡ same_element e f
+same_element-is e f true h = sym (same_element-from e f (h.0 refl))
+same_element-is e f false h = sym (false_from_ne_true (same_element e f) (λ t. false≢true (h.1 (same_element-true e f t))))
+
+pub has_at-here : (e f : Element) (fs : List Element) (i : ℕ) → i < length fs → f ≡ get_or fs i f → has_at e (drop i fs) ≡ same_element e f
+has_at-here e f [] i l q = absurd (omega arith)
+has_at-here e f (g ∷ fs) zero l q = ap (same_element e) (sym q)
+has_at-here e f (g ∷ fs) (suc i) l q = has_at-here e f fs i (omega arith) q
+
+pub has_at-none : (e : Element) (fs : List Element) (i : ℕ) → length fs ≤ i → has_at e (drop i fs) ≡ false
+has_at-none e [] zero l = refl
+has_at-none e [] (suc i) l = refl
+has_at-none e (g ∷ fs) zero l = absurd (omega arith)
+has_at-none e (g ∷ fs) (suc i) l = has_at-none e fs i (omega arith)
+
+-- ---- lists of elements
+
+drop_one : (i : ℕ) (fs : List Element) → drop 1 (drop i fs) ≡ drop (suc i) fs
+drop_one zero fs = refl
+drop_one (suc i) [] = refl
+drop_one (suc i) (f ∷ fs) = drop_one i fs
+
+module _ (ls : Labels) (m : ℕ) where
+  step : (es fs : List Element) (i : ℕ) (e : Element) → i < length es → e ≡ get_or es i e
+      → has_below ls m (drop i es) (drop i fs) ≡ ((not (below ls e.class m) || has_at e (drop i fs)) && has_below ls m (drop (suc i) es) (drop (suc i) fs))
+  step es fs i e l q = go es i l q (drop i fs) ∙ ap (λ gs. (not (below ls e.class m) || has_at e (drop i fs)) && has_below ls m (drop (suc i) es) gs) (drop_one i fs)
+    where
+      go : (xs : List Element) (k : ℕ) → k < length xs → e ≡ get_or xs k e → (gs : List Element)
+          → has_below ls m (drop k xs) gs ≡ ((not (below ls e.class m) || has_at e gs) && has_below ls m (drop (suc k) xs) (drop 1 gs))
+      go [] k l q gs = absurd (omega arith)
+      go (x ∷ xs) zero l q gs = ap (λ (y : Element). (not (below ls y.class m) || has_at y gs) && has_below ls m xs (drop 1 gs)) (sym q)
+      go (x ∷ xs) (suc k) l q gs = go xs k (omega arith) q gs
+
+  pub lacks : (es fs : List Element) (i : ℕ) (e : Element) → i < length es → e ≡ get_or es i e → below ls e.class m ≡ true → has_at e (drop i fs) ≡ false
+      → has_below ls m (drop i es) (drop i fs) ≡ has_below ls m es fs → false ≡ has_below ls m es fs
+  lacks es fs i e l q b h all = sym (λ k. (not (b k) || h k) && has_below ls m (drop (suc i) es) (drop (suc i) fs)) ∙ sym (step es fs i e l q) ∙ all
+
+  next : (es fs : List Element) (i : ℕ) (e : Element) → i < length es → e ≡ get_or es i e → (not (below ls e.class m) || has_at e (drop i fs)) ≡ true
+      → has_below ls m (drop i es) (drop i fs) ≡ has_below ls m es fs → has_below ls m (drop (i + 1) es) (drop (i + 1) fs) ≡ has_below ls m es fs
+  next es fs i e l q b all =
+      let n : i + 1 ≡ suc i = omega arith in
+      ap (λ k. has_below ls m (drop k es) (drop k fs)) n ∙ sym (ap (λ x. x && has_below ls m (drop (suc i) es) (drop (suc i) fs)) b) ∙ sym (step es fs i e l q) ∙ all
+
+  pub hidden : (es fs : List Element) (i : ℕ) (e : Element) → i < length es → e ≡ get_or es i e → below ls e.class m ≡ false
+      → has_below ls m (drop i es) (drop i fs) ≡ has_below ls m es fs → has_below ls m (drop (i + 1) es) (drop (i + 1) fs) ≡ has_below ls m es fs
+  hidden es fs i e l q b all = next es fs i e l q (ap (λ x. not x || has_at e (drop i fs)) b) all
+
+  pub has : (es fs : List Element) (i : ℕ) (e : Element) → i < length es → e ≡ get_or es i e → has_at e (drop i fs) ≡ true
+      → has_below ls m (drop i es) (drop i fs) ≡ has_below ls m es fs → has_below ls m (drop (i + 1) es) (drop (i + 1) fs) ≡ has_below ls m es fs
+  has es fs i e l q h all = next es fs i e l q (ap (λ x. not (below ls e.class m) || x) h ∙ or_true (not (below ls e.class m))) all
+    where
+      or_true : (b : Bool) → (b || true) ≡ true
+      or_true true = refl
+      or_true false = refl
+
+pub ruleset one_entity_steps = (other_key_class, one_key)
+
+pub ruleset element_steps = (has_at-none)
+
+pub ruleset below_steps = (lacks, hidden, has)

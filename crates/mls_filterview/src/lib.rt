@@ -27,4 +27,6 @@ pub use subsumption::subsumes;
 pub use viewing::view;
 
 #[cfg(test)]
+mod integrity_tests;
+#[cfg(test)]
 mod view_tests;

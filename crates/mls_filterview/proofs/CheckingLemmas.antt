@@ -1,20 +1,18 @@
 -- A list whose rows keep all rules has the tuples of a table of the stored form, and the other way round.
-use Rattle.std.proofs.Common.{◌≡◌, ℕ, zero, suc, ◌<◌, true, false, cond, List, [], ◌∷◌, length, Option, Some, None, refl, sym, ap, ◌∙◌, subst, arith, inl, inr}
+use Rattle.std.proofs.Common.{◌≡◌, ℕ, zero, suc, ◌<◌, true, false, cond, List, [], ◌∷◌, length, Some, None, refl, sym, ap, ◌∙◌, subst, arith, inl, inr}
 use Rattle.std.specs.Prelude.{◌⊎◌, ◌↔◌, ⊤}
 use Rattle.std.specs.List.{AllByRecursion}
 use Rattle.std.specs.FinMap.{get, empty, insert, get-empty}
-use Rattle.std.proofs.lemmas.Bool.{cases_Bool, cases_order}
 use Rattle.std.proofs.lemmas.Option.{same_Some, none-some}
 use Rattle.std.proofs.lemmas.Slice.Zip.{AllZip-long}
 use Rattle.mls_lattice.specs.Lattice.{Dominates}
 use Rattle.mls_lattice.specs.Labels.{Labels, label_of, below, AreDistinct}
 use Rattle.mls_lattice.proofs.LatticeLemmas.{below-refl, below-trans, Dominates-antisym}
-use Rattle.mls_scheme.specs.declared.value.Value.{Value}
 use Rattle.mls_scheme.specs.declared.tuple.Element.{Element}
 use Rattle.mls_scheme.specs.declared.tuple.Tuple.{Tuple}
 use Rattle.mls_scheme.specs.declared.place.Place.{Place}
-use Rattle.mls_scheme.specs.Tuple.{at, null_element, tuple_class, HasClassesBelow}
-use Rattle.mls_scheme.specs.Table.{place_cmp, Table, IsIn, tuple_at, place_of}
+use Rattle.mls_scheme.specs.Tuple.{at, tuple_class, HasClassesBelow}
+use Rattle.mls_scheme.specs.Table.{place_cmp, Table, IsIn, place_of}
 use Rattle.mls_scheme.specs.Scheme.{Scheme}
 use Rattle.mls_scheme.specs.Fits.{Fits}
 use Rattle.mls_scheme.proofs.OrderLemmas.{is_place, is_place-true, is_place-same}
@@ -22,9 +20,9 @@ use Rattle.mls_scheme.proofs.TableLemmas.{get_put}
 use Rattle.mls_filterview.specs.declared.rule.Rule.{Rule}
 use Rattle.mls_filterview.specs.declared.rule.Rule.TheVariants.{Entity, Null, Interval, Poly, Closure}
 use Rattle.mls_filterview.specs.View.{IsAmong}
-use Rattle.mls_filterview.specs.Stored.{Occurs, with_class, AgreesBelow, IsStoredTuple, IsStored, IsContent}
+use Rattle.mls_filterview.specs.Stored.{with_class, AgreesBelow, IsStoredTuple, IsContent}
 use Rattle.mls_filterview.specs.Filtering.{EachOnce, climb, class_number}
-use Rattle.mls_filterview.specs.Rules.{row_at, OccursIn, AreOfOneEntity, IsOfClass, IsFirstOfClass, HasBelow, IsDetermined, IsClosed, Keeps, rank, IsFirstBroken, IsStoredList}
+use Rattle.mls_filterview.specs.Rules.{row_at, OccursIn, AreOfOneEntity, IsOfClass, IsFirstOfClass, HasBelow, IsClosed, Keeps, IsFirstBroken, IsStoredList}
 use Rattle.mls_filterview.specs.Checking.{broken_rule}
 use Rattle.mls_filterview.proofs.ClassLemmas.{join_of-first, join_of-each, join_of-least, below-Dominates, class_of_stored}
 use Rattle.mls_filterview.proofs.SubsumptionLemmas.{same_tuple}

@@ -1,12 +1,10 @@
 -- The tests of an entity's tuples, as they are computed.
 use Rattle.std.proofs.Common.{◌≡◌, ℕ, zero, suc, ◌<◌, ◌≤◌, ◌+◌, Bool, true, false, not, ◌&&◌, ◌||◌, List, [], ◌∷◌, length, get_or, drop, refl, sym, ap, ◌∙◌, arith}
-use Rattle.std.specs.Prelude.{nat_eq, ◌↔◌}
-use Rattle.std.specs.Option.{option_eq}
+use Rattle.std.specs.Prelude.{◌↔◌}
 use Rattle.std.proofs.lemmas.Bool.{and_parts, and_from, eqb-true, eq-eqb, false_from_ne_true, false≢true}
 use Rattle.mls_lattice.specs.Labels.{Labels, below}
 use Rattle.mls_scheme.specs.declared.tuple.Element.{Element}
 use Rattle.mls_scheme.specs.declared.tuple.Tuple.{Tuple}
-use Rattle.mls_scheme.specs.Value.{value_eq}
 use Rattle.mls_scheme.specs.Table.{place_of}
 use Rattle.mls_scheme.proofs.OrderLemmas.{is_place-true, is_place-same}
 use Rattle.mls_filterview.specs.Checking.{is_one_entity, same_element, has_at, has_below}

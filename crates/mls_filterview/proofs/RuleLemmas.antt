@@ -1,6 +1,6 @@
 -- The tests of a row tell whether it keeps the rules.
-use Rattle.std.proofs.Common.{◌≡◌, ℕ, zero, suc, ◌<◌, Bool, true, false, not, ◌&&◌, ◌||◌, cond, List, [], ◌∷◌, length, take, drop, Option, Some, None, refl, sym, ap, ◌∙◌, subst, arith, inl, inr}
-use Rattle.std.specs.Prelude.{◌⊎◌, ◌↔◌, is_some, nat_eq, slice_index_or}
+use Rattle.std.proofs.Common.{◌≡◌, ℕ, zero, suc, ◌<◌, Bool, true, false, not, ◌&&◌, ◌||◌, cond, List, [], ◌∷◌, length, take, Option, Some, None, refl, sym, ap, ◌∙◌, subst, arith, inl, inr}
+use Rattle.std.specs.Prelude.{◌⊎◌, is_some, nat_eq, slice_index_or}
 use Rattle.std.specs.List.{list_all, list_any, AllZip}
 use Rattle.std.proofs.lemmas.Bool.{true≢false, false≢true, and_parts, and_from, or_cases, cases_Bool, not-true, not_from_false, eqb-true, eq-eqb, false_from_ne_true}
 use Rattle.std.proofs.lemmas.Option.{same_Some, none-some}
@@ -13,13 +13,13 @@ use Rattle.mls_scheme.specs.declared.tuple.Tuple.{Tuple}
 use Rattle.mls_scheme.specs.Tuple.{at, null_element, tuple_class}
 use Rattle.mls_scheme.specs.Value.{is_kind, fits_kind}
 use Rattle.mls_scheme.specs.Table.{place_of}
-use Rattle.mls_scheme.specs.Scheme.{Attribute, Scheme}
+use Rattle.mls_scheme.specs.Scheme.{Scheme}
 use Rattle.mls_scheme.specs.Fits.{Fits, in_interval}
 use Rattle.mls_filterview.specs.declared.rule.Rule.{Rule}
 use Rattle.mls_filterview.specs.declared.rule.Rule.TheVariants.{Entity, Null, Interval, Poly, Closure}
 use Rattle.mls_filterview.specs.View.{IsAmong}
-use Rattle.mls_filterview.specs.Rules.{no_tuple, row_at, OccursIn, AreOfOneEntity, IsOfClass, IsFirstOfClass, HasBelow, IsDetermined, IsClosed, Keeps, rank}
-use Rattle.mls_filterview.specs.Checking.{all_classes, is_above_key, has_nulls_at_key, fits_value, fits_element, all_zip, fits_scheme, is_one_entity, is_twin, is_of_class, same_element, has_at, has_below, agrees_with_first, is_determined, is_comparable, is_chain, has_each_class, broken_rule}
+use Rattle.mls_filterview.specs.Rules.{row_at, OccursIn, AreOfOneEntity, IsOfClass, IsFirstOfClass, HasBelow, IsDetermined, IsClosed, Keeps, rank}
+use Rattle.mls_filterview.specs.Checking.{all_classes, is_above_key, has_nulls_at_key, fits_value, fits_element, all_zip, fits_scheme, is_twin, is_of_class, same_element, has_below, agrees_with_first, is_determined, is_comparable, is_chain, has_each_class, broken_rule}
 use Rattle.mls_filterview.proofs.AmongLemmas.{none_of, all_none}
 use Rattle.mls_filterview.proofs.EntitySteps.{one_entity-true, one_entity-from, same_element-true, same_element-from}
 

@@ -20,6 +20,7 @@ mod row;
 mod rows;
 #[cfg(test)]
 mod tests;
+mod updating;
 
 pub use deleting::delete;
 pub use inserting::insert;
@@ -29,3 +30,4 @@ pub use laws::{
 };
 pub use list_base::ListBase;
 pub use outcome::Outcome;
+pub use updating::update;

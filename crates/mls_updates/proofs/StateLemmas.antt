@@ -42,6 +42,13 @@ next_step rel t u x rest next T way step is =
 pub last_step : (rel : ℕ) (t x : State) (rest : Table → Table) → with_relation t rel (rest (t.now.db rel)) ≡ x → rest (t.now.db rel) ≡ t.now.db rel → t ≡ x
 last_step rel t x rest way none = sym (same_state t rel) ∙ ap (with_relation t rel) (sym none) ∙ way
 
+-- a step from where the relation is X
+pub then_step : (rel : ℕ) (s t u : State) (X : Table) (f : Table → Table) → t ≡ with_relation s rel X → u ≡ with_relation t rel (f (t.now.db rel)) → u ≡ with_relation s rel (f X)
+then_step rel s t u X f at is =
+    is
+    ∙ ap (λ v. with_relation v rel (f (v.now.db rel))) at
+    ∙ ap (λ S. with_relation (with_relation s rel X) rel (f S)) (table_of s rel X) ∙ put_twice s rel X (f X)
+
 -- a failure on the way is one at the start
 pub failed_alike : (rel : ℕ) (s t : State) (T U : Table) (e : BaseFault) → with_relation t rel T ≡ with_relation s rel U → s.begun ≡ true → t.begun ≡ true
     → (e ≡ NotBegun → ⊥) × (e ≡ Begun → ⊥) → after e t ≡ after e s

@@ -1,19 +1,25 @@
 -- Writes in steps, as the calls of a base take them.
-use Rattle.std.specs.Prelude.{◌≡◌, ℕ, ◌<◌, true, false, List, [], ◌∷◌, length, ⊤}
+use Rattle.std.specs.Prelude.{◌≡◌, ℕ, suc, ◌<◌, true, false, List, [], ◌∷◌, length, None, ⊤}
 use Rattle.std.specs.List.{AllByRecursion}
 use Rattle.std.specs.FinMap.{remove}
 use Rattle.mls_lattice.specs.Labels.{Labels, below}
+use Rattle.mls_scheme.specs.declared.tuple.Element.{Element}
 use Rattle.mls_scheme.specs.Table.{Table, change}
 use Rattle.mls_scheme.specs.declared.place.Place.{Place}
 use Rattle.mls_filterview.specs.Fragment.{set_in, IsAlone}
 use Rattle.mls_filterview.specs.Stored.{with_class}
 use Rattle.mls_filterview.specs.View.{IsAmong}
-use Rattle.mls_updates.specs.Writes.{Sets}
+use Rattle.mls_updates.specs.Writes.{Sets, set_element}
 
--- cells of the class of p set one after another
+-- cells of the class of p set one after another, the last one first
 abbrev pub set_each : Place → Sets → Table → Table
 set_each p [] T = T
-set_each p (s ∷ ss) T = set_each p ss (change (set_in p s.0 s.1) T)
+set_each p (s ∷ ss) T = change (set_in p s.0 s.1) (set_each p ss T)
+
+-- the elements of a pattern, numbered from k, with the named ones of class w; where w is in no pattern the others need no value
+abbrev pub outline : ℕ → Sets → ℕ → List ℕ → List Element
+outline w sets k [] = []
+outline w sets k (m ∷ ms) = set_element w sets k (record { value = None; class = m }) ∷ outline w sets (suc k) ms
 
 -- tuples of the entity of p dropped one after another, by their classes
 abbrev pub drop_each : Place → List ℕ → Table → Table

@@ -9,7 +9,7 @@ use mls_scheme::{Place, RelNo, same_key};
 
 /// Whether a node is that of the tuple at a place.
 #[tactic(auto, using(crate::proofs::FindingLemmas::at_steps))]
-fn is_at(node: &Node, place: &Place) -> bool
+pub(crate) fn is_at(node: &Node, place: &Place) -> bool
     ensures { result ≡ is_at place.now node.now }
 {
     if node.label != place.class {

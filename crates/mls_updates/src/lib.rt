@@ -1,6 +1,7 @@
 //! The three writes of a multilevel relation, and their laws.
 #![tactic(auto)]
 
+mod changing;
 mod deleting;
 mod dropping;
 mod finding;
@@ -15,9 +16,14 @@ mod list_base_tests;
 mod making;
 mod order;
 mod outcome;
+mod outline;
+mod pattern;
+mod raising;
 mod root;
 mod row;
 mod rows;
+mod sets;
+mod setting;
 #[cfg(test)]
 mod tests;
 mod updating;

@@ -8,8 +8,11 @@ ghost use Rattle.mls_filterview.specs.Stored.{IsContent};
 ghost use Rattle.mls_updates.specs.Writes.{Update, WriteKinds};
 ghost use Rattle.mls_updates.specs.Calls.{IsWritten};
 
+use crate::changing::update_own;
+use crate::key::has_null;
 use crate::outcome::Outcome;
-use mls_filterview::{Base, BaseFault, abandon};
+use crate::raising::update_below;
+use mls_filterview::{Base, BaseFault};
 use mls_lattice::{LabelNo, Policy};
 use mls_scheme::{RelNo, Schemes, Value};
 use std::alloc::Global;
@@ -19,6 +22,7 @@ use std::alloc::Global;
 /// Where `from` is `w` the elements of class `w` are changed in each tuple of the entity that has them. Else the entity
 /// gets a tuple of class `w`: that of class `from` with the named attributes new. Where an attribute is named twice
 /// its first value counts. `NotBegun` comes before any outcome. After `Store` or `Memory` the change has ended.
+#[tactic(auto, using(crate::proofs::CallLemmas::under_scheme))]
 pub fn update<B: Base>(
     alloc: Global,
     base: &mut B,
@@ -53,6 +57,18 @@ pub fn update<B: Base>(
     if !base.is_begun() {
         return Err(BaseFault::NotBegun);
     }
-    abandon(base);
-    Err(BaseFault::Memory)
+    if has_null(key) {
+        return Ok(Outcome::KeyNull);
+    }
+    // That the labels of a policy are distinct.
+    let _count = policy.label_count();
+    if from == w {
+        let outcome = update_own(alloc, base, policy, rel, w, key, key_class, sets)?;
+        return Ok(outcome);
+    }
+    let scheme = schemes.scheme(rel);
+    let outcome = update_below(
+        alloc, base, policy, scheme, rel, w, key, key_class, from, sets,
+    )?;
+    Ok(outcome)
 }

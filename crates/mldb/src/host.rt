@@ -36,7 +36,8 @@ impl<'a, R: Files + Input> Machine<'a, R> {
     }
 }
 
-fn read_whole<R: Read + Drop>(alloc: Global, reader: R) -> Result<Vec<u8>, HostFault> {
+/// All bytes of a reader, where they are not too many.
+pub(crate) fn read_whole<R: Read + Drop>(alloc: Global, reader: R) -> Result<Vec<u8>, HostFault> {
     let mut bytes = Vec::new(alloc);
     match reader.take(MOST_BYTES as u64 + 1).read_to_end(&mut bytes) {
         Ok(_) if bytes.len() > MOST_BYTES => Err(HostFault::TooLong),

@@ -1,12 +1,22 @@
 //! Whole commands: what is written for words, files and standard input.
 use crate::act::act;
-use crate::host::{Host, HostFault};
+use crate::host::{Host, HostFault, MOST_BYTES, read_whole};
 use crate::samples;
 use std::alloc::Global;
 use std::io::{Error, ErrorKind, Write};
 use std::test::Fail;
 
-/// Files by name, in memory. A name that is not there is unreadable, and `long` is too long.
+/// So many empty lines, read as a file is.
+fn empty_lines(alloc: Global, count: usize) -> Result<Vec<u8>, HostFault> {
+    let mut lines = Vec::new(alloc);
+    match lines.resize(count, b'\n') {
+        Ok(()) => read_whole(alloc, lines.as_slice()),
+        Err(_) => Err(HostFault::Memory),
+    }
+}
+
+/// Files by name, in memory. A name that is not there is unreadable; `full` has as many bytes as a file may have, and
+/// `long` has one more.
 #[derive(Drop)]
 struct Files<'a> {
     script: &'a str,
@@ -19,7 +29,8 @@ impl<'a> Host for Files<'a> {
             "policy" => self.policy,
             "schemes" => samples::SCHEMES,
             "script" => self.script,
-            "long" => return Err(HostFault::TooLong),
+            "full" => return empty_lines(alloc, MOST_BYTES),
+            "long" => return empty_lines(alloc, MOST_BYTES + 1),
             _ => return Err(HostFault::Unreadable),
         };
         match String::from_str(alloc, text) {
@@ -162,6 +173,34 @@ fn scripts_are_refused(rt: HostRuntime) {
 }
 
 #[test]
+fn each_fault_of_a_script_is_told(rt: HostRuntime) {
+    let alloc = rt.alloc();
+    let cases = [
+        ("U a open ann\nU a open ~\n", "mldb: script: 21 Token at 2:10\n"),
+        ("# c\n\nU a foo\n", "mldb: script: 22 Expected at 3:5\n"),
+        ("U a open ann\nU a view SOD at X\n", "mldb: script: 23 UnknownName at 2:17\n"),
+        ("U a insert CREW key (\"x\") values (null)\n", "mldb: script: 24 Kind at 1:22\n"),
+        ("U a insert CREW key (1) values ()\n", "mldb: script: 24 Kind at 1:33\n"),
+        ("U a open ann\nU a open bob # c", "mldb: script: 30 Unterminated at 2:17\n"),
+    ];
+    for (script, line) in cases {
+        assert!(rt; refuses(alloc, &RUN, samples::POLICY, script, line), "at {script}");
+    }
+}
+
+#[test]
+fn long_texts_are_refused(rt: HostRuntime) -> Result<(), Fail> {
+    let mut script = String::from_str(rt.alloc(), "U a open ann\nU a insert SOD key (\"")?;
+    for _ in 0..1025 {
+        script.push('x')?;
+    }
+    script.push_str("\") values (null, null)\n")?;
+    let line = "mldb: script: 27 TooLong at 2:21\n";
+    assert!(rt; refuses(rt.alloc(), &RUN, samples::POLICY, &script, line));
+    Ok(())
+}
+
+#[test]
 fn files_are_refused(rt: HostRuntime) {
     let alloc = rt.alloc();
     assert!(rt; refuses(alloc, &RUN, "levels = [", "", "mldb: policy: 1 NotToml\n"));
@@ -178,16 +217,22 @@ fn files_are_refused(rt: HostRuntime) {
             "mldb: schemes: 2 MissingField\n"
         )
     );
-    let long = ["mldb", "run", "policy", "schemes", "long"];
-    assert!(rt;
-        refuses(
-            alloc,
-            &long,
-            samples::POLICY,
-            "",
-            "mldb: script: too long\n"
-        )
-    );
+}
+
+#[test]
+fn files_of_many_bytes(rt: HostRuntime) {
+    let alloc = rt.alloc();
+    let full = ["mldb", "run", "policy", "schemes", "full"];
+    let done = done(alloc, &full, samples::POLICY, "");
+    assert_eq!(rt; done.status, 0);
+    assert!(rt; done.out.is_empty() && done.err.is_empty());
+    for (words, line) in [
+        (["mldb", "run", "long", "schemes", "script"], "mldb: policy: too long\n"),
+        (["mldb", "run", "policy", "long", "script"], "mldb: schemes: too long\n"),
+        (["mldb", "run", "policy", "schemes", "long"], "mldb: script: too long\n"),
+    ] {
+        assert!(rt; refuses(alloc, &words, samples::POLICY, "", line));
+    }
 }
 
 #[test]

@@ -158,6 +158,22 @@ label S S
 label H S N
 "#;
 
+fn sample_text() -> &'static str {
+    SAMPLE
+}
+
+fn canon_text() -> &'static str {
+    SAMPLE_CANON
+}
+
+fn lattice_text() -> &'static str {
+    SAMPLE_LATTICE
+}
+
+fn sample(alloc: Global) -> Result<Policy, Fail> {
+    Ok(Policy::read(alloc, sample_text().as_bytes())?)
+}
+
 /// The number of the fault, or 0 where the text is read.
 fn fault_of(alloc: Global, text: &str) -> u8 {
     match Policy::read(alloc, text.as_bytes()) {
@@ -198,24 +214,30 @@ fn counts_the_matrix(rt: HostRuntime) -> Result<(), Fail> {
     Ok(())
 }
 
-#[test]
-fn accepts_the_limits(rt: HostRuntime) -> Result<(), Fail> {
-    let levels = r#"version = 1
+fn sixteen_levels() -> &'static str {
+    r#"version = 1
 levels = ["A1", "A2", "A3", "A4", "A5", "A6", "A7", "A8", "A9", "A10", "A11", "A12", "A13", "A14", "A15", "A16"]
-label = [{name = "top", level = "A16"}]"#;
-    let policy = Policy::read(rt.alloc(), levels.as_bytes())?;
-    assert_eq!(rt; policy.label_count(), 1);
-    let top = policy.value(LabelNo::new(0));
-    assert_eq!(rt; top.rank, 15);
-    assert_eq!(rt; top.cats, 0);
-    let categories = r#"version = 1
+label = [{name = "top", level = "A16"}]"#
+}
+
+fn thirty_two_categories() -> &'static str {
+    r#"version = 1
 levels = ["a234567890123456789012345678901_"]
 categories = ["A1", "A2", "A3", "A4", "A5", "A6", "A7", "A8", "A9", "A10", "A11", "A12", "A13", "A14", "A15", "A16",
   "B1", "B2", "B3", "B4", "B5", "B6", "B7", "B8", "B9", "B10", "B11", "B12", "B13", "B14", "B15", "B16"]
 label = [{name = "x", level = "a234567890123456789012345678901_", categories = ["B16", "A1"]}]
 user = [{name = "ann", clearance = "x", trusted = ["x", "x"]}]
-matrix = [{user = "ann", object = "T", modes = []}, {user = "ann", object = "t", modes = ["write", "append", "read", "execute"]}]"#;
-    let policy = Policy::read(rt.alloc(), categories.as_bytes())?;
+matrix = [{user = "ann", object = "T", modes = []}, {user = "ann", object = "t", modes = ["write", "append", "read", "execute"]}]"#
+}
+
+#[test]
+fn accepts_the_limits(rt: HostRuntime) -> Result<(), Fail> {
+    let policy = Policy::read(rt.alloc(), sixteen_levels().as_bytes())?;
+    assert_eq!(rt; policy.label_count(), 1);
+    let top = policy.value(LabelNo::new(0));
+    assert_eq!(rt; top.rank, 15);
+    assert_eq!(rt; top.cats, 0);
+    let policy = Policy::read(rt.alloc(), thirty_two_categories().as_bytes())?;
     assert_eq!(rt; policy.value(LabelNo::new(0)).cats, 0x8000_0001);
     assert_eq!(rt; policy.modes(UserNo::new(0), "T").bits(), 0);
     assert_eq!(rt; policy.modes(UserNo::new(0), "t").bits(), 15);
@@ -228,7 +250,7 @@ matrix = [{user = "ann", object = "T", modes = []}, {user = "ann", object = "t",
 
 #[test]
 fn reads_the_sample(rt: HostRuntime) -> Result<(), Fail> {
-    let policy = Policy::read(rt.alloc(), SAMPLE.as_bytes())?;
+    let policy = sample(rt.alloc())?;
     assert_eq!(rt; policy.label_count(), 4);
     let label = |name: &str| -> Option<u8> {
         match policy.label(name) {
@@ -259,7 +281,7 @@ fn reads_the_sample(rt: HostRuntime) -> Result<(), Fail> {
 
 #[test]
 fn looks_up_users_and_rights(rt: HostRuntime) -> Result<(), Fail> {
-    let policy = Policy::read(rt.alloc(), SAMPLE.as_bytes())?;
+    let policy = sample(rt.alloc())?;
     assert_eq!(rt; policy.user("zoe"), None);
     assert_eq!(rt; policy.user("tom"), Some(UserNo::new(4)));
     let (ann, tom) = (UserNo::new(0), UserNo::new(4));
@@ -281,14 +303,14 @@ fn looks_up_users_and_rights(rt: HostRuntime) -> Result<(), Fail> {
 
 #[test]
 fn prints_the_sample(rt: HostRuntime) -> Result<(), Fail> {
-    let policy = Policy::read(rt.alloc(), SAMPLE.as_bytes())?;
+    let policy = sample(rt.alloc())?;
     let text = policy.canon(rt.alloc())?;
-    assert!(rt; text.as_slice() == SAMPLE_CANON.as_bytes());
+    assert!(rt; text.as_slice() == canon_text().as_bytes());
     let text = policy.lattice_text(rt.alloc())?;
-    assert!(rt; text.as_slice() == SAMPLE_LATTICE.as_bytes());
+    assert!(rt; text.as_slice() == lattice_text().as_bytes());
     assert!(rt;
         matches!(
-            Policy::read(rt.alloc(), SAMPLE_CANON.as_bytes()),
+            Policy::read(rt.alloc(), canon_text().as_bytes()),
             Err(PolicyFault::NotToml)
         )
     );

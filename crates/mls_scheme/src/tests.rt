@@ -1,5 +1,9 @@
+ghost use Rattle.std.specs.Prelude.{◌<◌, IfOk};
+ghost use Rattle.mls_scheme.specs.Tuple.{HasClassesBelow};
+
 use super::*;
-use mls_lattice::{LabelNo, Policy, Str};
+use mls_lattice::{Items, LabelNo, Policy, Str};
+use std::alloc::{AllocError, Global};
 use std::process::Abort;
 use std::test::Fail;
 
@@ -180,6 +184,48 @@ fn tells_what_fits(rt: HostRuntime) -> Result<(), Fail> {
     assert!(rt; fits_kind(&text, Kind::Text));
     assert!(rt; !fits_kind(&text, Kind::Int));
     assert!(rt; fits_kind(&None, Kind::Int));
+    Ok(())
+}
+
+/// A tuple with the key 7 and two elements, of these classes.
+fn classed(alloc: Global, key_class: u8, first: u8, second: u8) -> Result<Tuple, AllocError>
+    requires key { key_class < 4 }
+    requires first { first < 4 }
+    requires second { second < 4 }
+    ensures { IfOk result (HasClassesBelow 4) }
+{
+    let elements = vec![in alloc;
+        Element {
+            value: Some(Value::Int(1)),
+            class: LabelNo::new(first)
+        },
+        Element {
+            value: None,
+            class: LabelNo::new(second)
+        },
+    ]?;
+    Ok(Tuple {
+        key: Items::from(vec![in alloc; Value::Int(7)]?),
+        key_class: LabelNo::new(key_class),
+        elements: Items::from(elements),
+    })
+}
+
+#[test]
+fn joins_the_classes_of_a_tuple(rt: HostRuntime) -> Result<(), Fail> {
+    let policy = sample_policy(&rt)?;
+    assert_eq!(rt; policy.label_count(), 4);
+    let u = policy.value(LabelNo::new(0));
+    let m = policy.value(LabelNo::new(1));
+    let s = policy.value(LabelNo::new(2));
+    let h = policy.value(LabelNo::new(3));
+    assert!(rt; tuple_class(&policy, &classed(rt.alloc(), 0, 0, 0)?) == u);
+    assert!(rt; tuple_class(&policy, &classed(rt.alloc(), 2, 0, 0)?) == s);
+    assert!(rt; tuple_class(&policy, &classed(rt.alloc(), 0, 1, 0)?) == m);
+    assert!(rt; tuple_class(&policy, &classed(rt.alloc(), 0, 0, 3)?) == h);
+    // M and S are incomparable, and H is their join.
+    assert!(rt; tuple_class(&policy, &classed(rt.alloc(), 0, 1, 2)?) == h);
+    assert!(rt; tuple_class(&policy, &classed(rt.alloc(), 1, 2, 0)?) == h);
     Ok(())
 }
 

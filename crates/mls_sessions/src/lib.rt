@@ -19,6 +19,8 @@ mod phrase;
 mod printing;
 mod printing_replies;
 mod printing_rows;
+#[cfg(test)]
+mod printing_tests;
 mod quoted;
 mod reading;
 mod reply;

@@ -12,25 +12,26 @@ use Rattle.mls_filterview.specs.Content.{State, with_table}
 use Rattle.mls_filterview.specs.Stored.{IsContent, AreContent}
 use Rattle.mls_filterview.specs.View.{rows}
 use Rattle.mls_updates.specs.declared.outcome.Outcome.{Outcome}
-use Rattle.mls_updates.specs.Writes.{Insert, write}
+use Rattle.mls_updates.specs.Writes.{Write, Insert, write}
 use Rattle.mls_sessions.specs.declared.event.Event.{Event}
 use Rattle.mls_sessions.specs.declared.event.Command.{Command}
 use Rattle.mls_sessions.specs.declared.event.Command.TheVariants as commands
+use Rattle.mls_sessions.specs.declared.reply.Denial.{Denial}
 use Rattle.mls_sessions.specs.declared.reply.Denial.TheVariants.{NoSession, AlreadyOpen}
 use Rattle.mls_sessions.specs.declared.reply.Reply.{Reply}
 use Rattle.mls_sessions.specs.declared.reply.Reply.TheVariants.{Rows, Wrote, Denied}
 use Rattle.mls_sessions.specs.declared.session.Session.{Session}
 use Rattle.mls_sessions.specs.declared.engine.Engine.{Engine}
-use Rattle.mls_sessions.specs.Machine.{World, Step, denial_in, effect_in, step_in, opened, step_outside, step_at, user_named, step}
+use Rattle.mls_sessions.specs.Machine.{World, Step, denial_in, wrote, effect_in, step_in, opened, step_outside, step_at, user_named, step}
 use Rattle.mls_sessions.specs.Engine.{world_of, sessions_of, IsReady, IsStep, IsOpening, IsKept, FellBack}
 
 -- ---- the machine's step, by session and command
 
 module _ (policy : Tables) (schemes : Schemes) (w : World) (e : Event) where
-  in_session : (user : ℕ) (command : Command) → w.sessions e.level e.session ≡ Some user → e.command ≡ command
-      → step policy schemes w e ≡ step_in policy schemes w e.level command (denial_in policy schemes command)
+  in_session : (user : ℕ) (denial : Option Denial) → w.sessions e.level e.session ≡ Some user → denial_in policy schemes e.level e.command ≡ denial
+      → step policy schemes w e ≡ step_in policy schemes w e.level e.command denial
   unfolding step
-  in_session user command h k = ap (step_at policy schemes w e) h ∙ ap (λ c. step_in policy schemes w e.level c (denial_in policy schemes c)) k
+  in_session user denial h k = ap (step_at policy schemes w e) h ∙ ap (step_in policy schemes w e.level e.command) k
 
   outside_session : (command : Command) → w.sessions e.level e.session ≡ None → e.command ≡ command → step policy schemes w e ≡ step_outside policy schemes w e command
   unfolding step
@@ -62,9 +63,9 @@ module _ {B : Type 0} (state : B → State) (is_clean : B → Type 0) (e : Engin
   pub ready_same : (b : B) → (is_clean b → is_clean e.base) → (is_clean b → state b ≡ state e.base) → IsReady state is_clean (record e { base = b })
   ready_same b clean h = ready_fallen b clean (λ c. record { now = ap (λ s. s.now) (h c); idle = ap (λ s. s.begun) (h c) ∙ ready.idle (clean c) })
 
-  module _ (b : B) (clean : is_clean b → is_clean e.base) (rel w : ℕ) (key values : List (Option Value)) (o : Outcome)
-      (kept : is_clean b → IsKept (labels_of e.policy.now) (scheme_of e.schemes.now rel) rel w (Insert key values) (state e.base) (state b) o) where
-    -- after an insert
+  module _ (b : B) (clean : is_clean b → is_clean e.base) (rel w : ℕ) (wr : Write) (o : Outcome)
+      (kept : is_clean b → IsKept (labels_of e.policy.now) (scheme_of e.schemes.now rel) rel w wr (state e.base) (state b) o) where
+    -- after a write
     pub ready_kept : (is_clean b → IsContent (labels_of e.policy.now) (scheme_of e.schemes.now rel) ((state b).now.db rel)) → IsReady state is_clean (record e { base = b })
     ready_kept content = record {
       under = ready.under;
@@ -73,6 +74,8 @@ module _ {B : Type 0} (state : B → State) (is_clean : B → Type 0) (e : Engin
       content = λ c. changed_content (labels_of e.policy.now) e.schemes.now (state e.base).now.db (state b).now.db rel _ (ap (λ x. x.db) (kept c).now) (ready.content (clean c)) (content c);
     }
 
+-- ---- steps
+
 module _ {B : Type 0} (state : B → State) (e : Engine B) (event : Event) where
   abbrev w : World
   w = world_of state e
@@ -80,20 +83,34 @@ module _ {B : Type 0} (state : B → State) (e : Engine B) (event : Event) where
   abbrev s : Step
   s = step e.policy.now e.schemes.now w event
 
+  abbrev held : Option ℕ
+  held = sessions_of e.sessions.items event.level event.session
+
+  abbrev denial : Option Denial
+  denial = denial_in e.policy.now e.schemes.now event.level event.command
+
   is_step : (t : Step) (new : Engine B) (r : Reply) → s ≡ t → r ≡ t.reply → world_of state new ≡ t.world → (state new.base).now.audit ≡ (state e.base).now.audit → IsStep state e s new r
   is_step t new r h reply world audit = record { reply = reply ∙ sym (ap (λ x. x.reply) h); world = world ∙ sym (ap (λ x. x.world) h); audit = audit }
 
-  pub denied_open : (user : ℕ) (name : Name) → sessions_of e.sessions.items event.level event.session ≡ Some user → event.command ≡ commands.Open name → IsStep state e s e (Denied AlreadyOpen)
-  denied_open user name h k = is_step _ e _ (in_session e.policy.now e.schemes.now w event user (commands.Open name) h k) refl refl refl
+  pub denied : (user : ℕ) (d : Denial) → held ≡ Some user → denial ≡ Some d → IsStep state e s e (Denied d)
+  denied user d h k = is_step _ e _ (in_session e.policy.now e.schemes.now w event user (Some d) h k) refl refl refl
 
-  pub denied_view : (rel label : ℕ) → sessions_of e.sessions.items event.level event.session ≡ None → event.command ≡ commands.View rel label → IsStep state e s e (Denied NoSession)
-  denied_view rel label h k = is_step _ e _ (outside_session e.policy.now e.schemes.now w event (commands.View rel label) h k) refl refl refl
+  pub effect_answered : (user : ℕ) (new : Engine B) (r : Result Reply BaseFault) → held ≡ Some user → denial ≡ None
+      → IfOk r (IsStep state e (effect_in e.policy.now e.schemes.now w event.level event.command) new) → IfOk r (IsStep state e s new)
+  effect_answered user new r h k answer = subst (λ t. IfOk r (IsStep state e t new)) (sym (in_session e.policy.now e.schemes.now w event user None h k)) answer
 
-  pub denied_insert : (rel : ℕ) (key values : List (Option Value)) → sessions_of e.sessions.items event.level event.session ≡ None → event.command ≡ commands.Insert rel key values
-      → IsStep state e s e (Denied NoSession)
-  denied_insert rel key values h k = is_step _ e _ (outside_session e.policy.now e.schemes.now w event (commands.Insert rel key values) h k) refl refl refl
+  -- a command that opens no session
+  denied_all : (command : Command) → ((name : Name) → command ≡ commands.Open name → ⊥) → step_outside e.policy.now e.schemes.now w event command ≡ record { world = w; reply = Denied NoSession }
+  denied_all (commands.Open name) other = absurd (other name refl)
+  denied_all (commands.View rel label) other = refl
+  denied_all (commands.Insert rel key values) other = refl
+  denied_all (commands.Update rel key key_class from sets) other = refl
+  denied_all (commands.Delete rel key key_class) other = refl
 
-  pub open_answered : (name n : Name) (sessions : Vec Session Global) (r : Result Reply BaseFault) → sessions_of e.sessions.items event.level event.session ≡ None → event.command ≡ commands.Open name → n ≡ name
+  pub denied_outside : held ≡ None → ((name : Name) → event.command ≡ commands.Open name → ⊥) → IsStep state e s e (Denied NoSession)
+  denied_outside h other = is_step _ e _ (outside_session e.policy.now e.schemes.now w event event.command h refl ∙ denied_all event.command other) refl refl refl
+
+  pub open_answered : (name n : Name) (sessions : Vec Session Global) (r : Result Reply BaseFault) → held ≡ None → event.command ≡ commands.Open name → n ≡ name
       → IfOk r (IsOpening e.policy.now e.schemes.now event n e.sessions.items sessions.items) → IfOk r (IsStep state e s (record e { sessions = sessions }))
   open_answered name n sessions (Err fault) h k m opening = tt
   open_answered name n sessions (Ok r) h k m opening =
@@ -101,17 +118,3 @@ module _ {B : Type 0} (state : B → State) (e : Engine B) (event : Event) where
       let same : opened e.policy.now e.schemes.now w event (user_named e.policy.now n) ≡ t = ap (λ x. opened e.policy.now e.schemes.now w event (user_named e.policy.now x)) m in
       is_step t (record e { sessions = sessions }) r (outside_session e.policy.now e.schemes.now w event (commands.Open name) h k)
       (opening.reply (state e.base).now.db ∙ ap (λ x. x.reply) same) (opening.world (state e.base).now.db ∙ ap (λ x. x.world) same) refl
-
-  pub view_done : (user rel label : ℕ) (b : B) (shown : List Tuple) → sessions_of e.sessions.items event.level event.session ≡ Some user → event.command ≡ commands.View rel label
-      → state b ≡ state e.base → shown ≡ rows (labels_of e.policy.now) label ((state e.base).now.db rel) → IsStep state e s (record e { base = b }) (Rows shown)
-  view_done user rel label b shown h k same right =
-      is_step _ (record e { base = b }) (Rows shown) (in_session e.policy.now e.schemes.now w event user (commands.View rel label) h k)
-      (ap Rows right) (ap (λ x. record { db = x.now.db; sessions = w.sessions }) same) (ap (λ x. x.now.audit) same)
-
-  pub insert_done : (user rel : ℕ) (key values : List (Option Value)) (b : B) (o : Outcome)
-      → sessions_of e.sessions.items event.level event.session ≡ Some user → event.command ≡ commands.Insert rel key values
-      → IsKept (labels_of e.policy.now) (scheme_of e.schemes.now rel) rel event.level (Insert key values) (state e.base) (state b) o
-      → IsStep state e s (record e { base = b }) (Wrote o)
-  insert_done user rel key values b o h k kept =
-      is_step _ (record e { base = b }) (Wrote o) (in_session e.policy.now e.schemes.now w event user (commands.Insert rel key values) h k)
-      (ap Wrote kept.outcome) (ap (λ x. record { db = x.db; sessions = w.sessions }) kept.now) (ap (λ x. x.audit) kept.now)

@@ -10,7 +10,10 @@ pub mod IntLemmas
 pub mod TextLemmas
 pub mod TokenLemmas
 pub mod LineLemmas
+pub mod ItemSteps
 pub mod ValueSteps
+pub mod SettingSteps
+pub mod SettingLemmas
 pub mod LookupLemmas
 pub mod ScriptSteps
 pub mod AgainLemmas

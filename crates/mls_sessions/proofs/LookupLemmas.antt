@@ -37,7 +37,7 @@ kinds_none attributes values = record { each = λ k lt. absurd (omega arith) }
 abbrev some_column : Column → Option Column
 some_column c = Some c
 
-column_is : (c d : Column) → some_column c ≡ some_column d → c ≡ d
+pub column_is : (c d : Column) → some_column c ≡ some_column d → c ≡ d
 column_is c d e = cc
 
 pub kinds_more : (attributes : List Attribute) (values : List (Option Value)) (i : ℕ) (v : Option Value) (c : Column) → KindsUpTo attributes values i → i < length attributes → i < length values → v ≡ get_or values i v → option_map column_of (slice_get attributes i) ≡ Some c → fits_kind v c.kind ≡ true → KindsUpTo attributes values (i + 1)

@@ -11,13 +11,14 @@ use Rattle.mls_scheme.specs.Scheme.{Schemes, scheme_of}
 use Rattle.mls_filterview.specs.Content.{with_table}
 use Rattle.mls_filterview.specs.Stored.{IsContent, AreContent}
 use Rattle.mls_filterview.proofs.IntegrityLemmas.{has_integrity}
-use Rattle.mls_updates.specs.Writes.{Insert, write}
+use Rattle.mls_updates.specs.Writes.{Write, Insert, Update, Delete, WriteFits, WriteKinds, write}
 use Rattle.mls_updates.proofs.LawLemmas.{keep_content}
 use Rattle.mls_sessions.specs.declared.event.Event.{Event}
 use Rattle.mls_sessions.specs.declared.event.Command.{Command}
 use Rattle.mls_sessions.specs.declared.event.Command.TheVariants as commands
+use Rattle.mls_sessions.specs.declared.reply.Denial.{Denial}
 use Rattle.mls_sessions.specs.declared.reply.Reply.{Reply}
-use Rattle.mls_sessions.specs.Machine.{World, step, end_of, replies, denial_in, step_in, opened, step_outside, step_at, user_named}
+use Rattle.mls_sessions.specs.Machine.{World, step, end_of, replies, denial_in, effect_in, step_in, opened, step_outside, step_at, user_named}
 use Rattle.mls_sessions.specs.Event.{CommandFits, EventFits}
 use Rattle.mls_sessions.specs.Output.{reply_text, printed}
 use Rattle.mls_sessions.specs.Run.{printed_to, world_after, KeepsIntegrity}
@@ -60,21 +61,31 @@ module _ (policy : Tables) (schemes : Schemes) (distinct : AreDistinct (labels_o
   zip_count R (x ∷ xs) [] h = absurd h
   zip_count R (x ∷ xs) (y ∷ ys) h = ap suc (zip_count R xs ys h.1)
 
-  inserted : (w : World) (level rel : ℕ) (key values : List (Option Value)) → AreStored w → level < length policy.labels → CommandFits policy schemes (commands.Insert rel key values)
-      → AreContent (labels_of policy) schemes (with_table w.db rel (write (labels_of policy) (scheme_of schemes rel) level (Insert key values) (w.db rel)).table)
-  inserted w level rel key values all declared fits =
+  written_content : (w : World) (level rel : ℕ) (wr : Write) → AreStored w → WriteFits (labels_of policy) (length (scheme_of schemes rel).others) level wr → WriteKinds (scheme_of schemes rel) wr
+      → AreContent (labels_of policy) schemes (with_table w.db rel (write (labels_of policy) (scheme_of schemes rel) level wr (w.db rel)).table)
+  written_content w level rel wr all fits kinds =
       let ls = labels_of policy in
-      let new = (write ls (scheme_of schemes rel) level (Insert key values) (w.db rel)).table in
+      let new = (write ls (scheme_of schemes rel) level wr (w.db rel)).table in
       changed_content ls schemes w.db (with_table w.db rel new) rel new refl all
       (subst (IsContent ls (scheme_of schemes rel)) (sym (cond-true (nat_eq rel rel) new (w.db rel) (eq-eqb rel rel refl)))
-      (keep_content ls distinct (scheme_of schemes rel) level (w.db rel) (all rel) (Insert key values)
-      (subst (λ n. level < n) (sym (length-map policy.labels (λ l. l.value))) declared, zip_count _ (scheme_of schemes rel).others values fits.2) (fits.1, fits.2)))
+      (keep_content ls distinct (scheme_of schemes rel) level (w.db rel) (all rel) wr fits kinds))
 
   module _ (w : World) (e : Event) (all : AreStored w) (declared : e.level < length policy.labels) where
-    in_content : (command : Command) → CommandFits policy schemes command → AreStored (step_in policy schemes w e.level command (denial_in policy schemes command)).world
-    in_content (commands.Open name) fits = all
-    in_content (commands.View rel label) fits = all
-    in_content (commands.Insert rel key values) fits = inserted w e.level rel key values all declared fits
+    level_fits : e.level < length (labels_of policy)
+    level_fits = subst (λ n. e.level < n) (sym (length-map policy.labels (λ l. l.value))) declared
+
+    effect_content : (command : Command) → CommandFits policy schemes command → AreStored (effect_in policy schemes w e.level command).world
+    effect_content (commands.Open name) fits = all
+    effect_content (commands.View rel label) fits = all
+    effect_content (commands.Insert rel key values) fits =
+        written_content w e.level rel (Insert key values) all (level_fits, zip_count _ (scheme_of schemes rel).others values fits.2) (fits.1, fits.2)
+    effect_content (commands.Update rel key key_class from sets) fits =
+        written_content w e.level rel (Update key key_class from sets) all (level_fits, fits.4.some, fits.4.known) fits.4.kinds
+    effect_content (commands.Delete rel key key_class) fits = written_content w e.level rel (Delete key key_class) all tt tt
+
+    in_content : (command : Command) (denial : Option Denial) → CommandFits policy schemes command → AreStored (step_in policy schemes w e.level command denial).world
+    in_content command None fits = effect_content command fits
+    in_content command (Some denial) fits = all
 
     opened_content : (user : Option ℕ) → AreStored (opened policy schemes w e user).world
     opened_content None = all
@@ -84,9 +95,11 @@ module _ (policy : Tables) (schemes : Schemes) (distinct : AreDistinct (labels_o
     outside_content (commands.Open name) = opened_content (user_named policy name)
     outside_content (commands.View rel label) = all
     outside_content (commands.Insert rel key values) = all
+    outside_content (commands.Update rel key key_class from sets) = all
+    outside_content (commands.Delete rel key key_class) = all
 
     at_content : (session : Option ℕ) → CommandFits policy schemes e.command → AreStored (step_at policy schemes w e session).world
-    at_content (Some user) fits = in_content e.command fits
+    at_content (Some user) fits = in_content e.command (denial_in policy schemes e.level e.command) fits
     at_content None fits = outside_content e.command
 
   pub step_content : (w : World) (e : Event) → AreStored w → EventFits policy schemes e → AreStored (step policy schemes w e).world

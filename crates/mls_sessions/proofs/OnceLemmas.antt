@@ -1,19 +1,22 @@
 -- A text tells the events of one list at most.
-use Rattle.std.proofs.Common.{◌≡◌, ◌≢◌, ℕ, zero, suc, ◌<◌, List, [], ◌∷◌, ◌++◌, length, Option, Some, None, refl, sym, ap, ◌∙◌, subst, arith, append_assoc, length-append}
-use Rattle.std.specs.Prelude.{codes}
+use Rattle.std.proofs.Common.{◌≡◌, ◌≢◌, ℕ, zero, suc, ◌<◌, false, true≢false, List, [], ◌∷◌, ◌++◌, length, Option, Some, None, refl, sym, ap, ◌∙◌, subst, arith, append_assoc, length-append}
+use Rattle.std.specs.Prelude.{codes, map}
 use Rattle.std.specs.List.{AllByRecursion, flat_map, filter_map}
+use Rattle.std.specs.Str.{bytes_eq}
+use Rattle.std.proofs.lemmas.Slice.Eq.{bytes_eq-Decides}
 use Rattle.mls_lattice.specs.Policy.{Name, Tables}
 use Rattle.mls_scheme.specs.declared.value.Value.{Value}
 use Rattle.mls_scheme.specs.declared.value.Value.TheVariants as values
-use Rattle.mls_scheme.specs.Scheme.{Schemes}
+use Rattle.mls_scheme.specs.Scheme.{Scheme, Schemes, scheme_of, other_of}
+use Rattle.mls_updates.specs.Writes.{Sets}
 use Rattle.mls_sessions.specs.declared.event.Event.{Event}
 use Rattle.mls_sessions.specs.declared.event.Command.{Command}
-use Rattle.mls_sessions.specs.declared.event.Command.TheVariants.{Open, View, Insert}
+use Rattle.mls_sessions.specs.declared.event.Command.TheVariants.{Open, View, Insert, Update, Delete}
 use Rattle.mls_sessions.specs.declared.token.Token.{Token}
 use Rattle.mls_sessions.specs.declared.token.Token.TheVariants.{Word, Int, Text, Sign}
-use Rattle.mls_sessions.specs.declared.token.Sign.TheVariants.{LeftParen, RightParen, Comma}
+use Rattle.mls_sessions.specs.declared.token.Sign.TheVariants.{LeftParen, RightParen, Comma, Equals}
 use Rattle.mls_sessions.specs.Tokens.{IsLine}
-use Rattle.mls_sessions.specs.Event.{label_name, relation_name, value_token, with_commas, list_tokens, command_tokens, event_tokens, CommandFits, EventFits}
+use Rattle.mls_sessions.specs.Event.{label_name, relation_name, value_token, with_commas, list_tokens, NamedSet, named_sets, set_tokens, sets_tokens, command_tokens, event_tokens, CommandFits, EventFits}
 use Rattle.mls_sessions.specs.Script.{Line, Tells, IsLineOf, ReadsScript, AreNamedApart}
 use Rattle.mls_sessions.proofs.AgainLemmas.{line_once}
 
@@ -81,26 +84,78 @@ list_once (v ∷ vs) (w ∷ ws) xs ys e =
     let more = more_once vs ws xs ys one.tail in
     record { values = λ i. value_is v w one.head i ∷ more.values i; rest = more.rest }
 
+-- ---- new values
+
+abbrev behind_sets : List NamedSet → List Token
+behind_sets ss = flat_map (λ s. Sign Comma ∷ set_tokens s) ss
+
+none_left : (t : Token) (ts : List Token) → [] ≡ t ∷ ts → ⊥
+none_left t ts e = absurd cc
+
+record SameSet (s t : NamedSet) (xs ys : List Token) : Type 0 where
+  set : s ≡ t
+  rest : xs ≡ ys
+
+one_set : (s t : NamedSet) (xs ys : List Token) → set_tokens s ++ xs ≡ set_tokens t ++ ys → SameSet s t xs ys
+one_set s t xs ys e =
+    let name = uncons _ _ _ _ e in
+    let value = uncons _ _ _ _ (uncons _ _ _ _ name.tail).tail in
+    record { set = λ i. (word_is s.0 t.0 name.head i, value_is s.1 t.1 value.head i); rest = value.tail }
+
+more_sets : (ss ts : List NamedSet) → behind_sets ss ≡ behind_sets ts → ss ≡ ts
+more_sets [] [] e = refl
+more_sets [] (t ∷ ts) e = absurd (none_left _ _ e)
+more_sets (s ∷ ss) [] e = absurd (none_left _ _ (sym e))
+more_sets (s ∷ ss) (t ∷ ts) e =
+    let one = one_set s t (behind_sets ss) (behind_sets ts) (uncons _ _ _ _ e).tail in
+    λ i. one.set i ∷ more_sets ss ts one.rest i
+
+sets_once : (ss ts : List NamedSet) → sets_tokens ss ≡ sets_tokens ts → ss ≡ ts
+sets_once [] [] e = refl
+sets_once [] (t ∷ ts) e = absurd (none_left _ _ e)
+sets_once (s ∷ ss) [] e = absurd (none_left _ _ (sym e))
+sets_once (s ∷ ss) (t ∷ ts) e =
+    let one = one_set s t (behind_sets ss) (behind_sets ts) e in
+    λ i. one.set i ∷ more_sets ss ts one.rest i
+
+abbrev AreOthers : Scheme → Sets → Type 0
+AreOthers scheme ss = AllByRecursion (λ s. s.0 < length scheme.others) ss
+
+numbers_once : (scheme : Scheme) → ((a b : ℕ) → a < length scheme.others → b < length scheme.others → (other_of scheme a).name ≡ (other_of scheme b).name → a ≡ b)
+    → (ss ts : Sets) → AreOthers scheme ss → AreOthers scheme ts → named_sets scheme ss ≡ named_sets scheme ts → ss ≡ ts
+numbers_once scheme apart [] [] p q e = refl
+numbers_once scheme apart [] (t ∷ ts) p q e = absurd cc
+numbers_once scheme apart (s ∷ ss) [] p q e = absurd cc
+numbers_once scheme apart (s ∷ ss) (t ∷ ts) p q e =
+    let one = uncons _ _ (named_sets scheme ss) (named_sets scheme ts) e in
+    let number : s.0 ≡ t.0 = apart s.0 t.0 p.0 q.0 (λ i. (one.head i).0) in
+    let more = numbers_once scheme apart ss ts p.1 q.1 one.tail in
+    λ i. (number i, (one.head i).1) ∷ more i
+
 -- ---- events
 
-different : (s t : Name) (xs ys : List Token) → (s ≡ t → ⊥) → (Word s ∷ xs) ≡ (Word t ∷ ys) → ⊥
-different s t xs ys apart e = apart (word_is s t (uncons _ _ xs ys e).head)
+different : (s t : Name) (xs ys : List Token) → bytes_eq s t ≡ false → (Word s ∷ xs) ≡ (Word t ∷ ys) → ⊥
+different s t xs ys apart e = true≢false (sym ((bytes_eq-Decides s t).1 (word_is s t (uncons _ _ xs ys e).head)) ∙ apart)
 
 module _ (policy : Tables) (schemes : Schemes) (apart : AreNamedApart policy schemes) where
   command_once : (c d : Command) → CommandFits policy schemes c → CommandFits policy schemes d → command_tokens policy schemes c ≡ command_tokens policy schemes d → c ≡ d
   command_once (Open u) (Open v) f g e = ap (λ (x : Name). Open x) (word_is u v (uncons _ _ [] [] (uncons _ _ _ _ e).tail).head)
-  command_once (Open u) (View rel label) f g e = absurd (different (codes "open") (codes "view") _ _ (λ q. absurd cc) e)
-  command_once (Open u) (Insert rel key values) f g e = absurd (different (codes "open") (codes "insert") _ _ (λ q. absurd cc) e)
-  command_once (View rel label) (Open v) f g e = absurd (different (codes "view") (codes "open") _ _ (λ q. absurd cc) e)
+  command_once (Open u) (View rel' label') f g e = absurd (different (codes "open") (codes "view") _ _ refl e)
+  command_once (Open u) (Insert rel' key' values') f g e = absurd (different (codes "open") (codes "insert") _ _ refl e)
+  command_once (Open u) (Update rel' key' key_class' from' sets') f g e = absurd (different (codes "open") (codes "update") _ _ refl e)
+  command_once (Open u) (Delete rel' key' key_class') f g e = absurd (different (codes "open") (codes "delete") _ _ refl e)
+  command_once (View rel label) (Open v) f g e = absurd (different (codes "view") (codes "open") _ _ refl e)
   command_once (View rel label) (View rel' label') f g e =
       let first = uncons _ _ _ _ (uncons _ _ _ _ e).tail in
       let last = uncons _ _ _ _ (uncons _ _ _ _ first.tail).tail in
       let same_rel : rel ≡ rel' = apart.relations rel rel' f.0 g.0 (word_is _ _ first.head) in
       let same_label : label ≡ label' = apart.labels label label' f.1 g.1 (word_is _ _ last.head) in
       λ i. View (same_rel i) (same_label i)
-  command_once (View rel label) (Insert rel' key values) f g e = absurd (different (codes "view") (codes "insert") _ _ (λ q. absurd cc) e)
-  command_once (Insert rel key values) (Open v) f g e = absurd (different (codes "insert") (codes "open") _ _ (λ q. absurd cc) e)
-  command_once (Insert rel key values) (View rel' label) f g e = absurd (different (codes "insert") (codes "view") _ _ (λ q. absurd cc) e)
+  command_once (View rel label) (Insert rel' key' values') f g e = absurd (different (codes "view") (codes "insert") _ _ refl e)
+  command_once (View rel label) (Update rel' key' key_class' from' sets') f g e = absurd (different (codes "view") (codes "update") _ _ refl e)
+  command_once (View rel label) (Delete rel' key' key_class') f g e = absurd (different (codes "view") (codes "delete") _ _ refl e)
+  command_once (Insert rel key values) (Open v) f g e = absurd (different (codes "insert") (codes "open") _ _ refl e)
+  command_once (Insert rel key values) (View rel' label') f g e = absurd (different (codes "insert") (codes "view") _ _ refl e)
   command_once (Insert rel key values) (Insert rel' key' values') f g e =
       let first = uncons _ _ _ _ (uncons _ _ _ _ e).tail in
       let open_key = uncons _ _ _ _ (uncons _ _ _ _ first.tail).tail in
@@ -109,6 +164,39 @@ module _ (policy : Tables) (schemes : Schemes) (apart : AreNamedApart policy sch
       let others = list_once values values' [] [] open_values.tail in
       let same_rel : rel ≡ rel' = apart.relations rel rel' f.0 g.0 (word_is _ _ first.head) in
       λ i. Insert (same_rel i) (keys.values i) (others.values i)
+  command_once (Insert rel key values) (Update rel' key' key_class' from' sets') f g e = absurd (different (codes "insert") (codes "update") _ _ refl e)
+  command_once (Insert rel key values) (Delete rel' key' key_class') f g e = absurd (different (codes "insert") (codes "delete") _ _ refl e)
+  command_once (Update rel key key_class from sets) (Open v) f g e = absurd (different (codes "update") (codes "open") _ _ refl e)
+  command_once (Update rel key key_class from sets) (View rel' label') f g e = absurd (different (codes "update") (codes "view") _ _ refl e)
+  command_once (Update rel key key_class from sets) (Insert rel' key' values') f g e = absurd (different (codes "update") (codes "insert") _ _ refl e)
+  command_once (Update rel key key_class from sets) (Update rel' key' key_class' from' sets') f g e =
+      let first = uncons _ _ _ _ (uncons _ _ _ _ e).tail in
+      let open_key = uncons _ _ _ _ (uncons _ _ _ _ first.tail).tail in
+      let keys = list_once key key' _ _ (sym (append_assoc (with_commas key) (Sign RightParen ∷ []) _) ∙ open_key.tail ∙ append_assoc (with_commas key') (Sign RightParen ∷ []) _) in
+      let class = uncons _ _ _ _ (uncons _ _ _ _ keys.rest).tail in
+      let source = uncons _ _ _ _ (uncons _ _ _ _ class.tail).tail in
+      let last = uncons _ _ _ _ source.tail in
+      let same_rel : rel ≡ rel' = apart.relations rel rel' f.0 g.0 (word_is _ _ first.head) in
+      let same_class : key_class ≡ key_class' = apart.labels key_class key_class' f.2 g.2 (word_is _ _ class.head) in
+      let same_from : from ≡ from' = apart.labels from from' f.3 g.3 (word_is _ _ source.head) in
+      let named : named_sets (scheme_of schemes rel) sets ≡ named_sets (scheme_of schemes rel) sets' =
+      sets_once _ _ last.tail ∙ ap (λ r. named_sets (scheme_of schemes r) sets') (sym same_rel) in
+      let known : AreOthers (scheme_of schemes rel) sets' = subst (λ r. AreOthers (scheme_of schemes r) sets') (sym same_rel) g.4.known in
+      let same_sets : sets ≡ sets' = numbers_once (scheme_of schemes rel) (λ a b. apart.others rel a b f.0) sets sets' f.4.known known named in
+      λ i. Update (same_rel i) (keys.values i) (same_class i) (same_from i) (same_sets i)
+  command_once (Update rel key key_class from sets) (Delete rel' key' key_class') f g e = absurd (different (codes "update") (codes "delete") _ _ refl e)
+  command_once (Delete rel key key_class) (Open v) f g e = absurd (different (codes "delete") (codes "open") _ _ refl e)
+  command_once (Delete rel key key_class) (View rel' label') f g e = absurd (different (codes "delete") (codes "view") _ _ refl e)
+  command_once (Delete rel key key_class) (Insert rel' key' values') f g e = absurd (different (codes "delete") (codes "insert") _ _ refl e)
+  command_once (Delete rel key key_class) (Update rel' key' key_class' from' sets') f g e = absurd (different (codes "delete") (codes "update") _ _ refl e)
+  command_once (Delete rel key key_class) (Delete rel' key' key_class') f g e =
+      let first = uncons _ _ _ _ (uncons _ _ _ _ e).tail in
+      let open_key = uncons _ _ _ _ (uncons _ _ _ _ first.tail).tail in
+      let keys = list_once key key' _ _ (sym (append_assoc (with_commas key) (Sign RightParen ∷ []) _) ∙ open_key.tail ∙ append_assoc (with_commas key') (Sign RightParen ∷ []) _) in
+      let class = uncons _ _ [] [] (uncons _ _ _ _ keys.rest).tail in
+      let same_rel : rel ≡ rel' = apart.relations rel rel' f.0 g.0 (word_is _ _ first.head) in
+      let same_class : key_class ≡ key_class' = apart.labels key_class key_class' f.2 g.2 (word_is _ _ class.head) in
+      λ i. Delete (same_rel i) (keys.values i) (same_class i)
 
   event_once : (e f : Event) → EventFits policy schemes e → EventFits policy schemes f → event_tokens policy schemes e ≡ event_tokens policy schemes f → e ≡ f
   event_once e f p q h =

@@ -21,7 +21,7 @@ pub record ReadSoFar (policy : Tables) (schemes : Schemes) (bytes : List ℕ) (e
 pub read_none : (policy : Tables) (schemes : Schemes) (bytes : List ℕ) → ReadSoFar policy schemes bytes [] bytes
 read_none policy schemes bytes = record { front = []; parts = refl; reads = record { lines = []; text = refl; told = refl; each = tt } }
 
-all_more : {A : Type 0} (P : A → Type 0) (xs : List A) (x : A) → AllByRecursion P xs → P x → AllByRecursion P (xs ++ x ∷ [])
+pub all_more : {A : Type 0} (P : A → Type 0) (xs : List A) (x : A) → AllByRecursion P xs → P x → AllByRecursion P (xs ++ x ∷ [])
 all_more P [] x h p = (p, tt)
 all_more P (y ∷ ys) x h p = (h.0, all_more P ys x h.1 p)
 

@@ -11,12 +11,15 @@ use Rattle.mls_scheme.specs.Scheme.{Scheme, Schemes, AreUnder}
 use Rattle.mls_filterview.specs.Content.{State, with_relation}
 use Rattle.mls_filterview.specs.Stored.{AreContent}
 use Rattle.mls_updates.specs.declared.outcome.Outcome.{Outcome}
-use Rattle.mls_updates.specs.Writes.{Write, write}
+use Rattle.mls_updates.specs.Writes.{Write, Insert, Update, Delete, WriteKinds, write}
 use Rattle.mls_sessions.specs.declared.event.Event.{Event}
 use Rattle.mls_sessions.specs.declared.reply.Reply.{Reply}
 use Rattle.mls_sessions.specs.declared.reply.Reply.TheVariants.{Opened, Rows, Wrote, Denied}
+use Rattle.mls_sessions.specs.declared.change.LentWrite.{LentWrite}
+use Rattle.mls_sessions.specs.declared.change.LentWrite.TheVariants as lent
 use Rattle.mls_sessions.specs.declared.session.Session.{Session}
 use Rattle.mls_sessions.specs.declared.engine.Engine.{Engine}
+use Rattle.mls_sessions.specs.Event.{SetsFit}
 use Rattle.mls_sessions.specs.Machine.{Sessions, World, Step, opened, user_named}
 
 -- ---- sessions
@@ -64,6 +67,17 @@ module _ {B : Type 0} (state : B → State) where
     pub audit : (state new.base).now.audit ≡ (state old.base).now.audit
 
 -- ---- a write as one change
+
+abbrev pub write_of : LentWrite → Write
+write_of (lent.Insert key values) = Insert key.now values.now
+write_of (lent.Update key key_class from sets) = Update key.now key_class from sets.now
+write_of (lent.Delete key key_class) = Delete key.now key_class
+
+-- its numbers are those of the policy and the scheme, and its new values have their kinds
+abbrev pub WriteIsKnown : Tables → Scheme → Write → Type 0
+WriteIsKnown policy scheme (Insert key values) = WriteKinds scheme (Insert key values)
+WriteIsKnown policy scheme (Update key key_class from sets) = (key_class < length policy.labels) × (from < length policy.labels) × SetsFit scheme sets
+WriteIsKnown policy scheme (Delete key key_class) = key_class < length policy.labels
 
 -- the outcome and the relation are those of the definition, and the change is ended
 pub record IsKept (ls : Labels) (scheme : Scheme) (rel w : ℕ) (wr : Write) (s t : State) (o : Outcome) : Type 0 where

@@ -3,17 +3,18 @@
 use Rattle.std.specs.Prelude.{ℕ, ◌&&◌, if◌then◌else◌, nat_eq, List, [], ◌∷◌, Option, Some, None}
 use Rattle.std.specs.List.{position}
 use Rattle.std.specs.Str.{bytes_eq}
+use Rattle.mls_lattice.specs.Labels.{below}
 use Rattle.mls_lattice.specs.Policy.{Name, Tables, labels_of}
 use Rattle.mls_scheme.specs.Table.{Database}
 use Rattle.mls_scheme.specs.Scheme.{Schemes, scheme_of}
 use Rattle.mls_filterview.specs.View.{rows}
 use Rattle.mls_filterview.specs.Content.{with_table}
-use Rattle.mls_updates.specs.Writes.{Write, Insert, write}
+use Rattle.mls_updates.specs.Writes.{Write, Insert, Update, Delete, write}
 use Rattle.mls_sessions.specs.declared.event.Event.{Event}
 use Rattle.mls_sessions.specs.declared.event.Command.{Command}
 use Rattle.mls_sessions.specs.declared.event.Command.TheVariants as commands
 use Rattle.mls_sessions.specs.declared.reply.Denial.{Denial}
-use Rattle.mls_sessions.specs.declared.reply.Denial.TheVariants.{NoSession, AlreadyOpen, UnknownUser}
+use Rattle.mls_sessions.specs.declared.reply.Denial.TheVariants.{NoSession, AlreadyOpen, UnknownUser, Star}
 use Rattle.mls_sessions.specs.declared.reply.Reply.{Reply}
 use Rattle.mls_sessions.specs.declared.reply.Reply.TheVariants.{Opened, Rows, Wrote, Denied}
 
@@ -41,10 +42,13 @@ user_named policy name = position (λ u. bytes_eq u.name name) policy.users
 module _ (policy : Tables) (schemes : Schemes) where
   -- ---- where the session is open
 
-  abbrev pub denial_in : Command → Option Denial
-  denial_in (commands.Open name) = Some AlreadyOpen
-  denial_in (commands.View rel label) = None
-  denial_in (commands.Insert rel key values) = None
+  abbrev pub denial_in : ℕ → Command → Option Denial
+  denial_in level (commands.Open name) = Some AlreadyOpen
+  denial_in level (commands.View rel label) = None
+  denial_in level (commands.Insert rel key values) = None
+  denial_in level (commands.Update rel key key_class from sets) =
+      if below (labels_of policy) key_class level && below (labels_of policy) from level then None else Some Star
+  denial_in level (commands.Delete rel key key_class) = if below (labels_of policy) key_class level then None else Some Star
 
   -- a write at the level of the session
   abbrev pub wrote : World → ℕ → ℕ → Write → Step
@@ -56,6 +60,8 @@ module _ (policy : Tables) (schemes : Schemes) where
   effect_in w level (commands.Open name) = record { world = w; reply = Denied AlreadyOpen }
   effect_in w level (commands.View rel label) = record { world = w; reply = Rows (rows (labels_of policy) label (w.db rel)) }
   effect_in w level (commands.Insert rel key values) = wrote w level rel (Insert key values)
+  effect_in w level (commands.Update rel key key_class from sets) = wrote w level rel (Update key key_class from sets)
+  effect_in w level (commands.Delete rel key key_class) = wrote w level rel (Delete key key_class)
 
   abbrev pub step_in : World → ℕ → Command → Option Denial → Step
   step_in w level command (Some denial) = record { world = w; reply = Denied denial }
@@ -72,11 +78,13 @@ module _ (policy : Tables) (schemes : Schemes) where
   step_outside w event (commands.Open name) = opened w event (user_named policy name)
   step_outside w event (commands.View rel label) = record { world = w; reply = Denied NoSession }
   step_outside w event (commands.Insert rel key values) = record { world = w; reply = Denied NoSession }
+  step_outside w event (commands.Update rel key key_class from sets) = record { world = w; reply = Denied NoSession }
+  step_outside w event (commands.Delete rel key key_class) = record { world = w; reply = Denied NoSession }
 
   -- ---- steps and runs
 
   abbrev pub step_at : World → Event → Option ℕ → Step
-  step_at w event (Some user) = step_in w event.level event.command (denial_in event.command)
+  step_at w event (Some user) = step_in w event.level event.command (denial_in event.level event.command)
   step_at w event None = step_outside w event event.command
 
   unfoldable pub step : World → Event → Step

@@ -85,6 +85,8 @@ abbrev pub view_texts : Tables → Schemes → Command → List Tuple → List (
 view_texts p schemes (commands.Open name) tuples = []
 view_texts p schemes (commands.View rel label) tuples = heading p (scheme_of schemes rel) label ∷ map (row_text p) tuples
 view_texts p schemes (commands.Insert rel key values) tuples = []
+view_texts p schemes (commands.Update rel key key_class from sets) tuples = []
+view_texts p schemes (commands.Delete rel key key_class) tuples = []
 
 -- the texts of a reply, one for each of its lines
 abbrev pub reply_texts : Tables → Schemes → Command → Reply → List (List ℕ)
@@ -113,6 +115,8 @@ abbrev pub CommandIsKnown : Tables → Schemes → Command → Type 0
 CommandIsKnown p schemes (commands.Open name) = ⊤
 CommandIsKnown p schemes (commands.View rel label) = (rel < length schemes) × (label < length p.labels)
 CommandIsKnown p schemes (commands.Insert rel key values) = ⊤
+CommandIsKnown p schemes (commands.Update rel key key_class from sets) = ⊤
+CommandIsKnown p schemes (commands.Delete rel key key_class) = ⊤
 
 abbrev pub ReplyIsKnown : Tables → Reply → Type 0
 ReplyIsKnown p (Opened user) = user < length p.users

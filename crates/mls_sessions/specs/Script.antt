@@ -2,7 +2,7 @@
 use Rattle.std.specs.Prelude.{◌≡◌, ◌≢◌, ℕ, ◌<◌, length, List, [], ◌∷◌, ◌++◌, Option, Some, None}
 use Rattle.std.specs.List.{AllByRecursion, flat_map, filter_map}
 use Rattle.mls_lattice.specs.Policy.{Tables}
-use Rattle.mls_scheme.specs.Scheme.{Schemes}
+use Rattle.mls_scheme.specs.Scheme.{Schemes, scheme_of, other_of}
 use Rattle.mls_sessions.specs.declared.event.Event.{Event}
 use Rattle.mls_sessions.specs.Tokens.{IsLine}
 use Rattle.mls_sessions.specs.Event.{label_name, relation_name, event_tokens, EventFits}
@@ -28,10 +28,12 @@ pub record ReadsScript (policy : Tables) (schemes : Schemes) (bytes : List ℕ) 
   pub told : events ≡ filter_map (λ line. line.event) lines
   pub each : AllByRecursion (IsLineOf policy schemes) lines
 
--- no two labels and no two relations have one name
+-- no two labels, no two relations, and no two attributes outside the key of one relation have one name
 pub record AreNamedApart (policy : Tables) (schemes : Schemes) : Type 0 where
   pub labels : (a b : ℕ) → a < length policy.labels → b < length policy.labels → label_name policy a ≡ label_name policy b → a ≡ b
   pub relations : (a b : ℕ) → a < length schemes → b < length schemes → relation_name schemes a ≡ relation_name schemes b → a ≡ b
+  pub others : (rel a b : ℕ) → rel < length schemes → a < length (scheme_of schemes rel).others → b < length (scheme_of schemes rel).others
+      → (other_of (scheme_of schemes rel) a).name ≡ (other_of (scheme_of schemes rel) b).name → a ≡ b
 
 -- a text tells the events of one list at most
 abbrev pub ScriptsAreOnce : Type 0

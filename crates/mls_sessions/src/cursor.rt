@@ -1,13 +1,14 @@
 //! The tokens of a line, read one after another.
-ghost use Rattle.std.specs.Prelude.{◌≡◌, ◌<◌, [], ◌∷◌, ◌++◌, length, IfOk, IsTrue, IsFalse, true};
+ghost use Rattle.std.specs.Prelude.{◌≡◌, ◌<◌, [], ◌∷◌, ◌++◌, map, length, IfOk, IsTrue, IsFalse, true};
 ghost use Rattle.mls_lattice.specs.Name.{is_name};
 ghost use Rattle.mls_sessions.specs.declared.token.Token.TheVariants.{Word, Sign as Sign_token};
 ghost use Rattle.mls_sessions.specs.declared.token.Sign.TheVariants.{RightParen};
 ghost use Rattle.mls_sessions.specs.Tokens.{tokens_in};
-ghost use Rattle.mls_sessions.specs.Event.{value_token, with_commas, list_tokens};
+ghost use Rattle.mls_sessions.specs.Event.{value_token, with_commas, list_tokens, set_tokens, sets_tokens};
+ghost use Rattle.mls_sessions.specs.Phrase.{named};
 
 use crate::fault::{LineFault, ScriptCause};
-use crate::phrase::{Name, Values};
+use crate::phrase::{Name, Setting, Values};
 use crate::token::{Placed, Sign};
 use mls_lattice::{Items, Str};
 use mls_scheme::Value;
@@ -190,6 +191,36 @@ impl<'a> Cursor<'a> {
             });
         }
         self.values(alloc)
+    }
+
+    /// Passes an attribute and its new value.
+    fn setting(&mut self, alloc: Global) -> Result<Setting, LineFault>
+        ensures { IfOk result (λ s. self.old ≡ set_tokens (named s) ++ self.new) }
+    {
+        let name = self.name(alloc)?;
+        self.sign(Sign::Equals)?;
+        let column = self.column();
+        let value = self.value(alloc)?;
+        Ok(Setting {
+            name,
+            value,
+            column,
+        })
+    }
+
+    /// Passes attributes and their new values, one or more.
+    #[tactic(auto, using(crate::proofs::SettingSteps::setting_steps))]
+    pub fn settings(&mut self, alloc: Global) -> Result<Items<Setting>, LineFault>
+        ensures tokens { IfOk result (λ s. self.old ≡ sets_tokens (map named s) ++ self.new) }
+        ensures some { IfOk result (λ s. 0 < length s) }
+    {
+        let mut settings = Vec::new(alloc);
+        loop {
+            settings.push(self.setting(alloc)?)?;
+            if !self.takes_sign(Sign::Comma) {
+                return Ok(Items::from(settings));
+            }
+        }
     }
 
     /// Passes the end of the line.

@@ -1,14 +1,15 @@
 //! The machine of sessions over a base.
 ghost use Rattle.std.specs.Prelude.{◌≡◌, ◌≢◌, ◌<◌, ◌≤◌, false, length, IfOk, IfErr, IsErrOf, OnOk, OnErr};
 ghost use Rattle.mls_lattice.specs.Policy.{labels_of};
-ghost use Rattle.mls_scheme.specs.Scheme.{AreUnder};
+ghost use Rattle.mls_scheme.specs.Scheme.{scheme_of, AreUnder};
 ghost use Rattle.mls_filterview.specs.Stored.{AreContent};
-ghost use Rattle.mls_sessions.specs.Event.{EventFits};
+ghost use Rattle.mls_sessions.specs.Event.{CommandFits, EventFits};
 ghost use Rattle.mls_sessions.specs.Output.{reply_text, ReplyIsKnown};
-ghost use Rattle.mls_sessions.specs.Machine.{no_sessions, step};
-ghost use Rattle.mls_sessions.specs.Engine.{world_of, IsReady, HasSameRules, IsStep, IsUnchanged, HasKnownUser};
+ghost use Rattle.mls_sessions.specs.Machine.{no_sessions, wrote, effect_in, step};
+ghost use Rattle.mls_sessions.specs.Engine.{world_of, write_of, WriteIsKnown, IsReady, HasSameRules, IsStep, IsUnchanged, HasKnownUser};
 
-use crate::change::insert_kept;
+use crate::change::{LentWrite, write_kept};
+use crate::denying::denial_of;
 use crate::event::{Command, Event};
 use crate::known::is_known;
 use crate::printing_replies::reply_bytes;
@@ -16,8 +17,8 @@ use crate::reply::{Denial, Reply};
 use crate::running::RunCause;
 use crate::session::{Session, open, user_of};
 use mls_filterview::{Base, BaseFault, view};
-use mls_lattice::{Items, Policy, Str};
-use mls_scheme::Schemes;
+use mls_lattice::{Items, LabelNo, Policy, Str};
+use mls_scheme::{RelNo, Schemes};
 use std::alloc::Global;
 
 /// Sessions over a base, under a policy and its schemes.
@@ -65,6 +66,89 @@ impl<'a, B: Base> Engine<'a, B> {
         base
     }
 
+    /// A write at a label, as one change of the base.
+    fn write(&mut self, level: LabelNo, rel: RelNo, write: &LentWrite) -> Result<Reply, BaseFault>
+        requires ready { IsReady B.state B.is_clean self.old }
+        requires level { level < length self.old.policy.now.labels }
+        requires relation { rel < length self.old.schemes.now }
+        requires known { WriteIsKnown self.old.policy.now (scheme_of self.old.schemes.now rel) (write_of write.now) }
+        ensures clean { B.is_clean self.new.base → B.is_clean self.old.base }
+        ensures count { B.failures self.old.base ≤ B.failures self.new.base }
+        ensures store { IsErrOf result BaseFault.Store → B.failures self.old.base < B.failures self.new.base }
+        ensures never { B.is_clean self.new.base → IfErr result (λ e. (e ≡ BaseFault.NotBegun → ⊥) × (e ≡ BaseFault.Begun → ⊥)) }
+        ensures rules { HasSameRules self.old self.new }
+        ensures ready { IsReady B.state B.is_clean self.new }
+        ensures done { B.is_clean self.new.base
+            → IfOk result (IsStep B.state self.old (wrote self.old.policy.now self.old.schemes.now (world_of B.state self.old) level rel (write_of write.now)) self.new) }
+        ensures user { IfOk result (HasKnownUser self.old.policy.now) }
+        ensures failed { B.is_clean self.new.base → OnErr result (IsUnchanged B.state self.old self.new) }
+    {
+        let outcome = write_kept(
+            self.alloc,
+            &mut self.base,
+            self.policy,
+            self.schemes,
+            rel,
+            level,
+            write,
+        )?;
+        Ok(Reply::Wrote(outcome))
+    }
+
+    /// Answers a command of an open session, which is not denied, at the session's level.
+    fn effect(&mut self, level: LabelNo, command: &Command) -> Result<Reply, BaseFault>
+        requires ready { IsReady B.state B.is_clean self.old }
+        requires level { level < length self.old.policy.now.labels }
+        requires fits { CommandFits self.old.policy.now self.old.schemes.now command.now }
+        ensures clean { B.is_clean self.new.base → B.is_clean self.old.base }
+        ensures count { B.failures self.old.base ≤ B.failures self.new.base }
+        ensures store { IsErrOf result BaseFault.Store → B.failures self.old.base < B.failures self.new.base }
+        ensures never { B.is_clean self.new.base → IfErr result (λ e. (e ≡ BaseFault.NotBegun → ⊥) × (e ≡ BaseFault.Begun → ⊥)) }
+        ensures rules { HasSameRules self.old self.new }
+        ensures ready { IsReady B.state B.is_clean self.new }
+        ensures done { B.is_clean self.new.base
+            → IfOk result (IsStep B.state self.old (effect_in self.old.policy.now self.old.schemes.now (world_of B.state self.old) level command.now) self.new) }
+        ensures user { IfOk result (HasKnownUser self.old.policy.now) }
+        ensures failed { B.is_clean self.new.base → OnErr result (IsUnchanged B.state self.old self.new) }
+    {
+        match command {
+            Command::Open(_) => Ok(Reply::Denied(Denial::AlreadyOpen)),
+            Command::View { rel, label } => {
+                let tuples = view(self.alloc, &mut self.base, self.policy, *rel, *label)?;
+                Ok(Reply::Rows(Items::from(tuples)))
+            }
+            Command::Insert { rel, key, values } => {
+                self.write(level, *rel, &LentWrite::Insert { key, values })
+            }
+            Command::Update {
+                rel,
+                key,
+                key_class,
+                from,
+                sets,
+            } => {
+                let write = LentWrite::Update {
+                    key,
+                    key_class: *key_class,
+                    from: *from,
+                    sets,
+                };
+                self.write(level, *rel, &write)
+            }
+            Command::Delete {
+                rel,
+                key,
+                key_class,
+            } => {
+                let write = LentWrite::Delete {
+                    key,
+                    key_class: *key_class,
+                };
+                self.write(level, *rel, &write)
+            }
+        }
+    }
+
     /// Answers an event, as one change of the base where it writes.
     ///
     /// `Store` comes where the store fails, `Memory` where a growth is refused.
@@ -82,34 +166,23 @@ impl<'a, B: Base> Engine<'a, B> {
         ensures user { IfOk result (HasKnownUser self.old.policy.now) }
         ensures failed { B.is_clean self.new.base → OnErr result (IsUnchanged B.state self.old self.new) }
     {
-        let user = user_of(&self.sessions, event.level, &event.session);
-        match (&event.command, user) {
-            (Command::Open(_), Some(_)) => Ok(Reply::Denied(Denial::AlreadyOpen)),
-            (Command::Open(name), None) => open(
-                self.alloc,
-                self.policy,
-                self.schemes,
-                &mut self.sessions,
-                event,
-                name,
-            ),
-            (_, None) => Ok(Reply::Denied(Denial::NoSession)),
-            (Command::View { rel, label }, Some(_)) => {
-                let tuples = view(self.alloc, &mut self.base, self.policy, *rel, *label)?;
-                Ok(Reply::Rows(Items::from(tuples)))
-            }
-            (Command::Insert { rel, key, values }, Some(_)) => {
-                let outcome = insert_kept(
+        match user_of(&self.sessions, event.level, &event.session) {
+            None => match &event.command {
+                Command::Open(name) => open(
                     self.alloc,
-                    &mut self.base,
                     self.policy,
                     self.schemes,
-                    *rel,
-                    event.level,
-                    key,
-                    values,
-                )?;
-                Ok(Reply::Wrote(outcome))
+                    &mut self.sessions,
+                    event,
+                    name,
+                ),
+                _ => Ok(Reply::Denied(Denial::NoSession)),
+            },
+            Some(_) => {
+                match denial_of(self.policy, self.schemes, event.level, &event.command) {
+                    Some(denial) => Ok(Reply::Denied(denial)),
+                    None => self.effect(event.level, &event.command),
+                }
             }
         }
     }

@@ -27,4 +27,19 @@ pub enum Command {
         key: Items<Option<Value>>,
         values: Items<Option<Value>>,
     },
+    /// Gives attributes outside the key, by their numbers, new values at the session's level. The tuple is that of class
+    /// `from`.
+    Update {
+        rel: RelNo,
+        key: Items<Option<Value>>,
+        key_class: LabelNo,
+        from: LabelNo,
+        sets: Items<(usize, Option<Value>)>,
+    },
+    /// Removes the tuple of the session's level, and those whose classes dominate it.
+    Delete {
+        rel: RelNo,
+        key: Items<Option<Value>>,
+        key_class: LabelNo,
+    },
 }

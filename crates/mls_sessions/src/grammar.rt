@@ -3,7 +3,7 @@ ghost use Rattle.std.specs.Prelude.{◌≡◌, [], ◌∷◌, ◌++◌, IfOk, If
 ghost use Rattle.mls_lattice.specs.Name.{is_name};
 ghost use Rattle.mls_sessions.specs.declared.token.Token.TheVariants.{Word};
 ghost use Rattle.mls_sessions.specs.Tokens.{IsLine};
-ghost use Rattle.mls_sessions.specs.Phrase.{phrase_tokens, sentence_tokens, line_tokens, HasNames};
+ghost use Rattle.mls_sessions.specs.Phrase.{phrase_tokens, sentence_tokens, line_tokens, IsFormed};
 
 use crate::cursor::Cursor;
 use crate::fault::LineFault;
@@ -13,14 +13,14 @@ use std::alloc::Global;
 
 fn open(alloc: Global, cursor: &mut Cursor) -> Result<Phrase, LineFault>
     ensures tokens { IfOk result (λ p. Word (codes "open") ∷ cursor.old ≡ phrase_tokens p ++ cursor.new) }
-    ensures names { IfOk result HasNames }
+    ensures formed { IfOk result IsFormed }
 {
     Ok(Phrase::Open(cursor.name(alloc)?))
 }
 
 fn view(alloc: Global, cursor: &mut Cursor) -> Result<Phrase, LineFault>
     ensures tokens { IfOk result (λ p. Word (codes "view") ∷ cursor.old ≡ phrase_tokens p ++ cursor.new) }
-    ensures names { IfOk result HasNames }
+    ensures formed { IfOk result IsFormed }
 {
     let rel = cursor.name(alloc)?;
     cursor.word("at")?;
@@ -30,7 +30,7 @@ fn view(alloc: Global, cursor: &mut Cursor) -> Result<Phrase, LineFault>
 
 fn insert(alloc: Global, cursor: &mut Cursor) -> Result<Phrase, LineFault>
     ensures tokens { IfOk result (λ p. Word (codes "insert") ∷ cursor.old ≡ phrase_tokens p ++ cursor.new) }
-    ensures names { IfOk result HasNames }
+    ensures formed { IfOk result IsFormed }
 {
     let rel = cursor.name(alloc)?;
     cursor.word("key")?;
@@ -40,9 +40,47 @@ fn insert(alloc: Global, cursor: &mut Cursor) -> Result<Phrase, LineFault>
     Ok(Phrase::Insert { rel, key, values })
 }
 
+fn update(alloc: Global, cursor: &mut Cursor) -> Result<Phrase, LineFault>
+    ensures tokens { IfOk result (λ p. Word (codes "update") ∷ cursor.old ≡ phrase_tokens p ++ cursor.new) }
+    ensures formed { IfOk result IsFormed }
+{
+    let rel = cursor.name(alloc)?;
+    cursor.word("key")?;
+    let key = cursor.list(alloc)?;
+    cursor.word("class")?;
+    let key_class = cursor.name(alloc)?;
+    cursor.word("from")?;
+    let from = cursor.name(alloc)?;
+    cursor.word("set")?;
+    let sets = cursor.settings(alloc)?;
+    Ok(Phrase::Update {
+        rel,
+        key,
+        key_class,
+        from,
+        sets,
+    })
+}
+
+fn delete(alloc: Global, cursor: &mut Cursor) -> Result<Phrase, LineFault>
+    ensures tokens { IfOk result (λ p. Word (codes "delete") ∷ cursor.old ≡ phrase_tokens p ++ cursor.new) }
+    ensures formed { IfOk result IsFormed }
+{
+    let rel = cursor.name(alloc)?;
+    cursor.word("key")?;
+    let key = cursor.list(alloc)?;
+    cursor.word("class")?;
+    let key_class = cursor.name(alloc)?;
+    Ok(Phrase::Delete {
+        rel,
+        key,
+        key_class,
+    })
+}
+
 fn phrase(alloc: Global, cursor: &mut Cursor) -> Result<Phrase, LineFault>
     ensures tokens { IfOk result (λ p. cursor.old ≡ phrase_tokens p ++ cursor.new) }
-    ensures names { IfOk result HasNames }
+    ensures formed { IfOk result IsFormed }
 {
     if cursor.takes_word("open") {
         return open(alloc, cursor);
@@ -53,13 +91,19 @@ fn phrase(alloc: Global, cursor: &mut Cursor) -> Result<Phrase, LineFault>
     if cursor.takes_word("insert") {
         return insert(alloc, cursor);
     }
+    if cursor.takes_word("update") {
+        return update(alloc, cursor);
+    }
+    if cursor.takes_word("delete") {
+        return delete(alloc, cursor);
+    }
     Err(cursor.expected())
 }
 
 fn sentence(alloc: Global, cursor: &mut Cursor) -> Result<Sentence, LineFault>
     ensures tokens { IfOk result (λ s. cursor.old ≡ sentence_tokens s ++ cursor.new) }
     ensures session { IfOk result (λ s. is_name s.session.text ≡ true) }
-    ensures names { IfOk result (λ s. HasNames s.phrase) }
+    ensures formed { IfOk result (λ s. IsFormed s.phrase) }
 {
     let level = cursor.name(alloc)?;
     let session = cursor.name(alloc)?;
@@ -75,7 +119,7 @@ fn sentence(alloc: Global, cursor: &mut Cursor) -> Result<Sentence, LineFault>
 pub(crate) fn sentence_of(alloc: Global, line: &[u8]) -> Result<Option<Sentence>, LineFault>
     ensures tokens { IfOk result (λ o. IsLine (line_tokens o) line.now) }
     ensures session { IfOk result (λ o. IfSome o (λ s. is_name s.session.text ≡ true)) }
-    ensures names { IfOk result (λ o. IfSome o (λ s. HasNames s.phrase)) }
+    ensures formed { IfOk result (λ o. IfSome o (λ s. IsFormed s.phrase)) }
 {
     let tokens = tokens_of(alloc, line)?;
     let mut cursor = Cursor::new(&tokens.placed, tokens.stop());

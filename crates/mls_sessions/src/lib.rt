@@ -6,6 +6,7 @@ ghost use Rattle.mls_sessions.specs.Tokens.{LinesAreOnce};
 
 mod change;
 mod cursor;
+mod denying;
 mod engine;
 #[cfg(test)]
 mod engine_tests;
@@ -28,6 +29,7 @@ mod running;
 mod runs;
 mod scanner;
 mod session;
+mod setting;
 #[cfg(test)]
 mod tests;
 mod token;
@@ -46,7 +48,8 @@ pub fn lines_are_read_once()
     ensures { LinesAreOnce }
 {}
 
-/// A text tells the events of one list at most, where no two labels and no two relations have one name.
+/// A text tells the events of one list at most, where no two labels, no two relations, and no two attributes outside the
+/// key of one relation have one name.
 pub fn scripts_are_read_once()
     ensures { ScriptsAreOnce }
 {}

@@ -1,15 +1,17 @@
 //! The second pass: the names and values of a line, held against policy and schemes.
-ghost use Rattle.std.specs.Prelude.{◌≡◌, ◌<◌, length, IfOk, IsNone, true};
+ghost use Rattle.std.specs.Prelude.{◌≡◌, ◌<◌, map, length, IfOk, IsNone, true};
 ghost use Rattle.mls_lattice.specs.Name.{is_name};
 ghost use Rattle.mls_scheme.specs.Fits.{HaveKinds};
-ghost use Rattle.mls_sessions.specs.Event.{label_name, relation_name, view_tokens, insert_tokens, command_tokens, event_tokens, CommandFits, EventFits};
-ghost use Rattle.mls_sessions.specs.Phrase.{phrase_tokens, sentence_tokens, HasNames};
+ghost use Rattle.mls_sessions.specs.Event.{label_name, relation_name, view_tokens, insert_tokens, update_tokens, delete_tokens, command_tokens, event_tokens, CommandFits, EventFits};
+ghost use Rattle.mls_sessions.specs.Phrase.{named, phrase_tokens, sentence_tokens, IsFormed};
 
 use crate::event::{Command, Event};
 use crate::fault::{LineFault, ScriptCause};
-use crate::phrase::{Name, Phrase, Sentence, Values};
+use crate::phrase::{Name, Phrase, Sentence, Setting, Values};
+use crate::setting::sets_of;
 use mls_lattice::{LabelNo, Policy};
 use mls_scheme::{Attributes, RelNo, Schemes, Value, fits_kind};
+use std::alloc::Global;
 
 fn label_of(policy: &Policy, name: &Name) -> Result<LabelNo, LineFault>
     ensures named { IfOk result (λ n. label_name policy.now n ≡ name.now.text) }
@@ -17,7 +19,7 @@ fn label_of(policy: &Policy, name: &Name) -> Result<LabelNo, LineFault>
 {
     match policy.label(name.text.as_str()) {
         Some(label) => Ok(label),
-        None => Err(unknown(name)),
+        None => Err(name.fault(ScriptCause::UnknownName)),
     }
 }
 
@@ -27,14 +29,7 @@ fn relation_of(schemes: &Schemes, name: &Name) -> Result<RelNo, LineFault>
 {
     match schemes.relation(name.text.as_str()) {
         Some(rel) => Ok(rel),
-        None => Err(unknown(name)),
-    }
-}
-
-fn unknown(name: &Name) -> LineFault {
-    LineFault {
-        column: name.column,
-        cause: ScriptCause::UnknownName,
+        None => Err(name.fault(ScriptCause::UnknownName)),
     }
 }
 
@@ -103,8 +98,63 @@ fn insert(
     })
 }
 
-fn command_of(policy: &Policy, schemes: &Schemes, phrase: Phrase) -> Result<Command, LineFault>
-    requires { HasNames phrase }
+fn update(
+    alloc: Global,
+    policy: &Policy,
+    schemes: &Schemes,
+    rel: &Name,
+    key: Values,
+    key_class: &Name,
+    from: &Name,
+    settings: &[Setting],
+) -> Result<Command, LineFault>
+    requires { 0 < length settings.now }
+    ensures tokens { IfOk result (λ c. command_tokens policy.now schemes.now c
+        ≡ update_tokens rel.now.text key.items key_class.now.text from.now.text (map named settings.now)) }
+    ensures fits { IfOk result (CommandFits policy.now schemes.now) }
+{
+    let rel = relation_of(schemes, rel)?;
+    let scheme = schemes.scheme(rel);
+    fit(scheme.keys(), &key)?;
+    let key_class = label_of(policy, key_class)?;
+    let from = label_of(policy, from)?;
+    let sets = sets_of(alloc, scheme, settings)?;
+    Ok(Command::Update {
+        rel,
+        key: key.items,
+        key_class,
+        from,
+        sets,
+    })
+}
+
+fn delete(
+    policy: &Policy,
+    schemes: &Schemes,
+    rel: &Name,
+    key: Values,
+    key_class: &Name,
+) -> Result<Command, LineFault>
+    ensures tokens { IfOk result (λ c. command_tokens policy.now schemes.now c ≡ delete_tokens rel.now.text key.items key_class.now.text) }
+    ensures fits { IfOk result (CommandFits policy.now schemes.now) }
+{
+    let rel = relation_of(schemes, rel)?;
+    fit(schemes.scheme(rel).keys(), &key)?;
+    let key_class = label_of(policy, key_class)?;
+    Ok(Command::Delete {
+        rel,
+        key: key.items,
+        key_class,
+    })
+}
+
+fn command_of(
+    alloc: Global,
+    policy: &Policy,
+    schemes: &Schemes,
+    phrase: Phrase,
+) -> Result<Command, LineFault>
+    requires { IsFormed phrase }
     ensures tokens { IfOk result (λ c. command_tokens policy.now schemes.now c ≡ phrase_tokens phrase) }
     ensures fits { IfOk result (CommandFits policy.now schemes.now) }
 {
@@ -112,22 +162,35 @@ fn command_of(policy: &Policy, schemes: &Schemes, phrase: Phrase) -> Result<Comm
         Phrase::Open(user) => Ok(Command::Open(user.text)),
         Phrase::View { rel, label } => view(policy, schemes, &rel, &label),
         Phrase::Insert { rel, key, values } => insert(policy, schemes, &rel, key, values),
+        Phrase::Update {
+            rel,
+            key,
+            key_class,
+            from,
+            sets,
+        } => update(alloc, policy, schemes, &rel, key, &key_class, &from, &sets),
+        Phrase::Delete {
+            rel,
+            key,
+            key_class,
+        } => delete(policy, schemes, &rel, key, &key_class),
     }
 }
 
 /// The event that a line tells. Users are not looked up: they are left to the denials.
 pub(crate) fn event_of(
+    alloc: Global,
     policy: &Policy,
     schemes: &Schemes,
     sentence: Sentence,
 ) -> Result<Event, LineFault>
     requires session { is_name sentence.session.text ≡ true }
-    requires names { HasNames sentence.phrase }
+    requires formed { IsFormed sentence.phrase }
     ensures tokens { IfOk result (λ e. event_tokens policy.now schemes.now e ≡ sentence_tokens sentence) }
     ensures fits { IfOk result (EventFits policy.now schemes.now) }
 {
     let level = label_of(policy, &sentence.level)?;
-    let command = command_of(policy, schemes, sentence.phrase)?;
+    let command = command_of(alloc, policy, schemes, sentence.phrase)?;
     Ok(Event {
         level,
         session: sentence.session.text,

@@ -1,4 +1,7 @@
 //! A line whose names are not yet looked up, and whose values are not yet held against a relation.
+ghost use Rattle.std.specs.Prelude.{◌≡◌};
+
+use crate::fault::{LineFault, ScriptCause};
 use mls_lattice::{Items, Str};
 use mls_scheme::Value;
 
@@ -9,12 +12,33 @@ pub(crate) struct Name {
     pub column: usize,
 }
 
+impl Name {
+    /// A fault where the name stands.
+    pub fn fault(&self, cause: ScriptCause) -> LineFault
+        ensures column { result.column ≡ self.now.column }
+        ensures cause { result.cause ≡ cause }
+    {
+        LineFault {
+            column: self.column,
+            cause,
+        }
+    }
+}
+
 /// The values of a list, the columns of their first bytes in the same order, and the column of the list's end.
 #[derive(Drop, Debug)]
 pub(crate) struct Values {
     pub items: Items<Option<Value>>,
     pub columns: Items<usize>,
     pub end: usize,
+}
+
+/// An attribute's name and its new value, and the column of the value.
+#[derive(Drop, Debug)]
+pub(crate) struct Setting {
+    pub name: Name,
+    pub value: Option<Value>,
+    pub column: usize,
 }
 
 /// A command.
@@ -29,6 +53,18 @@ pub(crate) enum Phrase {
         rel: Name,
         key: Values,
         values: Values,
+    },
+    Update {
+        rel: Name,
+        key: Values,
+        key_class: Name,
+        from: Name,
+        sets: Items<Setting>,
+    },
+    Delete {
+        rel: Name,
+        key: Values,
+        key_class: Name,
     },
 }
 

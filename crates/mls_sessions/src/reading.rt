@@ -41,7 +41,7 @@ fn line_event(
         });
     }
     match sentence {
-        Some(sentence) => Ok(Some(event_of(policy, schemes, sentence)?)),
+        Some(sentence) => Ok(Some(event_of(alloc, policy, schemes, sentence)?)),
         None => Ok(None),
     }
 }

@@ -15,6 +15,8 @@ pub enum Denial {
     AlreadyOpen,
     /// The policy has no such user.
     UnknownUser,
+    /// The command names a label that the session's level does not dominate.
+    Star,
 }
 
 impl Denial {
@@ -26,6 +28,7 @@ impl Denial {
             Denial::NoSession => 31,
             Denial::AlreadyOpen => 32,
             Denial::UnknownUser => 33,
+            Denial::Star => 38,
         }
     }
 
@@ -37,6 +40,7 @@ impl Denial {
             Denial::NoSession => "NoSession",
             Denial::AlreadyOpen => "AlreadyOpen",
             Denial::UnknownUser => "UnknownUser",
+            Denial::Star => "Star",
         }
     }
 }

@@ -173,7 +173,7 @@ fn tells_what_no_command_has(rt: HostRuntime) -> Result<(), Fail> {
         ("U view open ann\n", 1, 3),
         ("U a foo\n", 1, 5),
         ("U a close\n", 1, 5),
-        ("U a update SOD\n", 1, 5),
+        ("U a update SOD\n", 1, 15),
         ("U a open\n", 1, 9),
         ("U a open view\n", 1, 10),
         ("U a open \"ann\"\n", 1, 10),
@@ -249,6 +249,126 @@ fn tells_wrong_kinds(rt: HostRuntime) -> Result<(), Fail> {
         assert_eq!(rt;
             fault_at(&rt, text.as_bytes())?,
             (24, 1, column),
+            "at {text}"
+        );
+    }
+    Ok(())
+}
+
+#[test]
+fn tells_faults_of_updates_and_deletes(rt: HostRuntime) -> Result<(), Fail> {
+    let cases = [
+        ("U a update SOD key (\"E\") class U from U set\n", 22, 44),
+        (
+            "U a update SOD key (\"E\") class U from U set Objective\n",
+            22,
+            54,
+        ),
+        (
+            "U a update SOD key (\"E\") class U from U set Objective =\n",
+            22,
+            56,
+        ),
+        (
+            "U a update SOD key (\"E\") class U from U set Objective = \"x\",\n",
+            22,
+            61,
+        ),
+        ("U a update SOD key (\"E\") from U\n", 22, 26),
+        ("U a update SOD key (\"E\") class U set\n", 22, 34),
+        (
+            "U a update SOD key (\"E\") class U from U set Objective := \"x\"\n",
+            22,
+            55,
+        ),
+        (
+            "U a update SOD key (\"E\") class U from U set Objective = from\n",
+            22,
+            57,
+        ),
+        (
+            "U a update SOD key (\"E\") class U from U set Objective = \"x\" Destination = \"y\"\n",
+            22,
+            61,
+        ),
+        (
+            "U a update SOD key (\"E\") class U from U set set = 1\n",
+            22,
+            45,
+        ),
+        ("U a update SOD key (1) class X from U set\n", 22, 42),
+        ("U a delete SOD key (\"E\")\n", 22, 25),
+        ("U a delete SOD key (\"E\") class U from U\n", 22, 34),
+        ("U a update XX key (1) class X from U set A = 1\n", 23, 12),
+        (
+            "U a update SOD key (\"E\") class X from X set A = 1\n",
+            23,
+            32,
+        ),
+        (
+            "U a update SOD key (\"E\") class U from X set A = 1\n",
+            23,
+            39,
+        ),
+        (
+            "U a update SOD key (\"E\") class U from U set Starship = \"x\"\n",
+            23,
+            45,
+        ),
+        (
+            "U a update SOD key (\"E\") class U from U set Post = 5\n",
+            23,
+            45,
+        ),
+        (
+            "U a update SOD key (\"E\") class U from U set objective = 5, objective = 5\n",
+            23,
+            45,
+        ),
+        ("U a delete XX key (1) class X\n", 23, 12),
+        ("U a delete SOD key (\"E\") class X\n", 23, 32),
+        ("U a update SOD key (1) class X from X set A = 1\n", 24, 21),
+        ("U a update SOD key () class X from X set A = 1\n", 24, 21),
+        (
+            "U a update SOD key (\"E\") class U from U set Objective = 5, Objective = 5\n",
+            24,
+            57,
+        ),
+        (
+            "U a update SOD key (\"E\") class U from U set Objective = \"x\", Destination = 5\n",
+            24,
+            76,
+        ),
+        ("U a delete CREW key (\"x\") class X\n", 24, 22),
+        ("U a delete CREW key (1, 2) class X\n", 24, 25),
+        (
+            "U a update SOD key (\"E\") class U from U set Objective = \"x\", Objective = 5\n",
+            25,
+            62,
+        ),
+        (
+            "U a update SOD key (\"E\") class U from U set Objective = null, Destination = \"y\", Objective = null\n",
+            25,
+            82,
+        ),
+        (
+            "U a update SOD key (\"E\") class U from U set Objective = 5, Objective = 5",
+            30,
+            73,
+        ),
+        ("U a delete SOD key (\"E\") class X", 30, 33),
+        (
+            "U a update SOD key (\"E\") class U from U set Objective = \"x\", Destination = null\n",
+            0,
+            0,
+        ),
+        ("U a delete CREW key (null) class S\n", 0, 0),
+    ];
+    for (text, code, column) in cases {
+        let line = if code == 0 { 0 } else { 1 };
+        assert_eq!(rt;
+            fault_at(&rt, text.as_bytes())?,
+            (code, line, column),
             "at {text}"
         );
     }
@@ -347,6 +467,52 @@ fn reads_commands(rt: HostRuntime) -> Result<(), Fail> {
             assert_eq!(rt; values.len(), 2);
             assert!(rt; values[0].is_none());
             assert!(rt; matches!(&values[1], Some(Value::Text(text)) if text.as_str() == ""));
+        }
+        _ => assert!(rt; false, "another command"),
+    }
+    Ok(())
+}
+
+#[test]
+fn reads_updates(rt: HostRuntime) -> Result<(), Fail> {
+    let text =
+        "U a update SOD key(\"E\")class M from S set Destination=\"x\",Objective=null\nU a delete CREW key (7) class S\n";
+    let events = match read(&rt, text.as_bytes())? {
+        Ok(events) => events,
+        Err(_) => Vec::new(rt.alloc()),
+    };
+    assert_eq!(rt; events.len(), 2);
+    match &events[0].command {
+        Command::Update {
+            rel,
+            key,
+            key_class,
+            from,
+            sets,
+        } => {
+            assert_eq!(rt; *rel, RelNo::new(0));
+            assert_eq!(rt; key.len(), 1);
+            assert!(rt; matches!(&key[0], Some(Value::Text(text)) if text.as_str() == "E"));
+            assert_eq!(rt; *key_class, LabelNo::new(1));
+            assert_eq!(rt; *from, LabelNo::new(2));
+            assert_eq!(rt; sets.len(), 2);
+            assert_eq!(rt; sets[0].0, 1);
+            assert!(rt; matches!(&sets[0].1, Some(Value::Text(text)) if text.as_str() == "x"));
+            assert_eq!(rt; sets[1].0, 0);
+            assert!(rt; sets[1].1.is_none());
+        }
+        _ => assert!(rt; false, "another command"),
+    }
+    match &events[1].command {
+        Command::Delete {
+            rel,
+            key,
+            key_class,
+        } => {
+            assert_eq!(rt; *rel, RelNo::new(1));
+            assert_eq!(rt; key.len(), 1);
+            assert!(rt; matches!(&key[0], Some(Value::Int(7))));
+            assert_eq!(rt; *key_class, LabelNo::new(2));
         }
         _ => assert!(rt; false, "another command"),
     }

@@ -4,6 +4,7 @@ pub mod SessionLemmas
 pub mod EngineLemmas
 pub mod WritingSteps
 pub mod MachineLemmas
+pub mod LawLemmas
 pub mod KnownLemmas
 pub mod AnswerLemmas
 pub mod IntLemmas

@@ -7,5 +7,6 @@ pub mod Script
 pub mod Reply
 pub mod Output
 pub mod Machine
+pub mod Laws
 pub mod Engine
 pub mod Run

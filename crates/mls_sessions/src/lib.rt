@@ -1,6 +1,7 @@
 //! Sessions: the script of their commands, the machine that answers them, and what is printed.
 #![tactic(auto)]
 
+ghost use Rattle.mls_sessions.specs.Laws.{RefusalsChangeNothing};
 ghost use Rattle.mls_sessions.specs.Script.{ScriptsAreOnce};
 ghost use Rattle.mls_sessions.specs.Tokens.{LinesAreOnce};
 
@@ -52,4 +53,9 @@ pub fn lines_are_read_once()
 /// key of one relation have one name.
 pub fn scripts_are_read_once()
     ensures { ScriptsAreOnce }
+{}
+
+/// A command that is denied, a view, and a write that is refused leave the database and the sessions as they were.
+pub fn refusals_change_nothing()
+    ensures { RefusalsChangeNothing }
 {}

@@ -1,23 +1,29 @@
 -- One event of a run, and a run up to an event.
-use Rattle.std.proofs.Common.{◌≡◌, ◌≢◌, ℕ, zero, suc, ◌+◌, ◌-◌, ◌<◌, ◌≤◌, Bool, true, false, cond, List, [], ◌∷◌, ◌++◌, Option, length, take, get_or, refl, sym, ap, ◌∙◌, subst, append_assoc, append-nil, arith}
+use Rattle.std.proofs.Common.{◌≡◌, ◌≢◌, ℕ, zero, suc, ◌+◌, ◌-◌, ◌<◌, ◌≤◌, Bool, true, false, cond, ◌⊎◌, inl, inr, Err, List, [], ◌∷◌, ◌++◌, Option, length, take, get_or, refl, sym, ap, ◌∙◌, subst, append_assoc, append-nil, arith}
+use Rattle.std.specs.Prelude.{IsErrOf}
 use Rattle.std.specs.Io.KnownBytes.{Appends}
 use Rattle.std.proofs.KnownBytes.{Appends-nil, Appends-trans}
 use Rattle.std.proofs.lemmas.List.{take_all}
 use Rattle.std.specs.List.{AllByRecursion}
-use Rattle.mls_lattice.specs.Policy.{Tables}
+use Rattle.mls_lattice.specs.Labels.{AreDistinct}
+use Rattle.mls_lattice.specs.Policy.{Tables, labels_of}
 use Rattle.mls_scheme.specs.Scheme.{Schemes}
+use Rattle.mls_filterview.specs.declared.base.BaseFault.{BaseFault}
+use Rattle.mls_filterview.specs.declared.base.BaseFault.TheVariants as faults
 use Rattle.mls_filterview.specs.Content.{State}
+use Rattle.mls_filterview.specs.Stored.{AreContent}
 use Rattle.mls_sessions.specs.declared.event.Event.{Event}
 use Rattle.mls_sessions.specs.declared.reply.Reply.{Reply}
 use Rattle.mls_sessions.specs.declared.running.RunCause.{RunCause}
-use Rattle.mls_sessions.specs.declared.running.RunCause.TheVariants.{Write}
+use Rattle.mls_sessions.specs.declared.running.RunCause.TheVariants.{Store, Memory, Write}
 use Rattle.mls_sessions.specs.declared.engine.Engine.{Engine}
 use Rattle.mls_sessions.specs.Event.{EventFits}
 use Rattle.mls_sessions.specs.Machine.{World, step, end_of, replies}
-use Rattle.mls_sessions.specs.Output.{reply_text, printed}
+use Rattle.mls_sessions.specs.Output.{reply_text, printed, ReplyIsKnown}
 use Rattle.mls_sessions.specs.Engine.{world_of, IsReady, HasSameRules, IsStep, IsUnchanged}
 use Rattle.mls_sessions.specs.Run.{printed_to, world_after, IsWhole, IsStopped, IsPart, IsAnswered, IsHalted}
 use Rattle.mls_sessions.proofs.MachineLemmas.{world_more, printed_more}
+use Rattle.mls_sessions.proofs.ReplyLemmas.{step_known}
 
 -- ---- one event
 
@@ -53,6 +59,29 @@ module _ {B : Type 0} (state : B → State) (old new : Engine B) (event : Event)
     pub answered : (bytes : List ℕ) → bytes ≡ reply_text new.policy.now new.schemes.now event r → Appends a b bytes
         → IsAnswered old.policy.now old.schemes.now (world_of state old) event a b (world_of state new)
     answered bytes e p = record { bytes = subst (Appends a b) (text_of bytes e) p; world = h.world }
+
+-- over content of the stored form the reply can be printed
+module _ {B : Type 0} (state : B → State) (old new : Engine B) (event : Event) (r : Reply) where
+  pub reply_known : IsStep state old (step old.policy.now old.schemes.now (world_of state old) event) new r → HasSameRules old new
+      → AreDistinct (labels_of old.policy.now) → AreContent (labels_of old.policy.now) old.schemes.now (state old.base).now.db → ReplyIsKnown new.policy.now r
+  reply_known h rules distinct all =
+      subst (λ p. ReplyIsKnown p r) (sym rules.policy)
+      (subst (ReplyIsKnown old.policy.now) (sym h.reply) (step_known old.policy.now old.schemes.now distinct (world_of state old) all event))
+
+-- ---- the cause of the store
+
+pub not_store : (cause : RunCause) → cause ≡ Memory → cause ≡ Store → ⊥
+not_store cause h k = absurd (let e : Memory ≡ Store = sym h ∙ k in cc)
+
+-- of a fault that tells no wrong use of a base, the store's own
+pub only_store : (P : Type 0) (fault : BaseFault) (cause : RunCause) → (cause ≡ Store → (fault ≡ faults.Store) ⊎ ((fault ≡ faults.NotBegun) ⊎ (fault ≡ faults.Begun)))
+    → (fault ≡ faults.NotBegun → ⊥) × (fault ≡ faults.Begun → ⊥) → (IsErrOf {T = Reply} (Err fault) faults.Store → P) → cause ≡ Store → P
+only_store P fault cause is never store k =
+    elim (is k) [
+      | inl e ↦ store (ap (λ (x : BaseFault). Err x) e)
+      | inr (inl e) ↦ absurd (never.0 e)
+      | inr (inr e) ↦ absurd (never.1 e)
+    ]
 
 -- ---- a run up to an event
 

@@ -6,6 +6,7 @@ pub mod WritingSteps
 pub mod MachineLemmas
 pub mod LawLemmas
 pub mod KnownLemmas
+pub mod ReplyLemmas
 pub mod AnswerLemmas
 pub mod IntLemmas
 pub mod TextLemmas

@@ -1,5 +1,5 @@
 //! Runs: events answered in order, and their replies written.
-ghost use Rattle.std.specs.Prelude.{◌≡◌, ◌≢◌, ◌≤◌, ◌<◌, true, IfErr, OnOk, OnErr};
+ghost use Rattle.std.specs.Prelude.{◌≡◌, ◌≢◌, ◌≤◌, ◌<◌, ◌⊎◌, true, IfErr, OnOk, OnErr};
 ghost use Rattle.std.specs.List.{AllByRecursion};
 ghost use Rattle.mls_sessions.specs.Event.{EventFits};
 ghost use Rattle.mls_sessions.specs.Engine.{world_of, IsReady, HasSameRules};
@@ -56,6 +56,7 @@ struct Stop {
 fn cause_of(fault: BaseFault) -> RunCause
     ensures write { result ≢ RunCause.Write }
     ensures memory { result ≡ RunCause.Memory → fault ≡ BaseFault.Memory }
+    ensures store { result ≡ RunCause.Store → (fault ≡ BaseFault.Store) ⊎ ((fault ≡ BaseFault.NotBegun) ⊎ (fault ≡ BaseFault.Begun)) }
 {
     match fault {
         BaseFault::Memory => RunCause::Memory,
@@ -76,6 +77,7 @@ fn answer<B: Base, W: Write>(engine: &mut Engine<B>, event: &Event, out: &mut W)
     ensures stopped { B.is_clean engine.new.base → IfErr result (λ s. IsHalted engine.old.policy.now engine.old.schemes.now (world_of B.state engine.old) event.now
         (W.contents out.old) (W.contents out.new) (world_of B.state engine.new) s.cause s.done) }
     ensures write { IfErr result (λ s. s.cause ≡ RunCause.Write → s.done ≡ true) }
+    ensures store { B.is_clean engine.new.base → IfErr result (λ s. s.cause ≡ RunCause.Store → B.failures engine.old.base < B.failures engine.new.base) }
 {
     let reply = match engine.step(event) {
         Ok(reply) => reply,
@@ -116,6 +118,8 @@ pub fn run<B: Base, W: Write>(
     ensures err { B.is_clean engine.new.base → IfErr result (IsStopped engine.old.policy.now engine.old.schemes.now (world_of B.state engine.old) events.now
         (W.contents out.old) (W.contents out.new) (world_of B.state engine.new)) }
     ensures fault { IfErr result (IsFaultOf events.now) }
+    // Over a clean store, Store comes only where a call of it failed.
+    ensures store { B.is_clean engine.new.base → IfErr result (λ f. f.cause ≡ RunCause.Store → B.failures engine.old.base < B.failures engine.new.base) }
     // Each database on the way has the four integrity properties.
     ensures integrity { B.is_clean engine.new.base → KeepsIntegrity engine.old.policy.now engine.old.schemes.now (world_of B.state engine.old) events.now }
 {

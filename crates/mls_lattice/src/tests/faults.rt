@@ -14,17 +14,27 @@ fn document_of(alloc: Global, line: &str) -> Result<String, AllocError> {
     Ok(text)
 }
 
+/// Whether the document of a line has the fault of a number.
+fn has_fault(alloc: Global, number: &str, line: &str) -> Result<bool, AllocError> {
+    let fault = fault_of(alloc, &document_of(alloc, line)?);
+    let found = format!(in alloc; "{fault}")?;
+    Ok(found.as_str() == number)
+}
+
+/// Whether a case holds.
+fn holds(alloc: Global, case: &str) -> Result<bool, AllocError> {
+    match case.split_once(' ') {
+        Some((number, line)) => has_fault(alloc, number, line),
+        None => Ok(false),
+    }
+}
+
 /// Tries so many cases.
 fn names_each(rt: &impl Abort, alloc: Global, cases: &str, count: u64) -> Result<(), Fail> {
     let mut tried = 0u64;
-    for line in cases.lines() {
-        if let Some((want, line)) = line.split_once(' ') {
-            let document = document_of(alloc, line)?;
-            let fault = fault_of(alloc, &document);
-            let found = format!(in alloc; "{fault}")?;
-            assert_eq!(rt; found.as_str(), want, "at {line}");
-            tried = tried.saturating_add(1);
-        }
+    for case in cases.lines() {
+        assert!(rt; holds(alloc, case)?, "at {case}");
+        tried = tried.saturating_add(1);
     }
     assert_eq!(rt; tried, count);
     Ok(())

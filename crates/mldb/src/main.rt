@@ -7,6 +7,8 @@ mod refusal;
 mod samples;
 #[cfg(test)]
 mod tests;
+#[cfg(test)]
+mod update_tests;
 mod words;
 
 use std::process::ExitCode;

@@ -60,19 +60,25 @@ fn done(alloc: Global, words: &[&str], policy: &str, script: &str) -> Written {
     Written { out, err, status }
 }
 
-const RUN: [&str; 5] = ["mldb", "run", "policy", "schemes", "script"];
+pub(crate) const RUN: [&str; 5] = ["mldb", "run", "policy", "schemes", "script"];
 
 /// Runs a script under the samples.
 fn ran(alloc: Global, script: &str) -> Written {
     done(alloc, &RUN, samples::POLICY, script)
 }
 
-fn writes(alloc: Global, script: &str, text: &str) -> bool {
+pub(crate) fn writes(alloc: Global, script: &str, text: &str) -> bool {
     let done = ran(alloc, script);
     done.status == 0 && done.out.as_slice() == text.as_bytes() && done.err.is_empty()
 }
 
-fn refuses(alloc: Global, words: &[&str], policy: &str, script: &str, line: &str) -> bool {
+pub(crate) fn refuses(
+    alloc: Global,
+    words: &[&str],
+    policy: &str,
+    script: &str,
+    line: &str,
+) -> bool {
     let done = done(alloc, words, policy, script);
     done.status == 2 && done.out.is_empty() && done.err.as_slice() == line.as_bytes()
 }

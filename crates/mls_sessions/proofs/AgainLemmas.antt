@@ -1,26 +1,24 @@
 -- What the relation says is what is scanned: so a line has one reading as tokens.
-use Rattle.std.proofs.Common.{◌≡◌, ◌≢◌, ℕ, zero, suc, ◌<◌, ◌≤◌, ◌^◌, ℤ, pos, neg_ℤ, Bool, true, false, ◌&&◌, ◌||◌, ◌==◌, nat_lt, nat_le, List, [], ◌∷◌, ◌++◌, length, slice_index, take, drop, Option, Some, None, Result, Ok, Err, inl, inr, refl, sym, ap, ◌∙◌, subst, arith, one-add, append_assoc}
+use Rattle.std.proofs.Common.{◌≡◌, ◌≢◌, ℕ, zero, suc, ◌<◌, ◌≤◌, ◌^◌, ℤ, pos, neg_ℤ, Bool, true, false, ◌&&◌, ◌||◌, ◌==◌, List, [], ◌∷◌, ◌++◌, length, slice_index, drop, Option, Some, None, Result, Ok, inl, inr, refl, sym, ap, ◌∙◌, subst, arith, one-add, append_assoc}
 use Rattle.std.specs.Prelude.{FitsSigned, IsUtf8}
 use Rattle.std.specs.Int.{w64}
 use Rattle.std.specs.List.{prefix_len, AllByRecursion, flat_map, list_any}
 use Rattle.std.specs.Char.{is_ascii_alphabetic, is_ascii_digit}
-use Rattle.std.specs.Str.{all_ascii_digits, is_utf8}
+use Rattle.std.specs.Str.{all_ascii_digits}
 use Rattle.std.specs.Str.Parse.{digits_value}
 use Rattle.std.proofs.lemmas.Str.{is_utf8-from_IsUtf8}
 use Rattle.std.proofs.lemmas.Bool.{cases_Bool, and_parts, eqb-true, le-ltb, le-leb, lt-ltb, ne_eqb}
 use Rattle.std.proofs.lemmas.Bool.Decides.{nat_tests}
 use Rattle.std.proofs.lemmas.List.{take_at, drop_at, append-nil}
 use Rattle.mls_lattice.specs.Name.{is_name_byte}
-use Rattle.mls_lattice.specs.Reading.{◌>>=◌}
 use Rattle.mls_sessions.specs.declared.fault.ScriptCause.{ScriptCause}
-use Rattle.mls_sessions.specs.declared.fault.ScriptCause.TheVariants.{Token as BadToken, TooLong}
 use Rattle.mls_sessions.specs.declared.token.Token.{Token}
 use Rattle.mls_sessions.specs.declared.token.Token.TheVariants.{Word, Int, Text, Sign as Sign_token}
 use Rattle.mls_sessions.specs.declared.token.Sign.{Sign}
 use Rattle.mls_sessions.specs.declared.token.Sign.TheVariants.{LeftParen, RightParen, Comma, Equals, Minus, Other}
 use Rattle.mls_sessions.specs.Tokens.{is_blank, is_control, is_escaped, escape, quoted, others, IsWord, IsDigits, IsInt, IsText, IsSign, Spells, Ends, AreBlanks, Begins, IsOver, IsLine}
-use Rattle.mls_sessions.specs.Scanning.{Found, word_at, int_in, int_len, int_at, starts_int, text_at, utf8_of, quoted_at, sign_of, sign_at, unblank_at, token_at}
-use Rattle.mls_sessions.proofs.TokenLemmas.{AllAre, word_some, int_some, spells_some}
+use Rattle.mls_sessions.specs.Scanning.{word_at, int_in, int_len, int_at, starts_int, text_at, utf8_of, quoted_at, sign_of, unblank_at, token_at}
+use Rattle.mls_sessions.proofs.TokenLemmas.{AllAre, word_some, int_some}
 
 run_len : (p : ℕ → Bool) (xs ys : List ℕ) → AllAre p xs → p (slice_index ys 0) ≡ false → prefix_len p (xs ++ ys) ≡ length xs
 run_len p [] [] h s = refl

@@ -1,15 +1,9 @@
 -- Writes as one change: what each call leaves, and what a fault falls back to.
-use Rattle.std.proofs.Common.{◌≡◌, ℕ, Bool, true, false, cond, refl, sym, ap, ◌∙◌, subst}
-use Rattle.std.proofs.lemmas.Bool.{true≢false}
-use Rattle.mls_lattice.specs.Labels.{Labels}
-use Rattle.mls_scheme.specs.Scheme.{Scheme}
+use Rattle.std.proofs.Common.{◌≡◌, true, false, cond, refl, ap, ◌∙◌}
 use Rattle.mls_filterview.specs.declared.base.BaseFault.{BaseFault}
 use Rattle.mls_filterview.specs.declared.base.BaseFault.TheVariants.{Store, Memory, NotBegun, Begun}
-use Rattle.mls_filterview.specs.Content.{State, Content, begun_change, committed, ended, failed, after, with_relation}
-use Rattle.mls_updates.specs.declared.outcome.Outcome.{Outcome}
-use Rattle.mls_updates.specs.Writes.{Write, write}
-use Rattle.mls_updates.specs.Calls.{IsWritten}
-use Rattle.mls_sessions.specs.Engine.{IsKept, FellBack}
+use Rattle.mls_filterview.specs.Content.{State, ended, after}
+use Rattle.mls_sessions.specs.Engine.{FellBack}
 
 -- a fault of a call inside a change goes back to where the change began
 within : (s u t : State) (e : BaseFault) → u.kept ≡ s.now → u.begun ≡ true → (e ≡ NotBegun → ⊥) → (e ≡ Begun → ⊥) → t ≡ after e u → FellBack s t

@@ -1,28 +1,25 @@
 -- What each way through a step does is the machine's step, and the engine keeps what it holds.
-use Rattle.std.proofs.Common.{◌≡◌, ℕ, Bool, true, false, cond, length, List, Option, Some, None, refl, sym, ap, ◌∙◌, subst, eqb-true, Vec, Global, Result, Ok, Err, IfOk}
+use Rattle.std.proofs.Common.{◌≡◌, ℕ, Bool, true, false, cond, Option, Some, None, refl, sym, ap, ◌∙◌, subst, eqb-true, Vec, Global, Result, Ok, Err, IfOk}
 use Rattle.std.specs.Prelude.{nat_eq}
-use Rattle.mls_lattice.specs.Labels.{Labels, AreDistinct}
+use Rattle.mls_lattice.specs.Labels.{Labels}
 use Rattle.mls_lattice.specs.Policy.{Name, Tables, labels_of}
-use Rattle.mls_scheme.specs.declared.value.Value.{Value}
-use Rattle.mls_scheme.specs.declared.tuple.Tuple.{Tuple}
 use Rattle.mls_scheme.specs.Table.{Table, Database}
 use Rattle.mls_scheme.specs.Scheme.{Schemes, scheme_of}
 use Rattle.mls_filterview.specs.declared.base.BaseFault.{BaseFault}
 use Rattle.mls_filterview.specs.Content.{State, with_table}
 use Rattle.mls_filterview.specs.Stored.{IsContent, AreContent}
-use Rattle.mls_filterview.specs.View.{rows}
 use Rattle.mls_updates.specs.declared.outcome.Outcome.{Outcome}
-use Rattle.mls_updates.specs.Writes.{Write, Insert, write}
+use Rattle.mls_updates.specs.Writes.{Write}
 use Rattle.mls_sessions.specs.declared.event.Event.{Event}
 use Rattle.mls_sessions.specs.declared.event.Command.{Command}
 use Rattle.mls_sessions.specs.declared.event.Command.TheVariants as commands
 use Rattle.mls_sessions.specs.declared.reply.Denial.{Denial}
-use Rattle.mls_sessions.specs.declared.reply.Denial.TheVariants.{NoSession, AlreadyOpen}
+use Rattle.mls_sessions.specs.declared.reply.Denial.TheVariants.{NoSession}
 use Rattle.mls_sessions.specs.declared.reply.Reply.{Reply}
-use Rattle.mls_sessions.specs.declared.reply.Reply.TheVariants.{Rows, Wrote, Denied}
+use Rattle.mls_sessions.specs.declared.reply.Reply.TheVariants.{Denied}
 use Rattle.mls_sessions.specs.declared.session.Session.{Session}
 use Rattle.mls_sessions.specs.declared.engine.Engine.{Engine}
-use Rattle.mls_sessions.specs.Machine.{World, Step, denial_in, wrote, effect_in, step_in, opened, step_outside, step_at, user_named, step}
+use Rattle.mls_sessions.specs.Machine.{World, Step, denial_in, effect_in, step_in, opened, step_outside, step_at, user_named, step}
 use Rattle.mls_sessions.specs.Engine.{world_of, sessions_of, IsReady, IsStep, IsOpening, IsKept, FellBack}
 
 -- ---- the machine's step, by session and command

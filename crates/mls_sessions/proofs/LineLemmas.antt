@@ -1,5 +1,5 @@
 -- A line token by token.
-use Rattle.std.proofs.Common.{◌≡◌, ◌≢◌, ℕ, List, [], ◌∷◌, ◌++◌, map, refl, sym, append_assoc}
+use Rattle.std.proofs.Common.{ℕ, List, [], ◌∷◌, ◌++◌, append_assoc}
 use Rattle.std.proofs.lemmas.List.{append-nil, map-append}
 use Rattle.mls_sessions.specs.declared.token.Token.{Token}
 use Rattle.mls_sessions.specs.declared.token.Placed.{Placed}

@@ -1,12 +1,11 @@
 -- Runs of the machine: one event more, and what they keep.
-use Rattle.std.proofs.Common.{◌≡◌, ℕ, zero, suc, ◌+◌, ◌<◌, Bool, true, false, cond, List, [], ◌∷◌, ◌++◌, length, take, get_or, Option, Some, None, refl, sym, ap, ◌∙◌, subst, arith, append_assoc, append-nil, eq-eqb}
+use Rattle.std.proofs.Common.{◌≡◌, ℕ, zero, suc, ◌+◌, ◌<◌, List, [], ◌∷◌, ◌++◌, length, take, get_or, Option, Some, None, refl, sym, ap, ◌∙◌, subst, append_assoc, append-nil, eq-eqb}
 use Rattle.std.specs.Prelude.{nat_eq}
 use Rattle.std.specs.List.{AllByRecursion, AllZip}
 use Rattle.std.proofs.lemmas.List.{take_more, length-map}
 use Rattle.std.proofs.lemmas.Bool.{cond-true}
 use Rattle.mls_lattice.specs.Labels.{AreDistinct}
 use Rattle.mls_lattice.specs.Policy.{Tables, labels_of}
-use Rattle.mls_scheme.specs.declared.value.Value.{Value}
 use Rattle.mls_scheme.specs.Scheme.{Schemes, scheme_of}
 use Rattle.mls_filterview.specs.Content.{with_table}
 use Rattle.mls_filterview.specs.Stored.{IsContent, AreContent}
@@ -17,7 +16,6 @@ use Rattle.mls_sessions.specs.declared.event.Event.{Event}
 use Rattle.mls_sessions.specs.declared.event.Command.{Command}
 use Rattle.mls_sessions.specs.declared.event.Command.TheVariants as commands
 use Rattle.mls_sessions.specs.declared.reply.Denial.{Denial}
-use Rattle.mls_sessions.specs.declared.reply.Reply.{Reply}
 use Rattle.mls_sessions.specs.Machine.{World, step, end_of, replies, denial_in, effect_in, step_in, opened, step_outside, step_at, user_named}
 use Rattle.mls_sessions.specs.Event.{CommandFits, EventFits}
 use Rattle.mls_sessions.specs.Output.{reply_text, printed}

@@ -1,6 +1,6 @@
 -- A text tells the events of one list at most.
-use Rattle.std.proofs.Common.{◌≡◌, ◌≢◌, ℕ, zero, suc, ◌<◌, false, true≢false, List, [], ◌∷◌, ◌++◌, length, Option, Some, None, refl, sym, ap, ◌∙◌, subst, arith, append_assoc, length-append}
-use Rattle.std.specs.Prelude.{codes, map}
+use Rattle.std.proofs.Common.{◌≡◌, ◌≢◌, ℕ, ◌<◌, false, true≢false, List, [], ◌∷◌, ◌++◌, length, Option, Some, None, refl, sym, ap, ◌∙◌, subst, arith, append_assoc, length-append}
+use Rattle.std.specs.Prelude.{codes}
 use Rattle.std.specs.List.{AllByRecursion, flat_map, filter_map}
 use Rattle.std.specs.Str.{bytes_eq}
 use Rattle.std.proofs.lemmas.Slice.Eq.{bytes_eq-Decides}
@@ -13,10 +13,9 @@ use Rattle.mls_sessions.specs.declared.event.Event.{Event}
 use Rattle.mls_sessions.specs.declared.event.Command.{Command}
 use Rattle.mls_sessions.specs.declared.event.Command.TheVariants.{Open, View, Insert, Update, Delete}
 use Rattle.mls_sessions.specs.declared.token.Token.{Token}
-use Rattle.mls_sessions.specs.declared.token.Token.TheVariants.{Word, Int, Text, Sign}
-use Rattle.mls_sessions.specs.declared.token.Sign.TheVariants.{LeftParen, RightParen, Comma, Equals}
-use Rattle.mls_sessions.specs.Tokens.{IsLine}
-use Rattle.mls_sessions.specs.Event.{label_name, relation_name, value_token, with_commas, list_tokens, NamedSet, named_sets, set_tokens, sets_tokens, command_tokens, event_tokens, CommandFits, EventFits}
+use Rattle.mls_sessions.specs.declared.token.Token.TheVariants.{Word, Sign}
+use Rattle.mls_sessions.specs.declared.token.Sign.TheVariants.{RightParen, Comma}
+use Rattle.mls_sessions.specs.Event.{value_token, with_commas, NamedSet, named_sets, set_tokens, sets_tokens, command_tokens, event_tokens, CommandFits, EventFits}
 use Rattle.mls_sessions.specs.Script.{Line, Tells, IsLineOf, ReadsScript, AreNamedApart}
 use Rattle.mls_sessions.proofs.AgainLemmas.{line_once}
 

@@ -1,7 +1,7 @@
 -- The name of a label by its value, label by label.
 use Rattle.std.proofs.Common.{◌≡◌, ◌+◌, ℕ, ◌<◌, true, false, List, [], ◌∷◌, length, drop, get_or, refl, sym, ap, ◌∙◌, add-one, drop-cons, Some, None, ◌++◌, take, codes}
 use Rattle.std.specs.List.{flat_map}
-use Rattle.std.specs.Prelude.{map, slice_index_or, slice_get, option_map}
+use Rattle.std.specs.Prelude.{map, slice_get, option_map}
 use Rattle.std.proofs.lemmas.List.{get_or-map}
 use Rattle.std.proofs.lemmas.Option.{slice_get-get_or}
 use Rattle.mls_lattice.specs.Lattice.{Pair, same_pair, bottom}

@@ -1,17 +1,15 @@
 -- Sessions: a list with one more, and what its opening is answered.
-use Rattle.std.proofs.Common.{◌≡◌, ℕ, Bool, true, false, cond, ◌&&◌, List, [], ◌∷◌, ◌++◌, Option, Some, None, refl, sym, ap, ◌∙◌, true≢false, eqb-true}
-use Rattle.std.specs.Prelude.{nat_eq, is_some}
-use Rattle.std.specs.Str.{bytes_eq}
+use Rattle.std.proofs.Common.{◌≡◌, ℕ, Bool, true, false, cond, List, [], ◌∷◌, ◌++◌, Option, Some, None, refl, sym, ap, ◌∙◌, true≢false, eqb-true}
+use Rattle.std.specs.Prelude.{is_some}
 use Rattle.std.proofs.lemmas.Bool.{and_parts}
 use Rattle.std.proofs.lemmas.Slice.Eq.{bytes_eq-Decides}
 use Rattle.mls_lattice.specs.Policy.{Name, Tables}
-use Rattle.mls_scheme.specs.Table.{Database}
 use Rattle.mls_scheme.specs.Scheme.{Schemes}
 use Rattle.mls_sessions.specs.declared.event.Event.{Event}
 use Rattle.mls_sessions.specs.declared.reply.Denial.TheVariants.{UnknownUser}
 use Rattle.mls_sessions.specs.declared.reply.Reply.TheVariants.{Opened, Denied}
 use Rattle.mls_sessions.specs.declared.session.Session.{Session}
-use Rattle.mls_sessions.specs.Machine.{Sessions, World, with_session, opened, user_named}
+use Rattle.mls_sessions.specs.Machine.{with_session, opened, user_named}
 use Rattle.mls_sessions.specs.Engine.{is_named, sessions_of, IsOpening}
 
 -- ---- one more session

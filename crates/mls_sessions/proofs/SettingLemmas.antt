@@ -1,5 +1,5 @@
 -- The new values of an update in the second pass, value by value.
-use Rattle.std.proofs.Common.{◌≡◌, ℕ, ◌<◌, ◌≤◌, ◌+◌, Bool, true, false, List, [], ◌∷◌, ◌++◌, length, map, take, drop, get_or, Option, Some, refl, sym, ap, ◌∙◌, subst, arith}
+use Rattle.std.proofs.Common.{◌≡◌, ℕ, ◌<◌, ◌≤◌, ◌+◌, true, false, List, [], ◌∷◌, ◌++◌, length, map, take, get_or, Option, Some, refl, sym, ap, ◌∙◌, subst, arith}
 use Rattle.std.specs.Prelude.{nat_eq, option_map}
 use Rattle.std.specs.Cmp.{nat_eq_equiv}
 use Rattle.std.specs.List.{position, slice_get, list_any, AllByRecursion, IsDistinct}
@@ -13,7 +13,7 @@ use Rattle.mls_lattice.specs.Policy.{Name}
 use Rattle.mls_scheme.specs.declared.value.Value.{Value}
 use Rattle.mls_scheme.specs.declared.attributes.Column.{Column}
 use Rattle.mls_scheme.specs.Value.{fits_kind}
-use Rattle.mls_scheme.specs.Scheme.{Attribute, Scheme, no_attribute, other_of, column_of}
+use Rattle.mls_scheme.specs.Scheme.{Scheme, no_attribute, other_of, column_of}
 use Rattle.mls_updates.specs.Writes.{Sets}
 use Rattle.mls_sessions.specs.declared.phrase.Setting.{Setting}
 use Rattle.mls_sessions.specs.Event.{NamedSet, named_sets, SetsFit}

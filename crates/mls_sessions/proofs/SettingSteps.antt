@@ -1,11 +1,11 @@
 -- The new values of an update in the first pass, value by value.
-use Rattle.std.proofs.Common.{◌≡◌, ℕ, ◌<◌, List, [], ◌∷◌, ◌++◌, length, map, ap, ◌∙◌, sym, subst, arith, length-append}
+use Rattle.std.proofs.Common.{◌≡◌, ◌<◌, List, [], ◌∷◌, ◌++◌, length, map, ap, ◌∙◌, sym, subst, arith, length-append}
 use Rattle.std.proofs.lemmas.List.{map-append}
 use Rattle.mls_sessions.specs.declared.token.Token.{Token}
 use Rattle.mls_sessions.specs.declared.token.Token.TheVariants.{Sign}
 use Rattle.mls_sessions.specs.declared.token.Sign.TheVariants.{Comma}
 use Rattle.mls_sessions.specs.declared.phrase.Setting.{Setting}
-use Rattle.mls_sessions.specs.Event.{NamedSet, set_tokens, sets_tokens}
+use Rattle.mls_sessions.specs.Event.{set_tokens, sets_tokens}
 use Rattle.mls_sessions.specs.Phrase.{named}
 use Rattle.mls_sessions.proofs.ItemSteps.{ItemsBefore, items_none, items_more, items_end}
 

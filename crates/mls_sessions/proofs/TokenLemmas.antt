@@ -1,5 +1,5 @@
 -- What is scanned is what the relation says.
-use Rattle.std.proofs.Common.{◌≡◌, ◌≢◌, ℕ, zero, suc, ◌<◌, ◌≤◌, ◌^◌, Bor, ℤ, pos, neg_ℤ, Bool, true, false, ◌&&◌, ◌||◌, ◌==◌, nat_lt, nat_le, cond, List, [], ◌∷◌, ◌++◌, length, slice_index, take, drop, Option, Some, None, Result, Ok, Err, ◌⊎◌, inl, inr, refl, sym, ap, ◌∙◌, subst, arith, one-add, append_assoc}
+use Rattle.std.proofs.Common.{◌≡◌, ◌≢◌, ℕ, zero, suc, ◌<◌, ◌≤◌, ◌^◌, Bor, ℤ, pos, neg_ℤ, Bool, true, false, ◌==◌, nat_lt, nat_le, cond, List, [], ◌∷◌, ◌++◌, length, slice_index, take, drop, Option, Some, None, Result, Ok, Err, ◌⊎◌, inl, inr, refl, sym, ap, ◌∙◌, subst, arith, one-add, append_assoc}
 use Rattle.std.specs.Prelude.{FitsSigned, IfOk, IfSome, IsNone, option_map, IsUtf8}
 use Rattle.std.specs.Int.{w64}
 use Rattle.std.specs.List.{prefix_len, AllByRecursion, flat_map, list_any}
@@ -13,12 +13,12 @@ use Rattle.std.proofs.lemmas.List.{take-append-drop, length-append, length-take,
 use Rattle.mls_lattice.specs.Name.{is_name_byte}
 use Rattle.mls_lattice.specs.Reading.{◌>>=◌}
 use Rattle.mls_sessions.specs.declared.fault.ScriptCause.{ScriptCause}
-use Rattle.mls_sessions.specs.declared.fault.ScriptCause.TheVariants.{Token as BadToken, TooLong, Memory}
+use Rattle.mls_sessions.specs.declared.fault.ScriptCause.TheVariants.{Token as BadToken, TooLong}
 use Rattle.mls_sessions.specs.declared.token.Token.{Token}
 use Rattle.mls_sessions.specs.declared.token.Token.TheVariants.{Word, Int, Text, Sign as Sign_token}
 use Rattle.mls_sessions.specs.declared.token.Sign.{Sign}
 use Rattle.mls_sessions.specs.declared.token.Sign.TheVariants.{LeftParen, RightParen, Comma, Equals, Minus, Other}
-use Rattle.mls_sessions.specs.Tokens.{is_blank, is_control, is_escaped, escape, quoted, others, IsWord, IsDigits, IsInt, IsText, IsSign, SignEnds, Spells, Ends, AreBlanks, Begins, IsOver}
+use Rattle.mls_sessions.specs.Tokens.{is_blank, is_control, is_escaped, escape, quoted, others, IsWord, IsInt, IsSign, SignEnds, Spells, Ends, Begins, IsOver}
 use Rattle.mls_sessions.specs.Scanning.{Gives, Found, found, IsIntText, word_at, int_in, int_len, int_at, starts_int, text_at, utf8_of, quoted_at, sign_of, sign_at, unblank_at, token_at}
 use Rattle.mls_sessions.proofs.IntLemmas.{int_text}
 

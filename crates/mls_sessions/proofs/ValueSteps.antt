@@ -1,5 +1,5 @@
 -- A list of values, value by value.
-use Rattle.std.proofs.Common.{◌≡◌, ℕ, ◌<◌, List, [], ◌∷◌, ◌++◌, length, Option, ap, ◌∙◌, arith}
+use Rattle.std.proofs.Common.{◌≡◌, ◌<◌, List, [], ◌∷◌, ◌++◌, length, Option, ap, ◌∙◌, arith}
 use Rattle.mls_scheme.specs.declared.value.Value.{Value}
 use Rattle.mls_sessions.specs.declared.token.Token.{Token}
 use Rattle.mls_sessions.specs.declared.token.Token.TheVariants.{Sign}

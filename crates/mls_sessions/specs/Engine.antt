@@ -1,5 +1,5 @@
 -- The world that an engine holds, and what an engine keeps to.
-use Rattle.std.specs.Prelude.{◌≡◌, ℕ, false, Bool, ◌&&◌, if◌then◌else◌, nat_eq, nat_lt, ◌<◌, ⊤, List, [], ◌∷◌, length, Option, Some, None}
+use Rattle.std.specs.Prelude.{◌≡◌, ℕ, false, Bool, ◌&&◌, if◌then◌else◌, nat_eq, nat_lt, ◌<◌, ⊤, List, [], ◌∷◌, length, Some, None}
 use Rattle.std.specs.List.{list_all}
 use Rattle.std.specs.Str.{bytes_eq}
 use Rattle.mls_lattice.specs.Labels.{Labels, AreDistinct}

@@ -42,6 +42,7 @@ user_named policy name = position (λ u. bytes_eq u.name name) policy.users
 module _ (policy : Tables) (schemes : Schemes) where
   -- ---- where the session is open
 
+  -- an update or a delete names no label that the session's level does not dominate
   abbrev pub denial_in : ℕ → Command → Option Denial
   denial_in level (commands.Open name) = Some AlreadyOpen
   denial_in level (commands.View rel label) = None

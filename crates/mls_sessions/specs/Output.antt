@@ -7,7 +7,6 @@ use Rattle.mls_lattice.specs.Policy.{Name, Named, Tables, labels_of}
 use Rattle.mls_lattice.specs.Canon.{label_name, user_name}
 use Rattle.mls_scheme.specs.declared.value.Value.{Value}
 use Rattle.mls_scheme.specs.declared.value.Value.TheVariants as values
-use Rattle.mls_scheme.specs.declared.tuple.Element.{Element}
 use Rattle.mls_scheme.specs.declared.tuple.Tuple.{Tuple}
 use Rattle.mls_scheme.specs.Tuple.{tuple_class, HasClassesBelow}
 use Rattle.mls_scheme.specs.Scheme.{Scheme, Schemes, scheme_of}

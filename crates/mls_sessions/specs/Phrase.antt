@@ -1,5 +1,5 @@
 -- The tokens of what the first pass gives: a line whose names are not yet looked up.
-use Rattle.std.specs.Prelude.{◌≡◌, true, ℕ, ◌<◌, List, [], ◌∷◌, map, length, Option, Some, None}
+use Rattle.std.specs.Prelude.{◌≡◌, true, ◌<◌, List, [], ◌∷◌, map, length, Option, Some, None}
 use Rattle.mls_lattice.specs.Name.{is_name}
 use Rattle.mls_sessions.specs.declared.phrase.Phrase.{Phrase}
 use Rattle.mls_sessions.specs.declared.phrase.Phrase.TheVariants.{Open, View, Insert, Update, Delete}

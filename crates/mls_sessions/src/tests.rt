@@ -340,7 +340,7 @@ fn tells_faults_of_updates_and_deletes(rt: HostRuntime) -> Result<(), Fail> {
             76,
         ),
         ("U a delete CREW key (\"x\") class X\n", 24, 22),
-        ("U a delete CREW key (1, 2) class X\n", 24, 25),
+        ("U a delete CREW key (1, 2) class X\n", 24, 26),
         (
             "U a update SOD key (\"E\") class U from U set Objective = \"x\", Objective = 5\n",
             25,

@@ -1,4 +1,4 @@
-use Rattle.std.proofs.Common.{ℕ, length}
+use Rattle.std.proofs.Common.{length}
 use Rattle.mls_sessions.proofs.WritingSteps.{Written}
 use Rattle.mls_sessions.proofs.writing.write_whole.Given as goal
 

@@ -1,6 +1,5 @@
 use Rattle.std.proofs.Common.{rules, ◌≡◌, [], ◌∷◌, ◌++◌, List, Option, subst, sym}
 use Rattle.mls_scheme.specs.declared.value.Value.{Value}
-use Rattle.mls_sessions.specs.declared.token.Token.{Token}
 use Rattle.mls_sessions.specs.declared.token.Token.TheVariants.{Sign}
 use Rattle.mls_sessions.specs.declared.token.Sign.TheVariants.{RightParen}
 use Rattle.mls_sessions.specs.Event.{value_token, with_commas}

@@ -182,15 +182,33 @@ fn scripts_are_refused(rt: HostRuntime) {
 fn each_fault_of_a_script_is_told(rt: HostRuntime) {
     let alloc = rt.alloc();
     let cases = [
-        ("U a open ann\nU a open ~\n", "mldb: script: 21 Token at 2:10\n"),
+        (
+            "U a open ann\nU a open ~\n",
+            "mldb: script: 21 Token at 2:10\n",
+        ),
         ("# c\n\nU a foo\n", "mldb: script: 22 Expected at 3:5\n"),
-        ("U a open ann\nU a view SOD at X\n", "mldb: script: 23 UnknownName at 2:17\n"),
-        ("U a insert CREW key (\"x\") values (null)\n", "mldb: script: 24 Kind at 1:22\n"),
-        ("U a insert CREW key (1) values ()\n", "mldb: script: 24 Kind at 1:33\n"),
-        ("U a open ann\nU a open bob # c", "mldb: script: 30 Unterminated at 2:17\n"),
+        (
+            "U a open ann\nU a view SOD at X\n",
+            "mldb: script: 23 UnknownName at 2:17\n",
+        ),
+        (
+            "U a insert CREW key (\"x\") values (null)\n",
+            "mldb: script: 24 Kind at 1:22\n",
+        ),
+        (
+            "U a insert CREW key (1) values ()\n",
+            "mldb: script: 24 Kind at 1:33\n",
+        ),
+        (
+            "U a open ann\nU a open bob # c",
+            "mldb: script: 30 Unterminated at 2:17\n",
+        ),
     ];
     for (script, line) in cases {
-        assert!(rt; refuses(alloc, &RUN, samples::POLICY, script, line), "at {script}");
+        assert!(rt;
+            refuses(alloc, &RUN, samples::POLICY, script, line),
+            "at {script}"
+        );
     }
 }
 
@@ -233,9 +251,18 @@ fn files_of_many_bytes(rt: HostRuntime) {
     assert_eq!(rt; done.status, 0);
     assert!(rt; done.out.is_empty() && done.err.is_empty());
     for (words, line) in [
-        (["mldb", "run", "long", "schemes", "script"], "mldb: policy: too long\n"),
-        (["mldb", "run", "policy", "long", "script"], "mldb: schemes: too long\n"),
-        (["mldb", "run", "policy", "schemes", "long"], "mldb: script: too long\n"),
+        (
+            ["mldb", "run", "long", "schemes", "script"],
+            "mldb: policy: too long\n",
+        ),
+        (
+            ["mldb", "run", "policy", "long", "script"],
+            "mldb: schemes: too long\n",
+        ),
+        (
+            ["mldb", "run", "policy", "schemes", "long"],
+            "mldb: script: too long\n",
+        ),
     ] {
         assert!(rt; refuses(alloc, &words, samples::POLICY, "", line));
     }

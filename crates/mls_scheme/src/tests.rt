@@ -211,21 +211,38 @@ fn classed(alloc: Global, key_class: u8, first: u8, second: u8) -> Result<Tuple,
     })
 }
 
+/// The rank and the categories of the class of such a tuple.
+fn joined(
+    rt: &impl Abort,
+    alloc: Global,
+    policy: &Policy,
+    classes: (u8, u8, u8),
+) -> Result<(u8, u32), AllocError> {
+    let (key_class, first, second) = classes;
+    assert_eq!(rt; policy.label_count(), 4);
+    assert!(rt; key_class < 4);
+    assert!(rt; first < 4);
+    assert!(rt; second < 4);
+    let tuple = classed(alloc, key_class, first, second)?;
+    let class = tuple_class(policy, &tuple);
+    Ok((class.rank, class.cats))
+}
+
 #[test]
 fn joins_the_classes_of_a_tuple(rt: HostRuntime) -> Result<(), Fail> {
     let policy = sample_policy(&rt)?;
-    assert_eq!(rt; policy.label_count(), 4);
-    let u = policy.value(LabelNo::new(0));
-    let m = policy.value(LabelNo::new(1));
-    let s = policy.value(LabelNo::new(2));
-    let h = policy.value(LabelNo::new(3));
-    assert!(rt; tuple_class(&policy, &classed(rt.alloc(), 0, 0, 0)?) == u);
-    assert!(rt; tuple_class(&policy, &classed(rt.alloc(), 2, 0, 0)?) == s);
-    assert!(rt; tuple_class(&policy, &classed(rt.alloc(), 0, 1, 0)?) == m);
-    assert!(rt; tuple_class(&policy, &classed(rt.alloc(), 0, 0, 3)?) == h);
     // M and S are incomparable, and H is their join.
-    assert!(rt; tuple_class(&policy, &classed(rt.alloc(), 0, 1, 2)?) == h);
-    assert!(rt; tuple_class(&policy, &classed(rt.alloc(), 1, 2, 0)?) == h);
+    let cases = [
+        ((0, 0, 0), (0, 0)),
+        ((2, 0, 0), (2, 0)),
+        ((0, 1, 0), (1, 1)),
+        ((0, 0, 3), (2, 1)),
+        ((0, 1, 2), (2, 1)),
+        ((1, 2, 0), (2, 1)),
+    ];
+    for (classes, want) in cases {
+        assert_eq!(rt; joined(&rt, rt.alloc(), &policy, classes)?, want);
+    }
     Ok(())
 }
 

@@ -11,13 +11,34 @@ mod tests;
 mod update_tests;
 mod words;
 
+use crate::refusal::Refusal;
+use std::io::ErrorKind;
 use std::process::ExitCode;
 
-fn main(rt: HostRuntime) -> anyhow::Result<ExitCode> {
-    let alloc = rt.alloc();
-    let words: Vec<String> = std::env::args(&rt)?.collect(alloc)?;
-    let words: Vec<&str> = words.iter().map(|word| word.as_str()).collect(alloc)?;
-    let mut host = host::Machine::new(&rt);
-    let status = act::act(alloc, &words, &mut host, &mut rt.stdout(), &mut rt.stderr());
-    Ok(ExitCode::from(status))
+/// The words of the command line.
+fn words_of(rt: &HostRuntime) -> Result<Vec<String>, Refusal> {
+    match std::env::args(rt) {
+        Ok(words) => Ok(words.collect(rt.alloc())?),
+        Err(e) if e.kind() == ErrorKind::OutOfMemory => Err(Refusal::Memory),
+        Err(_) => Err(Refusal::Usage(String::from_str(rt.alloc(), "mldb: a word is not UTF-8\n")?)),
+    }
+}
+
+fn run(rt: &HostRuntime) -> Result<u8, Refusal> {
+    let words = words_of(rt)?;
+    let words: Vec<&str> = words.iter().map(|word| word.as_str()).collect(rt.alloc())?;
+    let mut host = host::Machine::new(rt);
+    let (mut out, mut err) = (rt.stdout(), rt.stderr());
+    Ok(act::act(rt.alloc(), &words, &mut host, &mut out, &mut err))
+}
+
+fn main(rt: HostRuntime) -> ExitCode {
+    match run(&rt) {
+        Ok(status) => ExitCode::from(status),
+        Err(refusal) => {
+            // A failure of standard error changes nothing.
+            let _ = refusal.tell(&mut rt.stderr());
+            ExitCode::from(refusal.status())
+        }
+    }
 }

@@ -241,6 +241,12 @@ fn files_are_refused(rt: HostRuntime) {
             "mldb: schemes: 2 MissingField\n"
         )
     );
+    let no_file = ["mldb", "run", "policy", "nowhere", "script"];
+    let line = "mldb: schemes: unreadable\n";
+    assert!(rt; refuses(alloc, &no_file, samples::POLICY, "", line));
+    let no_script = ["mldb", "run", "policy", "schemes", "nowhere"];
+    let line = "mldb: script: unreadable\n";
+    assert!(rt; refuses(alloc, &no_script, samples::POLICY, "", line));
 }
 
 #[test]
@@ -268,11 +274,41 @@ fn files_of_many_bytes(rt: HostRuntime) {
     }
 }
 
+/// What a command line that runs nothing prints on standard error.
+fn usage(alloc: Global, words: &[&str]) -> Option<String> {
+    let done = done(alloc, words, samples::POLICY, "U a open ann\n");
+    if done.status != 2 || !done.out.is_empty() {
+        return None;
+    }
+    String::from_utf8(done.err).ok()
+}
+
 #[test]
 fn words_are_refused(rt: HostRuntime) {
-    let done = done(rt.alloc(), &["mldb", "walk"], "", "");
-    assert_eq!(rt; done.status, 2);
-    assert!(rt; done.out.is_empty() && !done.err.is_empty());
+    let alloc = rt.alloc();
+    for words in [
+        ["mldb", "walk"].as_slice(),
+        ["mldb", "run", "policy"].as_slice(),
+        ["mldb", "run", "policy", "schemes", "script", "more"].as_slice(),
+    ] {
+        let text = usage(alloc, words);
+        assert!(rt; text.is_some_and(|text| !text.is_empty()));
+    }
+}
+
+#[test]
+fn calls_for_help_are_answered(rt: HostRuntime) {
+    let alloc = rt.alloc();
+    let example = "mldb run samples/policy.toml samples/schemes.toml samples/first.script";
+    for words in [
+        ["mldb", "--help"].as_slice(),
+        ["mldb", "run", "--help"].as_slice(),
+    ] {
+        let text = usage(alloc, words);
+        assert!(rt; text.is_some_and(|text| text.contains("run")));
+    }
+    let text = usage(alloc, &["mldb", "--help"]);
+    assert!(rt; text.is_some_and(|text| text.contains(example)));
 }
 
 /// A writer that takes nothing.

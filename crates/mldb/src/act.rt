@@ -86,7 +86,7 @@ fn answer<H: Host, W: Write>(
     }
 }
 
-/// Does what the words ask for, and answers the exit status: 0 all well, 2 an input was refused, 3 store, writing or
+/// Does what the words ask for, and answers the exit status: 0 all well, 2 an input or the command line was refused, 3 store, writing or
 /// memory. Files are read in the order policy, schemes, script, and nothing runs before all were accepted.
 pub fn act<H: Host, W: Write, E: Write>(
     alloc: Global,

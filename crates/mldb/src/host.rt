@@ -31,6 +31,7 @@ pub struct Machine<'a, R: Files + Input> {
 }
 
 impl<'a, R: Files + Input> Machine<'a, R> {
+    /// The files and the standard input of a runtime.
     pub fn new(rt: &'a R) -> Machine<'a, R> {
         Machine { rt }
     }

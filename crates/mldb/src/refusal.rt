@@ -54,7 +54,7 @@ impl Refusal {
         }
     }
 
-    /// The exit status: 2 where an input was refused, 3 for store, writing and memory.
+    /// The exit status: 2 where an input or the command line was refused, 3 for store, writing and memory.
     pub fn status(&self) -> u8 {
         match self {
             Refusal::Policy(PolicyFault::Memory)

@@ -44,7 +44,7 @@ impl<T: Drop> From<AllocFailed<T>> for BaseFault {
     }
 }
 
-/// Where tuples and audit entries are kept.
+/// Where tuples are kept.
 ///
 /// Contracts see the content now, that of the last commit, and whether a change is begun; how many calls of the store
 /// have failed; and whether the store gives back what was written to it. A store can be found unclean at any call and
@@ -62,7 +62,7 @@ pub trait Base {
     fn is_begun(&self) -> bool
         ensures { result ≡ (state self.now).begun };
 
-    /// Begins a change.
+    /// Begins a change. `Begun` where one is begun.
     fn begin(&mut self) -> Result<(), BaseFault>
         ensures clean { is_clean self.new → is_clean self.old }
         ensures count { failures self.old ≤ failures self.new }
@@ -72,7 +72,7 @@ pub trait Base {
         ensures done { is_clean self.new → OnOk result (state self.new ≡ begun_change (state self.old)) }
         ensures failed { is_clean self.new → IfErr result (λ e. state self.new ≡ after e (state self.old)) };
 
-    /// Keeps what the change did, and ends it.
+    /// Keeps what the change did, and ends it. `NotBegun` where none is begun.
     fn commit(&mut self) -> Result<(), BaseFault>
         ensures clean { is_clean self.new → is_clean self.old }
         ensures count { failures self.old ≤ failures self.new }
@@ -82,7 +82,7 @@ pub trait Base {
         ensures done { is_clean self.new → OnOk result (state self.new ≡ committed (state self.old)) }
         ensures failed { is_clean self.new → IfErr result (λ e. state self.new ≡ after e (state self.old)) };
 
-    /// Goes back to the last commit, and ends the change.
+    /// Goes back to the last commit, and ends the change. `NotBegun` where none is begun.
     fn rollback(&mut self) -> Result<(), BaseFault>
         ensures clean { is_clean self.new → is_clean self.old }
         ensures count { failures self.old ≤ failures self.new }
@@ -103,7 +103,7 @@ pub trait Base {
         ensures same { is_clean self.new → OnOk result (state self.new ≡ state self.old) }
         ensures failed { is_clean self.new → IfErr result (λ e. state self.new ≡ after e (state self.old)) };
 
-    /// Adds a tuple: its node, and the cells of its class in the order of attributes.
+    /// Adds a tuple: its node, and the cells of its class in the order of attributes. `NotBegun` where no change is begun.
     fn add(&mut self, rel: RelNo, node: Node, cells: &[Cell]) -> Result<(), BaseFault>
         requires absent { is_clean self.old → get ((state self.old).now.db rel) (place_of_node node) ≡ None }
         requires made { is_clean self.old → (es : List SpecElement) × IsMadeOf ((state self.old).now.db rel) node cells.now es }
@@ -118,6 +118,7 @@ pub trait Base {
         ensures failed { is_clean self.new → IfErr result (λ e. state self.new ≡ after e (state self.old)) };
 
     /// Sets the value of a cell, in every tuple of the entity that has it. `place` names the entity and the cell's class.
+    /// `NotBegun` where no change is begun.
     fn set(
         &mut self,
         rel: RelNo,
@@ -137,6 +138,7 @@ pub trait Base {
         ensures failed { is_clean self.new → IfErr result (λ e. state self.new ≡ after e (state self.old)) };
 
     /// Removes the tuple at a place and its cells; what that does is said where no other tuple has one of these cells.
+    /// `NotBegun` where no change is begun.
     fn drop_at(&mut self, rel: RelNo, place: &Place) -> Result<(), BaseFault>
         requires { is_clean self.old → get ((state self.old).now.db rel) place.now ≢ None }
         ensures clean { is_clean self.new → is_clean self.old }

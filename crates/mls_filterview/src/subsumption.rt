@@ -26,8 +26,8 @@ pub(crate) fn says_all(left: &Tuple, right: &Tuple) -> bool
     all_cover(&left.elements, &right.elements)
 }
 
-#[tactic(auto, using(crate::proofs::SubsumptionSteps::uneven))]
 /// Whether each element of the first list is that of the second one, or has a value where that has none.
+#[tactic(auto, using(crate::proofs::SubsumptionSteps::uneven))]
 pub(crate) fn all_cover(left: &[Element], right: &[Element]) -> bool
     ensures { result ≡ all_cover left.now right.now }
 {

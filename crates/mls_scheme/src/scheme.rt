@@ -124,6 +124,9 @@ impl Schemes {
     }
 
     /// Reads the schemes of a TOML document, whose labels are those of a policy.
+    ///
+    /// `NotToml` where the bytes are no document or not UTF-8, else the first fault in the order of the fields. `Memory` may
+    /// stand in place of any answer.
     pub fn read(alloc: Global, policy: &Policy, bytes: &[u8]) -> Result<Schemes, SchemeFault>
         // What is read is what the bytes say.
         ensures found { IfOk result (ReadsSchemes policy.now bytes.now) }

@@ -1,4 +1,4 @@
-//! The lines of replies.
+//! Names and values, as replies print them.
 ghost use Rattle.std.specs.Prelude.{◌≡◌, ◌<◌, ◌++◌, length, OnOk, IfOk, Some, map};
 ghost use Rattle.std.specs.Fmt.{signed_decimal};
 ghost use Rattle.std.specs.List.{flat_map, AllByRecursion};

@@ -47,7 +47,7 @@ fn line_event(
 }
 
 /// The events of a script, in order. The first line that has a fault refuses the whole: on it 21 Token, 22 Expected, 27
-/// TooLong and 30 Unterminated come before 23 UnknownName, 24 Kind and 25 Repeated.
+/// TooLong and 30 Unterminated come before 23 UnknownName, 24 Kind and 25 Repeated. 29 Memory may stand in place of any answer.
 #[tactic(auto, using(crate::proofs::ScriptSteps::script_steps))]
 pub fn script(
     alloc: Global,

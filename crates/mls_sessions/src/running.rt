@@ -102,6 +102,9 @@ fn answer<B: Base, W: Write>(engine: &mut Engine<B>, event: &Event, out: &mut W)
 }
 
 /// Answers events in order, and writes the reply of each before the next begins.
+///
+/// The first event that fails stops it: `Store` where the store fails, `Memory` where a growth is refused, `Write` where
+/// the writer refuses.
 pub fn run<B: Base, W: Write>(
     engine: &mut Engine<B>,
     events: &[Event],

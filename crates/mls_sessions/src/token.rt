@@ -19,6 +19,7 @@ pub enum Token {
     Sign(Sign),
 }
 
+/// A sign.
 #[derive(Clone, Copy, PartialEq, Eq, Debug)]
 pub enum Sign {
     LeftParen,

@@ -128,7 +128,7 @@ fn member(alloc: Global, id: i64, post: (&str, u8)) -> Result<Tuple, Fail>
 }
 
 /// Four stories about the Enterprise.
-fn stories(alloc: Global) -> Result<Vec<Tuple>, Fail>
+pub(crate) fn stories(alloc: Global) -> Result<Vec<Tuple>, Fail>
     ensures { IfOk result (λ v. AllByRecursion (HasClassesBelow 4) v.items) }
 {
     let root = ship(alloc, U, ("Exploration", U), ("Talos", U))?;
@@ -152,7 +152,7 @@ fn broken_in(alloc: Global, rel: u8, tuples: &[Tuple]) -> Result<Option<Broken>,
 }
 
 /// What a level sees of tuples.
-fn seen_at(alloc: Global, label: u8, tuples: &[Tuple]) -> Result<Vec<Tuple>, Fail>
+pub(crate) fn seen_at(alloc: Global, label: u8, tuples: &[Tuple]) -> Result<Vec<Tuple>, Fail>
     requires classes { AllByRecursion (HasClassesBelow 4) tuples.now }
     requires label { label < 4 }
 {

@@ -3,6 +3,7 @@ ghost use Rattle.std.specs.Prelude.{◌≡◌, ℕ};
 ghost use Rattle.mls_filterview.specs.Content.{State, no_content};
 
 use super::*;
+use crate::integrity_tests::{seen_at, stories};
 use mls_lattice::{Items, LabelNo, Policy, Str};
 use mls_scheme::{Element, Place, RelNo, Tuple, Value, copy_key};
 use std::alloc::{AllocError, Global};
@@ -237,6 +238,30 @@ fn view_at(alloc: Global, base: &mut TestBase, label: u8) -> Result<Vec<Tuple>, 
     Ok(view(alloc, base, &policy, RelNo::new(0), label)?)
 }
 
+/// Whether two lists have the same tuples in the same order.
+fn same_rows(left: &[Tuple], right: &[Tuple]) -> bool {
+    if left.len() != right.len() {
+        return false;
+    }
+    for (row, tuple) in left.iter().enumerate() {
+        if !tuple.same(&right[row]) {
+            return false;
+        }
+    }
+    true
+}
+
+#[test]
+fn a_view_is_what_the_filter_gives(rt: HostRuntime) -> Result<(), Fail> {
+    let mut base = enterprise(rt.alloc())?;
+    let tuples = stories(rt.alloc())?;
+    for label in 0..4u8 {
+        let seen = view_at(rt.alloc(), &mut base, label)?;
+        assert!(rt; same_rows(&seen, &seen_at(rt.alloc(), label, &tuples)?));
+    }
+    Ok(())
+}
+
 #[test]
 fn a_level_sees_the_stories_that_it_dominates(rt: HostRuntime) -> Result<(), Fail> {
     let mut base = enterprise(rt.alloc())?;
@@ -289,6 +314,9 @@ fn no_fragment_of_another_level_is_read(rt: HostRuntime) -> Result<(), Fail> {
     let mut base = enterprise(rt.alloc())?;
     base.broken = Some(LabelNo::new(S));
     assert_eq!(rt; view_at(rt.alloc(), &mut base, M)?.len(), 2);
+    assert_eq!(rt; view_at(rt.alloc(), &mut base, U)?.len(), 1);
+    base.broken = Some(LabelNo::new(H));
+    assert_eq!(rt; view_at(rt.alloc(), &mut base, S)?.len(), 2);
     assert_eq!(rt; base.failures, 0);
     Ok(())
 }

@@ -45,6 +45,19 @@ name = "Objective"
 kind = "text"
 low = "U"
 high = "S"
+
+[[relation]]
+name = "LOG"
+[[relation.key]]
+name = "Id"
+kind = "int"
+low = "U"
+high = "S"
+[[relation.attribute]]
+name = "Note"
+kind = "int"
+low = "U"
+high = "U"
 "#;
 
 /// A writer that takes so many bytes at a time, and refuses after so many writes.
@@ -138,6 +151,22 @@ fn a_second_insert_of_a_key_is_a_duplicate(rt: HostRuntime) -> Result<(), Fail> 
     assert_eq!(rt;
         bytes.as_slice(),
         b"U U/a opened ann\nU U/a done\nU U/a refused 12 Duplicate\nU U/a view SOD at U: Starship Objective\nU U/a row \"E\" U | \"T\" U | U\n".as_slice()
+    );
+    Ok(())
+}
+
+#[test]
+fn each_attribute_has_its_interval(rt: HostRuntime) -> Result<(), Fail> {
+    let (bytes, stop) = played(
+        &rt,
+        "S a open bob\nS a insert LOG key (1) values (2)\nU b open ann\nU b insert LOG key (1) values (2)\n",
+        1000,
+        1000,
+    )?;
+    assert_eq!(rt; stop, 0);
+    assert_eq!(rt;
+        bytes.as_slice(),
+        b"S S/a opened bob\nS S/a refused 16 OutOfInterval\nU U/b opened ann\nU U/b done\n".as_slice()
     );
     Ok(())
 }

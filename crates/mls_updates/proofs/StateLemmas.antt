@@ -3,9 +3,7 @@ use Rattle.std.proofs.Common.{◌≡◌, ℕ, zero, suc, ◌+◌, ◌<◌, ◌�
 use Rattle.std.specs.Prelude.{nat_eq}
 use Rattle.std.proofs.lemmas.Bool.{cond-true, eqb-true, eq-eqb}
 use Rattle.mls_scheme.specs.Table.{Table}
-use Rattle.mls_filterview.specs.Content.{State, with_table, with_relation, failed, ended, after}
-use Rattle.mls_filterview.specs.declared.base.BaseFault.{BaseFault}
-use Rattle.mls_filterview.specs.declared.base.BaseFault.TheVariants.{Store, Memory, NotBegun, Begun}
+use Rattle.mls_filterview.specs.Content.{State, with_table, with_relation}
 
 -- a relation that is put back is as it was
 pub same_state : (s : State) (rel : ℕ) → with_relation s rel (s.now.db rel) ≡ s
@@ -41,27 +39,6 @@ next_step rel t u x rest next T way step is =
 -- where nothing is left the state is x
 pub last_step : (rel : ℕ) (t x : State) (rest : Table → Table) → with_relation t rel (rest (t.now.db rel)) ≡ x → rest (t.now.db rel) ≡ t.now.db rel → t ≡ x
 last_step rel t x rest way none = sym (same_state t rel) ∙ ap (with_relation t rel) (sym none) ∙ way
-
--- a step from where the relation is X
-pub then_step : (rel : ℕ) (s t u : State) (X : Table) (f : Table → Table) → t ≡ with_relation s rel X → u ≡ with_relation t rel (f (t.now.db rel)) → u ≡ with_relation s rel (f X)
-then_step rel s t u X f at is =
-    is
-    ∙ ap (λ v. with_relation v rel (f (v.now.db rel))) at
-    ∙ ap (λ S. with_relation (with_relation s rel X) rel (f S)) (table_of s rel X) ∙ put_twice s rel X (f X)
-
--- a failure on the way is one at the start
-pub failed_alike : (rel : ℕ) (s t : State) (T U : Table) (e : BaseFault) → with_relation t rel T ≡ with_relation s rel U → s.begun ≡ true → t.begun ≡ true
-    → (e ≡ NotBegun → ⊥) × (e ≡ Begun → ⊥) → after e t ≡ after e s
-failed_alike rel s t T U e way sb tb ne = by_fault e ne
-  where
-    both : failed t ≡ failed s
-    both = cond-true t.begun (ended t) t tb ∙ (λ i. record { now = (way i).kept; kept = (way i).kept; begun = false }) ∙ sym (cond-true s.begun (ended s) s sb)
-
-    by_fault : (f : BaseFault) → (f ≡ NotBegun → ⊥) × (f ≡ Begun → ⊥) → after f t ≡ after f s
-    by_fault Store n = both
-    by_fault Memory n = both
-    by_fault NotBegun n = absurd (n.0 refl)
-    by_fault Begun n = absurd (n.1 refl)
 
 -- what is left of a list
 pub drop_split : {X : Type 0} (xs : List X) (i : ℕ) (d : X) → i < length xs → drop i xs ≡ get_or xs i d ∷ drop (i + 1) xs

@@ -61,6 +61,14 @@ fn usage(alloc: Global, error: &Error) -> Refusal {
     }
 }
 
+/// The refusal of words that name no command with its three paths, all of which the parser has refused before.
+fn no_command(alloc: Global) -> Refusal {
+    match String::from_str(alloc, "mldb: run POLICY SCHEMES SCRIPT\n") {
+        Ok(text) => Refusal::Usage(text),
+        Err(_) => Refusal::Memory,
+    }
+}
+
 /// What the words ask for; the first of them is the name that the program was called by.
 pub fn job_of<'a>(alloc: Global, words: &'a [&'a str]) -> Result<Job<'a>, Refusal> {
     if words.len() < 2 {
@@ -71,7 +79,7 @@ pub fn job_of<'a>(alloc: Global, words: &'a [&'a str]) -> Result<Job<'a>, Refusa
         Err(error) => return Err(usage(alloc, &error)),
     };
     let Some(run) = matches.subcommand_matches("run") else {
-        return Err(Refusal::Memory);
+        return Err(no_command(alloc));
     };
     match (
         run.get_str("POLICY"),
@@ -83,6 +91,6 @@ pub fn job_of<'a>(alloc: Global, words: &'a [&'a str]) -> Result<Job<'a>, Refusa
             schemes,
             script,
         }),
-        _ => Err(Refusal::Memory),
+        _ => Err(no_command(alloc)),
     }
 }

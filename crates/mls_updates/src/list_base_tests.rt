@@ -116,10 +116,15 @@ fn a_refused_growth_ends_the_change(rt: HostRuntime) {
         assert_eq!(rt; sizes(&mut base, 0, 0), Ok((0, 0)));
         return;
     }
-    let found = sizes(&mut base, 0, 0);
-    assert_eq!(rt; base.is_begun(), found.is_ok());
-    assert_eq!(rt;
-        sizes(&mut base, 0, 0),
-        Ok(if found.is_ok() { (1, 1) } else { (0, 0) })
-    );
+    match sizes(&mut base, 0, 0) {
+        Ok(found) => {
+            assert_eq!(rt; found, (1, 1));
+            assert!(rt; base.is_begun());
+        }
+        Err(fault) => {
+            assert_eq!(rt; fault, BaseFault::Memory);
+            assert!(rt; !base.is_begun());
+            assert_eq!(rt; sizes(&mut base, 0, 0), Ok((0, 0)));
+        }
+    }
 }

@@ -1,21 +1,28 @@
 -- How the lines of the canonical text follow one another.
-use Rattle.std.proofs.Common.{◌≡◌, ℕ, ◌+◌, ◌<◌, ◌≤◌, true, false, List, ◌∷◌, length, get_or, drop, take, map, Option, Some, None, option_map, slice_get, refl, sym, ap, ◌∙◌}
-use Rattle.std.specs.List.{flat_map}
+use Rattle.std.proofs.Common.{◌≡◌, ℕ, zero, suc, arith, ◌+◌, ◌<◌, ◌≤◌, true, false, List, [], ◌∷◌, length, get_or, drop, take, map, Option, Some, None, option_map, slice_get, refl, sym, ap, ◌∙◌}
+use Rattle.std.specs.Option.{unwrap_or}
+use Rattle.std.specs.List.{flat_map, AllByRecursion}
 use Rattle.std.specs.FinSet as set
 use Rattle.std.proofs.lemmas.Option.{slice_get-map}
 use Rattle.std.proofs.lemmas.List.{drop_more, take_all}
 use Rattle.std.proofs.lemmas.List.Folds.{flat_map-map}
 use Rattle.mls_lattice.specs.declared.tables.NamedLabel.{NamedLabel}
 use Rattle.mls_lattice.specs.Lattice.{Categories}
-use Rattle.mls_lattice.specs.Policy.{Name, Named, named}
-use Rattle.mls_lattice.specs.Canon.{or_empty, label_name, label_line, names_of}
+use Rattle.mls_lattice.specs.Policy.{Name, Named, named, HasLevel}
+use Rattle.mls_lattice.specs.Canon.{label_name, label_line, names_of}
 
 mapped_twice : {A B C : Type 0} (f : B → C) (g : A → B) (o : Option A) → option_map f (option_map g o) ≡ option_map (λ x. f (g x)) o
 mapped_twice f g None = refl
 mapped_twice f g (Some x) = refl
 
-pub label_name-named : (ls : List NamedLabel) (n : ℕ) → label_name (map named ls) n ≡ or_empty (option_map (λ l. l.name) (slice_get ls n))
-label_name-named ls n = ap or_empty (ap (option_map (λ (l : Named). l.name)) (slice_get-map named ls n) ∙ mapped_twice (λ (l : Named). l.name) named (slice_get ls n))
+pub label_name-named : (ls : List NamedLabel) (n : ℕ) → label_name (map named ls) n ≡ unwrap_or (option_map (λ l. l.name) (slice_get ls n)) []
+label_name-named ls n = ap (λ o. unwrap_or o []) (ap (option_map (λ (l : Named). l.name)) (slice_get-map named ls n) ∙ mapped_twice (λ (l : Named). l.name) named (slice_get ls n))
+
+-- the label that a loop has reached
+pub ranked-at : (n : ℕ) (ls : List NamedLabel) (i : ℕ) (l : NamedLabel) → AllByRecursion (HasLevel n) (map named ls) → i < length ls → l ≡ get_or ls i l → HasLevel n (named l)
+ranked-at n [] i l all within is = absurd (omega arith)
+ranked-at n (x ∷ ls) zero l all within is = rw is all.0
+ranked-at n (x ∷ ls) (suc i) l all within is = ranked-at n ls i l all.1 (omega (arith, within)) is
 
 pub label_lines-taken : (levels categories : List Name) (ls : List NamedLabel) (i : ℕ) → length ls ≤ i → flat_map (λ l. label_line levels categories (named l)) (take i ls) ≡ flat_map (label_line levels categories) (map named ls)
 label_lines-taken levels categories ls i all =

@@ -1,12 +1,11 @@
 -- Laws of pairs.
 use Rattle.std.proofs.Common.{◌≡◌, ℕ, ◌<◌, Bool, true, false, ◌&&◌, ◌||◌, length, nat_eq, refl, sym, ap, ◌∙◌, inl, inr, arith}
 use Rattle.std.specs.Prelude.{◌↔◌, nat_le}
-use Rattle.std.specs.Ordering.{nat_cmp}
 use Rattle.std.specs.FinSet as set
 use Rattle.std.specs.FinSet.{nat_cmp-IsAntisymmetric}
 use Rattle.std.proofs.lemmas.Cmp.{nat_cmp_total}
 use Rattle.std.proofs.lemmas.Bool.{and_parts, and_from, or_cases, leb-true, le-leb, eqb-true, eq-eqb}
-use Rattle.mls_lattice.specs.Lattice.{Pair, Dominates, join, meet, bottom, ◌⊑◌, same_pair, cats_of, pair_of, IsOrder, IsLeastUpperBound, IsGreatestLowerBound}
+use Rattle.mls_lattice.specs.Lattice.{Pair, Dominates, join, meet, ◌⊑◌, same_pair, cats_of, pair_of, IsOrder, IsLeastUpperBound, IsGreatestLowerBound}
 use Rattle.mls_lattice.specs.declared.label.Label.{Label}
 use Rattle.mls_lattice.proofs.CategoryLemmas.{same_from_cats}
 use Rattle.mls_lattice.specs.Labels.{Labels, label_of, below, AreDistinct, IsOrderByNumber}
@@ -86,13 +85,6 @@ meet-greatest p q r d e = record {
   rank = omega (arith, d.rank, e.rank);
   cats = λ k h. set.contains-intersection nat_cmp_total p.cats q.cats k ∙ and_from _ _ (d.cats k h) (e.cats k h);
 }
-
-pub bottom-least : (p : Pair) → Dominates p bottom
-bottom-least p = record { rank = omega arith; cats = λ k h. absurd (not_both _ (set.contains-empty nat_cmp k) h) }
-  where
-    not_both : (b : Bool) → b ≡ false → b ≡ true → ⊥
-    not_both true e f = cc
-    not_both false e f = cc
 
 pub order : IsOrder
 order = record { reflexive = Dominates-refl; transitive = Dominates-trans; antisymmetric = Dominates-antisym }

@@ -24,9 +24,6 @@ use Rattle.mls_lattice.proofs.LatticeLemmas.{test-below}
 
 module _ (items : List Value) (i : ℕ) (v : Value) (within : i < length items) (is : v ≡ get_or items i v) where
   -- a row
-  pub rows-fault : {B : Type 0} (read : List B → Data → Result B PolicyFault) (front : List B) (e : PolicyFault) → read front (view v) ≡ Err e → rows_at read front (items_view (drop i items)) ≡ Err e
-  rows-fault read front e fault = here items i v within is (rows_at read front) ∙ rw fault refl
-
   pub rows-more : {B : Type 0} (read : List B → Data → Result B PolicyFault) (front : List B) (row : B) → read front (view v) ≡ Ok row → rows_at read (front ++ row ∷ []) (items_view (drop (i + 1) items)) ≡ rows_at read front (items_view (drop i items))
   rows-more read front row ok = sym (here items i v within is (rows_at read front) ∙ rw ok refl)
 

@@ -147,9 +147,6 @@ place_found labels d k e =
     let n = name_found d a.0 a.1 in
     record { name = a.0; text = n.0; is_name = n.1; place = found_ok (position (λ l. bytes_eq l.name a.0) labels) UnknownName k a.2 }
 
-place_again : (labels : List Named) (d : Data) (k : ℕ) → SaysPlace labels d k → label_name_at labels d ≡ Ok k
-place_again labels d k h = rw (h.text, h.is_name, h.place) refl
-
 trusted_found : (labels : List Named) (field : Option Data) (o : Option (ℕ × ℕ)) → trusted_at labels field ≡ Ok o → SaysTrusted labels field o
 trusted_found labels None o e = subst (λ (x : Option (ℕ × ℕ)). SaysTrusted labels None x) (ok_same None o (Ok None) refl e) refl
 trusted_found labels (Some d) o e =

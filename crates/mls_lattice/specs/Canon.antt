@@ -1,5 +1,6 @@
 -- The canonical text of a policy: one line each, single spaces, in the order of its file.
-use Rattle.std.specs.Prelude.{ℕ, ◌+◌, ◌==◌, bit_and, List, [], ◌∷◌, ◌++◌, codes, if◌then◌else◌, Option, Some, None, option_map, slice_get}
+use Rattle.std.specs.Prelude.{ℕ, ◌+◌, ◌==◌, bit_and, List, [], ◌∷◌, ◌++◌, codes, if◌then◌else◌, Option, Some, None, option_map, slice_get, slice_index_or}
+use Rattle.std.specs.Option.{unwrap_or}
 use Rattle.std.specs.List.{flat_map}
 use Rattle.std.specs.FinSet as set
 use Rattle.mls_lattice.specs.declared.tables.User.{User}
@@ -7,20 +8,15 @@ use Rattle.mls_lattice.specs.declared.tables.Right.{Right}
 use Rattle.mls_lattice.specs.Lattice.{Categories}
 use Rattle.mls_lattice.specs.Policy.{Name, Named, Tables}
 
--- a name that was found
-abbrev pub or_empty : Option Name → Name
-or_empty None = []
-or_empty (Some name) = name
-
 -- the names of a level, of a label and of a user by number
 abbrev pub name_at : List Name → ℕ → Name
-name_at names n = or_empty (slice_get names n)
+name_at names n = slice_index_or names n []
 
 abbrev pub label_name : List Named → ℕ → Name
-label_name labels n = or_empty (option_map (λ l. l.name) (slice_get labels n))
+label_name labels n = unwrap_or (option_map (λ l. l.name) (slice_get labels n)) []
 
 abbrev pub user_name : List User → ℕ → Name
-user_name users n = or_empty (option_map (λ u. u.name) (slice_get users n))
+user_name users n = unwrap_or (option_map (λ u. u.name) (slice_get users n)) []
 
 -- a word after a space
 abbrev pub spaced : Name → List ℕ

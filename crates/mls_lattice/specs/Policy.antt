@@ -1,7 +1,7 @@
 -- What a policy is: its levels, categories, labels and users, and the matrix of rights.
 use Rattle.std.specs.Prelude.{ℕ, ◌<◌, ◌≤◌, Bool, ◌&&◌, List, [], ◌∷◌, map, length, if◌then◌else◌, nat_eq}
 use Rattle.std.specs.Option.{IfSome}
-use Rattle.std.specs.List.{AllByRecursion}
+use Rattle.std.specs.List.{AllByRecursion, IsDistinct}
 use Rattle.std.specs.Str.{bytes_eq}
 use Rattle.mls_lattice.specs.Lattice.{Pair, pair_of}
 use Rattle.mls_lattice.specs.Labels.{Labels, AreDistinct}
@@ -33,18 +33,29 @@ named l = record { name = l.name; value = pair_of l.label }
 abbrev pub labels_of : Tables → Labels
 labels_of p = map (λ l. l.value) p.labels
 
+-- the level is a declared one
+pub record HasLevel (count : ℕ) (l : Named) : Type 0 where
+  pub rank : l.value.rank < count
+
 -- the clearance and the trusted interval are declared labels
 pub record IsCleared (count : ℕ) (u : User) : Type 0 where
   pub clearance : u.clearance < count
   pub trusted : IfSome u.trusted (λ i. (i.0 < count) × (i.1 < count))
 
--- what holds of every policy
+-- the user is a declared one
+pub record HasUser (count : ℕ) (r : Right) : Type 0 where
+  pub user : r.user < count
+
+-- what holds of every policy: no two labels have one name or one value, and what a row names is declared
 pub record IsPolicy (p : Tables) : Type 0 where
   pub few_categories : length p.categories ≤ 32
   pub few_labels : length p.labels ≤ 64
   pub few_users : length p.users ≤ 64
+  pub names : IsDistinct bytes_eq (map (λ l. l.name) p.labels)
   pub distinct : AreDistinct (labels_of p)
+  pub ranked : AllByRecursion (HasLevel (length p.levels)) p.labels
   pub cleared : AllByRecursion (IsCleared (length p.labels)) p.users
+  pub held : AllByRecursion (HasUser (length p.users)) p.matrix
 
 -- the entry is one for this user and object
 abbrev pub is_entry : ℕ → Name → Right → Bool

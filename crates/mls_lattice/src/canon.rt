@@ -1,9 +1,9 @@
 //! The lines of the canonical text.
-ghost use Rattle.std.specs.Prelude.{◌≡◌, ◌++◌, ◌≤◌, OnOk, length, map, string_bytes};
-ghost use Rattle.std.specs.List.{flat_map};
+ghost use Rattle.std.specs.Prelude.{◌≡◌, ◌++◌, ◌<◌, ◌≤◌, OnOk, length, map, string_bytes};
+ghost use Rattle.std.specs.List.{flat_map, AllByRecursion};
 ghost use Rattle.mls_lattice.specs.Lattice.{cats_of, pair_of};
-ghost use Rattle.mls_lattice.specs.Policy.{named};
-ghost use Rattle.mls_lattice.specs.Canon.{name_at, label_name, user_name, spaced, names_of, level_line, category_line, label_line, interval_text, user_line, word_if, modes_text, right_line};
+ghost use Rattle.mls_lattice.specs.Policy.{named, HasLevel, IsCleared, HasUser};
+ghost use Rattle.mls_lattice.specs.Canon.{label_name, user_name, spaced, names_of, level_line, category_line, label_line, interval_text, user_line, word_if, modes_text, right_line};
 
 use crate::label::Label;
 use crate::modes::Modes;
@@ -13,32 +13,19 @@ use crate::text::Str;
 use bitflags::Flags;
 use std::alloc::AllocError;
 
-fn name_at(names: &[Str], place: usize) -> &str
-    ensures { result.now ≡ name_at names.now place }
-{
-    match names.get(place) {
-        Some(name) => name.as_str(),
-        None => "",
-    }
-}
-
 #[tactic(auto, using(crate::proofs::CanonLemmas::names))]
 fn label_name(labels: &[NamedLabel], label: LabelNo) -> &str
+    requires { label < length labels.now }
     ensures { result.now ≡ label_name (map named labels.now) label }
 {
-    match labels.get(label.index()) {
-        Some(label) => label.name.as_str(),
-        None => "",
-    }
+    labels[label.index()].name.as_str()
 }
 
 fn user_name(users: &[User], user: UserNo) -> &str
+    requires { user < length users.now }
     ensures { result.now ≡ user_name users.now user }
 {
-    match users.get(user.index()) {
-        Some(user) => user.name.as_str(),
-        None => "",
-    }
+    users[user.index()].name.as_str()
 }
 
 /// Writes the lines of the levels.
@@ -85,11 +72,12 @@ fn label_to(
     categories: &[Str],
     label: &NamedLabel,
 ) -> Result<(), AllocError>
-    requires { length categories.now ≤ 32 }
+    requires ranked { HasLevel (length levels.now) (named label.now) }
+    requires few { length categories.now ≤ 32 }
     ensures { OnOk result (string_bytes text.new ≡ string_bytes text.old ++ label_line levels.now categories.now (named label.now)) }
 {
     let name = label.name.as_str();
-    let level = name_at(levels, label.label.rank as usize);
+    let level = levels[label.label.rank as usize].as_str();
     write!(text, "label {name} {level}")?;
     names_to(text, categories, label.label)?;
     text.push_str("\n")?;
@@ -103,7 +91,8 @@ pub(crate) fn labels_to(
     categories: &[Str],
     labels: &[NamedLabel],
 ) -> Result<(), AllocError>
-    requires { length categories.now ≤ 32 }
+    requires ranked { AllByRecursion (HasLevel (length levels.now)) (map named labels.now) }
+    requires few { length categories.now ≤ 32 }
     ensures { OnOk result
         (string_bytes text.new ≡ string_bytes text.old ++ flat_map (label_line levels.now categories.now) (map named labels.now)) }
 {
@@ -115,6 +104,7 @@ pub(crate) fn labels_to(
 
 /// Writes the line of a user.
 fn user_to(text: &mut String, labels: &[NamedLabel], user: &User) -> Result<(), AllocError>
+    requires { IsCleared (length labels.now) user.now }
     ensures { OnOk result (string_bytes text.new ≡ string_bytes text.old ++ user_line (map named labels.now) user.now) }
 {
     let name = user.name.as_str();
@@ -135,6 +125,7 @@ pub(crate) fn users_to(
     labels: &[NamedLabel],
     users: &[User],
 ) -> Result<(), AllocError>
+    requires { AllByRecursion (IsCleared (length labels.now)) users.now }
     ensures { OnOk result (string_bytes text.new ≡ string_bytes text.old ++ flat_map (user_line (map named labels.now)) users.now) }
 {
     for user in users {
@@ -164,6 +155,7 @@ fn modes_to(text: &mut String, modes: Modes) -> Result<(), AllocError>
 
 /// Writes the line of an entry.
 fn right_to(text: &mut String, users: &[User], right: &Right) -> Result<(), AllocError>
+    requires { HasUser (length users.now) right.now }
     ensures { OnOk result (string_bytes text.new ≡ string_bytes text.old ++ right_line users.now right.now) }
 {
     let user = user_name(users, right.user);
@@ -180,6 +172,7 @@ pub(crate) fn matrix_to(
     users: &[User],
     matrix: &[Right],
 ) -> Result<(), AllocError>
+    requires { AllByRecursion (HasUser (length users.now)) matrix.now }
     ensures { OnOk result (string_bytes text.new ≡ string_bytes text.old ++ flat_map (right_line users.now) matrix.now) }
 {
     for right in matrix {

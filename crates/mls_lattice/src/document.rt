@@ -24,7 +24,7 @@ pub fn field<'a>(table: &'a Table, key: &str) -> Option<&'a Value>
     table.get(key)
 }
 
-/// A string.
+/// The text of a string, which need not be a name.
 pub fn text_of(value: &Value) -> Result<&str, PolicyFault>
     ensures reads { Gives (λ s. s.now) result (text_at (view value.now)) }
     ensures toml { IfErr result (λ e. e ≢ PolicyFault.NotToml) }
@@ -32,7 +32,7 @@ pub fn text_of(value: &Value) -> Result<&str, PolicyFault>
     value.as_str().ok_or(PolicyFault::WrongKind)
 }
 
-/// An integer.
+/// The number that an integer is; a float is of the wrong kind.
 pub fn integer_of(value: &Value) -> Result<i64, PolicyFault>
     ensures reads { Gives (λ n. n) result (integer_at (view value.now)) }
     ensures toml { IfErr result (λ e. e ≢ PolicyFault.NotToml) }
@@ -51,7 +51,7 @@ pub fn items_of(value: &Value) -> Result<&[Value], PolicyFault>
     }
 }
 
-/// The fields of a table.
+/// The fields of a table, inline or under a heading.
 pub fn table_of(value: &Value) -> Result<&Table, PolicyFault>
     ensures reads { Gives (λ t. table_view t.now) result (table_at (view value.now)) }
     ensures toml { IfErr result (λ e. e ≢ PolicyFault.NotToml) }

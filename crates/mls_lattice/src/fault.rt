@@ -29,14 +29,14 @@ pub enum PolicyFault {
 }
 
 impl PolicyFault {
-    /// The number of the fault.
+    /// The number that messages carry; it never changes.
     pub fn code(self) -> u8
         ensures { result ≡ code_of self }
     {
         self as u8 + 1
     }
 
-    /// The name of the fault.
+    /// The name that messages carry beside the number.
     pub fn word(self) -> &'static str
         ensures { result.now ≡ word_of self }
     {

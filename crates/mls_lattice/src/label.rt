@@ -1,6 +1,6 @@
 ghost use Rattle.std.specs.Prelude.{◌≡◌, ◌<◌, ◌↔◌, IsTrue};
 ghost use Rattle.std.specs.FinSet as set;
-ghost use Rattle.mls_lattice.specs.Lattice.{cats_of, pair_of, join, meet, Dominates};
+ghost use Rattle.mls_lattice.specs.Lattice.{cats_of, pair_of, same_pair, join, meet, Dominates};
 
 /// A rank and a set of categories: bit k of `cats` stands for category k.
 #[derive(Clone, Copy, PartialEq, Eq, Debug)]
@@ -42,6 +42,13 @@ impl Label {
         ensures { IsTrue result ↔ (Dominates (pair_of self) (pair_of low) × Dominates (pair_of high) (pair_of self)) }
     {
         self.dominates(low) && high.dominates(self)
+    }
+
+    /// Whether the two are one label.
+    pub fn same(self, other: Label) -> bool
+        ensures { result ≡ same_pair (pair_of self) (pair_of other) }
+    {
+        self == other
     }
 
     /// Whether a category is in the set.

@@ -6,6 +6,7 @@ ghost use Rattle.mls_lattice.specs.Labels.{IsOrderByNumber};
 ghost use Rattle.mls_lattice.specs.ReadsPolicy.{ReadingIsExact, SaysOne};
 
 mod canon;
+/// The fields of a document: schemes are read by them too.
 pub mod document;
 mod fault;
 mod items;

@@ -1,8 +1,8 @@
 //! The matrix of a document: what users may do with objects.
 ghost use Rattle.std.specs.Prelude.{◌≡◌, ◌≢◌, ◌≤◌, [], length, IfOk, IfErr};
-ghost use Rattle.std.specs.List.{list_any};
+ghost use Rattle.std.specs.List.{list_any, AllByRecursion};
 ghost use Rattle.toml.specs.View.{view, items_view, table_view};
-ghost use Rattle.mls_lattice.specs.Policy.{is_entry};
+ghost use Rattle.mls_lattice.specs.Policy.{is_entry, modes_in, HasUser};
 ghost use Rattle.mls_lattice.specs.Reading.{Gives};
 ghost use Rattle.mls_lattice.specs.PolicyReading.{rows_at, mode_of, more_modes, right_at, matrix_at};
 
@@ -51,10 +51,29 @@ fn modes_of(items: &[Value]) -> Result<Modes, PolicyFault>
     Ok(modes)
 }
 
+/// Whether an entry is one for this user and object.
+fn is_entry(right: &Right, user: UserNo, object: &str) -> bool
+    ensures { result ≡ is_entry user object.now right.now }
+{
+    right.user == user && right.object.as_str() == object
+}
+
 fn has_entry(matrix: &[Right], user: UserNo, object: &str) -> bool
     ensures { result ≡ list_any (is_entry user object.now) matrix.now }
 {
-    matrix.iter().any(|right| right.user == user && right.object.as_str() == object)
+    matrix.iter().any(|right| is_entry(right, user, object))
+}
+
+/// The modes of the entry for a user and an object, or none.
+pub(crate) fn modes_in(matrix: &[Right], user: UserNo, object: &str) -> Modes
+    ensures { result.0 ≡ modes_in matrix.now user object.now }
+{
+    for right in matrix {
+        if is_entry(right, user, object) {
+            return right.modes;
+        }
+    }
+    Modes::empty()
 }
 
 #[tactic(auto, unfolding(crate::specs::PolicyReading::right_at))]
@@ -66,6 +85,7 @@ fn right_of(
 ) -> Result<Right, PolicyFault>
     requires { length users.now ≤ 64 }
     ensures reads { Gives (λ r. r) result (right_at users.now matrix.now (view value.now)) }
+    ensures held { IfOk result (λ r. HasUser (length users.now) r) }
     ensures toml { IfErr result (λ e. e ≢ PolicyFault.NotToml) }
 {
     let fields = table_of(value)?;
@@ -83,9 +103,11 @@ fn right_of(
     })
 }
 
+#[tactic(auto, using(crate::proofs::TablesLemmas::rows))]
 fn rows_of(alloc: Global, users: &[User], items: &[Value]) -> Result<Vec<Right>, PolicyFault>
     requires { length users.now ≤ 64 }
     ensures reads { Gives (λ v. v.items) result (rows_at (right_at users.now) [] (items_view items.now)) }
+    ensures held { IfOk result (λ v. AllByRecursion (HasUser (length users.now)) v.items) }
     ensures toml { IfErr result (λ e. e ≢ PolicyFault.NotToml) }
 {
     let mut matrix = Vec::new(alloc);
@@ -105,6 +127,7 @@ pub(crate) fn matrix_of(
 ) -> Result<Vec<Right>, PolicyFault>
     requires { length users.now ≤ 64 }
     ensures reads { Gives (λ v. v.items) result (matrix_at users.now (table_view document.now)) }
+    ensures held { IfOk result (λ v. AllByRecursion (HasUser (length users.now)) v.items) }
     ensures toml { IfErr result (λ e. e ≢ PolicyFault.NotToml) }
 {
     let all = optional_tables(document, "matrix")?;

@@ -1,4 +1,5 @@
-ghost use Rattle.std.specs.Prelude.{◌≡◌, ◌≢◌, ◌↔◌, ◌<◌, ◌≤◌, length, position, slice_get, Some, IfSome, IfOk, IfErr, option_map};
+ghost use Rattle.std.specs.Prelude.{◌≡◌, ◌≢◌, ◌↔◌, ◌<◌, ◌≤◌, length, map, position, slice_get, Some, IfSome, IfOk, IfErr, option_map};
+ghost use Rattle.std.specs.List.{IsDistinct};
 ghost use Rattle.std.specs.Str.{bytes_eq};
 ghost use Rattle.mls_lattice.specs.Lattice.{pair_of};
 ghost use Rattle.mls_lattice.specs.Labels.{label_of, below, AreDistinct};
@@ -16,14 +17,13 @@ use crate::fault::PolicyFault;
 use crate::items::Items;
 use crate::label::Label;
 use crate::labels::{labels_of, position_of_label};
-use crate::matrix::matrix_of;
+use crate::matrix::{matrix_of, modes_in};
 use crate::modes::Modes;
 use crate::names::names_of;
 use crate::number::{LabelNo, UserNo};
 use crate::tables::{NamedLabel, Right, User};
 use crate::text::Str;
 use crate::users::{position_of_user, users_of};
-use bitflags::Flags;
 use std::alloc::{AllocError, Global};
 use std::marker::Model;
 use toml::Table;
@@ -98,10 +98,11 @@ impl Policy {
         Ok(text.into_bytes())
     }
 
-    /// How many labels are declared.
+    /// How many labels are declared. No two have one name, and no two have one value.
     pub fn label_count(&self) -> usize
         ensures count { result ≡ length self.now.labels }
         ensures few { length self.now.labels ≤ 64 }
+        ensures names { IsDistinct bytes_eq (map (λ l. l.name) self.now.labels) }
         ensures distinct { AreDistinct (labels_of self.now) }
     {
         self.labels.len()
@@ -125,7 +126,7 @@ impl Policy {
         self.labels[label.index()].name.as_str()
     }
 
-    /// A label by its number.
+    /// The rank and the categories that a number stands for.
     pub fn value(&self, label: LabelNo) -> Label
         requires { label < length self.now.labels }
         ensures { pair_of result ≡ label_of (labels_of self.now) label }
@@ -140,6 +141,7 @@ impl Policy {
         ensures order { result ≡ below (labels_of self.now) low high }
         ensures distinct { AreDistinct (labels_of self.now) }
     {
+        // A promise of every policy: labels are distinct.
         let _labels = &self.labels;
         self.value(high).dominates(self.value(low))
     }
@@ -184,19 +186,8 @@ impl Policy {
     pub fn modes(&self, user: UserNo, object: &str) -> Modes
         ensures { result.0 ≡ modes_in self.now.matrix user object.now }
     {
-        modes_of(&self.matrix, user, object)
+        modes_in(&self.matrix, user, object)
     }
-}
-
-fn modes_of(matrix: &[Right], user: UserNo, object: &str) -> Modes
-    ensures { result.0 ≡ modes_in matrix.now user object.now }
-{
-    for right in matrix {
-        if right.user == user && right.object.as_str() == object {
-            return right.modes;
-        }
-    }
-    Modes::empty()
 }
 
 /// The most levels of a policy.

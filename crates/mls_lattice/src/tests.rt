@@ -7,6 +7,7 @@ use crate::*;
 use bitflags::Flags;
 use std::alloc::Global;
 use std::test::Fail;
+use toml::Table;
 
 mod faults;
 
@@ -248,6 +249,37 @@ fn accepts_the_limits(rt: HostRuntime) -> Result<(), Fail> {
     Ok(())
 }
 
+fn with_other_fields() -> &'static str {
+    r#"version = 1
+author = "ann"
+levels = ["U", "S"]
+label = [{name = "U", level = "U", colour = 1}, {name = "S", level = "S"}]
+user = [{name = "ann", clearance = "S", mail = ["ann"]}]
+matrix = [{user = "ann", object = "T", modes = ["read"], note = {text = "x"}}]
+[other]
+levels = 2
+"#
+}
+
+fn with_other_fields_canon() -> &'static str {
+    r#"policy 1
+level U
+level S
+label U U
+label S S
+user ann S
+matrix ann T read
+"#
+}
+
+#[test]
+fn ignores_other_fields(rt: HostRuntime) -> Result<(), Fail> {
+    let policy = Policy::read(rt.alloc(), with_other_fields().as_bytes())?;
+    let text = policy.canon(rt.alloc())?;
+    assert!(rt; text.as_slice() == with_other_fields_canon().as_bytes());
+    Ok(())
+}
+
 #[test]
 fn reads_the_sample(rt: HostRuntime) -> Result<(), Fail> {
     let policy = sample(rt.alloc())?;
@@ -342,6 +374,7 @@ fn compares_labels(rt: HostRuntime) {
     );
     assert!(rt; high.meet(side) == Label { rank: 2, cats: 0 });
     assert!(rt; high.within(low, high) && low.within(low, high) && !side.within(low, high));
+    assert!(rt; low.same(low) && !low.same(high));
     assert!(rt; high.has(2) && !high.has(1));
     assert!(rt;
         low.with(31)
@@ -350,10 +383,6 @@ fn compares_labels(rt: HostRuntime) {
                 cats: 0x8000_0001
             }
     );
-    dominance_is_an_order();
-    join_is_least();
-    meet_is_greatest();
-    numbers_are_ordered();
 }
 
 #[test]
@@ -361,20 +390,39 @@ fn knows_names(rt: HostRuntime) {
     for name in ["a", "Z9_", "a2345678901234567890123456789012", "To"] {
         assert!(rt; is_name(name), "{name}");
     }
-    for name in [
+    assert!(rt; is_name_byte(b'_') && is_name_byte(b'7') && !is_name_byte(b'-'));
+}
+
+#[test]
+fn refuses_what_is_no_name(rt: HostRuntime) {
+    for text in [
         "",
         "_a",
         "9a",
         "a b",
+        "a-b",
         "a23456789012345678901234567890123",
-        "to",
-        "audit",
-        "transaction",
     ] {
-        assert!(rt; !is_name(name), "{name}");
+        assert!(rt; !is_name(text), "{text}");
     }
-    assert!(rt; is_reserved("view") && !is_reserved("views"));
-    assert!(rt; is_name_byte(b'_') && is_name_byte(b'7') && !is_name_byte(b'-'));
+}
+
+fn reserved_words() -> &'static str {
+    r#"transaction levels to var int text if else
+for in at insert key values update class
+from set delete release into emit as and
+or not null open close view call audit"#
+}
+
+#[test]
+fn refuses_reserved_words_as_names(rt: HostRuntime) {
+    let mut count = 0u64;
+    for word in reserved_words().split_ascii_whitespace() {
+        assert!(rt; is_reserved(word) && !is_name(word), "{word}");
+        count = count.saturating_add(1);
+    }
+    assert_eq!(rt; count, 32);
+    assert!(rt; !is_reserved("views") && !is_reserved("View"));
 }
 
 #[test]
@@ -427,17 +475,21 @@ fn numbers_keep_their_numbers(rt: HostRuntime) {
     assert!(rt; LabelNo::new(1) < LabelNo::new(2));
 }
 
+fn fields_text() -> &'static str {
+    "n = 7\ns = \"ann\"\nt = [\"a\", \"b\"]\nu = [{}, {}, {}]\nmixed = [1, {}]\nf = {s = \"to\"}\n"
+}
+
+fn fields(alloc: Global) -> Result<Table, Fail> {
+    Ok(
+        toml::table_from_str(alloc, fields_text())
+            .ok()
+            .ok_or("no document")?,
+    )
+}
+
 #[test]
 fn reads_fields(rt: HostRuntime) -> Result<(), Fail> {
-    let text =
-        "n = 7\ns = \"ann\"\nt = [\"a\", \"b\"]\nu = [{}, {}, {}]\nmixed = [1, {}]\nf = {s = \"to\"}\n";
-    let document = match toml::table_from_str(rt.alloc(), text) {
-        Ok(document) => document,
-        Err(_) => {
-            assert!(rt; false, "no document");
-            return Ok(());
-        }
-    };
+    let document = fields(rt.alloc())?;
     assert!(rt; matches!(wanted(&document, "none"), Err(PolicyFault::MissingField)));
     assert!(rt; field(&document, "none").is_none() && field(&document, "n").is_some());
     assert_eq!(rt; integer_of(wanted(&document, "n")?)?, 7);
@@ -446,25 +498,36 @@ fn reads_fields(rt: HostRuntime) -> Result<(), Fail> {
     assert_eq!(rt; name_field(&document, "s")?, "ann");
     let inner = table_of(wanted(&document, "f")?)?;
     assert!(rt; matches!(name_field(inner, "s"), Err(PolicyFault::BadName)));
-    assert_eq!(rt; items_of(wanted(&document, "mixed")?)?.len(), 2);
-    assert_eq!(rt; texts_of(wanted(&document, "t")?)?.len(), 2);
-    assert!(rt;
-        matches!(
-            texts_of(wanted(&document, "u")?),
-            Err(PolicyFault::WrongKind)
-        )
-    );
-    let tables = tables_of(wanted(&document, "u")?)?;
-    assert!(rt;
-        matches!(
-            tables_of(wanted(&document, "mixed")?),
-            Err(PolicyFault::WrongKind)
-        )
-    );
+    Ok(())
+}
+
+#[test]
+fn reads_arrays_of_one_kind(rt: HostRuntime) -> Result<(), Fail> {
+    let document = fields(rt.alloc())?;
+    let (texts, tables) = (wanted(&document, "t")?, wanted(&document, "u")?);
+    let mixed = wanted(&document, "mixed")?;
+    assert_eq!(rt; items_of(mixed)?.len(), 2);
+    assert_eq!(rt; texts_of(texts)?.len(), 2);
+    assert!(rt; matches!(texts_of(tables), Err(PolicyFault::WrongKind)));
+    assert_eq!(rt; tables_of(tables)?.len(), 3);
+    assert!(rt; matches!(tables_of(mixed), Err(PolicyFault::WrongKind)));
+    Ok(())
+}
+
+#[test]
+fn reads_fields_that_may_be_missing(rt: HostRuntime) -> Result<(), Fail> {
+    let document = fields(rt.alloc())?;
     assert_eq!(rt; optional_texts(&document, "none")?.len(), 0);
     assert_eq!(rt; optional_texts(&document, "t")?.len(), 2);
     assert_eq!(rt; optional_tables(&document, "none")?.len(), 0);
     assert_eq!(rt; optional_tables(&document, "u")?.len(), 3);
+    Ok(())
+}
+
+#[test]
+fn counts_items(rt: HostRuntime) -> Result<(), Fail> {
+    let document = fields(rt.alloc())?;
+    let tables = tables_of(wanted(&document, "u")?)?;
     assert_eq!(rt; some_of(tables, 3)?.len(), 3);
     assert!(rt; matches!(some_of(tables, 2), Err(PolicyFault::TooMany)));
     assert!(rt; matches!(some_of(&[], 2), Err(PolicyFault::MissingField)));

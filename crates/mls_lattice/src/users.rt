@@ -112,7 +112,7 @@ fn user_of(
     })
 }
 
-#[tactic(auto, using(crate::proofs::TablesLemmas::cleared))]
+#[tactic(auto, using(crate::proofs::TablesLemmas::rows))]
 fn rows_of(alloc: Global, labels: &[NamedLabel], items: &[Value]) -> Result<Vec<User>, PolicyFault>
     requires { length labels.now ≤ 64 }
     ensures reads { Gives (λ v. v.items) result (rows_at (user_at (map named labels.now)) [] (items_view items.now)) }
@@ -146,6 +146,7 @@ pub(crate) fn users_of(
     rows_of(alloc, labels, items)
 }
 
+/// Where the first user of a name stands.
 pub(crate) fn position_of_user(users: &[User], name: &str) -> Option<usize>
     ensures exact { result ≡ position (λ u. bytes_eq u.name name.now) users.now }
     ensures within { IfSome result (λ place. place < length users.now) }

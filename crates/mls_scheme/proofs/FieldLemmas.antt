@@ -101,9 +101,6 @@ tables_at_found d ds e =
     let same : a.0 ≡ ds = let h = b.1 in cc in
     array_from_as_array d a.0 (found_ok (as_array d) policy.WrongKind a.0 a.1) ∙ ap array same
 
-tables_at_again : (ts : List Members) → tables_at (array (tables_of ts)) ≡ Ok (tables_of ts)
-tables_at_again ts = rw (are_tables ts) refl
-
 at_most_found : (most : ℕ) (ds es : Items) → at_most most ds ≡ Ok es → (ds ≡ es) × (items_len ds ≤ most)
 at_most_found most ds es e =
     let a = guard_ok (nat_lt most (items_len ds)) policy.TooMany (Ok ds) es e in

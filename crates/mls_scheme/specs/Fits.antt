@@ -7,15 +7,15 @@ use Rattle.mls_scheme.specs.declared.tuple.Element.{Element}
 use Rattle.mls_scheme.specs.Value.{is_kind, fits_kind}
 use Rattle.mls_scheme.specs.declared.place.Place.{Place}
 use Rattle.mls_scheme.specs.declared.attributes.Column.{Column}
-use Rattle.mls_scheme.specs.Scheme.{Attribute, Scheme}
+use Rattle.mls_scheme.specs.Scheme.{Attribute, Scheme, column_of}
 
--- whether a class lies in an attribute's interval
-abbrev pub in_interval : Labels → ℕ → Attribute → Bool
-in_interval ls class a = below ls a.low class && below ls class a.high
-
--- the same of what is kept of an attribute
+-- whether a class lies in the interval of what is kept of an attribute
 abbrev pub in_column : Labels → ℕ → Column → Bool
 in_column ls class c = below ls c.low class && below ls class c.high
+
+-- whether it lies in an attribute's interval
+abbrev pub in_interval : Labels → ℕ → Attribute → Bool
+in_interval ls class a = in_column ls class (column_of a)
 
 -- values or nulls have the number and the kinds of attributes
 abbrev pub HaveKinds : List Attribute → List (Option Value) → Type 0

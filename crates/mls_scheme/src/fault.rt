@@ -34,14 +34,14 @@ pub enum SchemeFault {
 }
 
 impl SchemeFault {
-    /// The number of the fault.
+    /// What stands before the word where the fault is printed. The faults that policies have too have their numbers there.
     pub fn code(self) -> u8
         ensures { result ≡ code_of self }
     {
         self as u8 + 1
     }
 
-    /// The name of the fault.
+    /// The variant's name, as the fault is printed.
     pub fn word(self) -> &'static str
         ensures { result.now ≡ word_of self }
     {

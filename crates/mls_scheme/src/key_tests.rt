@@ -98,10 +98,14 @@ fn answers_the_first_fault(rt: HostRuntime) {
 }
 
 #[test]
-fn refuses_each_proper_prefix(rt: HostRuntime) {
+fn refuses_each_proper_prefix_of_a_text(rt: HostRuntime) {
     for count in 0..ENTERPRISE.len() {
         assert_eq!(rt; fault_of(rt.alloc(), &ENTERPRISE[..count]), "Short");
     }
+}
+
+#[test]
+fn refuses_each_proper_prefix_of_four_values(rt: HostRuntime) {
     for count in 0..FOUR.len() {
         assert_eq!(rt; fault_of(rt.alloc(), &FOUR[..count]), "Short");
     }

@@ -42,14 +42,14 @@ impl Scheme {
         Scheme { name, keys, others }
     }
 
-    /// The name of the relation.
+    /// A NAME, as the file writes it: case matters. No two relations of schemes have the same.
     pub fn name(&self) -> &str
         ensures { result.now ≡ self.now.name }
     {
         self.name.as_str()
     }
 
-    /// The key attributes.
+    /// The key attributes, in the order of their file: a tuple's key has its values in this order.
     pub fn keys(&self) -> &Attributes
         ensures keys { result.now ≡ self.now.keys }
         ensures valid { IsScheme self.now }
@@ -57,7 +57,7 @@ impl Scheme {
         &self.keys
     }
 
-    /// The attributes outside the key.
+    /// The attributes outside the key, in the order of their file: a tuple has its elements in this order.
     pub fn others(&self) -> &Attributes
         ensures others { result.now ≡ self.now.others }
         ensures valid { IsScheme self.now }
@@ -119,6 +119,7 @@ impl Schemes {
         ensures valid { IsScheme result.now }
     {
         let scheme = &self.relations[rel.index()];
+        // for what holds of each scheme
         let _keys = scheme.keys();
         scheme
     }

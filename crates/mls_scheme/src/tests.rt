@@ -69,6 +69,30 @@ high = "S"
 const CANON: &str =
     "schemes 1\nrelation SOD\nkey Starship text U H\nattribute Objective text U H\nattribute Destination text U H\nrelation CREW\nkey Id int U U\nattribute Post text U S\n";
 
+/// A field that schemes don't have, in each table.
+const MORE: &str = r#"
+version = 1
+origin = "fleet"
+
+[[relation]]
+name = "CREW"
+origin = "fleet"
+[[relation.key]]
+name = "Id"
+kind = "int"
+low = "U"
+high = "U"
+origin = "fleet"
+[[relation.attribute]]
+name = "Post"
+kind = "text"
+low = "U"
+high = "S"
+origin = "fleet"
+"#;
+
+const MORE_CANON: &str = "schemes 1\nrelation CREW\nkey Id int U U\nattribute Post text U S\n";
+
 /// The number of the fault of a text, or 0 where it is read.
 fn fault_of(rt: &HostRuntime, policy: &Policy, text: &str) -> u8 {
     match Schemes::read(rt.alloc(), policy, text.as_bytes()) {
@@ -83,6 +107,14 @@ fn schemes_text() -> &'static str {
 
 fn canon_text() -> &'static str {
     CANON
+}
+
+fn more_text() -> &'static str {
+    MORE
+}
+
+fn more_canon() -> &'static str {
+    MORE_CANON
 }
 
 fn faults_text() -> &'static str {
@@ -103,6 +135,14 @@ fn reads_and_prints(rt: HostRuntime) -> Result<(), Fail> {
     let policy = sample_policy(&rt)?;
     let text = canon_of(&rt, &policy, schemes_text())?;
     assert!(rt; text.as_slice() == canon_text().as_bytes());
+    Ok(())
+}
+
+#[test]
+fn ignores_other_fields(rt: HostRuntime) -> Result<(), Fail> {
+    let policy = sample_policy(&rt)?;
+    let text = canon_of(&rt, &policy, more_text())?;
+    assert!(rt; text.as_slice() == more_canon().as_bytes());
     Ok(())
 }
 
@@ -335,19 +375,31 @@ fn names_the_faults_of_relations(rt: HostRuntime) -> Result<(), Fail> {
     Ok(())
 }
 
+/// Writes the tables of as many key attributes.
+fn keys_to(text: &mut String, keys: u8) -> Result<(), Fail> {
+    for key in 0..keys {
+        writeln!(text, "[[relation.key]]\nname = \"k{key}\"")?;
+        writeln!(text, "kind = \"int\"\nlow = \"U\"\nhigh = \"H\"")?;
+    }
+    Ok(())
+}
+
+/// Writes the tables of as many attributes outside the key.
+fn others_to(text: &mut String, others: u8) -> Result<(), Fail> {
+    for other in 0..others {
+        writeln!(text, "[[relation.attribute]]\nname = \"a{other}\"")?;
+        writeln!(text, "kind = \"text\"\nlow = \"U\"\nhigh = \"S\"")?;
+    }
+    Ok(())
+}
+
 /// Schemes of these numbers of relations, key attributes and others.
 fn many(rt: &HostRuntime, relations: u8, keys: u8, others: u8) -> Result<String, Fail> {
     let mut text = String::from_str(rt.alloc(), "version = 1\n")?;
     for relation in 0..relations {
         writeln!(text, "[[relation]]\nname = \"R{relation}\"")?;
-        for key in 0..keys {
-            writeln!(text, "[[relation.key]]\nname = \"k{key}\"")?;
-            writeln!(text, "kind = \"int\"\nlow = \"U\"\nhigh = \"H\"")?;
-        }
-        for other in 0..others {
-            writeln!(text, "[[relation.attribute]]\nname = \"a{other}\"")?;
-            writeln!(text, "kind = \"text\"\nlow = \"U\"\nhigh = \"S\"")?;
-        }
+        keys_to(&mut text, keys)?;
+        others_to(&mut text, others)?;
     }
     Ok(text)
 }

@@ -75,6 +75,26 @@ fn compares_keys(rt: HostRuntime) -> Result<(), Fail> {
     Ok(())
 }
 
+/// A place of the key 7.
+fn place(alloc: Global, key_class: u8, class: u8) -> Result<Place, AllocError> {
+    Ok(Place {
+        key: Items::from(vec![in alloc; Value::Int(7)]?),
+        key_class: LabelNo::new(key_class),
+        class: LabelNo::new(class),
+    })
+}
+
+#[test]
+fn compares_places(rt: HostRuntime) -> Result<(), Fail> {
+    let first = place(rt.alloc(), 0, 3)?;
+    // places that differ in key class alone, in class alone, and in both
+    assert!(rt; first.order(&place(rt.alloc(), 2, 3)?) == Ordering::Less);
+    assert!(rt; first.order(&place(rt.alloc(), 0, 1)?) == Ordering::Greater);
+    assert!(rt; first.order(&place(rt.alloc(), 1, 1)?) == Ordering::Less);
+    assert!(rt; first.order(&first) == Ordering::Equal);
+    Ok(())
+}
+
 #[test]
 fn compares_elements(rt: HostRuntime) -> Result<(), Fail> {
     let null = Element {

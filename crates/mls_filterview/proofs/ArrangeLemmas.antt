@@ -1,25 +1,8 @@
 -- Lists sorted and rid of ties have the elements that they had.
-use Rattle.std.proofs.Common.{◌≡◌, ℕ, zero, suc, ◌<◌, Result, Ok, Err, Bool, true, false, cond, List, [], ◌∷◌, length, refl, sym, ap, ◌∙◌, subst, arith, inl, inr}
-use Rattle.std.specs.Prelude.{◌⊎◌, IfOk, Contains, IsPermutation, slice_index_or}
+use Rattle.std.proofs.Common.{◌≡◌, Result, Ok, Err, Bool, true, false, cond, List, [], ◌∷◌, refl, sym, subst, inl, inr}
+use Rattle.std.specs.Prelude.{◌⊎◌, IfOk}
 use Rattle.std.specs.List.{dedup, dedup_from}
-use Rattle.std.proofs.lemmas.List.Sorted.{Contains-permutation, IsPermutation-sym}
 use Rattle.mls_filterview.specs.View.{IsAmong}
-
-pub among_contains : {A : Type 0} (x : A) (xs : List A) → IsAmong x xs → Contains xs x
-among_contains x [] h = absurd h
-among_contains x (y ∷ ys) (inl e) = (0, omega arith, sym e)
-among_contains x (y ∷ ys) (inr h) = let r = among_contains x ys h in (suc r.0, (let l = r.1 in omega arith), r.2)
-
-pub contains_among : {A : Type 0} (x : A) (xs : List A) → Contains xs x → IsAmong x xs
-contains_among {A = A} x xs h = go xs h.0 h.1 h.2
-  where
-    go : (ys : List A) (k : ℕ) → k < length ys → slice_index_or ys k x ≡ x → IsAmong x ys
-    go [] k l e = absurd (omega arith)
-    go (y ∷ ys) zero l e = inl (sym e)
-    go (y ∷ ys) (suc k) l e = inr (go ys k (omega arith) e)
-
-pub among_permuted : {A : Type 0} (xs ys : List A) (x : A) → IsPermutation xs ys → IsAmong x xs → IsAmong x ys
-among_permuted xs ys x p h = contains_among x ys (Contains-permutation xs ys x p (among_contains x xs h))
 
 module _ {A : Type 0} (E : A → A → Bool) where
   from_dedup_from : (k : A) (xs : List A) (x : A) → IsAmong x (dedup_from E k xs) → (x ≡ k) ⊎ IsAmong x xs

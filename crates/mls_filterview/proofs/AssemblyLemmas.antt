@@ -21,55 +21,55 @@ use Rattle.mls_filterview.specs.declared.fragment.Cell.{Cell}
 use Rattle.mls_filterview.specs.View.{IsAmong}
 use Rattle.mls_filterview.specs.Stored.{with_class, IsStored}
 use Rattle.mls_filterview.specs.Fragment.{node_of, cell_at, place_of_node}
-use Rattle.mls_filterview.specs.Assembly.{Spot, spot_cmp, spot_of, AreValues, elements_from, elements_of, AreRows, IsLowEntry, AreLow}
+use Rattle.mls_filterview.specs.Assembly.{CellPlace, cell_place_cmp, place_of_cell, AreValues, elements_from, elements_of, AreRows, IsLowEntry, AreLow}
 use Rattle.mls_filterview.proofs.AmongLemmas.{among_push, among_left, push_last}
 use Rattle.mls_filterview.proofs.EntryLemmas.{Entry}
 use Rattle.mls_filterview.proofs.FragmentLemmas.{cell_found, cell_among}
 
--- ---- spots
+-- ---- places of cells
 
-abbrev is_spot : Spot → Spot → Bool
-is_spot s t = is_eq (spot_cmp s t)
+abbrev is_cell_place : CellPlace → CellPlace → Bool
+is_cell_place s t = is_eq (cell_place_cmp s t)
 
-is_spot-true : (s t : Spot) → is_spot s t ≡ true → s ≡ t
-is_spot-true s t h = exact_pairs place_cmp nat_cmp place_exact exact_unsigned s t (is_eq-true (spot_cmp s t) h)
+is_cell_place-true : (s t : CellPlace) → is_cell_place s t ≡ true → s ≡ t
+is_cell_place-true s t h = exact_pairs place_cmp nat_cmp place_exact exact_unsigned s t (is_eq-true (cell_place_cmp s t) h)
 
-is_spot-same : (s : Spot) → is_spot s s ≡ true
-is_spot-same s = λ t. is_eq (ordering_then (tied_itself place_total s.0 t) (tied_itself nat_cmp_total s.1 t))
+is_cell_place-same : (s : CellPlace) → is_cell_place s s ≡ true
+is_cell_place-same s = λ t. is_eq (ordering_then (tied_itself place_total s.0 t) (tied_itself nat_cmp_total s.1 t))
 
 -- ---- one more cell, one more node
 
-pub values_more : (cs : List Cell) (c : Cell) (look look' : Spot → Option (Option Value)) → AreValues cs look → ((q : Spot) → look' q ≡ cond (is_spot (spot_of c) q) (Some c.value) (look q)) → AreValues (cs ++ c ∷ []) look'
-values_more cs c look look' are update = record {
+pub values_more : (cs : List Cell) (c : Cell) (held held' : CellPlace → Option (Option Value)) → AreValues cs held → ((q : CellPlace) → held' q ≡ cond (is_cell_place (place_of_cell c) q) (Some c.value) (held q)) → AreValues (cs ++ c ∷ []) held'
+values_more cs c held held' are update = record {
   sound = λ s v h.
-      elim (is_spot (spot_of c) s) as (λ b. is_spot (spot_of c) s ≡ b → cond b (Some c.value) (look s) ≡ Some v → (d : Cell) × IsAmong d (cs ++ c ∷ []) × (spot_of d ≡ s) × (d.value ≡ v)) [
-        | true ↦ λ e k. (c, push_last cs c, is_spot-true (spot_of c) s e, same_Some c.value v k)
+      elim (is_cell_place (place_of_cell c) s) as (λ b. is_cell_place (place_of_cell c) s ≡ b → cond b (Some c.value) (held s) ≡ Some v → (d : Cell) × IsAmong d (cs ++ c ∷ []) × (place_of_cell d ≡ s) × (d.value ≡ v)) [
+        | true ↦ λ e k. (c, push_last cs c, is_cell_place-true (place_of_cell c) s e, same_Some c.value v k)
         | false ↦ λ e k. (let r = are.sound s v k in (r.0, among_left cs (c ∷ []) r.0 r.1, r.2, r.3))
       ] refl (sym (update s) ∙ h);
   complete = λ d i.
-      elim (is_spot (spot_of c) (spot_of d)) as (λ b. is_spot (spot_of c) (spot_of d) ≡ b → (v : Option Value) × (look' (spot_of d) ≡ Some v)) [
-        | true ↦ λ e. (c.value, update (spot_of d) ∙ ap (λ b. cond b (Some c.value) (look (spot_of d))) e)
+      elim (is_cell_place (place_of_cell c) (place_of_cell d)) as (λ b. is_cell_place (place_of_cell c) (place_of_cell d) ≡ b → (v : Option Value) × (held' (place_of_cell d) ≡ Some v)) [
+        | true ↦ λ e. (c.value, update (place_of_cell d) ∙ ap (λ b. cond b (Some c.value) (held (place_of_cell d))) e)
         | false ↦ λ e. elim (among_push cs c d i) [
-          | inl j ↦ (let r = are.complete d j in (r.0, update (spot_of d) ∙ ap (λ b. cond b (Some c.value) (look (spot_of d))) e ∙ r.1))
-          | inr q ↦ absurd (true≢false (sym (is_spot-same (spot_of d)) ∙ ap (λ x. is_spot (spot_of x) (spot_of d)) q ∙ e))
+          | inl j ↦ (let r = are.complete d j in (r.0, update (place_of_cell d) ∙ ap (λ b. cond b (Some c.value) (held (place_of_cell d))) e ∙ r.1))
+          | inr q ↦ absurd (true≢false (sym (is_cell_place-same (place_of_cell d)) ∙ ap (λ x. is_cell_place (place_of_cell x) (place_of_cell d)) q ∙ e))
         ]
       ] refl;
 }
 
-pub rows_more : (look : Spot → Option (Option Value)) (ns : List Node) (n : Node) (found found' : Place → Option (List Element)) → AreRows look ns found
-    → ((q : Place) → found' q ≡ cond (is_eq (place_cmp (place_of_node n) q)) (Some (elements_of look n)) (found q)) → AreRows look (ns ++ n ∷ []) found'
-rows_more look ns n found found' are update = record {
+pub rows_more : (held : CellPlace → Option (Option Value)) (ns : List Node) (n : Node) (found found' : Place → Option (List Element)) → AreRows held ns found
+    → ((q : Place) → found' q ≡ cond (is_eq (place_cmp (place_of_node n) q)) (Some (elements_of held n)) (found q)) → AreRows held (ns ++ n ∷ []) found'
+rows_more held ns n found found' are update = record {
   sound = λ p es h.
-      elim (is_eq (place_cmp (place_of_node n) p)) as (λ b. is_eq (place_cmp (place_of_node n) p) ≡ b → cond b (Some (elements_of look n)) (found p) ≡ Some es → (m : Node) × IsAmong m (ns ++ n ∷ []) × (place_of_node m ≡ p) × (elements_of look m ≡ es)) [
-        | true ↦ λ e k. (n, push_last ns n, is_place-true (place_of_node n) p e, same_Some (elements_of look n) es k)
+      elim (is_eq (place_cmp (place_of_node n) p)) as (λ b. is_eq (place_cmp (place_of_node n) p) ≡ b → cond b (Some (elements_of held n)) (found p) ≡ Some es → (m : Node) × IsAmong m (ns ++ n ∷ []) × (place_of_node m ≡ p) × (elements_of held m ≡ es)) [
+        | true ↦ λ e k. (n, push_last ns n, is_place-true (place_of_node n) p e, same_Some (elements_of held n) es k)
         | false ↦ λ e k. (let r = are.sound p es k in (r.0, among_left ns (n ∷ []) r.0 r.1, r.2, r.3))
       ] refl (sym (update p) ∙ h);
   complete = λ m i.
       let q = place_of_node m in
       elim (is_eq (place_cmp (place_of_node n) q)) as (λ b. is_eq (place_cmp (place_of_node n) q) ≡ b → (es : List Element) × (found' q ≡ Some es)) [
-        | true ↦ λ e. (elements_of look n, update q ∙ ap (λ b. cond b (Some (elements_of look n)) (found q)) e)
+        | true ↦ λ e. (elements_of held n, update q ∙ ap (λ b. cond b (Some (elements_of held n)) (found q)) e)
         | false ↦ λ e. elim (among_push ns n m i) [
-          | inl j ↦ (let r = are.complete m j in (r.0, update q ∙ ap (λ b. cond b (Some (elements_of look n)) (found q)) e ∙ r.1))
+          | inl j ↦ (let r = are.complete m j in (r.0, update q ∙ ap (λ b. cond b (Some (elements_of held n)) (found q)) e ∙ r.1))
           | inr s ↦ absurd (true≢false (sym (is_place-same (place_of_node n) q (ap place_of_node (sym s))) ∙ e))
         ]
       ] refl;
@@ -77,30 +77,30 @@ rows_more look ns n found found' are update = record {
 
 -- ---- the elements of a node are those of its tuple
 
-same_elements : (look : Spot → Option (Option Value)) (p : Place) (k : ℕ) (es : List Element)
-    → ((i j : ℕ) → i < length es → j ≡ k + i → unwrap_or (look (with_class p (at es i).class, j)) None ≡ (at es i).value) → elements_from look p k (map (λ x. x.class) es) ≡ es
-same_elements look p k [] h = refl
-same_elements look p k (e ∷ es) h =
-    let rest = same_elements look p (suc k) es (λ i j l q. h (suc i) j (omega arith) (omega arith)) in
+same_elements : (held : CellPlace → Option (Option Value)) (p : Place) (k : ℕ) (es : List Element)
+    → ((i j : ℕ) → i < length es → j ≡ k + i → unwrap_or (held (with_class p (at es i).class, j)) None ≡ (at es i).value) → elements_from held p k (map (λ x. x.class) es) ≡ es
+same_elements held p k [] h = refl
+same_elements held p k (e ∷ es) h =
+    let rest = same_elements held p (suc k) es (λ i j l q. h (suc i) j (omega arith) (omega arith)) in
     let first = h 0 k (omega arith) (omega arith) in
     λ t. record { value = first t; class = e.class } ∷ rest t
 
 module _ (ls : Labels) (n : ℕ) (T : Table) (stored : IsStored ls n T) (c k : ℕ) (ns : List Node) (ds : List Cell) (low : AreLow ls T c k ns ds) (all : (e : Entry) → get T e.0 ≡ Some e.1 → e.0.class < k)
-    (look : Spot → Option (Option Value)) (are : AreValues ds look) where
-  -- a value that is found at the spot of an element of its own class is the element's
-  value_found : (p : Place) (es : List Element) → get T p ≡ Some es → (i : ℕ) → (v : Option Value) → look (p, i) ≡ Some v → v ≡ (at es i).value
+    (held : CellPlace → Option (Option Value)) (are : AreValues ds held) where
+  -- a value that is found at the place of an element of its own class is the element's
+  value_found : (p : Place) (es : List Element) → get T p ≡ Some es → (i : ℕ) → (v : Option Value) → held (p, i) ≡ Some v → v ≡ (at es i).value
   value_found p es h i v g =
       let r = are.sound (p, i) v g in
       let f = (low.cells r.0).0 r.1 in
       let d = cell_found 0 f.0.0 f.0.1 r.0 f.2 in
-      let s : spot_of (cell_at f.0.0 (0 + d.0) (at f.0.1 d.0)) ≡ (p, i) = ap spot_of (sym d.1.1) ∙ r.2 in
-      let q : f.0.0 ≡ p = λ t. record { key = (s t).0.key; key_class = (s t).0.key_class; class = (sym d.1.2 ∙ ap (λ (x : Spot). x.0.class) s) t } in
+      let s : place_of_cell (cell_at f.0.0 (0 + d.0) (at f.0.1 d.0)) ≡ (p, i) = ap place_of_cell (sym d.1.1) ∙ r.2 in
+      let q : f.0.0 ≡ p = λ t. record { key = (s t).0.key; key_class = (s t).0.key_class; class = (sym d.1.2 ∙ ap (λ (x : CellPlace). x.0.class) s) t } in
       let same : f.0.1 ≡ es = same_Some f.0.1 es (sym f.1.0 ∙ ap (get T) q ∙ h) in
-      let number : d.0 ≡ i = sym (zero-add d.0) ∙ ap (λ (x : Spot). x.1) s in
+      let number : d.0 ≡ i = sym (zero-add d.0) ∙ ap (λ (x : CellPlace). x.1) s in
       sym r.3 ∙ ap (λ x. x.value) d.1.1 ∙ (λ t. (at (same t) (number t)).value)
 
   -- at the class of an element, its entity's tuple of that class has the element
-  value_at : (p : Place) (es : List Element) → IsLowEntry ls T c k (p, es) → (i : ℕ) → i < length es → look (with_class p (at es i).class, i) ≡ Some (at es i).value
+  value_at : (p : Place) (es : List Element) → IsLowEntry ls T c k (p, es) → (i : ℕ) → i < length es → held (with_class p (at es i).class, i) ≡ Some (at es i).value
   value_at p es e i l =
       let m : ℕ = (at es i).class in
       let q : Place = with_class p m in
@@ -111,15 +111,15 @@ module _ (ls : Labels) (n : ℕ) (T : Table) (stored : IsStored ls n T) (c k : �
       let cell : Cell = cell_at q i (at cl.0 i) in
       let there = (low.cells cell).1 ((q, cl.0), (cl.1, all (q, cl.0) cl.1, below-trans ls m p.class c (st.greatest m (inr (i, l, refl))) e.2), cell_among 0 q cl.0 i i within (omega arith) (ap (λ x. x.class) agree)) in
       let found = are.complete cell there in
-      let here : look (q, i) ≡ Some found.0 = ap (λ (x : Element). look (with_class p x.class, i)) (sym agree) ∙ found.1 in
+      let here : held (q, i) ≡ Some found.0 = ap (λ (x : Element). held (with_class p x.class, i)) (sym agree) ∙ found.1 in
       here ∙ ap Some (value_found q cl.0 cl.1 i found.0 here ∙ ap (λ x. x.value) agree)
 
-  elements_low : (e : Entry) → IsLowEntry ls T c k e → elements_of look (node_of e) ≡ e.1
-  elements_low e h = same_elements look e.0 0 e.1 (λ i j l q.
-      ap (λ o. unwrap_or o None) (ap (λ j. look (with_class e.0 (at e.1 i).class, j)) (q ∙ zero-add i) ∙ value_at e.0 e.1 h i l))
+  elements_low : (e : Entry) → IsLowEntry ls T c k e → elements_of held (node_of e) ≡ e.1
+  elements_low e h = same_elements held e.0 0 e.1 (λ i j l q.
+      ap (λ o. unwrap_or o None) (ap (λ j. held (with_class e.0 (at e.1 i).class, j)) (q ∙ zero-add i) ∙ value_at e.0 e.1 h i l))
 
   -- so the rows are the tuples of classes that c dominates
-  pub rows_low : (found : Place → Option (List Element)) → AreRows look ns found → (e : Entry) → (found e.0 ≡ Some e.1) ↔ ((get T e.0 ≡ Some e.1) × (below ls e.0.class c ≡ true))
+  pub rows_low : (found : Place → Option (List Element)) → AreRows held ns found → (e : Entry) → (found e.0 ≡ Some e.1) ↔ ((get T e.0 ≡ Some e.1) × (below ls e.0.class c ≡ true))
   rows_low found rows e = (sound e, complete)
     where
       sound : (e : Entry) → found e.0 ≡ Some e.1 → (get T e.0 ≡ Some e.1) × (below ls e.0.class c ≡ true)
@@ -127,7 +127,7 @@ module _ (ls : Labels) (n : ℕ) (T : Table) (stored : IsStored ls n T) (c k : �
           let r = rows.sound e.0 e.1 g in
           let f = (low.nodes r.0).0 r.1 in
           let q : f.0.0 ≡ e.0 = ap place_of_node (sym f.2) ∙ r.2 in
-          let same : f.0.1 ≡ e.1 = sym (elements_low f.0 f.1) ∙ ap (elements_of look) (sym f.2) ∙ r.3 in
+          let same : f.0.1 ≡ e.1 = sym (elements_low f.0 f.1) ∙ ap (elements_of held) (sym f.2) ∙ r.3 in
           (ap (get T) (sym q) ∙ f.1.0 ∙ ap Some same, ap (λ p. below ls p.class c) (sym q) ∙ f.1.2)
 
       complete : (get T e.0 ≡ Some e.1) × (below ls e.0.class c ≡ true) → found e.0 ≡ Some e.1

@@ -21,7 +21,7 @@ use Rattle.mls_filterview.specs.declared.rule.Rule.{Rule}
 use Rattle.mls_filterview.specs.declared.rule.Rule.TheVariants.{Entity, Null, Interval, Poly, Closure}
 use Rattle.mls_filterview.specs.View.{IsAmong}
 use Rattle.mls_filterview.specs.Stored.{with_class, AgreesBelow, IsStoredTuple, IsContent}
-use Rattle.mls_filterview.specs.Filtering.{EachOnce, climb, class_number}
+use Rattle.mls_filterview.specs.Filtering.{EachOnce, greatest_from, class_number}
 use Rattle.mls_filterview.specs.Rules.{row_at, OccursIn, AreOfOneEntity, IsOfClass, IsFirstOfClass, HasBelow, IsClosed, Keeps, IsFirstBroken, IsStoredList}
 use Rattle.mls_filterview.specs.Checking.{broken_rule}
 use Rattle.mls_filterview.proofs.ClassLemmas.{join_of-first, join_of-each, join_of-least, below-Dominates, class_of_stored}
@@ -38,16 +38,16 @@ record IsTop (ls : Labels) (k : ℕ) (es : List Element) (m : ℕ) : Type 0 wher
   pub own : IsClassFrom k es m
   pub greatest : (a : ℕ) → IsClassFrom k es a → below ls a m ≡ true
 
-climb_top : (ls : Labels) (k : ℕ) (es : List Element) → ((a b : ℕ) → IsClassFrom k es a → IsClassFrom k es b → (below ls a b ≡ true) ⊎ (below ls b a ≡ true)) → IsTop ls k es (climb ls k es)
-climb_top ls k [] c = record { own = inl refl; greatest = greatest }
+greatest_from_top : (ls : Labels) (k : ℕ) (es : List Element) → ((a b : ℕ) → IsClassFrom k es a → IsClassFrom k es b → (below ls a b ≡ true) ⊎ (below ls b a ≡ true)) → IsTop ls k es (greatest_from ls k es)
+greatest_from_top ls k [] c = record { own = inl refl; greatest = greatest }
   where
     greatest : (a : ℕ) → IsClassFrom k [] a → below ls a k ≡ true
     greatest a (inl e) = ap (λ x. below ls x k) e ∙ below-refl ls k
     greatest a (inr o) = absurd (let l = o.1 in omega arith)
-climb_top ls k (e ∷ es) c =
-    elim (below ls k e.class) as (λ b. below ls k e.class ≡ b → IsTop ls k (e ∷ es) (climb ls (cond b e.class k) es)) [
-      | true ↦ λ t. up t (climb_top ls e.class es (λ a b o q. c a b (from_head a o) (from_head b q)))
-      | false ↦ λ t. stays t (climb_top ls k es (λ a b o q. c a b (from_key a o) (from_key b q)))
+greatest_from_top ls k (e ∷ es) c =
+    elim (below ls k e.class) as (λ b. below ls k e.class ≡ b → IsTop ls k (e ∷ es) (greatest_from ls (cond b e.class k) es)) [
+      | true ↦ λ t. up t (greatest_from_top ls e.class es (λ a b o q. c a b (from_head a o) (from_head b q)))
+      | false ↦ λ t. stays t (greatest_from_top ls k es (λ a b o q. c a b (from_key a o) (from_key b q)))
     ] refl
   where
     from_head : (a : ℕ) → IsClassFrom e.class es a → IsClassFrom k (e ∷ es) a
@@ -58,11 +58,11 @@ climb_top ls k (e ∷ es) c =
     from_key a (inl q) = inl q
     from_key a (inr o) = inr (suc o.0, (let l = o.1 in omega arith), o.2)
 
-    up : below ls k e.class ≡ true → IsTop ls e.class es (climb ls e.class es) → IsTop ls k (e ∷ es) (climb ls e.class es)
-    up t top = record { own = from_head (climb ls e.class es) top.own; greatest = greatest }
+    up : below ls k e.class ≡ true → IsTop ls e.class es (greatest_from ls e.class es) → IsTop ls k (e ∷ es) (greatest_from ls e.class es)
+    up t top = record { own = from_head (greatest_from ls e.class es) top.own; greatest = greatest }
       where
-        greatest : (a : ℕ) → IsClassFrom k (e ∷ es) a → below ls a (climb ls e.class es) ≡ true
-        greatest a (inl q) = below-trans ls a e.class (climb ls e.class es) (ap (λ x. below ls x e.class) q ∙ t) (top.greatest e.class (inl refl))
+        greatest : (a : ℕ) → IsClassFrom k (e ∷ es) a → below ls a (greatest_from ls e.class es) ≡ true
+        greatest a (inl q) = below-trans ls a e.class (greatest_from ls e.class es) (ap (λ x. below ls x e.class) q ∙ t) (top.greatest e.class (inl refl))
         greatest a (inr (zero, l, q)) = top.greatest a (inl q)
         greatest a (inr (suc i, l, q)) = top.greatest a (inr (i, omega arith, q))
 
@@ -72,17 +72,17 @@ climb_top ls k (e ∷ es) c =
         true_false : true ≡ false → ⊥
         true_false h = cc
 
-    stays : below ls k e.class ≡ false → IsTop ls k es (climb ls k es) → IsTop ls k (e ∷ es) (climb ls k es)
-    stays t top = record { own = from_key (climb ls k es) top.own; greatest = greatest }
+    stays : below ls k e.class ≡ false → IsTop ls k es (greatest_from ls k es) → IsTop ls k (e ∷ es) (greatest_from ls k es)
+    stays t top = record { own = from_key (greatest_from ls k es) top.own; greatest = greatest }
       where
-        greatest : (a : ℕ) → IsClassFrom k (e ∷ es) a → below ls a (climb ls k es) ≡ true
+        greatest : (a : ℕ) → IsClassFrom k (e ∷ es) a → below ls a (greatest_from ls k es) ≡ true
         greatest a (inl q) = top.greatest a (inl q)
-        greatest a (inr (zero, l, q)) = below-trans ls a k (climb ls k es) (ap (λ x. below ls x k) q ∙ under t) (top.greatest k (inl refl))
+        greatest a (inr (zero, l, q)) = below-trans ls a k (greatest_from ls k es) (ap (λ x. below ls x k) q ∙ under t) (top.greatest k (inl refl))
         greatest a (inr (suc i, l, q)) = top.greatest a (inr (i, omega arith, q))
 
 class_top : (ls : Labels) (t : Tuple) → ((a b : ℕ) → OccursIn t a → OccursIn t b → (below ls a b ≡ true) ⊎ (below ls b a ≡ true)) → IsTop ls t.key_class t.elements (class_number ls t)
 unfolding class_number
-class_top ls t c = climb_top ls t.key_class t.elements c
+class_top ls t c = greatest_from_top ls t.key_class t.elements c
 
 -- the tuple's class is that of its greatest class
 class_is : (ls : Labels) (t : Tuple) (m : ℕ) → IsTop ls t.key_class t.elements m → tuple_class ls t ≡ label_of ls m

@@ -1,14 +1,15 @@
 -- The tests of an entity's tuples, as they are computed.
 use Rattle.std.proofs.Common.{◌≡◌, ℕ, zero, suc, ◌<◌, ◌≤◌, ◌+◌, Bool, true, false, not, ◌&&◌, ◌||◌, List, [], ◌∷◌, length, get_or, drop, refl, sym, ap, ◌∙◌, arith}
 use Rattle.std.specs.Prelude.{◌↔◌}
-use Rattle.std.proofs.lemmas.Bool.{and_parts, and_from, eqb-true, eq-eqb, false_from_ne_true, false≢true}
+use Rattle.std.proofs.lemmas.Bool.{false_from_ne_true, false≢true}
 use Rattle.mls_lattice.specs.Labels.{Labels, below}
 use Rattle.mls_scheme.specs.declared.tuple.Element.{Element}
 use Rattle.mls_scheme.specs.declared.tuple.Tuple.{Tuple}
 use Rattle.mls_scheme.specs.Table.{place_of}
 use Rattle.mls_scheme.proofs.OrderLemmas.{is_place-true, is_place-same}
-use Rattle.mls_filterview.specs.Checking.{is_one_entity, same_element, has_at, has_below}
-use Rattle.mls_filterview.proofs.SubsumptionLemmas.{same_value-true, same_value-refl}
+use Rattle.mls_filterview.specs.Subsumption.{same_element}
+use Rattle.mls_filterview.specs.Checking.{is_one_entity, has_at, has_below}
+use Rattle.mls_filterview.proofs.SubsumptionLemmas.{same_element-true, same_element-from}
 
 -- ---- entities
 
@@ -26,17 +27,6 @@ one_key s t true c h = sym (one_entity-from s t (h.0 refl) c)
 one_key s t false c h = sym (false_from_ne_true (is_one_entity s t) (λ e. false≢true (h.1 (one_entity-true s t e).0)))
 
 -- ---- elements
-
-pub same_element-true : (e f : Element) → same_element e f ≡ true → e ≡ f
-same_element-true e f h =
-    let p = and_parts _ _ h in
-    let v = same_value-true e.value f.value p.0 in
-    let c = eqb-true e.class f.class p.1 in
-    λ i. record { value = v i; class = c i }
-
-pub same_element-from : (e f : Element) → e ≡ f → same_element e f ≡ true
-same_element-from e f h =
-    ap (λ (x : Element). same_element e x) (sym h) ∙ and_from _ _ (same_value-refl e.value) (eq-eqb e.class e.class refl)
 
 pub same_element-is : (e f : Element) (b : Bool) → (b ≡ true) ↔ (e ≡ f) → b ≡ same_element e f
 same_element-is e f true h = sym (same_element-from e f (h.0 refl))

@@ -27,7 +27,7 @@ use Rattle.mls_scheme.proofs.OrderLemmas.{value_total, value_exact, place_total,
 use Rattle.mls_filterview.specs.Subsumption.{Subsumes, IsMax}
 use Rattle.mls_filterview.specs.View.{hide, filtered, Filter, View, low, rows, IsAmong}
 use Rattle.mls_filterview.specs.Stored.{Occurs, IsStoredTuple, IsStored}
-use Rattle.mls_filterview.specs.Filtering.{EachOnce, seen, subsumes_tuple, is_covered, uncovered, climb, class_number, row_of, element_cmp, row_cmp}
+use Rattle.mls_filterview.specs.Filtering.{EachOnce, seen, subsumes_tuple, is_covered, uncovered, greatest_from, class_number, row_of, element_cmp, row_cmp}
 use Rattle.mls_filterview.specs.RowOrder.{row_total}
 use Rattle.mls_filterview.proofs.SubsumptionLemmas.{Subsumes-antisym}
 use Rattle.mls_filterview.proofs.SubsumptionSteps.{subsumes_tuple-true, subsumes_tuple-from}
@@ -124,14 +124,14 @@ uncovered_bounded n ls c ts h = kept_bounded (HasClassesBelow n) (λ t. not (is_
 
 -- ---- the number of a stored tuple's class
 
-climb-top : (ls : Labels) → AreDistinct ls → (m : ℕ) → m < length ls → (k : ℕ) (es : List Element) → k < length ls → below ls k m ≡ true
-    → ((i : ℕ) → i < length es → (below ls (at es i).class m ≡ true) × ((at es i).class < length ls)) → (m ≡ k) ⊎ ((i : ℕ) × (i < length es) × (m ≡ (at es i).class)) → climb ls k es ≡ m
-climb-top ls distinct m dm k [] dk b each (inl e) = sym e
-climb-top ls distinct m dm k [] dk b each (inr h) = absurd (let l = h.1 in omega arith)
-climb-top ls distinct m dm k (e ∷ es) dk b each occurs =
-    elim (below ls k e.class) as (λ t. below ls k e.class ≡ t → climb ls (cond t e.class k) es ≡ m) [
-      | true ↦ λ t. climb-top ls distinct m dm e.class es first.1 first.0 rest (up t occurs)
-      | false ↦ λ t. climb-top ls distinct m dm k es dk b rest (stays t occurs)
+greatest_from-top : (ls : Labels) → AreDistinct ls → (m : ℕ) → m < length ls → (k : ℕ) (es : List Element) → k < length ls → below ls k m ≡ true
+    → ((i : ℕ) → i < length es → (below ls (at es i).class m ≡ true) × ((at es i).class < length ls)) → (m ≡ k) ⊎ ((i : ℕ) × (i < length es) × (m ≡ (at es i).class)) → greatest_from ls k es ≡ m
+greatest_from-top ls distinct m dm k [] dk b each (inl e) = sym e
+greatest_from-top ls distinct m dm k [] dk b each (inr h) = absurd (let l = h.1 in omega arith)
+greatest_from-top ls distinct m dm k (e ∷ es) dk b each occurs =
+    elim (below ls k e.class) as (λ t. below ls k e.class ≡ t → greatest_from ls (cond t e.class k) es ≡ m) [
+      | true ↦ λ t. greatest_from-top ls distinct m dm e.class es first.1 first.0 rest (up t occurs)
+      | false ↦ λ t. greatest_from-top ls distinct m dm k es dk b rest (stays t occurs)
     ] refl
   where
     first : (below ls e.class m ≡ true) × (e.class < length ls)
@@ -154,7 +154,7 @@ pub class_number-stored : (ls : Labels) → AreDistinct ls → (n : ℕ) (T : Ta
 unfolding class_number
 class_number-stored ls distinct n T stored m t h =
     let st = stored (place_of m t) t.elements h in
-    climb-top ls distinct m (st.declared m st.own) t.key_class t.elements (st.declared t.key_class (inl refl)) (st.greatest t.key_class (inl refl))
+    greatest_from-top ls distinct m (st.declared m st.own) t.key_class t.elements (st.declared t.key_class (inl refl)) (st.greatest t.key_class (inl refl))
     (λ i l. (st.greatest (at t.elements i).class (inr (i, l, refl)), st.declared (at t.elements i).class (inr (i, l, refl)))) st.own
 
 -- ---- rows in order

@@ -73,12 +73,6 @@ fragment_cells T m f is d = (
 
 -- ---- from label to label
 
-pub low_none : (ls : Labels) (T : Table) (c : ℕ) → AreLow ls T c 0 [] []
-low_none ls T c = record { nodes = λ n. ((λ i. absurd i), (λ h. absurd (nothing h.1.1))); cells = λ d. ((λ i. absurd i), (λ h. absurd (nothing h.1.1))) }
-  where
-    nothing : {k : ℕ} → k < 0 → ⊥
-    nothing h = omega arith
-
 module _ (ls : Labels) (T : Table) (c k : ℕ) where
   same_entries : (e : Entry) → below ls k c ≡ false → IsLowEntry ls T c k e ↔ IsLowEntry ls T c (k + 1) e
   same_entries e out = (

@@ -14,7 +14,7 @@ pub mod ArrangeLemmas
 pub mod FilterLemmas
 pub mod FragmentLemmas
 pub mod AssemblyLemmas
-pub mod ShownLemmas
+pub mod ListedLemmas
 pub mod FittingSteps
 pub mod EntitySteps
 pub mod RuleLemmas

@@ -29,10 +29,6 @@ same_low ls c S T h = same_table _ _ (λ q.
       | false ↦ λ e. get_low_out ls c S q e ∙ sym (get_low_out ls c T q e)
     ] refl)
 
--- and the other way round
-pub from_same_low : (ls : Labels) (c : ℕ) (S T : Table) → low ls c S ≡ low ls c T → (q : Place) → below ls q.class c ≡ true → get S q ≡ get T q
-from_same_low ls c S T h q e = sym (get_low_in ls c S q e) ∙ ap (λ m. get m q) h ∙ get_low_in ls c T q e
-
 -- a tuple of low is one of the table, of a class that c dominates
 pub from_low : (ls : Labels) (c : ℕ) (T : Table) (t : Tuple) (m : ℕ) → Has (low ls c T) m t → Has T m t × (below ls m c ≡ true)
 from_low ls c T t m h =

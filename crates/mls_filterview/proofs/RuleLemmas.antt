@@ -17,11 +17,13 @@ use Rattle.mls_scheme.specs.Scheme.{Scheme}
 use Rattle.mls_scheme.specs.Fits.{Fits, in_interval}
 use Rattle.mls_filterview.specs.declared.rule.Rule.{Rule}
 use Rattle.mls_filterview.specs.declared.rule.Rule.TheVariants.{Entity, Null, Interval, Poly, Closure}
+use Rattle.mls_filterview.specs.Subsumption.{same_element}
 use Rattle.mls_filterview.specs.View.{IsAmong}
 use Rattle.mls_filterview.specs.Rules.{row_at, OccursIn, AreOfOneEntity, IsOfClass, IsFirstOfClass, HasBelow, IsDetermined, IsClosed, Keeps, rank}
-use Rattle.mls_filterview.specs.Checking.{all_classes, is_above_key, has_nulls_at_key, fits_value, fits_element, all_zip, fits_scheme, is_twin, is_of_class, same_element, has_below, agrees_with_first, is_determined, is_comparable, is_chain, has_each_class, broken_rule}
+use Rattle.mls_filterview.specs.Checking.{all_classes, is_above_key, has_nulls_at_key, fits_value, fits_element, all_zip, fits_scheme, has_same_class, is_of_class, has_below, agrees_with_first, is_determined, is_comparable, is_chain, has_each_class, broken_rule}
 use Rattle.mls_filterview.proofs.AmongLemmas.{none_of, all_none}
-use Rattle.mls_filterview.proofs.EntitySteps.{one_entity-true, one_entity-from, same_element-true, same_element-from}
+use Rattle.mls_filterview.proofs.SubsumptionLemmas.{same_element-true, same_element-from}
+use Rattle.mls_filterview.proofs.EntitySteps.{one_entity-true, one_entity-from}
 
 -- ---- lists
 
@@ -121,11 +123,11 @@ module _ (ls : Labels) where
   of_class-from s t m h =
       and_from _ _ (one_entity-from s t h.0.0 h.0.1) (ap (same_pair (tuple_class ls s)) (sym h.1) ∙ same_pair-refl (tuple_class ls s))
 
-  twin-true : (s t : Tuple) → is_twin ls t s ≡ true → AreOfOneEntity s t × (tuple_class ls s ≡ tuple_class ls t)
-  twin-true s t h = let r = and_parts _ _ h in (one_entity-true s t r.0, same_pair-same (tuple_class ls s) (tuple_class ls t) r.1)
+  same_class-true : (s t : Tuple) → has_same_class ls t s ≡ true → AreOfOneEntity s t × (tuple_class ls s ≡ tuple_class ls t)
+  same_class-true s t h = let r = and_parts _ _ h in (one_entity-true s t r.0, same_pair-same (tuple_class ls s) (tuple_class ls t) r.1)
 
-  twin-from : (s t : Tuple) → AreOfOneEntity s t → tuple_class ls s ≡ tuple_class ls t → is_twin ls t s ≡ true
-  twin-from s t h e = and_from _ _ (one_entity-from s t h.0 h.1) (ap (same_pair (tuple_class ls s)) (sym e) ∙ same_pair-refl (tuple_class ls s))
+  same_class-from : (s t : Tuple) → AreOfOneEntity s t → tuple_class ls s ≡ tuple_class ls t → has_same_class ls t s ≡ true
+  same_class-from s t h e = and_from _ _ (one_entity-from s t h.0 h.1) (ap (same_pair (tuple_class ls s)) (sym e) ∙ same_pair-refl (tuple_class ls s))
 
   not-below : (a m : ℕ) (b : Bool) → below ls a m ≡ true → (not (below ls a m) || b) ≡ true → b ≡ true
   not-below a m b h k = ap (λ x. not x || b) (sym h) ∙ k
@@ -208,15 +210,15 @@ module _ (ls : Labels) where
     determined-true : is_determined ls ts i ≡ true → IsDetermined ls ts i
     determined-true h =
         let r = and_parts _ _ h in record {
-          alone = λ j k e c. true≢false (sym (twin-from (row_at ts j) t e c) ∙ none_of (is_twin ls t) (take i ts) (not-true _ r.0) (row_at ts j) (before-among ts i j k l));
+          alone = λ j k e c. true≢false (sym (same_class-from (row_at ts j) t e c) ∙ none_of (has_same_class ls t) (take i ts) (not-true _ r.0) (row_at ts j) (before-among ts i j k l));
           agrees = λ m j o f. first-true t m ts (classes-each (λ m. agrees_with_first ls t m ts) t r.1 m o) j f;
         }
 
     determined-from : IsDetermined ls ts i → is_determined ls ts i ≡ true
     determined-from d =
-        and_from _ _ (not_from_false _ (all_none (is_twin ls t) (take i ts) (λ s a. false_from_ne_true _ (λ e.
+        and_from _ _ (not_from_false _ (all_none (has_same_class ls t) (take i ts) (λ s a. false_from_ne_true _ (λ e.
         let r = among-before ts i s a in
-        let w = twin-true s t e in
+        let w = same_class-true s t e in
         d.alone r.0 r.1 (subst (λ x. AreOfOneEntity x t) r.2 w.0) (ap (tuple_class ls) (sym r.2) ∙ w.1)))))
         (each-classes (λ m. agrees_with_first ls t m ts) t (λ m o. first-from t m ts (λ j f. d.agrees m j o f)))
 

@@ -1,4 +1,4 @@
--- Small relations, and which of their tuples no other one subsumes.
+-- Worked rows, which compute: small relations, and which of their tuples no other one subsumes.
 use Rattle.std.proofs.Common.{◌≡◌, ℕ, List, [], ◌∷◌, Option, Some, None, refl}
 use Rattle.std.specs.Prelude.{codes}
 use Rattle.std.specs.List.{filter}
@@ -18,15 +18,15 @@ entry class name key_class v k w m = (
   record { value = v; class = k } ∷ record { value = w; class = m } ∷ [],
 )
 
-abbrev shown : List Entry → List Entry
-shown es = filter (is_max_among es) es
+abbrev maximal : List Entry → List Entry
+maximal es = filter (is_max_among es) es
 
 voyager : List Entry
 voyager =
     entry 0 (codes "Voyager") 0 None 0 None 0 ∷
     entry 2 (codes "Voyager") 0 None 0 (word (codes "Rigel")) 2 ∷ []
 
-a_value_shows_over_a_null : shown voyager ≡ entry 2 (codes "Voyager") 0 None 0 (word (codes "Rigel")) 2 ∷ []
+a_value_shows_over_a_null : maximal voyager ≡ entry 2 (codes "Voyager") 0 None 0 (word (codes "Rigel")) 2 ∷ []
 unfolding place_cmp voyager
 a_value_shows_over_a_null = refl
 
@@ -37,7 +37,7 @@ enterprise =
     entry 2 (codes "Enterprise") 0 (word (codes "Spying")) 2 (word (codes "Talos")) 0 ∷
     entry 3 (codes "Enterprise") 0 (word (codes "Spying")) 2 (word (codes "Rigel")) 3 ∷ []
 
-other_values_show_beside_each_other : shown enterprise ≡ enterprise
+other_values_show_beside_each_other : maximal enterprise ≡ enterprise
 unfolding place_cmp enterprise
 other_values_show_beside_each_other = refl
 
@@ -47,7 +47,7 @@ two_entities =
     entry 0 (codes "Enterprise") 0 (word (codes "Trade")) 0 (word (codes "Talos")) 0 ∷
     entry 2 (codes "Enterprise") 2 (word (codes "Trade")) 2 None 2 ∷ []
 
-other_entities_show_beside_each_other : shown two_entities ≡ two_entities
+other_entities_show_beside_each_other : maximal two_entities ≡ two_entities
 unfolding place_cmp two_entities
 other_entities_show_beside_each_other = refl
 
@@ -57,6 +57,6 @@ values_at_two_classes =
     entry 0 (codes "Enterprise") 0 (word (codes "Diplomacy")) 0 None 0 ∷
     entry 1 (codes "Enterprise") 0 (word (codes "Diplomacy")) 1 None 0 ∷ []
 
-a_value_of_another_class_shows : shown values_at_two_classes ≡ values_at_two_classes
+a_value_of_another_class_shows : maximal values_at_two_classes ≡ values_at_two_classes
 unfolding place_cmp values_at_two_classes
 a_value_of_another_class_shows = refl

@@ -1,6 +1,6 @@
 -- Subsumption is an order, and its tests decide it.
 use Rattle.std.proofs.Common.{◌≡◌, ℕ, zero, suc, ◌<◌, true, false, ◌&&◌, List, [], ◌∷◌, length, Option, Some, None, refl, sym, ap, ◌∙◌, subst, arith, inl, inr}
-use Rattle.std.specs.Prelude.{is_some, nat_eq}
+use Rattle.std.specs.Prelude.{is_some}
 use Rattle.std.specs.Option.{option_eq}
 use Rattle.std.proofs.lemmas.Bool.{true≢false, false≢true, and_parts, and_from, or_cases, or_left, or_right, not-true, not_from_false, eqb-true, eq-eqb}
 use Rattle.std.proofs.lemmas.List.{ext_get_or}
@@ -12,7 +12,7 @@ use Rattle.mls_scheme.specs.Tuple.{at, null_element}
 use Rattle.mls_scheme.specs.Table.{tuple_at}
 use Rattle.mls_scheme.specs.declared.place.Place.{Place}
 use Rattle.mls_scheme.proofs.OrderLemmas.{value_eq-true, value_eq-same, is_place-true, is_place-same}
-use Rattle.mls_filterview.specs.Subsumption.{Covers, Subsumes, covers, all_cover, subsumes_entry}
+use Rattle.mls_filterview.specs.Subsumption.{Covers, Subsumes, same_element, covers, all_cover, subsumes_entry}
 
 Covers-trans : (a b c : Element) → Covers a b → Covers b c → Covers a c
 Covers-trans a b c (inl p) k = subst (λ x. Covers x c) (sym p) k
@@ -67,17 +67,27 @@ pub same_value-refl : (v : Option Value) → option_eq value_eq v v ≡ true
 same_value-refl None = refl
 same_value-refl (Some v) = value_eq-same v v refl
 
+pub same_element-true : (e f : Element) → same_element e f ≡ true → e ≡ f
+same_element-true e f h =
+    let p = and_parts _ _ h in
+    let v = same_value-true e.value f.value p.0 in
+    let c = eqb-true e.class f.class p.1 in
+    λ i. record { value = v i; class = c i }
+
+pub same_element-from : (e f : Element) → e ≡ f → same_element e f ≡ true
+same_element-from e f h =
+    ap (λ (x : Element). same_element e x) (sym h) ∙ and_from _ _ (same_value-refl e.value) (eq-eqb e.class e.class refl)
+
 pub covers-true : (a b : Element) → covers a b ≡ true → Covers a b
 covers-true a b h =
     elim (or_cases _ _ h) [
-      | inl k ↦ (let p = and_parts _ _ k in inl (λ i. record { value = same_value-true a.value b.value p.0 i; class = eqb-true a.class b.class p.1 i }))
+      | inl k ↦ inl (same_element-true a b k)
       | inr k ↦ (let p = and_parts _ _ k in inr (p.0, not-true _ p.1))
     ]
 
 pub covers-from : (a b : Element) → Covers a b → covers a b ≡ true
-covers-from a b (inl e) =
-    or_left _ _ (and_from _ _ (subst (λ x. option_eq value_eq a.value x.value ≡ true) e (same_value-refl a.value)) (eq-eqb a.class b.class (ap (λ x. x.class) e)))
-covers-from a b (inr k) = or_right (option_eq value_eq a.value b.value && nat_eq a.class b.class) _ (and_from _ _ k.0 (not_from_false _ k.1))
+covers-from a b (inl e) = or_left _ _ (same_element-from a b e)
+covers-from a b (inr k) = or_right (same_element a b) _ (and_from _ _ k.0 (not_from_false _ k.1))
 
 pub all_cover-true : (as' bs : List Element) → all_cover as' bs ≡ true → (length as' ≡ length bs) × EachCovers as' bs
 all_cover-true [] [] h = (refl, λ i l. absurd (omega arith))

@@ -1,18 +1,16 @@
 -- The tests of subsumption, as they are computed.
 use Rattle.std.proofs.Common.{◌≡◌, ℕ, ◌==◌, Bool, true, false, ◌||◌, ◌&&◌, not, List, [], ◌∷◌, length, Option, Some, None, refl, sym, ap, ◌∙◌, arith, inl, inr}
-use Rattle.std.specs.Prelude.{is_some, is_none, nat_eq, ◌↔◌}
-use Rattle.std.specs.Option.{option_eq}
-use Rattle.std.proofs.lemmas.Bool.{and_parts, eqb-true, false_from_ne_true, false≢true, true≢false, and_right}
+use Rattle.std.specs.Prelude.{is_some, is_none, ◌↔◌}
+use Rattle.std.proofs.lemmas.Bool.{false_from_ne_true, false≢true, true≢false, and_right}
 use Rattle.mls_scheme.specs.declared.value.Value.{Value}
 use Rattle.mls_scheme.specs.declared.tuple.Element.{Element}
 use Rattle.mls_scheme.specs.declared.tuple.Tuple.{Tuple}
-use Rattle.mls_scheme.specs.Value.{value_eq}
 use Rattle.mls_scheme.specs.Tuple.{is_null}
 use Rattle.mls_scheme.specs.Table.{place_of}
 use Rattle.mls_scheme.proofs.OrderLemmas.{is_place-true, is_place-same}
-use Rattle.mls_filterview.specs.Subsumption.{Subsumes, covers, all_cover, subsumes_entry}
+use Rattle.mls_filterview.specs.Subsumption.{Subsumes, same_element, covers, all_cover, subsumes_entry}
 use Rattle.mls_filterview.specs.Filtering.{subsumes_tuple}
-use Rattle.mls_filterview.proofs.SubsumptionLemmas.{same_value-true, subsumes_entry-true, subsumes_entry-from, covers-from, same_tuple}
+use Rattle.mls_filterview.proofs.SubsumptionLemmas.{same_element-true, subsumes_entry-true, subsumes_entry-from, covers-from, same_tuple}
 
 not_null : (v w : Option Value) → is_none v ≡ false → (is_some v && not (is_some w)) ≡ is_none w
 not_null None w h = absurd (true≢false h)
@@ -22,9 +20,7 @@ not_null (Some v) (Some w) h = refl
 pub covers-other : (a b : Element) → (a ≡ b → ⊥) → is_null a ≡ false → covers a b ≡ is_null b
 covers-other a b ne h =
     ap (λ x. x || (is_some a.value && not (is_some b.value)))
-    (false_from_ne_true (option_eq value_eq a.value b.value && nat_eq a.class b.class) (λ t.
-    let p = and_parts _ _ t in
-    ne (λ i. record { value = same_value-true a.value b.value p.0 i; class = eqb-true a.class b.class p.1 i })))
+    (false_from_ne_true (same_element a b) (λ t. ne (same_element-true a b t)))
     ∙ not_null a.value b.value h
 
 pub all_cover-uneven : (as' bs : List Element) → (length as' ≡ length bs → ⊥) → all_cover as' bs ≡ false

@@ -16,32 +16,32 @@ use Rattle.mls_filterview.specs.Stored.{with_class}
 use Rattle.mls_filterview.specs.Fragment.{node_of, cells_of, place_of_node}
 
 -- a place, and an attribute
-abbrev pub Spot : Type 0
-Spot = Place × ℕ
+abbrev pub CellPlace : Type 0
+CellPlace = Place × ℕ
 
 -- places, and at one place attributes by number
-abbrev pub spot_cmp : Spot → Spot → Ordering
-spot_cmp s t = ordering_then (place_cmp s.0 t.0) (nat_cmp s.1 t.1)
+abbrev pub cell_place_cmp : CellPlace → CellPlace → Ordering
+cell_place_cmp s t = ordering_then (place_cmp s.0 t.0) (nat_cmp s.1 t.1)
 
-abbrev pub spot_of : Cell → Spot
-spot_of c = (record { key = c.key; key_class = c.key_class; class = c.label }, c.attr)
+abbrev pub place_of_cell : Cell → CellPlace
+place_of_cell c = (record { key = c.key; key_class = c.key_class; class = c.label }, c.attr)
 
--- the values of cells, found by their spots
-pub record AreValues (cells : List Cell) (look : Spot → Option (Option Value)) : Type 0 where
-  pub sound : (s : Spot) (v : Option Value) → look s ≡ Some v → (c : Cell) × IsAmong c cells × (spot_of c ≡ s) × (c.value ≡ v)
-  pub complete : (c : Cell) → IsAmong c cells → (v : Option Value) × (look (spot_of c) ≡ Some v)
+-- the values of cells, found by their places and attributes
+pub record AreValues (cells : List Cell) (held : CellPlace → Option (Option Value)) : Type 0 where
+  pub sound : (s : CellPlace) (v : Option Value) → held s ≡ Some v → (c : Cell) × IsAmong c cells × (place_of_cell c ≡ s) × (c.value ≡ v)
+  pub complete : (c : Cell) → IsAmong c cells → (v : Option Value) × (held (place_of_cell c) ≡ Some v)
 
 -- the elements of a pattern, numbered from k: at each attribute the entity's value of that class, null where there is none
-abbrev pub elements_from : (Spot → Option (Option Value)) → Place → ℕ → List ℕ → List Element
-elements_from look p k [] = []
-elements_from look p k (m ∷ ms) = record { value = unwrap_or (look (with_class p m, k)) None; class = m } ∷ elements_from look p (suc k) ms
+abbrev pub elements_from : (CellPlace → Option (Option Value)) → Place → ℕ → List ℕ → List Element
+elements_from held p k [] = []
+elements_from held p k (m ∷ ms) = record { value = unwrap_or (held (with_class p m, k)) None; class = m } ∷ elements_from held p (suc k) ms
 
-abbrev pub elements_of : (Spot → Option (Option Value)) → Node → List Element
-elements_of look n = elements_from look (place_of_node n) 0 n.pattern
+abbrev pub elements_of : (CellPlace → Option (Option Value)) → Node → List Element
+elements_of held n = elements_from held (place_of_node n) 0 n.pattern
 
 -- the tuples of nodes, found by their places
-pub record AreRows (look : Spot → Option (Option Value)) (nodes : List Node) (found : Place → Option (List Element)) : Type 0 where
-  pub sound : (p : Place) (es : List Element) → found p ≡ Some es → (n : Node) × IsAmong n nodes × (place_of_node n ≡ p) × (elements_of look n ≡ es)
+pub record AreRows (held : CellPlace → Option (Option Value)) (nodes : List Node) (found : Place → Option (List Element)) : Type 0 where
+  pub sound : (p : Place) (es : List Element) → found p ≡ Some es → (n : Node) × IsAmong n nodes × (place_of_node n ≡ p) × (elements_of held n ≡ es)
   pub complete : (n : Node) → IsAmong n nodes → (es : List Element) × (found (place_of_node n) ≡ Some es)
 
 -- a tuple of the table, of a class below k that c dominates

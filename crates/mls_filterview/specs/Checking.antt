@@ -2,19 +2,19 @@
 use Rattle.std.specs.Prelude.{ℕ, Bool, true, false, not, ◌&&◌, ◌||◌, if◌then◌else◌, nat_eq, is_some, List, [], ◌∷◌, take, drop, Option, Some, None}
 use Rattle.std.specs.List.{list_all, list_any}
 use Rattle.std.specs.Ordering.{eq_by_cmp}
-use Rattle.std.specs.Option.{option_eq}
 use Rattle.mls_lattice.specs.Lattice.{same_pair}
 use Rattle.mls_lattice.specs.Labels.{Labels, label_of, below}
 use Rattle.mls_scheme.specs.declared.value.Value.{Value}
 use Rattle.mls_scheme.specs.declared.tuple.Element.{Element}
 use Rattle.mls_scheme.specs.declared.tuple.Tuple.{Tuple}
-use Rattle.mls_scheme.specs.Value.{value_eq, is_kind, fits_kind}
+use Rattle.mls_scheme.specs.Value.{is_kind, fits_kind}
 use Rattle.mls_scheme.specs.Tuple.{tuple_class}
 use Rattle.mls_scheme.specs.Table.{place_cmp, place_of}
 use Rattle.mls_scheme.specs.Scheme.{Attribute, Scheme}
 use Rattle.mls_scheme.specs.Fits.{in_interval}
 use Rattle.mls_filterview.specs.declared.rule.Rule.{Rule}
 use Rattle.mls_filterview.specs.declared.rule.Rule.TheVariants.{Entity, Null, Interval, Poly, Closure}
+use Rattle.mls_filterview.specs.Subsumption.{same_element}
 use Rattle.mls_filterview.specs.Rules.{row_at}
 
 -- a test of each class of a tuple
@@ -50,14 +50,11 @@ fits_scheme ls scheme t = all_zip (fits_value ls t.key_class) scheme.keys t.key 
 abbrev pub is_one_entity : Tuple → Tuple → Bool
 is_one_entity s t = eq_by_cmp place_cmp (place_of 0 s) (place_of 0 t)
 
-abbrev pub is_twin : Labels → Tuple → Tuple → Bool
-is_twin ls t s = is_one_entity s t && same_pair (tuple_class ls s) (tuple_class ls t)
+abbrev pub has_same_class : Labels → Tuple → Tuple → Bool
+has_same_class ls t s = is_one_entity s t && same_pair (tuple_class ls s) (tuple_class ls t)
 
 abbrev pub is_of_class : Labels → Tuple → ℕ → Tuple → Bool
 is_of_class ls t m s = is_one_entity s t && same_pair (tuple_class ls s) (label_of ls m)
-
-abbrev pub same_element : Element → Element → Bool
-same_element e f = option_eq value_eq e.value f.value && nat_eq e.class f.class
 
 -- a list begins with the element
 abbrev pub has_at : Element → List Element → Bool
@@ -74,7 +71,7 @@ agrees_with_first ls t m [] = true
 agrees_with_first ls t m (s ∷ ss) = if is_of_class ls t m s then has_below ls m t.elements s.elements else agrees_with_first ls t m ss
 
 abbrev pub is_determined : Labels → List Tuple → ℕ → Bool
-is_determined ls ts i = not (list_any (is_twin ls (row_at ts i)) (take i ts)) && all_classes (λ m. agrees_with_first ls (row_at ts i) m ts) (row_at ts i)
+is_determined ls ts i = not (list_any (has_same_class ls (row_at ts i)) (take i ts)) && all_classes (λ m. agrees_with_first ls (row_at ts i) m ts) (row_at ts i)
 
 -- ---- closure
 

@@ -35,13 +35,13 @@ abbrev pub uncovered : List Tuple → List Tuple
 uncovered ts = filter (λ t. not (is_covered ts t)) ts
 
 -- from a class up to each class of elements, in turn, that dominates the class reached
-abbrev pub climb : Labels → ℕ → List Element → ℕ
-climb ls m [] = m
-climb ls m (e ∷ es) = climb ls (if below ls m e.class then e.class else m) es
+abbrev pub greatest_from : Labels → ℕ → List Element → ℕ
+greatest_from ls m [] = m
+greatest_from ls m (e ∷ es) = greatest_from ls (if below ls m e.class then e.class else m) es
 
 -- the number of the greatest of the classes of a tuple, where there is one: it is then the number of the tuple's class
 unfoldable pub class_number : Labels → Tuple → ℕ
-class_number ls t = climb ls t.key_class t.elements
+class_number ls t = greatest_from ls t.key_class t.elements
 
 -- the place of a tuple, and its elements
 abbrev pub row_of : Labels → Tuple → Place × List Element

@@ -1,14 +1,10 @@
 -- The laws of views and of the stored form.
-use Rattle.std.specs.Prelude.{◌≡◌, ℕ, ◌<◌, true, length, ◌↔◌, List, map, Some}
-use Rattle.std.specs.List.{filter}
-use Rattle.std.specs.FinMap.{get, is_sorted}
+use Rattle.std.specs.Prelude.{◌≡◌, ℕ, ◌<◌, true, length, ◌↔◌}
 use Rattle.mls_lattice.specs.Labels.{Labels, label_of, below, AreDistinct}
-use Rattle.mls_scheme.specs.declared.tuple.Element.{Element}
 use Rattle.mls_scheme.specs.declared.tuple.Tuple.{Tuple}
 use Rattle.mls_scheme.specs.Tuple.{tuple_class}
-use Rattle.mls_scheme.specs.Table.{place_cmp, Table, Has, IsIn, tuple_at}
-use Rattle.mls_scheme.specs.declared.place.Place.{Place}
-use Rattle.mls_filterview.specs.Subsumption.{IsMax, is_max_among}
+use Rattle.mls_scheme.specs.Table.{Table, Has, IsIn}
+use Rattle.mls_filterview.specs.Subsumption.{IsMax}
 use Rattle.mls_filterview.specs.View.{View, low, rows, IsAmong, AreInOrder}
 use Rattle.mls_filterview.specs.Stored.{IsStored}
 use Rattle.mls_filterview.specs.Integrity.{HasIntegrity}
@@ -39,10 +35,3 @@ RowsAreTheView =
     (ls : Labels) → AreDistinct ls → (n : ℕ) (T : Table) → IsStored ls n T → (c : ℕ)
     → ((t : Tuple) → IsAmong t (rows ls c T) ↔ View ls (IsIn T) c t)
     × AreInOrder T (rows ls c T)
-
--- the rows may be computed from any list in order of just the tuples of classes that c dominates
-abbrev pub RowsComeFromLow : Type 0
-RowsComeFromLow =
-    (ls : Labels) (c : ℕ) (T : Table) (es : List (Place × List Element)) → is_sorted place_cmp es ≡ true
-    → ((e : Place × List Element) → IsAmong e es ↔ ((get T e.0 ≡ Some e.1) × (below ls e.0.class c ≡ true)))
-    → map (λ e. tuple_at e.0 e.1) (filter (is_max_among es) es) ≡ rows ls c T

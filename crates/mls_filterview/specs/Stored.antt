@@ -47,8 +47,5 @@ pub record IsContent (ls : Labels) (scheme : Scheme) (T : Table) : Type 0 where
   pub fits : (p : Place) (es : List Element) → get T p ≡ Some es → Fits ls scheme p es
 
 -- so in each relation of a database
-abbrev pub AllStored : Labels → Schemes → Database → Type 0
-AllStored ls schemes db = (rel : ℕ) → IsStored ls (length (scheme_of schemes rel).others) (db rel)
-
 abbrev pub AreContent : Labels → Schemes → Database → Type 0
 AreContent ls schemes db = (rel : ℕ) → IsContent ls (scheme_of schemes rel) (db rel)

@@ -27,8 +27,11 @@ IsMax X t = X t × ((s : Tuple) → X s → Subsumes s t → s ≡ t)
 
 -- ---- the tests of Covers and Subsumes
 
+abbrev pub same_element : Element → Element → Bool
+same_element a b = option_eq value_eq a.value b.value && nat_eq a.class b.class
+
 abbrev pub covers : Element → Element → Bool
-covers a b = (option_eq value_eq a.value b.value && nat_eq a.class b.class) || (is_some a.value && not (is_some b.value))
+covers a b = same_element a b || (is_some a.value && not (is_some b.value))
 
 abbrev pub all_cover : List Element → List Element → Bool
 all_cover [] [] = true

@@ -3,9 +3,10 @@ ghost use Rattle.std.specs.Prelude.{◌≡◌, OnOk, IfOk, Some, None};
 ghost use Rattle.std.specs.Option.{unwrap_or};
 ghost use Rattle.std.specs.BTreeMap.{Updates, IsOrdered, get};
 ghost use Rattle.mls_scheme.specs.Table.{place_cmp};
-ghost use Rattle.mls_filterview.specs.Assembly.{spot_cmp, AreValues, AreRows, elements_of};
+ghost use Rattle.mls_filterview.specs.Assembly.{cell_place_cmp, AreValues, AreRows, elements_of};
 
 use crate::fragment::{Cell, Fragment, Node};
+use crate::row::Row;
 use mls_lattice::Items;
 use mls_scheme::{Element, Place, Tuple, Value, copy_key};
 use std::alloc::{AllocError, AllocFailed, Global};
@@ -37,15 +38,15 @@ fn put_value(
     attr: usize,
     value: Option<Value>,
 ) -> Result<(), AllocFailed<((Place, usize), Option<Value>)>>
-    ensures updates { OnOk result (Updates spot_cmp values.old values.new (place, attr) (Some value)) }
+    ensures updates { OnOk result (Updates cell_place_cmp values.old values.new (place, attr) (Some value)) }
 {
     values.insert((place, attr), value)?;
     Ok(())
 }
 
-/// The values of cells, by their spots.
+/// The values of cells, by their places and attributes.
 pub fn values_of(alloc: Global, cells: Items<Cell>) -> Result<Values, AllocError>
-    ensures { IfOk result (λ values. AreValues cells (get spot_cmp values)) }
+    ensures { IfOk result (λ values. AreValues cells (get cell_place_cmp values)) }
 {
     let mut values = BTreeMap::new(alloc);
     for cell in cells.into_vec() {
@@ -59,11 +60,11 @@ pub fn values_of(alloc: Global, cells: Items<Cell>) -> Result<Values, AllocError
     Ok(values)
 }
 
-/// A copy of the value at a spot, null where there is none.
-fn value_at(values: &Values, spot: &(Place, usize)) -> Result<Option<Value>, AllocError>
-    ensures { IfOk result (λ value. value ≡ unwrap_or (get spot_cmp values.now spot.now) None) }
+/// A copy of the value at a cell's place, null where there is none.
+fn value_at(values: &Values, cell_place: &(Place, usize)) -> Result<Option<Value>, AllocError>
+    ensures { IfOk result (λ value. value ≡ unwrap_or (get cell_place_cmp values.now cell_place.now) None) }
 {
-    match values.get(spot) {
+    match values.get(cell_place) {
         Some(Some(value)) => Ok(Some(value.copy()?)),
         _ => Ok(None),
     }
@@ -71,19 +72,19 @@ fn value_at(values: &Values, spot: &(Place, usize)) -> Result<Option<Value>, All
 
 /// The elements of a node's tuple.
 fn elements_of(alloc: Global, values: &Values, node: &Node) -> Result<Items<Element>, AllocError>
-    ensures { IfOk result (λ elements. elements ≡ elements_of (get spot_cmp values.now) node.now) }
+    ensures { IfOk result (λ elements. elements ≡ elements_of (get cell_place_cmp values.now) node.now) }
 {
     let place = Place {
         key: copy_key(&node.key)?,
         key_class: node.key_class,
         class: node.label,
     };
-    let mut spot = (place, 0);
+    let mut cell_place = (place, 0);
     let mut elements = Vec::new(alloc);
     for (attr, class) in node.pattern.as_slice().iter().enumerate() {
-        spot.0.class = *class;
-        spot.1 = attr;
-        let value = value_at(values, &spot)?;
+        cell_place.0.class = *class;
+        cell_place.1 = attr;
+        let value = value_at(values, &cell_place)?;
         elements.push(Element {
             value,
             class: *class,
@@ -94,7 +95,7 @@ fn elements_of(alloc: Global, values: &Values, node: &Node) -> Result<Items<Elem
 
 /// The tuples of nodes, by their places.
 pub fn rows_of(alloc: Global, nodes: Items<Node>, values: &Values) -> Result<Rows, AllocError>
-    ensures { IfOk result (λ rows. AreRows (get spot_cmp values.now) nodes (get place_cmp rows)) }
+    ensures { IfOk result (λ rows. AreRows (get cell_place_cmp values.now) nodes (get place_cmp rows)) }
 {
     let mut rows = BTreeMap::new(alloc);
     for node in nodes.into_vec() {
@@ -110,9 +111,14 @@ pub fn rows_of(alloc: Global, nodes: Items<Node>, values: &Values) -> Result<Row
 }
 
 /// The entries of a map, in the order of places.
-pub fn entries_of(alloc: Global, rows: Rows) -> Result<Vec<(Place, Items<Element>)>, AllocError>
+pub(crate) fn entries_of(alloc: Global, rows: Rows) -> Result<Vec<Row>, AllocError>
     ensures items { IfOk result (λ entries. entries.items ≡ rows.entries) }
     ensures ordered { IsOrdered place_cmp rows }
 {
-    rows.into_iter().collect(alloc)
+    let pairs: Vec<(Place, Items<Element>)> = rows.into_iter().collect(alloc)?;
+    let mut entries = Vec::new(alloc);
+    for (place, elements) in pairs {
+        entries.push(Row { place, elements })?;
+    }
+    Ok(entries)
 }

@@ -48,8 +48,9 @@ impl<T: Drop> From<AllocFailed<T>> for BaseFault {
 ///
 /// Contracts see the content now, that of the last commit, and whether a change is begun; how many calls of the store
 /// have failed; and whether the store gives back what was written to it. A store can be found unclean at any call and
-/// never becomes clean again, so what is said of content has the premise that the store is clean after the call;
-/// whether a change is begun is known without it.
+/// never becomes clean again, so what is said of the state after a call has the premise that the store is clean then.
+/// Without it two things are known: a call that may answer `NotBegun` or `Begun` does so just where no change, or one, was
+/// begun before it, and an `Ok` of `fragment`, `add`, `set` and `drop_at` leaves `is_begun` as it was.
 /// After `Store` or `Memory` inside a change the change has ended, with the content of the last commit.
 pub trait Base {
     ghost state: { Self → State };

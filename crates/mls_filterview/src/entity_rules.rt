@@ -4,7 +4,7 @@ ghost use Rattle.std.specs.List.{list_any, AllByRecursion};
 ghost use Rattle.mls_lattice.specs.Lattice.{pair_of, same_pair};
 ghost use Rattle.mls_lattice.specs.Policy.{labels_of};
 ghost use Rattle.mls_scheme.specs.Tuple.{HasClassesBelow};
-ghost use Rattle.mls_filterview.specs.Checking.{all_classes, is_one_entity, is_twin, is_of_class, has_at, has_below, agrees_with_first, is_determined, is_comparable, is_chain, has_each_class};
+ghost use Rattle.mls_filterview.specs.Checking.{all_classes, is_one_entity, has_same_class, is_of_class, has_at, has_below, agrees_with_first, is_determined, is_comparable, is_chain, has_each_class};
 
 use mls_lattice::{Label, LabelNo, Policy};
 use mls_scheme::{Element, Tuple, same_key, tuple_class};
@@ -28,23 +28,23 @@ fn is_one_entity(left: &Tuple, right: &Tuple) -> bool
 }
 
 /// Whether two tuples have one entity and one class.
-fn is_twin(policy: &Policy, other: &Tuple, tuple: &Tuple) -> bool
+fn has_same_class(policy: &Policy, other: &Tuple, tuple: &Tuple) -> bool
     requires other { HasClassesBelow (length policy.now.labels) other.now }
     requires own { HasClassesBelow (length policy.now.labels) tuple.now }
-    ensures { result ≡ is_twin (labels_of policy.now) tuple.now other.now }
+    ensures { result ≡ has_same_class (labels_of policy.now) tuple.now other.now }
 {
     is_one_entity(other, tuple)
         && is_same_label(tuple_class(policy, other), tuple_class(policy, tuple))
 }
 
 /// Whether one of the tuples has the entity and the class of this one.
-fn has_twin(policy: &Policy, tuples: &[Tuple], tuple: &Tuple) -> bool
+fn is_class_taken(policy: &Policy, tuples: &[Tuple], tuple: &Tuple) -> bool
     requires classes { AllByRecursion (HasClassesBelow (length policy.now.labels)) tuples.now }
     requires own { HasClassesBelow (length policy.now.labels) tuple.now }
-    ensures { result ≡ list_any (is_twin (labels_of policy.now) tuple.now) tuples.now }
+    ensures { result ≡ list_any (has_same_class (labels_of policy.now) tuple.now) tuples.now }
 {
     for other in tuples {
-        if is_twin(policy, other, tuple) {
+        if has_same_class(policy, other, tuple) {
             return true;
         }
     }
@@ -126,7 +126,7 @@ pub(crate) fn is_determined(policy: &Policy, tuples: &[Tuple], row: usize) -> bo
     ensures { result ≡ is_determined (labels_of policy.now) tuples.now row }
 {
     let tuple = &tuples[row];
-    !has_twin(policy, &tuples[..row], tuple) && agrees_with_firsts(policy, tuples, tuple)
+    !is_class_taken(policy, &tuples[..row], tuple) && agrees_with_firsts(policy, tuples, tuple)
 }
 
 /// Whether one of two classes dominates the other.

@@ -36,12 +36,13 @@ pub fn filter(
         (λ v. (n : ℕ) (T : Table) → IsStored (labels_of policy.now) n T → ((t : SpecTuple) → IsAmong t tuples.now ↔ IsIn T t)
         → v.items ≡ rows (labels_of policy.now) label T) }
 {
+    // for the distinctness of labels
     let _labels = policy.label_count();
     let seen = seen(alloc, policy, tuples, label)?;
     let seen = uncovered(alloc, &seen)?;
     let mut rows = rows_of(alloc, policy, seen)?;
     arrange(&mut rows)?;
-    tuples_of(alloc, rows)
+    tuples_of(alloc, &rows)
 }
 
 /// What a level sees of the tuples whose key class it dominates.
@@ -177,16 +178,12 @@ fn arrange<T: Ord + Drop>(items: &mut Vec<T>) -> Result<(), AllocError>
 }
 
 /// The tuples of rows.
-fn tuples_of(alloc: Global, rows: Vec<Row>) -> Result<Vec<Tuple>, AllocError>
-    ensures { IfOk result (λ v. v.items ≡ map (λ r. tuple_at r.0 r.1) rows.items) }
+fn tuples_of(alloc: Global, rows: &[Row]) -> Result<Vec<Tuple>, AllocError>
+    ensures { IfOk result (λ v. v.items ≡ map (λ r. tuple_at r.0 r.1) rows.now) }
 {
     let mut tuples = Vec::new(alloc);
     for row in rows {
-        tuples.push(Tuple {
-            key: row.place.key,
-            key_class: row.place.key_class,
-            elements: row.elements,
-        })?;
+        tuples.push(row.tuple()?)?;
     }
     Ok(tuples)
 }

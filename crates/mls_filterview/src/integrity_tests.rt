@@ -1,36 +1,14 @@
 //! Expected answers and tuples are written out by hand.
-ghost use Rattle.std.specs.Prelude.{◌≡◌, ◌<◌, IfOk};
+ghost use Rattle.std.specs.Prelude.{◌<◌, IfOk};
 ghost use Rattle.std.specs.List.{AllByRecursion};
 ghost use Rattle.mls_scheme.specs.Tuple.{HasClassesBelow};
 
 use super::*;
-use mls_lattice::{Items, LabelNo, Policy, Str};
-use mls_scheme::{Element, RelNo, Schemes, Tuple, Value};
+use crate::samples::{H, M, S, U, element, policy, seen_at, ship, stories};
+use mls_lattice::{Items, LabelNo};
+use mls_scheme::{RelNo, Schemes, Tuple, Value};
 use std::alloc::Global;
 use std::test::Fail;
-
-const POLICY: &str = r#"version = 1
-levels = ["U", "C", "S"]
-categories = ["N"]
-
-[[label]]
-name = "U"
-level = "U"
-
-[[label]]
-name = "M"
-level = "C"
-categories = ["N"]
-
-[[label]]
-name = "S"
-level = "S"
-
-[[label]]
-name = "H"
-level = "S"
-categories = ["N"]
-"#;
 
 const SCHEMES: &str = r#"version = 1
 
@@ -66,53 +44,9 @@ low = "U"
 high = "S"
 "#;
 
-const U: u8 = 0;
-
-const M: u8 = 1;
-
-const S: u8 = 2;
-
-const H: u8 = 3;
-
 const SOD: u8 = 0;
 
 const CREW: u8 = 1;
-
-/// An empty text stands for null.
-fn element(alloc: Global, text: &str, class: u8) -> Result<Element, Fail>
-    ensures { IfOk result (λ e. e.class ≡ class) }
-{
-    let value = if text.is_empty() {
-        None
-    } else {
-        Some(Value::Text(Str::copy_of(alloc, text)?))
-    };
-    Ok(Element {
-        value,
-        class: LabelNo::new(class),
-    })
-}
-
-/// The Enterprise, with its objective and its destination.
-fn ship(
-    alloc: Global,
-    key_class: u8,
-    objective: (&str, u8),
-    destination: (&str, u8),
-) -> Result<Tuple, Fail>
-    requires key_class { key_class < 4 }
-    requires objective { objective.1 < 4 }
-    requires destination { destination.1 < 4 }
-    ensures { IfOk result (HasClassesBelow 4) }
-{
-    let objective = element(alloc, objective.0, objective.1)?;
-    let destination = element(alloc, destination.0, destination.1)?;
-    Ok(Tuple {
-        key: Items::from(vec![in alloc; Value::Text(Str::copy_of(alloc, "Enterprise")?)]?),
-        key_class: LabelNo::new(key_class),
-        elements: Items::from(vec![in alloc; objective, destination]?),
-    })
-}
 
 /// A crew member of key class U, with the post.
 fn member(alloc: Global, id: i64, post: (&str, u8)) -> Result<Tuple, Fail>
@@ -127,40 +61,17 @@ fn member(alloc: Global, id: i64, post: (&str, u8)) -> Result<Tuple, Fail>
     })
 }
 
-/// Four stories about the Enterprise.
-pub(crate) fn stories(alloc: Global) -> Result<Vec<Tuple>, Fail>
-    ensures { IfOk result (λ v. AllByRecursion (HasClassesBelow 4) v.items) }
-{
-    let root = ship(alloc, U, ("Exploration", U), ("Talos", U))?;
-    let mapping = ship(alloc, U, ("Mapping", M), ("Talos", U))?;
-    let spying = ship(alloc, U, ("Spying", S), ("Talos", U))?;
-    let rigel = ship(alloc, U, ("Spying", S), ("Rigel", H))?;
-    Ok(vec![in alloc; root, mapping, spying, rigel]?)
-}
-
 /// The first row of a relation that breaks the stored form.
 fn broken_in(alloc: Global, rel: u8, tuples: &[Tuple]) -> Result<Option<Broken>, Fail>
     requires classes { AllByRecursion (HasClassesBelow 4) tuples.now }
     requires rel { rel < 2 }
 {
-    let policy = Policy::read(alloc, POLICY.as_bytes())?;
+    let policy = policy(alloc)?;
     let schemes = Schemes::read(alloc, &policy, SCHEMES.as_bytes())?;
-    if policy.label_count() != 4 || schemes.count() != 2 {
-        return Err(Fail::new("four labels and two relations"));
+    if schemes.count() != 2 {
+        return Err(Fail::new("two relations"));
     }
     Ok(integrity(&policy, schemes.scheme(RelNo::new(rel)), tuples))
-}
-
-/// What a level sees of tuples.
-pub(crate) fn seen_at(alloc: Global, label: u8, tuples: &[Tuple]) -> Result<Vec<Tuple>, Fail>
-    requires classes { AllByRecursion (HasClassesBelow 4) tuples.now }
-    requires label { label < 4 }
-{
-    let policy = Policy::read(alloc, POLICY.as_bytes())?;
-    if policy.label_count() != 4 {
-        return Err(Fail::new("four labels"));
-    }
-    Ok(filter(alloc, &policy, tuples, LabelNo::new(label))?)
 }
 
 fn broken(row: usize, rule: Rule) -> Option<Broken> {
@@ -169,14 +80,16 @@ fn broken(row: usize, rule: Rule) -> Option<Broken> {
 
 #[test]
 fn a_tuple_without_its_root_is_not_closed(rt: HostRuntime) -> Result<(), Fail> {
-    let tuples = vec![in rt.alloc(); ship(rt.alloc(), U, ("Spying", S), ("Talos", U))?]?;
+    let tuples = vec![in rt.alloc();
+        ship(rt.alloc(), ("Enterprise", U), ("Spying", S), ("Talos", U))?,
+    ]?;
     assert!(rt; broken_in(rt.alloc(), SOD, &tuples)? == broken(0, Rule::Closure));
     Ok(())
 }
 
 #[test]
 fn a_null_above_the_key_class_comes_before_closure(rt: HostRuntime) -> Result<(), Fail> {
-    let tuples = vec![in rt.alloc(); ship(rt.alloc(), U, ("", S), ("Talos", U))?]?;
+    let tuples = vec![in rt.alloc(); ship(rt.alloc(), ("Enterprise", U), ("", S), ("Talos", U))?]?;
     assert!(rt; broken_in(rt.alloc(), SOD, &tuples)? == broken(0, Rule::Null));
     Ok(())
 }
@@ -190,7 +103,9 @@ fn four_stories_are_of_the_stored_form(rt: HostRuntime) -> Result<(), Fail> {
 
 #[test]
 fn an_element_below_the_key_class_breaks_entity(rt: HostRuntime) -> Result<(), Fail> {
-    let tuples = vec![in rt.alloc(); ship(rt.alloc(), S, ("Spying", S), ("Talos", U))?]?;
+    let tuples = vec![in rt.alloc();
+        ship(rt.alloc(), ("Enterprise", S), ("Spying", S), ("Talos", U))?,
+    ]?;
     assert!(rt; broken_in(rt.alloc(), SOD, &tuples)? == broken(0, Rule::Entity));
     Ok(())
 }
@@ -210,8 +125,18 @@ fn a_class_above_its_interval_breaks_interval(rt: HostRuntime) -> Result<(), Fai
 #[test]
 fn a_second_tuple_of_a_class_breaks_poly(rt: HostRuntime) -> Result<(), Fail> {
     let tuples = vec![in rt.alloc();
-        ship(rt.alloc(), U, ("Exploration", U), ("Talos", U))?,
-        ship(rt.alloc(), U, ("Diplomacy", U), ("Talos", U))?,
+        ship(
+            rt.alloc(),
+            ("Enterprise", U),
+            ("Exploration", U),
+            ("Talos", U)
+        )?,
+        ship(
+            rt.alloc(),
+            ("Enterprise", U),
+            ("Diplomacy", U),
+            ("Talos", U)
+        )?,
     ]?;
     assert!(rt; broken_in(rt.alloc(), SOD, &tuples)? == broken(1, Rule::Poly));
     Ok(())
@@ -220,8 +145,13 @@ fn a_second_tuple_of_a_class_breaks_poly(rt: HostRuntime) -> Result<(), Fail> {
 #[test]
 fn a_tuple_that_disagrees_with_its_root_breaks_poly(rt: HostRuntime) -> Result<(), Fail> {
     let tuples = vec![in rt.alloc();
-        ship(rt.alloc(), U, ("Exploration", U), ("Talos", U))?,
-        ship(rt.alloc(), U, ("Spying", S), ("Rigel", U))?,
+        ship(
+            rt.alloc(),
+            ("Enterprise", U),
+            ("Exploration", U),
+            ("Talos", U)
+        )?,
+        ship(rt.alloc(), ("Enterprise", U), ("Spying", S), ("Rigel", U))?,
     ]?;
     assert!(rt; broken_in(rt.alloc(), SOD, &tuples)? == broken(1, Rule::Poly));
     Ok(())
@@ -229,10 +159,12 @@ fn a_tuple_that_disagrees_with_its_root_breaks_poly(rt: HostRuntime) -> Result<(
 
 #[test]
 fn a_high_element_is_hidden_and_its_tuple_is_seen(rt: HostRuntime) -> Result<(), Fail> {
-    let tuples = vec![in rt.alloc(); ship(rt.alloc(), U, ("Spying", S), ("Talos", U))?]?;
+    let tuples = vec![in rt.alloc();
+        ship(rt.alloc(), ("Enterprise", U), ("Spying", S), ("Talos", U))?,
+    ]?;
     let seen = seen_at(rt.alloc(), U, &tuples)?;
     assert_eq!(rt; seen.len(), 1);
-    assert!(rt; seen[0].same(&ship(rt.alloc(), U, ("", U), ("Talos", U))?));
+    assert!(rt; seen[0].same(&ship(rt.alloc(), ("Enterprise", U), ("", U), ("Talos", U))?));
     Ok(())
 }
 
@@ -241,8 +173,15 @@ fn a_level_filters_the_stories_that_it_dominates(rt: HostRuntime) -> Result<(), 
     let tuples = stories(rt.alloc())?;
     let seen = seen_at(rt.alloc(), M, &tuples)?;
     assert_eq!(rt; seen.len(), 2);
-    let mapping = ship(rt.alloc(), U, ("Mapping", M), ("Talos", U))?;
-    assert!(rt; seen[0].same(&ship(rt.alloc(), U, ("Exploration", U), ("Talos", U))?));
+    let mapping = ship(rt.alloc(), ("Enterprise", U), ("Mapping", M), ("Talos", U))?;
+    assert!(rt;
+        seen[0].same(&ship(
+            rt.alloc(),
+            ("Enterprise", U),
+            ("Exploration", U),
+            ("Talos", U)
+        )?)
+    );
     assert!(rt; seen[1].same(&mapping));
     Ok(())
 }
@@ -253,11 +192,48 @@ fn filtered_stories_are_in_order(rt: HostRuntime) -> Result<(), Fail> {
     tuples.reverse();
     let seen = seen_at(rt.alloc(), H, &tuples)?;
     assert_eq!(rt; seen.len(), 4);
-    let mapping = ship(rt.alloc(), U, ("Mapping", M), ("Talos", U))?;
-    let rigel = ship(rt.alloc(), U, ("Spying", S), ("Rigel", H))?;
-    assert!(rt; seen[0].same(&ship(rt.alloc(), U, ("Exploration", U), ("Talos", U))?));
+    let mapping = ship(rt.alloc(), ("Enterprise", U), ("Mapping", M), ("Talos", U))?;
+    let rigel = ship(rt.alloc(), ("Enterprise", U), ("Spying", S), ("Rigel", H))?;
+    assert!(rt;
+        seen[0].same(&ship(
+            rt.alloc(),
+            ("Enterprise", U),
+            ("Exploration", U),
+            ("Talos", U)
+        )?)
+    );
     assert!(rt; seen[1].same(&mapping));
-    assert!(rt; seen[2].same(&ship(rt.alloc(), U, ("Spying", S), ("Talos", U))?));
+    assert!(rt; seen[2].same(&ship(rt.alloc(), ("Enterprise", U), ("Spying", S), ("Talos", U))?));
     assert!(rt; seen[3].same(&rigel));
+    Ok(())
+}
+
+#[test]
+fn rows_of_one_key_are_in_the_order_of_key_classes(rt: HostRuntime) -> Result<(), Fail> {
+    let tuples = vec![in rt.alloc();
+        ship(rt.alloc(), ("Enterprise", S), ("Spying", S), ("Rigel", S))?,
+        ship(rt.alloc(), ("Enterprise", U), ("Mining", H), ("Talos", U))?,
+    ]?;
+    let seen = seen_at(rt.alloc(), H, &tuples)?;
+    assert_eq!(rt; seen.len(), 2);
+    assert!(rt; seen[0].same(&ship(rt.alloc(), ("Enterprise", U), ("Mining", H), ("Talos", U))?));
+    assert!(rt; seen[1].same(&ship(rt.alloc(), ("Enterprise", S), ("Spying", S), ("Rigel", S))?));
+    Ok(())
+}
+
+#[test]
+fn a_value_subsumes_a_null_alone(rt: HostRuntime) -> Result<(), Fail> {
+    let spying = ship(rt.alloc(), ("Enterprise", U), ("Spying", U), ("Talos", U))?;
+    let silent = ship(rt.alloc(), ("Enterprise", U), ("", U), ("Talos", U))?;
+    let secret = ship(rt.alloc(), ("Enterprise", U), ("Spying", S), ("Talos", U))?;
+    let other = ship(rt.alloc(), ("Enterprise", S), ("Spying", U), ("Talos", U))?;
+    assert!(rt; subsumes(&spying, &spying));
+    assert!(rt; subsumes(&spying, &silent));
+    assert!(rt; subsumes(&secret, &silent));
+    assert!(rt; !subsumes(&silent, &spying));
+    assert!(rt; !subsumes(&secret, &spying));
+    assert!(rt; !subsumes(&spying, &secret));
+    assert!(rt; !subsumes(&other, &spying));
+    assert!(rt; !subsumes(&spying, &other));
     Ok(())
 }

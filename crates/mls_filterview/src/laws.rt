@@ -1,5 +1,5 @@
 //! The laws of views and of the stored form, each the contract of a function.
-ghost use Rattle.mls_filterview.specs.Laws.{StoredHasIntegrity, ViewIsMaxOfLow, ViewTellsLow, ViewsAndLowAgree, RowsAreTheView, RowsComeFromLow};
+ghost use Rattle.mls_filterview.specs.Laws.{StoredHasIntegrity, ViewIsMaxOfLow, ViewTellsLow, ViewsAndLowAgree, RowsAreTheView};
 
 /// The stored form has the four integrity properties.
 pub fn stored_has_integrity()
@@ -24,9 +24,4 @@ pub fn views_and_low_agree()
 /// The rows of a level are the tuples of its view, in the order of places.
 pub fn rows_are_the_view()
     ensures { RowsAreTheView }
-{}
-
-/// The rows may be computed from any list in order of just the stored tuples of classes that the level dominates.
-pub fn rows_come_from_low()
-    ensures { RowsComeFromLow }
 {}

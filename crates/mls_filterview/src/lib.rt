@@ -19,8 +19,8 @@ pub use checking::integrity;
 pub use filtering::filter;
 pub use fragment::{Cell, Fragment, Node};
 pub use laws::{
-    rows_are_the_view, rows_come_from_low, stored_has_integrity, view_is_max_of_low,
-    view_tells_low, views_and_low_agree,
+    rows_are_the_view, stored_has_integrity, view_is_max_of_low, view_tells_low,
+    views_and_low_agree,
 };
 pub use rule::{Broken, Rule};
 pub use subsumption::subsumes;
@@ -28,5 +28,7 @@ pub use viewing::view;
 
 #[cfg(test)]
 mod integrity_tests;
+#[cfg(test)]
+mod samples;
 #[cfg(test)]
 mod view_tests;

@@ -1,13 +1,15 @@
 //! Tuples by their places.
-ghost use Rattle.std.specs.Prelude.{◌≡◌, refl, Some};
+ghost use Rattle.std.specs.Prelude.{◌≡◌, refl, Some, IfOk};
 ghost use Rattle.std.specs.Ordering.{eq_by_cmp};
 ghost use Rattle.std.specs.Cmp.{partial_equiv_from_equiv, eq_by_cmp_equiv, po};
 ghost use Rattle.std.specs.Cmp.Lexicographic.{slice_cmp};
+ghost use Rattle.mls_scheme.specs.Table.{tuple_at};
 ghost use Rattle.mls_filterview.specs.Filtering.{element_cmp, row_cmp};
 ghost use Rattle.mls_filterview.specs.RowOrder.{row_total};
 
 use mls_lattice::Items;
-use mls_scheme::{Element, Place};
+use mls_scheme::{Element, Place, Tuple, copy_key};
+use std::alloc::AllocError;
 use std::cmp::Ordering;
 use std::marker::Model;
 
@@ -29,6 +31,17 @@ impl Model for Row {
 }
 
 impl Row {
+    /// A copy of the tuple.
+    pub fn tuple(&self) -> Result<Tuple, AllocError>
+        ensures { IfOk result (λ t. t ≡ tuple_at self.now.0 self.now.1) }
+    {
+        Ok(Tuple {
+            key: copy_key(&self.place.key)?,
+            key_class: self.place.key_class,
+            elements: self.elements.clone()?,
+        })
+    }
+
     /// The order of rows: by place, and at one place by elements.
     pub fn order(&self, other: &Row) -> Ordering
         ensures { result ≡ row_cmp self.now other.now }

@@ -3,42 +3,11 @@ ghost use Rattle.std.specs.Prelude.{◌≡◌, ℕ};
 ghost use Rattle.mls_filterview.specs.Content.{State, no_content};
 
 use super::*;
-use crate::integrity_tests::{seen_at, stories};
-use mls_lattice::{Items, LabelNo, Policy, Str};
+use crate::samples::{H, M, S, U, policy, seen_at, ship, stories};
+use mls_lattice::{Items, LabelNo};
 use mls_scheme::{Element, Place, RelNo, Tuple, Value, copy_key};
 use std::alloc::{AllocError, Global};
 use std::test::Fail;
-
-const POLICY: &str = r#"version = 1
-levels = ["U", "C", "S"]
-categories = ["N"]
-
-[[label]]
-name = "U"
-level = "U"
-
-[[label]]
-name = "M"
-level = "C"
-categories = ["N"]
-
-[[label]]
-name = "S"
-level = "S"
-
-[[label]]
-name = "H"
-level = "S"
-categories = ["N"]
-"#;
-
-const U: u8 = 0;
-
-const M: u8 = 1;
-
-const S: u8 = 2;
-
-const H: u8 = 3;
 
 /// A base of one relation, whose store fails where it reads the fragment of a label. Nothing is said of what it holds.
 #[derive(Drop)]
@@ -166,36 +135,6 @@ impl Base for TestBase {
     }
 }
 
-/// An empty text stands for null.
-fn element(alloc: Global, text: &str, class: u8) -> Result<Element, Fail> {
-    let value = if text.is_empty() {
-        None
-    } else {
-        Some(Value::Text(Str::copy_of(alloc, text)?))
-    };
-    Ok(Element {
-        value,
-        class: LabelNo::new(class),
-    })
-}
-
-/// A starship of key class U, with its objective and its destination.
-fn ship(
-    alloc: Global,
-    name: &str,
-    objective: (&str, u8),
-    destination: (&str, u8),
-) -> Result<Tuple, Fail> {
-    Ok(Tuple {
-        key: Items::from(vec![in alloc; Value::Text(Str::copy_of(alloc, name)?)]?),
-        key_class: LabelNo::new(U),
-        elements: Items::from(vec![in alloc;
-            element(alloc, objective.0, objective.1)?,
-            element(alloc, destination.0, destination.1)?,
-        ]?),
-    })
-}
-
 fn row(class: u8, ship: Tuple) -> (Place, Items<Element>) {
     let place = Place {
         key: ship.key,
@@ -218,19 +157,28 @@ fn base(alloc: Global, rows: Vec<(Place, Items<Element>)>) -> TestBase {
 /// Four stories about the Enterprise; they are not kept in order.
 fn enterprise(alloc: Global) -> Result<TestBase, Fail> {
     let rows = vec![in alloc;
-        row(H, ship(alloc, "Enterprise", ("Spying", S), ("Rigel", H))?),
-        row(S, ship(alloc, "Enterprise", ("Spying", S), ("Talos", U))?),
+        row(
+            H,
+            ship(alloc, ("Enterprise", U), ("Spying", S), ("Rigel", H))?
+        ),
+        row(
+            S,
+            ship(alloc, ("Enterprise", U), ("Spying", S), ("Talos", U))?
+        ),
         row(
             U,
-            ship(alloc, "Enterprise", ("Exploration", U), ("Talos", U))?
+            ship(alloc, ("Enterprise", U), ("Exploration", U), ("Talos", U))?
         ),
-        row(M, ship(alloc, "Enterprise", ("Mapping", M), ("Talos", U))?),
+        row(
+            M,
+            ship(alloc, ("Enterprise", U), ("Mapping", M), ("Talos", U))?
+        ),
     ]?;
     Ok(base(alloc, rows))
 }
 
 fn view_at(alloc: Global, base: &mut TestBase, label: u8) -> Result<Vec<Tuple>, Fail> {
-    let policy = Policy::read(alloc, POLICY.as_bytes())?;
+    let policy = policy(alloc)?;
     let label = LabelNo::new(label);
     if label.index() >= policy.label_count() {
         return Err(Fail::new("no such label"));
@@ -267,8 +215,13 @@ fn a_level_sees_the_stories_that_it_dominates(rt: HostRuntime) -> Result<(), Fai
     let mut base = enterprise(rt.alloc())?;
     let seen = view_at(rt.alloc(), &mut base, M)?;
     assert_eq!(rt; seen.len(), 2);
-    let first = ship(rt.alloc(), "Enterprise", ("Exploration", U), ("Talos", U))?;
-    let second = ship(rt.alloc(), "Enterprise", ("Mapping", M), ("Talos", U))?;
+    let first = ship(
+        rt.alloc(),
+        ("Enterprise", U),
+        ("Exploration", U),
+        ("Talos", U),
+    )?;
+    let second = ship(rt.alloc(), ("Enterprise", U), ("Mapping", M), ("Talos", U))?;
     assert!(rt; seen[0].same(&first));
     assert!(rt; seen[1].same(&second));
     Ok(())
@@ -279,10 +232,17 @@ fn the_highest_level_sees_all_stories_in_order(rt: HostRuntime) -> Result<(), Fa
     let mut base = enterprise(rt.alloc())?;
     let seen = view_at(rt.alloc(), &mut base, H)?;
     assert_eq!(rt; seen.len(), 4);
-    let third = ship(rt.alloc(), "Enterprise", ("Spying", S), ("Talos", U))?;
-    let fourth = ship(rt.alloc(), "Enterprise", ("Spying", S), ("Rigel", H))?;
-    assert!(rt; seen[0].same(&ship(rt.alloc(), "Enterprise", ("Exploration", U), ("Talos", U))?));
-    assert!(rt; seen[1].same(&ship(rt.alloc(), "Enterprise", ("Mapping", M), ("Talos", U))?));
+    let third = ship(rt.alloc(), ("Enterprise", U), ("Spying", S), ("Talos", U))?;
+    let fourth = ship(rt.alloc(), ("Enterprise", U), ("Spying", S), ("Rigel", H))?;
+    assert!(rt;
+        seen[0].same(&ship(
+            rt.alloc(),
+            ("Enterprise", U),
+            ("Exploration", U),
+            ("Talos", U)
+        )?)
+    );
+    assert!(rt; seen[1].same(&ship(rt.alloc(), ("Enterprise", U), ("Mapping", M), ("Talos", U))?));
     assert!(rt; seen[2].same(&third));
     assert!(rt; seen[3].same(&fourth));
     Ok(())
@@ -291,8 +251,8 @@ fn the_highest_level_sees_all_stories_in_order(rt: HostRuntime) -> Result<(), Fa
 /// A ship of which nothing is known at U, and of which S knows the destination.
 fn voyager(alloc: Global) -> Result<TestBase, Fail> {
     let rows = vec![in alloc;
-        row(U, ship(alloc, "Voyager", ("", U), ("", U))?),
-        row(S, ship(alloc, "Voyager", ("", U), ("Rigel", S))?),
+        row(U, ship(alloc, ("Voyager", U), ("", U), ("", U))?),
+        row(S, ship(alloc, ("Voyager", U), ("", U), ("Rigel", S))?),
     ]?;
     Ok(base(alloc, rows))
 }
@@ -302,10 +262,10 @@ fn a_root_hides_behind_what_subsumes_it(rt: HostRuntime) -> Result<(), Fail> {
     let mut base = voyager(rt.alloc())?;
     let high = view_at(rt.alloc(), &mut base, S)?;
     assert_eq!(rt; high.len(), 1);
-    assert!(rt; high[0].same(&ship(rt.alloc(), "Voyager", ("", U), ("Rigel", S))?));
+    assert!(rt; high[0].same(&ship(rt.alloc(), ("Voyager", U), ("", U), ("Rigel", S))?));
     let low = view_at(rt.alloc(), &mut base, U)?;
     assert_eq!(rt; low.len(), 1);
-    assert!(rt; low[0].same(&ship(rt.alloc(), "Voyager", ("", U), ("", U))?));
+    assert!(rt; low[0].same(&ship(rt.alloc(), ("Voyager", U), ("", U), ("", U))?));
     Ok(())
 }
 
@@ -326,7 +286,7 @@ fn a_failed_view_ends_the_change(rt: HostRuntime) -> Result<(), Fail> {
     let mut base = enterprise(rt.alloc())?;
     base.broken = Some(LabelNo::new(S));
     base.begin()?;
-    let policy = Policy::read(rt.alloc(), POLICY.as_bytes())?;
+    let policy = policy(rt.alloc())?;
     let high = LabelNo::new(H);
     assert!(rt; high.index() < policy.label_count());
     match view(rt.alloc(), &mut base, &policy, RelNo::new(0), high) {

@@ -15,13 +15,11 @@ ghost use Rattle.mls_filterview.specs.Assembly.{AreLow};
 use crate::assembly::{entries_of, rows_of, values_of};
 use crate::base::{Base, BaseFault, abandon};
 use crate::fragment::Fragment;
+use crate::row::Row;
 use crate::subsumption::all_cover;
 use mls_lattice::{Items, LabelNo, Policy};
-use mls_scheme::{Element, Place, RelNo, Tuple, copy_key, same_key};
+use mls_scheme::{Place, RelNo, Tuple, same_key};
 use std::alloc::{AllocError, Global};
-
-/// A tuple as its place and its elements.
-type Row = (Place, Items<Element>);
 
 /// The fragments of the labels that a label dominates, as one.
 fn low_fragment<B: Base>(
@@ -70,43 +68,31 @@ fn is_same_entity(left: &Place, right: &Place) -> bool
 fn subsumes_row(left: &Row, right: &Row) -> bool
     ensures { result ≡ subsumes_entry left.now right.now }
 {
-    is_same_entity(&left.0, &right.0) && all_cover(&left.1, &right.1)
+    is_same_entity(&left.place, &right.place) && all_cover(&left.elements, &right.elements)
 }
 
 /// Whether another row subsumes this one.
 fn is_subsumed(rows: &[Row], row: &Row) -> bool
     ensures { result ≡ list_any (λ d. not (eq_by_cmp place_cmp d.0 row.now.0) && subsumes_entry d row.now) rows.now }
 {
-    rows.iter()
-        .any(|other| other.0 != row.0 && subsumes_row(other, row))
+    rows.iter().any(|other| other.place != row.place && subsumes_row(other, row))
 }
 
 /// Whether no other row subsumes this one.
-fn is_on_top(rows: &[Row], row: &Row) -> bool
+fn is_maximal(rows: &[Row], row: &Row) -> bool
     ensures { result ≡ is_max_among rows.now row.now }
 {
     !is_subsumed(rows, row)
 }
 
-/// A copy of a row's tuple.
-fn tuple_of(row: &Row) -> Result<Tuple, AllocError>
-    ensures { IfOk result (λ t. t ≡ tuple_at row.now.0 row.now.1) }
-{
-    Ok(Tuple {
-        key: copy_key(&row.0.key)?,
-        key_class: row.0.key_class,
-        elements: row.1.clone()?,
-    })
-}
-
 /// The tuples of rows that no other row subsumes.
-fn shown(alloc: Global, rows: &[Row]) -> Result<Vec<Tuple>, AllocError>
+fn maximal_tuples(alloc: Global, rows: &[Row]) -> Result<Vec<Tuple>, AllocError>
     ensures { IfOk result (λ v. v.items ≡ map (λ e. tuple_at e.0 e.1) (filter (is_max_among rows.now) rows.now)) }
 {
     let mut tuples = Vec::new(alloc);
     for row in rows {
-        if is_on_top(rows, row) {
-            tuples.push(tuple_of(row)?)?;
+        if is_maximal(rows, row) {
+            tuples.push(row.tuple()?)?;
         }
     }
     Ok(tuples)
@@ -120,7 +106,7 @@ fn tuples_of(alloc: Global, low: Fragment) -> Result<Vec<Tuple>, AllocError>
     let values = values_of(alloc, low.cells)?;
     let found = rows_of(alloc, low.nodes, &values)?;
     let rows = entries_of(alloc, found)?;
-    shown(alloc, &rows)
+    maximal_tuples(alloc, &rows)
 }
 
 /// What a level sees of a relation; a fault leaves a change begun, unless it is the base's.

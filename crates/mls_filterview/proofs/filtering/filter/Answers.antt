@@ -7,6 +7,7 @@ use Rattle.mls_scheme.specs.declared.tuple.Tuple.{Tuple}
 use Rattle.mls_filterview.specs.View.{View, rows, IsAmong}
 use Rattle.mls_filterview.specs.Stored.{IsStored}
 use Rattle.mls_filterview.specs.Filtering.{EachOnce, seen, uncovered, row_of}
+use Rattle.mls_filterview.proofs.EntryLemmas.{Entry}
 use Rattle.mls_filterview.proofs.ArrangeLemmas.{if_ok}
 use Rattle.mls_filterview.proofs.FilterLemmas.{AreRows, uncovered_bounded, uncovered-view, rows-once, rows-members, rows-stored}
 use Rattle.mls_filterview.proofs.filtering.filter.Goals as goal
@@ -26,12 +27,17 @@ are_rows c =
       kept = λ r h. c.in_ok-arrange.ensures.kept r (subst (IsAmong r) (sym is) h);
     }
 
+-- the tuples of the rows
+abbrev tuples : List Entry → List Tuple
+tuples rows = map (λ r. tuple_at r.0 r.1) rows
+
 pub returns-clause-members : goal.returns-clause-members
 returns-clause-members c =
     let ls = labels_of c.args.policy.now in
     let ts = c.args.tuples.now in
     let us = uncovered (seen ls c.args.label ts) in
-    if_ok c.tuples_of.result _ _ (λ v is t. (
+    if_ok c.tuples_of.result _ _ (λ v e t.
+    let is : v.items ≡ tuples c.arrange.new.items.items = e ∙ ap tuples c.deref-2.ensures.value in (
       (λ h. (uncovered-view ls c.args.label ts t).0 ((rows-members ls us c.arrange.new.items.items (are_rows c) t).0 (subst (IsAmong t) is h))),
       (λ h. subst (IsAmong t) (sym is) ((rows-members ls us c.arrange.new.items.items (are_rows c) t).1 ((uncovered-view ls c.args.label ts t).1 h))),
     )) c.tuples_of.ensures
@@ -40,10 +46,13 @@ pub returns-clause-once : goal.returns-clause-once
 returns-clause-once c =
     let ls = labels_of c.args.policy.now in
     let us = uncovered (seen ls c.args.label c.args.tuples.now) in
-    if_ok c.tuples_of.result _ _ (λ v is. subst EachOnce (sym is) (rows-once ls us c.arrange.new.items.items (are_rows c))) c.tuples_of.ensures
+    if_ok c.tuples_of.result _ _ (λ v e.
+    let is : v.items ≡ tuples c.arrange.new.items.items = e ∙ ap tuples c.deref-2.ensures.value in
+    subst EachOnce (sym is) (rows-once ls us c.arrange.new.items.items (are_rows c))) c.tuples_of.ensures
 
 pub returns-clause-rows : goal.returns-clause-rows
 returns-clause-rows c =
     let ls = labels_of c.args.policy.now in
-    if_ok c.tuples_of.result _ _ (λ v is n T stored same.
+    if_ok c.tuples_of.result _ _ (λ v e n T stored same.
+    let is : v.items ≡ tuples c.arrange.new.items.items = e ∙ ap tuples c.deref-2.ensures.value in
     is ∙ rows-stored ls (c.label_count-labels.ensures.distinct) n T stored c.args.label c.args.tuples.now same c.arrange.new.items.items (are_rows c)) c.tuples_of.ensures

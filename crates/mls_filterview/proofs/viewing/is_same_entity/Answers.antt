@@ -1,6 +1,6 @@
 use Rattle.std.proofs.Common.{◌∙◌, sym}
 use Rattle.std.proofs.lemmas.Bool.{eqb-true, eq-eqb, true≢false}
-use Rattle.mls_filterview.proofs.ShownLemmas.{one_entity, other_entity}
+use Rattle.mls_filterview.proofs.ListedLemmas.{one_entity, other_entity}
 use Rattle.mls_filterview.proofs.viewing.is_same_entity.Goals as goal
 
 pub returns-then-eq : goal.returns-then-eq

@@ -1,4 +1,4 @@
--- The tuples shown of a map of rows are the rows of the table.
+-- The tuples listed from a map of rows are the rows of the table.
 use Rattle.std.proofs.Common.{◌≡◌, ℕ, Bool, true, false, cond, List, [], ◌∷◌, length, map, Option, Some, refl, sym, ap, ◌∙◌, subst}
 use Rattle.std.specs.Prelude.{◌↔◌}
 use Rattle.std.specs.List.{filter, AllByRecursion}
@@ -22,7 +22,7 @@ use Rattle.mls_filterview.specs.declared.fragment.Cell.{Cell}
 use Rattle.mls_filterview.specs.Subsumption.{is_max_among}
 use Rattle.mls_filterview.specs.View.{View, rows, IsAmong, AreInOrder}
 use Rattle.mls_filterview.specs.Stored.{with_class, IsStored}
-use Rattle.mls_filterview.specs.Assembly.{Spot, AreValues, AreRows, AreLow}
+use Rattle.mls_filterview.specs.Assembly.{CellPlace, AreValues, AreRows, AreLow}
 use Rattle.mls_filterview.proofs.EntryLemmas.{Entry, found_in, among_found, so_from}
 use Rattle.mls_filterview.proofs.RowLemmas.{rows-listed, rows_are_the_view}
 use Rattle.mls_filterview.proofs.AssemblyLemmas.{rows_low}
@@ -58,16 +58,16 @@ in_map es s e = (
 
 -- ---- the rows
 
-pub shown_rows : (ls : Labels) (n : ℕ) (T : Table) (c : ℕ) (ns : List Node) (ds : List Cell) (look : Spot → Option (Option Value)) (es : List Entry) → IsStored ls n T → AreLow ls T c (length ls) ns ds → AreValues ds look
-    → IsStrictlySortedBy place_cmp (keys_of es) → AreRows look ns (λ q. lookup (is_at (place_cmp q)) es) → map (λ e. tuple_at e.0 e.1) (filter (is_max_among es) es) ≡ rows ls c T
-shown_rows ls n T c ns ds look es stored low values s found =
+pub listed_rows : (ls : Labels) (n : ℕ) (T : Table) (c : ℕ) (ns : List Node) (ds : List Cell) (held : CellPlace → Option (Option Value)) (es : List Entry) → IsStored ls n T → AreLow ls T c (length ls) ns ds → AreValues ds held
+    → IsStrictlySortedBy place_cmp (keys_of es) → AreRows held ns (λ q. lookup (is_at (place_cmp q)) es) → map (λ e. tuple_at e.0 e.1) (filter (is_max_among es) es) ≡ rows ls c T
+listed_rows ls n T c ns ds held es stored low values s found =
     rows-listed ls c T es (sorted_keys es s) (λ e.
-    let r = rows_low ls n T stored c (length ls) ns ds low (λ f g. let st = stored f.0 f.1 g in st.declared f.0.class st.own) look values (λ q. lookup (is_at (place_cmp q)) es) found e in
+    let r = rows_low ls n T stored c (length ls) ns ds low (λ f g. let st = stored f.0 f.1 g in st.declared f.0.class st.own) held values (λ q. lookup (is_at (place_cmp q)) es) found e in
     ((λ i. r.0 ((in_map es s e).0 i)), (λ h. (in_map es s e).1 (r.1 h))))
 
 -- so they are just the tuples of the view, each once, in the order of places
-pub shown_view : (ls : Labels) → AreDistinct ls → (n : ℕ) (T : Table) → IsStored ls n T → (c : ℕ) (ts : List Tuple) → ts ≡ rows ls c T → (t : Tuple) → IsAmong t ts ↔ View ls (IsIn T) c t
-shown_view ls distinct n T stored c ts same t = subst (λ xs. IsAmong t xs ↔ View ls (IsIn T) c t) (sym same) ((rows_are_the_view ls distinct n T stored c).0 t)
+pub listed_view : (ls : Labels) → AreDistinct ls → (n : ℕ) (T : Table) → IsStored ls n T → (c : ℕ) (ts : List Tuple) → ts ≡ rows ls c T → (t : Tuple) → IsAmong t ts ↔ View ls (IsIn T) c t
+listed_view ls distinct n T stored c ts same t = subst (λ xs. IsAmong t xs ↔ View ls (IsIn T) c t) (sym same) ((rows_are_the_view ls distinct n T stored c).0 t)
 
-pub shown_order : (ls : Labels) → AreDistinct ls → (n : ℕ) (T : Table) → IsStored ls n T → (c : ℕ) (ts : List Tuple) → ts ≡ rows ls c T → AreInOrder T ts
-shown_order ls distinct n T stored c ts same = subst (AreInOrder T) (sym same) (rows_are_the_view ls distinct n T stored c).1
+pub listed_order : (ls : Labels) → AreDistinct ls → (n : ℕ) (T : Table) → IsStored ls n T → (c : ℕ) (ts : List Tuple) → ts ≡ rows ls c T → AreInOrder T ts
+listed_order ls distinct n T stored c ts same = subst (AreInOrder T) (sym same) (rows_are_the_view ls distinct n T stored c).1

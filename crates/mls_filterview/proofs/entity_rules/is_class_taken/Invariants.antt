@@ -1,0 +1,9 @@
+use Rattle.std.proofs.Common.{◌≡◌, drop}
+use Rattle.std.specs.List.{list_any}
+use Rattle.mls_lattice.specs.Policy.{labels_of}
+use Rattle.mls_filterview.specs.Checking.{has_same_class}
+use Rattle.mls_filterview.proofs.entity_rules.is_class_taken.Given as goal
+
+abbrev pub invariant-loop-other : goal.invariant-loop-other
+invariant-loop-other l =
+    list_any (has_same_class (labels_of l.policy) l.tuple) (drop l.other-index l.tuples) ≡ list_any (has_same_class (labels_of l.policy) l.tuple) l.tuples

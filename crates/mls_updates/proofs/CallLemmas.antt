@@ -1,9 +1,8 @@
 -- What a call leaves is what the definition of its write says.
-use Rattle.std.proofs.Common.{◌≡◌, ℕ, zero, suc, ◌<◌, arith, Bool, true, false, cond, not, ◌&&◌, List, [], ◌∷◌, length, map, Option, Some, None, refl, sym, ap, ◌∙◌, subst}
-use Rattle.std.specs.Prelude.{is_some, nat_eq, slice_index_or}
-use Rattle.std.specs.List.{list_all, AllByRecursion, AllZip}
+use Rattle.std.proofs.Common.{◌≡◌, ℕ, zero, suc, ◌<◌, arith, Bool, true, false, cond, not, ◌&&◌, List, [], ◌∷◌, length, map, Option, None, refl, sym, ap, ◌∙◌, subst}
+use Rattle.std.specs.Prelude.{is_some}
+use Rattle.std.specs.List.{list_all, AllZip}
 use Rattle.std.specs.FinMap.{get, insert, retain_keys}
-use Rattle.std.proofs.lemmas.Bool.{cases_Bool, cond-true, cond-false, eqb-true, eq-eqb}
 use Rattle.std.proofs.lemmas.List.{length-map, get_or-map}
 use Rattle.mls_lattice.specs.Labels.{Labels, below, AreDistinct}
 use Rattle.mls_lattice.proofs.LatticeLemmas.{below-refl}
@@ -12,16 +11,16 @@ use Rattle.mls_scheme.specs.declared.value.Value.{Value}
 use Rattle.mls_scheme.specs.declared.tuple.Element.{Element}
 use Rattle.mls_scheme.specs.Table.{Table}
 use Rattle.mls_scheme.specs.declared.place.Place.{Place}
-use Rattle.mls_scheme.specs.Scheme.{Scheme, Schemes, scheme_of, no_scheme, IsUnder, AreUnder}
-use Rattle.mls_scheme.specs.Fits.{in_interval, HaveKinds}
-use Rattle.mls_filterview.specs.Content.{State, with_table, with_relation}
+use Rattle.mls_scheme.specs.Scheme.{Scheme, Schemes, scheme_of, IsUnder, AreUnder}
+use Rattle.mls_scheme.specs.Fits.{in_interval}
+use Rattle.mls_filterview.specs.Content.{State, with_relation}
 use Rattle.mls_filterview.specs.Stored.{IsContent}
 use Rattle.mls_filterview.specs.declared.fragment.Node.{Node}
 use Rattle.mls_filterview.specs.declared.fragment.Cell.{Cell}
 use Rattle.mls_filterview.specs.Fragment.{cells_from, place_of_node, IsMadeOf}
 use Rattle.mls_scheme.specs.Tuple.{at, null_element}
 use Rattle.mls_updates.specs.declared.outcome.Outcome.{Outcome}
-use Rattle.mls_updates.specs.declared.outcome.Outcome.TheVariants.{Done, KeyNull, Duplicate, NoTuple, NullAboveKey, Inherited, OutOfInterval, AlreadyDerived}
+use Rattle.mls_updates.specs.declared.outcome.Outcome.TheVariants.{Done, KeyNull, Duplicate, NoTuple, OutOfInterval}
 use Rattle.mls_updates.specs.Outcome.{is_done}
 use Rattle.mls_updates.specs.Writes.{Key, Write, Insert, Delete, is_above, delete_refusals, WriteFits, WriteKinds, first_refusal, has_null, place, root, insert_refusals, write}
 use Rattle.mls_updates.specs.Calls.{IsWritten}

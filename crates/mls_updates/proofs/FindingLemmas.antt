@@ -1,19 +1,17 @@
 -- The node of a tuple, found in the fragment of the tuple's class.
-use Rattle.std.proofs.Common.{◌≡◌, ℕ, Bool, true, false, cond, ◌&&◌, List, [], ◌∷◌, map, Option, Some, None, refl, sym, ap, ◌∙◌, inl, inr}
+use Rattle.std.proofs.Common.{◌≡◌, Bool, true, false, List, map, Option, Some, None, refl, sym, ap, ◌∙◌}
 use Rattle.std.specs.Prelude.{◌↔◌, IsTrue, is_some, nat_eq}
-use Rattle.std.specs.List.{list_any}
 use Rattle.std.specs.FinMap.{get, entries}
-use Rattle.std.proofs.lemmas.Bool.{false_from_ne_true, true_from_ne_false, cases_Bool, true≢false, eq-eqb, eqb-true}
+use Rattle.std.proofs.lemmas.Bool.{false_from_ne_true, true_from_ne_false, true≢false, eq-eqb}
 use Rattle.std.proofs.lemmas.Option.{none-some}
 use Rattle.std.proofs.lemmas.List.Sorted.{list_any-IsPermutation}
 use Rattle.mls_scheme.specs.declared.tuple.Element.{Element}
 use Rattle.mls_scheme.specs.declared.place.Place.{Place}
 use Rattle.mls_scheme.specs.Table.{Table}
-use Rattle.mls_scheme.proofs.OrderLemmas.{is_place, is_place-true, is_place-same}
+use Rattle.mls_scheme.proofs.OrderLemmas.{is_place-true, is_place-same}
 use Rattle.mls_filterview.specs.declared.fragment.Node.{Node}
 use Rattle.mls_filterview.specs.declared.fragment.Fragment.{Fragment}
 use Rattle.mls_filterview.specs.Fragment.{of_class, node_of, place_of_node, IsFragment}
-use Rattle.mls_filterview.specs.View.{IsAmong}
 use Rattle.mls_filterview.proofs.EntryLemmas.{Entry, among_entries, entries_among}
 use Rattle.mls_filterview.proofs.AmongLemmas.{none_of, all_none, among_map, map_among, among_filter, filter_among}
 use Rattle.mls_updates.specs.Finding.{is_at, has_node}

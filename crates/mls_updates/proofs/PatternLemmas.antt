@@ -1,10 +1,10 @@
 -- The pattern of a tuple, found in the fragment of the tuple's class.
-use Rattle.std.proofs.Common.{◌≡◌, ℕ, zero, suc, Bool, true, false, cond, not, List, [], ◌∷◌, map, Option, Some, None, refl, sym, ap, ◌∙◌, inl, inr}
-use Rattle.std.specs.Prelude.{is_some, nat_eq, slice_index_or}
+use Rattle.std.proofs.Common.{◌≡◌, ℕ, zero, suc, true, false, not, List, [], ◌∷◌, map, Option, Some, None, refl, sym, ap, ◌∙◌, inl, inr}
+use Rattle.std.specs.Prelude.{nat_eq, slice_index_or}
 use Rattle.std.specs.List.{list_any}
 use Rattle.std.specs.Option.{option_map, unwrap_or}
 use Rattle.std.specs.FinMap.{get, entries}
-use Rattle.std.proofs.lemmas.Bool.{cases_Bool, cond-true, cond-false, true≢false, false≢true, or_from}
+use Rattle.std.proofs.lemmas.Bool.{cases_Bool, cond-true, cond-false, or_from}
 use Rattle.std.proofs.lemmas.Option.{none-some, same_Some}
 use Rattle.mls_scheme.specs.declared.tuple.Element.{Element}
 use Rattle.mls_scheme.specs.declared.place.Place.{Place}
@@ -13,7 +13,7 @@ use Rattle.mls_scheme.specs.Table.{Table}
 use Rattle.mls_scheme.proofs.OrderLemmas.{is_place-true}
 use Rattle.mls_filterview.specs.declared.fragment.Node.{Node}
 use Rattle.mls_filterview.specs.declared.fragment.Fragment.{Fragment}
-use Rattle.mls_filterview.specs.Fragment.{of_class, node_of, place_of_node, IsFragment}
+use Rattle.mls_filterview.specs.Fragment.{of_class, node_of, IsFragment}
 use Rattle.mls_filterview.specs.View.{IsAmong}
 use Rattle.mls_filterview.specs.Content.{State}
 use Rattle.mls_filterview.proofs.EntryLemmas.{Entry, among_entries}

@@ -1,11 +1,10 @@
 -- What the three calls ask and promise.
-use Rattle.std.specs.Prelude.{◌≡◌, ℕ, ◌<◌, List, length, Option}
+use Rattle.std.specs.Prelude.{◌≡◌, ℕ}
 use Rattle.mls_lattice.specs.Labels.{Labels}
-use Rattle.mls_scheme.specs.declared.value.Value.{Value}
 use Rattle.mls_scheme.specs.Scheme.{Scheme}
 use Rattle.mls_filterview.specs.Content.{State, with_relation}
 use Rattle.mls_updates.specs.declared.outcome.Outcome.{Outcome}
-use Rattle.mls_updates.specs.Writes.{Write, Written, write}
+use Rattle.mls_updates.specs.Writes.{Write, write}
 
 -- from s, a write to a relation answered o and left t: the outcome and the table are those of the definition
 pub record IsWritten (ls : Labels) (scheme : Scheme) (rel w : ℕ) (wr : Write) (s t : State) (o : Outcome) : Type 0 where

@@ -13,7 +13,7 @@ use crate::growth::made;
 use crate::key::place_of;
 use crate::outcome::Outcome;
 use crate::pattern::pattern_at;
-use crate::sets::{has_null_above, names_other};
+use crate::sets::{has_null_above, names_inherited};
 use crate::setting::set_each;
 use mls_filterview::{Base, BaseFault};
 use mls_lattice::{LabelNo, Policy};
@@ -52,7 +52,7 @@ pub(crate) fn update_own<B: Base>(
     if !policy.dominates(w, key_class) {
         return Ok(Outcome::NoTuple);
     }
-    if names_other(&pattern, w, sets) {
+    if names_inherited(&pattern, w, sets) {
         return Ok(Outcome::Inherited);
     }
     if has_null_above(w, key_class, sets) {

@@ -14,7 +14,7 @@ use crate::key::place_of;
 use crate::outcome::Outcome;
 use crate::outline::add_outline;
 use crate::pattern::pattern_at;
-use crate::sets::{has_null_set, sets_outside};
+use crate::sets::{has_null_value, is_any_outside};
 use mls_filterview::{Base, BaseFault};
 use mls_lattice::{LabelNo, Policy};
 use mls_scheme::{RelNo, Scheme, Value};
@@ -63,10 +63,10 @@ pub(crate) fn update_below<B: Base>(
     if has_tuple(base, rel, &place)? {
         return Ok(Outcome::AlreadyDerived);
     }
-    if has_null_set(sets) {
+    if has_null_value(sets) {
         return Ok(Outcome::NullAboveKey);
     }
-    if sets_outside(policy, scheme, w, sets) {
+    if is_any_outside(policy, scheme, w, sets) {
         return Ok(Outcome::OutOfInterval);
     }
     add_outline(alloc, base, rel, place, sets, &pattern)?;

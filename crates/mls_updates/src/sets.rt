@@ -17,7 +17,7 @@ pub(crate) fn copy_value(value: &Option<Value>) -> Result<Option<Value>, AllocEr
 }
 
 /// Whether one of the values is null.
-pub(crate) fn has_null_set(sets: &[(usize, Option<Value>)]) -> bool
+pub(crate) fn has_null_value(sets: &[(usize, Option<Value>)]) -> bool
     ensures { result ≡ list_any (λ s. is_none s.1) sets.now }
 {
     sets.iter().any(|set| set.1.is_none())
@@ -31,7 +31,7 @@ pub(crate) fn has_null_above(
 ) -> bool
     ensures { result ≡ (not (nat_eq w key_class) && list_any (λ s. is_none s.1) sets.now) }
 {
-    w != key_class && has_null_set(sets)
+    w != key_class && has_null_value(sets)
 }
 
 /// The class at an attribute.
@@ -45,7 +45,11 @@ fn class_at(pattern: &[LabelNo], attr: usize) -> LabelNo
 }
 
 /// Whether a named attribute has another class.
-pub(crate) fn names_other(pattern: &[LabelNo], w: LabelNo, sets: &[(usize, Option<Value>)]) -> bool
+pub(crate) fn names_inherited(
+    pattern: &[LabelNo],
+    w: LabelNo,
+    sets: &[(usize, Option<Value>)],
+) -> bool
     ensures { result ≡ list_any (λ s. not (nat_eq (slice_index_or pattern.now s.0 0) w)) sets.now }
 {
     sets.iter().any(|set| class_at(pattern, set.0) != w)
@@ -62,7 +66,7 @@ fn is_outside(policy: &Policy, scheme: &Scheme, class: LabelNo, attr: usize) -> 
 }
 
 /// Whether a class lies outside the interval of a named attribute.
-pub(crate) fn sets_outside(
+pub(crate) fn is_any_outside(
     policy: &Policy,
     scheme: &Scheme,
     class: LabelNo,

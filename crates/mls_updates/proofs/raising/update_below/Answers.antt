@@ -1,4 +1,4 @@
-use Rattle.std.proofs.Common.{◌≡◌, false, ◌<◌, ◌&&◌, [], length, IfOk, Some, refl, sym, ap, ◌∙◌, subst}
+use Rattle.std.proofs.Common.{◌≡◌, ◌<◌, ◌&&◌, [], length, IfOk, sym, ap, ◌∙◌, subst}
 use Rattle.std.specs.Prelude.{is_some}
 use Rattle.std.specs.Option.{unwrap_or}
 use Rattle.std.specs.FinMap.{get, insert}
@@ -86,8 +86,8 @@ returns-then-branch-clause-done g c = λ clean.
     (found_at s (g.B.Base.state c.made-2.new.base) c.args.rel p c.in_ok-place.place c.in_ok-has_tuple.field-0 second there (c.in_ok-has_tuple.ensures.found clean) ∙ c.if-branch.true)
     (c.in_ok-has_tuple.ensures.same clean ∙ second)
 
-pub returns-then-has_null_set-clause-done : goal.returns-then-has_null_set-clause-done
-returns-then-has_null_set-clause-done g c = λ clean.
+pub returns-then-has_null_value-clause-done : goal.returns-then-has_null_value-clause-done
+returns-then-has_null_value-clause-done g c = λ clean.
     let ls = labels_of c.args.policy.now in
     let w = c.args.w in
     let from = c.args.from in
@@ -107,10 +107,10 @@ returns-then-has_null_set-clause-done g c = λ clean.
     below_null ls c.args.scheme.now c.args.rel w c.args.key.now kc from c.args.sets.now s (ne_eqb from w c.requires.other) (g.B.Base.state c.has_tuple.new.base)
     c.requires.key (λ i. is_some (tuple.1 i) && (low i && up i))
     (found_at s (g.B.Base.state c.made-2.new.base) c.args.rel p c.in_ok-place.place c.in_ok-has_tuple.field-0 second there (c.in_ok-has_tuple.ensures.found clean) ∙ c.if-branch.false)
-    (sym c.if-has_null_set.ensures) (c.in_ok-has_tuple.ensures.same clean ∙ second)
+    (sym c.if-has_null_value.ensures) (c.in_ok-has_tuple.ensures.same clean ∙ second)
 
-pub returns-then-sets_outside-clause-done : goal.returns-then-sets_outside-clause-done
-returns-then-sets_outside-clause-done g c = λ clean.
+pub returns-then-is_any_outside-clause-done : goal.returns-then-is_any_outside-clause-done
+returns-then-is_any_outside-clause-done g c = λ clean.
     let ls = labels_of c.args.policy.now in
     let w = c.args.w in
     let from = c.args.from in
@@ -130,7 +130,7 @@ returns-then-sets_outside-clause-done g c = λ clean.
     below_out ls c.args.scheme.now c.args.rel w c.args.key.now kc from c.args.sets.now s (ne_eqb from w c.requires.other) (g.B.Base.state c.has_tuple.new.base)
     c.requires.key (λ i. is_some (tuple.1 i) && (low i && up i))
     (found_at s (g.B.Base.state c.made-2.new.base) c.args.rel p c.in_ok-place.place c.in_ok-has_tuple.field-0 second there (c.in_ok-has_tuple.ensures.found clean) ∙ c.if-branch.false)
-    (sym c.if-has_null_set.ensures) (sym c.if-sets_outside.ensures) (c.in_ok-has_tuple.ensures.same clean ∙ second)
+    (sym c.if-has_null_value.ensures) (sym c.if-is_any_outside.ensures) (c.in_ok-has_tuple.ensures.same clean ∙ second)
 
 pub add_outline-requires-clause-made : goal.add_outline-requires-clause-made
 add_outline-requires-clause-made g c = λ clean.
@@ -190,6 +190,6 @@ returns-clause-done g c = λ clean.
     below_done ls c.args.scheme.now c.args.rel w c.args.key.now kc from sets s (ne_eqb from w c.requires.other) (g.B.Base.state c.add_outline.new.base)
     c.requires.key (λ i. is_some (tuple.1 i) && (low i && up i))
     (found_at s (g.B.Base.state c.made-2.new.base) c.args.rel p c.in_ok-place.place c.in_ok-has_tuple.field-0 second there (c.in_ok-has_tuple.ensures.found last) ∙ c.if-branch.false)
-    (sym c.if-has_null_set.ensures) (sym c.if-sets_outside.ensures)
+    (sym c.if-has_null_value.ensures) (sym c.if-is_any_outside.ensures)
     (c.in_ok-add_outline.ensures.done clean (derived w sets tuple.0) made
     ∙ (λ i. with_relation (same i) c.args.rel (insert ((same i).now.db c.args.rel) (there i) (derived w sets (unwrap_or (sym tuple.1 i) [])))))

@@ -3,7 +3,7 @@ use Rattle.std.specs.List.{list_any, AllByRecursion}
 use Rattle.mls_lattice.specs.Policy.{labels_of}
 use Rattle.mls_scheme.specs.Scheme.{other_of}
 use Rattle.mls_scheme.specs.Fits.{in_interval}
-use Rattle.mls_updates.proofs.sets.sets_outside.Given as goal
+use Rattle.mls_updates.proofs.sets.is_any_outside.Given as goal
 
 abbrev pub invariant-loop-set : goal.invariant-loop-set
 invariant-loop-set l =

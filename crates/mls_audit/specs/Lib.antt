@@ -1,0 +1,4 @@
+pub mod Entry
+pub mod Spelling
+pub mod Fault
+pub mod Reading

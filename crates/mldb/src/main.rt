@@ -2,6 +2,8 @@
 #![tactic(auto)]
 
 mod act;
+#[cfg(test)]
+mod denial_tests;
 mod host;
 mod refusal;
 mod samples;

@@ -171,22 +171,29 @@ H H/h row 7 U | "pilot" U | U
 
 #[test]
 fn writes_name_dominated_labels(rt: HostRuntime) -> Result<(), Fail> {
+    // hal's clearance dominates every label, so that the level of the session alone denies
     let script = r#"U a insert SOD key ("Enterprise") values ("Exploration", "Talos")
-U a update SOD key ("Enterprise") class U from S set Objective = "Spying"
-S b update SOD key ("Enterprise") class M from S set Objective = "Spying"
-S b update SOD key ("Enterprise") class U from M set Objective = "Spying"
-S b delete SOD key ("Enterprise") class H
-M m delete SOD key ("Enterprise") class S
+U x open hal
+S x open hal
+M x open hal
+U x update SOD key ("Enterprise") class U from S set Objective = "Spying"
+S x update SOD key ("Enterprise") class M from S set Objective = "Spying"
+S x update SOD key ("Enterprise") class U from M set Objective = "Spying"
+S x delete SOD key ("Enterprise") class H
+M x delete SOD key ("Enterprise") class S
 U z update SOD key ("Enterprise") class U from S set Objective = "Spying"
 U z delete SOD key ("Enterprise") class S
 H h view SOD at H
 "#;
     let text = r#"U U/a done
-U U/a denied 38 Star
-S S/b denied 38 Star
-S S/b denied 38 Star
-S S/b denied 38 Star
-M M/m denied 38 Star
+U U/x opened hal
+S S/x opened hal
+M M/x opened hal
+U U/x denied 38 Star
+S S/x denied 38 Star
+S S/x denied 38 Star
+S S/x denied 38 Star
+M M/x denied 38 Star
 U U/z denied 31 NoSession
 U U/z denied 31 NoSession
 H H/h view SOD at H: Starship Objective Destination

@@ -1,8 +1,8 @@
 -- What each way through a step does is the machine's step, and the engine keeps what it holds.
-use Rattle.std.proofs.Common.{◌≡◌, ℕ, Bool, true, false, cond, Option, Some, None, refl, sym, ap, ◌∙◌, subst, eqb-true, Vec, Global, Result, Ok, Err, IfOk}
+use Rattle.std.proofs.Common.{◌≡◌, ℕ, length, Bool, true, false, cond, Option, Some, None, refl, sym, ap, ◌∙◌, subst, eqb-true, Vec, Global, Result, Ok, Err, IfOk}
 use Rattle.std.specs.Prelude.{nat_eq}
 use Rattle.mls_lattice.specs.Labels.{Labels}
-use Rattle.mls_lattice.specs.Policy.{Name, Tables, labels_of}
+use Rattle.mls_lattice.specs.Policy.{Tables, labels_of}
 use Rattle.mls_scheme.specs.Table.{Table, Database}
 use Rattle.mls_scheme.specs.Scheme.{Schemes, scheme_of}
 use Rattle.mls_filterview.specs.declared.base.BaseFault.{BaseFault}
@@ -11,28 +11,26 @@ use Rattle.mls_filterview.specs.Stored.{IsContent, AreContent}
 use Rattle.mls_updates.specs.declared.outcome.Outcome.{Outcome}
 use Rattle.mls_updates.specs.Writes.{Write}
 use Rattle.mls_sessions.specs.declared.event.Event.{Event}
-use Rattle.mls_sessions.specs.declared.event.Command.{Command}
-use Rattle.mls_sessions.specs.declared.event.Command.TheVariants as commands
 use Rattle.mls_sessions.specs.declared.reply.Denial.{Denial}
-use Rattle.mls_sessions.specs.declared.reply.Denial.TheVariants.{NoSession}
 use Rattle.mls_sessions.specs.declared.reply.Reply.{Reply}
 use Rattle.mls_sessions.specs.declared.reply.Reply.TheVariants.{Denied}
 use Rattle.mls_sessions.specs.declared.session.Session.{Session}
 use Rattle.mls_sessions.specs.declared.engine.Engine.{Engine}
-use Rattle.mls_sessions.specs.Machine.{World, Step, denial_in, effect_in, step_in, opened, step_outside, step_at, user_named, step}
-use Rattle.mls_sessions.specs.Engine.{world_of, sessions_of, IsReady, IsStep, IsOpening, IsKept, FellBack}
+use Rattle.mls_sessions.specs.Denying.{first_denial, denials_outside, denials_inside}
+use Rattle.mls_sessions.specs.Machine.{World, Step, effect_in, step_inside, step_outside, step_at, step}
+use Rattle.mls_sessions.specs.Engine.{world_of, sessions_of, AreForUsers, IsReady, IsStep, IsSessionStep, IsKept, FellBack}
 
 -- ---- the machine's step, by session and command
 
 module _ (policy : Tables) (schemes : Schemes) (w : World) (e : Event) where
-  in_session : (user : ℕ) (denial : Option Denial) → w.sessions e.level e.session ≡ Some user → denial_in policy schemes e.level e.command ≡ denial
-      → step policy schemes w e ≡ step_in policy schemes w e.level e.command denial
+  inside : (user : ℕ) (denial : Option Denial) → w.sessions e.level e.session ≡ Some user → first_denial (denials_inside policy schemes e.level user e.command) ≡ denial
+      → step policy schemes w e ≡ step_inside policy schemes w e denial
   unfolding step
-  in_session user denial h k = ap (step_at policy schemes w e) h ∙ ap (step_in policy schemes w e.level e.command) k
+  inside user denial h k = ap (step_at policy schemes w e) h ∙ ap (step_inside policy schemes w e) k
 
-  outside_session : (command : Command) → w.sessions e.level e.session ≡ None → e.command ≡ command → step policy schemes w e ≡ step_outside policy schemes w e command
+  outside : w.sessions e.level e.session ≡ None → step policy schemes w e ≡ step_outside policy schemes w e (first_denial (denials_outside policy e.level e.command))
   unfolding step
-  outside_session command h k = ap (step_at policy schemes w e) h ∙ ap (step_outside policy schemes w e) k
+  outside h = ap (step_at policy schemes w e) h
 
 -- ---- content with one relation changed
 
@@ -52,9 +50,14 @@ module _ {B : Type 0} (state : B → State) (is_clean : B → Type 0) (e : Engin
   ready_fallen b clean h = record {
     under = ready.under;
     distinct = ready.distinct;
+    users = ready.users;
     idle = λ c. (h c).idle;
     content = λ c. subst (λ x. AreContent (labels_of e.policy.now) e.schemes.now x.db) (sym (h c).now) (ready.content (clean c));
   }
+
+  -- after a session was opened or closed
+  pub ready_sessions : (sessions : Vec Session Global) → AreForUsers (length e.policy.now.users) sessions.items → IsReady state is_clean (record e { sessions = sessions })
+  ready_sessions sessions users = record { under = ready.under; distinct = ready.distinct; users = users; idle = ready.idle; content = ready.content }
 
   -- after a view
   pub ready_same : (b : B) → (is_clean b → is_clean e.base) → (is_clean b → state b ≡ state e.base) → IsReady state is_clean (record e { base = b })
@@ -67,6 +70,7 @@ module _ {B : Type 0} (state : B → State) (is_clean : B → Type 0) (e : Engin
     ready_kept content = record {
       under = ready.under;
       distinct = ready.distinct;
+      users = ready.users;
       idle = λ c. (kept c).idle;
       content = λ c. changed_content (labels_of e.policy.now) e.schemes.now (state e.base).now.db (state b).now.db rel _ (ap (λ x. x.db) (kept c).now) (ready.content (clean c)) (content c);
     }
@@ -83,35 +87,22 @@ module _ {B : Type 0} (state : B → State) (e : Engine B) (event : Event) where
   abbrev held : Option ℕ
   held = sessions_of e.sessions.items event.level event.session
 
-  abbrev denial : Option Denial
-  denial = denial_in e.policy.now e.schemes.now event.level event.command
+  abbrev denial : ℕ → Option Denial
+  denial user = first_denial (denials_inside e.policy.now e.schemes.now event.level user event.command)
 
   is_step : (t : Step) (new : Engine B) (r : Reply) → s ≡ t → r ≡ t.reply → world_of state new ≡ t.world → (state new.base).now.audit ≡ (state e.base).now.audit → IsStep state e s new r
   is_step t new r h reply world audit = record { reply = reply ∙ sym (ap (λ x. x.reply) h); world = world ∙ sym (ap (λ x. x.world) h); audit = audit }
 
-  pub denied : (user : ℕ) (d : Denial) → held ≡ Some user → denial ≡ Some d → IsStep state e s e (Denied d)
-  denied user d h k = is_step _ e _ (in_session e.policy.now e.schemes.now w event user (Some d) h k) refl refl refl
+  pub denied : (user : ℕ) (d : Denial) → held ≡ Some user → denial user ≡ Some d → IsStep state e s e (Denied d)
+  denied user d h k = is_step _ e _ (inside e.policy.now e.schemes.now w event user (Some d) h k) refl refl refl
 
-  pub effect_answered : (user : ℕ) (new : Engine B) (r : Result Reply BaseFault) → held ≡ Some user → denial ≡ None
-      → IfOk r (IsStep state e (effect_in e.policy.now e.schemes.now w event.level event.command) new) → IfOk r (IsStep state e s new)
-  effect_answered user new r h k answer = subst (λ t. IfOk r (IsStep state e t new)) (sym (in_session e.policy.now e.schemes.now w event user None h k)) answer
+  pub effect_answered : (user : ℕ) (new : Engine B) (r : Result Reply BaseFault) → held ≡ Some user → denial user ≡ None
+      → IfOk r (IsStep state e (effect_in e.policy.now e.schemes.now w event event.command) new) → IfOk r (IsStep state e s new)
+  effect_answered user new r h k answer = subst (λ t. IfOk r (IsStep state e t new)) (sym (inside e.policy.now e.schemes.now w event user None h k)) answer
 
-  -- a command that opens no session
-  denied_all : (command : Command) → ((name : Name) → command ≡ commands.Open name → ⊥) → step_outside e.policy.now e.schemes.now w event command ≡ record { world = w; reply = Denied NoSession }
-  denied_all (commands.Open name) other = absurd (other name refl)
-  denied_all (commands.View rel label) other = refl
-  denied_all (commands.Insert rel key values) other = refl
-  denied_all (commands.Update rel key key_class from sets) other = refl
-  denied_all (commands.Delete rel key key_class) other = refl
-
-  pub denied_outside : held ≡ None → ((name : Name) → event.command ≡ commands.Open name → ⊥) → IsStep state e s e (Denied NoSession)
-  denied_outside h other = is_step _ e _ (outside_session e.policy.now e.schemes.now w event event.command h refl ∙ denied_all event.command other) refl refl refl
-
-  pub open_answered : (name n : Name) (sessions : Vec Session Global) (r : Result Reply BaseFault) → held ≡ None → event.command ≡ commands.Open name → n ≡ name
-      → IfOk r (IsOpening e.policy.now e.schemes.now event n e.sessions.items sessions.items) → IfOk r (IsStep state e s (record e { sessions = sessions }))
-  open_answered name n sessions (Err fault) h k m opening = tt
-  open_answered name n sessions (Ok r) h k m opening =
-      let t = opened e.policy.now e.schemes.now w event (user_named e.policy.now name) in
-      let same : opened e.policy.now e.schemes.now w event (user_named e.policy.now n) ≡ t = ap (λ x. opened e.policy.now e.schemes.now w event (user_named e.policy.now x)) m in
-      is_step t (record e { sessions = sessions }) r (outside_session e.policy.now e.schemes.now w event (commands.Open name) h k)
-      (opening.reply (state e.base).now.db ∙ ap (λ x. x.reply) same) (opening.world (state e.base).now.db ∙ ap (λ x. x.world) same) refl
+  pub open_answered : (sessions : Vec Session Global) (r : Result Reply BaseFault) → held ≡ None
+      → IfOk r (IsSessionStep (λ v. step_outside e.policy.now e.schemes.now v event (first_denial (denials_outside e.policy.now event.level event.command))) e.sessions.items sessions.items)
+      → IfOk r (IsStep state e s (record e { sessions = sessions }))
+  open_answered sessions (Err fault) h answer = tt
+  open_answered sessions (Ok r) h answer =
+      is_step _ (record e { sessions = sessions }) r (outside e.policy.now e.schemes.now w event h) (answer.reply (state e.base).now.db) (answer.world (state e.base).now.db) refl

@@ -13,7 +13,7 @@ use Rattle.mls_sessions.specs.declared.event.Event.{Event}
 use Rattle.mls_sessions.specs.declared.event.Command.{Command}
 use Rattle.mls_sessions.specs.declared.event.Command.TheVariants as commands
 use Rattle.mls_sessions.specs.declared.reply.Denial.{Denial}
-use Rattle.mls_sessions.specs.Machine.{World, wrote, effect_in, denial_in, step_in, opened, user_named, step_outside, step_at, step}
+use Rattle.mls_sessions.specs.Machine.{World, wrote, effect_in, step_inside, step_outside, step_at, step}
 use Rattle.mls_sessions.specs.Laws.{ChangesNothing, RefusalsChangeNothing}
 
 -- ---- a write that is refused
@@ -49,33 +49,26 @@ module _ (policy : Tables) (schemes : Schemes) (w : World) where
       let same = same_relation w.db rel _ (table_left (labels_of policy) (scheme_of schemes rel) level (w.db rel) wr h) in
       λ i. record { db = λ r. same r i; sessions = w.sessions }
 
-  effect_left : (level : ℕ) (command : Command) → ChangesNothing (effect_in policy schemes w level command).reply → (effect_in policy schemes w level command).world ≡ w
-  effect_left level (commands.Open name) h = refl
-  effect_left level (commands.View rel label) h = refl
-  effect_left level (commands.Insert rel key values) h = wrote_left level rel (Insert key values) h
-  effect_left level (commands.Update rel key key_class from sets) h = wrote_left level rel (Update key key_class from sets) h
-  effect_left level (commands.Delete rel key key_class) h = wrote_left level rel (Delete key key_class) h
-
-  in_left : (level : ℕ) (command : Command) (denial : Option Denial) → ChangesNothing (step_in policy schemes w level command denial).reply
-      → (step_in policy schemes w level command denial).world ≡ w
-  in_left level command None h = effect_left level command h
-  in_left level command (Some denial) h = refl
-
   module _ (e : Event) where
-    opened_left : (user : Option ℕ) → ChangesNothing (opened policy schemes w e user).reply → (opened policy schemes w e user).world ≡ w
-    opened_left None h = refl
-    opened_left (Some user) h = absurd h
+    effect_left : (command : Command) → ChangesNothing (effect_in policy schemes w e command).reply → (effect_in policy schemes w e command).world ≡ w
+    effect_left (commands.Open name) h = refl
+    effect_left commands.Close h = absurd h
+    effect_left (commands.View rel label) h = refl
+    effect_left (commands.Insert rel key values) h = wrote_left e.level rel (Insert key values) h
+    effect_left (commands.Update rel key key_class from sets) h = wrote_left e.level rel (Update key key_class from sets) h
+    effect_left (commands.Delete rel key key_class) h = wrote_left e.level rel (Delete key key_class) h
 
-    outside_left : (command : Command) → ChangesNothing (step_outside policy schemes w e command).reply → (step_outside policy schemes w e command).world ≡ w
-    outside_left (commands.Open name) h = opened_left (user_named policy name) h
-    outside_left (commands.View rel label) h = refl
-    outside_left (commands.Insert rel key values) h = refl
-    outside_left (commands.Update rel key key_class from sets) h = refl
-    outside_left (commands.Delete rel key key_class) h = refl
+    inside_left : (denial : Option Denial) → ChangesNothing (step_inside policy schemes w e denial).reply → (step_inside policy schemes w e denial).world ≡ w
+    inside_left None h = effect_left e.command h
+    inside_left (Some denial) h = refl
+
+    outside_left : (denial : Option Denial) → ChangesNothing (step_outside policy schemes w e denial).reply → (step_outside policy schemes w e denial).world ≡ w
+    outside_left None h = absurd h
+    outside_left (Some denial) h = refl
 
     at_left : (session : Option ℕ) → ChangesNothing (step_at policy schemes w e session).reply → (step_at policy schemes w e session).world ≡ w
-    at_left (Some user) h = in_left e.level e.command (denial_in policy schemes e.level e.command) h
-    at_left None h = outside_left e.command h
+    at_left (Some user) h = inside_left _ h
+    at_left None h = outside_left _ h
 
 pub refusal_left : RefusalsChangeNothing
 unfolding step

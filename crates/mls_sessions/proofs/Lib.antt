@@ -1,5 +1,6 @@
 pub mod RunLemmas
 pub mod ChangeLemmas
+pub mod DenyingLemmas
 pub mod SessionLemmas
 pub mod EngineLemmas
 pub mod WritingSteps

@@ -16,7 +16,7 @@ use Rattle.mls_sessions.specs.declared.event.Event.{Event}
 use Rattle.mls_sessions.specs.declared.event.Command.{Command}
 use Rattle.mls_sessions.specs.declared.event.Command.TheVariants as commands
 use Rattle.mls_sessions.specs.declared.reply.Denial.{Denial}
-use Rattle.mls_sessions.specs.Machine.{World, step, end_of, replies, denial_in, effect_in, step_in, opened, step_outside, step_at, user_named}
+use Rattle.mls_sessions.specs.Machine.{World, step, end_of, replies, effect_in, step_inside, step_outside, step_at}
 use Rattle.mls_sessions.specs.Event.{CommandFits, EventFits}
 use Rattle.mls_sessions.specs.Output.{reply_text, printed}
 use Rattle.mls_sessions.specs.Run.{printed_to, world_after, KeepsIntegrity}
@@ -72,8 +72,9 @@ module _ (policy : Tables) (schemes : Schemes) (distinct : AreDistinct (labels_o
     level_fits : e.level < length (labels_of policy)
     level_fits = subst (λ n. e.level < n) (sym (length-map policy.labels (λ l. l.value))) declared
 
-    effect_content : (command : Command) → CommandFits policy schemes command → AreStored (effect_in policy schemes w e.level command).world
+    effect_content : (command : Command) → CommandFits policy schemes command → AreStored (effect_in policy schemes w e command).world
     effect_content (commands.Open name) fits = all
+    effect_content commands.Close fits = all
     effect_content (commands.View rel label) fits = all
     effect_content (commands.Insert rel key values) fits =
         written_content w e.level rel (Insert key values) all (level_fits, zip_count _ (scheme_of schemes rel).others values fits.2) (fits.1, fits.2)
@@ -81,24 +82,17 @@ module _ (policy : Tables) (schemes : Schemes) (distinct : AreDistinct (labels_o
         written_content w e.level rel (Update key key_class from sets) all (level_fits, fits.4.some, fits.4.known) fits.4.kinds
     effect_content (commands.Delete rel key key_class) fits = written_content w e.level rel (Delete key key_class) all tt tt
 
-    in_content : (command : Command) (denial : Option Denial) → CommandFits policy schemes command → AreStored (step_in policy schemes w e.level command denial).world
-    in_content command None fits = effect_content command fits
-    in_content command (Some denial) fits = all
+    inside_content : (denial : Option Denial) → CommandFits policy schemes e.command → AreStored (step_inside policy schemes w e denial).world
+    inside_content None fits = effect_content e.command fits
+    inside_content (Some denial) fits = all
 
-    opened_content : (user : Option ℕ) → AreStored (opened policy schemes w e user).world
-    opened_content None = all
-    opened_content (Some user) = all
-
-    outside_content : (command : Command) → AreStored (step_outside policy schemes w e command).world
-    outside_content (commands.Open name) = opened_content (user_named policy name)
-    outside_content (commands.View rel label) = all
-    outside_content (commands.Insert rel key values) = all
-    outside_content (commands.Update rel key key_class from sets) = all
-    outside_content (commands.Delete rel key key_class) = all
+    outside_content : (denial : Option Denial) → AreStored (step_outside policy schemes w e denial).world
+    outside_content None = all
+    outside_content (Some denial) = all
 
     at_content : (session : Option ℕ) → CommandFits policy schemes e.command → AreStored (step_at policy schemes w e session).world
-    at_content (Some user) fits = in_content e.command (denial_in policy schemes e.level e.command) fits
-    at_content None fits = outside_content e.command
+    at_content (Some user) fits = inside_content _ fits
+    at_content None fits = outside_content _
 
   pub step_content : (w : World) (e : Event) → AreStored w → EventFits policy schemes e → AreStored (step policy schemes w e).world
   unfolding step

@@ -11,7 +11,7 @@ use Rattle.mls_scheme.specs.Scheme.{Scheme, Schemes, scheme_of, other_of}
 use Rattle.mls_updates.specs.Writes.{Sets}
 use Rattle.mls_sessions.specs.declared.event.Event.{Event}
 use Rattle.mls_sessions.specs.declared.event.Command.{Command}
-use Rattle.mls_sessions.specs.declared.event.Command.TheVariants.{Open, View, Insert, Update, Delete}
+use Rattle.mls_sessions.specs.declared.event.Command.TheVariants.{Open, Close, View, Insert, Update, Delete}
 use Rattle.mls_sessions.specs.declared.token.Token.{Token}
 use Rattle.mls_sessions.specs.declared.token.Token.TheVariants.{Word, Sign}
 use Rattle.mls_sessions.specs.declared.token.Sign.TheVariants.{RightParen, Comma}
@@ -139,11 +139,19 @@ different s t xs ys apart e = true≢false (sym ((bytes_eq-Decides s t).1 (word_
 module _ (policy : Tables) (schemes : Schemes) (apart : AreNamedApart policy schemes) where
   command_once : (c d : Command) → CommandFits policy schemes c → CommandFits policy schemes d → command_tokens policy schemes c ≡ command_tokens policy schemes d → c ≡ d
   command_once (Open u) (Open v) f g e = ap (λ (x : Name). Open x) (word_is u v (uncons _ _ [] [] (uncons _ _ _ _ e).tail).head)
+  command_once (Open u) Close f g e = absurd (different (codes "open") (codes "close") _ _ refl e)
   command_once (Open u) (View rel' label') f g e = absurd (different (codes "open") (codes "view") _ _ refl e)
   command_once (Open u) (Insert rel' key' values') f g e = absurd (different (codes "open") (codes "insert") _ _ refl e)
   command_once (Open u) (Update rel' key' key_class' from' sets') f g e = absurd (different (codes "open") (codes "update") _ _ refl e)
   command_once (Open u) (Delete rel' key' key_class') f g e = absurd (different (codes "open") (codes "delete") _ _ refl e)
+  command_once Close (Open v) f g e = absurd (different (codes "close") (codes "open") _ _ refl e)
+  command_once Close Close f g e = refl
+  command_once Close (View rel' label') f g e = absurd (different (codes "close") (codes "view") _ _ refl e)
+  command_once Close (Insert rel' key' values') f g e = absurd (different (codes "close") (codes "insert") _ _ refl e)
+  command_once Close (Update rel' key' key_class' from' sets') f g e = absurd (different (codes "close") (codes "update") _ _ refl e)
+  command_once Close (Delete rel' key' key_class') f g e = absurd (different (codes "close") (codes "delete") _ _ refl e)
   command_once (View rel label) (Open v) f g e = absurd (different (codes "view") (codes "open") _ _ refl e)
+  command_once (View rel label) Close f g e = absurd (different (codes "view") (codes "close") _ _ refl e)
   command_once (View rel label) (View rel' label') f g e =
       let first = uncons _ _ _ _ (uncons _ _ _ _ e).tail in
       let last = uncons _ _ _ _ (uncons _ _ _ _ first.tail).tail in
@@ -154,6 +162,7 @@ module _ (policy : Tables) (schemes : Schemes) (apart : AreNamedApart policy sch
   command_once (View rel label) (Update rel' key' key_class' from' sets') f g e = absurd (different (codes "view") (codes "update") _ _ refl e)
   command_once (View rel label) (Delete rel' key' key_class') f g e = absurd (different (codes "view") (codes "delete") _ _ refl e)
   command_once (Insert rel key values) (Open v) f g e = absurd (different (codes "insert") (codes "open") _ _ refl e)
+  command_once (Insert rel key values) Close f g e = absurd (different (codes "insert") (codes "close") _ _ refl e)
   command_once (Insert rel key values) (View rel' label') f g e = absurd (different (codes "insert") (codes "view") _ _ refl e)
   command_once (Insert rel key values) (Insert rel' key' values') f g e =
       let first = uncons _ _ _ _ (uncons _ _ _ _ e).tail in
@@ -166,6 +175,7 @@ module _ (policy : Tables) (schemes : Schemes) (apart : AreNamedApart policy sch
   command_once (Insert rel key values) (Update rel' key' key_class' from' sets') f g e = absurd (different (codes "insert") (codes "update") _ _ refl e)
   command_once (Insert rel key values) (Delete rel' key' key_class') f g e = absurd (different (codes "insert") (codes "delete") _ _ refl e)
   command_once (Update rel key key_class from sets) (Open v) f g e = absurd (different (codes "update") (codes "open") _ _ refl e)
+  command_once (Update rel key key_class from sets) Close f g e = absurd (different (codes "update") (codes "close") _ _ refl e)
   command_once (Update rel key key_class from sets) (View rel' label') f g e = absurd (different (codes "update") (codes "view") _ _ refl e)
   command_once (Update rel key key_class from sets) (Insert rel' key' values') f g e = absurd (different (codes "update") (codes "insert") _ _ refl e)
   command_once (Update rel key key_class from sets) (Update rel' key' key_class' from' sets') f g e =
@@ -185,6 +195,7 @@ module _ (policy : Tables) (schemes : Schemes) (apart : AreNamedApart policy sch
       λ i. Update (same_rel i) (keys.values i) (same_class i) (same_from i) (same_sets i)
   command_once (Update rel key key_class from sets) (Delete rel' key' key_class') f g e = absurd (different (codes "update") (codes "delete") _ _ refl e)
   command_once (Delete rel key key_class) (Open v) f g e = absurd (different (codes "delete") (codes "open") _ _ refl e)
+  command_once (Delete rel key key_class) Close f g e = absurd (different (codes "delete") (codes "close") _ _ refl e)
   command_once (Delete rel key key_class) (View rel' label') f g e = absurd (different (codes "delete") (codes "view") _ _ refl e)
   command_once (Delete rel key key_class) (Insert rel' key' values') f g e = absurd (different (codes "delete") (codes "insert") _ _ refl e)
   command_once (Delete rel key key_class) (Update rel' key' key_class' from' sets') f g e = absurd (different (codes "delete") (codes "update") _ _ refl e)

@@ -1,10 +1,9 @@
 -- Over content of the stored form the numbers in a reply are those of the policy.
-use Rattle.std.proofs.Common.{◌≡◌, ℕ, suc, ◌<◌, Bool, List, [], ◌∷◌, length, map, Option, Some, None, inl, inr, refl, sym, subst, arith}
-use Rattle.std.specs.List.{AllByRecursion, position}
+use Rattle.std.proofs.Common.{◌≡◌, ℕ, suc, ◌<◌, List, [], ◌∷◌, length, map, Option, Some, None, inl, inr, refl, sym, subst, arith}
+use Rattle.std.specs.List.{AllByRecursion}
+use Rattle.std.specs.Option.{unwrap_or}
 use Rattle.std.specs.FinMap.{get}
 use Rattle.std.proofs.lemmas.List.{length-map}
-use Rattle.std.proofs.lemmas.List.Quantifiers.{position-Some}
-use Rattle.std.specs.Str.{bytes_eq}
 use Rattle.mls_lattice.specs.Labels.{Labels, AreDistinct}
 use Rattle.mls_lattice.specs.Policy.{Tables, labels_of}
 use Rattle.mls_scheme.specs.declared.tuple.Element.{Element}
@@ -19,8 +18,10 @@ use Rattle.mls_sessions.specs.declared.event.Event.{Event}
 use Rattle.mls_sessions.specs.declared.event.Command.{Command}
 use Rattle.mls_sessions.specs.declared.event.Command.TheVariants as commands
 use Rattle.mls_sessions.specs.declared.reply.Denial.{Denial}
-use Rattle.mls_sessions.specs.Machine.{World, effect_in, denial_in, step_in, opened, user_named, step_outside, step_at, step}
+use Rattle.mls_sessions.specs.Denying.{opener}
+use Rattle.mls_sessions.specs.Machine.{World, effect_in, step_inside, step_outside, step_at, step}
 use Rattle.mls_sessions.specs.Output.{ReplyIsKnown}
+use Rattle.mls_sessions.proofs.DenyingLemmas.{opener_known}
 
 -- ---- rows
 
@@ -46,43 +47,31 @@ module _ (ls : Labels) (n : ℕ) (T : Table) (stored : IsStored ls n T) where
       let r = (rows_are_the_view ls distinct n T stored c).1 in
       subst (AllByRecursion (HasClassesBelow (length ls))) (sym r.1) (tuples_below r.0 r.3)
 
--- ---- users
-
-position_below : {A : Type 0} (f : A → Bool) (xs : List A) (n : ℕ) → position f xs ≡ Some n → n < length xs
-position_below f [] n h = absurd cc
-position_below f (x ∷ xs) n h = (position-Some f (x ∷ xs) n x h).0
-
 -- ---- steps
 
 module _ (policy : Tables) (schemes : Schemes) (distinct : AreDistinct (labels_of policy)) (w : World) (all : AreContent (labels_of policy) schemes w.db) where
-  effect_known : (level : ℕ) (command : Command) → ReplyIsKnown policy (effect_in policy schemes w level command).reply
-  effect_known level (commands.Open name) = tt
-  effect_known level (commands.View rel label) =
-      subst (λ n. AllByRecursion (HasClassesBelow n) (rows (labels_of policy) label (w.db rel))) (length-map policy.labels (λ l. l.value))
-      (rows_below (labels_of policy) (length (scheme_of schemes rel).others) (w.db rel) (all rel).stored distinct label)
-  effect_known level (commands.Insert rel key values) = tt
-  effect_known level (commands.Update rel key key_class from sets) = tt
-  effect_known level (commands.Delete rel key key_class) = tt
-
-  in_known : (level : ℕ) (command : Command) (denial : Option Denial) → ReplyIsKnown policy (step_in policy schemes w level command denial).reply
-  in_known level command None = effect_known level command
-  in_known level command (Some denial) = tt
-
   module _ (e : Event) where
-    opened_known : (user : Option ℕ) → ((n : ℕ) → user ≡ Some n → n < length policy.users) → ReplyIsKnown policy (opened policy schemes w e user).reply
-    opened_known None h = tt
-    opened_known (Some user) h = h user refl
+    effect_known : (command : Command) → ReplyIsKnown policy (effect_in policy schemes w e command).reply
+    effect_known (commands.Open name) = tt
+    effect_known commands.Close = tt
+    effect_known (commands.View rel label) =
+        subst (λ n. AllByRecursion (HasClassesBelow n) (rows (labels_of policy) label (w.db rel))) (length-map policy.labels (λ l. l.value))
+        (rows_below (labels_of policy) (length (scheme_of schemes rel).others) (w.db rel) (all rel).stored distinct label)
+    effect_known (commands.Insert rel key values) = tt
+    effect_known (commands.Update rel key key_class from sets) = tt
+    effect_known (commands.Delete rel key key_class) = tt
 
-    outside_known : (command : Command) → ReplyIsKnown policy (step_outside policy schemes w e command).reply
-    outside_known (commands.Open name) = opened_known (user_named policy name) (position_below (λ u. bytes_eq u.name name) policy.users)
-    outside_known (commands.View rel label) = tt
-    outside_known (commands.Insert rel key values) = tt
-    outside_known (commands.Update rel key key_class from sets) = tt
-    outside_known (commands.Delete rel key key_class) = tt
+    inside_known : (denial : Option Denial) → ReplyIsKnown policy (step_inside policy schemes w e denial).reply
+    inside_known None = effect_known e.command
+    inside_known (Some denial) = tt
+
+    outside_known : (denial : Option Denial) → (denial ≡ None → unwrap_or (opener policy e.command) 0 < length policy.users) → ReplyIsKnown policy (step_outside policy schemes w e denial).reply
+    outside_known None h = h refl
+    outside_known (Some denial) h = tt
 
     at_known : (session : Option ℕ) → ReplyIsKnown policy (step_at policy schemes w e session).reply
-    at_known (Some user) = in_known e.level e.command (denial_in policy schemes e.level e.command)
-    at_known None = outside_known e.command
+    at_known (Some user) = inside_known _
+    at_known None = outside_known _ (opener_known policy e.level e.command)
 
   pub step_known : (e : Event) → ReplyIsKnown policy (step policy schemes w e).reply
   unfolding step

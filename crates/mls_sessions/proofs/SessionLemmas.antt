@@ -1,16 +1,25 @@
--- Sessions: a list with one more, and what its opening is answered.
-use Rattle.std.proofs.Common.{◌≡◌, ℕ, Bool, true, false, cond, List, [], ◌∷◌, ◌++◌, Option, Some, None, refl, sym, ap, ◌∙◌, true≢false, eqb-true}
-use Rattle.std.specs.Prelude.{is_some}
+-- Sessions: a list with one more or without one, and what an event of no open session is answered.
+use Rattle.std.proofs.Common.{◌≡◌, ℕ, ◌<◌, Bool, true, false, not, cond, List, [], ◌∷◌, ◌++◌, Option, Some, None, refl, sym, ap, ◌∙◌, subst, true≢false, eqb-true}
+use Rattle.std.specs.Prelude.{is_some, nat_eq, ◌&&◌}
+use Rattle.std.specs.List.{filter}
+use Rattle.std.specs.Str.{bytes_eq}
+use Rattle.std.specs.Option.{unwrap_or}
 use Rattle.std.proofs.lemmas.Bool.{and_parts}
 use Rattle.std.proofs.lemmas.Slice.Eq.{bytes_eq-Decides}
-use Rattle.mls_lattice.specs.Policy.{Name, Tables}
+use Rattle.mls_lattice.specs.Labels.{below}
+use Rattle.mls_lattice.specs.Policy.{Name, Tables, labels_of}
 use Rattle.mls_scheme.specs.Scheme.{Schemes}
 use Rattle.mls_sessions.specs.declared.event.Event.{Event}
-use Rattle.mls_sessions.specs.declared.reply.Denial.TheVariants.{UnknownUser}
+use Rattle.mls_sessions.specs.declared.event.Command.TheVariants as commands
+use Rattle.mls_sessions.specs.declared.reply.Denial.{Denial}
+use Rattle.mls_sessions.specs.declared.reply.Denial.TheVariants.{NoSession, UnknownUser, Ss}
+use Rattle.mls_sessions.specs.declared.reply.Reply.{Reply}
 use Rattle.mls_sessions.specs.declared.reply.Reply.TheVariants.{Opened, Denied}
 use Rattle.mls_sessions.specs.declared.session.Session.{Session}
-use Rattle.mls_sessions.specs.Machine.{with_session, opened, user_named}
-use Rattle.mls_sessions.specs.Engine.{is_named, sessions_of, IsOpening}
+use Rattle.mls_sessions.specs.Denying.{first_denial, user_named, clearance_of, opener, denials_outside}
+use Rattle.mls_sessions.specs.Machine.{with_session, step_outside}
+use Rattle.mls_sessions.specs.Engine.{is_named, sessions_of, AreForUsers, IsSessionStep}
+use Rattle.mls_sessions.proofs.DenyingLemmas.{not_opening, unknown_user, not_cleared, no_denial}
 
 -- ---- one more session
 
@@ -41,23 +50,116 @@ last (r ∷ ss) s h level name =
     ∙ swapped (is_named level name r) (is_named level name s) (Some r.user) (Some s.user) (sessions_of ss level name)
     (λ a b. true≢false (sym (both_named level name r s a b) ∙ p.0))
 
--- ---- what an opening is answered
+-- ---- no session of a level and a name
 
-module _ (policy : Tables) (schemes : Schemes) (event : Event) (name : Name) (old : List Session) where
-  pub opening_unknown : user_named policy name ≡ None → IsOpening policy schemes event name old old (Denied UnknownUser)
-  opening_unknown e = record {
-    reply = λ db. sym (ap (λ u. (opened policy schemes (record { db = db; sessions = sessions_of old }) event u).reply) e);
-    world = λ db. sym (ap (λ u. (opened policy schemes (record { db = db; sessions = sessions_of old }) event u).world) e);
-  }
+kept : (count : ℕ) (b : Bool) (s : Session) (ss : List Session) → s.user < count → AreForUsers count ss → AreForUsers count (cond b (s ∷ ss) ss)
+kept count true s ss one all = (one, all)
+kept count false s ss one all = all
 
-  pub opening_done : (user : ℕ) (new : List Session) → user_named policy name ≡ Some user → sessions_of old event.level event.session ≡ None
-      → new ≡ old ++ record { level = event.level; name = event.session; user = user } ∷ [] → IsOpening policy schemes event name old new (Opened user)
-  opening_done user new e absent g =
-      let s : Session = record { level = event.level; name = event.session; user = user } in
-      let same : sessions_of new ≡ with_session (sessions_of old) event.level event.session (Some user) = ap sessions_of g ∙ (λ i level n. last old s absent level n i) in
-      record {
-        reply = λ db. sym (ap (λ u. (opened policy schemes (record { db = db; sessions = sessions_of old }) event u).reply) e);
-        world = λ db. ap (λ x. record { db = db; sessions = x }) same ∙ sym (ap (λ u. (opened policy schemes (record { db = db; sessions = sessions_of old }) event u).world) e);
-      }
+held_if : (b : Bool) (xs ys : List Session) (level : ℕ) (name : Name) → sessions_of (cond b xs ys) level name ≡ cond b (sessions_of xs level name) (sessions_of ys level name)
+held_if true xs ys level name = refl
+held_if false xs ys level name = refl
 
-pub ruleset opening_steps = (opening_unknown, opening_done)
+-- a session of the level and the name is asked for where that is asked for which it has, and the other way round
+one_less : (named held asked : Bool) (user : ℕ) (new old : Option ℕ) → (named ≡ true → held ≡ true → asked ≡ true) → (asked ≡ true → held ≡ true → named ≡ true)
+    → new ≡ cond asked None old → cond (not named) (cond held (Some user) new) new ≡ cond asked None (cond held (Some user) old)
+one_less true held true user new old p q h = h
+one_less true true false user new old p q h = absurd (true≢false (sym (p refl refl)))
+one_less true false false user new old p q h = h
+one_less false true true user new old p q h = absurd (true≢false (sym (q refl refl)))
+one_less false false true user new old p q h = h
+one_less false held false user new old p q h = ap (cond held (Some user)) h
+
+module _ (level : ℕ) (name : Name) where
+  abbrev asked : ℕ → Name → Bool
+  asked l n = nat_eq l level && bytes_eq n name
+
+  abbrev others : List Session → List Session
+  others = filter (λ s. not (is_named level name s))
+
+  asked_for : (l : ℕ) (n : Name) (s : Session) → is_named level name s ≡ true → is_named l n s ≡ true → asked l n ≡ true
+  asked_for l n s h k =
+      let p = and_parts _ _ h in
+      let same_level : level ≡ s.level = eqb-true level s.level p.0 in
+      let same_name : name ≡ s.name = (bytes_eq-Decides name s.name).0 p.1 in
+      ap (λ x. nat_eq l x && bytes_eq n name) same_level ∙ ap (λ x. nat_eq l s.level && bytes_eq n x) same_name ∙ k
+
+  named_so : (l : ℕ) (n : Name) (s : Session) → asked l n ≡ true → is_named l n s ≡ true → is_named level name s ≡ true
+  named_so l n s h k =
+      let p = and_parts _ _ h in
+      let same_level : l ≡ level = eqb-true l level p.0 in
+      let same_name : n ≡ name = (bytes_eq-Decides n name).0 p.1 in
+      ap (λ x. is_named x name s) (sym same_level) ∙ ap (λ x. is_named l x s) (sym same_name) ∙ k
+
+  without : (ss : List Session) (l : ℕ) (n : Name) → sessions_of (others ss) l n ≡ with_session (sessions_of ss) level name None l n
+  without [] l n = either (asked l n) None
+    where
+      either : (b : Bool) (o : Option ℕ) → o ≡ cond b o o
+      either true o = refl
+      either false o = refl
+  without (s ∷ ss) l n =
+      held_if (not (is_named level name s)) (s ∷ others ss) (others ss) l n
+      ∙ one_less (is_named level name s) (is_named l n s) (asked l n) s.user (sessions_of (others ss) l n) (sessions_of ss l n)
+      (asked_for l n s) (named_so l n s) (without ss l n)
+
+  pub closed : (old new : List Session) → new ≡ others old → sessions_of new ≡ with_session (sessions_of old) level name None
+  closed old new e = ap sessions_of e ∙ (λ i l n. without old l n i)
+
+  others_known : (count : ℕ) (ss : List Session) → AreForUsers count ss → AreForUsers count (others ss)
+  others_known count [] h = tt
+  others_known count (s ∷ ss) h = kept count (not (is_named level name s)) s (others ss) h.0 (others_known count ss h.1)
+
+  pub closed_users : (old new : List Session) → new ≡ others old → (count : ℕ) → AreForUsers count old → AreForUsers count new
+  closed_users old new e count h = subst (AreForUsers count) (sym e) (others_known count old h)
+
+-- ---- the user of an open session
+
+held_below : (count : ℕ) (b : Bool) (first user : ℕ) (rest : Option ℕ) → first < count → (rest ≡ Some user → user < count) → cond b (Some first) rest ≡ Some user → user < count
+held_below count true first user rest one more h = subst (λ n. n < count) (let e : Some first ≡ Some user = h in cc) one
+held_below count false first user rest one more h = more h
+
+pub user_known : (count : ℕ) (ss : List Session) (level : ℕ) (name : Name) (user : ℕ) → AreForUsers count ss → sessions_of ss level name ≡ Some user → user < count
+user_known count [] level name user all h = absurd cc
+user_known count (s ∷ ss) level name user all h =
+    held_below count (is_named level name s) s.user user (sessions_of ss level name) all.0 (user_known count ss level name user all.1) h
+
+pub more_users : (count : ℕ) (ss : List Session) (s : Session) → AreForUsers count ss → s.user < count → AreForUsers count (ss ++ s ∷ [])
+more_users count [] s all one = (one, tt)
+more_users count (r ∷ ss) s all one = (all.0, more_users count ss s all.1 one)
+
+-- ---- what an event of no open session is answered
+
+module _ (policy : Tables) (schemes : Schemes) (event : Event) (old : List Session) where
+  abbrev answered : Option Denial → List Session → Reply → Type 0
+  answered denial = IsSessionStep (λ w. step_outside policy schemes w event denial) old
+
+  abbrev denial : Option Denial
+  denial = first_denial (denials_outside policy event.level event.command)
+
+  answer_denied : (d : Denial) → denial ≡ Some d → answered denial old (Denied d)
+  answer_denied d e = subst (λ x. answered x old (Denied d)) (sym e) (record { reply = λ db. refl; world = λ db. refl })
+
+  pub answer_other : ((name : Name) → event.command ≡ commands.Open name → ⊥) → answered denial old (Denied NoSession)
+  answer_other other = answer_denied NoSession (not_opening policy event.level event.command other)
+
+  module _ (name : Name) (opens : event.command ≡ commands.Open name) where
+    as_opening : (d : Option Denial) → first_denial (denials_outside policy event.level (commands.Open name)) ≡ d → denial ≡ d
+    as_opening d e = ap (λ x. first_denial (denials_outside policy event.level x)) opens ∙ e
+
+    pub answer_unknown : user_named policy name ≡ None → answered denial old (Denied UnknownUser)
+    answer_unknown h = answer_denied UnknownUser (as_opening (Some UnknownUser) (unknown_user policy event.level name h))
+
+    module _ (user clearance : ℕ) (h : user_named policy name ≡ Some user) (same : clearance ≡ clearance_of policy user) where
+      pub answer_exceeding : below (labels_of policy) event.level clearance ≡ false → answered denial old (Denied Ss)
+      answer_exceeding k = answer_denied Ss (as_opening (Some Ss) (not_cleared policy event.level name user h (ap (below (labels_of policy) event.level) (sym same) ∙ k)))
+
+      pub answer_opened : (new : List Session) → below (labels_of policy) event.level clearance ≡ true → sessions_of old event.level event.session ≡ None
+          → new ≡ old ++ record { level = event.level; name = event.session; user = user } ∷ [] → answered denial new (Opened user)
+      answer_opened new k absent g =
+          let s : Session = record { level = event.level; name = event.session; user = user } in
+          let now : sessions_of new ≡ with_session (sessions_of old) event.level event.session (Some user) = ap sessions_of g ∙ (λ i level n. last old s absent level n i) in
+          let named : unwrap_or (opener policy event.command) 0 ≡ user = ap (λ x. unwrap_or (opener policy x) 0) opens ∙ ap (λ o. unwrap_or o 0) h in
+          subst (λ x. answered x new (Opened user)) (sym (as_opening None (no_denial policy event.level name user h (ap (below (labels_of policy) event.level) (sym same) ∙ k)))) (record {
+            reply = λ db. ap (λ n. Opened n) (sym named);
+            world = λ db. ap (λ x. record { db = db; sessions = x }) now ∙ ap (λ n. record { db = db; sessions = with_session (sessions_of old) event.level event.session (Some n) }) (sym named);
+          })

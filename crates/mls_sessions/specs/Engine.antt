@@ -1,26 +1,25 @@
 -- The world that an engine holds, and what an engine keeps to.
 use Rattle.std.specs.Prelude.{◌≡◌, ℕ, false, Bool, ◌&&◌, if◌then◌else◌, nat_eq, nat_lt, ◌<◌, ⊤, List, [], ◌∷◌, length, Some, None}
-use Rattle.std.specs.List.{list_all}
+use Rattle.std.specs.List.{list_all, AllByRecursion}
 use Rattle.std.specs.Str.{bytes_eq}
 use Rattle.mls_lattice.specs.Labels.{Labels, AreDistinct}
 use Rattle.mls_lattice.specs.Policy.{Name, Tables, labels_of}
 use Rattle.mls_scheme.specs.declared.tuple.Element.{Element}
 use Rattle.mls_scheme.specs.declared.tuple.Tuple.{Tuple}
 use Rattle.mls_scheme.specs.Table.{Database}
-use Rattle.mls_scheme.specs.Scheme.{Scheme, Schemes, AreUnder}
+use Rattle.mls_scheme.specs.Scheme.{Scheme, AreUnder}
 use Rattle.mls_filterview.specs.Content.{State, with_relation}
 use Rattle.mls_filterview.specs.Stored.{AreContent}
 use Rattle.mls_updates.specs.declared.outcome.Outcome.{Outcome}
 use Rattle.mls_updates.specs.Writes.{Write, Insert, Update, Delete, WriteKinds, write}
-use Rattle.mls_sessions.specs.declared.event.Event.{Event}
 use Rattle.mls_sessions.specs.declared.reply.Reply.{Reply}
-use Rattle.mls_sessions.specs.declared.reply.Reply.TheVariants.{Opened, Rows, Wrote, Denied}
+use Rattle.mls_sessions.specs.declared.reply.Reply.TheVariants.{Opened, Closed, Rows, Wrote, Denied}
 use Rattle.mls_sessions.specs.declared.change.LentWrite.{LentWrite}
 use Rattle.mls_sessions.specs.declared.change.LentWrite.TheVariants as lent
 use Rattle.mls_sessions.specs.declared.session.Session.{Session}
 use Rattle.mls_sessions.specs.declared.engine.Engine.{Engine}
 use Rattle.mls_sessions.specs.Event.{SetsFit}
-use Rattle.mls_sessions.specs.Machine.{Sessions, World, Step, opened, user_named}
+use Rattle.mls_sessions.specs.Machine.{Sessions, World, Step}
 
 -- ---- sessions
 
@@ -32,10 +31,14 @@ abbrev pub sessions_of : List Session → Sessions
 sessions_of [] level name = None
 sessions_of (s ∷ ss) level name = if is_named level name s then Some s.user else sessions_of ss level name
 
--- a command to open a session was answered, and the sessions left, as by the machine
-pub record IsOpening (policy : Tables) (schemes : Schemes) (event : Event) (name : Name) (old new : List Session) (answer : Reply) : Type 0 where
-  pub reply : (db : Database) → answer ≡ (opened policy schemes (record { db = db; sessions = sessions_of old }) event (user_named policy name)).reply
-  pub world : (db : Database) → record { db = db; sessions = sessions_of new } ≡ (opened policy schemes (record { db = db; sessions = sessions_of old }) event (user_named policy name)).world
+-- the users of sessions are numbers of count users
+abbrev pub AreForUsers : ℕ → List Session → Type 0
+AreForUsers count = AllByRecursion (λ s. s.user < count)
+
+-- a command was answered, and the sessions left, as by a step of the machine that does not look at the database
+pub record IsSessionStep (step : World → Step) (old new : List Session) (answer : Reply) : Type 0 where
+  pub reply : (db : Database) → answer ≡ (step (record { db = db; sessions = sessions_of old })).reply
+  pub world : (db : Database) → record { db = db; sessions = sessions_of new } ≡ (step (record { db = db; sessions = sessions_of old })).world
 
 -- ---- engines over bases whose state is known
 
@@ -52,6 +55,7 @@ module _ {B : Type 0} (state : B → State) where
   pub record IsReady (is_clean : B → Type 0) (e : Engine B) : Type 0 where
     pub under : AreUnder (length e.policy.now.labels) e.schemes.now
     pub distinct : AreDistinct (labels_of e.policy.now)
+    pub users : AreForUsers (length e.policy.now.users) e.sessions.items
     pub idle : is_clean e.base → (state e.base).begun ≡ false
     pub content : is_clean e.base → AreContent (labels_of e.policy.now) e.schemes.now (state e.base).now.db
 
@@ -95,6 +99,7 @@ pub record FellBack (s t : State) : Type 0 where
 -- a session was opened for a user of the policy
 abbrev pub HasKnownUser : Tables → Reply → Type 0
 HasKnownUser policy (Opened user) = user < length policy.users
+HasKnownUser policy Closed = ⊤
 HasKnownUser policy (Rows tuples) = ⊤
 HasKnownUser policy (Wrote o) = ⊤
 HasKnownUser policy (Denied d) = ⊤

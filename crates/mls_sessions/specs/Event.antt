@@ -1,5 +1,5 @@
 -- Events: the tokens that tell one, and the numbers and kinds that it keeps to.
-use Rattle.std.specs.Prelude.{◌≡◌, ℕ, ◌<◌, true, nat_eq, List, [], ◌∷◌, ◌++◌, map, length, Option, Some, None, slice_index_or, codes}
+use Rattle.std.specs.Prelude.{◌≡◌, ℕ, ◌<◌, true, nat_eq, List, [], ◌∷◌, ◌++◌, map, length, Option, Some, None, slice_index_or, codes, ⊤}
 use Rattle.std.specs.List.{flat_map, AllByRecursion, IsDistinct}
 use Rattle.mls_lattice.specs.Lattice.{bottom}
 use Rattle.mls_lattice.specs.Name.{is_name}
@@ -12,7 +12,7 @@ use Rattle.mls_scheme.specs.Fits.{HaveKinds}
 use Rattle.mls_updates.specs.Writes.{Sets}
 use Rattle.mls_sessions.specs.declared.event.Event.{Event}
 use Rattle.mls_sessions.specs.declared.event.Command.{Command}
-use Rattle.mls_sessions.specs.declared.event.Command.TheVariants.{Open, View, Insert, Update, Delete}
+use Rattle.mls_sessions.specs.declared.event.Command.TheVariants.{Open, Close, View, Insert, Update, Delete}
 use Rattle.mls_sessions.specs.declared.token.Token.{Token}
 use Rattle.mls_sessions.specs.declared.token.Token.TheVariants.{Word, Int, Text, Sign}
 use Rattle.mls_sessions.specs.declared.token.Sign.TheVariants.{LeftParen, RightParen, Comma, Equals}
@@ -66,6 +66,9 @@ sets_tokens = separated set_tokens
 abbrev pub open_tokens : Name → List Token
 open_tokens user = Word (codes "open") ∷ Word user ∷ []
 
+abbrev pub close_tokens : List Token
+close_tokens = Word (codes "close") ∷ []
+
 abbrev pub view_tokens : Name → Name → List Token
 view_tokens rel label = Word (codes "view") ∷ Word rel ∷ Word (codes "at") ∷ Word label ∷ []
 
@@ -84,6 +87,7 @@ delete_tokens rel key key_class =
 
 abbrev pub command_tokens : Tables → Schemes → Command → List Token
 command_tokens policy schemes (Open user) = open_tokens user
+command_tokens policy schemes Close = close_tokens
 command_tokens policy schemes (View rel label) = view_tokens (relation_name schemes rel) (label_name policy label)
 command_tokens policy schemes (Insert rel key values) = insert_tokens (relation_name schemes rel) key values
 command_tokens policy schemes (Update rel key key_class from sets) =
@@ -104,6 +108,7 @@ pub record SetsFit (scheme : Scheme) (sets : Sets) : Type 0 where
 
 abbrev pub CommandFits : Tables → Schemes → Command → Type 0
 CommandFits policy schemes (Open user) = is_name user ≡ true
+CommandFits policy schemes Close = ⊤
 CommandFits policy schemes (View rel label) = (rel < length schemes) × (label < length policy.labels)
 CommandFits policy schemes (Insert rel key values) =
     (rel < length schemes) × HaveKinds (scheme_of schemes rel).keys key × HaveKinds (scheme_of schemes rel).others values

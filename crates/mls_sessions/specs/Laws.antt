@@ -5,12 +5,13 @@ use Rattle.mls_scheme.specs.Scheme.{Schemes}
 use Rattle.mls_updates.specs.Outcome.{is_done}
 use Rattle.mls_sessions.specs.declared.event.Event.{Event}
 use Rattle.mls_sessions.specs.declared.reply.Reply.{Reply}
-use Rattle.mls_sessions.specs.declared.reply.Reply.TheVariants.{Opened, Rows, Wrote, Denied}
+use Rattle.mls_sessions.specs.declared.reply.Reply.TheVariants.{Opened, Closed, Rows, Wrote, Denied}
 use Rattle.mls_sessions.specs.Machine.{World, step}
 
 -- a denial, the rows of a view, or a write that is refused
 abbrev pub ChangesNothing : Reply → Type 0
 ChangesNothing (Opened user) = ⊥
+ChangesNothing Closed = ⊥
 ChangesNothing (Rows tuples) = ⊤
 ChangesNothing (Wrote o) = is_done o ≡ false
 ChangesNothing (Denied d) = ⊤

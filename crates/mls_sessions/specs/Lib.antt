@@ -6,6 +6,7 @@ pub mod Phrase
 pub mod Script
 pub mod Reply
 pub mod Output
+pub mod Denying
 pub mod Machine
 pub mod Laws
 pub mod Engine

@@ -16,7 +16,7 @@ use Rattle.mls_sessions.specs.declared.event.Event.{Event}
 use Rattle.mls_sessions.specs.declared.event.Command.{Command}
 use Rattle.mls_sessions.specs.declared.event.Command.TheVariants as commands
 use Rattle.mls_sessions.specs.declared.reply.Reply.{Reply}
-use Rattle.mls_sessions.specs.declared.reply.Reply.TheVariants.{Opened, Rows, Wrote, Denied}
+use Rattle.mls_sessions.specs.declared.reply.Reply.TheVariants.{Opened, Closed, Rows, Wrote, Denied}
 use Rattle.mls_sessions.specs.Reply.{code_of, word_of}
 
 -- ---- names and values
@@ -75,6 +75,7 @@ outcome_text o = if is_done o then codes "done" else codes "refused " ++ decimal
 -- the text of a reply that has one line
 abbrev pub short_text : Tables → Reply → List ℕ
 short_text p (Opened user) = codes "opened " ++ user_name p.users user
+short_text p Closed = codes "closed"
 short_text p (Denied d) = codes "denied " ++ decimal (code_of d) ++ codes " " ++ word_of d
 short_text p (Wrote o) = outcome_text o
 short_text p (Rows tuples) = []
@@ -82,6 +83,7 @@ short_text p (Rows tuples) = []
 -- the texts of rows, which answer a view and nothing else
 abbrev pub view_texts : Tables → Schemes → Command → List Tuple → List (List ℕ)
 view_texts p schemes (commands.Open name) tuples = []
+view_texts p schemes commands.Close tuples = []
 view_texts p schemes (commands.View rel label) tuples = heading p (scheme_of schemes rel) label ∷ map (row_text p) tuples
 view_texts p schemes (commands.Insert rel key values) tuples = []
 view_texts p schemes (commands.Update rel key key_class from sets) tuples = []
@@ -90,6 +92,7 @@ view_texts p schemes (commands.Delete rel key key_class) tuples = []
 -- the texts of a reply, one for each of its lines
 abbrev pub reply_texts : Tables → Schemes → Command → Reply → List (List ℕ)
 reply_texts p schemes command (Opened user) = short_text p (Opened user) ∷ []
+reply_texts p schemes command Closed = short_text p Closed ∷ []
 reply_texts p schemes command (Denied d) = short_text p (Denied d) ∷ []
 reply_texts p schemes command (Wrote o) = short_text p (Wrote o) ∷ []
 reply_texts p schemes command (Rows tuples) = view_texts p schemes command tuples
@@ -112,6 +115,7 @@ printed p schemes (e ∷ es) (r ∷ rs) = reply_text p schemes e r ++ printed p 
 
 abbrev pub CommandIsKnown : Tables → Schemes → Command → Type 0
 CommandIsKnown p schemes (commands.Open name) = ⊤
+CommandIsKnown p schemes commands.Close = ⊤
 CommandIsKnown p schemes (commands.View rel label) = (rel < length schemes) × (label < length p.labels)
 CommandIsKnown p schemes (commands.Insert rel key values) = ⊤
 CommandIsKnown p schemes (commands.Update rel key key_class from sets) = ⊤
@@ -119,6 +123,7 @@ CommandIsKnown p schemes (commands.Delete rel key key_class) = ⊤
 
 abbrev pub ReplyIsKnown : Tables → Reply → Type 0
 ReplyIsKnown p (Opened user) = user < length p.users
+ReplyIsKnown p Closed = ⊤
 ReplyIsKnown p (Rows tuples) = AllByRecursion (HasClassesBelow (length p.labels)) tuples
 ReplyIsKnown p (Wrote o) = ⊤
 ReplyIsKnown p (Denied d) = ⊤

@@ -1,16 +1,20 @@
 -- The numbers and names of denials.
 use Rattle.std.specs.Prelude.{ℕ, List, codes}
 use Rattle.mls_sessions.specs.declared.reply.Denial.{Denial}
-use Rattle.mls_sessions.specs.declared.reply.Denial.TheVariants.{NoSession, AlreadyOpen, UnknownUser, Star}
+use Rattle.mls_sessions.specs.declared.reply.Denial.TheVariants.{NoSession, AlreadyOpen, UnknownUser, Ds, Ss, Star}
 
 abbrev pub code_of : Denial → ℕ
 code_of NoSession = 31
 code_of AlreadyOpen = 32
 code_of UnknownUser = 33
+code_of Ds = 36
+code_of Ss = 37
 code_of Star = 38
 
 abbrev pub word_of : Denial → List ℕ
 word_of NoSession = codes "NoSession"
 word_of AlreadyOpen = codes "AlreadyOpen"
 word_of UnknownUser = codes "UnknownUser"
+word_of Ds = codes "Ds"
+word_of Ss = codes "Ss"
 word_of Star = codes "Star"

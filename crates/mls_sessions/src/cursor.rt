@@ -48,14 +48,16 @@ impl<'a> Cursor<'a> {
         }
     }
 
-    /// The next token is not what any command has there.
+    /// The next token is not what any command has there, where a text that is too long is a token too.
     pub fn expected(&self) -> LineFault {
-        match self.tokens {
-            [first, ..] => LineFault {
-                column: first.column,
+        let is_token = !self.tokens.is_empty() || self.stop.cause == ScriptCause::TooLong;
+        if is_token {
+            LineFault {
+                column: self.column(),
                 cause: ScriptCause::Expected,
-            },
-            [] => self.stop,
+            }
+        } else {
+            self.stop
         }
     }
 
@@ -132,7 +134,7 @@ impl<'a> Cursor<'a> {
                 }
                 None => Err(self.expected()),
             },
-            [] => Err(self.stop),
+            [] => Err(self.expected()),
         }
     }
 

@@ -3,7 +3,7 @@ ghost use Rattle.std.specs.Prelude.{◌≡◌, ◌≢◌, ◌<◌, ◌≤◌, fa
 ghost use Rattle.mls_lattice.specs.Policy.{labels_of};
 ghost use Rattle.mls_scheme.specs.Scheme.{scheme_of, AreUnder};
 ghost use Rattle.mls_filterview.specs.Stored.{AreContent};
-ghost use Rattle.mls_sessions.specs.Event.{CommandFits, EventFits};
+ghost use Rattle.mls_sessions.specs.Event.{EventFits};
 ghost use Rattle.mls_sessions.specs.Output.{reply_text, ReplyIsKnown};
 ghost use Rattle.mls_sessions.specs.Machine.{no_sessions, wrote, effect_in, step};
 ghost use Rattle.mls_sessions.specs.Engine.{world_of, write_of, WriteIsKnown, IsReady, HasSameRules, IsStep, IsUnchanged, HasKnownUser};
@@ -15,7 +15,7 @@ use crate::known::is_known;
 use crate::printing_replies::reply_bytes;
 use crate::reply::{Denial, Reply};
 use crate::running::RunCause;
-use crate::session::{Session, open, user_of};
+use crate::session::{Session, close, open, user_of};
 use mls_filterview::{Base, BaseFault, view};
 use mls_lattice::{Items, LabelNo, Policy, Str};
 use mls_scheme::{RelNo, Schemes};
@@ -95,11 +95,10 @@ impl<'a, B: Base> Engine<'a, B> {
         Ok(Reply::Wrote(outcome))
     }
 
-    /// Answers a command of an open session, which is not denied, at the session's level.
-    fn effect(&mut self, level: LabelNo, command: &Command) -> Result<Reply, BaseFault>
+    /// Answers an event of an open session, which is not denied, at the session's level.
+    fn effect(&mut self, event: &Event) -> Result<Reply, BaseFault>
         requires ready { IsReady B.state B.is_clean self.old }
-        requires level { level < length self.old.policy.now.labels }
-        requires fits { CommandFits self.old.policy.now self.old.schemes.now command.now }
+        requires fits { EventFits self.old.policy.now self.old.schemes.now event.now }
         ensures clean { B.is_clean self.new.base → B.is_clean self.old.base }
         ensures count { B.failures self.old.base ≤ B.failures self.new.base }
         ensures store { IsErrOf result BaseFault.Store → B.failures self.old.base < B.failures self.new.base }
@@ -107,12 +106,17 @@ impl<'a, B: Base> Engine<'a, B> {
         ensures rules { HasSameRules self.old self.new }
         ensures ready { IsReady B.state B.is_clean self.new }
         ensures done { B.is_clean self.new.base
-            → IfOk result (IsStep B.state self.old (effect_in self.old.policy.now self.old.schemes.now (world_of B.state self.old) level command.now) self.new) }
+            → IfOk result (IsStep B.state self.old (effect_in self.old.policy.now self.old.schemes.now (world_of B.state self.old) event.now event.now.command) self.new) }
         ensures user { IfOk result (HasKnownUser self.old.policy.now) }
         ensures failed { B.is_clean self.new.base → OnErr result (IsUnchanged B.state self.old self.new) }
     {
-        match command {
+        let level = event.level;
+        match &event.command {
             Command::Open(_) => Ok(Reply::Denied(Denial::AlreadyOpen)),
+            Command::Close => {
+                close(&mut self.sessions, level, &event.session);
+                Ok(Reply::Closed)
+            }
             Command::View { rel, label } => {
                 let tuples = view(self.alloc, &mut self.base, self.policy, *rel, *label)?;
                 Ok(Reply::Rows(Items::from(tuples)))
@@ -167,21 +171,17 @@ impl<'a, B: Base> Engine<'a, B> {
         ensures failed { B.is_clean self.new.base → OnErr result (IsUnchanged B.state self.old self.new) }
     {
         match user_of(&self.sessions, event.level, &event.session) {
-            None => match &event.command {
-                Command::Open(name) => open(
-                    self.alloc,
-                    self.policy,
-                    self.schemes,
-                    &mut self.sessions,
-                    event,
-                    name,
-                ),
-                _ => Ok(Reply::Denied(Denial::NoSession)),
-            },
-            Some(_) => {
-                match denial_of(self.policy, self.schemes, event.level, &event.command) {
+            None => open(
+                self.alloc,
+                self.policy,
+                self.schemes,
+                &mut self.sessions,
+                event,
+            ),
+            Some(user) => {
+                match denial_of(self.policy, self.schemes, event.level, user, &event.command) {
                     Some(denial) => Ok(Reply::Denied(denial)),
-                    None => self.effect(event.level, &event.command),
+                    None => self.effect(event),
                 }
             }
         }

@@ -16,6 +16,8 @@ pub struct Event {
 pub enum Command {
     /// Opens the session for the user of a name.
     Open(Str),
+    /// Closes the session, so that it may be opened again.
+    Close,
     /// Shows what is seen of a relation at a label.
     View {
         rel: RelNo,

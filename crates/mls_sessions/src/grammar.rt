@@ -85,6 +85,9 @@ fn phrase(alloc: Global, cursor: &mut Cursor) -> Result<Phrase, LineFault>
     if cursor.takes_word("open") {
         return open(alloc, cursor);
     }
+    if cursor.takes_word("close") {
+        return Ok(Phrase::Close);
+    }
     if cursor.takes_word("view") {
         return view(alloc, cursor);
     }
@@ -122,6 +125,7 @@ pub(crate) fn sentence_of(alloc: Global, line: &[u8]) -> Result<Option<Sentence>
     ensures formed { IfOk result (λ o. IfSome o (λ s. IsFormed s.phrase)) }
 {
     let tokens = tokens_of(alloc, line)?;
+    let fault = tokens.fault;
     let mut cursor = Cursor::new(&tokens.placed, tokens.stop());
     let sentence = if tokens.placed.is_empty() {
         None
@@ -129,8 +133,8 @@ pub(crate) fn sentence_of(alloc: Global, line: &[u8]) -> Result<Option<Sentence>
         Some(sentence(alloc, &mut cursor)?)
     };
     cursor.end()?;
-    match tokens.fault {
-        Some(fault) => Err(fault),
+    match fault {
+        Some(_) => Err(cursor.expected()),
         None => Ok(sentence),
     }
 }

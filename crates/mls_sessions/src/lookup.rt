@@ -160,6 +160,7 @@ fn command_of(
 {
     match phrase {
         Phrase::Open(user) => Ok(Command::Open(user.text)),
+        Phrase::Close => Ok(Command::Close),
         Phrase::View { rel, label } => view(policy, schemes, &rel, &label),
         Phrase::Insert { rel, key, values } => insert(policy, schemes, &rel, key, values),
         Phrase::Update {

@@ -45,6 +45,7 @@ pub(crate) struct Setting {
 #[derive(Drop, Debug)]
 pub(crate) enum Phrase {
     Open(Name),
+    Close,
     View {
         rel: Name,
         label: Name,

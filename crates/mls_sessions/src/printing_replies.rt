@@ -173,6 +173,7 @@ fn push_short(
 {
     match reply {
         Reply::Opened(user) => push_opened(text, policy, *user),
+        Reply::Closed => push_str(text, "closed"),
         Reply::Wrote(outcome) => push_outcome(alloc, text, *outcome),
         Reply::Denied(denial) => push_denied(alloc, text, *denial),
         Reply::Rows(_) => Ok(()),

@@ -15,7 +15,11 @@ pub enum Denial {
     AlreadyOpen,
     /// The policy has no such user.
     UnknownUser,
-    /// The command names a label that the session's level does not dominate.
+    /// The user lacks the mode that the command needs on its relation.
+    Ds,
+    /// The user's clearance does not dominate the level to open at, or a label that the command names.
+    Ss,
+    /// The session's level does not dominate a label that the command names.
     Star,
 }
 
@@ -28,6 +32,8 @@ impl Denial {
             Denial::NoSession => 31,
             Denial::AlreadyOpen => 32,
             Denial::UnknownUser => 33,
+            Denial::Ds => 36,
+            Denial::Ss => 37,
             Denial::Star => 38,
         }
     }
@@ -40,6 +46,8 @@ impl Denial {
             Denial::NoSession => "NoSession",
             Denial::AlreadyOpen => "AlreadyOpen",
             Denial::UnknownUser => "UnknownUser",
+            Denial::Ds => "Ds",
+            Denial::Ss => "Ss",
             Denial::Star => "Star",
         }
     }
@@ -50,6 +58,8 @@ impl Denial {
 pub enum Reply {
     /// The session is open, for this user.
     Opened(UserNo),
+    /// The session is open no more.
+    Closed,
     /// The view, in the order of rows.
     Rows(Items<Tuple>),
     /// What became of a write.

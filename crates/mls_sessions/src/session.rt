@@ -1,8 +1,11 @@
 //! Open sessions.
-ghost use Rattle.std.specs.Prelude.{◌≡◌, None, IfOk, IfErr, OnErr};
-ghost use Rattle.mls_sessions.specs.Engine.{sessions_of, IsOpening, HasKnownUser};
+ghost use Rattle.std.specs.Prelude.{◌≡◌, ◌<◌, None, length, IfOk, IfErr, IfSome, OnErr};
+ghost use Rattle.mls_sessions.specs.Denying.{user_named, denials_outside, first_denial};
+ghost use Rattle.mls_sessions.specs.Machine.{with_session, step_outside};
+ghost use Rattle.mls_sessions.specs.Engine.{sessions_of, AreForUsers, IsSessionStep, HasKnownUser};
 
-use crate::event::Event;
+use crate::denying::clearance;
+use crate::event::{Command, Event};
 use crate::reply::{Denial, Reply};
 use mls_filterview::BaseFault;
 use mls_lattice::{LabelNo, Policy, Str, UserNo};
@@ -29,26 +32,41 @@ pub(crate) fn user_of(sessions: &[Session], level: LabelNo, name: &str) -> Optio
     None
 }
 
-/// Opens the session of an event for the user of a name.
-#[tactic(auto, using(crate::proofs::SessionLemmas::opening_steps))]
+/// The user of a name.
+fn known_user(policy: &Policy, name: &str) -> Option<UserNo>
+    ensures exact { result ≡ user_named policy.now name.now }
+    ensures within { IfSome result (λ user. user < length policy.now.users) }
+{
+    policy.user(name)
+}
+
+/// Answers an event whose session is not open: opens it, where the command is to open it and is not denied.
 pub(crate) fn open(
     alloc: Global,
     policy: &Policy,
     schemes: &Schemes,
     sessions: &mut Vec<Session>,
     event: &Event,
-    name: &str,
 ) -> Result<Reply, BaseFault>
-    requires { sessions_of sessions.old.items event.now.level event.now.session ≡ None }
-    ensures done { IfOk result (IsOpening policy.now schemes.now event.now name.now sessions.old.items sessions.new.items) }
+    requires level { event.now.level < length policy.now.labels }
+    requires closed { sessions_of sessions.old.items event.now.level event.now.session ≡ None }
+    ensures done { IfOk result (IsSessionStep (λ w. step_outside policy.now schemes.now w event.now (first_denial (denials_outside policy.now event.now.level event.now.command)))
+        sessions.old.items sessions.new.items) }
     ensures user { IfOk result (HasKnownUser policy.now) }
+    ensures users { AreForUsers (length policy.now.users) sessions.old.items → AreForUsers (length policy.now.users) sessions.new.items }
     ensures memory { IfErr result (λ e. e ≡ BaseFault.Memory) }
     ensures failed { OnErr result (sessions.new.items ≡ sessions.old.items) }
 {
     let _schemes = schemes;
-    let Some(user) = policy.user(name) else {
+    let Command::Open(name) = &event.command else {
+        return Ok(Reply::Denied(Denial::NoSession));
+    };
+    let Some(user) = known_user(policy, name) else {
         return Ok(Reply::Denied(Denial::UnknownUser));
     };
+    if !policy.dominates(clearance(policy, user), event.level) {
+        return Ok(Reply::Denied(Denial::Ss));
+    }
     let name = Str::copy_of(alloc, &event.session)?;
     sessions.push(Session {
         level: event.level,
@@ -56,4 +74,12 @@ pub(crate) fn open(
         user,
     })?;
     Ok(Reply::Opened(user))
+}
+
+/// Closes the session of a level and a name. It takes no memory.
+pub(crate) fn close(sessions: &mut Vec<Session>, level: LabelNo, name: &str)
+    ensures closed { sessions_of sessions.new.items ≡ with_session (sessions_of sessions.old.items) level name.now None }
+    ensures users { (count : _) → AreForUsers count sessions.old.items → AreForUsers count sessions.new.items }
+{
+    sessions.retain(|session| level != session.level || name != session.name.as_str());
 }

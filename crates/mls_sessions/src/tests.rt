@@ -172,7 +172,9 @@ fn tells_what_no_command_has(rt: HostRuntime) -> Result<(), Fail> {
         ("open a open ann\n", 1, 1),
         ("U view open ann\n", 1, 3),
         ("U a foo\n", 1, 5),
-        ("U a close\n", 1, 5),
+        ("U a audit\n", 1, 5),
+        ("U a closed\n", 1, 5),
+        ("U a close ann\n", 1, 11),
         ("U a update SOD\n", 1, 15),
         ("U a open\n", 1, 9),
         ("U a open view\n", 1, 10),
@@ -255,123 +257,60 @@ fn tells_wrong_kinds(rt: HostRuntime) -> Result<(), Fail> {
     Ok(())
 }
 
+/// Lines of updates and deletes, each behind its fault and column.
+fn faults_of_writes() -> &'static str {
+    r#"22:44 U a update SOD key ("E") class U from U set
+22:54 U a update SOD key ("E") class U from U set Objective
+22:56 U a update SOD key ("E") class U from U set Objective =
+22:61 U a update SOD key ("E") class U from U set Objective = "x",
+22:26 U a update SOD key ("E") from U
+22:34 U a update SOD key ("E") class U set
+22:55 U a update SOD key ("E") class U from U set Objective := "x"
+22:57 U a update SOD key ("E") class U from U set Objective = from
+22:61 U a update SOD key ("E") class U from U set Objective = "x" Destination = "y"
+22:45 U a update SOD key ("E") class U from U set set = 1
+22:42 U a update SOD key (1) class X from U set
+22:25 U a delete SOD key ("E")
+22:34 U a delete SOD key ("E") class U from U
+23:12 U a update XX key (1) class X from U set A = 1
+23:32 U a update SOD key ("E") class X from X set A = 1
+23:39 U a update SOD key ("E") class U from X set A = 1
+23:45 U a update SOD key ("E") class U from U set Starship = "x"
+23:45 U a update SOD key ("E") class U from U set Post = 5
+23:45 U a update SOD key ("E") class U from U set objective = 5, objective = 5
+23:12 U a delete XX key (1) class X
+23:32 U a delete SOD key ("E") class X
+24:21 U a update SOD key (1) class X from X set A = 1
+24:21 U a update SOD key () class X from X set A = 1
+24:57 U a update SOD key ("E") class U from U set Objective = 5, Objective = 5
+24:76 U a update SOD key ("E") class U from U set Objective = "x", Destination = 5
+24:22 U a delete CREW key ("x") class X
+24:26 U a delete CREW key (1, 2) class X
+25:62 U a update SOD key ("E") class U from U set Objective = "x", Objective = 5
+25:82 U a update SOD key ("E") class U from U set Objective = null, Destination = "y", Objective = null
+accepted U a update SOD key ("E") class U from U set Objective = "x", Destination = null
+accepted U a delete CREW key (null) class S
+"#
+}
+
+/// The fault and the column of a line, as `CODE:COLUMN`.
+fn told(rt: &HostRuntime, line: &str) -> Result<String, Fail> {
+    let text = format!(in rt.alloc(); "{line}\n")?;
+    match read(rt, text.as_bytes())? {
+        Ok(_) => Ok(String::from_str(rt.alloc(), "accepted")?),
+        Err((code, _, column)) => Ok(format!(in rt.alloc(); "{code}:{column}")?),
+    }
+}
+
 #[test]
 fn tells_faults_of_updates_and_deletes(rt: HostRuntime) -> Result<(), Fail> {
-    let cases = [
-        ("U a update SOD key (\"E\") class U from U set\n", 22, 44),
-        (
-            "U a update SOD key (\"E\") class U from U set Objective\n",
-            22,
-            54,
-        ),
-        (
-            "U a update SOD key (\"E\") class U from U set Objective =\n",
-            22,
-            56,
-        ),
-        (
-            "U a update SOD key (\"E\") class U from U set Objective = \"x\",\n",
-            22,
-            61,
-        ),
-        ("U a update SOD key (\"E\") from U\n", 22, 26),
-        ("U a update SOD key (\"E\") class U set\n", 22, 34),
-        (
-            "U a update SOD key (\"E\") class U from U set Objective := \"x\"\n",
-            22,
-            55,
-        ),
-        (
-            "U a update SOD key (\"E\") class U from U set Objective = from\n",
-            22,
-            57,
-        ),
-        (
-            "U a update SOD key (\"E\") class U from U set Objective = \"x\" Destination = \"y\"\n",
-            22,
-            61,
-        ),
-        (
-            "U a update SOD key (\"E\") class U from U set set = 1\n",
-            22,
-            45,
-        ),
-        ("U a update SOD key (1) class X from U set\n", 22, 42),
-        ("U a delete SOD key (\"E\")\n", 22, 25),
-        ("U a delete SOD key (\"E\") class U from U\n", 22, 34),
-        ("U a update XX key (1) class X from U set A = 1\n", 23, 12),
-        (
-            "U a update SOD key (\"E\") class X from X set A = 1\n",
-            23,
-            32,
-        ),
-        (
-            "U a update SOD key (\"E\") class U from X set A = 1\n",
-            23,
-            39,
-        ),
-        (
-            "U a update SOD key (\"E\") class U from U set Starship = \"x\"\n",
-            23,
-            45,
-        ),
-        (
-            "U a update SOD key (\"E\") class U from U set Post = 5\n",
-            23,
-            45,
-        ),
-        (
-            "U a update SOD key (\"E\") class U from U set objective = 5, objective = 5\n",
-            23,
-            45,
-        ),
-        ("U a delete XX key (1) class X\n", 23, 12),
-        ("U a delete SOD key (\"E\") class X\n", 23, 32),
-        ("U a update SOD key (1) class X from X set A = 1\n", 24, 21),
-        ("U a update SOD key () class X from X set A = 1\n", 24, 21),
-        (
-            "U a update SOD key (\"E\") class U from U set Objective = 5, Objective = 5\n",
-            24,
-            57,
-        ),
-        (
-            "U a update SOD key (\"E\") class U from U set Objective = \"x\", Destination = 5\n",
-            24,
-            76,
-        ),
-        ("U a delete CREW key (\"x\") class X\n", 24, 22),
-        ("U a delete CREW key (1, 2) class X\n", 24, 26),
-        (
-            "U a update SOD key (\"E\") class U from U set Objective = \"x\", Objective = 5\n",
-            25,
-            62,
-        ),
-        (
-            "U a update SOD key (\"E\") class U from U set Objective = null, Destination = \"y\", Objective = null\n",
-            25,
-            82,
-        ),
-        (
-            "U a update SOD key (\"E\") class U from U set Objective = 5, Objective = 5",
-            30,
-            73,
-        ),
-        ("U a delete SOD key (\"E\") class X", 30, 33),
-        (
-            "U a update SOD key (\"E\") class U from U set Objective = \"x\", Destination = null\n",
-            0,
-            0,
-        ),
-        ("U a delete CREW key (null) class S\n", 0, 0),
-    ];
-    for (text, code, column) in cases {
-        let line = if code == 0 { 0 } else { 1 };
-        assert_eq!(rt;
-            fault_at(&rt, text.as_bytes())?,
-            (code, line, column),
-            "at {text}"
-        );
+    let mut tried = 0u64;
+    for case in faults_of_writes().lines() {
+        let (fault, line) = case.split_once(' ').unwrap_or(("", ""));
+        assert_eq!(rt; told(&rt, line)?.as_str(), fault, "at {case}");
+        tried = tried.saturating_add(1);
     }
+    assert_eq!(rt; tried, 31);
     Ok(())
 }
 
@@ -383,9 +322,16 @@ fn tells_lines_without_end(rt: HostRuntime) -> Result<(), Fail> {
         ("U a open ann\n\t", 2, 2),
         ("U a open ann # c", 1, 17),
         ("X a open ann", 1, 13),
+        ("U a close", 1, 10),
         ("U a view SOD at U", 1, 18),
         ("U a open ann\nU a view SOD at U", 2, 18),
         ("U a insert SOD key (1) values (2)", 1, 34),
+        (
+            "U a update SOD key (\"E\") class U from U set Objective = 5, Objective = 5",
+            1,
+            73,
+        ),
+        ("U a delete SOD key (\"E\") class X", 1, 33),
     ];
     for (text, line, column) in cases {
         assert_eq!(rt;
@@ -435,15 +381,44 @@ fn tells_long_texts(rt: HostRuntime) -> Result<(), Fail> {
     Ok(())
 }
 
+/// A line with a text of 1,025 bytes at its end.
+fn ending_in_long_text(rt: &HostRuntime, front: &str) -> Result<String, Fail> {
+    let mut text = String::from_str(rt.alloc(), front)?;
+    text.push('"')?;
+    for _ in 0..1025 {
+        text.push('x')?;
+    }
+    text.push_str("\"\n")?;
+    Ok(text)
+}
+
+/// Where no text may stand a long one is not what is expected.
+#[test]
+fn expects_no_long_text(rt: HostRuntime) -> Result<(), Fail> {
+    let cases = [
+        ("", 1),
+        ("U a open ", 10),
+        ("U a open ann ", 14),
+        ("U a view SOD at ", 17),
+        ("U a insert SOD key (\"E\" ", 25),
+    ];
+    for (front, column) in cases {
+        let text = ending_in_long_text(&rt, front)?;
+        assert_eq!(rt; fault_at(&rt, text.as_bytes())?, (22, 1, column));
+    }
+    Ok(())
+}
+
 #[test]
 fn reads_commands(rt: HostRuntime) -> Result<(), Fail> {
     let text =
-        "# two sessions\n\n U\ta open ann # c\r\nS b view CREW at M\nU a insert SOD key(\"a\\\"\\\\b\")values(null,\"\")\n";
+        "# two sessions\n\n U\ta open ann # c\r\nS b view CREW at M\nU a insert SOD key(\"a\\\"\\\\b\")values(null,\"\")\nU a close\n";
     let events = match read(&rt, text.as_bytes())? {
         Ok(events) => events,
         Err(_) => Vec::new(rt.alloc()),
     };
-    assert_eq!(rt; events.len(), 3);
+    assert_eq!(rt; events.len(), 4);
+    assert!(rt; matches!(&events[3].command, Command::Close));
     assert_eq!(rt; events[0].level, LabelNo::new(0));
     assert_eq!(rt; events[0].session.as_str(), "a");
     match &events[0].command {

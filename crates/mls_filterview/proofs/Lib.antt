@@ -1,4 +1,5 @@
 pub mod LowLemmas
+pub mod CallLemmas
 pub mod SubsumptionLemmas
 pub mod SubsumptionSteps
 pub mod ViewLemmas

@@ -14,7 +14,7 @@ mod rule;
 mod subsumption;
 mod viewing;
 
-pub use base::{Base, BaseFault, abandon};
+pub use base::{Base, BaseFault, abandon, made};
 pub use checking::integrity;
 pub use filtering::filter;
 pub use fragment::{Cell, Fragment, Node};

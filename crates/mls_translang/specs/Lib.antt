@@ -5,3 +5,6 @@ pub mod ExprFalls
 pub mod BlockCode
 pub mod Blocks
 pub mod BlockFalls
+pub mod Named
+pub mod Tx
+pub mod Fits

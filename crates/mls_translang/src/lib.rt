@@ -3,8 +3,12 @@
 
 mod block;
 mod expr;
+mod named;
 mod operator;
+mod tx;
 
 pub use block::{Block, Stmt};
 pub use expr::{Expr, Term};
+pub use named::Named;
 pub use operator::Operator;
+pub use tx::{Parameter, Tx, statements};

@@ -6,5 +6,7 @@ pub mod BlockCode
 pub mod Blocks
 pub mod BlockFalls
 pub mod Named
+pub mod Scope
 pub mod Tx
+pub mod Kinds
 pub mod Fits

@@ -2,7 +2,7 @@
 use Rattle.std.specs.Prelude.{◌≡◌, ℕ, suc, ◌+◌, ◌<◌, ◌≤◌, max, true, false, List, [], ◌∷◌, ◌++◌, map, length, Option, FitsSigned, IsUtf8, Bool, ◌||◌, ◌==◌, nat_lt}
 use Rattle.std.specs.Int.{w64}
 use Rattle.std.specs.Option.{IfSome}
-use Rattle.std.specs.List.{AllByRecursion, IsDistinct, list_any}
+use Rattle.std.specs.List.{AllByRecursion, IsDistinct}
 use Rattle.std.specs.Str.{bytes_eq}
 use Rattle.mls_lattice.specs.Name.{is_name}
 use Rattle.mls_lattice.specs.Policy.{Name}
@@ -10,6 +10,7 @@ use Rattle.mls_scheme.specs.declared.value.Kind.{Kind}
 use Rattle.mls_scheme.specs.declared.value.Value.{Value}
 use Rattle.mls_scheme.specs.declared.value.Value.TheVariants.{Int, Text}
 use Rattle.mls_translang.specs.declared.tx.Parameter.{Parameter}
+use Rattle.mls_translang.specs.Scope.{Scope, in_loop, names_in, IsFresh}
 use Rattle.mls_translang.specs.Tree.{Expr, Known, Null, Var, Param, Field, No, Op, Writing, Inserting, Updating, Deleting, Stmt, Assign, Write_at, Release, Emit, Block, End, Do, If, For, statements}
 
 -- lo and hi are numbers of labels
@@ -46,27 +47,13 @@ abbrev pub IsLiteral : Value → Type 0
 IsLiteral (Int n) = FitsSigned w64 n
 IsLiteral (Text s) = IsUtf8 s × AllByRecursion (λ b. is_control b ≡ false) s × (length s ≤ 1024)
 
--- how many variables and parameters there are, how many loops stand around, and all names that are taken
-pub record Scope : Type 0 where
-  pub vars : ℕ
-  pub params : ℕ
-  pub loops : ℕ
-  pub names : List Name
-
-abbrev pub in_loop : Scope → Name → Scope
-in_loop s row = record s { loops = 1 + s.loops; names = row ∷ s.names }
-
--- a name that is not taken
-abbrev pub IsFresh : List Name → Name → Type 0
-IsFresh names name = (is_name name ≡ true) × (list_any (bytes_eq name) names ≡ false)
-
 -- its numbers are those of variables, parameters and rows around
 abbrev pub HasOwn : Scope → Expr → Type 0
 HasOwn s (Known v) = IsLiteral v
 HasOwn s Null = Unit {0}
-HasOwn s (Var i) = i < s.vars
-HasOwn s (Param i) = i < s.params
-HasOwn s (Field d i) = d < s.loops
+HasOwn s (Var i) = i < length s.vars
+HasOwn s (Param i) = i < length s.params
+HasOwn s (Field d i) = d < length s.rows
 HasOwn s (No e) = HasOwn s e
 HasOwn s (Op op left right) = HasOwn s left × HasOwn s right
 
@@ -81,28 +68,25 @@ WritingIsOwn s (Updating key key_class from sets) = AllByRecursion (IsOwn s) key
 WritingIsOwn s (Deleting key key_class) = AllByRecursion (IsOwn s) key
 
 abbrev pub StmtIsOwn : Scope → Stmt → Type 0
-StmtIsOwn s (Assign x e) = (x < s.vars) × IsOwn s e
-StmtIsOwn s (Write_at rel w writing outcome) = WritingIsOwn s writing × IfSome outcome (λ x. x < s.vars)
-StmtIsOwn s (Release e to into) = IsOwn s e × (into < s.vars)
+StmtIsOwn s (Assign x e) = (x < length s.vars) × IsOwn s e
+StmtIsOwn s (Write_at rel w writing outcome) = WritingIsOwn s writing × IfSome outcome (λ x. x < length s.vars)
+StmtIsOwn s (Release e to into) = IsOwn s e × (into < length s.vars)
 StmtIsOwn s (Emit e label) = IsOwn s e
 
 abbrev pub BlockIsOwn : Scope → Block → Type 0
 BlockIsOwn s End = Unit {0}
 BlockIsOwn s (Do stmt rest) = StmtIsOwn s stmt × BlockIsOwn s rest
 BlockIsOwn s (If guard one other rest) = IsOwn s guard × BlockIsOwn s one × BlockIsOwn s other × BlockIsOwn s rest
-BlockIsOwn s (For row rel label body rest) = IsFresh s.names row × BlockIsOwn (in_loop s row) body × BlockIsOwn s rest
+BlockIsOwn s (For row rel label body rest) = IsFresh s row × BlockIsOwn (in_loop s row rel) body × BlockIsOwn s rest
 
--- the names of parameters and variables
-abbrev pub own_names : Tx → List Name
-own_names tx = map (λ p. p.0) tx.params ++ map (λ v. v.0) tx.vars
-
+-- outside loops
 abbrev pub scope_of : Tx → Scope
-scope_of tx = record { vars = length tx.vars; params = length tx.params; loops = 0; names = own_names tx }
+scope_of tx = record { params = tx.params; vars = tx.vars; rows = [] }
 
 pub record IsTx (tx : Tx) : Type 0 where
   pub name : is_name tx.name ≡ true
-  pub names : AllByRecursion (λ n. is_name n ≡ true) (own_names tx)
-  pub apart : IsDistinct bytes_eq (own_names tx)
+  pub names : AllByRecursion (λ n. is_name n ≡ true) (names_in (scope_of tx))
+  pub apart : IsDistinct bytes_eq (names_in (scope_of tx))
   pub few_params : length tx.params ≤ 64
   pub few_vars : length tx.vars ≤ 64
   pub few_statements : statements tx.body ≤ 1000

@@ -7,3 +7,4 @@ pub mod HiddenLemmas
 pub mod AlikeLemmas
 pub mod RunLemmas
 pub mod LineLemmas
+pub mod SampleLemmas

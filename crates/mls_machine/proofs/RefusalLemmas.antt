@@ -15,7 +15,7 @@ use Rattle.mls_machine.specs.declared.reply.Denial.{Denial}
 use Rattle.mls_machine.specs.Site.{Site, site_labels, site_scheme}
 use Rattle.mls_machine.specs.Denying.{cleared, user_named}
 use Rattle.mls_machine.specs.Machine.{World, Step, unless, wrote, step_inside, open_step, step_outside, step_at, step}
-use Rattle.mls_machine.specs.Laws.{ChangesNothing, entries_added, RefusalsChangeNothing}
+use Rattle.mls_machine.specs.Laws.{ChangesNothing, entries_added, RefusalsChangeNothing, DenialsAreEntered}
 
 -- ---- a write that is refused
 
@@ -44,7 +44,7 @@ same_relation db rel T same r = by_test (nat_eq r rel) refl
 
 -- ---- steps
 
--- the same of a step in a session that is open for a user, or of no open session
+-- what a step leaves, in a session that is open for a user or in none
 record Leaves (site : Site) (w : World) (e : Event) (session : Option ℕ) (s : Step) : Type 0 where
   pub db : ChangesNothing s.reply → s.world.db ≡ w.db
   pub sessions : ChangesNothing s.reply → s.world.sessions ≡ w.sessions
@@ -95,8 +95,12 @@ module _ (site : Site) (w : World) (e : Event) where
   at_left (Some user) = inside_left e.command user
   at_left None = outside_left e.command
 
+  step_left : Leaves site w e (w.sessions e.level e.session) (step site w e)
+  unfolding step
+  step_left = at_left (w.sessions e.level e.session)
+
 pub refusal_left : RefusalsChangeNothing
-unfolding step
-refusal_left site w e =
-    let l = at_left site w e (w.sessions e.level e.session) in
-    record { db = l.db; sessions = l.sessions; audit = l.audit }
+refusal_left site w e h = let l = step_left site w e in (l.db h, l.sessions h)
+
+pub denial_entered : DenialsAreEntered
+denial_entered site w e = (step_left site w e).audit

@@ -20,20 +20,20 @@ ChangesNothing (Wrote o) = is_done o ≡ false
 ChangesNothing (Entries es) = ⊤
 ChangesNothing (Denied d) = ⊤
 
--- what an event adds to the audit list, by the user of its session where that is open before: an entry of a denial
+-- after such a reply the database and the sessions are as they were
+abbrev pub RefusalsChangeNothing : Type 0
+RefusalsChangeNothing =
+    (site : Site) (w : World) (e : Event) → ChangesNothing (step site w e).reply → ((step site w e).world.db ≡ w.db) × ((step site w e).world.sessions ≡ w.sessions)
+
+-- what an event adds to the audit list, by the user of its session where that is open before: the entry of a denial
 abbrev pub entries_added : Site → Event → Option ℕ → Reply → List Entry
 entries_added site e (Some user) (Denied d) = denial_entry site e user d ∷ []
 entries_added site e session reply = []
 
--- after such a reply the database and the sessions are as they were; and whatever the reply, the audit list has the
--- entry of a denial more where the session is open, and nothing else
-pub record LeavesThings (site : Site) (w : World) (e : Event) : Type 0 where
-  pub db : ChangesNothing (step site w e).reply → (step site w e).world.db ≡ w.db
-  pub sessions : ChangesNothing (step site w e).reply → (step site w e).world.sessions ≡ w.sessions
-  pub audit : (step site w e).world.audit ≡ w.audit ++ entries_added site e (w.sessions e.level e.session) (step site w e).reply
-
-abbrev pub RefusalsChangeNothing : Type 0
-RefusalsChangeNothing = (site : Site) (w : World) (e : Event) → LeavesThings site w e
+-- the audit list grows by that, and by nothing else
+abbrev pub DenialsAreEntered : Type 0
+DenialsAreEntered =
+    (site : Site) (w : World) (e : Event) → (step site w e).world.audit ≡ w.audit ++ entries_added site e (w.sessions e.level e.session) (step site w e).reply
 
 -- each database on the way of a run has the four integrity properties
 abbrev pub KeepsIntegrity : Site → World → List Event → Type 0

@@ -41,8 +41,8 @@ pub record EndAlike (site : Site) (c : ℕ) (v w : World) (es fs : List Event) :
   pub out : out (site_labels site) c (run_lines site v es) ≡ out (site_labels site) c (run_lines site w fs)
   pub worlds : AgreeAt (site_labels site) c (end_of site v es) (end_of site w fs)
 
--- what a level is shown of a run depends on what it may see alone: a run from any world of the stored form that looks
--- alike to it, over any events of which it sees the same, it can't tell from this one
+-- no information flows down in a run: at each level c, a run from any other world of the stored form that looks alike to
+-- c, over any events of which c sees the same, shows c the same
 abbrev pub PassesNothingDown : Site → World → List Event → Type 0
 PassesNothingDown site v es =
     (c : ℕ) (w : World) (fs : List Event) → AreStored site w.db → EventsFit site fs

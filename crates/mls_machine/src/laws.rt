@@ -1,10 +1,15 @@
 //! The laws of the machine, each the contract of a function.
-ghost use Rattle.mls_machine.specs.Laws.{RefusalsChangeNothing, RunsKeepIntegrity, LowRunsAreAlike};
+ghost use Rattle.mls_machine.specs.Laws.{RefusalsChangeNothing, DenialsAreEntered, RunsKeepIntegrity, LowRunsAreAlike};
 
 /// A command that is denied, a view, an audit, and a write that is refused leave the database and the sessions as they
-/// were; the audit list gets the entry of a denial in an open session, and nothing else.
+/// were.
 pub fn refusals_change_nothing()
     ensures { RefusalsChangeNothing }
+{}
+
+/// The audit list grows by the entry of each denial in an open session, and by nothing else.
+pub fn denials_are_entered()
+    ensures { DenialsAreEntered }
 {}
 
 /// Over content of the stored form each database on the way of a run has the four integrity properties.

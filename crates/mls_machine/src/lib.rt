@@ -4,5 +4,7 @@
 mod laws;
 mod reply;
 
-pub use laws::{low_runs_are_alike, refusals_change_nothing, runs_keep_integrity};
+pub use laws::{
+    denials_are_entered, low_runs_are_alike, refusals_change_nothing, runs_keep_integrity,
+};
 pub use reply::{Denial, Reply};

@@ -3,7 +3,7 @@ use Rattle.mls_lattice.specs.Policy.{labels_of}
 use Rattle.mls_filterview.specs.Stored.{AreContent}
 use Rattle.mls_filterview.specs.Content.{State}
 use Rattle.mls_sessions.proofs.StartLemmas.{no_content_stored, events_fit}
-use Rattle.mldb.proofs.act.run_script.Goals as goal
+use Rattle.mls_command.proofs.acting.run_script.Goals as goal
 
 pub new-engine-requires-clause-content : goal.new-engine-requires-clause-content
 new-engine-requires-clause-content g c = λ _.

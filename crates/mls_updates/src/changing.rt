@@ -5,17 +5,16 @@ ghost use Rattle.std.specs.FinMap.{get};
 ghost use Rattle.mls_lattice.specs.Policy.{labels_of};
 ghost use Rattle.mls_scheme.specs.Scheme.{Scheme};
 ghost use Rattle.mls_scheme.specs.declared.tuple.Element.{Element as SpecElement};
-ghost use Rattle.mls_filterview.specs.Content.{after};
+ghost use Rattle.mls_filterview.specs.Calls.{IsCall, IsServed};
 ghost use Rattle.mls_updates.specs.Writes.{Update, has_null, place};
 ghost use Rattle.mls_updates.specs.Calls.{IsWritten};
 
-use crate::growth::made;
 use crate::key::place_of;
 use crate::outcome::Outcome;
 use crate::pattern::pattern_at;
 use crate::sets::{has_null_above, names_inherited};
 use crate::setting::set_each;
-use mls_filterview::{Base, BaseFault};
+use mls_filterview::{Base, BaseFault, made};
 use mls_lattice::{LabelNo, Policy};
 use mls_scheme::{RelNo, Value};
 use std::alloc::Global;
@@ -37,13 +36,10 @@ pub(crate) fn update_own<B: Base>(
     requires key { has_null key.now ≡ false }
     requires fits { B.is_clean base.old → (es : List SpecElement) → get ((B.state base.old).now.db rel) (place key.now key_class w) ≡ Some es
         → AllByRecursion (λ s. s.0 < length es) sets.now }
-    ensures clean { B.is_clean base.new → B.is_clean base.old }
-    ensures count { B.failures base.old ≤ B.failures base.new }
-    ensures store { IsErrOf result BaseFault.Store → B.failures base.old < B.failures base.new }
-    ensures no_other { IfErr result (λ e. (e ≡ BaseFault.NotBegun → ⊥) × (e ≡ BaseFault.Begun → ⊥)) }
+    ensures call { IsCall B.is_clean B.failures B.state base.old base.new result }
+    ensures served { IfErr result IsServed }
     ensures done { B.is_clean base.new
         → IfOk result (λ o. (scheme : Scheme) → IsWritten (labels_of policy.now) scheme rel w (Update key.now key_class w sets.now) (B.state base.old) (B.state base.new) o) }
-    ensures failed { B.is_clean base.new → IfErr result (λ e. B.state base.new ≡ after e (B.state base.old)) }
 {
     let place = made(base, place_of(alloc, key, key_class, w))?;
     let Some(pattern) = pattern_at(base, rel, &place)? else {

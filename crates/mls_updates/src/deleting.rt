@@ -2,18 +2,17 @@
 ghost use Rattle.std.specs.Prelude.{◌≡◌, ◌<◌, ◌≤◌, ◌↔◌, false, length, IfOk, IfErr, IsErrOf, OnOk};
 ghost use Rattle.mls_lattice.specs.Policy.{labels_of};
 ghost use Rattle.mls_scheme.specs.Scheme.{scheme_of};
-ghost use Rattle.mls_filterview.specs.Content.{after};
+ghost use Rattle.mls_filterview.specs.Calls.{IsCall, IsServed};
 ghost use Rattle.mls_filterview.specs.Stored.{IsContent};
 ghost use Rattle.mls_updates.specs.Writes.{Delete};
 ghost use Rattle.mls_updates.specs.Calls.{IsWritten};
 
 use crate::dropping::drop_each;
 use crate::finding::has_tuple;
-use crate::growth::made;
 use crate::key::{has_null, place_of};
 use crate::order::downwards;
 use crate::outcome::Outcome;
-use mls_filterview::{Base, BaseFault};
+use mls_filterview::{Base, BaseFault, made};
 use mls_lattice::{LabelNo, Policy};
 use mls_scheme::{RelNo, Schemes, Value};
 use std::alloc::Global;
@@ -34,15 +33,12 @@ pub fn delete<B: Base>(
     requires label { w < length policy.now.labels }
     requires key_class { key_class < length policy.now.labels }
     requires stored { B.is_clean base.old → IsContent (labels_of policy.now) (scheme_of schemes.now rel) ((B.state base.old).now.db rel) }
-    ensures clean { B.is_clean base.new → B.is_clean base.old }
-    ensures count { B.failures base.old ≤ B.failures base.new }
-    ensures store { IsErrOf result BaseFault.Store → B.failures base.old < B.failures base.new }
+    ensures call { IsCall B.is_clean B.failures B.state base.old base.new result }
     ensures not_begun { (result ≡ Err BaseFault.NotBegun) ↔ ((B.state base.old).begun ≡ false) }
     ensures no_other { IsErrOf result BaseFault.Begun → ⊥ }
     ensures done { B.is_clean base.new
         → IfOk result (IsWritten (labels_of policy.now) (scheme_of schemes.now rel) rel w (Delete key.now key_class) (B.state base.old) (B.state base.new)) }
     ensures kept { B.is_clean base.new → OnOk result (IsContent (labels_of policy.now) (scheme_of schemes.now rel) ((B.state base.new).now.db rel)) }
-    ensures failed { B.is_clean base.new → IfErr result (λ e. B.state base.new ≡ after e (B.state base.old)) }
 {
     if !base.is_begun() {
         return Err(BaseFault::NotBegun);

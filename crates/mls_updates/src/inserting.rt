@@ -2,18 +2,17 @@
 ghost use Rattle.std.specs.Prelude.{◌≡◌, ◌<◌, ◌≤◌, ◌↔◌, false, length, IfOk, IfErr, IsErrOf, OnOk};
 ghost use Rattle.mls_lattice.specs.Policy.{labels_of};
 ghost use Rattle.mls_scheme.specs.Scheme.{scheme_of, AreUnder};
-ghost use Rattle.mls_filterview.specs.Content.{after};
+ghost use Rattle.mls_filterview.specs.Calls.{IsCall, IsServed};
 ghost use Rattle.mls_filterview.specs.Stored.{IsContent};
 ghost use Rattle.mls_updates.specs.Writes.{Insert, WriteKinds};
 ghost use Rattle.mls_updates.specs.Calls.{IsWritten};
 
 use crate::finding::has_tuple;
-use crate::growth::made;
 use crate::interval::is_within;
 use crate::key::{has_null, place_of};
 use crate::outcome::Outcome;
 use crate::root::{root_cells, root_node};
-use mls_filterview::{Base, BaseFault};
+use mls_filterview::{Base, BaseFault, made};
 use mls_lattice::{LabelNo, Policy};
 use mls_scheme::{RelNo, Schemes, Value};
 use std::alloc::Global;
@@ -37,15 +36,12 @@ pub fn insert<B: Base>(
     requires under { AreUnder (length policy.now.labels) schemes.now }
     requires kinds { WriteKinds (scheme_of schemes.now rel) (Insert key.now values.now) }
     requires stored { B.is_clean base.old → IsContent (labels_of policy.now) (scheme_of schemes.now rel) ((B.state base.old).now.db rel) }
-    ensures clean { B.is_clean base.new → B.is_clean base.old }
-    ensures count { B.failures base.old ≤ B.failures base.new }
-    ensures store { IsErrOf result BaseFault.Store → B.failures base.old < B.failures base.new }
+    ensures call { IsCall B.is_clean B.failures B.state base.old base.new result }
     ensures not_begun { (result ≡ Err BaseFault.NotBegun) ↔ ((B.state base.old).begun ≡ false) }
     ensures no_other { IsErrOf result BaseFault.Begun → ⊥ }
     ensures done { B.is_clean base.new
         → IfOk result (IsWritten (labels_of policy.now) (scheme_of schemes.now rel) rel w (Insert key.now values.now) (B.state base.old) (B.state base.new)) }
     ensures kept { B.is_clean base.new → OnOk result (IsContent (labels_of policy.now) (scheme_of schemes.now rel) ((B.state base.new).now.db rel)) }
-    ensures failed { B.is_clean base.new → IfErr result (λ e. B.state base.new ≡ after e (B.state base.old)) }
 {
     if !base.is_begun() {
         return Err(BaseFault::NotBegun);

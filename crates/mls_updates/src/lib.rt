@@ -5,7 +5,7 @@ mod changing;
 mod deleting;
 mod dropping;
 mod finding;
-mod growth;
+mod held;
 mod inserting;
 mod interval;
 mod key;

@@ -2,16 +2,16 @@
 ghost use Rattle.std.specs.Prelude.{◌≡◌, ◌<◌, ◌≤◌, List, true, IfOk, IfErr, IsErrOf, OnOk, None};
 ghost use Rattle.std.specs.FinMap.{get, insert};
 ghost use Rattle.mls_scheme.specs.declared.tuple.Element.{Element as SpecElement};
-ghost use Rattle.mls_filterview.specs.Content.{after, with_relation};
+ghost use Rattle.mls_filterview.specs.Content.{with_relation};
+ghost use Rattle.mls_filterview.specs.Calls.{IsCall, IsServed};
 ghost use Rattle.mls_filterview.specs.Fragment.{IsMadeOf, node_of, cells_of};
 ghost use Rattle.mls_updates.specs.Rows.{entry_of};
 ghost use Rattle.mls_updates.specs.Steps.{outline};
 ghost use Rattle.mls_updates.specs.Writes.{set_element};
 
-use crate::growth::made;
 use crate::row::Row;
 use crate::sets::copy_value;
-use mls_filterview::{Base, BaseFault, Cell};
+use mls_filterview::{Base, BaseFault, made, Cell};
 use mls_lattice::{Items, LabelNo};
 use mls_scheme::{Element, Place, RelNo, Value};
 use std::alloc::{AllocError, Global};
@@ -90,14 +90,11 @@ pub(crate) fn add_outline<B: Base>(
     requires absent { B.is_clean base.old → get ((B.state base.old).now.db rel) place ≡ None }
     requires made { B.is_clean base.old → (es : List SpecElement)
         × IsMadeOf ((B.state base.old).now.db rel) (node_of (place, outline place.class sets.now 0 pattern.now)) (cells_of (place, outline place.class sets.now 0 pattern.now)) es }
-    ensures clean { B.is_clean base.new → B.is_clean base.old }
-    ensures count { B.failures base.old ≤ B.failures base.new }
-    ensures store { IsErrOf result BaseFault.Store → B.failures base.old < B.failures base.new }
-    ensures no_other { IfErr result (λ e. (e ≡ BaseFault.NotBegun → ⊥) × (e ≡ BaseFault.Begun → ⊥)) }
+    ensures call { IsCall B.is_clean B.failures B.state base.old base.new result }
+    ensures served { IfErr result IsServed }
     ensures done { B.is_clean base.new → (es : List SpecElement)
         → IsMadeOf ((B.state base.old).now.db rel) (node_of (place, outline place.class sets.now 0 pattern.now)) (cells_of (place, outline place.class sets.now 0 pattern.now)) es
         → OnOk result (B.state base.new ≡ with_relation (B.state base.old) rel (insert ((B.state base.old).now.db rel) place es)) }
-    ensures failed { B.is_clean base.new → IfErr result (λ e. B.state base.new ≡ after e (B.state base.old)) }
 {
     let row = made(base, outline_at(alloc, rel, place, sets, pattern))?;
     let node = made(base, row.node(alloc))?;

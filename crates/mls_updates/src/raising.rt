@@ -3,19 +3,18 @@ ghost use Rattle.std.specs.Prelude.{◌≡◌, ◌≢◌, ◌<◌, ◌≤◌, tr
 ghost use Rattle.std.specs.List.{AllByRecursion};
 ghost use Rattle.mls_lattice.specs.Policy.{labels_of};
 ghost use Rattle.mls_scheme.specs.Scheme.{IsUnder};
-ghost use Rattle.mls_filterview.specs.Content.{after};
+ghost use Rattle.mls_filterview.specs.Calls.{IsCall, IsServed};
 ghost use Rattle.mls_filterview.specs.Stored.{IsStored};
 ghost use Rattle.mls_updates.specs.Writes.{Update, has_null};
 ghost use Rattle.mls_updates.specs.Calls.{IsWritten};
 
 use crate::finding::has_tuple;
-use crate::growth::made;
 use crate::key::place_of;
 use crate::outcome::Outcome;
 use crate::outline::add_outline;
 use crate::pattern::pattern_at;
 use crate::sets::{has_null_value, is_any_outside};
-use mls_filterview::{Base, BaseFault};
+use mls_filterview::{Base, BaseFault, made};
 use mls_lattice::{LabelNo, Policy};
 use mls_scheme::{RelNo, Scheme, Value};
 use std::alloc::Global;
@@ -42,12 +41,9 @@ pub(crate) fn update_below<B: Base>(
     requires begun { (B.state base.old).begun ≡ true }
     requires key { has_null key.now ≡ false }
     requires stored { B.is_clean base.old → IsStored (labels_of policy.now) (length scheme.now.others) ((B.state base.old).now.db rel) }
-    ensures clean { B.is_clean base.new → B.is_clean base.old }
-    ensures count { B.failures base.old ≤ B.failures base.new }
-    ensures store { IsErrOf result BaseFault.Store → B.failures base.old < B.failures base.new }
-    ensures no_other { IfErr result (λ e. (e ≡ BaseFault.NotBegun → ⊥) × (e ≡ BaseFault.Begun → ⊥)) }
+    ensures call { IsCall B.is_clean B.failures B.state base.old base.new result }
+    ensures served { IfErr result IsServed }
     ensures done { B.is_clean base.new → IfOk result (IsWritten (labels_of policy.now) scheme.now rel w (Update key.now key_class from sets.now) (B.state base.old) (B.state base.new)) }
-    ensures failed { B.is_clean base.new → IfErr result (λ e. B.state base.new ≡ after e (B.state base.old)) }
 {
     let lower = made(base, place_of(alloc, key, key_class, from))?;
     let Some(pattern) = pattern_at(base, rel, &lower)? else {

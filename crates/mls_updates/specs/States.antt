@@ -1,6 +1,6 @@
 -- The content that plain lists are.
 use Rattle.std.proofs.Common.{true≢false}
-use Rattle.std.specs.Prelude.{◌≡◌, true, false, is_some, Option, Some, None, refl}
+use Rattle.std.specs.Prelude.{◌≡◌, false, is_some, Option, Some, None, refl}
 use Rattle.std.specs.Option.{unwrap_or}
 use Rattle.mls_filterview.specs.Content.{Content, State}
 use Rattle.mls_updates.specs.declared.held.Held.{Held}

@@ -1,6 +1,7 @@
 //! Tuples of an entity removed one after another.
-ghost use Rattle.std.specs.Prelude.{◌≡◌, ◌<◌, ◌≤◌, true, IfErr, IsErrOf, OnOk};
+ghost use Rattle.std.specs.Prelude.{◌≡◌, true, IfErr, OnOk};
 ghost use Rattle.std.specs.FinMap.{remove};
+ghost use Rattle.mls_scheme.specs.Spelling.{IsSpelledKey};
 ghost use Rattle.mls_filterview.specs.Content.{with_relation};
 ghost use Rattle.mls_filterview.specs.Calls.{IsCall, IsServed};
 ghost use Rattle.mls_filterview.specs.Fragment.{IsAlone};
@@ -14,6 +15,7 @@ use mls_scheme::{Place, RelNo};
 /// Removes the tuple at a place, if there is one.
 fn drop_one<B: Base>(base: &mut B, rel: RelNo, place: &Place) -> Result<(), BaseFault>
     requires begun { (B.state base.old).begun ≡ true }
+    requires key { IsSpelledKey place.now.key }
     requires alone { B.is_clean base.old → IsAlone ((B.state base.old).now.db rel) place.now }
     ensures call { IsCall B.is_clean B.failures B.state base.old base.new result }
     ensures served { IfErr result IsServed }
@@ -34,9 +36,11 @@ pub(crate) fn drop_each<B: Base>(
     classes: &[LabelNo],
 ) -> Result<(), BaseFault>
     requires begun { (B.state base.old).begun ≡ true }
+    requires key { IsSpelledKey place.key }
     requires alone { B.is_clean base.old → AreAlone place classes.now ((B.state base.old).now.db rel) }
     ensures call { IsCall B.is_clean B.failures B.state base.old base.new result }
     ensures served { IfErr result IsServed }
+    ensures mode { OnOk result ((B.state base.new).begun ≡ true) }
     ensures done { B.is_clean base.new → OnOk result (B.state base.new ≡ with_relation (B.state base.old) rel (drop_each place classes.now ((B.state base.old).now.db rel))) }
 {
     let mut place = place;

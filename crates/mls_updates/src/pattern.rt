@@ -1,12 +1,12 @@
 //! The classes of a tuple's elements, found in a fragment.
-ghost use Rattle.std.specs.Prelude.{◌≡◌, ◌<◌, ◌≤◌, IfOk, IfErr, IsErrOf, OnOk};
+ghost use Rattle.std.specs.Prelude.{◌≡◌, IfOk, IfErr, OnOk};
 ghost use Rattle.std.specs.Option.{option_map};
 ghost use Rattle.std.specs.FinMap.{get};
 ghost use Rattle.mls_filterview.specs.Calls.{IsCall, IsServed};
 ghost use Rattle.mls_updates.specs.Finding.{pattern_in, classes};
 
 use crate::finding::is_at;
-use mls_filterview::{Base, BaseFault, made, Node};
+use mls_filterview::{Base, BaseFault, Node, made};
 use mls_lattice::{Items, LabelNo};
 use mls_scheme::{Place, RelNo};
 use std::alloc::AllocError;

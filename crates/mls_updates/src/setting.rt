@@ -1,6 +1,7 @@
 //! Cells of an entity set one after another.
-ghost use Rattle.std.specs.Prelude.{◌≡◌, ◌<◌, ◌≤◌, true, IfErr, IsErrOf, OnOk};
+ghost use Rattle.std.specs.Prelude.{◌≡◌, ◌<◌, true, IfErr, IfSome, OnOk};
 ghost use Rattle.std.specs.List.{AllByRecursion};
+ghost use Rattle.mls_scheme.specs.Spelling.{HasSpelling, IsSpelledKey};
 ghost use Rattle.mls_scheme.specs.Table.{change};
 ghost use Rattle.mls_filterview.specs.Content.{with_relation};
 ghost use Rattle.mls_filterview.specs.Calls.{IsCall, IsServed};
@@ -20,6 +21,9 @@ fn set_one<B: Base>(
     value: &Option<Value>,
 ) -> Result<(), BaseFault>
     requires begun { (B.state base.old).begun ≡ true }
+    requires key { IsSpelledKey place.now.key }
+    requires attr { attr < 15 }
+    requires value { IfSome value.now HasSpelling }
     requires there { B.is_clean base.old → HasCell ((B.state base.old).now.db rel) place.now attr }
     ensures call { IsCall B.is_clean B.failures B.state base.old base.new result }
     ensures served { IfErr result IsServed }
@@ -40,9 +44,12 @@ pub(crate) fn set_each<B: Base>(
     sets: &[(usize, Option<Value>)],
 ) -> Result<(), BaseFault>
     requires begun { (B.state base.old).begun ≡ true }
+    requires key { IsSpelledKey place.now.key }
+    requires sets { AllByRecursion (λ s. (s.0 < 15) × IfSome s.1 HasSpelling) sets.now }
     requires there { B.is_clean base.old → AllByRecursion (λ s. HasCell ((B.state base.old).now.db rel) place.now s.0) sets.now }
     ensures call { IsCall B.is_clean B.failures B.state base.old base.new result }
     ensures served { IfErr result IsServed }
+    ensures mode { OnOk result ((B.state base.new).begun ≡ true) }
     ensures done { B.is_clean base.new → OnOk result (B.state base.new ≡ with_relation (B.state base.old) rel (set_each place.now sets.now ((B.state base.old).now.db rel))) }
 {
     for left in (0..sets.len()).rev() {

@@ -4,7 +4,6 @@ pub mod Stored
 pub mod Integrity
 pub mod Content
 pub mod Calls
-pub mod Shapes
 pub mod Fragment
 pub mod Assembly
 pub mod Filtering

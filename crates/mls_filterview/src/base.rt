@@ -1,13 +1,13 @@
 //! Where content is kept.
-ghost use Rattle.std.specs.Prelude.{◌≡◌, ◌≢◌, ◌↔◌, ◌<◌, ◌≤◌, ℕ, List, false, true, IfOk, IfErr, IsErrOf, OnOk, Ok, None};
+ghost use Rattle.std.specs.Prelude.{◌≡◌, ◌≢◌, ◌↔◌, ◌<◌, ◌≤◌, ℕ, List, false, true, IfOk, IfErr, IfSome, IsErrOf, OnOk, Ok, None};
 ghost use Rattle.std.specs.List.{AllByRecursion};
 ghost use Rattle.std.specs.FinMap.{get, insert, remove};
 ghost use Rattle.mls_scheme.specs.declared.tuple.Element.{Element as SpecElement};
 ghost use Rattle.mls_scheme.specs.Table.{change};
+ghost use Rattle.mls_scheme.specs.Spelling.{HasSpelling, IsSpelledKey};
 ghost use Rattle.mls_filterview.specs.Content.{State, begun_change, committed, ended, failed, with_relation, with_entry};
 ghost use Rattle.mls_filterview.specs.Calls.{IsCall, IsServed};
-ghost use Rattle.mls_filterview.specs.Shapes.{HasShape, IsShortOrNull, IsCellOf};
-ghost use Rattle.mls_filterview.specs.Fragment.{IsFragment, IsMadeOf, place_of_node, HasCell, set_in, IsAlone};
+ghost use Rattle.mls_filterview.specs.Fragment.{IsFragment, IsMadeOf, place_of_node, HasCell, set_in, IsAlone, IsCellOf};
 
 use crate::fragment::{Cell, Fragment, Node};
 use mls_lattice::{Items, LabelNo};
@@ -57,6 +57,8 @@ impl<T: Drop> From<AllocFailed<T>> for BaseFault {
 /// `rollback`, and each `Store` and `Memory`, ends it, and every other answer keeps it. `NotBegun` and `Begun` come just
 /// where no change, or one, is begun, and the store is not asked then. After `Store` or `Memory` inside a change the
 /// content is that of the last commit.
+///
+/// Keys and values that a call takes have a spelling as bytes.
 pub trait Base {
     ghost state: { Self → State };
 
@@ -102,7 +104,7 @@ pub trait Base {
 
     /// Adds a tuple: its node, and the cells of its class in the order of attributes. `NotBegun` where no change is begun.
     fn add(&mut self, rel: RelNo, node: Node, cells: &[Cell]) -> Result<(), BaseFault>
-        requires key { HasShape node.key }
+        requires key { IsSpelledKey node.key }
         requires cells { AllByRecursion (IsCellOf node) cells.now }
         requires absent { is_clean self.old → get ((state self.old).now.db rel) (place_of_node node) ≡ None }
         requires made { is_clean self.old → (es : List SpecElement) × IsMadeOf ((state self.old).now.db rel) node cells.now es }
@@ -122,9 +124,9 @@ pub trait Base {
         attr: usize,
         value: Option<Value>,
     ) -> Result<(), BaseFault>
-        requires key { HasShape place.now.key }
+        requires key { IsSpelledKey place.now.key }
         requires attr { attr < 15 }
-        requires value { IsShortOrNull value }
+        requires value { IfSome value HasSpelling }
         requires there { is_clean self.old → HasCell ((state self.old).now.db rel) place.now attr }
         ensures call { IsCall is_clean failures state self.old self.new result }
         ensures not_begun { (result ≡ Err BaseFault.NotBegun) ↔ ((state self.old).begun ≡ false) }
@@ -135,7 +137,7 @@ pub trait Base {
 
     /// Removes the tuple at a place and its cells, which no other tuple may have. `NotBegun` where no change is begun.
     fn drop_at(&mut self, rel: RelNo, place: &Place) -> Result<(), BaseFault>
-        requires key { HasShape place.now.key }
+        requires key { IsSpelledKey place.now.key }
         requires there { is_clean self.old → get ((state self.old).now.db rel) place.now ≢ None }
         requires alone { is_clean self.old → IsAlone ((state self.old).now.db rel) place.now }
         ensures call { IsCall is_clean failures state self.old self.new result }

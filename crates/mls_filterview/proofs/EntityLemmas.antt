@@ -10,9 +10,7 @@ use Rattle.std.specs.FinMap.Entries.{below_all}
 use Rattle.std.specs.declared.cmp.Ordering.{Ordering}
 use Rattle.std.specs.declared.cmp.Ordering.TheVariants.{Less, Equal, Greater}
 use Rattle.std.proofs.lemmas.Cmp.{on_total, then_total, nat_cmp_total, lists_total, tied_itself}
-use Rattle.std.proofs.lemmas.Bool.{true≢false, false≢true, and_parts, false_from_ne_true, cond-true, cond-false}
-use Rattle.mls_scheme.specs.declared.value.Value.{Value}
-use Rattle.mls_scheme.specs.declared.tuple.Element.{Element}
+use Rattle.std.proofs.lemmas.Bool.{true≢false, and_parts, false_from_ne_true, cond-true}
 use Rattle.mls_scheme.specs.declared.place.Place.{Place}
 use Rattle.mls_scheme.specs.Value.{value_cmp}
 use Rattle.mls_scheme.specs.Table.{place_cmp, tuple_at}
@@ -199,9 +197,9 @@ maximal_more [] h l is s n len front done all new way = absurd (omega arith)
 maximal_more (d ∷ es) h l is s n len front done all new way = (
   sorted_drop n (d ∷ es) s,
   ap (λ ts. ts ++ tuples_of (maximal (drop n (d ∷ es)))) new
-  ∙ append_three front (tuples_of (maximal (take n (d ∷ es)))) (tuples_of (maximal (drop n (d ∷ es))))
-  ∙ ap (λ ts. front ++ ts) (sym (map_both (λ e. tuple_at e.0 e.1) (maximal (take n (d ∷ es))) (maximal (drop n (d ∷ es)))))
-  ∙ ap (λ ts. front ++ tuples_of ts) (sym (maximal_split d es s n at_front)) ∙ way,
+      ∙ append_three front (tuples_of (maximal (take n (d ∷ es)))) (tuples_of (maximal (drop n (d ∷ es))))
+      ∙ ap (λ ts. front ++ ts) (sym (map_both (λ e. tuple_at e.0 e.1) (maximal (take n (d ∷ es))) (maximal (drop n (d ∷ es)))))
+      ∙ ap (λ ts. front ++ tuples_of ts) (sym (maximal_split d es s n at_front)) ∙ way,
   some,
 )
   where

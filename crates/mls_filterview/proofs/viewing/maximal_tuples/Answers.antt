@@ -1,4 +1,4 @@
-use Rattle.std.proofs.Common.{◌≡◌, ◌++◌, length, map, take, sym, ap, ◌∙◌, arith}
+use Rattle.std.proofs.Common.{◌++◌, length, map, sym, ap, ◌∙◌, arith}
 use Rattle.std.specs.List.{prefix_len}
 use Rattle.mls_scheme.specs.Table.{tuple_at}
 use Rattle.mls_filterview.proofs.EntityLemmas.{same, maximal, maximal_more, front_some, not_empty}

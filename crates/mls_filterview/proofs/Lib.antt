@@ -16,6 +16,7 @@ pub mod FilterLemmas
 pub mod FragmentLemmas
 pub mod AssemblyLemmas
 pub mod ListedLemmas
+pub mod EntityLemmas
 pub mod FittingSteps
 pub mod EntitySteps
 pub mod RuleLemmas

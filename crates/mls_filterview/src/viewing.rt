@@ -1,6 +1,7 @@
 //! What a level sees of a relation, read from the fragments of the labels that it dominates.
-ghost use Rattle.std.specs.Prelude.{◌≡◌, ◌↔◌, ◌<◌, ◌&&◌, ◌++◌, not, ℕ, length, map, IfOk, IfErr, OnOk};
-ghost use Rattle.std.specs.List.{filter, list_any};
+ghost use Rattle.std.specs.Prelude.{◌≡◌, ◌↔◌, ◌<◌, ◌≤◌, ◌&&◌, ◌++◌, not, true, ℕ, length, map, IfOk, IfErr, OnOk};
+ghost use Rattle.std.specs.List.{filter, list_any, prefix_len};
+ghost use Rattle.std.specs.FinMap.{is_sorted};
 ghost use Rattle.std.specs.Ordering.{eq_by_cmp};
 ghost use Rattle.mls_lattice.specs.Labels.{Labels, AreDistinct};
 ghost use Rattle.mls_lattice.specs.Policy.{labels_of};
@@ -96,15 +97,42 @@ fn is_maximal(rows: &[Row], row: &Row) -> bool
     !is_subsumed(rows, row)
 }
 
-/// The tuples of rows that no other row subsumes.
-fn maximal_tuples(alloc: Global, rows: &[Row]) -> Result<Vec<Tuple>, AllocError>
-    ensures { IfOk result (λ v. v.items ≡ map (λ e. tuple_at e.0 e.1) (filter (is_max_among rows.now) rows.now)) }
+/// How many of the rows at the front are of the entity of a place.
+fn entity_len(rows: &[Row], place: &Place) -> usize
+    ensures run { result ≡ prefix_len (λ d. eq_by_cmp place_cmp (with_class d.0 place.now.class) place.now) rows.now }
+    ensures within { result ≤ length rows.now }
 {
-    let mut tuples = Vec::new(alloc);
+    rows.iter()
+        .take_while(|row| is_same_entity(&row.place, place))
+        .count()
+}
+
+/// Adds the tuples of the rows that no other of these rows subsumes.
+fn add_maximal(tuples: &mut Vec<Tuple>, rows: &[Row]) -> Result<(), AllocError>
+    ensures { OnOk result (tuples.new.items ≡ tuples.old.items ++ map (λ e. tuple_at e.0 e.1) (filter (is_max_among rows.now) rows.now)) }
+{
     for row in rows {
         if is_maximal(rows, row) {
             tuples.push(row.tuple()?)?;
         }
+    }
+    Ok(())
+}
+
+/// The tuples of rows that no other row subsumes; rows come in the order of places, so that those of one entity stand
+/// together.
+fn maximal_tuples(alloc: Global, rows: &[Row]) -> Result<Vec<Tuple>, AllocError>
+    requires { is_sorted place_cmp rows.now ≡ true }
+    ensures { IfOk result (λ v. v.items ≡ map (λ e. tuple_at e.0 e.1) (filter (is_max_among rows.now) rows.now)) }
+{
+    let mut tuples = Vec::new(alloc);
+    let mut rest = rows;
+    while !rest.is_empty() {
+        let first = &rest[0];
+        let count = entity_len(rest, &first.place);
+        let (front, after) = rest.split_at(count);
+        add_maximal(&mut tuples, front)?;
+        rest = after;
     }
     Ok(tuples)
 }

@@ -19,6 +19,3 @@ pub use writing::entry_bytes;
 pub fn entries_are_unambiguous()
     ensures { AreUnambiguous }
 {}
-
-#[cfg(test)]
-mod entry_tests;

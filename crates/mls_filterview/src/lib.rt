@@ -25,10 +25,3 @@ pub use laws::{
 pub use rule::{Broken, Rule};
 pub use subsumption::subsumes;
 pub use viewing::view;
-
-#[cfg(test)]
-mod integrity_tests;
-#[cfg(test)]
-mod samples;
-#[cfg(test)]
-mod view_tests;

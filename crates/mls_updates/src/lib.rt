@@ -11,8 +11,6 @@ mod interval;
 mod key;
 mod laws;
 mod list_base;
-#[cfg(test)]
-mod list_base_tests;
 mod making;
 mod order;
 mod outcome;
@@ -24,8 +22,6 @@ mod row;
 mod rows;
 mod sets;
 mod setting;
-#[cfg(test)]
-mod tests;
 mod updating;
 
 pub use deleting::delete;

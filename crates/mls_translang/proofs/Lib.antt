@@ -1,1 +1,4 @@
 pub mod NamedLemmas
+pub mod LayoutLemmas
+pub mod FieldLemmas
+pub mod ListLemmas

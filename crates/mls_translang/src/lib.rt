@@ -3,8 +3,13 @@
 
 mod block;
 mod expr;
+mod layout;
 mod named;
+mod names;
 mod operator;
+mod print_expr;
+mod print_parts;
+mod print_write;
 mod row;
 mod tx;
 

@@ -1,5 +1,5 @@
 -- The tokens of a transaction's text, in the words of the tree.
-use Rattle.std.specs.Prelude.{ℕ, List, [], ◌∷◌, ◌++◌, map, codes, Option, None, Some, slice_index_or, option_map, slice_get}
+use Rattle.std.specs.Prelude.{ℕ, List, [], ◌∷◌, ◌++◌, map, codes, Option, None, Some, slice_index_or, option_map, slice_get, if◌then◌else◌}
 use Rattle.std.specs.Option.{unwrap_or}
 use Rattle.std.specs.List.{flat_map}
 use Rattle.mls_lattice.specs.Policy.{Name, Tables}
@@ -14,8 +14,9 @@ use Rattle.mls_tokens.specs.declared.token.Token.TheVariants.{Word, Int, Text, S
 use Rattle.mls_tokens.specs.declared.sign.Sign.TheVariants as sign
 use Rattle.mls_translang.specs.declared.operator.Operator.{Operator}
 use Rattle.mls_translang.specs.declared.operator.Operator.TheVariants as operators
+use Rattle.mls_translang.specs.declared.row.Row.{Row}
 use Rattle.mls_translang.specs.declared.tx.Parameter.{Parameter}
-use Rattle.mls_translang.specs.Tree.{Expr, Known, Null, Var, Param, Field, No, Op, Writing, Inserting, Updating, Deleting, Stmt, Assign, Write_at, Release, Emit, Block, End, Do, If, For}
+use Rattle.mls_translang.specs.Tree.{Expr, Known, Null, Var, Param, Field, No, Op, Writing, Inserting, Updating, Deleting, Stmt, Assign, Write_at, Release, Emit, Block, End, Do, If, For, is_end}
 use Rattle.mls_translang.specs.Scope.{Scope, in_loop, row_at}
 use Rattle.mls_translang.specs.Kinds.{field_of}
 use Rattle.mls_translang.specs.Tx.{Tx, scope_of}
@@ -36,6 +37,9 @@ pub record Place : Type 0 where
 
 abbrev pub at_row : Place → Name → ℕ → Place
 at_row p row rel = record p { scope = in_loop p.scope row rel }
+
+abbrev pub with_rows : Place → List Row → Place
+with_rows p rows = record p { scope = record { params = p.scope.params; vars = p.scope.vars; rows = rows } }
 
 abbrev pub var_token : Place → ℕ → Token
 var_token p i = Word (name_at p.scope.vars i)
@@ -141,8 +145,11 @@ stmt_tokens p (Emit e label) =
 
 -- no else without statements
 abbrev pub else_tokens : Block → List Token → List Token
-else_tokens End tokens = []
-else_tokens _ tokens = Word (codes "else") ∷ tokens
+else_tokens other tokens = if is_end other then [] else Word (codes "else") ∷ tokens
+
+-- for ROW in RELATION at LABEL
+abbrev pub for_tokens : Place → Name → ℕ → ℕ → List Token
+for_tokens p row rel label = Word (codes "for") ∷ Word row ∷ Word (codes "in") ∷ rel_token p rel ∷ Word (codes "at") ∷ label_token p label ∷ []
 
 abbrev pub braced : List Token → List Token
 braced tokens = Sign sign.LeftBrace ∷ (tokens ++ Sign sign.RightBrace ∷ [])
@@ -153,8 +160,7 @@ block_tokens p (Do stmt rest) = stmt_tokens p stmt ++ block_tokens p rest
 block_tokens p (If guard one other rest) =
     Word (codes "if") ∷ (expr_tokens p guard ++ (braced (block_tokens p one) ++ (else_tokens other (braced (block_tokens p other)) ++ block_tokens p rest)))
 block_tokens p (For row rel label body rest) =
-    Word (codes "for") ∷ Word row ∷ Word (codes "in") ∷ rel_token p rel ∷ Word (codes "at") ∷ label_token p label
-    ∷ (braced (block_tokens (at_row p row rel) body) ++ block_tokens p rest)
+    for_tokens p row rel label ++ (braced (block_tokens (at_row p row rel) body) ++ block_tokens p rest)
 
 -- ---- transactions
 

@@ -7,6 +7,7 @@ mod layout;
 mod named;
 mod names;
 mod operator;
+mod print;
 mod print_expr;
 mod print_parts;
 mod print_write;

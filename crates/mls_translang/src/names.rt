@@ -5,7 +5,7 @@ ghost use Rattle.mls_scheme.specs.Scheme.{scheme_of};
 ghost use Rattle.mls_translang.specs.Scope.{row_at};
 ghost use Rattle.mls_translang.specs.Fits.{IsLabel, width};
 ghost use Rattle.mls_translang.specs.Kinds.{field_of};
-ghost use Rattle.mls_translang.specs.Tokens.{name_at};
+ghost use Rattle.mls_translang.specs.Tokens.{name_at, with_rows};
 
 use crate::row::Row;
 use crate::tx::Tx;
@@ -69,6 +69,18 @@ impl Names<'_> {
         ensures { result.now ≡ row_at self.now.scope depth }
     {
         &self.rows[depth as usize]
+    }
+
+    /// The same, with other rows.
+    pub fn with_rows<'b>(&'b self, rows: &'b [Row]) -> Names<'b>
+        ensures { result ≡ with_rows self.now rows.now }
+    {
+        Names {
+            policy: self.policy,
+            schemes: self.schemes,
+            tx: self.tx,
+            rows,
+        }
     }
 
     pub fn scheme(&self, relation: RelNo) -> &Scheme

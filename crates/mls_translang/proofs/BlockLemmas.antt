@@ -106,7 +106,7 @@ module _ (xs : List Stmt) (i : ℕ) (x : Stmt) (is : x ≡ get_or xs i x) (withi
       → (statements (block_of (x ∷ [])) ≤ statements block) × (statements (block_of (drop (i + 1) xs)) ≤ statements block)
   size_step block h =
       let whole : statements (block_of (x ∷ [])) + statements (block_of (drop (i + 1) xs)) ≡ statements (block_of (drop i xs))
-          = sym (statements_more x (drop (i + 1) xs)) ∙ ap (λ l. statements (block_of l)) here in
+      = sym (statements_more x (drop (i + 1) xs)) ∙ ap (λ l. statements (block_of l)) here in
       (omega (arith, whole, h), omega (arith, whole, h))
 
   pub left_step : (p : Place) (w v first : Laid) (block : Block) → v ≡ puts w (block_tokens p (block_of (x ∷ [])))
@@ -115,7 +115,7 @@ module _ (xs : List Stmt) (i : ℕ) (x : Stmt) (is : x ≡ get_or xs i x) (withi
     put = ap (λ u. puts u (block_tokens p (block_of (drop (i + 1) xs)))) e ∙ puts_step p w ∙ h.put;
     own = (own_step p.scope h.own).1;
     fits = (fits_step p.policy p.schemes p.hi p.scope h.fits).1;
-    size = (size_step block h.size).1
+    size = (size_step block h.size).1;
   }
 
 -- ---- a block with no statement

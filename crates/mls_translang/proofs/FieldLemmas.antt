@@ -1,8 +1,8 @@
 -- A relation with attributes is a declared one.
-use Rattle.std.proofs.Common.{◌≡◌, ℕ, ◌+◌, ◌<◌, ◌≤◌, length, ap, arith, inl, inr}
+use Rattle.std.proofs.Common.{◌≡◌, ℕ, ◌<◌, length, ap, arith, inl, inr}
 use Rattle.std.proofs.lemmas.Bool.{cases_lt}
 use Rattle.std.proofs.lemmas.List.{get_or_past}
-use Rattle.mls_scheme.specs.Scheme.{Schemes, Scheme, scheme_of, no_scheme}
+use Rattle.mls_scheme.specs.Scheme.{Schemes, scheme_of, no_scheme}
 use Rattle.mls_translang.specs.Fits.{width}
 
 no_width : (n i : ℕ) → n ≡ 0 → i < n → ⊥

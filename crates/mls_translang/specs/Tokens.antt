@@ -1,5 +1,5 @@
 -- The tokens of a transaction's text, in the words of the tree.
-use Rattle.std.specs.Prelude.{ℕ, List, [], ◌∷◌, ◌++◌, map, codes, Option, None, Some, slice_index_or, option_map, slice_get, if◌then◌else◌}
+use Rattle.std.specs.Prelude.{ℕ, List, [], ◌∷◌, ◌++◌, codes, Option, None, Some, option_map, slice_get, if◌then◌else◌}
 use Rattle.std.specs.Option.{unwrap_or}
 use Rattle.std.specs.List.{flat_map}
 use Rattle.mls_lattice.specs.Policy.{Name, Tables}
@@ -171,18 +171,27 @@ kind_token k = Word (kind_word k)
 abbrev pub param_tokens : Place → Name × Parameter → List Token
 param_tokens p x = Word x.0 ∷ Sign sign.Colon ∷ kind_token x.1.kind ∷ Word (codes "at") ∷ label_token p x.1.label ∷ []
 
+abbrev pub params_tokens : Place → List (Name × Parameter) → List Token
+params_tokens p xs = Sign sign.LeftParen ∷ (separated (param_tokens p) xs ++ Sign sign.RightParen ∷ [])
+
 -- var NAME : KIND ;
 abbrev pub var_tokens : Name × Kind → List Token
 var_tokens x = Word (codes "var") ∷ Word x.0 ∷ Sign sign.Colon ∷ kind_token x.1 ∷ Sign sign.Semicolon ∷ []
 
+-- transaction NAME levels LO to HI
+abbrev pub heading_tokens : Place → Name → ℕ → ℕ → List Token
+heading_tokens p name lo hi =
+    Word (codes "transaction") ∷ Word name ∷ Word (codes "levels") ∷ label_token p lo ∷ Word (codes "to") ∷ label_token p hi ∷ []
+
 abbrev pub outermost : Tables → Schemes → Tx → Place
 outermost policy schemes tx = record { policy = policy; schemes = schemes; hi = tx.hi; scope = scope_of tx }
 
+abbrev pub tx_tokens : Place → Tx → List Token
+tx_tokens p tx =
+    heading_tokens p tx.name tx.lo tx.hi ++ (params_tokens p tx.params ++ braced (flat_map var_tokens tx.vars ++ block_tokens p tx.body))
+
 abbrev pub tokens_of : Tables → Schemes → Tx → List Token
-tokens_of policy schemes tx =
-    let p = outermost policy schemes tx in
-    Word (codes "transaction") ∷ Word tx.name ∷ Word (codes "levels") ∷ label_token p tx.lo ∷ Word (codes "to") ∷ label_token p tx.hi
-    ∷ Sign sign.LeftParen ∷ (separated (param_tokens p) tx.params ++ (Sign sign.RightParen ∷ braced (flat_map var_tokens tx.vars ++ block_tokens p tx.body)))
+tokens_of policy schemes tx = tx_tokens (outermost policy schemes tx) tx
 
 -- the canonical text
 abbrev pub printed : Tables → Schemes → Tx → List ℕ

@@ -1,4 +1,4 @@
-//! The text of blocks and transactions.
+//! The text of blocks.
 ghost use Rattle.std.specs.Prelude.{◌≡◌, ◌<◌, length, OnOk, IfOk, [], ◌∷◌};
 ghost use Rattle.mls_translang.specs.Layout.{puts};
 ghost use Rattle.mls_translang.specs.Tx.{BlockIsOwn};
@@ -23,7 +23,11 @@ use std::alloc::{AllocError, Global};
 
 /// Writes the statements of a block.
 #[cycle(print)]
-pub(crate) fn block_to(names: &Names<'_>, out: &mut Printer, block: &Block) -> Result<(), AllocError>
+pub(crate) fn block_to(
+    names: &Names<'_>,
+    out: &mut Printer,
+    block: &Block,
+) -> Result<(), AllocError>
     requires own { BlockIsOwn names.now.scope block.now }
     requires fits { BlockFits names.now.policy names.now.schemes names.now.hi names.now.scope block.now }
     ensures { OnOk result (out.new ≡ puts out.old (block_tokens names.now block.now)) }
@@ -64,7 +68,13 @@ fn else_to(names: &Names<'_>, out: &mut Printer, block: &Block) -> Result<(), Al
 /// Writes an `if`.
 #[cycle(print)]
 #[tactic(auto, using(crate::proofs::LayoutLemmas::lists))]
-fn if_to(names: &Names<'_>, out: &mut Printer, guard: &Expr, one: &Block, other: &Block) -> Result<(), AllocError>
+fn if_to(
+    names: &Names<'_>,
+    out: &mut Printer,
+    guard: &Expr,
+    one: &Block,
+    other: &Block,
+) -> Result<(), AllocError>
     requires own { BlockIsOwn names.now.scope (If guard.now one.now other.now End) }
     requires fits { BlockFits names.now.policy names.now.schemes names.now.hi names.now.scope (If guard.now one.now other.now End) }
     ensures { OnOk result (out.new ≡ puts out.old (block_tokens names.now (If guard.now one.now other.now End))) }
@@ -77,7 +87,13 @@ fn if_to(names: &Names<'_>, out: &mut Printer, guard: &Expr, one: &Block, other:
 
 /// Writes what a loop begins with.
 #[tactic(auto, using(crate::proofs::LayoutLemmas::lists))]
-fn for_to(names: &Names<'_>, out: &mut Printer, row: &str, relation: RelNo, label: LabelNo) -> Result<(), AllocError>
+fn for_to(
+    names: &Names<'_>,
+    out: &mut Printer,
+    row: &str,
+    relation: RelNo,
+    label: LabelNo,
+) -> Result<(), AllocError>
     requires relation { relation < length names.now.schemes }
     requires label { IsLabel names.now.policy label }
     ensures { OnOk result (out.new ≡ puts out.old (for_tokens names.now row.now relation label)) }
@@ -99,7 +115,13 @@ fn rows_of(alloc: Global, name: &str, relation: RelNo, rows: &[Row]) -> Result<V
 
 /// Writes the body of a loop.
 #[cycle(print)]
-fn body_to(names: &Names<'_>, out: &mut Printer, row: &str, relation: RelNo, body: &Block) -> Result<(), AllocError>
+fn body_to(
+    names: &Names<'_>,
+    out: &mut Printer,
+    row: &str,
+    relation: RelNo,
+    body: &Block,
+) -> Result<(), AllocError>
     requires own { BlockIsOwn (in_loop names.now.scope row.now relation) body.now }
     requires fits { BlockFits names.now.policy names.now.schemes names.now.hi (in_loop names.now.scope row.now relation) body.now }
     ensures { OnOk result (out.new ≡ puts out.old (braced (block_tokens (at_row names.now row.now relation) body.now))) }

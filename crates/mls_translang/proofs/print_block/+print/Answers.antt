@@ -1,6 +1,6 @@
 use Rattle.mls_translang.specs.Blocks.{block_of}
 use Rattle.mls_translang.proofs.BlockLemmas.{left_step}
-use Rattle.mls_translang.proofs.print.+print.Goals as goal
+use Rattle.mls_translang.proofs.print_block.+print.Goals as goal
 
 pub block_to-loop-stmt-preserved : goal.block_to-loop-stmt-preserved
 block_to-loop-stmt-preserved t c =

@@ -1,12 +1,8 @@
-use Rattle.std.proofs.Common.{◌≡◌, ◌+◌, ◌*◌, ◌≤◌, [], ◌∷◌, drop}
+use Rattle.std.proofs.Common.{◌+◌, ◌*◌, [], ◌∷◌, drop}
 use Rattle.mls_translang.specs.Tree.{statements}
 use Rattle.mls_translang.specs.Blocks.{block_of}
-use Rattle.mls_translang.specs.Tx.{BlockIsOwn}
-use Rattle.mls_translang.specs.Fits.{BlockFits}
-use Rattle.mls_translang.specs.Layout.{puts}
-use Rattle.mls_translang.specs.Tokens.{block_tokens}
 use Rattle.mls_translang.proofs.BlockLemmas.{IsLeft}
-use Rattle.mls_translang.proofs.print.+print.Given as goal
+use Rattle.mls_translang.proofs.print_block.+print.Given as goal
 
 -- what is left, put after what was put, is the whole
 abbrev pub invariant-block_to-loop-stmt : goal.invariant-block_to-loop-stmt

@@ -8,3 +8,5 @@ pub mod TablesLemmas
 pub mod LatticeLemmas
 pub mod PolicyLemmas
 pub mod PolicyReadingLemmas
+pub mod KeptLemmas
+pub mod NameLemmas

@@ -1,87 +1,90 @@
 -- One event of a run, and a run up to an event.
-use Rattle.std.proofs.Common.{◌≡◌, ℕ, zero, suc, ◌+◌, ◌-◌, ◌<◌, ◌≤◌, Bool, true, false, cond, ◌⊎◌, inl, inr, Err, List, [], ◌∷◌, ◌++◌, Option, length, get_or, refl, sym, ap, ◌∙◌, subst, append_assoc, arith}
-use Rattle.std.specs.Prelude.{IsErrOf}
+use Rattle.std.proofs.Common.{◌≡◌, ℕ, zero, suc, ◌+◌, ◌-◌, ◌<◌, ◌≤◌, Bool, true, false, cond, List, [], ◌∷◌, ◌++◌, Option, length, get_or, refl, sym, ap, ◌∙◌, subst, append_assoc, arith}
 use Rattle.std.specs.Io.KnownBytes.{Appends}
 use Rattle.std.proofs.KnownBytes.{Appends-nil, Appends-trans}
 use Rattle.std.proofs.lemmas.List.{take_all}
 use Rattle.std.specs.List.{AllByRecursion}
-use Rattle.mls_lattice.specs.Labels.{AreDistinct}
-use Rattle.mls_lattice.specs.Policy.{Tables, labels_of}
-use Rattle.mls_scheme.specs.Scheme.{Schemes}
 use Rattle.mls_filterview.specs.declared.base.BaseFault.{BaseFault}
 use Rattle.mls_filterview.specs.declared.base.BaseFault.TheVariants as faults
+use Rattle.mls_filterview.specs.Calls.{IsServed}
 use Rattle.mls_filterview.specs.Content.{State}
-use Rattle.mls_filterview.specs.Stored.{AreContent}
-use Rattle.mls_sessions.specs.declared.event.Event.{Event}
-use Rattle.mls_sessions.specs.declared.reply.Reply.{Reply}
-use Rattle.mls_sessions.specs.declared.running.RunCause.{RunCause}
-use Rattle.mls_sessions.specs.declared.running.RunCause.TheVariants.{Store, Memory, Write}
+use Rattle.mls_audit.specs.declared.entry.Entry.{Entry}
+use Rattle.mls_script.specs.declared.event.Event.{Event}
+use Rattle.mls_script.specs.Event.{EventFits}
+use Rattle.mls_machine.specs.declared.reply.Reply.{Reply}
+use Rattle.mls_machine.specs.Site.{Site}
+use Rattle.mls_machine.specs.Machine.{World, step, end_of}
+use Rattle.mls_machine.specs.Output.{reply_lines, run_lines, printed, ReplyIsKnown}
+use Rattle.mls_machine.specs.Observation.{AreStored, EventsFit}
+use Rattle.mls_machine.proofs.LineLemmas.{end_more, printed_more}
+use Rattle.mls_machine.proofs.ReplyLemmas.{step_known}
+use Rattle.mls_sessions.specs.declared.cause.RunCause.{RunCause}
+use Rattle.mls_sessions.specs.declared.cause.RunCause.TheVariants.{Store, Memory, Write}
 use Rattle.mls_sessions.specs.declared.engine.Engine.{Engine}
-use Rattle.mls_sessions.specs.Event.{EventFits}
-use Rattle.mls_sessions.specs.Machine.{World, step, end_of, replies}
-use Rattle.mls_sessions.specs.Output.{reply_text, printed, ReplyIsKnown}
-use Rattle.mls_sessions.specs.Engine.{world_of, IsReady, HasSameRules, IsStep, IsUnchanged}
-use Rattle.mls_sessions.specs.Run.{printed_to, world_after, IsWhole, IsStopped, IsPart, IsAnswered, IsHalted}
-use Rattle.mls_sessions.proofs.MachineLemmas.{world_more, printed_more}
-use Rattle.mls_sessions.proofs.ReplyLemmas.{step_known}
+use Rattle.mls_sessions.specs.Cause.{cause_of}
+use Rattle.mls_sessions.specs.World.{site_of}
+use Rattle.mls_sessions.specs.Engine.{site, world_of, IsReady, IsStep, IsKept}
+use Rattle.mls_sessions.specs.Run.{printed_to, world_after, IsWhole, IsStopped, IsPart, answer_text, IsAnswered, IsHalted}
+use Rattle.mls_sessions.proofs.StepLemmas.{entries_known}
 
 -- ---- one event
 
 module _ {B : Type 0} (state : B → State) (old new : Engine B) (event : Event) (a b : Option (List ℕ)) where
-  pub halted_before : (cause : RunCause) → IsUnchanged state old new
-      → IsHalted old.policy.now old.schemes.now (world_of state old) event a a (world_of state new) cause false
+  abbrev first : World
+  first = world_of state old
+
+  pub halted_before : (cause : RunCause) → world_of state new ≡ first → IsHalted (site old) first event a a (world_of state new) cause false
   halted_before cause h = record {
-    reply = record { part = []; rest = reply_text old.policy.now old.schemes.now event (step old.policy.now old.schemes.now (world_of state old) event).reply; appends = Appends-nil a; whole = refl };
+    reply = record { part = []; rest = answer_text (site old) first event a a first; appends = Appends-nil a; whole = refl };
     none = λ x. refl;
-    world = h.world;
+    world = h;
   }
 
-  module _ (r : Reply) (h : IsStep state old (step old.policy.now old.schemes.now (world_of state old) event) new r) (rules : HasSameRules old new) where
-    text_of : (bytes : List ℕ) → bytes ≡ reply_text new.policy.now new.schemes.now event r
-        → bytes ≡ reply_text old.policy.now old.schemes.now event (step old.policy.now old.schemes.now (world_of state old) event).reply
-    text_of bytes e = e ∙ (λ i. reply_text (rules.policy i) (rules.schemes i) event (h.reply i))
-
-    pub halted_unprinted : (cause : RunCause) → IsHalted old.policy.now old.schemes.now (world_of state old) event a a (world_of state new) cause true
+  module _ (r : Reply) (h : IsStep state old (step (site old) first event) new r) where
+    pub halted_unprinted : (cause : RunCause) → IsHalted (site old) first event a a (world_of state new) cause true
     halted_unprinted cause = record {
-      reply = record { part = []; rest = reply_text old.policy.now old.schemes.now event (step old.policy.now old.schemes.now (world_of state old) event).reply; appends = Appends-nil a; whole = refl };
+      reply = record { part = []; rest = answer_text (site old) first event a a first; appends = Appends-nil a; whole = refl };
       none = λ x. refl;
       world = h.world;
     }
 
-    pub halted_unwritten : (bytes : List ℕ) → bytes ≡ reply_text new.policy.now new.schemes.now event r → IsPart a b bytes
-        → IsHalted old.policy.now old.schemes.now (world_of state old) event a b (world_of state new) Write true
-    halted_unwritten bytes e p = record {
-      reply = record { part = p.part; rest = p.rest; appends = p.appends; whole = p.whole ∙ text_of bytes e };
-      none = λ x. absurd (x refl);
-      world = h.world;
-    }
+    module _ (kept : new.rules ≡ old.rules) (bytes : List ℕ) (is : bytes ≡ printed (reply_lines (site new) event r)) where
+      text_is : bytes ≡ printed (reply_lines (site old) event (step (site old) first event).reply)
+      text_is = is ∙ (λ i. printed (reply_lines (site_of (kept i)) event (h.reply i)))
 
-    pub answered : (bytes : List ℕ) → bytes ≡ reply_text new.policy.now new.schemes.now event r → Appends a b bytes
-        → IsAnswered old.policy.now old.schemes.now (world_of state old) event a b (world_of state new)
-    answered bytes e p = record { bytes = subst (Appends a b) (text_of bytes e) p; world = h.world }
+      pub halted_unwritten : IsPart a b bytes → IsHalted (site old) first event a b (world_of state new) Write true
+      halted_unwritten p = record {
+        reply = record { part = p.part; rest = p.rest; appends = p.appends; whole = p.whole ∙ text_is };
+        none = λ x. absurd (x refl);
+        world = h.world;
+      }
 
--- over content of the stored form the reply can be printed
-module _ {B : Type 0} (state : B → State) (old new : Engine B) (event : Event) (r : Reply) where
-  pub reply_known : IsStep state old (step old.policy.now old.schemes.now (world_of state old) event) new r → HasSameRules old new
-      → AreDistinct (labels_of old.policy.now) → AreContent (labels_of old.policy.now) old.schemes.now (state old.base).now.db → ReplyIsKnown new.policy.now r
-  reply_known h rules distinct all =
-      subst (λ p. ReplyIsKnown p r) (sym rules.policy)
-      (subst (ReplyIsKnown old.policy.now) (sym h.reply) (step_known old.policy.now old.schemes.now distinct (world_of state old) all event))
+      pub answered : Appends a b bytes → IsAnswered (site old) first event a b (world_of state new)
+      answered p = record { bytes = subst (Appends a b) text_is p; world = h.world }
+
+pub stored_at : {B : Type 0} (state : B → State) (is_clean : B → Type 0) (e : Engine B) → IsReady state is_clean e → is_clean e.base → AreStored (site e) (world_of state e).db
+stored_at state is_clean e ready c rel = ((ready.sound c).content rel).stored
+
+-- over a sound base the reply can be printed
+module _ {B : Type 0} (state : B → State) (is_clean : B → Type 0) (old new : Engine B) (event : Event) (r : Reply) where
+  pub reply_known : IsStep state old (step (site old) (world_of state old) event) new r → new.rules ≡ old.rules → IsReady state is_clean old → is_clean old.base → EventFits (site old).policy (site old).schemes event
+      → ReplyIsKnown (site new).policy r
+  reply_known h kept ready c fits =
+      subst (λ rules. ReplyIsKnown (site_of rules).policy r) (sym kept)
+      (subst (ReplyIsKnown (site old).policy) (sym h.reply)
+      (step_known (site old) ready.distinct (world_of state old) (stored_at state is_clean old ready c)
+      (entries_known (length (site old).policy.labels) (state old.base).now.audit) event fits.level).reply)
 
 -- ---- the cause of the store
 
 pub not_store : (cause : RunCause) → cause ≡ Memory → cause ≡ Store → ⊥
 not_store cause h k = absurd (let e : Memory ≡ Store = sym h ∙ k in cc)
 
--- of a fault that tells no wrong use of a base, the store's own
-pub only_store : (P : Type 0) (fault : BaseFault) (cause : RunCause) → (cause ≡ Store → (fault ≡ faults.Store) ⊎ ((fault ≡ faults.NotBegun) ⊎ (fault ≡ faults.Begun)))
-    → (fault ≡ faults.NotBegun → ⊥) × (fault ≡ faults.Begun → ⊥) → (IsErrOf {T = Reply} (Err fault) faults.Store → P) → cause ≡ Store → P
-only_store P fault cause is never store k =
-    elim (is k) [
-      | inl e ↦ store (ap (λ (x : BaseFault). Err x) e)
-      | inr (inl e) ↦ absurd (never.0 e)
-      | inr (inr e) ↦ absurd (never.1 e)
-    ]
+pub only_store : (e : BaseFault) → IsServed e → cause_of e ≡ Store → e ≡ faults.Store
+only_store faults.Store h k = refl
+only_store faults.Memory h k = absurd (let e : Memory ≡ Store = k in cc)
+only_store faults.NotBegun h k = absurd (h.0 refl)
+only_store faults.Begun h k = absurd (h.1 refl)
 
 -- ---- a run up to an event
 
@@ -89,22 +92,20 @@ only_store P fault cause is never store k =
 pub record Running {B : Type 0} (state : B → State) (is_clean : B → Type 0) (failures : B → ℕ) (es : List Event) (first : Engine B) (start : Option (List ℕ)) (i : ℕ) (now : Engine B) (held : Option (List ℕ)) : Type 0 where
   pub clean : is_clean now.base → is_clean first.base
   pub count : failures first.base ≤ failures now.base
-  pub rules : HasSameRules first now
-  pub ready : IsReady state is_clean now
-  pub bytes : is_clean now.base → Appends start held (printed_to first.policy.now first.schemes.now (world_of state first) es i)
-  pub world : is_clean now.base → world_of state now ≡ world_after first.policy.now first.schemes.now (world_of state first) es i
+  pub kept : IsKept state is_clean first now
+  pub bytes : is_clean now.base → Appends start held (printed_to (site first) (world_of state first) es i)
+  pub world : is_clean now.base → world_of state now ≡ world_after (site first) (world_of state first) es i
 
-moved : (P : Tables → Schemes → World → Type 0) (p q : Tables) (s t : Schemes) (v w : World) → p ≡ q → s ≡ t → v ≡ w → P p s v → P q t w
-moved P p q s t v w a b c h = subst (λ x. P x t w) a (subst (λ y. P p y w) b (subst (P p s) c h))
+moved : (P : Site → World → Type 0) (p q : Site) (v w : World) → p ≡ q → v ≡ w → P p v → P q w
+moved P p q v w a b h = subst (λ x. P x w) a (subst (P p) b h)
 
 module _ {B : Type 0} (state : B → State) (is_clean : B → Type 0) (failures : B → ℕ) (es : List Event) (first : Engine B) (start : Option (List ℕ)) where
   pub running_start : IsReady state is_clean first → Running state is_clean failures es first start 0 first start
-  unfolding end_of
+  unfolding end_of run_lines
   running_start ready = record {
     clean = λ c. c;
     count = omega arith;
-    rules = record { policy = refl; schemes = refl };
-    ready = ready;
+    kept = record { rules = refl; ready = ready };
     bytes = λ c. Appends-nil start;
     world = λ c. refl;
   }
@@ -113,58 +114,60 @@ module _ {B : Type 0} (state : B → State) (is_clean : B → Type 0) (failures 
   w = world_of state first
 
   abbrev to : ℕ → List ℕ
-  to = printed_to first.policy.now first.schemes.now w es
+  to = printed_to (site first) w es
 
   abbrev at : ℕ → World
-  at = world_after first.policy.now first.schemes.now w es
+  at = world_after (site first) w es
 
   pub running_whole : (i : ℕ) (now : Engine B) (held : Option (List ℕ)) → Running state is_clean failures es first start i now held → length es ≤ i → is_clean now.base
-      → IsWhole first.policy.now first.schemes.now w es start held (world_of state now)
+      → IsWhole (site first) w es start held (world_of state now)
   running_whole i now held r l c =
       let all = take_all i es l in
       record {
-        bytes = subst (λ x. Appends start held (printed first.policy.now first.schemes.now x (replies first.policy.now first.schemes.now w x))) all (r.bytes c);
-        world = r.world c ∙ ap (end_of first.policy.now first.schemes.now w) all;
+        bytes = subst (λ x. Appends start held (printed (run_lines (site first) w x))) all (r.bytes c);
+        world = r.world c ∙ ap (end_of (site first) w) all;
       }
 
   module _ (i : ℕ) (now : Engine B) (held : Option (List ℕ)) (r : Running state is_clean failures es first start i now held)
       (e : Event) (within : i < length es) (is : get_or es i e ≡ e) (new : Engine B) (after : Option (List ℕ)) (clean : is_clean new.base → is_clean now.base) where
-    pub running_more : failures now.base ≤ failures new.base → HasSameRules now new → IsReady state is_clean new
-        → (is_clean new.base → IsAnswered now.policy.now now.schemes.now (world_of state now) e held after (world_of state new))
+    same_site : site now ≡ site first
+    same_site = ap site_of r.kept.rules
+
+    pub running_more : failures now.base ≤ failures new.base → IsKept state is_clean now new
+        → (is_clean new.base → IsAnswered (site now) (world_of state now) e held after (world_of state new))
         → Running state is_clean failures es first start (i + 1) new after
-    running_more count rules ready answer =
-        let h : is_clean new.base → IsAnswered first.policy.now first.schemes.now (at i) e held after (world_of state new) = λ c. moved (λ p s v. IsAnswered p s v e held after (world_of state new)) now.policy.now first.policy.now now.schemes.now first.schemes.now (world_of state now) (at i)
-        r.rules.policy r.rules.schemes (r.world (clean c)) (answer c) in
+    running_more count kept answer =
+        let h : is_clean new.base → IsAnswered (site first) (at i) e held after (world_of state new) =
+        λ c. moved (λ p v. IsAnswered p v e held after (world_of state new)) (site now) (site first) (world_of state now) (at i) same_site (r.world (clean c)) (answer c) in
         record {
           clean = λ c. r.clean (clean c);
           count = least r.count count;
-          rules = record { policy = rules.policy ∙ r.rules.policy; schemes = rules.schemes ∙ r.rules.schemes };
-          ready = ready;
-          bytes = λ c. subst (Appends start after) (sym (printed_more first.policy.now first.schemes.now w es i e within is)) (Appends-trans start held after (to i) _ (r.bytes (clean c)) (h c).bytes);
-          world = λ c. (h c).world ∙ sym (world_more first.policy.now first.schemes.now w es i e within is);
+          kept = record { rules = kept.rules ∙ r.kept.rules; ready = kept.ready };
+          bytes = λ c. subst (Appends start after) (sym (printed_more (site first) w es i e within is)) (Appends-trans start held after (to i) _ (r.bytes (clean c)) (h c).bytes);
+          world = λ c. (h c).world ∙ sym (end_more (site first) w es i e within is);
         }
       where
         least : {a b c : ℕ} → a ≤ b → b ≤ c → a ≤ c
         least h k = omega arith
 
-    left : (done : Bool) → world_of state new ≡ cond done (step first.policy.now first.schemes.now (at i) e).world (at i) → world_of state new ≡ at (cond done (i + 1) (i + 1 - 1))
-    left true h = h ∙ sym (world_more first.policy.now first.schemes.now w es i e within is)
+    left : (done : Bool) → world_of state new ≡ cond done (step (site first) (at i) e).world (at i) → world_of state new ≡ at (cond done (i + 1) (i + 1 - 1))
+    left true h = h ∙ sym (end_more (site first) w es i e within is)
     left false h = h ∙ ap at same
       where
         same : i ≡ i + 1 - 1
         same = omega arith
 
-    pub running_stopped : (cause : RunCause) (done : Bool) → (is_clean new.base → IsHalted now.policy.now now.schemes.now (world_of state now) e held after (world_of state new) cause done) → is_clean new.base
-        → IsStopped first.policy.now first.schemes.now w es start after (world_of state new) (record { event = i + 1; cause = cause; done = done })
+    pub running_stopped : (cause : RunCause) (done : Bool) → (is_clean new.base → IsHalted (site now) (world_of state now) e held after (world_of state new) cause done) → is_clean new.base
+        → IsStopped (site first) w es start after (world_of state new) (record { event = i + 1; cause = cause; done = done })
     running_stopped cause done halt c =
-        let h : IsHalted first.policy.now first.schemes.now (at i) e held after (world_of state new) cause done = moved (λ p s v. IsHalted p s v e held after (world_of state new) cause done) now.policy.now first.policy.now now.schemes.now first.schemes.now (world_of state now) (at i)
-        r.rules.policy r.rules.schemes (r.world (clean c)) (halt c) in
+        let h : IsHalted (site first) (at i) e held after (world_of state new) cause done =
+        moved (λ p v. IsHalted p v e held after (world_of state new) cause done) (site now) (site first) (world_of state now) (at i) same_site (r.world (clean c)) (halt c) in
         record {
           part = h.reply.part;
           rest = h.reply.rest;
           bytes = subst (λ n. Appends start after (to n ++ h.reply.part)) same (Appends-trans start held after (to i) h.reply.part (r.bytes (clean c)) h.reply.appends);
           reply = ap (λ n. (to n ++ h.reply.part) ++ h.reply.rest) (sym same) ∙ append_assoc (to i) h.reply.part h.reply.rest ∙ ap (λ l. to i ++ l) h.reply.whole
-              ∙ sym (printed_more first.policy.now first.schemes.now w es i e within is);
+              ∙ sym (printed_more (site first) w es i e within is);
           none = h.none;
           world = left done h.world;
         }
@@ -177,5 +180,5 @@ fits_at P [] i x h l e = absurd (omega arith)
 fits_at P (y ∷ xs) zero x h l e = subst P e h.0
 fits_at P (y ∷ xs) (suc i) x h l e = fits_at P xs i x h.1 (omega arith) e
 
-pub event_fits : (p q : Tables) (s t : Schemes) (es : List Event) (i : ℕ) (e : Event) → p ≡ q → s ≡ t → AllByRecursion (EventFits q t) es → i < length es → get_or es i e ≡ e → EventFits p s e
-event_fits p q s t es i e a b h l is = subst (λ x. EventFits x s e) (sym a) (subst (λ y. EventFits q y e) (sym b) (fits_at (EventFits q t) es i e h l is))
+pub event_fits : (p q : Site) (es : List Event) (i : ℕ) (e : Event) → p ≡ q → EventsFit q es → i < length es → get_or es i e ≡ e → EventFits p.policy p.schemes e
+event_fits p q es i e same h l is = subst (λ x. EventFits x.policy x.schemes e) (sym same) (fits_at (EventFits q.policy q.schemes) es i e h l is)

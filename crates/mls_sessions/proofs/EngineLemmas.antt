@@ -1,108 +1,185 @@
 -- What each way through a step does is the machine's step, and the engine keeps what it holds.
-use Rattle.std.proofs.Common.{◌≡◌, ℕ, length, Bool, true, false, cond, Option, Some, None, refl, sym, ap, ◌∙◌, subst, eqb-true, Vec, Global, Result, Ok, Err, IfOk}
-use Rattle.std.specs.Prelude.{nat_eq}
-use Rattle.mls_lattice.specs.Labels.{Labels}
-use Rattle.mls_lattice.specs.Policy.{Tables, labels_of}
-use Rattle.mls_scheme.specs.Table.{Table, Database}
-use Rattle.mls_scheme.specs.Scheme.{Schemes, scheme_of}
+use Rattle.std.proofs.Common.{◌≡◌, ℕ, false, ◌<◌, length, Option, Some, None, Result, Ok, Err, refl, sym, ap, ◌∙◌, subst, Vec, Global, arith}
+use Rattle.std.specs.Prelude.{IfOk, IfErr, OnErr}
 use Rattle.mls_filterview.specs.declared.base.BaseFault.{BaseFault}
-use Rattle.mls_filterview.specs.Content.{State, with_table}
-use Rattle.mls_filterview.specs.Stored.{IsContent, AreContent}
-use Rattle.mls_updates.specs.declared.outcome.Outcome.{Outcome}
-use Rattle.mls_updates.specs.Writes.{Write}
-use Rattle.mls_sessions.specs.declared.event.Event.{Event}
-use Rattle.mls_sessions.specs.declared.reply.Denial.{Denial}
-use Rattle.mls_sessions.specs.declared.reply.Reply.{Reply}
-use Rattle.mls_sessions.specs.declared.reply.Reply.TheVariants.{Denied}
-use Rattle.mls_sessions.specs.declared.session.Session.{Session}
+use Rattle.mls_filterview.specs.declared.base.BaseFault.TheVariants as faults
+use Rattle.mls_filterview.specs.Calls.{IsServed}
+use Rattle.mls_filterview.specs.Content.{State, Content}
+use Rattle.mls_filterview.specs.Stored.{AreContent}
+use Rattle.mls_updates.specs.Writes.{Insert, Update, Delete}
+use Rattle.mls_script.specs.declared.event.Event.{Event}
+use Rattle.mls_script.specs.declared.event.Command.{Command}
+use Rattle.mls_script.specs.declared.event.Command.TheVariants as commands
+use Rattle.mls_script.specs.Event.{EventFits}
+use Rattle.mls_machine.specs.declared.reply.Denial.{Denial}
+use Rattle.mls_machine.specs.declared.reply.Denial.TheVariants.{AlreadyOpen}
+use Rattle.mls_machine.specs.declared.reply.Reply.{Reply}
+use Rattle.mls_machine.specs.declared.reply.Reply.TheVariants.{Closed}
+use Rattle.mls_machine.specs.Site.{Site, site_labels}
+use Rattle.mls_machine.specs.Machine.{World, Step, with_session, closed, denied, unless, viewed, wrote, listed, step_inside, step_outside, step_at, step}
+use Rattle.mls_machine.proofs.KeepingLemmas.{step_content}
 use Rattle.mls_sessions.specs.declared.engine.Engine.{Engine}
-use Rattle.mls_sessions.specs.Denying.{first_denial, denials_outside, denials_inside}
-use Rattle.mls_sessions.specs.Machine.{World, Step, effect_in, step_inside, step_outside, step_at, step}
-use Rattle.mls_sessions.specs.Engine.{world_of, sessions_of, AreForUsers, IsReady, IsStep, IsSessionStep, IsKept, FellBack}
+use Rattle.mls_sessions.specs.declared.session.Session.{Session}
+use Rattle.mls_sessions.specs.Denying.{denial_in}
+use Rattle.mls_sessions.specs.World.{sessions_of, AreForUsers, world_at, IsSound}
+use Rattle.mls_sessions.specs.Turns.{IsTurn, IsStepOver, IsSessionStep}
+use Rattle.mls_sessions.specs.Engine.{site, world_of, IsReady, IsStep, IsKept, IsEngineTurn}
 
--- ---- the machine's step, by session and command
+-- ---- the machine's step
 
-module _ (policy : Tables) (schemes : Schemes) (w : World) (e : Event) where
-  inside : (user : ℕ) (denial : Option Denial) → w.sessions e.level e.session ≡ Some user → first_denial (denials_inside policy schemes e.level user e.command) ≡ denial
-      → step policy schemes w e ≡ step_inside policy schemes w e denial
+some_is : (a b : Denial) → Some a ≡ Some b → a ≡ b
+some_is a b e = cc
+
+none_is : {A : Type 0} (d : Denial) → None ≡ Some d → A
+none_is d e = absurd cc
+
+module _ (at : Site) (w : World) (e : Event) where
+  pub outside_is : w.sessions e.level e.session ≡ None → step at w e ≡ step_outside at w e e.command
   unfolding step
-  inside user denial h k = ap (step_at policy schemes w e) h ∙ ap (step_inside policy schemes w e) k
+  outside_is h = ap (step_at at w e e.command) h
 
-  outside : w.sessions e.level e.session ≡ None → step policy schemes w e ≡ step_outside policy schemes w e (first_denial (denials_outside policy e.level e.command))
-  unfolding step
-  outside h = ap (step_at policy schemes w e) h
+  module _ (user : ℕ) (held : w.sessions e.level e.session ≡ Some user) where
+    inside_is : step at w e ≡ step_inside at w e e.command user
+    unfolding step
+    inside_is = ap (step_at at w e e.command) held
 
--- ---- content with one relation changed
+    denied_inside : (command : Command) (d : Denial) → denial_in at e.level user command ≡ Some d → step_inside at w e command user ≡ denied at w e user d
+    denied_inside (commands.Open name) d h = ap (denied at w e user) (some_is AlreadyOpen d h)
+    denied_inside commands.Close d h = none_is d h
+    denied_inside commands.Audit d h = none_is d h
+    denied_inside (commands.View rel label) d h = ap (λ o. unless at o w e user (viewed at w rel label)) h
+    denied_inside (commands.Insert rel key values) d h = ap (λ o. unless at o w e user (wrote at w e.level rel (Insert key values))) h
+    denied_inside (commands.Update rel key key_class from sets) d h = ap (λ o. unless at o w e user (wrote at w e.level rel (Update key key_class from sets))) h
+    denied_inside (commands.Delete rel key key_class) d h = ap (λ o. unless at o w e user (wrote at w e.level rel (Delete key key_class))) h
 
-module _ (ls : Labels) (schemes : Schemes) (db new : Database) (rel : ℕ) (T : Table) (same : new ≡ with_table db rel T) where
-  pub changed_content : AreContent ls schemes db → IsContent ls (scheme_of schemes rel) (new rel) → AreContent ls schemes new
-  changed_content all one r = by_test (nat_eq r rel) refl
-    where
-      by_test : (b : Bool) → nat_eq r rel ≡ b → IsContent ls (scheme_of schemes r) (new r)
-      by_test true e = subst (λ x. IsContent ls (scheme_of schemes x) (new x)) (sym (eqb-true r rel e)) one
-      by_test false e = subst (IsContent ls (scheme_of schemes r)) (sym (ap (λ d. d r) same ∙ ap (λ b. cond b T (db r)) e)) (all r)
+    pub denied_is : (d : Denial) → denial_in at e.level user e.command ≡ Some d → step at w e ≡ denied at w e user d
+    denied_is d h = inside_is ∙ denied_inside e.command d h
+
+    pub viewed_is : (rel label : ℕ) → e.command ≡ commands.View rel label → denial_in at e.level user e.command ≡ None → step at w e ≡ viewed at w rel label
+    viewed_is rel label is h =
+        inside_is ∙ ap (λ x. step_inside at w e x user) is
+        ∙ ap (λ o. unless at o w e user (viewed at w rel label)) (sym (ap (denial_in at e.level user) is) ∙ h)
+
+    pub listed_is : e.command ≡ commands.Audit → step at w e ≡ listed at w e.level
+    listed_is is = inside_is ∙ ap (λ x. step_inside at w e x user) is
+
+    pub closed_is : e.command ≡ commands.Close → step at w e ≡ closed w e
+    closed_is is = inside_is ∙ ap (λ x. step_inside at w e x user) is
+
+    pub wrote_is : step at w e ≡ step_inside at w e e.command user
+    wrote_is = inside_is
+
+pub none_from : (o : Option Denial) → ((d : Denial) → o ≡ Some d → ⊥) → o ≡ None
+none_from None h = refl
+none_from (Some d) h = absurd (h d refl)
 
 -- ---- engines
 
-module _ {B : Type 0} (state : B → State) (is_clean : B → Type 0) (e : Engine B) (ready : IsReady state is_clean e) where
-  -- after a call that left the content
-  pub ready_fallen : (b : B) → (is_clean b → is_clean e.base) → (is_clean b → FellBack (state e.base) (state b)) → IsReady state is_clean (record e { base = b })
-  ready_fallen b clean h = record {
-    under = ready.under;
-    distinct = ready.distinct;
-    users = ready.users;
-    idle = λ c. (h c).idle;
-    content = λ c. subst (λ x. AreContent (labels_of e.policy.now) e.schemes.now x.db) (sym (h c).now) (ready.content (clean c));
-  }
+not_served : {A : Type 0} (e : BaseFault) → e ≡ faults.Memory → e ≡ faults.Store → A
+not_served e h k = absurd (let both : faults.Memory ≡ faults.Store = sym h ∙ k in cc)
 
-  -- after a session was opened or closed
-  pub ready_sessions : (sessions : Vec Session Global) → AreForUsers (length e.policy.now.users) sessions.items → IsReady state is_clean (record e { sessions = sessions })
-  ready_sessions sessions users = record { under = ready.under; distinct = ready.distinct; users = users; idle = ready.idle; content = ready.content }
+memory_served : (e : BaseFault) → e ≡ faults.Memory → IsServed e
+memory_served e h = (λ k. (let both : faults.Memory ≡ faults.NotBegun = sym h ∙ k in cc), λ k. (let both : faults.Memory ≡ faults.Begun = sym h ∙ k in cc))
 
-  -- after a view
-  pub ready_same : (b : B) → (is_clean b → is_clean e.base) → (is_clean b → state b ≡ state e.base) → IsReady state is_clean (record e { base = b })
-  ready_same b clean h = ready_fallen b clean (λ c. record { now = ap (λ s. s.now) (h c); idle = ap (λ s. s.begun) (h c) ∙ ready.idle (clean c) })
-
-  module _ (b : B) (clean : is_clean b → is_clean e.base) (rel w : ℕ) (wr : Write) (o : Outcome)
-      (kept : is_clean b → IsKept (labels_of e.policy.now) (scheme_of e.schemes.now rel) rel w wr (state e.base) (state b) o) where
-    -- after a write
-    pub ready_kept : (is_clean b → IsContent (labels_of e.policy.now) (scheme_of e.schemes.now rel) ((state b).now.db rel)) → IsReady state is_clean (record e { base = b })
-    ready_kept content = record {
-      under = ready.under;
-      distinct = ready.distinct;
-      users = ready.users;
-      idle = λ c. (kept c).idle;
-      content = λ c. changed_content (labels_of e.policy.now) e.schemes.now (state e.base).now.db (state b).now.db rel _ (ap (λ x. x.db) (kept c).now) (ready.content (clean c)) (content c);
-    }
-
--- ---- steps
-
-module _ {B : Type 0} (state : B → State) (e : Engine B) (event : Event) where
+module _ {B : Type 0} (state : B → State) (is_clean : B → Type 0) (failures : B → ℕ) (old : Engine B) (ready : IsReady state is_clean old)
+    (event : Event) (fits : EventFits (site old).policy (site old).schemes event) where
   abbrev w : World
-  w = world_of state e
+  w = world_of state old
 
   abbrev s : Step
-  s = step e.policy.now e.schemes.now w event
+  s = step (site old) w event
 
-  abbrev held : Option ℕ
-  held = sessions_of e.sessions.items event.level event.session
+  abbrev now : B → Content
+  now b = (state b).now
 
-  abbrev denial : ℕ → Option Denial
-  denial user = first_denial (denials_inside e.policy.now e.schemes.now event.level user event.command)
+  -- what an event leaves and answers
+  pub record Answers (new : Engine B) (r : Result Reply BaseFault) : Type 0 where
+    pub turn : IsEngineTurn state is_clean failures old new r
+    pub kept : IsKept state is_clean old new
+    pub done : is_clean new.base → IfOk r (IsStep state old s new)
 
-  is_step : (t : Step) (new : Engine B) (r : Reply) → s ≡ t → r ≡ t.reply → world_of state new ≡ t.world → (state new.base).now.audit ≡ (state e.base).now.audit → IsStep state e s new r
-  is_step t new r h reply world audit = record { reply = reply ∙ sym (ap (λ x. x.reply) h); world = world ∙ sym (ap (λ x. x.world) h); audit = audit }
+  -- ---- over a base that a call left
 
-  pub denied : (user : ℕ) (d : Denial) → held ≡ Some user → denial user ≡ Some d → IsStep state e s e (Denied d)
-  denied user d h k = is_step _ e _ (inside e.policy.now e.schemes.now w event user (Some d) h k) refl refl refl
+  module _ (b : B) (X : World → Step) (is : s ≡ X w) where
+    abbrev new : Engine B
+    new = record old { base = b }
 
-  pub effect_answered : (user : ℕ) (new : Engine B) (r : Result Reply BaseFault) → held ≡ Some user → denial user ≡ None
-      → IfOk r (IsStep state e (effect_in e.policy.now e.schemes.now w event event.command) new) → IfOk r (IsStep state e s new)
-  effect_answered user new r h k answer = subst (λ t. IfOk r (IsStep state e t new)) (sym (inside e.policy.now e.schemes.now w event user None h k)) answer
+    abbrev Over : Result Reply BaseFault → Type 0
+    Over r = IfOk r (IsStepOver (site old) X (now old.base) (now b))
 
-  pub open_answered : (sessions : Vec Session Global) (r : Result Reply BaseFault) → held ≡ None
-      → IfOk r (IsSessionStep (λ v. step_outside e.policy.now e.schemes.now v event (first_denial (denials_outside e.policy.now event.level event.command))) e.sessions.items sessions.items)
-      → IfOk r (IsStep state e s (record e { sessions = sessions }))
-  open_answered sessions (Err fault) h answer = tt
-  open_answered sessions (Ok r) h answer =
-      is_step _ (record e { sessions = sessions }) r (outside e.policy.now e.schemes.now w event h) (answer.reply (state e.base).now.db) (answer.world (state e.base).now.db) refl
+    over_turn : (r : Result Reply BaseFault) → IsTurn is_clean failures now old.base b r → IsEngineTurn state is_clean failures old new r
+    over_turn (Ok r) t = record { clean = t.clean; count = t.count; fault = tt }
+    over_turn (Err e) t = record {
+      clean = t.clean;
+      count = t.count;
+      fault = record { served = t.fault.served; store = t.fault.store; same = λ c. ap (world_at (site old) (sessions_of old.sessions.items)) (t.fault.same c) };
+    }
+
+    over_world : (r : Reply) → IsStepOver (site old) X (now old.base) (now b) r → world_of state new ≡ s.world
+    over_world r h = h.world (sessions_of old.sessions.items) ∙ ap (λ (t : Step). t.world) (sym is)
+
+    over_done : (r : Result Reply BaseFault) → Over r → IfOk r (IsStep state old s new)
+    over_done (Ok r) h = record { reply = h.reply (sessions_of old.sessions.items) ∙ ap (λ (t : Step). t.reply) (sym is); world = over_world r h }
+    over_done (Err e) h = tt
+
+    over_sound : (r : Result Reply BaseFault) → IsTurn is_clean failures now old.base b r → is_clean b → Over r → IsSound (site old) (now b)
+    over_sound (Ok r) t c h = record {
+      content = subst (AreContent (site_labels (site old)) (site old).schemes) (sym (ap (λ (x : World). x.db) (over_world r h)))
+          (step_content (site old) ready.distinct w event (ready.sound (t.clean c)).content fits);
+      entries = h.entries (ready.sound (t.clean c)).entries;
+    }
+    over_sound (Err e) t c h = subst (IsSound (site old)) (sym (t.fault.same c)) (ready.sound (t.clean c))
+
+    pub answers_over : (r : Result Reply BaseFault) → IsTurn is_clean failures now old.base b r → (state b).begun ≡ false → (is_clean b → Over r) → Answers new r
+    answers_over r t idle h = record {
+      turn = over_turn r t;
+      kept = record {
+        rules = refl;
+        ready = record { under = ready.under; distinct = ready.distinct; users = ready.users; idle = idle; sound = λ c. over_sound r t c (h c) };
+      };
+      done = λ c. over_done r (h c);
+    }
+
+  -- ---- with other sessions
+
+  module _ (sessions : Vec Session Global) (users : AreForUsers (length (site old).policy.users) sessions.items) where
+    abbrev with_them : Engine B
+    with_them = record old { sessions = sessions }
+
+    them_kept : IsKept state is_clean old with_them
+    them_kept = record { rules = refl; ready = record { under = ready.under; distinct = ready.distinct; users = users; idle = ready.idle; sound = ready.sound } }
+
+    pub answers_closed : sessions_of sessions.items ≡ with_session (sessions_of old.sessions.items) event.level event.session None → s ≡ closed w event → Answers with_them (Ok Closed)
+    answers_closed h is = record {
+      turn = record { clean = λ c. c; count = omega arith; fault = tt };
+      kept = them_kept;
+      done = λ c. record {
+        reply = ap (λ (t : Step). t.reply) (sym is);
+        world = ap (λ ss. record { db = w.db; sessions = ss; audit = w.audit }) h ∙ ap (λ (t : Step). t.world) (sym is);
+      };
+    }
+
+    abbrev Opens : Result Reply BaseFault → Type 0
+    Opens r = IfOk r (IsSessionStep (λ v. step_outside (site old) v event event.command) old.sessions.items sessions.items)
+
+    opened_turn : (r : Result Reply BaseFault) → IfErr r (λ e. e ≡ faults.Memory) → OnErr r (sessions.items ≡ old.sessions.items) → IsEngineTurn state is_clean failures old with_them r
+    opened_turn (Ok r) memory same = record { clean = λ c. c; count = omega arith; fault = tt }
+    opened_turn (Err e) memory same = record {
+      clean = λ c. c;
+      count = omega arith;
+      fault = record {
+        served = memory_served e memory;
+        store = λ k. not_served e memory k;
+        same = λ c. ap (λ (ss : _). world_at (site old) (sessions_of ss) (now old.base)) same;
+      };
+    }
+
+    opened_done : (r : Result Reply BaseFault) → s ≡ step_outside (site old) w event event.command → Opens r → IfOk r (IsStep state old s with_them)
+    opened_done (Ok r) is h = record {
+      reply = h.reply w.db w.audit ∙ ap (λ (t : Step). t.reply) (sym is);
+      world = h.world w.db w.audit ∙ ap (λ (t : Step). t.world) (sym is);
+    }
+    opened_done (Err e) is h = tt
+
+    pub answers_opened : (r : Result Reply BaseFault) → s ≡ step_outside (site old) w event event.command → Opens r → IfErr r (λ e. e ≡ faults.Memory) → OnErr r (sessions.items ≡ old.sessions.items) → Answers with_them r
+    answers_opened r is h memory same = record { turn = opened_turn r memory same; kept = them_kept; done = λ c. opened_done r is h }

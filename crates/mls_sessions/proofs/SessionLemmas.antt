@@ -1,25 +1,26 @@
 -- Sessions: a list with one more or without one, and what an event of no open session is answered.
-use Rattle.std.proofs.Common.{◌≡◌, ℕ, ◌<◌, Bool, true, false, not, cond, List, [], ◌∷◌, ◌++◌, Option, Some, None, refl, sym, ap, ◌∙◌, subst, true≢false, eqb-true}
-use Rattle.std.specs.Prelude.{is_some, nat_eq, ◌&&◌}
+use Rattle.std.proofs.Common.{◌≡◌, ℕ, ◌<◌, Bool, true, false, not, cond, List, [], ◌∷◌, ◌++◌, Option, Some, None, Result, Ok, Err, refl, sym, ap, ◌∙◌, subst, true≢false, eqb-true}
+use Rattle.std.specs.Prelude.{is_some, nat_eq, ◌&&◌, ◌||◌}
 use Rattle.std.specs.List.{filter}
 use Rattle.std.specs.Str.{bytes_eq}
-use Rattle.std.specs.Option.{unwrap_or}
 use Rattle.std.proofs.lemmas.Bool.{and_parts}
 use Rattle.std.proofs.lemmas.Slice.Eq.{bytes_eq-Decides}
 use Rattle.mls_lattice.specs.Labels.{below}
-use Rattle.mls_lattice.specs.Policy.{Name, Tables, labels_of}
-use Rattle.mls_scheme.specs.Scheme.{Schemes}
-use Rattle.mls_sessions.specs.declared.event.Event.{Event}
-use Rattle.mls_sessions.specs.declared.event.Command.TheVariants as commands
-use Rattle.mls_sessions.specs.declared.reply.Denial.{Denial}
-use Rattle.mls_sessions.specs.declared.reply.Denial.TheVariants.{NoSession, UnknownUser, Ss}
-use Rattle.mls_sessions.specs.declared.reply.Reply.{Reply}
-use Rattle.mls_sessions.specs.declared.reply.Reply.TheVariants.{Opened, Denied}
+use Rattle.mls_lattice.specs.Policy.{Name}
+use Rattle.mls_scheme.specs.Table.{Database}
+use Rattle.mls_audit.specs.declared.entry.Entry.{Entry}
+use Rattle.mls_script.specs.declared.event.Event.{Event}
+use Rattle.mls_script.specs.declared.event.Command.{Command}
+use Rattle.mls_script.specs.declared.event.Command.TheVariants as commands
+use Rattle.mls_machine.specs.declared.reply.Denial.{Denial}
+use Rattle.mls_machine.specs.declared.reply.Denial.TheVariants.{NoSession, UnknownUser, Ss}
+use Rattle.mls_machine.specs.declared.reply.Reply.TheVariants.{Opened, Denied}
+use Rattle.mls_machine.specs.Site.{Site, site_labels}
+use Rattle.mls_machine.specs.Denying.{exceed, user_named, clearance_of, cleared}
+use Rattle.mls_machine.specs.Machine.{World, Step, with_session, turned_away, opened, open_step, step_outside}
 use Rattle.mls_sessions.specs.declared.session.Session.{Session}
-use Rattle.mls_sessions.specs.Denying.{first_denial, user_named, clearance_of, opener, denials_outside}
-use Rattle.mls_sessions.specs.Machine.{with_session, step_outside}
-use Rattle.mls_sessions.specs.Engine.{is_named, sessions_of, AreForUsers, IsSessionStep}
-use Rattle.mls_sessions.proofs.DenyingLemmas.{not_opening, unknown_user, not_cleared, no_denial}
+use Rattle.mls_sessions.specs.World.{is_named, sessions_of, AreForUsers}
+use Rattle.mls_sessions.specs.Turns.{IsSessionStep}
 
 -- ---- one more session
 
@@ -129,37 +130,56 @@ more_users count (r ∷ ss) s all one = (all.0, more_users count ss s all.1 one)
 
 -- ---- what an event of no open session is answered
 
-module _ (policy : Tables) (schemes : Schemes) (event : Event) (old : List Session) where
-  abbrev answered : Option Denial → List Session → Reply → Type 0
-  answered denial = IsSessionStep (λ w. step_outside policy schemes w event denial) old
+module _ (site : Site) (event : Event) where
+  abbrev outside : Command → World → Step
+  outside command w = step_outside site w event command
 
-  abbrev denial : Option Denial
-  denial = first_denial (denials_outside policy event.level event.command)
+  not_opening : (w : World) (command : Command) → ((name : Name) → command ≡ commands.Open name → ⊥) → outside command w ≡ turned_away w NoSession
+  not_opening w (commands.Open name) other = absurd (other name refl)
+  not_opening w commands.Close other = refl
+  not_opening w commands.Audit other = refl
+  not_opening w (commands.View rel label) other = refl
+  not_opening w (commands.Insert rel key values) other = refl
+  not_opening w (commands.Update rel key key_class from sets) other = refl
+  not_opening w (commands.Delete rel key key_class) other = refl
 
-  answer_denied : (d : Denial) → denial ≡ Some d → answered denial old (Denied d)
-  answer_denied d e = subst (λ x. answered x old (Denied d)) (sym e) (record { reply = λ db. refl; world = λ db. refl })
+  module _ (old : List Session) where
+    abbrev held : Database → List Entry → World
+    held db audit = record { db = db; sessions = sessions_of old; audit = audit }
 
-  pub answer_other : ((name : Name) → event.command ≡ commands.Open name → ⊥) → answered denial old (Denied NoSession)
-  answer_other other = answer_denied NoSession (not_opening policy event.level event.command other)
+    answer_denied : (d : Denial) → ((w : World) → outside event.command w ≡ turned_away w d) → IsSessionStep (outside event.command) old old (Denied d)
+    answer_denied d h = record {
+      reply = λ db audit. sym (ap (λ (s : Step). s.reply) (h (held db audit)));
+      world = λ db audit. sym (ap (λ (s : Step). s.world) (h (held db audit)));
+    }
 
-  module _ (name : Name) (opens : event.command ≡ commands.Open name) where
-    as_opening : (d : Option Denial) → first_denial (denials_outside policy event.level (commands.Open name)) ≡ d → denial ≡ d
-    as_opening d e = ap (λ x. first_denial (denials_outside policy event.level x)) opens ∙ e
+    pub answer_other : ((name : Name) → event.command ≡ commands.Open name → ⊥) → IsSessionStep (outside event.command) old old (Denied NoSession)
+    answer_other other = answer_denied NoSession (λ w. not_opening w event.command other)
 
-    pub answer_unknown : user_named policy name ≡ None → answered denial old (Denied UnknownUser)
-    answer_unknown h = answer_denied UnknownUser (as_opening (Some UnknownUser) (unknown_user policy event.level name h))
+    module _ (name : Name) (opens : event.command ≡ commands.Open name) where
+      opening : (r : Result ℕ Denial) → cleared site event.level (user_named site.policy name) ≡ r → (w : World) → outside event.command w ≡ open_step site w event r
+      opening r h w = ap (λ x. outside x w) opens ∙ ap (open_step site w event) h
 
-    module _ (user clearance : ℕ) (h : user_named policy name ≡ Some user) (same : clearance ≡ clearance_of policy user) where
-      pub answer_exceeding : below (labels_of policy) event.level clearance ≡ false → answered denial old (Denied Ss)
-      answer_exceeding k = answer_denied Ss (as_opening (Some Ss) (not_cleared policy event.level name user h (ap (below (labels_of policy) event.level) (sym same) ∙ k)))
+      pub answer_unknown : user_named site.policy name ≡ None → IsSessionStep (outside event.command) old old (Denied UnknownUser)
+      answer_unknown h = answer_denied UnknownUser (opening (Err UnknownUser) (ap (cleared site event.level) h))
 
-      pub answer_opened : (new : List Session) → below (labels_of policy) event.level clearance ≡ true → sessions_of old event.level event.session ≡ None
-          → new ≡ old ++ record { level = event.level; name = event.session; user = user } ∷ [] → answered denial new (Opened user)
-      answer_opened new k absent g =
-          let s : Session = record { level = event.level; name = event.session; user = user } in
-          let now : sessions_of new ≡ with_session (sessions_of old) event.level event.session (Some user) = ap sessions_of g ∙ (λ i level n. last old s absent level n i) in
-          let named : unwrap_or (opener policy event.command) 0 ≡ user = ap (λ x. unwrap_or (opener policy x) 0) opens ∙ ap (λ o. unwrap_or o 0) h in
-          subst (λ x. answered x new (Opened user)) (sym (as_opening None (no_denial policy event.level name user h (ap (below (labels_of policy) event.level) (sym same) ∙ k)))) (record {
-            reply = λ db. ap (λ n. Opened n) (sym named);
-            world = λ db. ap (λ x. record { db = db; sessions = x }) now ∙ ap (λ n. record { db = db; sessions = with_session (sessions_of old) event.level event.session (Some n) }) (sym named);
-          })
+      module _ (user clearance : ℕ) (h : user_named site.policy name ≡ Some user) (same : clearance ≡ clearance_of site.policy user) where
+        found : (b : Bool) → below (site_labels site) event.level clearance ≡ b → cleared site event.level (user_named site.policy name) ≡ cond (not b || false) (Err Ss) (Ok user)
+        found b k =
+            ap (cleared site event.level) h
+            ∙ ap (λ c. cond (not (below (site_labels site) event.level c) || false) (Err Ss) (Ok user)) (sym same)
+            ∙ ap (λ x. cond (not x || false) (Err Ss) (Ok user)) k
+
+        pub answer_exceeding : below (site_labels site) event.level clearance ≡ false → IsSessionStep (outside event.command) old old (Denied Ss)
+        answer_exceeding k = answer_denied Ss (opening (Err Ss) (found false k))
+
+        pub answer_opened : (new : List Session) → below (site_labels site) event.level clearance ≡ true → sessions_of old event.level event.session ≡ None
+            → new ≡ old ++ record { level = event.level; name = event.session; user = user } ∷ [] → IsSessionStep (outside event.command) old new (Opened user)
+        answer_opened new k absent g =
+            let s : Session = record { level = event.level; name = event.session; user = user } in
+            let now : sessions_of new ≡ with_session (sessions_of old) event.level event.session (Some user) = ap sessions_of g ∙ (λ i level n. last old s absent level n i) in
+            let opens_it : (w : World) → outside event.command w ≡ opened w event user = opening (Ok user) (found true k) in
+            record {
+              reply = λ db audit. sym (ap (λ (t : Step). t.reply) (opens_it (held db audit)));
+              world = λ db audit. ap (λ x. record { db = db; sessions = x; audit = audit }) now ∙ sym (ap (λ (t : Step). t.world) (opens_it (held db audit)));
+            }

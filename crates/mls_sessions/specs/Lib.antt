@@ -1,13 +1,7 @@
-pub mod Fault
-pub mod Tokens
-pub mod Scanning
-pub mod Event
-pub mod Phrase
-pub mod Script
-pub mod Reply
-pub mod Output
 pub mod Denying
-pub mod Machine
-pub mod Laws
+pub mod World
+pub mod Turns
 pub mod Engine
+pub mod Cause
+pub mod Known
 pub mod Run

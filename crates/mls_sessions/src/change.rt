@@ -1,78 +1,161 @@
-//! Writes of sessions, each one change of the base.
-ghost use Rattle.std.specs.Prelude.{◌≡◌, ◌<◌, ◌≤◌, false, length, IfOk, IfErr, IsErrOf, OnOk, OnErr};
+//! Events that change the base: denials, which are entered, and writes. Each is one change.
+ghost use Rattle.std.specs.Prelude.{◌≡◌, ◌<◌, true, false, length, IfOk, IfErr, OnOk};
 ghost use Rattle.mls_lattice.specs.Policy.{labels_of};
-ghost use Rattle.mls_scheme.specs.Scheme.{scheme_of, AreUnder};
-ghost use Rattle.mls_filterview.specs.Stored.{IsContent};
-ghost use Rattle.mls_sessions.specs.Engine.{write_of, WriteIsKnown, IsKept, FellBack};
+ghost use Rattle.mls_scheme.specs.Scheme.{AreUnder};
+ghost use Rattle.mls_filterview.specs.Calls.{IsCall, IsServed};
+ghost use Rattle.mls_audit.specs.Spelling.{HasSpelling, entry_spelling};
+ghost use Rattle.mls_script.specs.Event.{EventFits};
+ghost use Rattle.mls_machine.specs.Machine.{denial_entry};
+ghost use Rattle.mls_sessions.specs.World.{site_of, IsSound};
+ghost use Rattle.mls_sessions.specs.Turns.{IsTurn, IsDeedOf, IsDoneOf, HasKnownNumbers};
 
-use mls_filterview::{Base, BaseFault};
-use mls_lattice::{Items, LabelNo, Policy};
-use mls_scheme::{RelNo, Schemes, Value};
-use mls_updates::{Outcome, delete, insert, update};
-use std::alloc::Global;
+use crate::naming::user_name;
+use crate::rules::Rules;
+use mls_audit::{Entry, entry_bytes};
+use mls_filterview::{Base, BaseFault, made};
+use mls_lattice::{Str, UserNo};
+use mls_machine::{Denial, Reply};
+use mls_script::{Command, Event};
+use mls_updates::{delete, insert, update};
+use std::alloc::AllocError;
 
-/// What a command writes, lent by the command.
-#[derive(Drop)]
-pub(crate) enum LentWrite<'a> {
-    Insert {
-        key: &'a Items<Option<Value>>,
-        values: &'a Items<Option<Value>>,
-    },
-    Update {
-        key: &'a Items<Option<Value>>,
-        key_class: LabelNo,
-        from: LabelNo,
-        sets: &'a Items<(usize, Option<Value>)>,
-    },
-    Delete {
-        key: &'a Items<Option<Value>>,
-        key_class: LabelNo,
-    },
+/// What an event of an open session changes.
+#[derive(Clone, Copy)]
+pub(crate) enum Deed {
+    /// It is denied, in the session of this user.
+    Deny { user: UserNo, denial: Denial },
+    /// It writes.
+    Write,
 }
 
-/// A write at a label, begun and committed.
-#[tactic(auto, using(crate::proofs::ChangeLemmas::change_steps))]
-pub(crate) fn write_kept<B: Base>(
-    alloc: Global,
-    base: &mut B,
-    policy: &Policy,
-    schemes: &Schemes,
-    rel: RelNo,
-    w: LabelNo,
-    write: &LentWrite,
-) -> Result<Outcome, BaseFault>
-    requires label { w < length policy.now.labels }
-    requires relation { rel < length schemes.now }
-    requires under { AreUnder (length policy.now.labels) schemes.now }
-    requires known { WriteIsKnown policy.now (scheme_of schemes.now rel) (write_of write.now) }
-    requires stored { B.is_clean base.old → IsContent (labels_of policy.now) (scheme_of schemes.now rel) ((B.state base.old).now.db rel) }
-    requires idle { B.is_clean base.old → (B.state base.old).begun ≡ false }
-    ensures clean { B.is_clean base.new → B.is_clean base.old }
-    ensures count { B.failures base.old ≤ B.failures base.new }
-    ensures store { IsErrOf result BaseFault.Store → B.failures base.old < B.failures base.new }
-    ensures never { B.is_clean base.new → IfErr result (λ e. (e ≡ BaseFault.NotBegun → ⊥) × (e ≡ BaseFault.Begun → ⊥)) }
-    ensures done { B.is_clean base.new
-        → IfOk result (IsKept (labels_of policy.now) (scheme_of schemes.now rel) rel w (write_of write.now) (B.state base.old) (B.state base.new)) }
-    ensures content { B.is_clean base.new → OnOk result (IsContent (labels_of policy.now) (scheme_of schemes.now rel) ((B.state base.new).now.db rel)) }
-    ensures failed { B.is_clean base.new → OnErr result (FellBack (B.state base.old) (B.state base.new)) }
+/// The bytes of the entry of a denial.
+fn denial_bytes(
+    rules: &Rules,
+    event: &Event,
+    user: UserNo,
+    denial: Denial,
+) -> Result<Vec<u8>, AllocError>
+    requires user { user < length rules.now.policy.now.users }
+    requires fits { EventFits rules.now.policy.now rules.now.schemes.now event.now }
+    ensures bytes { IfOk result (λ v. v.items ≡ entry_spelling (denial_entry (site_of rules.now) event.now user denial)) }
+    ensures spelled { OnOk result (HasSpelling (denial_entry (site_of rules.now) event.now user denial)) }
 {
-    base.begin()?;
-    let outcome = match write {
-        LentWrite::Insert { key, values } => {
-            insert(alloc, base, policy, schemes, rel, w, key, values)?
+    let user = Str::copy_of(rules.alloc, user_name(rules.policy, user))?;
+    let session = Str::copy_of(rules.alloc, &event.session)?;
+    let entry = Entry::Denied {
+        label: event.level,
+        user,
+        session,
+        code: denial.code(),
+    };
+    entry_bytes(rules.alloc, &entry)
+}
+
+/// Enters a denial in the audit list, inside a change.
+fn enter<B: Base>(
+    rules: &Rules,
+    base: &mut B,
+    event: &Event,
+    user: UserNo,
+    denial: Denial,
+) -> Result<Reply, BaseFault>
+    requires begun { (B.state base.old).begun ≡ true }
+    requires fits { EventFits rules.now.policy.now rules.now.schemes.now event.now }
+    requires user { user < length rules.now.policy.now.users }
+    ensures call { IsCall B.is_clean B.failures B.state base.old base.new result }
+    ensures served { IfErr result IsServed }
+    ensures mode { OnOk result ((B.state base.new).begun ≡ true) }
+    ensures kept { B.is_clean base.new → OnOk result ((B.state base.new).kept ≡ (B.state base.old).kept) }
+    ensures done { B.is_clean base.new → IfOk result (IsDoneOf (site_of rules.now) event.now (Deed.Deny user denial) (B.state base.old).now (B.state base.new).now) }
+    ensures known { IfOk result (HasKnownNumbers rules.now.policy.now) }
+{
+    let bytes = made(base, denial_bytes(rules, event, user, denial))?;
+    base.audit_add(&bytes)?;
+    Ok(Reply::Denied(denial))
+}
+
+/// Makes the write of an event at its level, inside a change.
+fn write<B: Base>(rules: &Rules, base: &mut B, event: &Event) -> Result<Reply, BaseFault>
+    requires begun { (B.state base.old).begun ≡ true }
+    requires under { AreUnder (length rules.now.policy.now.labels) rules.now.schemes.now }
+    requires sound { B.is_clean base.old → IsSound (site_of rules.now) (B.state base.old).now }
+    requires fits { EventFits rules.now.policy.now rules.now.schemes.now event.now }
+    requires writes { IsDeedOf (site_of rules.now) event.now Deed.Write }
+    ensures call { IsCall B.is_clean B.failures B.state base.old base.new result }
+    ensures served { IfErr result IsServed }
+    ensures mode { OnOk result ((B.state base.new).begun ≡ true) }
+    ensures kept { B.is_clean base.new → OnOk result ((B.state base.new).kept ≡ (B.state base.old).kept) }
+    ensures done { B.is_clean base.new → IfOk result (IsDoneOf (site_of rules.now) event.now Deed.Write (B.state base.old).now (B.state base.new).now) }
+    ensures known { IfOk result (HasKnownNumbers rules.now.policy.now) }
+{
+    let Rules {
+        alloc,
+        policy,
+        schemes,
+    } = *rules;
+    let level = event.level;
+    let outcome = match &event.command {
+        Command::Insert { rel, key, values } => {
+            insert(alloc, base, policy, schemes, *rel, level, key, values)?
         }
-        LentWrite::Update {
+        Command::Update {
+            rel,
             key,
             key_class,
             from,
             sets,
         } => update(
-            alloc, base, policy, schemes, rel, w, key, *key_class, *from, sets,
+            alloc, base, policy, schemes, *rel, level, key, *key_class, *from, sets,
         )?,
-        LentWrite::Delete { key, key_class } => {
-            delete(alloc, base, policy, schemes, rel, w, key, *key_class)?
-        }
+        Command::Delete {
+            rel,
+            key,
+            key_class,
+        } => delete(alloc, base, policy, schemes, *rel, level, key, *key_class)?,
+        _ => unreachable!(),
     };
+    Ok(Reply::Wrote(outcome))
+}
+
+/// Does what an event changes, inside a change.
+fn act<B: Base>(rules: &Rules, base: &mut B, event: &Event, deed: Deed) -> Result<Reply, BaseFault>
+    requires begun { (B.state base.old).begun ≡ true }
+    requires under { AreUnder (length rules.now.policy.now.labels) rules.now.schemes.now }
+    requires sound { B.is_clean base.old → IsSound (site_of rules.now) (B.state base.old).now }
+    requires fits { EventFits rules.now.policy.now rules.now.schemes.now event.now }
+    requires deed { IsDeedOf (site_of rules.now) event.now deed }
+    ensures call { IsCall B.is_clean B.failures B.state base.old base.new result }
+    ensures served { IfErr result IsServed }
+    ensures mode { OnOk result ((B.state base.new).begun ≡ true) }
+    ensures kept { B.is_clean base.new → OnOk result ((B.state base.new).kept ≡ (B.state base.old).kept) }
+    ensures done { B.is_clean base.new → IfOk result (IsDoneOf (site_of rules.now) event.now deed (B.state base.old).now (B.state base.new).now) }
+    ensures known { IfOk result (HasKnownNumbers rules.now.policy.now) }
+{
+    match deed {
+        Deed::Deny { user, denial } => enter(rules, base, event, user, denial),
+        Deed::Write => write(rules, base, event),
+    }
+}
+
+/// Does what an event changes, as one change of the base.
+pub(crate) fn change<B: Base>(
+    rules: &Rules,
+    base: &mut B,
+    event: &Event,
+    deed: Deed,
+) -> Result<Reply, BaseFault>
+    requires idle { (B.state base.old).begun ≡ false }
+    requires under { AreUnder (length rules.now.policy.now.labels) rules.now.schemes.now }
+    requires sound { B.is_clean base.old → IsSound (site_of rules.now) (B.state base.old).now }
+    requires fits { EventFits rules.now.policy.now rules.now.schemes.now event.now }
+    requires deed { IsDeedOf (site_of rules.now) event.now deed }
+    ensures turn { IsTurn B.is_clean B.failures (λ b. (B.state b).now) base.old base.new result }
+    ensures idle { (B.state base.new).begun ≡ false }
+    ensures done { B.is_clean base.new → IfOk result (IsDoneOf (site_of rules.now) event.now deed (B.state base.old).now (B.state base.new).now) }
+    ensures known { IfOk result (HasKnownNumbers rules.now.policy.now) }
+{
+    base.begin()?;
+    let reply = act(rules, base, event, deed)?;
     base.commit()?;
-    Ok(outcome)
+    Ok(reply)
 }

@@ -1,70 +1,59 @@
 //! Commands that are denied in open sessions, after Bell and LaPadula (1976).
-ghost use Rattle.std.specs.Prelude.{◌≡◌, ◌<◌, length, ◌∷◌, []};
+ghost use Rattle.std.specs.Prelude.{◌≡◌, ◌==◌, ◌<◌, bit_and, length, map};
+ghost use Rattle.std.specs.List.{AllByRecursion, list_any};
 ghost use Rattle.mls_lattice.specs.Policy.{modes_in};
-ghost use Rattle.mls_sessions.specs.Event.{relation_name, CommandFits};
-ghost use Rattle.mls_sessions.specs.Denying.{first_denial, opens, clearance_of, labels_named, exceed, lacks_mode, denials_inside};
+ghost use Rattle.mls_script.specs.Event.{CommandFits};
+ghost use Rattle.mls_machine.specs.Site.{site_scheme};
+ghost use Rattle.mls_machine.specs.Denying.{first_denial, clearance_of, exceed, lacks, access_denials};
+ghost use Rattle.mls_sessions.specs.Denying.{denial_in};
+ghost use Rattle.mls_sessions.specs.World.{site_of};
 
-use crate::event::Command;
-use crate::reply::Denial;
+use crate::rules::Rules;
 use bitflags::Flags;
 use mls_lattice::{LabelNo, Modes, Policy, UserNo};
-use mls_scheme::{RelNo, Schemes};
-
-fn opens(command: &Command) -> bool
-    ensures { result ≡ opens command.now }
-{
-    match command {
-        Command::Open(_) => true,
-        _ => false,
-    }
-}
+use mls_machine::Denial;
+use mls_scheme::RelNo;
+use mls_script::Command;
 
 /// What a user may do with a relation.
-fn modes_on(policy: &Policy, schemes: &Schemes, user: UserNo, rel: RelNo) -> Modes
-    requires { rel < length schemes.now }
-    ensures { result.0 ≡ modes_in policy.now.matrix user (relation_name schemes.now rel) }
+fn modes_on(rules: &Rules, user: UserNo, rel: RelNo) -> Modes
+    requires { rel < length rules.now.schemes.now }
+    ensures { result.0 ≡ modes_in rules.now.policy.now.matrix user (site_scheme (site_of rules.now) rel).name }
 {
-    policy.modes(user, schemes.scheme(rel).name())
+    rules.policy.modes(user, rules.schemes.scheme(rel).name())
 }
 
-/// Whether the matrix grants a user no mode that serves a command.
-fn lacks_mode(policy: &Policy, schemes: &Schemes, user: UserNo, command: &Command) -> bool
-    requires { CommandFits policy.now schemes.now command.now }
-    ensures { result ≡ lacks_mode policy.now schemes.now user command.now }
+fn has_any(granted: Modes, modes: &[Modes]) -> bool
+    ensures { result ≡ list_any (λ mode. bit_and granted.0 mode == mode) (map (λ m. m.0) modes.now) }
 {
-    match command {
-        Command::Open(_) | Command::Close => false,
-        Command::View { rel, .. } => {
-            let modes = modes_on(policy, schemes, user, *rel);
-            !(modes.contains(Modes::READ) || modes.contains(Modes::WRITE))
-        }
-        Command::Insert { rel, .. } => {
-            let modes = modes_on(policy, schemes, user, *rel);
-            !(modes.contains(Modes::APPEND) || modes.contains(Modes::WRITE))
-        }
-        Command::Update { rel, .. } | Command::Delete { rel, .. } => {
-            !modes_on(policy, schemes, user, *rel).contains(Modes::WRITE)
+    for mode in modes {
+        if granted.contains(*mode) {
+            return true;
         }
     }
+    false
 }
 
-/// Whether a command names a label that a limit does not dominate.
-fn exceeds(policy: &Policy, schemes: &Schemes, limit: LabelNo, command: &Command) -> bool
-    requires limit { limit < length policy.now.labels }
-    requires fits { CommandFits policy.now schemes.now command.now }
-    ensures { result ≡ exceed policy.now limit (labels_named command.now) }
+/// Whether the matrix grants a user none of the modes on a relation.
+fn lacks(rules: &Rules, user: UserNo, rel: RelNo, modes: &[Modes]) -> bool
+    requires { rel < length rules.now.schemes.now }
+    ensures { result ≡ lacks (site_of rules.now) user rel (map (λ m. m.0) modes.now) }
 {
-    let _schemes = schemes;
-    match command {
-        Command::Open(_) | Command::Close | Command::Insert { .. } => false,
-        Command::View { label, .. } => !policy.dominates(limit, *label),
-        Command::Update {
-            key_class,
-            from,
-            ..
-        } => !policy.dominates(limit, *key_class) || !policy.dominates(limit, *from),
-        Command::Delete { key_class, .. } => !policy.dominates(limit, *key_class),
+    !has_any(modes_on(rules, user, rel), modes)
+}
+
+/// Whether one of the labels is not dominated by a limit.
+fn exceed(rules: &Rules, limit: LabelNo, labels: &[LabelNo]) -> bool
+    requires limit { limit < length rules.now.policy.now.labels }
+    requires labels { AllByRecursion (λ l. l < length rules.now.policy.now.labels) labels.now }
+    ensures { result ≡ exceed (site_of rules.now) limit labels.now }
+{
+    for label in labels {
+        if !rules.policy.dominates(limit, *label) {
+            return true;
+        }
     }
+    false
 }
 
 /// Up to which label a user may open sessions and look.
@@ -76,31 +65,68 @@ pub(crate) fn clearance(policy: &Policy, user: UserNo) -> LabelNo
     policy.clearance(user)
 }
 
+/// Why what needs one of the modes on a relation, and names labels, is denied, if it is.
+#[tactic(auto, unfolding(mls_machine::specs::Denying::first_denial))]
+fn access_denial(
+    rules: &Rules,
+    level: LabelNo,
+    user: UserNo,
+    rel: RelNo,
+    modes: &[Modes],
+    labels: &[LabelNo],
+) -> Option<Denial>
+    requires level { level < length rules.now.policy.now.labels }
+    requires user { user < length rules.now.policy.now.users }
+    requires rel { rel < length rules.now.schemes.now }
+    requires labels { AllByRecursion (λ l. l < length rules.now.policy.now.labels) labels.now }
+    ensures { result ≡ first_denial (access_denials (site_of rules.now) level user rel (map (λ m. m.0) modes.now) labels.now) }
+{
+    if lacks(rules, user, rel, modes) {
+        return Some(Denial::Ds);
+    }
+    if exceed(rules, clearance(rules.policy, user), labels) {
+        return Some(Denial::Ss);
+    }
+    if exceed(rules, level, labels) {
+        return Some(Denial::Star);
+    }
+    None
+}
+
 /// Why a command is denied in an open session of a level and a user, if it is.
-#[tactic(auto, unfolding(crate::specs::Denying::first_denial))]
 pub(crate) fn denial_of(
-    policy: &Policy,
-    schemes: &Schemes,
+    rules: &Rules,
     level: LabelNo,
     user: UserNo,
     command: &Command,
 ) -> Option<Denial>
-    requires level { level < length policy.now.labels }
-    requires user { user < length policy.now.users }
-    requires fits { CommandFits policy.now schemes.now command.now }
-    ensures { result ≡ first_denial (denials_inside policy.now schemes.now level user command.now) }
+    requires level { level < length rules.now.policy.now.labels }
+    requires user { user < length rules.now.policy.now.users }
+    requires fits { CommandFits rules.now.policy.now rules.now.schemes.now command.now }
+    ensures { result ≡ denial_in (site_of rules.now) level user command.now }
 {
-    if opens(command) {
-        return Some(Denial::AlreadyOpen);
+    match command {
+        Command::Open(_) => Some(Denial::AlreadyOpen),
+        Command::Close | Command::Audit => None,
+        Command::View { rel, label } => {
+            let modes = [Modes::READ, Modes::WRITE];
+            access_denial(rules, level, user, *rel, &modes, &[*label])
+        }
+        Command::Insert { rel, .. } => {
+            let modes = [Modes::APPEND, Modes::WRITE];
+            access_denial(rules, level, user, *rel, &modes, &[])
+        }
+        Command::Update {
+            rel,
+            key_class,
+            from,
+            ..
+        } => {
+            let labels = [*key_class, *from];
+            access_denial(rules, level, user, *rel, &[Modes::WRITE], &labels)
+        }
+        Command::Delete { rel, key_class, .. } => {
+            access_denial(rules, level, user, *rel, &[Modes::WRITE], &[*key_class])
+        }
     }
-    if lacks_mode(policy, schemes, user, command) {
-        return Some(Denial::Ds);
-    }
-    if exceeds(policy, schemes, clearance(policy, user), command) {
-        return Some(Denial::Ss);
-    }
-    if exceeds(policy, schemes, level, command) {
-        return Some(Denial::Star);
-    }
-    None
 }

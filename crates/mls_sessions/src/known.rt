@@ -1,10 +1,11 @@
 //! Whether what a store gave can be printed.
 ghost use Rattle.std.specs.Prelude.{◌≡◌, length, IsTrue};
-ghost use Rattle.mls_sessions.specs.Output.{ReplyIsKnown};
-ghost use Rattle.mls_sessions.specs.Engine.{HasKnownUser, elements_known, tuples_known};
+ghost use Rattle.mls_machine.specs.Output.{ReplyIsKnown};
+ghost use Rattle.mls_sessions.specs.Turns.{HasKnownNumbers};
+ghost use Rattle.mls_sessions.specs.Known.{elements_known, tuples_known};
 
-use crate::reply::Reply;
 use mls_lattice::Policy;
+use mls_machine::Reply;
 use mls_scheme::{Element, Tuple};
 
 fn are_elements_known(count: usize, elements: &[Element]) -> bool
@@ -35,7 +36,7 @@ fn are_tuples_known(count: usize, tuples: &[Tuple]) -> bool
 /// Whether the classes in a reply are declared, as they are over a clean store.
 #[tactic(auto, using(crate::proofs::KnownLemmas::known_steps))]
 pub(crate) fn is_known(policy: &Policy, reply: &Reply) -> bool
-    requires { HasKnownUser policy.now reply.now }
+    requires { HasKnownNumbers policy.now reply.now }
     ensures known { IsTrue result → ReplyIsKnown policy.now reply.now }
     ensures clean { ReplyIsKnown policy.now reply.now → IsTrue result }
 {

@@ -1,37 +1,24 @@
-//! Sessions: the script of their commands, the machine that answers them, and what is printed.
+//! Sessions: the engine that answers their commands over a base, and what is printed.
 #![tactic(auto)]
 
+mod cause;
 mod change;
-mod cursor;
 mod denying;
 mod engine;
-mod event;
-mod fault;
-mod grammar;
-mod int;
 mod known;
-mod laws;
-mod lookup;
-mod phrase;
+mod looking;
+mod naming;
 mod printing;
-mod printing_replies;
 mod printing_rows;
-mod quoted;
-mod reading;
-mod reply;
+mod replies;
+mod rules;
 mod running;
-mod runs;
-mod scanner;
 mod session;
-mod setting;
-mod token;
 mod writing;
 
+pub use cause::{RunCause, RunFault};
 pub use engine::Engine;
-pub use event::{Command, Event};
-pub use fault::{ScriptCause, ScriptFault};
-pub use laws::{lines_are_read_once, refusals_change_nothing, scripts_are_read_once};
-pub use printing_replies::reply_bytes;
-pub use reading::script;
-pub use reply::{Denial, Reply};
-pub use running::{RunCause, RunFault, run};
+pub use mls_machine::{Denial, Reply};
+pub use mls_script::{Command, Event, ScriptCause, ScriptFault, script};
+pub use replies::reply_bytes;
+pub use running::run;

@@ -1,12 +1,13 @@
 //! Names and values, as replies print them.
-ghost use Rattle.std.specs.Prelude.{◌≡◌, ◌<◌, ◌++◌, length, OnOk, IfOk, Some, map};
-ghost use Rattle.std.specs.Fmt.{signed_decimal};
-ghost use Rattle.std.specs.List.{flat_map, AllByRecursion};
-ghost use Rattle.mls_lattice.specs.Canon.{label_name, user_name};
-ghost use Rattle.mls_lattice.specs.Policy.{labels_of};
-ghost use Rattle.mls_scheme.specs.Tuple.{tuple_class, HasClassesBelow};
-ghost use Rattle.mls_sessions.specs.Output.{hex_digit, printable_byte, printable, quoted_byte, quoted, value_text, cell_text};
+ghost use Rattle.std.specs.Prelude.{◌≡◌, ◌<◌, ◌++◌, length, codes, OnOk};
+ghost use Rattle.std.specs.Fmt.{decimal, signed_decimal};
+ghost use Rattle.std.specs.List.{flat_map};
+ghost use Rattle.mls_audit.specs.Entry.{label_of};
+ghost use Rattle.mls_machine.specs.Output.{hex_digit, printable_byte, printable, quoted_byte, quoted, value_text, cell_text, entry_front, entry_text};
 
+use crate::naming::label_name;
+use mls_audit::Entry;
+use mls_lattice::{LabelNo, Policy};
 use mls_scheme::Value;
 use std::alloc::{AllocError, Global};
 
@@ -104,5 +105,74 @@ pub(crate) fn push_cell(
     match value {
         None => push_str(text, "null"),
         Some(value) => push_value(alloc, text, value),
+    }
+}
+
+fn push_code(alloc: Global, text: &mut Vec<u8>, code: u8) -> Result<(), AllocError>
+    ensures { OnOk result (text.new.items ≡ text.old.items ++ decimal code) }
+{
+    let digits = format!(in alloc; "{code}")?;
+    push_str(text, &digits)
+}
+
+/// Appends what every entry has: its label, what was done, the user and the session.
+fn push_entry_front(
+    text: &mut Vec<u8>,
+    policy: &Policy,
+    label: LabelNo,
+    deed: &str,
+    user: &str,
+    session: &str,
+) -> Result<(), AllocError>
+    requires { label < length policy.now.labels }
+    ensures { OnOk result (text.new.items ≡ text.old.items ++ entry_front policy.now label deed.now user.now session.now) }
+{
+    push_str(text, "entry ")?;
+    push_str(text, label_name(policy, label))?;
+    push_str(text, deed)?;
+    push_name(text, user)?;
+    push_str(text, " ")?;
+    push_name(text, session)?;
+    push_str(text, " ")
+}
+
+/// Appends the text of an entry.
+pub(crate) fn push_entry(
+    alloc: Global,
+    text: &mut Vec<u8>,
+    policy: &Policy,
+    entry: &Entry,
+) -> Result<(), AllocError>
+    requires { label_of entry.now < length policy.now.labels }
+    ensures { OnOk result (text.new.items ≡ text.old.items ++ entry_text policy.now entry.now) }
+{
+    match entry {
+        Entry::Called {
+            label,
+            user,
+            session,
+            transaction,
+        } => {
+            push_entry_front(text, policy, *label, " called ", user, session)?;
+            push_name(text, transaction)
+        }
+        Entry::Denied {
+            label,
+            user,
+            session,
+            code,
+        } => {
+            push_entry_front(text, policy, *label, " denied ", user, session)?;
+            push_code(alloc, text, *code)
+        }
+        Entry::Released {
+            label,
+            user,
+            session,
+            value,
+        } => {
+            push_entry_front(text, policy, *label, " released ", user, session)?;
+            push_cell(alloc, text, value)
+        }
     }
 }

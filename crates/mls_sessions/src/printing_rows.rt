@@ -5,20 +5,13 @@ ghost use Rattle.mls_lattice.specs.Lattice.{pair_of, same_pair};
 ghost use Rattle.mls_lattice.specs.Canon.{label_name};
 ghost use Rattle.mls_lattice.specs.Policy.{labels_of};
 ghost use Rattle.mls_scheme.specs.Tuple.{tuple_class, HasClassesBelow};
-ghost use Rattle.mls_sessions.specs.Output.{cell_entry, name_of, row_text};
+ghost use Rattle.mls_machine.specs.Output.{cell_entry, name_of, row_text};
 
+use crate::naming::label_name;
 use crate::printing::{push_cell, push_str, push_value};
 use mls_lattice::{Label, LabelNo, Policy};
 use mls_scheme::{Element, Tuple, Value, tuple_class};
 use std::alloc::{AllocError, Global};
-
-/// The name of a label.
-pub(crate) fn label_name(policy: &Policy, label: LabelNo) -> &str
-    requires { label < length policy.now.labels }
-    ensures { result.now ≡ label_name policy.now.labels label }
-{
-    policy.name(label)
-}
 
 fn push_class(text: &mut Vec<u8>, policy: &Policy, class: LabelNo) -> Result<(), AllocError>
     requires { class < length policy.now.labels }

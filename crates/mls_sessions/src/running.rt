@@ -1,49 +1,24 @@
 //! Runs: events answered in order, and their replies written.
-ghost use Rattle.std.specs.Prelude.{◌≡◌, ◌≢◌, ◌≤◌, ◌<◌, ◌⊎◌, true, IfErr, OnOk, OnErr};
-ghost use Rattle.std.specs.List.{AllByRecursion};
-ghost use Rattle.mls_sessions.specs.Event.{EventFits};
-ghost use Rattle.mls_sessions.specs.Engine.{world_of, IsReady, HasSameRules};
-ghost use Rattle.mls_sessions.specs.Run.{cause_word, IsWhole, IsStopped, IsFaultOf, KeepsIntegrity, IsAnswered, IsHalted};
+ghost use Rattle.std.specs.Prelude.{◌≡◌, ◌≢◌, ◌-◌, ◌≤◌, ◌<◌, true, take, IfOk, IfErr, OnOk, OnErr};
+ghost use Rattle.mls_script.specs.Event.{EventFits};
+ghost use Rattle.mls_machine.specs.Output.{reply_lines, printed, ReplyIsKnown};
+ghost use Rattle.mls_machine.specs.Observation.{EventsFit, PassesNothingDown};
+ghost use Rattle.mls_machine.specs.Laws.{KeepsIntegrity};
+ghost use Rattle.mls_sessions.specs.World.{site_of};
+ghost use Rattle.mls_sessions.specs.Turns.{HasKnownNumbers};
+ghost use Rattle.mls_sessions.specs.Engine.{site, world_of, IsReady, IsKept};
+ghost use Rattle.mls_sessions.specs.Run.{IsWhole, IsStopped, IsFaultOf, IsAnswered, IsHalted};
 
+use crate::cause::{RunCause, RunFault, cause_of};
 use crate::engine::Engine;
-use crate::event::Event;
+use crate::known::is_known;
+use crate::replies::reply_bytes;
+use crate::rules::Rules;
 use crate::writing::write_whole;
-use mls_filterview::{Base, BaseFault};
+use mls_filterview::Base;
+use mls_machine::Reply;
+use mls_script::Event;
 use std::io::Write;
-
-/// Why a run stops.
-#[derive(Clone, Copy, PartialEq, Eq, Debug)]
-pub enum RunCause {
-    /// The store failed.
-    Store,
-    /// A growth was refused.
-    Memory,
-    /// The writer refused.
-    Write,
-}
-
-impl RunCause {
-    /// The name of the cause.
-    pub fn word(self) -> &'static str
-        ensures { result.now ≡ cause_word self }
-    {
-        match self {
-            RunCause::Store => "Store",
-            RunCause::Memory => "Memory",
-            RunCause::Write => "Write",
-        }
-    }
-}
-
-/// Where a run stops.
-#[derive(Clone, Copy, PartialEq, Eq, Debug)]
-pub struct RunFault {
-    /// The number of the event, from 1.
-    pub event: usize,
-    pub cause: RunCause,
-    /// Whether the change of this event stands.
-    pub done: bool,
-}
 
 /// Why an event stops a run, and whether its change stands.
 #[derive(Clone, Copy)]
@@ -52,29 +27,34 @@ struct Stop {
     done: bool,
 }
 
-/// The cause that a fault of a base is. A change is begun where it should be over every clean store.
-fn cause_of(fault: BaseFault) -> RunCause
-    ensures write { result ≢ RunCause.Write }
-    ensures memory { result ≡ RunCause.Memory → fault ≡ BaseFault.Memory }
-    ensures store { result ≡ RunCause.Store → (fault ≡ BaseFault.Store) ⊎ ((fault ≡ BaseFault.NotBegun) ⊎ (fault ≡ BaseFault.Begun)) }
+/// The lines of the reply to an event. `Store` is the cause where a class is not declared, as may be over a store that
+/// gives other content than was written.
+fn text_of(rules: &Rules, event: &Event, reply: &Reply) -> Result<Vec<u8>, RunCause>
+    requires fits { EventFits rules.now.policy.now rules.now.schemes.now event.now }
+    requires known { HasKnownNumbers rules.now.policy.now reply.now }
+    ensures done { IfOk result (λ v. v.items ≡ printed (reply_lines (site_of rules.now) event.now reply.now)) }
+    ensures failed { ReplyIsKnown rules.now.policy.now reply.now → IfErr result (λ c. c ≡ RunCause.Memory) }
+    ensures write { IfErr result (λ c. c ≢ RunCause.Write) }
 {
-    match fault {
-        BaseFault::Memory => RunCause::Memory,
-        BaseFault::Store | BaseFault::NotBegun | BaseFault::Begun => RunCause::Store,
+    if !is_known(rules.policy, reply) {
+        return Err(RunCause::Store);
+    }
+    match reply_bytes(rules.alloc, rules.policy, rules.schemes, event, reply) {
+        Ok(bytes) => Ok(bytes),
+        Err(_) => Err(RunCause::Memory),
     }
 }
 
 /// Answers one event, and writes the reply.
 fn answer<B: Base, W: Write>(engine: &mut Engine<B>, event: &Event, out: &mut W) -> Result<(), Stop>
     requires ready { IsReady B.state B.is_clean engine.old }
-    requires fits { EventFits engine.old.policy.now engine.old.schemes.now event.now }
+    requires fits { EventFits (site engine.old).policy (site engine.old).schemes event.now }
     ensures clean { B.is_clean engine.new.base → B.is_clean engine.old.base }
     ensures count { B.failures engine.old.base ≤ B.failures engine.new.base }
-    ensures rules { HasSameRules engine.old engine.new }
-    ensures ready { IsReady B.state B.is_clean engine.new }
-    ensures done { B.is_clean engine.new.base → OnOk result (IsAnswered engine.old.policy.now engine.old.schemes.now (world_of B.state engine.old) event.now
+    ensures kept { IsKept B.state B.is_clean engine.old engine.new }
+    ensures done { B.is_clean engine.new.base → OnOk result (IsAnswered (site engine.old) (world_of B.state engine.old) event.now
         (W.contents out.old) (W.contents out.new) (world_of B.state engine.new)) }
-    ensures stopped { B.is_clean engine.new.base → IfErr result (λ s. IsHalted engine.old.policy.now engine.old.schemes.now (world_of B.state engine.old) event.now
+    ensures stopped { B.is_clean engine.new.base → IfErr result (λ s. IsHalted (site engine.old) (world_of B.state engine.old) event.now
         (W.contents out.old) (W.contents out.new) (world_of B.state engine.new) s.cause s.done) }
     ensures write { IfErr result (λ s. s.cause ≡ RunCause.Write → s.done ≡ true) }
     ensures store { B.is_clean engine.new.base → IfErr result (λ s. s.cause ≡ RunCause.Store → B.failures engine.old.base < B.failures engine.new.base) }
@@ -88,7 +68,7 @@ fn answer<B: Base, W: Write>(engine: &mut Engine<B>, event: &Event, out: &mut W)
             });
         }
     };
-    let bytes = match engine.printed(event, &reply) {
+    let bytes = match text_of(&engine.rules, event, &reply) {
         Ok(bytes) => bytes,
         Err(cause) => return Err(Stop { cause, done: true }),
     };
@@ -105,26 +85,32 @@ fn answer<B: Base, W: Write>(engine: &mut Engine<B>, event: &Event, out: &mut W)
 ///
 /// The first event that fails stops it: `Store` where the store fails, `Memory` where a growth is refused, `Write` where
 /// the writer refuses.
+///
+/// What a level is shown passes nothing down to it: the lines whose labels it dominates are the same for any second world
+/// that looks alike to it and any second list of events of which it sees the same, and so is what it sees of the end.
 pub fn run<B: Base, W: Write>(
     engine: &mut Engine<B>,
     events: &[Event],
     out: &mut W,
 ) -> Result<(), RunFault>
     requires ready { IsReady B.state B.is_clean engine.old }
-    requires fits { AllByRecursion (EventFits engine.old.policy.now engine.old.schemes.now) events.now }
+    requires fits { EventsFit (site engine.old) events.now }
     ensures clean { B.is_clean engine.new.base → B.is_clean engine.old.base }
     ensures count { B.failures engine.old.base ≤ B.failures engine.new.base }
-    ensures rules { HasSameRules engine.old engine.new }
-    ensures ready { IsReady B.state B.is_clean engine.new }
-    ensures ok { B.is_clean engine.new.base → OnOk result (IsWhole engine.old.policy.now engine.old.schemes.now (world_of B.state engine.old) events.now
+    ensures kept { IsKept B.state B.is_clean engine.old engine.new }
+    ensures ok { B.is_clean engine.new.base → OnOk result (IsWhole (site engine.old) (world_of B.state engine.old) events.now
         (W.contents out.old) (W.contents out.new) (world_of B.state engine.new)) }
-    ensures err { B.is_clean engine.new.base → IfErr result (IsStopped engine.old.policy.now engine.old.schemes.now (world_of B.state engine.old) events.now
+    ensures err { B.is_clean engine.new.base → IfErr result (IsStopped (site engine.old) (world_of B.state engine.old) events.now
         (W.contents out.old) (W.contents out.new) (world_of B.state engine.new)) }
     ensures fault { IfErr result (IsFaultOf events.now) }
     // Over a clean store, Store comes only where a call of it failed.
     ensures store { B.is_clean engine.new.base → IfErr result (λ f. f.cause ≡ RunCause.Store → B.failures engine.old.base < B.failures engine.new.base) }
     // Each database on the way has the four integrity properties.
-    ensures integrity { B.is_clean engine.new.base → KeepsIntegrity engine.old.policy.now engine.old.schemes.now (world_of B.state engine.old) events.now }
+    ensures integrity { B.is_clean engine.new.base → KeepsIntegrity (site engine.old) (world_of B.state engine.old) events.now }
+    // No information flows down: over all events, and over those before the one that stops the run.
+    ensures secret { B.is_clean engine.new.base → OnOk result (PassesNothingDown (site engine.old) (world_of B.state engine.old) events.now) }
+    ensures secret_before { B.is_clean engine.new.base
+        → IfErr result (λ f. PassesNothingDown (site engine.old) (world_of B.state engine.old) (take (f.event - 1) events.now)) }
 {
     for (place, event) in events.iter().enumerate() {
         if let Err(stop) = answer(engine, event, out) {

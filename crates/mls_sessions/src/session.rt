@@ -1,16 +1,16 @@
 //! Open sessions.
 ghost use Rattle.std.specs.Prelude.{◌≡◌, ◌<◌, None, length, IfOk, IfErr, IfSome, OnErr};
-ghost use Rattle.mls_sessions.specs.Denying.{user_named, denials_outside, first_denial};
-ghost use Rattle.mls_sessions.specs.Machine.{with_session, step_outside};
-ghost use Rattle.mls_sessions.specs.Engine.{sessions_of, AreForUsers, IsSessionStep, HasKnownUser};
+ghost use Rattle.mls_machine.specs.Denying.{user_named};
+ghost use Rattle.mls_machine.specs.Machine.{with_session, step_outside};
+ghost use Rattle.mls_sessions.specs.World.{site_of, sessions_of, AreForUsers};
+ghost use Rattle.mls_sessions.specs.Turns.{IsSessionStep, HasKnownNumbers};
 
 use crate::denying::clearance;
-use crate::event::{Command, Event};
-use crate::reply::{Denial, Reply};
+use crate::rules::Rules;
 use mls_filterview::BaseFault;
 use mls_lattice::{LabelNo, Policy, Str, UserNo};
-use mls_scheme::Schemes;
-use std::alloc::Global;
+use mls_machine::{Denial, Reply};
+use mls_script::{Command, Event};
 
 /// An open session: its level and its name, and the user that it is open for.
 #[derive(Drop, Debug)]
@@ -42,32 +42,31 @@ fn known_user(policy: &Policy, name: &str) -> Option<UserNo>
 
 /// Answers an event whose session is not open: opens it, where the command is to open it and is not denied.
 pub(crate) fn open(
-    alloc: Global,
-    policy: &Policy,
-    schemes: &Schemes,
+    rules: &Rules,
     sessions: &mut Vec<Session>,
     event: &Event,
 ) -> Result<Reply, BaseFault>
-    requires level { event.now.level < length policy.now.labels }
+    requires level { event.now.level < length rules.now.policy.now.labels }
     requires closed { sessions_of sessions.old.items event.now.level event.now.session ≡ None }
-    ensures done { IfOk result (IsSessionStep (λ w. step_outside policy.now schemes.now w event.now (first_denial (denials_outside policy.now event.now.level event.now.command)))
-        sessions.old.items sessions.new.items) }
-    ensures user { IfOk result (HasKnownUser policy.now) }
-    ensures users { AreForUsers (length policy.now.users) sessions.old.items → AreForUsers (length policy.now.users) sessions.new.items }
+    ensures done { IfOk result (IsSessionStep (λ w. step_outside (site_of rules.now) w event.now event.now.command) sessions.old.items sessions.new.items) }
+    ensures known { IfOk result (HasKnownNumbers rules.now.policy.now) }
+    ensures users { AreForUsers (length rules.now.policy.now.users) sessions.old.items → AreForUsers (length rules.now.policy.now.users) sessions.new.items }
     ensures memory { IfErr result (λ e. e ≡ BaseFault.Memory) }
     ensures failed { OnErr result (sessions.new.items ≡ sessions.old.items) }
 {
-    let _schemes = schemes;
     let Command::Open(name) = &event.command else {
         return Ok(Reply::Denied(Denial::NoSession));
     };
-    let Some(user) = known_user(policy, name) else {
+    let Some(user) = known_user(rules.policy, name) else {
         return Ok(Reply::Denied(Denial::UnknownUser));
     };
-    if !policy.dominates(clearance(policy, user), event.level) {
+    if !rules
+        .policy
+        .dominates(clearance(rules.policy, user), event.level)
+    {
         return Ok(Reply::Denied(Denial::Ss));
     }
-    let name = Str::copy_of(alloc, &event.session)?;
+    let name = Str::copy_of(rules.alloc, &event.session)?;
     sessions.push(Session {
         level: event.level,
         name,

@@ -1,4 +1,4 @@
-use Rattle.mls_sessions.proofs.DenyingLemmas.{clearance_found}
+use Rattle.mls_machine.proofs.DenyingLemmas.{clearance_found}
 use Rattle.mls_sessions.proofs.denying.clearance.Goals as goal
 
 pub returns-clause-same : goal.returns-clause-same

@@ -1,5 +1,5 @@
 use Rattle.std.proofs.Common.{◌≡◌, drop}
-use Rattle.mls_sessions.specs.Engine.{elements_known}
+use Rattle.mls_sessions.specs.Known.{elements_known}
 use Rattle.mls_sessions.proofs.known.are_elements_known.Given as goal
 
 abbrev pub invariant-loop-element : goal.invariant-loop-element

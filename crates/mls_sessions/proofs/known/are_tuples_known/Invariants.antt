@@ -1,5 +1,5 @@
 use Rattle.std.proofs.Common.{◌≡◌, drop}
-use Rattle.mls_sessions.specs.Engine.{tuples_known}
+use Rattle.mls_sessions.specs.Known.{tuples_known}
 use Rattle.mls_sessions.proofs.known.are_tuples_known.Given as goal
 
 abbrev pub invariant-loop-tuple : goal.invariant-loop-tuple

@@ -1,6 +1,6 @@
 use Rattle.std.proofs.Common.{◌≡◌, drop}
 use Rattle.mls_lattice.specs.Lattice.{pair_of}
-use Rattle.mls_sessions.specs.Output.{name_of}
+use Rattle.mls_machine.specs.Output.{name_of}
 use Rattle.mls_sessions.proofs.printing_rows.name_of.Given as goal
 
 abbrev pub invariant-loop-number : goal.invariant-loop-number

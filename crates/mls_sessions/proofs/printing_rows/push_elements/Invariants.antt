@@ -1,6 +1,6 @@
 use Rattle.std.proofs.Common.{◌≡◌, ◌++◌, take}
 use Rattle.std.specs.List.{flat_map}
-use Rattle.mls_sessions.specs.Output.{cell_entry}
+use Rattle.mls_machine.specs.Output.{cell_entry}
 use Rattle.mls_sessions.proofs.printing_rows.push_elements.Given as goal
 
 abbrev pub invariant-loop-element : goal.invariant-loop-element

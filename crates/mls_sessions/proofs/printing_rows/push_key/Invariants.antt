@@ -1,6 +1,6 @@
 use Rattle.std.proofs.Common.{◌≡◌, ◌++◌, take, Some}
 use Rattle.std.specs.List.{flat_map}
-use Rattle.mls_sessions.specs.Output.{cell_entry}
+use Rattle.mls_machine.specs.Output.{cell_entry}
 use Rattle.mls_sessions.proofs.printing_rows.push_key.Given as goal
 
 abbrev pub invariant-loop-value : goal.invariant-loop-value

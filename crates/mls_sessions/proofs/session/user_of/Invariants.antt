@@ -1,5 +1,5 @@
 use Rattle.std.proofs.Common.{◌≡◌, drop}
-use Rattle.mls_sessions.specs.Engine.{sessions_of}
+use Rattle.mls_sessions.specs.World.{sessions_of}
 use Rattle.mls_sessions.proofs.session.user_of.Given as goal
 
 abbrev pub invariant-loop-session : goal.invariant-loop-session

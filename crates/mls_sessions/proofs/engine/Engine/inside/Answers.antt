@@ -1,0 +1,64 @@
+use Rattle.std.proofs.Common.{sym, ap, ◌∙◌, None}
+use Rattle.std.proofs.lemmas.Result.{IfOk-weaker}
+use Rattle.mls_machine.specs.Machine.{with_session, denied, viewed, listed, step_inside}
+use Rattle.mls_sessions.specs.World.{sessions_of}
+use Rattle.mls_sessions.specs.Engine.{site, world_of}
+use Rattle.mls_sessions.proofs.SessionLemmas.{user_known}
+use Rattle.mls_sessions.proofs.EngineLemmas.{none_from, denied_is, viewed_is, listed_is, closed_is, wrote_is, answers_over, answers_closed}
+use Rattle.mls_sessions.proofs.engine.Engine.inside.Goals as goal
+
+pub denial_of-requires-clause-user : goal.denial_of-requires-clause-user
+denial_of-requires-clause-user g c = user_known _ c.args.self.now.sessions.items c.args.event.now.level c.args.event.now.session c.args.user c.requires.ready.users c.requires.held
+
+pub change-requires-clause-deed : goal.change-requires-clause-deed
+change-requires-clause-deed g c = user_known _ c.args.self.now.sessions.items c.args.event.now.level c.args.event.now.session c.args.user c.requires.ready.users c.requires.held
+
+pub returns-in-Some-clause-kept : goal.returns-in-Some-clause-kept
+returns-in-Some-clause-kept g c =
+    (answers_over g.B.Base.state g.B.Base.is_clean g.B.Base.failures c.args.self.now c.requires.ready c.args.event.now c.requires.fits c.change.new.base
+    (λ w. denied (site c.args.self.now) w c.args.event.now c.args.user c.in-Some.denial) (denied_is (site c.args.self.now) (world_of g.B.Base.state c.args.self.now) c.args.event.now c.args.user c.requires.held c.in-Some.denial (sym c.denial_of.ensures ∙ c.in-Some.is)) c.change.result c.change.ensures.turn c.change.ensures.idle (c.change.ensures.done)).kept
+
+pub returns-in-Some-clause-done : goal.returns-in-Some-clause-done
+returns-in-Some-clause-done g c =
+    (answers_over g.B.Base.state g.B.Base.is_clean g.B.Base.failures c.args.self.now c.requires.ready c.args.event.now c.requires.fits c.change.new.base
+    (λ w. denied (site c.args.self.now) w c.args.event.now c.args.user c.in-Some.denial) (denied_is (site c.args.self.now) (world_of g.B.Base.state c.args.self.now) c.args.event.now c.args.user c.requires.held c.in-Some.denial (sym c.denial_of.ensures ∙ c.in-Some.is)) c.change.result c.change.ensures.turn c.change.ensures.idle (c.change.ensures.done)).done
+
+pub returns-in-View-clause-kept : goal.returns-in-View-clause-kept
+returns-in-View-clause-kept g c =
+    (answers_over g.B.Base.state g.B.Base.is_clean g.B.Base.failures c.args.self.now c.requires.ready c.args.event.now c.requires.fits c.look.new.base
+    (λ w. viewed (site c.args.self.now) w c.in-View.rel c.in-View.label) (viewed_is (site c.args.self.now) (world_of g.B.Base.state c.args.self.now) c.args.event.now c.args.user c.requires.held c.in-View.rel c.in-View.label c.in-View.is (sym c.denial_of.ensures ∙ none_from c.denial_of.result c.in_default.not-Some)) c.look.result c.look.ensures.turn c.look.ensures.idle (c.look.ensures.done)).kept
+
+pub returns-in-View-clause-done : goal.returns-in-View-clause-done
+returns-in-View-clause-done g c =
+    (answers_over g.B.Base.state g.B.Base.is_clean g.B.Base.failures c.args.self.now c.requires.ready c.args.event.now c.requires.fits c.look.new.base
+    (λ w. viewed (site c.args.self.now) w c.in-View.rel c.in-View.label) (viewed_is (site c.args.self.now) (world_of g.B.Base.state c.args.self.now) c.args.event.now c.args.user c.requires.held c.in-View.rel c.in-View.label c.in-View.is (sym c.denial_of.ensures ∙ none_from c.denial_of.result c.in_default.not-Some)) c.look.result c.look.ensures.turn c.look.ensures.idle (c.look.ensures.done)).done
+
+pub returns-in-Audit-clause-kept : goal.returns-in-Audit-clause-kept
+returns-in-Audit-clause-kept g c =
+    (answers_over g.B.Base.state g.B.Base.is_clean g.B.Base.failures c.args.self.now c.requires.ready c.args.event.now c.requires.fits c.audit.new.base
+    (λ w. listed (site c.args.self.now) w c.args.event.now.level) (listed_is (site c.args.self.now) (world_of g.B.Base.state c.args.self.now) c.args.event.now c.args.user c.requires.held c.in-Audit.is) c.audit.result c.audit.ensures.turn c.audit.ensures.idle (c.audit.ensures.done)).kept
+
+pub returns-in-Audit-clause-done : goal.returns-in-Audit-clause-done
+returns-in-Audit-clause-done g c =
+    (answers_over g.B.Base.state g.B.Base.is_clean g.B.Base.failures c.args.self.now c.requires.ready c.args.event.now c.requires.fits c.audit.new.base
+    (λ w. listed (site c.args.self.now) w c.args.event.now.level) (listed_is (site c.args.self.now) (world_of g.B.Base.state c.args.self.now) c.args.event.now c.args.user c.requires.held c.in-Audit.is) c.audit.result c.audit.ensures.turn c.audit.ensures.idle (c.audit.ensures.done)).done
+
+pub returns-in-Insert-clause-kept : goal.returns-in-Insert-clause-kept
+returns-in-Insert-clause-kept g c =
+    (answers_over g.B.Base.state g.B.Base.is_clean g.B.Base.failures c.args.self.now c.requires.ready c.args.event.now c.requires.fits c.change-in-Insert.new.base
+    (λ w. step_inside (site c.args.self.now) w c.args.event.now c.args.event.now.command c.args.user) (wrote_is (site c.args.self.now) (world_of g.B.Base.state c.args.self.now) c.args.event.now c.args.user c.requires.held) c.change-in-Insert.result c.change-in-Insert.ensures.turn c.change-in-Insert.ensures.idle (λ clean. IfOk-weaker c.change-in-Insert.result _ _ (λ r each. each c.args.user (sym c.denial_of.ensures ∙ none_from c.denial_of.result c.in_default.not-Some)) (c.change-in-Insert.ensures.done clean))).kept
+
+pub returns-in-Insert-clause-done : goal.returns-in-Insert-clause-done
+returns-in-Insert-clause-done g c =
+    (answers_over g.B.Base.state g.B.Base.is_clean g.B.Base.failures c.args.self.now c.requires.ready c.args.event.now c.requires.fits c.change-in-Insert.new.base
+    (λ w. step_inside (site c.args.self.now) w c.args.event.now c.args.event.now.command c.args.user) (wrote_is (site c.args.self.now) (world_of g.B.Base.state c.args.self.now) c.args.event.now c.args.user c.requires.held) c.change-in-Insert.result c.change-in-Insert.ensures.turn c.change-in-Insert.ensures.idle (λ clean. IfOk-weaker c.change-in-Insert.result _ _ (λ r each. each c.args.user (sym c.denial_of.ensures ∙ none_from c.denial_of.result c.in_default.not-Some)) (c.change-in-Insert.ensures.done clean))).done
+
+pub returns-in-Close-clause-kept : goal.returns-in-Close-clause-kept
+returns-in-Close-clause-kept g c =
+    (answers_closed g.B.Base.state g.B.Base.is_clean g.B.Base.failures c.args.self.now c.requires.ready c.args.event.now c.requires.fits c.close.new.sessions (c.close.ensures.users _ c.requires.ready.users)
+    (c.close.ensures.closed ∙ ap (λ name. with_session (sessions_of c.args.self.now.sessions.items) c.args.event.now.level name None) c.deref.ensures) (closed_is (site c.args.self.now) (world_of g.B.Base.state c.args.self.now) c.args.event.now c.args.user c.requires.held c.in-Close.is)).kept
+
+pub returns-in-Close-clause-done : goal.returns-in-Close-clause-done
+returns-in-Close-clause-done g c =
+    (answers_closed g.B.Base.state g.B.Base.is_clean g.B.Base.failures c.args.self.now c.requires.ready c.args.event.now c.requires.fits c.close.new.sessions (c.close.ensures.users _ c.requires.ready.users)
+    (c.close.ensures.closed ∙ ap (λ name. with_session (sessions_of c.args.self.now.sessions.items) c.args.event.now.level name None) c.deref.ensures) (closed_is (site c.args.self.now) (world_of g.B.Base.state c.args.self.now) c.args.event.now c.args.user c.requires.held c.in-Close.is)).done

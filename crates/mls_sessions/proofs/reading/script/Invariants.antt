@@ -1,9 +1,0 @@
-use Rattle.std.proofs.Common.{length}
-use Rattle.mls_sessions.proofs.ScriptSteps.{ReadSoFar}
-use Rattle.mls_sessions.proofs.reading.script.Given as goal
-
-abbrev pub invariant-loop-rest : goal.invariant-loop-rest
-invariant-loop-rest l = ReadSoFar l.policy l.schemes l.bytes l.events.items l.rest
-
-abbrev pub decreases-loop-rest : goal.decreases-loop-rest
-decreases-loop-rest l = length l.rest

@@ -1,0 +1,86 @@
+-- What the calls of one event promise.
+use Rattle.std.specs.Prelude.{◌≡◌, ℕ, ◌<◌, ◌≤◌, true, false, Bool, IfErr, List, length, None, Result, ⊤}
+use Rattle.std.specs.List.{AllByRecursion}
+use Rattle.mls_lattice.specs.Policy.{Tables}
+use Rattle.mls_scheme.specs.Table.{Database}
+use Rattle.mls_filterview.specs.declared.base.BaseFault.{BaseFault}
+use Rattle.mls_filterview.specs.declared.base.BaseFault.TheVariants as faults
+use Rattle.mls_filterview.specs.Calls.{IsServed}
+use Rattle.mls_filterview.specs.Content.{Content}
+use Rattle.mls_audit.specs.declared.entry.Entry.{Entry}
+use Rattle.mls_script.specs.declared.event.Event.{Event}
+use Rattle.mls_script.specs.declared.event.Command.{Command}
+use Rattle.mls_script.specs.declared.event.Command.TheVariants as commands
+use Rattle.mls_machine.specs.declared.reply.Reply.{Reply}
+use Rattle.mls_machine.specs.declared.reply.Reply.TheVariants.{Opened, Closed, Rows, Wrote, Entries, Denied}
+use Rattle.mls_machine.specs.Site.{Site}
+use Rattle.mls_machine.specs.Machine.{Sessions, World, Step, denied, step_inside}
+use Rattle.mls_machine.specs.Output.{EntriesAreKnown}
+use Rattle.mls_sessions.specs.declared.change.Deed.{Deed}
+use Rattle.mls_sessions.specs.declared.change.Deed.TheVariants.{Deny, Write}
+use Rattle.mls_sessions.specs.declared.session.Session.{Session}
+use Rattle.mls_sessions.specs.Denying.{denial_in}
+use Rattle.mls_sessions.specs.World.{sessions_of, entries_in, world_at, IsEntryOf}
+
+-- ---- faults
+
+-- of a thing over a store: whether the store is clean, how many calls of it have failed, and what the thing holds
+module _ {Self : Type 0} {Held : Type 0} (is_clean : Self → Type 0) (failures : Self → ℕ) (held : Self → Held) where
+  -- a fault of the store or of memory, which leaves what is held
+  pub record IsUndone (e : BaseFault) (old new : Self) : Type 0 where
+    pub served : IsServed e
+    pub store : e ≡ faults.Store → failures old < failures new
+    pub same : is_clean new → held new ≡ held old
+
+  -- a store that is clean after the event was clean before it
+  pub record IsTurn {A : Type 0} (old new : Self) (result : Result A BaseFault) : Type 0 where
+    pub clean : is_clean new → is_clean old
+    pub count : failures old ≤ failures new
+    pub fault : IfErr result (λ e. IsUndone e old new)
+
+-- ---- answers
+
+-- content changed, and a reply given, as by a step of the machine that leaves the sessions
+pub record IsStepOver (site : Site) (step : World → Step) (s t : Content) (r : Reply) : Type 0 where
+  pub reply : (sessions : Sessions) → r ≡ (step (world_at site sessions s)).reply
+  pub world : (sessions : Sessions) → world_at site sessions t ≡ (step (world_at site sessions s)).world
+  pub entries : AllByRecursion (IsEntryOf (length site.policy.labels)) s.audit → AllByRecursion (IsEntryOf (length site.policy.labels)) t.audit
+
+-- sessions changed, and a reply given, as by a step of the machine that looks at nothing else
+pub record IsSessionStep (step : World → Step) (old new : List Session) (r : Reply) : Type 0 where
+  pub reply : (db : Database) (audit : List Entry) → r ≡ (step (record { db = db; sessions = sessions_of old; audit = audit })).reply
+  pub world : (db : Database) (audit : List Entry)
+      → record { db = db; sessions = sessions_of new; audit = audit } ≡ (step (record { db = db; sessions = sessions_of old; audit = audit })).world
+
+-- ---- deeds
+
+abbrev pub is_write : Command → Bool
+is_write (commands.Open name) = false
+is_write commands.Close = false
+is_write commands.Audit = false
+is_write (commands.View rel label) = false
+is_write (commands.Insert rel key values) = true
+is_write (commands.Update rel key key_class from sets) = true
+is_write (commands.Delete rel key key_class) = true
+
+-- the user is one of the policy; the event writes
+abbrev pub IsDeedOf : Site → Event → Deed → Type 0
+IsDeedOf site event (Deny user denial) = user < length site.policy.users
+IsDeedOf site event Write = is_write event.command ≡ true
+
+-- the denial is entered; the event of a session in which it is not denied is answered
+abbrev pub IsDoneOf : Site → Event → Deed → Content → Content → Reply → Type 0
+IsDoneOf site event (Deny user denial) s t r = IsStepOver site (λ w. denied site w event user denial) s t r
+IsDoneOf site event Write s t r =
+    (user : ℕ) → denial_in site event.level user event.command ≡ None → IsStepOver site (λ w. step_inside site w event event.command user) s t r
+
+-- ---- replies over any store
+
+-- the user that a session is opened for is one of the policy, and the labels of entries are declared
+abbrev pub HasKnownNumbers : Tables → Reply → Type 0
+HasKnownNumbers policy (Opened user) = user < length policy.users
+HasKnownNumbers policy Closed = ⊤
+HasKnownNumbers policy (Rows tuples) = ⊤
+HasKnownNumbers policy (Wrote o) = ⊤
+HasKnownNumbers policy (Entries es) = EntriesAreKnown policy es
+HasKnownNumbers policy (Denied d) = ⊤

@@ -1,0 +1,63 @@
+-- The world that content and open sessions are.
+use Rattle.std.specs.Prelude.{◌≡◌, ℕ, Bool, ◌&&◌, if◌then◌else◌, nat_eq, nat_lt, ◌<◌, List, [], ◌∷◌, length, Option, Some, None, Result, Ok, Err}
+use Rattle.std.specs.List.{AllByRecursion, filter_map}
+use Rattle.std.specs.Str.{bytes_eq}
+use Rattle.mls_lattice.specs.Policy.{Name}
+use Rattle.mls_scheme.specs.Table.{Database}
+use Rattle.mls_filterview.specs.Content.{Content}
+use Rattle.mls_filterview.specs.Stored.{AreContent}
+use Rattle.mls_audit.specs.declared.entry.Entry.{Entry}
+use Rattle.mls_scheme.specs.declared.key_fault.KeyFault.{KeyFault}
+use Rattle.mls_audit.specs.Entry.{label_of}
+use Rattle.mls_audit.specs.Reading.{entry_at}
+use Rattle.mls_audit.specs.Spelling.{HasSpelling, entry_spelling}
+use Rattle.mls_machine.specs.Site.{Site, site_labels}
+use Rattle.mls_machine.specs.Machine.{Sessions, World}
+use Rattle.mls_sessions.specs.declared.rules.Rules.{Rules}
+use Rattle.mls_sessions.specs.declared.session.Session.{Session}
+
+-- what a run is under
+abbrev pub site_of : Rules → Site
+site_of rules = record { policy = rules.policy.now; schemes = rules.schemes.now }
+
+-- ---- sessions
+
+abbrev pub is_named : ℕ → Name → Session → Bool
+is_named level name s = nat_eq level s.level && bytes_eq name s.name
+
+-- the user of the first session of a level and a name
+abbrev pub sessions_of : List Session → Sessions
+sessions_of [] level name = None
+sessions_of (s ∷ ss) level name = if is_named level name s then Some s.user else sessions_of ss level name
+
+-- the users of sessions are numbers of count users
+abbrev pub AreForUsers : ℕ → List Session → Type 0
+AreForUsers count = AllByRecursion (λ s. s.user < count)
+
+-- ---- the audit list
+
+-- what is read, where it is an entry of one of count labels
+abbrev pub declared : ℕ → Result Entry KeyFault → Option Entry
+declared count (Ok e) = if nat_lt (label_of e) count then Some e else None
+declared count (Err fault) = None
+
+-- the entries of declared labels that strings spell
+abbrev pub entries_in : ℕ → List (List ℕ) → List Entry
+entries_in count = filter_map (λ bytes. declared count (entry_at bytes))
+
+-- the spelling of an entry of a declared label
+pub record IsEntryOf (count : ℕ) (bytes : List ℕ) : Type 0 where
+  pub entry : Entry
+  pub spelled : HasSpelling entry
+  pub declared : label_of entry < count
+  pub is : bytes ≡ entry_spelling entry
+
+-- ---- content
+
+abbrev pub world_at : Site → Sessions → Content → World
+world_at site sessions c = record { db = c.db; sessions = sessions; audit = entries_in (length site.policy.labels) c.audit }
+
+-- relations of the stored form, and an audit list of entries of declared labels
+pub record IsSound (site : Site) (c : Content) : Type 0 where
+  pub content : AreContent (site_labels site) site.schemes c.db
+  pub entries : AllByRecursion (IsEntryOf (length site.policy.labels)) c.audit

@@ -1,0 +1,12 @@
+//! What sessions run under.
+use mls_lattice::Policy;
+use mls_scheme::Schemes;
+use std::alloc::Global;
+
+/// A policy, the schemes of its relations, and where memory comes from.
+#[derive(Drop)]
+pub(crate) struct Rules<'a> {
+    pub(crate) alloc: Global,
+    pub(crate) policy: &'a Policy,
+    pub(crate) schemes: &'a Schemes,
+}

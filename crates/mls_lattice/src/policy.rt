@@ -1,9 +1,9 @@
-ghost use Rattle.std.specs.Prelude.{◌≡◌, ◌≢◌, ◌↔◌, ◌<◌, ◌≤◌, length, map, position, slice_get, Some, IfSome, IfOk, IfErr, option_map};
+ghost use Rattle.std.specs.Prelude.{◌≡◌, true, ◌≢◌, ◌↔◌, ◌<◌, ◌≤◌, length, map, position, slice_get, Some, IfSome, IfOk, IfErr, option_map};
 ghost use Rattle.std.specs.List.{IsDistinct};
 ghost use Rattle.std.specs.Str.{bytes_eq};
 ghost use Rattle.mls_lattice.specs.Lattice.{pair_of};
 ghost use Rattle.mls_lattice.specs.Labels.{label_of, below, AreDistinct};
-ghost use Rattle.mls_lattice.specs.Policy.{Tables, labels_of, modes_in};
+ghost use Rattle.mls_lattice.specs.Policy.{Tables, labels_of, modes_in, IsPolicy};
 ghost use Rattle.mls_lattice.specs.Canon.{canon_of, lattice_of};
 ghost use Rattle.mls_lattice.specs.Reading.{Gives};
 ghost use Rattle.mls_lattice.specs.PolicyReading.{version_at, levels_at, categories_at, policy_at};
@@ -98,12 +98,13 @@ impl Policy {
         Ok(text.into_bytes())
     }
 
-    /// How many labels are declared. No two have one name, and no two have one value.
+    /// How many labels are declared. What holds of every policy is told here too.
     pub fn label_count(&self) -> usize
         ensures count { result ≡ length self.now.labels }
         ensures few { length self.now.labels ≤ 64 }
         ensures names { IsDistinct bytes_eq (map (λ l. l.name) self.now.labels) }
         ensures distinct { AreDistinct (labels_of self.now) }
+        ensures valid { IsPolicy self.now }
     {
         self.labels.len()
     }
@@ -173,11 +174,12 @@ impl Policy {
         self.users[user.index()].clearance
     }
 
-    /// The interval in which a user may run transactions that release, if there is one.
+    /// The interval in which a user may run transactions that release, if there is one; its second label dominates its first.
     pub fn trusted(&self, user: UserNo) -> Option<(LabelNo, LabelNo)>
         requires { user < length self.now.users }
         ensures row { option_map (λ u. u.trusted) (slice_get self.now.users user) ≡ Some result }
         ensures declared { IfSome result (λ i. (i.0 < length self.now.labels) × (i.1 < length self.now.labels)) }
+        ensures ordered { IfSome result (λ i. below (labels_of self.now) i.0 i.1 ≡ true) }
     {
         self.users[user.index()].trusted
     }

@@ -1,11 +1,11 @@
 //! The users of a document.
 ghost use Rattle.std.specs.Prelude.{◌≡◌, ◌≢◌, ◌<◌, ◌≤◌, [], codes, length, IfOk, IfErr, IfSome, map, position};
-ghost use Rattle.std.specs.List.{list_any, AllByRecursion};
+ghost use Rattle.std.specs.List.{list_any};
 ghost use Rattle.std.specs.Str.{bytes_eq};
 ghost use Rattle.toml.specs.Data.{get_member};
 ghost use Rattle.toml.specs.View.{view, items_view, table_view};
 ghost use Rattle.mls_lattice.specs.Labels.{below};
-ghost use Rattle.mls_lattice.specs.Policy.{named, IsCleared};
+ghost use Rattle.mls_lattice.specs.Policy.{named};
 ghost use Rattle.mls_lattice.specs.Reading.{Gives};
 ghost use Rattle.mls_lattice.specs.PolicyReading.{rows_at, label_name_at, interval_at, trusted_at, user_at, users_at, user_place};
 
@@ -49,7 +49,6 @@ fn interval_of(
 ) -> Result<Option<(LabelNo, LabelNo)>, PolicyFault>
     requires { length labels.now ≤ 64 }
     ensures reads { Gives (λ i. i) result (interval_at (map named labels.now) (items_view items.now)) }
-    ensures within { IfOk result (λ o. IfSome o (λ i. (i.0 < length labels.now) × (i.1 < length labels.now))) }
     ensures toml { IfErr result (λ e. e ≢ PolicyFault.NotToml) }
 {
     let [low, high] = items else {
@@ -70,7 +69,6 @@ fn trusted_of(
 ) -> Result<Option<(LabelNo, LabelNo)>, PolicyFault>
     requires { length labels.now ≤ 64 }
     ensures reads { Gives (λ i. i) result (trusted_at (map named labels.now) (get_member (codes "trusted") (table_view fields.now))) }
-    ensures within { IfOk result (λ o. IfSome o (λ i. (i.0 < length labels.now) × (i.1 < length labels.now))) }
     ensures toml { IfErr result (λ e. e ≢ PolicyFault.NotToml) }
 {
     match field(fields, "trusted") {
@@ -94,7 +92,6 @@ fn user_of(
 ) -> Result<User, PolicyFault>
     requires { length labels.now ≤ 64 }
     ensures reads { Gives (λ u. u) result (user_at (map named labels.now) users.now (view value.now)) }
-    ensures cleared { IfOk result (λ u. IsCleared (length labels.now) u) }
     ensures toml { IfErr result (λ e. e ≢ PolicyFault.NotToml) }
 {
     let fields = table_of(value)?;
@@ -112,12 +109,10 @@ fn user_of(
     })
 }
 
-#[tactic(auto, using(crate::proofs::TablesLemmas::rows))]
 fn rows_of(alloc: Global, labels: &[NamedLabel], items: &[Value]) -> Result<Vec<User>, PolicyFault>
     requires { length labels.now ≤ 64 }
     ensures reads { Gives (λ v. v.items) result (rows_at (user_at (map named labels.now)) [] (items_view items.now)) }
     ensures count { IfOk result (λ v. length v.items ≡ length items.now) }
-    ensures cleared { IfOk result (λ v. AllByRecursion (IsCleared (length labels.now)) v.items) }
     ensures toml { IfErr result (λ e. e ≢ PolicyFault.NotToml) }
 {
     let mut users = Vec::new(alloc);
@@ -138,7 +133,6 @@ pub(crate) fn users_of(
     requires { length labels.now ≤ 64 }
     ensures reads { Gives (λ v. v.items) result (users_at (map named labels.now) (table_view document.now)) }
     ensures count { IfOk result (λ v. length v.items ≤ 64) }
-    ensures cleared { IfOk result (λ v. AllByRecursion (IsCleared (length labels.now)) v.items) }
     ensures toml { IfErr result (λ e. e ≢ PolicyFault.NotToml) }
 {
     let all = optional_tables(document, "user")?;

@@ -1,3 +1,4 @@
+pub mod KindLemmas
 pub mod OrderLemmas
 pub mod TableLemmas
 pub mod AttributeLemmas

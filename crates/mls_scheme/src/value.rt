@@ -1,11 +1,14 @@
 ghost use Rattle.std.specs.Prelude.{◌≡◌, ◌↔◌, IsTrue, IfOk};
 ghost use Rattle.std.specs.Cmp.Lexicographic.{slice_cmp};
-ghost use Rattle.mls_scheme.specs.Value.{kind_of, is_kind, value_cmp};
+ghost use Rattle.mls_scheme.specs.Value.{kind_of, is_kind, is_signed, is_text, value_cmp};
 ghost use Rattle.mls_scheme.specs.Document.{kind_word};
 
 use mls_lattice::{Items, Str};
 use std::alloc::AllocError;
 use std::cmp::Ordering;
+
+/// What the number of bytes of a text is below.
+const TEXT_LIMIT: usize = 4_294_967_296;
 
 /// What kind of value an attribute holds.
 #[derive(Clone, Copy, PartialEq, Eq, Debug)]
@@ -46,13 +49,14 @@ impl Value {
         }
     }
 
-    /// Whether the value is of a kind.
+    /// Whether the value is of a kind, within the bounds of the kind: a text can be too long.
+    #[tactic(auto, using(crate::proofs::KindLemmas::bounds))]
     pub fn is_kind(&self, kind: Kind) -> bool
         ensures { result ≡ is_kind self.now kind }
     {
         match (self, kind) {
-            (Value::Int(_), Kind::Int) => true,
-            (Value::Text(_), Kind::Text) => true,
+            (Value::Int(number), Kind::Int) => is_signed(*number),
+            (Value::Text(text), Kind::Text) => is_text(text.as_str()),
             _ => false,
         }
     }
@@ -77,6 +81,22 @@ impl Value {
     {
         self.cmp(other)
     }
+}
+
+/// Whether a number is within the bounds of the kind: each of 64 bits is.
+#[tactic(auto, using(crate::proofs::KindLemmas::bounds))]
+fn is_signed(_number: i64) -> bool
+    ensures { result ≡ is_signed _number }
+{
+    true
+}
+
+/// Whether a text is no longer than the kind allows.
+#[tactic(auto, using(crate::proofs::KindLemmas::bounds))]
+fn is_text(text: &str) -> bool
+    ensures { result ≡ is_text text.now }
+{
+    text.len() < TEXT_LIMIT
 }
 
 /// An equal key.

@@ -1,7 +1,6 @@
-use Rattle.std.proofs.Common.{rules, length, ◌∙◌}
-use Rattle.mls_lattice.specs.Policy.{HasLevel}
+use Rattle.std.proofs.Common.{rules, ◌∙◌}
 use Rattle.mls_lattice.specs.PolicyReading.{label_at}
-use Rattle.mls_lattice.proofs.TablesLemmas.{names-push, ranked-push, distinct-push, label_rows-more}
+use Rattle.mls_lattice.proofs.TablesLemmas.{label_rows-more}
 use Rattle.mls_lattice.proofs.labels.rows_of.Goals as goal
 
 pub loop-value-preserved : goal.loop-value-preserved
@@ -9,12 +8,7 @@ loop-value-preserved c =
     let front = c.loop-value.labels.items in
     let row = c.in_ok-label.label in
     let read = rw c.deref.ensures.value at c.in_ok-label.ensures.reads in
-    let new = rw c.deref.ensures.value at c.in_ok-label.ensures.new in
-    let unlike = rw c.deref.ensures.value at c.in_ok-label.ensures.unlike in
     rw c.in_ok-push.ensures.items (
       label_rows-more c.args.items.now c.loop-value.value-index c.value-item.result (label_at c.args.levels.now c.args.categories.now) front row c.loop-value-test.true c.value-item.is read ∙ c.loop-value.invariant.0,
       search rules,
-      names-push front row c.loop-value.invariant.2 new,
-      ranked-push (HasLevel (length c.args.levels.now)) front row c.loop-value.invariant.3 c.in_ok-label.ensures.ranked,
-      distinct-push front row c.loop-value.invariant.4 unlike,
     )

@@ -1,0 +1,259 @@
+-- What holds of every policy, since a document says it.
+use Rattle.std.proofs.Common.{◌≡◌, ◌≢◌, ℕ, zero, suc, ◌+◌, ◌<◌, ◌≤◌, ◌^◌, Bool, true, false, ◌||◌, ◌&&◌, nat_eq, List, [], ◌∷◌, ◌++◌, append_assoc, length, get_or, map, Option, None, Some, Ok, refl, sym, ap, subst, ◌∙◌, arith, bit_and, ◌==◌, cond, Err, not}
+use Rattle.std.specs.Prelude.{position}
+use Rattle.std.specs.Int.RustNames.{bit_or}
+use Rattle.std.specs.Option.{IfSome}
+use Rattle.std.specs.List.{list_any, AllByRecursion, IsDistinct, fold}
+use Rattle.std.specs.Str.{bytes_eq}
+use Rattle.std.specs.Cmp.{IsEquivalence, nat_eq_equiv}
+use Rattle.std.specs.Cmp.Lexicographic.{nat_list_eq_equiv}
+use Rattle.std.proofs.lemmas.Bool.{or_parts, and_parts, and_from, eqb-false, leb-true, not-true}
+use Rattle.std.proofs.lemmas.Nat.{or_lt}
+use Rattle.std.proofs.lemmas.List.{append-nil, map_push, length-map}
+use Rattle.std.proofs.lemmas.List.Quantifiers.{position-Some}
+use Rattle.std.proofs.lemmas.Map.Keys.{IsDistinct-push}
+use Rattle.toml.specs.Data.{Data, Items, no_items, item, Members}
+use Rattle.mls_lattice.specs.declared.fault.PolicyFault.{PolicyFault}
+use Rattle.mls_lattice.specs.declared.fault.PolicyFault.TheVariants.{UnknownName}
+use Rattle.mls_lattice.specs.declared.tables.User.{User}
+use Rattle.mls_lattice.specs.declared.tables.Right.{Right}
+use Rattle.mls_lattice.specs.Lattice.{Pair, same_pair}
+use Rattle.mls_lattice.specs.Labels.{Labels, label_of, AreDistinct, below}
+use Rattle.mls_lattice.specs.Name.{is_name}
+use Rattle.mls_lattice.specs.Policy.{Name, Named, Tables, labels_of, HasLevel, IsCleared, IsTrusted, HasUser, HasKnownModes, is_entry, same_entry, AreNames, IsPolicy}
+use Rattle.mls_lattice.specs.Says.{Rows, SaysName, SaysLabel, SaysUser, SaysTrusted, SaysMode, SaysRight, Says}
+use Rattle.mls_lattice.specs.PolicyReading.{version_at, levels_at, categories_at, labels_at, users_at, matrix_at, policy_at}
+use Rattle.mls_lattice.proofs.ReadsPolicyLemmas.{says_found}
+use Rattle.mls_lattice.proofs.LatticeLemmas.{same_pair-refl}
+use Rattle.mls_lattice.proofs.SaysLemmas.{ok_same}
+use Rattle.mls_lattice.proofs.TablesLemmas.{distinct_more, distinct-none}
+
+-- ---- of all rows
+
+-- what each row has
+each-row : {B : Type 0} (R : List B → Data → B → Type 0) (P : B → Type 0) → ((before : List B) (d : Data) (row : B) → R before d row → P row)
+    → (before : List B) (ds : Items) (rows : List B) → Rows R before ds rows → AllByRecursion P rows
+each-row R P has before no_items [] h = tt
+each-row R P has before no_items (row ∷ rows) h = absurd h
+each-row R P has before (item d ds) [] h = absurd h
+each-row R P has before (item d ds) (row ∷ rows) h = (has before d row h.0, each-row R P has (before ++ row ∷ []) ds rows h.1)
+
+-- what holds of the rows so far, and stays so with each row
+all-rows : {B : Type 0} (R : List B → Data → B → Type 0) (P : List B → Type 0) → ((before : List B) (d : Data) (row : B) → R before d row → P before → P (before ++ row ∷ []))
+    → (before : List B) (ds : Items) (rows : List B) → Rows R before ds rows → P before → P (before ++ rows)
+all-rows R P more before no_items [] h holds = subst P (sym (append-nil before)) holds
+all-rows R P more before no_items (row ∷ rows) h holds = absurd h
+all-rows R P more before (item d ds) [] h holds = absurd h
+all-rows R P more before (item d ds) (row ∷ rows) h holds =
+    subst P (append_assoc before (row ∷ []) rows) (all-rows R P more (before ++ row ∷ []) ds rows h.1 (more before d row h.0 holds))
+
+none-distinct : {K : Type 0} (eq : K → K → Bool) → IsDistinct eq []
+unfolding IsDistinct
+none-distinct eq = tt
+
+-- rows with a name that no row before has
+module _ {B : Type 0} (name : B → Name) where
+  named-rows : (R : List B → Data → B → Type 0) → ((before : List B) (d : Data) (row : B) → R before d row → is_name (name row) ≡ true)
+      → (before : List B) (ds : Items) (rows : List B) → Rows R before ds rows → AreNames (map name rows)
+  named-rows R has before no_items [] h = tt
+  named-rows R has before no_items (row ∷ rows) h = absurd h
+  named-rows R has before (item d ds) [] h = absurd h
+  named-rows R has before (item d ds) (row ∷ rows) h = (has before d row h.0, named-rows R has (before ++ row ∷ []) ds rows h.1)
+
+  new-name : (rows : List B) (row : B) → list_any (λ other. bytes_eq (name other) (name row)) rows ≡ false → list_any (bytes_eq (name row)) (map name rows) ≡ false
+  new-name [] row h = refl
+  new-name (r ∷ rows) row h =
+      let p = or_parts (bytes_eq (name r) (name row)) (list_any (λ other. bytes_eq (name other) (name row)) rows) h in
+      rw (nat_list_eq_equiv.symm (name row) (name r) ∙ p.0) (new-name rows row p.1)
+
+  more-names : (rows : List B) (row : B) → list_any (λ other. bytes_eq (name other) (name row)) rows ≡ false → IsDistinct bytes_eq (map name rows) → IsDistinct bytes_eq (map name (rows ++ row ∷ []))
+  more-names rows row new apart = rw (map_push name rows row) (IsDistinct-push nat_list_eq_equiv (map name rows) (name row) apart (new-name rows row new))
+
+-- ---- levels and categories
+
+names-named : (ds : Items) (names : List Name) → Rows SaysName [] ds names → AreNames names
+names-named = each-row SaysName (λ name. is_name name ≡ true) (λ before d name h. h.is_name) []
+
+names-distinct : (ds : Items) (names : List Name) → Rows SaysName [] ds names → IsDistinct bytes_eq names
+names-distinct ds names h =
+    all-rows SaysName (IsDistinct bytes_eq) (λ before d name says apart. IsDistinct-push nat_list_eq_equiv before name apart says.new) [] ds names h (none-distinct bytes_eq)
+
+kept-level_names : (document : Members) (p : Tables) → Says document p → AreNames p.levels
+kept-level_names document p says = names-named says.levels.0 p.levels says.levels.2
+
+kept-levels_distinct : (document : Members) (p : Tables) → Says document p → IsDistinct bytes_eq p.levels
+kept-levels_distinct document p says = names-distinct says.levels.0 p.levels says.levels.2
+
+kept-category_names : (document : Members) (p : Tables) → Says document p → AreNames p.categories
+kept-category_names document p says = names-named says.categories.0 p.categories says.categories.2
+
+kept-categories_distinct : (document : Members) (p : Tables) → Says document p → IsDistinct bytes_eq p.categories
+kept-categories_distinct document p says = names-distinct says.categories.0 p.categories says.categories.2
+
+-- ---- labels
+
+kept-label_names : (document : Members) (p : Tables) → Says document p → AreNames (map (λ l. l.name) p.labels)
+kept-label_names document p says =
+    named-rows (λ (l : Named). l.name) (SaysLabel p.levels p.categories) (λ before d l h. h.name.is_name) [] says.labels.0 p.labels says.labels.2
+
+kept-names : (document : Members) (p : Tables) → Says document p → IsDistinct bytes_eq (map (λ l. l.name) p.labels)
+kept-names document p says =
+    all-rows (SaysLabel p.levels p.categories) (λ ls. IsDistinct bytes_eq (map (λ l. l.name) ls)) (λ before d l h apart. more-names (λ (x : Named). x.name) before l h.new_name apart)
+    [] says.labels.0 p.labels says.labels.2 (none-distinct bytes_eq)
+
+-- a value that no test finds is that of none
+new-value : (ls : List Named) (p : Pair) → list_any (λ other. same_pair other.value p) ls ≡ false → (a : ℕ) → a < length (map (λ (l : Named). l.value) ls) → label_of (map (λ l. l.value) ls) a ≢ p
+new-value [] p h a lt e = absurd (omega arith)
+new-value (l ∷ ls) p h zero lt e =
+    let off = (or_parts (same_pair l.value p) (list_any (λ other. same_pair other.value p) ls) h).0 in
+    let bad : true ≡ false = sym (ap (λ (q : Pair). same_pair q p) e ∙ same_pair-refl p) ∙ off in
+    cc
+new-value (l ∷ ls) p h (suc a) lt e = new-value ls p (or_parts (same_pair l.value p) _ h).1 a (omega (arith, lt)) e
+
+kept-distinct : (document : Members) (p : Tables) → Says document p → AreDistinct (labels_of p)
+kept-distinct document p says =
+    all-rows (SaysLabel p.levels p.categories) (λ ls. AreDistinct (map (λ l. l.value) ls))
+    (λ before d l h apart. rw (map_push (λ (x : Named). x.value) before l) (distinct_more (map (λ (x : Named). x.value) before) l.value apart (new-value before l.value h.new_value)))
+    [] says.labels.0 p.labels says.labels.2 distinct-none
+
+kept-ranked : (document : Members) (p : Tables) → Says document p → AllByRecursion (HasLevel (length p.levels)) p.labels
+kept-ranked document p says =
+    each-row (SaysLabel p.levels p.categories) (HasLevel (length p.levels)) (λ before d l h. record { rank = (position-Some _ p.levels l.value.rank [] h.value.rank).0 })
+    [] says.labels.0 p.labels says.labels.2
+
+-- ---- users
+
+kept-user_names : (document : Members) (p : Tables) → Says document p → AreNames (map (λ u. u.name) p.users)
+kept-user_names document p says =
+    named-rows (λ (u : User). u.name) (SaysUser p.labels) (λ before d u h. h.name.is_name) [] says.users.0 p.users says.users.2
+
+kept-users_distinct : (document : Members) (p : Tables) → Says document p → IsDistinct bytes_eq (map (λ u. u.name) p.users)
+kept-users_distinct document p says =
+    all-rows (SaysUser p.labels) (λ us. IsDistinct bytes_eq (map (λ u. u.name) us)) (λ before d u h apart. more-names (λ (x : User). x.name) before u h.new_name apart)
+    [] says.users.0 p.users says.users.2 (none-distinct bytes_eq)
+
+within : (labels : List Named) (name : Name) (k : ℕ) → position (λ l. bytes_eq l.name name) labels ≡ Some k → k < length labels
+within [] name k e = absurd cc
+within (l ∷ ls) name k e = (position-Some (λ x. bytes_eq x.name name) (l ∷ ls) k l e).0
+
+trusted-declared : (labels : List Named) (field : Option Data) (o : Option (ℕ × ℕ)) → SaysTrusted labels field o → IfSome o (λ i. (i.0 < length labels) × (i.1 < length labels))
+trusted-declared labels field None h = tt
+trusted-declared labels field (Some i) (low, high, is, l, h, order) = (within labels l.name i.0 l.place, within labels h.name i.1 h.place)
+
+trusted-ordered : (labels : List Named) (field : Option Data) (o : Option (ℕ × ℕ)) → SaysTrusted labels field o → IfSome o (λ i. below (map (λ l. l.value) labels) i.0 i.1 ≡ true)
+trusted-ordered labels field None h = tt
+trusted-ordered labels field (Some i) (low, high, is, l, h, order) = order
+
+kept-cleared : (document : Members) (p : Tables) → Says document p → AllByRecursion (IsCleared (length p.labels)) p.users
+kept-cleared document p says =
+    each-row (SaysUser p.labels) (IsCleared (length p.labels))
+    (λ before d u h. record { clearance = within p.labels h.cleared u.clearance h.clearance; trusted = trusted-declared p.labels _ u.trusted h.trusted })
+    [] says.users.0 p.users says.users.2
+
+kept-trusted : (document : Members) (p : Tables) → Says document p → AllByRecursion (IsTrusted (labels_of p)) p.users
+kept-trusted document p says =
+    each-row (SaysUser p.labels) (IsTrusted (labels_of p)) (λ before d u h. trusted-ordered p.labels _ u.trusted h.trusted) [] says.users.0 p.users says.users.2
+
+-- ---- the matrix
+
+user-within : (users : List User) (name : Name) (k : ℕ) → position (λ u. bytes_eq u.name name) users ≡ Some k → k < length users
+user-within [] name k e = absurd cc
+user-within (u ∷ us) name k e = (position-Some (λ x. bytes_eq x.name name) (u ∷ us) k u e).0
+
+kept-held : (document : Members) (p : Tables) → Says document p → AllByRecursion (HasUser (length p.users)) p.matrix
+kept-held document p says =
+    each-row (SaysRight p.users) (HasUser (length p.users)) (λ before d r h. record { user = user-within p.users h.name r.user h.user }) [] says.matrix.0 p.matrix says.matrix.2
+
+kept-object_names : (document : Members) (p : Tables) → Says document p → AreNames (map (λ r. r.object) p.matrix)
+kept-object_names document p says =
+    named-rows (λ (r : Right). r.object) (SaysRight p.users) (λ before d r h. h.object.is_name) [] says.matrix.0 p.matrix says.matrix.2
+
+entry-equiv : IsEquivalence same_entry
+entry-equiv = record {
+  refl = λ r. and_from _ _ (nat_eq_equiv.refl r.user) (nat_list_eq_equiv.refl r.object);
+  symm = λ r s. rw (nat_eq_equiv.symm s.user r.user, nat_list_eq_equiv.symm s.object r.object) refl;
+  congr = congr;
+}
+  where
+    congr : (r s t : Right) → same_entry r s ≡ true → same_entry r t ≡ same_entry s t
+    congr r s t e =
+        let p = and_parts (nat_eq s.user r.user) (bytes_eq s.object r.object) e in
+        let user : nat_eq t.user r.user ≡ nat_eq t.user s.user =
+        nat_eq_equiv.symm t.user r.user ∙ sym (nat_eq_equiv.congr s.user r.user t.user p.0) ∙ nat_eq_equiv.symm s.user t.user in
+        let object : bytes_eq t.object r.object ≡ bytes_eq t.object s.object =
+        nat_list_eq_equiv.symm t.object r.object ∙ sym (nat_list_eq_equiv.congr s.object r.object t.object p.1) ∙ nat_list_eq_equiv.symm s.object t.object in
+        rw (user, object) refl
+
+kept-entries_distinct : (document : Members) (p : Tables) → Says document p → IsDistinct same_entry p.matrix
+kept-entries_distinct document p says =
+    all-rows (SaysRight p.users) (IsDistinct same_entry) (λ before d r h apart. IsDistinct-push entry-equiv before r apart h.new) [] says.matrix.0 p.matrix says.matrix.2 (none-distinct same_entry)
+
+mode-small : (b c d e : Bool) (m : ℕ) → cond b (Ok 1) (cond c (Ok 2) (cond d (Ok 4) (cond e (Ok 8) (Err UnknownName)))) ≡ Ok m → m < 2 ^ 4
+mode-small true c d e m h = let same = ok_same 1 m (Ok 1) refl h in omega (arith, same)
+mode-small false true d e m h = let same = ok_same 2 m (Ok 2) refl h in omega (arith, same)
+mode-small false false true e m h = let same = ok_same 4 m (Ok 4) refl h in omega (arith, same)
+mode-small false false false true m h = let same = ok_same 8 m (Ok 8) refl h in omega (arith, same)
+mode-small false false false false m h = absurd cc
+
+together-small : (n : ℕ) (modes : List ℕ) → n < 2 ^ 4 → AllByRecursion (λ m. m < 2 ^ 4) modes → fold bit_or n modes < 2 ^ 4
+together-small n [] small all = small
+together-small n (m ∷ modes) small all = together-small (bit_or n m) modes (or_lt 4 n m small all.0) all.1
+
+kept-modes : (document : Members) (p : Tables) → Says document p → AllByRecursion HasKnownModes p.matrix
+kept-modes document p says =
+    each-row (SaysRight p.users) HasKnownModes
+    (λ before d r h. record {
+      modes = subst (λ (n : ℕ). n < 16) (sym h.all_modes) (together-small 0 h.modes (omega arith)
+          (each-row SaysMode (λ m. m < 2 ^ 4) (λ before d m h. mode-small _ _ _ _ m h.is_word) [] h.items h.modes h.says_modes));
+    })
+    [] says.matrix.0 p.matrix says.matrix.2
+
+pub policy-kept : (document : Members) (p : Tables) → Says document p → IsPolicy p
+policy-kept document p says = record {
+  some_level = says.some_level;
+  few_levels = says.few_levels;
+  level_names = kept-level_names document p says;
+  levels = kept-levels_distinct document p says;
+  few_categories = says.few_categories;
+  category_names = kept-category_names document p says;
+  categories = kept-categories_distinct document p says;
+  some_label = says.some_label;
+  few_labels = says.few_labels;
+  label_names = kept-label_names document p says;
+  names = kept-names document p says;
+  distinct = kept-distinct document p says;
+  ranked = kept-ranked document p says;
+  few_users = says.few_users;
+  user_names = kept-user_names document p says;
+  users = kept-users_distinct document p says;
+  cleared = kept-cleared document p says;
+  trusted = kept-trusted document p says;
+  few_rights = says.few_rights;
+  object_names = kept-object_names document p says;
+  held = kept-held document p says;
+  known = kept-modes document p says;
+  entries = kept-entries_distinct document p says;
+}
+
+-- a policy that reading gives part by part
+pub policy-read : (document : Members) (v : Unit {0}) (levels categories : List Name) (labels : List Named) (users : List User) (matrix : List Right)
+    → version_at document ≡ Ok v → levels_at document ≡ Ok levels → categories_at document ≡ Ok categories → labels_at levels categories document ≡ Ok labels
+    → users_at labels document ≡ Ok users → matrix_at users document ≡ Ok matrix
+    → IsPolicy (record { levels = levels; categories = categories; labels = labels; users = users; matrix = matrix })
+unfolding policy_at
+policy-read document v levels categories labels users matrix version l c b u m =
+    let p : Tables = record { levels = levels; categories = categories; labels = labels; users = users; matrix = matrix } in
+    let read : policy_at document ≡ Ok p = rw (version, l, c, b, u, m) refl in
+    policy-kept document p (says_found document p read)
+
+-- ---- names are short texts
+
+pub name-short : (name : Name) → is_name name ≡ true → (0 < length name) × (length name ≤ 32)
+unfolding is_name
+name-short name h =
+    let a = and_parts _ _ h in
+    let b = and_parts _ _ a.0 in
+    let c = and_parts _ _ b.0 in
+    let d = and_parts _ _ c.0 in
+    let some : length name ≡ 0 → ⊥ = eqb-false (length name) 0 (not-true _ d.0) in
+    (omega (arith, some), leb-true (length name) 32 d.1)

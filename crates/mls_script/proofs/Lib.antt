@@ -1,0 +1,3 @@
+pub mod ItemSteps
+pub mod FitSteps
+pub mod ScriptSteps

@@ -70,6 +70,28 @@ fn run_files<H: Host, W: Write>(
     run_script(alloc, &policy, &schemes, &bytes, out)
 }
 
+/// Prints the canonical texts.
+fn show_policy<H: Host, W: Write>(
+    alloc: Global,
+    host: &mut H,
+    policy: &str,
+    schemes: &str,
+    out: &mut W,
+) -> Result<(), Refusal> {
+    let policy = Policy::read(alloc, &input_of(alloc, host, Role::Policy, policy)?)?;
+    let schemes = Schemes::read(
+        alloc,
+        &policy,
+        &input_of(alloc, host, Role::Schemes, schemes)?,
+    )?;
+    let mut text = policy.canon(alloc)?;
+    text.append(&mut schemes.canon(alloc, &policy)?)?;
+    match out.write_all(&text) {
+        Ok(()) => Ok(()),
+        Err(_) => Err(Refusal::Output),
+    }
+}
+
 fn answer<H: Host, W: Write>(
     alloc: Global,
     words: &[&str],
@@ -83,6 +105,7 @@ fn answer<H: Host, W: Write>(
             schemes,
             script,
         } => run_files(alloc, host, policy, schemes, script, out),
+        Job::ShowPolicy { policy, schemes } => show_policy(alloc, host, policy, schemes, out),
     }
 }
 

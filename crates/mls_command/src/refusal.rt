@@ -35,6 +35,8 @@ pub enum Refusal {
     Schemes(SchemeFault),
     Script(ScriptFault),
     Run(RunFault),
+    /// What a command other than a run prints was not taken.
+    Output,
     Memory,
 }
 
@@ -60,6 +62,7 @@ impl Refusal {
             Refusal::Policy(PolicyFault::Memory)
             | Refusal::Schemes(SchemeFault::Memory)
             | Refusal::Run(_)
+            | Refusal::Output
             | Refusal::Memory => 3,
             Refusal::Script(fault) if fault.cause == ScriptCause::Memory => 3,
             _ => 2,
@@ -92,6 +95,7 @@ impl Refusal {
             Refusal::Run(fault) => {
                 writeln!(err, "mldb: run: {} at {}", fault.cause.word(), fault.event)
             }
+            Refusal::Output => writeln!(err, "mldb: output: Write"),
             Refusal::Memory => writeln!(err, "mldb: memory"),
         }
     }

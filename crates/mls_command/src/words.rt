@@ -1,7 +1,7 @@
 //! The command line.
 use crate::refusal::Refusal;
 use clap::error::ErrorKind;
-use clap::{Arg, Command, Error};
+use clap::{Arg, ArgMatches, Command, Error};
 use std::alloc::{AllocError, Global};
 
 const ABOUT: &str = "A relational database whose elements have security levels, proved";
@@ -24,22 +24,40 @@ pub enum Job<'a> {
         schemes: &'a str,
         script: &'a str,
     },
+    /// The canonical texts of a policy and schemes, each named by a path.
+    ShowPolicy {
+        policy: &'a str,
+        schemes: &'a str,
+    },
+}
+
+fn policy_argument<'a>(alloc: Global) -> Arg<'a> {
+    Arg::new(alloc, "POLICY")
+        .required(true)
+        .help("The policy: levels, labels, users and rights (TOML)")
+}
+
+fn schemes_argument<'a>(alloc: Global) -> Arg<'a> {
+    Arg::new(alloc, "SCHEMES")
+        .required(true)
+        .help("The relations (TOML)")
+}
+
+fn show_policy_command<'a>(alloc: Global) -> Result<Command<'a>, AllocError> {
+    Command::new(alloc, "show-policy")
+        .about("Prints the canonical texts of a policy and its schemes")
+        .arg(policy_argument(alloc))?
+        .arg(schemes_argument(alloc))
 }
 
 fn run_command<'a>(alloc: Global) -> Result<Command<'a>, AllocError> {
-    let policy = Arg::new(alloc, "POLICY")
-        .required(true)
-        .help("The policy: levels, labels, users and rights (TOML)");
-    let schemes = Arg::new(alloc, "SCHEMES")
-        .required(true)
-        .help("The relations (TOML)");
     let script = Arg::new(alloc, "SCRIPT")
         .required(true)
         .help("The commands of the sessions, one a line");
     Command::new(alloc, "run")
         .about("Runs a script, and prints a line for each reply")
-        .arg(policy)?
-        .arg(schemes)?
+        .arg(policy_argument(alloc))?
+        .arg(schemes_argument(alloc))?
         .arg(script)
 }
 
@@ -48,7 +66,8 @@ fn command<'a>(alloc: Global) -> Result<Command<'a>, AllocError> {
         .about(ABOUT)
         .after_help(EXAMPLE)
         .subcommand_required(true)
-        .subcommand(run_command(alloc)?)
+        .subcommand(run_command(alloc)?)?
+        .subcommand(show_policy_command(alloc)?)
 }
 
 fn usage(alloc: Global, error: &Error) -> Refusal {
@@ -61,12 +80,30 @@ fn usage(alloc: Global, error: &Error) -> Refusal {
     }
 }
 
-/// The refusal of words that name no command with its three paths, all of which the parser has refused before.
+/// The refusal of words that name no command with its paths, all of which the parser has refused before.
 fn no_command(alloc: Global) -> Refusal {
-    match String::from_str(alloc, "mldb: run POLICY SCHEMES SCRIPT\n") {
+    match String::from_str(
+        alloc,
+        "mldb: run POLICY SCHEMES SCRIPT | show-policy POLICY SCHEMES\n",
+    ) {
         Ok(text) => Refusal::Usage(text),
         Err(_) => Refusal::Memory,
     }
+}
+
+fn run_job<'a>(run: &ArgMatches<'a>) -> Option<Job<'a>> {
+    Some(Job::Run {
+        policy: run.get_str("POLICY")?,
+        schemes: run.get_str("SCHEMES")?,
+        script: run.get_str("SCRIPT")?,
+    })
+}
+
+fn show_policy_job<'a>(show: &ArgMatches<'a>) -> Option<Job<'a>> {
+    Some(Job::ShowPolicy {
+        policy: show.get_str("POLICY")?,
+        schemes: show.get_str("SCHEMES")?,
+    })
 }
 
 /// What the words ask for; the first of them is the name that the program was called by.
@@ -78,19 +115,10 @@ pub fn job_of<'a>(alloc: Global, words: &'a [&'a str]) -> Result<Job<'a>, Refusa
         Ok(matches) => matches,
         Err(error) => return Err(usage(alloc, &error)),
     };
-    let Some(run) = matches.subcommand_matches("run") else {
-        return Err(no_command(alloc));
+    let job = match matches.subcommand() {
+        Some(("run", run)) => run_job(run),
+        Some(("show-policy", show)) => show_policy_job(show),
+        _ => None,
     };
-    match (
-        run.get_str("POLICY"),
-        run.get_str("SCHEMES"),
-        run.get_str("SCRIPT"),
-    ) {
-        (Some(policy), Some(schemes), Some(script)) => Ok(Job::Run {
-            policy,
-            schemes,
-            script,
-        }),
-        _ => Err(no_command(alloc)),
-    }
+    job.ok_or(no_command(alloc))
 }

@@ -1,6 +1,8 @@
 //! Transactions as trees.
 #![tactic(auto)]
 
+ghost use Rattle.mls_translang.specs.ReadsBack.{LayoutsAreTokens};
+
 mod block;
 mod expr;
 mod layout;
@@ -22,3 +24,8 @@ pub use operator::Operator;
 pub use print_tx::print;
 pub use row::Row;
 pub use tx::{Parameter, Tx, statements};
+
+/// A layout of tokens is read back as these tokens.
+pub fn layouts_are_tokens()
+    ensures { LayoutsAreTokens }
+{}

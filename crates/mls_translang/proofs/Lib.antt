@@ -6,3 +6,4 @@ pub mod BlockLemmas
 pub mod ReadsBackLemmas
 pub mod NumberLemmas
 pub mod SpelledLemmas
+pub mod PrintedLemmas

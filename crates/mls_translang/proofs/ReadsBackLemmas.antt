@@ -1,19 +1,18 @@
 -- Tokens that are laid out are read back.
-use Rattle.std.proofs.Common.{◌≡◌, ℕ, suc, zero, ◌+◌, ◌-◌, nat_eq, ◌||◌, Bool, true, false, cond, List, [], ◌∷◌, ◌++◌, map, codes, slice_index, refl, sym, ap, ◌∙◌, inl, append_assoc}
+use Rattle.std.proofs.Common.{◌≡◌, ℕ, suc, zero, ◌-◌, nat_eq, Bool, true, false, cond, List, [], ◌∷◌, ◌++◌, map, codes, slice_index, refl, ap, inl}
 use Rattle.std.specs.List.{AllByRecursion, flat_map}
 use Rattle.std.specs.Char.{is_ascii_digit}
 use Rattle.std.specs.Str.{bytes_eq}
-use Rattle.std.proofs.lemmas.List.{append-nil}
 use Rattle.mls_lattice.specs.Name.{is_name_byte}
 use Rattle.mls_tokens.specs.declared.token.Token.{Token}
 use Rattle.mls_tokens.specs.declared.token.Token.TheVariants.{Word, Int, Text, Sign}
 use Rattle.mls_tokens.specs.declared.sign.Sign.TheVariants as sign
-use Rattle.mls_tokens.specs.Text.{goes_on, is_blank, IsPiece, IsGap, IsLast, Begins, IsOver, AreTokens, Spells}
+use Rattle.mls_tokens.specs.Text.{goes_on, is_blank, IsPiece, IsGap, AreTokens}
 use Rattle.mls_translang.specs.declared.layout.Before.{Before}
 use Rattle.mls_translang.specs.declared.layout.Before.TheVariants.{Nothing, Opening, LineEnd, Brace, Other}
 use Rattle.mls_translang.specs.declared.layout.Side.{Side}
 use Rattle.mls_translang.specs.declared.layout.Side.TheVariants as side
-use Rattle.mls_translang.specs.Layout.{spelled, side_of, before_of, depth_after, indent, new_line, gap, laid, layout}
+use Rattle.mls_translang.specs.Layout.{spelled, side_of, before_of, depth_after, indent, new_line, gap, laid}
 use Rattle.mls_translang.specs.ReadsBack.{IsSpelled, LayoutsAreTokens}
 
 -- ---- a token ends where the next or its gap begins
@@ -156,17 +155,18 @@ pub laid_tokens : (d : ℕ) (b : Before) (ts : List Token) → AllByRecursion Is
 laid_tokens d b [] h =
     record { gap = codes "\n"; last = []; parts = refl; is_gap = blank_gap (codes "\n") (refl, tt); is_last = inl refl }
 laid_tokens d b (t ∷ ts) h =
-    let rest = laid (depth_after d t) (before_of t) ts in
-    (rest,
-    record {
-      gap = gap d b (side_of t);
-      text = spelled t;
-      parts = refl;
-      is_gap = blank_gap _ (gap_blank d b (side_of t));
-      spells = h.0;
-      ends = ends t (depth_after d t) ts
-    },
-    laid_tokens (depth_after d t) (before_of t) ts h.1)
+    let rest = laid (depth_after d t) (before_of t) ts in (
+      rest,
+      record {
+        gap = gap d b (side_of t);
+        text = spelled t;
+        parts = refl;
+        is_gap = blank_gap _ (gap_blank d b (side_of t));
+        spells = h.0;
+        ends = ends t (depth_after d t) ts;
+      },
+      laid_tokens (depth_after d t) (before_of t) ts h.1,
+    )
 
 pub layouts_are_tokens : LayoutsAreTokens
 layouts_are_tokens ts h = laid_tokens 0 Nothing ts h

@@ -1,39 +1,33 @@
 -- The tokens of a transaction are spelled as they are written.
-use Rattle.std.proofs.Common.{◌≡◌, ℕ, zero, suc, ◌+◌, ◌-◌, ◌<◌, ◌≤◌, ◌^◌, nat_lt, nat_le, Bool, true, ℤ, pos, negsuc, List, [], ◌∷◌, ◌++◌, map, codes, length, slice_get, slice_index_or, slice_index, Option, Some, None, option_map, cond, refl, sym, ap, ◌∙◌, inl, inr, arith, subst}
-use Rattle.std.specs.Option.{unwrap_or, IfSome}
+use Rattle.std.proofs.Common.{◌≡◌, ℕ, zero, suc, ◌<◌, nat_le, Bool, true, List, [], ◌∷◌, ◌++◌, codes, length, slice_index, Option, Some, None, refl, arith}
+use Rattle.std.specs.Option.{IfSome}
 use Rattle.std.specs.List.{AllByRecursion, flat_map, list_all}
 use Rattle.std.specs.Char.{is_ascii_alphabetic}
-use Rattle.std.proofs.lemmas.Bool.{and_parts, leb-true, cases_Bool, cases_lt, true≢false, lt-ltb, le-ltb}
-use Rattle.std.proofs.lemmas.Option.{slice_get-get_or}
+use Rattle.std.proofs.lemmas.Bool.{and_parts, leb-true}
 use Rattle.mls_lattice.specs.Name.{is_name, is_name_byte}
-use Rattle.mls_lattice.specs.Policy.{Name, AreNames, Tables, IsPolicy}
+use Rattle.mls_lattice.specs.Policy.{Name}
 use Rattle.mls_lattice.specs.Canon.{label_name}
 use Rattle.mls_scheme.specs.declared.value.Value.{Value}
 use Rattle.mls_scheme.specs.declared.value.Value.TheVariants as values
-use Rattle.mls_scheme.specs.declared.value.Kind.{Kind}
-use Rattle.mls_scheme.specs.declared.value.Kind.TheVariants as kinds
-use Rattle.mls_scheme.specs.Scheme.{Scheme, Schemes, Attribute, scheme_of, other_of, no_scheme, no_attribute}
+use Rattle.mls_scheme.specs.Scheme.{scheme_of, other_of}
 use Rattle.mls_tokens.specs.declared.token.Token.{Token}
-use Rattle.mls_tokens.specs.declared.token.Token.TheVariants.{Word, Int, Text, Sign}
+use Rattle.mls_tokens.specs.declared.token.Token.TheVariants.{Word, Sign}
 use Rattle.mls_tokens.specs.declared.sign.Sign.TheVariants as sign
-use Rattle.mls_tokens.specs.Text.{IsWord}
 use Rattle.mls_translang.specs.declared.operator.Operator.{Operator}
 use Rattle.mls_translang.specs.declared.operator.Operator.TheVariants as operators
-use Rattle.mls_translang.specs.declared.tx.Parameter.{Parameter}
-use Rattle.mls_translang.specs.Tree.{Expr, Known, Null, Var, Param, Field, No, Op, Writing, Inserting, Updating, Deleting, Stmt, Assign, Write_at, Release, Emit, Block, End, Do, If, For, is_end}
-use Rattle.mls_translang.specs.Scope.{Scope, in_loop, row_at}
+use Rattle.mls_translang.specs.Tree.{Expr, Known, Null, Var, Param, Field, No, Op, Inserting, Updating, Deleting, Stmt, Assign, Write_at, Release, Emit, Block, End, Do, If, For}
+use Rattle.mls_translang.specs.Scope.{row_at}
 use Rattle.mls_translang.specs.Kinds.{field_of}
-use Rattle.mls_translang.specs.Tx.{Tx, HasOwn, IsOwn, IsLiteral, StmtIsOwn, BlockIsOwn}
-use Rattle.mls_translang.specs.Fits.{IsLabel, width, ExprFits, ListFits, SetsFit, StmtFits, BlockFits}
-use Rattle.mls_translang.specs.Tokens.{Place, at_row, name_at, value_token, operator_token, expr_tokens, comma_tokens, separated, list_tokens, set_tokens, stmt_end, head_tokens, class_tokens, update_end, write_end, write_tokens, stmt_tokens, else_tokens, braced, for_tokens, block_tokens}
+use Rattle.mls_translang.specs.Tx.{HasOwn, IsOwn, IsLiteral, StmtIsOwn, BlockIsOwn}
+use Rattle.mls_translang.specs.Fits.{IsLabel, width, ExprFits, StmtFits, BlockFits}
+use Rattle.mls_translang.specs.Tokens.{Place, at_row, name_at, value_token, operator_token, expr_tokens, comma_tokens, separated, list_tokens, set_tokens, stmt_end, head_tokens, write_end, stmt_tokens, else_tokens, braced, block_tokens}
 use Rattle.mls_translang.specs.ReadsBack.{IsSpelled}
-use Rattle.mls_translang.proofs.FieldLemmas.{has_attribute}
 use Rattle.mls_translang.proofs.NumberLemmas.{int_spelled}
 
 abbrev pub AreSpelled : List Token → Type 0
 AreSpelled = AllByRecursion IsSpelled
 
-both : (ts us : List Token) → AreSpelled ts → AreSpelled us → AreSpelled (ts ++ us)
+pub both : (ts us : List Token) → AreSpelled ts → AreSpelled us → AreSpelled (ts ++ us)
 both [] us h k = k
 both (t ∷ ts) us h k = (h.0, both ts us h.1 k)
 
@@ -54,7 +48,7 @@ named name h =
     (refl, record { letter = d.1; bytes = all_of is_name_byte name b.1; short = leb-true (length name) 32 e.1 })
 
 -- a reserved word is a word, too
-word_spelled : (w : List ℕ) → is_ascii_alphabetic (slice_index w 0) ≡ true → list_all is_name_byte w ≡ true → nat_le (length w) 32 ≡ true → IsSpelled (Word w)
+pub word_spelled : (w : List ℕ) → is_ascii_alphabetic (slice_index w 0) ≡ true → list_all is_name_byte w ≡ true → nat_le (length w) 32 ≡ true → IsSpelled (Word w)
 word_spelled w letter bytes short = (refl, record { letter = letter; bytes = all_of is_name_byte w bytes; short = leb-true (length w) 32 short })
 
 -- ---- what names are at a place
@@ -76,7 +70,7 @@ inside p row rel named h = record {
   other = h.other;
   var = h.var;
   param = h.param;
-  row = rows
+  row = rows;
 }
   where
     rows : (d : ℕ) → d < length (at_row p row rel).scope.rows → is_name (row_at (at_row p row rel).scope d).name ≡ true
@@ -110,9 +104,11 @@ module _ (p : Place) (h : HasNames p) where
   expr_spelled (Param i) own fits = (named _ (h.param i own), tt)
   expr_spelled (Field d i) own fits = (named _ (h.row d own), (refl, (named _ (h.field (row_at p.scope d).relation i fits), tt)))
   expr_spelled (No e) own fits = (word_spelled (codes "not") refl refl refl, expr_spelled e own fits)
-  expr_spelled (Op op left right) own fits =
-      (refl, both (expr_tokens p left) _ (expr_spelled left own.0 fits.0)
-      (operator_spelled op, both (expr_tokens p right) _ (expr_spelled right own.1 fits.1) (refl, tt)))
+  expr_spelled (Op op left right) own fits = (
+    refl,
+    both (expr_tokens p left) _ (expr_spelled left own.0 fits.0)
+        (operator_spelled op, both (expr_tokens p right) _ (expr_spelled right own.1 fits.1) (refl, tt)),
+  )
 
   list_items : (es : List Expr) → AllByRecursion (IsOwn p.scope) es → AllByRecursion (ExprFits p.schemes p.scope) es
       → AreSpelled (flat_map (comma_tokens (expr_tokens p)) es)
@@ -121,9 +117,11 @@ module _ (p : Place) (h : HasNames p) where
 
   list_spelled : (es : List Expr) → AllByRecursion (IsOwn p.scope) es → AllByRecursion (ExprFits p.schemes p.scope) es → AreSpelled (list_tokens p es)
   list_spelled [] own fits = (refl, (refl, tt))
-  list_spelled (e ∷ es) own fits =
-      (refl, both (separated (expr_tokens p) (e ∷ es)) (Sign sign.RightParen ∷ [])
-      (both (expr_tokens p e) _ (expr_spelled e own.0.numbers fits.0) (list_items es own.1 fits.1)) (refl, tt))
+  list_spelled (e ∷ es) own fits = (
+    refl,
+    both (separated (expr_tokens p) (e ∷ es)) (Sign sign.RightParen ∷ [])
+        (both (expr_tokens p e) _ (expr_spelled e own.0.numbers fits.0) (list_items es own.1 fits.1)) (refl, tt),
+  )
 
   -- ---- writes
 
@@ -168,26 +166,46 @@ module _ (p : Place) (h : HasNames p) where
       (word_spelled (codes "values") refl refl refl, both (list_tokens p values) _ (list_spelled values own.0.1 fits.2.1.each) (at_end w outcome fits.1 own.1))
   stmt_spelled (Write_at rel w (Updating key key_class from sets) outcome) own fits =
       both (head_tokens p (codes "update") rel key) _
-      (head_spelled (codes "update") rel key (word_spelled (codes "update") refl refl refl) fits.0 own.0.0 fits.2.0.each)
-      (word_spelled (codes "class") refl refl refl, (label key_class fits.2.1,
-      (word_spelled (codes "from") refl refl refl, (label from fits.2.2,
-      (word_spelled (codes "at") refl refl refl, (label w fits.1,
-      (word_spelled (codes "set") refl refl refl,
-      both (separated (set_tokens p (scheme_of p.schemes rel)) sets) _ (sets_spelled rel sets own.0.1 fits.2.3.each) (end_spelled outcome own.1))))))))
+      (head_spelled (codes "update") rel key (word_spelled (codes "update") refl refl refl) fits.0 own.0.0 fits.2.0.each) (
+        word_spelled (codes "class") refl refl refl,
+        (
+          label key_class fits.2.1,
+          (
+            word_spelled (codes "from") refl refl refl,
+            (
+              label from fits.2.2,
+              (
+                word_spelled (codes "at") refl refl refl,
+                (
+                  label w fits.1,
+                  (
+                    word_spelled (codes "set") refl refl refl,
+                    both (separated (set_tokens p (scheme_of p.schemes rel)) sets) _ (sets_spelled rel sets own.0.1 fits.2.3.each) (end_spelled outcome own.1),
+                  ),
+                ),
+              ),
+            ),
+          ),
+        ),
+      )
   stmt_spelled (Write_at rel w (Deleting key key_class) outcome) own fits =
       both (head_tokens p (codes "delete") rel key) _
       (head_spelled (codes "delete") rel key (word_spelled (codes "delete") refl refl refl) fits.0 own.0 fits.2.0.each)
       (word_spelled (codes "class") refl refl refl, (label key_class fits.2.1, at_end w outcome fits.1 own.1))
-  stmt_spelled (Release e to into) own fits =
-      (word_spelled (codes "release") refl refl refl, both (expr_tokens p e) _ (expr_spelled e own.0.numbers fits.0)
-      (word_spelled (codes "to") refl refl refl, (label to fits.1, (word_spelled (codes "into") refl refl refl, (named _ (h.var into own.1), (refl, tt))))))
-  stmt_spelled (Emit e label_no) own fits =
-      (word_spelled (codes "emit") refl refl refl, both (expr_tokens p e) _ (expr_spelled e own.numbers fits.0)
-      (word_spelled (codes "at") refl refl refl, (label label_no fits.1, (refl, tt))))
+  stmt_spelled (Release e to into) own fits = (
+    word_spelled (codes "release") refl refl refl,
+    both (expr_tokens p e) _ (expr_spelled e own.0.numbers fits.0)
+        (word_spelled (codes "to") refl refl refl, (label to fits.1, (word_spelled (codes "into") refl refl refl, (named _ (h.var into own.1), (refl, tt))))),
+  )
+  stmt_spelled (Emit e label_no) own fits = (
+    word_spelled (codes "emit") refl refl refl,
+    both (expr_tokens p e) _ (expr_spelled e own.numbers fits.0)
+        (word_spelled (codes "at") refl refl refl, (label label_no fits.1, (refl, tt))),
+  )
 
 -- ---- blocks
 
-braced_spelled : (ts : List Token) → AreSpelled ts → AreSpelled (braced ts)
+pub braced_spelled : (ts : List Token) → AreSpelled ts → AreSpelled (braced ts)
 braced_spelled ts h = (refl, both ts _ h (refl, tt))
 
 else_spelled : (other : Block) (ts : List Token) → AreSpelled ts → AreSpelled (else_tokens other ts)
@@ -200,16 +218,32 @@ pub block_spelled : (b : Block) (p : Place) → HasNames p → BlockIsOwn p.scop
 block_spelled End p h own fits = tt
 block_spelled (Do stmt rest) p h own fits =
     both (stmt_tokens p stmt) _ (stmt_spelled p h stmt own.0 fits.0) (block_spelled rest p h own.1 fits.1)
-block_spelled (If guard one other rest) p h own fits =
-    (word_spelled (codes "if") refl refl refl, both (expr_tokens p guard) _ (expr_spelled p h guard own.0.numbers fits.0)
-    (both (braced (block_tokens p one)) _ (braced_spelled (block_tokens p one) (block_spelled one p h own.1 fits.1))
-    (both (else_tokens other (braced (block_tokens p other))) _
-    (else_spelled other (braced (block_tokens p other)) (braced_spelled (block_tokens p other) (block_spelled other p h own.2 fits.2)))
-    (block_spelled rest p h own.3 fits.3))))
-block_spelled (For row rel label_no body rest) p h own fits =
-    (word_spelled (codes "for") refl refl refl, (named row own.0.0,
-    (word_spelled (codes "in") refl refl refl, (named _ (h.rel rel fits.0),
-    (word_spelled (codes "at") refl refl refl, (label p h label_no fits.1,
-    both (braced (block_tokens (at_row p row rel) body)) _
-    (braced_spelled (block_tokens (at_row p row rel) body) (block_spelled body (at_row p row rel) (inside p row rel own.0.0 h) own.1 fits.2))
-    (block_spelled rest p h own.2 fits.3)))))))
+block_spelled (If guard one other rest) p h own fits = (
+  word_spelled (codes "if") refl refl refl,
+  both (expr_tokens p guard) _ (expr_spelled p h guard own.0.numbers fits.0)
+      (both (braced (block_tokens p one)) _ (braced_spelled (block_tokens p one) (block_spelled one p h own.1 fits.1))
+      (both (else_tokens other (braced (block_tokens p other))) _
+      (else_spelled other (braced (block_tokens p other)) (braced_spelled (block_tokens p other) (block_spelled other p h own.2 fits.2)))
+      (block_spelled rest p h own.3 fits.3))),
+)
+block_spelled (For row rel label_no body rest) p h own fits = (
+  word_spelled (codes "for") refl refl refl,
+  (
+    named row own.0.0,
+    (
+      word_spelled (codes "in") refl refl refl,
+      (
+        named _ (h.rel rel fits.0),
+        (
+          word_spelled (codes "at") refl refl refl,
+          (
+            label p h label_no fits.1,
+            both (braced (block_tokens (at_row p row rel) body)) _
+                (braced_spelled (block_tokens (at_row p row rel) body) (block_spelled body (at_row p row rel) (inside p row rel own.0.0 h) own.1 fits.2))
+                (block_spelled rest p h own.2 fits.3),
+          ),
+        ),
+      ),
+    ),
+  ),
+)

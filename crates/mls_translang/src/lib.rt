@@ -1,7 +1,7 @@
 //! Transactions as trees.
 #![tactic(auto)]
 
-ghost use Rattle.mls_translang.specs.ReadsBack.{LayoutsAreTokens};
+ghost use Rattle.mls_translang.specs.ReadsBack.{LayoutsAreTokens, PrintsAreTokens};
 
 mod block;
 mod expr;
@@ -28,4 +28,9 @@ pub use tx::{Parameter, Tx, statements};
 /// A layout of tokens is read back as these tokens.
 pub fn layouts_are_tokens()
     ensures { LayoutsAreTokens }
+{}
+
+/// The printed text of a transaction is read back as the tokens of its tree.
+pub fn prints_are_tokens()
+    ensures { PrintsAreTokens }
 {}

@@ -1,5 +1,4 @@
 use Rattle.mls_translang.proofs.ReadsBackLemmas.{layouts_are_tokens as law}
-use Rattle.mls_translang.proofs.SpelledLemmas.{HasNames}
 use Rattle.mls_translang.proofs.layouts_are_tokens.Goals as goal
 
 pub returns : goal.returns

@@ -68,9 +68,9 @@ unfoldable pub label_in : ℕ → List ℕ → Result Label CertFault
 label_in line text =
     if nat_lt (length text) 9 then refused line BadLabel
     else (
-      if slice_index text (length text - 9) == 58
-      then (rank_in line (take (length text - 9) text) >>= λ r. cats_in line (drop (length text - 9 + 1) text) >>= λ c. Ok (record { rank = r; cats = c }))
-      else refused line BadLabel
+    if slice_index text (length text - 9) == 58
+    then (rank_in line (take (length text - 9) text) >>= λ r. cats_in line (drop (length text - 9 + 1) text) >>= λ c. Ok (record { rank = r; cats = c }))
+    else refused line BadLabel
     )
 
 -- ---- lines

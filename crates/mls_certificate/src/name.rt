@@ -26,11 +26,7 @@ fn contains(blocks: &[(Str, Cert)], name: &str) -> bool
 }
 
 #[tactic(auto, unfolding(crate::specs::Reading::fresh_in))]
-fn fresh_of<'a>(
-    blocks: &[(Str, Cert)],
-    line: usize,
-    name: &'a str,
-) -> Result<&'a str, CertFault>
+fn fresh_of<'a>(blocks: &[(Str, Cert)], line: usize, name: &'a str) -> Result<&'a str, CertFault>
     ensures { Gives (λ s. s.now) result (fresh_in blocks.now line name.now) }
 {
     if contains(blocks, name) {
@@ -75,11 +71,7 @@ fn versioned_of<'a>(
 }
 
 #[tactic(auto, unfolding(crate::specs::Reading::named_in))]
-fn named_of<'a>(
-    blocks: &[(Str, Cert)],
-    line: usize,
-    text: &'a [u8],
-) -> Result<&'a str, CertFault>
+fn named_of<'a>(blocks: &[(Str, Cert)], line: usize, text: &'a [u8]) -> Result<&'a str, CertFault>
     ensures { Gives (λ s. s.now) result (named_in blocks.now line text.now) }
 {
     let bad = CertFault {

@@ -1,5 +1,5 @@
 //! Certificates, and files of them.
-ghost use Rattle.std.specs.Prelude.{◌≡◌, ◌<◌, ◌+◌, IfOk, IsSome, ◌^◌, map, length, []};
+ghost use Rattle.std.specs.Prelude.{◌≡◌, ◌<◌, ◌+◌, IfOk, IsSome, None, ◌^◌, map, length, []};
 ghost use Rattle.mls_certificate.specs.declared.fault.CertCause.TheVariants.{Line};
 ghost use Rattle.mls_certificate.specs.Reading.{is_end, Gives, cert_in, cert_at, block_in, end_in, step_in, blocks_in, file_in, text_in};
 
@@ -86,7 +86,8 @@ fn end_of(
     lines: &[&[u8]],
 ) -> Result<Option<(Str, Cert)>, CertFault>
     requires { line + 2 < 2 ^ 63 }
-    ensures { Gives (λ b. b) result (end_in blocks.now line (map (λ x. x.now) lines.now)) }
+    ensures reads { Gives (λ b. b) result (end_in blocks.now line (map (λ x. x.now) lines.now)) }
+    ensures none { IfOk result (λ b. b ≡ None) }
 {
     match lines {
         [] => Ok(None),
@@ -124,7 +125,6 @@ fn step_of(
     }
 }
 
-#[tactic(auto, using(crate::proofs::ReadingSteps::block_steps))]
 fn blocks_of(alloc: Global, lines: &[&[u8]]) -> Result<Vec<(Str, Cert)>, CertFault>
     requires { length lines.now < 2 ^ 62 }
     ensures { Gives (λ v. v.items) result (blocks_in [] 1 (map (λ x. x.now) lines.now)) }

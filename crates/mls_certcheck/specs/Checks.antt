@@ -1,11 +1,10 @@
 -- The rules as a list of tests, in the order in which a checker names the first that is broken.
-use Rattle.std.specs.Prelude.{◌≡◌, ℕ, Bool, true, ◌&&◌, if◌then◌else◌, nat_eq, List, [], ◌∷◌, ◌++◌, map, length, Option, Some, None, Result, Ok, Err}
+use Rattle.std.specs.Prelude.{ℕ, Bool, true, ◌&&◌, if◌then◌else◌, nat_eq, List, [], ◌∷◌, ◌++◌, length, Option, Some, None, Result, Ok, Err}
 use Rattle.std.specs.List.{list_all, flat_map}
 use Rattle.mls_lattice.specs.Lattice.{Pair, ◌⊑◌, join, pair_of}
 use Rattle.mls_lattice.specs.Labels.{label_of}
-use Rattle.mls_translang.specs.Tree.{Expr, Writing, Inserting, Updating, Deleting, Stmt, Assign, Write_at, Release, Emit, statements}
-use Rattle.mls_translang.specs.Tx.{Tx}
-use Rattle.mls_certcheck.specs.Place.{Node, Plain, Branching, Looping, Place, places}
+use Rattle.mls_translang.specs.Tree.{Expr, Writing, Inserting, Updating, Deleting, Assign, Write_at, Release, Emit, statements}
+use Rattle.mls_certcheck.specs.Place.{Node, Plain, Branching, Looping, Place}
 use Rattle.mls_certcheck.specs.Rules.{Claim, hi, var_label, pc, lab, operands, all_places}
 use Rattle.mls_certcheck.specs.declared.refusal.Refusal.{Refusal}
 use Rattle.mls_certcheck.specs.declared.refusal.Rule.{Rule}
@@ -60,13 +59,16 @@ module _ (c : Claim) where
       test (pc c p.number ⊑ hi c) p.number rule.AboveCeiling ∷ test (pc c p.around ⊑ pc c p.number) p.number rule.Context
       ∷ own_tests p.number p.rows p.node
 
+  abbrev pub param_holds : ℕ → Bool
+  param_holds label = label_of c.labels c.tx.lo ⊑ label_of c.labels label && label_of c.labels label ⊑ hi c
+
   -- of the transaction itself
   abbrev pub tx_tests : List Test
   tx_tests =
       test (nat_eq (length c.cert.var_labels) (length c.tx.vars)) 0 rule.VarCount
       ∷ test (nat_eq (length c.cert.pc_labels) (statements c.tx.body)) 0 rule.StmtCount
       ∷ test (list_all (λ l. pair_of l ⊑ hi c) c.cert.var_labels) 0 rule.AboveCeiling
-      ∷ test (list_all (λ p. label_of c.labels c.tx.lo ⊑ label_of c.labels p.1.label && label_of c.labels p.1.label ⊑ hi c) c.tx.params) 0 rule.Context
+      ∷ test (list_all (λ p. param_holds p.1.label) c.tx.params) 0 rule.Context
       ∷ []
 
   -- all tests, in their order

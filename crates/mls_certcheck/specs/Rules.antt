@@ -1,10 +1,11 @@
 -- The rules under which a certificate holds (after Denning and Denning 1977): information flows only to labels that dominate its own.
-use Rattle.std.specs.Prelude.{◌≡◌, ℕ, zero, suc, List, [], ◌∷◌, ◌++◌, map, length, Option, slice_index, slice_index_or}
+use Rattle.std.specs.Prelude.{◌≡◌, ℕ, zero, suc, List, [], ◌++◌, map, length, Option, slice_index, slice_index_or}
 use Rattle.std.specs.Option.{IfSome}
 use Rattle.std.specs.List.{AllByRecursion}
 use Rattle.mls_lattice.specs.Lattice.{Pair, Dominates, join, bottom, pair_of}
 use Rattle.mls_lattice.specs.Labels.{Labels, label_of}
-use Rattle.mls_translang.specs.Tree.{Expr, Known, Null, Var, Param, Field, No, Op, Writing, Inserting, Updating, Deleting, Stmt, Assign, Write_at, Release, Emit, statements}
+use Rattle.mls_lattice.specs.Policy.{Tables, labels_of}
+use Rattle.mls_translang.specs.Tree.{Expr, Known, Null, Var, Param, Field, No, Op, Writing, Inserting, Updating, Deleting, Assign, Write_at, Release, Emit, statements}
 use Rattle.mls_translang.specs.Tx.{Tx}
 use Rattle.mls_certificate.specs.declared.cert.Cert.{Cert}
 use Rattle.mls_certcheck.specs.Place.{Node, Plain, Branching, Looping, Place, places}
@@ -145,3 +146,7 @@ module _ (c : Claim) where
     pub order : Everywhere OrderAt
     pub release : Everywhere ReleaseAt
     pub emit : Everywhere EmitAt
+
+-- a transaction and its certificate, under a policy
+abbrev pub claim : Tables → Tx → Cert → Claim
+claim policy tx cert = record { labels = labels_of policy; tx = tx; cert = cert }

@@ -13,6 +13,7 @@ use mls_lattice::{Label, LabelNo, Policy};
 use mls_translang::{Expr, Term, Tx};
 
 /// A transaction with its certificate, under a policy.
+#[derive(Drop)]
 pub(crate) struct Checker<'a> {
     pub policy: &'a Policy,
     pub tx: &'a Tx,

@@ -2,8 +2,11 @@
 #![tactic(auto)]
 
 mod checker;
+mod checking;
 mod own;
 mod refusal;
 mod rows;
+mod walk;
 
+pub use checking::check;
 pub use refusal::{Refusal, Rule};

@@ -17,7 +17,6 @@ use Rattle.mls_tokens.specs.declared.sign.Sign.TheVariants.{LeftParen, RightPare
 use Rattle.mls_tokens.specs.Scanning.{Left, fault_at, tokens_at}
 use Rattle.mls_tokens.specs.Passing.{left, refused, is_word, is_sign, taken, pass, PlacedName, pass_name, is_over, pass_end}
 use Rattle.mls_script.specs.declared.event.Event.{Event}
-use Rattle.mls_script.specs.declared.fault.ScriptCause.{ScriptCause}
 use Rattle.mls_script.specs.declared.fault.ScriptCause.TheVariants.{UnknownName, Kind, Repeated, Memory, Unterminated}
 use Rattle.mls_script.specs.declared.fault.LineFault.{LineFault}
 use Rattle.mls_script.specs.declared.fault.ScriptFault.{ScriptFault}

@@ -1,5 +1,5 @@
 -- The tokens that tell an event.
-use Rattle.std.specs.Prelude.{ℕ, List, [], ◌∷◌, ◌++◌, map, Option, Some, None, slice_index_or, codes}
+use Rattle.std.specs.Prelude.{ℕ, List, [], ◌∷◌, ◌++◌, Option, Some, None, slice_index_or, codes}
 use Rattle.std.specs.List.{flat_map}
 use Rattle.mls_lattice.specs.Lattice.{bottom}
 use Rattle.mls_lattice.specs.Policy.{Name, Named, Tables}
@@ -13,7 +13,6 @@ use Rattle.mls_script.specs.declared.event.Event.{Event}
 use Rattle.mls_script.specs.declared.draft.Draft.{Draft}
 use Rattle.mls_script.specs.declared.grammar.Part.{Part}
 use Rattle.mls_script.specs.declared.grammar.Part.TheVariants as parts
-use Rattle.mls_script.specs.Event.{Sets}
 use Rattle.mls_script.specs.Grammar.{part_word, parts_of, verb_word, verb_of, drafted}
 
 -- ---- names by number

@@ -1,7 +1,9 @@
 //! Scripts, line by line.
-ghost use Rattle.std.specs.Prelude.{◌≡◌, ◌≢◌, [], ◌++◌, ◌∷◌, OnOk, IfErr, IsTrue, IsFalse, option_to_list};
+ghost use Rattle.std.specs.Prelude.{◌≡◌, ◌≢◌, [], IfOk, ◌++◌, ◌∷◌, OnOk, IfErr, IsTrue, IsFalse, option_to_list};
 ghost use Rattle.std.specs.List.{AllByRecursion};
 ghost use Rattle.mls_script.specs.declared.fault.ScriptCause.TheVariants.{Memory};
+ghost use Rattle.mls_script.specs.Event.{EventFits};
+ghost use Rattle.mls_script.specs.Script.{ReadsScript};
 ghost use Rattle.mls_script.specs.Reading.{Gives, IsRead, line_at, script_at};
 
 use crate::event::Event;
@@ -64,16 +66,15 @@ fn keep(events: &mut Vec<Event>, told: Option<Event>) -> Result<(), LineFault>
     Ok(())
 }
 
-/// The events of a script, in order. The first line that has a fault refuses the whole: on it 21 Token, 22 Expected, 27
-/// TooLong and 30 Unterminated come before 23 UnknownName, 24 Kind and 25 Repeated. 29 Memory may stand in place of any answer.
+/// The events of a script, in order, or its first fault.
 #[tactic(auto, using(crate::proofs::ScriptSteps::script_steps))]
-pub fn script(
+fn events_of(
     alloc: Global,
     policy: &Policy,
     schemes: &Schemes,
     bytes: &[u8],
 ) -> Result<Vec<Event>, ScriptFault>
-    ensures exact { IsRead (λ v. v.items) result (script_at policy.now schemes.now bytes.now) }
+    ensures { IsRead (λ v. v.items) result (script_at policy.now schemes.now bytes.now) }
 {
     let mut events = Vec::new(alloc);
     let mut rest = bytes;
@@ -91,4 +92,22 @@ pub fn script(
         rest = after;
     }
     Ok(events)
+}
+
+/// The events of a script, in order. The first line that has a fault refuses the whole: on it 21 Token, 22 Expected, 27
+/// TooLong and 30 Unterminated come before 23 UnknownName, 24 Kind and 25 Repeated. 29 Memory may stand in place of any answer.
+pub fn script(
+    alloc: Global,
+    policy: &Policy,
+    schemes: &Schemes,
+    bytes: &[u8],
+) -> Result<Vec<Event>, ScriptFault>
+    // The events, or the first fault with its line, column and cause.
+    ensures exact { IsRead (λ v. v.items) result (script_at policy.now schemes.now bytes.now) }
+    // What is read is what the text tells.
+    ensures reads { IfOk result (λ v. ReadsScript policy.now schemes.now bytes.now v.items) }
+    // Each event keeps to the numbers and kinds of policy and schemes.
+    ensures fits { IfOk result (λ v. AllByRecursion (EventFits policy.now schemes.now) v.items) }
+{
+    events_of(alloc, policy, schemes, bytes)
 }

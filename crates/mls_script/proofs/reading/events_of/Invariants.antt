@@ -1,6 +1,6 @@
 use Rattle.std.proofs.Common.{length}
 use Rattle.mls_script.proofs.ScriptSteps.{ReadSoFar}
-use Rattle.mls_script.proofs.reading.script.Given as goal
+use Rattle.mls_script.proofs.reading.events_of.Given as goal
 
 abbrev pub decreases-loop-rest : goal.decreases-loop-rest
 decreases-loop-rest l = length l.rest

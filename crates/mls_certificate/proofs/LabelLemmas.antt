@@ -1,12 +1,10 @@
 -- The numbers in a label.
-use Rattle.std.proofs.Common.{◌≡◌, ◌≢◌, ℕ, zero, suc, ◌+◌, ◌-◌, ◌<◌, ◌≤◌, ◌^◌, Bool, true, false, not, ◌&&◌, ◌||◌, ◌==◌, nat_lt, nat_le, cond, List, [], ◌∷◌, length, get_or, Option, Some, None, Result, Ok, Err, refl, sym, ap, ◌∙◌, inl, inr, rules, arith}
+use Rattle.std.proofs.Common.{◌≡◌, ℕ, zero, suc, ◌<◌, true, not, ◌==◌, nat_lt, List, [], ◌∷◌, length, Result, Ok, Err, refl, sym, ap, rules, arith}
 use Rattle.std.specs.Prelude.{MatchResult, IsOk, IsUtf8}
 use Rattle.std.specs.Str.{IsAscii}
 use Rattle.std.specs.Str.Parse.{digits_value, ParsesUnsigned}
-use Rattle.std.specs.Int.{IsInRange}
-use Rattle.std.specs.List.{list_all}
 use Rattle.std.specs.Char.{is_ascii_digit}
-use Rattle.std.proofs.lemmas.Bool.{and_parts, cases_Bool, lt-ltb, ltb-true, false_from_ne_true, eqb-true}
+use Rattle.std.proofs.lemmas.Bool.{and_parts, lt-ltb, ltb-true, false_from_ne_true}
 use Rattle.std.proofs.lemmas.Bool.Decides.{nat_tests}
 use Rattle.std.proofs.lemmas.Str.Parse.{IsNumeralModel, IsDigitsTest, numerals_by_value, parse_digits}
 use Rattle.std.proofs.lemmas.Str.{IsUtf8-from_ascii}

@@ -1,10 +1,10 @@
 -- How lines of a file follow one another.
-use Rattle.std.proofs.Common.{◌≡◌, ℕ, zero, suc, ◌+◌, ◌-◌, ◌<◌, ◌≤◌, Bool, true, false, cond, ◌==◌, List, [], ◌∷◌, ◌++◌, length, map, take, drop, get_or, codes, Option, Some, None, Result, Ok, Err, refl, sym, ap, ◌∙◌, arith, Bor}
+use Rattle.std.proofs.Common.{◌≡◌, ℕ, ◌+◌, ◌-◌, ◌≤◌, Bool, true, false, cond, ◌==◌, List, [], ◌∷◌, ◌++◌, length, map, take, drop, get_or, codes, Option, Some, None, Result, Ok, Err, refl, sym, ap, ◌∙◌, arith, Bor}
 use Rattle.std.proofs.lemmas.List.{drop-map, drop-drop, take_all, length-drop}
 use Rattle.mls_lattice.specs.Reading.{◌>>=◌}
 use Rattle.mls_certificate.specs.declared.fault.CertFault.{CertFault}
 use Rattle.mls_certificate.specs.declared.fault.CertCause.TheVariants.{Line}
-use Rattle.mls_certificate.specs.Reading.{Block, Gives, refused, name_in, line_in, block_in, end_in, step_in, blocks_in}
+use Rattle.mls_certificate.specs.Reading.{Block, refused, name_in, line_in, block_in, end_in, step_in, blocks_in}
 
 -- a block, where four lines are left
 pub step_four : (blocks : List Block) (line : ℕ) (xs : List (Bor (List ℕ))) (d : Bor (List ℕ)) (b : Block) → 4 ≤ length xs → block_in blocks line (get_or xs 0 d).now (get_or xs 1 d).now (get_or xs 2 d).now ≡ Ok b → step_in blocks line (map (λ x. x.now) xs) ≡ Ok (Some b)

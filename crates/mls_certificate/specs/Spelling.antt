@@ -1,5 +1,5 @@
 -- Certificates as texts: each has one.
-use Rattle.std.specs.Prelude.{◌≡◌, ℕ, ◌<◌, ◌^◌, ◌/◌, ◌%◌, Bool, true, List, [], ◌∷◌, ◌++◌, codes, map}
+use Rattle.std.specs.Prelude.{◌≡◌, ℕ, ◌<◌, ◌^◌, ◌/◌, ◌%◌, true, List, [], ◌∷◌, ◌++◌, codes, map}
 use Rattle.std.specs.List.{flat_map, AllByRecursion, IsDistinct}
 use Rattle.std.specs.Str.{bytes_eq}
 use Rattle.std.specs.Fmt.{decimal}
@@ -17,9 +17,12 @@ byte_text b = digit_char (b / 16) ∷ digit_char (b % 16) ∷ []
 abbrev pub label_text : Label → List ℕ
 label_text l = decimal l.rank ++ codes ":" ++ flat_map byte_text (to_be_bytes w32 l.cats)
 
+abbrev pub spaced_label : Label → List ℕ
+spaced_label l = codes " " ++ label_text l
+
 -- a word, and labels after spaces
 abbrev pub labels_line : List ℕ → List Label → List ℕ
-labels_line word labels = word ++ flat_map (λ l. codes " " ++ label_text l) labels ++ codes "\n"
+labels_line word labels = word ++ flat_map spaced_label labels ++ codes "\n"
 
 abbrev pub cert_text : Cert → List ℕ
 cert_text c = labels_line (codes "vars") c.var_labels ++ labels_line (codes "pcs") c.pc_labels

@@ -7,6 +7,8 @@ mod label;
 mod line;
 mod name;
 mod reading;
+mod writing;
 
 pub use cert::Cert;
 pub use fault::{CertCause, CertFault};
+pub use reading::certs_read;

@@ -1,4 +1,4 @@
-use Rattle.std.proofs.Common.{◌≤◌, ◌-◌, length, drop, Some, None, Ok, Err, sym, ap, ◌∙◌, refl, arith}
+use Rattle.std.proofs.Common.{◌-◌, length, drop, Ok, ap, refl, arith}
 use Rattle.std.proofs.lemmas.List.{length-take, length-drop}
 use Rattle.std.proofs.lemmas.Result.{err_from_is_err_and}
 use Rattle.mls_certificate.proofs.ReadingSteps.{loop_err, loop_none, loop_next}

@@ -1,7 +1,7 @@
 -- The numbers and names of denials.
 use Rattle.std.specs.Prelude.{ℕ, List, codes}
-use Rattle.mls_sessions.specs.declared.reply.Denial.{Denial}
-use Rattle.mls_sessions.specs.declared.reply.Denial.TheVariants.{NoSession, AlreadyOpen, UnknownUser, Ds, Ss, Star}
+use Rattle.mls_machine.specs.declared.reply.Denial.{Denial}
+use Rattle.mls_machine.specs.declared.reply.Denial.TheVariants.{NoSession, AlreadyOpen, UnknownUser, Ds, Ss, Star}
 
 abbrev pub code_of : Denial → ℕ
 code_of NoSession = 31

@@ -1,12 +1,13 @@
 //! What sessions are answered.
 ghost use Rattle.std.specs.Prelude.{◌≡◌};
-ghost use Rattle.mls_sessions.specs.Reply.{code_of, word_of};
+ghost use Rattle.mls_machine.specs.Reply.{code_of, word_of};
 
+use mls_audit::Entry;
 use mls_lattice::{Items, UserNo};
 use mls_scheme::Tuple;
 use mls_updates::Outcome;
 
-/// Why a command is denied. A denial changes nothing.
+/// Why a command is denied. A denial changes no tuple and no session.
 #[derive(Clone, Copy, PartialEq, Eq, Debug)]
 pub enum Denial {
     /// No such session is open.
@@ -64,5 +65,7 @@ pub enum Reply {
     Rows(Items<Tuple>),
     /// What became of a write.
     Wrote(Outcome),
+    /// The entries of the audit list that the session's level dominates, in order.
+    Entries(Items<Entry>),
     Denied(Denial),
 }

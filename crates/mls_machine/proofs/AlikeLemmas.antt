@@ -1,0 +1,152 @@
+-- A step at a level that c dominates, from two worlds that look alike to c.
+use Rattle.std.proofs.Common.{◌≡◌, ℕ, Bool, true, false, cond, ◌&&◌, List, [], ◌∷◌, ◌++◌, Option, Some, None, Result, Ok, Err, refl, sym, ap, ◌∙◌, subst, true≢false}
+use Rattle.std.specs.Prelude.{nat_eq}
+use Rattle.std.specs.List.{filter}
+use Rattle.std.specs.Str.{bytes_eq}
+use Rattle.std.proofs.lemmas.Bool.{false_from_ne_true}
+use Rattle.std.proofs.lemmas.List.Elements.{filter-append}
+use Rattle.mls_lattice.specs.Labels.{Labels, below}
+use Rattle.mls_lattice.proofs.LatticeLemmas.{below-trans}
+use Rattle.mls_scheme.specs.Table.{Table}
+use Rattle.mls_filterview.specs.View.{low}
+use Rattle.mls_updates.specs.Writes.{Write, Insert, Update, Delete, Written, write}
+use Rattle.mls_updates.proofs.LawLemmas.{low_use_low}
+use Rattle.mls_audit.specs.declared.entry.Entry.{Entry}
+use Rattle.mls_audit.specs.Entry.{label_of, visible}
+use Rattle.mls_script.specs.declared.event.Event.{Event}
+use Rattle.mls_script.specs.declared.event.Command.{Command}
+use Rattle.mls_script.specs.declared.event.Command.TheVariants as commands
+use Rattle.mls_machine.specs.declared.reply.Denial.{Denial}
+use Rattle.mls_machine.specs.declared.reply.Reply.TheVariants.{Rows, Wrote, Entries}
+use Rattle.mls_machine.specs.Site.{Site, site_labels, site_scheme}
+use Rattle.mls_machine.specs.Denying.{first_denial, cleared, user_named, view_denials}
+use Rattle.mls_machine.specs.Machine.{World, Step, in_session, unless, denial_entry, denied, viewed, wrote, listed, step_inside, open_step, step_outside, step_at, step}
+use Rattle.mls_machine.proofs.DenyingLemmas.{view_below}
+use Rattle.mls_machine.proofs.LowLemmas.{LowAgree, low_of_low, rows_same}
+
+-- a filter within a filter that lets more through
+filter_within : {A : Type 0} (p q : A → Bool) → ((x : A) → p x ≡ true → q x ≡ true) → (xs : List A) → filter p (filter q xs) ≡ filter p xs
+filter_within p q h [] = refl
+filter_within p q h (x ∷ xs) =
+    elim (q x) as (λ b. q x ≡ b → filter p (cond b (x ∷ filter q xs) (filter q xs)) ≡ filter p (x ∷ xs)) [
+      | true ↦ λ e. ap (λ ys. cond (p x) (x ∷ ys) ys) (filter_within p q h xs)
+      | false ↦ λ e. filter_within p q h xs ∙ ap (λ b. cond b (x ∷ filter p xs) (filter p xs)) (sym (false_from_ne_true (p x) (λ t. true≢false (sym (h x t) ∙ e))))
+    ] refl
+
+visible_within : (ls : Labels) (l c : ℕ) → below ls l c ≡ true → (es : List Entry) → visible ls l (visible ls c es) ≡ visible ls l es
+visible_within ls l c h es = filter_within (λ x. below ls (label_of x) l) (λ x. below ls (label_of x) c) (λ x k. below-trans ls (label_of x) l c k h) es
+
+-- two steps are answered the same, and leave worlds that look alike to c
+pub record StepAlike (ls : Labels) (c : ℕ) (s t : Step) : Type 0 where
+  pub world : LowAgree ls c s.world t.world
+  pub reply : s.reply ≡ t.reply
+
+module _ (site : Site) (c : ℕ) (v w : World) (e : Event) (seen : below (site_labels site) e.level c ≡ true) (h : LowAgree (site_labels site) c v w) where
+  abbrev Alike : Step → Step → Type 0
+  Alike s t = StepAlike (site_labels site) c s t
+
+  alike_session : (user : Option ℕ) → LowAgree (site_labels site) c (in_session v e user) (in_session w e user)
+  alike_session user = record {
+    tables = h.tables;
+    sessions = λ l n k. ap (λ x. cond (nat_eq l e.level && bytes_eq n e.session) user x) (h.sessions l n k);
+    entries = h.entries;
+  }
+
+  alike_denied : (user : ℕ) (denial : Denial) → Alike (denied site v e user denial) (denied site w e user denial)
+  alike_denied user denial =
+      let ls = site_labels site in
+      let added = denial_entry site e user denial ∷ [] in
+      record {
+        world = record {
+          tables = h.tables;
+          sessions = h.sessions;
+          entries = filter-append (λ x. below ls (label_of x) c) v.audit added ∙ ap (λ xs. xs ++ visible ls c added) h.entries ∙ sym (filter-append (λ x. below ls (label_of x) c) w.audit added);
+        };
+        reply = refl;
+      }
+
+  alike_unless : (denial : Option Denial) (user : ℕ) (s t : Step) → (denial ≡ None → Alike s t) → Alike (unless site denial v e user s) (unless site denial w e user t)
+  alike_unless None user s t k = k refl
+  alike_unless (Some denial) user s t k = alike_denied user denial
+
+  -- ---- effects
+
+  alike_view : (user rel label : ℕ) → first_denial (view_denials site e.level user rel label) ≡ None → Alike (viewed site v rel label) (viewed site w rel label)
+  alike_view user rel label none =
+      let ls = site_labels site in
+      let lower = below-trans ls label e.level c (view_below site e.level user rel label none) seen in
+      record { world = h; reply = ap Rows (rows_same ls label (v.db rel) (w.db rel) (low_of_low ls label c (v.db rel) (w.db rel) lower (h.tables rel))) }
+
+  abbrev result : World → ℕ → Write → Written
+  result u rel wr = write (site_labels site) (site_scheme site rel) e.level wr (u.db rel)
+
+  abbrev result_on : ℕ → Write → Table → Written
+  result_on rel wr T = write (site_labels site) (site_scheme site rel) e.level wr T
+
+  same_outcome : (rel : ℕ) (wr : Write) → (result v rel wr).outcome ≡ (result w rel wr).outcome
+  same_outcome rel wr =
+      (low_use_low (site_labels site) (site_scheme site rel) c e.level (v.db rel) wr seen).0
+      ∙ ap (λ T. (result_on rel wr T).outcome) (h.tables rel)
+      ∙ sym (low_use_low (site_labels site) (site_scheme site rel) c e.level (w.db rel) wr seen).0
+
+  same_low_table : (rel : ℕ) (wr : Write) → low (site_labels site) c (result v rel wr).table ≡ low (site_labels site) c (result w rel wr).table
+  same_low_table rel wr =
+      (low_use_low (site_labels site) (site_scheme site rel) c e.level (v.db rel) wr seen).1
+      ∙ ap (λ T. (result_on rel wr T).table) (h.tables rel)
+      ∙ sym (low_use_low (site_labels site) (site_scheme site rel) c e.level (w.db rel) wr seen).1
+
+  same_low_tables : (rel : ℕ) (wr : Write) (r : ℕ) (b : Bool) → low (site_labels site) c (cond b (result v rel wr).table (v.db r)) ≡ low (site_labels site) c (cond b (result w rel wr).table (w.db r))
+  same_low_tables rel wr r true = same_low_table rel wr
+  same_low_tables rel wr r false = h.tables r
+
+  alike_wrote : (rel : ℕ) (wr : Write) → Alike (wrote site v e.level rel wr) (wrote site w e.level rel wr)
+  alike_wrote rel wr = record {
+    world = record { tables = λ r. same_low_tables rel wr r (nat_eq r rel); sessions = h.sessions; entries = h.entries };
+    reply = ap Wrote (same_outcome rel wr);
+  }
+
+  alike_listed : Alike (listed site v e.level) (listed site w e.level)
+  alike_listed =
+      let ls = site_labels site in
+      record {
+        world = h;
+        reply = ap Entries (sym (visible_within ls e.level c seen v.audit) ∙ ap (visible ls e.level) h.entries ∙ visible_within ls e.level c seen w.audit);
+      }
+
+  -- ---- commands
+
+  alike_write : (denial : Option Denial) (user rel : ℕ) (wr : Write) → Alike (unless site denial v e user (wrote site v e.level rel wr)) (unless site denial w e user (wrote site w e.level rel wr))
+  alike_write denial user rel wr = alike_unless denial user (wrote site v e.level rel wr) (wrote site w e.level rel wr) (λ none. alike_wrote rel wr)
+
+  alike_inside : (command : Command) (user : ℕ) → Alike (step_inside site v e command user) (step_inside site w e command user)
+  alike_inside (commands.Open name) user = alike_denied user _
+  alike_inside commands.Close user = record { world = alike_session None; reply = refl }
+  alike_inside commands.Audit user = alike_listed
+  alike_inside (commands.View rel label) user = alike_unless _ user _ _ (alike_view user rel label)
+  alike_inside (commands.Insert rel key values) user = alike_write _ user rel (Insert key values)
+  alike_inside (commands.Update rel key key_class from sets) user = alike_write _ user rel (Update key key_class from sets)
+  alike_inside (commands.Delete rel key key_class) user = alike_write _ user rel (Delete key key_class)
+
+  alike_open : (r : Result ℕ Denial) → Alike (open_step site v e r) (open_step site w e r)
+  alike_open (Ok user) = record { world = alike_session (Some user); reply = refl }
+  alike_open (Err denial) = record { world = h; reply = refl }
+
+  alike_outside : (command : Command) → Alike (step_outside site v e command) (step_outside site w e command)
+  alike_outside (commands.Open name) = alike_open (cleared site e.level (user_named site.policy name))
+  alike_outside commands.Close = record { world = h; reply = refl }
+  alike_outside commands.Audit = record { world = h; reply = refl }
+  alike_outside (commands.View rel label) = record { world = h; reply = refl }
+  alike_outside (commands.Insert rel key values) = record { world = h; reply = refl }
+  alike_outside (commands.Update rel key key_class from sets) = record { world = h; reply = refl }
+  alike_outside (commands.Delete rel key key_class) = record { world = h; reply = refl }
+
+  alike_at : (session : Option ℕ) → Alike (step_at site v e e.command session) (step_at site w e e.command session)
+  alike_at (Some user) = alike_inside e.command user
+  alike_at None = alike_outside e.command
+
+  -- the session is open for one user in both worlds, or in none
+  pub alike_step : StepAlike (site_labels site) c (step site v e) (step site w e)
+  unfolding step
+  alike_step =
+      subst (λ o. Alike (step_at site v e e.command (v.sessions e.level e.session)) (step_at site w e e.command o)) (h.sessions e.level e.session seen)
+      (alike_at (v.sessions e.level e.session))

@@ -1,0 +1,45 @@
+-- Users by number, and conditions that do not hold.
+use Rattle.std.proofs.Common.{◌≡◌, ℕ, ◌<◌, Bool, true, false, cond, List, [], ◌∷◌, length, Some, None, refl, sym, ap, ◌∙◌}
+use Rattle.std.specs.Prelude.{option_map, slice_get}
+use Rattle.std.specs.Str.{bytes_eq}
+use Rattle.std.proofs.lemmas.Bool.{not-false, or_parts}
+use Rattle.std.proofs.lemmas.List.Quantifiers.{position-Some}
+use Rattle.std.proofs.lemmas.Option.{slice_get-get_or, none-some}
+use Rattle.mls_lattice.specs.declared.tables.User.{User}
+use Rattle.mls_lattice.specs.Labels.{below}
+use Rattle.mls_lattice.specs.Policy.{Name, Tables}
+use Rattle.mls_machine.specs.declared.reply.Denial.{Denial}
+use Rattle.mls_machine.specs.Site.{Site, site_labels}
+use Rattle.mls_machine.specs.Denying.{first_denial, no_user, user_named, clearance_of, view_denials}
+
+-- ---- users
+
+pub user_below : (policy : Tables) (name : Name) (user : ℕ) → user_named policy name ≡ Some user → user < length policy.users
+user_below policy name user h = (position-Some (λ u. bytes_eq u.name name) policy.users user no_user h).0
+
+some_is : (a b : ℕ) → Some a ≡ Some b → a ≡ b
+some_is a b e = cc
+
+pub clearance_found : (policy : Tables) (user label : ℕ) → user < length policy.users → option_map (λ u. u.clearance) (slice_get policy.users user) ≡ Some label
+    → label ≡ clearance_of policy user
+clearance_found policy user label within row =
+    some_is label (clearance_of policy user) (sym row ∙ ap (option_map (λ (u : User). u.clearance)) (slice_get-get_or policy.users user no_user within))
+
+-- ---- where there is no denial no condition holds
+
+abbrev NoneHolds : List (Bool × Denial) → Type 0
+NoneHolds [] = Unit {0}
+NoneHolds (d ∷ ds) = (d.0 ≡ false) × NoneHolds ds
+
+not_denied : (ds : List (Bool × Denial)) → first_denial ds ≡ None → NoneHolds ds
+unfolding first_denial
+not_denied [] h = tt
+not_denied (d ∷ ds) h =
+    elim d.0 as (λ b. d.0 ≡ b → cond b (Some d.1) (first_denial ds) ≡ None → (d.0 ≡ false) × NoneHolds ds) [
+      | true ↦ λ e k. absurd (none-some d.1 (sym k))
+      | false ↦ λ e k. (e, not_denied ds k)
+    ] refl h
+
+-- the level of the session dominates the label of a view that is not denied
+pub view_below : (site : Site) (level user rel label : ℕ) → first_denial (view_denials site level user rel label) ≡ None → below (site_labels site) label level ≡ true
+view_below site level user rel label h = not-false _ (or_parts _ _ (not_denied (view_denials site level user rel label) h).1.1.0).0

@@ -1,0 +1,10 @@
+pub mod DenyingLemmas
+pub mod KeepingLemmas
+pub mod RefusalLemmas
+pub mod ReplyLemmas
+pub mod LowLemmas
+pub mod HiddenLemmas
+pub mod AlikeLemmas
+pub mod RunLemmas
+pub mod LineLemmas
+pub mod SampleLemmas

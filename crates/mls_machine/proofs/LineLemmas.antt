@@ -1,0 +1,36 @@
+-- Runs of the machine: one event more.
+use Rattle.std.proofs.Common.{◌≡◌, ℕ, ◌+◌, ◌<◌, List, [], ◌∷◌, ◌++◌, length, take, get_or, refl, sym, ap, ◌∙◌, append_assoc, append-nil}
+use Rattle.std.specs.Prelude.{codes}
+use Rattle.std.proofs.lemmas.List.{take_more}
+use Rattle.std.proofs.lemmas.Grind.{flat_map-append}
+use Rattle.mls_script.specs.declared.event.Event.{Event}
+use Rattle.mls_machine.specs.Site.{Site}
+use Rattle.mls_machine.specs.Machine.{World, step, end_of}
+use Rattle.mls_machine.specs.Output.{reply_lines, run_lines, printed}
+
+module _ (site : Site) where
+  end_of-snoc : (w : World) (es : List Event) (e : Event) → end_of site w (es ++ e ∷ []) ≡ (step site (end_of site w es) e).world
+  unfolding end_of
+  end_of-snoc w [] e = refl
+  end_of-snoc w (d ∷ es) e = end_of-snoc (step site w d).world es e
+
+  run_lines-snoc : (w : World) (es : List Event) (e : Event)
+      → run_lines site w (es ++ e ∷ []) ≡ run_lines site w es ++ reply_lines site e (step site (end_of site w es) e).reply
+  unfolding end_of run_lines
+  run_lines-snoc w [] e = append-nil (reply_lines site e (step site w e).reply)
+  run_lines-snoc w (d ∷ es) e =
+      let first = reply_lines site d (step site w d).reply in
+      ap (λ l. first ++ l) (run_lines-snoc (step site w d).world es e) ∙ sym (append_assoc first _ _)
+
+  module _ (w : World) (es : List Event) (i : ℕ) (e : Event) (within : i < length es) (is : get_or es i e ≡ e) where
+    more : take (i + 1) es ≡ take i es ++ e ∷ []
+    more = take_more es i e within ∙ ap (λ x. take i es ++ x ∷ []) is
+
+    pub end_more : end_of site w (take (i + 1) es) ≡ (step site (end_of site w (take i es)) e).world
+    end_more = ap (end_of site w) more ∙ end_of-snoc w (take i es) e
+
+    pub lines_more : run_lines site w (take (i + 1) es) ≡ run_lines site w (take i es) ++ reply_lines site e (step site (end_of site w (take i es)) e).reply
+    lines_more = ap (run_lines site w) more ∙ run_lines-snoc w (take i es) e
+
+    pub printed_more : printed (run_lines site w (take (i + 1) es)) ≡ printed (run_lines site w (take i es)) ++ printed (reply_lines site e (step site (end_of site w (take i es)) e).reply)
+    printed_more = ap printed lines_more ∙ flat_map-append (λ l. l.text ++ codes "\n") (run_lines site w (take i es)) (reply_lines site e (step site (end_of site w (take i es)) e).reply)

@@ -1,0 +1,63 @@
+-- Worlds that look alike to a level, by the stored tuples of classes that it dominates.
+use Rattle.std.proofs.Common.{◌≡◌, ℕ, true, List, map, refl, sym, ap, ◌∙◌}
+use Rattle.std.specs.List.{filter}
+use Rattle.std.specs.FinMap.{get, entries}
+use Rattle.mls_lattice.specs.Labels.{Labels, below, AreDistinct}
+use Rattle.mls_lattice.specs.Policy.{Name}
+use Rattle.mls_lattice.proofs.LatticeLemmas.{below-trans}
+use Rattle.mls_scheme.specs.declared.tuple.Tuple.{Tuple}
+use Rattle.mls_scheme.specs.Table.{Table, tuple_at}
+use Rattle.mls_filterview.specs.Subsumption.{is_max_among}
+use Rattle.mls_filterview.specs.View.{low, rows}
+use Rattle.mls_filterview.proofs.LowLemmas.{get_low_in, same_low}
+use Rattle.mls_filterview.proofs.LevelLemmas.{low_from_views, views_from_low}
+use Rattle.mls_audit.specs.Entry.{visible}
+use Rattle.mls_machine.specs.Site.{Site, site_labels}
+use Rattle.mls_machine.specs.Machine.{World}
+use Rattle.mls_machine.specs.Observation.{AreStored, AgreeAt}
+
+pub record LowAgree (ls : Labels) (c : ℕ) (v w : World) : Type 0 where
+  pub tables : (rel : ℕ) → low ls c (v.db rel) ≡ low ls c (w.db rel)
+  pub sessions : (level : ℕ) (name : Name) → below ls level c ≡ true → v.sessions level name ≡ w.sessions level name
+  pub entries : visible ls c v.audit ≡ visible ls c w.audit
+
+pub lows_same : (ls : Labels) (c : ℕ) (v : World) → LowAgree ls c v v
+lows_same ls c v = record { tables = λ r. refl; sessions = λ l n b. refl; entries = refl }
+
+pub lows_sym : {ls : Labels} {c : ℕ} {v w : World} → LowAgree ls c v w → LowAgree ls c w v
+lows_sym h = record { tables = λ r. sym (h.tables r); sessions = λ l n b. sym (h.sessions l n b); entries = sym h.entries }
+
+pub lows_trans : {ls : Labels} {c : ℕ} {u v w : World} → LowAgree ls c u v → LowAgree ls c v w → LowAgree ls c u w
+lows_trans h k = record { tables = λ r. h.tables r ∙ k.tables r; sessions = λ l n b. h.sessions l n b ∙ k.sessions l n b; entries = h.entries ∙ k.entries }
+
+-- ---- the views tell the low tuples, and these tell the views
+
+pub to_low : (site : Site) → AreDistinct (site_labels site) → (c : ℕ) (v w : World) → AreStored site v.db → AreStored site w.db
+    → AgreeAt (site_labels site) c v w → LowAgree (site_labels site) c v w
+to_low site distinct c v w sv sw h = record {
+  tables = λ rel. low_from_views (site_labels site) distinct _ _ (v.db rel) (w.db rel) (sv rel) (sw rel) c (h.views rel);
+  sessions = h.sessions;
+  entries = h.entries;
+}
+
+pub from_low : (site : Site) (c : ℕ) (v w : World) → AreStored site v.db → AreStored site w.db → LowAgree (site_labels site) c v w → AgreeAt (site_labels site) c v w
+from_low site c v w sv sw h = record {
+  views = λ rel. views_from_low (site_labels site) _ _ (v.db rel) (w.db rel) (sv rel) (sw rel) c (h.tables rel);
+  sessions = h.sessions;
+  entries = h.entries;
+}
+
+-- ---- rows
+
+-- what c sees alike, each level sees alike that c dominates
+pub low_of_low : (ls : Labels) (l c : ℕ) (S T : Table) → below ls l c ≡ true → low ls c S ≡ low ls c T → low ls l S ≡ low ls l T
+low_of_low ls l c S T b h = same_low ls l S T (λ q k.
+    let seen = below-trans ls q.class l c k b in
+    sym (get_low_in ls c S q seen) ∙ ap (λ m. get m q) h ∙ get_low_in ls c T q seen)
+
+abbrev rows_of : Table → List Tuple
+rows_of L = map (λ e. tuple_at e.0 e.1) (filter (is_max_among (entries L)) (entries L))
+
+pub rows_same : (ls : Labels) (l : ℕ) (S T : Table) → low ls l S ≡ low ls l T → rows ls l S ≡ rows ls l T
+unfolding rows
+rows_same ls l S T h = ap rows_of h

@@ -1,0 +1,106 @@
+-- What is denied or refused changes nothing but the audit list.
+use Rattle.std.proofs.Common.{◌≡◌, ℕ, Bool, true, false, cond, [], ◌++◌, Option, Some, None, Result, Ok, Err, refl, sym, ap, ◌∙◌, eqb-true, append-nil}
+use Rattle.std.specs.Prelude.{nat_eq}
+use Rattle.mls_lattice.specs.Labels.{Labels}
+use Rattle.mls_scheme.specs.Table.{Table, Database}
+use Rattle.mls_scheme.specs.Scheme.{Scheme}
+use Rattle.mls_filterview.specs.Content.{with_table}
+use Rattle.mls_updates.specs.declared.outcome.Outcome.{Outcome}
+use Rattle.mls_updates.specs.Outcome.{is_done}
+use Rattle.mls_updates.specs.Writes.{Key, Sets, Write, Insert, Update, Delete, written, update_own, update_below, write}
+use Rattle.mls_script.specs.declared.event.Event.{Event}
+use Rattle.mls_script.specs.declared.event.Command.{Command}
+use Rattle.mls_script.specs.declared.event.Command.TheVariants as commands
+use Rattle.mls_machine.specs.declared.reply.Denial.{Denial}
+use Rattle.mls_machine.specs.Site.{Site, site_labels, site_scheme}
+use Rattle.mls_machine.specs.Denying.{cleared, user_named}
+use Rattle.mls_machine.specs.Machine.{World, Step, unless, wrote, step_inside, open_step, step_outside, step_at, step}
+use Rattle.mls_machine.specs.Laws.{ChangesNothing, entries_added, RefusalsChangeNothing, DenialsAreEntered}
+
+-- ---- a write that is refused
+
+left : (o : Outcome) (new old : Table) → is_done o ≡ false → (written o new old).table ≡ old
+left o new old h = ap (λ b. cond b new old) h
+
+module _ (ls : Labels) (scheme : Scheme) (level : ℕ) (T : Table) where
+  update_left : (key : Key) (key_class from : ℕ) (sets : Sets) (b : Bool)
+      → is_done (cond b (update_own ls scheme level key key_class sets T) (update_below ls scheme level key key_class from sets T)).outcome ≡ false
+      → (cond b (update_own ls scheme level key key_class sets T) (update_below ls scheme level key key_class from sets T)).table ≡ T
+  update_left key key_class from sets true h = left _ _ T h
+  update_left key key_class from sets false h = left _ _ T h
+
+  table_left : (wr : Write) → is_done (write ls scheme level wr T).outcome ≡ false → (write ls scheme level wr T).table ≡ T
+  table_left (Insert key values) h = left _ _ T h
+  table_left (Update key key_class from sets) h = update_left key key_class from sets (nat_eq from level) h
+  table_left (Delete key key_class) h = left _ _ T h
+
+-- a relation that is put back is as it was
+same_relation : (db : Database) (rel : ℕ) (T : Table) → T ≡ db rel → (r : ℕ) → with_table db rel T r ≡ db r
+same_relation db rel T same r = by_test (nat_eq r rel) refl
+  where
+    by_test : (b : Bool) → nat_eq r rel ≡ b → cond b T (db r) ≡ db r
+    by_test true e = same ∙ ap db (sym (eqb-true r rel e))
+    by_test false e = refl
+
+-- ---- steps
+
+-- what a step leaves, in a session that is open for a user or in none
+record Leaves (site : Site) (w : World) (e : Event) (session : Option ℕ) (s : Step) : Type 0 where
+  pub db : ChangesNothing s.reply → s.world.db ≡ w.db
+  pub sessions : ChangesNothing s.reply → s.world.sessions ≡ w.sessions
+  pub audit : s.world.audit ≡ w.audit ++ entries_added site e session s.reply
+
+module _ (site : Site) (w : World) (e : Event) where
+  all_left : (session : Option ℕ) (s : Step) → s.world ≡ w → entries_added site e session s.reply ≡ [] → Leaves site w e session s
+  all_left session s same none = record {
+    db = λ h. ap (λ v. v.db) same;
+    sessions = λ h. ap (λ v. v.sessions) same;
+    audit = ap (λ v. v.audit) same ∙ sym (append-nil w.audit) ∙ ap (λ es. w.audit ++ es) (sym none);
+  }
+
+  wrote_left : (user rel : ℕ) (wr : Write) → Leaves site w e (Some user) (wrote site w e.level rel wr)
+  wrote_left user rel wr = record {
+    db = λ h. (let same = same_relation w.db rel _ (table_left (site_labels site) (site_scheme site rel) e.level (w.db rel) wr h) in λ i r. same r i);
+    sessions = λ h. refl;
+    audit = sym (append-nil w.audit);
+  }
+
+  unless_left : (denial : Option Denial) (user : ℕ) (effect : Step) → Leaves site w e (Some user) effect → Leaves site w e (Some user) (unless site denial w e user effect)
+  unless_left None user effect h = h
+  unless_left (Some denial) user effect h = record { db = λ k. refl; sessions = λ k. refl; audit = refl }
+
+  inside_left : (command : Command) (user : ℕ) → Leaves site w e (Some user) (step_inside site w e command user)
+  inside_left (commands.Open name) user = record { db = λ h. refl; sessions = λ h. refl; audit = refl }
+  inside_left commands.Close user = record { db = λ h. absurd h; sessions = λ h. absurd h; audit = sym (append-nil w.audit) }
+  inside_left commands.Audit user = all_left (Some user) _ refl refl
+  inside_left (commands.View rel label) user = unless_left _ user _ (all_left (Some user) _ refl refl)
+  inside_left (commands.Insert rel key values) user = unless_left _ user _ (wrote_left user rel (Insert key values))
+  inside_left (commands.Update rel key key_class from sets) user = unless_left _ user _ (wrote_left user rel (Update key key_class from sets))
+  inside_left (commands.Delete rel key key_class) user = unless_left _ user _ (wrote_left user rel (Delete key key_class))
+
+  opened_left : (r : Result ℕ Denial) → Leaves site w e None (open_step site w e r)
+  opened_left (Ok user) = record { db = λ h. absurd h; sessions = λ h. absurd h; audit = sym (append-nil w.audit) }
+  opened_left (Err denial) = all_left None _ refl refl
+
+  outside_left : (command : Command) → Leaves site w e None (step_outside site w e command)
+  outside_left (commands.Open name) = opened_left (cleared site e.level (user_named site.policy name))
+  outside_left commands.Close = all_left None _ refl refl
+  outside_left commands.Audit = all_left None _ refl refl
+  outside_left (commands.View rel label) = all_left None _ refl refl
+  outside_left (commands.Insert rel key values) = all_left None _ refl refl
+  outside_left (commands.Update rel key key_class from sets) = all_left None _ refl refl
+  outside_left (commands.Delete rel key key_class) = all_left None _ refl refl
+
+  at_left : (session : Option ℕ) → Leaves site w e session (step_at site w e e.command session)
+  at_left (Some user) = inside_left e.command user
+  at_left None = outside_left e.command
+
+  step_left : Leaves site w e (w.sessions e.level e.session) (step site w e)
+  unfolding step
+  step_left = at_left (w.sessions e.level e.session)
+
+pub refusal_left : RefusalsChangeNothing
+refusal_left site w e h = let l = step_left site w e in (l.db h, l.sessions h)
+
+pub denial_entered : DenialsAreEntered
+denial_entered site w e = (step_left site w e).audit

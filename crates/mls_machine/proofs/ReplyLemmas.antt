@@ -1,0 +1,120 @@
+-- Over content of the stored form the numbers in a reply are those of the policy.
+use Rattle.std.proofs.Common.{◌≡◌, ℕ, suc, ◌<◌, Bool, true, false, cond, List, [], ◌∷◌, ◌++◌, length, map, Option, Some, None, Ok, Err, inl, inr, refl, sym, subst, arith}
+use Rattle.std.specs.List.{AllByRecursion, filter}
+use Rattle.std.specs.FinMap.{get}
+use Rattle.std.proofs.lemmas.List.{length-map}
+use Rattle.mls_lattice.specs.Labels.{Labels, below, AreDistinct}
+use Rattle.mls_lattice.specs.Policy.{Tables}
+use Rattle.mls_scheme.specs.declared.tuple.Element.{Element}
+use Rattle.mls_scheme.specs.declared.place.Place.{Place}
+use Rattle.mls_scheme.specs.Tuple.{at, HasClassesBelow}
+use Rattle.mls_scheme.specs.Table.{Table, tuple_at}
+use Rattle.mls_filterview.specs.Stored.{IsStored}
+use Rattle.mls_filterview.specs.View.{rows}
+use Rattle.mls_filterview.proofs.RowLemmas.{rows_are_the_view}
+use Rattle.mls_updates.specs.Writes.{Write, Insert, Update, Delete}
+use Rattle.mls_audit.specs.declared.entry.Entry.{Entry}
+use Rattle.mls_audit.specs.Entry.{label_of}
+use Rattle.mls_script.specs.declared.event.Event.{Event}
+use Rattle.mls_script.specs.declared.event.Command.{Command}
+use Rattle.mls_script.specs.declared.event.Command.TheVariants as commands
+use Rattle.mls_machine.specs.declared.reply.Denial.{Denial}
+use Rattle.mls_machine.specs.declared.reply.Denial.TheVariants.{AlreadyOpen}
+use Rattle.mls_machine.specs.Site.{Site, site_labels, site_scheme}
+use Rattle.mls_machine.specs.Denying.{exceed, clearance_of, cleared, user_named}
+use Rattle.mls_machine.specs.Machine.{World, Step, unless, denial_entry, viewed, wrote, step_inside, open_step, step_outside, step_at, step}
+use Rattle.mls_machine.specs.Output.{EntriesAreKnown, ReplyIsKnown}
+use Rattle.mls_machine.specs.Observation.{AreStored}
+use Rattle.mls_machine.proofs.DenyingLemmas.{user_below}
+
+-- ---- rows
+
+all_below : (n : ℕ) (es : List Element) → ((i : ℕ) → i < length es → (at es i).class < n) → AllByRecursion (λ e. e.class < n) es
+all_below n [] h = tt
+all_below n (e ∷ es) h = (h 0 (omega arith), all_below n es (λ i l. h (suc i) (omega arith)))
+
+module _ (ls : Labels) (n : ℕ) (T : Table) (stored : IsStored ls n T) where
+  tuple_below : (p : Place) (es : List Element) → get T p ≡ Some es → HasClassesBelow (length ls) (tuple_at p es)
+  tuple_below p es g =
+      let s = stored p es g in
+      record {
+        key_class = s.declared p.key_class (inl refl);
+        elements = all_below (length ls) es (λ i l. s.declared (at es i).class (inr (i, l, refl)));
+      }
+
+  tuples_below : (es : List (Place × List Element)) → AllByRecursion (λ e. get T e.0 ≡ Some e.1) es → AllByRecursion (HasClassesBelow (length ls)) (map (λ e. tuple_at e.0 e.1) es)
+  tuples_below [] h = tt
+  tuples_below (e ∷ es) h = (tuple_below e.0 e.1 h.0, tuples_below es h.1)
+
+  rows_below : AreDistinct ls → (c : ℕ) → AllByRecursion (HasClassesBelow (length ls)) (rows ls c T)
+  rows_below distinct c =
+      let r = (rows_are_the_view ls distinct n T stored c).1 in
+      subst (AllByRecursion (HasClassesBelow (length ls))) (sym r.1) (tuples_below r.0 r.3)
+
+-- ---- entries
+
+filter_known : (p : Entry → Bool) (policy : Tables) (es : List Entry) → EntriesAreKnown policy es → EntriesAreKnown policy (filter p es)
+filter_known p policy [] h = tt
+filter_known p policy (e ∷ es) h =
+    elim (p e) as (λ b. EntriesAreKnown policy (cond b (e ∷ filter p es) (filter p es))) [ true ↦ (h.0, filter_known p policy es h.1) | false ↦ filter_known p policy es h.1 ]
+
+append_known : (policy : Tables) (es fs : List Entry) → EntriesAreKnown policy es → EntriesAreKnown policy fs → EntriesAreKnown policy (es ++ fs)
+append_known policy [] fs h k = k
+append_known policy (e ∷ es) fs h k = (h.0, append_known policy es fs h.1 k)
+
+-- ---- steps
+
+-- the numbers in a reply and in the audit list are those of the policy
+pub record IsKnown (site : Site) (s : Step) : Type 0 where
+  pub reply : ReplyIsKnown site.policy s.reply
+  pub audit : EntriesAreKnown site.policy s.world.audit
+
+module _ (site : Site) (distinct : AreDistinct (site_labels site)) (w : World) (stored : AreStored site w.db) (known : EntriesAreKnown site.policy w.audit) (e : Event) (declared : e.level < length site.policy.labels) where
+  denied_known : (user : ℕ) (denial : Denial) → EntriesAreKnown site.policy (w.audit ++ denial_entry site e user denial ∷ [])
+  denied_known user denial = append_known site.policy w.audit (denial_entry site e user denial ∷ []) known (declared, tt)
+
+  unless_known : (denial : Option Denial) (user : ℕ) (effect : Step) → IsKnown site effect → IsKnown site (unless site denial w e user effect)
+  unless_known None user effect h = h
+  unless_known (Some denial) user effect h = record { reply = tt; audit = denied_known user denial }
+
+  viewed_known : (rel label : ℕ) → AllByRecursion (HasClassesBelow (length site.policy.labels)) (rows (site_labels site) label (w.db rel))
+  viewed_known rel label =
+      subst (λ n. AllByRecursion (HasClassesBelow n) (rows (site_labels site) label (w.db rel))) (length-map site.policy.labels (λ l. l.value))
+      (rows_below (site_labels site) (length (site_scheme site rel).others) (w.db rel) (stored rel) distinct label)
+
+  wrote_known : (denial : Option Denial) (user rel : ℕ) (wr : Write) → IsKnown site (unless site denial w e user (wrote site w e.level rel wr))
+  wrote_known denial user rel wr = unless_known denial user (wrote site w e.level rel wr) (record { reply = tt; audit = known })
+
+  inside_known : (command : Command) (user : ℕ) → IsKnown site (step_inside site w e command user)
+  inside_known (commands.Open name) user = record { reply = tt; audit = denied_known user AlreadyOpen }
+  inside_known commands.Close user = record { reply = tt; audit = known }
+  inside_known commands.Audit user = record { reply = filter_known (λ x. below (site_labels site) (label_of x) e.level) site.policy w.audit known; audit = known }
+  inside_known (commands.View rel label) user = unless_known _ user (viewed site w rel label) (record { reply = viewed_known rel label; audit = known })
+  inside_known (commands.Insert rel key values) user = wrote_known _ user rel (Insert key values)
+  inside_known (commands.Update rel key key_class from sets) user = wrote_known _ user rel (Update key key_class from sets)
+  inside_known (commands.Delete rel key key_class) user = wrote_known _ user rel (Delete key key_class)
+
+  cleared_known : (user : ℕ) (b : Bool) (denial : Denial) → user < length site.policy.users → IsKnown site (open_step site w e (cond b (Err denial) (Ok user)))
+  cleared_known user true denial h = record { reply = tt; audit = known }
+  cleared_known user false denial h = record { reply = h; audit = known }
+
+  opened_known : (o : Option ℕ) → ((user : ℕ) → o ≡ Some user → user < length site.policy.users) → IsKnown site (open_step site w e (cleared site e.level o))
+  opened_known None h = record { reply = tt; audit = known }
+  opened_known (Some user) h = cleared_known user (exceed site (clearance_of site.policy user) (e.level ∷ [])) _ (h user refl)
+
+  outside_known : (command : Command) → IsKnown site (step_outside site w e command)
+  outside_known (commands.Open name) = opened_known (user_named site.policy name) (user_below site.policy name)
+  outside_known commands.Close = record { reply = tt; audit = known }
+  outside_known commands.Audit = record { reply = tt; audit = known }
+  outside_known (commands.View rel label) = record { reply = tt; audit = known }
+  outside_known (commands.Insert rel key values) = record { reply = tt; audit = known }
+  outside_known (commands.Update rel key key_class from sets) = record { reply = tt; audit = known }
+  outside_known (commands.Delete rel key key_class) = record { reply = tt; audit = known }
+
+  at_known : (session : Option ℕ) → IsKnown site (step_at site w e e.command session)
+  at_known (Some user) = inside_known e.command user
+  at_known None = outside_known e.command
+
+  pub step_known : IsKnown site (step site w e)
+  unfolding step
+  step_known = at_known (w.sessions e.level e.session)

@@ -1,0 +1,127 @@
+-- The machine of sessions (after Bell and LaPadula 1976): what each event does to the database, the sessions and the
+-- audit list, and what it is answered.
+use Rattle.std.specs.Prelude.{ℕ, ◌&&◌, if◌then◌else◌, nat_eq, List, [], ◌∷◌, ◌++◌, Option, Some, None, Result, Ok, Err}
+use Rattle.std.specs.Str.{bytes_eq}
+use Rattle.mls_lattice.specs.Policy.{Name}
+use Rattle.mls_lattice.specs.Canon.{user_name}
+use Rattle.mls_scheme.specs.Table.{Database}
+use Rattle.mls_filterview.specs.View.{rows}
+use Rattle.mls_filterview.specs.Content.{with_table}
+use Rattle.mls_updates.specs.Writes.{Write, Insert, Update, Delete, write}
+use Rattle.mls_audit.specs.declared.entry.Entry.{Entry}
+use Rattle.mls_audit.specs.declared.entry.Entry.TheVariants as entries
+use Rattle.mls_audit.specs.Entry.{visible}
+use Rattle.mls_script.specs.declared.event.Event.{Event}
+use Rattle.mls_script.specs.declared.event.Command.{Command}
+use Rattle.mls_script.specs.declared.event.Command.TheVariants as commands
+use Rattle.mls_machine.specs.declared.reply.Denial.{Denial}
+use Rattle.mls_machine.specs.declared.reply.Denial.TheVariants.{NoSession, AlreadyOpen}
+use Rattle.mls_machine.specs.declared.reply.Reply.{Reply}
+use Rattle.mls_machine.specs.declared.reply.Reply.TheVariants.{Opened, Closed, Rows, Wrote, Entries, Denied}
+use Rattle.mls_machine.specs.Site.{Site, site_labels, site_scheme}
+use Rattle.mls_machine.specs.Reply.{code_of}
+use Rattle.mls_machine.specs.Denying.{first_denial, user_named, cleared, view_denials, write_denials}
+
+-- the user of each open session, by its level and name
+abbrev pub Sessions : Type 0
+Sessions = ℕ → Name → Option ℕ
+
+abbrev pub no_sessions : Sessions
+no_sessions level name = None
+
+-- open for a user, or closed
+abbrev pub with_session : Sessions → ℕ → Name → Option ℕ → Sessions
+with_session s level name user l n = if nat_eq l level && bytes_eq n name then user else s l n
+
+pub record World : Type 0 where
+  pub db : Database
+  pub sessions : Sessions
+  pub audit : List Entry
+
+pub record Step : Type 0 where
+  pub world : World
+  pub reply : Reply
+
+-- the session of an event is open for a user now, or closed
+abbrev pub in_session : World → Event → Option ℕ → World
+in_session w event user = record w { sessions = with_session w.sessions event.level event.session user }
+
+-- where no such session is open, a denial changes nothing
+abbrev pub turned_away : World → Denial → Step
+turned_away w denial = record { world = w; reply = Denied denial }
+
+abbrev pub opened : World → Event → ℕ → Step
+opened w event user = record { world = in_session w event (Some user); reply = Opened user }
+
+abbrev pub closed : World → Event → Step
+closed w event = record { world = in_session w event None; reply = Closed }
+
+module _ (site : Site) where
+  -- ---- denials in an open session
+
+  abbrev pub denial_entry : Event → ℕ → Denial → Entry
+  denial_entry event user denial = entries.Denied event.level (user_name site.policy.users user) event.session (code_of denial)
+
+  -- the denial is entered in the audit list
+  abbrev pub denied : World → Event → ℕ → Denial → Step
+  denied w event user denial = record { world = record w { audit = w.audit ++ denial_entry event user denial ∷ [] }; reply = Denied denial }
+
+  abbrev pub unless : Option Denial → World → Event → ℕ → Step → Step
+  unless None w event user effect = effect
+  unless (Some denial) w event user effect = denied w event user denial
+
+  -- ---- effects in an open session
+
+  abbrev pub viewed : World → ℕ → ℕ → Step
+  viewed w rel label = record { world = w; reply = Rows (rows (site_labels site) label (w.db rel)) }
+
+  -- a write at the level of the session
+  abbrev pub wrote : World → ℕ → ℕ → Write → Step
+  wrote w level rel wr =
+      let new = write (site_labels site) (site_scheme site rel) level wr (w.db rel) in
+      record { world = record w { db = with_table w.db rel new.table }; reply = Wrote new.outcome }
+
+  -- the entries that the level of the session dominates
+  abbrev pub listed : World → ℕ → Step
+  listed w level = record { world = w; reply = Entries (visible (site_labels site) level w.audit) }
+
+  -- ---- commands
+
+  abbrev pub view_step : World → Event → ℕ → ℕ → ℕ → Step
+  view_step w event user rel label = unless (first_denial (view_denials site event.level user rel label)) w event user (viewed w rel label)
+
+  abbrev pub write_step : World → Event → ℕ → ℕ → Write → Step
+  write_step w event user rel wr = unless (first_denial (write_denials site event.level user rel wr)) w event user (wrote w event.level rel wr)
+
+  -- where the session is open, for this user
+  abbrev pub step_inside : World → Event → Command → ℕ → Step
+  step_inside w event (commands.Open name) user = denied w event user AlreadyOpen
+  step_inside w event commands.Close user = closed w event
+  step_inside w event commands.Audit user = listed w event.level
+  step_inside w event (commands.View rel label) user = view_step w event user rel label
+  step_inside w event (commands.Insert rel key values) user = write_step w event user rel (Insert key values)
+  step_inside w event (commands.Update rel key key_class from sets) user = write_step w event user rel (Update key key_class from sets)
+  step_inside w event (commands.Delete rel key key_class) user = write_step w event user rel (Delete key key_class)
+
+  -- an opening, for the user that is cleared for the level
+  abbrev pub open_step : World → Event → Result ℕ Denial → Step
+  open_step w event (Ok user) = opened w event user
+  open_step w event (Err denial) = turned_away w denial
+
+  -- where no such session is open
+  abbrev pub step_outside : World → Event → Command → Step
+  step_outside w event (commands.Open name) = open_step w event (cleared site event.level (user_named site.policy name))
+  step_outside w event command = turned_away w NoSession
+
+  -- ---- steps and runs
+
+  abbrev pub step_at : World → Event → Command → Option ℕ → Step
+  step_at w event command None = step_outside w event command
+  step_at w event command (Some user) = step_inside w event command user
+
+  unfoldable pub step : World → Event → Step
+  step w event = step_at w event event.command (w.sessions event.level event.session)
+
+  unfoldable pub end_of : World → List Event → World
+  end_of w [] = w
+  end_of w (e ∷ es) = end_of (step w e).world es

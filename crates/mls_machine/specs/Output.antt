@@ -1,0 +1,157 @@
+-- The printed output: the lines of the replies, in order, with a line feed after each.
+use Rattle.std.specs.Prelude.{ℕ, ◌/◌, ◌%◌, ◌+◌, ◌==◌, ◌||◌, nat_lt, if◌then◌else◌, List, [], ◌∷◌, ◌++◌, map, Option, Some, None, codes, length, ◌<◌, ⊤}
+use Rattle.std.specs.List.{flat_map, AllByRecursion}
+use Rattle.std.specs.Fmt.{decimal, signed_decimal}
+use Rattle.mls_lattice.specs.Lattice.{Pair, same_pair}
+use Rattle.mls_lattice.specs.Policy.{Name, Named, Tables, labels_of}
+use Rattle.mls_lattice.specs.Canon.{label_name, user_name}
+use Rattle.mls_scheme.specs.declared.value.Value.{Value}
+use Rattle.mls_scheme.specs.declared.value.Value.TheVariants as values
+use Rattle.mls_scheme.specs.declared.tuple.Tuple.{Tuple}
+use Rattle.mls_scheme.specs.Tuple.{tuple_class, HasClassesBelow}
+use Rattle.mls_scheme.specs.Scheme.{Scheme, scheme_of}
+use Rattle.mls_updates.specs.declared.outcome.Outcome.{Outcome}
+use Rattle.mls_updates.specs.Outcome.{is_done, code_of as outcome_code, word_of as outcome_word}
+use Rattle.mls_audit.specs.declared.entry.Entry.{Entry}
+use Rattle.mls_audit.specs.declared.entry.Entry.TheVariants as entries
+use Rattle.mls_audit.specs.Entry.{label_of}
+use Rattle.mls_script.specs.declared.event.Event.{Event}
+use Rattle.mls_script.specs.declared.event.Command.{Command}
+use Rattle.mls_script.specs.declared.event.Command.TheVariants as commands
+use Rattle.mls_machine.specs.declared.reply.Denial.{Denial}
+use Rattle.mls_machine.specs.declared.reply.Reply.{Reply}
+use Rattle.mls_machine.specs.declared.reply.Reply.TheVariants.{Opened, Closed, Rows, Wrote, Entries, Denied}
+use Rattle.mls_machine.specs.Site.{Site}
+use Rattle.mls_machine.specs.Reply.{code_of, word_of}
+use Rattle.mls_machine.specs.Machine.{World, step}
+
+-- ---- names and values
+
+abbrev pub hex_digit : ℕ → ℕ
+hex_digit n = if nat_lt n 10 then 48 + n else 87 + n
+
+-- a control character as \x and two digits; so no name or value begins a line
+abbrev pub printable_byte : ℕ → List ℕ
+printable_byte b = if nat_lt b 32 || b == 127 then codes "\\x" ++ hex_digit (b / 16) ∷ hex_digit (b % 16) ∷ [] else b ∷ []
+
+abbrev pub printable : List ℕ → List ℕ
+printable = flat_map printable_byte
+
+-- in a text between quotes, a quote and a backslash stand behind a backslash
+abbrev pub quoted_byte : ℕ → List ℕ
+quoted_byte b = if b == 34 || b == 92 then 92 ∷ b ∷ [] else printable_byte b
+
+abbrev pub quoted : List ℕ → List ℕ
+quoted text = codes "\"" ++ flat_map quoted_byte text ++ codes "\""
+
+abbrev pub value_text : Value → List ℕ
+value_text (values.Int n) = signed_decimal n
+value_text (values.Text s) = quoted s
+
+abbrev pub cell_text : Option Value → List ℕ
+cell_text None = codes "null"
+cell_text (Some v) = value_text v
+
+-- ---- rows
+
+-- the name of the first label of this value
+abbrev pub name_of : List Named → Pair → Name
+name_of [] p = []
+name_of (l ∷ ls) p = if same_pair l.value p then l.name else name_of ls p
+
+-- a value and its class, with what parts it from the next
+abbrev pub cell_entry : List Named → ℕ → Option Value → List ℕ
+cell_entry labels class v = cell_text v ++ codes " " ++ label_name labels class ++ codes " | "
+
+-- the key with its class, the elements with theirs, and the class of the tuple
+abbrev pub row_text : Tables → Tuple → List ℕ
+row_text p t =
+    codes "row " ++ flat_map (λ v. cell_entry p.labels t.key_class (Some v)) t.key ++ flat_map (λ e. cell_entry p.labels e.class e.value) t.elements
+    ++ name_of p.labels (tuple_class (labels_of p) t)
+
+abbrev pub heading : Tables → Scheme → ℕ → List ℕ
+heading p s label =
+    codes "view " ++ s.name ++ codes " at " ++ label_name p.labels label ++ codes ":" ++ flat_map (λ a. codes " " ++ a.name) s.keys ++ flat_map (λ a. codes " " ++ a.name) s.others
+
+-- the texts of rows, which answer a view and nothing else
+abbrev pub view_texts : Site → Command → List Tuple → List (List ℕ)
+view_texts site (commands.View rel label) tuples = heading site.policy (scheme_of site.schemes rel) label ∷ map (row_text site.policy) tuples
+view_texts site command tuples = []
+
+-- ---- entries
+
+-- the label, what was done, the user and the session
+abbrev pub entry_front : Tables → ℕ → List ℕ → Name → Name → List ℕ
+entry_front p label deed user session = codes "entry " ++ label_name p.labels label ++ deed ++ printable user ++ codes " " ++ printable session ++ codes " "
+
+abbrev pub entry_text : Tables → Entry → List ℕ
+entry_text p (entries.Called label user session transaction) = entry_front p label (codes " called ") user session ++ printable transaction
+entry_text p (entries.Denied label user session code) = entry_front p label (codes " denied ") user session ++ decimal code
+entry_text p (entries.Released label user session value) = entry_front p label (codes " released ") user session ++ cell_text value
+
+-- ---- replies
+
+abbrev pub outcome_text : Outcome → List ℕ
+outcome_text o = if is_done o then codes "done" else codes "refused " ++ decimal (outcome_code o) ++ codes " " ++ outcome_word o
+
+abbrev pub denial_text : Denial → List ℕ
+denial_text d = codes "denied " ++ decimal (code_of d) ++ codes " " ++ word_of d
+
+-- the texts of a reply to a command, one for each of its lines
+abbrev pub reply_texts : Site → Command → Reply → List (List ℕ)
+reply_texts site command (Opened user) = (codes "opened " ++ user_name site.policy.users user) ∷ []
+reply_texts site command Closed = codes "closed" ∷ []
+reply_texts site command (Rows tuples) = view_texts site command tuples
+reply_texts site command (Wrote o) = outcome_text o ∷ []
+reply_texts site command (Entries es) = codes "audit" ∷ map (entry_text site.policy) es
+reply_texts site command (Denied d) = denial_text d ∷ []
+
+-- ---- lines
+
+-- a line without its end, and the label that may see it
+pub record Line : Type 0 where
+  pub label : ℕ
+  pub text : List ℕ
+
+-- a line begins with its label and the session that it answers
+abbrev pub front : Tables → Event → ℕ → List ℕ
+front p e label = label_name p.labels label ++ codes " " ++ label_name p.labels e.level ++ codes "/" ++ printable e.session ++ codes " "
+
+abbrev pub line : Tables → Event → ℕ → List ℕ → Line
+line p e label text = record { label = label; text = front p e label ++ text }
+
+-- the lines of a reply have the level of the session
+abbrev pub reply_lines : Site → Event → Reply → List Line
+reply_lines site e r = map (line site.policy e e.level) (reply_texts site e.command r)
+
+-- the lines of a run from w
+unfoldable pub run_lines : Site → World → List Event → List Line
+run_lines site w [] = []
+run_lines site w (e ∷ es) = reply_lines site e (step site w e).reply ++ run_lines site (step site w e).world es
+
+-- the bytes of lines, each with its end
+abbrev pub printed : List Line → List ℕ
+printed = flat_map (λ l. l.text ++ codes "\n")
+
+-- ---- the numbers in a reply are those of the policy and the schemes
+
+abbrev pub CommandIsKnown : Site → Command → Type 0
+CommandIsKnown site (commands.View rel label) = (rel < length site.schemes) × (label < length site.policy.labels)
+CommandIsKnown site command = ⊤
+
+-- the labels of entries are declared
+abbrev pub EntriesAreKnown : Tables → List Entry → Type 0
+EntriesAreKnown p = AllByRecursion (λ e. label_of e < length p.labels)
+
+abbrev pub ReplyIsKnown : Tables → Reply → Type 0
+ReplyIsKnown p (Opened user) = user < length p.users
+ReplyIsKnown p Closed = ⊤
+ReplyIsKnown p (Rows tuples) = AllByRecursion (HasClassesBelow (length p.labels)) tuples
+ReplyIsKnown p (Wrote o) = ⊤
+ReplyIsKnown p (Entries es) = EntriesAreKnown p es
+ReplyIsKnown p (Denied d) = ⊤
+
+pub record CanBePrinted (site : Site) (e : Event) (r : Reply) : Type 0 where
+  pub level : e.level < length site.policy.labels
+  pub command : CommandIsKnown site e.command
+  pub reply : ReplyIsKnown site.policy r

@@ -1,0 +1,18 @@
+-- What a run is under.
+use Rattle.std.specs.Prelude.{ℕ}
+use Rattle.mls_lattice.specs.Labels.{Labels}
+use Rattle.mls_lattice.specs.Policy.{Tables, labels_of}
+use Rattle.mls_scheme.specs.Scheme.{Scheme, Schemes, scheme_of}
+
+-- a policy, and the schemes of its relations
+pub record Site : Type 0 where
+  pub policy : Tables
+  pub schemes : Schemes
+
+-- the declared labels, by number
+abbrev pub site_labels : Site → Labels
+site_labels site = labels_of site.policy
+
+-- the scheme of a relation, by its number
+abbrev pub site_scheme : Site → ℕ → Scheme
+site_scheme site rel = scheme_of site.schemes rel

@@ -1,0 +1,49 @@
+//! What sessions do.
+use mls_lattice::{Items, LabelNo, Str};
+use mls_scheme::{RelNo, Value};
+
+/// A command of a session, which is named by its level and its name.
+#[derive(PartialEq, Eq, Drop, Debug)]
+pub struct Event {
+    pub level: LabelNo,
+    pub session: Str,
+    pub command: Command,
+}
+
+/// What a session is to do. Numbers of labels and relations are those of the policy and the schemes that the script
+/// was read under.
+#[derive(PartialEq, Eq, Drop, Debug)]
+pub enum Command {
+    /// Opens the session for the user of a name.
+    Open(Str),
+    /// Closes the session, so that it may be opened again.
+    Close,
+    /// Shows the entries of the audit list that the session's level dominates.
+    Audit,
+    /// Shows what is seen of a relation at a label.
+    View {
+        rel: RelNo,
+        label: LabelNo,
+    },
+    /// Adds a tuple at the session's level.
+    Insert {
+        rel: RelNo,
+        key: Items<Option<Value>>,
+        values: Items<Option<Value>>,
+    },
+    /// Gives attributes outside the key, by their numbers, new values at the session's level. The tuple is that of class
+    /// `from`.
+    Update {
+        rel: RelNo,
+        key: Items<Option<Value>>,
+        key_class: LabelNo,
+        from: LabelNo,
+        sets: Items<(usize, Option<Value>)>,
+    },
+    /// Removes the tuple of the session's level, and those whose classes dominate it.
+    Delete {
+        rel: RelNo,
+        key: Items<Option<Value>>,
+        key_class: LabelNo,
+    },
+}

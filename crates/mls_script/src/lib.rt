@@ -1,0 +1,6 @@
+//! Scripts: the events that a text tells.
+#![tactic(auto)]
+
+mod event;
+
+pub use event::{Command, Event};

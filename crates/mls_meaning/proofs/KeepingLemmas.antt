@@ -42,6 +42,41 @@ pub for_each_kept : (P : Progress → Type 0) (f : Tuple → Progress → Progre
 for_each_kept P f k [] s h = h
 for_each_kept P f k (row ∷ rest) s h = for_each_kept P f k rest (f row s) (k row s h)
 
+-- ---- items
+
+pub all_push : {X : Type 0} (P : X → Type 0) (xs : List X) (x : X) → AllByRecursion P xs → P x → AllByRecursion P (xs ++ x ∷ [])
+all_push P [] x h k = (k, tt)
+all_push P (y ∷ ys) x h k = (h.0, all_push P ys x h.1 k)
+
+-- the items have declared labels
+pub record AreLabelled (policy : Tables) (s : Progress) : Type 0 where
+  pub emitted : AllByRecursion (λ i. IsLabel policy i.0) s.emitted
+  pub released : AllByRecursion (λ i. IsLabel policy i.0) s.released
+
+module _ (policy : Tables) (schemes : Schemes) (hi : ℕ) (args : List (Option Value)) where
+  abbrev perform_one : List Tuple → Stmt → Progress → Progress
+  perform_one = perform (labels_of policy) schemes args
+
+  abbrev run_one : Block → List Tuple → Progress → Progress
+  run_one = run_block (labels_of policy) schemes args
+
+  perform_labelled : (scope : Scope) (around : List Tuple) (stmt : Stmt) (s : Progress) → StmtFits policy schemes hi scope stmt → AreLabelled policy s → AreLabelled policy (perform_one around stmt s)
+  unfolding perform
+  perform_labelled scope around (Assign x e) s f h = record { emitted = h.emitted; released = h.released }
+  perform_labelled scope around (Write_at rel w writing outcome) s f h = record { emitted = h.emitted; released = h.released }
+  perform_labelled scope around (Release e to into) s f h = record { emitted = h.emitted; released = all_push (λ i. IsLabel policy i.0) s.released (to, value_in (environment args around s) e) h.released f.1 }
+  perform_labelled scope around (Emit e label) s f h = record { emitted = all_push (λ i. IsLabel policy i.0) s.emitted (label, value_in (environment args around s) e) h.emitted f.1; released = h.released }
+
+  pub block_labelled : (scope : Scope) (block : Block) → BlockFits policy schemes hi scope block → (around : List Tuple) (s : Progress) → AreLabelled policy s → AreLabelled policy (run_one block around s)
+  unfolding run_block
+  block_labelled scope End f around s h = h
+  block_labelled scope (Do stmt rest) f around s h = block_labelled scope rest f.1 around (perform_one around stmt s) (perform_labelled scope around stmt s f.0 h)
+  block_labelled scope (If guard one other rest) f around s h =
+      block_labelled scope rest f.3 around _ (cond_kept (AreLabelled policy) (holds_in (environment args around s) guard) _ _ (block_labelled scope one f.1 around s h) (block_labelled scope other f.2 around s h))
+  block_labelled scope (For name rel label body rest) f around s h =
+      block_labelled scope rest f.3 around _
+      (for_each_kept (AreLabelled policy) (λ row t. run_one body (row ∷ around) t) (λ row t k. block_labelled (in_loop scope name rel) body f.2 (row ∷ around) t k) (rows (labels_of policy) label (s.db rel)) s h)
+
 -- ---- releases
 
 pub record Extends (s t : Progress) : Type 0 where

@@ -37,7 +37,7 @@ use Rattle.mls_translang.specs.Fits.{StmtFits, BlockFits}
 use Rattle.mls_meaning.specs.Expressions.{bounded, calculate, cell_of, no_tuple, Environment, eval, value_in, holds_in}
 use Rattle.mls_meaning.specs.Meaning.{Variables, Progress, set_var, set_outcome, environment, values_set, write_in, perform, for_each, run_block}
 use Rattle.mls_meaning.specs.Laws.{IsItem}
-use Rattle.mls_meaning.proofs.KeepingLemmas.{table_holds, cond_kept, write_fits}
+use Rattle.mls_meaning.proofs.KeepingLemmas.{table_holds, all_push, cond_kept, write_fits}
 
 -- ---- operators
 
@@ -118,10 +118,6 @@ null_kinds scheme i =
 
 abbrev pub VarsFit : Scope → Variables → Type 0
 VarsFit scope vars = (i : ℕ) (k : Kind) → kind_of_var scope i ≡ Some k → fits_kind (vars i) k ≡ true
-
-all_push : {X : Type 0} (P : X → Type 0) (xs : List X) (x : X) → AllByRecursion P xs → P x → AllByRecursion P (xs ++ x ∷ [])
-all_push P [] x h k = (k, tt)
-all_push P (y ∷ ys) x h k = (h.0, all_push P ys x h.1 k)
 
 set_kind : (scope : Scope) (x : ℕ) (v : Option Value) (vars : Variables) → VarsFit scope vars → ((k : Kind) → kind_of_var scope x ≡ Some k → fits_kind v k ≡ true) → VarsFit scope (set_var x v vars)
 set_kind scope x v vars h f i k e =

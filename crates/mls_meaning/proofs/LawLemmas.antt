@@ -16,7 +16,7 @@ use Rattle.mls_translang.specs.Tx.{Tx, scope_of}
 use Rattle.mls_translang.specs.Fits.{IsReadUnder}
 use Rattle.mls_meaning.specs.Meaning.{start, run_tx}
 use Rattle.mls_meaning.specs.Laws.{ArgsFit, CallsKeepForm, CallsKeepContent, CallsGiveItems}
-use Rattle.mls_meaning.proofs.KeepingLemmas.{block_stored}
+use Rattle.mls_meaning.proofs.KeepingLemmas.{AreLabelled, block_labelled, block_stored}
 use Rattle.mls_meaning.proofs.KindLemmas.{null_kinds, Keeps, block_keeps}
 
 pub keep_form : CallsKeepForm
@@ -42,3 +42,7 @@ keep_content policy distinct schemes tx read args fits db content = (call_keeps 
 
 pub give_items : CallsGiveItems
 give_items policy distinct schemes tx read args fits db content = let k = call_keeps policy distinct schemes tx read args fits db content in (k.emitted, k.released)
+
+-- what a call gives has declared labels, whatever the arguments are
+pub call_labelled : (policy : Tables) (schemes : Schemes) (tx : Tx) → IsReadUnder policy schemes tx → (args : List (Option Value)) (db : Database) → AreLabelled policy (run_tx (labels_of policy) schemes tx args db)
+call_labelled policy schemes tx read args db = block_labelled policy schemes tx.hi args (scope_of tx) tx.body read.fits [] (start db) (record { emitted = tt; released = tt })

@@ -1,39 +1,37 @@
 -- The view of a list of tuples, from its steps.
-use Rattle.std.proofs.Common.{◌≡◌, ℕ, zero, suc, ◌<◌, Bool, true, false, cond, not, ◌&&◌, List, [], ◌∷◌, length, map, Option, Some, None, refl, sym, ap, ◌∙◌, subst, arith, inl, inr, IsTrue}
+use Rattle.std.proofs.Common.{◌≡◌, ℕ, zero, suc, ◌<◌, Bool, true, false, cond, not, ◌&&◌, List, [], ◌∷◌, length, map, Option, Some, None, refl, sym, ap, ◌∙◌, subst, arith, inl, inr}
 use Rattle.std.specs.Prelude.{◌↔◌, ◌⊎◌}
-use Rattle.std.specs.List.{filter, list_any, AllByRecursion}
+use Rattle.std.specs.List.{filter, AllByRecursion}
 use Rattle.std.specs.List.Sorted.{IsStrictlySortedBy}
-use Rattle.std.specs.Ordering.{nat_cmp, on, ordering_then, is_lt}
+use Rattle.std.specs.Ordering.{nat_cmp, ordering_then, is_lt}
 use Rattle.std.specs.declared.cmp.Ordering.{Ordering}
 use Rattle.std.specs.declared.cmp.Ordering.TheVariants.{Less, Equal, Greater}
 use Rattle.std.specs.Option.{option_cmp}
-use Rattle.std.specs.Cmp.{IsTotalOrder}
-use Rattle.std.specs.Cmp.Lexicographic.{slice_cmp, options_total}
+use Rattle.std.specs.Cmp.Lexicographic.{slice_cmp}
 use Rattle.std.specs.FinMap.{IsAntisymmetric, slice_cmp-IsAntisymmetric, nat_cmp-IsAntisymmetric, get, entries, entries_sorted, is_sorted}
 use Rattle.std.specs.FinMap.Entries.{below_all}
-use Rattle.std.proofs.lemmas.Cmp.{on_total, then_total, nat_cmp_total, lists_total, tied_itself}
-use Rattle.std.proofs.lemmas.Bool.{true≢false, and_parts, and_from, cases_Bool, not-true, not_from_false, true_from_ne_false, false_from_ne_true}
+use Rattle.std.proofs.lemmas.Cmp.{tied_itself}
+use Rattle.std.proofs.lemmas.Bool.{true≢false, and_parts, and_from, not-true, not_from_false, true_from_ne_false, false_from_ne_true}
 use Rattle.std.proofs.lemmas.Option.{same_Some}
 use Rattle.mls_lattice.specs.Labels.{Labels, below, AreDistinct}
 use Rattle.mls_lattice.proofs.LatticeLemmas.{below-antisym}
 use Rattle.mls_scheme.specs.declared.value.Value.{Value}
 use Rattle.mls_scheme.specs.declared.tuple.Element.{Element}
 use Rattle.mls_scheme.specs.declared.tuple.Tuple.{Tuple}
-use Rattle.mls_scheme.specs.declared.place.Place.{Place}
 use Rattle.mls_scheme.specs.Value.{value_cmp}
 use Rattle.mls_scheme.specs.Tuple.{at, HasClassesBelow}
 use Rattle.mls_scheme.specs.Table.{place_cmp, Table, Has, IsIn, tuple_at, place_of}
-use Rattle.mls_scheme.proofs.OrderLemmas.{value_total, value_exact, place_total, place_exact}
-use Rattle.mls_filterview.specs.Subsumption.{Subsumes, IsMax}
+use Rattle.mls_scheme.proofs.OrderLemmas.{value_exact, place_exact}
+use Rattle.mls_filterview.specs.Subsumption.{Subsumes}
 use Rattle.mls_filterview.specs.View.{hide, filtered, Filter, View, low, rows, IsAmong}
-use Rattle.mls_filterview.specs.Stored.{Occurs, IsStoredTuple, IsStored}
+use Rattle.mls_filterview.specs.Stored.{IsStored}
 use Rattle.mls_filterview.specs.Filtering.{EachOnce, seen, subsumes_tuple, is_covered, uncovered, greatest_from, class_number, row_of, element_cmp, row_cmp}
 use Rattle.mls_filterview.specs.RowOrder.{row_total}
 use Rattle.mls_filterview.proofs.SubsumptionLemmas.{Subsumes-antisym}
 use Rattle.mls_filterview.proofs.SubsumptionSteps.{subsumes_tuple-true, subsumes_tuple-from}
 use Rattle.mls_filterview.proofs.LevelLemmas.{View-same}
 use Rattle.mls_filterview.proofs.AmongLemmas.{among_map, map_among, among_filter, filter_among, none_of, all_none}
-use Rattle.mls_filterview.proofs.EntryLemmas.{Entry, among_entries, entries_among, sorted_filter, so_true, same_lists}
+use Rattle.mls_filterview.proofs.EntryLemmas.{Entry, among_entries, sorted_filter, so_true, same_lists}
 use Rattle.mls_filterview.proofs.RowLemmas.{on_top, in_table, rows-view}
 
 -- ---- the order of rows

@@ -1,4 +1,5 @@
 pub mod LowLemmas
+pub mod CallLemmas
 pub mod SubsumptionLemmas
 pub mod SubsumptionSteps
 pub mod ViewLemmas
@@ -15,6 +16,7 @@ pub mod FilterLemmas
 pub mod FragmentLemmas
 pub mod AssemblyLemmas
 pub mod ListedLemmas
+pub mod EntityLemmas
 pub mod FittingSteps
 pub mod EntitySteps
 pub mod RuleLemmas

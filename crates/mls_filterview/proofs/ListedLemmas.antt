@@ -42,7 +42,7 @@ below_keys : (p : Place) (es : List Entry) → AllByRecursion (λ k. place_cmp p
 below_keys p [] h = refl
 below_keys p (e ∷ es) h = and_from _ _ (ap is_lt h.0) (below_keys p es h.1)
 
-sorted_keys : (es : List Entry) → IsStrictlySortedBy place_cmp (keys_of es) → is_sorted place_cmp es ≡ true
+pub sorted_keys : (es : List Entry) → IsStrictlySortedBy place_cmp (keys_of es) → is_sorted place_cmp es ≡ true
 sorted_keys [] h = refl
 sorted_keys (e ∷ es) h = and_from _ _ (below_keys e.0 es (sorted_head place_cmp e.0 (keys_of es) h)) (sorted_keys es (sorted_tail place_cmp e.0 (keys_of es) h))
 

@@ -1,13 +1,16 @@
 -- The tuples of classes that a level dominates, by look-up.
-use Rattle.std.proofs.Common.{◌≡◌, ℕ, true, false, cond, None, refl, sym, ap, ◌∙◌}
-use Rattle.std.specs.FinMap.{get}
+use Rattle.std.proofs.Common.{◌≡◌, ℕ, true, false, cond, map, None, refl, sym, ap, ◌∙◌}
+use Rattle.std.specs.List.{filter}
+use Rattle.std.specs.FinMap.{get, entries}
 use Rattle.std.proofs.lemmas.Option.{none-some}
 use Rattle.mls_lattice.specs.Labels.{Labels, below}
+use Rattle.mls_lattice.proofs.LatticeLemmas.{below-trans}
 use Rattle.mls_scheme.specs.declared.tuple.Tuple.{Tuple}
-use Rattle.mls_scheme.specs.Table.{Table, Has, place_of}
+use Rattle.mls_scheme.specs.Table.{Table, tuple_at, Has, place_of}
 use Rattle.mls_scheme.specs.declared.place.Place.{Place}
 use Rattle.mls_scheme.proofs.TableLemmas.{get_kept, same_table}
-use Rattle.mls_filterview.specs.View.{low}
+use Rattle.mls_filterview.specs.View.{low, rows}
+use Rattle.mls_filterview.specs.Subsumption.{is_max_among}
 
 pub get_low : (ls : Labels) (c : ℕ) (T : Table) (q : Place) → get (low ls c T) q ≡ cond (below ls q.class c) (get T q) None
 unfolding low
@@ -39,3 +42,14 @@ from_low ls c T t m h =
 
 pub to_low : (ls : Labels) (c : ℕ) (T : Table) (t : Tuple) (m : ℕ) → Has T m t → below ls m c ≡ true → Has (low ls c T) m t
 to_low ls c T t m h e = get_low_in ls c T (place_of m t) e ∙ h
+
+-- what two tables have in common at c they have at each d that c dominates
+pub low_under : (ls : Labels) (c d : ℕ) (S T : Table) → low ls c S ≡ low ls c T → below ls d c ≡ true → low ls d S ≡ low ls d T
+low_under ls c d S T h under = same_low ls d S T (λ q at_d.
+    let at_c = below-trans ls q.class d c at_d under in
+    sym (get_low_in ls c S q at_c) ∙ ap (λ U. get U q) h ∙ get_low_in ls c T q at_c)
+
+-- so what d sees of them is the same
+pub rows_under : (ls : Labels) (c d : ℕ) (S T : Table) → low ls c S ≡ low ls c T → below ls d c ≡ true → rows ls d S ≡ rows ls d T
+unfolding rows
+rows_under ls c d S T h under = ap (λ U. map (λ e. tuple_at e.0 e.1) (filter (is_max_among (entries U)) (entries U))) (low_under ls c d S T h under)

@@ -1,16 +1,16 @@
 -- The tests of subsumption, as they are computed.
-use Rattle.std.proofs.Common.{◌≡◌, ℕ, ◌==◌, Bool, true, false, ◌||◌, ◌&&◌, not, List, [], ◌∷◌, length, Option, Some, None, refl, sym, ap, ◌∙◌, arith, inl, inr}
+use Rattle.std.proofs.Common.{◌≡◌, Bool, true, false, ◌||◌, ◌&&◌, not, List, [], ◌∷◌, length, Option, Some, None, refl, sym, ap, ◌∙◌, arith}
 use Rattle.std.specs.Prelude.{is_some, is_none, ◌↔◌}
-use Rattle.std.proofs.lemmas.Bool.{false_from_ne_true, false≢true, true≢false, and_right}
+use Rattle.std.proofs.lemmas.Bool.{false_from_ne_true, true≢false, and_right}
 use Rattle.mls_scheme.specs.declared.value.Value.{Value}
 use Rattle.mls_scheme.specs.declared.tuple.Element.{Element}
 use Rattle.mls_scheme.specs.declared.tuple.Tuple.{Tuple}
 use Rattle.mls_scheme.specs.Tuple.{is_null}
 use Rattle.mls_scheme.specs.Table.{place_of}
-use Rattle.mls_scheme.proofs.OrderLemmas.{is_place-true, is_place-same}
-use Rattle.mls_filterview.specs.Subsumption.{Subsumes, same_element, covers, all_cover, subsumes_entry}
+use Rattle.mls_scheme.proofs.OrderLemmas.{is_place-same}
+use Rattle.mls_filterview.specs.Subsumption.{Subsumes, same_element, covers, all_cover}
 use Rattle.mls_filterview.specs.Filtering.{subsumes_tuple}
-use Rattle.mls_filterview.proofs.SubsumptionLemmas.{same_element-true, subsumes_entry-true, subsumes_entry-from, covers-from, same_tuple}
+use Rattle.mls_filterview.proofs.SubsumptionLemmas.{same_element-true, subsumes_entry-true, subsumes_entry-from}
 
 not_null : (v w : Option Value) → is_none v ≡ false → (is_some v && not (is_some w)) ≡ is_none w
 not_null None w h = absurd (true≢false h)

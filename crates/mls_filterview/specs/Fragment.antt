@@ -1,9 +1,10 @@
 -- What one label holds of a relation: its tuples without values, and the elements of that class in them.
-use Rattle.std.specs.Prelude.{◌≡◌, ◌≢◌, ℕ, suc, ◌<◌, true, ◌&&◌, if◌then◌else◌, nat_eq, List, [], ◌∷◌, map, length, Option, Some, IsPermutation}
+use Rattle.std.specs.Prelude.{◌≡◌, ◌≢◌, ℕ, suc, ◌<◌, true, ◌&&◌, if◌then◌else◌, nat_eq, List, [], ◌∷◌, map, length, Option, Some, IfSome, IsPermutation}
 use Rattle.std.specs.List.{filter, flat_map}
 use Rattle.std.specs.FinMap.{get, entries}
 use Rattle.mls_scheme.specs.declared.value.Value.{Value}
 use Rattle.mls_scheme.specs.declared.tuple.Element.{Element}
+use Rattle.mls_scheme.specs.Spelling.{HasSpelling}
 use Rattle.mls_scheme.specs.Tuple.{at}
 use Rattle.mls_scheme.specs.Table.{Table}
 use Rattle.mls_scheme.specs.declared.place.Place.{Place}
@@ -45,6 +46,14 @@ pub record IsMadeOf (T : Table) (n : Node) (cells : List Cell) (es : List Elemen
   pub pattern : n.pattern ≡ map (λ e. e.class) es
   pub own : cells ≡ cells_from 0 (place_of_node n) es
   pub others : (i : ℕ) → i < length es → (at es i).class ≢ n.label → (fs : List Element) × (get T (with_class (place_of_node n) (at es i).class) ≡ Some fs) × (at fs i ≡ at es i)
+
+-- an element of the node's tuple, of its class, whose value has a spelling
+pub record IsCellOf (n : Node) (c : Cell) : Type 0 where
+  pub key : c.key ≡ n.key
+  pub key_class : c.key_class ≡ n.key_class
+  pub label : c.label ≡ n.label
+  pub attr : c.attr < length n.pattern
+  pub value : IfSome c.value HasSpelling
 
 -- ---- the changes of one cell and of one tuple
 

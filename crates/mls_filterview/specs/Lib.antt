@@ -3,6 +3,7 @@ pub mod View
 pub mod Stored
 pub mod Integrity
 pub mod Content
+pub mod Calls
 pub mod Fragment
 pub mod Assembly
 pub mod Filtering

@@ -1,13 +1,16 @@
 //! Where content is kept.
-ghost use Rattle.std.specs.Prelude.{◌≡◌, ◌≢◌, ◌↔◌, ◌<◌, ◌≤◌, ℕ, List, false, true, IfOk, IfErr, IsErrOf, OnOk, map, None};
+ghost use Rattle.std.specs.Prelude.{◌≡◌, ◌≢◌, ◌↔◌, ◌<◌, ◌≤◌, ℕ, List, false, true, IfOk, IfErr, IfSome, IsErrOf, OnOk, Ok, None};
+ghost use Rattle.std.specs.List.{AllByRecursion};
 ghost use Rattle.std.specs.FinMap.{get, insert, remove};
 ghost use Rattle.mls_scheme.specs.declared.tuple.Element.{Element as SpecElement};
 ghost use Rattle.mls_scheme.specs.Table.{change};
-ghost use Rattle.mls_filterview.specs.Content.{State, begun_change, committed, ended, failed, after, with_relation};
-ghost use Rattle.mls_filterview.specs.Fragment.{IsFragment, IsMadeOf, place_of_node, HasCell, set_in, IsAlone};
+ghost use Rattle.mls_scheme.specs.Spelling.{HasSpelling, IsSpelledKey};
+ghost use Rattle.mls_filterview.specs.Content.{State, begun_change, committed, ended, failed, with_relation, with_entry};
+ghost use Rattle.mls_filterview.specs.Calls.{IsCall, IsServed};
+ghost use Rattle.mls_filterview.specs.Fragment.{IsFragment, IsMadeOf, place_of_node, HasCell, set_in, IsAlone, IsCellOf};
 
 use crate::fragment::{Cell, Fragment, Node};
-use mls_lattice::LabelNo;
+use mls_lattice::{Items, LabelNo};
 use mls_scheme::{Place, RelNo, Value};
 use std::alloc::{AllocError, AllocFailed};
 
@@ -48,10 +51,14 @@ impl<T: Drop> From<AllocFailed<T>> for BaseFault {
 ///
 /// Contracts see the content now, that of the last commit, and whether a change is begun; how many calls of the store
 /// have failed; and whether the store gives back what was written to it. A store can be found unclean at any call and
-/// never becomes clean again, so what is said of the state after a call has the premise that the store is clean then.
-/// Without it two things are known: a call that may answer `NotBegun` or `Begun` does so just where no change, or one, was
-/// begun before it, and an `Ok` of `fragment`, `add`, `set` and `drop_at` leaves `is_begun` as it was.
-/// After `Store` or `Memory` inside a change the change has ended, with the content of the last commit.
+/// never becomes clean again, so what is said of content after a call has the premise that the store is clean then.
+///
+/// Whether a change is begun is known without that premise: an `Ok` of `begin` begins one, an `Ok` of `commit` and of
+/// `rollback`, and each `Store` and `Memory`, ends it, and every other answer keeps it. `NotBegun` and `Begun` come just
+/// where no change, or one, is begun, and the store is not asked then. After `Store` or `Memory` inside a change the
+/// content is that of the last commit.
+///
+/// Keys and values that a call takes have a spelling as bytes.
 pub trait Base {
     ghost state: { Self → State };
 
@@ -65,61 +72,51 @@ pub trait Base {
 
     /// Begins a change. `Begun` where one is begun.
     fn begin(&mut self) -> Result<(), BaseFault>
-        ensures clean { is_clean self.new → is_clean self.old }
-        ensures count { failures self.old ≤ failures self.new }
-        ensures store { IsErrOf result BaseFault.Store → failures self.old < failures self.new }
+        ensures call { IsCall is_clean failures state self.old self.new result }
         ensures begun { (result ≡ Err BaseFault.Begun) ↔ ((state self.old).begun ≡ true) }
         ensures no_other { IsErrOf result BaseFault.NotBegun → ⊥ }
-        ensures done { is_clean self.new → OnOk result (state self.new ≡ begun_change (state self.old)) }
-        ensures failed { is_clean self.new → IfErr result (λ e. state self.new ≡ after e (state self.old)) };
+        ensures mode { OnOk result ((state self.new).begun ≡ true) }
+        ensures done { is_clean self.new → OnOk result (state self.new ≡ begun_change (state self.old)) };
 
     /// Keeps what the change did, and ends it. `NotBegun` where none is begun.
     fn commit(&mut self) -> Result<(), BaseFault>
-        ensures clean { is_clean self.new → is_clean self.old }
-        ensures count { failures self.old ≤ failures self.new }
-        ensures store { IsErrOf result BaseFault.Store → failures self.old < failures self.new }
+        ensures call { IsCall is_clean failures state self.old self.new result }
         ensures not_begun { (result ≡ Err BaseFault.NotBegun) ↔ ((state self.old).begun ≡ false) }
         ensures no_other { IsErrOf result BaseFault.Begun → ⊥ }
-        ensures done { is_clean self.new → OnOk result (state self.new ≡ committed (state self.old)) }
-        ensures failed { is_clean self.new → IfErr result (λ e. state self.new ≡ after e (state self.old)) };
+        ensures mode { OnOk result ((state self.new).begun ≡ false) }
+        ensures done { is_clean self.new → OnOk result (state self.new ≡ committed (state self.old)) };
 
     /// Goes back to the last commit, and ends the change. `NotBegun` where none is begun.
     fn rollback(&mut self) -> Result<(), BaseFault>
-        ensures clean { is_clean self.new → is_clean self.old }
-        ensures count { failures self.old ≤ failures self.new }
-        ensures store { IsErrOf result BaseFault.Store → failures self.old < failures self.new }
+        ensures call { IsCall is_clean failures state self.old self.new result }
         ensures not_begun { (result ≡ Err BaseFault.NotBegun) ↔ ((state self.old).begun ≡ false) }
         ensures no_other { IsErrOf result BaseFault.Begun → ⊥ }
-        ensures done { is_clean self.new → OnOk result (state self.new ≡ ended (state self.old)) }
-        ensures failed { is_clean self.new → IfErr result (λ e. state self.new ≡ after e (state self.old)) };
+        ensures mode { OnOk result ((state self.new).begun ≡ false) }
+        ensures done { is_clean self.new → OnOk result (state self.new ≡ ended (state self.old)) };
 
     /// What a label holds of a relation.
     fn fragment(&mut self, rel: RelNo, label: LabelNo) -> Result<Fragment, BaseFault>
-        ensures clean { is_clean self.new → is_clean self.old }
-        ensures count { failures self.old ≤ failures self.new }
-        ensures store { IsErrOf result BaseFault.Store → failures self.old < failures self.new }
-        ensures no_other { IfErr result (λ e. (e ≡ BaseFault.NotBegun → ⊥) × (e ≡ BaseFault.Begun → ⊥)) }
-        ensures begun { OnOk result ((state self.new).begun ≡ (state self.old).begun) }
+        ensures call { IsCall is_clean failures state self.old self.new result }
+        ensures served { IfErr result IsServed }
+        ensures mode { OnOk result ((state self.new).begun ≡ (state self.old).begun) }
         ensures found { is_clean self.new → IfOk result (IsFragment ((state self.old).now.db rel) label) }
-        ensures same { is_clean self.new → OnOk result (state self.new ≡ state self.old) }
-        ensures failed { is_clean self.new → IfErr result (λ e. state self.new ≡ after e (state self.old)) };
+        ensures same { is_clean self.new → OnOk result (state self.new ≡ state self.old) };
 
     /// Adds a tuple: its node, and the cells of its class in the order of attributes. `NotBegun` where no change is begun.
     fn add(&mut self, rel: RelNo, node: Node, cells: &[Cell]) -> Result<(), BaseFault>
+        requires key { IsSpelledKey node.key }
+        requires cells { AllByRecursion (IsCellOf node) cells.now }
         requires absent { is_clean self.old → get ((state self.old).now.db rel) (place_of_node node) ≡ None }
         requires made { is_clean self.old → (es : List SpecElement) × IsMadeOf ((state self.old).now.db rel) node cells.now es }
-        ensures clean { is_clean self.new → is_clean self.old }
-        ensures count { failures self.old ≤ failures self.new }
-        ensures store { IsErrOf result BaseFault.Store → failures self.old < failures self.new }
+        ensures call { IsCall is_clean failures state self.old self.new result }
         ensures not_begun { (result ≡ Err BaseFault.NotBegun) ↔ ((state self.old).begun ≡ false) }
         ensures no_other { IsErrOf result BaseFault.Begun → ⊥ }
-        ensures begun { OnOk result ((state self.new).begun ≡ (state self.old).begun) }
+        ensures mode { OnOk result ((state self.new).begun ≡ (state self.old).begun) }
         ensures done { is_clean self.new → (es : List SpecElement) → IsMadeOf ((state self.old).now.db rel) node cells.now es
-            → OnOk result (state self.new ≡ with_relation (state self.old) rel (insert ((state self.old).now.db rel) (place_of_node node) es)) }
-        ensures failed { is_clean self.new → IfErr result (λ e. state self.new ≡ after e (state self.old)) };
+            → OnOk result (state self.new ≡ with_relation (state self.old) rel (insert ((state self.old).now.db rel) (place_of_node node) es)) };
 
-    /// Sets the value of a cell, in every tuple of the entity that has it. `place` names the entity and the cell's class.
-    /// `NotBegun` where no change is begun.
+    /// Sets the value of a cell, in every tuple of the entity that has it. `place` names the entity and the cell's class;
+    /// `attr` is below 15. `NotBegun` where no change is begun.
     fn set(
         &mut self,
         rel: RelNo,
@@ -127,30 +124,46 @@ pub trait Base {
         attr: usize,
         value: Option<Value>,
     ) -> Result<(), BaseFault>
-        requires { is_clean self.old → HasCell ((state self.old).now.db rel) place.now attr }
-        ensures clean { is_clean self.new → is_clean self.old }
-        ensures count { failures self.old ≤ failures self.new }
-        ensures store { IsErrOf result BaseFault.Store → failures self.old < failures self.new }
+        requires key { IsSpelledKey place.now.key }
+        requires attr { attr < 15 }
+        requires value { IfSome value HasSpelling }
+        requires there { is_clean self.old → HasCell ((state self.old).now.db rel) place.now attr }
+        ensures call { IsCall is_clean failures state self.old self.new result }
         ensures not_begun { (result ≡ Err BaseFault.NotBegun) ↔ ((state self.old).begun ≡ false) }
         ensures no_other { IsErrOf result BaseFault.Begun → ⊥ }
-        ensures begun { OnOk result ((state self.new).begun ≡ (state self.old).begun) }
+        ensures mode { OnOk result ((state self.new).begun ≡ (state self.old).begun) }
         ensures done { is_clean self.new
-            → OnOk result (state self.new ≡ with_relation (state self.old) rel (change (set_in place.now attr value) ((state self.old).now.db rel))) }
-        ensures failed { is_clean self.new → IfErr result (λ e. state self.new ≡ after e (state self.old)) };
+            → OnOk result (state self.new ≡ with_relation (state self.old) rel (change (set_in place.now attr value) ((state self.old).now.db rel))) };
 
-    /// Removes the tuple at a place and its cells; what that does is said where no other tuple has one of these cells.
-    /// `NotBegun` where no change is begun.
+    /// Removes the tuple at a place and its cells, which no other tuple may have. `NotBegun` where no change is begun.
     fn drop_at(&mut self, rel: RelNo, place: &Place) -> Result<(), BaseFault>
-        requires { is_clean self.old → get ((state self.old).now.db rel) place.now ≢ None }
-        ensures clean { is_clean self.new → is_clean self.old }
-        ensures count { failures self.old ≤ failures self.new }
-        ensures store { IsErrOf result BaseFault.Store → failures self.old < failures self.new }
+        requires key { IsSpelledKey place.now.key }
+        requires there { is_clean self.old → get ((state self.old).now.db rel) place.now ≢ None }
+        requires alone { is_clean self.old → IsAlone ((state self.old).now.db rel) place.now }
+        ensures call { IsCall is_clean failures state self.old self.new result }
         ensures not_begun { (result ≡ Err BaseFault.NotBegun) ↔ ((state self.old).begun ≡ false) }
         ensures no_other { IsErrOf result BaseFault.Begun → ⊥ }
-        ensures begun { OnOk result ((state self.new).begun ≡ (state self.old).begun) }
-        ensures done { is_clean self.new → IsAlone ((state self.old).now.db rel) place.now
-            → OnOk result (state self.new ≡ with_relation (state self.old) rel (remove ((state self.old).now.db rel) place.now)) }
-        ensures failed { is_clean self.new → IfErr result (λ e. state self.new ≡ after e (state self.old)) };
+        ensures mode { OnOk result ((state self.new).begun ≡ (state self.old).begun) }
+        ensures done { is_clean self.new
+            → OnOk result (state self.new ≡ with_relation (state self.old) rel (remove ((state self.old).now.db rel) place.now)) };
+
+    /// Adds an entry at the end of the audit list. `NotBegun` where no change is begun.
+    fn audit_add(&mut self, bytes: &[u8]) -> Result<(), BaseFault>
+        ensures call { IsCall is_clean failures state self.old self.new result }
+        ensures not_begun { (result ≡ Err BaseFault.NotBegun) ↔ ((state self.old).begun ≡ false) }
+        ensures no_other { IsErrOf result BaseFault.Begun → ⊥ }
+        ensures mode { OnOk result ((state self.new).begun ≡ (state self.old).begun) }
+        ensures done { is_clean self.new → OnOk result (state self.new ≡ with_entry (state self.old) bytes.now) };
+
+    /// The entries of the audit list, in the order in which they were added.
+    fn audit_all(&mut self) -> Result<Items<Items<u8>>, BaseFault>
+        ensures call { IsCall is_clean failures state self.old self.new result }
+        ensures served { IfErr result IsServed }
+        ensures mode { OnOk result ((state self.new).begun ≡ (state self.old).begun) }
+        ensures found { is_clean self.new → IfOk result (λ entries. entries ≡ (state self.old).now.audit) }
+        ensures same { is_clean self.new → OnOk result (state self.new ≡ state self.old) };
+
+    ghost settled: { (b : Self) → is_clean b → (state b).begun ≡ false → (state b).kept ≡ (state b).now };
 }
 
 /// Ends the change, if one is begun, as each call of a base does before it answers `Store` or `Memory`.
@@ -160,7 +173,24 @@ pub trait Base {
 pub fn abandon<B: Base>(base: &mut B)
     ensures clean { B.is_clean base.new → B.is_clean base.old }
     ensures count { B.failures base.old ≤ B.failures base.new }
+    ensures mode { (B.state base.new).begun ≡ false }
     ensures failed { B.is_clean base.new → B.state base.new ≡ failed (B.state base.old) }
 {
     let _ = base.rollback();
+}
+
+/// What a call over a base made for itself; where a growth was refused the change is ended.
+pub fn made<T, B: Base>(base: &mut B, growth: Result<T, AllocError>) -> Result<T, BaseFault>
+    ensures value { IfOk result (λ x. growth ≡ Ok x) }
+    ensures call { IsCall B.is_clean B.failures B.state base.old base.new result }
+    ensures served { IfErr result IsServed }
+    ensures same { OnOk result (base.new ≡ base.old) }
+{
+    match growth {
+        Ok(value) => Ok(value),
+        Err(_fault) => {
+            abandon(base);
+            Err(BaseFault::Memory)
+        }
+    }
 }

@@ -14,7 +14,7 @@ mod rule;
 mod subsumption;
 mod viewing;
 
-pub use base::{Base, BaseFault, abandon};
+pub use base::{Base, BaseFault, abandon, made};
 pub use checking::integrity;
 pub use filtering::filter;
 pub use fragment::{Cell, Fragment, Node};
@@ -25,10 +25,3 @@ pub use laws::{
 pub use rule::{Broken, Rule};
 pub use subsumption::subsumes;
 pub use viewing::view;
-
-#[cfg(test)]
-mod integrity_tests;
-#[cfg(test)]
-mod samples;
-#[cfg(test)]
-mod view_tests;

@@ -1,6 +1,7 @@
 //! What a level sees of a relation, read from the fragments of the labels that it dominates.
-ghost use Rattle.std.specs.Prelude.{◌≡◌, ◌↔◌, ◌⊎◌, ◌<◌, ◌≤◌, ◌&&◌, not, ℕ, length, map, IfOk, IfErr, IsErrOf, OnOk};
-ghost use Rattle.std.specs.List.{filter, list_any};
+ghost use Rattle.std.specs.Prelude.{◌≡◌, ◌↔◌, ◌<◌, ◌≤◌, ◌&&◌, ◌++◌, not, true, ℕ, length, map, IfOk, IfErr, OnOk};
+ghost use Rattle.std.specs.List.{filter, list_any, prefix_len};
+ghost use Rattle.std.specs.FinMap.{is_sorted};
 ghost use Rattle.std.specs.Ordering.{eq_by_cmp};
 ghost use Rattle.mls_lattice.specs.Labels.{Labels, AreDistinct};
 ghost use Rattle.mls_lattice.specs.Policy.{labels_of};
@@ -9,17 +10,31 @@ ghost use Rattle.mls_scheme.specs.declared.tuple.Tuple.{Tuple as SpecTuple};
 ghost use Rattle.mls_filterview.specs.Subsumption.{subsumes_entry, is_max_among};
 ghost use Rattle.mls_filterview.specs.View.{View, rows, IsAmong, AreInOrder};
 ghost use Rattle.mls_filterview.specs.Stored.{with_class, IsStored};
-ghost use Rattle.mls_filterview.specs.Content.{after, failed};
+ghost use Rattle.mls_filterview.specs.Calls.{IsCall, IsServed};
 ghost use Rattle.mls_filterview.specs.Assembly.{AreLow};
 
 use crate::assembly::{entries_of, rows_of, values_of};
-use crate::base::{Base, BaseFault, abandon};
-use crate::fragment::Fragment;
+use crate::base::{Base, BaseFault, made};
+use crate::fragment::{Cell, Fragment, Node};
 use crate::row::Row;
 use crate::subsumption::all_cover;
 use mls_lattice::{Items, LabelNo, Policy};
 use mls_scheme::{Place, RelNo, Tuple, same_key};
 use std::alloc::{AllocError, Global};
+
+/// Puts a fragment behind what was gathered.
+fn gather(
+    nodes: &mut Vec<Node>,
+    cells: &mut Vec<Cell>,
+    fragment: Fragment,
+) -> Result<(), AllocError>
+    ensures nodes { OnOk result (nodes.new.items ≡ nodes.old.items ++ fragment.nodes) }
+    ensures cells { OnOk result (cells.new.items ≡ cells.old.items ++ fragment.cells) }
+{
+    nodes.append(&mut fragment.nodes.into_vec())?;
+    cells.append(&mut fragment.cells.into_vec())?;
+    Ok(())
+}
 
 /// The fragments of the labels that a label dominates, as one.
 fn low_fragment<B: Base>(
@@ -31,14 +46,12 @@ fn low_fragment<B: Base>(
 ) -> Result<Fragment, BaseFault>
     requires { label < length policy.now.labels }
     ensures distinct { AreDistinct (labels_of policy.now) }
-    ensures clean { B.is_clean base.new → B.is_clean base.old }
-    ensures count { B.failures base.old ≤ B.failures base.new }
-    ensures store { IsErrOf result BaseFault.Store → B.failures base.old < B.failures base.new }
-    ensures no_other { IfErr result (λ e. (e ≡ BaseFault.NotBegun → ⊥) × (e ≡ BaseFault.Begun → ⊥)) }
+    ensures call { IsCall B.is_clean B.failures B.state base.old base.new result }
+    ensures served { IfErr result IsServed }
+    ensures mode { OnOk result ((B.state base.new).begun ≡ (B.state base.old).begun) }
     ensures low { B.is_clean base.new → IfOk result (λ f.
         AreLow (labels_of policy.now) ((B.state base.old).now.db rel) label (length policy.now.labels) f.nodes f.cells) }
     ensures same { B.is_clean base.new → OnOk result (B.state base.new ≡ B.state base.old) }
-    ensures failed { B.is_clean base.new → IfErr result (λ e. (B.state base.new ≡ B.state base.old) ⊎ (B.state base.new ≡ after e (B.state base.old))) }
 {
     let mut nodes = Vec::new(alloc);
     let mut cells = Vec::new(alloc);
@@ -48,8 +61,7 @@ fn low_fragment<B: Base>(
             continue;
         }
         let fragment = base.fragment(rel, low)?;
-        nodes.append(&mut fragment.nodes.into_vec())?;
-        cells.append(&mut fragment.cells.into_vec())?;
+        made(base, gather(&mut nodes, &mut cells, fragment))?;
     }
     Ok(Fragment {
         nodes: Items::from(nodes),
@@ -85,15 +97,42 @@ fn is_maximal(rows: &[Row], row: &Row) -> bool
     !is_subsumed(rows, row)
 }
 
-/// The tuples of rows that no other row subsumes.
-fn maximal_tuples(alloc: Global, rows: &[Row]) -> Result<Vec<Tuple>, AllocError>
-    ensures { IfOk result (λ v. v.items ≡ map (λ e. tuple_at e.0 e.1) (filter (is_max_among rows.now) rows.now)) }
+/// How many of the rows at the front are of the entity of a place.
+fn entity_len(rows: &[Row], place: &Place) -> usize
+    ensures run { result ≡ prefix_len (λ d. eq_by_cmp place_cmp (with_class d.0 place.now.class) place.now) rows.now }
+    ensures within { result ≤ length rows.now }
 {
-    let mut tuples = Vec::new(alloc);
+    rows.iter()
+        .take_while(|row| is_same_entity(&row.place, place))
+        .count()
+}
+
+/// Adds the tuples of the rows that no other of these rows subsumes.
+fn add_maximal(tuples: &mut Vec<Tuple>, rows: &[Row]) -> Result<(), AllocError>
+    ensures { OnOk result (tuples.new.items ≡ tuples.old.items ++ map (λ e. tuple_at e.0 e.1) (filter (is_max_among rows.now) rows.now)) }
+{
     for row in rows {
         if is_maximal(rows, row) {
             tuples.push(row.tuple()?)?;
         }
+    }
+    Ok(())
+}
+
+/// The tuples of rows that no other row subsumes; rows come in the order of places, so that those of one entity stand
+/// together.
+fn maximal_tuples(alloc: Global, rows: &[Row]) -> Result<Vec<Tuple>, AllocError>
+    requires { is_sorted place_cmp rows.now ≡ true }
+    ensures { IfOk result (λ v. v.items ≡ map (λ e. tuple_at e.0 e.1) (filter (is_max_among rows.now) rows.now)) }
+{
+    let mut tuples = Vec::new(alloc);
+    let mut rest = rows;
+    while !rest.is_empty() {
+        let first = &rest[0];
+        let count = entity_len(rest, &first.place);
+        let (front, after) = rest.split_at(count);
+        add_maximal(&mut tuples, front)?;
+        rest = after;
     }
     Ok(tuples)
 }
@@ -109,29 +148,6 @@ fn tuples_of(alloc: Global, low: Fragment) -> Result<Vec<Tuple>, AllocError>
     maximal_tuples(alloc, &rows)
 }
 
-/// What a level sees of a relation; a fault leaves a change begun, unless it is the base's.
-fn read_view<B: Base>(
-    alloc: Global,
-    base: &mut B,
-    policy: &Policy,
-    rel: RelNo,
-    label: LabelNo,
-) -> Result<Vec<Tuple>, BaseFault>
-    requires label { label < length policy.now.labels }
-    requires stored { B.is_clean base.old → (n : ℕ) × IsStored (labels_of policy.now) n ((B.state base.old).now.db rel) }
-    ensures distinct { AreDistinct (labels_of policy.now) }
-    ensures clean { B.is_clean base.new → B.is_clean base.old }
-    ensures count { B.failures base.old ≤ B.failures base.new }
-    ensures store { IsErrOf result BaseFault.Store → B.failures base.old < B.failures base.new }
-    ensures no_other { IfErr result (λ e. (e ≡ BaseFault.NotBegun → ⊥) × (e ≡ BaseFault.Begun → ⊥)) }
-    ensures rows { B.is_clean base.new → IfOk result (λ v. v.items ≡ rows (labels_of policy.now) label ((B.state base.old).now.db rel)) }
-    ensures same { B.is_clean base.new → OnOk result (B.state base.new ≡ B.state base.old) }
-    ensures failed { B.is_clean base.new → IfErr result (λ e. (B.state base.new ≡ B.state base.old) ⊎ (B.state base.new ≡ after e (B.state base.old))) }
-{
-    let low = low_fragment(alloc, base, policy, rel, label)?;
-    Ok(tuples_of(alloc, low)?)
-}
-
 /// What a level sees of a relation, in the order of key, number of the key class and number of the class.
 ///
 /// It reads the fragments of the labels that the level dominates, and no other. Where the store fails or a growth is
@@ -145,21 +161,15 @@ pub fn view<B: Base>(
 ) -> Result<Vec<Tuple>, BaseFault>
     requires label { label < length policy.now.labels }
     requires stored { B.is_clean base.old → (n : ℕ) × IsStored (labels_of policy.now) n ((B.state base.old).now.db rel) }
-    ensures clean { B.is_clean base.new → B.is_clean base.old }
-    ensures count { B.failures base.old ≤ B.failures base.new }
-    ensures store { IsErrOf result BaseFault.Store → B.failures base.old < B.failures base.new }
-    ensures no_other { IfErr result (λ e. (e ≡ BaseFault.NotBegun → ⊥) × (e ≡ BaseFault.Begun → ⊥)) }
+    ensures call { IsCall B.is_clean B.failures B.state base.old base.new result }
+    ensures served { IfErr result IsServed }
+    ensures mode { OnOk result ((B.state base.new).begun ≡ (B.state base.old).begun) }
     ensures rows { B.is_clean base.new → IfOk result (λ v. v.items ≡ rows (labels_of policy.now) label ((B.state base.old).now.db rel)) }
     ensures seen { B.is_clean base.new → IfOk result (λ v. (t : SpecTuple) → IsAmong t v.items ↔ View (labels_of policy.now) (IsIn ((B.state base.old).now.db rel)) label t) }
     ensures ordered { B.is_clean base.new → IfOk result (λ v. AreInOrder ((B.state base.old).now.db rel) v.items) }
     ensures same { B.is_clean base.new → OnOk result (B.state base.new ≡ B.state base.old) }
-    ensures failed { B.is_clean base.new → IfErr result (λ e. B.state base.new ≡ after e (B.state base.old)) }
 {
-    match read_view(alloc, base, policy, rel, label) {
-        Ok(tuples) => Ok(tuples),
-        Err(fault) => {
-            abandon(base);
-            Err(fault)
-        }
-    }
+    let low = low_fragment(alloc, base, policy, rel, label)?;
+    let tuples = made(base, tuples_of(alloc, low))?;
+    Ok(tuples)
 }

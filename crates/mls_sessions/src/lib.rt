@@ -5,8 +5,6 @@ mod change;
 mod cursor;
 mod denying;
 mod engine;
-#[cfg(test)]
-mod engine_tests;
 mod event;
 mod fault;
 mod grammar;
@@ -18,8 +16,6 @@ mod phrase;
 mod printing;
 mod printing_replies;
 mod printing_rows;
-#[cfg(test)]
-mod printing_tests;
 mod quoted;
 mod reading;
 mod reply;
@@ -28,8 +24,6 @@ mod runs;
 mod scanner;
 mod session;
 mod setting;
-#[cfg(test)]
-mod tests;
 mod token;
 mod writing;
 

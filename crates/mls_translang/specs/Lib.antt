@@ -10,3 +10,5 @@ pub mod Scope
 pub mod Tx
 pub mod Kinds
 pub mod Fits
+pub mod Layout
+pub mod Tokens

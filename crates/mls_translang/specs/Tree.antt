@@ -1,5 +1,5 @@
 -- Transactions as plain data.
-use Rattle.std.specs.Prelude.{ℕ, ◌+◌, List, Option}
+use Rattle.std.specs.Prelude.{ℕ, ◌+◌, Bool, true, false, List, Option}
 use Rattle.mls_lattice.specs.Policy.{Name}
 use Rattle.mls_scheme.specs.declared.value.Value.{Value}
 use Rattle.mls_translang.specs.declared.operator.Operator.{Operator}
@@ -40,3 +40,8 @@ statements End = 0
 statements (Do stmt rest) = 1 + statements rest
 statements (If guard one other rest) = 1 + statements one + statements other + statements rest
 statements (For row rel label body rest) = 1 + statements body + statements rest
+
+-- no statement
+abbrev pub is_end : Block → Bool
+is_end End = true
+is_end _ = false

@@ -1,5 +1,5 @@
 -- Transactions, and what holds of every one: names, counts, depths, and numbers of its own lists.
-use Rattle.std.specs.Prelude.{◌≡◌, ℕ, suc, ◌+◌, ◌<◌, ◌≤◌, max, true, false, List, [], ◌∷◌, ◌++◌, map, length, Option, FitsSigned, IsUtf8, Bool, ◌||◌, ◌==◌, nat_lt}
+use Rattle.std.specs.Prelude.{◌≡◌, ℕ, ◌+◌, ◌<◌, ◌≤◌, max, true, false, List, [], length, FitsSigned, IsUtf8, Bool, ◌||◌, ◌==◌, nat_lt}
 use Rattle.std.specs.Int.{w64}
 use Rattle.std.specs.Option.{IfSome}
 use Rattle.std.specs.List.{AllByRecursion, IsDistinct}

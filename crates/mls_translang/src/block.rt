@@ -1,6 +1,6 @@
 //! Statements, and blocks of them.
 ghost use Rattle.std.specs.Prelude.{◌≡◌, ℕ, ◌<◌, ◌^◌, [], ◌∷◌};
-ghost use Rattle.mls_translang.specs.Tree.{statements};
+ghost use Rattle.mls_translang.specs.Tree.{statements, is_end};
 ghost use Rattle.mls_translang.specs.Blocks.{block_of};
 
 use crate::expr::Expr;
@@ -103,6 +103,14 @@ impl Block {
         ensures { block_of result.now ≡ self.now }
     {
         self.stmts.as_slice()
+    }
+
+    /// Whether there is no statement.
+    #[tactic(auto, using(crate::proofs::BlockLemmas::ends))]
+    pub fn is_empty(&self) -> bool
+        ensures { result ≡ is_end self.now }
+    {
+        self.stmts.is_empty()
     }
 
     /// How many statements there are, inner ones too. It takes no memory.

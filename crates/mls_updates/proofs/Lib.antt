@@ -18,4 +18,6 @@ pub mod StateLemmas
 pub mod SetEachLemmas
 pub mod PatternLemmas
 pub mod DerivedLemmas
-pub mod UpdateLemmas
+pub mod SpellingLemmas
+pub mod LeftLemmas
+pub mod DecidingLemmas

@@ -3,7 +3,7 @@ use Rattle.std.proofs.Common.{◌≡◌, ℕ, Bool, true, false, cond, not, ◌&
 use Rattle.std.specs.Prelude.{nat_eq, is_some}
 use Rattle.std.specs.List.{filter}
 use Rattle.std.specs.Option.{option_map}
-use Rattle.std.specs.FinMap.{get, insert, remove, get-remove, get-from_entries, find}
+use Rattle.std.specs.FinMap.{empty, get, insert, remove, get-remove, get-from_entries, find}
 use Rattle.std.specs.Cmp.{eq_by_cmp_equiv}
 use Rattle.std.proofs.lemmas.Bool.{true≢false, false_from_ne_true, and_parts, and_from, cond-true, eqb-true, eq-eqb}
 use Rattle.std.proofs.lemmas.Cmp.{nat_eq_equiv}
@@ -14,10 +14,12 @@ use Rattle.mls_scheme.specs.declared.place.Place.{Place}
 use Rattle.mls_scheme.specs.Table.{place_cmp, Table, Database, change}
 use Rattle.mls_scheme.proofs.OrderLemmas.{place_total, is_place, is_place-true, is_place-same}
 use Rattle.mls_scheme.proofs.TableLemmas.{same_table, get_put, get_change}
-use Rattle.mls_filterview.specs.Content.{no_content, with_table, with_relation}
+use Rattle.mls_filterview.specs.Content.{no_content, with_table, with_relation, with_entry}
 use Rattle.mls_filterview.specs.Fragment.{set_in}
 use Rattle.mls_updates.specs.declared.row.Row.{Row}
-use Rattle.mls_updates.specs.Rows.{entry_of, entries_of, table_of, content_of, state_of, is_at, found_at, HavePlaces, set_row, without}
+use Rattle.mls_updates.specs.declared.held.Held.{Held}
+use Rattle.mls_updates.specs.Rows.{entry_of, entries_of, table_of, is_at, found_at, HavePlaces, set_row, without}
+use Rattle.mls_updates.specs.States.{content_of, state_of}
 
 -- ---- look-ups
 
@@ -172,12 +174,24 @@ module _ (rel : ℕ) (p : Place) where
 
 -- ---- states
 
-pub state-nil : state_of [] None ≡ record { now = no_content; kept = no_content; begun = false }
+no_tables : table_of [] ≡ (λ rel. empty)
 unfolding table_of
-state-nil = refl
+no_tables = refl
 
--- rows changed inside a change
-pub state-changed : (rows new : List Row) (saved : Option (List Row)) → is_some saved ≡ true → (rel : ℕ) (T : Table) → table_of new ≡ with_table (table_of rows) rel T
-    → state_of new saved ≡ with_relation (state_of rows saved) rel T
-state-changed rows new None begun rel T h = absurd (true≢false (sym begun))
-state-changed rows new (Some old) begun rel T h = λ i. record { now = record { db = h i; audit = [] }; kept = content_of old; begun = true }
+pub state-nil : (h : Held) → h.rows ≡ [] → h.audit.items ≡ [] → state_of h None ≡ record { now = no_content; kept = no_content; begun = false }
+state-nil h e f = λ i. record { now = nothing i; kept = nothing i; begun = false }
+  where
+    nothing : content_of h ≡ no_content
+    nothing = λ i. record { db = (ap table_of e ∙ no_tables) i; audit = f i }
+
+-- a relation changed inside a change
+pub state-changed : (h new : Held) (saved : Option Held) → is_some saved ≡ true → (rel : ℕ) (T : Table) → table_of new.rows ≡ with_table (table_of h.rows) rel T → new.audit ≡ h.audit
+    → state_of new saved ≡ with_relation (state_of h saved) rel T
+state-changed h new None begun rel T e same = absurd (true≢false (sym begun))
+state-changed h new (Some old) begun rel T e same = λ i. record { now = record { db = e i; audit = (same i).items }; kept = content_of old; begun = true }
+
+-- an entry added inside a change
+pub state-entered : (h new : Held) (saved : Option Held) → is_some saved ≡ true → (bytes : List ℕ) → new.rows ≡ h.rows → new.audit.items ≡ h.audit.items ++ bytes ∷ []
+    → state_of new saved ≡ with_entry (state_of h saved) bytes
+state-entered h new None begun bytes same e = absurd (true≢false (sym begun))
+state-entered h new (Some old) begun bytes same e = λ i. record { now = record { db = table_of (same i); audit = e i }; kept = content_of old; begun = true }

@@ -1,5 +1,5 @@
--- Plain lists of whole tuples, and the content that they are.
-use Rattle.std.specs.Prelude.{◌≡◌, ℕ, suc, Bool, not, ◌&&◌, if◌then◌else◌, nat_eq, is_some, List, [], ◌∷◌, map, Option, Some, None}
+-- Plain lists of whole tuples, and the tables that they are.
+use Rattle.std.specs.Prelude.{◌≡◌, ℕ, suc, Bool, not, ◌&&◌, if◌then◌else◌, nat_eq, List, [], ◌∷◌, map, Option, Some, None}
 use Rattle.std.specs.Ordering.{eq_by_cmp}
 use Rattle.std.specs.Option.{unwrap_or}
 use Rattle.std.specs.List.{filter, flat_map}
@@ -11,7 +11,6 @@ use Rattle.mls_scheme.specs.Tuple.{at}
 use Rattle.mls_scheme.specs.Table.{place_cmp, Table}
 use Rattle.mls_filterview.specs.declared.fragment.Node.{Node}
 use Rattle.mls_filterview.specs.declared.fragment.Cell.{Cell}
-use Rattle.mls_filterview.specs.Content.{Content, State}
 use Rattle.mls_filterview.specs.Stored.{with_class}
 use Rattle.mls_filterview.specs.Fragment.{node_of, cells_of, set_in}
 use Rattle.mls_updates.specs.declared.row.Row.{Row}
@@ -30,13 +29,6 @@ entries_of rel rows = map entry_of (filter (λ r. nat_eq r.rel rel) rows)
 -- at a place that stands twice, the first tuple
 unfoldable pub table_of : List Row → ℕ → Table
 table_of rows rel = from_entries (entries_of rel rows)
-
-abbrev pub content_of : List Row → Content
-content_of rows = record { db = table_of rows; audit = [] }
-
--- rows now, and in a change those of the last commit
-abbrev pub state_of : List Row → Option (List Row) → State
-state_of rows saved = record { now = content_of rows; kept = content_of (unwrap_or saved rows); begun = is_some saved }
 
 -- ---- one tuple, by its place
 

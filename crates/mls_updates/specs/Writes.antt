@@ -92,11 +92,14 @@ module _ (ls : Labels) (scheme : Scheme) (w : ℕ) where
   abbrev pub is_missing : ℕ → ℕ → Option (List Element) → Bool
   is_missing key_class from found = not (is_some found && (below ls key_class from && below ls from w))
 
-  abbrev pub insert_refusals : Key → Option (List Element) → List (Bool × Outcome)
-  insert_refusals key found =
-      (has_null key, KeyNull)
-      ∷ (is_some found, Duplicate)
+  -- the refusals of a key without nulls, and of any key
+  abbrev pub root_refusals : Option (List Element) → List (Bool × Outcome)
+  root_refusals found =
+      (is_some found, Duplicate)
       ∷ (not (list_all (in_interval ls w) scheme.keys && list_all (in_interval ls w) scheme.others), OutOfInterval) ∷ []
+
+  abbrev pub insert_refusals : Key → Option (List Element) → List (Bool × Outcome)
+  insert_refusals key found = (has_null key, KeyNull) ∷ root_refusals found
 
   -- a tuple of one class, w
   abbrev pub insert_row : Key → List (Option Value) → Table → Written
@@ -104,12 +107,14 @@ module _ (ls : Labels) (scheme : Scheme) (w : ℕ) where
       let p = place key w w in
       written (first_refusal (insert_refusals key (get T p))) (insert T p (root w values)) T
 
-  abbrev pub update_own_refusals : Key → ℕ → Sets → Option (List Element) → List (Bool × Outcome)
-  update_own_refusals key key_class sets found =
-      (has_null key, KeyNull)
-      ∷ (is_missing key_class w found, NoTuple)
+  abbrev pub own_refusals : ℕ → Sets → Option (List Element) → List (Bool × Outcome)
+  own_refusals key_class sets found =
+      (is_missing key_class w found, NoTuple)
       ∷ (list_any (λ s. not (nat_eq (at (unwrap_or found []) s.0).class w)) sets, Inherited)
       ∷ (not (nat_eq w key_class) && list_any (λ s. is_none s.1) sets, NullAboveKey) ∷ []
+
+  abbrev pub update_own_refusals : Key → ℕ → Sets → Option (List Element) → List (Bool × Outcome)
+  update_own_refusals key key_class sets found = (has_null key, KeyNull) ∷ own_refusals key_class sets found
 
   -- the entity has a tuple of class w: in each of its tuples the named attributes of class w get the new values
   abbrev pub update_own : Key → ℕ → Sets → Table → Written
@@ -117,13 +122,15 @@ module _ (ls : Labels) (scheme : Scheme) (w : ℕ) where
       let p = place key key_class w in
       written (first_refusal (update_own_refusals key key_class sets (get T p))) (change (update_in p sets) T) T
 
-  abbrev pub update_below_refusals : Key → ℕ → ℕ → Sets → Option (List Element) → Option (List Element) → List (Bool × Outcome)
-  update_below_refusals key key_class from sets found own =
-      (has_null key, KeyNull)
-      ∷ (is_missing key_class from found, NoTuple)
+  abbrev pub below_refusals : ℕ → ℕ → Sets → Option (List Element) → Option (List Element) → List (Bool × Outcome)
+  below_refusals key_class from sets found own =
+      (is_missing key_class from found, NoTuple)
       ∷ (is_some own, AlreadyDerived)
       ∷ (list_any (λ s. is_none s.1) sets, NullAboveKey)
       ∷ (list_any (λ s. not (in_interval ls w (other_of scheme s.0))) sets, OutOfInterval) ∷ []
+
+  abbrev pub update_below_refusals : Key → ℕ → ℕ → Sets → Option (List Element) → Option (List Element) → List (Bool × Outcome)
+  update_below_refusals key key_class from sets found own = (has_null key, KeyNull) ∷ below_refusals key_class from sets found own
 
   -- a new tuple of class w: the one of class from, with the named attributes new
   abbrev pub update_below : Key → ℕ → ℕ → Sets → Table → Written
@@ -136,8 +143,11 @@ module _ (ls : Labels) (scheme : Scheme) (w : ℕ) where
   update_row key key_class from sets T =
       if nat_eq from w then update_own key key_class sets T else update_below key key_class from sets T
 
+  abbrev pub drop_refusals : ℕ → Option (List Element) → List (Bool × Outcome)
+  drop_refusals key_class found = (is_missing key_class w found, NoTuple) ∷ []
+
   abbrev pub delete_refusals : Key → ℕ → Option (List Element) → List (Bool × Outcome)
-  delete_refusals key key_class found = (has_null key, KeyNull) ∷ (is_missing key_class w found, NoTuple) ∷ []
+  delete_refusals key key_class found = (has_null key, KeyNull) ∷ drop_refusals key_class found
 
   -- without the entity's tuples whose class dominates w
   abbrev pub delete_row : Key → ℕ → Table → Written

@@ -1,63 +1,47 @@
 //! Elements of an entity changed at their class.
-ghost use Rattle.std.specs.Prelude.{◌≡◌, ◌<◌, ◌≤◌, List, true, false, length, IfOk, IfErr, IsErrOf, Some};
+ghost use Rattle.std.specs.Prelude.{◌≡◌, ◌<◌, List, true, length, IfOk, IfErr, IfSome, OnOk, Some};
 ghost use Rattle.std.specs.List.{AllByRecursion};
 ghost use Rattle.std.specs.FinMap.{get};
 ghost use Rattle.mls_lattice.specs.Policy.{labels_of};
 ghost use Rattle.mls_scheme.specs.Scheme.{Scheme};
+ghost use Rattle.mls_scheme.specs.Spelling.{HasSpelling, IsSpelledKey};
 ghost use Rattle.mls_scheme.specs.declared.tuple.Element.{Element as SpecElement};
-ghost use Rattle.mls_filterview.specs.Content.{after};
-ghost use Rattle.mls_updates.specs.Writes.{Update, has_null, place};
-ghost use Rattle.mls_updates.specs.Calls.{IsWritten};
+ghost use Rattle.mls_filterview.specs.Calls.{IsCall, IsServed};
+ghost use Rattle.mls_updates.specs.Calls.{IsChanged};
 
-use crate::growth::made;
-use crate::key::place_of;
+use crate::deciding::own_outcome;
 use crate::outcome::Outcome;
 use crate::pattern::pattern_at;
-use crate::sets::{has_null_above, names_inherited};
 use crate::setting::set_each;
 use mls_filterview::{Base, BaseFault};
-use mls_lattice::{LabelNo, Policy};
-use mls_scheme::{RelNo, Value};
-use std::alloc::Global;
+use mls_lattice::Policy;
+use mls_scheme::{Place, RelNo, Value};
 
-/// Gives named elements of the tuple of class `w` new values, in each tuple of the entity that has them.
+/// Gives named elements of the tuple at a place new values, in each tuple of the entity that has them.
 pub(crate) fn update_own<B: Base>(
-    alloc: Global,
     base: &mut B,
     policy: &Policy,
     rel: RelNo,
-    w: LabelNo,
-    key: &[Option<Value>],
-    key_class: LabelNo,
+    place: &Place,
     sets: &[(usize, Option<Value>)],
 ) -> Result<Outcome, BaseFault>
-    requires label { w < length policy.now.labels }
-    requires key_class { key_class < length policy.now.labels }
+    requires class { place.now.class < length policy.now.labels }
+    requires key_class { place.now.key_class < length policy.now.labels }
     requires begun { (B.state base.old).begun ≡ true }
-    requires key { has_null key.now ≡ false }
-    requires fits { B.is_clean base.old → (es : List SpecElement) → get ((B.state base.old).now.db rel) (place key.now key_class w) ≡ Some es
+    requires key { IsSpelledKey place.now.key }
+    requires sets { AllByRecursion (λ s. (s.0 < 15) × IfSome s.1 HasSpelling) sets.now }
+    requires fits { B.is_clean base.old → (es : List SpecElement) → get ((B.state base.old).now.db rel) place.now ≡ Some es
         → AllByRecursion (λ s. s.0 < length es) sets.now }
-    ensures clean { B.is_clean base.new → B.is_clean base.old }
-    ensures count { B.failures base.old ≤ B.failures base.new }
-    ensures store { IsErrOf result BaseFault.Store → B.failures base.old < B.failures base.new }
-    ensures no_other { IfErr result (λ e. (e ≡ BaseFault.NotBegun → ⊥) × (e ≡ BaseFault.Begun → ⊥)) }
-    ensures done { B.is_clean base.new
-        → IfOk result (λ o. (scheme : Scheme) → IsWritten (labels_of policy.now) scheme rel w (Update key.now key_class w sets.now) (B.state base.old) (B.state base.new) o) }
-    ensures failed { B.is_clean base.new → IfErr result (λ e. B.state base.new ≡ after e (B.state base.old)) }
+    ensures call { IsCall B.is_clean B.failures B.state base.old base.new result }
+    ensures served { IfErr result IsServed }
+    ensures mode { OnOk result ((B.state base.new).begun ≡ true) }
+    ensures done { B.is_clean base.new → IfOk result (λ o. (scheme : Scheme) → IsChanged (labels_of policy.now) scheme rel place.now sets.now (B.state base.old) (B.state base.new) o) }
 {
-    let place = made(base, place_of(alloc, key, key_class, w))?;
-    let Some(pattern) = pattern_at(base, rel, &place)? else {
-        return Ok(Outcome::NoTuple);
-    };
-    if !policy.dominates(w, key_class) {
-        return Ok(Outcome::NoTuple);
+    let found = pattern_at(base, rel, place)?;
+    let outcome = own_outcome(policy, place, sets, &found);
+    if !outcome.is_done() {
+        return Ok(outcome);
     }
-    if names_inherited(&pattern, w, sets) {
-        return Ok(Outcome::Inherited);
-    }
-    if has_null_above(w, key_class, sets) {
-        return Ok(Outcome::NullAboveKey);
-    }
-    set_each(base, rel, &place, sets)?;
-    Ok(Outcome::Done)
+    set_each(base, rel, place, sets)?;
+    Ok(outcome)
 }

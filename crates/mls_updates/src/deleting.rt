@@ -1,22 +1,76 @@
 //! Tuples of an entity removed.
-ghost use Rattle.std.specs.Prelude.{◌≡◌, ◌<◌, ◌≤◌, ◌↔◌, false, length, IfOk, IfErr, IsErrOf, OnOk};
+ghost use Rattle.std.specs.Prelude.{◌≡◌, ◌<◌, ◌↔◌, ℕ, true, false, not, length, IfOk, IfErr, IsErrOf, OnOk};
+ghost use Rattle.std.specs.FinMap.{retain_keys};
 ghost use Rattle.mls_lattice.specs.Policy.{labels_of};
-ghost use Rattle.mls_scheme.specs.Scheme.{scheme_of};
-ghost use Rattle.mls_filterview.specs.Content.{after};
-ghost use Rattle.mls_filterview.specs.Stored.{IsContent};
-ghost use Rattle.mls_updates.specs.Writes.{Delete};
-ghost use Rattle.mls_updates.specs.Calls.{IsWritten};
+ghost use Rattle.mls_scheme.specs.Scheme.{Scheme as SpecScheme, scheme_of};
+ghost use Rattle.mls_scheme.specs.Fits.{HaveKinds};
+ghost use Rattle.mls_scheme.specs.Spelling.{IsSpelledKey};
+ghost use Rattle.mls_filterview.specs.Calls.{IsCall, IsServed};
+ghost use Rattle.mls_filterview.specs.Content.{with_relation};
+ghost use Rattle.mls_filterview.specs.Stored.{IsStored, IsContent};
+ghost use Rattle.mls_updates.specs.Writes.{Delete, is_above};
+ghost use Rattle.mls_updates.specs.Calls.{IsDeleted, IsWritten};
 
+use crate::deciding::drop_outcome;
 use crate::dropping::drop_each;
 use crate::finding::has_tuple;
-use crate::growth::made;
 use crate::key::{has_null, place_of};
 use crate::order::downwards;
 use crate::outcome::Outcome;
-use mls_filterview::{Base, BaseFault};
+use mls_filterview::{Base, BaseFault, made};
 use mls_lattice::{LabelNo, Policy};
-use mls_scheme::{RelNo, Schemes, Value};
+use mls_scheme::{Place, RelNo, Schemes, Value};
 use std::alloc::Global;
+
+/// Removes the tuples of the entity of a place whose class dominates that of the place.
+fn drop_above<B: Base>(
+    alloc: Global,
+    base: &mut B,
+    policy: &Policy,
+    rel: RelNo,
+    place: Place,
+) -> Result<(), BaseFault>
+    requires class { place.class < length policy.now.labels }
+    requires begun { (B.state base.old).begun ≡ true }
+    requires key { IsSpelledKey place.key }
+    requires stored { B.is_clean base.old → (n : ℕ) × IsStored (labels_of policy.now) n ((B.state base.old).now.db rel) }
+    ensures call { IsCall B.is_clean B.failures B.state base.old base.new result }
+    ensures served { IfErr result IsServed }
+    ensures mode { OnOk result ((B.state base.new).begun ≡ true) }
+    ensures done { B.is_clean base.new
+        → OnOk result (B.state base.new ≡ with_relation (B.state base.old) rel (retain_keys ((B.state base.old).now.db rel) (λ q. not (is_above (labels_of policy.now) place q)))) }
+{
+    let order = made(base, downwards(alloc, policy, place.class))?;
+    drop_each(base, rel, place, &order)?;
+    Ok(())
+}
+
+/// Removes the tuple at a place and the entity's tuples above it.
+fn delete_at<B: Base>(
+    alloc: Global,
+    base: &mut B,
+    policy: &Policy,
+    rel: RelNo,
+    place: Place,
+) -> Result<Outcome, BaseFault>
+    requires class { place.class < length policy.now.labels }
+    requires key_class { place.key_class < length policy.now.labels }
+    requires begun { (B.state base.old).begun ≡ true }
+    requires key { IsSpelledKey place.key }
+    requires stored { B.is_clean base.old → (n : ℕ) × IsStored (labels_of policy.now) n ((B.state base.old).now.db rel) }
+    ensures call { IsCall B.is_clean B.failures B.state base.old base.new result }
+    ensures served { IfErr result IsServed }
+    ensures mode { OnOk result ((B.state base.new).begun ≡ true) }
+    ensures done { B.is_clean base.new → IfOk result (λ o. (scheme : SpecScheme) → IsDeleted (labels_of policy.now) scheme rel place (B.state base.old) (B.state base.new) o) }
+{
+    let found = has_tuple(base, rel, &place)?;
+    let outcome = drop_outcome(policy, &place, found);
+    if !outcome.is_done() {
+        return Ok(outcome);
+    }
+    drop_above(alloc, base, policy, rel, place)?;
+    Ok(outcome)
+}
 
 /// Removes the entity's tuple of class `w` and each of its tuples whose class dominates `w`, inside a change.
 ///
@@ -33,31 +87,27 @@ pub fn delete<B: Base>(
 ) -> Result<Outcome, BaseFault>
     requires label { w < length policy.now.labels }
     requires key_class { key_class < length policy.now.labels }
+    requires relation { rel < length schemes.now }
+    requires key { HaveKinds (scheme_of schemes.now rel).keys key.now }
     requires stored { B.is_clean base.old → IsContent (labels_of policy.now) (scheme_of schemes.now rel) ((B.state base.old).now.db rel) }
-    ensures clean { B.is_clean base.new → B.is_clean base.old }
-    ensures count { B.failures base.old ≤ B.failures base.new }
-    ensures store { IsErrOf result BaseFault.Store → B.failures base.old < B.failures base.new }
+    ensures call { IsCall B.is_clean B.failures B.state base.old base.new result }
     ensures not_begun { (result ≡ Err BaseFault.NotBegun) ↔ ((B.state base.old).begun ≡ false) }
     ensures no_other { IsErrOf result BaseFault.Begun → ⊥ }
+    ensures mode { OnOk result ((B.state base.new).begun ≡ true) }
     ensures done { B.is_clean base.new
         → IfOk result (IsWritten (labels_of policy.now) (scheme_of schemes.now rel) rel w (Delete key.now key_class) (B.state base.old) (B.state base.new)) }
     ensures kept { B.is_clean base.new → OnOk result (IsContent (labels_of policy.now) (scheme_of schemes.now rel) ((B.state base.new).now.db rel)) }
-    ensures failed { B.is_clean base.new → IfErr result (λ e. B.state base.new ≡ after e (B.state base.old)) }
 {
     if !base.is_begun() {
         return Err(BaseFault::NotBegun);
     }
+    // That the labels of a policy are distinct, and that a scheme has one to four key attributes.
+    let _count = policy.label_count();
+    let _scheme = schemes.scheme(rel);
     if has_null(key) {
         return Ok(Outcome::KeyNull);
     }
     let place = made(base, place_of(alloc, key, key_class, w))?;
-    if !has_tuple(base, rel, &place)? {
-        return Ok(Outcome::NoTuple);
-    }
-    if !policy.dominates(w, key_class) {
-        return Ok(Outcome::NoTuple);
-    }
-    let order = made(base, downwards(alloc, policy, w))?;
-    drop_each(base, rel, place, &order)?;
-    Ok(Outcome::Done)
+    let outcome = delete_at(alloc, base, policy, rel, place)?;
+    Ok(outcome)
 }

@@ -1,7 +1,9 @@
 //! Tuples of an entity removed one after another.
-ghost use Rattle.std.specs.Prelude.{◌≡◌, ◌<◌, ◌≤◌, true, IfErr, IsErrOf, OnOk};
+ghost use Rattle.std.specs.Prelude.{◌≡◌, true, IfErr, OnOk};
 ghost use Rattle.std.specs.FinMap.{remove};
-ghost use Rattle.mls_filterview.specs.Content.{after, with_relation};
+ghost use Rattle.mls_scheme.specs.Spelling.{IsSpelledKey};
+ghost use Rattle.mls_filterview.specs.Content.{with_relation};
+ghost use Rattle.mls_filterview.specs.Calls.{IsCall, IsServed};
 ghost use Rattle.mls_filterview.specs.Fragment.{IsAlone};
 ghost use Rattle.mls_updates.specs.Steps.{drop_each, AreAlone};
 
@@ -13,14 +15,12 @@ use mls_scheme::{Place, RelNo};
 /// Removes the tuple at a place, if there is one.
 fn drop_one<B: Base>(base: &mut B, rel: RelNo, place: &Place) -> Result<(), BaseFault>
     requires begun { (B.state base.old).begun ≡ true }
+    requires key { IsSpelledKey place.now.key }
     requires alone { B.is_clean base.old → IsAlone ((B.state base.old).now.db rel) place.now }
-    ensures clean { B.is_clean base.new → B.is_clean base.old }
-    ensures count { B.failures base.old ≤ B.failures base.new }
-    ensures store { IsErrOf result BaseFault.Store → B.failures base.old < B.failures base.new }
-    ensures no_other { IfErr result (λ e. (e ≡ BaseFault.NotBegun → ⊥) × (e ≡ BaseFault.Begun → ⊥)) }
-    ensures begun { OnOk result ((B.state base.new).begun ≡ true) }
+    ensures call { IsCall B.is_clean B.failures B.state base.old base.new result }
+    ensures served { IfErr result IsServed }
+    ensures mode { OnOk result ((B.state base.new).begun ≡ true) }
     ensures done { B.is_clean base.new → OnOk result (B.state base.new ≡ with_relation (B.state base.old) rel (remove ((B.state base.old).now.db rel) place.now)) }
-    ensures failed { B.is_clean base.new → IfErr result (λ e. B.state base.new ≡ after e (B.state base.old)) }
 {
     if has_tuple(base, rel, place)? {
         base.drop_at(rel, place)?;
@@ -36,13 +36,12 @@ pub(crate) fn drop_each<B: Base>(
     classes: &[LabelNo],
 ) -> Result<(), BaseFault>
     requires begun { (B.state base.old).begun ≡ true }
+    requires key { IsSpelledKey place.key }
     requires alone { B.is_clean base.old → AreAlone place classes.now ((B.state base.old).now.db rel) }
-    ensures clean { B.is_clean base.new → B.is_clean base.old }
-    ensures count { B.failures base.old ≤ B.failures base.new }
-    ensures store { IsErrOf result BaseFault.Store → B.failures base.old < B.failures base.new }
-    ensures no_other { IfErr result (λ e. (e ≡ BaseFault.NotBegun → ⊥) × (e ≡ BaseFault.Begun → ⊥)) }
+    ensures call { IsCall B.is_clean B.failures B.state base.old base.new result }
+    ensures served { IfErr result IsServed }
+    ensures mode { OnOk result ((B.state base.new).begun ≡ true) }
     ensures done { B.is_clean base.new → OnOk result (B.state base.new ≡ with_relation (B.state base.old) rel (drop_each place classes.now ((B.state base.old).now.db rel))) }
-    ensures failed { B.is_clean base.new → IfErr result (λ e. B.state base.new ≡ after e (B.state base.old)) }
 {
     let mut place = place;
     for class in classes {

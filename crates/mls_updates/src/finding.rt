@@ -1,7 +1,7 @@
 //! Tuples found in a fragment.
-ghost use Rattle.std.specs.Prelude.{◌≡◌, ◌<◌, ◌≤◌, is_some, IfOk, IfErr, IsErrOf, OnOk};
+ghost use Rattle.std.specs.Prelude.{◌≡◌, is_some, IfOk, IfErr, OnOk};
 ghost use Rattle.std.specs.FinMap.{get};
-ghost use Rattle.mls_filterview.specs.Content.{after};
+ghost use Rattle.mls_filterview.specs.Calls.{IsCall, IsServed};
 ghost use Rattle.mls_updates.specs.Finding.{is_at, has_node};
 
 use mls_filterview::{Base, BaseFault, Node};
@@ -30,14 +30,11 @@ fn has_node(nodes: &[Node], place: &Place) -> bool
 
 /// Whether there is a tuple at a place.
 pub(crate) fn has_tuple<B: Base>(base: &mut B, rel: RelNo, place: &Place) -> Result<bool, BaseFault>
-    ensures clean { B.is_clean base.new → B.is_clean base.old }
-    ensures count { B.failures base.old ≤ B.failures base.new }
-    ensures store { IsErrOf result BaseFault.Store → B.failures base.old < B.failures base.new }
-    ensures no_other { IfErr result (λ e. (e ≡ BaseFault.NotBegun → ⊥) × (e ≡ BaseFault.Begun → ⊥)) }
-    ensures begun { OnOk result ((B.state base.new).begun ≡ (B.state base.old).begun) }
+    ensures call { IsCall B.is_clean B.failures B.state base.old base.new result }
+    ensures served { IfErr result IsServed }
+    ensures mode { OnOk result ((B.state base.new).begun ≡ (B.state base.old).begun) }
     ensures found { B.is_clean base.new → IfOk result (λ has. has ≡ is_some (get ((B.state base.old).now.db rel) place.now)) }
     ensures same { B.is_clean base.new → OnOk result (B.state base.new ≡ B.state base.old) }
-    ensures failed { B.is_clean base.new → IfErr result (λ e. B.state base.new ≡ after e (B.state base.old)) }
 {
     let fragment = base.fragment(rel, place.class)?;
     Ok(has_node(&fragment.nodes, place))

@@ -1,18 +1,18 @@
 //! The three writes of a multilevel relation, and their laws.
 #![tactic(auto)]
 
+mod adding;
 mod changing;
+mod deciding;
 mod deleting;
 mod dropping;
 mod finding;
-mod growth;
+mod held;
 mod inserting;
 mod interval;
 mod key;
 mod laws;
 mod list_base;
-#[cfg(test)]
-mod list_base_tests;
 mod making;
 mod order;
 mod outcome;
@@ -24,8 +24,6 @@ mod row;
 mod rows;
 mod sets;
 mod setting;
-#[cfg(test)]
-mod tests;
 mod updating;
 
 pub use deleting::delete;

@@ -1,25 +1,22 @@
 //! A base over plain lists.
-ghost use Rattle.std.specs.Prelude.{◌≡◌, ◌++◌, ◌∷◌, [], false, IfOk, OnOk, OnErr, map, None};
-ghost use Rattle.mls_scheme.specs.declared.tuple.Element.{Element as SpecElement};
+ghost use Rattle.std.specs.Prelude.{◌≡◌, false, is_some, None};
 ghost use Rattle.mls_filterview.specs.Content.{no_content, failed};
-ghost use Rattle.mls_filterview.specs.Fragment.{place_of_node};
-ghost use Rattle.mls_updates.specs.Rows.{state_of, found_at, made_from, set_row, without};
+ghost use Rattle.mls_updates.specs.States.{state_of, state-settled};
 
-use crate::row::Row;
-use crate::rows::Rows;
+use crate::held::{Held, copy_entries};
 use mls_filterview::{Base, BaseFault, Cell, Fragment, Node};
-use mls_lattice::LabelNo;
+use mls_lattice::{Items, LabelNo};
 use mls_scheme::{Place, RelNo, Value};
-use std::alloc::{AllocError, Global};
+use std::alloc::Global;
 
-/// A base that keeps whole tuples in lists, and at a change those of the last commit beside them.
+/// A base that keeps whole tuples and entries in lists, and at a change those of the last commit beside them.
 ///
-/// Its calls answer no `Store`, and its content has no audit entries.
+/// Its calls answer no `Store`.
 #[derive(Drop, Debug)]
 pub struct ListBase {
     alloc: Global,
-    rows: Rows,
-    saved: Option<Rows>,
+    held: Held,
+    saved: Option<Held>,
 }
 
 impl ListBase {
@@ -29,56 +26,32 @@ impl ListBase {
     {
         ListBase {
             alloc,
-            rows: Rows::new(alloc),
+            held: Held::new(alloc),
             saved: None,
         }
     }
 
     /// Ends the change, if one is begun, where a growth was refused.
     fn fail(&mut self) -> BaseFault
-        ensures ended { state_of self.new.rows self.new.saved ≡ failed (state_of self.old.rows self.old.saved) }
+        ensures ended { state_of self.new.held self.new.saved ≡ failed (state_of self.old.held self.old.saved) }
+        ensures mode { is_some self.new.saved ≡ false }
         ensures memory { result ≡ BaseFault.Memory }
     {
         if let Some(saved) = self.saved.take() {
-            self.rows = saved;
+            self.held = saved;
         }
         BaseFault::Memory
-    }
-
-    /// Adds a tuple, its elements put together.
-    fn add_row(&mut self, rel: RelNo, node: Node, cells: &[Cell]) -> Result<(), AllocError>
-        requires { found_at rel (place_of_node node) self.old.rows ≡ None }
-        ensures done { OnOk result (self.new.rows ≡ self.old.rows ++ record { rel = rel; place = place_of_node node; elements = made_from rel (place_of_node node) cells.now self.old.rows 0 node.pattern } ∷ []) }
-        ensures kept { self.new.saved ≡ self.old.saved }
-    {
-        let Node {
-            key,
-            key_class,
-            label,
-            pattern,
-        } = node;
-        let place = Place {
-            key,
-            key_class,
-            class: label,
-        };
-        let elements = self
-            .rows
-            .elements_of(self.alloc, rel, &place, cells, &pattern)?;
-        self.rows.push(Row {
-            rel,
-            place,
-            elements,
-        })
     }
 }
 
 impl Base for ListBase {
-    ghost state = { λ b. state_of b.rows b.saved };
+    ghost state = { λ b. state_of b.held b.saved };
 
     ghost failures = { λ _. 0 };
 
     ghost is_clean = { λ _. Unit {0} };
+
+    ghost settled = { λ b clean. state-settled b.held b.saved };
 
     fn is_begun(&self) -> bool {
         self.saved.is_some()
@@ -88,8 +61,8 @@ impl Base for ListBase {
         if self.is_begun() {
             return Err(BaseFault::Begun);
         }
-        let rows = self.rows.copy()?;
-        self.saved = Some(rows);
+        let held = self.held.copy()?;
+        self.saved = Some(held);
         Ok(())
     }
 
@@ -104,7 +77,7 @@ impl Base for ListBase {
     fn rollback(&mut self) -> Result<(), BaseFault> {
         match self.saved.take() {
             Some(last) => {
-                self.rows = last;
+                self.held = last;
                 Ok(())
             }
             None => Err(BaseFault::NotBegun),
@@ -112,7 +85,7 @@ impl Base for ListBase {
     }
 
     fn fragment(&mut self, rel: RelNo, label: LabelNo) -> Result<Fragment, BaseFault> {
-        match self.rows.fragment(self.alloc, rel, label) {
+        match self.held.rows.fragment(self.alloc, rel, label) {
             Ok(fragment) => Ok(fragment),
             Err(_) => Err(self.fail()),
         }
@@ -122,7 +95,7 @@ impl Base for ListBase {
         if !self.is_begun() {
             return Err(BaseFault::NotBegun);
         }
-        match self.add_row(rel, node, cells) {
+        match self.held.add(self.alloc, rel, node, cells) {
             Ok(_) => Ok(()),
             Err(_) => Err(self.fail()),
         }
@@ -138,7 +111,7 @@ impl Base for ListBase {
         if !self.is_begun() {
             return Err(BaseFault::NotBegun);
         }
-        match self.rows.set(self.alloc, rel, place, attr, &value) {
+        match self.held.rows.set(self.alloc, rel, place, attr, &value) {
             Ok(_) => Ok(()),
             Err(_) => Err(self.fail()),
         }
@@ -148,7 +121,24 @@ impl Base for ListBase {
         if !self.is_begun() {
             return Err(BaseFault::NotBegun);
         }
-        self.rows.remove(rel, place);
+        self.held.rows.remove(rel, place);
         Ok(())
+    }
+
+    fn audit_add(&mut self, bytes: &[u8]) -> Result<(), BaseFault> {
+        if !self.is_begun() {
+            return Err(BaseFault::NotBegun);
+        }
+        match self.held.add_entry(self.alloc, bytes) {
+            Ok(_) => Ok(()),
+            Err(_) => Err(self.fail()),
+        }
+    }
+
+    fn audit_all(&mut self) -> Result<Items<Items<u8>>, BaseFault> {
+        match copy_entries(&self.held.audit) {
+            Ok(entries) => Ok(Items::from(entries)),
+            Err(_) => Err(self.fail()),
+        }
     }
 }

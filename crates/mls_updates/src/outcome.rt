@@ -1,5 +1,5 @@
 ghost use Rattle.std.specs.Prelude.{◌≡◌};
-ghost use Rattle.mls_updates.specs.Outcome.{code_of, word_of};
+ghost use Rattle.mls_updates.specs.Outcome.{is_done, code_of, word_of};
 
 /// What became of a write. Every outcome but Done changes nothing.
 #[derive(Clone, Copy, PartialEq, Eq, Debug)]
@@ -22,6 +22,16 @@ pub enum Outcome {
 }
 
 impl Outcome {
+    /// Whether the write was done.
+    pub fn is_done(self) -> bool
+        ensures { result ≡ is_done self }
+    {
+        match self {
+            Outcome::Done => true,
+            _ => false,
+        }
+    }
+
     /// The number of the outcome: 0, or 11 to 17.
     pub fn code(self) -> u8
         ensures { result ≡ code_of self }

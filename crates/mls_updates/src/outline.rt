@@ -1,17 +1,19 @@
 //! A new tuple of an update: its classes, and the values of its own class.
-ghost use Rattle.std.specs.Prelude.{◌≡◌, ◌<◌, ◌≤◌, List, true, IfOk, IfErr, IsErrOf, OnOk, None};
+ghost use Rattle.std.specs.Prelude.{◌≡◌, List, true, IfOk, IfErr, IfSome, OnOk, None};
+ghost use Rattle.std.specs.List.{AllByRecursion};
 ghost use Rattle.std.specs.FinMap.{get, insert};
+ghost use Rattle.mls_scheme.specs.Spelling.{HasSpelling, IsSpelledKey};
 ghost use Rattle.mls_scheme.specs.declared.tuple.Element.{Element as SpecElement};
-ghost use Rattle.mls_filterview.specs.Content.{after, with_relation};
+ghost use Rattle.mls_filterview.specs.Content.{with_relation};
+ghost use Rattle.mls_filterview.specs.Calls.{IsCall, IsServed};
 ghost use Rattle.mls_filterview.specs.Fragment.{IsMadeOf, node_of, cells_of};
-ghost use Rattle.mls_updates.specs.Rows.{entry_of};
 ghost use Rattle.mls_updates.specs.Steps.{outline};
 ghost use Rattle.mls_updates.specs.Writes.{set_element};
 
-use crate::growth::made;
+use crate::adding::add_row;
 use crate::row::Row;
 use crate::sets::copy_value;
-use mls_filterview::{Base, BaseFault, Cell};
+use mls_filterview::{Base, BaseFault, made};
 use mls_lattice::{Items, LabelNo};
 use mls_scheme::{Element, Place, RelNo, Value};
 use std::alloc::{AllocError, Global};
@@ -58,7 +60,7 @@ fn outline_at(
     sets: &[(usize, Option<Value>)],
     pattern: &[LabelNo],
 ) -> Result<Row, AllocError>
-    ensures { IfOk result (λ r. entry_of r ≡ (place, outline place.class sets.now 0 pattern.now)) }
+    ensures { IfOk result (λ r. r ≡ record { rel = rel; place = place; elements = outline place.class sets.now 0 pattern.now }) }
 {
     let elements = outline_of(alloc, place.class, sets, pattern)?;
     Ok(Row {
@@ -66,15 +68,6 @@ fn outline_at(
         place,
         elements: Items::from(elements),
     })
-}
-
-/// The elements of a tuple's own class.
-fn own_cells(alloc: Global, row: &Row) -> Result<Vec<Cell>, AllocError>
-    ensures { IfOk result (λ cells. cells.items ≡ cells_of (entry_of row.now)) }
-{
-    let mut cells = Vec::new(alloc);
-    row.add_cells(&mut cells)?;
-    Ok(cells)
 }
 
 /// Adds the new tuple at a place; its elements of other classes are those that the entity's tuples of these classes have.
@@ -87,21 +80,19 @@ pub(crate) fn add_outline<B: Base>(
     pattern: &[LabelNo],
 ) -> Result<(), BaseFault>
     requires begun { (B.state base.old).begun ≡ true }
+    requires key { IsSpelledKey place.key }
+    requires values { AllByRecursion (λ s. IfSome s.1 HasSpelling) sets.now }
     requires absent { B.is_clean base.old → get ((B.state base.old).now.db rel) place ≡ None }
     requires made { B.is_clean base.old → (es : List SpecElement)
         × IsMadeOf ((B.state base.old).now.db rel) (node_of (place, outline place.class sets.now 0 pattern.now)) (cells_of (place, outline place.class sets.now 0 pattern.now)) es }
-    ensures clean { B.is_clean base.new → B.is_clean base.old }
-    ensures count { B.failures base.old ≤ B.failures base.new }
-    ensures store { IsErrOf result BaseFault.Store → B.failures base.old < B.failures base.new }
-    ensures no_other { IfErr result (λ e. (e ≡ BaseFault.NotBegun → ⊥) × (e ≡ BaseFault.Begun → ⊥)) }
+    ensures call { IsCall B.is_clean B.failures B.state base.old base.new result }
+    ensures served { IfErr result IsServed }
+    ensures mode { OnOk result ((B.state base.new).begun ≡ true) }
     ensures done { B.is_clean base.new → (es : List SpecElement)
         → IsMadeOf ((B.state base.old).now.db rel) (node_of (place, outline place.class sets.now 0 pattern.now)) (cells_of (place, outline place.class sets.now 0 pattern.now)) es
         → OnOk result (B.state base.new ≡ with_relation (B.state base.old) rel (insert ((B.state base.old).now.db rel) place es)) }
-    ensures failed { B.is_clean base.new → IfErr result (λ e. B.state base.new ≡ after e (B.state base.old)) }
 {
     let row = made(base, outline_at(alloc, rel, place, sets, pattern))?;
-    let node = made(base, row.node(alloc))?;
-    let cells = made(base, own_cells(alloc, &row))?;
-    base.add(rel, node, &cells)?;
+    add_row(alloc, base, &row)?;
     Ok(())
 }

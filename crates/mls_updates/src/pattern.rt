@@ -1,13 +1,12 @@
 //! The classes of a tuple's elements, found in a fragment.
-ghost use Rattle.std.specs.Prelude.{◌≡◌, ◌<◌, ◌≤◌, IfOk, IfErr, IsErrOf, OnOk};
+ghost use Rattle.std.specs.Prelude.{◌≡◌, IfOk, IfErr, OnOk};
 ghost use Rattle.std.specs.Option.{option_map};
 ghost use Rattle.std.specs.FinMap.{get};
-ghost use Rattle.mls_filterview.specs.Content.{after};
+ghost use Rattle.mls_filterview.specs.Calls.{IsCall, IsServed};
 ghost use Rattle.mls_updates.specs.Finding.{pattern_in, classes};
 
 use crate::finding::is_at;
-use crate::growth::made;
-use mls_filterview::{Base, BaseFault, Node};
+use mls_filterview::{Base, BaseFault, Node, made};
 use mls_lattice::{Items, LabelNo};
 use mls_scheme::{Place, RelNo};
 use std::alloc::AllocError;
@@ -37,14 +36,11 @@ pub(crate) fn pattern_at<B: Base>(
     rel: RelNo,
     place: &Place,
 ) -> Result<Option<Items<LabelNo>>, BaseFault>
-    ensures clean { B.is_clean base.new → B.is_clean base.old }
-    ensures count { B.failures base.old ≤ B.failures base.new }
-    ensures store { IsErrOf result BaseFault.Store → B.failures base.old < B.failures base.new }
-    ensures no_other { IfErr result (λ e. (e ≡ BaseFault.NotBegun → ⊥) × (e ≡ BaseFault.Begun → ⊥)) }
-    ensures begun { OnOk result ((B.state base.new).begun ≡ (B.state base.old).begun) }
+    ensures call { IsCall B.is_clean B.failures B.state base.old base.new result }
+    ensures served { IfErr result IsServed }
+    ensures mode { OnOk result ((B.state base.new).begun ≡ (B.state base.old).begun) }
     ensures found { B.is_clean base.new → IfOk result (λ pattern. pattern ≡ option_map classes (get ((B.state base.old).now.db rel) place.now)) }
     ensures same { B.is_clean base.new → OnOk result (B.state base.new ≡ B.state base.old) }
-    ensures failed { B.is_clean base.new → IfErr result (λ e. B.state base.new ≡ after e (B.state base.old)) }
 {
     let fragment = base.fragment(rel, place.class)?;
     let pattern = made(base, pattern_in(&fragment.nodes, place))?;

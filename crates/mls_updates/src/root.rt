@@ -1,72 +1,74 @@
 //! The root of an entity: a tuple of one class.
-ghost use Rattle.std.specs.Prelude.{◌≡◌, IfOk, map, length};
-ghost use Rattle.mls_filterview.specs.Fragment.{cells_from};
+ghost use Rattle.std.specs.Prelude.{◌≡◌, true, IfOk, IfErr, IfSome, OnOk, None};
+ghost use Rattle.std.specs.List.{AllByRecursion};
+ghost use Rattle.std.specs.FinMap.{get, insert};
+ghost use Rattle.mls_scheme.specs.Spelling.{HasSpelling, IsSpelledKey};
+ghost use Rattle.mls_filterview.specs.Calls.{IsCall, IsServed};
+ghost use Rattle.mls_filterview.specs.Content.{with_relation};
 ghost use Rattle.mls_updates.specs.Writes.{root};
 
-use mls_filterview::{Cell, Node};
+use crate::adding::add_row;
+use crate::row::Row;
+use crate::sets::copy_value;
+use mls_filterview::{Base, BaseFault, made};
 use mls_lattice::{Items, LabelNo};
-use mls_scheme::{Place, Value, copy_key};
+use mls_scheme::{Element, Place, RelNo, Value};
 use std::alloc::{AllocError, Global};
 
-/// The pattern of a root: its class, once for each attribute.
-fn pattern_of(
+/// Elements of one class.
+fn root_elements(
     alloc: Global,
     class: LabelNo,
     values: &[Option<Value>],
-) -> Result<Vec<LabelNo>, AllocError>
-    ensures { IfOk result (λ pattern. pattern.items ≡ map (λ e. e.class) (root class values.now)) }
+) -> Result<Vec<Element>, AllocError>
+    ensures { IfOk result (λ v. v.items ≡ root class values.now) }
 {
-    let mut pattern = Vec::new(alloc);
-    for _value in values {
-        pattern.push(class)?;
+    let mut elements = Vec::new(alloc);
+    for value in values {
+        elements.push(Element {
+            value: copy_value(value)?,
+            class,
+        })?;
     }
-    Ok(pattern)
+    Ok(elements)
 }
 
-/// A cell of the tuple at a place, of the tuple's class.
-pub(crate) fn cell_of(place: &Place, attr: usize, value: &Option<Value>) -> Result<Cell, AllocError>
-    ensures { IfOk result (λ c. c ≡ record { key = place.now.key; key_class = place.now.key_class; attr = attr; label = place.now.class; value = value.now }) }
+/// The root at a place.
+fn root_at(
+    alloc: Global,
+    rel: RelNo,
+    place: Place,
+    values: &[Option<Value>],
+) -> Result<Row, AllocError>
+    ensures { IfOk result (λ r. r ≡ record { rel = rel; place = place; elements = root place.class values.now }) }
 {
-    let key = copy_key(&place.key)?;
-    let value = value.clone()?;
-    Ok(Cell {
-        key,
-        key_class: place.key_class,
-        attr,
-        label: place.class,
-        value,
+    let elements = root_elements(alloc, place.class, values)?;
+    Ok(Row {
+        rel,
+        place,
+        elements: Items::from(elements),
     })
 }
 
-/// The cells of the root at a place.
-pub(crate) fn root_cells(
+/// Adds the root at a place.
+pub(crate) fn add_root<B: Base>(
     alloc: Global,
-    place: &Place,
+    base: &mut B,
+    rel: RelNo,
+    place: Place,
     values: &[Option<Value>],
-) -> Result<Vec<Cell>, AllocError>
-    ensures { IfOk result (λ cells. cells.items ≡ cells_from 0 place.now (root place.now.class values.now)) }
+) -> Result<(), BaseFault>
+    requires begun { (B.state base.old).begun ≡ true }
+    requires key { IsSpelledKey place.key }
+    requires values { AllByRecursion (λ v. IfSome v HasSpelling) values.now }
+    requires absent { B.is_clean base.old → get ((B.state base.old).now.db rel) place ≡ None }
+    ensures call { IsCall B.is_clean B.failures B.state base.old base.new result }
+    ensures served { IfErr result IsServed }
+    ensures mode { OnOk result ((B.state base.new).begun ≡ true) }
+    ensures done { B.is_clean base.new
+        → OnOk result (B.state base.new ≡ with_relation (B.state base.old) rel (insert ((B.state base.old).now.db rel) place (root place.class values.now))) }
 {
-    let mut cells = Vec::new(alloc);
-    for (attr, value) in values.iter().enumerate() {
-        cells.push(cell_of(place, attr, value)?)?;
-    }
-    Ok(cells)
-}
-
-/// The node of the root at a place.
-pub(crate) fn root_node(
-    alloc: Global,
-    place: &Place,
-    values: &[Option<Value>],
-) -> Result<Node, AllocError>
-    ensures { IfOk result (λ n. n ≡ record { key = place.now.key; key_class = place.now.key_class; label = place.now.class; pattern = map (λ e. e.class) (root place.now.class values.now) }) }
-{
-    let key = copy_key(&place.key)?;
-    let pattern = pattern_of(alloc, place.class, values)?;
-    Ok(Node {
-        key,
-        key_class: place.key_class,
-        label: place.class,
-        pattern: Items::from(pattern),
-    })
+    let row = made(base, root_at(alloc, rel, place, values))?;
+    add_row(alloc, base, &row)?;
+    Ok(())
 }

@@ -1,14 +1,15 @@
 //! Cells of an entity set one after another.
-ghost use Rattle.std.specs.Prelude.{◌≡◌, ◌<◌, ◌≤◌, true, IfErr, IsErrOf, OnOk};
+ghost use Rattle.std.specs.Prelude.{◌≡◌, ◌<◌, true, IfErr, IfSome, OnOk};
 ghost use Rattle.std.specs.List.{AllByRecursion};
+ghost use Rattle.mls_scheme.specs.Spelling.{HasSpelling, IsSpelledKey};
 ghost use Rattle.mls_scheme.specs.Table.{change};
-ghost use Rattle.mls_filterview.specs.Content.{after, with_relation};
+ghost use Rattle.mls_filterview.specs.Content.{with_relation};
+ghost use Rattle.mls_filterview.specs.Calls.{IsCall, IsServed};
 ghost use Rattle.mls_filterview.specs.Fragment.{HasCell, set_in};
 ghost use Rattle.mls_updates.specs.Steps.{set_each};
 
-use crate::growth::made;
 use crate::sets::copy_value;
-use mls_filterview::{Base, BaseFault};
+use mls_filterview::{Base, BaseFault, made};
 use mls_scheme::{Place, RelNo, Value};
 
 /// Sets the value of a cell, in every tuple of the entity that has it.
@@ -20,15 +21,15 @@ fn set_one<B: Base>(
     value: &Option<Value>,
 ) -> Result<(), BaseFault>
     requires begun { (B.state base.old).begun ≡ true }
+    requires key { IsSpelledKey place.now.key }
+    requires attr { attr < 15 }
+    requires value { IfSome value.now HasSpelling }
     requires there { B.is_clean base.old → HasCell ((B.state base.old).now.db rel) place.now attr }
-    ensures clean { B.is_clean base.new → B.is_clean base.old }
-    ensures count { B.failures base.old ≤ B.failures base.new }
-    ensures store { IsErrOf result BaseFault.Store → B.failures base.old < B.failures base.new }
-    ensures no_other { IfErr result (λ e. (e ≡ BaseFault.NotBegun → ⊥) × (e ≡ BaseFault.Begun → ⊥)) }
-    ensures begun { OnOk result ((B.state base.new).begun ≡ true) }
+    ensures call { IsCall B.is_clean B.failures B.state base.old base.new result }
+    ensures served { IfErr result IsServed }
+    ensures mode { OnOk result ((B.state base.new).begun ≡ true) }
     ensures done { B.is_clean base.new
         → OnOk result (B.state base.new ≡ with_relation (B.state base.old) rel (change (set_in place.now attr value.now) ((B.state base.old).now.db rel))) }
-    ensures failed { B.is_clean base.new → IfErr result (λ e. B.state base.new ≡ after e (B.state base.old)) }
 {
     let value = made(base, copy_value(value))?;
     base.set(rel, place, attr, value)?;
@@ -43,13 +44,13 @@ pub(crate) fn set_each<B: Base>(
     sets: &[(usize, Option<Value>)],
 ) -> Result<(), BaseFault>
     requires begun { (B.state base.old).begun ≡ true }
+    requires key { IsSpelledKey place.now.key }
+    requires sets { AllByRecursion (λ s. (s.0 < 15) × IfSome s.1 HasSpelling) sets.now }
     requires there { B.is_clean base.old → AllByRecursion (λ s. HasCell ((B.state base.old).now.db rel) place.now s.0) sets.now }
-    ensures clean { B.is_clean base.new → B.is_clean base.old }
-    ensures count { B.failures base.old ≤ B.failures base.new }
-    ensures store { IsErrOf result BaseFault.Store → B.failures base.old < B.failures base.new }
-    ensures no_other { IfErr result (λ e. (e ≡ BaseFault.NotBegun → ⊥) × (e ≡ BaseFault.Begun → ⊥)) }
+    ensures call { IsCall B.is_clean B.failures B.state base.old base.new result }
+    ensures served { IfErr result IsServed }
+    ensures mode { OnOk result ((B.state base.new).begun ≡ true) }
     ensures done { B.is_clean base.new → OnOk result (B.state base.new ≡ with_relation (B.state base.old) rel (set_each place.now sets.now ((B.state base.old).now.db rel))) }
-    ensures failed { B.is_clean base.new → IfErr result (λ e. B.state base.new ≡ after e (B.state base.old)) }
 {
     for left in (0..sets.len()).rev() {
         let (attr, value) = &sets[left];

@@ -1,18 +1,19 @@
 //! Elements of an entity changed at their class, or a tuple made from a lower one.
-ghost use Rattle.std.specs.Prelude.{◌≡◌, ◌<◌, ◌≤◌, ◌↔◌, false, length, IfOk, IfErr, IsErrOf, OnOk};
+ghost use Rattle.std.specs.Prelude.{◌≡◌, ◌<◌, ◌↔◌, true, false, length, IfOk, IsErrOf, OnOk};
 ghost use Rattle.std.specs.List.{AllByRecursion};
 ghost use Rattle.mls_lattice.specs.Policy.{labels_of};
 ghost use Rattle.mls_scheme.specs.Scheme.{scheme_of, AreUnder};
-ghost use Rattle.mls_filterview.specs.Content.{after};
+ghost use Rattle.mls_scheme.specs.Fits.{HaveKinds};
+ghost use Rattle.mls_filterview.specs.Calls.{IsCall};
 ghost use Rattle.mls_filterview.specs.Stored.{IsContent};
 ghost use Rattle.mls_updates.specs.Writes.{Update, WriteKinds};
 ghost use Rattle.mls_updates.specs.Calls.{IsWritten};
 
 use crate::changing::update_own;
-use crate::key::has_null;
+use crate::key::{has_null, place_of};
 use crate::outcome::Outcome;
 use crate::raising::update_below;
-use mls_filterview::{Base, BaseFault};
+use mls_filterview::{Base, BaseFault, made};
 use mls_lattice::{LabelNo, Policy};
 use mls_scheme::{RelNo, Schemes, Value};
 use std::alloc::Global;
@@ -42,17 +43,16 @@ pub fn update<B: Base>(
     requires under { AreUnder (length policy.now.labels) schemes.now }
     requires named { 0 < length sets.now }
     requires fits { AllByRecursion (λ s. s.0 < length (scheme_of schemes.now rel).others) sets.now }
+    requires key { HaveKinds (scheme_of schemes.now rel).keys key.now }
     requires kinds { WriteKinds (scheme_of schemes.now rel) (Update key.now key_class from sets.now) }
     requires stored { B.is_clean base.old → IsContent (labels_of policy.now) (scheme_of schemes.now rel) ((B.state base.old).now.db rel) }
-    ensures clean { B.is_clean base.new → B.is_clean base.old }
-    ensures count { B.failures base.old ≤ B.failures base.new }
-    ensures store { IsErrOf result BaseFault.Store → B.failures base.old < B.failures base.new }
+    ensures call { IsCall B.is_clean B.failures B.state base.old base.new result }
     ensures not_begun { (result ≡ Err BaseFault.NotBegun) ↔ ((B.state base.old).begun ≡ false) }
     ensures no_other { IsErrOf result BaseFault.Begun → ⊥ }
+    ensures mode { OnOk result ((B.state base.new).begun ≡ true) }
     ensures done { B.is_clean base.new
         → IfOk result (IsWritten (labels_of policy.now) (scheme_of schemes.now rel) rel w (Update key.now key_class from sets.now) (B.state base.old) (B.state base.new)) }
     ensures kept { B.is_clean base.new → OnOk result (IsContent (labels_of policy.now) (scheme_of schemes.now rel) ((B.state base.new).now.db rel)) }
-    ensures failed { B.is_clean base.new → IfErr result (λ e. B.state base.new ≡ after e (B.state base.old)) }
 {
     if !base.is_begun() {
         return Err(BaseFault::NotBegun);
@@ -62,13 +62,12 @@ pub fn update<B: Base>(
     }
     // That the labels of a policy are distinct.
     let _count = policy.label_count();
+    let scheme = schemes.scheme(rel);
+    let place = made(base, place_of(alloc, key, key_class, from))?;
     if from == w {
-        let outcome = update_own(alloc, base, policy, rel, w, key, key_class, sets)?;
+        let outcome = update_own(base, policy, rel, &place, sets)?;
         return Ok(outcome);
     }
-    let scheme = schemes.scheme(rel);
-    let outcome = update_below(
-        alloc, base, policy, scheme, rel, w, key, key_class, from, sets,
-    )?;
+    let outcome = update_below(alloc, base, policy, scheme, rel, w, place, sets)?;
     Ok(outcome)
 }

@@ -1,11 +1,10 @@
 use Rattle.std.proofs.Common.{rules, ◌≡◌, sym, ap, ◌∙◌, subst, length, List, map}
 use Rattle.std.specs.List.{AllByRecursion}
 use Rattle.mls_lattice.specs.Policy.{labels_of}
-use Rattle.mls_scheme.specs.Table.{Table, IsIn, tuple_at}
+use Rattle.mls_scheme.specs.Table.{tuple_at}
 use Rattle.mls_scheme.specs.Tuple.{HasClassesBelow}
 use Rattle.mls_scheme.specs.declared.tuple.Tuple.{Tuple}
-use Rattle.mls_filterview.specs.View.{View, rows, IsAmong}
-use Rattle.mls_filterview.specs.Stored.{IsStored}
+use Rattle.mls_filterview.specs.View.{rows, IsAmong}
 use Rattle.mls_filterview.specs.Filtering.{EachOnce, seen, uncovered, row_of}
 use Rattle.mls_filterview.proofs.EntryLemmas.{Entry}
 use Rattle.mls_filterview.proofs.ArrangeLemmas.{if_ok}

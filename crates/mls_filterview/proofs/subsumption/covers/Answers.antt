@@ -1,5 +1,4 @@
-use Rattle.std.proofs.Common.{◌≡◌, sym, ◌∙◌, inl, rules}
-use Rattle.std.proofs.lemmas.Bool.{true≢false}
+use Rattle.std.proofs.Common.{sym, ◌∙◌, inl, rules}
 use Rattle.mls_filterview.proofs.SubsumptionLemmas.{covers-from}
 use Rattle.mls_filterview.proofs.SubsumptionSteps.{covers-other}
 use Rattle.mls_filterview.proofs.subsumption.covers.Goals as goal

@@ -9,6 +9,7 @@ invariant-loop-number g l =
     record {
       clean : B.is_clean l.base → B.is_clean l.fn.base;
       count : B.failures l.fn.base ≤ B.failures l.base;
+      mode : (B.state l.base).begun ≡ (B.state l.fn.base).begun;
       same : B.is_clean l.base → B.state l.base ≡ B.state l.fn.base;
       low : B.is_clean l.base → AreLow (labels_of l.policy) ((B.state l.fn.base).now.db l.rel) l.label l.number l.nodes.items l.cells.items;
     }

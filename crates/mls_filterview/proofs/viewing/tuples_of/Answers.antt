@@ -1,14 +1,15 @@
-use Rattle.std.proofs.Common.{◌∙◌, map, ap}
+use Rattle.std.proofs.Common.{◌≡◌, true, ◌∙◌, map, sym, ap, subst}
+use Rattle.std.specs.FinMap.{is_sorted}
 use Rattle.std.specs.BTreeMap.{get}
 use Rattle.std.proofs.Common.{List}
 use Rattle.std.specs.List.{filter}
 use Rattle.std.proofs.lemmas.Result.{IfOk-weaker}
 use Rattle.mls_scheme.specs.declared.tuple.Tuple.{Tuple}
-use Rattle.mls_scheme.specs.Table.{tuple_at}
+use Rattle.mls_scheme.specs.Table.{place_cmp, tuple_at}
 use Rattle.mls_filterview.specs.Subsumption.{is_max_among}
 use Rattle.mls_filterview.specs.Assembly.{cell_place_cmp}
 use Rattle.mls_filterview.proofs.EntryLemmas.{Entry}
-use Rattle.mls_filterview.proofs.ListedLemmas.{listed_rows}
+use Rattle.mls_filterview.proofs.ListedLemmas.{listed_rows, sorted_keys}
 use Rattle.mls_filterview.proofs.viewing.tuples_of.Goals as goal
 
 pub returns : goal.returns
@@ -16,3 +17,6 @@ returns c = IfOk-weaker c.maximal_tuples.result _ _ (λ v e ls n T k stored low.
     let maximal_tuples : List Entry → List Tuple = λ es. map (λ e. tuple_at e.0 e.1) (filter (is_max_among es) es) in
     e ∙ ap maximal_tuples (c.deref.ensures.value ∙ c.in_ok-rows.ensures.items)
     ∙ listed_rows ls n T k c.args.low.nodes c.args.low.cells (get cell_place_cmp c.in_ok-values.values) c.in_ok-found.found.entries stored low c.in_ok-values.ensures c.entries_of.ensures.ordered c.in_ok-found.ensures) c.maximal_tuples.ensures
+
+pub maximal_tuples-requires : goal.maximal_tuples-requires
+maximal_tuples-requires c = subst (λ es. is_sorted place_cmp es ≡ true) (sym (c.deref.ensures.value ∙ c.in_ok-rows.ensures.items)) (sorted_keys c.in_ok-found.found.entries c.entries_of.ensures.ordered)

@@ -1,0 +1,32 @@
+use Rattle.std.proofs.Common.{refl, sym, ap, ◌∙◌}
+use Rattle.std.specs.FinMap.{get, insert}
+use Rattle.mls_lattice.specs.Policy.{labels_of}
+use Rattle.mls_filterview.specs.Content.{with_relation}
+use Rattle.mls_updates.specs.Outcome.{is_done}
+use Rattle.mls_updates.specs.Writes.{root, root_refusals}
+use Rattle.mls_updates.proofs.KeptLemmas.{all_passed, none_if}
+use Rattle.mls_updates.proofs.LeftLemmas.{left_same, left_done}
+use Rattle.mls_updates.proofs.inserting.insert_at.Goals as goal
+
+pub returns-then-not-is_done-clause-done : goal.returns-then-not-is_done-clause-done
+returns-then-not-is_done-clause-done g c = λ clean.
+    let s = g.B.Base.state c.args.base.now in
+    left_same c.args.rel s (g.B.Base.state c.has_tuple.new.base) c.root_outcome-outcome.result _ _
+    (c.root_outcome-outcome.ensures (get (s.now.db c.args.rel) c.args.place) (sym (c.in_ok-found.ensures.found clean))) (sym c.if-not-is_done.ensures) (c.in_ok-found.ensures.same clean)
+
+pub add_root-requires-clause-absent : goal.add_root-requires-clause-absent
+add_root-requires-clause-absent g c = λ clean.
+    let s = g.B.Base.state c.args.base.now in
+    let o = get (s.now.db c.args.rel) c.args.place in
+    let first = c.root_outcome-outcome.ensures o (sym (c.in_ok-found.ensures.found clean)) in
+    ap (λ x. get (x.now.db c.args.rel) c.args.place) (c.in_ok-found.ensures.same clean)
+    ∙ none_if o (all_passed (root_refusals (labels_of c.args.policy.now) c.args.scheme.now c.args.place.class o) refl (ap is_done (sym first) ∙ sym c.if-not-is_done.ensures)).0
+
+pub returns-clause-done : goal.returns-clause-done
+returns-clause-done g c = λ clean.
+    let s = g.B.Base.state c.args.base.now in
+    let before = c.in_ok-add_root.ensures.call.clean clean in
+    let same = c.in_ok-found.ensures.same before in
+    left_done c.args.rel s (g.B.Base.state c.add_root.new.base) c.root_outcome-outcome.result _ _
+    (c.root_outcome-outcome.ensures (get (s.now.db c.args.rel) c.args.place) (sym (c.in_ok-found.ensures.found before))) (sym c.if-not-is_done.ensures)
+    (c.in_ok-add_root.ensures.done clean ∙ (λ i. with_relation (same i) c.args.rel (insert ((same i).now.db c.args.rel) c.args.place (root c.args.place.class c.args.values.now))))

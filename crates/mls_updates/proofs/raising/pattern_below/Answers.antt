@@ -1,0 +1,33 @@
+use Rattle.std.proofs.Common.{cond, None, ◌&&◌, sym, ap, ◌∙◌}
+use Rattle.std.specs.Option.{option_map}
+use Rattle.std.specs.FinMap.{get}
+use Rattle.mls_lattice.specs.Labels.{below}
+use Rattle.mls_lattice.specs.Policy.{labels_of}
+use Rattle.mls_updates.specs.Finding.{classes}
+use Rattle.mls_updates.proofs.raising.pattern_below.Goals as goal
+
+pub returns-then-not-dominates-clause-found : goal.returns-then-not-dominates-clause-found
+returns-then-not-dominates-clause-found g c = λ clean.
+    let ls = labels_of c.args.policy.now in
+    let p = c.args.place.now in
+    let o = option_map classes (get ((g.B.Base.state c.args.base.now).now.db c.args.rel) p) in
+    let low = sym c.if-not-dominates.ensures.order in
+    sym (ap (λ b. cond (b && below ls p.class c.args.w) o None) low)
+
+pub returns-then-not-dominates-2-clause-found : goal.returns-then-not-dominates-2-clause-found
+returns-then-not-dominates-2-clause-found g c = λ clean.
+    let ls = labels_of c.args.policy.now in
+    let p = c.args.place.now in
+    let o = option_map classes (get ((g.B.Base.state c.args.base.now).now.db c.args.rel) p) in
+    let low = sym c.if-not-dominates.ensures.order in
+    let up = sym c.if-not-dominates-2.ensures.order in
+    sym (λ i. cond (low i && up i) o None)
+
+pub returns-clause-found : goal.returns-clause-found
+returns-clause-found g c = λ clean.
+    let ls = labels_of c.args.policy.now in
+    let p = c.args.place.now in
+    let o = option_map classes (get ((g.B.Base.state c.args.base.now).now.db c.args.rel) p) in
+    let low = sym c.if-not-dominates.ensures.order in
+    let up = sym c.if-not-dominates-2.ensures.order in
+    c.in_ok-pattern.ensures.found clean ∙ sym (λ i. cond (low i && up i) o None)

@@ -1,0 +1,36 @@
+use Rattle.std.proofs.Common.{◌≡◌, IfOk, sym, ap, ◌∙◌, subst}
+use Rattle.std.specs.Prelude.{IfSome}
+use Rattle.std.specs.List.{AllByRecursion}
+use Rattle.std.specs.FinMap.{insert}
+use Rattle.mls_scheme.specs.Spelling.{HasSpelling}
+use Rattle.mls_filterview.specs.Content.{with_relation}
+use Rattle.mls_filterview.specs.Fragment.{IsMadeOf, node_of, cells_of}
+use Rattle.mls_updates.specs.declared.row.Row.{Row}
+use Rattle.mls_updates.specs.Rows.{entry_of}
+use Rattle.mls_updates.specs.Writes.{root}
+use Rattle.mls_updates.proofs.CallLemmas.{root_made}
+use Rattle.mls_updates.proofs.SpellingLemmas.{root_spelled}
+use Rattle.mls_updates.proofs.root.add_root.Goals as goal
+
+pub add_row-requires-clause-values : goal.add_row-requires-clause-values
+add_row-requires-clause-values g c =
+    let it : Row = record { rel = c.args.rel; place = c.args.place; elements = root c.args.place.class c.args.values.now } in
+    let row : c.in_ok-row.row ≡ it = subst (λ r. IfOk r (λ x. x ≡ it)) c.in_ok-row.ensures.value c.root_at.ensures in
+    subst (λ (r : Row). AllByRecursion (λ e. IfSome e.value HasSpelling) r.elements) (sym row) (root_spelled c.args.place.class c.args.values.now c.requires.values)
+
+pub add_row-requires-clause-made : goal.add_row-requires-clause-made
+add_row-requires-clause-made g c = λ clean.
+    let it : Row = record { rel = c.args.rel; place = c.args.place; elements = root c.args.place.class c.args.values.now } in
+    let row : c.in_ok-row.row ≡ it = subst (λ r. IfOk r (λ x. x ≡ it)) c.in_ok-row.ensures.value c.root_at.ensures in
+    let t = g.B.Base.state c.made.new.base in
+    (root c.args.place.class c.args.values.now, subst (λ (r : Row). IsMadeOf (t.now.db r.rel) (node_of (entry_of r)) (cells_of (entry_of r)) (root c.args.place.class c.args.values.now)) (sym row) (root_made (t.now.db c.args.rel) c.args.place c.args.values.now))
+
+pub returns-clause-done : goal.returns-clause-done
+returns-clause-done g c = λ clean.
+    let it : Row = record { rel = c.args.rel; place = c.args.place; elements = root c.args.place.class c.args.values.now } in
+    let row : c.in_ok-row.row ≡ it = subst (λ r. IfOk r (λ x. x ≡ it)) c.in_ok-row.ensures.value c.root_at.ensures in
+    let same : g.B.Base.state c.made.new.base ≡ g.B.Base.state c.args.base.now = ap g.B.Base.state c.in_ok-row.ensures.same in
+    let t = g.B.Base.state c.made.new.base in
+    let es = root c.args.place.class c.args.values.now in
+    c.in_ok-add_row.ensures.done clean es (subst (λ (r : Row). IsMadeOf (t.now.db r.rel) (node_of (entry_of r)) (cells_of (entry_of r)) es) (sym row) (root_made (t.now.db c.args.rel) c.args.place c.args.values.now))
+    ∙ (λ i. with_relation (same i) (row i).rel (insert ((same i).now.db (row i).rel) (row i).place es))

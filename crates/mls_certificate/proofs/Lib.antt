@@ -1,0 +1,3 @@
+pub mod LabelLemmas
+pub mod NameLemmas
+pub mod ReadingSteps

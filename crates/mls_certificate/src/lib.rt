@@ -1,0 +1,12 @@
+//! Certificates of transactions, and the text in which they are kept.
+#![tactic(auto)]
+
+mod cert;
+mod fault;
+mod label;
+mod line;
+mod name;
+mod reading;
+
+pub use cert::Cert;
+pub use fault::{CertCause, CertFault};

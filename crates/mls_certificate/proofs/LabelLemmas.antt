@@ -37,7 +37,7 @@ ok_from_utf8 bytes P Q (Ok x) h ascii = refl
 ok_from_utf8 bytes P Q (Err e) h ascii = absurd (h.0 (IsUtf8-from_ascii bytes ascii))
 
 -- digits are there
-some_digits : (text : List ℕ) → is_decimal text ≡ true → (0 < length text) × (are_digits text ≡ true)
+pub some_digits : (text : List ℕ) → is_decimal text ≡ true → (0 < length text) × (are_digits text ≡ true)
 unfolding is_decimal
 some_digits text h =
     let p = and_parts _ _ (and_parts _ _ h).0 in (at text p.0, p.1)

@@ -1,3 +1,5 @@
+pub mod AgainLemmas
+pub mod FoundLemmas
 pub mod LabelLemmas
 pub mod NameLemmas
 pub mod ReadingSteps

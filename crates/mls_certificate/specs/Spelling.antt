@@ -41,6 +41,10 @@ IsLabel l = (l.rank < 256) × (l.cats < 2 ^ 32)
 abbrev pub IsCert : Cert → Type 0
 IsCert c = AllByRecursion IsLabel c.var_labels × AllByRecursion IsLabel c.pc_labels
 
+-- no two certificates have one text
+abbrev pub AreUnambiguous : Type 0
+AreUnambiguous = (c d : Cert) → IsCert c → IsCert d → cert_text c ≡ cert_text d → c ≡ d
+
 -- certificates of transactions of different names
 pub record IsFile (blocks : List (List ℕ × Cert)) : Type 0 where
   pub names : AllByRecursion (λ b. is_name b.0 ≡ true) blocks

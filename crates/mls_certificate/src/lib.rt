@@ -1,6 +1,8 @@
 //! Certificates of transactions, and the text in which they are kept.
 #![tactic(auto)]
 
+ghost use Rattle.mls_certificate.specs.Spelling.{AreUnambiguous};
+
 mod cert;
 mod fault;
 mod label;
@@ -12,3 +14,8 @@ mod writing;
 pub use cert::Cert;
 pub use fault::{CertCause, CertFault};
 pub use reading::certs_read;
+
+/// No two certificates have one text.
+pub fn certificates_are_unambiguous()
+    ensures { AreUnambiguous }
+{}

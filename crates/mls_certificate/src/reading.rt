@@ -1,7 +1,9 @@
 //! Certificates, and files of them.
-ghost use Rattle.std.specs.Prelude.{◌≡◌, ◌<◌, ◌+◌, IfOk, IsSome, None, ◌^◌, map, length, []};
+ghost use Rattle.std.specs.Prelude.{◌≡◌, ◌<◌, ◌+◌, IfOk, IsSome, None, Ok, ◌^◌, map, length, []};
+ghost use Rattle.mls_certificate.specs.declared.cert.Cert.{Cert as SpecCert};
 ghost use Rattle.mls_certificate.specs.declared.fault.CertCause.TheVariants.{Line};
 ghost use Rattle.mls_certificate.specs.Reading.{is_end, Gives, cert_in, cert_at, block_in, end_in, step_in, blocks_in, file_in, text_in};
+ghost use Rattle.mls_certificate.specs.Spelling.{IsCert, cert_text};
 
 use crate::cert::Cert;
 use crate::fault::{CertCause, CertFault};
@@ -138,14 +140,24 @@ fn blocks_of(alloc: Global, lines: &[&[u8]]) -> Result<Vec<(Str, Cert)>, CertFau
     Ok(blocks)
 }
 
+fn whole_of(alloc: Global, bytes: &[u8]) -> Result<Cert, CertFault>
+    ensures { Gives (λ c. c) result (text_in bytes.now) }
+{
+    let lines = pieces_of(alloc, bytes, b'\n')?;
+    text_of(alloc, &lines)
+}
+
 impl Cert {
     /// Reads the bytes of one certificate: a line of labels for the variables, and one for the statements.
     pub fn read(alloc: Global, bytes: &[u8]) -> Result<Cert, CertFault>
+        // What is read is a certificate, and the bytes are its text.
+        ensures found { IfOk result (λ c. IsCert c × (bytes.now ≡ cert_text c)) }
+        // The text of a certificate is read, unless memory runs out.
+        ensures only { (c : SpecCert) → IsCert c → bytes.now ≡ cert_text c → Gives (λ x. x) result (Ok c) }
         // The first fault, or what is read.
         ensures exact { Gives (λ c. c) result (text_in bytes.now) }
     {
-        let lines = pieces_of(alloc, bytes, b'\n')?;
-        text_of(alloc, &lines)
+        whole_of(alloc, bytes)
     }
 }
 

@@ -1,0 +1,5 @@
+use Rattle.mls_certificate.proofs.AgainLemmas.{unambiguous}
+use Rattle.mls_certificate.proofs.certificates_are_unambiguous.Goals as goal
+
+pub returns : goal.returns
+returns c = unambiguous

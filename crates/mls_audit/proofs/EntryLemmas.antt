@@ -1,5 +1,5 @@
 -- An entry that is read is spelled so, and what is spelled so is read again.
-use Rattle.std.proofs.Common.{◌≡◌, ℕ, zero, suc, ◌+◌, ◌<◌, ◌≤◌, Bool, true, false, cond, nat_lt, ◌==◌, List, [], ◌∷◌, ◌++◌, length, take, drop, Option, None, Some, Result, Ok, Err, refl, sym, ap, subst, ◌∙◌, append_assoc, arith}
+use Rattle.std.proofs.Common.{◌≡◌, ℕ, zero, suc, ◌+◌, ◌<◌, ◌≤◌, false, cond, nat_lt, ◌==◌, List, [], ◌∷◌, ◌++◌, length, take, drop, Option, None, Some, Result, Ok, Err, refl, sym, ap, subst, ◌∙◌, append_assoc, arith}
 use Rattle.std.specs.Prelude.{IfOk, IsUtf8}
 use Rattle.std.specs.Option.{IfSome}
 use Rattle.std.specs.Str.{is_utf8}
@@ -10,36 +10,19 @@ use Rattle.mls_scheme.specs.declared.value.Value.{Value}
 use Rattle.mls_scheme.specs.declared.value.Value.TheVariants.{Int, Text}
 use Rattle.mls_scheme.specs.declared.key_fault.KeyFault.{KeyFault}
 use Rattle.mls_scheme.specs.Spelling as values
-use Rattle.mls_scheme.specs.KeyReading.{value_at}
+use Rattle.mls_lattice.specs.Reading.{◌>>=◌}
+use Rattle.mls_lattice.proofs.ReadingLemmas.{bind_ok, guard_ok, pass_ok}
+use Rattle.mls_scheme.specs.KeyReading.{Gives, utf8_at, value_at}
 use Rattle.mls_scheme.proofs.KeyLemmas.{IsBytes, Takes, value_takes, value_again}
 use Rattle.mls_audit.specs.declared.entry.Entry.{Entry}
 use Rattle.mls_audit.specs.declared.entry.Entry.TheVariants.{Called, Denied, Released}
 use Rattle.mls_audit.specs.declared.reading.Head.{Head}
-use Rattle.mls_audit.specs.declared.fault.EntryFault.{EntryFault}
-use Rattle.mls_audit.specs.declared.fault.EntryFault.TheVariants.{Short, BadText, Trailing}
+use Rattle.mls_scheme.specs.declared.key_fault.KeyFault.TheVariants.{Short, BadText, Trailing}
 use Rattle.mls_audit.specs.Spelling.{name_spelling, nullable_spelling, head_spelling, entry_spelling, IsHead, IsShortName, HasSpelling, AreUnambiguous}
-use Rattle.mls_audit.specs.Reading.{◌>>=◌, Gives, lift, byte_at, utf8_at, name_at, nullable_at, head_at, called_at, denied_at, released_at, front_at, entry_at}
-use Rattle.mls_audit.proofs.ReadingSteps.{utf8_at-ok}
+use Rattle.mls_audit.specs.Reading.{byte_at, name_at, nullable_at, head_at, called_at, denied_at, released_at, front_at, entry_at}
+use Rattle.mls_scheme.proofs.KeySteps.{utf8_at-ok}
 
--- the value of a step that did not fail
-bind_ok : {A B : Type 0} (r : Result A EntryFault) (f : A → Result B EntryFault) (y : B) → (r >>= f) ≡ Ok y → (x : A) × (r ≡ Ok x) × (f x ≡ Ok y)
-bind_ok (Ok x) f y e = (x, refl, e)
-bind_ok (Err d) f y e = absurd cc
-
--- which way a test went that did not fail
-guard_ok : {A : Type 0} (b : Bool) (d : EntryFault) (r : Result A EntryFault) (y : A) → cond b (Err d) r ≡ Ok y → (b ≡ false) × (r ≡ Ok y)
-guard_ok true d r y e = absurd cc
-guard_ok false d r y e = (refl, e)
-
-pass_ok : {A : Type 0} (b : Bool) (d : EntryFault) (r : Result A EntryFault) (y : A) → cond b r (Err d) ≡ Ok y → (b ≡ true) × (r ≡ Ok y)
-pass_ok true d r y e = (refl, e)
-pass_ok false d r y e = absurd cc
-
-lift_ok : {A : Type 0} (r : Result A KeyFault) (x : A) → lift r ≡ Ok x → r ≡ Ok x
-lift_ok (Ok y) x e = cc
-lift_ok (Err d) x e = absurd cc
-
-abbrev done : {A : Type 0} → A → Result A EntryFault
+abbrev done : {A : Type 0} → A → Result A KeyFault
 done x = Ok x
 
 ok_is : {A : Type 0} (x y : A) → done x ≡ done y → x ≡ y
@@ -100,8 +83,8 @@ nullable_takes [] x fits e = absurd cc
 nullable_takes (zero ∷ rest) x fits e =
     subst (λ (p : Option Value × List ℕ). TakesNullable (0 ∷ rest) p.0 p.1) (ok_is (None, rest) x e) (record { takes = record { parts = refl; rest_fits = λ i. fits (suc i) }; whole = tt; short = tt })
 nullable_takes (suc tag ∷ rest) x fits e =
-    let b = bind_ok (lift (value_at (suc tag ∷ rest))) (λ v. Ok (Some v.0, v.1)) x e in
-    let t = value_takes (suc tag ∷ rest) b.0.0 b.0.1 fits (lift_ok (value_at (suc tag ∷ rest)) b.0 b.1) in
+    let b = bind_ok (value_at (suc tag ∷ rest)) (λ v. Ok (Some v.0, v.1)) x e in
+    let t = value_takes (suc tag ∷ rest) b.0.0 b.0.1 fits b.1 in
     subst (λ (p : Option Value × List ℕ). TakesNullable (suc tag ∷ rest) p.0 p.1) (ok_is (Some b.0.0, b.0.1) x b.2) (record { takes = t.0; whole = t.1.0; short = t.1.1 })
 
 nullable_again : (value : Option Value) (rest : List ℕ) → IfSome value values.IsValue → IfSome value values.IsShort → nullable_at (nullable_spelling value ++ rest) ≡ Ok (value, rest)
@@ -198,7 +181,7 @@ front_takes (suc (suc (suc zero)) ∷ bytes) x fits e = released_takes bytes x (
 front_takes (suc (suc (suc (suc tag))) ∷ bytes) x fits e = absurd cc
 
 -- the head that is read again, before what follows it
-again : {A : Type 0} (h : Head) (text rest : List ℕ) (next : Head × List ℕ → Result A EntryFault) → IsHead h.label h.user h.session → (head_at (h.label ∷ ((names h ++ text) ++ rest)) >>= next) ≡ next (h, text ++ rest)
+again : {A : Type 0} (h : Head) (text rest : List ℕ) (next : Head × List ℕ → Result A KeyFault) → IsHead h.label h.user h.session → (head_at (h.label ∷ ((names h ++ text) ++ rest)) >>= next) ≡ next (h, text ++ rest)
 again h text rest next whole =
     ap (λ (bs : List ℕ). head_at (h.label ∷ bs) >>= next) (append_assoc (names h) text rest)
     ∙ rw (head_again h (text ++ rest) whole.1 whole.2) refl
@@ -229,7 +212,7 @@ entry_again e fits =
     ap (λ (bs : List ℕ). front_at bs >>= (λ front. cond (length front.1 == 0) (Ok front.0) (Err Trailing))) (sym (append-nil (entry_spelling e)))
     ∙ rw (front_again e [] fits) refl
 
-pub is_found : (bytes : List ℕ) (r : Result Entry EntryFault) → IsBytes bytes → Gives (λ e. e) r (entry_at bytes) → IfOk r (λ e. HasSpelling e × (bytes ≡ entry_spelling e))
+pub is_found : (bytes : List ℕ) (r : Result Entry KeyFault) → IsBytes bytes → Gives (λ e. e) r (entry_at bytes) → IfOk r (λ e. HasSpelling e × (bytes ≡ entry_spelling e))
 is_found bytes (Ok e) fits given = entry_found bytes e fits given
 is_found bytes (Err d) fits given = tt
 

@@ -1,4 +1,3 @@
 pub mod Entry
 pub mod Spelling
-pub mod Fault
 pub mod Reading

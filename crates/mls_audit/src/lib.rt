@@ -4,13 +4,12 @@
 ghost use Rattle.mls_audit.specs.Spelling.{AreUnambiguous};
 
 mod entry;
-mod fault;
 mod reading;
 mod viewing;
 mod writing;
 
 pub use entry::Entry;
-pub use fault::EntryFault;
+pub use mls_scheme::KeyFault as EntryFault;
 pub use reading::entry_of;
 pub use viewing::visible;
 pub use writing::entry_bytes;
@@ -19,6 +18,3 @@ pub use writing::entry_bytes;
 pub fn entries_are_unambiguous()
     ensures { AreUnambiguous }
 {}
-
-#[cfg(test)]
-mod entry_tests;

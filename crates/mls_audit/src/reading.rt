@@ -1,13 +1,12 @@
 ghost use Rattle.std.specs.Prelude.{◌≡◌, IfOk, Ok};
-ghost use Rattle.mls_scheme.specs.KeyReading.{value_at};
+ghost use Rattle.mls_scheme.specs.KeyReading.{Gives, utf8_at, value_at};
 ghost use Rattle.mls_audit.specs.declared.entry.Entry.{Entry as SpecEntry};
 ghost use Rattle.mls_audit.specs.Spelling.{entry_spelling, HasSpelling};
-ghost use Rattle.mls_audit.specs.Reading.{Gives, lift, byte_at, utf8_at, name_at, head_at, nullable_at, called_at, denied_at, released_at, front_at, entry_at};
+ghost use Rattle.mls_audit.specs.Reading.{byte_at, name_at, head_at, nullable_at, called_at, denied_at, released_at, front_at, entry_at};
 
 use crate::entry::Entry;
-use crate::fault::EntryFault;
 use mls_lattice::{LabelNo, Str};
-use mls_scheme::{Value, value_of};
+use mls_scheme::{KeyFault as EntryFault, Value, value_of};
 use std::alloc::Global;
 
 /// What every entry has.
@@ -66,7 +65,7 @@ fn head_of(alloc: Global, bytes: &[u8]) -> Result<(Head, &[u8]), EntryFault>
 }
 
 fn some_of(alloc: Global, bytes: &[u8]) -> Result<(Value, &[u8]), EntryFault>
-    ensures { Gives (λ x. (x.0, x.1.now)) result (lift (value_at bytes.now)) }
+    ensures { Gives (λ x. (x.0, x.1.now)) result (value_at bytes.now) }
 {
     let (value, count) = value_of(alloc, bytes)?;
     Ok((value, &bytes[count..]))

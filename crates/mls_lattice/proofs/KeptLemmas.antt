@@ -1,5 +1,5 @@
 -- What holds of every policy, since a document says it.
-use Rattle.std.proofs.Common.{◌≡◌, ◌≢◌, ℕ, zero, suc, ◌+◌, ◌<◌, ◌≤◌, ◌^◌, Bool, true, false, ◌||◌, ◌&&◌, nat_eq, List, [], ◌∷◌, ◌++◌, append_assoc, length, get_or, map, Option, None, Some, Ok, refl, sym, ap, subst, ◌∙◌, arith, bit_and, ◌==◌, cond, Err, not}
+use Rattle.std.proofs.Common.{◌≡◌, ◌≢◌, ℕ, zero, suc, ◌<◌, ◌^◌, Bool, true, false, nat_eq, List, [], ◌∷◌, ◌++◌, append_assoc, length, map, Option, None, Some, Ok, refl, sym, ap, subst, ◌∙◌, arith, cond, Err}
 use Rattle.std.specs.Prelude.{position}
 use Rattle.std.specs.Int.RustNames.{bit_or}
 use Rattle.std.specs.Option.{IfSome}
@@ -7,20 +7,19 @@ use Rattle.std.specs.List.{list_any, AllByRecursion, IsDistinct, fold}
 use Rattle.std.specs.Str.{bytes_eq}
 use Rattle.std.specs.Cmp.{IsEquivalence, nat_eq_equiv}
 use Rattle.std.specs.Cmp.Lexicographic.{nat_list_eq_equiv}
-use Rattle.std.proofs.lemmas.Bool.{or_parts, and_parts, and_from, eqb-false, leb-true, not-true}
+use Rattle.std.proofs.lemmas.Bool.{or_parts, and_parts, and_from}
 use Rattle.std.proofs.lemmas.Nat.{or_lt}
-use Rattle.std.proofs.lemmas.List.{append-nil, map_push, length-map}
+use Rattle.std.proofs.lemmas.List.{append-nil, map_push}
 use Rattle.std.proofs.lemmas.List.Quantifiers.{position-Some}
 use Rattle.std.proofs.lemmas.Map.Keys.{IsDistinct-push}
 use Rattle.toml.specs.Data.{Data, Items, no_items, item, Members}
-use Rattle.mls_lattice.specs.declared.fault.PolicyFault.{PolicyFault}
 use Rattle.mls_lattice.specs.declared.fault.PolicyFault.TheVariants.{UnknownName}
 use Rattle.mls_lattice.specs.declared.tables.User.{User}
 use Rattle.mls_lattice.specs.declared.tables.Right.{Right}
 use Rattle.mls_lattice.specs.Lattice.{Pair, same_pair}
-use Rattle.mls_lattice.specs.Labels.{Labels, label_of, AreDistinct, below}
+use Rattle.mls_lattice.specs.Labels.{label_of, AreDistinct, below}
 use Rattle.mls_lattice.specs.Name.{is_name}
-use Rattle.mls_lattice.specs.Policy.{Name, Named, Tables, labels_of, HasLevel, IsCleared, IsTrusted, HasUser, HasKnownModes, is_entry, same_entry, AreNames, IsPolicy}
+use Rattle.mls_lattice.specs.Policy.{Name, Named, Tables, labels_of, HasLevel, IsCleared, IsTrusted, HasUser, HasKnownModes, same_entry, AreNames, IsPolicy}
 use Rattle.mls_lattice.specs.Says.{Rows, SaysName, SaysLabel, SaysUser, SaysTrusted, SaysMode, SaysRight, Says}
 use Rattle.mls_lattice.specs.PolicyReading.{version_at, levels_at, categories_at, labels_at, users_at, matrix_at, policy_at}
 use Rattle.mls_lattice.proofs.ReadsPolicyLemmas.{says_found}
@@ -245,15 +244,3 @@ policy-read document v levels categories labels users matrix version l c b u m =
     let p : Tables = record { levels = levels; categories = categories; labels = labels; users = users; matrix = matrix } in
     let read : policy_at document ≡ Ok p = rw (version, l, c, b, u, m) refl in
     policy-kept document p (says_found document p read)
-
--- ---- names are short texts
-
-pub name-short : (name : Name) → is_name name ≡ true → (0 < length name) × (length name ≤ 32)
-unfolding is_name
-name-short name h =
-    let a = and_parts _ _ h in
-    let b = and_parts _ _ a.0 in
-    let c = and_parts _ _ b.0 in
-    let d = and_parts _ _ c.0 in
-    let some : length name ≡ 0 → ⊥ = eqb-false (length name) 0 (not-true _ d.0) in
-    (omega (arith, some), leb-true (length name) 32 d.1)

@@ -9,3 +9,4 @@ pub mod LatticeLemmas
 pub mod PolicyLemmas
 pub mod PolicyReadingLemmas
 pub mod KeptLemmas
+pub mod NameLemmas

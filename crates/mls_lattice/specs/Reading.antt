@@ -11,10 +11,13 @@ abbrev pub ◌>>=◌ : {A B E : Type 0} → Result A E → (A → Result B E) �
 (Ok x) >>= f = f x
 (Err e) >>= f = Err e
 
--- What a function returned, seen by view, is what reading gives, unless memory ran out.
+-- What a function returned, seen by view, is what reading gives, unless memory ran out, as one fault says.
+abbrev pub GivesUnless : {E X Y : Type 0} → E → (X → Y) → Result X E → Result Y E → Type 0
+GivesUnless memory view (Ok x) read = read ≡ Ok (view x)
+GivesUnless memory view (Err e) read = (e ≡ memory → ⊥) → read ≡ Err e
+
 abbrev pub Gives : {X Y : Type 0} → (X → Y) → Result X PolicyFault → Result Y PolicyFault → Type 0
-Gives view (Ok x) read = read ≡ Ok (view x)
-Gives view (Err e) read = (e ≡ Memory → ⊥) → read ≡ Err e
+Gives = GivesUnless Memory
 
 -- the value at a key
 abbrev pub wanted : List ℕ → Members → Result Data PolicyFault

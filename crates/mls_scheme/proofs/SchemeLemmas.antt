@@ -7,14 +7,14 @@ use Rattle.std.proofs.lemmas.List.{append-nil}
 use Rattle.std.proofs.lemmas.Bool.{eqb-true, ltb-true, eq-eqb, and_parts, and_from}
 use Rattle.toml.specs.Data.{Data, array, table, Items, no_items, Members, get_member, string}
 use Rattle.mls_lattice.specs.Labels.{below}
-use Rattle.mls_lattice.specs.Policy.{Name, Tables, labels_of}
+use Rattle.mls_lattice.specs.Policy.{Name, Tables, AreNames, labels_of}
 use Rattle.mls_lattice.specs.ReadsPolicy.{IsDocument}
 use Rattle.mls_lattice.specs.Reading.{◌>>=◌, table_at, items_len}
 use Rattle.mls_lattice.proofs.ReadingLemmas.{bind_ok, pass_ok}
 use Rattle.mls_scheme.specs.declared.fault.SchemeFault.{SchemeFault}
 use Rattle.mls_scheme.specs.declared.fault.SchemeFault.TheVariants.{NotToml, Memory, EmptyInterval, KeyIntervals}
 use Rattle.mls_scheme.specs.declared.attributes.Column.{Column}
-use Rattle.mls_scheme.specs.Scheme.{Attribute, Scheme, Schemes, attribute_named, column_of, no_attribute, first_key, HasInterval, IsScheme, AreSchemes, IsAmongLabels, AreUnder}
+use Rattle.mls_scheme.specs.Scheme.{Attribute, Scheme, Schemes, attribute_named, column_of, no_attribute, first_key, HasInterval, IsScheme, AreSchemes, IsAmongLabels, AreUnder, HaveIntervals}
 use Rattle.mls_scheme.specs.Reading.{Gives, lift, gather, name_field, text_field, kind_in, label_field, version_at, column_at, has_attribute, new_name, attribute_at, has_key_interval, key_at, other_at, key_items, other_items, has_relation, scheme_at, relation_items, schemes_at}
 use Rattle.mls_scheme.specs.Document.{tables_of, HoldsTables, kind_word, SaysAttribute, SaysRelation, Says, ReadsSchemes, SaysOnce}
 use Rattle.mls_scheme.proofs.GatherLemmas.{Each, Step, gather_found, gather_again, items_len-tables_of, Each-left, Each-right, Each-both, distinct_found, distinct_again}
@@ -149,6 +149,15 @@ record Parts (p : Tables) (fields : Members) (s : Scheme) : Type 0 where
   other_text : other_items fields ≡ Ok other_ds
   others : gather (other_at p s.keys) [] other_ds ≡ Ok s.others
 
+names_says : (p : Tables) (ts us : List Members) (keys others : List Attribute) → AllZip (SaysAttribute p) ts keys → AllZip (SaysAttribute p) us others → AreNames (map (λ (a : Attribute). a.name) (keys ++ others))
+names_says p [] [] [] [] h g = tt
+names_says p [] [] [] (a ∷ others) h g = absurd g
+names_says p [] (u ∷ us) [] [] h g = absurd g
+names_says p [] (u ∷ us) [] (a ∷ others) h g = (g.0.named, names_says p [] us [] others tt g.1)
+names_says p [] us (a ∷ keys) others h g = absurd h
+names_says p (t ∷ ts) us [] others h g = absurd h
+names_says p (t ∷ ts) us (a ∷ keys) others h g = (h.0.named, names_says p ts us keys others h.1 g)
+
 parts_says : (p : Tables) (fields : Members) (s : Scheme) → name_field (codes "name") fields ≡ Ok s.name → Parts p fields s → SaysRelation p fields s
 unfolding IsDistinct
 parts_says p fields s named r =
@@ -172,7 +181,6 @@ parts_says p fields s named r =
     let few_others = o.few in
     record {
       name = n.0;
-      named = n.1;
       key_tables = ks.tables;
       key = k.field_is ∙ ap (λ (x : Items). Some (array x)) ks.text;
       keys = keys;
@@ -180,6 +188,8 @@ parts_says p fields s named r =
       attribute = here (get_member (codes "attribute") fields) r.other_ds os.tables os.text o.field_is;
       others = others;
       valid = record {
+        named = n.1;
+        names = names_says p ks.tables os.tables s.keys s.others keys others;
         some_key = omega arith;
         few_keys = omega arith;
         few_others = omega arith;
@@ -236,7 +246,7 @@ scheme_step_again p before fields s r fresh =
     let others : gather (other_at p s.keys) [] (tables_of r.other_tables) ≡ Ok s.others =
     gather_again (other_at p s.keys) (SaysAttribute p) (IsNewAfter s.keys) (other_step_again p s.keys) [] r.other_tables s.others r.others (distinct_again (λ (a : Attribute). a.name) s.keys [] s.others whole) in
     rw (
-      name_again (codes "name") fields s.name r.name r.named,
+      name_again (codes "name") fields s.name r.name r.valid.named,
       fresh,
       key_again fields r.key_tables r.key (omega arith) (omega arith),
       keys,
@@ -285,8 +295,8 @@ relations_says p document ds schemes version text e =
       tables = g.tables;
       relation = r.field_is ∙ ap (λ (x : Items). Some (array x)) g.text;
       relations = relations;
-      some_relation = omega arith;
       valid = record {
+        some = omega arith;
         few = omega arith;
         each = each_valid p g.tables schemes relations;
         distinct = distinct_found (λ (s : Scheme). s.name) [] [] schemes tt (subst (Each IsNewRelation []) same g.follow);
@@ -304,7 +314,7 @@ pub says_again : (p : Tables) (document : Members) (schemes : Schemes) → Says 
 unfolding schemes_at
 says_again p document schemes s =
     let len : items_len (tables_of s.tables) ≡ length schemes = items_len-tables_of (SaysRelation p) s.tables schemes s.relations in
-    let some = s.some_relation in
+    let some = s.valid.some in
     let few = s.valid.few in
     rw (version_again document s.version, relation_again document s.tables s.relation (omega arith) (omega arith))
     (gather_again (scheme_at p) (SaysRelation p) IsNewRelation (scheme_step_again p) [] s.tables schemes s.relations (distinct_again (λ (x : Scheme). x.name) [] [] schemes s.valid.distinct))
@@ -335,6 +345,19 @@ all_under p (t ∷ ts) [] h = absurd h
 all_under p (t ∷ ts) (s ∷ schemes) h =
     (record { keys = all_among p h.0.key_tables s.keys h.0.keys; others = all_among p h.0.other_tables s.others h.0.others }, all_under p ts schemes h.1)
 
+all_intervals : (p : Tables) (ts : List Members) (attributes : List Attribute) → AllZip (SaysAttribute p) ts attributes → AllByRecursion (λ a. below (labels_of p) a.low a.high ≡ true) attributes
+all_intervals p [] [] h = tt
+all_intervals p [] (a ∷ attributes) h = absurd h
+all_intervals p (t ∷ ts) [] h = absurd h
+all_intervals p (t ∷ ts) (a ∷ attributes) h = (h.0.interval, all_intervals p ts attributes h.1)
+
+all_have_intervals : (p : Tables) (ts : List Members) (schemes : Schemes) → AllZip (SaysRelation p) ts schemes → HaveIntervals (labels_of p) schemes
+all_have_intervals p [] [] h = tt
+all_have_intervals p [] (s ∷ schemes) h = absurd h
+all_have_intervals p (t ∷ ts) [] h = absurd h
+all_have_intervals p (t ∷ ts) (s ∷ schemes) h =
+    (record { keys = all_intervals p h.0.key_tables s.keys h.0.keys; others = all_intervals p h.0.other_tables s.others h.0.others }, all_have_intervals p ts schemes h.1)
+
 -- ---- the clauses of the reader
 
 same_document : (bytes : List ℕ) (d e : Members) → IsDocument bytes d → IsDocument bytes e → d ≡ e
@@ -347,6 +370,10 @@ read_found p bytes document (Err e) is given = tt
 pub read_under : (p : Tables) (document : Members) (r : Result Schemes SchemeFault) → Gives (λ s. s) r (schemes_at p document) → IfOk r (AreUnder (length p.labels))
 read_under p document (Ok s) given = let says = says_found p document s given in all_under p says.tables s says.relations
 read_under p document (Err e) given = tt
+
+pub read_intervals : (p : Tables) (document : Members) (r : Result Schemes SchemeFault) → Gives (λ s. s) r (schemes_at p document) → IfOk r (HaveIntervals (labels_of p))
+read_intervals p document (Ok s) given = let says = says_found p document s given in all_have_intervals p says.tables s says.relations
+read_intervals p document (Err e) given = tt
 
 pub read_refused : (p : Tables) (bytes : List ℕ) (document : Members) (r : Result Schemes SchemeFault) → IsDocument bytes document → Gives (λ s. s) r (schemes_at p document)
     → IfErr r (λ e. e ≢ Memory → (s : Schemes) → ReadsSchemes p bytes s → ⊥)

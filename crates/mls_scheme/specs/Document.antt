@@ -1,5 +1,5 @@
 -- The schemes that a text says, with no word of how it is read.
-use Rattle.std.specs.Prelude.{◌≡◌, ◌⊎◌, ℕ, ◌<◌, true, pos, List, [], ◌∷◌, length, codes, Option, Some, None, position}
+use Rattle.std.specs.Prelude.{◌≡◌, ◌⊎◌, ℕ, true, pos, List, [], ◌∷◌, codes, Option, Some, None, position}
 use Rattle.std.specs.List.{AllZip}
 use Rattle.std.specs.Str.{bytes_eq}
 use Rattle.toml.specs.Data.{Data, Items, no_items, item, Members, get_member, string, integer, array, table}
@@ -41,7 +41,6 @@ pub record SaysAttribute (p : Tables) (fields : Members) (a : Attribute) : Type 
 
 pub record SaysRelation (p : Tables) (fields : Members) (s : Scheme) : Type 0 where
   pub name : get_member (codes "name") fields ≡ Some (string s.name)
-  pub named : is_name s.name ≡ true
   pub key_tables : List Members
   pub key : HoldsTables (get_member (codes "key") fields) key_tables
   pub keys : AllZip (SaysAttribute p) key_tables s.keys
@@ -56,7 +55,6 @@ pub record Says (p : Tables) (document : Members) (schemes : Schemes) : Type 0 w
   pub tables : List Members
   pub relation : HoldsTables (get_member (codes "relation") document) tables
   pub relations : AllZip (SaysRelation p) tables schemes
-  pub some_relation : 0 < length schemes
   pub valid : AreSchemes schemes
 
 -- the bytes are the text of schemes, under a policy

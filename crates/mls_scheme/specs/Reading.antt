@@ -1,5 +1,5 @@
 -- What the fields of schemes say, or the first fault.
-use Rattle.std.specs.Prelude.{◌≡◌, ℕ, pos, Bool, true, ◌&&◌, nat_eq, List, [], ◌∷◌, ◌++◌, codes, if◌then◌else◌, ◌==◌, Result, Ok, Err, ok_or, position}
+use Rattle.std.specs.Prelude.{ℕ, pos, Bool, true, ◌&&◌, nat_eq, List, [], ◌∷◌, ◌++◌, codes, if◌then◌else◌, ◌==◌, Result, Ok, Err, ok_or, position}
 use Rattle.std.specs.Ordering.{int_eq}
 use Rattle.std.specs.List.{list_any}
 use Rattle.std.specs.Str.{bytes_eq}
@@ -7,7 +7,7 @@ use Rattle.toml.specs.Data.{Data, Items, no_items, item, Members, get_member}
 use Rattle.mls_lattice.specs.declared.fault.PolicyFault.{PolicyFault}
 use Rattle.mls_lattice.specs.Labels.{below}
 use Rattle.mls_lattice.specs.Policy.{Name, Tables, Named, labels_of}
-use Rattle.mls_lattice.specs.Reading.{◌>>=◌, wanted, text_at, integer_at, table_at, name_at, tables_at, optional, items_len, at_most, some_of}
+use Rattle.mls_lattice.specs.Reading.{◌>>=◌, GivesUnless, wanted, text_at, integer_at, table_at, name_at, tables_at, optional, items_len, at_most, some_of}
 use Rattle.mls_scheme.specs.declared.fault.SchemeFault.{SchemeFault}
 use Rattle.mls_scheme.specs.declared.fault.SchemeFault.TheVariants.{WrongKind, Repeated, UnknownName, EmptyInterval, Memory, NoKey, KeyIntervals}
 use Rattle.mls_scheme.specs.declared.value.Kind.{Kind}
@@ -18,8 +18,7 @@ use Rattle.mls_scheme.specs.Scheme.{Attribute, Scheme, Schemes, column_of}
 
 -- What a function returned, seen by view, is what reading gives, unless memory ran out.
 abbrev pub Gives : {X Y : Type 0} → (X → Y) → Result X SchemeFault → Result Y SchemeFault → Type 0
-Gives view (Ok x) read = read ≡ Ok (view x)
-Gives view (Err e) read = (e ≡ Memory → ⊥) → read ≡ Err e
+Gives = GivesUnless Memory
 
 -- the same answer, with the fault of the same number
 abbrev pub lift : {X : Type 0} → Result X PolicyFault → Result X SchemeFault

@@ -1,8 +1,10 @@
 -- Multilevel schemes (Jajodia and Sandhu 1991): relations, their attributes and the intervals of these.
-use Rattle.std.specs.Prelude.{◌≡◌, ℕ, ◌<◌, ◌≤◌, List, [], ◌++◌, map, length, slice_index_or, String, string_bytes}
+use Rattle.std.specs.Prelude.{◌≡◌, true, ℕ, ◌<◌, ◌≤◌, List, [], ◌++◌, map, length, slice_index_or, String, string_bytes}
 use Rattle.std.specs.List.{AllByRecursion, IsDistinct}
 use Rattle.std.specs.Str.{bytes_eq}
-use Rattle.mls_lattice.specs.Policy.{Name}
+use Rattle.mls_lattice.specs.Labels.{Labels, below}
+use Rattle.mls_lattice.specs.Name.{is_name}
+use Rattle.mls_lattice.specs.Policy.{Name, AreNames}
 use Rattle.mls_scheme.specs.declared.value.Kind.{Kind}
 use Rattle.mls_scheme.specs.declared.value.Kind.TheVariants.{Int}
 use Rattle.mls_scheme.specs.declared.attributes.Column.{Column}
@@ -58,14 +60,18 @@ first_key scheme = slice_index_or scheme.keys 0 no_attribute
 abbrev pub HasInterval : Attribute → Attribute → Type 0
 HasInterval a b = (b.low ≡ a.low) × (b.high ≡ a.high)
 
+-- the names are NAMEs, and no attribute has that of another
 pub record IsScheme (scheme : Scheme) : Type 0 where
+  pub named : is_name scheme.name ≡ true
   pub some_key : 0 < length scheme.keys
   pub few_keys : length scheme.keys ≤ 4
   pub few_others : length scheme.others ≤ 15
+  pub names : AreNames (map (λ a. a.name) (scheme.keys ++ scheme.others))
   pub distinct : IsDistinct bytes_eq (map (λ a. a.name) (scheme.keys ++ scheme.others))
   pub one_interval : AllByRecursion (HasInterval (first_key scheme)) scheme.keys
 
 pub record AreSchemes (schemes : Schemes) : Type 0 where
+  pub some : 0 < length schemes
   pub few : length schemes ≤ 16
   pub each : AllByRecursion IsScheme schemes
   pub distinct : IsDistinct bytes_eq (map (λ s. s.name) schemes)
@@ -82,3 +88,11 @@ pub record IsUnder (count : ℕ) (scheme : Scheme) : Type 0 where
 -- schemes that speak of count labels
 abbrev pub AreUnder : ℕ → Schemes → Type 0
 AreUnder count = AllByRecursion (IsUnder count)
+
+-- no attribute has an empty interval
+pub record HasIntervals (ls : Labels) (scheme : Scheme) : Type 0 where
+  pub keys : AllByRecursion (λ a. below ls a.low a.high ≡ true) scheme.keys
+  pub others : AllByRecursion (λ a. below ls a.low a.high ≡ true) scheme.others
+
+abbrev pub HaveIntervals : Labels → Schemes → Type 0
+HaveIntervals ls = AllByRecursion (HasIntervals ls)

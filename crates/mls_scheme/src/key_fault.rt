@@ -5,17 +5,17 @@ ghost use Rattle.mls_scheme.specs.KeyWords.{key_word_of};
 use std::alloc::{AllocError, AllocFailed};
 use thiserror::Error;
 
-/// Why bytes are no key, or begin with no value: the first fault from left to right.
+/// Why bytes are no key, begin with no value, or are no entry of the audit list: the first fault from left to right.
 #[derive(Clone, Copy, PartialEq, Eq, Debug, Error)]
 pub enum KeyFault {
-    #[error("a value passes the end")]
+    #[error("a field passes the end")]
     Short,
     /// Also where a key's number of values is not 1 to 4.
     #[error("a tag is unknown")]
     BadTag,
     #[error("a text is no UTF-8")]
     BadText,
-    #[error("bytes follow the key")]
+    #[error("bytes follow the last field")]
     Trailing,
     #[error("out of memory")]
     Memory,

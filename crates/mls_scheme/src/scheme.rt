@@ -2,7 +2,8 @@ ghost use Rattle.std.specs.Prelude.{◌≡◌, ◌≢◌, ◌↔◌, ◌<◌, Li
 ghost use Rattle.std.specs.Str.{bytes_eq};
 ghost use Rattle.toml.specs.Data.{Members};
 ghost use Rattle.mls_lattice.specs.ReadsPolicy.{IsDocument};
-ghost use Rattle.mls_scheme.specs.Scheme.{Scheme as Relation, scheme_of, IsScheme, AreSchemes, AreUnder};
+ghost use Rattle.mls_scheme.specs.Scheme.{Scheme as Relation, scheme_of, IsScheme, AreSchemes, AreUnder, HaveIntervals};
+ghost use Rattle.mls_lattice.specs.Policy.{labels_of};
 ghost use Rattle.mls_scheme.specs.Reading.{schemes_at};
 ghost use Rattle.mls_scheme.specs.Document.{ReadsSchemes};
 ghost use Rattle.mls_scheme.specs.Canon.{canon_of};
@@ -132,6 +133,7 @@ impl Schemes {
         // What is read is what the bytes say.
         ensures found { IfOk result (ReadsSchemes policy.now bytes.now) }
         ensures under { IfOk result (AreUnder (length policy.now.labels)) }
+        ensures intervals { IfOk result (HaveIntervals (labels_of policy.now)) }
         // Unless memory runs out, nothing that says schemes is refused, and the fault is the first of the document.
         ensures refused { IfErr result (λ e. e ≢ SchemeFault.Memory → (s : List Relation) → ReadsSchemes policy.now bytes.now s → ⊥) }
         ensures first { IfErr result

@@ -1,5 +1,6 @@
 use Rattle.std.proofs.Common.{ap, subst, ◌∙◌, arith}
-use Rattle.mls_audit.specs.Reading.{Gives, entry_at}
+use Rattle.mls_scheme.specs.KeyReading.{Gives}
+use Rattle.mls_audit.specs.Reading.{entry_at}
 use Rattle.mls_audit.proofs.EntryLemmas.{is_found, entry_again}
 use Rattle.mls_audit.proofs.reading.entry_of.Goals as goal
 

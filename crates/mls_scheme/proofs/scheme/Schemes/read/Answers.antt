@@ -1,4 +1,4 @@
-use Rattle.mls_scheme.proofs.SchemeLemmas.{read_found, read_under, read_refused, read_first, read_not_toml}
+use Rattle.mls_scheme.proofs.SchemeLemmas.{read_found, read_under, read_intervals, read_refused, read_first, read_not_toml}
 use Rattle.mls_scheme.proofs.scheme.Schemes.read.Goals as goal
 
 pub returns-in-Ok-clause-found : goal.returns-in-Ok-clause-found
@@ -6,6 +6,9 @@ returns-in-Ok-clause-found c = read_found c.args.policy.now c.args.bytes.now _ c
 
 pub returns-in-Ok-clause-under : goal.returns-in-Ok-clause-under
 returns-in-Ok-clause-under c = read_under c.args.policy.now _ c.schemes_of.result c.schemes_of.ensures.reads
+
+pub returns-in-Ok-clause-intervals : goal.returns-in-Ok-clause-intervals
+returns-in-Ok-clause-intervals c = read_intervals c.args.policy.now _ c.schemes_of.result c.schemes_of.ensures.reads
 
 pub returns-in-Ok-clause-refused : goal.returns-in-Ok-clause-refused
 returns-in-Ok-clause-refused c = read_refused c.args.policy.now c.args.bytes.now _ c.schemes_of.result c.in-Ok.ensures.ok c.schemes_of.ensures.reads

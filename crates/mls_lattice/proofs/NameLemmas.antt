@@ -1,0 +1,46 @@
+-- A NAME is a short text of ASCII.
+use Rattle.std.proofs.Common.{◌≡◌, ℕ, zero, suc, ◌<◌, ◌≤◌, true, List, [], ◌∷◌, length, arith}
+use Rattle.std.specs.Prelude.{IsUtf8}
+use Rattle.std.specs.Str.{IsAscii}
+use Rattle.std.specs.List.{list_all}
+use Rattle.std.proofs.lemmas.Bool.{and_parts, eqb-false, leb-true, not-true}
+use Rattle.std.proofs.lemmas.Bool.Decides.{nat_tests}
+use Rattle.std.proofs.lemmas.Str.{IsUtf8-from_ascii}
+use Rattle.mls_lattice.specs.Name.{is_name, is_name_byte}
+use Rattle.mls_lattice.specs.Policy.{Name}
+
+record HasForm (name : Name) : Type 0 where
+  some : 0 < length name
+  few : length name ≤ 32
+  bytes : list_all is_name_byte name ≡ true
+
+form : (name : Name) → is_name name ≡ true → HasForm name
+unfolding is_name
+form name h =
+    let a = and_parts _ _ h in
+    let b = and_parts _ _ a.0 in
+    let c = and_parts _ _ b.0 in
+    let d = and_parts _ _ c.0 in
+    let some : length name ≡ 0 → ⊥ = eqb-false (length name) 0 (not-true _ d.0) in
+    record { some = omega (arith, some); few = leb-true (length name) 32 d.1; bytes = b.1 }
+
+pub name-some : (name : Name) → is_name name ≡ true → 0 < length name
+name-some name h = (form name h).some
+
+pub name-few : (name : Name) → is_name name ≡ true → length name ≤ 32
+name-few name h = (form name h).few
+
+-- its length stands in a byte
+pub name-short : (name : Name) → is_name name ≡ true → length name < 256
+name-short name h = let few = (form name h).few in omega (arith, few)
+
+byte-ascii : (b : ℕ) → is_name_byte b ≡ true → b < 128
+byte-ascii b h = grind (arith, nat_tests)
+
+bytes-ascii : (bytes : List ℕ) → list_all is_name_byte bytes ≡ true → IsAscii bytes
+bytes-ascii [] h i = omega arith
+bytes-ascii (b ∷ bytes) h zero = byte-ascii b (and_parts _ _ h).0
+bytes-ascii (b ∷ bytes) h (suc i) = bytes-ascii bytes (and_parts _ _ h).1 i
+
+pub name-utf8 : (name : Name) → is_name name ≡ true → IsUtf8 name
+name-utf8 name h = IsUtf8-from_ascii name (bytes-ascii name (form name h).bytes)

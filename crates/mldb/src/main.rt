@@ -1,19 +1,10 @@
 //! mldb: a relational database whose elements have security levels.
 #![tactic(auto)]
 
-mod act;
-#[cfg(test)]
-mod denial_tests;
-mod host;
-mod refusal;
-mod samples;
-#[cfg(test)]
-mod tests;
-#[cfg(test)]
-mod update_tests;
-mod words;
+mod machine;
 
-use crate::refusal::Refusal;
+use crate::machine::Machine;
+use mls_command::{Refusal, act};
 use std::io::ErrorKind;
 use std::process::ExitCode;
 
@@ -29,9 +20,9 @@ fn words_of(rt: &HostRuntime) -> Result<Vec<String>, Refusal> {
 fn run(rt: &HostRuntime) -> Result<u8, Refusal> {
     let words = words_of(rt)?;
     let words: Vec<&str> = words.iter().map(|word| word.as_str()).collect(rt.alloc())?;
-    let mut host = host::Machine::new(rt);
+    let mut host = Machine::new(rt);
     let (mut out, mut err) = (rt.stdout(), rt.stderr());
-    Ok(act::act(rt.alloc(), &words, &mut host, &mut out, &mut err))
+    Ok(act(rt.alloc(), &words, &mut host, &mut out, &mut err))
 }
 
 fn main(rt: HostRuntime) -> ExitCode {

@@ -60,6 +60,3 @@ pub fn reading_is_exact()
 pub fn a_document_says_one_policy()
     ensures { SaysOne }
 {}
-
-#[cfg(test)]
-mod tests;

@@ -17,8 +17,6 @@ mod number;
 mod place;
 mod reading;
 mod scheme;
-#[cfg(test)]
-mod tests;
 mod tuple;
 mod value;
 
@@ -48,8 +46,3 @@ pub fn spellings_are_unambiguous()
 pub fn texts_say_schemes_once()
     ensures { SaysOnce }
 {}
-
-#[cfg(test)]
-mod key_tests;
-#[cfg(test)]
-mod tuple_tests;

@@ -1,0 +1,34 @@
+//! What a command asks of the machine that it runs on.
+use std::alloc::Global;
+use std::io::{ErrorKind, Read};
+
+/// The most bytes that a file or the standard input may have.
+pub const MOST_BYTES: usize = 1_048_576;
+
+/// Why an input is not read.
+#[derive(Clone, Copy, PartialEq, Eq, Debug)]
+pub enum HostFault {
+    Unreadable,
+    TooLong,
+    Memory,
+}
+
+/// Where inputs come from.
+pub trait Host {
+    /// The bytes of a file, which a path names.
+    fn file(&mut self, alloc: Global, path: &str) -> Result<Vec<u8>, HostFault>;
+
+    /// The bytes of the standard input.
+    fn input(&mut self, alloc: Global) -> Result<Vec<u8>, HostFault>;
+}
+
+/// All bytes of a reader, where they are at most `MOST_BYTES`.
+pub fn read_whole<R: Read + Drop>(alloc: Global, reader: R) -> Result<Vec<u8>, HostFault> {
+    let mut bytes = Vec::new(alloc);
+    match reader.take(MOST_BYTES as u64 + 1).read_to_end(&mut bytes) {
+        Ok(_) if bytes.len() > MOST_BYTES => Err(HostFault::TooLong),
+        Ok(_) => Ok(bytes),
+        Err(e) if e.kind() == ErrorKind::OutOfMemory => Err(HostFault::Memory),
+        Err(_) => Err(HostFault::Unreadable),
+    }
+}

@@ -1,0 +1,12 @@
+//! The command line of mldb: what the program does with its words, on any machine that gives it files.
+#![tactic(auto)]
+
+mod acting;
+mod host;
+mod refusal;
+mod samples;
+mod words;
+
+pub use crate::acting::act;
+pub use crate::host::{Host, HostFault, MOST_BYTES, read_whole};
+pub use crate::refusal::{Refusal, Role};

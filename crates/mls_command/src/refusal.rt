@@ -1,0 +1,133 @@
+//! Why a command ends without success, and how that is told.
+use crate::host::HostFault;
+use mls_lattice::PolicyFault;
+use mls_scheme::SchemeFault;
+use mls_script::{ScriptCause, ScriptFault};
+use mls_sessions::{RunCause, RunFault};
+use std::alloc::AllocError;
+use std::io::{self, Write};
+
+/// What an input is to the program.
+#[derive(Clone, Copy, PartialEq, Eq, Debug)]
+pub enum Role {
+    Policy,
+    Schemes,
+    Script,
+}
+
+impl Role {
+    fn word(self) -> &'static str {
+        match self {
+            Role::Policy => "policy",
+            Role::Schemes => "schemes",
+            Role::Script => "script",
+        }
+    }
+}
+
+/// Why a command ends without success.
+#[derive(Drop, Debug)]
+pub enum Refusal {
+    /// The command line is bad, or asks for help: the text that is printed.
+    Usage(String),
+    Unreadable(Role),
+    TooLong(Role),
+    Policy(PolicyFault),
+    Schemes(SchemeFault),
+    Script(ScriptFault),
+    Run(RunFault),
+    /// What a command other than a run prints was not taken.
+    Output,
+    Memory,
+}
+
+impl Refusal {
+    /// The refusal of an input that the host did not give.
+    pub fn of_input(role: Role, fault: HostFault) -> Refusal {
+        match (fault, role) {
+            (HostFault::Unreadable, _) => Refusal::Unreadable(role),
+            (HostFault::TooLong, _) => Refusal::TooLong(role),
+            (HostFault::Memory, Role::Policy) => Refusal::Policy(PolicyFault::Memory),
+            (HostFault::Memory, Role::Schemes) => Refusal::Schemes(SchemeFault::Memory),
+            (HostFault::Memory, Role::Script) => Refusal::Script(ScriptFault {
+                line: 1,
+                column: 1,
+                cause: ScriptCause::Memory,
+            }),
+        }
+    }
+
+    /// The exit status: 2 where an input or the command line was refused, 3 for store, writing and memory.
+    pub fn status(&self) -> u8 {
+        match self {
+            Refusal::Policy(PolicyFault::Memory)
+            | Refusal::Schemes(SchemeFault::Memory)
+            | Refusal::Run(_)
+            | Refusal::Output
+            | Refusal::Memory => 3,
+            Refusal::Script(fault) if fault.cause == ScriptCause::Memory => 3,
+            _ => 2,
+        }
+    }
+
+    /// Writes the line that tells the refusal.
+    pub fn tell<W: Write>(&self, err: &mut W) -> io::Result<()> {
+        match self {
+            Refusal::Usage(text) => write!(err, "{text}"),
+            Refusal::Unreadable(role) => writeln!(err, "mldb: {}: unreadable", role.word()),
+            Refusal::TooLong(role) => writeln!(err, "mldb: {}: too long", role.word()),
+            Refusal::Policy(fault) => {
+                writeln!(err, "mldb: policy: {} {}", fault.code(), fault.word())
+            }
+            Refusal::Schemes(fault) => {
+                writeln!(err, "mldb: schemes: {} {}", fault.code(), fault.word())
+            }
+            Refusal::Script(fault) => {
+                let cause = fault.cause;
+                writeln!(
+                    err,
+                    "mldb: script: {} {} at {}:{}",
+                    cause.code(),
+                    cause.word(),
+                    fault.line,
+                    fault.column
+                )
+            }
+            Refusal::Run(fault) => {
+                writeln!(err, "mldb: run: {} at {}", fault.cause.word(), fault.event)
+            }
+            Refusal::Output => writeln!(err, "mldb: output: Write"),
+            Refusal::Memory => writeln!(err, "mldb: memory"),
+        }
+    }
+}
+
+impl From<AllocError> for Refusal {
+    fn from(_error: AllocError) -> Refusal {
+        Refusal::Memory
+    }
+}
+
+impl From<PolicyFault> for Refusal {
+    fn from(fault: PolicyFault) -> Refusal {
+        Refusal::Policy(fault)
+    }
+}
+
+impl From<SchemeFault> for Refusal {
+    fn from(fault: SchemeFault) -> Refusal {
+        Refusal::Schemes(fault)
+    }
+}
+
+impl From<ScriptFault> for Refusal {
+    fn from(fault: ScriptFault) -> Refusal {
+        Refusal::Script(fault)
+    }
+}
+
+impl From<RunFault> for Refusal {
+    fn from(fault: RunFault) -> Refusal {
+        Refusal::Run(fault)
+    }
+}

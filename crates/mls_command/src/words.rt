@@ -1,0 +1,124 @@
+//! The command line.
+use crate::refusal::Refusal;
+use clap::error::ErrorKind;
+use clap::{Arg, ArgMatches, Command, Error};
+use std::alloc::{AllocError, Global};
+
+const ABOUT: &str = "A relational database whose elements have security levels, proved";
+
+const EXAMPLE: &str = "\
+Without any words mldb runs the script on standard input under a sample policy and schemes.
+
+Example:
+  mldb run samples/policy.toml samples/schemes.toml samples/first.script
+";
+
+/// What the words ask for.
+#[derive(Clone, Copy, Debug)]
+pub enum Job<'a> {
+    /// The script on standard input, under the sample policy and schemes.
+    Samples,
+    /// A script, under a policy and schemes, each named by a path.
+    Run {
+        policy: &'a str,
+        schemes: &'a str,
+        script: &'a str,
+    },
+    /// The canonical texts of a policy and schemes, each named by a path.
+    ShowPolicy {
+        policy: &'a str,
+        schemes: &'a str,
+    },
+}
+
+fn policy_argument<'a>(alloc: Global) -> Arg<'a> {
+    Arg::new(alloc, "POLICY")
+        .required(true)
+        .help("The policy: levels, labels, users and rights (TOML)")
+}
+
+fn schemes_argument<'a>(alloc: Global) -> Arg<'a> {
+    Arg::new(alloc, "SCHEMES")
+        .required(true)
+        .help("The relations (TOML)")
+}
+
+fn show_policy_command<'a>(alloc: Global) -> Result<Command<'a>, AllocError> {
+    Command::new(alloc, "show-policy")
+        .about("Prints the canonical texts of a policy and its schemes")
+        .arg(policy_argument(alloc))?
+        .arg(schemes_argument(alloc))
+}
+
+fn run_command<'a>(alloc: Global) -> Result<Command<'a>, AllocError> {
+    let script = Arg::new(alloc, "SCRIPT")
+        .required(true)
+        .help("The commands of the sessions, one a line");
+    Command::new(alloc, "run")
+        .about("Runs a script, and prints a line for each reply")
+        .arg(policy_argument(alloc))?
+        .arg(schemes_argument(alloc))?
+        .arg(script)
+}
+
+fn command<'a>(alloc: Global) -> Result<Command<'a>, AllocError> {
+    Command::new(alloc, "mldb")
+        .about(ABOUT)
+        .after_help(EXAMPLE)
+        .subcommand_required(true)
+        .subcommand(run_command(alloc)?)?
+        .subcommand(show_policy_command(alloc)?)
+}
+
+fn usage(alloc: Global, error: &Error) -> Refusal {
+    if error.kind() == ErrorKind::OutOfMemory {
+        return Refusal::Memory;
+    }
+    match format!(in alloc; "{error}") {
+        Ok(text) => Refusal::Usage(text),
+        Err(_) => Refusal::Memory,
+    }
+}
+
+/// The refusal of words that name no command with its paths, all of which the parser has refused before.
+fn no_command(alloc: Global) -> Refusal {
+    match String::from_str(
+        alloc,
+        "mldb: run POLICY SCHEMES SCRIPT | show-policy POLICY SCHEMES\n",
+    ) {
+        Ok(text) => Refusal::Usage(text),
+        Err(_) => Refusal::Memory,
+    }
+}
+
+fn run_job<'a>(run: &ArgMatches<'a>) -> Option<Job<'a>> {
+    Some(Job::Run {
+        policy: run.get_str("POLICY")?,
+        schemes: run.get_str("SCHEMES")?,
+        script: run.get_str("SCRIPT")?,
+    })
+}
+
+fn show_policy_job<'a>(show: &ArgMatches<'a>) -> Option<Job<'a>> {
+    Some(Job::ShowPolicy {
+        policy: show.get_str("POLICY")?,
+        schemes: show.get_str("SCHEMES")?,
+    })
+}
+
+/// What the words ask for; the first of them is the name that the program was called by.
+pub fn job_of<'a>(alloc: Global, words: &'a [&'a str]) -> Result<Job<'a>, Refusal> {
+    if words.len() < 2 {
+        return Ok(Job::Samples);
+    }
+    let matches = match command(alloc)?.try_get_matches_from(words) {
+        Ok(matches) => matches,
+        Err(error) => return Err(usage(alloc, &error)),
+    };
+    let job = match matches.subcommand() {
+        Some(("run", run)) => run_job(run),
+        Some(("show-policy", show)) => show_policy_job(show),
+        _ => None,
+    };
+    job.ok_or(no_command(alloc))
+}

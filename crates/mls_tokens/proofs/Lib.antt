@@ -1,0 +1,9 @@
+pub mod RunLemmas
+pub mod IntLemmas
+pub mod TextLemmas
+pub mod SignLemmas
+pub mod GapLemmas
+pub mod TokenLemmas
+pub mod AgainLemmas
+pub mod TokensLemmas
+pub mod PassingSteps

@@ -1,0 +1,273 @@
+-- What is scanned is what the relation says.
+use Rattle.std.proofs.Common.{◌≡◌, ℕ, zero, suc, ◌<◌, ◌≤◌, ◌^◌, Bor, ℤ, pos, neg_ℤ, Bool, true, false, ◌==◌, nat_lt, nat_le, cond, List, [], ◌∷◌, ◌++◌, length, slice_index, take, drop, Option, Some, None, Result, Ok, Err, ◌⊎◌, inl, inr, refl, sym, ap, ◌∙◌, subst, arith, one-add, append_assoc}
+use Rattle.std.specs.Prelude.{FitsSigned, IfOk, IsUtf8}
+use Rattle.std.specs.Int.{w64}
+use Rattle.std.specs.List.{prefix_len, AllByRecursion, flat_map}
+use Rattle.std.specs.Char.{is_ascii_alphabetic, is_ascii_digit}
+use Rattle.std.specs.Str.{all_ascii_digits, is_utf8}
+use Rattle.std.specs.Str.Parse.{digits_value}
+use Rattle.std.proofs.lemmas.Str.{IsUtf8-from_is_utf8}
+use Rattle.std.proofs.lemmas.Bool.{cases_Bool, ltb-false, leb-true, ltb-true, eqb-true}
+use Rattle.std.proofs.lemmas.Bool.Decides.{nat_tests}
+use Rattle.std.proofs.lemmas.List.{take-append-drop, length-append, length-take, append-nil}
+use Rattle.mls_lattice.specs.Name.{is_name_byte}
+use Rattle.mls_lattice.specs.Reading.{◌>>=◌}
+use Rattle.mls_tokens.specs.declared.fault.TokenCause.{TokenCause}
+use Rattle.mls_tokens.specs.declared.fault.TokenCause.TheVariants.{Token as BadToken, TooLong}
+use Rattle.mls_tokens.specs.declared.token.Token.{Token}
+use Rattle.mls_tokens.specs.declared.token.Token.TheVariants.{Word, Int, Text, Sign as Sign_token}
+use Rattle.mls_tokens.specs.declared.sign.Sign.{Sign}
+use Rattle.mls_tokens.specs.Sign.{sign_text, sign_at}
+use Rattle.mls_tokens.specs.Writing.{is_control, is_escaped, quoted_byte, quoted}
+use Rattle.mls_tokens.specs.Text.{IsWord, IsInt, Spells, goes_on}
+use Rattle.mls_tokens.specs.Scanning.{Gives, Found, found, IsIntText, word_at, int_in, int_len, int_at, starts_int, text_at, utf8_of, quoted_at, sign_found, token_at}
+use Rattle.mls_tokens.proofs.RunLemmas.{run_all, run_stops}
+use Rattle.mls_tokens.proofs.IntLemmas.{int_text}
+use Rattle.mls_tokens.proofs.SignLemmas.{sign_parts, sign_ends, sign_some}
+
+-- ---- steps
+
+bind_ok : {A B : Type 0} (r : Result A TokenCause) (f : A → Result B TokenCause) (y : B) → (r >>= f) ≡ Ok y → (x : A) × (r ≡ Ok x) × (f x ≡ Ok y)
+bind_ok (Ok x) f y e = (x, refl, e)
+bind_ok (Err d) f y e = absurd cc
+
+-- which way a test went
+chosen : {X : Type 0} (b : Bool) (x y z : X) → cond b x y ≡ z → ((b ≡ true) × (x ≡ z)) ⊎ ((b ≡ false) × (y ≡ z))
+chosen true x y z e = inl (refl, e)
+chosen false x y z e = inr (refl, e)
+
+abbrev done : {A : Type 0} → A → Result A TokenCause
+done x = Ok x
+
+ok_is : {A : Type 0} (x y : A) → done x ≡ done y → x ≡ y
+ok_is x y e = cc
+
+-- a test that had to be passed
+passed : {A : Type 0} (b : Bool) (r : Result A TokenCause) (e : TokenCause) (x : A) → cond b (Err e) r ≡ Ok x → (b ≡ false) × (r ≡ Ok x)
+passed true r e x h = absurd cc
+passed false r e x h = (refl, h)
+
+met : {A : Type 0} (b : Bool) (r : Result A TokenCause) (e : TokenCause) (x : A) → cond b r (Err e) ≡ Ok x → (b ≡ true) × (r ≡ Ok x)
+met true r e x h = (refl, h)
+met false r e x h = absurd cc
+
+-- ---- the token at the front of bytes
+
+pub record First (bytes : List ℕ) (t : Token) (rest : List ℕ) : Type 0 where
+  pub text : List ℕ
+  pub parts : bytes ≡ text ++ rest
+  pub spells : Spells t text
+  pub ends : goes_on t (slice_index rest 0) ≡ false
+
+letter_is_name : (b : ℕ) → is_ascii_alphabetic b ≡ true → is_name_byte b ≡ true
+letter_is_name b h = grind (arith, nat_tests)
+
+first_of_run : (bs : List ℕ) → is_ascii_alphabetic (slice_index bs 0) ≡ true → is_ascii_alphabetic (slice_index (take (prefix_len is_name_byte bs) bs) 0) ≡ true
+first_of_run [] h = h
+first_of_run (b ∷ bs) h = rw (letter_is_name b h, one-add (prefix_len is_name_byte bs)) h
+
+word_found : (bs s rest : List ℕ) → is_ascii_alphabetic (slice_index bs 0) ≡ true → word_at bs ≡ Ok (s, rest) → First bs (Word s) rest
+unfolding word_at
+word_found bs s rest letter e =
+    let short = passed (nat_lt 32 (prefix_len is_name_byte bs)) _ _ (s, rest) e in
+    let n = prefix_len is_name_byte bs in
+    let few : n ≤ 32 = ltb-false _ _ short.0 in
+    let len : length (take n bs) ≤ 32 = omega (arith, length-take n bs) in
+    let pair : (take n bs, drop n bs) ≡ (s, rest) = ok_is _ _ short.1 in
+    subst (λ (p : List ℕ × List ℕ). First bs (Word p.0) p.1) pair (record {
+      text = take n bs;
+      parts = sym (take-append-drop n bs);
+      spells = (refl, record { letter = first_of_run bs letter; bytes = run_all is_name_byte bs; short = len });
+      ends = run_stops is_name_byte refl bs;
+    })
+
+-- ---- numbers
+
+fits_pos : (n : ℕ) → n < 2 ^ 63 → FitsSigned w64 (pos n)
+fits_pos n h = record { sfits = h }
+
+fits_neg : (n : ℕ) → n ≤ 2 ^ 63 → FitsSigned w64 (neg_ℤ (pos n))
+fits_neg zero h = record { sfits = omega arith }
+fits_neg (suc n) h = record { sfits = omega arith }
+
+minus_front : (text : List ℕ) → slice_index text 0 ≡ 45 → text ≡ 45 ∷ drop 1 text
+minus_front [] h = absurd (omega arith)
+minus_front (b ∷ bs) h = ap (λ (x : ℕ). x ∷ bs) h
+
+int_in_found : (text : List ℕ) (z : ℤ) → IsIntText text → int_in text ≡ Ok z → IsInt text z
+unfolding int_in
+int_in_found text z is e =
+    elim (cases_Bool (slice_index text 0 == 45)) [
+      | inl minus ↦
+          let digits : all_ascii_digits (drop 1 text) ≡ true = rw minus at is.digits in
+          let some : 0 < length (drop 1 text) = rw minus at is.some in
+          let n = digits_value 10 (drop 1 text) in
+          let fits = met (nat_le n (2 ^ 63)) (Ok (neg_ℤ (pos n))) BadToken z (rw minus at e) in
+          let same : neg_ℤ (pos n) ≡ z = ok_is _ _ fits.1 in
+          (rw (← same) (fits_neg n (leb-true _ _ fits.0)), inr (drop 1 text, minus_front text (eqb-true _ 45 minus), record { some = some; digits = digits }, sym same))
+      | inr plain ↦
+          let digits : all_ascii_digits text ≡ true = rw plain at is.digits in
+          let some : 0 < length text = rw plain at is.some in
+          let n = digits_value 10 text in
+          let fits = met (nat_lt n (2 ^ 63)) (Ok (pos n)) BadToken z (rw plain at e) in
+          let same : pos n ≡ z = ok_is _ _ fits.1 in
+          (rw (← same) (fits_pos n (ltb-true _ _ fits.0)), inl (record { some = some; digits = digits }, sym same))
+    ]
+
+int_stops : (bs : List ℕ) → is_ascii_digit (slice_index (drop (int_len bs) bs) 0) ≡ false
+unfolding int_len
+int_stops [] = refl
+int_stops (b ∷ bs) =
+    elim (cases_Bool (b == 45)) [
+      | inl minus ↦ rw (minus, one-add (prefix_len is_ascii_digit bs)) (run_stops is_ascii_digit refl bs)
+      | inr plain ↦ rw plain (run_stops is_ascii_digit refl (b ∷ bs))
+    ]
+
+int_found : (bs : List ℕ) (z : ℤ) (rest : List ℕ) → starts_int bs ≡ true → int_at bs ≡ Ok (z, rest) → First bs (Int z) rest
+unfolding int_at
+int_found bs z rest starts e =
+    let n = int_len bs in
+    let b = bind_ok (int_in (take n bs)) (λ z. Ok (z, drop n bs)) (z, rest) e in
+    let pair : (b.0, drop n bs) ≡ (z, rest) = ok_is _ _ b.2 in
+    subst (λ (p : ℤ × List ℕ). First bs (Int p.0) p.1) pair (record {
+      text = take n bs;
+      parts = sym (take-append-drop n bs);
+      spells = int_in_found (take n bs) b.0 (int_text bs starts) b.1;
+      ends = int_stops bs;
+    })
+
+-- ---- texts
+
+-- a text, read after others: these others, its own bytes, and what follows its quote
+record Unquoted (bytes : List ℕ) (front s rest : List ℕ) : Type 0 where
+  own : List ℕ
+  whole : s ≡ front ++ own
+  parts : bytes ≡ flat_map quoted_byte own ++ 34 ∷ rest
+  no_control : AllByRecursion (λ b. is_control b ≡ false) own
+
+unquoted_end : (bs front s rest : List ℕ) (b : ℕ) → (b == 34) ≡ true → front ≡ s → bs ≡ rest → Unquoted (b ∷ bs) front s rest
+unquoted_end bs front s rest b quote same after = record {
+  own = [];
+  whole = sym same ∙ sym (append-nil front);
+  parts = λ i. eqb-true b 34 quote i ∷ after i;
+  no_control = tt;
+}
+
+unquoted_more : (bytes bs front s rest : List ℕ) (b : ℕ) → bytes ≡ quoted_byte b ++ bs → is_control b ≡ false → Unquoted bs (front ++ b ∷ []) s rest → Unquoted bytes front s rest
+unquoted_more bytes bs front s rest b is plain u = record {
+  own = b ∷ u.own;
+  whole = u.whole ∙ append_assoc front (b ∷ []) u.own;
+  parts = is ∙ ap (λ (x : List ℕ). quoted_byte b ++ x) u.parts ∙ sym (append_assoc (quoted_byte b) (flat_map quoted_byte u.own) (34 ∷ rest));
+  no_control = (plain, u.no_control);
+}
+
+escaped_plain : (b : ℕ) → is_escaped b ≡ true → is_control b ≡ false
+escaped_plain b h = grind (arith, nat_tests)
+
+plain_byte : (b : ℕ) → (b == 34) ≡ false → (b == 92) ≡ false → is_control b ≡ false → quoted_byte b ≡ b ∷ []
+plain_byte b p q r = rw (p, q, r) refl
+
+-- what is left to read, with the backslash that was read last
+abbrev left : Bool → List ℕ → List ℕ
+left true bs = 92 ∷ bs
+left false bs = bs
+
+text_found : (escaped : Bool) (bs front s rest : List ℕ) → text_at escaped front bs ≡ Ok (s, rest) → Unquoted (left escaped bs) front s rest
+text_found escaped [] front s rest e = absurd cc
+text_found true (b ∷ bs) front s rest e =
+    let h = met (is_escaped b) (text_at false (front ++ b ∷ []) bs) BadToken (s, rest) e in
+    unquoted_more (92 ∷ b ∷ bs) bs front s rest b (rw h.0 refl) (escaped_plain b h.0) (text_found false bs (front ++ b ∷ []) s rest h.1)
+text_found false (b ∷ bs) front s rest e =
+    elim (chosen (b == 34) _ _ _ e) [
+      | inl quote ↦
+          let pair : (front, bs) ≡ (s, rest) = ok_is _ _ quote.1 in
+          unquoted_end bs front s rest b quote.0 (λ i. (pair i).0) (λ i. (pair i).1)
+      | inr more ↦ elim (chosen (b == 92) _ _ _ more.1) [
+        | inl slash ↦ subst (λ (x : ℕ). Unquoted (x ∷ bs) front s rest) (sym (eqb-true b 92 slash.0)) (text_found true bs front s rest slash.1)
+        | inr plain ↦
+            let h = passed (is_control b) (text_at false (front ++ b ∷ []) bs) BadToken (s, rest) plain.1 in
+            unquoted_more (b ∷ bs) bs front s rest b (ap (λ (x : List ℕ). x ++ bs) (sym (plain_byte b more.0 plain.0 h.0))) h.0 (text_found false bs (front ++ b ∷ []) s rest h.1)
+      ]
+    ]
+
+first_text : (bs s rest : List ℕ) → Unquoted bs [] s rest → IsUtf8 s → length s ≤ 1024 → First (34 ∷ bs) (Text s) rest
+first_text bs s rest q utf8 few = record {
+  text = quoted s;
+  parts = ap (λ (x : List ℕ). 34 ∷ x) (q.parts ∙ ap (λ (x : List ℕ). flat_map quoted_byte x ++ 34 ∷ rest) (sym q.whole) ∙ sym (append_assoc (flat_map quoted_byte s) (34 ∷ []) rest));
+  spells = (refl, record { utf8 = utf8; no_control = subst (λ (x : List ℕ). AllByRecursion (λ b. is_control b ≡ false) x) (sym q.whole) q.no_control; short = few });
+  ends = refl;
+}
+
+quoted_found : (bs s rest : List ℕ) → quoted_at bs ≡ Ok (s, rest) → First (34 ∷ bs) (Text s) rest
+unfolding quoted_at utf8_of
+quoted_found bs s rest e =
+    let read = bind_ok (text_at false [] bs) (λ x. utf8_of x.0 >>= λ text. cond (nat_lt 1024 (length text)) (Err TooLong) (Ok (text, x.1))) (s, rest) e in
+    let text = bind_ok (utf8_of read.0.0) (λ text. cond (nat_lt 1024 (length text)) (Err TooLong) (Ok (text, read.0.1))) (s, rest) read.2 in
+    let utf8 = met (is_utf8 read.0.0) (Ok read.0.0) BadToken text.0 text.1 in
+    let short = passed (nat_lt 1024 (length text.0)) (Ok (text.0, read.0.1)) TooLong (s, rest) text.2 in
+    let few : length text.0 ≤ 1024 = ltb-false _ _ short.0 in
+    let same : read.0.0 ≡ text.0 = ok_is _ _ utf8.1 in
+    let pair : (text.0, read.0.1) ≡ (s, rest) = ok_is _ _ short.1 in
+    let is_text : IsUtf8 text.0 = subst (λ (x : List ℕ). IsUtf8 x) same (IsUtf8-from_is_utf8 read.0.0 utf8.0) in
+    let q : Unquoted bs [] text.0 read.0.1 = subst (λ (x : List ℕ). Unquoted bs [] x read.0.1) same (text_found false bs [] read.0.0 read.0.1 read.1) in
+    subst (λ (p : List ℕ × List ℕ). First (34 ∷ bs) (Text p.0) p.1) pair (first_text bs text.0 read.0.1 q is_text few)
+
+-- ---- any of them
+
+-- what stands before the rest of a token's text is the token
+bound : {A : Type 0} (bs : List ℕ) (token : A → Token) (r : Result (A × List ℕ) TokenCause) (t : Token) (rest : List ℕ) → ((x : A) (after : List ℕ) → r ≡ Ok (x, after) → First bs (token x) after) → (r >>= λ x. found token x) ≡ Ok (t, rest) → First bs t rest
+bound bs token (Err d) t rest h e = absurd cc
+bound bs token (Ok x) t rest h e =
+    let pair : (token x.0, x.1) ≡ (t, rest) = ok_is _ _ e in
+    subst (λ (p : Found). First bs p.0 p.1) pair (h x.0 x.1 refl)
+
+quote_front : (bs : List ℕ) → (slice_index bs 0 == 34) ≡ true → bs ≡ 34 ∷ drop 1 bs
+quote_front [] h = absurd cc
+quote_front (c ∷ bs) h = ap (λ (x : ℕ). x ∷ bs) (eqb-true c 34 h)
+
+first_of_sign : (bs : List ℕ) (o : Option (Sign × List ℕ)) (t : Token) (rest : List ℕ) → sign_at bs ≡ o → starts_int bs ≡ false → sign_found o ≡ Ok (t, rest) → First bs t rest
+first_of_sign bs None t rest is plain e = absurd cc
+first_of_sign bs (Some x) t rest is plain e =
+    let pair : (Sign_token x.0, x.1) ≡ (t, rest) = ok_is _ _ e in
+    subst (λ (p : Found). First bs p.0 p.1) pair (record { text = sign_text x.0; parts = sign_parts bs x.0 x.1 is; spells = refl; ends = sign_ends bs x.0 x.1 is plain })
+
+pub token_found : (bs : List ℕ) (t : Token) (rest : List ℕ) → token_at bs ≡ Ok (t, rest) → First bs t rest
+unfolding token_at
+token_found bs t rest e =
+    elim (chosen (is_ascii_alphabetic (slice_index bs 0)) _ _ _ e) [
+      | inl word ↦ bound bs Word (word_at bs) t rest (λ s after h. word_found bs s after word.0 h) word.1
+      | inr e ↦ elim (chosen (starts_int bs) _ _ _ e.1) [
+        | inl number ↦ bound bs Int (int_at bs) t rest (λ z after h. int_found bs z after number.0 h) number.1
+        | inr plain ↦ elim (chosen (slice_index bs 0 == 34) _ _ _ plain.1) [
+          | inl quote ↦
+              subst (λ (x : List ℕ). First x t rest) (sym (quote_front bs quote.0)) (bound (34 ∷ drop 1 bs) Text (quoted_at (drop 1 bs)) t rest (λ s after h. quoted_found (drop 1 bs) s after h) quote.1)
+          | inr sign ↦ first_of_sign bs (sign_at bs) t rest refl plain.0 sign.1
+        ]
+      ]
+    ]
+
+-- ---- a token has some bytes
+
+pub word_some : (text : List ℕ) → IsWord text → 0 < length text
+word_some [] h = absurd (let l = h.letter in cc)
+word_some (b ∷ bs) h = omega arith
+
+pub int_some : (text : List ℕ) (z : ℤ) → IsInt text z → 0 < length text
+int_some text z (fits, inl (digits, is)) = digits.some
+int_some text z (fits, inr (ds, parts, digits, is)) = rw parts (omega arith)
+
+pub spells_some : (text : List ℕ) (t : Token) → Spells t text → 0 < length text
+spells_some text (Word s) (same, h) = rw same (word_some s h)
+spells_some text (Int z) h = int_some text z h
+spells_some text (Text s) (same, h) = rw same (omega arith)
+spells_some text (Sign_token s) same = rw same (sign_some s)
+
+pub token_shorter : (bs : List ℕ) (t : Token) (rest : List ℕ) → token_at bs ≡ Ok (t, rest) → length rest < length bs
+token_shorter bs t rest e =
+    let f = token_found bs t rest e in
+    let some = spells_some f.text t f.spells in
+    omega (arith, ap length f.parts, length-append f.text rest)
+
+pub scan_shorter : (bs : List ℕ) (r : Result (Token × Bor (List ℕ)) TokenCause) → Gives (λ x. (x.0, x.1.now)) r (token_at bs) → IfOk r (λ x. length x.1.now < length bs)
+scan_shorter bs (Ok x) given = token_shorter bs x.0 x.1.now given
+scan_shorter bs (Err e) given = tt

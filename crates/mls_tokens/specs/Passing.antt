@@ -1,0 +1,84 @@
+-- The tokens that are left, passed one after another: what is taken, or the fault where the next may not stand.
+use Rattle.std.specs.Prelude.{ℕ, Bool, false, List, [], ◌∷◌, Option, Some, None, Result, Ok, Err, if◌then◌else◌}
+use Rattle.std.specs.Str.{bytes_eq}
+use Rattle.mls_lattice.specs.Name.{is_name}
+use Rattle.mls_tokens.specs.declared.fault.TokenCause.{TokenCause}
+use Rattle.mls_tokens.specs.declared.fault.TokenCause.TheVariants.{Token as BadToken, Expected, TooLong, Memory}
+use Rattle.mls_tokens.specs.declared.fault.TokenFault.{TokenFault}
+use Rattle.mls_tokens.specs.declared.token.Token.{Token}
+use Rattle.mls_tokens.specs.declared.token.Token.TheVariants.{Word, Int, Text, Sign as Sign_token}
+use Rattle.mls_tokens.specs.declared.token.Placed.{Placed}
+use Rattle.mls_tokens.specs.declared.sign.Sign.{Sign}
+use Rattle.mls_tokens.specs.Sign.{sign_text}
+use Rattle.mls_tokens.specs.Scanning.{Left, fault_at}
+
+abbrev pub left : List Placed → TokenFault → Left
+left placed stop = record { placed = placed; stop = stop }
+
+-- a text that is too long is a token too
+abbrev pub stop_as_token : ℕ → TokenCause → TokenFault
+stop_as_token at BadToken = fault_at at BadToken
+stop_as_token at Expected = fault_at at Expected
+stop_as_token at TooLong = fault_at at Expected
+stop_as_token at Memory = fault_at at Memory
+
+abbrev pub refuse : List Placed → TokenFault → TokenFault
+refuse [] stop = stop_as_token stop.at stop.cause
+refuse (p ∷ ps) stop = fault_at p.at Expected
+
+-- the next token may not stand here
+abbrev pub refused : Left → TokenFault
+refused l = refuse l.placed l.stop
+
+-- ---- what is taken
+
+abbrev pub is_word : List ℕ → Token → Bool
+is_word w (Word s) = bytes_eq s w
+is_word w (Int n) = false
+is_word w (Text s) = false
+is_word w (Sign_token s) = false
+
+abbrev pub is_sign : Sign → Token → Bool
+is_sign s (Word w) = false
+is_sign s (Int n) = false
+is_sign s (Text w) = false
+is_sign s (Sign_token t) = bytes_eq (sign_text t) (sign_text s)
+
+abbrev pub take_first : (Token → Bool) → List Placed → TokenFault → Option (ℕ × Left)
+take_first test [] stop = None
+take_first test (p ∷ ps) stop = if test p.token then Some (p.at, left ps stop) else None
+
+-- the place of the next token and what is left behind it, if a test takes it
+abbrev pub taken : (Token → Bool) → Left → Option (ℕ × Left)
+taken test l = take_first test l.placed l.stop
+
+abbrev pub or_refused : {X : Type 0} → Option X → Left → Result X TokenFault
+or_refused (Some x) l = Ok x
+or_refused None l = Err (refused l)
+
+-- a word or a sign, which has to stand here
+abbrev pub pass : (Token → Bool) → Left → Result (ℕ × Left) TokenFault
+pass test l = or_refused (taken test l) l
+
+-- ---- names
+
+-- a name, and its place
+abbrev pub PlacedName : Type 0
+PlacedName = List ℕ × ℕ
+
+abbrev pub name_in : Token → Option (List ℕ)
+name_in (Word s) = if is_name s then Some s else None
+name_in (Int n) = None
+name_in (Text s) = None
+name_in (Sign_token s) = None
+
+abbrev pub named_first : ℕ → Left → Option (List ℕ) → Result (PlacedName × Left) TokenFault
+named_first at rest (Some s) = Ok ((s, at), rest)
+named_first at rest None = Err (fault_at at Expected)
+
+abbrev pub pass_name_of : List Placed → TokenFault → Result (PlacedName × Left) TokenFault
+pass_name_of [] stop = Err (refuse [] stop)
+pass_name_of (p ∷ ps) stop = named_first p.at (left ps stop) (name_in p.token)
+
+abbrev pub pass_name : Left → Result (PlacedName × Left) TokenFault
+pass_name l = pass_name_of l.placed l.stop

@@ -1,0 +1,179 @@
+-- The tokens of a text, with their places, up to the first place where no token stands.
+use Rattle.std.specs.Prelude.{◌≡◌, ◌↔◌, ℕ, zero, suc, ◌<◌, ◌+◌, ◌-◌, ◌^◌, ℤ, pos, neg_ℤ, true, false, Bool, ◌&&◌, ◌||◌, ◌==◌, nat_lt, nat_le, if◌then◌else◌, List, [], ◌∷◌, ◌++◌, map, length, take, drop, slice_index, Option, Some, None, Result, Ok, Err}
+use Rattle.std.specs.List.{prefix_len}
+use Rattle.std.specs.Char.{is_ascii_alphabetic, is_ascii_digit}
+use Rattle.std.specs.Str.{all_ascii_digits, is_utf8}
+use Rattle.std.specs.Str.Lossy.{utf8_valid_len}
+use Rattle.std.specs.Str.Parse.{digits_value}
+use Rattle.mls_lattice.specs.Name.{is_name_byte}
+use Rattle.mls_lattice.specs.Reading.{◌>>=◌}
+use Rattle.mls_tokens.specs.declared.fault.TokenCause.{TokenCause}
+use Rattle.mls_tokens.specs.declared.fault.TokenCause.TheVariants.{Token as BadToken, Expected, TooLong, Memory}
+use Rattle.mls_tokens.specs.declared.fault.TokenFault.{TokenFault}
+use Rattle.mls_tokens.specs.declared.token.Token.{Token}
+use Rattle.mls_tokens.specs.declared.token.Token.TheVariants.{Word, Int, Text, Sign as Sign_token}
+use Rattle.mls_tokens.specs.declared.token.Placed.{Placed}
+use Rattle.mls_tokens.specs.declared.sign.Sign.{Sign}
+use Rattle.mls_tokens.specs.Writing.{is_control, is_escaped}
+use Rattle.mls_tokens.specs.Sign.{sign_at}
+use Rattle.mls_tokens.specs.Text.{is_blank, is_no_feed, AreTokens}
+
+-- What a function returned, seen by view, is what scanning gives, unless memory ran out.
+abbrev pub Gives : {X Y : Type 0} → (X → Y) → Result X TokenCause → Result Y TokenCause → Type 0
+Gives view (Ok x) scan = scan ≡ Ok (view x)
+Gives view (Err e) scan = (e ≡ Memory → ⊥) → scan ≡ Err e
+
+-- The same, where the place of a fault is told.
+abbrev pub Reads : {X Y : Type 0} → (X → Y) → Result X TokenFault → Result Y TokenFault → Type 0
+Reads view (Ok x) scan = scan ≡ Ok (view x)
+Reads view (Err e) scan = (e.cause ≡ Memory → ⊥) → scan ≡ Err e
+
+-- What a function that takes no memory returned, seen by view, is what scanning gives.
+abbrev pub Shows : {X Y E : Type 0} → (X → Y) → Result X E → Result Y E → Type 0
+Shows view (Ok x) scan = scan ≡ Ok (view x)
+Shows view (Err e) scan = scan ≡ Err e
+
+unfoldable pub word_at : List ℕ → Result (List ℕ × List ℕ) TokenCause
+word_at bytes =
+    let n = prefix_len is_name_byte bytes in
+    if nat_lt 32 n then Err BadToken else Ok (take n bytes, drop n bytes)
+
+-- ---- numbers
+
+-- the text after any minus
+abbrev pub digits_of : List ℕ → List ℕ
+digits_of text = if slice_index text 0 == 45 then drop 1 text else text
+
+-- the number that digits, or a minus and digits, stand for
+unfoldable pub int_in : List ℕ → Result ℤ TokenCause
+int_in text =
+    let n = digits_value 10 (digits_of text) in
+    if slice_index text 0 == 45 then (if nat_le n (2 ^ 63) then Ok (neg_ℤ (pos n)) else Err BadToken) else (if nat_lt n (2 ^ 63) then Ok (pos n) else Err BadToken)
+
+-- the text is such
+pub record IsIntText (text : List ℕ) : Type 0 where
+  pub some : 0 < length (digits_of text)
+  pub digits : all_ascii_digits (digits_of text) ≡ true
+
+-- a digit, or a minus and a digit
+abbrev pub starts_int : List ℕ → Bool
+starts_int bytes = is_ascii_digit (slice_index bytes 0) || (slice_index bytes 0 == 45 && is_ascii_digit (slice_index bytes 1))
+
+unfoldable pub int_len : List ℕ → ℕ
+int_len bytes = if slice_index bytes 0 == 45 then 1 + prefix_len is_ascii_digit (drop 1 bytes) else prefix_len is_ascii_digit bytes
+
+unfoldable pub int_at : List ℕ → Result (ℤ × List ℕ) TokenCause
+int_at bytes = int_in (take (int_len bytes) bytes) >>= λ n. Ok (n, drop (int_len bytes) bytes)
+
+-- ---- texts
+
+-- the text after what was read before, which may end in a backslash, and what follows its quote
+abbrev pub text_at : Bool → List ℕ → List ℕ → Result (List ℕ × List ℕ) TokenCause
+text_at escaped front [] = Err BadToken
+text_at escaped front (b ∷ bs) =
+    if escaped then (if is_escaped b then text_at false (front ++ b ∷ []) bs else Err BadToken)
+    else (if b == 34 then Ok (front, bs)
+    else (if b == 92 then text_at true front bs
+    else (if is_control b then Err BadToken else text_at false (front ++ b ∷ []) bs)))
+
+unfoldable pub utf8_of : List ℕ → Result (List ℕ) TokenCause
+utf8_of bytes = if is_utf8 bytes then Ok bytes else Err BadToken
+
+unfoldable pub quoted_at : List ℕ → Result (List ℕ × List ℕ) TokenCause
+quoted_at bytes = do
+  x ← text_at false [] bytes
+  text ← utf8_of x.0
+  if nat_lt 1024 (length text) then Err TooLong else Ok (text, x.1)
+
+-- ---- any of them
+
+-- a token and the bytes after it
+abbrev pub Found : Type 0
+Found = Token × List ℕ
+
+abbrev pub found : {A : Type 0} → (A → Token) → A × List ℕ → Result Found TokenCause
+found token x = Ok (token x.0, x.1)
+
+abbrev pub sign_found : Option (Sign × List ℕ) → Result Found TokenCause
+sign_found None = Err BadToken
+sign_found (Some x) = Ok (Sign_token x.0, x.1)
+
+-- the token at the front of bytes
+unfoldable pub token_at : List ℕ → Result Found TokenCause
+token_at bytes =
+    if is_ascii_alphabetic (slice_index bytes 0) then (word_at bytes >>= λ x. found Word x)
+    else (if starts_int bytes then (int_at bytes >>= λ x. found Int x)
+    else (if slice_index bytes 0 == 34 then (quoted_at (drop 1 bytes) >>= λ x. found Text x)
+    else sign_found (sign_at bytes)))
+
+-- ---- between tokens
+
+-- a comment, up to its LF
+abbrev pub comment_in : List ℕ → List ℕ
+comment_in bytes = take (prefix_len is_no_feed bytes) bytes
+
+-- how many bytes are left from the first of a comment that is not UTF-8
+unfoldable pub comment_fault : List ℕ → Option ℕ
+comment_fault bytes = if is_utf8 (comment_in bytes) then None else Some (length bytes - utf8_valid_len (comment_in bytes))
+
+abbrev pub unless : {X : Type 0} → Option ℕ → Result X ℕ → Result X ℕ
+unless None next = next
+unless (Some left) next = Err left
+
+-- what stands behind blanks and comments; or how many bytes are left from the first of a comment that is not UTF-8
+abbrev pub front_at : Bool → List ℕ → Result (List ℕ) ℕ
+front_at inside [] = Ok []
+front_at inside (b ∷ bs) =
+    if inside then front_at (is_no_feed b) bs
+    else (if b == 35 then unless (comment_fault bs) (front_at true bs)
+    else (if is_blank b then front_at false bs else Ok (b ∷ bs)))
+
+-- ---- all tokens
+
+-- tokens that are left, and what is answered where one more is wanted than there is: Expected at the end
+pub record Left : Type 0 where
+  pub placed : List Placed
+  pub stop : TokenFault
+
+abbrev pub with_front : List Placed → Left → Left
+with_front front l = record { placed = front ++ l.placed; stop = l.stop }
+
+abbrev pub fault_at : ℕ → TokenCause → TokenFault
+fault_at at cause = record { at = at; cause = cause }
+
+abbrev pub placed_at : ℕ → Result Found TokenCause → Result (Placed × List ℕ) TokenFault
+placed_at at (Ok x) = Ok (record { token = x.0; at = at }, x.1)
+placed_at at (Err cause) = Err (fault_at at cause)
+
+-- the token at the front of the last bytes of len, if there are any
+abbrev pub token_or_end : ℕ → List ℕ → Result (Placed × List ℕ) TokenFault
+token_or_end len front = if length front == 0 then Err (fault_at len Expected) else placed_at (len - length front) (token_at front)
+
+abbrev pub behind : ℕ → Result (List ℕ) ℕ → Result (Placed × List ℕ) TokenFault
+behind len (Ok front) = token_or_end len front
+behind len (Err left) = Err (fault_at (len - left) BadToken)
+
+-- the next token of the last bytes of len, and what follows it
+unfoldable pub next_at : ℕ → List ℕ → Result (Placed × List ℕ) TokenFault
+next_at len bytes = behind len (front_at false bytes)
+
+abbrev pub next_then : (List ℕ → Left) → Result (Placed × List ℕ) TokenFault → Left
+next_then more (Ok x) = with_front (x.0 ∷ []) (more x.1)
+next_then more (Err stop) = record { placed = []; stop = stop }
+
+-- the tokens of the last bytes of len, n of them at most
+abbrev pub tokens_from : ℕ → ℕ → List ℕ → Left
+tokens_from zero len bytes = record { placed = []; stop = fault_at len Expected }
+tokens_from (suc n) len bytes = next_then (λ rest. tokens_from n len rest) (next_at len bytes)
+
+-- as many as there are bytes, and the end
+unfoldable pub tokens_at : List ℕ → Left
+tokens_at bytes = tokens_from (suc (length bytes)) (length bytes) bytes
+
+abbrev pub tokens_in : List Placed → List Token
+tokens_in = map (λ p. p.token)
+
+-- scanning comes to the end with these tokens exactly where the text is these tokens
+abbrev pub TokensAreExact : Type 0
+TokensAreExact =
+    (bytes : List ℕ) (ts : List Token) → ((tokens_in (tokens_at bytes).placed ≡ ts) × ((tokens_at bytes).stop.cause ≡ Expected)) ↔ AreTokens ts bytes

@@ -1,0 +1,62 @@
+ghost use Rattle.std.specs.Prelude.{◌≡◌};
+ghost use Rattle.mls_tokens.specs.declared.fault.TokenCause.TheVariants.{Memory};
+
+use std::alloc::{AllocError, AllocFailed};
+
+/// Why a text is refused by its tokens.
+#[derive(Clone, Copy, PartialEq, Eq, Debug)]
+pub enum TokenCause {
+    /// No token stands here.
+    Token,
+    /// Another token is wanted here, or no more than the end.
+    Expected,
+    /// A text between quotes has more than 1,024 bytes.
+    TooLong,
+    /// A growth was refused.
+    Memory,
+}
+
+/// Why a text is refused, and the number of bytes before that place.
+#[derive(Clone, Copy, PartialEq, Eq, Debug)]
+pub struct TokenFault {
+    pub at: usize,
+    pub cause: TokenCause,
+}
+
+impl From<AllocError> for TokenCause {
+    ghost from_gives = { λ _ e. e ≡ Memory };
+
+    fn from(_e: AllocError) -> TokenCause {
+        TokenCause::Memory
+    }
+}
+
+impl From<AllocError> for TokenFault {
+    ghost from_gives = { λ _ e. e.cause ≡ Memory };
+
+    fn from(_e: AllocError) -> TokenFault {
+        TokenFault {
+            at: 0,
+            cause: TokenCause::Memory,
+        }
+    }
+}
+
+impl<T: Drop> From<AllocFailed<T>> for TokenCause {
+    ghost from_gives = { λ _ e. e ≡ Memory };
+
+    fn from(_e: AllocFailed<T>) -> TokenCause {
+        TokenCause::Memory
+    }
+}
+
+impl<T: Drop> From<AllocFailed<T>> for TokenFault {
+    ghost from_gives = { λ _ e. e.cause ≡ Memory };
+
+    fn from(_e: AllocFailed<T>) -> TokenFault {
+        TokenFault {
+            at: 0,
+            cause: TokenCause::Memory,
+        }
+    }
+}

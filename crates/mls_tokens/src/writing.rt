@@ -1,0 +1,81 @@
+//! Names and texts, as they are written.
+ghost use Rattle.std.specs.Prelude.{◌≡◌, ◌<◌, ◌++◌, OnOk};
+ghost use Rattle.std.specs.List.{flat_map};
+ghost use Rattle.mls_tokens.specs.Writing.{is_control, is_escaped, hex_digit, printable_byte, printable, quoted_byte, quoted};
+
+use std::alloc::AllocError;
+
+/// Whether a byte is a control character, which stands in no text between quotes.
+pub(crate) fn is_control(byte: u8) -> bool
+    ensures { result ≡ is_control byte }
+{
+    byte < 32 || byte == 127
+}
+
+/// Whether a byte stands behind a backslash in a text between quotes.
+pub(crate) fn is_escaped(byte: u8) -> bool
+    ensures { result ≡ is_escaped byte }
+{
+    byte == b'"' || byte == b'\\'
+}
+
+fn hex_digit(number: u8) -> u8
+    requires { number < 16 }
+    ensures { result ≡ hex_digit number }
+{
+    if number < 10 {
+        b'0' + number
+    } else {
+        b'a' - 10 + number
+    }
+}
+
+fn push_byte(text: &mut Vec<u8>, byte: u8) -> Result<(), AllocError>
+    ensures { OnOk result (text.new.items ≡ text.old.items ++ printable_byte byte) }
+{
+    if is_control(byte) {
+        text.extend_from_slice(&[b'\\', b'x', hex_digit(byte / 16), hex_digit(byte % 16)])?;
+    } else {
+        text.push(byte)?;
+    }
+    Ok(())
+}
+
+/// Appends a name, whose control characters are written as `\x` and two digits.
+pub fn push_printable(text: &mut Vec<u8>, name: &str) -> Result<(), AllocError>
+    ensures { OnOk result (text.new.items ≡ text.old.items ++ printable name.now) }
+{
+    for byte in name.as_bytes() {
+        push_byte(text, *byte)?;
+    }
+    Ok(())
+}
+
+fn push_quoted_byte(text: &mut Vec<u8>, byte: u8) -> Result<(), AllocError>
+    ensures { OnOk result (text.new.items ≡ text.old.items ++ quoted_byte byte) }
+{
+    if is_escaped(byte) {
+        text.extend_from_slice(&[b'\\', byte])?;
+        return Ok(());
+    }
+    push_byte(text, byte)
+}
+
+fn push_inside(text: &mut Vec<u8>, inside: &str) -> Result<(), AllocError>
+    ensures { OnOk result (text.new.items ≡ text.old.items ++ flat_map quoted_byte inside.now) }
+{
+    for byte in inside.as_bytes() {
+        push_quoted_byte(text, *byte)?;
+    }
+    Ok(())
+}
+
+/// Appends a text between quotes, with its escapes.
+pub fn push_quoted(text: &mut Vec<u8>, inside: &str) -> Result<(), AllocError>
+    ensures { OnOk result (text.new.items ≡ text.old.items ++ quoted inside.now) }
+{
+    text.push(b'"')?;
+    push_inside(text, inside)?;
+    text.push(b'"')?;
+    Ok(())
+}

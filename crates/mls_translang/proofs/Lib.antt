@@ -1,0 +1,5 @@
+pub mod NamedLemmas
+pub mod LayoutLemmas
+pub mod FieldLemmas
+pub mod ListLemmas
+pub mod BlockLemmas

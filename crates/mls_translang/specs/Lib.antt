@@ -1,0 +1,14 @@
+pub mod Tree
+pub mod ExprCode
+pub mod Exprs
+pub mod ExprFalls
+pub mod BlockCode
+pub mod Blocks
+pub mod BlockFalls
+pub mod Named
+pub mod Scope
+pub mod Tx
+pub mod Kinds
+pub mod Fits
+pub mod Layout
+pub mod Tokens

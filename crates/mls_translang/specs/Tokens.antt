@@ -1,0 +1,198 @@
+-- The tokens of a transaction's text, in the words of the tree.
+use Rattle.std.specs.Prelude.{ℕ, List, [], ◌∷◌, ◌++◌, codes, Option, None, Some, option_map, slice_get, if◌then◌else◌}
+use Rattle.std.specs.Option.{unwrap_or}
+use Rattle.std.specs.List.{flat_map}
+use Rattle.mls_lattice.specs.Policy.{Name, Tables}
+use Rattle.mls_lattice.specs.Canon.{label_name}
+use Rattle.mls_scheme.specs.declared.value.Value.{Value}
+use Rattle.mls_scheme.specs.declared.value.Value.TheVariants as values
+use Rattle.mls_scheme.specs.declared.value.Kind.{Kind}
+use Rattle.mls_scheme.specs.Scheme.{Scheme, Schemes, scheme_of, other_of}
+use Rattle.mls_scheme.specs.Document.{kind_word}
+use Rattle.mls_tokens.specs.declared.token.Token.{Token}
+use Rattle.mls_tokens.specs.declared.token.Token.TheVariants.{Word, Int, Text, Sign}
+use Rattle.mls_tokens.specs.declared.sign.Sign.TheVariants as sign
+use Rattle.mls_translang.specs.declared.operator.Operator.{Operator}
+use Rattle.mls_translang.specs.declared.operator.Operator.TheVariants as operators
+use Rattle.mls_translang.specs.declared.row.Row.{Row}
+use Rattle.mls_translang.specs.declared.tx.Parameter.{Parameter}
+use Rattle.mls_translang.specs.Tree.{Expr, Known, Null, Var, Param, Field, No, Op, Writing, Inserting, Updating, Deleting, Stmt, Assign, Write_at, Release, Emit, Block, End, Do, If, For, is_end}
+use Rattle.mls_translang.specs.Scope.{Scope, in_loop, row_at}
+use Rattle.mls_translang.specs.Kinds.{field_of}
+use Rattle.mls_translang.specs.Tx.{Tx, scope_of}
+use Rattle.mls_translang.specs.Layout.{layout}
+
+-- ---- names
+
+-- the name of a number in a list of things by name
+abbrev pub name_at : {T : Type 0} → List (Name × T) → ℕ → Name
+name_at xs i = unwrap_or (option_map (λ x. x.0) (slice_get xs i)) []
+
+-- what a text is written under, its ceiling, and the names at its place
+pub record Place : Type 0 where
+  pub policy : Tables
+  pub schemes : Schemes
+  pub hi : ℕ
+  pub scope : Scope
+
+abbrev pub at_row : Place → Name → ℕ → Place
+at_row p row rel = record p { scope = in_loop p.scope row rel }
+
+abbrev pub with_rows : Place → List Row → Place
+with_rows p rows = record p { scope = record { params = p.scope.params; vars = p.scope.vars; rows = rows } }
+
+abbrev pub var_token : Place → ℕ → Token
+var_token p i = Word (name_at p.scope.vars i)
+
+abbrev pub label_token : Place → ℕ → Token
+label_token p label = Word (label_name p.policy.labels label)
+
+abbrev pub rel_token : Place → ℕ → Token
+rel_token p rel = Word (scheme_of p.schemes rel).name
+
+-- ---- expressions
+
+abbrev pub value_token : Value → Token
+value_token (values.Int n) = Int n
+value_token (values.Text s) = Text s
+
+abbrev pub operator_token : Operator → Token
+operator_token operators.Plus = Sign sign.Plus
+operator_token operators.Minus = Sign sign.Minus
+operator_token operators.Times = Sign sign.Times
+operator_token operators.Equal = Sign sign.Equals
+operator_token operators.Unequal = Sign sign.Differs
+operator_token operators.Less = Sign sign.Less
+operator_token operators.AtMost = Sign sign.AtMost
+operator_token operators.Greater = Sign sign.Greater
+operator_token operators.AtLeast = Sign sign.AtLeast
+operator_token operators.And = Word (codes "and")
+operator_token operators.Or = Word (codes "or")
+
+-- ROW.ATTRIBUTE
+abbrev pub field_tokens : Place → ℕ → ℕ → List Token
+field_tokens p d i = Word (row_at p.scope d).name ∷ Sign sign.Dot ∷ Word (field_of (scheme_of p.schemes (row_at p.scope d).relation) i).name ∷ []
+
+-- each operation in its own parentheses
+abbrev pub expr_tokens : Place → Expr → List Token
+expr_tokens p (Known v) = value_token v ∷ []
+expr_tokens p Null = Word (codes "null") ∷ []
+expr_tokens p (Var i) = var_token p i ∷ []
+expr_tokens p (Param i) = Word (name_at p.scope.params i) ∷ []
+expr_tokens p (Field d i) = field_tokens p d i
+expr_tokens p (No e) = Word (codes "not") ∷ expr_tokens p e
+expr_tokens p (Op op left right) =
+    Sign sign.LeftParen ∷ (expr_tokens p left ++ (operator_token op ∷ (expr_tokens p right ++ Sign sign.RightParen ∷ [])))
+
+abbrev pub comma_tokens : {X : Type 0} → (X → List Token) → X → List Token
+comma_tokens tokens x = Sign sign.Comma ∷ tokens x
+
+-- with commas between
+abbrev pub separated : {X : Type 0} → (X → List Token) → List X → List Token
+separated tokens [] = []
+separated tokens (x ∷ xs) = tokens x ++ flat_map (comma_tokens tokens) xs
+
+abbrev pub list_tokens : Place → List Expr → List Token
+list_tokens p es = Sign sign.LeftParen ∷ (separated (expr_tokens p) es ++ Sign sign.RightParen ∷ [])
+
+-- ---- statements
+
+-- ATTRIBUTE = EXPR, of an attribute outside the key
+abbrev pub set_tokens : Place → Scheme → ℕ × Expr → List Token
+set_tokens p scheme s = Word (other_of scheme s.0).name ∷ Sign sign.Equals ∷ expr_tokens p s.1
+
+-- the variable of an outcome, if there is one
+abbrev pub outcome_tokens : Place → Option ℕ → List Token
+outcome_tokens p None = []
+outcome_tokens p (Some x) = Word (codes "as") ∷ var_token p x ∷ []
+
+-- at LABEL, the outcome, and the end
+abbrev pub write_end : Place → ℕ → List Token → List Token
+write_end p w rest = Word (codes "at") ∷ label_token p w ∷ rest
+
+abbrev pub stmt_end : Place → Option ℕ → List Token
+stmt_end p outcome = outcome_tokens p outcome ++ Sign sign.Semicolon ∷ []
+
+-- what each write begins with
+abbrev pub head_tokens : Place → Name → ℕ → List Expr → List Token
+head_tokens p word rel key = Word word ∷ rel_token p rel ∷ Word (codes "key") ∷ list_tokens p key
+
+-- class KEY_CLASS from FROM at W
+abbrev pub class_tokens : Place → ℕ → ℕ → ℕ → List Token
+class_tokens p key_class from w =
+    Word (codes "class") ∷ label_token p key_class ∷ Word (codes "from") ∷ label_token p from ∷ Word (codes "at") ∷ label_token p w ∷ []
+
+-- set SETS, the outcome, and the end
+abbrev pub update_end : Place → ℕ → List (ℕ × Expr) → Option ℕ → List Token
+update_end p rel sets outcome = Word (codes "set") ∷ (separated (set_tokens p (scheme_of p.schemes rel)) sets ++ stmt_end p outcome)
+
+abbrev pub write_tokens : Place → ℕ → ℕ → Option ℕ → Writing → List Token
+write_tokens p rel w outcome (Inserting key values) =
+    head_tokens p (codes "insert") rel key ++ (Word (codes "values") ∷ (list_tokens p values ++ write_end p w (stmt_end p outcome)))
+write_tokens p rel w outcome (Updating key key_class from sets) =
+    head_tokens p (codes "update") rel key
+    ++ (class_tokens p key_class from w ++ update_end p rel sets outcome)
+write_tokens p rel w outcome (Deleting key key_class) =
+    head_tokens p (codes "delete") rel key ++ (Word (codes "class") ∷ label_token p key_class ∷ write_end p w (stmt_end p outcome))
+
+abbrev pub stmt_tokens : Place → Stmt → List Token
+stmt_tokens p (Assign x e) = var_token p x ∷ Sign sign.Becomes ∷ (expr_tokens p e ++ Sign sign.Semicolon ∷ [])
+stmt_tokens p (Write_at rel w writing outcome) = write_tokens p rel w outcome writing
+stmt_tokens p (Release e to into) =
+    Word (codes "release") ∷ (expr_tokens p e ++ (Word (codes "to") ∷ label_token p to ∷ Word (codes "into") ∷ var_token p into ∷ Sign sign.Semicolon ∷ []))
+stmt_tokens p (Emit e label) =
+    Word (codes "emit") ∷ (expr_tokens p e ++ (Word (codes "at") ∷ label_token p label ∷ Sign sign.Semicolon ∷ []))
+
+-- no else without statements
+abbrev pub else_tokens : Block → List Token → List Token
+else_tokens other tokens = if is_end other then [] else Word (codes "else") ∷ tokens
+
+-- for ROW in RELATION at LABEL
+abbrev pub for_tokens : Place → Name → ℕ → ℕ → List Token
+for_tokens p row rel label = Word (codes "for") ∷ Word row ∷ Word (codes "in") ∷ rel_token p rel ∷ Word (codes "at") ∷ label_token p label ∷ []
+
+abbrev pub braced : List Token → List Token
+braced tokens = Sign sign.LeftBrace ∷ (tokens ++ Sign sign.RightBrace ∷ [])
+
+abbrev pub block_tokens : Place → Block → List Token
+block_tokens p End = []
+block_tokens p (Do stmt rest) = stmt_tokens p stmt ++ block_tokens p rest
+block_tokens p (If guard one other rest) =
+    Word (codes "if") ∷ (expr_tokens p guard ++ (braced (block_tokens p one) ++ (else_tokens other (braced (block_tokens p other)) ++ block_tokens p rest)))
+block_tokens p (For row rel label body rest) =
+    for_tokens p row rel label ++ (braced (block_tokens (at_row p row rel) body) ++ block_tokens p rest)
+
+-- ---- transactions
+
+abbrev pub kind_token : Kind → Token
+kind_token k = Word (kind_word k)
+
+-- NAME : KIND at LABEL
+abbrev pub param_tokens : Place → Name × Parameter → List Token
+param_tokens p x = Word x.0 ∷ Sign sign.Colon ∷ kind_token x.1.kind ∷ Word (codes "at") ∷ label_token p x.1.label ∷ []
+
+abbrev pub params_tokens : Place → List (Name × Parameter) → List Token
+params_tokens p xs = Sign sign.LeftParen ∷ (separated (param_tokens p) xs ++ Sign sign.RightParen ∷ [])
+
+-- var NAME : KIND ;
+abbrev pub var_tokens : Name × Kind → List Token
+var_tokens x = Word (codes "var") ∷ Word x.0 ∷ Sign sign.Colon ∷ kind_token x.1 ∷ Sign sign.Semicolon ∷ []
+
+-- transaction NAME levels LO to HI
+abbrev pub heading_tokens : Place → Name → ℕ → ℕ → List Token
+heading_tokens p name lo hi =
+    Word (codes "transaction") ∷ Word name ∷ Word (codes "levels") ∷ label_token p lo ∷ Word (codes "to") ∷ label_token p hi ∷ []
+
+abbrev pub outermost : Tables → Schemes → Tx → Place
+outermost policy schemes tx = record { policy = policy; schemes = schemes; hi = tx.hi; scope = scope_of tx }
+
+abbrev pub tx_tokens : Place → Tx → List Token
+tx_tokens p tx =
+    heading_tokens p tx.name tx.lo tx.hi ++ (params_tokens p tx.params ++ braced (flat_map var_tokens tx.vars ++ block_tokens p tx.body))
+
+abbrev pub tokens_of : Tables → Schemes → Tx → List Token
+tokens_of policy schemes tx = tx_tokens (outermost policy schemes tx) tx
+
+-- the canonical text
+abbrev pub printed : Tables → Schemes → Tx → List ℕ
+printed policy schemes tx = layout (tokens_of policy schemes tx)

@@ -1,0 +1,65 @@
+//! Things by name.
+ghost use Rattle.std.specs.Prelude.{◌≡◌, ◌==◌, ◌<◌, ◌++◌, [], ◌∷◌, false, length, position, slice_get, string_bytes, Some, IfErr, IfSome, OnOk, option_map};
+ghost use Rattle.std.specs.List.{list_any};
+ghost use Rattle.std.specs.Str.{bytes_eq};
+ghost use Rattle.mls_translang.specs.Named.{item_of};
+
+use indexmap::IndexMap;
+use std::alloc::{AllocError, Global};
+use std::marker::Model;
+
+/// Things by name, in the order of their text: contracts see pairs of a name and a thing.
+#[derive(Drop)]
+pub struct Named<T> {
+    map: IndexMap<String, T>,
+}
+
+impl<T> Model for Named<T> {
+    ghost use Rattle.std.specs.Prelude.{List, map as each};
+    ghost use Rattle.mls_lattice.specs.Policy.{Name};
+    ghost use Rattle.mls_translang.specs.Named.{item_of};
+
+    ghost Value = { List (Name × T) };
+
+    ghost view = { λ a. each item_of a.map.entries };
+}
+
+impl<T> Named<T> {
+    /// How many there are.
+    pub fn len(&self) -> usize
+        ensures { result ≡ length self.now }
+    {
+        self.map.len()
+    }
+
+    /// Whether there is none.
+    pub fn is_empty(&self) -> bool
+        ensures { result ≡ (length self.now == 0) }
+    {
+        self.map.is_empty()
+    }
+
+    /// The name at a place.
+    pub fn name(&self, place: usize) -> &str
+        requires { place < length self.now }
+        ensures { option_map (λ x. x.0) (slice_get self.now place) ≡ Some result.now }
+    {
+        self.map.get_index(place).unwrap().0.as_str()
+    }
+
+    /// The thing at a place.
+    pub fn get(&self, place: usize) -> &T
+        requires { place < length self.now }
+        ensures { option_map (λ x. x.1) (slice_get self.now place) ≡ Some result.now }
+    {
+        self.map.get_index(place).unwrap().1
+    }
+
+    /// The place of a name.
+    pub fn place(&self, name: &str) -> Option<usize>
+        ensures exact { result ≡ position (λ x. bytes_eq x.0 name.now) self.now }
+        ensures within { IfSome result (λ place. place < length self.now) }
+    {
+        self.map.get_index_of(name)
+    }
+}

@@ -1,0 +1,15 @@
+/// What stands between two operands.
+#[derive(Clone, Copy, PartialEq, Eq, Debug)]
+pub enum Operator {
+    Plus,
+    Minus,
+    Times,
+    Equal,
+    Unequal,
+    Less,
+    AtMost,
+    Greater,
+    AtLeast,
+    And,
+    Or,
+}

@@ -9,6 +9,7 @@ mod keys;
 mod limits;
 mod lookups;
 mod policies;
+mod reads;
 mod schemes;
 mod scripts;
 mod show;

@@ -1,6 +1,6 @@
 //! The tables, in the order in which they are told.
 use crate::{
-    documents, entries, keys, limits, lookups, policies, schemes, scripts, views, writers,
+    documents, entries, keys, limits, lookups, policies, reads, schemes, scripts, views, writers,
 };
 use std::alloc::{AllocError, Global};
 use std::rt::Files;
@@ -17,13 +17,14 @@ pub enum Table {
     Keys,
     Entries,
     Views,
+    Reads,
     ScriptFaults,
     Scripts,
     Commands,
     Writers,
 }
 
-pub const TABLES: [Table; 12] = [
+pub const TABLES: [Table; 13] = [
     Table::Policies,
     Table::Schemes,
     Table::Documents,
@@ -32,6 +33,7 @@ pub const TABLES: [Table; 12] = [
     Table::Keys,
     Table::Entries,
     Table::Views,
+    Table::Reads,
     Table::ScriptFaults,
     Table::Scripts,
     Table::Commands,
@@ -56,6 +58,7 @@ impl Table {
             Table::Keys => "keys.txt",
             Table::Entries => "entries.txt",
             Table::Views => "views.txt",
+            Table::Reads => "reads.txt",
             Table::Scripts => "scripts.txt",
             Table::ScriptFaults => "script_faults.txt",
             Table::Commands => "commands.txt",
@@ -94,6 +97,7 @@ fn tell_cases<R: Files + AllocGlobal>(
         Table::Keys => keys::tell(rt.alloc(), text, out),
         Table::Entries => entries::tell(rt.alloc(), policy, text, out),
         Table::Views => views::tell(rt.alloc(), policy, &samples.schemes, text, out),
+        Table::Reads => reads::tell(rt.alloc(), policy, text, out),
         Table::ScriptFaults => scripts::tell_faults(rt, text, out),
         Table::Scripts => scripts::tell(rt, text, out),
         Table::Commands => scripts::tell_commands(rt, text, out),

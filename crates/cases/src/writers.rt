@@ -35,10 +35,26 @@ fn number_of(word: &str) -> usize {
     word.parse::<usize>().unwrap_or(0)
 }
 
-/// What the script of a case writes, where its head names the width and the number of writes.
+/// How many bytes a write takes, and how many writes are taken.
+fn bounds_of(words: &[&str]) -> (usize, usize) {
+    match words {
+        [width, left, ..] => (number_of(width), number_of(left)),
+        _ => (0, 0),
+    }
+}
+
+/// The command line behind the two numbers.
+fn command_of<'a>(words: &'a [&'a str]) -> &'a [&'a str] {
+    match words {
+        [_, _, command @ ..] => command,
+        _ => words,
+    }
+}
+
+/// What the command of a case writes.
 fn done<R: Files + AllocGlobal>(rt: &R, case: &Case<'_>) -> Result<Written, AllocError> {
-    let numbers = case.head.split_once(':').map_or(case.head, |parts| parts.0);
-    let (width, left) = numbers.split_once(' ').unwrap_or((numbers, ""));
+    let words: Vec<&str> = case.head.split_ascii_whitespace().collect(rt.alloc())?;
+    let (width, left) = bounds_of(&words);
     let script = joined(rt.alloc(), &case.body)?;
     let mut desk = Desk {
         rt,
@@ -46,11 +62,17 @@ fn done<R: Files + AllocGlobal>(rt: &R, case: &Case<'_>) -> Result<Written, Allo
     };
     let mut out = Narrow {
         bytes: Vec::new(rt.alloc()),
-        width: number_of(width),
-        left: number_of(left),
+        width,
+        left,
     };
     let mut err = Vec::new(rt.alloc());
-    let status = act(rt.alloc(), &["mldb"], &mut desk, &mut out, &mut err);
+    let status = act(
+        rt.alloc(),
+        command_of(&words),
+        &mut desk,
+        &mut out,
+        &mut err,
+    );
     Ok(Written {
         out: out.bytes,
         err,
@@ -58,7 +80,7 @@ fn done<R: Files + AllocGlobal>(rt: &R, case: &Case<'_>) -> Result<Written, Allo
     })
 }
 
-/// Tells what scripts write: a case is `WIDTH WRITES: title`, and its script below.
+/// Tells what commands write: a case is `WIDTH WRITES` and a command line, and its script below.
 pub fn tell<R: Files + AllocGlobal>(
     rt: &R,
     table: &str,

@@ -18,5 +18,7 @@ mod writing;
 
 pub use cause::{RunCause, RunFault};
 pub use engine::Engine;
+pub use mls_machine::{Denial, Reply};
+pub use mls_script::{Command, Event, ScriptCause, ScriptFault, script};
 pub use replies::reply_bytes;
 pub use running::run;

@@ -1,5 +1,5 @@
 -- A text token by token.
-use Rattle.std.proofs.Common.{◌≡◌, ◌≢◌, ℕ, zero, suc, ◌<◌, ◌≤◌, ◌-◌, ◌^◌, slice_index, drop, take, length-append, Option, Some, None, Bool, true, false, ◌==◌, nat_lt, nat_le, cond, List, [], ◌∷◌, ◌++◌, length, Result, Ok, Err, refl, sym, ap, ◌∙◌, subst, arith, append_assoc}
+use Rattle.std.proofs.Common.{◌≡◌, ◌≢◌, ℕ, zero, suc, ◌<◌, ◌≤◌, ◌-◌, ◌+◌, ◌^◌, slice_index, drop, take, length-append, Option, Some, None, Bool, true, false, ◌==◌, nat_lt, nat_le, cond, List, [], ◌∷◌, ◌++◌, length, Result, Ok, Err, refl, sym, ap, ◌∙◌, subst, arith, append_assoc}
 use Rattle.std.proofs.lemmas.List.{append-nil}
 use Rattle.std.specs.List.{prefix_len}
 use Rattle.std.specs.Char.{is_ascii_alphabetic}
@@ -135,7 +135,7 @@ tells_token bytes front b at e (Err c) h = λ same. absurd (token_never (b ∷ f
 
 tells_front : (len : ℕ) (bytes : List ℕ) (r : Result (List ℕ) ℕ) → front_at false bytes ≡ r → Tells bytes (behind len r)
 tells_front len bytes (Ok []) e = λ _. over_found bytes e
-tells_front len bytes (Ok (b ∷ front)) e = rw (ne_eqb (length (b ∷ front)) 0 (λ k. omega arith)) (tells_token bytes front b (len - length (b ∷ front)) e (token_at (b ∷ front)) refl)
+tells_front len bytes (Ok (b ∷ front)) e = rw (ne_eqb (length (b ∷ front)) 0 (λ k. omega arith)) (tells_token bytes front b (len - length (b ∷ front) + 1) e (token_at (b ∷ front)) refl)
 tells_front len bytes (Err left) e = λ same. absurd (let f : BadToken ≡ Expected = same in cc)
 
 next_tells : (len : ℕ) (bytes : List ℕ) → Tells bytes (next_at len bytes)
@@ -153,12 +153,12 @@ next_again len bytes t rest h =
     let front = h.text ++ rest in
     let some = spells_some h.text t h.spells in
     let whole : length front ≢ 0 = λ e. omega (arith, length-append h.text rest) in (
-      len - length front,
+      len - length front + 1,
       ap (λ x. behind len (front_at false x)) h.parts ∙ ap (behind len) (front_again h.gap front h.is_gap (no_gap h.text rest t h.spells h.ends))
-          ∙ rw (ne_eqb (length front) 0 whole) (ap (placed_at (len - length front)) (token_again h.text rest t h.spells h.ends)),
+          ∙ rw (ne_eqb (length front) 0 whole) (ap (placed_at (len - length front + 1)) (token_again h.text rest t h.spells h.ends)),
     )
 
-next_over : (len : ℕ) (bytes : List ℕ) → IsOver bytes → next_at len bytes ≡ Err (fault_at len Expected)
+next_over : (len : ℕ) (bytes : List ℕ) → IsOver bytes → next_at len bytes ≡ Err (fault_at (len + 1) Expected)
 unfolding next_at
 next_over len bytes h = ap (behind len) (front_over bytes h)
 

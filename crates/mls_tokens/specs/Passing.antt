@@ -1,5 +1,5 @@
 -- The tokens that are left, passed one after another: what is taken, or the fault where the next may not stand.
-use Rattle.std.specs.Prelude.{ℕ, Bool, false, List, [], ◌∷◌, Option, Some, None, Result, Ok, Err, if◌then◌else◌}
+use Rattle.std.specs.Prelude.{ℕ, Bool, true, false, List, [], ◌∷◌, Option, Some, None, Result, Ok, Err, if◌then◌else◌}
 use Rattle.std.specs.Str.{bytes_eq}
 use Rattle.mls_lattice.specs.Name.{is_name}
 use Rattle.mls_tokens.specs.declared.fault.TokenCause.{TokenCause}
@@ -82,3 +82,21 @@ pass_name_of (p ∷ ps) stop = named_first p.at (left ps stop) (name_in p.token)
 
 abbrev pub pass_name : Left → Result (PlacedName × Left) TokenFault
 pass_name l = pass_name_of l.placed l.stop
+
+-- ---- the end
+
+abbrev pub is_expected : TokenCause → Bool
+is_expected BadToken = false
+is_expected Expected = true
+is_expected TooLong = false
+is_expected Memory = false
+
+abbrev pub over_with : List Placed → TokenFault → Bool
+over_with [] stop = is_expected stop.cause
+over_with (p ∷ ps) stop = false
+
+abbrev pub is_over : Left → Bool
+is_over l = over_with l.placed l.stop
+
+abbrev pub pass_end : Left → Result (Unit {0}) TokenFault
+pass_end l = if is_over l then Ok tt else Err (refused l)

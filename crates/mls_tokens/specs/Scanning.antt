@@ -147,11 +147,11 @@ placed_at at (Err cause) = Err (fault_at at cause)
 
 -- the token at the front of the last bytes of len, if there are any
 abbrev pub token_or_end : ℕ → List ℕ → Result (Placed × List ℕ) TokenFault
-token_or_end len front = if length front == 0 then Err (fault_at len Expected) else placed_at (len - length front) (token_at front)
+token_or_end len front = if length front == 0 then Err (fault_at (len + 1) Expected) else placed_at (len - length front + 1) (token_at front)
 
 abbrev pub behind : ℕ → Result (List ℕ) ℕ → Result (Placed × List ℕ) TokenFault
 behind len (Ok front) = token_or_end len front
-behind len (Err left) = Err (fault_at (len - left) BadToken)
+behind len (Err left) = Err (fault_at (len - left + 1) BadToken)
 
 -- the next token of the last bytes of len, and what follows it
 unfoldable pub next_at : ℕ → List ℕ → Result (Placed × List ℕ) TokenFault
@@ -163,7 +163,7 @@ next_then more (Err stop) = record { placed = []; stop = stop }
 
 -- the tokens of the last bytes of len, n of them at most
 abbrev pub tokens_from : ℕ → ℕ → List ℕ → Left
-tokens_from zero len bytes = record { placed = []; stop = fault_at len Expected }
+tokens_from zero len bytes = record { placed = []; stop = fault_at (len + 1) Expected }
 tokens_from (suc n) len bytes = next_then (λ rest. tokens_from n len rest) (next_at len bytes)
 
 -- as many as there are bytes, and the end

@@ -16,7 +16,7 @@ pub enum TokenCause {
     Memory,
 }
 
-/// Why a text is refused, and the number of bytes before that place.
+/// Why a text is refused, and the place of that byte, counted from 1.
 #[derive(Clone, Copy, PartialEq, Eq, Debug)]
 pub struct TokenFault {
     pub at: usize,

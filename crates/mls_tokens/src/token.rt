@@ -15,7 +15,7 @@ pub enum Token {
     Sign(Sign),
 }
 
-/// A token, and the number of bytes before it.
+/// A token, and the place of its first byte, counted from 1.
 #[derive(Drop, Debug)]
 pub struct Placed {
     pub token: Token,

@@ -1,8 +1,8 @@
 //! The tokens of a whole text, read one after another.
-ghost use Rattle.std.specs.Prelude.{◌≡◌, ◌<◌, [], ◌∷◌, length, option_map, IfOk, IfErr, IfSome, IsNone};
+ghost use Rattle.std.specs.Prelude.{◌≡◌, ◌<◌, ◌^◌, [], ◌∷◌, length, option_map, IfOk, IfErr, IfSome, IsNone};
 ghost use Rattle.mls_tokens.specs.declared.fault.TokenCause.TheVariants.{Memory};
 ghost use Rattle.mls_tokens.specs.Scanning.{Reads, next_at, tokens_at};
-ghost use Rattle.mls_tokens.specs.Passing.{left, refused, is_word, is_sign, taken, pass, pass_name};
+ghost use Rattle.mls_tokens.specs.Passing.{left, refused, is_word, is_sign, taken, pass, pass_name, is_over, pass_end};
 
 use crate::fault::{TokenCause, TokenFault};
 use crate::gap::front_of;
@@ -32,6 +32,7 @@ impl Model for Tokens {
 /// The next token of the last bytes of a text, and what follows it; or where the text is over or none stands.
 #[tactic(auto, unfolding(crate::specs::Scanning::next_at))]
 fn next_of(alloc: Global, len: usize, bytes: &[u8]) -> Result<(Placed, &[u8]), TokenFault>
+    requires { len < 2 ^ 63 }
     ensures exact { Reads (λ x. (x.0, x.1.now)) result (next_at len bytes.now) }
     ensures shorter { IfOk result (λ x. length x.1.now < length bytes.now) }
 {
@@ -39,18 +40,18 @@ fn next_of(alloc: Global, len: usize, bytes: &[u8]) -> Result<(Placed, &[u8]), T
         Ok(front) => front,
         Err(left) => {
             return Err(TokenFault {
-                at: len.saturating_sub(left),
+                at: len.saturating_sub(left) + 1,
                 cause: TokenCause::Token,
             });
         }
     };
     if front.is_empty() {
         return Err(TokenFault {
-            at: len,
+            at: len + 1,
             cause: TokenCause::Expected,
         });
     }
-    let at = len.saturating_sub(front.len());
+    let at = len.saturating_sub(front.len()) + 1;
     match token_of(alloc, front) {
         Ok((token, after)) => Ok((Placed { token, at }, after)),
         Err(cause) => Err(TokenFault { at, cause }),
@@ -168,6 +169,24 @@ impl Tokens {
                 at: first.at,
                 cause: TokenCause::Expected,
             }),
+        }
+    }
+
+    /// Whether the text is over.
+    pub fn is_over(&self) -> bool
+        ensures { result ≡ is_over self.now }
+    {
+        self.placed.is_empty() && self.stop.cause == TokenCause::Expected
+    }
+
+    /// Passes the end of the text.
+    pub fn end(&self) -> Result<(), TokenFault>
+        ensures { Reads (λ _. tt) result (pass_end self.now) }
+    {
+        if self.is_over() {
+            Ok(())
+        } else {
+            Err(self.refused())
         }
     }
 }

@@ -3,3 +3,7 @@ pub mod LayoutLemmas
 pub mod FieldLemmas
 pub mod ListLemmas
 pub mod BlockLemmas
+pub mod ReadsBackLemmas
+pub mod NumberLemmas
+pub mod SpelledLemmas
+pub mod PrintedLemmas

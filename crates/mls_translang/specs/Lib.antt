@@ -12,3 +12,4 @@ pub mod Kinds
 pub mod Fits
 pub mod Layout
 pub mod Tokens
+pub mod ReadsBack

@@ -1,5 +1,5 @@
 -- Transactions, and what holds of every one: names, counts, depths, and numbers of its own lists.
-use Rattle.std.specs.Prelude.{◌≡◌, ℕ, ◌+◌, ◌<◌, ◌≤◌, max, true, false, List, [], length, FitsSigned, IsUtf8, Bool, ◌||◌, ◌==◌, nat_lt}
+use Rattle.std.specs.Prelude.{◌≡◌, ℕ, ◌+◌, ◌<◌, ◌≤◌, max, true, List, [], length, FitsSigned}
 use Rattle.std.specs.Int.{w64}
 use Rattle.std.specs.Option.{IfSome}
 use Rattle.std.specs.List.{AllByRecursion, IsDistinct}
@@ -9,6 +9,7 @@ use Rattle.mls_lattice.specs.Policy.{Name}
 use Rattle.mls_scheme.specs.declared.value.Kind.{Kind}
 use Rattle.mls_scheme.specs.declared.value.Value.{Value}
 use Rattle.mls_scheme.specs.declared.value.Value.TheVariants.{Int, Text}
+use Rattle.mls_tokens.specs.Text.{IsText}
 use Rattle.mls_translang.specs.declared.tx.Parameter.{Parameter}
 use Rattle.mls_translang.specs.Scope.{Scope, in_loop, names_in, IsFresh}
 use Rattle.mls_translang.specs.Tree.{Expr, Known, Null, Var, Param, Field, No, Op, Writing, Inserting, Updating, Deleting, Stmt, Assign, Write_at, Release, Emit, Block, End, Do, If, For, statements}
@@ -39,13 +40,10 @@ depth (For row rel label body rest) = max (1 + depth body) (depth rest)
 
 -- ---- numbers and names
 
-abbrev pub is_control : ℕ → Bool
-is_control b = nat_lt b 32 || b == 127
-
 -- a number of 64 signed bits, or a text that can be written between quotes
 abbrev pub IsLiteral : Value → Type 0
 IsLiteral (Int n) = FitsSigned w64 n
-IsLiteral (Text s) = IsUtf8 s × AllByRecursion (λ b. is_control b ≡ false) s × (length s ≤ 1024)
+IsLiteral (Text s) = IsText s
 
 -- its numbers are those of variables, parameters and rows around
 abbrev pub HasOwn : Scope → Expr → Type 0

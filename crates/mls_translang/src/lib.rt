@@ -1,6 +1,8 @@
 //! Transactions as trees.
 #![tactic(auto)]
 
+ghost use Rattle.mls_translang.specs.ReadsBack.{LayoutsAreTokens, PrintsAreTokens};
+
 mod block;
 mod expr;
 mod layout;
@@ -22,3 +24,13 @@ pub use operator::Operator;
 pub use print_tx::print;
 pub use row::Row;
 pub use tx::{Parameter, Tx, statements};
+
+/// A layout of tokens is read back as these tokens.
+pub fn layouts_are_tokens()
+    ensures { LayoutsAreTokens }
+{}
+
+/// The printed text of a transaction is read back as the tokens of its tree.
+pub fn prints_are_tokens()
+    ensures { PrintsAreTokens }
+{}

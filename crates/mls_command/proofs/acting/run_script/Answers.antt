@@ -3,7 +3,7 @@ use Rattle.mls_filterview.specs.Content.{State}
 use Rattle.mls_machine.specs.Site.{Site}
 use Rattle.mls_machine.specs.Observation.{EventsFit}
 use Rattle.mls_sessions.specs.World.{IsSound}
-use Rattle.mls_sessions.proofs.StartLemmas.{no_content_sound, events_fit}
+use Rattle.mls_sessions.proofs.StartLemmas.{no_content_sound}
 use Rattle.mls_command.proofs.acting.run_script.Goals as goal
 
 pub new-engine-requires-clause-idle : goal.new-engine-requires-clause-idle
@@ -15,5 +15,5 @@ new-engine-requires-clause-sound g c = λ _.
 
 pub run-outcome-requires-clause-fits : goal.run-outcome-requires-clause-fits
 run-outcome-requires-clause-fits g c =
-    rw (c.new-engine.ensures.site, c.deref.ensures.value)
-    (events_fit c.args.policy.now c.args.schemes.now c.args.bytes.now c.in_ok-events.events.items c.in_ok-events.ensures.found)
+    subst (λ at. EventsFit at c.deref.result.now) (sym c.new-engine.ensures.site)
+    (subst (EventsFit (record { policy = c.args.policy.now; schemes = c.args.schemes.now })) (sym c.deref.ensures.value) c.in_ok-events.ensures.fits)

@@ -1,0 +1,43 @@
+-- What the checker's answer says.
+use Rattle.std.proofs.Common.{◌≡◌, ℕ, zero, suc, ◌+◌, Bool, true, false, ◌&&◌, List, [], ◌∷◌, drop, Some, Result, Ok, Err, refl, sym, ap, ◌∙◌, arith}
+use Rattle.std.specs.Prelude.{◌↔◌, option_map, slice_get}
+use Rattle.std.specs.List.{flat_map, list_all}
+use Rattle.mls_lattice.specs.Policy.{Name}
+use Rattle.mls_translang.specs.declared.tx.Parameter.{Parameter}
+use Rattle.mls_translang.specs.Tree.{Block}
+use Rattle.mls_certcheck.specs.Rules.{Claim, Rules, all_places}
+use Rattle.mls_certcheck.specs.Checks.{verdict, tests_at, First}
+use Rattle.mls_certcheck.specs.Walk.{Says, walked}
+use Rattle.mls_certcheck.specs.declared.refusal.Refusal.{Refusal}
+use Rattle.mls_certcheck.proofs.RulesLemmas.{rules_from_first, first_from_rules}
+use Rattle.mls_certcheck.proofs.WalkLemmas.{walk_is_err, walk_is_ok}
+
+-- Ok exactly where the rules hold
+pub says_rules : (c : Claim) (r : Result (Unit {0}) Refusal) → Says r (First c) → r ≡ Ok tt ↔ Rules c
+says_rules c (Ok u) h = (λ k. rules_from_first c h, λ rules. refl)
+says_rules c (Err e) h = (λ k. absurd cc, λ rules. absurd (let holds = first_from_rules c rules in cc))
+
+pub body_err : (c : Claim) (rows : List ℕ) (b : Block) (e : Refusal) → rows ≡ [] → b ≡ c.tx.body → walked c 1 0 rows b ≡ Err e → verdict (flat_map (tests_at c) (all_places c)) ≡ Err e
+body_err c rows b e none whole h = walk_is_err c 1 0 [] c.tx.body e ((λ i. walked c 1 0 (sym none i) (sym whole i)) ∙ h)
+
+pub body_ok : (c : Claim) (rows : List ℕ) (b : Block) (m : ℕ) → rows ≡ [] → b ≡ c.tx.body → walked c 1 0 rows b ≡ Ok m → verdict (flat_map (tests_at c) (all_places c)) ≡ Ok tt
+body_ok c rows b m none whole h = walk_is_ok c 1 0 [] c.tx.body m ((λ i. walked c 1 0 (sym none i) (sym whole i)) ∙ h)
+
+-- ---- a loop over parameters
+
+param_step : (p : Parameter → Bool) (ps : List (Name × Parameter)) (i : ℕ) (x : Parameter) → option_map (λ q. q.1) (slice_get ps i) ≡ Some x → list_all (λ q. p q.1) (drop i ps) ≡ (p x && list_all (λ q. p q.1) (drop (i + 1) ps))
+param_step p [] i x h = absurd cc
+param_step p (q ∷ ps) zero x h = let e : q.1 ≡ x = cc in ap (λ (y : Parameter). p y && list_all (λ r. p r.1) ps) e
+param_step p (q ∷ ps) (suc i) x h =
+    let next : suc (i + 1) ≡ suc i + 1 = omega arith in
+    param_step p ps i x h ∙ ap (λ (k : ℕ). p x && list_all (λ r. p r.1) (drop k (q ∷ ps))) next
+
+module _ (p : Parameter → Bool) (ps : List (Name × Parameter)) (i : ℕ) (x : Parameter) (all b : Bool) (got : option_map (λ q. q.1) (slice_get ps i) ≡ Some x) (rest : list_all (λ q. p q.1) (drop i ps) ≡ all) (test : b ≡ p x) where
+  split : all ≡ (b && list_all (λ q. p q.1) (drop (i + 1) ps))
+  split = sym rest ∙ param_step p ps i x got ∙ ap (λ (t : Bool). t && list_all (λ q. p q.1) (drop (i + 1) ps)) (sym test)
+
+  pub param_false : b ≡ false → false ≡ all
+  param_false h = sym (split ∙ ap (λ (t : Bool). t && list_all (λ q. p q.1) (drop (i + 1) ps)) h)
+
+  pub param_more : b ≡ true → list_all (λ q. p q.1) (drop (i + 1) ps) ≡ all
+  param_more h = sym (split ∙ ap (λ (t : Bool). t && list_all (λ q. p q.1) (drop (i + 1) ps)) h)

@@ -1,0 +1,6 @@
+pub mod Refusal
+pub mod Place
+pub mod Rules
+pub mod Checks
+pub mod Rows
+pub mod Walk

@@ -1,0 +1,45 @@
+ghost use Rattle.std.specs.Prelude.{◌≡◌, Err, IfOk, IfErr};
+ghost use Rattle.mls_certcheck.specs.Rules.{Rules, claim};
+ghost use Rattle.mls_certcheck.specs.Checks.{First};
+
+use crate::checking::check;
+use crate::refusal::Refusal;
+use mls_certificate::Cert;
+use mls_lattice::Policy;
+use mls_translang::Tx;
+
+/// A transaction that was checked, with its certificate.
+#[derive(Drop)]
+pub struct Certified {
+    tx: Tx,
+    cert: Cert,
+}
+
+impl Certified {
+    /// Checks a transaction under a policy; else it comes back with its certificate and the first rule that is broken.
+    pub fn new(policy: &Policy, tx: Tx, cert: Cert) -> Result<Certified, (Tx, Cert, Refusal)>
+        ensures kept { IfOk result (λ k. (k.tx ≡ tx) × (k.cert ≡ cert)) }
+        ensures rules { IfOk result (λ k. Rules (claim policy.now tx cert)) }
+        ensures back { IfErr result (λ e. (e.0 ≡ tx) × (e.1 ≡ cert)) }
+        ensures first { IfErr result (λ e. First (claim policy.now tx cert) ≡ Err e.2) }
+    {
+        match check(policy, &tx, &cert) {
+            Ok(()) => Ok(Certified { tx, cert }),
+            Err(refusal) => Err((tx, cert, refusal)),
+        }
+    }
+
+    /// The transaction.
+    pub fn tx(&self) -> &Tx
+        ensures { result.now ≡ self.now.tx }
+    {
+        &self.tx
+    }
+
+    /// The certificate.
+    pub fn cert(&self) -> &Cert
+        ensures { result.now ≡ self.now.cert }
+    {
+        &self.cert
+    }
+}

@@ -1,0 +1,71 @@
+ghost use Rattle.std.specs.Prelude.{◌≡◌, ◌∷◌, []};
+ghost use Rattle.mls_certcheck.specs.Checks.{verdict, test};
+ghost use Rattle.mls_certcheck.specs.Refusal.{text_of};
+
+/// A rule of certificates.
+#[derive(Clone, Copy, PartialEq, Eq, Debug)]
+pub enum Rule {
+    /// What flows into a variable.
+    Assignment,
+    /// What flows into the statements of a branch.
+    Branch,
+    /// What flows into the statements of a loop over rows.
+    RowLoop,
+    /// What flows into a relation, and out of it by the outcome.
+    Write,
+    /// The classes that an update or a delete names.
+    Order,
+    /// What is released.
+    Release,
+    /// What flows out.
+    Emit,
+    /// What a parameter lies between, and what a statement stands in.
+    Context,
+    /// As many labels as variables.
+    VarCount,
+    /// As many labels as statements.
+    StmtCount,
+    /// No label above the ceiling.
+    AboveCeiling,
+}
+
+impl Rule {
+    /// The short name of the rule.
+    pub fn text(self) -> &'static str
+        ensures { result.now ≡ text_of self }
+    {
+        match self {
+            Rule::Assignment => "F1",
+            Rule::Branch => "F2",
+            Rule::RowLoop => "F3",
+            Rule::Write => "F4",
+            Rule::Order => "F5",
+            Rule::Release => "F6",
+            Rule::Emit => "F7",
+            Rule::Context => "F8",
+            Rule::VarCount => "42",
+            Rule::StmtCount => "43",
+            Rule::AboveCeiling => "44",
+        }
+    }
+}
+
+/// The first rule that is broken, and the number of the statement: 0 is the transaction itself.
+#[derive(Clone, Copy, PartialEq, Eq, Debug)]
+pub struct Refusal {
+    pub stmt: usize,
+    pub rule: Rule,
+}
+
+impl Refusal {
+    /// Ok where a rule holds at a statement.
+    pub(crate) fn unless(holds: bool, stmt: usize, rule: Rule) -> Result<(), Refusal>
+        ensures { result ≡ verdict (test holds stmt rule ∷ []) }
+    {
+        if holds {
+            Ok(())
+        } else {
+            Err(Refusal { stmt, rule })
+        }
+    }
+}

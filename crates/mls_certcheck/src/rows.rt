@@ -1,0 +1,57 @@
+//! The loops around a statement.
+ghost use Rattle.std.specs.Prelude.{◌≡◌, ◌<◌, ◌≤◌, ◌+◌, ◌∷◌, [], slice_index};
+ghost use Rattle.mls_certcheck.specs.Rows.{rows_of};
+
+use mls_lattice::LabelNo;
+
+/// Statements stand at most this deep in one another.
+const DEPTH: usize = 16;
+
+/// The labels of the loops around a statement, the outermost first, in the first places of the array.
+#[derive(Clone, Copy)]
+pub(crate) struct Rows {
+    labels: [LabelNo; DEPTH],
+    count: usize,
+}
+
+impl Rows {
+    /// Outside all loops.
+    pub(crate) fn outside() -> Rows
+        ensures none { rows_of result ≡ [] }
+        ensures count { result.count ≡ 0 }
+    {
+        Rows {
+            labels: [LabelNo::new(0); DEPTH],
+            count: 0,
+        }
+    }
+
+    /// Inside one more.
+    #[tactic(auto, using(crate::proofs::RowLemmas::one_more))]
+    pub(crate) fn inside(&self, label: LabelNo) -> Rows
+        requires { self.now.count < 16 }
+        ensures one { rows_of result ≡ label ∷ rows_of self.now }
+        ensures count { result.count ≡ self.now.count + 1 }
+    {
+        let mut labels = self.labels;
+        labels[self.count] = label;
+        Rows {
+            labels,
+            count: self.count + 1,
+        }
+    }
+
+    /// The label of the loop that stands so many loops outwards, or the first label.
+    #[tactic(auto, using(crate::proofs::RowLemmas::at_depth))]
+    pub(crate) fn label(&self, depth: u8) -> LabelNo
+        requires { self.now.count ≤ 16 }
+        ensures { result ≡ slice_index (rows_of self.now) depth }
+    {
+        let depth = usize::from(depth);
+        if depth < self.count {
+            self.labels[self.count - 1 - depth]
+        } else {
+            LabelNo::new(0)
+        }
+    }
+}

@@ -1,0 +1,4 @@
+pub mod LabelLemmas
+pub mod NameLemmas
+pub mod ReadingSteps
+pub mod WritingLemmas

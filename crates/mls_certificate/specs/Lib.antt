@@ -1,0 +1,3 @@
+pub mod Fault
+pub mod Spelling
+pub mod Reading

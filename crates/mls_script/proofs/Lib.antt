@@ -1,0 +1,6 @@
+pub mod ItemSteps
+pub mod FitSteps
+pub mod ScriptSteps
+pub mod FoundLemmas
+pub mod PartLemmas
+pub mod LawLemmas

@@ -1,0 +1,8 @@
+use Rattle.mls_script.proofs.LawLemmas.{read_found, fits_found}
+use Rattle.mls_script.proofs.reading.script.Goals as goal
+
+pub returns-clause-reads : goal.returns-clause-reads
+returns-clause-reads c = read_found c.args.policy.now c.args.schemes.now (λ v. v.items) c.args.bytes.now c.events_of.result c.events_of.ensures
+
+pub returns-clause-fits : goal.returns-clause-fits
+returns-clause-fits c = fits_found c.args.policy.now c.args.schemes.now (λ v. v.items) c.args.bytes.now c.events_of.result c.events_of.ensures

@@ -1,0 +1,48 @@
+-- The numbers and names of the causes for which scripts are refused.
+use Rattle.std.specs.Prelude.{ℕ, List, codes}
+use Rattle.mls_script.specs.declared.fault.ScriptCause.{ScriptCause}
+use Rattle.mls_script.specs.declared.fault.ScriptCause.TheVariants.{Token, Expected, UnknownName, Kind, Repeated, TooLong, Memory, Unterminated}
+use Rattle.mls_script.specs.declared.fault.LineFault.{LineFault}
+use Rattle.mls_script.specs.declared.fault.ScriptFault.{ScriptFault}
+use Rattle.mls_tokens.specs.declared.fault.TokenCause.{TokenCause}
+use Rattle.mls_tokens.specs.declared.fault.TokenCause.TheVariants as tokens
+use Rattle.mls_tokens.specs.declared.fault.TokenFault.{TokenFault}
+
+abbrev pub code_of : ScriptCause → ℕ
+code_of Token = 21
+code_of Expected = 22
+code_of UnknownName = 23
+code_of Kind = 24
+code_of Repeated = 25
+code_of TooLong = 27
+code_of Memory = 29
+code_of Unterminated = 30
+
+abbrev pub word_of : ScriptCause → List ℕ
+word_of Token = codes "Token"
+word_of Expected = codes "Expected"
+word_of UnknownName = codes "UnknownName"
+word_of Kind = codes "Kind"
+word_of Repeated = codes "Repeated"
+word_of TooLong = codes "TooLong"
+word_of Memory = codes "Memory"
+word_of Unterminated = codes "Unterminated"
+
+-- ---- places
+
+abbrev pub line_fault : ℕ → ScriptCause → LineFault
+line_fault at cause = record { at = at; cause = cause }
+
+abbrev pub in_line : ℕ → LineFault → ScriptFault
+in_line line f = record { line = line; column = f.at; cause = f.cause }
+
+-- ---- faults of the tokens
+
+abbrev pub lifted_cause : TokenCause → ScriptCause
+lifted_cause tokens.Token = Token
+lifted_cause tokens.Expected = Expected
+lifted_cause tokens.TooLong = TooLong
+lifted_cause tokens.Memory = Memory
+
+abbrev pub lifted : TokenFault → LineFault
+lifted f = line_fault f.at (lifted_cause f.cause)

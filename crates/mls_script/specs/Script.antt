@@ -1,0 +1,30 @@
+-- Scripts: what events a text tells, with no word of how it is read.
+use Rattle.std.specs.Prelude.{◌≡◌, ◌≢◌, ℕ, List, [], ◌∷◌, ◌++◌, Option, Some, None}
+use Rattle.std.specs.List.{AllByRecursion, flat_map, filter_map}
+use Rattle.mls_lattice.specs.Policy.{Tables}
+use Rattle.mls_scheme.specs.Scheme.{Schemes}
+use Rattle.mls_tokens.specs.Text.{AreTokens}
+use Rattle.mls_script.specs.declared.event.Event.{Event}
+use Rattle.mls_script.specs.Event.{EventFits}
+use Rattle.mls_script.specs.Tokens.{event_tokens}
+
+-- a line without its LF, and the event that it tells, if it is not blank
+pub record Line : Type 0 where
+  pub text : List ℕ
+  pub event : Option Event
+
+-- the tokens of the line are those of its event
+abbrev pub Tells : Tables → Schemes → List ℕ → Option Event → Type 0
+Tells policy schemes text None = AreTokens [] text
+Tells policy schemes text (Some e) = EventFits policy schemes e × AreTokens (event_tokens policy schemes e) text
+
+pub record IsLineOf (policy : Tables) (schemes : Schemes) (line : Line) : Type 0 where
+  pub one : AllByRecursion (λ b. b ≢ 10) line.text
+  pub tells : Tells policy schemes line.text line.event
+
+-- the bytes are lines, each with its LF, which tell these events in order
+pub record ReadsScript (policy : Tables) (schemes : Schemes) (bytes : List ℕ) (events : List Event) : Type 0 where
+  pub lines : List Line
+  pub text : bytes ≡ flat_map (λ line. line.text ++ 10 ∷ []) lines
+  pub told : events ≡ filter_map (λ line. line.event) lines
+  pub each : AllByRecursion (IsLineOf policy schemes) lines

@@ -1,0 +1,83 @@
+//! What the parts of a line say.
+ghost use Rattle.std.specs.Prelude.{◌≡◌};
+ghost use Rattle.mls_script.specs.Grammar.{blank, command_of, event_of};
+
+use crate::event::{Command, Event};
+use crate::grammar::Verb;
+use mls_lattice::{Items, LabelNo, Str};
+use mls_scheme::{RelNo, Value};
+use std::alloc::Global;
+
+/// What the parts of a line say; what no part says is blank.
+#[derive(Drop, Debug)]
+pub(crate) struct Draft {
+    pub level: LabelNo,
+    pub session: Str,
+    pub user: Str,
+    pub rel: RelNo,
+    pub key: Items<Option<Value>>,
+    pub values: Items<Option<Value>>,
+    pub label: LabelNo,
+    pub from: LabelNo,
+    pub sets: Items<(usize, Option<Value>)>,
+}
+
+impl Draft {
+    /// Nothing is said: takes no memory.
+    pub fn new(alloc: Global) -> Draft
+        ensures { result ≡ blank }
+    {
+        Draft {
+            level: LabelNo::new(0),
+            session: Str::from(String::new(alloc)),
+            user: Str::from(String::new(alloc)),
+            rel: RelNo::new(0),
+            key: Items::from(Vec::new(alloc)),
+            values: Items::from(Vec::new(alloc)),
+            label: LabelNo::new(0),
+            from: LabelNo::new(0),
+            sets: Items::from(Vec::new(alloc)),
+        }
+    }
+
+    /// The event of a verb.
+    pub fn into_event(self, verb: Verb) -> Event
+        ensures { result ≡ event_of verb self }
+    {
+        let Draft {
+            level,
+            session,
+            user,
+            rel,
+            key,
+            values,
+            label,
+            from,
+            sets,
+        } = self;
+        let command = match verb {
+            Verb::Open => Command::Open(user),
+            Verb::Close => Command::Close,
+            Verb::Audit => Command::Audit,
+            Verb::View => Command::View { rel, label },
+            Verb::Insert => Command::Insert { rel, key, values },
+            Verb::Update => Command::Update {
+                rel,
+                key,
+                key_class: label,
+                from,
+                sets,
+            },
+            Verb::Delete => Command::Delete {
+                rel,
+                key,
+                key_class: label,
+            },
+        };
+        Event {
+            level,
+            session,
+            command,
+        }
+    }
+}

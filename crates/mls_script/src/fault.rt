@@ -1,0 +1,107 @@
+ghost use Rattle.std.specs.Prelude.{◌≡◌};
+ghost use Rattle.mls_script.specs.Fault.{code_of, word_of, lifted, in_line};
+
+use mls_tokens::{TokenCause, TokenFault};
+use thiserror::Error;
+
+/// Why a script is refused.
+#[derive(Clone, Copy, PartialEq, Eq, Debug, Error)]
+pub enum ScriptCause {
+    #[error("no token stands here")]
+    Token,
+    #[error("no command goes on so")]
+    Expected,
+    #[error("a name is unknown")]
+    UnknownName,
+    #[error("a value has the wrong kind, or a list the wrong length")]
+    Kind,
+    #[error("a name stands twice")]
+    Repeated,
+    #[error("a text is too long")]
+    TooLong,
+    #[error("out of memory")]
+    Memory,
+    #[error("the last line has no end")]
+    Unterminated,
+}
+
+impl ScriptCause {
+    /// The number of the cause.
+    pub fn code(self) -> u8
+        ensures { result ≡ code_of self }
+    {
+        match self {
+            ScriptCause::Token => 21,
+            ScriptCause::Expected => 22,
+            ScriptCause::UnknownName => 23,
+            ScriptCause::Kind => 24,
+            ScriptCause::Repeated => 25,
+            ScriptCause::TooLong => 27,
+            ScriptCause::Memory => 29,
+            ScriptCause::Unterminated => 30,
+        }
+    }
+
+    /// The name of the cause.
+    pub fn word(self) -> &'static str
+        ensures { result.now ≡ word_of self }
+    {
+        match self {
+            ScriptCause::Token => "Token",
+            ScriptCause::Expected => "Expected",
+            ScriptCause::UnknownName => "UnknownName",
+            ScriptCause::Kind => "Kind",
+            ScriptCause::Repeated => "Repeated",
+            ScriptCause::TooLong => "TooLong",
+            ScriptCause::Memory => "Memory",
+            ScriptCause::Unterminated => "Unterminated",
+        }
+    }
+}
+
+/// Where in a script which fault stands: lines and bytes of a line are counted from 1.
+#[derive(Clone, Copy, PartialEq, Eq, Debug, Error)]
+#[error("line {line}, column {column}: {cause}")]
+pub struct ScriptFault {
+    pub line: usize,
+    pub column: usize,
+    pub cause: ScriptCause,
+}
+
+/// Where in a line which fault stands: bytes are counted from 1.
+#[derive(Clone, Copy, PartialEq, Eq, Debug)]
+pub(crate) struct LineFault {
+    pub at: usize,
+    pub cause: ScriptCause,
+}
+
+impl LineFault {
+    /// The fault, in the line of a number.
+    pub fn in_line(self, line: usize) -> ScriptFault
+        ensures { result ≡ in_line line self }
+    {
+        ScriptFault {
+            line,
+            column: self.at,
+            cause: self.cause,
+        }
+    }
+}
+
+/// A fault of the tokens.
+impl From<TokenFault> for LineFault {
+    ghost from_gives = { λ f e. e ≡ lifted f };
+
+    fn from(fault: TokenFault) -> LineFault {
+        let cause = match fault.cause {
+            TokenCause::Token => ScriptCause::Token,
+            TokenCause::Expected => ScriptCause::Expected,
+            TokenCause::TooLong => ScriptCause::TooLong,
+            TokenCause::Memory => ScriptCause::Memory,
+        };
+        LineFault {
+            at: fault.at,
+            cause,
+        }
+    }
+}

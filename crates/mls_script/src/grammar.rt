@@ -1,0 +1,105 @@
+//! The grammar of commands: a word, and the parts that follow it.
+ghost use Rattle.std.specs.Prelude.{◌≡◌, option_map};
+ghost use Rattle.mls_script.specs.Grammar.{verb_word, parts_of, part_word};
+
+/// What a command begins with.
+#[derive(Clone, Copy, PartialEq, Eq, Debug)]
+pub(crate) enum Verb {
+    Open,
+    Close,
+    Audit,
+    View,
+    Insert,
+    Update,
+    Delete,
+}
+
+/// A part of a line.
+#[derive(Clone, Copy, PartialEq, Eq, Debug)]
+pub(crate) enum Part {
+    /// The label of the session's level.
+    Level,
+    /// The session's name.
+    Session,
+    /// The name of a user.
+    User,
+    /// The name of a relation.
+    Relation,
+    /// `key` and the values of a key.
+    Key,
+    /// `values` and those of the other attributes.
+    Values,
+    /// `at` and a label.
+    At,
+    /// `class` and a label.
+    Class,
+    /// `from` and a label.
+    From,
+    /// `set` and new values of attributes outside the key.
+    Sets,
+}
+
+/// Every verb.
+pub(crate) const VERBS: [Verb; 7] = [
+    Verb::Open,
+    Verb::Close,
+    Verb::Audit,
+    Verb::View,
+    Verb::Insert,
+    Verb::Update,
+    Verb::Delete,
+];
+
+impl Verb {
+    pub fn word(self) -> &'static str
+        ensures { result.now ≡ verb_word self }
+    {
+        match self {
+            Verb::Open => "open",
+            Verb::Close => "close",
+            Verb::Audit => "audit",
+            Verb::View => "view",
+            Verb::Insert => "insert",
+            Verb::Update => "update",
+            Verb::Delete => "delete",
+        }
+    }
+
+    /// The parts that follow the verb, each where the draft is filled from left to right.
+    pub fn parts(self) -> &'static [Part]
+        ensures { result.now ≡ parts_of self }
+    {
+        match self {
+            Verb::Open => &[Part::User],
+            Verb::Close => &[],
+            Verb::Audit => &[],
+            Verb::View => &[Part::Relation, Part::At],
+            Verb::Insert => &[Part::Relation, Part::Key, Part::Values],
+            Verb::Update => &[
+                Part::Relation,
+                Part::Key,
+                Part::Class,
+                Part::From,
+                Part::Sets,
+            ],
+            Verb::Delete => &[Part::Relation, Part::Key, Part::Class],
+        }
+    }
+}
+
+impl Part {
+    /// The word before the part, if it has one.
+    pub fn word(self) -> Option<&'static str>
+        ensures { option_map (λ w. w.now) result ≡ part_word self }
+    {
+        match self {
+            Part::Level | Part::Session | Part::User | Part::Relation => None,
+            Part::Key => Some("key"),
+            Part::Values => Some("values"),
+            Part::At => Some("at"),
+            Part::Class => Some("class"),
+            Part::From => Some("from"),
+            Part::Sets => Some("set"),
+        }
+    }
+}

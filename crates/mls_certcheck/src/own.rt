@@ -198,10 +198,10 @@ impl Checker<'_> {
         requires { rows.now.count ≤ 16 }
         ensures { Says result (verdict (own_tests (claim_of self.now) number (rows_of rows.now) (Plain (Release value.now to into)))) }
     {
-        let target = self.declared(to);
-        let holds = flows(self.pc(number), target)
+        let lower = self.declared(to);
+        let holds = flows(self.pc(number), lower)
             && flows(self.label(rows, value), self.hi())
-            && flows(target, self.variable(into));
+            && flows(lower, self.variable(into));
         Refusal::unless(holds, number, Rule::Release)
     }
 }

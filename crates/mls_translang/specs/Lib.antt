@@ -13,3 +13,4 @@ pub mod Fits
 pub mod Layout
 pub mod Tokens
 pub mod ReadsBack
+pub mod Tells

@@ -2,6 +2,7 @@
 #![tactic(auto)]
 
 ghost use Rattle.mls_translang.specs.ReadsBack.{LayoutsAreTokens, PrintsAreTokens};
+ghost use Rattle.mls_translang.specs.Tells.{PrintsAreTold};
 
 mod block;
 mod expr;
@@ -33,4 +34,9 @@ pub fn layouts_are_tokens()
 /// The printed text of a transaction is read back as the tokens of its tree.
 pub fn prints_are_tokens()
     ensures { PrintsAreTokens }
+{}
+
+/// The printed text of a transaction tells it.
+pub fn prints_are_told()
+    ensures { PrintsAreTold }
 {}

@@ -2,7 +2,7 @@
 ghost use Rattle.std.specs.Prelude.{◌≡◌, ◌==◌, ◌<◌, ◌++◌, [], ◌∷◌, false, length, position, slice_get, string_bytes, Some, IfErr, IfSome, OnOk, option_map};
 ghost use Rattle.std.specs.List.{list_any};
 ghost use Rattle.std.specs.Str.{bytes_eq};
-ghost use Rattle.mls_translang.specs.Named.{item_of};
+ghost use Rattle.mls_translang.specs.Named.{item_of, has_name};
 
 use indexmap::IndexMap;
 use std::alloc::{AllocError, Global};
@@ -61,5 +61,27 @@ impl<T> Named<T> {
         ensures within { IfSome result (λ place. place < length self.now) }
     {
         self.map.get_index_of(name)
+    }
+}
+
+impl<T: Drop> Named<T> {
+    /// None: takes no memory.
+    pub fn new(alloc: Global) -> Named<T>
+        ensures { result ≡ [] }
+    {
+        Named {
+            map: IndexMap::new(alloc),
+        }
+    }
+
+    /// One more, of a new name.
+    pub fn push(&mut self, name: String, item: T) -> Result<(), AllocError>
+        requires { has_name self.old (string_bytes name) ≡ false }
+        ensures { OnOk result (self.new ≡ self.old ++ (string_bytes name, item) ∷ []) }
+    {
+        match self.map.insert(name, item) {
+            Ok(_) => Ok(()),
+            Err(_) => Err(AllocError),
+        }
     }
 }

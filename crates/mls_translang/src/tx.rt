@@ -42,6 +42,28 @@ impl Model for Tx {
 }
 
 impl Tx {
+    /// A transaction of these parts.
+    pub fn new(
+        name: Str,
+        lo: LabelNo,
+        hi: LabelNo,
+        params: Named<Parameter>,
+        vars: Named<Kind>,
+        body: Block,
+    ) -> Tx
+        requires { IsTx (record { name = name; lo = lo; hi = hi; params = params; vars = vars; body = body }) }
+        ensures { result ≡ record { name = name; lo = lo; hi = hi; params = params; vars = vars; body = body } }
+    {
+        Tx {
+            name,
+            lo,
+            hi,
+            params,
+            vars,
+            body,
+        }
+    }
+
     /// A NAME.
     pub fn name(&self) -> &str
         ensures name { result.now ≡ self.now.name }

@@ -1,0 +1,4 @@
+pub mod KeepingLemmas
+pub mod KindLemmas
+pub mod LawLemmas
+pub mod SampleLemmas

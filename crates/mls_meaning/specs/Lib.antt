@@ -1,0 +1,4 @@
+pub mod Expressions
+pub mod Meaning
+pub mod Secure
+pub mod Laws

@@ -1,0 +1,17 @@
+//! The laws of calls, each the contract of a function.
+ghost use Rattle.mls_meaning.specs.Laws.{CallsKeepForm, CallsKeepContent, CallsGiveItems};
+
+/// A call keeps the stored form.
+pub fn calls_keep_form()
+    ensures { CallsKeepForm }
+{}
+
+/// A call with arguments of the kinds of its parameters keeps the stored form with its kinds and intervals.
+pub fn calls_keep_content()
+    ensures { CallsKeepContent }
+{}
+
+/// What a call emits and releases has declared labels and values of kinds.
+pub fn calls_give_items()
+    ensures { CallsGiveItems }
+{}

@@ -1,0 +1,57 @@
+-- The rules of certificates imply security.
+use Rattle.std.proofs.Common.{◌≡◌, ℕ, true, false, List, [], length, Option, None, refl, sym, ◌∙◌, arith, inl, inr}
+use Rattle.std.specs.Prelude.{nat_lt, slice_index_or}
+use Rattle.std.proofs.lemmas.Bool.{cases_Bool, ltb-true, ltb-false}
+use Rattle.std.proofs.lemmas.List.{get_or_past}
+use Rattle.mls_lattice.specs.Lattice.{◌⊑◌}
+use Rattle.mls_lattice.specs.Labels.{label_of}
+use Rattle.mls_lattice.specs.Policy.{Tables, labels_of}
+use Rattle.mls_scheme.specs.declared.value.Value.{Value}
+use Rattle.mls_filterview.proofs.LevelLemmas.{low_from_views, views_from_low}
+use Rattle.mls_translang.specs.Tx.{Tx, scope_of}
+use Rattle.mls_meaning.specs.Meaning.{start}
+use Rattle.mls_meaning.specs.Secure.{SameArgs, param_labels}
+use Rattle.mls_meaning.proofs.KeepingLemmas.{block_stored}
+use Rattle.mls_certcheck.specs.Rules.{claim, pc}
+use Rattle.mls_security.specs.Laws.{RulesMakeSecure}
+use Rattle.mls_security.proofs.PlaceLemmas.{below-⊑, ⊑-below, body_obeys, around_above}
+use Rattle.mls_security.proofs.QuietLemmas.{Agrees, quiet_block}
+use Rattle.mls_security.proofs.FlowLemmas.{Around, related_block}
+
+-- the same arguments at the parameters whose labels c dominates, and none past the last
+args_same : (policy : Tables) (tx : Tx) (c : ℕ) (args brgs : List (Option Value)) → SameArgs (labels_of policy) c (param_labels tx) args brgs
+    → (i : ℕ) → label_of (labels_of policy) (slice_index_or (param_labels tx) i 0) ⊑ label_of (labels_of policy) c ≡ true → slice_index_or args i None ≡ slice_index_or brgs i None
+args_same policy tx c args brgs h i l =
+    elim (cases_Bool (nat_lt i (length (param_labels tx)))) [
+      | inl t ↦ h.each i (ltb-true i (length (param_labels tx)) t) (below-⊑ (labels_of policy) (slice_index_or (param_labels tx) i 0) c true l)
+      | inr f ↦
+          let past = ltb-false i (length (param_labels tx)) f in
+          get_or_past args i None (omega (arith, past, h.count)) ∙ sym (get_or_past brgs i None (omega (arith, past, h.count')))
+    ]
+
+pub secure_rules : RulesMakeSecure
+secure_rules policy distinct tx cert rules = record {
+  two_runs = λ c schemes d e args brgs read p q views same.
+      let ls = labels_of policy in
+      let k = claim policy tx cert in
+      let begin : Agrees k c (start d) (start e) = record { tables = λ r. low_from_views ls distinct _ _ (d r) (e r) (p r) (q r) c (views r); values = λ i v. refl; emitted = refl; released = refl } in
+      let around : Around policy distinct tx cert schemes args brgs c [] [] [] = record { params = args_same policy tx c args brgs same; rows = λ i l. refl } in
+      elim (related_block policy distinct tx cert schemes args brgs c (scope_of tx) tx.body 1 0 [] (body_obeys k rules) read.fits [] [] around (start d) (start e) p q begin) [
+        | inl h ↦ inl (below-⊑ ls tx.hi c false h.0, h.1)
+        | inr a ↦ inr (record {
+          released = a.released;
+          emitted = a.emitted;
+          views = λ r. views_from_low ls _ _ _ _ (block_stored policy schemes tx.hi distinct args (scope_of tx) tx.body read.fits [] (start d) p r) (block_stored policy schemes tx.hi distinct brgs (scope_of tx) tx.body read.fits [] (start e) q r) c (a.tables r);
+        })
+      ];
+  one_run = λ c schemes d args read p out.
+      let ls = labels_of policy in
+      let k = claim policy tx cert in
+      let obeys = body_obeys k rules in
+      let a = quiet_block policy distinct tx cert schemes args c (scope_of tx) tx.body 1 0 [] (pc k 0) obeys (around_above k tx.body 1 0 [] obeys) read.fits (⊑-below ls tx.lo c false out) [] (start d) p in
+      record {
+        released = sym a.released;
+        emitted = sym a.emitted;
+        views = λ r. views_from_low ls _ _ _ _ (block_stored policy schemes tx.hi distinct args (scope_of tx) tx.body read.fits [] (start d) p r) (p r) c (sym (a.tables r));
+      };
+}

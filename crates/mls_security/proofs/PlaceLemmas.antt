@@ -1,0 +1,83 @@
+-- What the rules say of a block, statement by statement.
+use Rattle.std.proofs.Common.{◌≡◌, ℕ, ◌+◌, Bool, true, false, List, [], ◌∷◌, ◌++◌, sym, ◌∙◌}
+use Rattle.std.specs.List.{AllByRecursion}
+use Rattle.std.proofs.lemmas.Bool.{true≢false, false_from_ne_true}
+use Rattle.mls_lattice.specs.Lattice.{Pair, Dominates, ◌⊑◌}
+use Rattle.mls_lattice.specs.Labels.{Labels, label_of, below}
+use Rattle.mls_lattice.proofs.LatticeLemmas.{⊑-Dominates, Dominates-⊑, Dominates-trans}
+use Rattle.mls_translang.specs.Tree.{Block, End, Do, If, For, statements}
+use Rattle.mls_certcheck.specs.Place.{Place, directs, places}
+use Rattle.mls_certcheck.specs.Rules.{Claim, pc, Context, AssignmentAt, BranchAt, LoopAt, WriteAt, ReleaseAt, EmitAt, Rules, all_places}
+
+-- ---- labels that c does not dominate
+
+pub unseen_above : (c a b : Pair) → Dominates b a → a ⊑ c ≡ false → b ⊑ c ≡ false
+unseen_above c a b d h = false_from_ne_true _ (λ t. true≢false (sym (Dominates-⊑ a c (Dominates-trans c b a (⊑-Dominates b c t) d)) ∙ h))
+
+pub seen_under : (c a b : Pair) → Dominates b a → b ⊑ c ≡ true → a ⊑ c ≡ true
+seen_under c a b d h = Dominates-⊑ a c (Dominates-trans c b a (⊑-Dominates b c h) d)
+
+pub below-⊑ : (ls : Labels) (a c : ℕ) (b : Bool) → label_of ls a ⊑ label_of ls c ≡ b → below ls a c ≡ b
+unfolding below
+below-⊑ ls a c b h = h
+
+pub ⊑-below : (ls : Labels) (a c : ℕ) (b : Bool) → below ls a c ≡ b → label_of ls a ⊑ label_of ls c ≡ b
+unfolding below
+⊑-below ls a c b h = h
+
+-- ---- lists
+
+pub all_front : {A : Type 0} (P : A → Type 0) (xs ys : List A) → AllByRecursion P (xs ++ ys) → AllByRecursion P xs
+all_front P [] ys h = tt
+all_front P (x ∷ xs) ys h = (h.0, all_front P xs ys h.1)
+
+pub all_back : {A : Type 0} (P : A → Type 0) (xs ys : List A) → AllByRecursion P (xs ++ ys) → AllByRecursion P ys
+all_back P [] ys h = h
+all_back P (x ∷ xs) ys h = all_back P xs ys h.1
+
+-- ---- statements
+
+-- what the rules say of one statement
+pub record Obeys (k : Claim) (p : Place) : Type 0 where
+  pub context : Context k p
+  pub assignment : AssignmentAt k p.number p.rows p.node
+  pub branch : BranchAt k p.number p.rows p.node
+  pub row_loop : LoopAt k p.number p.rows p.node
+  pub write : WriteAt k p.number p.rows p.node
+  pub release : ReleaseAt k p.number p.rows p.node
+  pub emit : EmitAt k p.number p.rows p.node
+
+module _ (k : Claim) where
+  -- so of each statement of a block, the first of which is n, in the statement a and in these loops
+  abbrev pub BlockObeys : ℕ → ℕ → List ℕ → Block → Type 0
+  BlockObeys n a rows block = AllByRecursion (Obeys k) (places n a rows block)
+
+  -- the label of each of its own statements dominates l
+  abbrev pub AreAbove : Pair → ℕ → Block → Type 0
+  AreAbove l n block = AllByRecursion (λ m. Dominates (pc k m) l) (directs n block)
+
+  all_obey : (ps : List Place) → AllByRecursion (Context k) ps
+      → AllByRecursion (λ p. AssignmentAt k p.number p.rows p.node) ps → AllByRecursion (λ p. BranchAt k p.number p.rows p.node) ps
+      → AllByRecursion (λ p. LoopAt k p.number p.rows p.node) ps → AllByRecursion (λ p. WriteAt k p.number p.rows p.node) ps
+      → AllByRecursion (λ p. ReleaseAt k p.number p.rows p.node) ps → AllByRecursion (λ p. EmitAt k p.number p.rows p.node) ps
+      → AllByRecursion (Obeys k) ps
+  all_obey [] a b c d e f g = tt
+  all_obey (p ∷ ps) a b c d e f g = (
+    record { context = a.0; assignment = b.0; branch = c.0; row_loop = d.0; write = e.0; release = f.0; emit = g.0 },
+    all_obey ps a.1 b.1 c.1 d.1 e.1 f.1 g.1,
+  )
+
+  pub body_obeys : Rules k → BlockObeys 1 0 [] k.tx.body
+  body_obeys r = all_obey (all_places k) r.context r.assignment r.branch r.row_loop r.write r.release r.emit
+
+  -- its own statements run only where what is around it runs
+  pub around_above : (block : Block) (n a : ℕ) (rows : List ℕ) → BlockObeys n a rows block → AreAbove (pc k a) n block
+  around_above End n a rows h = tt
+  around_above (Do stmt rest) n a rows h = (h.0.context, around_above rest (n + 1) a rows h.1)
+  around_above (If guard one other rest) n a rows h = (
+    h.0.context,
+    around_above rest (n + (1 + statements one + statements other)) a rows
+        (all_back (Obeys k) (places (n + 1 + statements one) n rows other) _ (all_back (Obeys k) (places (n + 1) n rows one) _ h.1)),
+  )
+  around_above (For row rel label body rest) n a rows h =
+      (h.0.context, around_above rest (n + (1 + statements body)) a rows (all_back (Obeys k) (places (n + 1) n (label ∷ rows) body) _ h.1))

@@ -1,6 +1,5 @@
 use Rattle.std.proofs.Common.{sym, ap, subst}
 use Rattle.mls_filterview.specs.Content.{State}
-use Rattle.mls_machine.specs.Site.{Site}
 use Rattle.mls_machine.specs.Observation.{EventsFit}
 use Rattle.mls_sessions.specs.World.{IsSound}
 use Rattle.mls_sessions.proofs.StartLemmas.{no_content_sound}

@@ -1,4 +1,6 @@
 //! What a command asks of the machine that it runs on.
+ghost use Rattle.std.specs.Prelude.{◌≤◌, length, IfOk};
+
 use std::alloc::Global;
 use std::io::{ErrorKind, Read};
 
@@ -23,7 +25,9 @@ pub trait Host {
 }
 
 /// All bytes of a reader, where they are at most `MOST_BYTES`.
-pub fn read_whole<R: Read + Drop>(alloc: Global, reader: R) -> Result<Vec<u8>, HostFault> {
+pub fn read_whole<R: Read + Drop>(alloc: Global, reader: R) -> Result<Vec<u8>, HostFault>
+    ensures { IfOk result (λ bytes. length bytes.items ≤ 1048576) }
+{
     let mut bytes = Vec::new(alloc);
     match reader.take(MOST_BYTES as u64 + 1).read_to_end(&mut bytes) {
         Ok(_) if bytes.len() > MOST_BYTES => Err(HostFault::TooLong),

@@ -1,4 +1,6 @@
 //! Why a command ends without success, and how that is told.
+ghost use Rattle.std.specs.Prelude.{◌≡◌, ◌⊎◌};
+
 use crate::host::HostFault;
 use mls_lattice::PolicyFault;
 use mls_scheme::SchemeFault;
@@ -58,7 +60,9 @@ impl Refusal {
     }
 
     /// The exit status: 2 where an input or the command line was refused, 3 for store, writing and memory.
-    pub fn status(&self) -> u8 {
+    pub fn status(&self) -> u8
+        ensures { (result ≡ 2) ⊎ (result ≡ 3) }
+    {
         match self {
             Refusal::Policy(PolicyFault::Memory)
             | Refusal::Schemes(SchemeFault::Memory)

@@ -4,7 +4,8 @@ ghost use Rattle.std.specs.Prelude.{◌≡◌, ◌⊎◌};
 use crate::host::HostFault;
 use mls_lattice::PolicyFault;
 use mls_scheme::SchemeFault;
-use mls_sessions::{RunCause, RunFault, ScriptCause, ScriptFault};
+use mls_script::{ScriptCause, ScriptFault};
+use mls_sessions::{RunCause, RunFault};
 use std::alloc::AllocError;
 use std::io::{self, Write};
 

@@ -1,7 +1,8 @@
 -- The printed output: the lines of the replies, in order, with a line feed after each.
-use Rattle.std.specs.Prelude.{ℕ, ◌/◌, ◌%◌, ◌+◌, ◌==◌, ◌||◌, nat_lt, if◌then◌else◌, List, [], ◌∷◌, ◌++◌, map, Option, Some, None, codes, length, ◌<◌, ⊤}
+use Rattle.std.specs.Prelude.{ℕ, if◌then◌else◌, List, [], ◌∷◌, ◌++◌, map, Option, Some, None, codes, length, ◌<◌, ⊤}
 use Rattle.std.specs.List.{flat_map, AllByRecursion}
 use Rattle.std.specs.Fmt.{decimal, signed_decimal}
+use Rattle.mls_tokens.specs.Writing.{printable, quoted}
 use Rattle.mls_lattice.specs.Lattice.{Pair, same_pair}
 use Rattle.mls_lattice.specs.Policy.{Name, Named, Tables, labels_of}
 use Rattle.mls_lattice.specs.Canon.{label_name, user_name}
@@ -25,24 +26,7 @@ use Rattle.mls_machine.specs.Site.{Site}
 use Rattle.mls_machine.specs.Reply.{code_of, word_of}
 use Rattle.mls_machine.specs.Machine.{World, step}
 
--- ---- names and values
-
-abbrev pub hex_digit : ℕ → ℕ
-hex_digit n = if nat_lt n 10 then 48 + n else 87 + n
-
--- a control character as \x and two digits; so no name or value begins a line
-abbrev pub printable_byte : ℕ → List ℕ
-printable_byte b = if nat_lt b 32 || b == 127 then codes "\\x" ++ hex_digit (b / 16) ∷ hex_digit (b % 16) ∷ [] else b ∷ []
-
-abbrev pub printable : List ℕ → List ℕ
-printable = flat_map printable_byte
-
--- in a text between quotes, a quote and a backslash stand behind a backslash
-abbrev pub quoted_byte : ℕ → List ℕ
-quoted_byte b = if b == 34 || b == 92 then 92 ∷ b ∷ [] else printable_byte b
-
-abbrev pub quoted : List ℕ → List ℕ
-quoted text = codes "\"" ++ flat_map quoted_byte text ++ codes "\""
+-- ---- values
 
 abbrev pub value_text : Value → List ℕ
 value_text (values.Int n) = signed_decimal n

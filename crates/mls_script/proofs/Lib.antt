@@ -4,3 +4,5 @@ pub mod ScriptSteps
 pub mod FoundLemmas
 pub mod PartLemmas
 pub mod LawLemmas
+pub mod AgainLemmas
+pub mod TellingLemmas

@@ -14,7 +14,7 @@ use Rattle.mls_script.specs.Reading.{line_at, lines_at, in_script, split_lines, 
 
 -- ---- lines
 
-split_ended : (front line after : List ℕ) → AllByRecursion (λ b. b ≢ 10) line → split_lines front (line ++ 10 ∷ after) ≡ (front ++ line, true) ∷ split_lines [] after
+pub split_ended : (front line after : List ℕ) → AllByRecursion (λ b. b ≢ 10) line → split_lines front (line ++ 10 ∷ after) ≡ (front ++ line, true) ∷ split_lines [] after
 split_ended [] [] after one = refl
 split_ended (f ∷ front) [] after one = ap (λ x. (x, true) ∷ split_lines [] after) (sym (append-nil (f ∷ front)))
 split_ended [] (b ∷ bs) after one = rw (ne_eqb b 10 one.0) (split_ended (b ∷ []) bs after one.1)

@@ -1,8 +1,8 @@
 -- Scripts: what events a text tells, with no word of how it is read.
 use Rattle.std.specs.Prelude.{◌≡◌, ◌≢◌, ℕ, List, [], ◌∷◌, ◌++◌, Option, Some, None}
 use Rattle.std.specs.List.{AllByRecursion, flat_map, filter_map}
-use Rattle.mls_lattice.specs.Policy.{Tables}
-use Rattle.mls_scheme.specs.Scheme.{Schemes}
+use Rattle.mls_lattice.specs.Policy.{Tables, IsPolicy}
+use Rattle.mls_scheme.specs.Scheme.{Schemes, AreSchemes}
 use Rattle.mls_tokens.specs.Text.{AreTokens}
 use Rattle.mls_script.specs.declared.event.Event.{Event}
 use Rattle.mls_script.specs.Event.{EventFits}
@@ -28,3 +28,9 @@ pub record ReadsScript (policy : Tables) (schemes : Schemes) (bytes : List ℕ) 
   pub text : bytes ≡ flat_map (λ line. line.text ++ 10 ∷ []) lines
   pub told : events ≡ filter_map (λ line. line.event) lines
   pub each : AllByRecursion (IsLineOf policy schemes) lines
+
+-- a text tells the events of one list at most
+abbrev pub ScriptsAreOnce : Type 0
+ScriptsAreOnce =
+    (policy : Tables) (schemes : Schemes) → IsPolicy policy → AreSchemes schemes
+    → (bytes : List ℕ) (es fs : List Event) → ReadsScript policy schemes bytes es → ReadsScript policy schemes bytes fs → es ≡ fs

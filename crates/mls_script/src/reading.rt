@@ -1,6 +1,7 @@
 //! Scripts, line by line.
-ghost use Rattle.std.specs.Prelude.{◌≡◌, ◌≢◌, [], IfOk, ◌++◌, ◌∷◌, OnOk, IfErr, IsTrue, IsFalse, option_to_list};
+ghost use Rattle.std.specs.Prelude.{List, ◌≡◌, ◌≢◌, [], IfOk, ◌++◌, ◌∷◌, OnOk, IfErr, IsTrue, IsFalse, option_to_list};
 ghost use Rattle.std.specs.List.{AllByRecursion};
+ghost use Rattle.mls_script.specs.declared.event.Event.{Event as TheEvent};
 ghost use Rattle.mls_script.specs.declared.fault.ScriptCause.TheVariants.{Memory};
 ghost use Rattle.mls_script.specs.Event.{EventFits};
 ghost use Rattle.mls_script.specs.Script.{ReadsScript};
@@ -106,8 +107,12 @@ pub fn script(
     ensures exact { IsRead (λ v. v.items) result (script_at policy.now schemes.now bytes.now) }
     // What is read is what the text tells.
     ensures reads { IfOk result (λ v. ReadsScript policy.now schemes.now bytes.now v.items) }
+    // Unless memory runs out, no text that tells events is refused.
+    ensures refused { IfErr result (λ e. e.cause ≢ Memory → (es : List TheEvent) → ReadsScript policy.now schemes.now bytes.now es → ⊥) }
     // Each event keeps to the numbers and kinds of policy and schemes.
     ensures fits { IfOk result (λ v. AllByRecursion (EventFits policy.now schemes.now) v.items) }
 {
+    // What every policy and schemes promise: no two labels, relations or attributes of a relation have one name.
+    let _names = (policy.label_count(), schemes.count());
     events_of(alloc, policy, schemes, bytes)
 }

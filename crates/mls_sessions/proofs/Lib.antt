@@ -7,3 +7,4 @@ pub mod StepLemmas
 pub mod EngineLemmas
 pub mod NamingLemmas
 pub mod AnswerLemmas
+pub mod StartLemmas

@@ -1,76 +1,15 @@
 //! Names and values, as replies print them.
 ghost use Rattle.std.specs.Prelude.{◌≡◌, ◌<◌, ◌++◌, length, codes, OnOk};
 ghost use Rattle.std.specs.Fmt.{decimal, signed_decimal};
-ghost use Rattle.std.specs.List.{flat_map};
 ghost use Rattle.mls_audit.specs.Entry.{label_of};
-ghost use Rattle.mls_machine.specs.Output.{hex_digit, printable_byte, printable, quoted_byte, quoted, value_text, cell_text, entry_front, entry_text};
+ghost use Rattle.mls_machine.specs.Output.{value_text, cell_text, entry_front, entry_text};
 
 use crate::naming::label_name;
 use mls_audit::Entry;
 use mls_lattice::{LabelNo, Policy};
 use mls_scheme::Value;
+use mls_tokens::{push_printable, push_quoted};
 use std::alloc::{AllocError, Global};
-
-fn hex_digit(number: u8) -> u8
-    requires { number < 16 }
-    ensures { result ≡ hex_digit number }
-{
-    if number < 10 {
-        b'0' + number
-    } else {
-        b'a' - 10 + number
-    }
-}
-
-fn push_printable(text: &mut Vec<u8>, byte: u8) -> Result<(), AllocError>
-    ensures { OnOk result (text.new.items ≡ text.old.items ++ printable_byte byte) }
-{
-    if byte < 32 || byte == 127 {
-        text.extend_from_slice(&[b'\\', b'x', hex_digit(byte / 16), hex_digit(byte % 16)])?;
-    } else {
-        text.push(byte)?;
-    }
-    Ok(())
-}
-
-/// Appends a name.
-pub(crate) fn push_name(text: &mut Vec<u8>, name: &str) -> Result<(), AllocError>
-    ensures { OnOk result (text.new.items ≡ text.old.items ++ printable name.now) }
-{
-    for byte in name.as_bytes() {
-        push_printable(text, *byte)?;
-    }
-    Ok(())
-}
-
-fn push_quoted_byte(text: &mut Vec<u8>, byte: u8) -> Result<(), AllocError>
-    ensures { OnOk result (text.new.items ≡ text.old.items ++ quoted_byte byte) }
-{
-    if byte == b'"' || byte == b'\\' {
-        text.extend_from_slice(&[b'\\', byte])?;
-        return Ok(());
-    }
-    push_printable(text, byte)
-}
-
-fn push_inside(text: &mut Vec<u8>, inside: &str) -> Result<(), AllocError>
-    ensures { OnOk result (text.new.items ≡ text.old.items ++ flat_map quoted_byte inside.now) }
-{
-    for byte in inside.as_bytes() {
-        push_quoted_byte(text, *byte)?;
-    }
-    Ok(())
-}
-
-/// Appends a text between quotes.
-fn push_quoted(text: &mut Vec<u8>, inside: &str) -> Result<(), AllocError>
-    ensures { OnOk result (text.new.items ≡ text.old.items ++ quoted inside.now) }
-{
-    text.push(b'"')?;
-    push_inside(text, inside)?;
-    text.push(b'"')?;
-    Ok(())
-}
 
 pub(crate) fn push_str(text: &mut Vec<u8>, words: &str) -> Result<(), AllocError>
     ensures { OnOk result (text.new.items ≡ text.old.items ++ words.now) }
@@ -130,9 +69,9 @@ fn push_entry_front(
     push_str(text, "entry ")?;
     push_str(text, label_name(policy, label))?;
     push_str(text, deed)?;
-    push_name(text, user)?;
+    push_printable(text, user)?;
     push_str(text, " ")?;
-    push_name(text, session)?;
+    push_printable(text, session)?;
     push_str(text, " ")
 }
 
@@ -154,7 +93,7 @@ pub(crate) fn push_entry(
             transaction,
         } => {
             push_entry_front(text, policy, *label, " called ", user, session)?;
-            push_name(text, transaction)
+            push_printable(text, transaction)
         }
         Entry::Denied {
             label,

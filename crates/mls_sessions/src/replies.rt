@@ -8,13 +8,14 @@ ghost use Rattle.mls_updates.specs.Outcome.{is_done};
 ghost use Rattle.mls_machine.specs.Output.{front, heading, outcome_text, denial_text, row_text, entry_text, view_texts, reply_lines, printed, CommandIsKnown, EntriesAreKnown, CanBePrinted};
 
 use crate::naming::{label_name, user_name};
-use crate::printing::{push_entry, push_name, push_str};
+use crate::printing::{push_entry, push_str};
 use crate::printing_rows::push_row;
 use mls_audit::Entry;
 use mls_lattice::{LabelNo, Policy, UserNo};
 use mls_machine::{Denial, Reply};
 use mls_scheme::{Attributes, Scheme, Schemes, Tuple};
 use mls_script::{Command, Event};
+use mls_tokens::push_printable;
 use mls_updates::Outcome;
 use std::alloc::{AllocError, Global};
 
@@ -28,7 +29,7 @@ fn push_front(text: &mut Vec<u8>, policy: &Policy, event: &Event) -> Result<(), 
     push_str(text, " ")?;
     push_str(text, level)?;
     push_str(text, "/")?;
-    push_name(text, &event.session)?;
+    push_printable(text, &event.session)?;
     push_str(text, " ")
 }
 

@@ -155,7 +155,7 @@ impl Printer {
     }
 
     /// The allocator of the text.
-    pub fn alloc(&self) -> Global {
+    pub(crate) fn alloc(&self) -> Global {
         self.alloc
     }
 

@@ -1,3 +1,4 @@
+use Rattle.mls_script.proofs.TellingLemmas.{read_refused}
 use Rattle.mls_script.proofs.LawLemmas.{read_found, fits_found}
 use Rattle.mls_script.proofs.reading.script.Goals as goal
 
@@ -6,3 +7,6 @@ returns-clause-reads c = read_found c.args.policy.now c.args.schemes.now (λ v. 
 
 pub returns-clause-fits : goal.returns-clause-fits
 returns-clause-fits c = fits_found c.args.policy.now c.args.schemes.now (λ v. v.items) c.args.bytes.now c.events_of.result c.events_of.ensures
+
+pub returns-clause-refused : goal.returns-clause-refused
+returns-clause-refused c = read_refused c.args.policy.now c.args.schemes.now c.label_count.ensures.valid c.count.ensures.valid (λ v. v.items) c.args.bytes.now c.events_of.result c.events_of.ensures

@@ -1,0 +1,396 @@
+-- Lines and scripts that tell events are read as these.
+use Rattle.std.proofs.Common.{◌≡◌, ℕ, ◌<◌, ◌+◌, true, false, List, [], ◌∷◌, ◌++◌, length, Option, Some, None, Result, Ok, Err, inl, inr, refl, sym, ap, ◌∙◌, subst, append_assoc, cond}
+use Rattle.std.specs.Prelude.{option_map, option_to_list, IfErr, ⊤}
+use Rattle.std.specs.List.{flat_map, filter_map, AllByRecursion, slice_get}
+use Rattle.std.specs.Str.{bytes_eq}
+use Rattle.std.proofs.lemmas.Bool.{cases_Bool}
+use Rattle.std.proofs.lemmas.List.{append-nil}
+use Rattle.std.proofs.lemmas.List.Elements.{filter_map-append}
+use Rattle.std.proofs.lemmas.Option.{slice_get-get_or}
+use Rattle.mls_lattice.specs.Name.{is_name}
+use Rattle.mls_lattice.specs.Policy.{Name, Tables, IsPolicy}
+use Rattle.mls_lattice.specs.Reading.{◌>>=◌}
+use Rattle.mls_scheme.specs.declared.value.Value.{Value}
+use Rattle.mls_scheme.specs.Scheme.{Schemes, AreSchemes, scheme_of, no_scheme}
+use Rattle.mls_scheme.specs.Fits.{HaveKinds}
+use Rattle.mls_tokens.specs.declared.fault.TokenCause.TheVariants as causes
+use Rattle.mls_tokens.specs.declared.fault.TokenFault.{TokenFault}
+use Rattle.mls_tokens.specs.declared.token.Token.{Token}
+use Rattle.mls_tokens.specs.declared.token.Token.TheVariants.{Word}
+use Rattle.mls_tokens.specs.declared.token.Placed.{Placed}
+use Rattle.mls_tokens.specs.declared.sign.Sign.TheVariants.{Comma}
+use Rattle.mls_tokens.specs.Scanning.{Left, tokens_in, tokens_at}
+use Rattle.mls_tokens.specs.Passing.{is_word, is_sign, PlacedName, is_expected, over_with, is_over, pass_end}
+use Rattle.mls_tokens.proofs.TokensLemmas.{tokens_exact}
+use Rattle.mls_script.specs.declared.event.Event.{Event}
+use Rattle.mls_script.specs.declared.event.Command.{Command}
+use Rattle.mls_script.specs.declared.event.Command.TheVariants as commands
+use Rattle.mls_script.specs.declared.fault.ScriptCause.TheVariants.{Memory}
+use Rattle.mls_script.specs.declared.fault.LineFault.{LineFault}
+use Rattle.mls_script.specs.declared.fault.ScriptFault.{ScriptFault}
+use Rattle.mls_script.specs.declared.draft.Draft.{Draft}
+use Rattle.mls_script.specs.declared.grammar.Verb.{Verb}
+use Rattle.mls_script.specs.declared.grammar.Verb.TheVariants as v
+use Rattle.mls_script.specs.declared.grammar.Part.{Part}
+use Rattle.mls_script.specs.declared.grammar.Part.TheVariants.{Level, Session, User, Relation, Key, Values, At, Class, From, Sets as Settings}
+use Rattle.mls_script.specs.declared.lists.Listed.{Listed}
+use Rattle.mls_script.specs.Event.{Sets, SetsFit, CommandFits, EventFits}
+use Rattle.mls_script.specs.Grammar.{verbs, verb_word, parts_of, part_word, blank, event_of, verb_of, draft_of, drafted}
+use Rattle.mls_script.specs.Tokens.{label_name, relation_name, separated, list_tokens, set_tokens, word_tokens, said, part_tokens, parts_tokens, event_tokens}
+use Rattle.mls_script.specs.Reading.{Looked, label_named, relation_named, pass_sets, fit_or, held, put_label, put_values, attributes_of, with_label, with_name, with_relation, with_sets, with_values, label_at, name_at, relation_at, list_at, sets_at, content_at, pass_word, part_at, parts_at, verb_or, verb_among, command_at, sentence_at, told_at, form_of, event_in, line_at, in_script, lines_at, split_lines, script_at, IsRead}
+use Rattle.mls_script.specs.Script.{Line, Tells, IsLineOf, ReadsScript, ScriptsAreOnce}
+use Rattle.mls_script.proofs.ScriptSteps.{split_ended}
+use Rattle.mls_script.proofs.PartLemmas.{PartFits}
+use Rattle.mls_script.proofs.AgainLemmas.{label_again, relation_again, scheme_valid, label_is_name, relation_is_name, Read, took, not_taken, NotNext, pass_read, word_same, name_read, list_read, kinds_again, sets_read}
+
+-- ---- what a part puts into a draft
+
+abbrev put : Part → Draft → Draft → Draft
+put Level d f = record f { level = d.level }
+put Session d f = record f { session = d.session }
+put User d f = record f { user = d.user }
+put Relation d f = record f { rel = d.rel }
+put Key d f = record f { key = d.key }
+put Values d f = record f { values = d.values }
+put At d f = record f { label = d.label }
+put Class d f = record f { label = d.label }
+put From d f = record f { from = d.from }
+put Settings d f = record f { sets = d.sets }
+
+abbrev filled : List Part → Draft → Draft → Draft
+filled [] d f = f
+filled (p ∷ ps) d f = filled ps d (put p d f)
+
+module _ (policy : Tables) (schemes : Schemes) (is_policy : IsPolicy policy) (are_schemes : AreSchemes schemes) where
+  abbrev Reads : (Left → Result (Looked × Left) TokenFault) → Left → Draft → List Token → Type 0
+  Reads f l d us = Read f l (λ looked. looked ≡ Ok d) us
+
+  label_read : (p : Part) (n : ℕ) (f : Draft) (us : List Token) (l : Left) → n < length policy.labels → tokens_in l.placed ≡ Word (label_name policy n) ∷ us → Reads (label_at policy p (Ok f)) l (put_label p f n) us
+  label_read p n f us l within e =
+      let name = name_read (label_name policy n) us l (label_is_name policy is_policy n within) e in
+      let found : label_named policy name.value ≡ Ok n = ap (λ (s : Name). label_named policy (s, name.value.1)) name.holds ∙ label_again policy is_policy n name.value.1 within in
+      record {
+        value = with_label p (Ok f) (label_named policy name.value);
+        rest = name.rest;
+        is = ap (λ r. r >>= λ (n : PlacedName × Left). Ok (with_label p (Ok f) (label_named policy n.0), n.1)) name.is;
+        holds = ap (with_label p (Ok f)) found;
+        tokens = name.tokens;
+        stop = name.stop;
+      }
+
+  name_part_read : (p : Part) (s : Name) (f : Draft) (us : List Token) (l : Left) → is_name s ≡ true → tokens_in l.placed ≡ Word s ∷ us → Read (name_at p (Ok f)) l (λ looked. looked ≡ with_name p (Ok f) s) us
+  name_part_read p s f us l named e =
+      let name = name_read s us l named e in
+      record {
+        value = with_name p (Ok f) name.value.0;
+        rest = name.rest;
+        is = ap (λ r. r >>= λ (n : PlacedName × Left). Ok (with_name p (Ok f) n.0.0, n.1)) name.is;
+        holds = ap (with_name p (Ok f)) name.holds;
+        tokens = name.tokens;
+        stop = name.stop;
+      }
+
+  relation_read : (n : ℕ) (f : Draft) (us : List Token) (l : Left) → n < length schemes → tokens_in l.placed ≡ Word (relation_name schemes n) ∷ us → Reads (relation_at schemes (Ok f)) l (record f { rel = n }) us
+  relation_read n f us l within e =
+      let name = name_read (relation_name schemes n) us l (relation_is_name schemes are_schemes n within) e in
+      let found : relation_named schemes name.value ≡ Ok n = ap (λ (s : Name). relation_named schemes (s, name.value.1)) name.holds ∙ relation_again schemes are_schemes n name.value.1 within in
+      record {
+        value = with_relation (Ok f) (relation_named schemes name.value);
+        rest = name.rest;
+        is = ap (λ r. r >>= λ (n : PlacedName × Left). Ok (with_relation (Ok f) (relation_named schemes n.0), n.1)) name.is;
+        holds = ap (with_relation (Ok f)) found;
+        tokens = name.tokens;
+        stop = name.stop;
+      }
+
+  held_again : (p : Part) (rel : ℕ) (l : Listed) (vs : List (Option Value)) → rel < length schemes → l.values ≡ vs → HaveKinds (attributes_of p (scheme_of schemes rel)) vs → held (option_map (attributes_of p) (slice_get schemes rel)) l ≡ Ok vs
+  held_again p rel l vs within same kinds =
+      ap (λ o. held (option_map (attributes_of p) o) l) (slice_get-get_or schemes rel no_scheme within)
+      ∙ ap (fit_or l) (kinds_again (attributes_of p (scheme_of schemes rel)) l.values l.places l.end (subst (HaveKinds (attributes_of p (scheme_of schemes rel))) (sym same) kinds))
+      ∙ ap (λ (x : List (Option Value)). Ok x) same
+
+  list_part_read : (p : Part) (vs : List (Option Value)) (f : Draft) (us : List Token) (l : Left) → f.rel < length schemes → HaveKinds (attributes_of p (scheme_of schemes f.rel)) vs → tokens_in l.placed ≡ list_tokens vs ++ us
+      → Reads (list_at schemes p (Ok f)) l (put_values p f vs) us
+  list_part_read p vs f us l within kinds e =
+      let list = list_read vs us l e in
+      record {
+        value = with_values schemes p (Ok f) list.value;
+        rest = list.rest;
+        is = ap (λ r. r >>= λ (vs : Listed × Left). Ok (with_values schemes p (Ok f) vs.0, vs.1)) list.is;
+        holds = ap (λ r. r >>= λ vs. Ok (put_values p f vs)) (held_again p f.rel list.value vs within list.holds kinds);
+        tokens = list.tokens;
+        stop = list.stop;
+      }
+
+  sets_part_read : (sets : Sets) (f : Draft) (us : List Token) (l : Left) → f.rel < length schemes → SetsFit (scheme_of schemes f.rel) sets → NotNext (is_sign Comma) us → tokens_in l.placed ≡ separated (set_tokens (scheme_of schemes f.rel)) sets ++ us
+      → Reads (sets_at schemes (Ok f)) l (record f { sets = sets }) us
+  sets_part_read sets f us l within fit end e =
+      let read = sets_read (scheme_of schemes f.rel) (scheme_valid schemes are_schemes f.rel within) sets us l fit end e in
+      record {
+        value = with_sets (Ok f) read.value;
+        rest = read.rest;
+        is = ap (λ o. pass_sets o l >>= λ s. Ok (with_sets (Ok f) s.0, s.1)) (slice_get-get_or schemes f.rel no_scheme within)
+            ∙ ap (λ r. r >>= λ (s : Result Sets LineFault × Left). Ok (with_sets (Ok f) s.0, s.1)) read.is;
+        holds = ap (with_sets (Ok f)) read.holds;
+        tokens = read.tokens;
+        stop = read.stop;
+      }
+
+  -- a key, other values and new values stand behind their relation
+  abbrev Knows : Part → Draft → Draft → Type 0
+  Knows Level d f = ⊤
+  Knows Session d f = ⊤
+  Knows User d f = ⊤
+  Knows Relation d f = ⊤
+  Knows Key d f = (f.rel ≡ d.rel) × (d.rel < length schemes)
+  Knows Values d f = (f.rel ≡ d.rel) × (d.rel < length schemes)
+  Knows At d f = ⊤
+  Knows Class d f = ⊤
+  Knows From d f = ⊤
+  Knows Settings d f = (f.rel ≡ d.rel) × (d.rel < length schemes)
+
+  abbrev KnowsAll : List Part → Draft → Draft → Type 0
+  KnowsAll [] d f = ⊤
+  KnowsAll (p ∷ ps) d f = Knows p d f × KnowsAll ps d (put p d f)
+
+  within_of : (d f : Draft) → (f.rel ≡ d.rel) × (d.rel < length schemes) → f.rel < length schemes
+  within_of d f h = subst (λ n. n < length schemes) (sym h.0) h.1
+
+  content_read : (p : Part) (d f : Draft) (us : List Token) (l : Left) → Knows p d f → PartFits policy schemes d p → NotNext (is_sign Comma) us → tokens_in l.placed ≡ said policy schemes d p ++ us
+      → Reads (content_at policy schemes p (Ok f)) l (put p d f) us
+  unfolding content_at
+  content_read Level d f us l known fits end e = label_read Level d.level f us l fits e
+  content_read Session d f us l known fits end e = name_part_read Session d.session f us l fits e
+  content_read User d f us l known fits end e = name_part_read User d.user f us l fits e
+  content_read Relation d f us l known fits end e = relation_read d.rel f us l fits e
+  content_read Key d f us l known fits end e = list_part_read Key d.key f us l (within_of d f known) (subst (λ n. HaveKinds (scheme_of schemes n).keys d.key) (sym known.0) fits) e
+  content_read Values d f us l known fits end e = list_part_read Values d.values f us l (within_of d f known) (subst (λ n. HaveKinds (scheme_of schemes n).others d.values) (sym known.0) fits) e
+  content_read At d f us l known fits end e = label_read At d.label f us l fits e
+  content_read Class d f us l known fits end e = label_read Class d.label f us l fits e
+  content_read From d f us l known fits end e = label_read From d.from f us l fits e
+  content_read Settings d f us l known fits end e =
+      sets_part_read d.sets f us l (within_of d f known) (subst (λ n. SetsFit (scheme_of schemes n) d.sets) (sym known.0) fits) end
+      (e ∙ ap (λ n. separated (set_tokens (scheme_of schemes n)) d.sets ++ us) (sym known.0))
+
+  -- the word before a part is passed
+  word_read : (o : Option Name) (us : List Token) (l : Left) → tokens_in l.placed ≡ word_tokens o ++ us → (r : Left) × (pass_word o l ≡ Ok r) × (tokens_in r.placed ≡ us) × (r.stop ≡ l.stop)
+  word_read None us l e = (l, refl, e, refl)
+  word_read (Some w) us l e =
+      let x = pass_read (is_word w) (Word w) us l (word_same w) e in
+      (x.rest, ap (λ r. r >>= λ (x : ℕ × Left). Ok x.1) x.is, x.tokens, x.stop)
+
+  part_read : (p : Part) (d f : Draft) (us : List Token) (l : Left) → Knows p d f → PartFits policy schemes d p → NotNext (is_sign Comma) us → tokens_in l.placed ≡ part_tokens policy schemes d p ++ us
+      → Reads (part_at policy schemes p (Ok f)) l (put p d f) us
+  part_read p d f us l known fits end e =
+      let word = word_read (part_word p) (said policy schemes d p ++ us) l (e ∙ append_assoc (word_tokens (part_word p)) (said policy schemes d p) us) in
+      let content = content_read p d f us word.0 known fits end word.2 in
+      record {
+        value = content.value;
+        rest = content.rest;
+        is = ap (λ x. x >>= λ r. content_at policy schemes p (Ok f) r) word.1 ∙ content.is;
+        holds = content.holds;
+        tokens = content.tokens;
+        stop = content.stop ∙ word.3;
+      }
+
+  -- parts begin with a word, and no part begins with a comma
+  no_comma : (p : Part) (d : Draft) (us : List Token) → NotNext (is_sign Comma) (part_tokens policy schemes d p ++ us)
+  no_comma Level d us = refl
+  no_comma Session d us = refl
+  no_comma User d us = refl
+  no_comma Relation d us = refl
+  no_comma Key d us = refl
+  no_comma Values d us = refl
+  no_comma At d us = refl
+  no_comma Class d us = refl
+  no_comma From d us = refl
+  no_comma Settings d us = refl
+
+  parts_no_comma : (ps : List Part) (d : Draft) (us : List Token) → NotNext (is_sign Comma) us → NotNext (is_sign Comma) (parts_tokens policy schemes d ps ++ us)
+  parts_no_comma [] d us h = h
+  parts_no_comma (p ∷ ps) d us h = subst (NotNext (is_sign Comma)) (sym (append_assoc (part_tokens policy schemes d p) (parts_tokens policy schemes d ps) us)) (no_comma p d (parts_tokens policy schemes d ps ++ us))
+
+  parts_read : (ps : List Part) (d f : Draft) (us : List Token) (l : Left) → KnowsAll ps d f → AllByRecursion (PartFits policy schemes d) ps → NotNext (is_sign Comma) us
+      → tokens_in l.placed ≡ parts_tokens policy schemes d ps ++ us → Reads (parts_at policy schemes ps (Ok f)) l (filled ps d f) us
+  parts_read [] d f us l known fits end e = record { value = Ok f; rest = l; is = refl; holds = refl; tokens = e; stop = refl }
+  parts_read (p ∷ ps) d f us l known fits end e =
+      let first = part_read p d f (parts_tokens policy schemes d ps ++ us) l known.0 fits.0 (parts_no_comma ps d us end) (e ∙ append_assoc (part_tokens policy schemes d p) (parts_tokens policy schemes d ps) us) in
+      let more = parts_read ps d (put p d f) us first.rest known.1 fits.1 end first.tokens in
+      record {
+        value = more.value;
+        rest = more.rest;
+        is = ap (λ r. r >>= λ (x : Looked × Left). parts_at policy schemes ps x.0 x.1) first.is ∙ ap (λ looked. parts_at policy schemes ps looked first.rest) first.holds ∙ more.is;
+        holds = more.holds;
+        tokens = more.tokens;
+        stop = more.stop ∙ first.stop;
+      }
+
+-- ---- verbs
+
+-- the first verb of a word
+abbrev first_with : List Verb → Name → Option Verb
+first_with [] w = None
+first_with (x ∷ xs) w = cond (bytes_eq w (verb_word x)) (Some x) (first_with xs w)
+
+known_verb : (x : Verb) → first_with verbs (verb_word x) ≡ Some x
+known_verb v.Open = refl
+known_verb v.Close = refl
+known_verb v.Audit = refl
+known_verb v.View = refl
+known_verb v.Insert = refl
+known_verb v.Update = refl
+known_verb v.Delete = refl
+
+verb_read : (xs : List Verb) (w : Name) (x : Verb) (us : List Token) (l : Left) → tokens_in l.placed ≡ Word w ∷ us → first_with xs w ≡ Some x → Read (verb_among xs) l (λ y. y ≡ x) us
+verb_read [] w x us l e first = absurd cc
+verb_read (y ∷ ys) w x us l e first =
+    elim (cases_Bool (bytes_eq w (verb_word y))) [
+      | inl on ↦
+          let h = took (is_word (verb_word y)) (Word w) us l on e in
+          let same : y ≡ x = let k : Some y ≡ Some x = rw on at first in cc in
+          record { value = y; rest = h.rest; is = ap (verb_or (λ r. verb_among ys r) l y) h.is; holds = same; tokens = h.tokens; stop = h.stop }
+      | inr off ↦
+          let more = verb_read ys w x us l e (rw off at first) in
+          record { value = more.value; rest = more.rest; is = ap (verb_or (λ r. verb_among ys r) l y) (not_taken (is_word (verb_word y)) (Word w ∷ us) l off e) ∙ more.is; holds = more.holds; tokens = more.tokens; stop = more.stop }
+    ]
+
+-- ---- a line
+
+abbrev told_by : Verb → Looked → Result Event LineFault
+told_by x looked = looked >>= λ d. Ok (event_of x d)
+
+abbrev Commanded : Type 0
+Commanded = Result (Result Event LineFault × Left) TokenFault
+
+abbrev commanded : Verb → Result (Looked × Left) TokenFault → Commanded
+commanded x r = r >>= λ (y : Looked × Left). let told : Result Event LineFault × Left = (told_by x y.0, y.1) in Ok told
+
+abbrev ended : Commanded → Result (Result Event LineFault) TokenFault
+ended r = r >>= λ x. pass_end x.1 >>= λ _. Ok x.0
+
+abbrev begun : ℕ → Name → Draft
+begun level session = record blank { level = level; session = session }
+
+event_again : (level : ℕ) (session : Name) (c : Command) → event_of (verb_of c) (filled (parts_of (verb_of c)) (draft_of (begun level session) c) (begun level session)) ≡ record { level = level; session = session; command = c }
+event_again level session (commands.Open user) = refl
+event_again level session commands.Close = refl
+event_again level session commands.Audit = refl
+event_again level session (commands.View rel label) = refl
+event_again level session (commands.Insert rel key values) = refl
+event_again level session (commands.Update rel key key_class from sets) = refl
+event_again level session (commands.Delete rel key key_class) = refl
+
+over_again : (ps : List Placed) (stop : TokenFault) → tokens_in ps ≡ [] → stop.cause ≡ causes.Expected → over_with ps stop ≡ true
+over_again [] stop none is = ap is_expected is
+over_again (p ∷ ps) stop none is = absurd cc
+
+not_over : (ps : List Placed) (stop : TokenFault) (t : Token) (ts : List Token) → tokens_in ps ≡ t ∷ ts → over_with ps stop ≡ false
+not_over [] stop t ts e = absurd cc
+not_over (p ∷ ps) stop t ts e = refl
+
+module _ (policy : Tables) (schemes : Schemes) where
+  front_same : (level : ℕ) (session : Name) (c : Command) → parts_tokens policy schemes (draft_of (begun level session) c) (Level ∷ Session ∷ []) ≡ Word (label_name policy level) ∷ Word session ∷ []
+  front_same level session (commands.Open user) = refl
+  front_same level session commands.Close = refl
+  front_same level session commands.Audit = refl
+  front_same level session (commands.View rel label) = refl
+  front_same level session (commands.Insert rel key values) = refl
+  front_same level session (commands.Update rel key key_class from sets) = refl
+  front_same level session (commands.Delete rel key key_class) = refl
+
+  parts_fit : (b : Draft) (c : Command) → CommandFits policy schemes c → AllByRecursion (PartFits policy schemes (draft_of b c)) (parts_of (verb_of c))
+  parts_fit b (commands.Open user) h = (h, tt)
+  parts_fit b commands.Close h = tt
+  parts_fit b commands.Audit h = tt
+  parts_fit b (commands.View rel label) h = (h.0, (h.1, tt))
+  parts_fit b (commands.Insert rel key values) h = (h.0, (h.1, (h.2, tt)))
+  parts_fit b (commands.Update rel key key_class from sets) h = (h.0, (h.1, (h.2, (h.3, (h.4, tt)))))
+  parts_fit b (commands.Delete rel key key_class) h = (h.0, (h.1, (h.2, tt)))
+
+  module _ (is_policy : IsPolicy policy) (are_schemes : AreSchemes schemes) where
+    parts_known : (b f : Draft) (c : Command) → CommandFits policy schemes c → KnowsAll policy schemes is_policy are_schemes (parts_of (verb_of c)) (draft_of b c) f
+    parts_known b f (commands.Open user) h = (tt, tt)
+    parts_known b f commands.Close h = tt
+    parts_known b f commands.Audit h = tt
+    parts_known b f (commands.View rel label) h = (tt, (tt, tt))
+    parts_known b f (commands.Insert rel key values) h = (tt, ((refl, h.0), ((refl, h.0), tt)))
+    parts_known b f (commands.Update rel key key_class from sets) h = (tt, ((refl, h.0), (tt, (tt, ((refl, h.0), tt)))))
+    parts_known b f (commands.Delete rel key key_class) h = (tt, ((refl, h.0), (tt, tt)))
+
+    sentence_again : (e : Event) (l : Left) → EventFits policy schemes e → tokens_in l.placed ≡ event_tokens policy schemes e → l.stop.cause ≡ causes.Expected → sentence_at policy schemes l ≡ Ok (Ok e)
+    unfolding sentence_at command_at
+    sentence_again e l fits tokens stop =
+        let b = begun e.level e.session in
+        let d = draft_of b e.command in
+        let x = verb_of e.command in
+        let behind = Word (verb_word x) ∷ parts_tokens policy schemes d (parts_of x) in
+        let front = parts_read policy schemes is_policy are_schemes (Level ∷ Session ∷ []) b blank behind l (tt, (tt, tt)) (fits.level, (fits.session, tt)) refl
+        (tokens ∙ ap (λ ts. ts ++ behind) (front_same e.level e.session e.command)) in
+        let verb = verb_read verbs (verb_word x) x (parts_tokens policy schemes d (parts_of x)) front.rest front.tokens (known_verb x) in
+        let parts = parts_read policy schemes is_policy are_schemes (parts_of x) d b [] verb.rest (parts_known b b e.command fits.command) (parts_fit b e.command fits.command) tt
+        (verb.tokens ∙ sym (append-nil (parts_tokens policy schemes d (parts_of x)))) in
+        let over : is_over parts.rest ≡ true = over_again parts.rest.placed parts.rest.stop parts.tokens (ap (λ (s : TokenFault). s.cause) (parts.stop ∙ verb.stop ∙ front.stop) ∙ stop) in
+        let end : pass_end parts.rest ≡ Ok tt = rw over refl in
+        let event : (parts.value >>= λ d. Ok (event_of x d)) ≡ Ok e = ap (λ r. r >>= λ d. Ok (event_of x d)) parts.holds ∙ ap (λ (z : Event). Ok z) (event_again e.level e.session e.command) in
+        ap (λ r. r >>= λ (front : Looked × Left). ended (command_at policy schemes front.0 front.1)) front.is
+        ∙ ap (λ looked. ended (command_at policy schemes looked front.rest)) front.holds
+        ∙ ap (λ r. ended (r >>= λ (v : Verb × Left). commanded v.0 (parts_at policy schemes (parts_of v.0) (Ok b) v.1))) verb.is
+        ∙ ap (λ (v : Verb). ended (commanded v (parts_at policy schemes (parts_of v) (Ok b) verb.rest))) verb.holds
+        ∙ ap (λ r. ended (commanded x r)) parts.is
+        ∙ ap (λ r. r >>= λ (u : Unit {0}). Ok (told_by x parts.value)) end
+        ∙ ap (λ (r : Result Event LineFault). Ok r) event
+
+    line_again : (line : List ℕ) (o : Option Event) → Tells policy schemes line o → line_at policy schemes line true ≡ Ok o
+    unfolding line_at
+    line_again line None h =
+        let t = (tokens_exact line []).1 h in
+        let over : is_over (tokens_at line) ≡ true = over_again (tokens_at line).placed (tokens_at line).stop t.0 t.1 in
+        let told : told_at policy schemes (tokens_at line) ≡ Ok None = rw over refl in
+        ap (λ r. form_of r >>= λ told. event_in told) told
+    line_again line (Some e) h =
+        let t = (tokens_exact line (event_tokens policy schemes e)).1 h.1 in
+        let first = t.0 ∙ ap (λ ts. ts ++ Word (verb_word (verb_of e.command)) ∷ parts_tokens policy schemes (drafted e) (parts_of (verb_of e.command))) (front_same e.level e.session e.command) in
+        let more : is_over (tokens_at line) ≡ false = not_over (tokens_at line).placed (tokens_at line).stop _ _ first in
+        let told : told_at policy schemes (tokens_at line) ≡ Ok (Some (Ok e)) = rw more (ap (λ r. r >>= λ x. Ok (Some x)) (sentence_again e (tokens_at line) h.0 t.0 t.1)) in
+        ap (λ r. form_of r >>= λ told. event_in told) told
+
+    -- ---- all lines
+
+    abbrev fed : Line → List ℕ
+    fed line = line.text ++ 10 ∷ []
+
+    events_of : (o : Option Event) (text : List ℕ) → option_to_list o ≡ filter_map (λ (x : Line). x.event) (record { text = text; event = o } ∷ [])
+    events_of None text = refl
+    events_of (Some e) text = refl
+
+    lines_again : (lines : List Line) (number : ℕ) (events : List Event) → AllByRecursion (IsLineOf policy schemes) lines
+        → lines_at policy schemes number events (split_lines [] (flat_map fed lines)) ≡ Ok (events ++ filter_map (λ (x : Line). x.event) lines)
+    lines_again [] number events h = ap (λ (x : List Event). Ok x) (sym (append-nil events))
+    lines_again (line ∷ lines) number events h =
+        let split : split_lines [] (flat_map fed (line ∷ lines)) ≡ (line.text, true) ∷ split_lines [] (flat_map fed lines) =
+        ap (split_lines []) (append_assoc line.text (10 ∷ []) (flat_map fed lines)) ∙ split_ended [] line.text (flat_map fed lines) h.0.one in
+        ap (lines_at policy schemes number events) split
+        ∙ ap (λ r. in_script number r >>= λ e. lines_at policy schemes (number + 1) (events ++ option_to_list e) (split_lines [] (flat_map fed lines))) (line_again line.text line.event h.0.tells)
+        ∙ lines_again lines (number + 1) (events ++ option_to_list line.event) h.1
+        ∙ ap (λ (x : List Event). Ok x) (append_assoc events (option_to_list line.event) (filter_map (λ (x : Line). x.event) lines)
+        ∙ ap (λ x. events ++ x) (ap (λ x. x ++ filter_map (λ (y : Line). y.event) lines) (events_of line.event line.text) ∙ sym (filter_map-append (λ (y : Line). y.event) (line ∷ []) lines)))
+
+    pub script_again : (bytes : List ℕ) (es : List Event) → ReadsScript policy schemes bytes es → script_at policy schemes bytes ≡ Ok es
+    unfolding script_at
+    script_again bytes es h =
+        ap (λ x. lines_at policy schemes 1 [] (split_lines [] x)) h.text ∙ lines_again h.lines 1 [] h.each ∙ ap (λ (x : List Event). Ok x) (sym h.told)
+
+    -- a text that tells events is not refused
+    pub read_refused : {X : Type 0} (view : X → List Event) (bytes : List ℕ) (r : Result X ScriptFault) → IsRead view r (script_at policy schemes bytes)
+        → IfErr r (λ e. (e.cause ≡ Memory → ⊥) → (es : List Event) → ReadsScript policy schemes bytes es → ⊥)
+    read_refused view bytes (Ok x) given = tt
+    read_refused view bytes (Err e) given = λ other es reads. let p = given other in let q = script_again bytes es reads in cc
+
+-- ---- a text tells the events of one list at most
+
+done_is : (es fs : List Event) (r : Result (List Event) ScriptFault) → r ≡ Ok es → r ≡ Ok fs → es ≡ fs
+done_is es fs r p q = cc
+
+pub scripts_once : ScriptsAreOnce
+scripts_once policy schemes is_policy are_schemes bytes es fs p q =
+    done_is es fs (script_at policy schemes bytes) (script_again policy schemes is_policy are_schemes bytes es p) (script_again policy schemes is_policy are_schemes bytes fs q)

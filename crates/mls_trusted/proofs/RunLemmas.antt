@@ -96,7 +96,7 @@ module _ (call : Call) (around : List Tuple) where
   may_loop name rel label body m = record {
     relation = m.fits.0;
     label = m.fits.1;
-    body = λ row k. record {
+    each = λ row k. record {
       rows = record { name = name; relation = rel } ∷ m.rows;
       own = m.own.1;
       fits = m.fits.2;
@@ -108,7 +108,7 @@ module _ (call : Call) (around : List Tuple) where
   -- a body at each of some rows
   pub may_each : (rel label : ℕ) (body : Block) → MayLoop call rel label around body → (rs : List Tuple) → AllByRecursion (RowKinds (scheme_of call.schemes.now rel)) rs → AllByRecursion (λ row. MayRun call (row ∷ around) body) rs
   may_each rel label body m [] k = tt
-  may_each rel label body m (row ∷ rest) k = (m.body row k.0, may_each rel label body m rest k.1)
+  may_each rel label body m (row ∷ rest) k = (m.each row k.0, may_each rel label body m rest k.1)
 
 -- ---- branches and loops
 

@@ -78,7 +78,7 @@ module _ (call : Call) where
   pub record MayLoop (rel level : ℕ) (around : List Tuple) (body : Block) : Type 0 where
     pub relation : rel < length call.schemes.now
     pub label : IsLabel call.policy.now level
-    pub body : (row : Tuple) → RowKinds (scheme_of call.schemes.now rel) row → MayRun (row ∷ around) body
+    pub each : (row : Tuple) → RowKinds (scheme_of call.schemes.now rel) row → MayRun (row ∷ around) body
 
   abbrev pub run_of : Block → List Tuple → Progress → Progress
   run_of = run_block labels call.schemes.now call.args.now

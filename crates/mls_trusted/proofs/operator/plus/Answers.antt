@@ -5,4 +5,4 @@ use Rattle.mls_trusted.proofs.DataLemmas.{of_numbers}
 use Rattle.mls_trusted.proofs.operator.plus.Goals as goal
 
 pub returns : goal.returns
-returns c = let h = c.as_number.type_inv in let j = c.in-Some in let k = c.type_inv in ?
+returns c = let h = c.as_number.type_inv in let j = c.in-Some.is in ?

@@ -1,8 +1,8 @@
 -- Rows of the kinds of a relation.
 use Rattle.std.proofs.Common.{◌≡◌, ℕ, zero, suc, ◌+◌, ◌-◌, ◌<◌, ◌≤◌, Bool, true, false, cond, List, [], ◌∷◌, length, map, drop, get_or, Option, None, Some, refl, sym, ap, ◌∙◌, subst, arith}
-use Rattle.std.specs.Prelude.{nat_lt, slice_index_or}
+use Rattle.std.specs.Prelude.{IsTrue, nat_lt, slice_index_or}
 use Rattle.std.specs.List.{AllByRecursion}
-use Rattle.std.proofs.lemmas.Bool.{ltb-true, ltb-false}
+use Rattle.std.proofs.lemmas.Bool.{ltb-true, ltb-false, true≢false}
 use Rattle.std.proofs.lemmas.List.{drop_more, get_or_past}
 use Rattle.std.proofs.Math.ListN.{drop_of_length-le}
 use Rattle.mls_scheme.specs.declared.value.Kind.{Kind}
@@ -56,3 +56,7 @@ module _ {X : Type 0} (P : X → Type 0) where
   -- none left
   pub all_done : (xs : List X) (i : ℕ) → length xs ≤ i → (AllByRecursion P (drop i xs) → AllByRecursion P xs) → AllByRecursion P xs
   all_done xs i l h = h (subst (AllByRecursion P) (sym (drop_of_length-le xs l)) tt)
+
+-- a test that holds does not fail
+pub not_both : (b : Bool) → IsTrue b → b ≡ false → ⊥
+not_both b h e = true≢false (sym h ∙ e)

@@ -7,7 +7,7 @@ use Rattle.mls_scheme.specs.Scheme.{scheme_of}
 use Rattle.mls_filterview.specs.Content.{State, with_relation}
 use Rattle.mls_filterview.specs.Stored.{IsContent, AreContent}
 use Rattle.mls_updates.specs.declared.outcome.Outcome.{Outcome}
-use Rattle.mls_updates.specs.Writes.{WriteFits, WriteKinds, write}
+use Rattle.mls_updates.specs.Writes.{Write, WriteFits, WriteKinds, write}
 use Rattle.mls_updates.specs.Calls.{IsWritten}
 use Rattle.mls_updates.proofs.StateLemmas.{table_of}
 use Rattle.mls_translang.specs.Tree.{Block, Writing, Do, Write_at, End}
@@ -61,3 +61,16 @@ module _ (call : Call) (f : Frame) (rel w : ℕ) (writing : Writing) (outcome : 
       rest = λ k. (done k).state ∙ sym (ap (λ s. with_database (state a) s.now.db) (done k).state);
       progress = progress;
     }
+
+  -- the same, where the base was lent before, and the operands were copied
+  pub run_written : {B : Type 0} (is_clean : B → Type 0) (state : B → State) (a b c : B) (g : Frame) (o : Outcome) (wr : Write) → b ≡ a → wr ≡ write_in (env_in call.args.now f) writing
+      → IsReady call is_clean state a f → MayRun call (around_of f) block → (is_clean c → is_clean b) → (state c).begun ≡ true
+      → (is_clean c → IsWritten (labels_of call.policy.now) (scheme_of call.schemes.now rel) rel w wr (state b) (state c) o)
+      → (is_clean c → IsContent (labels_of call.policy.now) (scheme_of call.schemes.now rel) ((state c).now.db rel))
+      → HasVars (set_outcome outcome o (vars_of f)) f g → IsRun call is_clean state (run_of call block (around_of f)) a c f g
+  run_written is_clean state a b c g o wr same is h m back begun done kept v =
+      let ls = labels_of call.policy.now in
+      let scheme = scheme_of call.schemes.now rel in
+      run_write is_clean state a c g o h m (λ k. subst is_clean same (back k)) begun
+      (λ k. subst (λ x. IsWritten ls scheme rel w (write_in (env_in call.args.now f) writing) (state x) (state c) o) same (subst (λ y. IsWritten ls scheme rel w y (state b) (state c) o) is (done k)))
+      kept v

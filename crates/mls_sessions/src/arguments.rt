@@ -1,0 +1,62 @@
+//! The arguments of calls, as transactions take them.
+ghost use Rattle.std.specs.Prelude.{◌≡◌, ◌&&◌, not, nat_eq, length, zip, IfOk, None, if◌then◌else◌};
+ghost use Rattle.std.specs.List.{list_any};
+ghost use Rattle.mls_scheme.specs.Value.{fits_kind};
+ghost use Rattle.mls_machine.specs.Denying.{are_wrong, fitted};
+
+use mls_scheme::{Kind, Value, fits_kind};
+use mls_translang::Tx;
+use std::alloc::{AllocError, Global};
+
+/// Whether an argument at a parameter of the lowest label has the wrong kind.
+fn has_misfit(tx: &Tx, args: &[Option<Value>]) -> bool
+    requires { length args.now ≡ length tx.now.params }
+    ensures { result ≡ list_any (λ x. nat_eq x.0.1.label tx.now.lo && not (fits_kind x.1 x.0.1.kind)) (zip tx.now.params args.now) }
+{
+    let params = tx.params();
+    for (place, arg) in args.iter().enumerate() {
+        let parameter = params.get(place);
+        if parameter.label == tx.lo() && !fits_kind(arg, parameter.kind) {
+            return true;
+        }
+    }
+    false
+}
+
+/// Whether a transaction is not called with these arguments.
+pub(crate) fn are_wrong(tx: &Tx, args: &[Option<Value>]) -> bool
+    ensures { result ≡ are_wrong tx.now args.now }
+{
+    args.len() != tx.params().len() || has_misfit(tx, args)
+}
+
+/// An argument for a parameter of a kind: null where it has another one.
+fn fitted_to(kind: Kind, arg: &Option<Value>) -> Result<Option<Value>, AllocError>
+    ensures { IfOk result (λ v. v ≡ (if fits_kind arg.now kind then arg.now else None)) }
+{
+    if !fits_kind(arg, kind) {
+        return Ok(None);
+    }
+    match arg {
+        Some(value) => Ok(Some(value.copy()?)),
+        None => Ok(None),
+    }
+}
+
+/// The arguments that a transaction takes, each of the kind of its parameter or null.
+pub(crate) fn fitted(
+    alloc: Global,
+    tx: &Tx,
+    args: &[Option<Value>],
+) -> Result<Vec<Option<Value>>, AllocError>
+    requires { length args.now ≡ length tx.now.params }
+    ensures { IfOk result (λ v. v.items ≡ fitted tx.now args.now) }
+{
+    let params = tx.params();
+    let mut values = Vec::new(alloc);
+    for (place, arg) in args.iter().enumerate() {
+        let value = fitted_to(params.get(place).kind, arg)?;
+        values.push(value)?;
+    }
+    Ok(values)
+}

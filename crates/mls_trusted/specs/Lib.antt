@@ -1,0 +1,4 @@
+pub mod Data
+pub mod Frames
+pub mod Fitting
+pub mod Runs

@@ -1,8 +1,7 @@
 //! The arguments of calls, as transactions take them.
-ghost use Rattle.std.specs.Prelude.{◌≡◌, ◌&&◌, not, nat_eq, length, zip, IfOk, None, if◌then◌else◌};
-ghost use Rattle.std.specs.List.{list_any};
+ghost use Rattle.std.specs.Prelude.{◌≡◌, ◌||◌, not, nat_eq, length, IfOk, None, if◌then◌else◌};
 ghost use Rattle.mls_scheme.specs.Value.{fits_kind};
-ghost use Rattle.mls_machine.specs.Denying.{are_wrong, fitted};
+ghost use Rattle.mls_machine.specs.Denying.{are_wrong_at, fitted};
 
 use mls_scheme::{Kind, Value, fits_kind};
 use mls_translang::Tx;
@@ -11,11 +10,10 @@ use std::alloc::{AllocError, Global};
 /// Whether an argument at a parameter of the lowest label has the wrong kind.
 fn has_misfit(tx: &Tx, args: &[Option<Value>]) -> bool
     requires { length args.now ≡ length tx.now.params }
-    ensures { result ≡ list_any (λ x. nat_eq x.0.1.label tx.now.lo && not (fits_kind x.1 x.0.1.kind)) (zip tx.now.params args.now) }
+    ensures { result ≡ are_wrong_at tx.now.lo tx.now.params args.now }
 {
-    let params = tx.params();
     for (place, arg) in args.iter().enumerate() {
-        let parameter = params.get(place);
+        let parameter = tx.params().get(place);
         if parameter.label == tx.lo() && !fits_kind(arg, parameter.kind) {
             return true;
         }
@@ -25,21 +23,29 @@ fn has_misfit(tx: &Tx, args: &[Option<Value>]) -> bool
 
 /// Whether a transaction is not called with these arguments.
 pub(crate) fn are_wrong(tx: &Tx, args: &[Option<Value>]) -> bool
-    ensures { result ≡ are_wrong tx.now args.now }
+    ensures { result ≡ (not (nat_eq (length args.now) (length tx.now.params)) || are_wrong_at tx.now.lo tx.now.params args.now) }
 {
     args.len() != tx.params().len() || has_misfit(tx, args)
+}
+
+/// An equal value, or null.
+pub(crate) fn copy_of(value: &Option<Value>) -> Result<Option<Value>, AllocError>
+    ensures { IfOk result (λ v. v ≡ value.now) }
+{
+    match value {
+        Some(value) => Ok(Some(value.copy()?)),
+        None => Ok(None),
+    }
 }
 
 /// An argument for a parameter of a kind: null where it has another one.
 fn fitted_to(kind: Kind, arg: &Option<Value>) -> Result<Option<Value>, AllocError>
     ensures { IfOk result (λ v. v ≡ (if fits_kind arg.now kind then arg.now else None)) }
 {
-    if !fits_kind(arg, kind) {
-        return Ok(None);
-    }
-    match arg {
-        Some(value) => Ok(Some(value.copy()?)),
-        None => Ok(None),
+    if fits_kind(arg, kind) {
+        copy_of(arg)
+    } else {
+        Ok(None)
     }
 }
 
@@ -50,12 +56,11 @@ pub(crate) fn fitted(
     args: &[Option<Value>],
 ) -> Result<Vec<Option<Value>>, AllocError>
     requires { length args.now ≡ length tx.now.params }
-    ensures { IfOk result (λ v. v.items ≡ fitted tx.now args.now) }
+    ensures { IfOk result (λ v. v.items ≡ fitted tx.now.params args.now) }
 {
-    let params = tx.params();
     let mut values = Vec::new(alloc);
     for (place, arg) in args.iter().enumerate() {
-        let value = fitted_to(params.get(place).kind, arg)?;
+        let value = fitted_to(tx.params().get(place).kind, arg)?;
         values.push(value)?;
     }
     Ok(values)

@@ -2,9 +2,7 @@
 ghost use Rattle.std.specs.Prelude.{◌≡◌, ◌<◌, ◌&&◌, not, nat_eq, length, IfSome, Some, [], ◌∷◌};
 ghost use Rattle.std.specs.List.{AllByRecursion};
 ghost use Rattle.mls_lattice.specs.Labels.{below};
-ghost use Rattle.mls_translang.specs.Fits.{IsReadUnder};
 ghost use Rattle.mls_machine.specs.Site.{site_labels};
-ghost use Rattle.mls_machine.specs.Stored.{tx_of, is_certified};
 ghost use Rattle.mls_machine.specs.Denying.{first_denial, trusted_of, lie_outside, stored_named, call_denials, call_denial};
 ghost use Rattle.mls_machine.specs.Observation.{AreRead};
 ghost use Rattle.mls_sessions.specs.World.{site_of};
@@ -42,7 +40,7 @@ fn leave(rules: &Rules, low: LabelNo, high: LabelNo, labels: &[LabelNo]) -> bool
     requires low { low < length rules.now.policy.now.labels }
     requires high { high < length rules.now.policy.now.labels }
     requires labels { AllByRecursion (λ l. l < length rules.now.policy.now.labels) labels.now }
-    ensures { result ≡ lie_outside (site_of rules.now) (Some (low, high)) labels.now }
+    ensures { result ≡ lie_outside (site_labels (site_of rules.now)) (Some (low, high)) labels.now }
 {
     for label in labels {
         if !is_between(rules, low, high, *label) {
@@ -58,7 +56,7 @@ fn is_untrusted(rules: &Rules, user: UserNo, tx: &Tx) -> bool
     requires lo { tx.now.lo < length rules.now.policy.now.labels }
     requires hi { tx.now.hi < length rules.now.policy.now.labels }
     ensures { result ≡ (not (nat_eq tx.now.hi tx.now.lo)
-        && lie_outside (site_of rules.now) (trusted_of rules.now.policy.now user) (tx.now.lo ∷ tx.now.hi ∷ [])) }
+        && lie_outside (site_labels (site_of rules.now)) (trusted_of rules.now.policy.now user) (tx.now.lo ∷ tx.now.hi ∷ [])) }
 {
     if tx.hi() == tx.lo() {
         return false;
@@ -69,32 +67,20 @@ fn is_untrusted(rules: &Rules, user: UserNo, tx: &Tx) -> bool
     }
 }
 
-fn is_certified(stored: &Stored) -> bool
-    ensures { result ≡ is_certified stored.now }
-{
-    match stored {
-        Stored::Certified(_) => true,
-        Stored::Plain(_) => false,
-    }
-}
-
-/// Why a call of a stored transaction is denied, if it is.
+/// Why a call of a transaction with a certificate is denied, if it is.
 #[tactic(auto, unfolding(mls_machine::specs::Denying::first_denial))]
-fn stored_denial(
+fn certified_denial(
     rules: &Rules,
     level: LabelNo,
     user: UserNo,
+    tx: &Tx,
     args: &[Option<Value>],
-    stored: &Stored,
 ) -> Option<Denial>
     requires user { user < length rules.now.policy.now.users }
-    requires read { IsReadUnder rules.now.policy.now rules.now.schemes.now (tx_of stored.now) }
-    ensures { result ≡ first_denial (call_denials (site_of rules.now) level user args.now stored.now) }
+    requires lo { tx.now.lo < length rules.now.policy.now.labels }
+    requires hi { tx.now.hi < length rules.now.policy.now.labels }
+    ensures { result ≡ first_denial (call_denials (site_of rules.now) level user tx.now args.now) }
 {
-    if !is_certified(stored) {
-        return Some(Denial::NotCertified);
-    }
-    let tx = stored.tx();
     if lacks_on(rules, user, tx.name(), &[Modes::EXECUTE]) {
         return Some(Denial::Ds);
     }
@@ -123,10 +109,13 @@ pub(crate) fn call_denial(
 ) -> Option<Denial>
     requires user { user < length rules.now.policy.now.users }
     requires read { AreRead (site_of rules.now) }
-    ensures { result ≡ call_denial (site_of rules.now) level user args.now (stored_named (site_of rules.now) name.now) }
+    ensures { result ≡ call_denial (site_of rules.now) level user args.now (stored_named rules.now.stored name.now) }
 {
-    match stored_named(rules, name) {
+    match stored_named(&rules.stored, name) {
         None => Some(Denial::UnknownTransaction),
-        Some(stored) => stored_denial(rules, level, user, args, stored),
+        Some(Stored::Plain(_)) => Some(Denial::NotCertified),
+        Some(Stored::Certified(certified)) => {
+            certified_denial(rules, level, user, certified.tx(), args)
+        }
     }
 }

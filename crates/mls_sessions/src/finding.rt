@@ -1,17 +1,15 @@
 //! Which transaction a call names.
-ghost use Rattle.std.specs.Prelude.{◌≡◌, option_map};
-ghost use Rattle.std.specs.List.{find};
-ghost use Rattle.std.specs.Str.{bytes_eq};
-ghost use Rattle.mls_machine.specs.Stored.{tx_of};
+ghost use Rattle.std.specs.Prelude.{◌≡◌, option_map, Some};
+ghost use Rattle.mls_certcheck.specs.declared.certified.Certified.{Certified as Checked};
+ghost use Rattle.mls_machine.specs.declared.stored.Stored.TheVariants as variants;
 ghost use Rattle.mls_machine.specs.Denying.{stored_named};
-ghost use Rattle.mls_sessions.specs.World.{site_of};
 
-use crate::rules::Rules;
+use mls_certcheck::Certified;
 use mls_machine::Stored;
 
 /// The first of some transactions that has a name.
-fn first_named<'a>(stored: &'a [Stored], name: &str) -> Option<&'a Stored>
-    ensures { option_map (λ s. s.now) result ≡ find (λ s. bytes_eq (tx_of s).name name.now) stored.now }
+pub(crate) fn stored_named<'a>(stored: &'a [Stored], name: &str) -> Option<&'a Stored>
+    ensures { option_map (λ s. s.now) result ≡ stored_named stored.now name.now }
 {
     for one in stored {
         if one.tx().name() == name {
@@ -21,9 +19,13 @@ fn first_named<'a>(stored: &'a [Stored], name: &str) -> Option<&'a Stored>
     None
 }
 
-/// The stored transaction of a name.
-pub(crate) fn stored_named<'a>(rules: &'a Rules, name: &str) -> Option<&'a Stored>
-    ensures { option_map (λ s. s.now) result ≡ stored_named (site_of rules.now) name.now }
+/// The transaction with a certificate that is stored by a name.
+pub(crate) fn certified_named<'a>(stored: &'a [Stored], name: &str) -> &'a Certified
+    requires { (k : Checked) × (stored_named stored.now name.now ≡ Some (variants.Certified k)) }
+    ensures { stored_named stored.now name.now ≡ Some (variants.Certified result.now) }
 {
-    first_named(&rules.stored, name)
+    match stored_named(stored, name) {
+        Some(Stored::Certified(certified)) => certified,
+        _ => unreachable!(),
+    }
 }

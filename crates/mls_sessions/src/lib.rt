@@ -2,6 +2,7 @@
 #![tactic(auto)]
 
 mod arguments;
+mod calling;
 mod cause;
 mod change;
 mod denying;

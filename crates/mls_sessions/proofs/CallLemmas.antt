@@ -7,7 +7,11 @@ use Rattle.std.proofs.lemmas.List.Elements.{filter_map-append}
 use Rattle.std.proofs.lemmas.Option.{slice_get-get_or, none-some}
 use Rattle.mls_lattice.specs.declared.tables.User.{User}
 use Rattle.mls_lattice.specs.Policy.{Name, Tables}
+use Rattle.mls_scheme.specs.declared.value.Kind.{Kind}
 use Rattle.mls_scheme.specs.declared.value.Value.{Value}
+use Rattle.mls_scheme.specs.Value.{fits_kind}
+use Rattle.mls_scheme.specs.Spelling.{IsShort as IsShortValue, HasSpelling as IsSpelledValue}
+use Rattle.mls_scheme.proofs.KindLemmas.{fits-spelled}
 use Rattle.mls_filterview.specs.Content.{State}
 use Rattle.mls_audit.specs.declared.entry.Entry.{Entry}
 use Rattle.mls_audit.specs.Entry.{label_of}
@@ -50,11 +54,17 @@ pub trusted_found : (policy : Tables) (user : ℕ) (interval : Option (ℕ × �
 trusted_found policy user interval within row =
     trusted_is interval (trusted_of policy user) (sym row ∙ ap (option_map (λ (u : User). u.trusted)) (slice_get-get_or policy.users user no_user within))
 
--- ---- what is stored
+-- ---- values
 
--- a transaction of this name with a certificate
-pub record IsFound (site : Site) (name : Name) (k : Checked) : Type 0 where
-  pub stored : stored_named site.stored name ≡ Some (Certified k)
+-- a copy of a value of some kind
+pub value_is_short : (copy value : Option Value) → copy ≡ value → (k : Kind) × (fits_kind value k ≡ true) → IfSome copy IsShortValue
+value_is_short copy value same h = subst (λ v. IfSome v IsShortValue) (sym same) (some_short value (fits-spelled value h.0 h.1))
+  where
+    some_short : (v : Option Value) → IfSome v IsSpelledValue → IfSome v IsShortValue
+    some_short None k = tt
+    some_short (Some v) k = k.1
+
+-- ---- what is stored
 
 pub found_read : (site : Site) (name : Name) (s : Stored) → AreRead site → stored_named site.stored name ≡ Some s → IsReadUnder site.policy site.schemes (tx_of s)
 found_read site name s read is = subst (λ o. IfSome o (λ x. IsReadUnder site.policy site.schemes (tx_of x))) is (found_holds _ _ site.stored read)

@@ -6,6 +6,7 @@ pub mod TurnLemmas
 pub mod StepLemmas
 pub mod ArgumentLemmas
 pub mod CallLemmas
+pub mod EnteringLemmas
 pub mod EngineLemmas
 pub mod NamingLemmas
 pub mod AnswerLemmas

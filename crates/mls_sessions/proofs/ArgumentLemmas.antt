@@ -1,13 +1,15 @@
 -- Arguments with their parameters, one after another.
-use Rattle.std.proofs.Common.{◌≡◌, ℕ, ◌+◌, ◌<◌, ◌≤◌, Bool, true, false, cond, not, ◌&&◌, ◌||◌, List, [], ◌∷◌, ◌++◌, length, drop, get_or, map, Option, Some, None, refl, sym, ap, ◌∙◌, subst, add-one, drop-cons, append-nil, append_assoc, arith}
+use Rattle.std.proofs.Common.{◌≡◌, ℕ, ◌+◌, ◌<◌, Bool, true, false, cond, not, ◌&&◌, ◌||◌, List, [], ◌∷◌, ◌++◌, length, drop, get_or, map, Option, Some, None, refl, sym, ap, ◌∙◌, subst, add-one, drop-cons, append_assoc}
 use Rattle.std.specs.Prelude.{nat_eq, zip, option_map, slice_get}
-use Rattle.std.proofs.lemmas.List.{drop_all}
 use Rattle.std.proofs.lemmas.Option.{slice_get-get_or}
 use Rattle.mls_lattice.specs.Policy.{Name}
 use Rattle.mls_scheme.specs.declared.value.Value.{Value}
 use Rattle.mls_scheme.specs.Value.{fits_kind}
 use Rattle.mls_translang.specs.declared.tx.Parameter.{Parameter}
 use Rattle.mls_machine.specs.Denying.{are_wrong_at, fitted}
+
+abbrev pub Params : Type 0
+Params = List (Name × Parameter)
 
 some_is : (a b : Parameter) → Some a ≡ Some b → a ≡ b
 some_is a b e = cc
@@ -19,7 +21,7 @@ taken p v = cond (fits_kind v p.kind) v None
 abbrev is_misfit : ℕ → Parameter → Option Value → Bool
 is_misfit label p v = nat_eq p.label label && not (fits_kind v p.kind)
 
-module _ (params : List (Name × Parameter)) (args : List (Option Value)) (count : length args ≡ length params) (i : ℕ) (p : Parameter) (v : Option Value)
+module _ (params : Params) (args : List (Option Value)) (count : length args ≡ length params) (i : ℕ) (p : Parameter) (v : Option Value)
     (within : i < length args) (is-p : option_map (λ x. x.1) (slice_get params i) ≡ Some p) (is-v : v ≡ get_or args i v) where
   abbrev named : Name × Parameter
   named = get_or params i ([], p)
@@ -58,15 +60,3 @@ module _ (params : List (Name × Parameter)) (args : List (Option Value)) (count
   fitted_more front all w start is =
       append_assoc front (w ∷ []) (fitted (drop (i + 1) params) (drop (i + 1) args)) ∙ ap (λ x. front ++ x ∷ fitted (drop (i + 1) params) (drop (i + 1) args)) is
       ∙ ap (λ xs. front ++ xs) (sym fitted_next) ∙ start
-
--- ---- none is left
-
-module _ (params : List (Name × Parameter)) (args : List (Option Value)) (count : length args ≡ length params) (i : ℕ) (over : length args ≤ i) where
-  params_over : drop i params ≡ []
-  params_over = drop_all i params (subst (λ n. n ≤ i) count over)
-
-  pub wrong_over : (label : ℕ) (b : Bool) → are_wrong_at label (drop i params) (drop i args) ≡ b → false ≡ b
-  wrong_over label b start = sym (ap (λ ps. are_wrong_at label ps (drop i args)) params_over) ∙ start
-
-  pub fitted_over : (front all : List (Option Value)) → front ++ fitted (drop i params) (drop i args) ≡ all → front ≡ all
-  fitted_over front all start = sym (append-nil front) ∙ ap (λ xs. front ++ xs) (sym (ap (λ ps. fitted ps (drop i args)) params_over)) ∙ start

@@ -1,11 +1,18 @@
 //! The arguments of calls, as transactions take them.
-ghost use Rattle.std.specs.Prelude.{◌≡◌, ◌||◌, not, nat_eq, length, IfOk, None, if◌then◌else◌};
+ghost use Rattle.std.specs.Prelude.{◌≡◌, ◌&&◌, ◌||◌, not, nat_eq, length, IfOk, None, if◌then◌else◌};
 ghost use Rattle.mls_scheme.specs.Value.{fits_kind};
 ghost use Rattle.mls_machine.specs.Denying.{are_wrong_at, fitted};
 
 use mls_scheme::{Kind, Value, fits_kind};
-use mls_translang::Tx;
+use mls_translang::{Parameter, Tx};
 use std::alloc::{AllocError, Global};
+
+/// Whether an argument has the wrong kind, at a parameter of the lowest label.
+fn is_misfit(tx: &Tx, parameter: &Parameter, arg: &Option<Value>) -> bool
+    ensures { result ≡ (nat_eq parameter.now.label tx.now.lo && not (fits_kind arg.now parameter.now.kind)) }
+{
+    parameter.label == tx.lo() && !fits_kind(arg, parameter.kind)
+}
 
 /// Whether an argument at a parameter of the lowest label has the wrong kind.
 fn has_misfit(tx: &Tx, args: &[Option<Value>]) -> bool
@@ -13,8 +20,7 @@ fn has_misfit(tx: &Tx, args: &[Option<Value>]) -> bool
     ensures { result ≡ are_wrong_at tx.now.lo tx.now.params args.now }
 {
     for (place, arg) in args.iter().enumerate() {
-        let parameter = tx.params().get(place);
-        if parameter.label == tx.lo() && !fits_kind(arg, parameter.kind) {
+        if is_misfit(tx, tx.params().get(place), arg) {
             return true;
         }
     }

@@ -34,7 +34,7 @@ CallsRead site = WhereCalled site (IsReadUnder site.policy site.schemes)
 -- ---- of all that are stored
 
 -- what holds of all holds of the one that is found
-found_holds : {X : Type 0} (P : X → Type 0) (test : X → Bool) (xs : List X) → AllByRecursion P xs → IfSome (find test xs) P
+pub found_holds : {X : Type 0} (P : X → Type 0) (test : X → Bool) (xs : List X) → AllByRecursion P xs → IfSome (find test xs) P
 found_holds P test [] h = tt
 found_holds P test (x ∷ xs) h = elim (test x) as (λ b. IfSome (cond b (Some x) (find test xs)) P) [ true ↦ h.0 | false ↦ found_holds P test xs h.1 ]
 

@@ -25,7 +25,7 @@ use Rattle.mls_script.specs.declared.event.Event.{Event}
 use Rattle.mls_script.specs.declared.event.Command.{Command}
 use Rattle.mls_script.specs.declared.event.Command.TheVariants as commands
 use Rattle.mls_machine.specs.declared.reply.Denial.{Denial}
-use Rattle.mls_machine.specs.declared.reply.Denial.TheVariants.{AlreadyOpen}
+use Rattle.mls_machine.specs.declared.reply.Denial.TheVariants.{AlreadyOpen, UnknownTransaction, NotCertified}
 use Rattle.mls_machine.specs.declared.stored.Stored.{Stored}
 use Rattle.mls_machine.specs.declared.stored.Stored.TheVariants.{Certified, Plain}
 use Rattle.mls_machine.specs.Site.{Site, site_labels, site_scheme}
@@ -108,8 +108,8 @@ module _ (site : Site) (distinct : AreDistinct (site_labels site)) (read : AreRe
       }
 
   call_known : (user : ℕ) (name : Name) (args : List (Option Value)) (o : Option Stored) → IfSome (certified_of o) (IsReadUnder site.policy site.schemes) → IsKnown site (call_step site w e user name args o)
-  call_known user name args None r = record { reply = tt; audit = denied_known user _ }
-  call_known user name args (Some (Plain tx)) r = record { reply = tt; audit = denied_known user _ }
+  call_known user name args None r = record { reply = tt; audit = denied_known user UnknownTransaction }
+  call_known user name args (Some (Plain tx)) r = record { reply = tt; audit = denied_known user NotCertified }
   call_known user name args (Some (Certified k)) r = unless_known (first_denial (call_denials site e.level user k.tx args)) user (called site w e user name k.tx args) (called_known user name k.tx args r)
 
   inside_known : (command : Command) (user : ℕ) → IsKnown site (step_inside site w e command user)

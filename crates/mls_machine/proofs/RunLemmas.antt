@@ -18,13 +18,13 @@ use Rattle.mls_machine.specs.Stored.{WhereCertified, IsCertifiedUnder}
 use Rattle.mls_machine.specs.Site.{Site, site_labels}
 use Rattle.mls_machine.specs.Machine.{World, step, end_of}
 use Rattle.mls_machine.specs.Output.{Line, reply_lines, run_lines}
-use Rattle.mls_machine.specs.Observation.{AreStored, EventsFit, AreRead, AreSecure, AreCertified, IsNoCall, HaveNoCall, shown, glimpse, seen, AgreeAt, EndAlike, IsBelowCeiling, AreBelowCeiling, out, released_in, run_released, released_to, PassesNothingDown, PassesOnlyReleasesDown}
+use Rattle.mls_machine.specs.Observation.{AreStored, EventsFit, AreRead, AreSecure, AreCertified, IsNoCall, HaveNoCall, shown, glimpse, seen, AgreeAt, EndAlike, IsBelowCeiling, AreBelowCeiling, out, released_in, run_released, released_to, PassesOnlyReleasesDown}
 use Rattle.mls_machine.specs.Laws.{LowRunsAreAlike, SecureRunsAreAlike, AcceptedRunsAreAlike}
 use Rattle.mls_machine.proofs.CalledLemmas.{WhereCalled, CallsRead, IsSafe, all_safe, no_call, weaker}
-use Rattle.mls_machine.proofs.KeepingLemmas.{step_stored, run_stored, first_fit}
+use Rattle.mls_machine.proofs.KeepingLemmas.{step_stored, first_fit}
 use Rattle.mls_machine.proofs.LowLemmas.{LowAgree, lows_trans, lows_sym, to_low, from_low}
 use Rattle.mls_machine.proofs.HiddenLemmas.{Silent, hidden_step}
-use Rattle.mls_machine.proofs.CallLemmas.{StepsAlike, SplitOrAlike, seen_steps}
+use Rattle.mls_machine.proofs.CallLemmas.{StepsAlike, seen_steps}
 
 parts_head : (x y : Event) (xs ys : List Event) → x ∷ xs ≡ y ∷ ys → x ≡ y
 parts_head x y xs ys e = cc

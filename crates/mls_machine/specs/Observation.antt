@@ -11,7 +11,6 @@ use Rattle.mls_filterview.specs.View.{View}
 use Rattle.mls_filterview.specs.Stored.{IsStored}
 use Rattle.mls_audit.specs.Entry.{visible}
 use Rattle.mls_translang.specs.declared.tx.Parameter.{Parameter}
-use Rattle.mls_translang.specs.Tx.{Tx}
 use Rattle.mls_translang.specs.Fits.{IsReadUnder}
 use Rattle.mls_meaning.specs.Meaning.{Item}
 use Rattle.mls_meaning.specs.Secure.{seen_items, Secure}

@@ -154,6 +154,7 @@ module _ (site : Site) (event : Event) (user : ℕ) (name : Name) (args : List (
       where
         none : first_denial (call_denials site event.level user k.tx args) ≡ None
         none = sym (ap (call_denial site event.level user args) stored) ∙ call_allowed
+
         step_is : (w : _) → step_inside site w event event.command user ≡ called site w event user name k.tx args
         step_is w =
             ap (λ x. step_inside site w event x user) is ∙ ap (call_step site w event user name args) stored

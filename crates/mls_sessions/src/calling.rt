@@ -203,7 +203,14 @@ fn run_certified<B: Base>(
         IfOk result (IsEvaluated run (with_database (B.state base.old) run.db) (B.state base.new)) }
 {
     let args = made(base, fitted(rules.alloc, certified.tx(), args))?;
-    evaluate_in(rules.alloc, base, rules.policy, rules.schemes, certified, &args)
+    evaluate_in(
+        rules.alloc,
+        base,
+        rules.policy,
+        rules.schemes,
+        certified,
+        &args,
+    )
 }
 
 /// Runs the transaction that an event calls, and enters the call and what it released, inside a change.

@@ -92,7 +92,12 @@ fn write<B: Base>(rules: &Rules, base: &mut B, event: &Event) -> Result<Reply, B
     ensures done { B.is_clean base.new → IfOk result (IsDoneOf (site_of rules.now) event.now Deed.Write (B.state base.old).now (B.state base.new).now) }
     ensures known { IfOk result (HasKnownNumbers rules.now.policy.now) }
 {
-    let (alloc, policy, schemes) = (rules.alloc, rules.policy, rules.schemes);
+    let Rules {
+        alloc,
+        policy,
+        schemes,
+        ..
+    } = *rules;
     let level = event.level;
     let outcome = match &event.command {
         Command::Insert { rel, key, values } => {

@@ -65,9 +65,11 @@ returns-in-Close-clause-done g c =
     (c.close.ensures.closed ∙ ap (λ name. with_session (sessions_of c.args.self.now.sessions.items) c.args.event.now.level name None) c.deref.ensures) (closed_is (site c.args.self.now) (world_of g.B.Base.state c.args.self.now) c.args.event.now c.args.user c.requires.held c.in-Close.is)).done
 
 pub change-in-Call-requires-clause-deed : goal.change-in-Call-requires-clause-deed
-change-in-Call-requires-clause-deed g c =
-    (user_known _ c.args.self.now.sessions.items c.args.event.now.level c.args.event.now.session c.args.user c.requires.ready.users c.requires.held, ap is_call c.in-Call.is,
-      sym c.denial_of.ensures ∙ none_from c.denial_of.result c.in_default.not-Some)
+change-in-Call-requires-clause-deed g c = (
+  user_known _ c.args.self.now.sessions.items c.args.event.now.level c.args.event.now.session c.args.user c.requires.ready.users c.requires.held,
+  ap is_call c.in-Call.is,
+  sym c.denial_of.ensures ∙ none_from c.denial_of.result c.in_default.not-Some,
+)
 
 pub returns-in-Call-clause-kept : goal.returns-in-Call-clause-kept
 returns-in-Call-clause-kept g c =

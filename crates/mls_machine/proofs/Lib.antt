@@ -12,3 +12,4 @@ pub mod CallLemmas
 pub mod RunLemmas
 pub mod LineLemmas
 pub mod SampleLemmas
+pub mod CallSampleLemmas

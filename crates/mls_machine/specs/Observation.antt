@@ -21,7 +21,7 @@ use Rattle.mls_script.specs.Event.{EventFits}
 use Rattle.mls_machine.specs.declared.reply.Reply.{Reply}
 use Rattle.mls_machine.specs.declared.reply.Reply.TheVariants.{Ran}
 use Rattle.mls_machine.specs.declared.stored.Stored.{Stored}
-use Rattle.mls_machine.specs.Stored.{tx_of, WhereCertified, IsCertifiedUnder}
+use Rattle.mls_machine.specs.Stored.{tx_of, WhereCertified, IsCertifiedUnder, IsMadeUnder}
 use Rattle.mls_machine.specs.Site.{Site, site_labels, site_scheme}
 use Rattle.mls_machine.specs.Denying.{stored_named}
 use Rattle.mls_machine.specs.Machine.{World, step, end_of}
@@ -47,6 +47,10 @@ AreSecure site = AllByRecursion (WhereCertified (Secure site.policy)) site.store
 -- under their certificates the rules hold
 abbrev pub AreCertified : Site → Type 0
 AreCertified site = AllByRecursion (IsCertifiedUnder site.policy) site.stored
+
+-- they were checked under the policy of the site
+abbrev pub AreMadeUnder : Site → Type 0
+AreMadeUnder site = AllByRecursion (IsMadeUnder site.policy) site.stored
 
 -- ---- events
 

@@ -1,4 +1,3 @@
 pub mod Data
 pub mod Frames
-pub mod Fitting
 pub mod Runs

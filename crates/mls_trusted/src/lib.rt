@@ -5,7 +5,7 @@ mod block;
 mod call;
 mod datum;
 mod environment;
-mod evaluate;
+mod evaluation;
 mod fitting;
 mod frame;
 mod operand;
@@ -13,5 +13,5 @@ mod operator;
 mod plain;
 mod write;
 
-pub use evaluate::{evaluate, evaluate_in};
+pub use evaluation::{evaluate, evaluate_in};
 pub use mls_meaning::Run;

@@ -1,0 +1,7 @@
+pub mod CallLemmas
+pub mod DataLemmas
+pub mod EvaluationLemmas
+pub mod FrameLemmas
+pub mod PlainLemmas
+pub mod RunLemmas
+pub mod WriteLemmas

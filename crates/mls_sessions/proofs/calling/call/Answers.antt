@@ -45,7 +45,7 @@ returns-clause-done g c = λ clean.
     let s = g.B.Base.state c.args.base.now in
     let m = g.B.Base.state c.run_certified.new.base in
     let t = g.B.Base.state c.enter_run.new.base in
-    let run = c.in_ok-run.run in
+    let run = c.in_ok-run.run' in
     let ran : (args : List (Option Value)) → _ = λ args. run_tx (site_labels site) site.schemes k.tx (fitted k.tx.params args) s.now.db in
     call_over site e c.args.user c.in-Call.tx c.in-Call.args c.in-Call.is c.requires.deed.2 k
     (sym (ap (λ xs. stored_named xs c.deref-2.result.now) c.deref.ensures ∙ ap (stored_named c.args.rules.now.stored) c.deref-2.ensures) ∙ c.certified_named-certified.ensures)
@@ -57,4 +57,4 @@ returns-clause-done g c = λ clean.
 
 pub returns-clause-known : goal.returns-clause-known
 returns-clause-known g c =
-    (items_known c.args.rules.now.policy.now c.in_ok-run.run.emitted c.in_ok-run.ensures.items.emitted, items_known c.args.rules.now.policy.now c.in_ok-run.run.released c.in_ok-run.ensures.items.released)
+    (items_known c.args.rules.now.policy.now c.in_ok-run.run'.emitted c.in_ok-run.ensures.items.emitted, items_known c.args.rules.now.policy.now c.in_ok-run.run'.released c.in_ok-run.ensures.items.released)

@@ -64,8 +64,8 @@ returns-in-Close-clause-done g c =
     (answers_closed g.B.Base.state g.B.Base.is_clean g.B.Base.failures c.args.self.now c.requires.ready c.args.event.now c.requires.fits c.close.new.sessions (c.close.ensures.users _ c.requires.ready.users)
     (c.close.ensures.closed ∙ ap (λ name. with_session (sessions_of c.args.self.now.sessions.items) c.args.event.now.level name None) c.deref.ensures) (closed_is (site c.args.self.now) (world_of g.B.Base.state c.args.self.now) c.args.event.now c.args.user c.requires.held c.in-Close.is)).done
 
-pub change-in-Call-requires-clause-deed : goal.change-in-Call-requires-clause-deed
-change-in-Call-requires-clause-deed g c = (
+pub change-requires-in-Call-clause-deed : goal.change-requires-in-Call-clause-deed
+change-requires-in-Call-clause-deed g c = (
   user_known _ c.args.self.now.sessions.items c.args.event.now.level c.args.event.now.session c.args.user c.requires.ready.users c.requires.held,
   ap is_call c.in-Call.is,
   sym c.denial_of.ensures ∙ none_from c.denial_of.result c.in_default.not-Some,

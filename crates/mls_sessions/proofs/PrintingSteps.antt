@@ -60,6 +60,11 @@ names_more attributes k name start h =
 
 -- ---- lines
 
+-- the parts of the line of an item
+pub item_parts : (start f deed cell end : List ℕ) → (((start ++ f) ++ deed) ++ cell) ++ end ≡ start ++ (f ++ (deed ++ cell) ++ end)
+item_parts start f deed cell end =
+    ap (λ (x : List ℕ). x ++ end) (append_assoc (start ++ f) deed cell ∙ append_assoc start f (deed ++ cell)) ∙ append_assoc start (f ++ (deed ++ cell)) end
+
 no_texts : (site : Site) (command : Command) (tuples : List Tuple) → ((rel label : ℕ) → command ≡ commands.View rel label → ⊥) → view_texts site command tuples ≡ []
 no_texts site (commands.Open name) tuples other = refl
 no_texts site commands.Close tuples other = refl

@@ -29,7 +29,8 @@ fn push_item(
     push_front(text, policy, event, label)?;
     push_str(text, deed)?;
     push_cell(alloc, text, value)?;
-    push_str(text, "\n")
+    push_str(text, "\n")?;
+    Ok(())
 }
 
 /// Appends the lines of items.

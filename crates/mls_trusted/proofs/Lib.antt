@@ -1,7 +1,0 @@
-pub mod CallLemmas
-pub mod DataLemmas
-pub mod EvaluationLemmas
-pub mod FrameLemmas
-pub mod PlainLemmas
-pub mod RunLemmas
-pub mod WriteLemmas

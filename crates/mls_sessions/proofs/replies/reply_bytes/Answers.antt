@@ -18,4 +18,4 @@ returns-in-Entries c =
 pub returns-in-Ran : goal.returns-in-Ran
 returns-in-Ran c =
     IfOk-weaker c.ran_bytes.result _ _
-    (λ v h. h ∙ ran_printed (site_under c.args.policy.now c.args.schemes.now) c.args.event.now c.args.reply.now c.in-Ran.run'.now c.in-Ran.is) c.ran_bytes.ensures
+    (λ v h. h ∙ ran_printed (site_under c.args.policy.now c.args.schemes.now) c.args.event.now c.args.reply.now c.in-Ran.run' c.in-Ran.is) c.ran_bytes.ensures

@@ -6,3 +6,9 @@ pub mod Tree
 pub mod BlockCode
 pub mod Blocks
 pub mod BlockFalls
+pub mod Limits
+pub mod Fault
+pub mod Words
+pub mod ReadExpr
+pub mod ReadBlock
+pub mod Reading

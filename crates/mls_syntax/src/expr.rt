@@ -18,15 +18,26 @@ pub struct Expr {
 #[cycle(expr)]
 pub enum Term {
     /// A number or a text.
-    Literal { value: Value, at: usize },
+    Literal {
+        value: Value,
+        at: usize,
+    },
     /// The value that every kind has.
-    Null { at: usize },
+    Null {
+        at: usize,
+    },
     /// A variable or a parameter.
     Name(Name),
     /// An attribute of a loop's row.
-    Field { row: Name, attribute: Name },
+    Field {
+        row: Name,
+        attribute: Name,
+    },
     /// The other truth value.
-    Not { at: usize, operand: Box<Expr> },
+    Not {
+        at: usize,
+        operand: Box<Expr>,
+    },
     /// An operator and its operands, in parentheses of which the first stands at `at`.
     Op {
         at: usize,

@@ -3,12 +3,23 @@
 
 mod block;
 mod expr;
+mod fault;
+mod limits;
 mod list;
 mod name;
+mod read_block;
+mod read_expr;
+mod read_list;
+mod read_stmt;
+mod read_transaction;
+mod syntax;
 mod transaction;
+mod words;
 
 pub use block::{Block, Stmt};
 pub use expr::{Expr, Term};
+pub use fault::{SyntaxCause, SyntaxFault};
 pub use list::ExprList;
 pub use name::Name;
+pub use syntax::syntax;
 pub use transaction::{Parameter, Transaction, Variable};

@@ -1,0 +1,147 @@
+//! Transactions, from the tokens that are left.
+ghost use Rattle.std.specs.Prelude.{◌≡◌, ◌≤◌, length, IfOk};
+ghost use Rattle.mls_syntax.specs.Fault.{Gives};
+ghost use Rattle.mls_syntax.specs.Reading.{param_at, params_from, params_at, var_at, vars_at, interval_at, transaction_at, transactions_from};
+ghost use Rattle.std.specs.Prelude.{[]};
+
+use crate::fault::{SyntaxCause, SyntaxFault};
+use crate::limits::{MAX_NAMES, MAX_TRANSACTIONS};
+use crate::name::Name;
+use crate::read_block::body;
+use crate::transaction::{Parameter, Transaction, Variable};
+use crate::words::{kind, name, name_behind};
+use mls_lattice::Items;
+use mls_tokens::{Sign, Tokens};
+use std::alloc::Global;
+
+/// A parameter behind its name.
+#[tactic(auto, unfolding(crate::specs::Reading::param_at))]
+fn param(tokens: &mut Tokens, name: Name) -> Result<Parameter, SyntaxFault>
+    ensures { Gives (λ x. (x, tokens.new)) result (param_at name tokens.old) }
+{
+    tokens.sign(Sign::Colon)?;
+    let (kind, _) = kind(tokens)?;
+    let label = name_behind(tokens, "at")?;
+    Ok(Parameter { name, kind, label })
+}
+
+/// Parameters, one or more with a comma between each two.
+#[tactic(auto, using(crate::proofs::ListSteps::param_steps))]
+fn some_params(alloc: Global, tokens: &mut Tokens) -> Result<Vec<Parameter>, SyntaxFault>
+    ensures { Gives (λ v. (v.items, tokens.new)) result (params_from 64 [] tokens.old) }
+{
+    let mut params = Vec::new(alloc);
+    loop {
+        let name = name(tokens)?;
+        if params.len() >= MAX_NAMES {
+            return Err(SyntaxFault {
+                at: name.at(),
+                cause: SyntaxCause::TooLong,
+            });
+        }
+        let next = param(tokens, name)?;
+        params.push(next)?;
+        if tokens.takes_sign(Sign::Comma).is_none() {
+            return Ok(params);
+        }
+    }
+}
+
+/// The parameters in their parentheses.
+#[tactic(auto, unfolding(crate::specs::Reading::params_at))]
+fn params(alloc: Global, tokens: &mut Tokens) -> Result<Vec<Parameter>, SyntaxFault>
+    ensures { Gives (λ v. (v.items, tokens.new)) result (params_at tokens.old) }
+{
+    tokens.sign(Sign::LeftParen)?;
+    if tokens.takes_sign(Sign::RightParen).is_some() {
+        return Ok(Vec::new(alloc));
+    }
+    let params = some_params(alloc, tokens)?;
+    tokens.sign(Sign::RightParen)?;
+    Ok(params)
+}
+
+/// A variable behind its first word.
+#[tactic(auto, unfolding(crate::specs::Reading::var_at))]
+fn var(tokens: &mut Tokens) -> Result<Variable, SyntaxFault>
+    ensures { Gives (λ x. (x, tokens.new)) result (var_at tokens.old) }
+{
+    let name = name(tokens)?;
+    tokens.sign(Sign::Colon)?;
+    let (kind, _) = kind(tokens)?;
+    tokens.sign(Sign::Semicolon)?;
+    Ok(Variable { name, kind })
+}
+
+/// The variables.
+#[tactic(auto, using(crate::proofs::ListSteps::var_steps), unfolding(crate::specs::Reading::vars_at))]
+fn vars(alloc: Global, tokens: &mut Tokens) -> Result<Vec<Variable>, SyntaxFault>
+    ensures { Gives (λ v. (v.items, tokens.new)) result (vars_at tokens.old) }
+{
+    let mut vars = Vec::new(alloc);
+    while let Some(at) = tokens.takes_word("var") {
+        if vars.len() >= MAX_NAMES {
+            return Err(SyntaxFault {
+                at,
+                cause: SyntaxCause::TooLong,
+            });
+        }
+        let next = var(tokens)?;
+        vars.push(next)?;
+    }
+    Ok(vars)
+}
+
+/// The labels that a transaction runs between.
+#[tactic(auto, unfolding(crate::specs::Reading::interval_at))]
+fn interval(tokens: &mut Tokens) -> Result<(Name, Name), SyntaxFault>
+    ensures { Gives (λ x. ((x.0, x.1), tokens.new)) result (interval_at tokens.old) }
+{
+    let lo = name_behind(tokens, "levels")?;
+    let hi = name_behind(tokens, "to")?;
+    Ok((lo, hi))
+}
+
+/// A transaction behind its first word.
+#[tactic(auto, unfolding(crate::specs::Reading::transaction_at))]
+fn transaction(alloc: Global, tokens: &mut Tokens) -> Result<Transaction, SyntaxFault>
+    ensures { Gives (λ x. (x, tokens.new)) result (transaction_at tokens.old) }
+{
+    let name = name(tokens)?;
+    let (lo, hi) = interval(tokens)?;
+    let params = Items::from(params(alloc, tokens)?);
+    tokens.sign(Sign::LeftBrace)?;
+    let vars = Items::from(vars(alloc, tokens)?);
+    let (body, _) = body(alloc, tokens)?;
+    Ok(Transaction {
+        name,
+        lo,
+        hi,
+        params,
+        vars,
+        body,
+    })
+}
+
+/// The transactions up to the end.
+#[tactic(auto, using(crate::proofs::ListSteps::transaction_steps))]
+pub(crate) fn transactions(
+    alloc: Global,
+    tokens: &mut Tokens,
+) -> Result<Vec<Transaction>, SyntaxFault>
+    ensures { Gives (λ v. v.items) result (transactions_from 64 [] tokens.old) }
+{
+    let mut front = Vec::new(alloc);
+    while !tokens.is_over() {
+        let at = tokens.word("transaction")?;
+        if front.len() >= MAX_TRANSACTIONS {
+            return Err(SyntaxFault {
+                at,
+                cause: SyntaxCause::TooLong,
+            });
+        }
+        let next = transaction(alloc, tokens)?;
+        front.push(next)?;
+    }
+    Ok(front)
+}

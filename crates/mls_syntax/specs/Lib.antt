@@ -12,3 +12,4 @@ pub mod Words
 pub mod ReadExpr
 pub mod ReadBlock
 pub mod Reading
+pub mod Spelling

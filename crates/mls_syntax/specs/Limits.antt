@@ -31,24 +31,33 @@ pub record IsShallow (e : Expr) : Type 0 where
   pub nesting : nesting e ≤ 16
   pub literals : HasLiterals e
 
+-- each expression is such; an update names an attribute at least, and rows have names
+module _ (P : Expr → Type 0) where
+  abbrev pub WritingAll : Writing → Type 0
+  WritingAll (Inserting key values) = AllByRecursion P key.items × AllByRecursion P values.items
+  WritingAll (Updating key key_class from sets) = AllByRecursion P key.items × (0 < length sets) × AllByRecursion (λ s. P s.1) sets
+  WritingAll (Deleting key key_class) = AllByRecursion P key.items
+
+  abbrev pub StmtAll : Stmt → Type 0
+  StmtAll (Assign target e) = P e
+  StmtAll (Write_at rel w writing outcome) = WritingAll writing
+  StmtAll (Release e to into) = P e
+  StmtAll (Emit e label) = P e
+
+  abbrev pub BlockAll : Block → Type 0
+  BlockAll End = Unit {0}
+  BlockAll (Do stmt rest) = StmtAll stmt × BlockAll rest
+  BlockAll (If guard one other rest) = P guard × BlockAll one × BlockAll other × BlockAll rest
+  BlockAll (For row rel label body rest) = (is_name row.0 ≡ true) × BlockAll body × BlockAll rest
+
 abbrev pub WritingIsShallow : Writing → Type 0
-WritingIsShallow (Inserting key values) = AllByRecursion IsShallow key.items × AllByRecursion IsShallow values.items
-WritingIsShallow (Updating key key_class from sets) =
-    AllByRecursion IsShallow key.items × (0 < length sets) × AllByRecursion (λ s. IsShallow s.1) sets
-WritingIsShallow (Deleting key key_class) = AllByRecursion IsShallow key.items
+WritingIsShallow = WritingAll IsShallow
 
 abbrev pub StmtIsShallow : Stmt → Type 0
-StmtIsShallow (Assign target e) = IsShallow e
-StmtIsShallow (Write_at rel w writing outcome) = WritingIsShallow writing
-StmtIsShallow (Release e to into) = IsShallow e
-StmtIsShallow (Emit e label) = IsShallow e
+StmtIsShallow = StmtAll IsShallow
 
--- and rows have names
 abbrev pub BlockIsShallow : Block → Type 0
-BlockIsShallow End = Unit {0}
-BlockIsShallow (Do stmt rest) = StmtIsShallow stmt × BlockIsShallow rest
-BlockIsShallow (If guard one other rest) = IsShallow guard × BlockIsShallow one × BlockIsShallow other × BlockIsShallow rest
-BlockIsShallow (For row rel label body rest) = (is_name row.0 ≡ true) × BlockIsShallow body × BlockIsShallow rest
+BlockIsShallow = BlockAll IsShallow
 
 pub record IsLimited (tx : Transaction) : Type 0 where
   pub name : is_name tx.name.0 ≡ true

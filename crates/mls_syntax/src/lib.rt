@@ -4,6 +4,7 @@
 mod block;
 mod expr;
 mod fault;
+mod first_pass;
 mod limits;
 mod list;
 mod name;
@@ -12,14 +13,13 @@ mod read_expr;
 mod read_list;
 mod read_stmt;
 mod read_transaction;
-mod syntax;
 mod transaction;
 mod words;
 
 pub use block::{Block, Stmt};
 pub use expr::{Expr, Term};
 pub use fault::{SyntaxCause, SyntaxFault};
+pub use first_pass::syntax;
 pub use list::ExprList;
 pub use name::Name;
-pub use syntax::syntax;
 pub use transaction::{Parameter, Transaction, Variable};

@@ -8,7 +8,7 @@ use crate::fault::{SyntaxCause, SyntaxFault};
 use crate::limits::{MAX_DEPTH, MAX_STATEMENTS};
 use crate::read_expr::whole;
 use crate::read_stmt::plain;
-use crate::words::{Opening, name, name_behind, opening};
+use crate::words::{Opening, name_behind, pass_name, pass_opening};
 use mls_tokens::{Sign, Tokens};
 use std::alloc::Global;
 
@@ -77,7 +77,7 @@ fn for_stmt(
     ensures exact { Gives (λ x. (x.0, x.1, tokens.new)) result (for_at (stmts_at depth) count tokens.old) }
     ensures counted { IfOk result (λ x. (count ≤ x.1) × (x.1 ≤ 1000)) }
 {
-    let row = name(tokens)?;
+    let row = pass_name(tokens)?;
     let relation = name_behind(tokens, "in")?;
     let label = name_behind(tokens, "at")?;
     let (body, count) = braced(alloc, tokens, depth, count)?;
@@ -128,7 +128,7 @@ fn stmt(
     ensures exact { Gives (λ x. (x.0, x.1, tokens.new)) result (stmt_at depth count tokens.old) }
     ensures counted { IfOk result (λ x. (count < x.1) × (x.1 ≤ 1000)) }
 {
-    let (opening, at) = opening(tokens)?;
+    let (opening, at) = pass_opening(tokens)?;
     if depth == 0 {
         return Err(SyntaxFault {
             at,

@@ -1,15 +1,15 @@
 //! Expressions, from the tokens that are left.
-ghost use Rattle.std.specs.Prelude.{◌≡◌, ◌≤◌, ◌<◌, IfOk, IfErr};
+ghost use Rattle.std.specs.Prelude.{◌≡◌, IfOk, IfErr};
 ghost use Rattle.mls_syntax.specs.declared.fault.SyntaxCause.TheVariants.{Memory};
 ghost use Rattle.mls_syntax.specs.ExprTree.{No, Op};
 ghost use Rattle.mls_syntax.specs.Fault.{Gives};
-ghost use Rattle.mls_syntax.specs.ReadExpr.{named_at, negation_at, operation_at, expr_at, whole_at};
+ghost use Rattle.mls_syntax.specs.ReadExpr.{named_at, term_at, negation_at, operation_at, expr_at, whole_at};
 
 use crate::expr::{Expr, Term};
 use crate::fault::{SyntaxCause, SyntaxFault};
 use crate::limits::MAX_DEPTH;
 use crate::name::Name;
-use crate::words::{Head, head, name, operator};
+use crate::words::{Head, pass_head, pass_name, pass_operator};
 use mls_tokens::{Sign, Tokens};
 use mls_translang::Operator;
 use std::alloc::Global;
@@ -21,7 +21,7 @@ fn named(tokens: &mut Tokens, row: Name) -> Result<Expr, SyntaxFault>
     if tokens.takes_sign(Sign::Dot).is_none() {
         return Ok(Expr::from(Term::Name(row)));
     }
-    let attribute = name(tokens)?;
+    let attribute = pass_name(tokens)?;
     Ok(Expr::from(Term::Field { row, attribute }))
 }
 
@@ -94,18 +94,18 @@ fn operation(
         });
     }
     let left = expr(alloc, tokens, depth - 1)?;
-    let operator = operator(tokens)?;
+    let operator = pass_operator(tokens)?;
     let right = expr(alloc, tokens, depth - 1)?;
     tokens.sign(Sign::RightParen)?;
     new_operation(alloc, at, left, operator, right)
 }
 
-/// An expression whose `(` and `not` stand inside no more than `depth` others.
+/// An expression by its first token, whose `(` and `not` stand inside no more than `depth` others.
 #[cycle(expr)]
-fn expr(alloc: Global, tokens: &mut Tokens, depth: usize) -> Result<Expr, SyntaxFault>
-    ensures { Gives (λ e. (e, tokens.new)) result (expr_at depth tokens.old) }
+fn term(alloc: Global, tokens: &mut Tokens, depth: usize) -> Result<Expr, SyntaxFault>
+    ensures { Gives (λ e. (e, tokens.new)) result (term_at (negation_at depth) (operation_at depth) tokens.old) }
 {
-    let (head, at) = head(tokens)?;
+    let (head, at) = pass_head(tokens)?;
     match head {
         Head::Literal(value) => Ok(Expr::from(Term::Literal { value, at })),
         Head::Null => Ok(Expr::from(Term::Null { at })),
@@ -113,6 +113,15 @@ fn expr(alloc: Global, tokens: &mut Tokens, depth: usize) -> Result<Expr, Syntax
         Head::Not => negation(alloc, tokens, depth, at),
         Head::Paren => operation(alloc, tokens, depth, at),
     }
+}
+
+/// An expression whose `(` and `not` stand inside no more than `depth` others.
+#[cycle(expr)]
+#[tactic(auto, using(crate::proofs::ExprSteps::expr_steps))]
+fn expr(alloc: Global, tokens: &mut Tokens, depth: usize) -> Result<Expr, SyntaxFault>
+    ensures { Gives (λ e. (e, tokens.new)) result (expr_at depth tokens.old) }
+{
+    term(alloc, tokens, depth)
 }
 
 /// An expression of a statement.

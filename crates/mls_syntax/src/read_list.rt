@@ -8,7 +8,7 @@ use crate::fault::SyntaxFault;
 use crate::list::ExprList;
 use crate::name::Name;
 use crate::read_expr::whole;
-use crate::words::name;
+use crate::words::pass_name;
 use mls_lattice::Items;
 use mls_tokens::{Sign, Tokens};
 use std::alloc::Global;
@@ -48,7 +48,7 @@ pub(crate) fn list(alloc: Global, tokens: &mut Tokens) -> Result<ExprList, Synta
 fn set(alloc: Global, tokens: &mut Tokens) -> Result<(Name, Expr), SyntaxFault>
     ensures { Gives (λ x. ((x.0, x.1), tokens.new)) result (set_at tokens.old) }
 {
-    let attribute = name(tokens)?;
+    let attribute = pass_name(tokens)?;
     tokens.sign(Sign::Equals)?;
     let value = whole(alloc, tokens)?;
     Ok((attribute, value))

@@ -9,7 +9,7 @@ use crate::list::ExprList;
 use crate::name::Name;
 use crate::read_expr::whole;
 use crate::read_list::{list, sets};
-use crate::words::{Plain, name, name_behind};
+use crate::words::{Plain, name_behind, pass_name};
 use mls_lattice::Items;
 use mls_tokens::{Sign, Tokens};
 use std::alloc::Global;
@@ -30,7 +30,7 @@ fn outcome(tokens: &mut Tokens) -> Result<Option<Name>, SyntaxFault>
 {
     let mut outcome = None;
     if tokens.takes_word("as").is_some() {
-        outcome = Some(name(tokens)?);
+        outcome = Some(pass_name(tokens)?);
     }
     tokens.sign(Sign::Semicolon)?;
     Ok(outcome)
@@ -41,7 +41,7 @@ fn outcome(tokens: &mut Tokens) -> Result<Option<Name>, SyntaxFault>
 fn keyed(alloc: Global, tokens: &mut Tokens) -> Result<(Name, ExprList), SyntaxFault>
     ensures { Gives (λ x. ((x.0, x.1), tokens.new)) result (keyed_at tokens.old) }
 {
-    let relation = name(tokens)?;
+    let relation = pass_name(tokens)?;
     let key = list_behind(alloc, tokens, "key")?;
     Ok((relation, key))
 }

@@ -9,7 +9,7 @@ use crate::limits::{MAX_NAMES, MAX_TRANSACTIONS};
 use crate::name::Name;
 use crate::read_block::body;
 use crate::transaction::{Parameter, Transaction, Variable};
-use crate::words::{kind, name, name_behind};
+use crate::words::{name_behind, pass_kind, pass_name};
 use mls_lattice::Items;
 use mls_tokens::{Sign, Tokens};
 use std::alloc::Global;
@@ -20,7 +20,7 @@ fn param(tokens: &mut Tokens, name: Name) -> Result<Parameter, SyntaxFault>
     ensures { Gives (λ x. (x, tokens.new)) result (param_at name tokens.old) }
 {
     tokens.sign(Sign::Colon)?;
-    let (kind, _) = kind(tokens)?;
+    let (kind, _) = pass_kind(tokens)?;
     let label = name_behind(tokens, "at")?;
     Ok(Parameter { name, kind, label })
 }
@@ -32,7 +32,7 @@ fn some_params(alloc: Global, tokens: &mut Tokens) -> Result<Vec<Parameter>, Syn
 {
     let mut params = Vec::new(alloc);
     loop {
-        let name = name(tokens)?;
+        let name = pass_name(tokens)?;
         if params.len() >= MAX_NAMES {
             return Err(SyntaxFault {
                 at: name.at(),
@@ -66,9 +66,9 @@ fn params(alloc: Global, tokens: &mut Tokens) -> Result<Vec<Parameter>, SyntaxFa
 fn var(tokens: &mut Tokens) -> Result<Variable, SyntaxFault>
     ensures { Gives (λ x. (x, tokens.new)) result (var_at tokens.old) }
 {
-    let name = name(tokens)?;
+    let name = pass_name(tokens)?;
     tokens.sign(Sign::Colon)?;
-    let (kind, _) = kind(tokens)?;
+    let (kind, _) = pass_kind(tokens)?;
     tokens.sign(Sign::Semicolon)?;
     Ok(Variable { name, kind })
 }
@@ -107,7 +107,7 @@ fn interval(tokens: &mut Tokens) -> Result<(Name, Name), SyntaxFault>
 fn transaction(alloc: Global, tokens: &mut Tokens) -> Result<Transaction, SyntaxFault>
     ensures { Gives (λ x. (x, tokens.new)) result (transaction_at tokens.old) }
 {
-    let name = name(tokens)?;
+    let name = pass_name(tokens)?;
     let (lo, hi) = interval(tokens)?;
     let params = Items::from(params(alloc, tokens)?);
     tokens.sign(Sign::LeftBrace)?;

@@ -190,7 +190,7 @@ fn unexpected(at: usize) -> TokenFault
 }
 
 /// Passes what an expression begins with, and gives its place too.
-pub(crate) fn head(tokens: &mut Tokens) -> Result<(Head, usize), TokenFault>
+pub(crate) fn pass_head(tokens: &mut Tokens) -> Result<(Head, usize), TokenFault>
     ensures { Reads (λ x. ((x.0, x.1), tokens.new)) result (pass_head tokens.old) }
 {
     let Some(first) = tokens.pop() else {
@@ -203,7 +203,7 @@ pub(crate) fn head(tokens: &mut Tokens) -> Result<(Head, usize), TokenFault>
 }
 
 /// Passes what a statement begins with, and gives its place too.
-pub(crate) fn opening(tokens: &mut Tokens) -> Result<(Opening, usize), TokenFault>
+pub(crate) fn pass_opening(tokens: &mut Tokens) -> Result<(Opening, usize), TokenFault>
     ensures { Reads (λ x. ((x.0, x.1), tokens.new)) result (pass_known opening_of tokens.old) }
 {
     let Some(first) = tokens.pop() else {
@@ -216,7 +216,7 @@ pub(crate) fn opening(tokens: &mut Tokens) -> Result<(Opening, usize), TokenFaul
 }
 
 /// Passes an operator, and gives its place too.
-pub(crate) fn operator(tokens: &mut Tokens) -> Result<(Operator, usize), TokenFault>
+pub(crate) fn pass_operator(tokens: &mut Tokens) -> Result<(Operator, usize), TokenFault>
     ensures { Reads (λ x. ((x.0, x.1), tokens.new)) result (pass_known operator_of tokens.old) }
 {
     let Some(first) = tokens.pop() else {
@@ -229,7 +229,7 @@ pub(crate) fn operator(tokens: &mut Tokens) -> Result<(Operator, usize), TokenFa
 }
 
 /// Passes the word of a kind, and gives its place too.
-pub(crate) fn kind(tokens: &mut Tokens) -> Result<(Kind, usize), TokenFault>
+pub(crate) fn pass_kind(tokens: &mut Tokens) -> Result<(Kind, usize), TokenFault>
     ensures { Reads (λ x. ((x.0, x.1), tokens.new)) result (pass_known kind_of tokens.old) }
 {
     let Some(first) = tokens.pop() else {
@@ -242,7 +242,7 @@ pub(crate) fn kind(tokens: &mut Tokens) -> Result<(Kind, usize), TokenFault>
 }
 
 /// Passes a name.
-pub(crate) fn name(tokens: &mut Tokens) -> Result<Name, TokenFault>
+pub(crate) fn pass_name(tokens: &mut Tokens) -> Result<Name, TokenFault>
     ensures { Reads (λ x. (x, tokens.new)) result (pass_name tokens.old) }
 {
     let (text, at) = tokens.name()?;
@@ -254,5 +254,5 @@ pub(crate) fn name_behind(tokens: &mut Tokens, word: &str) -> Result<Name, Token
     ensures { Reads (λ x. (x, tokens.new)) result (pass_name_behind word.now tokens.old) }
 {
     tokens.word(word)?;
-    name(tokens)
+    pass_name(tokens)
 }

@@ -112,7 +112,7 @@ kept_more d x xs a b h k = record {
 
 -- ---- what a statement begins with
 
-test_word : {X : Type 0} (w k : Bytes) (x y : X) (more : Option X) → (if bytes_eq w k then Some x else more) ≡ Some y → ((Word w ≡ Word k) × (x ≡ y)) ⊎ (more ≡ Some y)
+pub test_word : {X : Type 0} (w k : Bytes) (x y : X) (more : Option X) → (if bytes_eq w k then Some x else more) ≡ Some y → ((Word w ≡ Word k) × (x ≡ y)) ⊎ (more ≡ Some y)
 test_word w k x y more e = go (chosen (bytes_eq w k) (Some x) more (Some y) e)
   where
     go : ((bytes_eq w k ≡ true) × (Some x ≡ Some y)) ⊎ ((bytes_eq w k ≡ false) × (more ≡ Some y)) → ((Word w ≡ Word k) × (x ≡ y)) ⊎ (more ≡ Some y)

@@ -194,7 +194,10 @@ record VarsFound (room : ℕ) (front : List Variable) (l : Left) (y : List Varia
   names : AllByRecursion VarNamed new
   few : length new ≤ room
 
-no_vars : (room : ℕ) (front : List Variable) (l : Left) (y : List Variable × Left) → Ok {E = SyntaxFault} (front, l) ≡ Ok y → VarsFound room front l y
+abbrev ok_vars : List Variable × Left → Result (List Variable × Left) SyntaxFault
+ok_vars x = Ok x
+
+no_vars : (room : ℕ) (front : List Variable) (l : Left) (y : List Variable × Left) → ok_vars (front, l) ≡ ok_vars y → VarsFound room front l y
 no_vars room front l y e =
     let done : Result (List Variable × Left) SyntaxFault = Ok (front, l) in
     subst (VarsFound room front l) (same_ok done (front, l) y refl e) (record { new = []; whole = append-nil front; passed = passed_none l; names = tt; few = omega arith })
@@ -314,7 +317,10 @@ over_is : (ps : List Placed) (stop : TokenFault) → over_with ps stop ≡ true 
 over_is [] stop e = (refl, expected_is stop.cause e)
 over_is (p ∷ ps) stop e = absurd cc
 
-at_end : (room : ℕ) (front : List Transaction) (l : Left) (txs : List Transaction) → is_over l ≡ true → Ok {E = SyntaxFault} front ≡ Ok txs → EachFound room front l txs
+abbrev ok_all : List Transaction → Result (List Transaction) SyntaxFault
+ok_all txs = Ok txs
+
+at_end : (room : ℕ) (front : List Transaction) (l : Left) (txs : List Transaction) → is_over l ≡ true → ok_all front ≡ ok_all txs → EachFound room front l txs
 at_end room front l txs on e =
     let over = over_is l.placed l.stop on in
     let done : Result (List Transaction) SyntaxFault = Ok front in
@@ -324,13 +330,13 @@ pub each_found : (room : ℕ) (front : List Transaction) (l : Left) (txs : List 
 unfolding transactions_from
 each_found zero front l txs e = go (chosen (is_over l) (Ok front) (word_at (codes "transaction") l >>= λ w. too_many w.0) (Ok txs) e)
   where
-    go : ((is_over l ≡ true) × (Ok front ≡ Ok txs)) ⊎ ((is_over l ≡ false) × ((word_at (codes "transaction") l >>= λ w. too_many w.0) ≡ Ok txs)) → EachFound zero front l txs
+    go : ((is_over l ≡ true) × (ok_all front ≡ ok_all txs)) ⊎ ((is_over l ≡ false) × ((word_at (codes "transaction") l >>= λ w. too_many w.0) ≡ ok_all txs)) → EachFound zero front l txs
     go (inl h) = at_end zero front l txs h.0 h.1
     go (inr h) = absurd (let w = bind_ok (word_at (codes "transaction") l) (λ w. too_many w.0) txs h.1 in let bad = w.2 in cc)
 each_found (suc room) front l txs e = go (λ xs r h. each_found room xs r txs h) (chosen (is_over l) (Ok front) (word_at (codes "transaction") l >>= λ w. transaction_at w.1 >>= λ t. transactions_from room (front ++ t.0 ∷ []) t.1) (Ok txs) e)
   where
-    go : ((xs : List Transaction) (r : Left) → transactions_from room xs r ≡ Ok txs → EachFound room xs r txs) → ((is_over l ≡ true) × (Ok front ≡ Ok txs))
-        ⊎ ((is_over l ≡ false) × ((word_at (codes "transaction") l >>= λ w. transaction_at w.1 >>= λ t. transactions_from room (front ++ t.0 ∷ []) t.1) ≡ Ok txs)) → EachFound (suc room) front l txs
+    go : ((xs : List Transaction) (r : Left) → transactions_from room xs r ≡ Ok txs → EachFound room xs r txs) → ((is_over l ≡ true) × (ok_all front ≡ ok_all txs))
+        ⊎ ((is_over l ≡ false) × ((word_at (codes "transaction") l >>= λ w. transaction_at w.1 >>= λ t. transactions_from room (front ++ t.0 ∷ []) t.1) ≡ ok_all txs)) → EachFound (suc room) front l txs
     go more (inl h) = at_end (suc room) front l txs h.0 h.1
     go more (inr h) =
         let w = bind_ok (word_at (codes "transaction") l) (λ w. transaction_at w.1 >>= λ t. transactions_from room (front ++ t.0 ∷ []) t.1) txs h.1 in

@@ -8,3 +8,6 @@ pub mod TextLemmas
 pub mod LimitLemmas
 pub mod StmtSteps
 pub mod ListSteps
+pub mod AgainLemmas
+pub mod BlockAgain
+pub mod TextAgain

@@ -13,3 +13,4 @@ pub mod ReadExpr
 pub mod ReadBlock
 pub mod Reading
 pub mod Spelling
+pub mod Places

@@ -1,6 +1,8 @@
 //! Transactions as syntax trees: what a text says, with its names as they are written, and the places of its parts.
 #![tactic(auto)]
 
+ghost use Rattle.mls_syntax.specs.Places.{TextsAreRead};
+
 mod block;
 mod expr;
 mod fault;
@@ -23,3 +25,8 @@ pub use first_pass::syntax;
 pub use list::ExprList;
 pub use name::Name;
 pub use transaction::{Parameter, Transaction, Variable};
+
+/// A text of syntax trees within the limits is read as these trees, up to their places.
+pub fn texts_are_read()
+    ensures { TextsAreRead }
+{}

@@ -14,3 +14,4 @@ pub mod ReadBlock
 pub mod Reading
 pub mod Spelling
 pub mod Places
+pub mod Next

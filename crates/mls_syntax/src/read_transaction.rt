@@ -1,6 +1,7 @@
 //! Transactions, from the tokens that are left.
 ghost use Rattle.std.specs.Prelude.{◌≡◌, ◌≤◌, length, IfOk};
-ghost use Rattle.mls_syntax.specs.Fault.{Gives};
+ghost use Rattle.mls_syntax.specs.Fault.{Gives, fault_at};
+ghost use Rattle.mls_syntax.specs.Next.{next_param_at, next_var_at, next_transaction_at};
 ghost use Rattle.mls_syntax.specs.Reading.{param_at, params_from, params_at, var_at, vars_at, interval_at, transaction_at, transactions_from};
 ghost use Rattle.std.specs.Prelude.{[]};
 
@@ -14,6 +15,16 @@ use mls_lattice::Items;
 use mls_tokens::{Sign, Tokens};
 use std::alloc::Global;
 
+/// The fault of one thing more than there may be.
+fn too_many(at: usize) -> SyntaxFault
+    ensures { result ≡ fault_at at SyntaxCause.TooLong }
+{
+    SyntaxFault {
+        at,
+        cause: SyntaxCause::TooLong,
+    }
+}
+
 /// A parameter behind its name.
 #[tactic(auto, unfolding(crate::specs::Reading::param_at))]
 fn param(tokens: &mut Tokens, name: Name) -> Result<Parameter, SyntaxFault>
@@ -25,6 +36,19 @@ fn param(tokens: &mut Tokens, name: Name) -> Result<Parameter, SyntaxFault>
     Ok(Parameter { name, kind, label })
 }
 
+/// One parameter more, behind so many.
+#[tactic(auto, unfolding(crate::specs::Next::next_param_at))]
+fn next_param(tokens: &mut Tokens, count: usize) -> Result<Parameter, SyntaxFault>
+    ensures { Gives (λ x. (x, tokens.new)) result (next_param_at count tokens.old) }
+{
+    let name = pass_name(tokens)?;
+    if count < MAX_NAMES {
+        param(tokens, name)
+    } else {
+        Err(too_many(name.at()))
+    }
+}
+
 /// Parameters, one or more with a comma between each two.
 #[tactic(auto, using(crate::proofs::ListSteps::param_steps))]
 fn some_params(alloc: Global, tokens: &mut Tokens) -> Result<Vec<Parameter>, SyntaxFault>
@@ -32,14 +56,7 @@ fn some_params(alloc: Global, tokens: &mut Tokens) -> Result<Vec<Parameter>, Syn
 {
     let mut params = Vec::new(alloc);
     loop {
-        let name = pass_name(tokens)?;
-        if params.len() >= MAX_NAMES {
-            return Err(SyntaxFault {
-                at: name.at(),
-                cause: SyntaxCause::TooLong,
-            });
-        }
-        let next = param(tokens, name)?;
+        let next = next_param(tokens, params.as_slice().len())?;
         params.push(next)?;
         if tokens.takes_sign(Sign::Comma).is_none() {
             return Ok(params);
@@ -73,23 +90,33 @@ fn var(tokens: &mut Tokens) -> Result<Variable, SyntaxFault>
     Ok(Variable { name, kind })
 }
 
+/// One variable more, behind so many, if one stands here.
+#[tactic(auto, unfolding(crate::specs::Next::next_var_at))]
+fn next_var(tokens: &mut Tokens, count: usize) -> Result<Option<Variable>, SyntaxFault>
+    ensures { Gives (λ x. (x, tokens.new)) result (next_var_at count tokens.old) }
+{
+    let Some(at) = tokens.takes_word("var") else {
+        return Ok(None);
+    };
+    if count < MAX_NAMES {
+        Ok(Some(var(tokens)?))
+    } else {
+        Err(too_many(at))
+    }
+}
+
 /// The variables.
-#[tactic(auto, using(crate::proofs::ListSteps::var_steps), unfolding(crate::specs::Reading::vars_at))]
+#[tactic(auto, using(crate::proofs::ListSteps::var_steps))]
 fn vars(alloc: Global, tokens: &mut Tokens) -> Result<Vec<Variable>, SyntaxFault>
     ensures { Gives (λ v. (v.items, tokens.new)) result (vars_at tokens.old) }
 {
     let mut vars = Vec::new(alloc);
-    while let Some(at) = tokens.takes_word("var") {
-        if vars.len() >= MAX_NAMES {
-            return Err(SyntaxFault {
-                at,
-                cause: SyntaxCause::TooLong,
-            });
-        }
-        let next = var(tokens)?;
+    loop {
+        let Some(next) = next_var(tokens, vars.as_slice().len())? else {
+            return Ok(vars);
+        };
         vars.push(next)?;
     }
-    Ok(vars)
 }
 
 /// The labels that a transaction runs between.
@@ -123,6 +150,26 @@ fn transaction(alloc: Global, tokens: &mut Tokens) -> Result<Transaction, Syntax
     })
 }
 
+/// One transaction more, behind so many, if the text is not over.
+#[tactic(auto, unfolding(crate::specs::Next::next_transaction_at))]
+fn next_transaction(
+    alloc: Global,
+    tokens: &mut Tokens,
+    count: usize,
+) -> Result<Option<Transaction>, SyntaxFault>
+    ensures { Gives (λ x. (x, tokens.new)) result (next_transaction_at count tokens.old) }
+{
+    if tokens.is_over() {
+        return Ok(None);
+    }
+    let at = tokens.word("transaction")?;
+    if count < MAX_TRANSACTIONS {
+        Ok(Some(transaction(alloc, tokens)?))
+    } else {
+        Err(too_many(at))
+    }
+}
+
 /// The transactions up to the end.
 #[tactic(auto, using(crate::proofs::ListSteps::transaction_steps))]
 pub(crate) fn transactions(
@@ -132,16 +179,10 @@ pub(crate) fn transactions(
     ensures { Gives (λ v. v.items) result (transactions_from 64 [] tokens.old) }
 {
     let mut front = Vec::new(alloc);
-    while !tokens.is_over() {
-        let at = tokens.word("transaction")?;
-        if front.len() >= MAX_TRANSACTIONS {
-            return Err(SyntaxFault {
-                at,
-                cause: SyntaxCause::TooLong,
-            });
-        }
-        let next = transaction(alloc, tokens)?;
+    loop {
+        let Some(next) = next_transaction(alloc, tokens, front.as_slice().len())? else {
+            return Ok(front);
+        };
         front.push(next)?;
     }
-    Ok(front)
 }

@@ -2,11 +2,11 @@ use Rattle.std.proofs.Common.{◌+◌, ◌*◌, ◌-◌}
 use Rattle.mls_syntax.proofs.StmtSteps.{StmtsSoFar}
 use Rattle.mls_syntax.proofs.read_block.+block.Given as goal
 
-abbrev pub decreases-stmts-loop-tokens : goal.decreases-stmts-loop-tokens
-decreases-stmts-loop-tokens l = 1000 - l.count
+abbrev pub decreases-stmts-loop-alloc : goal.decreases-stmts-loop-alloc
+decreases-stmts-loop-alloc l = 1000 - l.count
 
-abbrev pub invariant-stmts-loop-tokens : goal.invariant-stmts-loop-tokens
-invariant-stmts-loop-tokens l = StmtsSoFar l.depth l.initial.count l.initial.tokens l.stmts.items l.count l.tokens
+abbrev pub invariant-stmts-loop-alloc : goal.invariant-stmts-loop-alloc
+invariant-stmts-loop-alloc l = StmtsSoFar l.depth l.initial.count l.initial.tokens l.stmts.items l.count l.tokens
 
 -- ---- how deep
 

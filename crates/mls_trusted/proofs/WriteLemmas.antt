@@ -60,6 +60,12 @@ module _ (call : Call) (f : Frame) (rel w : ℕ) (writing : Writing) (outcome : 
       progress = progress;
     }
 
+  -- a base that was lent before still holds content of the stored form
+  pub content_lent : {B : Type 0} (is_clean : B → Type 0) (state : B → State) (a b : B) → b ≡ a → IsReady call is_clean state a f → (is_clean b → is_clean a) → is_clean b
+      → IsContent (labels_of call.policy.now) (scheme_of call.schemes.now rel) ((state b).now.db rel)
+  content_lent is_clean state a b same h back k =
+      subst (λ x. IsContent (labels_of call.policy.now) (scheme_of call.schemes.now rel) ((state x).now.db rel)) (sym same) (h.content (back k) rel)
+
   -- the same, where the base was lent before, and the operands were copied
   pub run_written : {B : Type 0} (is_clean : B → Type 0) (state : B → State) (a b c : B) (g : Frame) (o : Outcome) (wr : Write) → b ≡ a → wr ≡ write_in (env_in call.args.now f) writing
       → IsReady call is_clean state a f → MayRun call (around_of f) block → (is_clean c → is_clean b) → (state c).begun ≡ true

@@ -1,0 +1,4 @@
+pub mod Bounds
+pub mod Walk
+pub mod Least
+pub mod Labelling

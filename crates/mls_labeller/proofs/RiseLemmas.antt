@@ -10,7 +10,7 @@ use Rattle.mls_certificate.specs.declared.cert.Cert.{Cert}
 use Rattle.mls_certcheck.proofs.LabelLemmas.{bottom_pair, label_here}
 use Rattle.mls_certcheck.specs.Rules.{Claim, claim, var_label, pc}
 use Rattle.mls_labeller.specs.Least.{slot_label, source_label, Holds, Below}
-use Rattle.mls_labeller.specs.Labelling.{HasSlot, HasTarget, IsLowest, put, room_of, room, Rises}
+use Rattle.mls_labeller.specs.Rising.{HasSlot, HasTarget, IsLowest, put, room_of, room, Rises}
 use Rattle.mls_labeller.specs.declared.bound.Slot.{Slot}
 use Rattle.mls_labeller.specs.declared.bound.Slot.TheVariants.{Variable, Statement}
 use Rattle.mls_labeller.specs.declared.bound.Source.{Source}

@@ -9,7 +9,7 @@ use Rattle.mls_lattice.specs.declared.label.Label.{Label}
 use Rattle.mls_lattice.specs.Lattice.{Pair, Dominates, join, cats_of, pair_of}
 use Rattle.mls_lattice.proofs.LatticeLemmas.{join-left, join-right}
 use Rattle.mls_lattice.proofs.CategoryLemmas.{and_by_within}
-use Rattle.mls_labeller.specs.Labelling.{room_of}
+use Rattle.mls_labeller.specs.Rising.{room_of}
 
 cats_rise : (a b : ℕ) → ((k : ℕ) → set.contains (cats_of a) k ≡ true → set.contains (cats_of b) k ≡ true) → a ≤ b
 cats_rise a b h = let e = and_by_within a b h in omega (arith, e, and_le_r a b)

@@ -7,7 +7,7 @@ use Rattle.mls_translang.specs.Scope.{Scope, in_loop}
 use Rattle.mls_translang.specs.Tx.{Tx, IsTx, BlockIsOwn, StmtIsOwn, scope_of}
 use Rattle.mls_certcheck.specs.Place.{Place, Plain, directs, places}
 use Rattle.mls_labeller.specs.Bounds.{names, into, outcome_bounds, own_bounds, bounds_at, lower_bounds}
-use Rattle.mls_labeller.specs.Labelling.{HasSlot}
+use Rattle.mls_labeller.specs.Rising.{HasSlot}
 use Rattle.mls_labeller.specs.declared.bound.Slot.{Slot}
 use Rattle.mls_labeller.specs.declared.bound.Slot.TheVariants.{Variable, Statement}
 use Rattle.mls_labeller.specs.declared.bound.Source.{Source}

@@ -1,4 +1,5 @@
 pub mod Bounds
 pub mod Walk
 pub mod Least
-pub mod Labelling
+pub mod Fault
+pub mod Rising

@@ -1,7 +1,7 @@
 ghost use Rattle.std.specs.Prelude.{◌≡◌, IfOk, IfErr};
 ghost use Rattle.mls_certcheck.specs.Rules.{Rules, claim};
 ghost use Rattle.mls_labeller.specs.Least.{IsLeast, Below};
-ghost use Rattle.mls_labeller.specs.Labelling.{HasNone, IsFirst};
+ghost use Rattle.mls_labeller.specs.Fault.{HasNone, IsFirst};
 ghost use Rattle.mls_certificate.specs.declared.cert.Cert.{Cert as SpecCert};
 
 use crate::bounds::bounds_of;

@@ -1,7 +1,7 @@
 //! Labels that rise.
 ghost use Rattle.std.specs.Prelude.{◌≡◌, ◌<◌, IfOk, length};
 ghost use Rattle.mls_lattice.specs.Lattice.{pair_of};
-ghost use Rattle.mls_labeller.specs.Labelling.{cert_of, HasSlot, IsLowest, put};
+ghost use Rattle.mls_labeller.specs.Rising.{cert_of, HasSlot, IsLowest, put};
 
 use crate::bound::Slot;
 use mls_certificate::Cert;

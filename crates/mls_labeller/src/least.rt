@@ -8,7 +8,7 @@ ghost use Rattle.mls_translang.specs.Tree.{statements};
 ghost use Rattle.mls_certcheck.specs.Rules.{claim, pc, var_label, param_label};
 ghost use Rattle.mls_labeller.specs.Bounds.{lower_bounds};
 ghost use Rattle.mls_labeller.specs.Least.{slot_label, source_label, IsLeast};
-ghost use Rattle.mls_labeller.specs.Labelling.{cert_of, claim_at, HasTarget, Rises};
+ghost use Rattle.mls_labeller.specs.Rising.{cert_of, claim_at, HasTarget, Rises};
 
 use crate::bound::{Bound, Slot, Source};
 use crate::labels::Labels;

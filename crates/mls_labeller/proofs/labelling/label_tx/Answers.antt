@@ -7,7 +7,7 @@ use Rattle.mls_certificate.specs.declared.cert.Cert.{Cert}
 use Rattle.mls_certcheck.specs.declared.refusal.Rule.{Rule}
 use Rattle.mls_certcheck.specs.Rules.{Rules, claim}
 use Rattle.mls_labeller.specs.Least.{IsLeast, Below}
-use Rattle.mls_labeller.specs.Labelling.{HasNone}
+use Rattle.mls_labeller.specs.Fault.{HasNone}
 use Rattle.mls_labeller.specs.declared.fault.LabelFault.{LabelFault}
 use Rattle.mls_labeller.specs.declared.fault.LabelFault.TheVariants.{NoLabels}
 use Rattle.mls_labeller.proofs.BoundLemmas.{rules_meet, lesser_obey}

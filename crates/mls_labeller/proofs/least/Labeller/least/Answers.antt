@@ -1,7 +1,7 @@
 use Rattle.std.proofs.Common.{length, sym, ap, subst, ◌∙◌}
 use Rattle.std.specs.List.{AllByRecursion}
 use Rattle.mls_translang.specs.Tree.{statements}
-use Rattle.mls_labeller.specs.Labelling.{cert_of, HasSlot}
+use Rattle.mls_labeller.specs.Rising.{cert_of, HasSlot}
 use Rattle.mls_labeller.proofs.RiseLemmas.{lowest_below}
 use Rattle.mls_labeller.proofs.SlotLemmas.{bounds_have_slots, same_counts}
 use Rattle.mls_labeller.proofs.least.Labeller.least.Goals as goal

@@ -3,7 +3,7 @@ use Rattle.mls_translang.specs.Tree.{statements}
 use Rattle.mls_certificate.specs.declared.cert.Cert.{Cert}
 use Rattle.mls_certcheck.specs.Rules.{claim}
 use Rattle.mls_labeller.specs.Least.{Meets, Below}
-use Rattle.mls_labeller.specs.Labelling.{cert_of, claim_at, room}
+use Rattle.mls_labeller.specs.Rising.{cert_of, claim_at, room}
 use Rattle.mls_labeller.proofs.least.Labeller.least.Given as goal
 
 -- the labels are below all that meet the bounds

@@ -2,7 +2,7 @@ use Rattle.std.proofs.Common.{◌≡◌, ◌<◌, ◌^◌, ◌∷◌, [], true, 
 use Rattle.std.proofs.lemmas.Bool.{true≢false}
 use Rattle.mls_lattice.specs.Lattice.{pair_of, join}
 use Rattle.mls_labeller.specs.Least.{slot_label, source_label}
-use Rattle.mls_labeller.specs.Labelling.{cert_of, claim_at, Rises}
+use Rattle.mls_labeller.specs.Rising.{cert_of, claim_at, Rises}
 use Rattle.mls_labeller.proofs.RiseLemmas.{rises, rises_not, dominates_same}
 use Rattle.mls_labeller.proofs.least.Labeller.raise.Goals as goal
 

@@ -1,7 +1,7 @@
 use Rattle.std.proofs.Common.{◌≡◌, ◌+◌, ◌∷◌, [], ◌++◌, take, true, false, sym, ap, subst, ◌∙◌}
 use Rattle.std.proofs.lemmas.Bool.{true≢false}
 use Rattle.std.proofs.lemmas.List.{take_more}
-use Rattle.mls_labeller.specs.Labelling.{cert_of, Rises}
+use Rattle.mls_labeller.specs.Rising.{cert_of, Rises}
 use Rattle.mls_labeller.proofs.RiseLemmas.{rises_more}
 use Rattle.mls_labeller.proofs.least.Labeller.round.Goals as goal
 use Rattle.mls_labeller.proofs.least.Labeller.round.Goals.{then-raise, else-raise}

@@ -1,5 +1,5 @@
 use Rattle.std.proofs.Common.{take}
-use Rattle.mls_labeller.specs.Labelling.{cert_of, Rises}
+use Rattle.mls_labeller.specs.Rising.{cert_of, Rises}
 use Rattle.mls_labeller.proofs.least.Labeller.round.Given as goal
 
 -- the labels have risen by the bounds so far

@@ -1,33 +1,16 @@
--- What the labels are on the way to the least, and what is said where they do not pass.
-use Rattle.std.specs.Prelude.{◌≡◌, ℕ, ◌+◌, ◌-◌, ◌<◌, ◌≤◌, ◌^◌, Bool, true, false, List, length, slice_set, sum_by, Err}
+-- Labels that rise from the lowest until they meet the lower bounds.
+use Rattle.std.specs.Prelude.{◌≡◌, ℕ, ◌+◌, ◌-◌, ◌<◌, ◌≤◌, ◌^◌, Bool, true, false, List, length, slice_set, sum_by}
 use Rattle.std.specs.List.{AllByRecursion}
 use Rattle.mls_lattice.specs.Lattice.{bottom, pair_of}
-use Rattle.mls_lattice.specs.Policy.{Tables}
 use Rattle.mls_lattice.specs.declared.label.Label.{Label}
-use Rattle.mls_translang.specs.Tx.{Tx}
 use Rattle.mls_certificate.specs.declared.cert.Cert.{Cert}
-use Rattle.mls_certcheck.specs.Rules.{Claim, Rules, claim}
-use Rattle.mls_certcheck.specs.Checks.{First}
-use Rattle.mls_labeller.specs.Least.{Holds, Below, IsLeast}
+use Rattle.mls_certcheck.specs.Rules.{Claim, claim}
+use Rattle.mls_labeller.specs.Least.{Holds, Below}
 use Rattle.mls_labeller.specs.declared.bound.Slot.{Slot}
 use Rattle.mls_labeller.specs.declared.bound.Slot.TheVariants.{Variable, Statement}
 use Rattle.mls_labeller.specs.declared.bound.Bound.{Bound}
-use Rattle.mls_labeller.specs.declared.fault.LabelFault.{LabelFault}
-use Rattle.mls_labeller.specs.declared.fault.LabelFault.TheVariants.{NoLabels, Memory}
 use Rattle.mls_labeller.specs.declared.labels.Labels.{Labels}
 use Rattle.mls_labeller.specs.declared.least.Labeller.{Labeller}
-
--- where there are no labels, no certificate passes
-abbrev pub HasNone : Tables → Tx → LabelFault → Type 0
-HasNone policy tx (NoLabels stmt rule) = (cert : Cert) → Rules (claim policy tx cert) → ⊥
-HasNone policy tx Memory = Unit {0}
-
--- the rule is the first that the least labels break
-abbrev pub IsFirst : Tables → Tx → LabelFault → Type 0
-IsFirst policy tx (NoLabels stmt rule) = (cert : Cert) × (IsLeast policy tx cert × (First (claim policy tx cert) ≡ Err (record { stmt = stmt; rule = rule })))
-IsFirst policy tx Memory = Unit {0}
-
--- ---- labels that rise
 
 abbrev pub cert_of : Labels → Cert
 cert_of l = record { var_labels = l.vars.items; pc_labels = l.stmts.items }

@@ -5,24 +5,39 @@ use Rattle.std.proofs.lemmas.Bool.{cases_eq, true≢false}
 use Rattle.std.proofs.lemmas.List.{map-set, length-map, length-set, length-replicate, get_or-set_same, get_or-set_other, get_or_past}
 use Rattle.mls_lattice.specs.declared.label.Label.{Label}
 use Rattle.mls_lattice.specs.Lattice.{Pair, Dominates, join, bottom, pair_of}
-use Rattle.mls_lattice.proofs.LatticeLemmas.{Dominates-refl, Dominates-trans, join-least}
+use Rattle.mls_lattice.proofs.LatticeLemmas.{Dominates-refl, Dominates-trans, join-left, join-right, join-least}
 use Rattle.mls_certificate.specs.declared.cert.Cert.{Cert}
 use Rattle.mls_certcheck.proofs.LabelLemmas.{bottom_pair, label_here}
 use Rattle.mls_certcheck.specs.Rules.{Claim, claim, var_label, pc}
 use Rattle.mls_labeller.specs.Least.{slot_label, source_label, Holds, Below}
-use Rattle.mls_labeller.specs.Rising.{HasSlot, HasTarget, IsLowest, put, room_of, room, Rises}
-use Rattle.mls_labeller.specs.declared.bound.Slot.{Slot}
-use Rattle.mls_labeller.specs.declared.bound.Slot.TheVariants.{Variable, Statement}
-use Rattle.mls_labeller.specs.declared.bound.Source.{Source}
-use Rattle.mls_labeller.specs.declared.bound.Source.TheVariants.{Held, Parameter, Declared}
-use Rattle.mls_labeller.specs.declared.bound.Bound.{Bound}
+use Rattle.mls_labeller.specs.Rising.{HasSlot, IsLowest, put, room_of, room, IsJoin, Over, Rises}
+use Rattle.mls_labeller.specs.declared.flow.Slot.{Slot}
+use Rattle.mls_labeller.specs.declared.flow.Slot.TheVariants.{Variable, Statement}
+use Rattle.mls_labeller.specs.declared.flow.Source.{Source}
+use Rattle.mls_labeller.specs.declared.flow.Source.TheVariants.{Held, Parameter, Declared}
+use Rattle.mls_labeller.specs.declared.flow.Flow.{Flow}
 use Rattle.mls_labeller.specs.declared.least.Labeller.{Labeller}
-use Rattle.mls_labeller.proofs.EachLemmas.{all_both, all_front, all_back}
-use Rattle.mls_labeller.proofs.BoundLemmas.{above_bottom}
+use Rattle.mls_labeller.proofs.EachLemmas.{all_both, all_front, all_back, all_map}
+use Rattle.mls_labeller.proofs.FlowLemmas.{above_bottom}
 use Rattle.mls_labeller.proofs.RoomLemmas.{room_less, sum_less}
 
 pub dominates_same : (p q r s : Pair) → p ≡ r → q ≡ s → Dominates p q → Dominates r s
 dominates_same p q r s e f h = subst (λ x. Dominates x s) e (subst (λ x. Dominates p x) f h)
+
+-- ---- the join of sources
+
+pub join_none : (c : Claim) (p : Pair) → p ≡ bottom → IsJoin c [] p
+join_none c p e = record { above = tt; least = λ q h. subst (Dominates q) (sym e) (above_bottom q) }
+
+pub join_more : (c : Claim) (ss : List Source) (s : Source) (p q r : Pair) → IsJoin c ss p → q ≡ source_label c s → r ≡ join p q → IsJoin c (ss ++ s ∷ []) r
+join_more c ss s p q r j e f =
+    let l = source_label c s in
+    let whole : r ≡ join p l = f ∙ ap (join p) e in
+    let P : Pair → Type 0 = λ x. IsJoin c (ss ++ s ∷ []) x in
+    subst P (sym whole) (record {
+      above = all_both (λ t. Dominates (join p l) (source_label c t)) ss (s ∷ []) (all_map (λ t. Dominates p (source_label c t)) (λ t. Dominates (join p l) (source_label c t)) (λ t. Dominates-trans (join p l) p (source_label c t) (join-left p l)) ss j.above) (join-right p l, tt);
+      least = λ x h. join-least p l x (j.least x (all_front (λ t. Dominates x (source_label c t)) ss (s ∷ []) h)) (all_back (λ t. Dominates x (source_label c t)) ss (s ∷ []) h).0;
+    })
 
 -- ---- one label of a list
 
@@ -76,11 +91,11 @@ module _ (k : Labeller) where
   abbrev at : Cert → Claim
   at x = claim k.policy.now k.tx.now x
 
-  pub rises_none : (x : Cert) → Rises k [] x x false
-  rises_none x = record { var_count = refl; stmt_count = refl; least = λ other h b. b; still = λ e. refl; hold = λ e. tt; room = λ e. absurd (true≢false (sym e)) }
+  pub rises_none : {A : Type 0} (H : Claim → A → Type 0) (x : Cert) → Rises k H [] x x false
+  rises_none H x = record { var_count = refl; stmt_count = refl; least = λ other h b. b; still = λ e. refl; hold = λ e. tt; room = λ e. absurd (true≢false (sym e)) }
 
-  pub rises_not : (x : Cert) (b : Bound) → Holds (at x) b → Rises k (b ∷ []) x x false
-  rises_not x b h = record { var_count = refl; stmt_count = refl; least = λ other g below. below; still = λ e. refl; hold = λ e. (h, tt); room = λ e. absurd (true≢false (sym e)) }
+  pub rises_not : (x : Cert) (t : Slot) (p : Pair) → Dominates (slot_label (at x) t) p → Rises k (Over p) (t ∷ []) x x false
+  rises_not x t p h = record { var_count = refl; stmt_count = refl; least = λ other g below. below; still = λ e. refl; hold = λ e. (h, tt); room = λ e. absurd (true≢false (sym e)) }
 
   slot_below : (x y : Cert) → Below (at x) (at y) → (t : Slot) → Dominates (slot_label (at y) t) (slot_label (at x) t)
   slot_below x y b (Variable n) = b.vars n
@@ -91,11 +106,11 @@ module _ (k : Labeller) where
   source_below x y b (Parameter i) = Dominates-refl _
   source_below x y b (Declared label) = Dominates-refl _
 
-  -- what meets the bound is above the raised label
-  over_raised : (x y : Cert) (t : Slot) (s : Source) (new : Label) → pair_of new ≡ join (slot_label (at x) t) (source_label (at x) s) → Below (at x) (at y) → Dominates (slot_label (at y) t) (source_label (at y) s) → Dominates (slot_label (at y) t) (pair_of new)
-  over_raised x y t s new is below holds =
-      let p = slot_label (at y) t in
-      subst (Dominates p) (sym is) (join-least (slot_label (at x) t) (source_label (at x) s) p (slot_below x y below t) (Dominates-trans p (source_label (at y) s) (source_label (at x) s) holds (source_below x y below s)))
+  -- what is over the bound is over the raised label
+  over_raised : (x y : Cert) (t : Slot) (p : Pair) (new : Label) → pair_of new ≡ join (slot_label (at x) t) p → Below (at x) (at y) → Over p (at y) t → Dominates (slot_label (at y) t) (pair_of new)
+  over_raised x y t p new is below holds =
+      let q = slot_label (at y) t in
+      subst (Dominates q) (sym is) (join-least (slot_label (at x) t) p q (slot_below x y below t) holds)
 
   abbrev with_stmt : Cert → ℕ → Label → Cert
   with_stmt x i new = record { var_labels = x.var_labels; pc_labels = set x.pc_labels i new }
@@ -104,57 +119,74 @@ module _ (k : Labeller) where
   stmts_under x y i new lt here below zero = below.stmts zero
   stmts_under x y i new lt here below (suc n) = set_under x.pc_labels i new (λ m. pc (at y) (suc m)) lt here (λ m. below.stmts (suc m)) n
 
-  raised_at : (x : Cert) (t : Slot) (s : Source) (new : Label) → HasSlot (length x.var_labels) (length x.pc_labels) t → new.rank < 256 → new.cats < 2 ^ 32 → pair_of new ≡ join (slot_label (at x) t) (source_label (at x) s) → (Dominates (slot_label (at x) t) (source_label (at x) s) → ⊥) → Rises k (record { target = t; source = s } ∷ []) x (put x t new) true
-  raised_at x (Variable i) s new has rank cats is above =
-      let less = list_less x.var_labels i new (source_label (at x) s) has rank cats is above in
+  -- a label that did not dominate the pair
+  pub rises : (x : Cert) (t : Slot) (p : Pair) (new : Label) → HasSlot (length x.var_labels) (length x.pc_labels) t → new.rank < 256 → new.cats < 2 ^ 32 → pair_of new ≡ join (slot_label (at x) t) p → (Dominates (slot_label (at x) t) p → ⊥) → Rises k (Over p) (t ∷ []) x (put x t new) true
+  rises x (Variable i) p new has rank cats is above =
+      let less = list_less x.var_labels i new p has rank cats is above in
       record {
         var_count = length-set x.var_labels i new;
         stmt_count = refl;
-        least = λ other g below. record { vars = set_under x.var_labels i new (var_label (at other)) has (over_raised x other (Variable i) s new is below g.0) below.vars; stmts = below.stmts };
+        least = λ other g below. record { vars = set_under x.var_labels i new (var_label (at other)) has (over_raised x other (Variable i) p new is below g.0) below.vars; stmts = below.stmts };
         still = λ e. absurd (true≢false e);
         hold = λ e. absurd (true≢false e);
         room = λ e. omega (arith, less);
       }
-  raised_at x (Statement zero) s new has rank cats is above = absurd (omega (arith, has.0))
-  raised_at x (Statement (suc i)) s new has rank cats is above =
+  rises x (Statement zero) p new has rank cats is above = absurd (omega (arith, has.0))
+  rises x (Statement (suc i)) p new has rank cats is above =
       let lt : i < length x.pc_labels = omega (arith, has.1) in
-      let less = list_less x.pc_labels i new (source_label (at x) s) lt rank cats is above in
+      let less = list_less x.pc_labels i new p lt rank cats is above in
       let place : i ≡ suc i - 1 = omega arith in
-      let P : Cert → Type 0 = λ z. Rises k (record { target = Statement (suc i); source = s } ∷ []) x z true in
+      let P : Cert → Type 0 = λ z. Rises k (Over p) (Statement (suc i) ∷ []) x z true in
       subst (λ j. P (with_stmt x j new)) place (record {
         var_count = refl;
         stmt_count = length-set x.pc_labels i new;
-        least = λ other g below. record { vars = below.vars; stmts = stmts_under x other i new lt (over_raised x other (Statement (suc i)) s new is below g.0) below };
+        least = λ other g below. record { vars = below.vars; stmts = stmts_under x other i new lt (over_raised x other (Statement (suc i)) p new is below g.0) below };
         still = λ e. absurd (true≢false e);
         hold = λ e. absurd (true≢false e);
         room = λ e. omega (arith, less);
       })
 
-  -- a bound that did not hold
-  pub rises : (x : Cert) (b : Bound) (new : Label) → HasTarget x b → new.rank < 256 → new.cats < 2 ^ 32 → pair_of new ≡ join (slot_label (at x) b.target) (source_label (at x) b.source) → (Holds (at x) b → ⊥) → Rises k (b ∷ []) x (put x b.target new) true
-  rises x b new has rank cats is above = raised_at x b.target b.source new has rank cats is above
-
-  room_falls : (bs : List Bound) (x y : Cert) (r : Bool) → Rises k bs x y r → room y ≤ room x
-  room_falls bs x y true h = omega (arith, h.room refl)
-  room_falls bs x y false h = omega (arith, ap room (h.still refl))
+  room_falls : {A : Type 0} (H : Claim → A → Type 0) (bs : List A) (x y : Cert) (r : Bool) → Rises k H bs x y r → room y ≤ room x
+  room_falls H bs x y true h = omega (arith, h.room refl)
+  room_falls H bs x y false h = omega (arith, ap room (h.still refl))
 
   -- some bounds, and then one
-  pub rises_more : (bs : List Bound) (b : Bound) (x y z : Cert) (r s t : Bool) → Rises k bs x y r → Rises k (b ∷ []) y z s → (s ≡ true → t ≡ true) → (s ≡ false → t ≡ r) → Rises k (bs ++ b ∷ []) x z t
-  rises_more bs b x y z r true t h g on off = record {
+  pub rises_more : {A : Type 0} (H : Claim → A → Type 0) (bs : List A) (b : A) (x y z : Cert) (r s t : Bool) → Rises k H bs x y r → Rises k H (b ∷ []) y z s → (s ≡ true → t ≡ true) → (s ≡ false → t ≡ r) → Rises k H (bs ++ b ∷ []) x z t
+  rises_more H bs b x y z r true t h g on off = record {
     var_count = g.var_count ∙ h.var_count;
     stmt_count = g.stmt_count ∙ h.stmt_count;
-    least = λ other a below. g.least other (all_back (Holds (at other)) bs (b ∷ []) a) (h.least other (all_front (Holds (at other)) bs (b ∷ []) a) below);
+    least = λ other a below. g.least other (all_back (H (at other)) bs (b ∷ []) a) (h.least other (all_front (H (at other)) bs (b ∷ []) a) below);
     still = λ e. absurd (true≢false (sym (on refl) ∙ e));
     hold = λ e. absurd (true≢false (sym (on refl) ∙ e));
-    room = λ e. omega (arith, room_falls bs x y r h, g.room refl);
+    room = λ e. omega (arith, room_falls H bs x y r h, g.room refl);
   }
-  rises_more bs b x y z r false t h g on off = record {
+  rises_more H bs b x y z r false t h g on off = record {
     var_count = g.var_count ∙ h.var_count;
     stmt_count = g.stmt_count ∙ h.stmt_count;
-    least = λ other a below. g.least other (all_back (Holds (at other)) bs (b ∷ []) a) (h.least other (all_front (Holds (at other)) bs (b ∷ []) a) below);
+    least = λ other a below. g.least other (all_back (H (at other)) bs (b ∷ []) a) (h.least other (all_front (H (at other)) bs (b ∷ []) a) below);
     still = λ e. g.still refl ∙ h.still (sym (off refl) ∙ e);
-    hold = λ e. all_both (Holds (at z)) bs (b ∷ []) (subst (λ w. AllByRecursion (Holds (at w)) bs) (sym (g.still refl)) (h.hold (sym (off refl) ∙ e))) (g.hold refl);
+    hold = λ e. all_both (H (at z)) bs (b ∷ []) (subst (λ w. AllByRecursion (H (at w)) bs) (sym (g.still refl)) (h.hold (sym (off refl) ∙ e))) (g.hold refl);
     room = λ e. omega (arith, ap room (g.still refl), h.room (sym (off refl) ∙ e));
+  }
+
+  -- ---- a flow
+
+  over_joined : (x y : Cert) (ss : List Source) (p : Pair) → IsJoin (at x) ss p → Below (at x) (at y) → (q : Pair) → AllByRecursion (λ s. Dominates q (source_label (at y) s)) ss → Dominates q p
+  over_joined x y ss p j below q h =
+      j.least q (all_map (λ s. Dominates q (source_label (at y) s)) (λ s. Dominates q (source_label (at x) s)) (λ s g. Dominates-trans q (source_label (at y) s) (source_label (at x) s) g (source_below x y below s)) ss h)
+
+  pub rises_flow : (f : Flow) (p : Pair) (x y : Cert) (r : Bool) → IsJoin (at x) f.sources p → Rises k (Over p) f.targets x y r → Rises k Holds (f ∷ []) x y r
+  rises_flow f p x y r j h = record {
+    var_count = h.var_count;
+    stmt_count = h.stmt_count;
+    least = λ other a below. h.least other (all_map (λ t. AllByRecursion (λ s. Dominates (slot_label (at other) t) (source_label (at other) s)) f.sources) (Over p (at other)) (λ t. over_joined x other f.sources p j below (slot_label (at other) t)) f.targets a.0) below;
+    still = h.still;
+    hold = λ e. (
+      subst (λ w. AllByRecursion (λ t. AllByRecursion (λ s. Dominates (slot_label (at y) t) (source_label (at w) s)) f.sources) f.targets) (sym (h.still e))
+          (all_map (Over p (at y)) (λ t. AllByRecursion (λ s. Dominates (slot_label (at y) t) (source_label (at x) s)) f.sources) (λ t g. all_map (λ s. Dominates p (source_label (at x) s)) (λ s. Dominates (slot_label (at y) t) (source_label (at x) s)) (λ s. Dominates-trans (slot_label (at y) t) p (source_label (at x) s) g) f.sources j.above) f.targets (h.hold e)),
+      tt,
+    );
+    room = h.room;
   }
 
   -- ---- the lowest labels

@@ -8,12 +8,12 @@ use Rattle.mls_translang.specs.Tree.{statements}
 use Rattle.mls_translang.specs.Tx.{Tx}
 use Rattle.mls_certificate.specs.declared.cert.Cert.{Cert}
 use Rattle.mls_certcheck.specs.Rules.{Claim, claim, var_label, pc, param_label}
-use Rattle.mls_labeller.specs.Bounds.{lower_bounds}
-use Rattle.mls_labeller.specs.declared.bound.Slot.{Slot}
-use Rattle.mls_labeller.specs.declared.bound.Slot.TheVariants.{Variable, Statement}
-use Rattle.mls_labeller.specs.declared.bound.Source.{Source}
-use Rattle.mls_labeller.specs.declared.bound.Source.TheVariants.{Held, Parameter, Declared}
-use Rattle.mls_labeller.specs.declared.bound.Bound.{Bound}
+use Rattle.mls_labeller.specs.Flows.{flows}
+use Rattle.mls_labeller.specs.declared.flow.Slot.{Slot}
+use Rattle.mls_labeller.specs.declared.flow.Slot.TheVariants.{Variable, Statement}
+use Rattle.mls_labeller.specs.declared.flow.Source.{Source}
+use Rattle.mls_labeller.specs.declared.flow.Source.TheVariants.{Held, Parameter, Declared}
+use Rattle.mls_labeller.specs.declared.flow.Flow.{Flow}
 
 module _ (c : Claim) where
   abbrev pub slot_label : Slot → Pair
@@ -25,14 +25,15 @@ module _ (c : Claim) where
   source_label (Parameter i) = param_label c i
   source_label (Declared label) = label_of c.labels label
 
-  abbrev pub Holds : Bound → Type 0
-  Holds b = Dominates (slot_label b.target) (source_label b.source)
+  -- the label of each target dominates that of each source
+  abbrev pub Holds : Flow → Type 0
+  Holds f = AllByRecursion (λ t. AllByRecursion (λ s. Dominates (slot_label t) (source_label s)) f.sources) f.targets
 
   -- a label for each variable and statement, and each lower bound holds
   pub record Meets : Type 0 where
     pub var_count : length c.cert.var_labels ≡ length c.tx.vars
     pub stmt_count : length c.cert.pc_labels ≡ statements c.tx.body
-    pub bounds : AllByRecursion Holds (lower_bounds c.tx)
+    pub bounds : AllByRecursion Holds (flows c.tx)
 
 -- each label of the first is dominated by the label at the same place of the second
 pub record Below (c d : Claim) : Type 0 where

@@ -1,4 +1,4 @@
-pub mod Bounds
+pub mod Flows
 pub mod Walk
 pub mod Least
 pub mod Fault

@@ -1,14 +1,14 @@
 -- Labels that rise from the lowest until they meet the lower bounds.
 use Rattle.std.specs.Prelude.{◌≡◌, ℕ, ◌+◌, ◌-◌, ◌<◌, ◌≤◌, ◌^◌, Bool, true, false, List, length, slice_set, sum_by}
 use Rattle.std.specs.List.{AllByRecursion}
-use Rattle.mls_lattice.specs.Lattice.{bottom, pair_of}
+use Rattle.mls_lattice.specs.Lattice.{Pair, Dominates, bottom, pair_of}
 use Rattle.mls_lattice.specs.declared.label.Label.{Label}
 use Rattle.mls_certificate.specs.declared.cert.Cert.{Cert}
 use Rattle.mls_certcheck.specs.Rules.{Claim, claim}
-use Rattle.mls_labeller.specs.Least.{Holds, Below}
-use Rattle.mls_labeller.specs.declared.bound.Slot.{Slot}
-use Rattle.mls_labeller.specs.declared.bound.Slot.TheVariants.{Variable, Statement}
-use Rattle.mls_labeller.specs.declared.bound.Bound.{Bound}
+use Rattle.mls_labeller.specs.Least.{slot_label, source_label, Below}
+use Rattle.mls_labeller.specs.declared.flow.Slot.{Slot}
+use Rattle.mls_labeller.specs.declared.flow.Slot.TheVariants.{Variable, Statement}
+use Rattle.mls_labeller.specs.declared.flow.Source.{Source}
 use Rattle.mls_labeller.specs.declared.labels.Labels.{Labels}
 use Rattle.mls_labeller.specs.declared.least.Labeller.{Labeller}
 
@@ -23,8 +23,8 @@ abbrev pub HasSlot : ℕ → ℕ → Slot → Type 0
 HasSlot vars stmts (Variable x) = x < vars
 HasSlot vars stmts (Statement n) = (0 < n) × (n ≤ stmts)
 
-abbrev pub HasTarget : Cert → Bound → Type 0
-HasTarget x b = HasSlot (length x.var_labels) (length x.pc_labels) b.target
+abbrev pub HasSlots : Cert → List Slot → Type 0
+HasSlots x slots = AllByRecursion (HasSlot (length x.var_labels) (length x.pc_labels)) slots
 
 -- so many labels, each the lowest
 pub record IsLowest (v s : ℕ) (x : Cert) : Type 0 where
@@ -44,13 +44,22 @@ room_of l = 255 - l.rank + (2 ^ 32 - 1 - l.cats)
 abbrev pub room : Cert → ℕ
 room x = sum_by room_of x.var_labels + sum_by room_of x.pc_labels
 
+-- the least pair over the labels of sources
+pub record IsJoin (c : Claim) (sources : List Source) (p : Pair) : Type 0 where
+  pub above : AllByRecursion (λ s. Dominates p (source_label c s)) sources
+  pub least : (q : Pair) → AllByRecursion (λ s. Dominates q (source_label c s)) sources → Dominates q p
+
+-- the label of a slot dominates the pair
+abbrev pub Over : Pair → Claim → Slot → Type 0
+Over p c t = Dominates (slot_label c t) p
+
 -- from the first labels to the second, some bounds being looked at: they stay below all labels for which these hold; and where none
 -- rose, all these hold
-pub record Rises (k : Labeller) (bs : List Bound) (x y : Cert) (rose : Bool) : Type 0 where
+pub record Rises {A : Type 0} (k : Labeller) (H : Claim → A → Type 0) (bounds : List A) (x y : Cert) (rose : Bool) : Type 0 where
   pub var_count : length y.var_labels ≡ length x.var_labels
   pub stmt_count : length y.pc_labels ≡ length x.pc_labels
-  pub least : (other : Cert) → AllByRecursion (Holds (claim k.policy.now k.tx.now other)) bs → Below (claim k.policy.now k.tx.now x) (claim k.policy.now k.tx.now other)
+  pub least : (other : Cert) → AllByRecursion (H (claim k.policy.now k.tx.now other)) bounds → Below (claim k.policy.now k.tx.now x) (claim k.policy.now k.tx.now other)
       → Below (claim k.policy.now k.tx.now y) (claim k.policy.now k.tx.now other)
   pub still : rose ≡ false → y ≡ x
-  pub hold : rose ≡ false → AllByRecursion (Holds (claim k.policy.now k.tx.now y)) bs
+  pub hold : rose ≡ false → AllByRecursion (H (claim k.policy.now k.tx.now y)) bounds
   pub room : rose ≡ true → room y < room x

@@ -1,31 +1,36 @@
 -- What the walk notes as it goes from statement to statement.
-use Rattle.std.specs.Prelude.{ℕ, ◌+◌, List, [], ◌∷◌, ◌++◌}
+use Rattle.std.specs.Prelude.{ℕ, ◌+◌, List, [], ◌∷◌, ◌++◌, map}
 use Rattle.std.specs.List.{flat_map}
 use Rattle.mls_translang.specs.Tree.{Expr, Block, Do, statements}
 use Rattle.mls_certcheck.specs.Place.{Plain, Branching, Looping, directs, places}
-use Rattle.mls_labeller.specs.Bounds.{into, own_bounds, bounds_at}
-use Rattle.mls_labeller.specs.declared.bound.Slot.TheVariants.{Statement}
-use Rattle.mls_labeller.specs.declared.bound.Source.{Source}
-use Rattle.mls_labeller.specs.declared.bound.Bound.{Bound}
+use Rattle.mls_labeller.specs.Flows.{own_flows, flows_at}
+use Rattle.mls_labeller.specs.declared.flow.Slot.{Slot}
+use Rattle.mls_labeller.specs.declared.flow.Slot.TheVariants.{Statement}
+use Rattle.mls_labeller.specs.declared.flow.Flow.{Flow}
 
--- all these flow into each of a block's own statements
-unfoldable pub into_each : List Source → ℕ → Block → List Bound
-into_each sources n block = flat_map (λ m. into (Statement m) sources) (directs n block)
+-- a block's own statements, the first of which is n
+unfoldable pub own_slots : ℕ → Block → List Slot
+own_slots n block = map (λ m. Statement m) (directs n block)
 
 -- what flows in the statements of a block, the first of which is n
-unfoldable pub block_bounds : ℕ → ℕ → List ℕ → Block → List Bound
-block_bounds n around rows block = flat_map bounds_at (places n around rows block)
+unfoldable pub block_flows : ℕ → ℕ → List ℕ → Block → List Flow
+block_flows n around rows block = flat_map flows_at (places n around rows block)
 
-abbrev pub plain_bounds : ℕ → List ℕ → Block → List Bound
-plain_bounds n rows (Do stmt rest) = own_bounds n rows (Plain stmt)
-plain_bounds n rows _ = []
+abbrev pub plain_flows : ℕ → List ℕ → Block → List Flow
+plain_flows n rows (Do stmt rest) = own_flows n rows (Plain stmt)
+plain_flows n rows _ = []
+
+abbrev pub branch_flows : ℕ → List ℕ → Expr → Block → Block → List Flow
+branch_flows n rows guard one other = own_flows n rows (Branching guard (directs (n + 1) one ++ directs (n + 1 + statements one) other))
+
+abbrev pub loop_flows : ℕ → ℕ → Block → List Flow
+loop_flows n label body = own_flows n [] (Looping label (directs (n + 1) body))
 
 -- of a branch and the statements inside it
-abbrev pub if_bounds : ℕ → List ℕ → Expr → Block → Block → List Bound
-if_bounds n rows guard one other =
-    own_bounds n rows (Branching guard (directs (n + 1) one ++ directs (n + 1 + statements one) other))
-    ++ (block_bounds (n + 1) n rows one ++ block_bounds (n + 1 + statements one) n rows other)
+abbrev pub if_flows : ℕ → List ℕ → Expr → Block → Block → List Flow
+if_flows n rows guard one other =
+    branch_flows n rows guard one other ++ (block_flows (n + 1) n rows one ++ block_flows (n + 1 + statements one) n rows other)
 
 -- of a loop and the statements inside it
-abbrev pub for_bounds : ℕ → List ℕ → ℕ → Block → List Bound
-for_bounds n rows label body = own_bounds n rows (Looping label (directs (n + 1) body)) ++ block_bounds (n + 1) n (label ∷ rows) body
+abbrev pub for_flows : ℕ → List ℕ → ℕ → Block → List Flow
+for_flows n rows label body = loop_flows n label body ++ block_flows (n + 1) n (label ∷ rows) body

@@ -4,8 +4,8 @@ ghost use Rattle.mls_labeller.specs.Least.{IsLeast, Below};
 ghost use Rattle.mls_labeller.specs.Fault.{HasNone, IsFirst};
 ghost use Rattle.mls_certificate.specs.declared.cert.Cert.{Cert as SpecCert};
 
-use crate::bounds::bounds_of;
 use crate::fault::LabelFault;
+use crate::flows::flows_of;
 use crate::least::Labeller;
 use mls_certcheck::check;
 use mls_certificate::Cert;
@@ -25,9 +25,9 @@ pub fn label_tx(alloc: Global, policy: &Policy, tx: &Tx) -> Result<Cert, LabelFa
     // Which rule it is that the least labels break first.
     ensures first { IfErr result (IsFirst policy.now tx.now) }
 {
-    let bounds = bounds_of(alloc, tx)?;
+    let flows = flows_of(alloc, tx)?;
     let labeller = Labeller { policy, tx };
-    let cert = labeller.least(alloc, &bounds)?.into_cert();
+    let cert = labeller.least(alloc, &flows)?.into_cert();
     check(policy, tx, &cert)?;
     Ok(cert)
 }

@@ -3,7 +3,7 @@ ghost use Rattle.std.specs.Prelude.{◌≡◌, ◌<◌, IfOk, length};
 ghost use Rattle.mls_lattice.specs.Lattice.{pair_of};
 ghost use Rattle.mls_labeller.specs.Rising.{cert_of, HasSlot, IsLowest, put};
 
-use crate::bound::Slot;
+use crate::flow::Slot;
 use mls_certificate::Cert;
 use mls_lattice::{Items, Label};
 use std::alloc::{AllocError, Global};

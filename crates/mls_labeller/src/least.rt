@@ -6,11 +6,11 @@ ghost use Rattle.mls_lattice.specs.Labels.{label_of};
 ghost use Rattle.mls_lattice.specs.Policy.{labels_of};
 ghost use Rattle.mls_translang.specs.Tree.{statements};
 ghost use Rattle.mls_certcheck.specs.Rules.{claim, pc, var_label, param_label};
-ghost use Rattle.mls_labeller.specs.Bounds.{lower_bounds};
-ghost use Rattle.mls_labeller.specs.Least.{slot_label, source_label, IsLeast};
-ghost use Rattle.mls_labeller.specs.Rising.{cert_of, claim_at, HasTarget, Rises};
+ghost use Rattle.mls_labeller.specs.Flows.{flows as flows_in};
+ghost use Rattle.mls_labeller.specs.Least.{slot_label, source_label, Holds, IsLeast};
+ghost use Rattle.mls_labeller.specs.Rising.{cert_of, claim_at, HasSlots, IsJoin, Over, Rises};
 
-use crate::bound::{Bound, Slot, Source};
+use crate::flow::{Flow, Slot, Source};
 use crate::labels::Labels;
 use mls_lattice::{Label, LabelNo, Policy};
 use mls_translang::{Tx, statements};
@@ -86,28 +86,61 @@ impl Labeller<'_> {
         }
     }
 
-    /// Raises a label to its lower bound: false where it was there.
-    fn raise(&self, labels: &mut Labels, bound: Bound) -> bool
-        requires { HasTarget (cert_of labels.old) bound }
-        ensures { Rises self.now (bound ∷ []) (cert_of labels.old) (cert_of labels.new) result }
+    /// The join of the labels of sources.
+    fn joined(&self, labels: &Labels, sources: &[Source]) -> Label
+        ensures { IsJoin (claim_at self.now labels.now) sources.now (pair_of result) }
     {
-        let low = self.source(labels, bound.source);
-        let here = self.held(labels, bound.target);
+        let mut label = lowest();
+        for source in sources {
+            label = label.join(self.source(labels, *source));
+        }
+        label
+    }
+
+    /// Raises a label to a lower bound: false where it was there.
+    fn raise(&self, labels: &mut Labels, slot: Slot, low: Label) -> bool
+        requires { HasSlots (cert_of labels.old) (slot ∷ []) }
+        ensures { Rises self.now (Over (pair_of low)) (slot ∷ []) (cert_of labels.old) (cert_of labels.new) result }
+    {
+        let here = self.held(labels, slot);
         if here.dominates(low) {
             return false;
         }
-        labels.put(bound.target, here.join(low));
+        labels.put(slot, here.join(low));
         true
     }
 
-    /// Raises labels to each lower bound in turn: false where they all were there.
-    fn round(&self, labels: &mut Labels, bounds: &[Bound]) -> bool
-        requires { AllByRecursion (HasTarget (cert_of labels.old)) bounds.now }
-        ensures { Rises self.now bounds.now (cert_of labels.old) (cert_of labels.new) result }
+    /// Raises labels to one lower bound: false where they all were there.
+    fn raise_all(&self, labels: &mut Labels, slots: &[Slot], low: Label) -> bool
+        requires { HasSlots (cert_of labels.old) slots.now }
+        ensures { Rises self.now (Over (pair_of low)) slots.now (cert_of labels.old) (cert_of labels.new) result }
     {
         let mut rose = false;
-        for bound in bounds {
-            if self.raise(labels, *bound) {
+        for slot in slots {
+            if self.raise(labels, *slot, low) {
+                rose = true;
+            }
+        }
+        rose
+    }
+
+    /// Raises the targets of a flow to the join of its sources: false where they all were there.
+    fn follow(&self, labels: &mut Labels, flow: &Flow) -> bool
+        requires { HasSlots (cert_of labels.old) flow.now.targets }
+        ensures { Rises self.now Holds (flow.now ∷ []) (cert_of labels.old) (cert_of labels.new) result }
+    {
+        let low = self.joined(labels, &flow.sources);
+        self.raise_all(labels, &flow.targets, low)
+    }
+
+    /// Follows each flow in turn: false where all labels were there.
+    fn round(&self, labels: &mut Labels, flows: &[Flow]) -> bool
+        requires { AllByRecursion (λ f. HasSlots (cert_of labels.old) f.targets) flows.now }
+        ensures { Rises self.now Holds flows.now (cert_of labels.old) (cert_of labels.new) result }
+    {
+        let mut rose = false;
+        for flow in flows {
+            if self.follow(labels, flow) {
                 rose = true;
             }
         }
@@ -115,13 +148,13 @@ impl Labeller<'_> {
     }
 
     /// The least labels that meet all lower bounds.
-    pub(crate) fn least(&self, alloc: Global, bounds: &[Bound]) -> Result<Labels, AllocError>
-        requires { bounds.now ≡ lower_bounds self.now.tx.now }
+    pub(crate) fn least(&self, alloc: Global, flows: &[Flow]) -> Result<Labels, AllocError>
+        requires { flows.now ≡ flows_in self.now.tx.now }
         ensures { IfOk result (λ l. IsLeast self.now.policy.now self.now.tx.now (cert_of l)) }
     {
         let mut labels = Labels::lowest(alloc, self.tx.vars().len(), statements(self.tx))?;
         loop {
-            if !self.round(&mut labels, bounds) {
+            if !self.round(&mut labels, flows) {
                 return Ok(labels);
             }
         }

@@ -1,9 +1,9 @@
 //! The least labels with which a transaction may be certified.
 #![tactic(auto)]
 
-mod bound;
-mod bounds;
 mod fault;
+mod flow;
+mod flows;
 mod labelling;
 mod labels;
 mod least;

@@ -1,10 +1,10 @@
 //! What flows out of expressions.
 ghost use Rattle.std.specs.Prelude.{◌≡◌, ◌∷◌, ◌++◌, IfOk, OnOk, slice_index};
-ghost use Rattle.mls_labeller.specs.Bounds.{names};
-ghost use Rattle.mls_labeller.specs.declared.bound.Slot.TheVariants.{Statement};
-ghost use Rattle.mls_labeller.specs.declared.bound.Source.TheVariants.{Held};
+ghost use Rattle.mls_labeller.specs.Flows.{names};
+ghost use Rattle.mls_labeller.specs.declared.flow.Slot.TheVariants.{Statement};
+ghost use Rattle.mls_labeller.specs.declared.flow.Source.TheVariants.{Held};
 
-use crate::bound::{Slot, Source};
+use crate::flow::{Slot, Source};
 use mls_lattice::LabelNo;
 use mls_translang::{Expr, Term};
 use std::alloc::{AllocError, Global};

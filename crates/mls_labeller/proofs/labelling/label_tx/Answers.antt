@@ -10,7 +10,7 @@ use Rattle.mls_labeller.specs.Least.{IsLeast, Below}
 use Rattle.mls_labeller.specs.Fault.{HasNone}
 use Rattle.mls_labeller.specs.declared.fault.LabelFault.{LabelFault}
 use Rattle.mls_labeller.specs.declared.fault.LabelFault.TheVariants.{NoLabels}
-use Rattle.mls_labeller.proofs.BoundLemmas.{rules_meet, lesser_obey}
+use Rattle.mls_labeller.proofs.FlowLemmas.{rules_meet, lesser_obey}
 use Rattle.mls_labeller.proofs.labelling.label_tx.Goals as goal
 
 -- where the least labels break a rule, all do

@@ -1,24 +1,35 @@
 use Rattle.std.proofs.Common.{◌≡◌, ◌+◌, ◌∷◌, [], ◌++◌, take, true, false, sym, ap, subst, ◌∙◌}
 use Rattle.std.proofs.lemmas.Bool.{true≢false}
 use Rattle.std.proofs.lemmas.List.{take_more}
-use Rattle.mls_labeller.specs.Rising.{cert_of, Rises}
+use Rattle.mls_labeller.specs.Least.{Holds}
+use Rattle.mls_labeller.specs.Rising.{cert_of, HasSlots, Rises}
+use Rattle.mls_labeller.proofs.EachLemmas.{all_at}
 use Rattle.mls_labeller.proofs.RiseLemmas.{rises_more}
+use Rattle.mls_labeller.proofs.SlotLemmas.{slots_same}
 use Rattle.mls_labeller.proofs.least.Labeller.round.Goals as goal
-use Rattle.mls_labeller.proofs.least.Labeller.round.Goals.{then-raise, else-raise}
+use Rattle.mls_labeller.proofs.least.Labeller.round.Goals.{then-follow, else-follow}
 
-pub loop-bound-preserved : goal.loop-bound-preserved
-loop-bound-preserved c =
+pub loop-flow-preserved : goal.loop-flow-preserved
+loop-flow-preserved c =
     let k = c.args.self.now in
-    let bs = c.args.bounds.now in
-    let i = c.loop-bound.bound-index in
-    let b = c.bound-item.result in
+    let fs = c.args.flows.now in
+    let i = c.loop-flow.flow-index in
+    let f = c.flow-item.result in
     let x = cert_of c.args.labels.now in
-    let y = cert_of c.loop-bound.labels in
-    let z = cert_of c.raise.new.labels in
-    let rose = c.if-raise.rose in
-    let more : take (i + 1) bs ≡ take i bs ++ b ∷ [] = take_more bs i b c.loop-bound-test.true ∙ ap (λ a. take i bs ++ a ∷ []) (sym c.bound-item.is) in
-    subst (λ l. Rises k l x z rose) (sym more)
-    (elim c.if-raise.branch [
-      | then-raise w ↦ rises_more k (take i bs) b x y z c.loop-bound.rose true rose c.loop-bound.invariant w.if-raise.ensures (λ e. w.rose-is) (λ e. absurd (true≢false e))
-      | else-raise w ↦ rises_more k (take i bs) b x y z c.loop-bound.rose false rose c.loop-bound.invariant w.if-raise.ensures (λ e. absurd (true≢false (sym e))) (λ e. w.rose-is)
+    let y = cert_of c.loop-flow.labels in
+    let z = cert_of c.follow.new.labels in
+    let rose = c.if-follow.rose in
+    let more : take (i + 1) fs ≡ take i fs ++ f ∷ [] = take_more fs i f c.loop-flow-test.true ∙ ap (λ a. take i fs ++ a ∷ []) (sym c.flow-item.is) in
+    subst (λ l. Rises k Holds l x z rose) (sym more)
+    (elim c.if-follow.branch [
+      | then-follow w ↦ rises_more k Holds (take i fs) f x y z c.loop-flow.rose true rose c.loop-flow.invariant w.if-follow.ensures (λ e. w.rose-is) (λ e. absurd (true≢false e))
+      | else-follow w ↦ rises_more k Holds (take i fs) f x y z c.loop-flow.rose false rose c.loop-flow.invariant w.if-follow.ensures (λ e. absurd (true≢false (sym e))) (λ e. w.rose-is)
     ])
+
+pub follow-requires : goal.follow-requires
+follow-requires c =
+    let x = cert_of c.args.labels.now in
+    let y = cert_of c.loop-flow.labels in
+    let f = c.flow-item.result in
+    let has = subst (λ g. HasSlots x g.targets) (sym c.flow-item.is) (all_at (λ g. HasSlots x g.targets) c.args.flows.now c.loop-flow.flow-index f c.loop-flow-test.true c.requires) in
+    slots_same x y c.loop-flow.invariant.var_count c.loop-flow.invariant.stmt_count f.targets has

@@ -1,15 +1,15 @@
 use Rattle.std.proofs.Common.{◌≡◌, ◌+◌, ◌*◌, ◌≤◌, ◌++◌, [], ◌∷◌, drop}
 use Rattle.mls_translang.specs.Tree.{statements}
 use Rattle.mls_translang.specs.Blocks.{block_of}
-use Rattle.mls_labeller.specs.Walk.{block_bounds}
-use Rattle.mls_labeller.proofs.bounds.+walk.Given as goal
+use Rattle.mls_labeller.specs.Walk.{block_flows}
+use Rattle.mls_labeller.proofs.flows.+walk.Given as goal
 
 -- what is left, put after what was put, is the whole
 abbrev pub invariant-block_to-loop-stmt : goal.invariant-block_to-loop-stmt
 invariant-block_to-loop-stmt l = record {
   number : l.next + statements (block_of (drop l.stmt-index l.stmt-items)) ≡ l.number + statements (block_of l.stmt-items);
   size : statements (block_of (drop l.stmt-index l.stmt-items)) ≤ statements (block_of l.stmt-items);
-  notes : l.bounds.items ++ block_bounds l.next l.around l.rows (block_of (drop l.stmt-index l.stmt-items)) ≡ l.initial.bounds.items ++ block_bounds l.number l.around l.rows (block_of l.stmt-items);
+  notes : l.flows.items ++ block_flows l.next l.around l.rows (block_of (drop l.stmt-index l.stmt-items)) ≡ l.initial.flows.items ++ block_flows l.number l.around l.rows (block_of l.stmt-items);
 }
 
 -- ---- how deep

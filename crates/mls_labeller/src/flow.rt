@@ -1,6 +1,6 @@
 //! What flows where.
 
-use mls_lattice::LabelNo;
+use mls_lattice::{Items, LabelNo};
 
 /// What a certificate has a label for: a variable, by its place, or a statement, by its number. Number 0 is the transaction
 /// itself, whose label is the lower end.
@@ -18,9 +18,9 @@ pub(crate) enum Source {
     Declared(LabelNo),
 }
 
-/// A lower bound: the label of the target dominates that of the source.
-#[derive(Clone, Copy)]
-pub(crate) struct Bound {
-    pub target: Slot,
-    pub source: Source,
+/// Each source flows into each target: the label of the target dominates that of the source.
+#[derive(Drop)]
+pub(crate) struct Flow {
+    pub targets: Items<Slot>,
+    pub sources: Items<Source>,
 }

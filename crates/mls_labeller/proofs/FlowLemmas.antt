@@ -15,13 +15,12 @@ use Rattle.mls_translang.specs.Tx.{Tx}
 use Rattle.mls_certificate.specs.declared.cert.Cert.{Cert}
 use Rattle.mls_certcheck.specs.Place.{Node, Plain, Branching, Looping, Place}
 use Rattle.mls_certcheck.specs.Rules.{Claim, Rules, hi, var_label, pc, lab, operands, all_places, Context, Ceiling, AssignmentAt, BranchAt, LoopAt, WriteAt, OrderAt, ReleaseAt, EmitAt}
-use Rattle.mls_labeller.specs.Bounds.{names, into, outcome_bounds, own_bounds, bounds_at}
+use Rattle.mls_labeller.specs.Flows.{names, outcome_flows, own_flows, flows_at}
 use Rattle.mls_labeller.specs.Least.{slot_label, source_label, Holds, Meets, Below}
-use Rattle.mls_labeller.specs.declared.bound.Slot.{Slot}
-use Rattle.mls_labeller.specs.declared.bound.Slot.TheVariants.{Variable, Statement}
-use Rattle.mls_labeller.specs.declared.bound.Source.{Source}
-use Rattle.mls_labeller.specs.declared.bound.Source.TheVariants.{Held, Declared}
-use Rattle.mls_labeller.specs.declared.bound.Bound.{Bound}
+use Rattle.mls_labeller.specs.declared.flow.Slot.{Slot}
+use Rattle.mls_labeller.specs.declared.flow.Slot.TheVariants.{Statement}
+use Rattle.mls_labeller.specs.declared.flow.Source.{Source}
+use Rattle.mls_labeller.specs.declared.flow.Source.TheVariants.{Held, Declared}
 use Rattle.mls_labeller.proofs.EachLemmas.{all_both, all_front, all_back, all_map, all_zip, flat_each, each_flat}
 
 pub above_bottom : (p : Pair) → Dominates p bottom
@@ -60,24 +59,31 @@ module _ (c : Claim) where
       (over_names rows l p (all_front (λ s. Dominates p (source_label c s)) (names rows l) (names rows r) h))
       (over_names rows r p (all_back (λ s. Dominates p (source_label c s)) (names rows l) (names rows r) h))
 
-  to_into : (t : Slot) (ss : List Source) → Over (slot_label c t) ss → AllByRecursion (Holds c) (into t ss)
-  to_into t [] h = tt
-  to_into t (s ∷ ss) h = (h.0, to_into t ss h.1)
-
-  into_to : (t : Slot) (ss : List Source) → AllByRecursion (Holds c) (into t ss) → Over (slot_label c t) ss
-  into_to t [] h = tt
-  into_to t (s ∷ ss) h = (h.0, into_to t ss h.1)
-
   -- where a statement runs that asks for an expression
-  flow_bounds : (t : Slot) (n : ℕ) (rows : List ℕ) (e : Expr) → Dominates (slot_label c t) (join (pc c n) (lab c rows e)) → AllByRecursion (Holds c) (into t (Held (Statement n) ∷ names rows e))
-  flow_bounds t n rows e h =
-      let p = slot_label c t in (
-        Dominates-trans p (join (pc c n) (lab c rows e)) (pc c n) h (join-left (pc c n) (lab c rows e)),
-        to_into t (names rows e) (names_over rows e p (Dominates-trans p (join (pc c n) (lab c rows e)) (lab c rows e) h (join-right (pc c n) (lab c rows e)))),
-      )
+  over_flow : (p : Pair) (n : ℕ) (rows : List ℕ) (e : Expr) → Dominates p (join (pc c n) (lab c rows e)) → Over p (Held (Statement n) ∷ names rows e)
+  over_flow p n rows e h = (
+    Dominates-trans p (join (pc c n) (lab c rows e)) (pc c n) h (join-left (pc c n) (lab c rows e)),
+    names_over rows e p (Dominates-trans p (join (pc c n) (lab c rows e)) (lab c rows e) h (join-right (pc c n) (lab c rows e))),
+  )
 
-  bounds_flow : (t : Slot) (n : ℕ) (rows : List ℕ) (e : Expr) → AllByRecursion (Holds c) (into t (Held (Statement n) ∷ names rows e)) → Dominates (slot_label c t) (join (pc c n) (lab c rows e))
-  bounds_flow t n rows e h = join-least (pc c n) (lab c rows e) (slot_label c t) h.0 (over_names rows e (slot_label c t) (into_to t (names rows e) h.1))
+  flow_over : (p : Pair) (n : ℕ) (rows : List ℕ) (e : Expr) → Over p (Held (Statement n) ∷ names rows e) → Dominates p (join (pc c n) (lab c rows e))
+  flow_over p n rows e h = join-least (pc c n) (lab c rows e) p h.0 (over_names rows e p h.1)
+
+  over_loop : (p : Pair) (n label : ℕ) → Dominates p (join (pc c n) (label_of c.labels label)) → Over p (Held (Statement n) ∷ Declared label ∷ [])
+  over_loop p n label h =
+      let l = label_of c.labels label in
+      (Dominates-trans p (join (pc c n) l) (pc c n) h (join-left (pc c n) l), (Dominates-trans p (join (pc c n) l) l h (join-right (pc c n) l), tt))
+
+  abbrev OverAll : List Source → Slot → Type 0
+  OverAll ss t = Over (slot_label c t) ss
+
+  to_slots : (ss : List Source) (inner : List ℕ) → AllByRecursion (λ m. Over (pc c m) ss) inner → AllByRecursion (OverAll ss) (map (λ m. Statement m) inner)
+  to_slots ss [] h = tt
+  to_slots ss (m ∷ ms) h = (h.0, to_slots ss ms h.1)
+
+  slots_to : (ss : List Source) (inner : List ℕ) → AllByRecursion (OverAll ss) (map (λ m. Statement m) inner) → AllByRecursion (λ m. Over (pc c m) ss) inner
+  slots_to ss [] h = tt
+  slots_to ss (m ∷ ms) h = (h.0, slots_to ss ms h.1)
 
   -- ---- the rules of one statement
 
@@ -106,42 +112,34 @@ module _ (c : Claim) where
 
   -- ---- rules set bounds
 
-  outcome_set : (w : ℕ) (o : Option ℕ) → IfSome o (λ x. Dominates (var_label c x) (label_of c.labels w)) → AllByRecursion (Holds c) (outcome_bounds w o)
+  outcome_set : (w : ℕ) (o : Option ℕ) → IfSome o (λ x. Dominates (var_label c x) (label_of c.labels w)) → AllByRecursion (Holds c) (outcome_flows w o)
   outcome_set w None h = tt
-  outcome_set w (Some x) h = (h, tt)
+  outcome_set w (Some x) h = (((h, tt), tt), tt)
 
-  set_outcome : (w : ℕ) (o : Option ℕ) → AllByRecursion (Holds c) (outcome_bounds w o) → IfSome o (λ x. Dominates (var_label c x) (label_of c.labels w))
+  set_outcome : (w : ℕ) (o : Option ℕ) → AllByRecursion (Holds c) (outcome_flows w o) → IfSome o (λ x. Dominates (var_label c x) (label_of c.labels w))
   set_outcome w None h = tt
-  set_outcome w (Some x) h = h.0
+  set_outcome w (Some x) h = h.0.0.0
 
-  abbrev inside : ℕ → List ℕ → Expr → ℕ → List Bound
-  inside n rows guard m = into (Statement m) (Held (Statement n) ∷ names rows guard)
-
-  abbrev looped : ℕ → ℕ → ℕ → List Bound
-  looped n label m = into (Statement m) (Held (Statement n) ∷ Declared label ∷ [])
-
-  own_set : (n : ℕ) (rows : List ℕ) (node : Node) → OwnRules n rows node → AllByRecursion (Holds c) (own_bounds n rows node)
-  own_set n rows (Plain (Assign x e)) r = flow_bounds (Variable x) n rows e r.assignment
+  own_set : (n : ℕ) (rows : List ℕ) (node : Node) → OwnRules n rows node → AllByRecursion (Holds c) (own_flows n rows node)
+  own_set n rows (Plain (Assign x e)) r = ((over_flow (var_label c x) n rows e r.assignment, tt), tt)
   own_set n rows (Branching guard inner) r =
-      each_flat (Holds c) (inside n rows guard) inner
-      (all_map (λ m. Dominates (pc c m) (join (pc c n) (lab c rows guard))) (λ m. AllByRecursion (Holds c) (inside n rows guard m)) (λ m. flow_bounds (Statement m) n rows guard) inner r.branch)
+      let ss = Held (Statement n) ∷ names rows guard in
+      (to_slots ss inner (all_map (λ m. Dominates (pc c m) (join (pc c n) (lab c rows guard))) (λ m. Over (pc c m) ss) (λ m. over_flow (pc c m) n rows guard) inner r.branch), tt)
   own_set n rows (Looping label inner) r =
-      let l = label_of c.labels label in
-      each_flat (Holds c) (looped n label) inner
-      (all_map (λ m. Dominates (pc c m) (join (pc c n) l)) (λ m. AllByRecursion (Holds c) (looped n label m))
-      (λ m h. (Dominates-trans (pc c m) (join (pc c n) l) (pc c n) h (join-left (pc c n) l), (Dominates-trans (pc c m) (join (pc c n) l) l h (join-right (pc c n) l), tt))) inner r.row_loop.body)
+      let ss = Held (Statement n) ∷ Declared label ∷ [] in
+      (to_slots ss inner (all_map (λ m. Dominates (pc c m) (join (pc c n) (label_of c.labels label))) (λ m. Over (pc c m) ss) (λ m. over_loop (pc c m) n label) inner r.row_loop.body), tt)
   own_set n rows (Plain (Write_at rel w writing outcome)) r = outcome_set w outcome r.write.into
-  own_set n rows (Plain (Release e to target)) r = (r.release.target, tt)
+  own_set n rows (Plain (Release e to into)) r = (((r.release.target, tt), tt), tt)
   own_set n rows (Plain (Emit e label)) r = tt
 
-  place_set : (p : Place) → PlaceRules p → AllByRecursion (Holds c) (bounds_at p)
-  place_set p r = (r.context, own_set p.number p.rows p.node r.own)
+  place_set : (p : Place) → PlaceRules p → AllByRecursion (Holds c) (flows_at p)
+  place_set p r = (((r.context, tt), tt), own_set p.number p.rows p.node r.own)
 
   pub rules_meet : Rules c → Meets c
   rules_meet r = record {
     var_count = r.var_count;
     stmt_count = r.stmt_count;
-    bounds = each_flat (Holds c) bounds_at (all_places c) (all_map PlaceRules (λ p. AllByRecursion (Holds c) (bounds_at p)) place_set (all_places c) (at_places r));
+    bounds = each_flat (Holds c) flows_at (all_places c) (all_map PlaceRules (λ p. AllByRecursion (Holds c) (flows_at p)) place_set (all_places c) (at_places r));
   }
 
 -- ---- labels of a list, by place
@@ -180,28 +178,30 @@ module _ (ls : Labels) (tx : Tx) (x y : Cert) where
     lower_pc : (p : Pair) (n : ℕ) → Dominates p (pc cy n) → Dominates p (pc cx n)
     lower_pc p n h = Dominates-trans p (pc cy n) (pc cx n) h (b.stmts n)
 
-    own_obeys : (n : ℕ) (rows : List ℕ) (node : Node) → AllByRecursion (Holds cx) (own_bounds n rows node) → OwnRules cy n rows node → OwnRules cx n rows node
-    own_obeys n rows (Plain (Assign v e)) h r = record { assignment = bounds_flow cx (Variable v) n rows e h; branch = tt; row_loop = tt; write = tt; order = tt; release = tt; emit = tt }
+    own_obeys : (n : ℕ) (rows : List ℕ) (node : Node) → AllByRecursion (Holds cx) (own_flows n rows node) → OwnRules cy n rows node → OwnRules cx n rows node
+    own_obeys n rows (Plain (Assign v e)) h r = record { assignment = flow_over cx (var_label cx v) n rows e h.0.0; branch = tt; row_loop = tt; write = tt; order = tt; release = tt; emit = tt }
     own_obeys n rows (Branching guard inner) h r =
-        let body = all_map (λ m. AllByRecursion (Holds cx) (inside cx n rows guard m)) (λ m. Dominates (pc cx m) (join (pc cx n) (lab cx rows guard))) (λ m. bounds_flow cx (Statement m) n rows guard) inner (flat_each (Holds cx) (inside cx n rows guard) inner h) in
+        let ss = Held (Statement n) ∷ names rows guard in
+        let body = all_map (λ m. Over cx (pc cx m) ss) (λ m. Dominates (pc cx m) (join (pc cx n) (lab cx rows guard))) (λ m. flow_over cx (pc cx m) n rows guard) inner (slots_to cx ss inner h.0) in
         record { assignment = tt; branch = body; row_loop = tt; write = tt; order = tt; release = tt; emit = tt }
     own_obeys n rows (Looping label inner) h r =
-        let body = all_map (λ m. AllByRecursion (Holds cx) (looped cx n label m)) (λ m. Dominates (pc cx m) (join (pc cx n) (label_of ls label))) (λ m k. join-least (pc cx n) (label_of ls label) (pc cx m) k.0 k.1.0) inner (flat_each (Holds cx) (looped cx n label) inner h) in
+        let ss = Held (Statement n) ∷ Declared label ∷ [] in
+        let body = all_map (λ m. Over cx (pc cx m) ss) (λ m. Dominates (pc cx m) (join (pc cx n) (label_of ls label))) (λ m k. join-least (pc cx n) (label_of ls label) (pc cx m) k.0 k.1.0) inner (slots_to cx ss inner h.0) in
         record { assignment = tt; branch = tt; row_loop = record { ceiling = r.row_loop.ceiling; body = body }; write = tt; order = tt; release = tt; emit = tt }
     own_obeys n rows (Plain (Write_at rel w writing outcome)) h r =
         let under = all_map (λ e. Dominates (label_of ls w) (lab cy rows e)) (λ e. Dominates (label_of ls w) (lab cx rows e)) (lower (label_of ls w) rows) (operands writing) r.write.operands in
         record { assignment = tt; branch = tt; row_loop = tt; write = record { context = lower_pc (label_of ls w) n r.write.context; operands = under; ceiling = r.write.ceiling; into = set_outcome cx w outcome h }; order = r.order; release = tt; emit = tt }
-    own_obeys n rows (Plain (Release e to target)) h r =
-        record { assignment = tt; branch = tt; row_loop = tt; write = tt; order = tt; release = record { context = lower_pc (label_of ls to) n r.release.context; value = lower (hi cx) rows e r.release.value; target = h.0 }; emit = tt }
+    own_obeys n rows (Plain (Release e to into)) h r =
+        record { assignment = tt; branch = tt; row_loop = tt; write = tt; order = tt; release = record { context = lower_pc (label_of ls to) n r.release.context; value = lower (hi cx) rows e r.release.value; target = h.0.0.0 }; emit = tt }
     own_obeys n rows (Plain (Emit e label)) h r =
         record { assignment = tt; branch = tt; row_loop = tt; write = tt; order = tt; release = tt; emit = record { context = lower_pc (label_of ls label) n r.emit.context; value = lower (label_of ls label) rows e r.emit.value; ceiling = r.emit.ceiling } }
 
-    place_obeys : (p : Place) → AllByRecursion (Holds cx) (bounds_at p) → PlaceRules cy p → PlaceRules cx p
-    place_obeys p h r = record { ceiling = lower_pc (hi cx) p.number r.ceiling; context = h.0; own = own_obeys p.number p.rows p.node h.1 r.own }
+    place_obeys : (p : Place) → AllByRecursion (Holds cx) (flows_at p) → PlaceRules cy p → PlaceRules cx p
+    place_obeys p h r = record { ceiling = lower_pc (hi cx) p.number r.ceiling; context = h.0.0.0; own = own_obeys p.number p.rows p.node h.1 r.own }
 
     pub lesser_obey : Meets cx → Rules cy → Rules cx
     lesser_obey m r =
-        let ps = all_zip (λ p. AllByRecursion (Holds cx) (bounds_at p)) (PlaceRules cy) (PlaceRules cx) place_obeys (all_places cx) (flat_each (Holds cx) bounds_at (all_places cx) m.bounds) (at_places cy r) in
+        let ps = all_zip (λ p. AllByRecursion (Holds cx) (flows_at p)) (PlaceRules cy) (PlaceRules cx) place_obeys (all_places cx) (flat_each (Holds cx) flows_at (all_places cx) m.bounds) (at_places cy r) in
         let each = λ (R : Place → Type 0) (f : (p : Place) → PlaceRules cx p → R p). all_map (PlaceRules cx) R f (all_places cx) ps in
         record {
           var_count = m.var_count;

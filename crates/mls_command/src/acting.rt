@@ -1,15 +1,15 @@
 //! What the program does with its words.
-ghost use Rattle.std.specs.Prelude.{length};
+ghost use Rattle.std.specs.Prelude.{◌≡◌, [], length};
 ghost use Rattle.mls_scheme.specs.Scheme.{AreUnder};
 
 use crate::host::Host;
 use crate::refusal::{Refusal, Role};
 use crate::samples;
 use crate::words::{Job, job_of};
-use mls_lattice::Policy;
+use mls_lattice::{Items, Policy};
 use mls_scheme::Schemes;
 use mls_script::script;
-use mls_sessions::{Engine, run};
+use mls_sessions::{Engine, Stored, run};
 use mls_updates::ListBase;
 use std::alloc::Global;
 use std::io::Write;
@@ -26,6 +26,13 @@ fn input_of<H: Host>(
     }
 }
 
+/// No stored transactions.
+fn none_stored(alloc: Global) -> Items<Stored>
+    ensures { result ≡ [] }
+{
+    Items::from(Vec::new(alloc))
+}
+
 /// Runs a script over an empty database.
 fn run_script<W: Write>(
     alloc: Global,
@@ -37,7 +44,8 @@ fn run_script<W: Write>(
     requires { AreUnder (length policy.now.labels) schemes.now }
 {
     let events = script(alloc, policy, schemes, bytes)?;
-    let mut engine = Engine::new(alloc, ListBase::new(alloc), policy, schemes);
+    let base = ListBase::new(alloc);
+    let mut engine = Engine::new(alloc, base, policy, schemes, none_stored(alloc));
     let outcome = run(&mut engine, &events, out);
     let _base = engine.finish();
     outcome?;

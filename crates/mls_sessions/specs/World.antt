@@ -21,9 +21,9 @@ use Rattle.mls_sessions.specs.declared.session.Session.{Session}
 abbrev pub site_under : Tables → Schemes → Site
 site_under policy schemes = record { policy = policy; schemes = schemes; stored = [] }
 
--- what a run is under: no transaction is stored
+-- what a run is under
 abbrev pub site_of : Rules → Site
-site_of rules = record { policy = rules.policy.now; schemes = rules.schemes.now; stored = [] }
+site_of rules = record { policy = rules.policy.now; schemes = rules.schemes.now; stored = rules.stored }
 
 -- ---- sessions
 

@@ -142,7 +142,7 @@ fn push_read<R: Files + AllocGlobal>(
     out: &mut String,
 ) -> Result<(), AllocError> {
     for count in 0..script.len() {
-        let written = written(
+        let written = written_by(
             rt,
             &words_of(""),
             &script[..count],

@@ -1,13 +1,10 @@
-//! A base over lists, one of whose calls fails.
-ghost use Rattle.std.specs.Prelude.{◌≡◌, ◌≤◌, Bool, true, false, if◌then◌else◌};
-ghost use Rattle.mls_filterview.specs.Content.{no_content};
+//! A base, one of whose calls fails.
+ghost use Rattle.std.specs.Prelude.{◌≡◌, ◌≤◌, ◌+◌, true, false, if◌then◌else◌};
 ghost use Rattle.mls_filterview.specs.Calls.{IsFault, IsServed};
 
 use mls_filterview::{Base, BaseFault, Cell, Fragment, Node, abandon};
 use mls_lattice::{Items, LabelNo};
 use mls_scheme::{Place, RelNo, Value};
-use mls_updates::ListBase;
-use std::alloc::Global;
 
 /// Which call fails: one, after so many others.
 #[derive(Drop)]
@@ -33,21 +30,21 @@ impl Fuse {
     }
 }
 
-/// A base over lists that answers `Store`, or `Memory`, to one call.
+/// A base that hands its calls on to another one, and answers `Store`, or `Memory`, to one of them.
 #[derive(Drop)]
-pub struct Faulty {
-    lists: ListBase,
+pub struct Faulty<B: Base> {
+    pub base: B,
     fuse: Fuse,
     is_memory: bool,
 }
 
-impl Faulty {
-    /// An empty base. The call after so many fails.
-    pub fn new(alloc: Global, calls: u64, is_memory: bool) -> Faulty
-        ensures { ⟦<Faulty as Base>⟧.state result ≡ record { now = no_content; kept = no_content; begun = false } }
+impl<B: Base> Faulty<B> {
+    /// A base whose call after so many fails.
+    pub fn new(base: B, calls: u64, is_memory: bool) -> Faulty<B>
+        ensures { result.base ≡ base }
     {
         Faulty {
-            lists: ListBase::new(alloc),
+            base,
             fuse: Fuse {
                 left: calls,
                 is_blown: false,
@@ -56,29 +53,28 @@ impl Faulty {
         }
     }
 
-    /// The base, with what it holds, no call of which fails any more.
-    pub fn mended(self) -> Faulty
-        ensures { ⟦<Faulty as Base>⟧.state result ≡ ⟦<Faulty as Base>⟧.state self }
+    /// The base behind it.
+    pub fn finish(self) -> B
+        ensures { result ≡ self.entry.base }
     {
-        Faulty {
-            lists: self.lists,
-            fuse: Fuse {
-                left: 0,
-                is_blown: true,
-            },
-            is_memory: self.is_memory,
-        }
+        let Faulty {
+            base,
+            fuse: _,
+            is_memory: _,
+        } = self;
+        base
     }
 
     /// Fails, as a store does: the change is ended.
     fn fail(&mut self) -> BaseFault
         requires { self.old.fuse.is_blown ≡ false }
-        ensures count { ⟦<Faulty as Base>⟧.failures self.old ≤ ⟦<Faulty as Base>⟧.failures self.new }
-        ensures fault { IsFault ⟦<Faulty as Base>⟧.is_clean ⟦<Faulty as Base>⟧.failures ⟦<Faulty as Base>⟧.state self.old self.new result }
+        ensures clean { B.is_clean self.new.base → B.is_clean self.old.base }
+        ensures count { ⟦<Faulty<B> as Base>⟧.failures self.old ≤ ⟦<Faulty<B> as Base>⟧.failures self.new }
+        ensures fault { IsFault ⟦<Faulty<B> as Base>⟧.is_clean ⟦<Faulty<B> as Base>⟧.failures ⟦<Faulty<B> as Base>⟧.state result self.old self.new }
         ensures served { IsServed result }
     {
         self.fuse.is_blown = true;
-        abandon(&mut self.lists);
+        abandon(&mut self.base);
         if self.is_memory {
             BaseFault::Memory
         } else {
@@ -87,17 +83,17 @@ impl Faulty {
     }
 }
 
-impl Base for Faulty {
-    ghost state = { λ b. ⟦<ListBase as Base>⟧.state b.lists };
+impl<B: Base> Base for Faulty<B> {
+    ghost state = { λ b. B.state b.base };
 
-    ghost failures = { λ b. if b.fuse.is_blown then 1 else 0 };
+    ghost failures = { λ b. B.failures b.base + (if b.fuse.is_blown then 1 else 0) };
 
-    ghost is_clean = { λ _. Unit {0} };
+    ghost is_clean = { λ b. B.is_clean b.base };
 
-    ghost settled = { λ b clean. ⟦<ListBase as Base>⟧.settled b.lists clean };
+    ghost settled = { λ b clean. B.settled b.base clean };
 
     fn is_begun(&self) -> bool {
-        self.lists.is_begun()
+        self.base.is_begun()
     }
 
     fn begin(&mut self) -> Result<(), BaseFault> {
@@ -107,7 +103,7 @@ impl Base for Faulty {
         if self.fuse.is_due() {
             return Err(self.fail());
         }
-        self.lists.begin()
+        self.base.begin()
     }
 
     fn commit(&mut self) -> Result<(), BaseFault> {
@@ -117,7 +113,7 @@ impl Base for Faulty {
         if self.fuse.is_due() {
             return Err(self.fail());
         }
-        self.lists.commit()
+        self.base.commit()
     }
 
     fn rollback(&mut self) -> Result<(), BaseFault> {
@@ -127,14 +123,14 @@ impl Base for Faulty {
         if self.fuse.is_due() {
             return Err(self.fail());
         }
-        self.lists.rollback()
+        self.base.rollback()
     }
 
     fn fragment(&mut self, rel: RelNo, label: LabelNo) -> Result<Fragment, BaseFault> {
         if self.fuse.is_due() {
             return Err(self.fail());
         }
-        self.lists.fragment(rel, label)
+        self.base.fragment(rel, label)
     }
 
     fn add(&mut self, rel: RelNo, node: Node, cells: &[Cell]) -> Result<(), BaseFault> {
@@ -144,7 +140,7 @@ impl Base for Faulty {
         if self.fuse.is_due() {
             return Err(self.fail());
         }
-        self.lists.add(rel, node, cells)
+        self.base.add(rel, node, cells)
     }
 
     fn set(
@@ -160,7 +156,7 @@ impl Base for Faulty {
         if self.fuse.is_due() {
             return Err(self.fail());
         }
-        self.lists.set(rel, place, attr, value)
+        self.base.set(rel, place, attr, value)
     }
 
     fn drop_at(&mut self, rel: RelNo, place: &Place) -> Result<(), BaseFault> {
@@ -170,7 +166,7 @@ impl Base for Faulty {
         if self.fuse.is_due() {
             return Err(self.fail());
         }
-        self.lists.drop_at(rel, place)
+        self.base.drop_at(rel, place)
     }
 
     fn audit_add(&mut self, bytes: &[u8]) -> Result<(), BaseFault> {
@@ -180,13 +176,13 @@ impl Base for Faulty {
         if self.fuse.is_due() {
             return Err(self.fail());
         }
-        self.lists.audit_add(bytes)
+        self.base.audit_add(bytes)
     }
 
     fn audit_all(&mut self) -> Result<Items<Items<u8>>, BaseFault> {
         if self.fuse.is_due() {
             return Err(self.fail());
         }
-        self.lists.audit_all()
+        self.base.audit_all()
     }
 }

@@ -13,6 +13,7 @@ use mls_lattice::Policy;
 use mls_scheme::Schemes;
 use mls_script::Event;
 use mls_sessions::{Engine, RunFault, run};
+use mls_updates::ListBase;
 use std::alloc::{AllocError, Global};
 
 /// What fails: a call of the base by its store or for want of memory, or a write; after so many that don't.
@@ -31,13 +32,15 @@ pub enum What {
 }
 
 impl Failure {
-    fn base(self, alloc: Global) -> Faulty
-        ensures { ⟦<Faulty as Base>⟧.state result ≡ record { now = no_content; kept = no_content; begun = false } }
+    /// An empty base of which a call fails, or none where a write does.
+    fn base(self, alloc: Global) -> Faulty<ListBase>
+        ensures { ⟦<ListBase as Base>⟧.state result.base ≡ record { now = no_content; kept = no_content; begun = false } }
     {
+        let lists = ListBase::new(alloc);
         match self.what {
-            What::Store => Faulty::new(alloc, self.after, false),
-            What::Memory => Faulty::new(alloc, self.after, true),
-            What::Write => Faulty::new(alloc, u64::MAX, false),
+            What::Store => Faulty::new(lists, self.after, false),
+            What::Memory => Faulty::new(lists, self.after, true),
+            What::Write => Faulty::new(lists, u64::MAX, false),
         }
     }
 
@@ -102,24 +105,17 @@ fn push_answers(
     alloc: Global,
     policy: &Policy,
     schemes: &Schemes,
-    base: Faulty,
+    base: ListBase,
     questions: &[Event],
     out: &mut String,
 ) -> Result<(), AllocError>
     requires under { AreUnder (length policy.now.labels) schemes.now }
     requires fits { AllByRecursion (EventFits policy.now schemes.now) questions.now }
-    requires idle { (⟦<Faulty as Base>⟧.state base).begun ≡ false }
-    requires sound { IsSound (record { policy = policy.now; schemes = schemes.now }) (⟦<Faulty as Base>⟧.state base).now }
+    requires idle { (⟦<ListBase as Base>⟧.state base).begun ≡ false }
+    requires sound { IsSound (record { policy = policy.now; schemes = schemes.now }) (⟦<ListBase as Base>⟧.state base).now }
 {
     let mut answers = Narrow::new(alloc, u64::MAX);
-    let _ = run_over(
-        alloc,
-        policy,
-        schemes,
-        base.mended(),
-        questions,
-        &mut answers,
-    );
+    let _ = run_over(alloc, policy, schemes, base, questions, &mut answers);
     push_lines(out, &answers.bytes)
 }
 
@@ -142,7 +138,14 @@ fn push_outcome(
     push_end(out, end)?;
     push_lines(out, &replies.bytes)?;
     out.push_str("  --\n")?;
-    push_answers(alloc, policy, schemes, base, scripts.questions, out)?;
+    push_answers(
+        alloc,
+        policy,
+        schemes,
+        base.finish(),
+        scripts.questions,
+        out,
+    )?;
     Ok(end.is_ok())
 }
 

@@ -1,5 +1,5 @@
 //! Policies and schemes: their faults, and their canonical texts.
-use crate::block::{Case, indent, joined, text_of, unfolded};
+use case_tables::{Case, indent, joined, text_of, unfolded};
 use mls_lattice::Policy;
 use mls_scheme::Schemes;
 use std::alloc::{AllocError, Global};

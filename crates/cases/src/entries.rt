@@ -3,8 +3,8 @@ ghost use Rattle.std.specs.Prelude.{◌<◌, IfOk, length};
 ghost use Rattle.std.specs.List.{AllByRecursion};
 ghost use Rattle.mls_audit.specs.Entry.{label_of};
 
-use crate::block::{Case, inner};
 use crate::show::{push_hex, push_value};
+use case_tables::{Case, inner};
 use mls_audit::{Entry, EntryFault, entry_bytes, entry_of, visible};
 use mls_lattice::{LabelNo, Policy};
 use mls_scheme::Value;

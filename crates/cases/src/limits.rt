@@ -1,6 +1,6 @@
 //! Documents of so many parts, which would be long to write out.
-use crate::block::push_line;
 use crate::documents::told;
+use case_tables::push_line;
 use mls_lattice::Policy;
 use std::alloc::{AllocError, Global};
 

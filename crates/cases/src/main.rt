@@ -4,21 +4,17 @@
 ghost use Rattle.std.specs.Prelude.{length};
 ghost use Rattle.mls_scheme.specs.Scheme.{AreUnder};
 
-mod block;
-mod commands;
-mod desk;
+mod certificates;
 mod documents;
 mod entries;
 mod keys;
 mod limits;
 mod lookups;
-mod narrow;
 mod reads;
 mod show;
 mod table;
 mod tuples;
 mod views;
-mod worlds;
 
 use crate::table::{TABLES, tell};
 use mls_lattice::Policy;

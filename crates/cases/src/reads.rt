@@ -3,9 +3,9 @@ ghost use Rattle.std.specs.Prelude.{length};
 ghost use Rattle.std.specs.List.{AllByRecursion};
 ghost use Rattle.mls_scheme.specs.Tuple.{HasClassesBelow};
 
-use crate::block::{Case, push_line};
 use crate::tuples::{TupleFault, label_of, tuples_of};
 use crate::views::push_rows;
+use case_tables::{Case, push_line};
 use mls_filterview::{Base, BaseFault, Cell, Fragment, Node, view};
 use mls_lattice::{Items, LabelNo, Policy};
 use mls_scheme::{Place, RelNo, Tuple, Value, copy_key, tuple_class};

@@ -2,11 +2,11 @@
 ghost use Rattle.std.specs.Prelude.{length};
 ghost use Rattle.mls_scheme.specs.Scheme.{AreUnder};
 
-use crate::block::{Case, case_at};
-use crate::{commands, documents, entries, keys, limits, lookups, reads, views, worlds};
+use crate::{certificates, documents, entries, keys, limits, lookups, reads, views};
+use case_tables::{Case, case_at};
 use mls_lattice::Policy;
 use mls_scheme::Schemes;
-use std::alloc::AllocError;
+use std::alloc::{AllocError, Global};
 use std::rt::Files;
 use std::{fs, io};
 
@@ -22,15 +22,10 @@ pub enum Table {
     Entries,
     Views,
     Reads,
-    ScriptFaults,
-    Prefixes,
-    Scripts,
-    Commands,
-    Writers,
-    Worlds,
+    Certificates,
 }
 
-pub const TABLES: [Table; 15] = [
+pub const TABLES: [Table; 10] = [
     Table::Policies,
     Table::Schemes,
     Table::Documents,
@@ -40,12 +35,7 @@ pub const TABLES: [Table; 15] = [
     Table::Entries,
     Table::Views,
     Table::Reads,
-    Table::ScriptFaults,
-    Table::Prefixes,
-    Table::Scripts,
-    Table::Commands,
-    Table::Writers,
-    Table::Worlds,
+    Table::Certificates,
 ];
 
 impl Table {
@@ -60,12 +50,7 @@ impl Table {
             Table::Entries => "entries.txt",
             Table::Views => "views.txt",
             Table::Reads => "reads.txt",
-            Table::ScriptFaults => "script_faults.txt",
-            Table::Prefixes => "prefixes.txt",
-            Table::Scripts => "scripts.txt",
-            Table::Commands => "commands.txt",
-            Table::Writers => "writers.txt",
-            Table::Worlds => "worlds.txt",
+            Table::Certificates => "certificates.txt",
         }
     }
 }
@@ -82,12 +67,12 @@ pub fn tell<R: Files + AllocGlobal>(
     let text = fs::read_to_string(rt, table.file())?;
     let mut out = String::new(rt.alloc());
     writeln!(out, "== {}", table.file())?;
-    tell_text(rt, policy, schemes, table, &text, &mut out)?;
+    tell_text(rt.alloc(), policy, schemes, table, &text, &mut out)?;
     Ok(out)
 }
 
-fn tell_text<R: Files + AllocGlobal>(
-    rt: &R,
+fn tell_text(
+    alloc: Global,
     policy: &Policy,
     schemes: &Schemes,
     table: Table,
@@ -96,17 +81,17 @@ fn tell_text<R: Files + AllocGlobal>(
 ) -> Result<(), AllocError>
     requires { AreUnder (length policy.now.labels) schemes.now }
 {
-    let lines: Vec<&str> = text.lines().collect(rt.alloc())?;
+    let lines: Vec<&str> = text.lines().collect(alloc)?;
     for at in 0..lines.len() {
         if let Some(case) = case_at(&lines[at..]) {
-            tell_case(rt, policy, schemes, table, &case, out)?;
+            tell_case(alloc, policy, schemes, table, &case, out)?;
         }
     }
     Ok(())
 }
 
-fn tell_case<R: Files + AllocGlobal>(
-    rt: &R,
+fn tell_case(
+    alloc: Global,
     policy: &Policy,
     schemes: &Schemes,
     table: Table,
@@ -115,7 +100,6 @@ fn tell_case<R: Files + AllocGlobal>(
 ) -> Result<(), AllocError>
     requires { AreUnder (length policy.now.labels) schemes.now }
 {
-    let alloc = rt.alloc();
     match table {
         Table::Policies => documents::tell_policy(alloc, case.head, out),
         Table::Schemes => documents::tell_schemes(alloc, policy, case.head, out),
@@ -126,22 +110,6 @@ fn tell_case<R: Files + AllocGlobal>(
         Table::Entries => entries::tell(alloc, policy, case, out),
         Table::Views => views::tell(alloc, policy, schemes, case, out),
         Table::Reads => reads::tell(alloc, policy, case, out),
-        _ => tell_commands(rt, table, case, out),
-    }
-}
-
-fn tell_commands<R: Files + AllocGlobal>(
-    rt: &R,
-    table: Table,
-    case: &Case<'_>,
-    out: &mut String,
-) -> Result<(), AllocError> {
-    match table {
-        Table::ScriptFaults => commands::tell_fault(rt, case.head, out),
-        Table::Prefixes => commands::tell_prefixes(rt, case.head, out),
-        Table::Scripts => commands::tell_script(rt, case, out),
-        Table::Commands => commands::tell_command(rt, case, out),
-        Table::Writers => commands::tell_writer(rt, case, out),
-        _ => worlds::tell(rt, case, out),
+        Table::Certificates => certificates::tell(alloc, case.head, out),
     }
 }

@@ -4,8 +4,8 @@ ghost use Rattle.std.specs.List.{AllByRecursion};
 ghost use Rattle.mls_scheme.specs.Scheme.{AreUnder};
 ghost use Rattle.mls_scheme.specs.Tuple.{HasClassesBelow};
 
-use crate::block::{Case, push_line};
 use crate::tuples::{TupleFault, label_of, push_tuple, tuples_of};
+use case_tables::{Case, push_line};
 use mls_filterview::{filter, integrity, subsumes};
 use mls_lattice::Policy;
 use mls_scheme::{Schemes, Tuple, tuple_class};

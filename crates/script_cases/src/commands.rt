@@ -1,7 +1,7 @@
 //! Whole commands: what they write, and how they end.
-use crate::block::{Case, indent, joined, push_line, text_of, unfolded};
 use crate::desk::Desk;
 use crate::narrow::Narrow;
+use case_tables::{Case, indent, joined, push_line, text_of, unfolded};
 use mls_command::act;
 use std::alloc::AllocError;
 use std::rt::Files;

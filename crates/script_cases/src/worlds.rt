@@ -1,9 +1,9 @@
 //! Two worlds, and what a level sees of them: the real engine runs two scripts event by event.
 ghost use Rattle.std.specs.Prelude.{◌≤◌, length};
 
-use crate::block::{Case, indent, inner, push_line, text_of};
 use crate::commands::{words_of, written_by};
 use crate::narrow::Narrow;
+use case_tables::{Case, indent, inner, push_line, text_of};
 use std::alloc::AllocError;
 use std::rt::Files;
 

@@ -1,6 +1,8 @@
 //! What the program does with its words.
-ghost use Rattle.std.specs.Prelude.{length};
+ghost use Rattle.std.specs.Prelude.{length, IfOk};
+ghost use Rattle.std.specs.List.{AllByRecursion};
 ghost use Rattle.mls_scheme.specs.Scheme.{AreUnder};
+ghost use Rattle.mls_script.specs.Event.{EventFits};
 
 use crate::host::Host;
 use crate::refusal::{Refusal, Role};
@@ -8,10 +10,10 @@ use crate::samples;
 use crate::words::{Job, job_of};
 use mls_lattice::Policy;
 use mls_scheme::Schemes;
-use mls_script::script;
-use mls_sessions::{Engine, run};
+use mls_script::{Event, script};
+use mls_sessions::{Engine, RunFault, run};
 use mls_updates::ListBase;
-use std::alloc::Global;
+use std::alloc::{AllocError, Global};
 use std::io::Write;
 
 fn input_of<H: Host>(
@@ -26,6 +28,23 @@ fn input_of<H: Host>(
     }
 }
 
+fn policy_of<H: Host>(alloc: Global, host: &mut H, path: &str) -> Result<Policy, Refusal> {
+    let bytes = input_of(alloc, host, Role::Policy, path)?;
+    Ok(Policy::read(alloc, &bytes)?)
+}
+
+fn schemes_of<H: Host>(
+    alloc: Global,
+    host: &mut H,
+    policy: &Policy,
+    path: &str,
+) -> Result<Schemes, Refusal>
+    ensures { IfOk result (AreUnder (length policy.now.labels)) }
+{
+    let bytes = input_of(alloc, host, Role::Schemes, path)?;
+    Ok(Schemes::read(alloc, policy, &bytes)?)
+}
+
 /// Runs a script over an empty database.
 fn run_script<W: Write>(
     alloc: Global,
@@ -37,20 +56,55 @@ fn run_script<W: Write>(
     requires { AreUnder (length policy.now.labels) schemes.now }
 {
     let events = script(alloc, policy, schemes, bytes)?;
+    Ok(run_events(alloc, policy, schemes, &events, out)?)
+}
+
+fn run_events<W: Write>(
+    alloc: Global,
+    policy: &Policy,
+    schemes: &Schemes,
+    events: &[Event],
+    out: &mut W,
+) -> Result<(), RunFault>
+    requires under { AreUnder (length policy.now.labels) schemes.now }
+    requires fits { AllByRecursion (EventFits policy.now schemes.now) events.now }
+{
     let mut engine = Engine::new(alloc, ListBase::new(alloc), policy, schemes);
-    let outcome = run(&mut engine, &events, out);
+    let outcome = run(&mut engine, events, out);
     let _base = engine.finish();
-    outcome?;
-    Ok(())
+    outcome
+}
+
+/// Runs the script on standard input under schemes, and these under the policy that is handed in.
+fn run_sample_schemes<H: Host, W: Write>(
+    alloc: Global,
+    host: &mut H,
+    policy: &Policy,
+    out: &mut W,
+) -> Result<(), Refusal> {
+    let schemes = Schemes::read(alloc, policy, samples::SCHEMES.as_bytes())?;
+    match host.input(alloc) {
+        Ok(bytes) => run_script(alloc, policy, &schemes, &bytes, out),
+        Err(fault) => Err(Refusal::of_input(Role::Script, fault)),
+    }
 }
 
 fn run_samples<H: Host, W: Write>(alloc: Global, host: &mut H, out: &mut W) -> Result<(), Refusal> {
     let policy = Policy::read(alloc, samples::POLICY.as_bytes())?;
-    let schemes = Schemes::read(alloc, &policy, samples::SCHEMES.as_bytes())?;
-    match host.input(alloc) {
-        Ok(bytes) => run_script(alloc, &policy, &schemes, &bytes, out),
-        Err(fault) => Err(Refusal::of_input(Role::Script, fault)),
-    }
+    run_sample_schemes(alloc, host, &policy, out)
+}
+
+fn run_schemes<H: Host, W: Write>(
+    alloc: Global,
+    host: &mut H,
+    policy: &Policy,
+    schemes: &str,
+    script: &str,
+    out: &mut W,
+) -> Result<(), Refusal> {
+    let schemes = schemes_of(alloc, host, policy, schemes)?;
+    let bytes = input_of(alloc, host, Role::Script, script)?;
+    run_script(alloc, policy, &schemes, &bytes, out)
 }
 
 fn run_files<H: Host, W: Write>(
@@ -61,14 +115,30 @@ fn run_files<H: Host, W: Write>(
     script: &str,
     out: &mut W,
 ) -> Result<(), Refusal> {
-    let policy = Policy::read(alloc, &input_of(alloc, host, Role::Policy, policy)?)?;
-    let schemes = Schemes::read(
-        alloc,
-        &policy,
-        &input_of(alloc, host, Role::Schemes, schemes)?,
-    )?;
-    let bytes = input_of(alloc, host, Role::Script, script)?;
-    run_script(alloc, &policy, &schemes, &bytes, out)
+    let policy = policy_of(alloc, host, policy)?;
+    run_schemes(alloc, host, &policy, schemes, script, out)
+}
+
+/// The canonical texts of a policy and its schemes.
+fn texts_of(alloc: Global, policy: &Policy, schemes: &Schemes) -> Result<Vec<u8>, AllocError> {
+    let mut text = policy.canon(alloc)?;
+    text.append(&mut schemes.canon(alloc, policy)?)?;
+    Ok(text)
+}
+
+fn show_schemes<H: Host, W: Write>(
+    alloc: Global,
+    host: &mut H,
+    policy: &Policy,
+    schemes: &str,
+    out: &mut W,
+) -> Result<(), Refusal> {
+    let schemes = schemes_of(alloc, host, policy, schemes)?;
+    let text = texts_of(alloc, policy, &schemes)?;
+    match out.write_all(&text) {
+        Ok(()) => Ok(()),
+        Err(_) => Err(Refusal::Output),
+    }
 }
 
 /// Prints the canonical texts.
@@ -79,18 +149,8 @@ fn show_policy<H: Host, W: Write>(
     schemes: &str,
     out: &mut W,
 ) -> Result<(), Refusal> {
-    let policy = Policy::read(alloc, &input_of(alloc, host, Role::Policy, policy)?)?;
-    let schemes = Schemes::read(
-        alloc,
-        &policy,
-        &input_of(alloc, host, Role::Schemes, schemes)?,
-    )?;
-    let mut text = policy.canon(alloc)?;
-    text.append(&mut schemes.canon(alloc, &policy)?)?;
-    match out.write_all(&text) {
-        Ok(()) => Ok(()),
-        Err(_) => Err(Refusal::Output),
-    }
+    let policy = policy_of(alloc, host, policy)?;
+    show_schemes(alloc, host, &policy, schemes, out)
 }
 
 fn answer<H: Host, W: Write>(

@@ -10,7 +10,7 @@ use std::alloc::AllocError;
 use std::io::{self, Write};
 
 /// What an input is to the program.
-#[derive(Clone, Copy, PartialEq, Eq, Debug)]
+#[derive(Clone, Copy)]
 pub enum Role {
     Policy,
     Schemes,
@@ -28,7 +28,7 @@ impl Role {
 }
 
 /// Why a command ends without success.
-#[derive(Drop, Debug)]
+#[derive(Drop)]
 pub enum Refusal {
     /// The command line is bad, or asks for help: the text that is printed.
     Usage(String),
@@ -41,6 +41,24 @@ pub enum Refusal {
     /// What a command other than a run prints was not taken.
     Output,
     Memory,
+}
+
+fn tell_input<W: Write>(err: &mut W, role: Role, word: &str) -> io::Result<()> {
+    writeln!(err, "mldb: {}: {word}", role.word())
+}
+
+fn tell_fault<W: Write>(err: &mut W, role: Role, code: u8, word: &str) -> io::Result<()> {
+    writeln!(err, "mldb: {}: {code} {word}", role.word())
+}
+
+fn tell_script<W: Write>(err: &mut W, fault: &ScriptFault) -> io::Result<()> {
+    let (code, word) = (fault.cause.code(), fault.cause.word());
+    let (line, column) = (fault.line, fault.column);
+    writeln!(err, "mldb: script: {code} {word} at {line}:{column}")
+}
+
+fn tell_run<W: Write>(err: &mut W, fault: &RunFault) -> io::Result<()> {
+    writeln!(err, "mldb: run: {} at {}", fault.cause.word(), fault.event)
 }
 
 impl Refusal {
@@ -77,31 +95,15 @@ impl Refusal {
     /// Writes the line that tells the refusal.
     pub fn tell<W: Write>(&self, err: &mut W) -> io::Result<()> {
         match self {
-            Refusal::Usage(text) => write!(err, "{text}"),
-            Refusal::Unreadable(role) => writeln!(err, "mldb: {}: unreadable", role.word()),
-            Refusal::TooLong(role) => writeln!(err, "mldb: {}: too long", role.word()),
-            Refusal::Policy(fault) => {
-                writeln!(err, "mldb: policy: {} {}", fault.code(), fault.word())
-            }
-            Refusal::Schemes(fault) => {
-                writeln!(err, "mldb: schemes: {} {}", fault.code(), fault.word())
-            }
-            Refusal::Script(fault) => {
-                let cause = fault.cause;
-                writeln!(
-                    err,
-                    "mldb: script: {} {} at {}:{}",
-                    cause.code(),
-                    cause.word(),
-                    fault.line,
-                    fault.column
-                )
-            }
-            Refusal::Run(fault) => {
-                writeln!(err, "mldb: run: {} at {}", fault.cause.word(), fault.event)
-            }
-            Refusal::Output => writeln!(err, "mldb: output: Write"),
-            Refusal::Memory => writeln!(err, "mldb: memory"),
+            Refusal::Usage(text) => err.write_all(text.as_bytes()),
+            Refusal::Unreadable(role) => tell_input(err, *role, "unreadable"),
+            Refusal::TooLong(role) => tell_input(err, *role, "too long"),
+            Refusal::Policy(fault) => tell_fault(err, Role::Policy, fault.code(), fault.word()),
+            Refusal::Schemes(fault) => tell_fault(err, Role::Schemes, fault.code(), fault.word()),
+            Refusal::Script(fault) => tell_script(err, fault),
+            Refusal::Run(fault) => tell_run(err, fault),
+            Refusal::Output => err.write_all(b"mldb: output: Write\n"),
+            Refusal::Memory => err.write_all(b"mldb: memory\n"),
         }
     }
 }

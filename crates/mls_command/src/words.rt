@@ -14,7 +14,7 @@ Example:
 ";
 
 /// What the words ask for.
-#[derive(Clone, Copy, Debug)]
+#[derive(Clone, Copy)]
 pub enum Job<'a> {
     /// The script on standard input, under the sample policy and schemes.
     Samples,
@@ -120,5 +120,8 @@ pub fn job_of<'a>(alloc: Global, words: &'a [&'a str]) -> Result<Job<'a>, Refusa
         Some(("show-policy", show)) => show_policy_job(show),
         _ => None,
     };
-    job.ok_or(no_command(alloc))
+    match job {
+        Some(job) => Ok(job),
+        None => Err(no_command(alloc)),
+    }
 }

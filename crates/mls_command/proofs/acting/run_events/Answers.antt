@@ -3,7 +3,7 @@ use Rattle.mls_filterview.specs.Content.{State}
 use Rattle.mls_machine.specs.Observation.{EventsFit}
 use Rattle.mls_sessions.specs.World.{site_under, IsSound}
 use Rattle.mls_sessions.proofs.StartLemmas.{no_content_sound}
-use Rattle.mls_command.proofs.acting.run_script.Goals as goal
+use Rattle.mls_command.proofs.acting.run_events.Goals as goal
 
 pub new-engine-requires-clause-idle : goal.new-engine-requires-clause-idle
 new-engine-requires-clause-idle g c = ap (λ (s : State). s.begun) c.new.ensures
@@ -14,5 +14,4 @@ new-engine-requires-clause-sound g c = λ _.
 
 pub run-outcome-requires-clause-fits : goal.run-outcome-requires-clause-fits
 run-outcome-requires-clause-fits g c =
-    subst (λ at. EventsFit at c.deref.result.now) (sym c.new-engine.ensures.site)
-    (subst (EventsFit (site_under c.args.policy.now c.args.schemes.now)) (sym c.deref.ensures.value) c.in_ok-events.ensures.fits)
+    subst (λ at. EventsFit at c.args.events.now) (sym c.new-engine.ensures.site) c.requires.fits

@@ -62,19 +62,12 @@ fn tell_fault<W: Write>(err: &mut W, role: Role, code: u8, word: &str) -> io::Re
 fn tell_transactions<W: Write>(err: &mut W, fault: &TextFault) -> io::Result<()> {
     let (code, word) = (fault.cause.code(), fault.cause.word());
     let (line, column) = (fault.line, fault.column);
-    writeln!(
-        err,
-        "mldb: transactions: {code} {word} at {line}:{column}"
-    )
+    writeln!(err, "mldb: transactions: {code} {word} at {line}:{column}")
 }
 
 fn tell_certificates<W: Write>(err: &mut W, fault: &CertFault) -> io::Result<()> {
     let (code, word) = (fault.cause.code(), fault.cause.word());
-    writeln!(
-        err,
-        "mldb: certificates: {code} {word} at {}",
-        fault.line
-    )
+    writeln!(err, "mldb: certificates: {code} {word} at {}", fault.line)
 }
 
 fn tell_script<W: Write>(err: &mut W, fault: &ScriptFault) -> io::Result<()> {

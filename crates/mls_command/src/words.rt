@@ -31,10 +31,7 @@ pub enum Job<'a> {
     /// A script, under a policy and schemes.
     Run(RunFiles<'a>),
     /// The canonical texts of a policy and schemes, each named by a path.
-    ShowPolicy {
-        policy: &'a str,
-        schemes: &'a str,
-    },
+    ShowPolicy { policy: &'a str, schemes: &'a str },
 }
 
 fn policy_argument<'a>(alloc: Global) -> Arg<'a> {

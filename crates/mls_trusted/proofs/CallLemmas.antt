@@ -3,7 +3,7 @@ use Rattle.std.proofs.Common.{◌≡◌, ℕ, ◌<◌, ◌≤◌, Bool, true, fa
 use Rattle.mls_scheme.specs.Table.{Database}
 use Rattle.mls_filterview.specs.declared.base.BaseFault.{BaseFault}
 use Rattle.mls_filterview.specs.declared.base.BaseFault.TheVariants.{Store, Memory, NotBegun, Begun}
-use Rattle.mls_filterview.specs.Content.{State, after}
+use Rattle.mls_filterview.specs.Content.{Content, State, ended, failed, after}
 use Rattle.mls_filterview.specs.Calls.{begun_after, IsFault, IsCall, IsServed}
 use Rattle.mls_trusted.specs.Runs.{with_database}
 
@@ -13,6 +13,23 @@ after-with_database Store s db h b = (λ i. cond (b i) (record { now = s.kept; k
 after-with_database Memory s db h b = (λ i. cond (b i) (record { now = s.kept; kept = s.kept; begun = false }) (with_database s db)) ∙ (λ i. cond (sym b i) (record { now = s.kept; kept = s.kept; begun = false }) s)
 after-with_database NotBegun s db h b = absurd (h.0 refl)
 after-with_database Begun s db h b = absurd (h.1 refl)
+
+-- whether a change is begun plays no part
+served-begun : (e : BaseFault) (b d : Bool) → IsServed e → begun_after e b ≡ begun_after e d
+served-begun Store b d h = refl
+served-begun Memory b d h = refl
+served-begun NotBegun b d h = absurd (h.0 refl)
+served-begun Begun b d h = absurd (h.1 refl)
+
+-- a change that was begun over settled content ends in it
+own-ended : (s : State) → s.begun ≡ false → s.kept ≡ s.now → record { now = s.now; kept = s.now; begun = false } ≡ failed s
+own-ended s idle settled = (λ i. record { now = s.now; kept = sym settled i; begun = sym idle i }) ∙ (λ i. cond (sym idle i) (ended s) s)
+
+own-after : (e : BaseFault) (s : State) (x : Content) → s.begun ≡ false → s.kept ≡ s.now → IsServed e → after e (record { now = x; kept = s.now; begun = true }) ≡ after e s
+own-after Store s x idle settled h = own-ended s idle settled
+own-after Memory s x idle settled h = own-ended s idle settled
+own-after NotBegun s x idle settled h = absurd (h.0 refl)
+own-after Begun s x idle settled h = absurd (h.1 refl)
 
 module _ {B : Type 0} (is_clean : B → Type 0) (failures : B → ℕ) (state : B → State) where
   -- a base has come this far inside a change
@@ -53,3 +70,29 @@ module _ {B : Type 0} (is_clean : B → Type 0) (failures : B → ℕ) (state : 
     count = (let a = w.count in let b = c.count in omega (arith, a, b));
     fault = fault_in old mid new w c.clean c.count r s c.fault;
   }
+
+  -- ---- a change of one's own
+
+  module _ (a b : B) (x : Content) (idle : (state a).begun ≡ false) (settled : is_clean a → (state a).kept ≡ (state a).now)
+      (back : is_clean b → is_clean a) (count : failures a ≤ failures b) (begun : (state b).begun ≡ true)
+      (changed : is_clean b → state b ≡ record { now = x; kept = (state a).now; begun = true }) where
+    own_fault : (c : B) → (is_clean c → is_clean b) → failures b ≤ failures c → (e : BaseFault) → IsServed e → IsFault is_clean failures state e b c → IsFault is_clean failures state e a c
+    own_fault c k n e s f = record {
+      store = λ q. (let h = f.store q in omega (arith, h));
+      not_begun = λ q. absurd (s.0 q);
+      begun = λ q. absurd (s.1 q);
+      mode = f.mode ∙ served-begun e (state b).begun (state a).begun s;
+      content = λ h. f.content h ∙ ap (after e) (changed (k h)) ∙ own-after e (state a) x idle (settled (back (k h))) s;
+    }
+
+    own_in : {A : Type 0} (c : B) → (is_clean c → is_clean b) → failures b ≤ failures c → (r : Result A BaseFault) → IfErr r IsServed → IfErr r (λ e. IsFault is_clean failures state e b c) → IfErr r (λ e. IsFault is_clean failures state e a c)
+    own_in c k n (Ok y) s f = f
+    own_in c k n (Err e) s f = own_fault c k n e s f
+
+    -- a fault in it leaves all as it was
+    pub own_call : {A : Type 0} (c : B) (r : Result A BaseFault) → IfErr r IsServed → IsCall is_clean failures state b c r → IsCall is_clean failures state a c r
+    own_call c r s p = record {
+      clean = λ h. back (p.clean h);
+      count = (let h = p.count in omega (arith, h));
+      fault = own_in c p.clean p.count r s p.fault;
+    }

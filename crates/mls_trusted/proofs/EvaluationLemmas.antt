@@ -1,14 +1,20 @@
 -- Whole calls.
 use mathlib.Core.List.{reverse, reverse_aux}
-use Rattle.std.proofs.Common.{◌≡◌, ℕ, true, List, [], ◌∷◌, Option, refl, sym, ap, ◌∙◌, subst}
+use Rattle.std.proofs.Common.{◌≡◌, ℕ, Bool, true, false, List, Result, Ok, Err, [], ◌∷◌, Option, refl, sym, ap, ◌∙◌, subst}
+use Rattle.std.specs.Prelude.{◌↔◌}
 use Rattle.std.specs.List.{AllByRecursion}
+use Rattle.std.proofs.lemmas.Bool.{true≢false}
 use Rattle.mls_lattice.specs.Labels.{Labels, below}
 use Rattle.mls_lattice.specs.Policy.{Tables, labels_of}
+use Rattle.mls_scheme.specs.declared.value.Value.{Value}
 use Rattle.mls_scheme.specs.declared.tuple.Tuple.{Tuple}
 use Rattle.mls_scheme.specs.Table.{Database}
-use Rattle.mls_scheme.specs.Scheme.{scheme_of}
-use Rattle.mls_filterview.specs.Content.{State}
-use Rattle.mls_translang.specs.Tx.{IsTx}
+use Rattle.mls_scheme.specs.Scheme.{Schemes, scheme_of}
+use Rattle.mls_filterview.specs.declared.base.BaseFault.{BaseFault}
+use Rattle.mls_filterview.specs.declared.base.BaseFault.TheVariants.{Begun}
+use Rattle.mls_filterview.specs.Calls.{IsServed}
+use Rattle.mls_filterview.specs.Content.{State, begun_change, committed}
+use Rattle.mls_translang.specs.Tx.{Tx, IsTx}
 use Rattle.mls_translang.specs.Fits.{IsReadUnder}
 use Rattle.mls_meaning.specs.declared.run.Run.{Run}
 use Rattle.mls_meaning.specs.Meaning.{Item, start, run_tx}
@@ -62,3 +68,25 @@ module _ (call : Call) where
           released = q ∙ ap (λ s. s.released) p;
           state = ran.rest k ∙ ap (λ s. with_database (state a) s.db) p;
         }
+
+-- ---- a change of its own
+
+-- a change begins where none is begun
+pub was_idle : {A : Type 0} (s : Bool) (r : Result A BaseFault) (x : A) → r ≡ Ok x → ((r ≡ Err Begun) ↔ (s ≡ true)) → s ≡ false
+was_idle true r x is h = (let e = h.1 refl in absurd cc)
+was_idle false r x is h = refl
+
+-- what a fault of the store or of memory is not
+pub not_begun_now : {A : Type 0} (s : Bool) (r : Result A BaseFault) (e : BaseFault) → r ≡ Err e → IsServed e → s ≡ false → (r ≡ Err Begun) ↔ (s ≡ true)
+not_begun_now s r e is h idle = (λ q. (let p : e ≡ Begun = cc in absurd (h.1 p)), λ q. absurd (true≢false (sym q ∙ idle)))
+
+pub ok_idle : {A : Type 0} (s : Bool) (r : Result A BaseFault) (x : A) → r ≡ Ok x → s ≡ false → (r ≡ Err Begun) ↔ (s ≡ true)
+ok_idle s r x is idle = (λ q. absurd cc, λ q. absurd (true≢false (sym q ∙ idle)))
+
+-- a run in it, and the commit
+pub commits_run : (ls : Labels) (schemes : Schemes) (tx : Tx) (args : List (Option Value)) (s b c d : State) (r : Run) → b ≡ begun_change s
+    → (let run = run_tx ls schemes tx args b.now.db in IsEvaluated run (with_database b run.db) c r) → d ≡ committed c
+    → (let run = run_tx ls schemes tx args s.now.db in IsEvaluated run (committed (with_database s run.db)) d r)
+commits_run ls schemes tx args s b c d r is h e =
+    let k = subst (λ (x : State). IsEvaluated (run_tx ls schemes tx args x.now.db) (with_database x (run_tx ls schemes tx args x.now.db).db) c r) is h in
+    record { emitted = k.emitted; released = k.released; state = e ∙ ap committed k.state }

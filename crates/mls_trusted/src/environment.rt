@@ -40,7 +40,7 @@ pub(crate) fn cell(row: &Tuple, attribute: usize) -> Datum<'_>
     }
 }
 
-/// An attribute of the row at a depth, the innermost row 0.
+/// An attribute of the row at a depth, the innermost one first.
 fn field(rows: &[Tuple], depth: u8, attribute: u8) -> Datum<'_>
     ensures { datum_of result ≡ Plain (cell_of (slice_index_or (reverse rows.now) depth no_tuple) attribute) }
 {

@@ -1,6 +1,6 @@
 //! Transactions as they are stored: with the certificates that hold for them, or without.
-ghost use Rattle.std.specs.Prelude.{◌≡◌, ◌×◌, IfOk, option_map};
-ghost use Rattle.mls_command.specs.Storing.{cert_named, IsStoredAs, AreStoredAs};
+ghost use Rattle.std.specs.Prelude.{◌≡◌, IfOk, option_map};
+ghost use Rattle.mls_command.specs.Storing.{cert_named, IsChecked, IsStoredWith, AreStoredWith};
 
 use mls_certcheck::Certified;
 use mls_certificate::Cert;
@@ -31,7 +31,9 @@ fn copy_of(cert: &Cert) -> Result<Cert, AllocError>
 }
 
 /// A transaction with a certificate, where that holds for it.
-fn checked(policy: &Policy, tx: Tx, cert: Cert) -> Stored {
+fn checked(policy: &Policy, tx: Tx, cert: Cert) -> Stored
+    ensures { IsChecked policy.now tx cert result }
+{
     match Certified::new(policy, tx, cert) {
         Ok(certified) => Stored::Certified(certified),
         Err((tx, _, _)) => Stored::Plain(tx),
@@ -39,7 +41,7 @@ fn checked(policy: &Policy, tx: Tx, cert: Cert) -> Stored {
 }
 
 fn stored_as(policy: &Policy, blocks: &[(Str, Cert)], tx: Tx) -> Result<Stored, AllocError>
-    ensures { IfOk result (λ s. IsStoredAs policy.now blocks.now tx s) }
+    ensures { IfOk result (λ s. IsStoredWith policy.now (cert_named blocks.now tx.name) tx s) }
 {
     match cert_named(blocks, tx.name()) {
         Some(cert) => Ok(checked(policy, tx, copy_of(cert)?)),
@@ -55,7 +57,7 @@ pub fn stored_of(
     txs: Items<Tx>,
     blocks: &[(Str, Cert)],
 ) -> Result<Items<Stored>, AllocError>
-    ensures { IfOk result (λ ss. AreStoredAs policy.now blocks.now txs ss) }
+    ensures { IfOk result (λ ss. AreStoredWith policy.now blocks.now txs ss) }
 {
     let mut stored = Vec::new(alloc);
     for tx in txs.into_vec() {

@@ -77,6 +77,29 @@ pub fn tell_script<R: Files + AllocGlobal>(
     )
 }
 
+/// Tells what a script prints that calls transactions: a case is `POLICY TRANSACTIONS CERTIFICATES: title`, and its script below.
+pub fn tell_call<R: Files + AllocGlobal>(
+    rt: &R,
+    case: &Case<'_>,
+    out: &mut String,
+) -> Result<(), AllocError> {
+    let (files, _) = case.head.split_once(':').unwrap_or((case.head, ""));
+    let (policy, stored) = files.split_once(' ').unwrap_or((files, ""));
+    let (transactions, certificates) = stored.split_once(' ').unwrap_or((stored, ""));
+    let words = [
+        "mldb",
+        "run",
+        "--transactions",
+        transactions,
+        "--certificates",
+        certificates,
+        policy,
+        "schemes.toml",
+        "script",
+    ];
+    tell_words(rt, &words, case, Narrow::wide(rt.alloc()), out)
+}
+
 /// Tells the status and what a command line writes, with the script below it on standard input.
 pub fn tell_command<R: Files + AllocGlobal>(
     rt: &R,

@@ -14,15 +14,19 @@ pub enum Table {
     Commands,
     Writers,
     Worlds,
+    Calls,
+    Options,
 }
 
-pub const TABLES: [Table; 6] = [
+pub const TABLES: [Table; 8] = [
     Table::Faults,
     Table::Prefixes,
     Table::Scripts,
     Table::Commands,
     Table::Writers,
     Table::Worlds,
+    Table::Calls,
+    Table::Options,
 ];
 
 impl Table {
@@ -34,6 +38,8 @@ impl Table {
             Table::Commands => "commands.txt",
             Table::Writers => "writers.txt",
             Table::Worlds => "worlds.txt",
+            Table::Calls => "calls.txt",
+            Table::Options => "options.txt",
         }
     }
 }
@@ -72,8 +78,9 @@ fn tell_case<R: Files + AllocGlobal>(
         Table::Faults => commands::tell_fault(rt, case.head, out),
         Table::Prefixes => commands::tell_prefixes(rt, case.head, out),
         Table::Scripts => commands::tell_script(rt, case, out),
-        Table::Commands => commands::tell_command(rt, case, out),
+        Table::Commands | Table::Options => commands::tell_command(rt, case, out),
         Table::Writers => commands::tell_writer(rt, case, out),
         Table::Worlds => worlds::tell(rt, case, out),
+        Table::Calls => commands::tell_call(rt, case, out),
     }
 }

@@ -1,18 +1,13 @@
 -- Whole calls.
-use mathlib.Core.List.{reverse, reverse_aux}
-use Rattle.std.proofs.Common.{◌≡◌, ℕ, Bool, true, false, List, Result, Ok, Err, [], ◌∷◌, Option, refl, sym, ap, ◌∙◌, subst}
-use Rattle.std.specs.Prelude.{◌↔◌}
+use mathlib.Core.List.{reverse}
+use Rattle.std.proofs.Common.{◌≡◌, ℕ, true, List, [], ◌∷◌, Option, sym, ap, ◌∙◌, subst}
 use Rattle.std.specs.List.{AllByRecursion}
-use Rattle.std.proofs.lemmas.Bool.{true≢false}
 use Rattle.mls_lattice.specs.Labels.{Labels, below}
 use Rattle.mls_lattice.specs.Policy.{Tables, labels_of}
 use Rattle.mls_scheme.specs.declared.value.Value.{Value}
 use Rattle.mls_scheme.specs.declared.tuple.Tuple.{Tuple}
 use Rattle.mls_scheme.specs.Table.{Database}
 use Rattle.mls_scheme.specs.Scheme.{Schemes, scheme_of}
-use Rattle.mls_filterview.specs.declared.base.BaseFault.{BaseFault}
-use Rattle.mls_filterview.specs.declared.base.BaseFault.TheVariants.{Begun}
-use Rattle.mls_filterview.specs.Calls.{IsServed}
 use Rattle.mls_filterview.specs.Content.{State, begun_change, committed}
 use Rattle.mls_translang.specs.Tx.{Tx, IsTx}
 use Rattle.mls_translang.specs.Fits.{IsReadUnder}
@@ -26,12 +21,8 @@ use Rattle.mls_trusted.specs.declared.frame.Frame.{Frame}
 use Rattle.mls_trusted.specs.Runs.{with_database, IsEvaluated, HasItems}
 use Rattle.mls_trusted.specs.Frames.{around_of, progress_of, MayRun, run_of, IsFrame, IsRun}
 
-no_row_around : reverse (let none : List Tuple = [] in none) ≡ []
-unfolding reverse reverse_aux
-no_row_around = refl
-
 outside : (f : Frame) → f.rows.items ≡ [] → [] ≡ around_of f
-outside f none = sym (ap reverse none ∙ no_row_around)
+outside f none = sym (ap reverse none)
 
 all_items : (policy : Tables) (hi : ℕ) (xs : List Item) → AllByRecursion (λ i. IsItem policy i × (below (labels_of policy) i.0 hi ≡ true)) xs → AllByRecursion (IsItem policy) xs
 all_items policy hi [] h = tt
@@ -70,18 +61,6 @@ module _ (call : Call) where
         }
 
 -- ---- a change of its own
-
--- a change begins where none is begun
-pub was_idle : {A : Type 0} (s : Bool) (r : Result A BaseFault) (x : A) → r ≡ Ok x → ((r ≡ Err Begun) ↔ (s ≡ true)) → s ≡ false
-was_idle true r x is h = (let e = h.1 refl in absurd cc)
-was_idle false r x is h = refl
-
--- what a fault of the store or of memory is not
-pub not_begun_now : {A : Type 0} (s : Bool) (r : Result A BaseFault) (e : BaseFault) → r ≡ Err e → IsServed e → s ≡ false → (r ≡ Err Begun) ↔ (s ≡ true)
-not_begun_now s r e is h idle = (λ q. (let p : e ≡ Begun = cc in absurd (h.1 p)), λ q. absurd (true≢false (sym q ∙ idle)))
-
-pub ok_idle : {A : Type 0} (s : Bool) (r : Result A BaseFault) (x : A) → r ≡ Ok x → s ≡ false → (r ≡ Err Begun) ↔ (s ≡ true)
-ok_idle s r x is idle = (λ q. absurd cc, λ q. absurd (true≢false (sym q ∙ idle)))
 
 -- a run in it, and the commit
 pub commits_run : (ls : Labels) (schemes : Schemes) (tx : Tx) (args : List (Option Value)) (s b c d : State) (r : Run) → b ≡ begun_change s

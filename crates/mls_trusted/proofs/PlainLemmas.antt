@@ -1,20 +1,18 @@
 -- Statements that leave the database.
-use Rattle.std.proofs.Common.{◌≡◌, ℕ, ◌<◌, true, List, [], ◌∷◌, ◌++◌, length, Option, Some, refl, sym, ap, ◌∙◌, subst}
+use Rattle.std.proofs.Common.{◌≡◌, ℕ, ◌<◌, true, [], ◌∷◌, ◌++◌, length, Option, refl, sym, ap, ◌∙◌, subst}
 use Rattle.std.specs.List.{AllByRecursion}
 use Rattle.mls_lattice.specs.Labels.{below}
 use Rattle.mls_lattice.specs.Policy.{labels_of}
 use Rattle.mls_scheme.specs.declared.value.Kind.{Kind}
 use Rattle.mls_scheme.specs.declared.value.Value.{Value}
 use Rattle.mls_scheme.specs.Value.{fits_kind}
-use Rattle.mls_scheme.specs.Table.{Database}
-use Rattle.mls_translang.specs.Tree.{Expr, Stmt, Assign, Release, Emit, Block, Do, End}
-use Rattle.mls_translang.specs.Scope.{kind_of_var}
+use Rattle.mls_translang.specs.Tree.{Expr, Assign, Release, Emit, Block, Do, End}
 use Rattle.mls_translang.specs.Kinds.{HasKind, Assigns}
 use Rattle.mls_translang.specs.Tx.{scope_of}
 use Rattle.mls_meaning.specs.Expressions.{value_in}
 use Rattle.mls_meaning.specs.Kinds.{VarsFit}
 use Rattle.mls_meaning.specs.Laws.{IsItem}
-use Rattle.mls_meaning.specs.Meaning.{Item, set_var, perform, run_block}
+use Rattle.mls_meaning.specs.Meaning.{set_var, perform, run_block}
 use Rattle.mls_meaning.proofs.KeepingLemmas.{all_push}
 use Rattle.mls_meaning.proofs.KindLemmas.{set_kind, value_kind, assigned}
 use Rattle.mls_trusted.specs.declared.call.Call.{Call}

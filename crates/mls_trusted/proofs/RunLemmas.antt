@@ -1,8 +1,8 @@
 -- Blocks run a statement at a time, and loops a row at a time.
-use mathlib.Core.List.{reverse, reverse_aux}
-use Rattle.std.proofs.Common.{◌≡◌, ℕ, ◌<◌, ◌≤◌, ◌+◌, true, false, cond, List, [], ◌∷◌, ◌++◌, length, drop, take, get_or, Option, Result, Ok, Err, IfOk, OnOk, refl, sym, ap, ◌∙◌, subst}
+use mathlib.Core.List.{reverse}
+use Rattle.std.proofs.Common.{◌≡◌, ℕ, ◌<◌, ◌+◌, true, false, cond, List, [], ◌∷◌, ◌++◌, length, drop, take, get_or, Option, Result, Ok, Err, IfOk, OnOk, refl, sym, ap, ◌∙◌, subst}
 use Rattle.std.specs.List.{AllByRecursion}
-use Rattle.std.proofs.lemmas.List.{drop_more, take_more, take_all, reverse-append}
+use Rattle.std.proofs.lemmas.List.{drop_more, take_more, reverse-append}
 use Rattle.mls_lattice.specs.Labels.{Labels}
 use Rattle.mls_lattice.specs.Policy.{Name, labels_of}
 use Rattle.mls_scheme.specs.declared.value.Value.{Value}
@@ -23,7 +23,6 @@ use Rattle.mls_translang.proofs.BlockLemmas.{own_more, fits_more}
 use Rattle.mls_meaning.specs.Expressions.{holds_in}
 use Rattle.mls_meaning.specs.Kinds.{RowKinds}
 use Rattle.mls_meaning.specs.Meaning.{Progress, for_each, run_block}
-use Rattle.mls_meaning.proofs.KindLemmas.{loop_fits}
 use Rattle.mls_trusted.specs.declared.call.Call.{Call}
 use Rattle.mls_trusted.specs.declared.frame.Frame.{Frame}
 use Rattle.mls_trusted.specs.Runs.{with_database}
@@ -58,7 +57,7 @@ module _ (ls : Labels) (schemes : Schemes) (args : List (Option Value)) (around 
   run_none s = refl
 
   -- one more statement at the end
-  pub run_last : (xs : List Stmt) (x : Stmt) (s : Progress) → run_block ls schemes args (block_of (xs ++ x ∷ [])) around s ≡ run_block ls schemes args (block_of (x ∷ [])) around (run_block ls schemes args (block_of xs) around s)
+  run_last : (xs : List Stmt) (x : Stmt) (s : Progress) → run_block ls schemes args (block_of (xs ++ x ∷ [])) around s ≡ run_block ls schemes args (block_of (x ∷ [])) around (run_block ls schemes args (block_of xs) around s)
   run_last [] x s = ap (run_block ls schemes args (block_of (x ∷ [])) around) (run_none s)
   run_last (y ∷ ys) x s =
       run_more y (ys ++ x ∷ []) s ∙ run_last ys x (run_block ls schemes args (block_of (y ∷ [])) around s)
@@ -86,25 +85,6 @@ module _ (call : Call) (around : List Tuple) where
       let here : drop i xs ≡ x ∷ drop (i + 1) xs = drop_more xs i x within ∙ ap (λ y. y ∷ drop (i + 1) xs) (sym is) in
       may_more x (drop (i + 1) xs) (subst (λ l. MayRun call around (block_of l)) here m)
 
-  pub may_one : (guard : Expr) (one other : Block) → MayRun call around (If guard one other End) → MayRun call around one
-  may_one guard one other m = record { rows = m.rows; own = m.own.1; fits = m.fits.1; kinds = m.kinds.1; read = m.read }
-
-  pub may_other : (guard : Expr) (one other : Block) → MayRun call around (If guard one other End) → MayRun call around other
-  may_other guard one other m = record { rows = m.rows; own = m.own.2; fits = m.fits.2; kinds = m.kinds.2; read = m.read }
-
-  pub may_loop : (name : Name) (rel label : ℕ) (body : Block) → MayRun call around (For name rel label body End) → MayLoop call rel label around body
-  may_loop name rel label body m = record {
-    relation = m.fits.0;
-    label = m.fits.1;
-    each = λ row k. record {
-      rows = record { name = name; relation = rel } ∷ m.rows;
-      own = m.own.1;
-      fits = m.fits.2;
-      kinds = m.kinds.0;
-      read = loop_fits call.policy.now call.schemes.now call.tx.now.hi call.args.now (inside call m.rows) name rel row around m.read k;
-    };
-  }
-
   -- a body at each of some rows
   pub may_each : (rel label : ℕ) (body : Block) → MayLoop call rel label around body → (rs : List Tuple) → AllByRecursion (RowKinds (scheme_of call.schemes.now rel)) rs → AllByRecursion (λ row. MayRun call (row ∷ around) body) rs
   may_each rel label body m [] k = tt
@@ -125,12 +105,6 @@ pub loop_same : (call : Call) (name : Name) (rel label : ℕ) (body : Block) (ar
 unfolding run_block
 loop_same call name rel label body around s = refl
 
--- ---- rows
-
-reverse_one : (row : Tuple) → reverse (row ∷ []) ≡ row ∷ []
-unfolding reverse reverse_aux
-reverse_one row = refl
-
 -- ---- what is run
 
 module _ (call : Call) {B : Type 0} (is_clean : B → Type 0) (state : B → State) where
@@ -142,7 +116,7 @@ module _ (call : Call) {B : Type 0} (is_clean : B → Type 0) (state : B → Sta
   run_start run base f e h = record { ready = h; rows = refl; rest = λ k. refl; progress = λ k. e (progress_of (state base).now.db f) }
 
   -- one part after another
-  pub run_then : (first second run : Progress → Progress) (a b c : B) (f g h : Frame) → ((s : Progress) → run s ≡ second (first s)) → (is_clean c → is_clean b) → Ran first a b f g → Ran second b c g h → Ran run a c f h
+  run_then : (first second run : Progress → Progress) (a b c : B) (f g h : Frame) → ((s : Progress) → run s ≡ second (first s)) → (is_clean c → is_clean b) → Ran first a b f g → Ran second b c g h → Ran run a c f h
   run_then first second run a b c f g h e back p q = record {
     ready = q.ready;
     rows = q.rows ∙ p.rows;
@@ -151,11 +125,11 @@ module _ (call : Call) {B : Type 0} (is_clean : B → Type 0) (state : B → Sta
   }
 
   -- the same part, said otherwise
-  pub run_same : (one other : Progress → Progress) (a b : B) (f g : Frame) → ((db : Database) → one (progress_of db f) ≡ other (progress_of db f)) → Ran one a b f g → Ran other a b f g
+  run_same : (one other : Progress → Progress) (a b : B) (f g : Frame) → ((db : Database) → one (progress_of db f) ≡ other (progress_of db f)) → Ran one a b f g → Ran other a b f g
   run_same one other a b f g e p = record { ready = p.ready; rows = p.rows; rest = p.rest; progress = λ k. p.progress k ∙ e (state a).now.db }
 
   -- a part that leaves the base
-  pub run_step : (run : Progress → Progress) (a b : B) (f g : Frame) → b ≡ a → IsReady call is_clean state a f → IsStep call run f g → Ran run a b f g
+  run_step : (run : Progress → Progress) (a b : B) (f g : Frame) → b ≡ a → IsReady call is_clean state a f → IsStep call run f g → Ran run a b f g
   run_step run a b f g same h p = subst (λ (x : B). Ran run a x f g) (sym same) (record {
     ready = record { under = h.under; begun = h.begun; content = h.content; frame = p.frame };
     rows = p.rows;
@@ -172,29 +146,12 @@ module _ (call : Call) {B : Type 0} (is_clean : B → Type 0) (state : B → Sta
       (λ s. ap (λ l. run_of call (block_of l) (around_of f) s) more ∙ run_last (labels_of call.policy.now) call.schemes.now call.args.now (around_of f) (take i xs) x s)
       back p (subst (λ (around : List Tuple). Ran (run_of call (block_of (x ∷ [])) around) b c g h) (ap reverse p.rows) q)
 
-  -- all of them
-  pub run_stmts_end : (xs : List Stmt) (block : Block) (i : ℕ) → block_of xs ≡ block → length xs ≤ i → (a b : B) (f g : Frame)
-      → Ran (run_of call (block_of (take i xs)) (around_of f)) a b f g → Ran (run_of call block (around_of f)) a b f g
-  run_stmts_end xs block i whole past a b f g p =
-      let e : block_of (take i xs) ≡ block = ap block_of (take_all i xs past) ∙ whole in
-      subst (λ (l : Block). Ran (run_of call l (around_of f)) a b f g) e p
-
   -- one more row of a loop
   pub run_rows_more : (body : Block) (rows : List Tuple) (row : Tuple) (a b c : B) (f g h : Frame) → (is_clean c → is_clean b)
       → Ran (rows_of call body (around_of f) rows) a b f g → Ran (run_of call body (row ∷ around_of g)) b c g h → Ran (rows_of call body (around_of f) (rows ++ row ∷ [])) a c f h
   run_rows_more body rows row a b c f g h back p q =
       run_then _ _ _ a b c f g h (λ s. for_each_last (λ r t. run_of call body (r ∷ around_of f) t) rows row s) back p
       (subst (λ (around : List Tuple). Ran (run_of call body (row ∷ around)) b c g h) (ap reverse p.rows) q)
-
-  -- a loop over rows that were read before it
-  pub run_read : (rel label : ℕ) (body : Block) (rs : List Tuple) (a b c : B) (f g : Frame) → (is_clean b → rs ≡ rows (labels_of call.policy.now) label ((state a).now.db rel)) → (is_clean b → state b ≡ state a)
-      → (is_clean c → is_clean b) → Ran (rows_of call body (around_of f) rs) b c f g → Ran (loop_of call rel label body (around_of f)) a c f g
-  run_read rel label body rs a b c f g read same back p = record {
-    ready = p.ready;
-    rows = p.rows;
-    rest = λ k. p.rest k ∙ ap (λ s. with_database s (state c).now.db) (same (back k));
-    progress = λ k. p.progress k ∙ (λ j. rows_of call body (around_of f) (read (back k) j) (progress_of (same (back k) j).now.db f));
-  }
 
   -- the base may have been read
   pub ready_read : (a b : B) (f : Frame) → (is_clean b → is_clean a) → (state b).begun ≡ true → (is_clean b → state b ≡ state a) → IsReady call is_clean state a f → IsReady call is_clean state b f
@@ -217,19 +174,7 @@ module _ (call : Call) {B : Type 0} (is_clean : B → Type 0) (state : B → Sta
   }
 
   pub entered_around : (f g : Frame) (row : Tuple) → g.rows.items ≡ f.rows.items ++ row ∷ [] → row ∷ around_of f ≡ around_of g
-  entered_around f g row e = sym (ap reverse e ∙ reverse-append f.rows.items (row ∷ []) ∙ ap (λ l. l ++ reverse f.rows.items) (reverse_one row))
-
-  -- and leaving it
-  pub run_inside : (body : Block) (row : Tuple) (a b c : B) (f g h k : Frame) → b ≡ a → g ≡ record f { rows = g.rows } → g.rows.items ≡ f.rows.items ++ row ∷ []
-      → Ran (run_of call body (around_of g)) b c g h → k ≡ record h { rows = k.rows } → k.rows.items ≡ f.rows.items
-      → Ran (run_of call body (row ∷ around_of f)) a c f k
-  run_inside body row a b c f g h k same into more p out less =
-      subst (λ (x : B). Ran (run_of call body (row ∷ around_of f)) x c f k) same (record {
-        ready = entered c h k out p.ready;
-        rows = less;
-        rest = p.rest;
-        progress = λ e. ap (progress_of (state c).now.db) out ∙ p.progress e ∙ (λ i. run_of call body (sym (entered_around f g row more) i) (progress_of (state b).now.db (into i)));
-      })
+  entered_around f g row e = sym (ap reverse e ∙ reverse-append f.rows.items (row ∷ []))
 
   -- ---- at exits
 

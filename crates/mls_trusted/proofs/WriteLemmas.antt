@@ -1,10 +1,8 @@
 -- Writes of a run.
-use Rattle.std.proofs.Common.{◌≡◌, ℕ, ◌<◌, true, List, [], ◌∷◌, length, map, Option, refl, sym, ap, ◌∙◌, subst}
+use Rattle.std.proofs.Common.{◌≡◌, ℕ, true, length, Option, sym, ap, ◌∙◌, subst}
 use Rattle.mls_lattice.specs.Policy.{labels_of}
-use Rattle.mls_scheme.specs.declared.value.Value.{Value}
-use Rattle.mls_scheme.specs.declared.tuple.Tuple.{Tuple}
 use Rattle.mls_scheme.specs.Scheme.{scheme_of}
-use Rattle.mls_filterview.specs.Content.{State, with_relation}
+use Rattle.mls_filterview.specs.Content.{State}
 use Rattle.mls_filterview.specs.Stored.{IsContent, AreContent}
 use Rattle.mls_updates.specs.declared.outcome.Outcome.{Outcome}
 use Rattle.mls_updates.specs.Writes.{Write, WriteFits, WriteKinds, write}
@@ -54,13 +52,19 @@ module _ (call : Call) (f : Frame) (rel w : ℕ) (writing : Writing) (outcome : 
         λ j. record { db = (d.state j).now.db; vars = vars j; emitted = (v.emitted j).items; released = (v.released j).items }
 
     -- a write that was made, and its outcome kept
-    pub run_write : IsRun call is_clean state (run_of call block (around_of f)) a c f g
+    run_write : IsRun call is_clean state (run_of call block (around_of f)) a c f g
     run_write = record {
       ready = record { under = h.under; begun = begun; content = content; frame = vars_frame call (set_outcome outcome o (vars_of f)) f g v h.frame (outcome_kind (scope_of call.tx.now) outcome o (vars_of f) m.kinds.0.1 h.frame.vars) };
       rows = ap (λ x. x.items) v.rows;
       rest = λ k. (done k).state ∙ sym (ap (λ s. with_database (state a) s.now.db) (done k).state);
       progress = progress;
     }
+
+  -- a base that was lent before still holds content of the stored form
+  pub content_lent : {B : Type 0} (is_clean : B → Type 0) (state : B → State) (a b : B) → b ≡ a → IsReady call is_clean state a f → (is_clean b → is_clean a) → is_clean b
+      → IsContent (labels_of call.policy.now) (scheme_of call.schemes.now rel) ((state b).now.db rel)
+  content_lent is_clean state a b same h back k =
+      subst (λ x. IsContent (labels_of call.policy.now) (scheme_of call.schemes.now rel) ((state x).now.db rel)) (sym same) (h.content (back k) rel)
 
   -- the same, where the base was lent before, and the operands were copied
   pub run_written : {B : Type 0} (is_clean : B → Type 0) (state : B → State) (a b c : B) (g : Frame) (o : Outcome) (wr : Write) → b ≡ a → wr ≡ write_in (env_in call.args.now f) writing

@@ -1,8 +1,8 @@
 -- What the data of an evaluation stand for.
-use Rattle.std.specs.Prelude.{ℕ, Bool, true, false, ℤ, ◌+ℤ◌, ◌-ℤ◌, ◌*ℤ◌, Option, Some, None, List, reverse, is_none, slice_index_or}
+use Rattle.std.specs.Prelude.{Bool, ℤ, Option, Some, None, reverse, is_none, slice_index_or}
 use Rattle.std.specs.declared.cmp.Ordering.{Ordering}
 use Rattle.mls_scheme.specs.declared.value.Value.{Value}
-use Rattle.mls_scheme.specs.declared.value.Value.TheVariants.{Int, Text}
+use Rattle.mls_scheme.specs.declared.value.Value.TheVariants.{Int}
 use Rattle.mls_scheme.specs.Value.{value_cmp}
 use Rattle.mls_meaning.specs.Expressions.{Datum, Plain, Truth, Environment}
 use Rattle.mls_trusted.specs.declared.datum.Datum as of_datum

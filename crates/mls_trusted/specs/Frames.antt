@@ -13,7 +13,7 @@ use Rattle.mls_filterview.specs.Stored.{AreContent}
 use Rattle.mls_translang.specs.declared.row.Row.{Row}
 use Rattle.mls_translang.specs.Tree.{Block}
 use Rattle.mls_translang.specs.Scope.{Scope}
-use Rattle.mls_translang.specs.Tx.{Tx, scope_of, BlockIsOwn}
+use Rattle.mls_translang.specs.Tx.{scope_of, BlockIsOwn}
 use Rattle.mls_translang.specs.Kinds.{BlockKinds}
 use Rattle.mls_translang.specs.Fits.{IsLabel, BlockFits}
 use Rattle.mls_meaning.specs.Expressions.{Environment}

@@ -6,7 +6,7 @@ use Rattle.mls_translang.specs.Tree.{Do, If, For, Assign, Release, Emit, End}
 use Rattle.mls_translang.specs.Blocks.{block_of}
 use Rattle.mls_translang.proofs.BlockLemmas.{size_step}
 use Rattle.mls_meaning.specs.Expressions.{is_true, eval}
-use Rattle.mls_trusted.specs.Frames.{around_of, env_in, progress_of, MayRun, run_of, loop_of, IsReady, IsRun}
+use Rattle.mls_trusted.specs.Frames.{around_of, progress_of, MayRun, run_of, loop_of, IsReady, IsRun}
 use Rattle.mls_trusted.proofs.RunLemmas.{run_none, run_start, run_stmts, may_here, branch_one, branch_other, loop_same, run_rows_more, ok_same, ok_step, ready_read, may_each, entered, entered_around}
 use Rattle.mls_trusted.proofs.block.+run.Goals as goal
 
@@ -111,7 +111,7 @@ run_stmt-returns-in-For-clause-ran g t c =
     let x = c.in-For in
     subst (λ (s : Stmt). OnOk c.run_loop.result (IsRun call g.B.Base.is_clean g.B.Base.state (run_of call (block_of (s ∷ [])) (around_of f)) c.args.base.now c.run_loop.new.base f c.run_loop.new.frame)) (sym x.is)
     (ok_same call g.B.Base.is_clean g.B.Base.state c.run_loop.result (loop_of call x.relation x.label x.body (around_of f)) (run_of call (For x.row x.relation x.label x.body End) (around_of f))
-      c.args.base.now c.run_loop.new.base f c.run_loop.new.frame (λ db. loop_same call x.row x.relation x.label x.body (around_of f) (progress_of db f)) c.run_loop.ensures.ran)
+    c.args.base.now c.run_loop.new.base f c.run_loop.new.frame (λ db. loop_same call x.row x.relation x.label x.body (around_of f) (progress_of db f)) c.run_loop.ensures.ran)
 
 pub run_stmt-returns-in-Assign-clause-ran : goal.run_stmt-returns-in-Assign-clause-ran
 run_stmt-returns-in-Assign-clause-ran g t c =
@@ -120,7 +120,7 @@ run_stmt-returns-in-Assign-clause-ran g t c =
     let x = c.in-Assign in
     subst (λ (s : Stmt). OnOk c.made.result (IsRun call g.B.Base.is_clean g.B.Base.state (run_of call (block_of (s ∷ [])) (around_of f)) c.args.base.now c.made.new.base f c.assign.new.frame)) (sym x.is)
     (ok_step call g.B.Base.is_clean g.B.Base.state c.made.result c.assign.result (run_of call (Do (Assign x.variable x.value) End) (around_of f)) c.args.base.now c.made.new.base f c.assign.new.frame
-      c.requires.ready c.made.ensures.value c.made.ensures.same c.assign.ensures)
+    c.requires.ready c.made.ensures.value c.made.ensures.same c.assign.ensures)
 
 pub run_stmt-returns-in-Release-clause-ran : goal.run_stmt-returns-in-Release-clause-ran
 run_stmt-returns-in-Release-clause-ran g t c =
@@ -130,7 +130,7 @@ run_stmt-returns-in-Release-clause-ran g t c =
     let m = c.made-in-Release in
     subst (λ (s : Stmt). OnOk m.result (IsRun call g.B.Base.is_clean g.B.Base.state (run_of call (block_of (s ∷ [])) (around_of f)) c.args.base.now m.new.base f c.release.new.frame)) (sym x.is)
     (ok_step call g.B.Base.is_clean g.B.Base.state m.result c.release.result (run_of call (Do (Release x.value x.to x.into) End) (around_of f)) c.args.base.now m.new.base f c.release.new.frame
-      c.requires.ready m.ensures.value m.ensures.same c.release.ensures)
+    c.requires.ready m.ensures.value m.ensures.same c.release.ensures)
 
 pub run_stmt-returns-in-Emit-clause-ran : goal.run_stmt-returns-in-Emit-clause-ran
 run_stmt-returns-in-Emit-clause-ran g t c =
@@ -140,4 +140,4 @@ run_stmt-returns-in-Emit-clause-ran g t c =
     let m = c.made-in-Emit in
     subst (λ (s : Stmt). OnOk m.result (IsRun call g.B.Base.is_clean g.B.Base.state (run_of call (block_of (s ∷ [])) (around_of f)) c.args.base.now m.new.base f c.emit.new.frame)) (sym x.is)
     (ok_step call g.B.Base.is_clean g.B.Base.state m.result c.emit.result (run_of call (Do (Emit x.value x.label) End) (around_of f)) c.args.base.now m.new.base f c.emit.new.frame
-      c.requires.ready m.ensures.value m.ensures.same c.emit.ensures)
+    c.requires.ready m.ensures.value m.ensures.same c.emit.ensures)

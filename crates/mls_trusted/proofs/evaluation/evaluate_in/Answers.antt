@@ -1,4 +1,5 @@
-use Rattle.std.proofs.Common.{◌≡◌, [], IfOk, sym, ap, ◌∙◌, subst}
+use Rattle.std.proofs.Common.{◌≡◌, [], sym, ap, ◌∙◌, subst}
+use Rattle.std.proofs.lemmas.Result.{IfOk-at_ok}
 use Rattle.mls_lattice.specs.Policy.{labels_of}
 use Rattle.mls_scheme.specs.Table.{Database}
 use Rattle.mls_filterview.specs.Stored.{AreContent}
@@ -21,14 +22,14 @@ run_block-requires-clause-ready g c =
       under = c.requires.under;
       begun = ap (λ b. (g.B.Base.state b).begun) c.in_ok-frame.ensures.same ∙ c.requires.begun;
       content = λ k. subst (λ b. AreContent (labels_of c.args.policy.now) c.args.schemes.now (g.B.Base.state b).now.db) (sym c.in_ok-frame.ensures.same) (c.requires.content (c.in_ok-frame.ensures.call.clean k));
-      frame = subst (λ r. IfOk r (IsFrame call)) c.in_ok-frame.ensures.value c.new.ensures.frame;
+      frame = IfOk-at_ok (IsFrame call) c.in_ok-frame.ensures.value c.new.ensures.frame;
     }
 
 pub run_block-requires-clause-may : goal.run_block-requires-clause-may
 run_block-requires-clause-may g c =
     let call : Call = record { alloc = c.args.alloc; policy = c.args.policy; schemes = c.args.schemes; tx = c.tx.result; args = c.args.args } in
     let f = c.in_ok-frame.frame in
-    let none = subst (λ r. IfOk r (λ (x : Frame). x.rows.items ≡ [])) c.in_ok-frame.ensures.value c.new.ensures.rows in
+    let none = IfOk-at_ok (λ (x : Frame). x.rows.items ≡ []) c.in_ok-frame.ensures.value c.new.ensures.rows in
     subst (MayRun call (around_of f)) (sym c.body.ensures.body)
     (start_may call c.body.ensures.valid (subst (IsReadUnder c.args.policy.now c.args.schemes.now) (sym c.tx.ensures) c.requires.read) (subst (λ (x : Tx). ArgsFit x c.args.args.now) (sym c.tx.ensures) c.requires.args) f none)
 
@@ -43,8 +44,8 @@ returns-clause-done g c = λ clean.
     let f = c.in_ok-frame.frame in
     let state = g.B.Base.state in
     let ls = labels_of c.args.policy.now in
-    let none = subst (λ r. IfOk r (λ (x : Frame). x.rows.items ≡ [])) c.in_ok-frame.ensures.value c.new.ensures.rows in
-    let first = subst (λ r. IfOk r (λ (x : Frame). (db : Database) → progress_of db x ≡ start db)) c.in_ok-frame.ensures.value c.new.ensures.start in
+    let none = IfOk-at_ok (λ (x : Frame). x.rows.items ≡ []) c.in_ok-frame.ensures.value c.new.ensures.rows in
+    let first = IfOk-at_ok (λ (x : Frame). (db : Database) → progress_of db x ≡ start db) c.in_ok-frame.ensures.value c.new.ensures.start in
     let ran = subst (λ (x : Block). IsRun call g.B.Base.is_clean state (run_of call x (around_of f)) c.made.new.base c.run_block.new.base f c.run_block.new.frame) c.body.ensures.body c.in_ok-run_block.ensures.ran in
     let evaluated = gives_run call g.B.Base.is_clean state c.made.new.base c.run_block.new.base f c.run_block.new.frame c.into_run.result first none ran c.into_run.ensures.emitted c.into_run.ensures.released clean in
     subst (λ (x : Tx). let run = run_tx ls c.args.schemes.now x c.args.args.now (state c.args.base.now).now.db in IsEvaluated run (with_database (state c.args.base.now) run.db) (state c.run_block.new.base) c.into_run.result) c.tx.ensures

@@ -1,11 +1,15 @@
-use Rattle.std.proofs.Common.{length, [], sym, ◌∙◌, subst}
+use Rattle.std.proofs.Common.{◌≡◌, Bool, false, length, [], sym, ◌∙◌, subst}
+use Rattle.std.specs.Prelude.{IsTrue}
 use Rattle.std.specs.List.{AllByRecursion}
-use Rattle.mls_lattice.specs.Policy.{labels_of}
+use Rattle.std.proofs.lemmas.Bool.{true≢false}
 use Rattle.mls_scheme.specs.Scheme.{Scheme, scheme_of}
 use Rattle.mls_meaning.specs.Kinds.{RowKinds}
 use Rattle.mls_meaning.proofs.KindLemmas.{rows_kinds}
-use Rattle.mls_trusted.proofs.FittingLemmas.{not_both}
 use Rattle.mls_trusted.proofs.fitting.rows_at.Goals as goal
+
+-- a test that holds does not fail
+not_both : (b : Bool) → IsTrue b → b ≡ false → ⊥
+not_both b h e = true≢false (sym h ∙ e)
 
 pub view-requires-clause-stored : goal.view-requires-clause-stored
 view-requires-clause-stored g c = λ clean. (length (scheme_of c.args.call.now.schemes.now c.args.relation).others, (c.requires.content clean c.args.relation).stored)

@@ -1,10 +1,9 @@
-use Rattle.std.proofs.Common.{◌≡◌, ◌<◌, true, map, length, IfOk, sym, ◌∙◌, subst}
+use Rattle.std.proofs.Common.{◌≡◌, ◌<◌, true, map, length, sym, ◌∙◌, subst}
 use Rattle.std.specs.List.{AllByRecursion}
-use Rattle.mls_lattice.specs.Policy.{labels_of}
+use Rattle.std.proofs.lemmas.Result.{IfOk-at_ok}
 use Rattle.mls_scheme.specs.Value.{fits_kind}
 use Rattle.mls_scheme.specs.Scheme.{scheme_of, other_of}
 use Rattle.mls_scheme.specs.Fits.{HaveKinds}
-use Rattle.mls_filterview.specs.Stored.{IsContent}
 use Rattle.mls_updates.specs.Writes.{Update}
 use Rattle.mls_translang.specs.Tree.{Do, Write_at, Updating, End}
 use Rattle.mls_meaning.specs.Expressions.{value_in}
@@ -12,7 +11,7 @@ use Rattle.mls_meaning.specs.Meaning.{values_set}
 use Rattle.mls_meaning.proofs.KindLemmas.{values_kinds}
 use Rattle.mls_trusted.specs.Frames.{env_in, inside}
 use Rattle.mls_trusted.proofs.FrameLemmas.{env_fits}
-use Rattle.mls_trusted.proofs.WriteLemmas.{operands_fit, operands_kinds, run_written}
+use Rattle.mls_trusted.proofs.WriteLemmas.{content_lent, operands_fit, operands_kinds, run_written}
 use Rattle.mls_trusted.proofs.write.update_at.Goals as goal
 
 pub update-requires-clause-named : goal.update-requires-clause-named
@@ -20,7 +19,7 @@ update-requires-clause-named g c =
     let call = c.args.call.now in
     let f = c.args.frame.now in
     let env = env_in call.args.now f in
-    let ops = subst (λ r. IfOk r (λ x. (x.0.items ≡ map (value_in env) c.args.key.now) × (x.1.items ≡ values_set env c.args.sets.now))) c.in_ok-key.ensures.value c.update_operands.ensures in
+    let ops = IfOk-at_ok (λ x. (x.0.items ≡ map (value_in env) c.args.key.now) × (x.1.items ≡ values_set env c.args.sets.now)) c.in_ok-key.ensures.value c.update_operands.ensures in
     let fits = operands_fit call f c.args.relation c.args.at (Updating c.args.key.now c.args.key_class c.args.from c.args.sets.now) c.args.outcome c.requires.ready.frame c.requires.may in
     subst (λ ss. 0 < length ss) (sym (c.deref-2.ensures.value ∙ ops.1)) fits.1
 
@@ -29,7 +28,7 @@ update-requires-clause-fits g c =
     let call = c.args.call.now in
     let f = c.args.frame.now in
     let env = env_in call.args.now f in
-    let ops = subst (λ r. IfOk r (λ x. (x.0.items ≡ map (value_in env) c.args.key.now) × (x.1.items ≡ values_set env c.args.sets.now))) c.in_ok-key.ensures.value c.update_operands.ensures in
+    let ops = IfOk-at_ok (λ x. (x.0.items ≡ map (value_in env) c.args.key.now) × (x.1.items ≡ values_set env c.args.sets.now)) c.in_ok-key.ensures.value c.update_operands.ensures in
     let fits = operands_fit call f c.args.relation c.args.at (Updating c.args.key.now c.args.key_class c.args.from c.args.sets.now) c.args.outcome c.requires.ready.frame c.requires.may in
     subst (AllByRecursion (λ s. s.0 < length (scheme_of call.schemes.now c.args.relation).others)) (sym (c.deref-2.ensures.value ∙ ops.1)) fits.2
 
@@ -40,7 +39,7 @@ update-requires-clause-key g c =
     let env = env_in call.args.now f in
     let scheme = scheme_of call.schemes.now c.args.relation in
     let block = Do (Write_at c.args.relation c.args.at (Updating c.args.key.now c.args.key_class c.args.from c.args.sets.now) c.args.outcome) End in
-    let ops = subst (λ r. IfOk r (λ x. (x.0.items ≡ map (value_in env) c.args.key.now) × (x.1.items ≡ values_set env c.args.sets.now))) c.in_ok-key.ensures.value c.update_operands.ensures in
+    let ops = IfOk-at_ok (λ x. (x.0.items ≡ map (value_in env) c.args.key.now) × (x.1.items ≡ values_set env c.args.sets.now)) c.in_ok-key.ensures.value c.update_operands.ensures in
     let kinds = values_kinds call.policy.now call.schemes.now call.tx.now.hi (inside call c.requires.may.rows) env (env_fits call f block c.requires.ready.frame c.requires.may) scheme.keys c.args.key.now c.requires.may.kinds.0.0.0 in
     subst (HaveKinds scheme.keys) (sym (c.deref.ensures.value ∙ ops.0)) kinds
 
@@ -50,22 +49,21 @@ update-requires-clause-kinds g c =
     let f = c.args.frame.now in
     let env = env_in call.args.now f in
     let scheme = scheme_of call.schemes.now c.args.relation in
-    let ops = subst (λ r. IfOk r (λ x. (x.0.items ≡ map (value_in env) c.args.key.now) × (x.1.items ≡ values_set env c.args.sets.now))) c.in_ok-key.ensures.value c.update_operands.ensures in
+    let ops = IfOk-at_ok (λ x. (x.0.items ≡ map (value_in env) c.args.key.now) × (x.1.items ≡ values_set env c.args.sets.now)) c.in_ok-key.ensures.value c.update_operands.ensures in
     let kinds = operands_kinds call f c.args.relation c.args.at (Updating c.args.key.now c.args.key_class c.args.from c.args.sets.now) c.args.outcome c.requires.ready.frame c.requires.may in
     subst (AllByRecursion (λ s. fits_kind s.1 (other_of scheme s.0).kind ≡ true)) (sym (c.deref-2.ensures.value ∙ ops.1)) kinds
 
 pub update-requires-clause-stored : goal.update-requires-clause-stored
-update-requires-clause-stored g c = λ clean.
-    let call = c.args.call.now in
-    subst (λ b. IsContent (labels_of call.policy.now) (scheme_of call.schemes.now c.args.relation) ((g.B.Base.state b).now.db c.args.relation)) (sym c.in_ok-key.ensures.same)
-    (c.requires.ready.content (c.in_ok-key.ensures.call.clean clean) c.args.relation)
+update-requires-clause-stored g c =
+    content_lent c.args.call.now c.args.frame.now c.args.relation c.args.at (Updating c.args.key.now c.args.key_class c.args.from c.args.sets.now) c.args.outcome
+    g.B.Base.is_clean g.B.Base.state c.args.base.now c.made.new.base c.in_ok-key.ensures.same c.requires.ready c.in_ok-key.ensures.call.clean
 
 pub returns-clause-ran : goal.returns-clause-ran
 returns-clause-ran g c =
     let call = c.args.call.now in
     let f = c.args.frame.now in
     let env = env_in call.args.now f in
-    let ops = subst (λ r. IfOk r (λ x. (x.0.items ≡ map (value_in env) c.args.key.now) × (x.1.items ≡ values_set env c.args.sets.now))) c.in_ok-key.ensures.value c.update_operands.ensures in
+    let ops = IfOk-at_ok (λ x. (x.0.items ≡ map (value_in env) c.args.key.now) × (x.1.items ≡ values_set env c.args.sets.now)) c.in_ok-key.ensures.value c.update_operands.ensures in
     let key = c.deref.ensures.value ∙ ops.0 in
     let sets = c.deref-2.ensures.value ∙ ops.1 in
     run_written call f c.args.relation c.args.at (Updating c.args.key.now c.args.key_class c.args.from c.args.sets.now) c.args.outcome g.B.Base.is_clean g.B.Base.state c.args.base.now c.made.new.base c.update.new.base

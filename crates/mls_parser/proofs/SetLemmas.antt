@@ -3,8 +3,10 @@ use Rattle.std.proofs.Common.{◌≡◌, ℕ, zero, suc, ◌+◌, ◌<◌, ◌�
 use Rattle.std.specs.Prelude.{option_to_list}
 use Rattle.std.specs.Option.{IfSome}
 use Rattle.std.specs.List.{list_any}
+use Rattle.std.specs.Cmp.{nat_eq_equiv}
 use Rattle.std.proofs.Math.ListN.{length-set}
 use Rattle.std.proofs.lemmas.Bool.{cases_eq}
+use Rattle.std.proofs.lemmas.Bool.Decides.{nat_tests}
 use Rattle.std.proofs.lemmas.List.{drop_more, append-nil, get_or_past}
 use Rattle.std.proofs.lemmas.List.Folds.{list_any-append}
 use Rattle.std.proofs.Math.ListN.{drop_of_length-le}
@@ -26,14 +28,10 @@ abbrev pub Marks : ℕ → List Bool → List ℕ → Type 0
 Marks n marks seen = (i : ℕ) → i < n → get_or marks i false ≡ list_any (nat_eq i) seen
 
 nat_eq-refl : (n : ℕ) → nat_eq n n ≡ true
-nat_eq-refl zero = refl
-nat_eq-refl (suc n) = nat_eq-refl n
+nat_eq-refl n = nat_eq_equiv.refl n
 
 nat_eq-other : (m n : ℕ) → (m ≡ n → ⊥) → nat_eq m n ≡ false
-nat_eq-other zero zero d = absurd (d refl)
-nat_eq-other zero (suc n) d = refl
-nat_eq-other (suc m) zero d = refl
-nat_eq-other (suc m) (suc n) d = nat_eq-other m n (λ e. d (ap (λ k. suc k) e))
+nat_eq-other m n d = grind (arith, nat_tests, d)
 
 or_true : (b : Bool) → (b || true) ≡ true
 or_true true = refl

@@ -149,14 +149,15 @@ module _ (p : Place) where
     sets_right seen [] d l h = record { each = tt; apart = rw (append-nil seen) d }
     sets_right seen (x ∷ sets) d l h =
         let t = neither (set_faults p scheme (is_among seen (other_named scheme x.0.0)) (other_named scheme x.0.0) x) _ h in
-        go (other_named scheme x.0.0) refl t.0 t.1
+        go (other_named scheme x.0.0) refl t.0 (λ i apart none. sets_right (seen ++ i ∷ []) sets apart l.1 none) t.1
       where
-        go : (o : Option ℕ) → other_named scheme x.0.0 ≡ o → set_faults p scheme (is_among seen o) o x ≡ [] → sets_faults p scheme (seen ++ option_to_list o) sets ≡ []
-            → AreRightSets seen ((numbered o, expr p x.1) ∷ map (set p scheme) sets)
-        go None is a b = absurd cc
-        go (Some i) is a b =
+        go : (o : Option ℕ) → other_named scheme x.0.0 ≡ o → set_faults p scheme (is_among seen o) o x ≡ []
+            → ((i : ℕ) → IsDistinct nat_eq (seen ++ i ∷ []) → sets_faults p scheme (seen ++ i ∷ []) sets ≡ [] → AreRightSets (seen ++ i ∷ []) (map (set p scheme) sets))
+            → sets_faults p scheme (seen ++ option_to_list o) sets ≡ [] → AreRightSets seen ((numbered o, expr p x.1) ∷ map (set p scheme) sets)
+        go None is a right b = absurd cc
+        go (Some i) is a right b =
             let one = one_set (list_any (nat_eq i) seen) (Some i) x is l.0 a in
-            let more = sets_right (seen ++ i ∷ []) sets (IsDistinct-push nat_eq_equiv seen i d one.1) l.1 b in
+            let more = right i (IsDistinct-push nat_eq_equiv seen i d one.1) b in
             record { each = (one.0, more.each); apart = subst (IsDistinct nat_eq) (append_assoc seen (i ∷ []) (map (λ x. x.0) (map (set p scheme) sets))) more.apart }
 
     none_apart : IsDistinct nat_eq []

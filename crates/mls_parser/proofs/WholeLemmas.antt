@@ -56,11 +56,12 @@ module _ {X : Type 0} (test : X → Bool) where
 
   any_within : (xs : List X) → nat_lt (prefix_len (λ x. not (test x)) xs) (length xs) ≡ list_any test xs
   any_within [] = refl
-  any_within (x ∷ xs) = go (test x)
+  any_within (x ∷ xs) = go (test x) (any_within xs)
     where
-      go : (b : Bool) → nat_lt (cond (not b) (1 + prefix_len (λ x. not (test x)) xs) 0) (suc (length xs)) ≡ (b || list_any test xs)
-      go true = none_below (length xs)
-      go false = shifted (prefix_len (λ x. not (test x)) xs) (length xs) ∙ any_within xs
+      go : (b : Bool) → nat_lt (prefix_len (λ x. not (test x)) xs) (length xs) ≡ list_any test xs
+          → nat_lt (cond (not b) (1 + prefix_len (λ x. not (test x)) xs) 0) (suc (length xs)) ≡ (b || list_any test xs)
+      go true e = none_below (length xs)
+      go false e = shifted (prefix_len (λ x. not (test x)) xs) (length xs) ∙ e
 
   pub some_position : (xs : List X) → is_some (position test xs) ≡ list_any test xs
   some_position xs = is_some-cond (nat_lt (prefix_len (λ x. not (test x)) xs) (length xs)) (prefix_len (λ x. not (test x)) xs) ∙ any_within xs
@@ -244,7 +245,7 @@ module _ (params : List (Name × Parameter)) where
 
 module _ (policy : Tables) (schemes : Schemes) where
   pub record IsRightTx (earlier : List Name) (tx : Transaction) : Type 0 where
-    pub tx : IsTx (transaction policy schemes tx)
+    pub is_tx : IsTx (transaction policy schemes tx)
     pub read : IsReadUnder policy schemes (transaction policy schemes tx)
     pub new : list_any (bytes_eq tx.name.0) earlier ≡ false
 
@@ -268,7 +269,7 @@ module _ (policy : Tables) (schemes : Schemes) where
       let vars = vars_right ps [] tx.vars (record { names = tt; apart = subst (IsDistinct bytes_eq) (sym (append-nil (names_of ps))) params.apart }) l.vars w.0 in
       let body = block_right (outermost policy schemes tx) tx.body l.parts w.1 in
       record {
-        tx = record {
+        is_tx = record {
           name = l.name;
           names = all_append IsNamed (names_of ps) (names_of (vars_from [] tx.vars)) params.names vars.names;
           apart = vars.apart;
@@ -305,7 +306,7 @@ module _ (policy : Tables) (schemes : Schemes) where
       let one = tx_right earlier tx l.0 t.0 in
       let more = all_right (earlier ++ tx.name.0 ∷ []) txs (IsDistinct-push nat_list_eq_equiv earlier tx.name.0 d one.new) l.1 t.1 in
       record {
-        each = (one.tx, more.each);
+        each = (one.is_tx, more.each);
         read = (one.read, more.read);
         apart = subst (IsDistinct bytes_eq) (append_assoc earlier (tx.name.0 ∷ []) (map (λ x. x.name) (map (transaction policy schemes) txs))) more.apart;
       }

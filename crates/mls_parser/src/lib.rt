@@ -12,9 +12,9 @@ mod fault;
 mod header;
 mod inferred;
 mod names;
-mod parse;
+mod parser;
 mod stmt;
 mod transaction;
 
 pub use fault::{TextCause, TextFault};
-pub use parse::parse;
+pub use parser::parse;

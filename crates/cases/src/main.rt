@@ -2,6 +2,7 @@
 #![tactic(auto)]
 
 mod block;
+mod certificates;
 mod desk;
 mod documents;
 mod entries;

@@ -1,6 +1,7 @@
 //! The tables, in the order in which they are told.
 use crate::{
-    documents, entries, keys, limits, lookups, policies, reads, schemes, scripts, views, writers,
+    certificates, documents, entries, keys, limits, lookups, policies, reads, schemes, scripts,
+    views, writers,
 };
 use std::alloc::{AllocError, Global};
 use std::rt::Files;
@@ -22,9 +23,10 @@ pub enum Table {
     Scripts,
     Commands,
     Writers,
+    Certificates,
 }
 
-pub const TABLES: [Table; 13] = [
+pub const TABLES: [Table; 14] = [
     Table::Policies,
     Table::Schemes,
     Table::Documents,
@@ -38,6 +40,7 @@ pub const TABLES: [Table; 13] = [
     Table::Scripts,
     Table::Commands,
     Table::Writers,
+    Table::Certificates,
 ];
 
 /// The policy and the schemes that other tables are read under.
@@ -63,6 +66,7 @@ impl Table {
             Table::ScriptFaults => "script_faults.txt",
             Table::Commands => "commands.txt",
             Table::Writers => "writers.txt",
+            Table::Certificates => "certificates.txt",
         }
     }
 }
@@ -102,5 +106,6 @@ fn tell_cases<R: Files + AllocGlobal>(
         Table::Scripts => scripts::tell(rt, text, out),
         Table::Commands => scripts::tell_commands(rt, text, out),
         Table::Writers => writers::tell(rt, text, out),
+        Table::Certificates => certificates::tell(rt.alloc(), text, out),
     }
 }

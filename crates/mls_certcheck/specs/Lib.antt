@@ -4,3 +4,4 @@ pub mod Rules
 pub mod Checks
 pub mod Rows
 pub mod Walk
+pub mod Certified

@@ -1,18 +1,23 @@
 ghost use Rattle.std.specs.Prelude.{◌≡◌, Err, IfOk, IfErr};
 ghost use Rattle.mls_certcheck.specs.Rules.{Rules, claim};
 ghost use Rattle.mls_certcheck.specs.Checks.{First};
+ghost use Rattle.mls_certcheck.specs.Certified.{Rules-prop};
 
 use crate::checking::check;
 use crate::refusal::Refusal;
 use mls_certificate::Cert;
 use mls_lattice::Policy;
 use mls_translang::Tx;
+use std::snapshot::Snapshot;
 
-/// A transaction that was checked, with its certificate.
+/// A transaction that was checked, with its certificate. Contracts see of it the policy that it was checked under, too, and
+/// that the rules hold under that policy.
 #[derive(Drop)]
 pub struct Certified {
     tx: Tx,
     cert: Cert,
+    policy: Snapshot<Policy>,
+    pub ghost rules: { Rules (claim policy.value tx cert) } by { Rules-prop (claim policy.value tx cert) },
 }
 
 impl Certified {
@@ -20,11 +25,15 @@ impl Certified {
     pub fn new(policy: &Policy, tx: Tx, cert: Cert) -> Result<Certified, (Tx, Cert, Refusal)>
         ensures kept { IfOk result (λ k. (k.tx ≡ tx) × (k.cert ≡ cert)) }
         ensures rules { IfOk result (λ k. Rules (claim policy.now tx cert)) }
+        ensures policy { IfOk result (λ k. k.policy.value ≡ policy.now) }
         ensures back { IfErr result (λ e. (e.0 ≡ tx) × (e.1 ≡ cert)) }
         ensures first { IfErr result (λ e. First (claim policy.now tx cert) ≡ Err e.2) }
     {
         match check(policy, &tx, &cert) {
-            Ok(()) => Ok(Certified { tx, cert }),
+            Ok(()) => {
+                let policy = Snapshot::of(policy);
+                Ok(Certified { tx, cert, policy })
+            }
             Err(refusal) => Err((tx, cert, refusal)),
         }
     }

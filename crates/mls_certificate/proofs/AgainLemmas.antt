@@ -27,10 +27,10 @@ done x = Ok x
 
 -- ---- bytes above a mark are cut nowhere
 
-abbrev Above : ℕ → List ℕ → Type 0
+abbrev pub Above : ℕ → List ℕ → Type 0
 Above m bytes = AllByRecursion (λ b. m < b) bytes
 
-Above-append : (m : ℕ) (xs ys : List ℕ) → Above m xs → Above m ys → Above m (xs ++ ys)
+pub Above-append : (m : ℕ) (xs ys : List ℕ) → Above m xs → Above m ys → Above m (xs ++ ys)
 Above-append m [] ys p q = q
 Above-append m (x ∷ xs) ys p q = (p.0, Above-append m xs ys p.1 q)
 
@@ -42,7 +42,7 @@ unmarked : (m : ℕ) (xs : List ℕ) → Above m xs → AllByRecursion (λ b. (b
 unmarked m [] p = tt
 unmarked m (x ∷ xs) p = (ne_eqb x m (λ e. omega (arith, p.0)), unmarked m xs p.1)
 
-no_mark : (m : ℕ) (xs : List ℕ) → Above m xs → All (λ b. (b == m) ≡ false) xs
+pub no_mark : (m : ℕ) (xs : List ℕ) → Above m xs → All (λ b. (b == m) ≡ false) xs
 no_mark m xs p = All-from_recursion (λ b. (b == m) ≡ false) xs (unmarked m xs p)
 
 digits_above : (ds : List ℕ) → AllDigits 10 ds → Above 32 ds
@@ -65,7 +65,7 @@ label_above l is =
     let digits = digits_above (decimal l.rank) (decimal_is_IsNumeral l.rank (omega (arith, is.0))).0.1 in
     Above-append 32 (decimal l.rank ++ codes ":") (flat_map byte_text (to_be_bytes w32 l.cats)) (Above-append 32 (decimal l.rank) (codes ":") digits (omega arith, tt)) (bytes_above (to_be_bytes w32 l.cats))
 
-labels_above : (ls : List Label) → AllByRecursion IsLabel ls → Above 10 (flat_map spaced_label ls)
+pub labels_above : (ls : List Label) → AllByRecursion IsLabel ls → Above 10 (flat_map spaced_label ls)
 labels_above [] is = tt
 labels_above (l ∷ ls) is = Above-append 10 (spaced_label l) (flat_map spaced_label ls) (omega arith, Above-lower 10 32 (label_text l) (omega arith) (label_above l is.0)) (labels_above ls is.1)
 
@@ -169,13 +169,13 @@ words_again word (l ∷ ls) above is =
     slice_split_at (λ b. b == 32) word 32 (label_text l ++ flat_map spaced_label ls) (no_mark 32 word above) refl
     ∙ ap (λ (ps : List (List ℕ)). word ∷ ps) (words_again (label_text l) ls (label_above l is.0) is.1)
 
-vars_again : (line : ℕ) (ls : List Label) → AllByRecursion IsLabel ls → line_in (codes "vars") line (codes "vars" ++ flat_map spaced_label ls) ≡ Ok ls
+pub vars_again : (line : ℕ) (ls : List Label) → AllByRecursion IsLabel ls → line_in (codes "vars") line (codes "vars" ++ flat_map spaced_label ls) ≡ Ok ls
 unfolding worded_in
 vars_again line ls is =
     ap (worded_in (codes "vars") line) (words_again (codes "vars") ls (omega arith, (omega arith, (omega arith, (omega arith, tt)))) is)
     ∙ labels_again line [] ls is
 
-pcs_again : (line : ℕ) (ls : List Label) → AllByRecursion IsLabel ls → line_in (codes "pcs") line (codes "pcs" ++ flat_map spaced_label ls) ≡ Ok ls
+pub pcs_again : (line : ℕ) (ls : List Label) → AllByRecursion IsLabel ls → line_in (codes "pcs") line (codes "pcs" ++ flat_map spaced_label ls) ≡ Ok ls
 unfolding worded_in
 pcs_again line ls is =
     ap (worded_in (codes "pcs") line) (words_again (codes "pcs") ls (omega arith, (omega arith, (omega arith, tt))) is)

@@ -25,7 +25,7 @@ use Rattle.mls_certificate.specs.declared.fault.CertCause.TheVariants.{Label as 
 use Rattle.mls_certificate.specs.Reading.{Gives, refused, pieces, is_decimal, number_in, rank_in, digit_in, byte_in, bytes_in, cats_in, label_in, labels_in, worded_in, line_in, cert_in, is_end, cert_at, text_in}
 use Rattle.mls_certificate.specs.Spelling.{byte_text, label_text, spaced_label, labels_line, cert_text, IsLabel, IsCert}
 
-ok_is : {A : Type 0} (x y : A) → done x ≡ done y → x ≡ y
+pub ok_is : {A : Type 0} (x y : A) → done x ≡ done y → x ≡ y
 ok_is x y e = cc
 
 -- ---- ranks
@@ -143,7 +143,7 @@ cats_found line text c e =
 
 -- ---- labels
 
-at_place : (k : ℕ) (xs : List ℕ) → k < length xs → xs ≡ take k xs ++ slice_index xs k ∷ drop (k + 1) xs
+pub at_place : (k : ℕ) (xs : List ℕ) → k < length xs → xs ≡ take k xs ++ slice_index xs k ∷ drop (k + 1) xs
 at_place k [] l = absurd (omega arith)
 at_place zero (x ∷ xs) l = refl
 at_place (suc k) (x ∷ xs) l =
@@ -205,12 +205,12 @@ line_found word line text ls e = let f = worded_found word line (pieces 32 text)
 
 -- ---- certificates
 
-record CertFound (c : Cert) (vars pcs : List ℕ) : Type 0 where
-  is : IsCert c
-  vars_text : vars ≡ codes "vars" ++ flat_map spaced_label c.var_labels
-  pcs_text : pcs ≡ codes "pcs" ++ flat_map spaced_label c.pc_labels
+pub record CertFound (c : Cert) (vars pcs : List ℕ) : Type 0 where
+  pub is : IsCert c
+  pub vars_text : vars ≡ codes "vars" ++ flat_map spaced_label c.var_labels
+  pub pcs_text : pcs ≡ codes "pcs" ++ flat_map spaced_label c.pc_labels
 
-lines_found : (line : ℕ) (vars pcs : List ℕ) (c : Cert) → cert_in line vars pcs ≡ Ok c → CertFound c vars pcs
+pub lines_found : (line : ℕ) (vars pcs : List ℕ) (c : Cert) → cert_in line vars pcs ≡ Ok c → CertFound c vars pcs
 unfolding cert_in
 lines_found line vars pcs c e =
     let v = bind_ok (line_in (codes "vars") line vars) _ c e in

@@ -1,4 +1,5 @@
 pub mod AgainLemmas
+pub mod FileLemmas
 pub mod FoundLemmas
 pub mod LabelLemmas
 pub mod NameLemmas

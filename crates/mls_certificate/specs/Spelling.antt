@@ -45,8 +45,12 @@ IsCert c = AllByRecursion IsLabel c.var_labels × AllByRecursion IsLabel c.pc_la
 abbrev pub AreUnambiguous : Type 0
 AreUnambiguous = (c d : Cert) → IsCert c → IsCert d → cert_text c ≡ cert_text d → c ≡ d
 
--- certificates of transactions of different names
+-- certificates, of transactions of different names
 pub record IsFile (blocks : List (List ℕ × Cert)) : Type 0 where
   pub names : AllByRecursion (λ b. is_name b.0 ≡ true) blocks
   pub distinct : IsDistinct bytes_eq (map (λ b. b.0) blocks)
   pub certs : AllByRecursion (λ b. IsCert b.1) blocks
+
+-- no two such lists have one text
+abbrev pub FilesAreUnambiguous : Type 0
+FilesAreUnambiguous = (bs cs : List (List ℕ × Cert)) → IsFile bs → IsFile cs → file_text bs ≡ file_text cs → bs ≡ cs

@@ -1,7 +1,7 @@
 //! Certificates of transactions, and the text in which they are kept.
 #![tactic(auto)]
 
-ghost use Rattle.mls_certificate.specs.Spelling.{AreUnambiguous};
+ghost use Rattle.mls_certificate.specs.Spelling.{AreUnambiguous, FilesAreUnambiguous};
 
 mod cert;
 mod fault;
@@ -18,4 +18,9 @@ pub use reading::certs_read;
 /// No two certificates have one text.
 pub fn certificates_are_unambiguous()
     ensures { AreUnambiguous }
+{}
+
+/// No two files have one text.
+pub fn files_are_unambiguous()
+    ensures { FilesAreUnambiguous }
 {}

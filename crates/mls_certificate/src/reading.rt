@@ -1,9 +1,9 @@
 //! Certificates, and files of them.
-ghost use Rattle.std.specs.Prelude.{◌≡◌, ◌<◌, ◌+◌, IfOk, IsSome, None, Ok, ◌^◌, map, length, []};
+ghost use Rattle.std.specs.Prelude.{◌≡◌, ◌<◌, ◌+◌, IfOk, IsSome, List, None, Ok, ◌^◌, map, length, []};
 ghost use Rattle.mls_certificate.specs.declared.cert.Cert.{Cert as SpecCert};
 ghost use Rattle.mls_certificate.specs.declared.fault.CertCause.TheVariants.{Line};
-ghost use Rattle.mls_certificate.specs.Reading.{is_end, Gives, cert_in, cert_at, block_in, end_in, step_in, blocks_in, file_in, text_in};
-ghost use Rattle.mls_certificate.specs.Spelling.{IsCert, cert_text};
+ghost use Rattle.mls_certificate.specs.Reading.{Block, is_end, Gives, cert_in, cert_at, block_in, end_in, step_in, blocks_in, file_in, text_in};
+ghost use Rattle.mls_certificate.specs.Spelling.{IsCert, IsFile, cert_text, file_text};
 
 use crate::cert::Cert;
 use crate::fault::{CertCause, CertFault};
@@ -161,11 +161,21 @@ impl Cert {
     }
 }
 
-/// Reads a file of certificates, each with the name of its transaction.
-pub fn certs_read(alloc: Global, bytes: &[u8]) -> Result<Vec<(Str, Cert)>, CertFault>
-    // The first fault, or what is read.
-    ensures exact { Gives (λ v. v.items) result (file_in bytes.now) }
+fn file_of(alloc: Global, bytes: &[u8]) -> Result<Vec<(Str, Cert)>, CertFault>
+    ensures { Gives (λ v. v.items) result (file_in bytes.now) }
 {
     let lines = pieces_of(alloc, bytes, b'\n')?;
     blocks_of(alloc, &lines)
+}
+
+/// Reads a file of certificates, each with the name of its transaction.
+pub fn certs_read(alloc: Global, bytes: &[u8]) -> Result<Vec<(Str, Cert)>, CertFault>
+    // What is read has names that differ, and the bytes are its text.
+    ensures found { IfOk result (λ v. IsFile v.items × (bytes.now ≡ file_text v.items)) }
+    // The text of certificates with names that differ is read, unless memory runs out.
+    ensures only { (blocks : List Block) → IsFile blocks → bytes.now ≡ file_text blocks → Gives (λ v. v.items) result (Ok blocks) }
+    // The first fault, or what is read.
+    ensures exact { Gives (λ v. v.items) result (file_in bytes.now) }
+{
+    file_of(alloc, bytes)
 }

@@ -1,4 +1,4 @@
--- A step at a level that c dominates, from two worlds that look alike to c.
+-- A step without a call at a level that c dominates, from two worlds that look alike to c.
 use Rattle.std.proofs.Common.{◌≡◌, ℕ, Bool, true, false, cond, ◌&&◌, List, [], ◌∷◌, ◌++◌, Option, Some, None, Result, Ok, Err, refl, sym, ap, ◌∙◌, subst, true≢false}
 use Rattle.std.specs.Prelude.{nat_eq}
 use Rattle.std.specs.List.{filter}
@@ -9,6 +9,7 @@ use Rattle.mls_lattice.specs.Labels.{Labels, below}
 use Rattle.mls_lattice.proofs.LatticeLemmas.{below-trans}
 use Rattle.mls_scheme.specs.Table.{Table}
 use Rattle.mls_filterview.specs.View.{low}
+use Rattle.mls_filterview.proofs.LowLemmas.{rows_under}
 use Rattle.mls_updates.specs.Writes.{Write, Insert, Update, Delete, Written, write}
 use Rattle.mls_updates.proofs.LawLemmas.{low_use_low}
 use Rattle.mls_audit.specs.declared.entry.Entry.{Entry}
@@ -22,7 +23,8 @@ use Rattle.mls_machine.specs.Site.{Site, site_labels, site_scheme}
 use Rattle.mls_machine.specs.Denying.{first_denial, cleared, user_named, view_denials}
 use Rattle.mls_machine.specs.Machine.{World, Step, in_session, unless, denial_entry, denied, viewed, wrote, listed, step_inside, open_step, step_outside, step_at, step}
 use Rattle.mls_machine.proofs.DenyingLemmas.{view_below}
-use Rattle.mls_machine.proofs.LowLemmas.{LowAgree, low_of_low, rows_same}
+use Rattle.mls_machine.specs.Observation.{IsNoCall}
+use Rattle.mls_machine.proofs.LowLemmas.{LowAgree}
 
 -- a filter within a filter that lets more through
 filter_within : {A : Type 0} (p q : A → Bool) → ((x : A) → p x ≡ true → q x ≡ true) → (xs : List A) → filter p (filter q xs) ≡ filter p xs
@@ -52,18 +54,14 @@ module _ (site : Site) (c : ℕ) (v w : World) (e : Event) (seen : below (site_l
     entries = h.entries;
   }
 
-  alike_denied : (user : ℕ) (denial : Denial) → Alike (denied site v e user denial) (denied site w e user denial)
-  alike_denied user denial =
+  -- the same entries more
+  pub alike_entries : (added : List Entry) → visible (site_labels site) c (v.audit ++ added) ≡ visible (site_labels site) c (w.audit ++ added)
+  alike_entries added =
       let ls = site_labels site in
-      let added = denial_entry site e user denial ∷ [] in
-      record {
-        world = record {
-          tables = h.tables;
-          sessions = h.sessions;
-          entries = filter-append (λ x. below ls (label_of x) c) v.audit added ∙ ap (λ xs. xs ++ visible ls c added) h.entries ∙ sym (filter-append (λ x. below ls (label_of x) c) w.audit added);
-        };
-        reply = refl;
-      }
+      filter-append (λ x. below ls (label_of x) c) v.audit added ∙ ap (λ xs. xs ++ visible ls c added) h.entries ∙ sym (filter-append (λ x. below ls (label_of x) c) w.audit added)
+
+  alike_denied : (user : ℕ) (denial : Denial) → Alike (denied site v e user denial) (denied site w e user denial)
+  alike_denied user denial = record { world = record { tables = h.tables; sessions = h.sessions; entries = alike_entries (denial_entry site e user denial ∷ []) }; reply = refl }
 
   alike_unless : (denial : Option Denial) (user : ℕ) (s t : Step) → (denial ≡ None → Alike s t) → Alike (unless site denial v e user s) (unless site denial w e user t)
   alike_unless None user s t k = k refl
@@ -75,7 +73,7 @@ module _ (site : Site) (c : ℕ) (v w : World) (e : Event) (seen : below (site_l
   alike_view user rel label none =
       let ls = site_labels site in
       let lower = below-trans ls label e.level c (view_below site e.level user rel label none) seen in
-      record { world = h; reply = ap Rows (rows_same ls label (v.db rel) (w.db rel) (low_of_low ls label c (v.db rel) (w.db rel) lower (h.tables rel))) }
+      record { world = h; reply = ap Rows (rows_under ls c label (v.db rel) (w.db rel) (h.tables rel) lower) }
 
   abbrev result : World → ℕ → Write → Written
   result u rel wr = write (site_labels site) (site_scheme site rel) e.level wr (u.db rel)
@@ -118,14 +116,15 @@ module _ (site : Site) (c : ℕ) (v w : World) (e : Event) (seen : below (site_l
   alike_write : (denial : Option Denial) (user rel : ℕ) (wr : Write) → Alike (unless site denial v e user (wrote site v e.level rel wr)) (unless site denial w e user (wrote site w e.level rel wr))
   alike_write denial user rel wr = alike_unless denial user (wrote site v e.level rel wr) (wrote site w e.level rel wr) (λ none. alike_wrote rel wr)
 
-  alike_inside : (command : Command) (user : ℕ) → Alike (step_inside site v e command user) (step_inside site w e command user)
-  alike_inside (commands.Open name) user = alike_denied user _
-  alike_inside commands.Close user = record { world = alike_session None; reply = refl }
-  alike_inside commands.Audit user = alike_listed
-  alike_inside (commands.View rel label) user = alike_unless _ user _ _ (alike_view user rel label)
-  alike_inside (commands.Insert rel key values) user = alike_write _ user rel (Insert key values)
-  alike_inside (commands.Update rel key key_class from sets) user = alike_write _ user rel (Update key key_class from sets)
-  alike_inside (commands.Delete rel key key_class) user = alike_write _ user rel (Delete key key_class)
+  alike_inside : (command : Command) (user : ℕ) → IsNoCall command → Alike (step_inside site v e command user) (step_inside site w e command user)
+  alike_inside (commands.Open name) user plain = alike_denied user _
+  alike_inside commands.Close user plain = record { world = alike_session None; reply = refl }
+  alike_inside commands.Audit user plain = alike_listed
+  alike_inside (commands.View rel label) user plain = alike_unless _ user _ _ (alike_view user rel label)
+  alike_inside (commands.Insert rel key values) user plain = alike_write _ user rel (Insert key values)
+  alike_inside (commands.Update rel key key_class from sets) user plain = alike_write _ user rel (Update key key_class from sets)
+  alike_inside (commands.Delete rel key key_class) user plain = alike_write _ user rel (Delete key key_class)
+  alike_inside (commands.Call name args) user plain = absurd plain
 
   alike_open : (r : Result ℕ Denial) → Alike (open_step site v e r) (open_step site w e r)
   alike_open (Ok user) = record { world = alike_session (Some user); reply = refl }
@@ -139,14 +138,15 @@ module _ (site : Site) (c : ℕ) (v w : World) (e : Event) (seen : below (site_l
   alike_outside (commands.Insert rel key values) = record { world = h; reply = refl }
   alike_outside (commands.Update rel key key_class from sets) = record { world = h; reply = refl }
   alike_outside (commands.Delete rel key key_class) = record { world = h; reply = refl }
+  alike_outside (commands.Call name args) = record { world = h; reply = refl }
 
-  alike_at : (session : Option ℕ) → Alike (step_at site v e e.command session) (step_at site w e e.command session)
-  alike_at (Some user) = alike_inside e.command user
-  alike_at None = alike_outside e.command
+  alike_at : (session : Option ℕ) → IsNoCall e.command → Alike (step_at site v e e.command session) (step_at site w e e.command session)
+  alike_at (Some user) plain = alike_inside e.command user plain
+  alike_at None plain = alike_outside e.command
 
   -- the session is open for one user in both worlds, or in none
-  pub alike_step : StepAlike (site_labels site) c (step site v e) (step site w e)
+  pub alike_step : IsNoCall e.command → StepAlike (site_labels site) c (step site v e) (step site w e)
   unfolding step
-  alike_step =
+  alike_step plain =
       subst (λ o. Alike (step_at site v e e.command (v.sessions e.level e.session)) (step_at site w e e.command o)) (h.sessions e.level e.session seen)
-      (alike_at (v.sessions e.level e.session))
+      (alike_at (v.sessions e.level e.session) plain)

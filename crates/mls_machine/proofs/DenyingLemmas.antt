@@ -1,16 +1,18 @@
 -- Users by number, and conditions that do not hold.
-use Rattle.std.proofs.Common.{◌≡◌, ℕ, ◌<◌, Bool, true, false, cond, List, [], ◌∷◌, length, Some, None, refl, sym, ap, ◌∙◌}
+use Rattle.std.proofs.Common.{◌≡◌, ℕ, ◌<◌, Bool, true, false, cond, List, [], ◌∷◌, length, Option, Some, None, refl, sym, ap, ◌∙◌}
 use Rattle.std.specs.Prelude.{option_map, slice_get}
 use Rattle.std.specs.Str.{bytes_eq}
-use Rattle.std.proofs.lemmas.Bool.{not-false, or_parts}
+use Rattle.std.proofs.lemmas.Bool.{not-false, or_parts, eqb-true}
 use Rattle.std.proofs.lemmas.List.Quantifiers.{position-Some}
 use Rattle.std.proofs.lemmas.Option.{slice_get-get_or, none-some}
 use Rattle.mls_lattice.specs.declared.tables.User.{User}
 use Rattle.mls_lattice.specs.Labels.{below}
 use Rattle.mls_lattice.specs.Policy.{Name, Tables}
+use Rattle.mls_scheme.specs.declared.value.Value.{Value}
+use Rattle.mls_translang.specs.Tx.{Tx}
 use Rattle.mls_machine.specs.declared.reply.Denial.{Denial}
 use Rattle.mls_machine.specs.Site.{Site, site_labels}
-use Rattle.mls_machine.specs.Denying.{first_denial, no_user, user_named, clearance_of, view_denials}
+use Rattle.mls_machine.specs.Denying.{first_denial, no_user, user_named, clearance_of, view_denials, call_denials}
 
 -- ---- users
 
@@ -43,3 +45,13 @@ not_denied (d ∷ ds) h =
 -- the level of the session dominates the label of a view that is not denied
 pub view_below : (site : Site) (level user rel label : ℕ) → first_denial (view_denials site level user rel label) ≡ None → below (site_labels site) label level ≡ true
 view_below site level user rel label h = not-false _ (or_parts _ _ (not_denied (view_denials site level user rel label) h).1.1.0).0
+
+-- the level of the session is the lowest label of a call that is not denied, and there is an argument for each parameter
+pub record MayRun (level : ℕ) (tx : Tx) (args : List (Option Value)) : Type 0 where
+  pub lo : tx.lo ≡ level
+  pub count : length args ≡ length tx.params
+
+pub may_run : (site : Site) (level user : ℕ) (tx : Tx) (args : List (Option Value)) → first_denial (call_denials site level user tx args) ≡ None → MayRun level tx args
+may_run site level user tx args h =
+    let n = not_denied (call_denials site level user tx args) h in
+    record { lo = eqb-true _ _ (not-false _ n.1.1.0); count = eqb-true _ _ (not-false _ (or_parts _ _ n.1.1.1.1.0).0) }

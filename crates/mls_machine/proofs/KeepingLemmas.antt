@@ -1,24 +1,36 @@
 -- Steps and runs keep what writes keep: the stored form, and with it integrity.
 use Rattle.std.proofs.Common.{◌≡◌, ℕ, zero, suc, ◌<◌, Bool, true, false, cond, List, [], ◌∷◌, length, take, Option, Some, None, Ok, Err, Result, refl, sym, ap, subst, eqb-true}
 use Rattle.std.specs.Prelude.{nat_eq}
-use Rattle.std.specs.List.{AllZip}
+use Rattle.std.specs.List.{AllZip, AllByRecursion}
+use Rattle.std.specs.Option.{IfSome}
 use Rattle.std.proofs.lemmas.List.{length-map}
 use Rattle.mls_lattice.specs.Labels.{AreDistinct}
-use Rattle.mls_scheme.specs.Table.{Table}
+use Rattle.mls_lattice.specs.Policy.{Name}
+use Rattle.mls_scheme.specs.declared.value.Value.{Value}
+use Rattle.mls_scheme.specs.Table.{Table, Database}
 use Rattle.mls_filterview.specs.Stored.{IsStored, IsContent, AreContent}
 use Rattle.mls_filterview.proofs.IntegrityLemmas.{has_integrity}
 use Rattle.mls_updates.specs.Writes.{Write, Insert, Update, Delete, WriteFits, WriteKinds, write}
 use Rattle.mls_updates.proofs.LawLemmas.{keep_form, keep_content}
+use Rattle.mls_translang.specs.Tx.{Tx}
+use Rattle.mls_translang.specs.Fits.{IsReadUnder}
+use Rattle.mls_meaning.specs.Meaning.{run_tx}
+use Rattle.mls_meaning.proofs.LawLemmas.{keep_form as call_form, keep_content as call_content}
 use Rattle.mls_script.specs.declared.event.Event.{Event}
 use Rattle.mls_script.specs.declared.event.Command.{Command}
 use Rattle.mls_script.specs.declared.event.Command.TheVariants as commands
 use Rattle.mls_script.specs.Event.{CommandFits, EventFits}
 use Rattle.mls_machine.specs.declared.reply.Denial.{Denial}
+use Rattle.mls_machine.specs.declared.stored.Stored.{Stored}
+use Rattle.mls_machine.specs.declared.stored.Stored.TheVariants.{Certified, Plain}
 use Rattle.mls_machine.specs.Site.{Site, site_labels, site_scheme}
-use Rattle.mls_machine.specs.Denying.{cleared, user_named}
-use Rattle.mls_machine.specs.Machine.{World, Step, unless, wrote, step_inside, open_step, step_outside, step_at, step, end_of}
-use Rattle.mls_machine.specs.Observation.{AreStored, EventsFit}
+use Rattle.mls_machine.specs.Denying.{first_denial, cleared, user_named, stored_named, fitted, call_denials}
+use Rattle.mls_machine.specs.Machine.{World, Step, unless, wrote, called, call_step, step_inside, open_step, step_outside, step_at, step, end_of}
+use Rattle.mls_machine.specs.Observation.{AreStored, EventsFit, AreRead}
 use Rattle.mls_machine.specs.Laws.{RunsKeepIntegrity}
+use Rattle.mls_machine.proofs.DenyingLemmas.{may_run}
+use Rattle.mls_machine.proofs.CalledLemmas.{certified_of, CallsRead, all_read}
+use Rattle.mls_machine.proofs.ArgumentLemmas.{fitted_fit}
 
 zip_count : {A C : Type 0} (R : A → C → Type 0) (xs : List A) (ys : List C) → AllZip R xs ys → length ys ≡ length xs
 zip_count R [] [] h = refl
@@ -31,11 +43,12 @@ pub record Fitting (site : Site) (level rel : ℕ) (wr : Write) : Type 0 where
   pub numbers : WriteFits (site_labels site) (length (site_scheme site rel).others) level wr
   pub kinds : WriteKinds (site_scheme site rel) wr
 
--- ---- what each write keeps of each relation
+-- ---- what each write and each call keeps of each relation
 
-abbrev Kept : Site → (ℕ → Table → Type 0) → Type 0
-Kept site P =
-    (rel level : ℕ) (wr : Write) (T : Table) → Fitting site level rel wr → P rel T → P rel (write (site_labels site) (site_scheme site rel) level wr T).table
+pub record Kept (site : Site) (P : ℕ → Table → Type 0) : Type 0 where
+  pub by_write : (rel level : ℕ) (wr : Write) (T : Table) → Fitting site level rel wr → P rel T → P rel (write (site_labels site) (site_scheme site rel) level wr T).table
+  pub by_call : (tx : Tx) (args : List (Option Value)) (db : Database) → IsReadUnder site.policy site.schemes tx → length args ≡ length tx.params → ((rel : ℕ) → P rel (db rel))
+      → (rel : ℕ) → P rel ((run_tx (site_labels site) site.schemes tx (fitted tx.params args) db).db rel)
 
 module _ (site : Site) (P : ℕ → Table → Type 0) (keeps : Kept site P) where
   abbrev Holds : World → Type 0
@@ -45,11 +58,11 @@ module _ (site : Site) (P : ℕ → Table → Type 0) (keeps : Kept site P) wher
   wrote_holds w level rel wr fits all r = by_test (nat_eq r rel) refl
     where
       by_test : (b : Bool) → nat_eq r rel ≡ b → P r (cond b (write (site_labels site) (site_scheme site rel) level wr (w.db rel)).table (w.db r))
-      by_test true e = subst (λ q. P q (write (site_labels site) (site_scheme site rel) level wr (w.db rel)).table) (sym (eqb-true r rel e)) (keeps rel level wr (w.db rel) fits (all rel))
+      by_test true e = subst (λ q. P q (write (site_labels site) (site_scheme site rel) level wr (w.db rel)).table) (sym (eqb-true r rel e)) (keeps.by_write rel level wr (w.db rel) fits (all rel))
       by_test false e = all r
 
-  unless_holds : (denial : Option Denial) (w : World) (e : Event) (user : ℕ) (effect : Step) → Holds w → Holds effect.world → Holds (unless site denial w e user effect).world
-  unless_holds None w e user effect all new = new
+  unless_holds : (denial : Option Denial) (w : World) (e : Event) (user : ℕ) (effect : Step) → Holds w → (denial ≡ None → Holds effect.world) → Holds (unless site denial w e user effect).world
+  unless_holds None w e user effect all new = new refl
   unless_holds (Some denial) w e user effect all new = all
 
   module _ (w : World) (e : Event) (all : Holds w) (declared : e.level < length site.policy.labels) where
@@ -57,18 +70,26 @@ module _ (site : Site) (P : ℕ → Table → Type 0) (keeps : Kept site P) wher
     level_fits = subst (λ n. e.level < n) (sym (length-map site.policy.labels (λ l. l.value))) declared
 
     write_holds : (user rel : ℕ) (wr : Write) (denial : Option Denial) → Fitting site e.level rel wr → Holds (unless site denial w e user (wrote site w e.level rel wr)).world
-    write_holds user rel wr denial fits = unless_holds denial w e user (wrote site w e.level rel wr) all (wrote_holds w e.level rel wr fits all)
+    write_holds user rel wr denial fits = unless_holds denial w e user (wrote site w e.level rel wr) all (λ none. wrote_holds w e.level rel wr fits all)
 
-    inside_holds : (command : Command) (user : ℕ) → CommandFits site.policy site.schemes command → Holds (step_inside site w e command user).world
-    inside_holds (commands.Open name) user fits = all
-    inside_holds commands.Close user fits = all
-    inside_holds commands.Audit user fits = all
-    inside_holds (commands.View rel label) user fits = unless_holds _ w e user _ all all
-    inside_holds (commands.Insert rel key values) user fits =
+    call_holds : (user : ℕ) (name : Name) (args : List (Option Value)) (o : Option Stored) → IfSome (certified_of o) (IsReadUnder site.policy site.schemes) → Holds (call_step site w e user name args o).world
+    call_holds user name args None read = all
+    call_holds user name args (Some (Plain tx)) read = all
+    call_holds user name args (Some (Certified k)) read =
+        unless_holds (first_denial (call_denials site e.level user k.tx args)) w e user (called site w e user name k.tx args) all
+        (λ none. keeps.by_call k.tx args w.db read (may_run site e.level user k.tx args none).count all)
+
+    inside_holds : (command : Command) (user : ℕ) → CommandFits site.policy site.schemes command → CallsRead site command → Holds (step_inside site w e command user).world
+    inside_holds (commands.Open name) user fits read = all
+    inside_holds commands.Close user fits read = all
+    inside_holds commands.Audit user fits read = all
+    inside_holds (commands.View rel label) user fits read = unless_holds _ w e user _ all (λ none. all)
+    inside_holds (commands.Insert rel key values) user fits read =
         write_holds user rel (Insert key values) _ (record { numbers = (level_fits, zip_count _ (site_scheme site rel).others values fits.2); kinds = (fits.1, fits.2) })
-    inside_holds (commands.Update rel key key_class from sets) user fits =
+    inside_holds (commands.Update rel key key_class from sets) user fits read =
         write_holds user rel (Update key key_class from sets) _ (record { numbers = (level_fits, fits.4.some, fits.4.known); kinds = fits.4.kinds })
-    inside_holds (commands.Delete rel key key_class) user fits = write_holds user rel (Delete key key_class) _ (record { numbers = tt; kinds = tt })
+    inside_holds (commands.Delete rel key key_class) user fits read = write_holds user rel (Delete key key_class) _ (record { numbers = tt; kinds = tt })
+    inside_holds (commands.Call name args) user fits read = call_holds user name args (stored_named site.stored name) read
 
     opened_holds : (r : Result ℕ Denial) → Holds (open_step site w e r).world
     opened_holds (Ok user) = all
@@ -82,47 +103,60 @@ module _ (site : Site) (P : ℕ → Table → Type 0) (keeps : Kept site P) wher
     outside_holds (commands.Insert rel key values) = all
     outside_holds (commands.Update rel key key_class from sets) = all
     outside_holds (commands.Delete rel key key_class) = all
+    outside_holds (commands.Call name args) = all
 
-    at_holds : (session : Option ℕ) → CommandFits site.policy site.schemes e.command → Holds (step_at site w e e.command session).world
-    at_holds (Some user) fits = inside_holds e.command user fits
-    at_holds None fits = outside_holds e.command
+    at_holds : (session : Option ℕ) → CommandFits site.policy site.schemes e.command → CallsRead site e.command → Holds (step_at site w e e.command session).world
+    at_holds (Some user) fits read = inside_holds e.command user fits read
+    at_holds None fits read = outside_holds e.command
 
-  pub step_holds : (w : World) (e : Event) → Holds w → EventFits site.policy site.schemes e → Holds (step site w e).world
+  pub step_holds : (w : World) (e : Event) → Holds w → EventFits site.policy site.schemes e → CallsRead site e.command → Holds (step site w e).world
   unfolding step
-  step_holds w e all fits = at_holds w e all fits.level (w.sessions e.level e.session) fits.command
+  step_holds w e all fits read = at_holds w e all fits.level (w.sessions e.level e.session) fits.command read
 
-  pub run_holds : (w : World) (es : List Event) → Holds w → EventsFit site es → Holds (end_of site w es)
+  pub run_holds : (w : World) (es : List Event) → Holds w → EventsFit site es → AllByRecursion (λ e. CallsRead site e.command) es → Holds (end_of site w es)
   unfolding end_of
-  run_holds w [] all fits = all
-  run_holds w (e ∷ es) all fits = run_holds (step site w e).world es (step_holds w e all fits.0) fits.1
+  run_holds w [] all fits read = all
+  run_holds w (e ∷ es) all fits read = run_holds (step site w e).world es (step_holds w e all fits.0 read.0) fits.1 read.1
 
 -- ---- the stored form
 
 module _ (site : Site) (distinct : AreDistinct (site_labels site)) where
-  abbrev Stored : ℕ → Table → Type 0
-  Stored rel T = IsStored (site_labels site) (length (site_scheme site rel).others) T
+  abbrev InForm : ℕ → Table → Type 0
+  InForm rel T = IsStored (site_labels site) (length (site_scheme site rel).others) T
 
-  writes_stored : Kept site Stored
-  writes_stored rel level wr T fits stored = keep_form (site_labels site) distinct (site_scheme site rel) (length (site_scheme site rel).others) level T stored wr fits.numbers
+  form_kept : Kept site InForm
+  form_kept = record {
+    by_write = λ rel level wr T fits stored.
+        keep_form (site_labels site) distinct (site_scheme site rel) (length (site_scheme site rel).others) level T stored wr fits.numbers;
+    by_call = λ tx args db read count stored. call_form site.policy distinct site.schemes tx read (fitted tx.params args) db stored;
+  }
 
-  pub step_stored : (w : World) (e : Event) → AreStored site w.db → EventFits site.policy site.schemes e → AreStored site (step site w e).world.db
-  step_stored = step_holds site Stored writes_stored
+  pub step_stored : (w : World) (e : Event) → AreStored site w.db → EventFits site.policy site.schemes e → CallsRead site e.command → AreStored site (step site w e).world.db
+  step_stored = step_holds site InForm form_kept
 
-  pub run_stored : (w : World) (es : List Event) → AreStored site w.db → EventsFit site es → AreStored site (end_of site w es).db
-  run_stored = run_holds site Stored writes_stored
+  pub run_stored : (w : World) (es : List Event) → AreStored site w.db → EventsFit site es → AllByRecursion (λ e. CallsRead site e.command) es → AreStored site (end_of site w es).db
+  run_stored = run_holds site InForm form_kept
 
   -- with kinds and intervals too
   abbrev Contained : ℕ → Table → Type 0
   Contained rel T = IsContent (site_labels site) (site_scheme site rel) T
 
-  writes_content : Kept site Contained
-  writes_content rel level wr T fits content = keep_content (site_labels site) distinct (site_scheme site rel) level T content wr fits.numbers fits.kinds
+  content_kept : Kept site Contained
+  content_kept = record {
+    by_write = λ rel level wr T fits content. keep_content (site_labels site) distinct (site_scheme site rel) level T content wr fits.numbers fits.kinds;
+    by_call = λ tx args db read count content. call_content site.policy distinct site.schemes tx read (fitted tx.params args) (fitted_fit tx args count) db content;
+  }
 
-  pub step_content : (w : World) (e : Event) → AreContent (site_labels site) site.schemes w.db → EventFits site.policy site.schemes e → AreContent (site_labels site) site.schemes (step site w e).world.db
-  step_content = step_holds site Contained writes_content
+  module _ (read : AreRead site) where
+    pub step_content : (w : World) (e : Event) → AreContent (site_labels site) site.schemes w.db → EventFits site.policy site.schemes e → AreContent (site_labels site) site.schemes (step site w e).world.db
+    step_content w e content fits = step_holds site Contained content_kept w e content fits (all_read site read e.command)
 
-  pub run_content : (w : World) (es : List Event) → AreContent (site_labels site) site.schemes w.db → EventsFit site es → AreContent (site_labels site) site.schemes (end_of site w es).db
-  run_content = run_holds site Contained writes_content
+    all_calls_read : (es : List Event) → AllByRecursion (λ e. CallsRead site e.command) es
+    all_calls_read [] = tt
+    all_calls_read (e ∷ es) = (all_read site read e.command, all_calls_read es)
+
+    pub run_content : (w : World) (es : List Event) → AreContent (site_labels site) site.schemes w.db → EventsFit site es → AreContent (site_labels site) site.schemes (end_of site w es).db
+    run_content w es content fits = run_holds site Contained content_kept w es content fits (all_calls_read es)
 
 -- ---- first parts of a run
 
@@ -132,4 +166,5 @@ first_fit site (suc n) [] fits = tt
 first_fit site (suc n) (e ∷ es) fits = (fits.0, first_fit site n es fits.1)
 
 pub keep_integrity : RunsKeepIntegrity
-keep_integrity site distinct w es stored fits n rel = has_integrity (site_labels site) _ _ (run_stored site distinct w (take n es) stored (first_fit site n es fits) rel)
+keep_integrity site distinct read w es stored fits n rel =
+    has_integrity (site_labels site) _ _ (run_stored site distinct w (take n es) stored (first_fit site n es fits) (all_calls_read site distinct read (take n es)) rel)

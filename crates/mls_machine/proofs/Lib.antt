@@ -1,10 +1,15 @@
 pub mod DenyingLemmas
+pub mod ArgumentLemmas
+pub mod CalledLemmas
 pub mod KeepingLemmas
 pub mod RefusalLemmas
 pub mod ReplyLemmas
 pub mod LowLemmas
+pub mod ItemLemmas
 pub mod HiddenLemmas
 pub mod AlikeLemmas
+pub mod CallLemmas
 pub mod RunLemmas
 pub mod LineLemmas
 pub mod SampleLemmas
+pub mod CallSampleLemmas

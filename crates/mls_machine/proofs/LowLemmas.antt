@@ -1,15 +1,8 @@
 -- Worlds that look alike to a level, by the stored tuples of classes that it dominates.
-use Rattle.std.proofs.Common.{◌≡◌, ℕ, true, List, map, refl, sym, ap, ◌∙◌}
-use Rattle.std.specs.List.{filter}
-use Rattle.std.specs.FinMap.{get, entries}
+use Rattle.std.proofs.Common.{◌≡◌, ℕ, true, refl, sym, ◌∙◌}
 use Rattle.mls_lattice.specs.Labels.{Labels, below, AreDistinct}
 use Rattle.mls_lattice.specs.Policy.{Name}
-use Rattle.mls_lattice.proofs.LatticeLemmas.{below-trans}
-use Rattle.mls_scheme.specs.declared.tuple.Tuple.{Tuple}
-use Rattle.mls_scheme.specs.Table.{Table, tuple_at}
-use Rattle.mls_filterview.specs.Subsumption.{is_max_among}
-use Rattle.mls_filterview.specs.View.{low, rows}
-use Rattle.mls_filterview.proofs.LowLemmas.{get_low_in, same_low}
+use Rattle.mls_filterview.specs.View.{low}
 use Rattle.mls_filterview.proofs.LevelLemmas.{low_from_views, views_from_low}
 use Rattle.mls_audit.specs.Entry.{visible}
 use Rattle.mls_machine.specs.Site.{Site, site_labels}
@@ -46,18 +39,3 @@ from_low site c v w sv sw h = record {
   sessions = h.sessions;
   entries = h.entries;
 }
-
--- ---- rows
-
--- what c sees alike, each level sees alike that c dominates
-pub low_of_low : (ls : Labels) (l c : ℕ) (S T : Table) → below ls l c ≡ true → low ls c S ≡ low ls c T → low ls l S ≡ low ls l T
-low_of_low ls l c S T b h = same_low ls l S T (λ q k.
-    let seen = below-trans ls q.class l c k b in
-    sym (get_low_in ls c S q seen) ∙ ap (λ m. get m q) h ∙ get_low_in ls c T q seen)
-
-abbrev rows_of : Table → List Tuple
-rows_of L = map (λ e. tuple_at e.0 e.1) (filter (is_max_among (entries L)) (entries L))
-
-pub rows_same : (ls : Labels) (l : ℕ) (S T : Table) → low ls l S ≡ low ls l T → rows ls l S ≡ rows ls l T
-unfolding rows
-rows_same ls l S T h = ap rows_of h

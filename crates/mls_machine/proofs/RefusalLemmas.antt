@@ -1,5 +1,5 @@
--- What is denied or refused changes nothing but the audit list.
-use Rattle.std.proofs.Common.{◌≡◌, ℕ, Bool, true, false, cond, [], ◌++◌, Option, Some, None, Result, Ok, Err, refl, sym, ap, ◌∙◌, eqb-true, append-nil}
+-- What is denied or refused changes nothing but the audit list, and that grows by denials and calls alone.
+use Rattle.std.proofs.Common.{◌≡◌, ℕ, Bool, true, false, cond, List, [], ◌++◌, Option, Some, None, Result, Ok, Err, refl, sym, ap, ◌∙◌, eqb-true, append-nil}
 use Rattle.std.specs.Prelude.{nat_eq}
 use Rattle.mls_lattice.specs.Labels.{Labels}
 use Rattle.mls_scheme.specs.Table.{Table, Database}
@@ -8,14 +8,18 @@ use Rattle.mls_filterview.specs.Content.{with_table}
 use Rattle.mls_updates.specs.declared.outcome.Outcome.{Outcome}
 use Rattle.mls_updates.specs.Outcome.{is_done}
 use Rattle.mls_updates.specs.Writes.{Key, Sets, Write, Insert, Update, Delete, written, update_own, update_below, write}
+use Rattle.mls_scheme.specs.declared.value.Value.{Value}
+use Rattle.mls_lattice.specs.Policy.{Name}
 use Rattle.mls_script.specs.declared.event.Event.{Event}
 use Rattle.mls_script.specs.declared.event.Command.{Command}
 use Rattle.mls_script.specs.declared.event.Command.TheVariants as commands
 use Rattle.mls_machine.specs.declared.reply.Denial.{Denial}
+use Rattle.mls_machine.specs.declared.stored.Stored.{Stored}
+use Rattle.mls_machine.specs.declared.stored.Stored.TheVariants.{Certified, Plain}
 use Rattle.mls_machine.specs.Site.{Site, site_labels, site_scheme}
-use Rattle.mls_machine.specs.Denying.{cleared, user_named}
-use Rattle.mls_machine.specs.Machine.{World, Step, unless, wrote, step_inside, open_step, step_outside, step_at, step}
-use Rattle.mls_machine.specs.Laws.{ChangesNothing, entries_added, RefusalsChangeNothing, DenialsAreEntered}
+use Rattle.mls_machine.specs.Denying.{first_denial, cleared, user_named, stored_named, call_denials}
+use Rattle.mls_machine.specs.Machine.{World, Step, denied, unless, wrote, called, call_step, step_inside, open_step, step_outside, step_at, step}
+use Rattle.mls_machine.specs.Laws.{ChangesNothing, entries_added, RefusalsChangeNothing, DenialsAndCallsAreEntered}
 
 -- ---- a write that is refused
 
@@ -44,63 +48,74 @@ same_relation db rel T same r = by_test (nat_eq r rel) refl
 
 -- ---- steps
 
--- what a step leaves, in a session that is open for a user or in none
-record Leaves (site : Site) (w : World) (e : Event) (session : Option ℕ) (s : Step) : Type 0 where
+-- what a step leaves at a command, in a session that is open for a user or in none
+record Leaves (site : Site) (w : World) (e : Event) (command : Command) (session : Option ℕ) (s : Step) : Type 0 where
   pub db : ChangesNothing s.reply → s.world.db ≡ w.db
   pub sessions : ChangesNothing s.reply → s.world.sessions ≡ w.sessions
-  pub audit : s.world.audit ≡ w.audit ++ entries_added site e session s.reply
+  pub audit : s.world.audit ≡ w.audit ++ entries_added site e command session s.reply
 
 module _ (site : Site) (w : World) (e : Event) where
-  all_left : (session : Option ℕ) (s : Step) → s.world ≡ w → entries_added site e session s.reply ≡ [] → Leaves site w e session s
-  all_left session s same none = record {
+  all_left : (command : Command) (session : Option ℕ) (s : Step) → s.world ≡ w → entries_added site e command session s.reply ≡ [] → Leaves site w e command session s
+  all_left command session s same none = record {
     db = λ h. ap (λ v. v.db) same;
     sessions = λ h. ap (λ v. v.sessions) same;
     audit = ap (λ v. v.audit) same ∙ sym (append-nil w.audit) ∙ ap (λ es. w.audit ++ es) (sym none);
   }
 
-  wrote_left : (user rel : ℕ) (wr : Write) → Leaves site w e (Some user) (wrote site w e.level rel wr)
-  wrote_left user rel wr = record {
+  denied_left : (command : Command) (user : ℕ) (denial : Denial) → Leaves site w e command (Some user) (denied site w e user denial)
+  denied_left command user denial = record { db = λ h. refl; sessions = λ h. refl; audit = refl }
+
+  wrote_left : (command : Command) (user rel : ℕ) (wr : Write) → entries_added site e command (Some user) (wrote site w e.level rel wr).reply ≡ [] → Leaves site w e command (Some user) (wrote site w e.level rel wr)
+  wrote_left command user rel wr none = record {
     db = λ h. (let same = same_relation w.db rel _ (table_left (site_labels site) (site_scheme site rel) e.level (w.db rel) wr h) in λ i r. same r i);
     sessions = λ h. refl;
-    audit = sym (append-nil w.audit);
+    audit = sym (append-nil w.audit) ∙ ap (λ es. w.audit ++ es) (sym none);
   }
 
-  unless_left : (denial : Option Denial) (user : ℕ) (effect : Step) → Leaves site w e (Some user) effect → Leaves site w e (Some user) (unless site denial w e user effect)
-  unless_left None user effect h = h
-  unless_left (Some denial) user effect h = record { db = λ k. refl; sessions = λ k. refl; audit = refl }
+  unless_left : (command : Command) (denial : Option Denial) (user : ℕ) (effect : Step) → Leaves site w e command (Some user) effect → Leaves site w e command (Some user) (unless site denial w e user effect)
+  unless_left command None user effect h = h
+  unless_left command (Some denial) user effect h = denied_left command user denial
 
-  inside_left : (command : Command) (user : ℕ) → Leaves site w e (Some user) (step_inside site w e command user)
-  inside_left (commands.Open name) user = record { db = λ h. refl; sessions = λ h. refl; audit = refl }
+  call_left : (user : ℕ) (name : Name) (args : List (Option Value)) (o : Option Stored) → Leaves site w e (commands.Call name args) (Some user) (call_step site w e user name args o)
+  call_left user name args None = denied_left _ user _
+  call_left user name args (Some (Plain tx)) = denied_left _ user _
+  call_left user name args (Some (Certified k)) =
+      unless_left (commands.Call name args) (first_denial (call_denials site e.level user k.tx args)) user (called site w e user name k.tx args) (record { db = λ h. absurd h; sessions = λ h. absurd h; audit = refl })
+
+  inside_left : (command : Command) (user : ℕ) → Leaves site w e command (Some user) (step_inside site w e command user)
+  inside_left (commands.Open name) user = denied_left _ user _
   inside_left commands.Close user = record { db = λ h. absurd h; sessions = λ h. absurd h; audit = sym (append-nil w.audit) }
-  inside_left commands.Audit user = all_left (Some user) _ refl refl
-  inside_left (commands.View rel label) user = unless_left _ user _ (all_left (Some user) _ refl refl)
-  inside_left (commands.Insert rel key values) user = unless_left _ user _ (wrote_left user rel (Insert key values))
-  inside_left (commands.Update rel key key_class from sets) user = unless_left _ user _ (wrote_left user rel (Update key key_class from sets))
-  inside_left (commands.Delete rel key key_class) user = unless_left _ user _ (wrote_left user rel (Delete key key_class))
+  inside_left commands.Audit user = all_left _ (Some user) _ refl refl
+  inside_left (commands.View rel label) user = unless_left _ _ user _ (all_left _ (Some user) _ refl refl)
+  inside_left (commands.Insert rel key values) user = unless_left _ _ user _ (wrote_left _ user rel (Insert key values) refl)
+  inside_left (commands.Update rel key key_class from sets) user = unless_left _ _ user _ (wrote_left _ user rel (Update key key_class from sets) refl)
+  inside_left (commands.Delete rel key key_class) user = unless_left _ _ user _ (wrote_left _ user rel (Delete key key_class) refl)
+  inside_left (commands.Call name args) user = call_left user name args (stored_named site.stored name)
 
-  opened_left : (r : Result ℕ Denial) → Leaves site w e None (open_step site w e r)
-  opened_left (Ok user) = record { db = λ h. absurd h; sessions = λ h. absurd h; audit = sym (append-nil w.audit) }
-  opened_left (Err denial) = all_left None _ refl refl
+  opened_left : (name : Name) (r : Result ℕ Denial) → Leaves site w e (commands.Open name) None (open_step site w e r)
+  opened_left name (Ok user) = record { db = λ h. absurd h; sessions = λ h. absurd h; audit = sym (append-nil w.audit) }
+  opened_left name (Err denial) = all_left _ None _ refl refl
 
-  outside_left : (command : Command) → Leaves site w e None (step_outside site w e command)
-  outside_left (commands.Open name) = opened_left (cleared site e.level (user_named site.policy name))
-  outside_left commands.Close = all_left None _ refl refl
-  outside_left commands.Audit = all_left None _ refl refl
-  outside_left (commands.View rel label) = all_left None _ refl refl
-  outside_left (commands.Insert rel key values) = all_left None _ refl refl
-  outside_left (commands.Update rel key key_class from sets) = all_left None _ refl refl
-  outside_left (commands.Delete rel key key_class) = all_left None _ refl refl
+  outside_left : (command : Command) → Leaves site w e command None (step_outside site w e command)
+  outside_left (commands.Open name) = opened_left name (cleared site e.level (user_named site.policy name))
+  outside_left commands.Close = all_left _ None _ refl refl
+  outside_left commands.Audit = all_left _ None _ refl refl
+  outside_left (commands.View rel label) = all_left _ None _ refl refl
+  outside_left (commands.Insert rel key values) = all_left _ None _ refl refl
+  outside_left (commands.Update rel key key_class from sets) = all_left _ None _ refl refl
+  outside_left (commands.Delete rel key key_class) = all_left _ None _ refl refl
+  outside_left (commands.Call name args) = all_left _ None _ refl refl
 
-  at_left : (session : Option ℕ) → Leaves site w e session (step_at site w e e.command session)
+  at_left : (session : Option ℕ) → Leaves site w e e.command session (step_at site w e e.command session)
   at_left (Some user) = inside_left e.command user
   at_left None = outside_left e.command
 
-  step_left : Leaves site w e (w.sessions e.level e.session) (step site w e)
+  step_left : Leaves site w e e.command (w.sessions e.level e.session) (step site w e)
   unfolding step
   step_left = at_left (w.sessions e.level e.session)
 
 pub refusal_left : RefusalsChangeNothing
 refusal_left site w e h = let l = step_left site w e in (l.db h, l.sessions h)
 
-pub denial_entered : DenialsAreEntered
-denial_entered site w e = (step_left site w e).audit
+pub entered : DenialsAndCallsAreEntered
+entered site w e = (step_left site w e).audit

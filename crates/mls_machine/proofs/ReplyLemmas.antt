@@ -2,16 +2,22 @@
 use Rattle.std.proofs.Common.{◌≡◌, ℕ, suc, ◌<◌, Bool, true, false, cond, List, [], ◌∷◌, ◌++◌, length, map, Option, Some, None, Ok, Err, inl, inr, refl, sym, subst, arith}
 use Rattle.std.specs.List.{AllByRecursion, filter}
 use Rattle.std.specs.FinMap.{get}
+use Rattle.std.specs.Option.{IfSome}
 use Rattle.std.proofs.lemmas.List.{length-map}
 use Rattle.mls_lattice.specs.Labels.{Labels, below, AreDistinct}
-use Rattle.mls_lattice.specs.Policy.{Tables}
+use Rattle.mls_lattice.specs.Policy.{Name, Tables}
 use Rattle.mls_scheme.specs.declared.tuple.Element.{Element}
 use Rattle.mls_scheme.specs.declared.place.Place.{Place}
+use Rattle.mls_scheme.specs.declared.value.Value.{Value}
 use Rattle.mls_scheme.specs.Tuple.{at, HasClassesBelow}
 use Rattle.mls_scheme.specs.Table.{Table, tuple_at}
 use Rattle.mls_filterview.specs.Stored.{IsStored}
 use Rattle.mls_filterview.specs.View.{rows}
 use Rattle.mls_filterview.proofs.RowLemmas.{rows_are_the_view}
+use Rattle.mls_translang.specs.Tx.{Tx}
+use Rattle.mls_translang.specs.Fits.{IsReadUnder}
+use Rattle.mls_meaning.specs.Meaning.{Item, run_tx}
+use Rattle.mls_meaning.proofs.LawLemmas.{call_labelled}
 use Rattle.mls_updates.specs.Writes.{Write, Insert, Update, Delete}
 use Rattle.mls_audit.specs.declared.entry.Entry.{Entry}
 use Rattle.mls_audit.specs.Entry.{label_of}
@@ -19,13 +25,16 @@ use Rattle.mls_script.specs.declared.event.Event.{Event}
 use Rattle.mls_script.specs.declared.event.Command.{Command}
 use Rattle.mls_script.specs.declared.event.Command.TheVariants as commands
 use Rattle.mls_machine.specs.declared.reply.Denial.{Denial}
-use Rattle.mls_machine.specs.declared.reply.Denial.TheVariants.{AlreadyOpen}
+use Rattle.mls_machine.specs.declared.reply.Denial.TheVariants.{AlreadyOpen, UnknownTransaction, NotCertified}
+use Rattle.mls_machine.specs.declared.stored.Stored.{Stored}
+use Rattle.mls_machine.specs.declared.stored.Stored.TheVariants.{Certified, Plain}
 use Rattle.mls_machine.specs.Site.{Site, site_labels, site_scheme}
-use Rattle.mls_machine.specs.Denying.{exceed, clearance_of, cleared, user_named}
-use Rattle.mls_machine.specs.Machine.{World, Step, unless, denial_entry, viewed, wrote, step_inside, open_step, step_outside, step_at, step}
-use Rattle.mls_machine.specs.Output.{EntriesAreKnown, ReplyIsKnown}
-use Rattle.mls_machine.specs.Observation.{AreStored}
+use Rattle.mls_machine.specs.Denying.{first_denial, exceed, clearance_of, cleared, user_named, stored_named, fitted, call_denials}
+use Rattle.mls_machine.specs.Machine.{World, Step, unless, denial_entry, release_entry, call_entries, viewed, wrote, called, call_step, step_inside, open_step, step_outside, step_at, step}
+use Rattle.mls_machine.specs.Output.{EntriesAreKnown, ItemsAreKnown, ReplyIsKnown}
+use Rattle.mls_machine.specs.Observation.{AreStored, AreRead}
 use Rattle.mls_machine.proofs.DenyingLemmas.{user_below}
+use Rattle.mls_machine.proofs.CalledLemmas.{certified_of, all_read}
 
 -- ---- rows
 
@@ -69,7 +78,7 @@ pub record IsKnown (site : Site) (s : Step) : Type 0 where
   pub reply : ReplyIsKnown site.policy s.reply
   pub audit : EntriesAreKnown site.policy s.world.audit
 
-module _ (site : Site) (distinct : AreDistinct (site_labels site)) (w : World) (stored : AreStored site w.db) (known : EntriesAreKnown site.policy w.audit) (e : Event) (declared : e.level < length site.policy.labels) where
+module _ (site : Site) (distinct : AreDistinct (site_labels site)) (read : AreRead site) (w : World) (stored : AreStored site w.db) (known : EntriesAreKnown site.policy w.audit) (e : Event) (declared : e.level < length site.policy.labels) where
   denied_known : (user : ℕ) (denial : Denial) → EntriesAreKnown site.policy (w.audit ++ denial_entry site e user denial ∷ [])
   denied_known user denial = append_known site.policy w.audit (denial_entry site e user denial ∷ []) known (declared, tt)
 
@@ -85,6 +94,24 @@ module _ (site : Site) (distinct : AreDistinct (site_labels site)) (w : World) (
   wrote_known : (denial : Option Denial) (user rel : ℕ) (wr : Write) → IsKnown site (unless site denial w e user (wrote site w e.level rel wr))
   wrote_known denial user rel wr = unless_known denial user (wrote site w e.level rel wr) (record { reply = tt; audit = known })
 
+  releases_known : (user : ℕ) (items : List Item) → ItemsAreKnown site.policy items → EntriesAreKnown site.policy (map (release_entry site e user) items)
+  releases_known user [] h = tt
+  releases_known user (item ∷ items) h = (h.0, releases_known user items h.1)
+
+  called_known : (user : ℕ) (name : Name) (tx : Tx) (args : List (Option Value)) → IsReadUnder site.policy site.schemes tx → IsKnown site (called site w e user name tx args)
+  called_known user name tx args r =
+      let labelled = call_labelled site.policy site.schemes tx r (fitted tx.params args) w.db in
+      let released = (run_tx (site_labels site) site.schemes tx (fitted tx.params args) w.db).released in
+      record {
+        reply = (labelled.emitted, labelled.released);
+        audit = append_known site.policy w.audit (call_entries site e user name released) known (declared, releases_known user released labelled.released);
+      }
+
+  call_known : (user : ℕ) (name : Name) (args : List (Option Value)) (o : Option Stored) → IfSome (certified_of o) (IsReadUnder site.policy site.schemes) → IsKnown site (call_step site w e user name args o)
+  call_known user name args None r = record { reply = tt; audit = denied_known user UnknownTransaction }
+  call_known user name args (Some (Plain tx)) r = record { reply = tt; audit = denied_known user NotCertified }
+  call_known user name args (Some (Certified k)) r = unless_known (first_denial (call_denials site e.level user k.tx args)) user (called site w e user name k.tx args) (called_known user name k.tx args r)
+
   inside_known : (command : Command) (user : ℕ) → IsKnown site (step_inside site w e command user)
   inside_known (commands.Open name) user = record { reply = tt; audit = denied_known user AlreadyOpen }
   inside_known commands.Close user = record { reply = tt; audit = known }
@@ -93,6 +120,7 @@ module _ (site : Site) (distinct : AreDistinct (site_labels site)) (w : World) (
   inside_known (commands.Insert rel key values) user = wrote_known _ user rel (Insert key values)
   inside_known (commands.Update rel key key_class from sets) user = wrote_known _ user rel (Update key key_class from sets)
   inside_known (commands.Delete rel key key_class) user = wrote_known _ user rel (Delete key key_class)
+  inside_known (commands.Call name args) user = call_known user name args (stored_named site.stored name) (all_read site read (commands.Call name args))
 
   cleared_known : (user : ℕ) (b : Bool) (denial : Denial) → user < length site.policy.users → IsKnown site (open_step site w e (cond b (Err denial) (Ok user)))
   cleared_known user true denial h = record { reply = tt; audit = known }
@@ -110,6 +138,7 @@ module _ (site : Site) (distinct : AreDistinct (site_labels site)) (w : World) (
   outside_known (commands.Insert rel key values) = record { reply = tt; audit = known }
   outside_known (commands.Update rel key key_class from sets) = record { reply = tt; audit = known }
   outside_known (commands.Delete rel key key_class) = record { reply = tt; audit = known }
+  outside_known (commands.Call name args) = record { reply = tt; audit = known }
 
   at_known : (session : Option ℕ) → IsKnown site (step_at site w e e.command session)
   at_known (Some user) = inside_known e.command user

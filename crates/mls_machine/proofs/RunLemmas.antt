@@ -1,19 +1,31 @@
 -- Whole runs, in any two interleavings, as a level sees them.
-use Rattle.std.proofs.Common.{◌≡◌, ℕ, Bool, true, false, cond, List, [], ◌∷◌, ◌++◌, take, refl, sym, ap, ◌∙◌, subst, inl, inr, ◌⊎◌}
+use Rattle.std.proofs.Common.{◌≡◌, ℕ, Bool, true, false, cond, List, [], ◌∷◌, ◌++◌, map, take, refl, sym, ap, ◌∙◌, subst, inl, inr, ◌⊎◌}
+use Rattle.std.specs.List.{filter, AllByRecursion}
 use Rattle.std.proofs.lemmas.Bool.{cases_Bool}
+use Rattle.std.proofs.lemmas.List.{append_cancel_left}
 use Rattle.std.proofs.lemmas.List.Elements.{filter-append}
 use Rattle.mls_lattice.specs.Labels.{below, AreDistinct}
+use Rattle.mls_meaning.specs.Meaning.{Item}
+use Rattle.mls_meaning.specs.Secure.{seen_items, Split, Secure}
+use Rattle.mls_certcheck.specs.Rules.{Rules, claim}
+use Rattle.mls_security.proofs.LawLemmas.{secure_rules}
 use Rattle.mls_script.specs.declared.event.Event.{Event}
+use Rattle.mls_script.specs.declared.event.Command.{Command}
+use Rattle.mls_script.specs.declared.event.Command.TheVariants as commands
 use Rattle.mls_script.specs.Event.{EventFits}
+use Rattle.mls_machine.specs.declared.stored.Stored.{Stored}
+use Rattle.mls_machine.specs.declared.stored.Stored.TheVariants.{Certified, Plain}
+use Rattle.mls_machine.specs.Stored.{WhereCertified, IsCertifiedUnder, IsMadeUnder}
 use Rattle.mls_machine.specs.Site.{Site, site_labels}
 use Rattle.mls_machine.specs.Machine.{World, step, end_of}
 use Rattle.mls_machine.specs.Output.{Line, reply_lines, run_lines}
-use Rattle.mls_machine.specs.Observation.{AreStored, EventsFit, seen, out, PassesNothingDown}
-use Rattle.mls_machine.specs.Laws.{LowRunsAreAlike}
-use Rattle.mls_machine.proofs.KeepingLemmas.{step_stored, run_stored, first_fit}
+use Rattle.mls_machine.specs.Observation.{AreStored, EventsFit, AreRead, AreSecure, AreCertified, AreMadeUnder, IsNoCall, HaveNoCall, shown, glimpse, seen, AgreeAt, EndAlike, IsBelowCeiling, AreBelowCeiling, out, released_in, run_released, released_to, PassesOnlyReleasesDown}
+use Rattle.mls_machine.specs.Laws.{LowRunsAreAlike, SecureRunsAreAlike, AcceptedRunsAreAlike}
+use Rattle.mls_machine.proofs.CalledLemmas.{WhereCalled, CallsRead, IsSafe, all_safe, no_call, weaker}
+use Rattle.mls_machine.proofs.KeepingLemmas.{step_stored, first_fit}
 use Rattle.mls_machine.proofs.LowLemmas.{LowAgree, lows_trans, lows_sym, to_low, from_low}
-use Rattle.mls_machine.proofs.HiddenLemmas.{hidden_reply, hidden_step}
-use Rattle.mls_machine.proofs.AlikeLemmas.{alike_step}
+use Rattle.mls_machine.proofs.HiddenLemmas.{Silent, hidden_step}
+use Rattle.mls_machine.proofs.CallLemmas.{StepsAlike, seen_steps}
 
 parts_head : (x y : Event) (xs ys : List Event) → x ∷ xs ≡ y ∷ ys → x ≡ y
 parts_head x y xs ys e = cc
@@ -24,12 +36,34 @@ parts_tail x y xs ys e = cc
 not_nil : (x : Event) (xs : List Event) → x ∷ xs ≡ [] → ⊥
 not_nil x xs e = absurd (cc)
 
+-- no list splits from itself
+not_from_itself : (xs : List Item) → Split xs xs → ⊥
+not_from_itself [] h = h
+not_from_itself (x ∷ xs) (inl h) = h.1 refl
+not_from_itself (x ∷ xs) (inr h) = not_from_itself xs h.1
+
 module _ (site : Site) (distinct : AreDistinct (site_labels site)) (c : ℕ) where
   abbrev next : World → Event → World
   next w e = (step site w e).world
 
-  abbrev Fits : Event → Type 0
-  Fits e = EventFits site.policy site.schemes e
+  -- an event fits, and what it calls is secure
+  record IsGood (e : Event) : Type 0 where
+    pub fits : EventFits site.policy site.schemes e
+    pub safe : WhereCalled site (IsSafe site) e.command
+
+  abbrev AreGood : List Event → Type 0
+  AreGood = AllByRecursion IsGood
+
+  calls_read : (e : Event) → IsGood e → CallsRead site e.command
+  calls_read e good = weaker site (IsSafe site) _ (λ tx safe. safe.read) e.command good.safe
+
+  stored_next : (w : World) (e : Event) → AreStored site w.db → IsGood e → AreStored site (next w e).db
+  stored_next w e sw good = step_stored site distinct w e sw good.fits (calls_read e good)
+
+  stored_end : (w : World) (es : List Event) → AreStored site w.db → AreGood es → AreStored site (end_of site w es).db
+  unfolding end_of
+  stored_end w [] sw good = sw
+  stored_end w (e ∷ es) sw good = stored_end (next w e) es (stored_next w e sw good.0) good.1
 
   -- c sees the level of an event, or doesn't
   abbrev Sees : Event → Bool → Type 0
@@ -44,18 +78,37 @@ module _ (site : Site) (distinct : AreDistinct (site_labels site)) (c : ℕ) whe
   unfolding run_lines
   out_next w e es = filter-append (λ l. below (site_labels site) l.label c) (reply_lines site e (step site w e).reply) (run_lines site (next w e) es)
 
-  out_hidden : (w : World) (e : Event) (es : List Event) → Sees e false → out_of w (e ∷ es) ≡ out_of (next w e) es
-  out_hidden w e es h = out_next w e es ∙ ap (λ xs. xs ++ out_of (next w e) es) (hidden_reply site c e (step site w e).reply h)
+  abbrev released_of : World → List Event → List Item
+  released_of w es = released_to site c w es
+
+  released_next : (w : World) (e : Event) (es : List Event) → released_of w (e ∷ es) ≡ seen_items (site_labels site) c (released_in (step site w e).reply) ++ released_of (next w e) es
+  unfolding run_released
+  released_next w e es = filter-append (λ i. below (site_labels site) i.0 c) (released_in (step site w e).reply) (run_released site (next w e) es)
 
   end_next : (w : World) (e : Event) (es : List Event) → end_of site w (e ∷ es) ≡ end_of site (next w e) es
   unfolding end_of
   end_next w e es = refl
 
   abbrev sees : List Event → List Event
-  sees es = seen (site_labels site) c es
+  sees es = seen site c es
 
-  sees_next : (e : Event) (es : List Event) (b : Bool) → Sees e b → sees (e ∷ es) ≡ cond b (e ∷ sees es) (sees es)
-  sees_next e es b h = ap (λ x. cond x (e ∷ sees es) (sees es)) h
+  sees_next : (e : Event) (es : List Event) (b : Bool) → Sees e b → sees (e ∷ es) ≡ cond b (glimpse site c e ∷ sees es) (sees es)
+  sees_next e es b h = by_test b h
+    where
+      by_test : (b : Bool) → Sees e b → sees (e ∷ es) ≡ cond b (glimpse site c e ∷ sees es) (sees es)
+      by_test true h = ap (λ x. map (glimpse site c) (cond x (e ∷ filter (λ f. below (site_labels site) f.level c) es) (filter (λ f. below (site_labels site) f.level c) es))) h
+      by_test false h = ap (λ x. map (glimpse site c) (cond x (e ∷ filter (λ f. below (site_labels site) f.level c) es) (filter (λ f. below (site_labels site) f.level c) es))) h
+
+  -- ---- an event that c does not see
+
+  hush : (w : World) (e : Event) → Sees e false → AreStored site w.db → IsGood e → Silent site c w e (step site w e)
+  hush w e h sw good = hidden_step site distinct c w sw e h good.safe
+
+  out_hidden : (w : World) (e : Event) (es : List Event) → Sees e false → AreStored site w.db → IsGood e → out_of w (e ∷ es) ≡ out_of (next w e) es
+  out_hidden w e es h sw good = out_next w e es ∙ ap (λ xs. xs ++ out_of (next w e) es) (hush w e h sw good).lines
+
+  released_hidden : (w : World) (e : Event) (es : List Event) → Sees e false → AreStored site w.db → IsGood e → released_of w (e ∷ es) ≡ released_of (next w e) es
+  released_hidden w e es h sw good = released_next w e es ∙ ap (λ xs. xs ++ released_of (next w e) es) (hush w e h sw good).released
 
   -- ---- two runs that end alike
 
@@ -63,80 +116,188 @@ module _ (site : Site) (distinct : AreDistinct (site_labels site)) (c : ℕ) whe
     pub out : out_of v es ≡ out_of w fs
     pub world : LowAgree (site_labels site) c (end_of site v es) (end_of site w fs)
 
-  hidden_first : (v w : World) (e : Event) (es fs : List Event) → Sees e false → Ends (next v e) w es fs → Ends v w (e ∷ es) fs
-  hidden_first v w e es fs h r = record {
-    out = out_hidden v e es h ∙ r.out;
+  -- what is asked of releases
+  abbrev Released_alike : World → World → List Event → List Event → Type 0
+  Released_alike v w es fs = (released_of v es ≡ released_of w fs) ⊎ AreBelowCeiling site c es
+
+  hidden_first : (v w : World) (e : Event) (es fs : List Event) → Sees e false → AreStored site v.db → IsGood e → Ends (next v e) w es fs → Ends v w (e ∷ es) fs
+  hidden_first v w e es fs h sv good r = record {
+    out = out_hidden v e es h sv good ∙ r.out;
     world = subst (λ x. LowAgree (site_labels site) c x (end_of site w fs)) (sym (end_next v e es)) r.world;
   }
 
-  hidden_second : (v w : World) (e : Event) (es fs : List Event) → Sees e false → Ends v (next w e) es fs → Ends v w es (e ∷ fs)
-  hidden_second v w e es fs h r = record {
-    out = r.out ∙ sym (out_hidden w e fs h);
+  hidden_second : (v w : World) (e : Event) (es fs : List Event) → Sees e false → AreStored site w.db → IsGood e → Ends v (next w e) es fs → Ends v w es (e ∷ fs)
+  hidden_second v w e es fs h sw good r = record {
+    out = r.out ∙ sym (out_hidden w e fs h sw good);
     world = subst (λ x. LowAgree (site_labels site) c (end_of site v es) x) (sym (end_next w e fs)) r.world;
   }
 
   -- the second world after an event that c does not see
-  still_low : (v w : World) (e : Event) → Sees e false → AreStored site w.db → LowAgree (site_labels site) c v w → LowAgree (site_labels site) c v (next w e)
-  still_low v w e h sw k = lows_trans k (hidden_step site c w sw e h)
+  still_low : (v w : World) (e : Event) → Sees e false → AreStored site w.db → IsGood e → LowAgree (site_labels site) c v w → LowAgree (site_labels site) c v (next w e)
+  still_low v w e h sw good k = lows_trans k (hush w e h sw good).world
 
   -- only hidden events
-  hidden_rest : (v w : World) (fs : List Event) → EventsFit site fs → AreStored site w.db → LowAgree (site_labels site) c v w → [] ≡ sees fs → Ends v w [] fs
+  hidden_rest : (v w : World) (fs : List Event) → AreGood fs → AreStored site w.db → LowAgree (site_labels site) c v w → [] ≡ sees fs → Ends v w [] fs
   unfolding run_lines end_of
-  hidden_rest v w [] ff sw h none = record { out = refl; world = h }
-  hidden_rest v w (x ∷ fs) ff sw h none =
+  hidden_rest v w [] gf sw h none = record { out = refl; world = h }
+  hidden_rest v w (x ∷ fs) gf sw h none =
       elim (cases_Bool (below (site_labels site) x.level c)) [
-        | inl b ↦ absurd (not_nil x (sees fs) (sym (none ∙ sees_next x fs true b)))
-        | inr b ↦ hidden_second v w x [] fs b (hidden_rest v (next w x) fs ff.1 (step_stored site distinct w x sw ff.0) (still_low v w x b sw h) (none ∙ sees_next x fs false b))
+        | inl b ↦ absurd (not_nil (glimpse site c x) (sees fs) (sym (none ∙ sees_next x fs true b)))
+        | inr b ↦ hidden_second v w x [] fs b sw gf.0 (hidden_rest v (next w x) fs gf.1 (stored_next w x sw gf.0) (still_low v w x b sw gf.0 h) (none ∙ sees_next x fs false b))
       ]
 
   Claim : List Event → Type 0
-  Claim es = (fs : List Event) (v w : World) → EventsFit site es → EventsFit site fs → AreStored site v.db → AreStored site w.db → LowAgree (site_labels site) c v w → sees es ≡ sees fs → Ends v w es fs
+  Claim es = (fs : List Event) (v w : World) → AreGood es → AreGood fs → AreStored site v.db → AreStored site w.db → LowAgree (site_labels site) c v w → sees es ≡ sees fs → Released_alike v w es fs → Ends v w es fs
+
+  -- a list that splits from another goes on so
+  split_more : (xs ys rest other : List Item) → Split xs ys → Split (xs ++ rest) (ys ++ other)
+  split_more [] ys rest other h = absurd h
+  split_more (x ∷ xs) [] rest other h = absurd h
+  split_more (x ∷ xs) (y ∷ ys) rest other (inl h) = inl h
+  split_more (x ∷ xs) (y ∷ ys) rest other (inr h) = inr (h.0, split_more xs ys rest other h.1)
+
+  -- what is asked of the calls that c sees, at the first of them and at the others
+  ceiling_at : (e : Event) (es : List Event) → Sees e true → AreBelowCeiling site c (e ∷ es) → IsBelowCeiling site c e.command × AreBelowCeiling site c es
+  ceiling_at e es b k = let both = subst (AllByRecursion (λ f. IsBelowCeiling site c f.command)) (sees_next e es true b) k in (plain_ceiling e.command both.0, both.1)
+    where
+      plain_ceiling : (a : Command) → IsBelowCeiling site c (shown site c a) → IsBelowCeiling site c a
+      plain_ceiling (commands.Open name) h = tt
+      plain_ceiling commands.Close h = tt
+      plain_ceiling commands.Audit h = tt
+      plain_ceiling (commands.View rel label) h = tt
+      plain_ceiling (commands.Insert rel key values) h = tt
+      plain_ceiling (commands.Update rel key key_class from sets) h = tt
+      plain_ceiling (commands.Delete rel key key_class) h = tt
+      plain_ceiling (commands.Call name args) h = h
+
+  ceiling_past : (e : Event) (es : List Event) → Sees e false → AreBelowCeiling site c (e ∷ es) → AreBelowCeiling site c es
+  ceiling_past e es b k = subst (AllByRecursion (λ f. IsBelowCeiling site c f.command)) (sees_next e es false b) k
+
+  -- releases that tell two runs apart are not alike
+  no_split : (v w : World) (e x : Event) (es fs : List Event) → Released_alike v w (e ∷ es) (x ∷ fs) → Sees e true
+      → Split (seen_items (site_labels site) c (released_in (step site v e).reply)) (seen_items (site_labels site) c (released_in (step site w x).reply)) × (IsBelowCeiling site c e.command → ⊥) → ⊥
+  no_split v w e x es fs (inl same) b s =
+      not_from_itself _
+      (subst (Split (seen_items (site_labels site) c (released_in (step site v e).reply) ++ released_of (next v e) es)) (sym (sym (released_next v e es) ∙ same ∙ released_next w x fs))
+      (split_more _ _ (released_of (next v e) es) (released_of (next w x) fs) s.0))
+  no_split v w e x es fs (inr ceiling) b s = s.1 (ceiling_at e es b ceiling).0
+
+  rest_alike : (v w : World) (e x : Event) (es fs : List Event) → Sees e true → StepsAlike site c e x (step site v e) (step site w x) → Released_alike v w (e ∷ es) (x ∷ fs) → Released_alike (next v e) (next w x) es fs
+  rest_alike v w e x es fs b a (inl same) =
+      inl (append_cancel_left (seen_items (site_labels site) c (released_in (step site v e).reply)) (released_of (next v e) es) (released_of (next w x) fs)
+      (sym (released_next v e es) ∙ same ∙ released_next w x fs ∙ ap (λ xs. xs ++ released_of (next w x) fs) (sym a.released)))
+  rest_alike v w e x es fs b a (inr ceiling) = inr (ceiling_at e es b ceiling).1
 
   -- both runs at an event that c sees
-  both_seen : (e : Event) (es fs : List Event) → Claim es → (v w : World) → Fits e → EventsFit site es → EventsFit site fs → Sees e true → sees es ≡ sees fs
-      → AreStored site v.db → AreStored site w.db → LowAgree (site_labels site) c v w → Ends v w (e ∷ es) (e ∷ fs)
+  both_seen : (e x : Event) (es fs : List Event) → Claim es → (v w : World) → IsGood e → IsGood x → AreGood es → AreGood fs → Sees e true → glimpse site c e ≡ glimpse site c x → sees es ≡ sees fs
+      → AreStored site v.db → AreStored site w.db → LowAgree (site_labels site) c v w → Released_alike v w (e ∷ es) (x ∷ fs) → Ends v w (e ∷ es) (x ∷ fs)
   unfolding Claim end_of
-  both_seen e es fs claim v w fe fes ffs b same sv sw h =
-      let a = alike_step site c v w e b h in
-      let r = claim fs (next v e) (next w e) fes ffs (step_stored site distinct v e sv fe) (step_stored site distinct w e sw fe) a.world same in
-      record {
-        out = out_next v e es ∙ (λ i. out (site_labels site) c (reply_lines site e (a.reply i)) ++ r.out i) ∙ sym (out_next w e fs);
-        world = r.world;
-      }
+  both_seen e x es fs claim v w ge gx ges gfs b g same sv sw h rel =
+      elim (seen_steps site distinct c v w sv sw h e b x ge.safe g) [
+        | inl s ↦ absurd (no_split v w e x es fs rel b s)
+        | inr a ↦
+            let r = claim fs (next v e) (next w x) ges gfs (stored_next v e sv ge) (stored_next w x sw gx) a.world same (rest_alike v w e x es fs b a rel) in
+            record { out = out_next v e es ∙ (λ i. a.lines i ++ r.out i) ∙ sym (out_next w x fs); world = r.world }
+      ]
 
-  -- the first run is at an event that c sees, and the second goes on to it
-  meet : (e : Event) (es : List Event) → Claim es → (v : World) → Fits e → EventsFit site es → Sees e true → AreStored site v.db
-      → (fs : List Event) (w : World) → EventsFit site fs → AreStored site w.db → LowAgree (site_labels site) c v w → e ∷ sees es ≡ sees fs → Ends v w (e ∷ es) fs
-  meet e es claim v fe fes b sv [] w ff sw h same = absurd (not_nil e (sees es) same)
-  meet e es claim v fe fes b sv (x ∷ fs) w ff sw h same = at_x (cases_Bool (below (site_labels site) x.level c)) (meet e es claim v fe fes b sv fs)
+  -- the first run is at an event that c sees, and the second goes on to one
+  meet : (e : Event) (es : List Event) → Claim es → (v : World) → IsGood e → AreGood es → Sees e true → AreStored site v.db
+      → (fs : List Event) (w : World) → AreGood fs → AreStored site w.db → LowAgree (site_labels site) c v w → glimpse site c e ∷ sees es ≡ sees fs → Released_alike v w (e ∷ es) fs → Ends v w (e ∷ es) fs
+  meet e es claim v ge ges b sv [] w gf sw h same rel = absurd (not_nil (glimpse site c e) (sees es) same)
+  meet e es claim v ge ges b sv (x ∷ fs) w gf sw h same rel = at_x (cases_Bool (below (site_labels site) x.level c)) (meet e es claim v ge ges b sv fs)
     where
       at_x : (Sees x true) ⊎ (Sees x false)
-          → ((u : World) → EventsFit site fs → AreStored site u.db → LowAgree (site_labels site) c v u → e ∷ sees es ≡ sees fs → Ends v u (e ∷ es) fs)
+          → ((u : World) → AreGood fs → AreStored site u.db → LowAgree (site_labels site) c v u → glimpse site c e ∷ sees es ≡ sees fs → Released_alike v u (e ∷ es) fs → Ends v u (e ∷ es) fs)
           → Ends v w (e ∷ es) (x ∷ fs)
       at_x (inl q) go =
           let k = same ∙ sees_next x fs true q in
-          subst (λ y. Ends v w (e ∷ es) (y ∷ fs)) (parts_head e x (sees es) (sees fs) k)
-          (both_seen e es fs claim v w fe fes ff.1 b (parts_tail e x (sees es) (sees fs) k) sv sw h)
-      at_x (inr q) go = hidden_second v w x (e ∷ es) fs q (go (next w x) ff.1 (step_stored site distinct w x sw ff.0) (still_low v w x q sw h) (same ∙ sees_next x fs false q))
+          both_seen e x es fs claim v w ge gf.0 ges gf.1 b (parts_head (glimpse site c e) (glimpse site c x) (sees es) (sees fs) k) (parts_tail (glimpse site c e) (glimpse site c x) (sees es) (sees fs) k) sv sw h rel
+      at_x (inr q) go =
+          hidden_second v w x (e ∷ es) fs q sw gf.0
+          (go (next w x) gf.1 (stored_next w x sw gf.0) (still_low v w x q sw gf.0 h) (same ∙ sees_next x fs false q) (past rel))
+        where
+          past : Released_alike v w (e ∷ es) (x ∷ fs) → Released_alike v (next w x) (e ∷ es) fs
+          past (inl eq) = inl (eq ∙ released_hidden w x fs q sw gf.0)
+          past (inr ceiling) = inr ceiling
 
   interleaved : (es : List Event) → Claim es
   unfolding Claim
-  interleaved [] fs v w fe ff sv sw h same = hidden_rest v w fs ff sw h same
-  interleaved (e ∷ es) fs v w fe ff sv sw h same =
+  interleaved [] fs v w ge gf sv sw h same rel = hidden_rest v w fs gf sw h same
+  interleaved (e ∷ es) fs v w ge gf sv sw h same rel =
       elim (cases_Bool (below (site_labels site) e.level c)) [
-        | inl b ↦ meet e es (interleaved es) v fe.0 fe.1 b sv fs w ff sw h (sym (sees_next e es true b) ∙ same)
-        | inr b ↦ hidden_first v w e es fs b
-            (interleaved es fs (next v e) w fe.1 ff (step_stored site distinct v e sv fe.0) sw (lows_trans (lows_sym (hidden_step site c v sv e b)) h) (sym (sees_next e es false b) ∙ same))
+        | inl b ↦ meet e es (interleaved es) v ge.0 ge.1 b sv fs w gf sw h (sym (sees_next e es true b) ∙ same) rel
+        | inr b ↦ hidden_first v w e es fs b sv ge.0
+            (interleaved es fs (next v e) w ge.1 gf (stored_next v e sv ge.0) sw (lows_trans (lows_sym (hush v e b sv ge.0).world) h) (sym (sees_next e es false b) ∙ same)
+            (elim rel [ inl eq ↦ inl (sym (released_hidden v e es b sv ge.0) ∙ eq) | inr ceiling ↦ inr (ceiling_past e es b ceiling) ]))
       ]
 
--- ---- the law
+  ends_alike : (v w : World) (es fs : List Event) → AreGood es → AreGood fs → AreStored site v.db → AreStored site w.db → AgreeAt (site_labels site) c v w → sees es ≡ sees fs → Released_alike v w es fs
+      → EndAlike site c v w es fs
+  unfolding Claim
+  ends_alike v w es fs ge gf sv sw agree same rel =
+      let r = interleaved es fs v w ge gf sv sw (to_low site distinct c v w sv sw agree) same rel in
+      record { out = r.out; worlds = from_low site c (end_of site v es) (end_of site w fs) (stored_end v es sv ge) (stored_end w fs sw gf) r.world }
 
-pub runs_alike : LowRunsAreAlike
-unfolding Claim
-runs_alike site distinct v es sv fits c w fs sw ff agree same =
-    let r = interleaved site distinct c es fs v w fits ff sv sw (to_low site distinct c v w sv sw agree) same in
-    record { out = r.out; worlds = from_low site c (end_of site v es) (end_of site w fs) (run_stored site distinct v es sv fits) (run_stored site distinct w fs sw ff) r.world }
+-- ---- the laws
+
+all_good : (site : Site) (distinct : AreDistinct (site_labels site)) (c : ℕ) → AreRead site → AreSecure site → (es : List Event) → EventsFit site es → AreGood site distinct c es
+all_good site distinct c read secure [] fits = tt
+all_good site distinct c read secure (e ∷ es) fits = (record { fits = fits.0; safe = all_safe site read secure e.command }, all_good site distinct c read secure es fits.1)
+
+pub secure_alike : SecureRunsAreAlike
+secure_alike site distinct read secure v es sv fits c w fs sw ff agree same rel =
+    ends_alike site distinct c v w es fs (all_good site distinct c read secure es fits) (all_good site distinct c read secure fs ff) sv sw agree same rel
+
+-- where the rules hold under certificates, the transactions are secure
+certified_secure : (site : Site) → AreDistinct (site_labels site) → AreCertified site → AreSecure site
+certified_secure site distinct = each site.stored
+  where
+    each : (stored : List Stored) → AllByRecursion (IsCertifiedUnder site.policy) stored → AllByRecursion (WhereCertified (Secure site.policy)) stored
+    each [] h = tt
+    each (Certified k ∷ ss) h = (secure_rules site.policy distinct k.tx k.cert h.0, each ss h.1)
+    each (Plain tx ∷ ss) h = (tt, each ss h.1)
+
+-- under the policy of its checking the rules hold for each certified transaction
+pub made_certified : (site : Site) → AreMadeUnder site → AreCertified site
+made_certified site = each site.stored
+  where
+    each : (stored : List Stored) → AllByRecursion (IsMadeUnder site.policy) stored → AllByRecursion (IsCertifiedUnder site.policy) stored
+    each [] h = tt
+    each (Certified k ∷ ss) h = (subst (λ p. Rules (claim p k.tx k.cert)) h.0 k.rules, each ss h.1)
+    each (Plain tx ∷ ss) h = (tt, each ss h.1)
+
+pub accepted_alike : AcceptedRunsAreAlike
+accepted_alike site distinct read certified = secure_alike site distinct read (certified_secure site distinct certified)
 
 -- of the first events of a run
-pub first_runs_alike : (site : Site) → AreDistinct (site_labels site) → (v : World) (es : List Event) → AreStored site v.db → EventsFit site es → (n : ℕ) → PassesNothingDown site v (take n es)
-first_runs_alike site distinct v es sv fits n = runs_alike site distinct v (take n es) sv (first_fit site n es fits)
+pub first_accepted_alike : (site : Site) → AreDistinct (site_labels site) → AreRead site → AreCertified site → (v : World) (es : List Event) → AreStored site v.db → EventsFit site es → (n : ℕ) → PassesOnlyReleasesDown site v (take n es)
+first_accepted_alike site distinct read certified v es sv fits n = accepted_alike site distinct read certified v (take n es) sv (first_fit site n es fits)
+
+-- ---- without calls
+
+plain_good : (site : Site) (distinct : AreDistinct (site_labels site)) (c : ℕ) (es : List Event) → EventsFit site es → HaveNoCall es → AreGood site distinct c es
+plain_good site distinct c [] fits plain = tt
+plain_good site distinct c (e ∷ es) fits plain = (record { fits = fits.0; safe = no_call site (IsSafe site) e.command plain.0 }, plain_good site distinct c es fits.1 plain.1)
+
+-- no call reads anything
+plain_ceilings : (site : Site) (c : ℕ) (es : List Event) → HaveNoCall es → AreBelowCeiling site c es
+plain_ceilings site c [] plain = tt
+plain_ceilings site c (e ∷ es) plain =
+    elim (below (site_labels site) e.level c) as (λ b. AllByRecursion (λ f. IsBelowCeiling site c f.command) (map (glimpse site c) (cond b (e ∷ filter (λ f. below (site_labels site) f.level c) es) (filter (λ f. below (site_labels site) f.level c) es)))) [
+      | true ↦ (plain_ceiling e.command plain.0, plain_ceilings site c es plain.1)
+      | false ↦ plain_ceilings site c es plain.1
+    ]
+  where
+    plain_ceiling : (a : Command) → IsNoCall a → IsBelowCeiling site c (shown site c a)
+    plain_ceiling (commands.Open name) h = tt
+    plain_ceiling commands.Close h = tt
+    plain_ceiling commands.Audit h = tt
+    plain_ceiling (commands.View rel label) h = tt
+    plain_ceiling (commands.Insert rel key values) h = tt
+    plain_ceiling (commands.Update rel key key_class from sets) h = tt
+    plain_ceiling (commands.Delete rel key key_class) h = tt
+    plain_ceiling (commands.Call name args) h = absurd h
+
+pub runs_alike : LowRunsAreAlike
+runs_alike site distinct v es sv fits plain c w fs sw ff fplain agree same =
+    ends_alike site distinct c v w es fs (plain_good site distinct c es fits plain) (plain_good site distinct c fs ff fplain) sv sw agree same (inr (plain_ceilings site c es plain))

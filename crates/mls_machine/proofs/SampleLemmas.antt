@@ -40,7 +40,7 @@ module _ (u s h : Pair) (rights : List Right) where
   }
 
   abbrev site : Site
-  site = record { policy = policy; schemes = sod ∷ [] }
+  site = record { policy = policy; schemes = sod ∷ []; stored = [] }
 
   abbrev start : World
   start = record { db = λ rel. empty; sessions = no_sessions; audit = [] }

@@ -1,15 +1,17 @@
--- The laws of the machine: refusals change nothing, runs keep integrity, and no information flows down.
+-- The laws of the machine: refusals change nothing, runs keep integrity, and no information flows down but by releases.
 use Rattle.std.specs.Prelude.{◌≡◌, ℕ, false, List, [], ◌∷◌, ◌++◌, take, Option, Some, ⊤}
 use Rattle.mls_lattice.specs.Labels.{AreDistinct}
 use Rattle.mls_filterview.specs.Integrity.{HasIntegrity}
 use Rattle.mls_updates.specs.Outcome.{is_done}
 use Rattle.mls_audit.specs.declared.entry.Entry.{Entry}
 use Rattle.mls_script.specs.declared.event.Event.{Event}
+use Rattle.mls_script.specs.declared.event.Command.{Command}
+use Rattle.mls_script.specs.declared.event.Command.TheVariants.{Call}
 use Rattle.mls_machine.specs.declared.reply.Reply.{Reply}
-use Rattle.mls_machine.specs.declared.reply.Reply.TheVariants.{Opened, Closed, Rows, Wrote, Entries, Denied}
+use Rattle.mls_machine.specs.declared.reply.Reply.TheVariants.{Opened, Closed, Rows, Wrote, Ran, Entries, Denied}
 use Rattle.mls_machine.specs.Site.{Site, site_labels}
-use Rattle.mls_machine.specs.Machine.{World, denial_entry, step, end_of}
-use Rattle.mls_machine.specs.Observation.{AreStored, EventsFit, PassesNothingDown}
+use Rattle.mls_machine.specs.Machine.{World, denial_entry, call_entries, step, end_of}
+use Rattle.mls_machine.specs.Observation.{AreStored, EventsFit, HaveNoCall, AreRead, AreSecure, AreCertified, PassesNothingDown, PassesOnlyReleasesDown}
 
 -- a denial, the rows of a view, the entries of an audit, or a write that is refused
 abbrev pub ChangesNothing : Reply → Type 0
@@ -17,6 +19,7 @@ ChangesNothing (Opened user) = ⊥
 ChangesNothing Closed = ⊥
 ChangesNothing (Rows tuples) = ⊤
 ChangesNothing (Wrote o) = is_done o ≡ false
+ChangesNothing (Ran run) = ⊥
 ChangesNothing (Entries es) = ⊤
 ChangesNothing (Denied d) = ⊤
 
@@ -25,23 +28,38 @@ abbrev pub RefusalsChangeNothing : Type 0
 RefusalsChangeNothing =
     (site : Site) (w : World) (e : Event) → ChangesNothing (step site w e).reply → ((step site w e).world.db ≡ w.db) × ((step site w e).world.sessions ≡ w.sessions)
 
--- what an event adds to the audit list, by the user of its session where that is open before: the entry of a denial
-abbrev pub entries_added : Site → Event → Option ℕ → Reply → List Entry
-entries_added site e (Some user) (Denied d) = denial_entry site e user d ∷ []
-entries_added site e session reply = []
+-- what an event adds to the audit list, by the user of its session where that is open before: the entry of a denial, or
+-- those of a call
+abbrev pub entries_added : Site → Event → Command → Option ℕ → Reply → List Entry
+entries_added site e command (Some user) (Denied d) = denial_entry site e user d ∷ []
+entries_added site e (Call name args) (Some user) (Ran run) = call_entries site e user name run.released
+entries_added site e command session reply = []
 
 -- the audit list grows by that, and by nothing else
-abbrev pub DenialsAreEntered : Type 0
-DenialsAreEntered =
-    (site : Site) (w : World) (e : Event) → (step site w e).world.audit ≡ w.audit ++ entries_added site e (w.sessions e.level e.session) (step site w e).reply
+abbrev pub DenialsAndCallsAreEntered : Type 0
+DenialsAndCallsAreEntered =
+    (site : Site) (w : World) (e : Event) → (step site w e).world.audit ≡ w.audit ++ entries_added site e e.command (w.sessions e.level e.session) (step site w e).reply
 
 -- each database on the way of a run has the four integrity properties
 abbrev pub KeepsIntegrity : Site → World → List Event → Type 0
 KeepsIntegrity site w es = (n rel : ℕ) → HasIntegrity (site_labels site) ((end_of site w (take n es)).db rel)
 
 abbrev pub RunsKeepIntegrity : Type 0
-RunsKeepIntegrity = (site : Site) → AreDistinct (site_labels site) → (w : World) (es : List Event) → AreStored site w.db → EventsFit site es → KeepsIntegrity site w es
+RunsKeepIntegrity =
+    (site : Site) → AreDistinct (site_labels site) → AreRead site → (w : World) (es : List Event) → AreStored site w.db → EventsFit site es → KeepsIntegrity site w es
 
--- what a level sees of the worlds and the events determines what it is shown
+-- without calls, what a level sees of the worlds and the events determines what it is shown
 abbrev pub LowRunsAreAlike : Type 0
-LowRunsAreAlike = (site : Site) → AreDistinct (site_labels site) → (v : World) (es : List Event) → AreStored site v.db → EventsFit site es → PassesNothingDown site v es
+LowRunsAreAlike =
+    (site : Site) → AreDistinct (site_labels site) → (v : World) (es : List Event) → AreStored site v.db → EventsFit site es → HaveNoCall es → PassesNothingDown site v es
+
+-- what a level sees of the worlds and the events, and what is released to it, determine what it is shown
+abbrev pub SecureRunsAreAlike : Type 0
+SecureRunsAreAlike =
+    (site : Site) → AreDistinct (site_labels site) → AreRead site → AreSecure site
+    → (v : World) (es : List Event) → AreStored site v.db → EventsFit site es → PassesOnlyReleasesDown site v es
+
+abbrev pub AcceptedRunsAreAlike : Type 0
+AcceptedRunsAreAlike =
+    (site : Site) → AreDistinct (site_labels site) → AreRead site → AreCertified site
+    → (v : World) (es : List Event) → AreStored site v.db → EventsFit site es → PassesOnlyReleasesDown site v es

@@ -1,3 +1,4 @@
+pub mod Stored
 pub mod Site
 pub mod Reply
 pub mod Denying

@@ -1,9 +1,10 @@
 -- The machine of sessions (after Bell and LaPadula 1976): what each event does to the database, the sessions and the
 -- audit list, and what it is answered.
-use Rattle.std.specs.Prelude.{ℕ, ◌&&◌, if◌then◌else◌, nat_eq, List, [], ◌∷◌, ◌++◌, Option, Some, None, Result, Ok, Err}
+use Rattle.std.specs.Prelude.{ℕ, ◌&&◌, if◌then◌else◌, nat_eq, List, [], ◌∷◌, ◌++◌, map, Option, Some, None, Result, Ok, Err}
 use Rattle.std.specs.Str.{bytes_eq}
 use Rattle.mls_lattice.specs.Policy.{Name}
 use Rattle.mls_lattice.specs.Canon.{user_name}
+use Rattle.mls_scheme.specs.declared.value.Value.{Value}
 use Rattle.mls_scheme.specs.Table.{Database}
 use Rattle.mls_filterview.specs.View.{rows}
 use Rattle.mls_filterview.specs.Content.{with_table}
@@ -11,16 +12,20 @@ use Rattle.mls_updates.specs.Writes.{Write, Insert, Update, Delete, write}
 use Rattle.mls_audit.specs.declared.entry.Entry.{Entry}
 use Rattle.mls_audit.specs.declared.entry.Entry.TheVariants as entries
 use Rattle.mls_audit.specs.Entry.{visible}
+use Rattle.mls_translang.specs.Tx.{Tx}
+use Rattle.mls_meaning.specs.Meaning.{Item, run_tx}
 use Rattle.mls_script.specs.declared.event.Event.{Event}
 use Rattle.mls_script.specs.declared.event.Command.{Command}
 use Rattle.mls_script.specs.declared.event.Command.TheVariants as commands
 use Rattle.mls_machine.specs.declared.reply.Denial.{Denial}
-use Rattle.mls_machine.specs.declared.reply.Denial.TheVariants.{NoSession, AlreadyOpen}
+use Rattle.mls_machine.specs.declared.reply.Denial.TheVariants.{NoSession, AlreadyOpen, UnknownTransaction, NotCertified}
 use Rattle.mls_machine.specs.declared.reply.Reply.{Reply}
-use Rattle.mls_machine.specs.declared.reply.Reply.TheVariants.{Opened, Closed, Rows, Wrote, Entries, Denied}
+use Rattle.mls_machine.specs.declared.reply.Reply.TheVariants.{Opened, Closed, Rows, Wrote, Ran, Entries, Denied}
+use Rattle.mls_machine.specs.declared.stored.Stored.{Stored}
+use Rattle.mls_machine.specs.declared.stored.Stored.TheVariants.{Certified, Plain}
 use Rattle.mls_machine.specs.Site.{Site, site_labels, site_scheme}
 use Rattle.mls_machine.specs.Reply.{code_of}
-use Rattle.mls_machine.specs.Denying.{first_denial, user_named, cleared, view_denials, write_denials}
+use Rattle.mls_machine.specs.Denying.{first_denial, user_named, stored_named, fitted, cleared, view_denials, write_denials, call_denials}
 
 -- the user of each open session, by its level and name
 abbrev pub Sessions : Type 0
@@ -85,6 +90,25 @@ module _ (site : Site) where
   abbrev pub listed : World → ℕ → Step
   listed w level = record { world = w; reply = Entries (visible (site_labels site) level w.audit) }
 
+  -- ---- calls
+
+  -- what is released is entered at the label that may see it
+  abbrev pub release_entry : Event → ℕ → Item → Entry
+  release_entry event user item = entries.Released item.0 (user_name site.policy.users user) event.session item.1
+
+  -- the call at the level of the session, and then the releases in order
+  abbrev pub call_entries : Event → ℕ → Name → List Item → List Entry
+  call_entries event user name released = entries.Called event.level (user_name site.policy.users user) event.session name ∷ map (release_entry event user) released
+
+  -- the transaction of the name is run
+  abbrev pub called : World → Event → ℕ → Name → Tx → List (Option Value) → Step
+  called w event user name tx args =
+      let end = run_tx (site_labels site) site.schemes tx (fitted tx.params args) w.db in
+      record {
+        world = record w { db = end.db; audit = w.audit ++ call_entries event user name end.released };
+        reply = Ran (record { emitted = end.emitted; released = end.released });
+      }
+
   -- ---- commands
 
   abbrev pub view_step : World → Event → ℕ → ℕ → ℕ → Step
@@ -92,6 +116,12 @@ module _ (site : Site) where
 
   abbrev pub write_step : World → Event → ℕ → ℕ → Write → Step
   write_step w event user rel wr = unless (first_denial (write_denials site event.level user rel wr)) w event user (wrote w event.level rel wr)
+
+  -- a call of what is stored by the name, if anything is
+  abbrev pub call_step : World → Event → ℕ → Name → List (Option Value) → Option Stored → Step
+  call_step w event user name args None = denied w event user UnknownTransaction
+  call_step w event user name args (Some (Plain tx)) = denied w event user NotCertified
+  call_step w event user name args (Some (Certified k)) = unless (first_denial (call_denials site event.level user k.tx args)) w event user (called w event user name k.tx args)
 
   -- where the session is open, for this user
   abbrev pub step_inside : World → Event → Command → ℕ → Step
@@ -102,6 +132,7 @@ module _ (site : Site) where
   step_inside w event (commands.Insert rel key values) user = write_step w event user rel (Insert key values)
   step_inside w event (commands.Update rel key key_class from sets) user = write_step w event user rel (Update key key_class from sets)
   step_inside w event (commands.Delete rel key key_class) user = write_step w event user rel (Delete key key_class)
+  step_inside w event (commands.Call name args) user = call_step w event user name args (stored_named site.stored name)
 
   -- an opening, for the user that is cleared for the level
   abbrev pub open_step : World → Event → Result ℕ Denial → Step

@@ -1,18 +1,33 @@
 -- What a level may see of a run, and when two worlds look alike to it.
-use Rattle.std.specs.Prelude.{◌≡◌, ℕ, true, List, length, ◌↔◌}
+use Rattle.std.specs.Prelude.{◌≡◌, ℕ, true, if◌then◌else◌, List, [], ◌∷◌, ◌++◌, map, length, Option, Some, None, ◌↔◌, ◌⊎◌, ⊤}
 use Rattle.std.specs.List.{filter, AllByRecursion}
+use Rattle.std.specs.Option.{IfSome}
 use Rattle.mls_lattice.specs.Labels.{Labels, below}
 use Rattle.mls_lattice.specs.Policy.{Name}
+use Rattle.mls_scheme.specs.declared.value.Value.{Value}
 use Rattle.mls_scheme.specs.declared.tuple.Tuple.{Tuple}
 use Rattle.mls_scheme.specs.Table.{Database, IsIn}
 use Rattle.mls_filterview.specs.View.{View}
 use Rattle.mls_filterview.specs.Stored.{IsStored}
 use Rattle.mls_audit.specs.Entry.{visible}
+use Rattle.mls_translang.specs.declared.tx.Parameter.{Parameter}
+use Rattle.mls_translang.specs.Fits.{IsReadUnder}
+use Rattle.mls_meaning.specs.Meaning.{Item}
+use Rattle.mls_meaning.specs.Secure.{seen_items, Secure}
 use Rattle.mls_script.specs.declared.event.Event.{Event}
+use Rattle.mls_script.specs.declared.event.Command.{Command}
+use Rattle.mls_script.specs.declared.event.Command.TheVariants.{Call}
 use Rattle.mls_script.specs.Event.{EventFits}
+use Rattle.mls_machine.specs.declared.reply.Reply.{Reply}
+use Rattle.mls_machine.specs.declared.reply.Reply.TheVariants.{Ran}
+use Rattle.mls_machine.specs.declared.stored.Stored.{Stored}
+use Rattle.mls_machine.specs.Stored.{tx_of, WhereCertified, IsCertifiedUnder, IsMadeUnder}
 use Rattle.mls_machine.specs.Site.{Site, site_labels, site_scheme}
-use Rattle.mls_machine.specs.Machine.{World, end_of}
+use Rattle.mls_machine.specs.Denying.{stored_named}
+use Rattle.mls_machine.specs.Machine.{World, step, end_of}
 use Rattle.mls_machine.specs.Output.{Line, run_lines}
+
+-- ---- what a run begins with
 
 -- each relation of a database is of the stored form
 abbrev pub AreStored : Site → Database → Type 0
@@ -21,13 +36,84 @@ AreStored site db = (rel : ℕ) → IsStored (site_labels site) (length (site_sc
 abbrev pub EventsFit : Site → List Event → Type 0
 EventsFit site = AllByRecursion (EventFits site.policy site.schemes)
 
--- the events of levels that c dominates, in order
-abbrev pub seen : Labels → ℕ → List Event → List Event
-seen ls c es = filter (λ e. below ls e.level c) es
+-- the stored transactions were read under the policy and the schemes
+abbrev pub AreRead : Site → Type 0
+AreRead site = AllByRecursion (λ s. IsReadUnder site.policy site.schemes (tx_of s)) site.stored
+
+-- those with certificates are secure
+abbrev pub AreSecure : Site → Type 0
+AreSecure site = AllByRecursion (WhereCertified (Secure site.policy)) site.stored
+
+-- under their certificates the rules hold
+abbrev pub AreCertified : Site → Type 0
+AreCertified site = AllByRecursion (IsCertifiedUnder site.policy) site.stored
+
+-- they were checked under the policy of the site
+abbrev pub AreMadeUnder : Site → Type 0
+AreMadeUnder site = AllByRecursion (IsMadeUnder site.policy) site.stored
+
+-- ---- events
+
+-- the parameters of what is stored by a name
+abbrev pub params_of : Option Stored → List (Name × Parameter)
+params_of None = []
+params_of (Some s) = (tx_of s).params
+
+-- the arguments, with null in place of each at a parameter whose label c does not dominate
+abbrev pub blanked : Labels → ℕ → List (Name × Parameter) → List (Option Value) → List (Option Value)
+blanked ls c [] args = args
+blanked ls c (p ∷ ps) [] = []
+blanked ls c (p ∷ ps) (v ∷ vs) = (if below ls p.1.label c then v else None) ∷ blanked ls c ps vs
+
+module _ (site : Site) (c : ℕ) where
+  abbrev pub shown : Command → Command
+  shown (Call name args) = Call name (blanked (site_labels site) c (params_of (stored_named site.stored name)) args)
+  shown command = command
+
+  -- what c sees of an event of a level that it dominates
+  abbrev pub glimpse : Event → Event
+  glimpse e = record e { command = shown e.command }
+
+  -- what c sees of events: those of levels that it dominates, in order
+  abbrev pub seen : List Event → List Event
+  seen es = map glimpse (filter (λ e. below (site_labels site) e.level c) es)
+
+  -- c dominates all that a call can read
+  abbrev pub IsBelowCeiling : Command → Type 0
+  IsBelowCeiling (Call name args) = IfSome (stored_named site.stored name) (λ s. below (site_labels site) (tx_of s).hi c ≡ true)
+  IsBelowCeiling command = ⊤
+
+  -- so of each call that c sees
+  abbrev pub AreBelowCeiling : List Event → Type 0
+  AreBelowCeiling es = AllByRecursion (λ e. IsBelowCeiling e.command) (seen es)
+
+abbrev pub IsNoCall : Command → Type 0
+IsNoCall (Call name args) = ⊥
+IsNoCall command = ⊤
+
+abbrev pub HaveNoCall : List Event → Type 0
+HaveNoCall = AllByRecursion (λ e. IsNoCall e.command)
+
+-- ---- lines and releases
 
 -- the lines whose labels c dominates, in order
 abbrev pub out : Labels → ℕ → List Line → List Line
 out ls c lines = filter (λ l. below ls l.label c) lines
+
+abbrev pub released_in : Reply → List Item
+released_in (Ran run) = run.released
+released_in reply = []
+
+-- the items that are released in a run from w, in order
+unfoldable pub run_released : Site → World → List Event → List Item
+run_released site w [] = []
+run_released site w (e ∷ es) = released_in (step site w e).reply ++ run_released site (step site w e).world es
+
+-- those that are released to labels that c dominates
+abbrev pub released_to : Site → ℕ → World → List Event → List Item
+released_to site c w es = seen_items (site_labels site) c (run_released site w es)
+
+-- ---- worlds
 
 -- two worlds look alike to c: the view of each relation, the sessions of levels that c dominates, and the entries of
 -- labels that it dominates
@@ -36,14 +122,26 @@ pub record AgreeAt (ls : Labels) (c : ℕ) (v w : World) : Type 0 where
   pub sessions : (level : ℕ) (name : Name) → below ls level c ≡ true → v.sessions level name ≡ w.sessions level name
   pub entries : visible ls c v.audit ≡ visible ls c w.audit
 
+-- ---- runs
+
 -- two runs show the same lines to c, and end in worlds that look alike to it
 pub record EndAlike (site : Site) (c : ℕ) (v w : World) (es fs : List Event) : Type 0 where
   pub out : out (site_labels site) c (run_lines site v es) ≡ out (site_labels site) c (run_lines site w fs)
   pub worlds : AgreeAt (site_labels site) c (end_of site v es) (end_of site w fs)
 
--- no information flows down in a run: at each level c, a run from any other world of the stored form that looks alike to
--- c, over any events of which c sees the same, shows c the same
+-- no information flows down in a run: at each level c, a run without calls from any other world of the stored form that
+-- looks alike to c, over any events of which c sees the same, shows c the same
 abbrev pub PassesNothingDown : Site → World → List Event → Type 0
 PassesNothingDown site v es =
+    (c : ℕ) (w : World) (fs : List Event) → AreStored site w.db → EventsFit site fs → HaveNoCall fs
+    → AgreeAt (site_labels site) c v w → seen site c es ≡ seen site c fs → EndAlike site c v w es fs
+
+-- no information flows down in a run but what is released: at each level c, a run from any other world of the stored form
+-- that looks alike to c, over any events of which c sees the same, shows c the same, if it also releases the same to c, or
+-- if c dominates all that the calls that it sees can read
+abbrev pub PassesOnlyReleasesDown : Site → World → List Event → Type 0
+PassesOnlyReleasesDown site v es =
     (c : ℕ) (w : World) (fs : List Event) → AreStored site w.db → EventsFit site fs
-    → AgreeAt (site_labels site) c v w → seen (site_labels site) c es ≡ seen (site_labels site) c fs → EndAlike site c v w es fs
+    → AgreeAt (site_labels site) c v w → seen site c es ≡ seen site c fs
+    → (released_to site c v es ≡ released_to site c w fs) ⊎ AreBelowCeiling site c es
+    → EndAlike site c v w es fs

@@ -16,12 +16,13 @@ use Rattle.mls_updates.specs.Outcome.{is_done, code_of as outcome_code, word_of 
 use Rattle.mls_audit.specs.declared.entry.Entry.{Entry}
 use Rattle.mls_audit.specs.declared.entry.Entry.TheVariants as entries
 use Rattle.mls_audit.specs.Entry.{label_of}
+use Rattle.mls_meaning.specs.Meaning.{Item}
 use Rattle.mls_script.specs.declared.event.Event.{Event}
 use Rattle.mls_script.specs.declared.event.Command.{Command}
 use Rattle.mls_script.specs.declared.event.Command.TheVariants as commands
 use Rattle.mls_machine.specs.declared.reply.Denial.{Denial}
 use Rattle.mls_machine.specs.declared.reply.Reply.{Reply}
-use Rattle.mls_machine.specs.declared.reply.Reply.TheVariants.{Opened, Closed, Rows, Wrote, Entries, Denied}
+use Rattle.mls_machine.specs.declared.reply.Reply.TheVariants.{Opened, Closed, Rows, Wrote, Ran, Entries, Denied}
 use Rattle.mls_machine.specs.Site.{Site}
 use Rattle.mls_machine.specs.Reply.{code_of, word_of}
 use Rattle.mls_machine.specs.Machine.{World, step}
@@ -81,12 +82,18 @@ outcome_text o = if is_done o then codes "done" else codes "refused " ++ decimal
 abbrev pub denial_text : Denial → List ℕ
 denial_text d = codes "denied " ++ decimal (code_of d) ++ codes " " ++ word_of d
 
--- the texts of a reply to a command, one for each of its lines
+-- the text of a call, which answers nothing else
+abbrev pub call_texts : Command → List (List ℕ)
+call_texts (commands.Call name args) = (codes "called " ++ printable name) ∷ []
+call_texts command = []
+
+-- the texts of a reply to a command, one for each of its lines at the level of the session
 abbrev pub reply_texts : Site → Command → Reply → List (List ℕ)
 reply_texts site command (Opened user) = (codes "opened " ++ user_name site.policy.users user) ∷ []
 reply_texts site command Closed = codes "closed" ∷ []
 reply_texts site command (Rows tuples) = view_texts site command tuples
 reply_texts site command (Wrote o) = outcome_text o ∷ []
+reply_texts site command (Ran run) = call_texts command
 reply_texts site command (Entries es) = codes "audit" ∷ map (entry_text site.policy) es
 reply_texts site command (Denied d) = denial_text d ∷ []
 
@@ -104,9 +111,18 @@ front p e label = label_name p.labels label ++ codes " " ++ label_name p.labels 
 abbrev pub line : Tables → Event → ℕ → List ℕ → Line
 line p e label text = record { label = label; text = front p e label ++ text }
 
--- the lines of a reply have the level of the session
+-- an item, in a line of its own label
+abbrev pub item_line : Tables → Event → List ℕ → Item → Line
+item_line p e deed item = line p e item.0 (deed ++ cell_text item.1)
+
+-- the items of a reply: first those that are emitted, then those that are released
+abbrev pub item_lines : Tables → Event → Reply → List Line
+item_lines p e (Ran run) = map (item_line p e (codes "emit ")) run.emitted ++ map (item_line p e (codes "release ")) run.released
+item_lines p e reply = []
+
+-- the lines of a reply: those at the level of the session, and then its items
 abbrev pub reply_lines : Site → Event → Reply → List Line
-reply_lines site e r = map (line site.policy e e.level) (reply_texts site e.command r)
+reply_lines site e r = map (line site.policy e e.level) (reply_texts site e.command r) ++ item_lines site.policy e r
 
 -- the lines of a run from w
 unfoldable pub run_lines : Site → World → List Event → List Line
@@ -127,11 +143,16 @@ CommandIsKnown site command = ⊤
 abbrev pub EntriesAreKnown : Tables → List Entry → Type 0
 EntriesAreKnown p = AllByRecursion (λ e. label_of e < length p.labels)
 
+-- the labels of items are declared
+abbrev pub ItemsAreKnown : Tables → List Item → Type 0
+ItemsAreKnown p = AllByRecursion (λ i. i.0 < length p.labels)
+
 abbrev pub ReplyIsKnown : Tables → Reply → Type 0
 ReplyIsKnown p (Opened user) = user < length p.users
 ReplyIsKnown p Closed = ⊤
 ReplyIsKnown p (Rows tuples) = AllByRecursion (HasClassesBelow (length p.labels)) tuples
 ReplyIsKnown p (Wrote o) = ⊤
+ReplyIsKnown p (Ran run) = ItemsAreKnown p run.emitted × ItemsAreKnown p run.released
 ReplyIsKnown p (Entries es) = EntriesAreKnown p es
 ReplyIsKnown p (Denied d) = ⊤
 

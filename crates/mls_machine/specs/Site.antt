@@ -1,13 +1,15 @@
 -- What a run is under.
-use Rattle.std.specs.Prelude.{ℕ}
+use Rattle.std.specs.Prelude.{ℕ, List}
 use Rattle.mls_lattice.specs.Labels.{Labels}
 use Rattle.mls_lattice.specs.Policy.{Tables, labels_of}
 use Rattle.mls_scheme.specs.Scheme.{Scheme, Schemes, scheme_of}
+use Rattle.mls_machine.specs.declared.stored.Stored.{Stored}
 
--- a policy, and the schemes of its relations
+-- a policy, the schemes of its relations, and the stored transactions
 pub record Site : Type 0 where
   pub policy : Tables
   pub schemes : Schemes
+  pub stored : List Stored
 
 -- the declared labels, by number
 abbrev pub site_labels : Site → Labels

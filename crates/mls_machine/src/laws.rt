@@ -1,5 +1,5 @@
 //! The laws of the machine, each the contract of a function.
-ghost use Rattle.mls_machine.specs.Laws.{RefusalsChangeNothing, DenialsAreEntered, RunsKeepIntegrity, LowRunsAreAlike};
+ghost use Rattle.mls_machine.specs.Laws.{RefusalsChangeNothing, DenialsAndCallsAreEntered, RunsKeepIntegrity, LowRunsAreAlike, SecureRunsAreAlike, AcceptedRunsAreAlike};
 
 /// A command that is denied, a view, an audit, and a write that is refused leave the database and the sessions as they
 /// were.
@@ -7,9 +7,10 @@ pub fn refusals_change_nothing()
     ensures { RefusalsChangeNothing }
 {}
 
-/// The audit list grows by the entry of each denial in an open session, and by nothing else.
-pub fn denials_are_entered()
-    ensures { DenialsAreEntered }
+/// The audit list grows by the entry of each denial in an open session, by the entries of each transaction that is run,
+/// its call and then its releases, and by nothing else.
+pub fn denials_and_calls_are_entered()
+    ensures { DenialsAndCallsAreEntered }
 {}
 
 /// Over content of the stored form each database on the way of a run has the four integrity properties.
@@ -17,9 +18,20 @@ pub fn runs_keep_integrity()
     ensures { RunsKeepIntegrity }
 {}
 
-/// No command passes information to a level that does not dominate that of its session: two runs from worlds that look
-/// alike to a level, over events of which it sees the same, show it the same lines and end in worlds that look alike to
-/// it.
+/// No command but a call passes information to a level that does not dominate that of its session: two runs without
+/// calls from worlds that look alike to a level, over events of which it sees the same, show it the same lines and end
+/// in worlds that look alike to it.
 pub fn low_runs_are_alike()
     ensures { LowRunsAreAlike }
+{}
+
+/// Where the transactions with certificates are secure, information flows down by releases alone: the runs show a level
+/// the same if they also release the same to it, or if it dominates all that the calls that it sees can read.
+pub fn secure_runs_are_alike()
+    ensures { SecureRunsAreAlike }
+{}
+
+/// The same where the rules of certificates hold: the checker's word is enough.
+pub fn accepted_runs_are_alike()
+    ensures { AcceptedRunsAreAlike }
 {}

@@ -3,8 +3,11 @@
 
 mod laws;
 mod reply;
+mod stored;
 
 pub use laws::{
-    denials_are_entered, low_runs_are_alike, refusals_change_nothing, runs_keep_integrity,
+    accepted_runs_are_alike, denials_and_calls_are_entered, low_runs_are_alike,
+    refusals_change_nothing, runs_keep_integrity, secure_runs_are_alike,
 };
 pub use reply::{Denial, Reply};
+pub use stored::Stored;

@@ -4,6 +4,7 @@ ghost use Rattle.mls_machine.specs.Reply.{code_of, word_of};
 
 use mls_audit::Entry;
 use mls_lattice::{Items, UserNo};
+use mls_meaning::Run;
 use mls_scheme::Tuple;
 use mls_updates::Outcome;
 
@@ -16,12 +17,21 @@ pub enum Denial {
     AlreadyOpen,
     /// The policy has no such user.
     UnknownUser,
-    /// The user lacks the mode that the command needs on its relation.
+    /// No transaction of the name is stored.
+    UnknownTransaction,
+    /// The transaction is stored without a certificate.
+    NotCertified,
+    /// The user lacks the mode that the command needs on its relation or transaction.
     Ds,
-    /// The user's clearance does not dominate the level to open at, or a label that the command names.
+    /// The user's clearance does not dominate the level to open at, a label that the command names, or the highest label
+    /// of what the transaction reads.
     Ss,
-    /// The session's level does not dominate a label that the command names.
+    /// The session's level does not dominate a label that the command names, or is not the transaction's lowest one.
     Star,
+    /// The transaction reads above its lowest label, and the user is not trusted in an interval that has both ends.
+    Trust,
+    /// There are more or fewer arguments than parameters, or one at a parameter of the lowest label has the wrong kind.
+    Arguments,
 }
 
 impl Denial {
@@ -33,9 +43,13 @@ impl Denial {
             Denial::NoSession => 31,
             Denial::AlreadyOpen => 32,
             Denial::UnknownUser => 33,
+            Denial::UnknownTransaction => 34,
+            Denial::NotCertified => 35,
             Denial::Ds => 36,
             Denial::Ss => 37,
             Denial::Star => 38,
+            Denial::Trust => 39,
+            Denial::Arguments => 40,
         }
     }
 
@@ -47,9 +61,13 @@ impl Denial {
             Denial::NoSession => "NoSession",
             Denial::AlreadyOpen => "AlreadyOpen",
             Denial::UnknownUser => "UnknownUser",
+            Denial::UnknownTransaction => "UnknownTransaction",
+            Denial::NotCertified => "NotCertified",
             Denial::Ds => "Ds",
             Denial::Ss => "Ss",
             Denial::Star => "Star",
+            Denial::Trust => "Trust",
+            Denial::Arguments => "Arguments",
         }
     }
 }
@@ -65,6 +83,8 @@ pub enum Reply {
     Rows(Items<Tuple>),
     /// What became of a write.
     Wrote(Outcome),
+    /// What the transaction that was called gave.
+    Ran(Run),
     /// The entries of the audit list that the session's level dominates, in order.
     Entries(Items<Entry>),
     Denied(Denial),

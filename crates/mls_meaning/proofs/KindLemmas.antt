@@ -36,6 +36,7 @@ use Rattle.mls_translang.specs.Kinds.{Sort, Of, Truth, field_of, HasKind, HaveKi
 use Rattle.mls_translang.specs.Fits.{StmtFits, BlockFits}
 use Rattle.mls_meaning.specs.Expressions.{bounded, calculate, cell_of, no_tuple, Environment, eval, value_in, holds_in}
 use Rattle.mls_meaning.specs.Meaning.{Variables, Progress, set_var, set_outcome, environment, values_set, write_in, perform, for_each, run_block}
+use Rattle.mls_meaning.specs.Kinds.{RowKinds, VarsFit, AroundFits}
 use Rattle.mls_meaning.specs.Laws.{IsItem}
 use Rattle.mls_meaning.proofs.KeepingLemmas.{table_holds, all_push, cond_kept, write_fits}
 
@@ -64,10 +65,6 @@ not_truth : (k : Kind) → Of k ≡ Truth → ⊥
 not_truth k e = absurd (cc)
 
 -- ---- rows
-
--- each attribute of a row has its kind
-abbrev pub RowKinds : Scheme → Tuple → Type 0
-RowKinds scheme t = (i : ℕ) → fits_kind (cell_of t i) (field_of scheme i).kind ≡ true
 
 module _ (ls : Labels) (scheme : Scheme) (p : Place) (es : List Element) (h : Fits ls scheme p es) where
   abbrev KeyFits : Attribute → Value → Type 0
@@ -116,10 +113,7 @@ null_kinds scheme i =
 
 -- ---- what expressions read
 
-abbrev pub VarsFit : Scope → Variables → Type 0
-VarsFit scope vars = (i : ℕ) (k : Kind) → kind_of_var scope i ≡ Some k → fits_kind (vars i) k ≡ true
-
-set_kind : (scope : Scope) (x : ℕ) (v : Option Value) (vars : Variables) → VarsFit scope vars → ((k : Kind) → kind_of_var scope x ≡ Some k → fits_kind v k ≡ true) → VarsFit scope (set_var x v vars)
+pub set_kind : (scope : Scope) (x : ℕ) (v : Option Value) (vars : Variables) → VarsFit scope vars → ((k : Kind) → kind_of_var scope x ≡ Some k → fits_kind v k ≡ true) → VarsFit scope (set_var x v vars)
 set_kind scope x v vars h f i k e =
     elim (nat_eq i x) as (λ b. nat_eq i x ≡ b → fits_kind (cond b v (vars i)) k ≡ true) [
       | true ↦ λ q. f k (ap (kind_of_var scope) (sym (eqb-true i x q)) ∙ e)
@@ -137,7 +131,7 @@ code_kind Inherited = refl
 code_kind OutOfInterval = refl
 code_kind AlreadyDerived = refl
 
-outcome_kind : (scope : Scope) (outcome : Option ℕ) (o : Outcome) (vars : Variables) → IfSome outcome (λ x. kind_of_var scope x ≡ Some kinds.Int) → VarsFit scope vars → VarsFit scope (set_outcome outcome o vars)
+pub outcome_kind : (scope : Scope) (outcome : Option ℕ) (o : Outcome) (vars : Variables) → IfSome outcome (λ x. kind_of_var scope x ≡ Some kinds.Int) → VarsFit scope vars → VarsFit scope (set_outcome outcome o vars)
 outcome_kind scope None o vars f h = h
 outcome_kind scope (Some x) o vars f h =
     set_kind scope x (Some (Int (pos (code_of o)))) vars h (λ k q. subst (λ m. fits_kind (Some (Int (pos (code_of o)))) m ≡ true) (same_Some kinds.Int k (sym f ∙ q)) (code_kind o))
@@ -146,12 +140,12 @@ module _ (policy : Tables) (schemes : Schemes) (hi : ℕ) where
   abbrev ls : Labels
   ls = labels_of policy
 
-  record EnvironmentFits (scope : Scope) (env : Environment) : Type 0 where
+  pub record EnvironmentFits (scope : Scope) (env : Environment) : Type 0 where
     pub vars : VarsFit scope env.vars
     pub params : (i : ℕ) (k : Kind) → kind_of_param scope i ≡ Some k → fits_kind (slice_index_or env.args i None) k ≡ true
     pub rows : (d : ℕ) → RowKinds (scheme_of schemes (row_at scope d).relation) (slice_index_or env.rows d no_tuple)
 
-  value_kind : (scope : Scope) (env : Environment) → EnvironmentFits scope env → (k : Kind) (e : Expr) → HasKind schemes scope k e → fits_kind (value_in env e) k ≡ true
+  pub value_kind : (scope : Scope) (env : Environment) → EnvironmentFits scope env → (k : Kind) (e : Expr) → HasKind schemes scope k e → fits_kind (value_in env e) k ≡ true
   unfolding eval
   value_kind scope env h k (Known v) s = s
   value_kind scope env h k Null s = refl
@@ -171,21 +165,31 @@ module _ (policy : Tables) (schemes : Schemes) (hi : ℕ) where
   value_kind scope env h k (Op operators.And a b) s = absurd (not_truth k s.0)
   value_kind scope env h k (Op operators.Or a b) s = absurd (not_truth k s.0)
 
-  values_kinds : (scope : Scope) (env : Environment) → EnvironmentFits scope env → (attributes : List Attribute) (es : List Expr) → HaveKinds schemes scope attributes es → AllZip (λ a v. fits_kind v a.kind ≡ true) attributes (map (value_in env) es)
+  pub values_kinds : (scope : Scope) (env : Environment) → EnvironmentFits scope env → (attributes : List Attribute) (es : List Expr) → HaveKinds schemes scope attributes es → AllZip (λ a v. fits_kind v a.kind ≡ true) attributes (map (value_in env) es)
   values_kinds scope env h [] [] z = tt
   values_kinds scope env h [] (e ∷ es) z = absurd z
   values_kinds scope env h (a ∷ attributes) [] z = absurd z
   values_kinds scope env h (a ∷ attributes) (e ∷ es) z = (value_kind scope env h a.kind e z.0, values_kinds scope env h attributes es z.1)
 
-  sets_kinds : (scope : Scope) (env : Environment) → EnvironmentFits scope env → (scheme : Scheme) (sets : List (ℕ × Expr)) → AllByRecursion (λ x. HasKind schemes scope (other_of scheme x.0).kind x.1) sets
+  pub sets_kinds : (scope : Scope) (env : Environment) → EnvironmentFits scope env → (scheme : Scheme) (sets : List (ℕ × Expr)) → AllByRecursion (λ x. HasKind schemes scope (other_of scheme x.0).kind x.1) sets
       → AllByRecursion (λ s. fits_kind s.1 (other_of scheme s.0).kind ≡ true) (values_set env sets)
   sets_kinds scope env h scheme [] z = tt
   sets_kinds scope env h scheme (x ∷ xs) z = (value_kind scope env h (other_of scheme x.0).kind x.1 z.0, sets_kinds scope env h scheme xs z.1)
 
-  write_kinds : (scope : Scope) (env : Environment) → EnvironmentFits scope env → (scheme : Scheme) (writing : Writing) → WritingKinds schemes scope scheme writing → WriteKinds scheme (write_in env writing)
+  pub write_kinds : (scope : Scope) (env : Environment) → EnvironmentFits scope env → (scheme : Scheme) (writing : Writing) → WritingKinds schemes scope scheme writing → WriteKinds scheme (write_in env writing)
   write_kinds scope env h scheme (Inserting key values) z = (values_kinds scope env h scheme.keys key z.0, values_kinds scope env h scheme.others values z.1)
   write_kinds scope env h scheme (Updating key key_class from sets) z = sets_kinds scope env h scheme sets z.1
   write_kinds scope env h scheme (Deleting key key_class) z = tt
+
+  pub assigned : (scope : Scope) (env : Environment) → EnvironmentFits scope env → (x : ℕ) (e : Expr) → Assigns schemes scope x e → (k : Kind) → kind_of_var scope x ≡ Some k → fits_kind (value_in env e) k ≡ true
+  assigned scope env h x e a k q = subst (λ j. fits_kind (value_in env e) j ≡ true) (same_Some a.0 k (sym a.1 ∙ q)) (value_kind scope env h a.0 e a.2)
+
+  pub loop_fits : (args : List (Option Value)) (scope : Scope) (name : Name) (rel : ℕ) (row : Tuple) (around : List Tuple) → AroundFits schemes scope args around → RowKinds (scheme_of schemes rel) row → AroundFits schemes (in_loop scope name rel) args (row ∷ around)
+  loop_fits args scope name rel row around o k = record { params = o.params; rows = at_depth }
+    where
+      at_depth : (d : ℕ) → RowKinds (scheme_of schemes (row_at (in_loop scope name rel) d).relation) (slice_index_or (row ∷ around) d no_tuple)
+      at_depth zero = k
+      at_depth (suc d) = o.rows d
 
   -- ---- what a run keeps
 
@@ -195,19 +199,11 @@ module _ (policy : Tables) (schemes : Schemes) (hi : ℕ) where
     pub emitted : AllByRecursion (IsItem policy) s.emitted
     pub released : AllByRecursion (λ i. IsItem policy i × (below (labels_of policy) i.0 hi ≡ true)) s.released
 
-  -- arguments, and the rows of the loops around
-  pub record AroundFits (scope : Scope) (args : List (Option Value)) (around : List Tuple) : Type 0 where
-    pub params : (i : ℕ) (k : Kind) → kind_of_param scope i ≡ Some k → fits_kind (slice_index_or args i None) k ≡ true
-    pub rows : (d : ℕ) → RowKinds (scheme_of schemes (row_at scope d).relation) (slice_index_or around d no_tuple)
-
   module _ (distinct : AreDistinct (labels_of policy)) (args : List (Option Value)) where
-    environment_fits : (scope : Scope) (around : List Tuple) (s : Progress) → AroundFits scope args around → Keeps scope s → EnvironmentFits scope (environment args around s)
+    pub environment_fits : (scope : Scope) (around : List Tuple) (s : Progress) → AroundFits schemes scope args around → Keeps scope s → EnvironmentFits scope (environment args around s)
     environment_fits scope around s o h = record { vars = h.vars; params = o.params; rows = o.rows }
 
-    assigned : (scope : Scope) (env : Environment) → EnvironmentFits scope env → (x : ℕ) (e : Expr) → Assigns schemes scope x e → (k : Kind) → kind_of_var scope x ≡ Some k → fits_kind (value_in env e) k ≡ true
-    assigned scope env h x e a k q = subst (λ j. fits_kind (value_in env e) j ≡ true) (same_Some a.0 k (sym a.1 ∙ q)) (value_kind scope env h a.0 e a.2)
-
-    stmt_keeps : (scope : Scope) (around : List Tuple) (stmt : Stmt) (s : Progress) → StmtFits policy schemes hi scope stmt → StmtKinds schemes scope stmt → AroundFits scope args around → Keeps scope s → Keeps scope (perform ls schemes args around stmt s)
+    pub stmt_keeps : (scope : Scope) (around : List Tuple) (stmt : Stmt) (s : Progress) → StmtFits policy schemes hi scope stmt → StmtKinds schemes scope stmt → AroundFits schemes scope args around → Keeps scope s → Keeps scope (perform ls schemes args around stmt s)
     unfolding perform
     stmt_keeps scope around (Assign x e) s f z o h =
         let env = environment args around s in
@@ -242,7 +238,7 @@ module _ (policy : Tables) (schemes : Schemes) (hi : ℕ) where
           released = h.released;
         }
 
-    rows_kinds : (rel label : ℕ) (T : Table) → IsContent ls (scheme_of schemes rel) T → AllByRecursion (RowKinds (scheme_of schemes rel)) (rows ls label T)
+    pub rows_kinds : (rel label : ℕ) (T : Table) → IsContent ls (scheme_of schemes rel) T → AllByRecursion (RowKinds (scheme_of schemes rel)) (rows ls label T)
     rows_kinds rel label T h =
         let r = (rows_are_the_view ls distinct (length (scheme_of schemes rel).others) T h.stored label).1 in
         subst (AllByRecursion (RowKinds (scheme_of schemes rel))) (sym r.1) (each r.0 r.3)
@@ -255,14 +251,7 @@ module _ (policy : Tables) (schemes : Schemes) (hi : ℕ) where
     each_keeps scope scheme f step [] a s h = h
     each_keeps scope scheme f step (row ∷ rest) a s h = each_keeps scope scheme f step rest a.1 (f row s) (step row s a.0 h)
 
-    loop_fits : (scope : Scope) (name : Name) (rel : ℕ) (row : Tuple) (around : List Tuple) → AroundFits scope args around → RowKinds (scheme_of schemes rel) row → AroundFits (in_loop scope name rel) args (row ∷ around)
-    loop_fits scope name rel row around o k = record { params = o.params; rows = at_depth }
-      where
-        at_depth : (d : ℕ) → RowKinds (scheme_of schemes (row_at (in_loop scope name rel) d).relation) (slice_index_or (row ∷ around) d no_tuple)
-        at_depth zero = k
-        at_depth (suc d) = o.rows d
-
-    pub block_keeps : (scope : Scope) (block : Block) → BlockFits policy schemes hi scope block → BlockKinds schemes scope block → (around : List Tuple) → AroundFits scope args around → (s : Progress) → Keeps scope s → Keeps scope (run_block ls schemes args block around s)
+    pub block_keeps : (scope : Scope) (block : Block) → BlockFits policy schemes hi scope block → BlockKinds schemes scope block → (around : List Tuple) → AroundFits schemes scope args around → (s : Progress) → Keeps scope s → Keeps scope (run_block ls schemes args block around s)
     unfolding run_block
     block_keeps scope End f z around o s h = h
     block_keeps scope (Do stmt rest) f z around o s h = block_keeps scope rest f.1 z.1 around o (perform ls schemes args around stmt s) (stmt_keeps scope around stmt s f.0 z.0 o h)
@@ -270,6 +259,6 @@ module _ (policy : Tables) (schemes : Schemes) (hi : ℕ) where
         block_keeps scope rest f.3 z.3 around o _ (cond_kept (Keeps scope) (holds_in (environment args around s) guard) _ _ (block_keeps scope one f.1 z.1 around o s h) (block_keeps scope other f.2 z.2 around o s h))
     block_keeps scope (For name rel label body rest) f z around o s h =
         let inner = λ (row : Tuple) (t : Progress) (k : RowKinds (scheme_of schemes rel) row) (q : Keeps scope t).
-        let r = block_keeps (in_loop scope name rel) body f.2 z.0 (row ∷ around) (loop_fits scope name rel row around o k) t (record { content = q.content; vars = q.vars; emitted = q.emitted; released = q.released }) in
+        let r = block_keeps (in_loop scope name rel) body f.2 z.0 (row ∷ around) (loop_fits args scope name rel row around o k) t (record { content = q.content; vars = q.vars; emitted = q.emitted; released = q.released }) in
         let back : Keeps scope (run_block ls schemes args body (row ∷ around) t) = record { content = r.content; vars = r.vars; emitted = r.emitted; released = r.released } in back in
         block_keeps scope rest f.3 z.1 around o _ (each_keeps scope (scheme_of schemes rel) (λ row t. run_block ls schemes args body (row ∷ around) t) inner (rows ls label (s.db rel)) (rows_kinds rel label (s.db rel) (h.content rel)) s h)

@@ -23,7 +23,7 @@ pub keep_form : CallsKeepForm
 keep_form policy distinct schemes tx read args db stored = block_stored policy schemes tx.hi distinct args (scope_of tx) tx.body read.fits [] (start db) stored
 
 -- an argument has the kind of its parameter
-arg_kind : (params : List (Name × Parameter)) (args : List (Option Value)) → AllZip (λ p v. fits_kind v p.1.kind ≡ true) params args
+pub arg_kind : (params : List (Name × Parameter)) (args : List (Option Value)) → AllZip (λ p v. fits_kind v p.1.kind ≡ true) params args
     → (i : ℕ) (k : Kind) → option_map (λ p. p.1.kind) (slice_get params i) ≡ Some k → fits_kind (slice_index_or args i None) k ≡ true
 arg_kind [] [] h i k e = refl
 arg_kind [] (v ∷ vs) h i k e = absurd h

@@ -1,4 +1,5 @@
 pub mod Expressions
 pub mod Meaning
+pub mod Kinds
 pub mod Secure
 pub mod Laws

@@ -2,5 +2,7 @@
 #![tactic(auto)]
 
 mod laws;
+mod run;
 
 pub use laws::{calls_give_items, calls_keep_content, calls_keep_form};
+pub use run::Run;

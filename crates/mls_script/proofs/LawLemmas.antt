@@ -22,13 +22,14 @@ use Rattle.mls_script.specs.declared.fault.LineFault.{LineFault}
 use Rattle.mls_script.specs.declared.fault.ScriptFault.{ScriptFault}
 use Rattle.mls_script.specs.declared.draft.Draft.{Draft}
 use Rattle.mls_script.specs.declared.grammar.Verb.{Verb}
-use Rattle.mls_script.specs.declared.grammar.Verb.TheVariants.{Open, Close, Audit, View, Insert, Update, Delete}
+use Rattle.mls_script.specs.declared.grammar.Verb.TheVariants.{Open, Close, Audit, View, Insert, Update, Delete, Call}
 use Rattle.mls_script.specs.declared.grammar.Part.TheVariants as parts
 use Rattle.mls_script.specs.Event.{CommandFits, EventFits}
 use Rattle.mls_script.specs.Grammar.{verbs, verb_word, parts_of, blank, command_of, event_of, verb_of}
 use Rattle.mls_script.specs.Tokens.{parts_tokens, event_tokens}
 use Rattle.mls_script.specs.Reading.{Looked, parts_at, verb_or, verb_among, command_at, sentence_at, told_at, form_of, event_in, line_at, in_script, lines_at, split_lines, script_at, IsRead}
 use Rattle.mls_script.specs.Script.{Line, Tells, IsLineOf, ReadsScript}
+use Rattle.mls_script.proofs.KindLemmas.{IsToken, all_tokens, list_kinds}
 use Rattle.mls_script.proofs.FoundLemmas.{bind_ok, same_ok, Passed, passed_more, taken_word}
 use Rattle.mls_script.proofs.PartLemmas.{upto, PartFits, PartsFound, parts_found, Rising}
 
@@ -56,15 +57,17 @@ module _ (policy : Tables) (schemes : Schemes) where
   parts_rise Insert = (omega arith, (omega arith, (omega arith, tt)))
   parts_rise Update = (omega arith, (omega arith, (omega arith, (omega arith, (omega arith, tt)))))
   parts_rise Delete = (omega arith, (omega arith, (omega arith, tt)))
+  parts_rise Call = (omega arith, (omega arith, tt))
 
-  command_fits : (v : Verb) (d : Draft) → AllByRecursion (PartFits policy schemes d) (parts_of v) → CommandFits policy schemes (command_of v d)
-  command_fits Open d h = h.0
-  command_fits Close d h = tt
-  command_fits Audit d h = tt
-  command_fits View d h = (h.0, h.1.0)
-  command_fits Insert d h = (h.0, h.1.0, h.1.1.0)
-  command_fits Update d h = (h.0, h.1.0, h.1.1.0, h.1.1.1.0, h.1.1.1.1.0)
-  command_fits Delete d h = (h.0, h.1.0, h.1.1.0)
+  command_fits : (v : Verb) (d : Draft) → AllByRecursion (PartFits policy schemes d) (parts_of v) → AllByRecursion IsToken (parts_tokens policy schemes d (parts_of v)) → CommandFits policy schemes (command_of v d)
+  command_fits Open d h tokens = h.0
+  command_fits Close d h tokens = tt
+  command_fits Audit d h tokens = tt
+  command_fits View d h tokens = (h.0, h.1.0)
+  command_fits Insert d h tokens = (h.0, h.1.0, h.1.1.0)
+  command_fits Update d h tokens = (h.0, h.1.0, h.1.1.0, h.1.1.1.0, h.1.1.1.1.0)
+  command_fits Delete d h tokens = (h.0, h.1.0, h.1.1.0)
+  command_fits Call d h tokens = (h.0, list_kinds d.values [] tokens.1)
 
   -- the draft that an event is told by says the same
   verb_kept : (v : Verb) (d : Draft) → verb_of (command_of v d) ≡ v
@@ -75,6 +78,7 @@ module _ (policy : Tables) (schemes : Schemes) where
   verb_kept Insert d = refl
   verb_kept Update d = refl
   verb_kept Delete d = refl
+  verb_kept Call d = refl
 
   tokens_kept : (v : Verb) (d : Draft) → event_tokens policy schemes (event_of v d) ≡ parts_tokens policy schemes d (parts.Level ∷ parts.Session ∷ []) ++ Word (verb_word v) ∷ parts_tokens policy schemes d (parts_of v)
   tokens_kept Open d = refl
@@ -84,9 +88,14 @@ module _ (policy : Tables) (schemes : Schemes) where
   tokens_kept Insert d = refl
   tokens_kept Update d = refl
   tokens_kept Delete d = refl
+  tokens_kept Call d = refl
+
+  -- an event whose tokens are those of some text
+  abbrev pub FitsTold : Event → Type 0
+  FitsTold e = AllByRecursion IsToken (event_tokens policy schemes e) → EventFits policy schemes e
 
   record EventFound (e : Event) (l r : Left) : Type 0 where
-    fits : EventFits policy schemes e
+    fits : FitsTold e
     passed : Passed (event_tokens policy schemes e) l r
 
   front_tokens : (d f : Draft) → upto 2 d ≡ upto 2 f → parts_tokens policy schemes d (parts.Level ∷ parts.Session ∷ []) ≡ parts_tokens policy schemes f (parts.Level ∷ parts.Session ∷ [])
@@ -101,7 +110,7 @@ module _ (policy : Tables) (schemes : Schemes) where
       let first = start more.front more.was in
       let fits = front_fits more.front d more.kept first.fits in
       record {
-        fits = record { level = fits.0; session = fits.1.0; command = command_fits v d more.fits };
+        fits = λ told. record { level = fits.0; session = fits.1.0; command = command_fits v d more.fits (subst (AllByRecursion IsToken) (tokens_kept v d) told).1.1.1 };
         passed = subst (λ ts. Passed ts l r) (sym (tokens_kept v d))
             (passed_more (parts_tokens policy schemes d (parts.Level ∷ parts.Session ∷ [])) (Word (verb_word v) ∷ parts_tokens policy schemes d (parts_of v)) l m r
             (subst (λ ts. Passed ts l m) (front_tokens more.front d more.kept) first.passed)
@@ -125,7 +134,7 @@ module _ (policy : Tables) (schemes : Schemes) where
         | inr more ↦ absurd (let h = rw more at e in cc)
       ]
 
-  pub sentence_found : (l : Left) (e : Event) → sentence_at policy schemes l ≡ Ok (Ok e) → EventFits policy schemes e × (tokens_in l.placed ≡ event_tokens policy schemes e) × (l.stop.cause ≡ causes.Expected)
+  pub sentence_found : (l : Left) (e : Event) → sentence_at policy schemes l ≡ Ok (Ok e) → FitsTold e × (tokens_in l.placed ≡ event_tokens policy schemes e) × (l.stop.cause ≡ causes.Expected)
   unfolding sentence_at command_at
   sentence_found l e h =
       let front = bind_ok (parts_at policy schemes (parts.Level ∷ parts.Session ∷ []) (Ok blank) l) (λ front. command_at policy schemes front.0 front.1 >>= λ x. pass_end x.1 >>= λ _. Ok x.0) (Ok e) h in
@@ -146,7 +155,7 @@ module _ (policy : Tables) (schemes : Schemes) where
       let end = over_is x.0.1.placed x.0.1.stop (end_found x.0.1 over.0 over.1) in
       let last : y.0.1 ≡ x.0.1 = ap (λ (z : Result Event LineFault × Left). z.1) pair in
       let passed : Passed (event_tokens policy schemes e) l x.0.1 = subst (λ z. Passed (event_tokens policy schemes z) l x.0.1) same (subst (λ z. Passed (event_tokens policy schemes (event_of v.0.0 d.0)) l z) last found.passed) in (
-        subst (EventFits policy schemes) same found.fits,
+        subst FitsTold same found.fits,
         passed.tokens ∙ ap (λ ts. event_tokens policy schemes e ++ ts) end.0 ∙ append-nil (event_tokens policy schemes e),
         ap (λ (s : TokenFault). s.cause) (sym passed.stop) ∙ end.1,
       )
@@ -171,7 +180,8 @@ module _ (policy : Tables) (schemes : Schemes) where
             let event = bind_ok r.0 (λ x. Ok (Some x)) o (ap event_in some ∙ is) in
             let found = sentence_found (tokens_at line) event.0 (r.1 ∙ ap (λ z. Ok z) event.1) in
             let told_event : Some event.0 ≡ o = let h = event.2 in cc in
-            subst (Tells policy schemes line) told_event (found.0, (tokens_exact line (event_tokens policy schemes event.0)).0 (found.1, found.2))
+            let tokens = (tokens_exact line (event_tokens policy schemes event.0)).0 (found.1, found.2) in
+            subst (Tells policy schemes line) told_event (found.0 (all_tokens (event_tokens policy schemes event.0) line tokens), tokens)
       ]
 
   pub line_found : (line : List ℕ) (ended : Bool) (o : Option Event) → line_at policy schemes line ended ≡ Ok o → (ended ≡ true) × Tells policy schemes line o

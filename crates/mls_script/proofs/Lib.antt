@@ -1,6 +1,7 @@
 pub mod ItemSteps
 pub mod FitSteps
 pub mod ScriptSteps
+pub mod KindLemmas
 pub mod FoundLemmas
 pub mod PartLemmas
 pub mod LawLemmas

@@ -25,13 +25,13 @@ use Rattle.mls_tokens.specs.Passing.{is_word, pass, PlacedName, pass_name}
 use Rattle.mls_script.specs.declared.fault.LineFault.{LineFault}
 use Rattle.mls_script.specs.declared.draft.Draft.{Draft}
 use Rattle.mls_script.specs.declared.grammar.Part.{Part}
-use Rattle.mls_script.specs.declared.grammar.Part.TheVariants.{Level, Session, User, Relation, Key, Values, At, Class, From, Sets as Settings}
+use Rattle.mls_script.specs.declared.grammar.Part.TheVariants.{Level, Session, Name as Named, Relation, Key, Values, Arguments, At, Class, From, Sets as Settings}
 use Rattle.mls_script.specs.declared.lists.Listed.{Listed}
 use Rattle.mls_script.specs.declared.lists.Setting.{Setting}
 use Rattle.mls_script.specs.Event.{Sets, SetsFit}
 use Rattle.mls_script.specs.Grammar.{part_word}
 use Rattle.mls_script.specs.Tokens.{no_label, label_name, relation_name, value_token, separated, list_tokens, set_tokens, word_tokens, said, part_tokens, parts_tokens}
-use Rattle.mls_script.specs.Reading.{Looked, known_or, label_named, relation_named, misfit, fit_or, held, place_at, new_or, kind_or, set_at, push_set, pass_setting, pass_sets, pass_list, put_label, put_name, put_values, attributes_of, with_label, with_name, with_relation, with_sets, with_values, label_at, name_at, relation_at, list_at, sets_at, content_at, pass_word, part_at, parts_at}
+use Rattle.mls_script.specs.Reading.{Looked, known_or, label_named, relation_named, misfit, fit_or, held, place_at, new_or, kind_or, set_at, push_set, pass_setting, pass_sets, pass_list, put_label, put_name, put_values, attributes_of, with_label, with_name, with_relation, with_sets, with_values, with_arguments, label_at, name_at, relation_at, list_at, arguments_at, sets_at, content_at, pass_word, part_at, parts_at}
 use Rattle.mls_script.proofs.FoundLemmas.{bind_ok, same_ok, Passed, passed_none, passed_more, word_found, name_found, pushed, all_found, list_found, setting_tokens, setting_found}
 
 -- ---- names by number
@@ -213,10 +213,11 @@ sets_found schemes rel (Some scheme) l y sets is e was =
 abbrev pub rank : Part → ℕ
 rank Level = 0
 rank Session = 1
-rank User = 2
+rank Named = 2
 rank Relation = 3
 rank Key = 4
 rank Values = 5
+rank Arguments = 5
 rank At = 6
 rank Class = 6
 rank From = 7
@@ -232,7 +233,7 @@ abbrev pub upto : ℕ → Draft → Draft
 upto k d = record {
   level = if nat_lt 0 k then d.level else 0;
   session = if nat_lt 1 k then d.session else [];
-  user = if nat_lt 2 k then d.user else [];
+  name = if nat_lt 2 k then d.name else [];
   rel = if nat_lt 3 k then d.rel else 0;
   key = if nat_lt 4 k then d.key else [];
   values = if nat_lt 5 k then d.values else [];
@@ -252,7 +253,7 @@ narrowed : (j k : ℕ) (d : Draft) → j ≤ k → upto j (upto k d) ≡ upto j 
 narrowed j k d le = λ i. record {
   level = nested 0 j k d.level 0 le i;
   session = nested 1 j k d.session [] le i;
-  user = nested 2 j k d.user [] le i;
+  name = nested 2 j k d.name [] le i;
   rel = nested 3 j k d.rel 0 le i;
   key = nested 4 j k d.key [] le i;
   values = nested 5 j k d.values [] le i;
@@ -270,10 +271,11 @@ module _ (policy : Tables) (schemes : Schemes) where
   abbrev pub PartFits : Draft → Part → Type 0
   PartFits d Level = d.level < length policy.labels
   PartFits d Session = is_name d.session ≡ true
-  PartFits d User = is_name d.user ≡ true
+  PartFits d Named = is_name d.name ≡ true
   PartFits d Relation = d.rel < length schemes
   PartFits d Key = HaveKinds (scheme_of schemes d.rel).keys d.key
   PartFits d Values = HaveKinds (scheme_of schemes d.rel).others d.values
+  PartFits d Arguments = ⊤
   PartFits d At = d.label < length policy.labels
   PartFits d Class = d.label < length policy.labels
   PartFits d From = d.from < length policy.labels
@@ -286,10 +288,11 @@ module _ (policy : Tables) (schemes : Schemes) where
   says_upto : (p : Part) (d : Draft) (l r : Left) → Says p d l r → Says p (upto (suc (rank p)) d) l r
   says_upto Level d l r h = h
   says_upto Session d l r h = h
-  says_upto User d l r h = h
+  says_upto Named d l r h = h
   says_upto Relation d l r h = h
   says_upto Key d l r h = h
   says_upto Values d l r h = h
+  says_upto Arguments d l r h = h
   says_upto At d l r h = h
   says_upto Class d l r h = h
   says_upto From d l r h = h
@@ -298,10 +301,11 @@ module _ (policy : Tables) (schemes : Schemes) where
   says_from : (p : Part) (d : Draft) (l r : Left) → Says p (upto (suc (rank p)) d) l r → Says p d l r
   says_from Level d l r h = h
   says_from Session d l r h = h
-  says_from User d l r h = h
+  says_from Named d l r h = h
   says_from Relation d l r h = h
   says_from Key d l r h = h
   says_from Values d l r h = h
+  says_from Arguments d l r h = h
   says_from At d l r h = h
   says_from Class d l r h = h
   says_from From d l r h = h
@@ -384,6 +388,16 @@ module _ (policy : Tables) (schemes : Schemes) where
         says = subst (λ x. Says p x l y.1) same (says front.0 ws.0 y.1 fit.1 passed);
       }
 
+  found_arguments : (looked : Looked) (l : Left) (y : Looked × Left) (d : Draft) → arguments_at looked l ≡ Ok y → y.0 ≡ Ok d → ContentFound Arguments looked d l y.1
+  found_arguments looked l y d e was =
+      let vs = bind_ok (pass_list l) (λ vs. Ok (with_arguments looked vs.0.values, vs.1)) y e in
+      let pair = same_ok (arguments_at looked l) (with_arguments looked vs.0.0.values, vs.0.1) y (ap (λ r. r >>= λ vs. Ok (with_arguments looked vs.0.values, vs.1)) vs.1) e in
+      let front = bind_ok looked (λ d. Ok (record d { values = vs.0.0.values })) d (ap (λ (z : Looked × Left). z.0) pair ∙ was) in
+      let done : Looked = Ok (record front.0 { values = vs.0.0.values }) in
+      let same : record front.0 { values = vs.0.0.values } ≡ d = same_ok done (record front.0 { values = vs.0.0.values }) d refl front.2 in
+      let passed : Passed (list_tokens vs.0.0.values) l y.1 = subst (λ (z : Looked × Left). Passed (list_tokens vs.0.0.values) l z.1) pair (list_found l vs.0 vs.1) in
+      record { front = front.0; was = front.1; kept = ap (upto 5) same; says = subst (λ x. Says Arguments x l y.1) same (tt, passed) }
+
   found_sets : (looked : Looked) (l : Left) (y : Looked × Left) (d : Draft) → sets_at schemes looked l ≡ Ok y → y.0 ≡ Ok d → ContentFound Settings looked d l y.1
   found_sets (Err f) l y d e was =
       let s = bind_ok (pass_sets None l) (λ s. Ok (with_sets (Err f) s.0, s.1)) y e in
@@ -409,10 +423,11 @@ module _ (policy : Tables) (schemes : Schemes) where
   unfolding content_at
   content_found Level looked l y d e was = found_label Level looked l y d (λ e n. refl) (λ e n r h k. (h, k)) e was
   content_found Session looked l y d e was = found_name Session looked l y d (λ e n. refl) (λ e n r h k. (h, k)) e was
-  content_found User looked l y d e was = found_name User looked l y d (λ e n. refl) (λ e n r h k. (h, k)) e was
+  content_found Named looked l y d e was = found_name Named looked l y d (λ e n. refl) (λ e n r h k. (h, k)) e was
   content_found Relation looked l y d e was = found_relation looked l y d e was
   content_found Key looked l y d e was = found_list Key looked l y d (λ e n. refl) (λ e n r h k. (h, k)) e was
   content_found Values looked l y d e was = found_list Values looked l y d (λ e n. refl) (λ e n r h k. (h, k)) e was
+  content_found Arguments looked l y d e was = found_arguments looked l y d e was
   content_found At looked l y d e was = found_label At looked l y d (λ e n. refl) (λ e n r h k. (h, k)) e was
   content_found Class looked l y d e was = found_label Class looked l y d (λ e n. refl) (λ e n r h k. (h, k)) e was
   content_found From looked l y d e was = found_label From looked l y d (λ e n. refl) (λ e n r h k. (h, k)) e was

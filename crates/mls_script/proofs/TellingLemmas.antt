@@ -32,12 +32,12 @@ use Rattle.mls_script.specs.declared.draft.Draft.{Draft}
 use Rattle.mls_script.specs.declared.grammar.Verb.{Verb}
 use Rattle.mls_script.specs.declared.grammar.Verb.TheVariants as v
 use Rattle.mls_script.specs.declared.grammar.Part.{Part}
-use Rattle.mls_script.specs.declared.grammar.Part.TheVariants.{Level, Session, User, Relation, Key, Values, At, Class, From, Sets as Settings}
+use Rattle.mls_script.specs.declared.grammar.Part.TheVariants.{Level, Session, Name as Named, Relation, Key, Values, Arguments, At, Class, From, Sets as Settings}
 use Rattle.mls_script.specs.declared.lists.Listed.{Listed}
 use Rattle.mls_script.specs.Event.{Sets, SetsFit, CommandFits, EventFits}
 use Rattle.mls_script.specs.Grammar.{verbs, verb_word, parts_of, part_word, blank, event_of, verb_of, draft_of, drafted}
 use Rattle.mls_script.specs.Tokens.{label_name, relation_name, separated, list_tokens, set_tokens, word_tokens, said, part_tokens, parts_tokens, event_tokens}
-use Rattle.mls_script.specs.Reading.{Looked, label_named, relation_named, pass_sets, fit_or, held, put_label, put_values, attributes_of, with_label, with_name, with_relation, with_sets, with_values, label_at, name_at, relation_at, list_at, sets_at, content_at, pass_word, part_at, parts_at, verb_or, verb_among, command_at, sentence_at, told_at, form_of, event_in, line_at, in_script, lines_at, split_lines, script_at, IsRead}
+use Rattle.mls_script.specs.Reading.{Looked, label_named, relation_named, pass_sets, fit_or, held, put_label, put_values, attributes_of, with_label, with_name, with_relation, with_sets, with_values, with_arguments, label_at, name_at, relation_at, list_at, arguments_at, sets_at, content_at, pass_word, part_at, parts_at, verb_or, verb_among, command_at, sentence_at, told_at, form_of, event_in, line_at, in_script, lines_at, split_lines, script_at, IsRead}
 use Rattle.mls_script.specs.Script.{Line, Tells, IsLineOf, ReadsScript, ScriptsAreOnce}
 use Rattle.mls_script.proofs.ScriptSteps.{split_ended}
 use Rattle.mls_script.proofs.PartLemmas.{PartFits}
@@ -48,10 +48,11 @@ use Rattle.mls_script.proofs.AgainLemmas.{label_again, relation_again, scheme_va
 abbrev put : Part → Draft → Draft → Draft
 put Level d f = record f { level = d.level }
 put Session d f = record f { session = d.session }
-put User d f = record f { user = d.user }
+put Named d f = record f { name = d.name }
 put Relation d f = record f { rel = d.rel }
 put Key d f = record f { key = d.key }
 put Values d f = record f { values = d.values }
+put Arguments d f = record f { values = d.values }
 put At d f = record f { label = d.label }
 put Class d f = record f { label = d.label }
 put From d f = record f { from = d.from }
@@ -122,6 +123,18 @@ module _ (policy : Tables) (schemes : Schemes) (is_policy : IsPolicy policy) (ar
         stop = list.stop;
       }
 
+  arguments_read : (vs : List (Option Value)) (f : Draft) (us : List Token) (l : Left) → tokens_in l.placed ≡ list_tokens vs ++ us → Reads (arguments_at (Ok f)) l (record f { values = vs }) us
+  arguments_read vs f us l e =
+      let list = list_read vs us l e in
+      record {
+        value = with_arguments (Ok f) list.value.values;
+        rest = list.rest;
+        is = ap (λ r. r >>= λ (vs : Listed × Left). Ok (with_arguments (Ok f) vs.0.values, vs.1)) list.is;
+        holds = ap (with_arguments (Ok f)) list.holds;
+        tokens = list.tokens;
+        stop = list.stop;
+      }
+
   sets_part_read : (sets : Sets) (f : Draft) (us : List Token) (l : Left) → f.rel < length schemes → SetsFit (scheme_of schemes f.rel) sets → NotNext (is_sign Comma) us → tokens_in l.placed ≡ separated (set_tokens (scheme_of schemes f.rel)) sets ++ us
       → Reads (sets_at schemes (Ok f)) l (record f { sets = sets }) us
   sets_part_read sets f us l within fit end e =
@@ -140,10 +153,11 @@ module _ (policy : Tables) (schemes : Schemes) (is_policy : IsPolicy policy) (ar
   abbrev Knows : Part → Draft → Draft → Type 0
   Knows Level d f = ⊤
   Knows Session d f = ⊤
-  Knows User d f = ⊤
+  Knows Named d f = ⊤
   Knows Relation d f = ⊤
   Knows Key d f = (f.rel ≡ d.rel) × (d.rel < length schemes)
   Knows Values d f = (f.rel ≡ d.rel) × (d.rel < length schemes)
+  Knows Arguments d f = ⊤
   Knows At d f = ⊤
   Knows Class d f = ⊤
   Knows From d f = ⊤
@@ -161,10 +175,11 @@ module _ (policy : Tables) (schemes : Schemes) (is_policy : IsPolicy policy) (ar
   unfolding content_at
   content_read Level d f us l known fits end e = label_read Level d.level f us l fits e
   content_read Session d f us l known fits end e = name_part_read Session d.session f us l fits e
-  content_read User d f us l known fits end e = name_part_read User d.user f us l fits e
+  content_read Named d f us l known fits end e = name_part_read Named d.name f us l fits e
   content_read Relation d f us l known fits end e = relation_read d.rel f us l fits e
   content_read Key d f us l known fits end e = list_part_read Key d.key f us l (within_of d f known) (subst (λ n. HaveKinds (scheme_of schemes n).keys d.key) (sym known.0) fits) e
   content_read Values d f us l known fits end e = list_part_read Values d.values f us l (within_of d f known) (subst (λ n. HaveKinds (scheme_of schemes n).others d.values) (sym known.0) fits) e
+  content_read Arguments d f us l known fits end e = arguments_read d.values f us l e
   content_read At d f us l known fits end e = label_read At d.label f us l fits e
   content_read Class d f us l known fits end e = label_read Class d.label f us l fits e
   content_read From d f us l known fits end e = label_read From d.from f us l fits e
@@ -197,10 +212,11 @@ module _ (policy : Tables) (schemes : Schemes) (is_policy : IsPolicy policy) (ar
   no_comma : (p : Part) (d : Draft) (us : List Token) → NotNext (is_sign Comma) (part_tokens policy schemes d p ++ us)
   no_comma Level d us = refl
   no_comma Session d us = refl
-  no_comma User d us = refl
+  no_comma Named d us = refl
   no_comma Relation d us = refl
   no_comma Key d us = refl
   no_comma Values d us = refl
+  no_comma Arguments d us = refl
   no_comma At d us = refl
   no_comma Class d us = refl
   no_comma From d us = refl
@@ -240,6 +256,7 @@ known_verb v.View = refl
 known_verb v.Insert = refl
 known_verb v.Update = refl
 known_verb v.Delete = refl
+known_verb v.Call = refl
 
 verb_read : (xs : List Verb) (w : Name) (x : Verb) (us : List Token) (l : Left) → tokens_in l.placed ≡ Word w ∷ us → first_with xs w ≡ Some x → Read (verb_among xs) l (λ y. y ≡ x) us
 verb_read [] w x us l e first = absurd cc
@@ -279,6 +296,7 @@ event_again level session (commands.View rel label) = refl
 event_again level session (commands.Insert rel key values) = refl
 event_again level session (commands.Update rel key key_class from sets) = refl
 event_again level session (commands.Delete rel key key_class) = refl
+event_again level session (commands.Call tx args) = refl
 
 over_again : (ps : List Placed) (stop : TokenFault) → tokens_in ps ≡ [] → stop.cause ≡ causes.Expected → over_with ps stop ≡ true
 over_again [] stop none is = ap is_expected is
@@ -297,6 +315,7 @@ module _ (policy : Tables) (schemes : Schemes) where
   front_same level session (commands.Insert rel key values) = refl
   front_same level session (commands.Update rel key key_class from sets) = refl
   front_same level session (commands.Delete rel key key_class) = refl
+  front_same level session (commands.Call tx args) = refl
 
   parts_fit : (b : Draft) (c : Command) → CommandFits policy schemes c → AllByRecursion (PartFits policy schemes (draft_of b c)) (parts_of (verb_of c))
   parts_fit b (commands.Open user) h = (h, tt)
@@ -306,6 +325,7 @@ module _ (policy : Tables) (schemes : Schemes) where
   parts_fit b (commands.Insert rel key values) h = (h.0, (h.1, (h.2, tt)))
   parts_fit b (commands.Update rel key key_class from sets) h = (h.0, (h.1, (h.2, (h.3, (h.4, tt)))))
   parts_fit b (commands.Delete rel key key_class) h = (h.0, (h.1, (h.2, tt)))
+  parts_fit b (commands.Call tx args) h = (h.0, (tt, tt))
 
   module _ (is_policy : IsPolicy policy) (are_schemes : AreSchemes schemes) where
     parts_known : (b f : Draft) (c : Command) → CommandFits policy schemes c → KnowsAll policy schemes is_policy are_schemes (parts_of (verb_of c)) (draft_of b c) f
@@ -316,6 +336,7 @@ module _ (policy : Tables) (schemes : Schemes) where
     parts_known b f (commands.Insert rel key values) h = (tt, ((refl, h.0), ((refl, h.0), tt)))
     parts_known b f (commands.Update rel key key_class from sets) h = (tt, ((refl, h.0), (tt, (tt, ((refl, h.0), tt)))))
     parts_known b f (commands.Delete rel key key_class) h = (tt, ((refl, h.0), (tt, tt)))
+    parts_known b f (commands.Call tx args) h = (tt, (tt, tt))
 
     sentence_again : (e : Event) (l : Left) → EventFits policy schemes e → tokens_in l.placed ≡ event_tokens policy schemes e → l.stop.cause ≡ causes.Expected → sentence_at policy schemes l ≡ Ok (Ok e)
     unfolding sentence_at command_at

@@ -3,13 +3,14 @@ use Rattle.std.specs.Prelude.{◌≡◌, ℕ, ◌<◌, true, nat_eq, List, map, 
 use Rattle.std.specs.List.{AllByRecursion, IsDistinct}
 use Rattle.mls_lattice.specs.Name.{is_name}
 use Rattle.mls_lattice.specs.Policy.{Tables}
+use Rattle.mls_scheme.specs.declared.value.Kind.{Kind}
 use Rattle.mls_scheme.specs.declared.value.Value.{Value}
 use Rattle.mls_scheme.specs.Value.{fits_kind}
 use Rattle.mls_scheme.specs.Scheme.{Scheme, Schemes, scheme_of, other_of}
 use Rattle.mls_scheme.specs.Fits.{HaveKinds}
 use Rattle.mls_script.specs.declared.event.Event.{Event}
 use Rattle.mls_script.specs.declared.event.Command.{Command}
-use Rattle.mls_script.specs.declared.event.Command.TheVariants.{Open, Close, Audit, View, Insert, Update, Delete}
+use Rattle.mls_script.specs.declared.event.Command.TheVariants.{Open, Close, Audit, View, Insert, Update, Delete, Call}
 
 -- new values of attributes outside the key, by their numbers
 abbrev pub Sets : Type 0
@@ -21,6 +22,10 @@ pub record SetsFit (scheme : Scheme) (sets : Sets) : Type 0 where
   pub known : AllByRecursion (λ s. s.0 < length scheme.others) sets
   pub distinct : IsDistinct nat_eq (map (λ s. s.0) sets)
   pub kinds : AllByRecursion (λ s. fits_kind s.1 (other_of scheme s.0).kind ≡ true) sets
+
+-- a value of some kind, or null
+abbrev pub HasSomeKind : Option Value → Type 0
+HasSomeKind v = (k : Kind) × (fits_kind v k ≡ true)
 
 abbrev pub CommandFits : Tables → Schemes → Command → Type 0
 CommandFits policy schemes (Open user) = is_name user ≡ true
@@ -34,6 +39,7 @@ CommandFits policy schemes (Update rel key key_class from sets) =
     × SetsFit (scheme_of schemes rel) sets
 CommandFits policy schemes (Delete rel key key_class) =
     (rel < length schemes) × HaveKinds (scheme_of schemes rel).keys key × (key_class < length policy.labels)
+CommandFits policy schemes (Call tx args) = (is_name tx ≡ true) × AllByRecursion HasSomeKind args
 
 pub record EventFits (policy : Tables) (schemes : Schemes) (e : Event) : Type 0 where
   pub level : e.level < length policy.labels

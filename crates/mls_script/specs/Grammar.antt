@@ -6,12 +6,12 @@ use Rattle.mls_script.specs.declared.event.Command.{Command}
 use Rattle.mls_script.specs.declared.event.Command.TheVariants as commands
 use Rattle.mls_script.specs.declared.draft.Draft.{Draft}
 use Rattle.mls_script.specs.declared.grammar.Verb.{Verb}
-use Rattle.mls_script.specs.declared.grammar.Verb.TheVariants.{Open, Close, Audit, View, Insert, Update, Delete}
+use Rattle.mls_script.specs.declared.grammar.Verb.TheVariants.{Open, Close, Audit, View, Insert, Update, Delete, Call}
 use Rattle.mls_script.specs.declared.grammar.Part.{Part}
-use Rattle.mls_script.specs.declared.grammar.Part.TheVariants.{Level, Session, User, Relation, Key, Values, At, Class, From, Sets}
+use Rattle.mls_script.specs.declared.grammar.Part.TheVariants.{Level, Session, Name, Relation, Key, Values, Arguments, At, Class, From, Sets}
 
 abbrev pub verbs : List Verb
-verbs = Open ∷ Close ∷ Audit ∷ View ∷ Insert ∷ Update ∷ Delete ∷ []
+verbs = Open ∷ Close ∷ Audit ∷ View ∷ Insert ∷ Update ∷ Delete ∷ Call ∷ []
 
 abbrev pub verb_word : Verb → List ℕ
 verb_word Open = codes "open"
@@ -21,24 +21,27 @@ verb_word View = codes "view"
 verb_word Insert = codes "insert"
 verb_word Update = codes "update"
 verb_word Delete = codes "delete"
+verb_word Call = codes "call"
 
 abbrev pub parts_of : Verb → List Part
-parts_of Open = User ∷ []
+parts_of Open = Name ∷ []
 parts_of Close = []
 parts_of Audit = []
 parts_of View = Relation ∷ At ∷ []
 parts_of Insert = Relation ∷ Key ∷ Values ∷ []
 parts_of Update = Relation ∷ Key ∷ Class ∷ From ∷ Sets ∷ []
 parts_of Delete = Relation ∷ Key ∷ Class ∷ []
+parts_of Call = Name ∷ Arguments ∷ []
 
 -- the word before a part, if it has one
 abbrev pub part_word : Part → Option (List ℕ)
 part_word Level = None
 part_word Session = None
-part_word User = None
+part_word Name = None
 part_word Relation = None
 part_word Key = Some (codes "key")
 part_word Values = Some (codes "values")
+part_word Arguments = None
 part_word At = Some (codes "at")
 part_word Class = Some (codes "class")
 part_word From = Some (codes "from")
@@ -48,16 +51,17 @@ part_word Sets = Some (codes "set")
 
 -- nothing is said yet
 abbrev pub blank : Draft
-blank = record { level = 0; session = []; user = []; rel = 0; key = []; values = []; label = 0; from = 0; sets = [] }
+blank = record { level = 0; session = []; name = []; rel = 0; key = []; values = []; label = 0; from = 0; sets = [] }
 
 abbrev pub command_of : Verb → Draft → Command
-command_of Open d = commands.Open d.user
+command_of Open d = commands.Open d.name
 command_of Close d = commands.Close
 command_of Audit d = commands.Audit
 command_of View d = commands.View d.rel d.label
 command_of Insert d = commands.Insert d.rel d.key d.values
 command_of Update d = commands.Update d.rel d.key d.label d.from d.sets
 command_of Delete d = commands.Delete d.rel d.key d.label
+command_of Call d = commands.Call d.name d.values
 
 abbrev pub event_of : Verb → Draft → Event
 event_of verb d = record { level = d.level; session = d.session; command = command_of verb d }
@@ -72,16 +76,18 @@ verb_of (commands.View rel label) = View
 verb_of (commands.Insert rel key values) = Insert
 verb_of (commands.Update rel key key_class from sets) = Update
 verb_of (commands.Delete rel key key_class) = Delete
+verb_of (commands.Call tx args) = Call
 
 -- over what the line begins with
 abbrev pub draft_of : Draft → Command → Draft
-draft_of d (commands.Open user) = record d { user = user }
+draft_of d (commands.Open user) = record d { name = user }
 draft_of d commands.Close = d
 draft_of d commands.Audit = d
 draft_of d (commands.View rel label) = record d { rel = rel; label = label }
 draft_of d (commands.Insert rel key values) = record d { rel = rel; key = key; values = values }
 draft_of d (commands.Update rel key key_class from sets) = record d { rel = rel; key = key; label = key_class; from = from; sets = sets }
 draft_of d (commands.Delete rel key key_class) = record d { rel = rel; key = key; label = key_class }
+draft_of d (commands.Call tx args) = record d { name = tx; values = args }
 
 abbrev pub drafted : Event → Draft
 drafted e = draft_of (record blank { level = e.level; session = e.session }) e.command

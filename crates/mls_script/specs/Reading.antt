@@ -169,7 +169,7 @@ put_label p d n = record d { label = n }
 
 abbrev pub put_name : Part → Draft → Name → Draft
 put_name parts.Session d s = record d { session = s }
-put_name p d s = record d { user = s }
+put_name p d s = record d { name = s }
 
 abbrev pub put_values : Part → Draft → List (Option Value) → Draft
 put_values parts.Key d vs = record d { key = vs }
@@ -194,6 +194,9 @@ with_sets looked found = looked >>= λ d. found >>= λ s. Ok (record d { sets = 
 abbrev pub with_values : Schemes → Part → Looked → Listed → Looked
 with_values schemes p looked l = looked >>= λ d. held (option_map (attributes_of p) (slice_get schemes d.rel)) l >>= λ vs. Ok (put_values p d vs)
 
+abbrev pub with_arguments : Looked → List (Option Value) → Looked
+with_arguments looked vs = looked >>= λ d. Ok (record d { values = vs })
+
 abbrev pub scheme_in : Schemes → Looked → Option Scheme
 scheme_in schemes (Ok d) = slice_get schemes d.rel
 scheme_in schemes (Err e) = None
@@ -209,6 +212,9 @@ relation_at schemes looked l = pass_name l >>= λ n. Ok (with_relation looked (r
 
 abbrev pub list_at : Schemes → Part → Looked → Left → Result (Looked × Left) TokenFault
 list_at schemes p looked l = pass_list l >>= λ vs. Ok (with_values schemes p looked vs.0, vs.1)
+
+abbrev pub arguments_at : Looked → Left → Result (Looked × Left) TokenFault
+arguments_at looked l = pass_list l >>= λ vs. Ok (with_arguments looked vs.0.values, vs.1)
 
 abbrev pub sets_at : Schemes → Looked → Left → Result (Looked × Left) TokenFault
 sets_at schemes looked l = pass_sets (scheme_in schemes looked) l >>= λ s. Ok (with_sets looked s.0, s.1)
@@ -245,10 +251,11 @@ module _ (policy : Tables) (schemes : Schemes) where
   unfoldable pub content_at : Part → Looked → Left → Result (Looked × Left) TokenFault
   content_at parts.Level looked l = label_at policy parts.Level looked l
   content_at parts.Session looked l = name_at parts.Session looked l
-  content_at parts.User looked l = name_at parts.User looked l
+  content_at parts.Name looked l = name_at parts.Name looked l
   content_at parts.Relation looked l = relation_at schemes looked l
   content_at parts.Key looked l = list_at schemes parts.Key looked l
   content_at parts.Values looked l = list_at schemes parts.Values looked l
+  content_at parts.Arguments looked l = arguments_at looked l
   content_at parts.At looked l = label_at policy parts.At looked l
   content_at parts.Class looked l = label_at policy parts.Class looked l
   content_at parts.From looked l = label_at policy parts.From looked l

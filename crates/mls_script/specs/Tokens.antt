@@ -56,10 +56,11 @@ module _ (policy : Tables) (schemes : Schemes) where
   abbrev pub said : Draft → Part → List Token
   said d parts.Level = Word (label_name policy d.level) ∷ []
   said d parts.Session = Word d.session ∷ []
-  said d parts.User = Word d.user ∷ []
+  said d parts.Name = Word d.name ∷ []
   said d parts.Relation = Word (relation_name schemes d.rel) ∷ []
   said d parts.Key = list_tokens d.key
   said d parts.Values = list_tokens d.values
+  said d parts.Arguments = list_tokens d.values
   said d parts.At = Word (label_name policy d.label) ∷ []
   said d parts.Class = Word (label_name policy d.label) ∷ []
   said d parts.From = Word (label_name policy d.from) ∷ []

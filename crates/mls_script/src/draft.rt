@@ -13,7 +13,7 @@ use std::alloc::Global;
 pub(crate) struct Draft {
     pub level: LabelNo,
     pub session: Str,
-    pub user: Str,
+    pub name: Str,
     pub rel: RelNo,
     pub key: Items<Option<Value>>,
     pub values: Items<Option<Value>>,
@@ -30,7 +30,7 @@ impl Draft {
         Draft {
             level: LabelNo::new(0),
             session: Str::from(String::new(alloc)),
-            user: Str::from(String::new(alloc)),
+            name: Str::from(String::new(alloc)),
             rel: RelNo::new(0),
             key: Items::from(Vec::new(alloc)),
             values: Items::from(Vec::new(alloc)),
@@ -47,7 +47,7 @@ impl Draft {
         let Draft {
             level,
             session,
-            user,
+            name,
             rel,
             key,
             values,
@@ -56,7 +56,7 @@ impl Draft {
             sets,
         } = self;
         let command = match verb {
-            Verb::Open => Command::Open(user),
+            Verb::Open => Command::Open(name),
             Verb::Close => Command::Close,
             Verb::Audit => Command::Audit,
             Verb::View => Command::View { rel, label },
@@ -72,6 +72,10 @@ impl Draft {
                 rel,
                 key,
                 key_class: label,
+            },
+            Verb::Call => Command::Call {
+                tx: name,
+                args: values,
             },
         };
         Event {

@@ -46,4 +46,10 @@ pub enum Command {
         key: Items<Option<Value>>,
         key_class: LabelNo,
     },
+    /// Runs the transaction of a name on arguments. Whether it is stored, and whether they are its parameters', is left
+    /// to the denials.
+    Call {
+        tx: Str,
+        args: Items<Option<Value>>,
+    },
 }

@@ -12,6 +12,7 @@ pub(crate) enum Verb {
     Insert,
     Update,
     Delete,
+    Call,
 }
 
 /// A part of a line.
@@ -21,14 +22,16 @@ pub(crate) enum Part {
     Level,
     /// The session's name.
     Session,
-    /// The name of a user.
-    User,
+    /// The name of a user or of a transaction.
+    Name,
     /// The name of a relation.
     Relation,
     /// `key` and the values of a key.
     Key,
     /// `values` and those of the other attributes.
     Values,
+    /// Values of any number and kinds.
+    Arguments,
     /// `at` and a label.
     At,
     /// `class` and a label.
@@ -40,7 +43,7 @@ pub(crate) enum Part {
 }
 
 /// Every verb.
-pub(crate) const VERBS: [Verb; 7] = [
+pub(crate) const VERBS: [Verb; 8] = [
     Verb::Open,
     Verb::Close,
     Verb::Audit,
@@ -48,6 +51,7 @@ pub(crate) const VERBS: [Verb; 7] = [
     Verb::Insert,
     Verb::Update,
     Verb::Delete,
+    Verb::Call,
 ];
 
 impl Verb {
@@ -62,6 +66,7 @@ impl Verb {
             Verb::Insert => "insert",
             Verb::Update => "update",
             Verb::Delete => "delete",
+            Verb::Call => "call",
         }
     }
 
@@ -70,7 +75,7 @@ impl Verb {
         ensures { result.now ≡ parts_of self }
     {
         match self {
-            Verb::Open => &[Part::User],
+            Verb::Open => &[Part::Name],
             Verb::Close => &[],
             Verb::Audit => &[],
             Verb::View => &[Part::Relation, Part::At],
@@ -83,6 +88,7 @@ impl Verb {
                 Part::Sets,
             ],
             Verb::Delete => &[Part::Relation, Part::Key, Part::Class],
+            Verb::Call => &[Part::Name, Part::Arguments],
         }
     }
 }
@@ -93,7 +99,7 @@ impl Part {
         ensures { option_map (λ w. w.now) result ≡ part_word self }
     {
         match self {
-            Part::Level | Part::Session | Part::User | Part::Relation => None,
+            Part::Level | Part::Session | Part::Name | Part::Relation | Part::Arguments => None,
             Part::Key => Some("key"),
             Part::Values => Some("values"),
             Part::At => Some("at"),

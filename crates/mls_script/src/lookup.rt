@@ -1,13 +1,13 @@
 //! The second pass: names and values, held against policy and schemes.
 ghost use Rattle.std.specs.Prelude.{◌≡◌, ◌<◌, length, nat_eq, map, option_map, slice_index_or, IfOk};
 ghost use Rattle.std.specs.List.{list_any, slice_get};
-ghost use Rattle.mls_script.specs.Reading.{misfit, held, Holds, attributes_of, label_named, relation_named, place_at, set_at, set_in, with_label, with_name, with_relation, with_sets, with_values, scheme_in};
+ghost use Rattle.mls_script.specs.Reading.{misfit, held, Holds, attributes_of, label_named, relation_named, place_at, set_at, set_in, with_arguments, with_label, with_name, with_relation, with_sets, with_values, scheme_in};
 
 use crate::draft::Draft;
 use crate::fault::{LineFault, ScriptCause};
 use crate::grammar::Part;
 use crate::lists::{Listed, Sets, Setting};
-use mls_lattice::{LabelNo, Policy, Str};
+use mls_lattice::{Items, LabelNo, Policy, Str};
 use mls_scheme::{Attributes, RelNo, Scheme, Schemes, Value, fits_kind};
 
 /// What the parts of a line say up to here; or the first fault of their names and kinds.
@@ -138,6 +138,15 @@ pub(crate) fn with_values(schemes: &Schemes, part: Part, looked: Looked, listed:
     Ok(draft)
 }
 
+/// Arguments, which are left to the denials.
+pub(crate) fn with_arguments(looked: Looked, values: Items<Option<Value>>) -> Looked
+    ensures { result ≡ with_arguments looked values }
+{
+    let mut draft = looked?;
+    draft.values = values;
+    Ok(draft)
+}
+
 /// A label, in its place in the draft.
 pub(crate) fn with_label(part: Part, looked: Looked, found: Result<LabelNo, LineFault>) -> Looked
     ensures { result ≡ with_label part looked found }
@@ -152,14 +161,14 @@ pub(crate) fn with_label(part: Part, looked: Looked, found: Result<LabelNo, Line
     Ok(draft)
 }
 
-/// The name of a session or of a user: users are left to the denials.
+/// The name of a session, a user or a transaction: users and transactions are left to the denials.
 pub(crate) fn with_name(part: Part, looked: Looked, name: Str) -> Looked
     ensures { result ≡ with_name part looked name }
 {
     let mut draft = looked?;
     match part {
         Part::Session => draft.session = name,
-        _ => draft.user = name,
+        _ => draft.name = name,
     }
     Ok(draft)
 }

@@ -1,7 +1,7 @@
 //! A line, part by part: its form, and what its names and values say.
 ghost use Rattle.std.specs.Prelude.{◌≡◌, Ok};
 ghost use Rattle.mls_tokens.specs.Scanning.{Reads};
-ghost use Rattle.mls_script.specs.Reading.{label_at, name_at, relation_at, list_at, sets_at, content_at, pass_word, part_at, parts_at, verb_among, command_at, sentence_at, told_at};
+ghost use Rattle.mls_script.specs.Reading.{label_at, name_at, relation_at, list_at, arguments_at, sets_at, content_at, pass_word, part_at, parts_at, verb_among, command_at, sentence_at, told_at};
 ghost use Rattle.mls_script.specs.Grammar.{part_word, verbs};
 
 use crate::draft::Draft;
@@ -10,8 +10,8 @@ use crate::fault::LineFault;
 use crate::grammar::{Part, VERBS, Verb};
 use crate::lists::{list, new_sets};
 use crate::lookup::{
-    Looked, label_named, relation_named, scheme_in, with_label, with_name, with_relation,
-    with_sets, with_values,
+    Looked, label_named, relation_named, scheme_in, with_arguments, with_label, with_name,
+    with_relation, with_sets, with_values,
 };
 use mls_lattice::Policy;
 use mls_scheme::Schemes;
@@ -57,6 +57,13 @@ fn values(
     Ok(with_values(schemes, part, looked, listed))
 }
 
+fn arguments(alloc: Global, looked: Looked, tokens: &mut Tokens) -> Result<Looked, TokenFault>
+    ensures { Reads (λ x. (x, tokens.new)) result (arguments_at looked tokens.old) }
+{
+    let listed = list(alloc, tokens)?;
+    Ok(with_arguments(looked, listed.values))
+}
+
 fn new_values(
     alloc: Global,
     schemes: &Schemes,
@@ -83,9 +90,10 @@ fn content(
 {
     match part {
         Part::Level | Part::At | Part::Class | Part::From => label(policy, part, looked, tokens),
-        Part::Session | Part::User => name(part, looked, tokens),
+        Part::Session | Part::Name => name(part, looked, tokens),
         Part::Relation => relation(schemes, looked, tokens),
         Part::Key | Part::Values => values(alloc, schemes, part, looked, tokens),
+        Part::Arguments => arguments(alloc, looked, tokens),
         Part::Sets => new_values(alloc, schemes, looked, tokens),
     }
 }

@@ -1,5 +1,5 @@
 -- What each way through a step does is the machine's step, and the engine keeps what it holds.
-use Rattle.std.proofs.Common.{◌≡◌, ℕ, false, ◌<◌, length, Option, Some, None, Result, Ok, Err, refl, sym, ap, ◌∙◌, subst, Vec, Global, arith}
+use Rattle.std.proofs.Common.{◌≡◌, ℕ, false, ◌<◌, List, length, Option, Some, None, Result, Ok, Err, refl, sym, ap, ◌∙◌, subst, Vec, Global, arith}
 use Rattle.std.specs.Prelude.{IfOk, IfErr, OnErr}
 use Rattle.mls_filterview.specs.declared.base.BaseFault.{BaseFault}
 use Rattle.mls_filterview.specs.declared.base.BaseFault.TheVariants as faults
@@ -7,16 +7,21 @@ use Rattle.mls_filterview.specs.Calls.{IsServed}
 use Rattle.mls_filterview.specs.Content.{State, Content}
 use Rattle.mls_filterview.specs.Stored.{AreContent}
 use Rattle.mls_updates.specs.Writes.{Insert, Update, Delete}
+use Rattle.mls_lattice.specs.Policy.{Name}
+use Rattle.mls_scheme.specs.declared.value.Value.{Value}
 use Rattle.mls_script.specs.declared.event.Event.{Event}
 use Rattle.mls_script.specs.declared.event.Command.{Command}
 use Rattle.mls_script.specs.declared.event.Command.TheVariants as commands
 use Rattle.mls_script.specs.Event.{EventFits}
 use Rattle.mls_machine.specs.declared.reply.Denial.{Denial}
-use Rattle.mls_machine.specs.declared.reply.Denial.TheVariants.{AlreadyOpen}
+use Rattle.mls_machine.specs.declared.reply.Denial.TheVariants.{AlreadyOpen, UnknownTransaction, NotCertified}
+use Rattle.mls_machine.specs.declared.stored.Stored.{Stored}
+use Rattle.mls_machine.specs.declared.stored.Stored.TheVariants.{Certified, Plain}
+use Rattle.mls_machine.specs.Denying.{stored_named, call_denial}
 use Rattle.mls_machine.specs.declared.reply.Reply.{Reply}
 use Rattle.mls_machine.specs.declared.reply.Reply.TheVariants.{Closed}
 use Rattle.mls_machine.specs.Site.{Site, site_labels}
-use Rattle.mls_machine.specs.Machine.{World, Step, with_session, closed, denied, unless, viewed, wrote, listed, step_inside, step_outside, step_at, step}
+use Rattle.mls_machine.specs.Machine.{World, Step, with_session, closed, denied, unless, viewed, wrote, listed, called, call_step, step_inside, step_outside, step_at, step}
 use Rattle.mls_machine.proofs.KeepingLemmas.{step_content}
 use Rattle.mls_sessions.specs.declared.engine.Engine.{Engine}
 use Rattle.mls_sessions.specs.declared.session.Session.{Session}
@@ -43,6 +48,11 @@ module _ (at : Site) (w : World) (e : Event) where
     unfolding step
     inside_is = ap (step_at at w e e.command) held
 
+    denied_call : (name : Name) (args : List (Option Value)) (o : Option Stored) (d : Denial) → call_denial at e.level user args o ≡ Some d → call_step at w e user name args o ≡ denied at w e user d
+    denied_call name args None d h = ap (denied at w e user) (some_is UnknownTransaction d h)
+    denied_call name args (Some (Plain tx)) d h = ap (denied at w e user) (some_is NotCertified d h)
+    denied_call name args (Some (Certified k)) d h = ap (λ o. unless at o w e user (called at w e user name k.tx args)) h
+
     denied_inside : (command : Command) (d : Denial) → denial_in at e.level user command ≡ Some d → step_inside at w e command user ≡ denied at w e user d
     denied_inside (commands.Open name) d h = ap (denied at w e user) (some_is AlreadyOpen d h)
     denied_inside commands.Close d h = none_is d h
@@ -51,6 +61,7 @@ module _ (at : Site) (w : World) (e : Event) where
     denied_inside (commands.Insert rel key values) d h = ap (λ o. unless at o w e user (wrote at w e.level rel (Insert key values))) h
     denied_inside (commands.Update rel key key_class from sets) d h = ap (λ o. unless at o w e user (wrote at w e.level rel (Update key key_class from sets))) h
     denied_inside (commands.Delete rel key key_class) d h = ap (λ o. unless at o w e user (wrote at w e.level rel (Delete key key_class))) h
+    denied_inside (commands.Call name args) d h = denied_call name args (stored_named at.stored name) d h
 
     pub denied_is : (d : Denial) → denial_in at e.level user e.command ≡ Some d → step at w e ≡ denied at w e user d
     denied_is d h = inside_is ∙ denied_inside e.command d h
@@ -125,7 +136,7 @@ module _ {B : Type 0} (state : B → State) (is_clean : B → Type 0) (failures 
     over_sound : (r : Result Reply BaseFault) → IsTurn is_clean failures now old.base b r → is_clean b → Over r → IsSound (site old) (now b)
     over_sound (Ok r) t c h = record {
       content = subst (AreContent (site_labels (site old)) (site old).schemes) (sym (ap (λ (x : World). x.db) (over_world r h)))
-          (step_content (site old) ready.distinct w event (ready.sound (t.clean c)).content fits);
+          (step_content (site old) ready.distinct tt w event (ready.sound (t.clean c)).content fits);
       entries = h.entries (ready.sound (t.clean c)).entries;
     }
     over_sound (Err e) t c h = subst (IsSound (site old)) (sym (t.fault.same c)) (ready.sound (t.clean c))

@@ -1,25 +1,32 @@
--- The name of a label by its value, label by label.
-use Rattle.std.proofs.Common.{◌≡◌, ◌+◌, ℕ, ◌<◌, true, false, List, [], ◌∷◌, length, drop, get_or, refl, sym, ap, ◌∙◌, add-one, drop-cons, Some, None, ◌++◌, take, codes}
+-- What is printed: the name of a label by its value, and the lines of replies.
+use Rattle.std.proofs.Common.{◌≡◌, ◌+◌, ℕ, ◌<◌, true, false, List, [], ◌∷◌, length, drop, get_or, refl, sym, ap, ◌∙◌, add-one, drop-cons, Option, Some, None, ◌++◌, take, codes, append-nil, append_assoc}
 use Rattle.std.specs.List.{flat_map}
 use Rattle.std.specs.Prelude.{map, slice_get, option_map, Result, Ok, Err, OnOk}
 use Rattle.std.proofs.lemmas.List.{get_or-map}
 use Rattle.std.proofs.lemmas.Option.{slice_get-get_or}
 use Rattle.mls_lattice.specs.Lattice.{Pair, same_pair, bottom}
 use Rattle.mls_lattice.specs.Labels.{label_of}
-use Rattle.mls_lattice.specs.Policy.{Name, Named}
+use Rattle.mls_lattice.specs.Policy.{Name, Named, Tables}
 use Rattle.mls_lattice.specs.Canon.{label_name}
-use Rattle.mls_scheme.specs.Scheme.{Attribute, Scheme, column_of}
+use Rattle.mls_scheme.specs.Scheme.{Attribute, Scheme, Schemes, column_of}
+use Rattle.mls_scheme.specs.declared.value.Value.{Value}
 use Rattle.mls_scheme.proofs.CanonLemmas.{lines_more}
 use Rattle.std.proofs.lemmas.List.Folds.{flat_map-map}
+use Rattle.std.proofs.lemmas.Grind.{flat_map-append}
+use Rattle.mls_tokens.specs.Writing.{printable}
 use Rattle.mls_scheme.specs.declared.tuple.Tuple.{Tuple}
 use Rattle.mls_audit.specs.declared.entry.Entry.{Entry}
+use Rattle.mls_meaning.specs.declared.run.Run.{Run}
+use Rattle.mls_meaning.specs.Meaning.{Item}
 use Rattle.mls_script.specs.declared.event.Event.{Event}
 use Rattle.mls_script.specs.declared.event.Command.{Command}
 use Rattle.mls_script.specs.declared.event.Command.TheVariants as commands
 use Rattle.mls_machine.specs.declared.reply.Reply.{Reply}
-use Rattle.mls_machine.specs.declared.reply.Reply.TheVariants.{Rows, Entries}
+use Rattle.mls_machine.specs.declared.reply.Reply.TheVariants.{Opened, Closed, Rows, Wrote, Ran, Entries, Denied}
+use Rattle.mls_machine.specs.declared.stored.Stored.{Stored}
 use Rattle.mls_machine.specs.Site.{Site, site_scheme}
-use Rattle.mls_machine.specs.Output.{Line, name_of, front, line, heading, row_text, entry_text, view_texts, reply_lines, printed}
+use Rattle.mls_machine.specs.Output.{Line, name_of, cell_text, front, line, item_line, item_lines, heading, row_text, entry_text, view_texts, call_texts, reply_texts, reply_lines, printed}
+use Rattle.mls_sessions.specs.World.{site_under}
 
 abbrev no_label : Named
 no_label = record { name = []; value = bottom }
@@ -53,6 +60,11 @@ names_more attributes k name start h =
 
 -- ---- lines
 
+-- the parts of the line of an item
+pub item_parts : (start f deed cell end : List ℕ) → (((start ++ f) ++ deed) ++ cell) ++ end ≡ start ++ (f ++ (deed ++ cell) ++ end)
+item_parts start f deed cell end =
+    ap (λ (x : List ℕ). x ++ end) (append_assoc (start ++ f) deed cell ∙ append_assoc start f (deed ++ cell)) ∙ append_assoc start (f ++ (deed ++ cell)) end
+
 no_texts : (site : Site) (command : Command) (tuples : List Tuple) → ((rel label : ℕ) → command ≡ commands.View rel label → ⊥) → view_texts site command tuples ≡ []
 no_texts site (commands.Open name) tuples other = refl
 no_texts site commands.Close tuples other = refl
@@ -61,6 +73,17 @@ no_texts site (commands.View rel label) tuples other = absurd (other rel label r
 no_texts site (commands.Insert rel key values) tuples other = refl
 no_texts site (commands.Update rel key key_class from sets) tuples other = refl
 no_texts site (commands.Delete rel key key_class) tuples other = refl
+no_texts site (commands.Call name args) tuples other = refl
+
+no_call_texts : (command : Command) → ((name : Name) (args : List (Option Value)) → command ≡ commands.Call name args → ⊥) → call_texts command ≡ []
+no_call_texts (commands.Open name) other = refl
+no_call_texts commands.Close other = refl
+no_call_texts commands.Audit other = refl
+no_call_texts (commands.View rel label) other = refl
+no_call_texts (commands.Insert rel key values) other = refl
+no_call_texts (commands.Update rel key key_class from sets) other = refl
+no_call_texts (commands.Delete rel key key_class) other = refl
+no_call_texts (commands.Call name args) other = absurd (other name args refl)
 
 module _ (site : Site) (e : Event) where
   abbrev start : List ℕ
@@ -90,11 +113,67 @@ module _ (site : Site) (e : Event) where
   printed_lines : (texts : List (List ℕ)) → printed (map (line site.policy e e.level) texts) ≡ flat_map on_line texts
   printed_lines texts = flat_map-map (λ (l : Line). l.text ++ codes "\n") (line site.policy e e.level) texts
 
+  -- a reply without items
+  only_texts : (texts : List (List ℕ)) → printed (map (line site.policy e e.level) texts ++ []) ≡ flat_map on_line texts
+  only_texts texts = ap printed (append-nil (map (line site.policy e e.level) texts)) ∙ printed_lines texts
+
   pub rows_printed : (r : Reply) (tuples : List Tuple) → r ≡ Rows tuples → flat_map on_line (view_texts site e.command tuples) ≡ printed (reply_lines site e r)
-  rows_printed r tuples is = sym (ap (λ x. printed (reply_lines site e x)) is ∙ printed_lines (view_texts site e.command tuples))
+  rows_printed r tuples is = sym (ap (λ x. printed (reply_lines site e x)) is ∙ only_texts (view_texts site e.command tuples))
 
   pub entries_printed : (r : Reply) (es : List Entry) → r ≡ Entries es
       → on_line (codes "audit") ++ flat_map (λ x. on_line (entry_text site.policy x)) es ≡ printed (reply_lines site e r)
   entries_printed r es is =
-      sym (ap (λ x. printed (reply_lines site e x)) is ∙ printed_lines (codes "audit" ∷ map (entry_text site.policy) es)
+      sym (ap (λ x. printed (reply_lines site e x)) is ∙ only_texts (codes "audit" ∷ map (entry_text site.policy) es)
       ∙ ap (λ l. on_line (codes "audit") ++ l) (flat_map-map on_line (entry_text site.policy) es))
+
+  -- ---- the lines of a call and of items
+
+  pub other_calls : ((name : Name) (args : List (Option Value)) → e.command ≡ commands.Call name args → ⊥) → [] ≡ flat_map on_line (call_texts e.command)
+  other_calls other = sym (ap (flat_map on_line) (no_call_texts e.command other))
+
+  pub call_lines : (name : Name) (args : List (Option Value)) → e.command ≡ commands.Call name args → on_line (codes "called " ++ printable name) ≡ flat_map on_line (call_texts e.command)
+  call_lines name args is = sym (append-nil (on_line (codes "called " ++ printable name))) ∙ sym (ap (λ x. flat_map on_line (call_texts x)) is)
+
+  abbrev on_item_line : List ℕ → Item → List ℕ
+  on_item_line deed i = front site.policy e i.0 ++ (deed ++ cell_text i.1) ++ codes "\n"
+
+  printed_items : (deed : List ℕ) (items : List Item) → printed (map (item_line site.policy e deed) items) ≡ flat_map (on_item_line deed) items
+  printed_items deed items = flat_map-map (λ (l : Line). l.text ++ codes "\n") (item_line site.policy e deed) items
+
+  printed_more : (ls ms : List Line) → printed (ls ++ ms) ≡ printed ls ++ printed ms
+  printed_more ls ms = flat_map-append (λ (l : Line). l.text ++ codes "\n") ls ms
+
+  pub ran_printed : (r : Reply) (run : Run) → r ≡ Ran run
+      → flat_map on_line (call_texts e.command) ++ flat_map (on_item_line (codes "emit ")) run.emitted ++ flat_map (on_item_line (codes "release ")) run.released ≡ printed (reply_lines site e r)
+  ran_printed r run is =
+      let first = map (line site.policy e e.level) (call_texts e.command) in
+      let second = map (item_line site.policy e (codes "emit ")) run.emitted in
+      let third = map (item_line site.policy e (codes "release ")) run.released in
+      sym (ap (λ x. printed (reply_lines site e x)) is ∙ printed_more first (second ++ third) ∙ ap (λ l. printed first ++ l) (printed_more second third)
+      ∙ (λ i. printed_lines (call_texts e.command) i ++ (printed_items (codes "emit ") run.emitted i ++ printed_items (codes "release ") run.released i))
+      ∙ sym (append_assoc (flat_map on_line (call_texts e.command)) (flat_map (on_item_line (codes "emit ")) run.emitted) (flat_map (on_item_line (codes "release ")) run.released)))
+
+-- the stored transactions play no part in what is printed
+same_views : (p : Tables) (s : Schemes) (stored : List Stored) (command : Command) (tuples : List Tuple)
+    → view_texts (site_under p s) command tuples ≡ view_texts (record { policy = p; schemes = s; stored = stored }) command tuples
+same_views p s stored (commands.Open name) tuples = refl
+same_views p s stored commands.Close tuples = refl
+same_views p s stored commands.Audit tuples = refl
+same_views p s stored (commands.View rel label) tuples = refl
+same_views p s stored (commands.Insert rel key values) tuples = refl
+same_views p s stored (commands.Update rel key key_class from sets) tuples = refl
+same_views p s stored (commands.Delete rel key key_class) tuples = refl
+same_views p s stored (commands.Call name args) tuples = refl
+
+same_texts : (p : Tables) (s : Schemes) (stored : List Stored) (command : Command) (r : Reply)
+    → reply_texts (site_under p s) command r ≡ reply_texts (record { policy = p; schemes = s; stored = stored }) command r
+same_texts p s stored command (Opened user) = refl
+same_texts p s stored command Closed = refl
+same_texts p s stored command (Rows tuples) = same_views p s stored command tuples
+same_texts p s stored command (Wrote o) = refl
+same_texts p s stored command (Ran run) = refl
+same_texts p s stored command (Entries es) = refl
+same_texts p s stored command (Denied d) = refl
+
+pub lines_under : (site : Site) (e : Event) (r : Reply) → reply_lines (site_under site.policy site.schemes) e r ≡ reply_lines site e r
+lines_under site e r = ap (λ texts. map (line site.policy e e.level) texts ++ item_lines site.policy e r) (same_texts site.policy site.schemes site.stored e.command r)

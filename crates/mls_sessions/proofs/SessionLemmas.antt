@@ -142,6 +142,7 @@ module _ (site : Site) (event : Event) where
   not_opening w (commands.Insert rel key values) other = refl
   not_opening w (commands.Update rel key key_class from sets) other = refl
   not_opening w (commands.Delete rel key key_class) other = refl
+  not_opening w (commands.Call name args) other = refl
 
   module _ (old : List Session) where
     abbrev held : Database → List Entry → World

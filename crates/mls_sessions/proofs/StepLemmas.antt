@@ -33,10 +33,10 @@ all_more P [] x all one = (one, tt)
 all_more P (y ∷ xs) x all one = (all.0, all_more P xs x all.1 one)
 
 module _ (count : ℕ) where
-  abbrev read : List ℕ → Option Entry
+  abbrev pub read : List ℕ → Option Entry
   read bytes = declared count (entry_at bytes)
 
-  spelled_read : (bytes : List ℕ) (e : Entry) → HasSpelling e → label_of e < count → bytes ≡ entry_spelling e → read bytes ≡ Some e
+  pub spelled_read : (bytes : List ℕ) (e : Entry) → HasSpelling e → label_of e < count → bytes ≡ entry_spelling e → read bytes ≡ Some e
   spelled_read bytes e spelled within is = ap read is ∙ ap (declared count) (entry_again e spelled) ∙ ap (λ b. cond b (Some e) None) (lt-ltb (label_of e) count within)
 
   -- one string more

@@ -12,10 +12,10 @@ use Rattle.mls_script.specs.declared.event.Event.{Event}
 use Rattle.mls_script.specs.declared.event.Command.{Command}
 use Rattle.mls_script.specs.declared.event.Command.TheVariants as commands
 use Rattle.mls_machine.specs.declared.reply.Reply.{Reply}
-use Rattle.mls_machine.specs.declared.reply.Reply.TheVariants.{Opened, Closed, Rows, Wrote, Entries, Denied}
+use Rattle.mls_machine.specs.declared.reply.Reply.TheVariants.{Opened, Closed, Rows, Wrote, Ran, Entries, Denied}
 use Rattle.mls_machine.specs.Site.{Site}
 use Rattle.mls_machine.specs.Machine.{Sessions, World, Step, denied, step_inside}
-use Rattle.mls_machine.specs.Output.{EntriesAreKnown}
+use Rattle.mls_machine.specs.Output.{EntriesAreKnown, ItemsAreKnown}
 use Rattle.mls_sessions.specs.declared.change.Deed.{Deed}
 use Rattle.mls_sessions.specs.declared.change.Deed.TheVariants.{Deny, Write}
 use Rattle.mls_sessions.specs.declared.session.Session.{Session}
@@ -62,6 +62,7 @@ is_write (commands.View rel label) = false
 is_write (commands.Insert rel key values) = true
 is_write (commands.Update rel key key_class from sets) = true
 is_write (commands.Delete rel key key_class) = true
+is_write (commands.Call name args) = false
 
 -- the user is one of the policy; the event writes
 abbrev pub IsDeedOf : Site → Event → Deed → Type 0
@@ -76,11 +77,12 @@ IsDoneOf site event Write s t r =
 
 -- ---- replies over any store
 
--- the user that a session is opened for is one of the policy, and the labels of entries are declared
+-- the user that a session is opened for is one of the policy, and the labels of items and of entries are declared
 abbrev pub HasKnownNumbers : Tables → Reply → Type 0
 HasKnownNumbers policy (Opened user) = user < length policy.users
 HasKnownNumbers policy Closed = ⊤
 HasKnownNumbers policy (Rows tuples) = ⊤
 HasKnownNumbers policy (Wrote o) = ⊤
+HasKnownNumbers policy (Ran run) = ItemsAreKnown policy run.emitted × ItemsAreKnown policy run.released
 HasKnownNumbers policy (Entries es) = EntriesAreKnown policy es
 HasKnownNumbers policy (Denied d) = ⊤

@@ -2,7 +2,8 @@
 use Rattle.std.specs.Prelude.{◌≡◌, ℕ, Bool, ◌&&◌, if◌then◌else◌, nat_eq, nat_lt, ◌<◌, List, [], ◌∷◌, length, Option, Some, None, Result, Ok, Err}
 use Rattle.std.specs.List.{AllByRecursion, filter_map}
 use Rattle.std.specs.Str.{bytes_eq}
-use Rattle.mls_lattice.specs.Policy.{Name}
+use Rattle.mls_lattice.specs.Policy.{Name, Tables}
+use Rattle.mls_scheme.specs.Scheme.{Schemes}
 use Rattle.mls_scheme.specs.Table.{Database}
 use Rattle.mls_filterview.specs.Content.{Content}
 use Rattle.mls_filterview.specs.Stored.{AreContent}
@@ -16,9 +17,13 @@ use Rattle.mls_machine.specs.Machine.{Sessions, World}
 use Rattle.mls_sessions.specs.declared.rules.Rules.{Rules}
 use Rattle.mls_sessions.specs.declared.session.Session.{Session}
 
--- what a run is under
+-- what replies are printed under: no stored transaction plays a part
+abbrev pub site_under : Tables → Schemes → Site
+site_under policy schemes = record { policy = policy; schemes = schemes; stored = [] }
+
+-- what a run is under: no transaction is stored
 abbrev pub site_of : Rules → Site
-site_of rules = record { policy = rules.policy.now; schemes = rules.schemes.now }
+site_of rules = record { policy = rules.policy.now; schemes = rules.schemes.now; stored = [] }
 
 -- ---- sessions
 

@@ -1,10 +1,8 @@
 //! Commands that are denied in open sessions, after Bell and LaPadula (1976).
 ghost use Rattle.std.specs.Prelude.{◌≡◌, ◌==◌, ◌<◌, bit_and, length, map};
 ghost use Rattle.std.specs.List.{AllByRecursion, list_any};
-ghost use Rattle.mls_lattice.specs.Policy.{modes_in};
 ghost use Rattle.mls_script.specs.Event.{CommandFits};
-ghost use Rattle.mls_machine.specs.Site.{site_scheme};
-ghost use Rattle.mls_machine.specs.Denying.{first_denial, clearance_of, exceed, lacks, access_denials};
+ghost use Rattle.mls_machine.specs.Denying.{first_denial, clearance_of, exceed, lacks_on, lacks, access_denials};
 ghost use Rattle.mls_sessions.specs.Denying.{denial_in};
 ghost use Rattle.mls_sessions.specs.World.{site_of};
 
@@ -14,14 +12,6 @@ use mls_lattice::{LabelNo, Modes, Policy, UserNo};
 use mls_machine::Denial;
 use mls_scheme::RelNo;
 use mls_script::Command;
-
-/// What a user may do with a relation.
-fn modes_on(rules: &Rules, user: UserNo, rel: RelNo) -> Modes
-    requires { rel < length rules.now.schemes.now }
-    ensures { result.0 ≡ modes_in rules.now.policy.now.matrix user (site_scheme (site_of rules.now) rel).name }
-{
-    rules.policy.modes(user, rules.schemes.scheme(rel).name())
-}
 
 fn has_any(granted: Modes, modes: &[Modes]) -> bool
     ensures { result ≡ list_any (λ mode. bit_and granted.0 mode == mode) (map (λ m. m.0) modes.now) }
@@ -34,12 +24,19 @@ fn has_any(granted: Modes, modes: &[Modes]) -> bool
     false
 }
 
+/// Whether the matrix grants a user none of the modes on what has a name.
+fn lacks_on(rules: &Rules, user: UserNo, object: &str, modes: &[Modes]) -> bool
+    ensures { result ≡ lacks_on (site_of rules.now) user object.now (map (λ m. m.0) modes.now) }
+{
+    !has_any(rules.policy.modes(user, object), modes)
+}
+
 /// Whether the matrix grants a user none of the modes on a relation.
 fn lacks(rules: &Rules, user: UserNo, rel: RelNo, modes: &[Modes]) -> bool
     requires { rel < length rules.now.schemes.now }
     ensures { result ≡ lacks (site_of rules.now) user rel (map (λ m. m.0) modes.now) }
 {
-    !has_any(modes_on(rules, user, rel), modes)
+    lacks_on(rules, user, rules.schemes.scheme(rel).name(), modes)
 }
 
 /// Whether one of the labels is not dominated by a limit.
@@ -128,5 +125,6 @@ pub(crate) fn denial_of(
         Command::Delete { rel, key_class, .. } => {
             access_denial(rules, level, user, *rel, &[Modes::WRITE], &[*key_class])
         }
+        Command::Call { .. } => Some(Denial::UnknownTransaction),
     }
 }

@@ -3,7 +3,7 @@ ghost use Rattle.std.specs.Prelude.{◌≡◌, false, length, Some, IfOk};
 ghost use Rattle.mls_scheme.specs.Scheme.{AreUnder};
 ghost use Rattle.mls_script.specs.Event.{EventFits};
 ghost use Rattle.mls_machine.specs.Machine.{no_sessions, step};
-ghost use Rattle.mls_sessions.specs.World.{sessions_of, world_at, IsSound};
+ghost use Rattle.mls_sessions.specs.World.{site_under, sessions_of, world_at, IsSound};
 ghost use Rattle.mls_sessions.specs.Engine.{site, world_of, IsReady, IsStep, IsKept, IsEngineTurn};
 ghost use Rattle.mls_sessions.specs.Turns.{HasKnownNumbers};
 
@@ -28,14 +28,14 @@ pub struct Engine<'a, B: Base> {
 
 impl<'a, B: Base> Engine<'a, B> {
     /// An engine with no session open. It takes no memory. The strings of the base's audit list are entries of declared
-    /// labels.
+    /// labels. No transaction is stored, so each call is denied.
     pub fn new(alloc: Global, base: B, policy: &'a Policy, schemes: &'a Schemes) -> Engine<'a, B>
         requires under { AreUnder (length policy.now.labels) schemes.now }
         requires idle { (B.state base).begun ≡ false }
-        requires sound { B.is_clean base → IsSound (record { policy = policy.now; schemes = schemes.now }) (B.state base).now }
+        requires sound { B.is_clean base → IsSound (site_under policy.now schemes.now) (B.state base).now }
         ensures base { result.base ≡ base }
-        ensures site { site result ≡ record { policy = policy.now; schemes = schemes.now } }
-        ensures world { world_of B.state result ≡ world_at (record { policy = policy.now; schemes = schemes.now }) no_sessions (B.state base).now }
+        ensures site { site result ≡ site_under policy.now schemes.now }
+        ensures world { world_of B.state result ≡ world_at (site_under policy.now schemes.now) no_sessions (B.state base).now }
         ensures ready { IsReady B.state B.is_clean result }
     {
         // That the labels of a policy are distinct.
@@ -79,7 +79,7 @@ impl<'a, B: Base> Engine<'a, B> {
             return change(&self.rules, &mut self.base, event, deed);
         }
         match &event.command {
-            Command::Open(_) => unreachable!(),
+            Command::Open(_) | Command::Call { .. } => unreachable!(),
             Command::Close => {
                 close(&mut self.sessions, event.level, &event.session);
                 Ok(Reply::Closed)

@@ -1,13 +1,14 @@
-//! Names and values, as replies print them.
+//! Names and values, as replies print them, and what each line begins with.
 ghost use Rattle.std.specs.Prelude.{◌≡◌, ◌<◌, ◌++◌, length, codes, OnOk};
 ghost use Rattle.std.specs.Fmt.{decimal, signed_decimal};
 ghost use Rattle.mls_audit.specs.Entry.{label_of};
-ghost use Rattle.mls_machine.specs.Output.{value_text, cell_text, entry_front, entry_text};
+ghost use Rattle.mls_machine.specs.Output.{value_text, cell_text, front, entry_front, entry_text};
 
 use crate::naming::label_name;
 use mls_audit::Entry;
 use mls_lattice::{LabelNo, Policy};
 use mls_scheme::Value;
+use mls_script::Event;
 use mls_tokens::{push_printable, push_quoted};
 use std::alloc::{AllocError, Global};
 
@@ -22,6 +23,25 @@ fn push_int(alloc: Global, text: &mut Vec<u8>, number: i64) -> Result<(), AllocE
 {
     let digits = format!(in alloc; "{number}")?;
     push_str(text, &digits)
+}
+
+/// Appends what stands before the text of a line that a label may see.
+pub(crate) fn push_front(
+    text: &mut Vec<u8>,
+    policy: &Policy,
+    event: &Event,
+    label: LabelNo,
+) -> Result<(), AllocError>
+    requires level { event.now.level < length policy.now.labels }
+    requires label { label < length policy.now.labels }
+    ensures { OnOk result (text.new.items ≡ text.old.items ++ front policy.now event.now label) }
+{
+    push_str(text, label_name(policy, label))?;
+    push_str(text, " ")?;
+    push_str(text, label_name(policy, event.level))?;
+    push_str(text, "/")?;
+    push_printable(text, &event.session)?;
+    push_str(text, " ")
 }
 
 /// Appends a value.

@@ -5,33 +5,20 @@ ghost use Rattle.std.specs.List.{flat_map, AllByRecursion};
 ghost use Rattle.mls_lattice.specs.Canon.{user_name};
 ghost use Rattle.mls_scheme.specs.Tuple.{HasClassesBelow};
 ghost use Rattle.mls_updates.specs.Outcome.{is_done};
+ghost use Rattle.mls_sessions.specs.World.{site_under};
 ghost use Rattle.mls_machine.specs.Output.{front, heading, outcome_text, denial_text, row_text, entry_text, view_texts, reply_lines, printed, CommandIsKnown, EntriesAreKnown, CanBePrinted};
 
 use crate::naming::{label_name, user_name};
-use crate::printing::{push_entry, push_str};
+use crate::printing::{push_entry, push_front, push_str};
+use crate::printing_items::ran_bytes;
 use crate::printing_rows::push_row;
 use mls_audit::Entry;
 use mls_lattice::{LabelNo, Policy, UserNo};
 use mls_machine::{Denial, Reply};
 use mls_scheme::{Attributes, Scheme, Schemes, Tuple};
 use mls_script::{Command, Event};
-use mls_tokens::push_printable;
 use mls_updates::Outcome;
 use std::alloc::{AllocError, Global};
-
-/// Appends what stands before the text of a line.
-fn push_front(text: &mut Vec<u8>, policy: &Policy, event: &Event) -> Result<(), AllocError>
-    requires { event.now.level < length policy.now.labels }
-    ensures { OnOk result (text.new.items ≡ text.old.items ++ front policy.now event.now event.now.level) }
-{
-    let level = label_name(policy, event.level);
-    push_str(text, level)?;
-    push_str(text, " ")?;
-    push_str(text, level)?;
-    push_str(text, "/")?;
-    push_printable(text, &event.session)?;
-    push_str(text, " ")
-}
 
 fn is_done(outcome: Outcome) -> bool
     ensures { result ≡ is_done outcome }
@@ -109,7 +96,7 @@ fn push_rows(
     ensures { OnOk result (text.new.items ≡ text.old.items ++ flat_map (λ t. front policy.now event.now event.now.level ++ row_text policy.now t ++ codes "\n") tuples.now) }
 {
     for tuple in tuples {
-        push_front(text, policy, event)?;
+        push_front(text, policy, event, event.level)?;
         push_row(alloc, text, policy, tuple)?;
         push_str(text, "\n")?;
     }
@@ -128,7 +115,7 @@ fn push_entries(
     ensures { OnOk result (text.new.items ≡ text.old.items ++ flat_map (λ e. front policy.now event.now event.now.level ++ entry_text policy.now e ++ codes "\n") entries.now) }
 {
     for entry in entries {
-        push_front(text, policy, event)?;
+        push_front(text, policy, event, event.level)?;
         push_entry(alloc, text, policy, entry)?;
         push_str(text, "\n")?;
     }
@@ -152,7 +139,7 @@ fn push_view(
         ++ ((front policy.now event.now event.now.level ++ heading policy.now scheme.now label ++ codes "\n")
         ++ flat_map (λ t. front policy.now event.now event.now.level ++ row_text policy.now t ++ codes "\n") tuples.now)) }
 {
-    push_front(text, policy, event)?;
+    push_front(text, policy, event, event.level)?;
     push_heading(text, policy, scheme, label)?;
     push_str(text, "\n")?;
     push_rows(alloc, text, policy, event, tuples)
@@ -168,10 +155,10 @@ fn push_answer(
     tuples: &[Tuple],
 ) -> Result<(), AllocError>
     requires level { event.now.level < length policy.now.labels }
-    requires command { CommandIsKnown (record { policy = policy.now; schemes = schemes.now }) event.now.command }
+    requires command { CommandIsKnown (site_under policy.now schemes.now) event.now.command }
     requires classes { AllByRecursion (HasClassesBelow (length policy.now.labels)) tuples.now }
     ensures { OnOk result (text.new.items ≡ text.old.items ++ flat_map (λ t. front policy.now event.now event.now.level ++ t ++ codes "\n")
-        (view_texts (record { policy = policy.now; schemes = schemes.now }) event.now.command tuples.now)) }
+        (view_texts (site_under policy.now schemes.now) event.now.command tuples.now)) }
 {
     match &event.command {
         Command::View { rel, label } => {
@@ -191,10 +178,10 @@ fn view_bytes(
     tuples: &[Tuple],
 ) -> Result<Vec<u8>, AllocError>
     requires level { event.now.level < length policy.now.labels }
-    requires command { CommandIsKnown (record { policy = policy.now; schemes = schemes.now }) event.now.command }
+    requires command { CommandIsKnown (site_under policy.now schemes.now) event.now.command }
     requires classes { AllByRecursion (HasClassesBelow (length policy.now.labels)) tuples.now }
     ensures { IfOk result (λ text. text.items ≡ flat_map (λ t. front policy.now event.now event.now.level ++ t ++ codes "\n")
-        (view_texts (record { policy = policy.now; schemes = schemes.now }) event.now.command tuples.now)) }
+        (view_texts (site_under policy.now schemes.now) event.now.command tuples.now)) }
 {
     let mut text = Vec::new(alloc);
     push_answer(alloc, &mut text, policy, schemes, event, tuples)?;
@@ -229,7 +216,7 @@ fn line_bytes(
     ensures { IfOk result (λ text. text.items ≡ front policy.now event.now event.now.level ++ line.now ++ codes "\n") }
 {
     let mut text = Vec::new(alloc);
-    push_front(&mut text, policy, event)?;
+    push_front(&mut text, policy, event, event.level)?;
     push_str(&mut text, line)?;
     push_str(&mut text, "\n")?;
     Ok(text)
@@ -259,8 +246,8 @@ pub fn reply_bytes(
     event: &Event,
     reply: &Reply,
 ) -> Result<Vec<u8>, AllocError>
-    requires { CanBePrinted (record { policy = policy.now; schemes = schemes.now }) event.now reply.now }
-    ensures { IfOk result (λ text. text.items ≡ printed (reply_lines (record { policy = policy.now; schemes = schemes.now }) event.now reply.now)) }
+    requires { CanBePrinted (site_under policy.now schemes.now) event.now reply.now }
+    ensures { IfOk result (λ text. text.items ≡ printed (reply_lines (site_under policy.now schemes.now) event.now reply.now)) }
 {
     match reply {
         Reply::Opened(user) => opened_bytes(alloc, policy, event, *user),
@@ -269,6 +256,7 @@ pub fn reply_bytes(
         Reply::Wrote(outcome) => {
             line_bytes(alloc, policy, event, &outcome_text(alloc, *outcome)?)
         }
+        Reply::Ran(run) => ran_bytes(alloc, policy, event, run),
         Reply::Entries(entries) => audit_bytes(alloc, policy, event, entries),
         Reply::Denied(denial) => line_bytes(alloc, policy, event, &denial_text(alloc, *denial)?),
     }

@@ -2,7 +2,7 @@
 ghost use Rattle.std.specs.Prelude.{◌≡◌, ◌≢◌, ◌-◌, ◌≤◌, ◌<◌, true, take, IfOk, IfErr, OnOk, OnErr};
 ghost use Rattle.mls_script.specs.Event.{EventFits};
 ghost use Rattle.mls_machine.specs.Output.{reply_lines, printed, ReplyIsKnown};
-ghost use Rattle.mls_machine.specs.Observation.{EventsFit, PassesNothingDown};
+ghost use Rattle.mls_machine.specs.Observation.{EventsFit, PassesOnlyReleasesDown};
 ghost use Rattle.mls_machine.specs.Laws.{KeepsIntegrity};
 ghost use Rattle.mls_sessions.specs.World.{site_of};
 ghost use Rattle.mls_sessions.specs.Turns.{HasKnownNumbers};
@@ -86,8 +86,9 @@ fn answer<B: Base, W: Write>(engine: &mut Engine<B>, event: &Event, out: &mut W)
 /// The first event that fails stops it: `Store` where the store fails, `Memory` where a growth is refused, `Write` where
 /// the writer refuses.
 ///
-/// What a level is shown passes nothing down to it: the lines whose labels it dominates are the same for any second world
-/// that looks alike to it and any second list of events of which it sees the same, and so is what it sees of the end.
+/// What a level is shown passes nothing down to it but what calls release: the lines whose labels it dominates are the same
+/// for any second world that looks alike to it and any second list of events of which it sees the same, and so is what it
+/// sees of the end, where the runs release the same to it, or where it dominates all that the calls that it sees can read.
 pub fn run<B: Base, W: Write>(
     engine: &mut Engine<B>,
     events: &[Event],
@@ -107,10 +108,10 @@ pub fn run<B: Base, W: Write>(
     ensures store { B.is_clean engine.new.base → IfErr result (λ f. f.cause ≡ RunCause.Store → B.failures engine.old.base < B.failures engine.new.base) }
     // Each database on the way has the four integrity properties.
     ensures integrity { B.is_clean engine.new.base → KeepsIntegrity (site engine.old) (world_of B.state engine.old) events.now }
-    // No information flows down: over all events, and over those before the one that stops the run.
-    ensures secret { B.is_clean engine.new.base → OnOk result (PassesNothingDown (site engine.old) (world_of B.state engine.old) events.now) }
+    // No information flows down but what is released: over all events, and over those before the one that stops the run.
+    ensures secret { B.is_clean engine.new.base → OnOk result (PassesOnlyReleasesDown (site engine.old) (world_of B.state engine.old) events.now) }
     ensures secret_before { B.is_clean engine.new.base
-        → IfErr result (λ f. PassesNothingDown (site engine.old) (world_of B.state engine.old) (take (f.event - 1) events.now)) }
+        → IfErr result (λ f. PassesOnlyReleasesDown (site engine.old) (world_of B.state engine.old) (take (f.event - 1) events.now)) }
 {
     for (place, event) in events.iter().enumerate() {
         if let Err(stop) = answer(engine, event, out) {

@@ -1,6 +1,6 @@
 -- What stands there is read: expressions and lists.
-use Rattle.std.proofs.Common.{◌≡◌, ℕ, zero, suc, ◌+◌, ◌<◌, ◌≤◌, max, Bool, true, false, List, [], ◌∷◌, ◌++◌, length, map, Option, Some, None, Result, Ok, Err, inl, inr, refl, sym, ap, ◌∙◌, subst, arith, append_assoc, length-append}
-use Rattle.std.specs.Prelude.{codes, not, ⊤, if◌then◌else◌}
+use Rattle.std.proofs.Common.{◌≡◌, ℕ, zero, suc, ◌<◌, ◌≤◌, Bool, true, false, List, [], ◌∷◌, ◌++◌, length, map, Option, Some, None, Ok, inl, inr, refl, sym, ap, ◌∙◌, subst, arith, append_assoc, length-append}
+use Rattle.std.specs.Prelude.{codes, not, ⊤}
 use Rattle.std.specs.List.{AllByRecursion, flat_map}
 use Rattle.std.specs.Str.{bytes_eq}
 use Rattle.std.proofs.lemmas.Bool.{cases_Bool, and_parts}
@@ -13,29 +13,28 @@ use Rattle.mls_scheme.specs.declared.value.Value.{Value}
 use Rattle.mls_scheme.specs.declared.value.Value.TheVariants as values
 use Rattle.mls_tokens.specs.declared.fault.TokenFault.{TokenFault}
 use Rattle.mls_tokens.specs.declared.token.Token.{Token}
-use Rattle.mls_tokens.specs.declared.token.Token.TheVariants.{Word, Int, Text, Sign}
+use Rattle.mls_tokens.specs.declared.token.Token.TheVariants.{Word, Sign}
 use Rattle.mls_tokens.specs.declared.token.Placed.{Placed}
 use Rattle.mls_tokens.specs.declared.sign.Sign.{Sign as Mark}
 use Rattle.mls_tokens.specs.declared.sign.Sign.TheVariants as sign
 use Rattle.mls_tokens.specs.Sign.{sign_text}
 use Rattle.mls_tokens.specs.Scanning.{Left, tokens_in}
-use Rattle.mls_tokens.specs.Passing.{left, is_word, is_sign, take_first, taken, or_refused, pass, PlacedName, name_in, named_first, pass_name_of, pass_name}
+use Rattle.mls_tokens.specs.Passing.{left, is_word, is_sign, take_first, taken, or_refused, PlacedName, name_in, named_first, pass_name}
 use Rattle.mls_translang.specs.declared.operator.Operator.{Operator}
 use Rattle.mls_translang.specs.declared.operator.Operator.TheVariants as operators
 use Rattle.mls_translang.specs.Tokens.{value_token, operator_token, separated, comma_tokens}
-use Rattle.mls_syntax.specs.declared.fault.SyntaxFault.{SyntaxFault}
 use Rattle.mls_syntax.specs.declared.list.ExprList.{ExprList}
 use Rattle.mls_syntax.specs.declared.words.Head.{Head}
 use Rattle.mls_syntax.specs.declared.words.Head.TheVariants as heads
 use Rattle.mls_syntax.specs.ExprTree.{Expr, Literal, Null, Name, Field, No, Op}
 use Rattle.mls_syntax.specs.Limits.{nesting}
-use Rattle.mls_syntax.specs.Places.{bare_name, bare, bare_list, bare_set, IsNamed, ExprIsNamed, SetIsNamed}
+use Rattle.mls_syntax.specs.Places.{bare_name, bare, bare_list, bare_set, IsNamed, ExprIsNamed}
 use Rattle.mls_syntax.specs.Fault.{in_syntax}
-use Rattle.mls_syntax.specs.Words.{head_of, operator_of, known, pass_known_of, pass_known, pass_head_of, pass_head, pass_name_behind}
+use Rattle.mls_syntax.specs.Words.{head_of, operator_of, known, pass_known_of, pass_known, pass_head_of, pass_head}
 use Rattle.mls_syntax.specs.ReadExpr.{Read, sign_at, dotted, named_at, behind_head, term_at, negation, operation, expr_at, whole_at, too_deep, after_item, items_from, items_at, list_behind, list_at, set_at, sets_at}
 use Rattle.mls_syntax.specs.ReadBlock.{word_at, name_at, name_behind}
 use Rattle.mls_syntax.specs.Spelling.{name_token, expr_tokens, list_tokens, set_tokens}
-use Rattle.mls_syntax.proofs.ExprLemmas.{IsNested, SetNested}
+use Rattle.mls_syntax.proofs.ExprLemmas.{IsNested}
 
 -- ---- steps
 

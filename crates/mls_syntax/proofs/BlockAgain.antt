@@ -1,6 +1,6 @@
 -- What stands there is read: statements and blocks.
-use Rattle.std.proofs.Common.{◌≡◌, ℕ, zero, suc, ◌+◌, ◌-◌, ◌<◌, ◌≤◌, max, Bool, true, false, List, [], ◌∷◌, ◌++◌, length, map, Option, Some, None, Result, Ok, Err, inl, inr, refl, sym, ap, ◌∙◌, subst, arith, append_assoc, nat_lt}
-use Rattle.std.specs.Prelude.{codes, ◌⊎◌, option_map, ⊤, if◌then◌else◌}
+use Rattle.std.proofs.Common.{◌≡◌, ℕ, zero, suc, ◌+◌, ◌-◌, ◌<◌, ◌≤◌, true, false, List, [], ◌∷◌, ◌++◌, length, Option, Some, None, Ok, Err, inl, inr, refl, sym, ap, ◌∙◌, subst, arith, append_assoc}
+use Rattle.std.specs.Prelude.{codes, option_map, if◌then◌else◌}
 use Rattle.std.specs.Option.{IfSome}
 use Rattle.std.specs.List.{AllByRecursion}
 use Rattle.std.specs.Str.{bytes_eq}
@@ -15,7 +15,6 @@ use Rattle.mls_tokens.specs.declared.sign.Sign.TheVariants as sign
 use Rattle.mls_tokens.specs.Scanning.{Left, tokens_in}
 use Rattle.mls_tokens.specs.Passing.{is_word, is_sign, taken, PlacedName}
 use Rattle.mls_translang.specs.Tokens.{separated, braced as braced_tokens}
-use Rattle.mls_syntax.specs.declared.fault.SyntaxFault.{SyntaxFault}
 use Rattle.mls_syntax.specs.declared.fault.SyntaxCause.TheVariants.{TooLong}
 use Rattle.mls_syntax.specs.declared.list.ExprList.{ExprList}
 use Rattle.mls_syntax.specs.declared.block.Stmt.{Stmt as Form}
@@ -28,13 +27,13 @@ use Rattle.mls_syntax.specs.ExprTree.{Expr}
 use Rattle.mls_syntax.specs.Tree.{Writing, Inserting, Updating, Deleting, Stmt, Assign, Write_at, Release, Emit, Block, End, Do, If, For, statements}
 use Rattle.mls_syntax.specs.Blocks.{block_of}
 use Rattle.mls_syntax.specs.Limits.{depth}
-use Rattle.mls_syntax.specs.Places.{bare_name, bare, bare_list, bare_set, bare_writing, bare_stmt, bare_block, IsNamed}
-use Rattle.mls_syntax.specs.Fault.{fault_at, in_syntax}
-use Rattle.mls_syntax.specs.Words.{opening_of, pass_known}
-use Rattle.mls_syntax.specs.ReadExpr.{Read, sign_at, whole_at, list_at, sets_at}
-use Rattle.mls_syntax.specs.ReadBlock.{word_at, name_at, name_behind, list_behind, outcome_of, outcome_at, keyed_at, assign_at, insert_at, classes_at, update_at, delete_at, release_at, emit_at, plain_at, Counted, with_count, braced, other_of, other_at, if_at, for_at, content_at, opened, stmt_with, deep_stmt, end_or, stmts_from, stmts_with, stmts_at, body_at}
+use Rattle.mls_syntax.specs.Places.{bare_name, bare, bare_stmt, bare_block, IsNamed}
+use Rattle.mls_syntax.specs.Fault.{fault_at}
+use Rattle.mls_syntax.specs.Words.{opening_of}
+use Rattle.mls_syntax.specs.ReadExpr.{sign_at, whole_at, list_at, sets_at}
+use Rattle.mls_syntax.specs.ReadBlock.{word_at, name_behind, list_behind, outcome_of, outcome_at, keyed_at, assign_at, insert_at, classes_at, update_at, delete_at, release_at, emit_at, plain_at, Counted, with_count, braced, other_of, other_at, content_at, opened, stmt_with, deep_stmt, end_or, stmts_from, stmts_with, stmts_at, body_at}
 use Rattle.mls_syntax.specs.Spelling.{name_token, behind_tokens, expr_tokens, list_tokens, set_tokens, outcome_tokens, keyed_tokens, write_tokens, stmt_tokens, for_tokens, SpellsOther, SpellsBlock}
-use Rattle.mls_syntax.proofs.AgainLemmas.{Gets, gets_more, done, gets_done, gets_is, NotNext, not_taken, took_word, took_sign, sign_gets, word_gets, Called, name_gets, behind_gets, known_gets, differs, Same, IsWhole, whole_again, SameList, list_again, NoDot, IsSet, sets_again}
+use Rattle.mls_syntax.proofs.AgainLemmas.{Gets, gets_more, done, gets_done, gets_is, NotNext, not_taken, took_word, took_sign, sign_gets, word_gets, Called, name_gets, behind_gets, known_gets, differs, IsWhole, whole_again, SameList, list_again, NoDot, IsSet, sets_again}
 
 -- ---- parts of statements
 

@@ -1,5 +1,5 @@
 -- Expressions are read as what stands there.
-use Rattle.std.proofs.Common.{◌≡◌, ℕ, zero, suc, ◌+◌, ◌<◌, ◌≤◌, max, Bool, true, false, List, [], ◌∷◌, ◌++◌, length, Option, Some, None, Result, Ok, Err, inl, inr, refl, sym, ap, ◌∙◌, subst, arith, append_assoc}
+use Rattle.std.proofs.Common.{◌≡◌, ℕ, zero, suc, ◌<◌, ◌≤◌, Bool, true, false, List, [], ◌∷◌, ◌++◌, length, Option, Some, None, Result, Ok, inl, inr, refl, sym, ap, ◌∙◌, subst, arith, append_assoc}
 use Rattle.std.specs.Prelude.{codes, ◌⊎◌, if◌then◌else◌}
 use Rattle.std.specs.List.{AllByRecursion}
 use Rattle.std.specs.Str.{bytes_eq}
@@ -14,10 +14,10 @@ use Rattle.mls_tokens.specs.declared.token.Token.TheVariants.{Word, Int, Text, S
 use Rattle.mls_tokens.specs.declared.sign.Sign.{Sign as Mark}
 use Rattle.mls_tokens.specs.declared.sign.Sign.TheVariants as sign
 use Rattle.mls_tokens.specs.Scanning.{Left}
-use Rattle.mls_tokens.specs.Passing.{is_sign, taken, pass, PlacedName, pass_name}
+use Rattle.mls_tokens.specs.Passing.{is_sign, taken, PlacedName, pass_name}
 use Rattle.mls_translang.specs.declared.operator.Operator.{Operator}
 use Rattle.mls_translang.specs.declared.operator.Operator.TheVariants as operators
-use Rattle.mls_translang.specs.Tokens.{value_token, operator_token, separated, comma_tokens}
+use Rattle.mls_translang.specs.Tokens.{value_token, operator_token, separated}
 use Rattle.mls_syntax.specs.declared.fault.SyntaxFault.{SyntaxFault}
 use Rattle.mls_syntax.specs.declared.list.ExprList.{ExprList}
 use Rattle.mls_syntax.specs.declared.words.Head.{Head}
@@ -26,9 +26,9 @@ use Rattle.mls_syntax.specs.ExprTree.{Expr, Literal, Null, Name, Field, No, Op}
 use Rattle.mls_syntax.specs.Limits.{nesting}
 use Rattle.mls_syntax.specs.Fault.{in_syntax}
 use Rattle.mls_syntax.specs.Words.{head_of_sign, head_of_word, head_of, operator_of_sign, operator_of_word, operator_of, pass_known, pass_head}
-use Rattle.mls_syntax.specs.ReadExpr.{Read, sign_at, too_deep, dotted, named_at, behind_head, term_at, negation, operation, expr_at, whole_at, after_item, items_from, items_at, list_behind, list_at, set_at, sets_at}
+use Rattle.mls_syntax.specs.ReadExpr.{Read, sign_at, too_deep, dotted, behind_head, term_at, negation, operation, expr_at, whole_at, after_item, items_from, items_at, list_behind, list_at, set_at, sets_at}
 use Rattle.mls_syntax.specs.Spelling.{name_token, expr_tokens, list_tokens, set_tokens}
-use Rattle.mls_syntax.proofs.PassedLemmas.{bind_ok, same_ok, syntax_ok, Passed, passed_none, passed_more, passed_shorter, sign_taken, sign_found, name_found, TokenFound, known_found, head_found}
+use Rattle.mls_syntax.proofs.PassedLemmas.{bind_ok, same_ok, syntax_ok, Passed, passed_none, passed_more, passed_shorter, sign_taken, sign_found, name_found, known_found, head_found}
 
 -- ---- which token it was
 

@@ -1,8 +1,7 @@
 -- What is read is what the text says, and keeps to the limits.
-use Rattle.std.proofs.Common.{◌≡◌, ℕ, ◌<◌, ◌≤◌, true, false, List, [], ◌∷◌, ◌++◌, length, Option, Some, None, Result, Ok, Err, inl, inr, refl, sym, ap, ◌∙◌, subst, arith}
-use Rattle.std.specs.Prelude.{codes, ◌⊎◌, IfOk}
+use Rattle.std.proofs.Common.{◌≡◌, ℕ, ◌≤◌, List, [], ◌∷◌, ◌++◌, length, Option, Result, Ok, Err, inl, inr, refl, sym, subst}
+use Rattle.std.specs.Prelude.{codes, IfOk}
 use Rattle.std.specs.List.{AllByRecursion, flat_map}
-use Rattle.mls_lattice.specs.Name.{is_name}
 use Rattle.mls_scheme.specs.declared.value.Value.{Value}
 use Rattle.mls_scheme.specs.declared.value.Value.TheVariants as values
 use Rattle.mls_tokens.specs.declared.token.Token.{Token}
@@ -21,8 +20,8 @@ use Rattle.mls_syntax.specs.declared.transaction.Transaction.{Transaction}
 use Rattle.mls_syntax.specs.ExprTree.{Expr, Literal, Null, Name, Field, No, Op}
 use Rattle.mls_syntax.specs.Tree.{Writing, Inserting, Updating, Deleting, Stmt, Assign, Write_at, Release, Emit, Block, End, Do, If, For}
 use Rattle.mls_syntax.specs.Limits.{HasLiterals, IsShallow, WritingAll, StmtAll, BlockAll, IsLimited, AreLimited}
-use Rattle.mls_syntax.specs.Reading.{transactions_from, syntax_at}
-use Rattle.mls_syntax.specs.Spelling.{name_token, behind_tokens, expr_tokens, list_tokens, set_tokens, outcome_tokens, keyed_tokens, write_tokens, stmt_tokens, for_tokens, SpellsOther, SpellsBlock, params_tokens, var_tokens, heading_tokens, SpellsTransaction, SpellsEach, SpellsText}
+use Rattle.mls_syntax.specs.Reading.{syntax_at}
+use Rattle.mls_syntax.specs.Spelling.{behind_tokens, expr_tokens, list_tokens, set_tokens, outcome_tokens, write_tokens, stmt_tokens, for_tokens, SpellsOther, SpellsBlock, params_tokens, var_tokens, heading_tokens, SpellsTransaction, SpellsEach, SpellsText}
 use Rattle.mls_syntax.proofs.ExprLemmas.{IsNested, SetNested}
 use Rattle.mls_syntax.proofs.TextLemmas.{IsSized, each_found}
 

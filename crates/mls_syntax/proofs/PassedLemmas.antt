@@ -1,6 +1,5 @@
 -- The tokens that were passed.
-use Rattle.std.proofs.Common.{◌≡◌, ℕ, ◌<◌, ◌≤◌, ◌+◌, Bool, true, false, List, [], ◌∷◌, ◌++◌, length, map, Option, Some, None, Result, Ok, Err, inl, inr, refl, sym, ap, ◌∙◌, subst, append_assoc, arith, length-append}
-use Rattle.std.specs.Str.{bytes_eq}
+use Rattle.std.proofs.Common.{◌≡◌, ℕ, ◌<◌, ◌+◌, Bool, true, false, List, [], ◌∷◌, ◌++◌, length, Option, Some, None, Result, Ok, Err, inl, inr, refl, sym, ap, ◌∙◌, subst, append_assoc, arith, length-append}
 use Rattle.std.proofs.lemmas.Bool.{cases_Bool}
 use Rattle.std.proofs.lemmas.List.{length-map}
 use Rattle.std.proofs.lemmas.Slice.Eq.{bytes_eq-Decides}
@@ -20,8 +19,6 @@ use Rattle.mls_tokens.specs.Passing.{left, is_word, is_sign, take_first, taken, 
 use Rattle.mls_syntax.specs.Fault.{in_syntax}
 use Rattle.mls_syntax.specs.Words.{known, pass_known_of, pass_known, pass_head_of, pass_head, head_of, pass_name_behind}
 use Rattle.mls_syntax.specs.declared.words.Head.{Head}
-use Rattle.mls_syntax.specs.declared.fault.SyntaxFault.{SyntaxFault}
-use Rattle.mls_syntax.specs.Spelling.{behind_tokens}
 
 -- ---- steps
 

@@ -1,17 +1,15 @@
 -- Statements with no statement inside are read as what stands there.
-use Rattle.std.proofs.Common.{◌≡◌, ℕ, ◌≤◌, ◌<◌, Bool, true, false, List, [], ◌∷◌, ◌++◌, length, Option, Some, None, Result, Ok, Err, inl, inr, refl, sym, ap, ◌∙◌, subst, append_assoc}
-use Rattle.std.specs.Prelude.{codes, ◌⊎◌, option_map, if◌then◌else◌}
+use Rattle.std.proofs.Common.{◌≡◌, ℕ, true, List, [], ◌∷◌, ◌++◌, Option, Some, None, Result, Ok, refl, sym, subst}
+use Rattle.std.specs.Prelude.{codes}
 use Rattle.std.specs.List.{AllByRecursion}
-use Rattle.std.specs.Str.{bytes_eq}
-use Rattle.std.proofs.lemmas.Slice.Eq.{bytes_eq-Decides}
 use Rattle.mls_lattice.specs.Name.{is_name}
 use Rattle.mls_lattice.specs.Policy.{Name as Bytes}
 use Rattle.mls_lattice.specs.Reading.{◌>>=◌}
 use Rattle.mls_tokens.specs.declared.token.Token.{Token}
-use Rattle.mls_tokens.specs.declared.token.Token.TheVariants.{Word, Int, Text, Sign}
+use Rattle.mls_tokens.specs.declared.token.Token.TheVariants.{Word, Sign}
 use Rattle.mls_tokens.specs.declared.sign.Sign.TheVariants as sign
 use Rattle.mls_tokens.specs.Scanning.{Left}
-use Rattle.mls_tokens.specs.Passing.{is_word, is_sign, taken, pass, PlacedName, pass_name}
+use Rattle.mls_tokens.specs.Passing.{is_word, taken, pass, PlacedName, pass_name}
 use Rattle.mls_translang.specs.Tokens.{separated}
 use Rattle.mls_syntax.specs.declared.fault.SyntaxFault.{SyntaxFault}
 use Rattle.mls_syntax.specs.declared.list.ExprList.{ExprList}
@@ -19,16 +17,14 @@ use Rattle.mls_syntax.specs.declared.block.Stmt.{Stmt as Form}
 use Rattle.mls_syntax.specs.declared.block.Stmt.TheVariants as stmts
 use Rattle.mls_syntax.specs.declared.words.Plain.{Plain}
 use Rattle.mls_syntax.specs.declared.words.Plain.TheVariants as plains
-use Rattle.mls_syntax.specs.ExprTree.{Expr}
 use Rattle.mls_syntax.specs.Tree.{Inserting, Updating, Deleting, Stmt, Assign, Write_at, Release, Emit, Do}
 use Rattle.mls_syntax.specs.Blocks.{block_of}
-use Rattle.mls_syntax.specs.Limits.{nesting, StmtAll}
-use Rattle.mls_syntax.specs.Fault.{in_syntax}
+use Rattle.mls_syntax.specs.Limits.{StmtAll}
 use Rattle.mls_syntax.specs.Words.{pass_name_behind}
-use Rattle.mls_syntax.specs.ReadExpr.{Read, sign_at, whole_at, list_at, sets_at}
+use Rattle.mls_syntax.specs.ReadExpr.{sign_at, whole_at, list_at, sets_at}
 use Rattle.mls_syntax.specs.ReadBlock.{word_at, name_at, name_behind, list_behind, outcome_of, outcome_at, keyed_at, assign_at, insert_at, classes_at, update_at, delete_at, release_at, emit_at, plain_at}
-use Rattle.mls_syntax.specs.Spelling.{name_token, behind_tokens, expr_tokens, list_tokens, set_tokens, outcome_tokens, keyed_tokens, write_tokens, stmt_tokens}
-use Rattle.mls_syntax.proofs.PassedLemmas.{bind_ok, same_ok, syntax_ok, Passed, passed_none, passed_more, word_found, word_taken, sign_found, name_found, behind_found, NameFound}
+use Rattle.mls_syntax.specs.Spelling.{name_token, behind_tokens, expr_tokens, list_tokens, set_tokens, outcome_tokens, keyed_tokens, stmt_tokens}
+use Rattle.mls_syntax.proofs.PassedLemmas.{bind_ok, same_ok, syntax_ok, Passed, passed_none, passed_more, word_found, word_taken, sign_found, name_found, behind_found}
 use Rattle.mls_syntax.proofs.ExprLemmas.{IsNested, whole_found, list_found, sets_found}
 
 -- ---- words, names and lists

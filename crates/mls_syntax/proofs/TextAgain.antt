@@ -1,5 +1,5 @@
 -- What a text says is read.
-use Rattle.std.proofs.Common.{◌≡◌, ℕ, zero, suc, ◌+◌, ◌<◌, ◌≤◌, Bool, true, false, List, [], ◌∷◌, ◌++◌, length, map, Option, Some, None, Result, Ok, Err, refl, sym, ap, ◌∙◌, subst, arith, append_assoc}
+use Rattle.std.proofs.Common.{◌≡◌, ℕ, zero, suc, ◌≤◌, Bool, true, false, List, [], ◌∷◌, ◌++◌, length, map, Some, None, Result, Ok, refl, sym, ap, ◌∙◌, arith, append_assoc}
 use Rattle.std.specs.Prelude.{codes, if◌then◌else◌}
 use Rattle.std.specs.List.{AllByRecursion, flat_map}
 use Rattle.std.proofs.lemmas.List.{append-nil}
@@ -16,21 +16,21 @@ use Rattle.mls_tokens.specs.declared.sign.Sign.TheVariants as sign
 use Rattle.mls_tokens.specs.Scanning.{Left, tokens_at, tokens_in}
 use Rattle.mls_tokens.specs.Passing.{is_word, is_sign, taken, PlacedName, is_expected, over_with, is_over}
 use Rattle.mls_tokens.proofs.TokensLemmas.{tokens_exact}
-use Rattle.mls_translang.specs.Tokens.{separated, comma_tokens, braced as braced_tokens, kind_token}
+use Rattle.mls_translang.specs.Tokens.{separated, braced as braced_tokens, kind_token}
 use Rattle.mls_syntax.specs.declared.fault.SyntaxFault.{SyntaxFault}
 use Rattle.mls_syntax.specs.declared.transaction.Parameter.{Parameter}
 use Rattle.mls_syntax.specs.declared.transaction.Variable.{Variable}
 use Rattle.mls_syntax.specs.declared.transaction.Transaction.{Transaction}
 use Rattle.mls_syntax.specs.ExprTree.{Expr}
 use Rattle.mls_syntax.specs.Tree.{Writing, Inserting, Updating, Deleting, Stmt, Assign, Write_at, Release, Emit, Block, End, Do, If, For, statements}
-use Rattle.mls_syntax.specs.Limits.{depth, IsShallow, WritingAll, StmtAll, BlockAll, IsLimited}
-use Rattle.mls_syntax.specs.Places.{bare_name, bare_block, bare_param, bare_var, bare_transaction, IsNamed, ExprIsNamed, SetIsNamed, WritingIsNamed, StmtIsNamed, BlockIsNamed, IsWritable, TextsAreRead}
+use Rattle.mls_syntax.specs.Limits.{depth, IsShallow, WritingAll, StmtAll, BlockAll}
+use Rattle.mls_syntax.specs.Places.{bare_param, bare_var, bare_transaction, IsNamed, ExprIsNamed, SetIsNamed, WritingIsNamed, StmtIsNamed, BlockIsNamed, IsWritable, TextsAreRead}
 use Rattle.mls_syntax.specs.Fault.{in_syntax}
 use Rattle.mls_syntax.specs.Words.{kind_of, pass_known}
 use Rattle.mls_syntax.specs.ReadExpr.{sign_at, after_item}
-use Rattle.mls_syntax.specs.ReadBlock.{word_at, name_at, name_behind, body_at}
+use Rattle.mls_syntax.specs.ReadBlock.{word_at, name_behind, body_at}
 use Rattle.mls_syntax.specs.Reading.{too_many, param_at, params_from, params_behind, params_at, var_at, or_var, vars_from, vars_at, interval_at, transaction_at, transactions_from, syntax_at}
-use Rattle.mls_syntax.specs.Spelling.{name_token, behind_tokens, param_tokens, params_tokens, var_tokens, heading_tokens, SpellsBlock, SpellsEach}
+use Rattle.mls_syntax.specs.Spelling.{name_token, param_tokens, params_tokens, var_tokens, SpellsBlock, SpellsEach}
 use Rattle.mls_syntax.proofs.AgainLemmas.{Gets, gets_more, done, gets_done, gets_is, NotNext, not_taken, took_word, took_sign, sign_gets, word_gets, Called, name_gets, behind_gets, known_gets, IsWhole, IsSet}
 use Rattle.mls_syntax.proofs.BlockAgain.{WritingIsGood, StmtIsGood, BlockIsGood, Closed, IsOther, block_begins, body_again}
 

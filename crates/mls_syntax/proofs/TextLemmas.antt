@@ -1,5 +1,5 @@
 -- Transactions are read as what stands there.
-use Rattle.std.proofs.Common.{◌≡◌, ℕ, zero, suc, ◌+◌, ◌<◌, ◌≤◌, Bool, true, false, List, [], ◌∷◌, ◌++◌, length, map, Option, Some, None, Result, Ok, Err, inl, inr, refl, sym, ap, ◌∙◌, subst, arith, append_assoc}
+use Rattle.std.proofs.Common.{◌≡◌, ℕ, zero, suc, ◌≤◌, true, false, List, [], ◌∷◌, ◌++◌, length, Option, Some, None, Result, Ok, inl, inr, refl, sym, ap, ◌∙◌, subst, arith, append_assoc}
 use Rattle.std.specs.Prelude.{codes, ◌⊎◌, if◌then◌else◌}
 use Rattle.std.specs.List.{AllByRecursion, flat_map}
 use Rattle.std.specs.Str.{bytes_eq}
@@ -16,9 +16,9 @@ use Rattle.mls_tokens.specs.declared.token.Token.{Token}
 use Rattle.mls_tokens.specs.declared.token.Token.TheVariants.{Word, Int, Text, Sign}
 use Rattle.mls_tokens.specs.declared.token.Placed.{Placed}
 use Rattle.mls_tokens.specs.declared.sign.Sign.TheVariants as sign
-use Rattle.mls_tokens.specs.Scanning.{Left, tokens_at, tokens_in}
-use Rattle.mls_tokens.specs.Passing.{left, is_word, is_sign, taken, PlacedName, is_expected, over_with, is_over}
-use Rattle.mls_translang.specs.Tokens.{separated, braced as braced_tokens, kind_token}
+use Rattle.mls_tokens.specs.Scanning.{Left, tokens_in}
+use Rattle.mls_tokens.specs.Passing.{is_word, is_sign, taken, PlacedName, is_expected, over_with, is_over}
+use Rattle.mls_translang.specs.Tokens.{separated, kind_token}
 use Rattle.mls_syntax.specs.declared.fault.SyntaxFault.{SyntaxFault}
 use Rattle.mls_syntax.specs.declared.transaction.Parameter.{Parameter}
 use Rattle.mls_syntax.specs.declared.transaction.Variable.{Variable}
@@ -30,9 +30,9 @@ use Rattle.mls_syntax.specs.Words.{kind_of_word, kind_of, pass_known}
 use Rattle.mls_syntax.specs.ReadExpr.{sign_at, after_item}
 use Rattle.mls_syntax.specs.ReadBlock.{word_at, name_at, name_behind, body_at}
 use Rattle.mls_syntax.specs.Reading.{too_many, param_at, params_from, params_behind, params_at, var_at, or_var, vars_from, vars_at, interval_at, transaction_at, transactions_from}
-use Rattle.mls_syntax.specs.Spelling.{name_token, behind_tokens, param_tokens, params_tokens, var_tokens, heading_tokens, SpellsBlock, SpellsTransaction, SpellsEach}
+use Rattle.mls_syntax.specs.Spelling.{name_token, behind_tokens, param_tokens, params_tokens, var_tokens, SpellsTransaction, SpellsEach}
 use Rattle.mls_syntax.proofs.PassedLemmas.{bind_ok, same_ok, syntax_ok, Passed, passed_none, passed_more, sign_taken, sign_found, word_taken, known_found}
-use Rattle.mls_syntax.proofs.ExprLemmas.{chosen, some_is, IsNested}
+use Rattle.mls_syntax.proofs.ExprLemmas.{chosen, IsNested}
 use Rattle.mls_syntax.proofs.StmtLemmas.{named, behind, worded}
 use Rattle.mls_syntax.proofs.BlockLemmas.{test_word, closed, body_found}
 

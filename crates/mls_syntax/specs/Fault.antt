@@ -4,7 +4,7 @@ use Rattle.mls_tokens.specs.declared.fault.TokenCause.{TokenCause}
 use Rattle.mls_tokens.specs.declared.fault.TokenCause.TheVariants as tokens
 use Rattle.mls_tokens.specs.declared.fault.TokenFault.{TokenFault}
 use Rattle.mls_syntax.specs.declared.fault.SyntaxCause.{SyntaxCause}
-use Rattle.mls_syntax.specs.declared.fault.SyntaxCause.TheVariants.{Token, Expected, Depth, TooLong, Memory}
+use Rattle.mls_syntax.specs.declared.fault.SyntaxCause.TheVariants.{Token, Expected, TooLong, Memory}
 use Rattle.mls_syntax.specs.declared.fault.SyntaxFault.{SyntaxFault}
 
 abbrev pub fault_at : ℕ → SyntaxCause → SyntaxFault

@@ -4,7 +4,7 @@ use Rattle.std.specs.List.{AllByRecursion}
 use Rattle.mls_lattice.specs.Name.{is_name}
 use Rattle.mls_translang.specs.Tx.{IsLiteral}
 use Rattle.mls_syntax.specs.declared.transaction.Transaction.{Transaction}
-use Rattle.mls_syntax.specs.ExprTree.{Expr, Literal, Null, Name, Field, No, Op}
+use Rattle.mls_syntax.specs.ExprTree.{Expr, Literal, No, Op}
 use Rattle.mls_syntax.specs.Tree.{Writing, Inserting, Updating, Deleting, Stmt, Assign, Write_at, Release, Emit, Block, End, Do, If, For, statements}
 
 -- how many operators and `not` stand inside one another

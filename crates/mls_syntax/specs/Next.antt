@@ -1,5 +1,5 @@
 -- One parameter, variable or transaction more, behind as many as there are.
-use Rattle.std.specs.Prelude.{ℕ, nat_lt, if◌then◌else◌, codes, Option, Some, None, Result, Ok, Err}
+use Rattle.std.specs.Prelude.{ℕ, nat_lt, if◌then◌else◌, codes, Option, Some, None, Ok}
 use Rattle.mls_lattice.specs.Reading.{◌>>=◌}
 use Rattle.mls_tokens.specs.Scanning.{Left}
 use Rattle.mls_tokens.specs.Passing.{is_word, taken, is_over}

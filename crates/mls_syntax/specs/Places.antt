@@ -1,5 +1,5 @@
 -- Syntax trees without their places, and what every tree that has a text keeps to.
-use Rattle.std.specs.Prelude.{◌≡◌, ℕ, ◌≤◌, true, List, map, length, Option, option_map, Ok}
+use Rattle.std.specs.Prelude.{◌≡◌, ℕ, ◌≤◌, true, List, map, length, option_map, Ok}
 use Rattle.std.specs.Option.{IfSome}
 use Rattle.std.specs.List.{AllByRecursion}
 use Rattle.mls_lattice.specs.Name.{is_name}

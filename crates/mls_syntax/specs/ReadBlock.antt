@@ -1,7 +1,6 @@
 -- Statements, and blocks of them, from the tokens that are left.
 use Rattle.std.specs.Prelude.{ℕ, zero, suc, ◌+◌, ◌-◌, ◌==◌, nat_lt, if◌then◌else◌, List, [], ◌∷◌, ◌++◌, codes, Option, Some, None, Result, Ok, Err}
 use Rattle.mls_lattice.specs.Reading.{◌>>=◌}
-use Rattle.mls_tokens.specs.declared.fault.TokenFault.{TokenFault}
 use Rattle.mls_tokens.specs.declared.sign.Sign.TheVariants.{LeftBrace, RightBrace, Semicolon, Becomes}
 use Rattle.mls_tokens.specs.Scanning.{Left}
 use Rattle.mls_tokens.specs.Passing.{refused, is_word, is_sign, taken, pass, PlacedName, pass_name}

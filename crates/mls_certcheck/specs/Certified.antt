@@ -1,0 +1,49 @@
+-- That the rules hold has one proof at most, so that a certified transaction can keep it.
+use Rattle.std.specs.Prelude.{ℕ, List, [], ◌∷◌, ◌++◌, map, Option}
+use Rattle.std.specs.Option.{IfSome}
+use Rattle.std.specs.List.{AllByRecursion}
+use Rattle.std.proofs.Props.{props}
+use Rattle.mls_lattice.specs.Lattice.{Pair, Dominates}
+use Rattle.mls_translang.specs.Tree.{Expr, Stmt, Writing, Inserting, Updating, Deleting, Assign, Write_at, Release, Emit}
+use Rattle.mls_certcheck.specs.Place.{Node, Plain, Branching, Looping, Place}
+use Rattle.mls_certcheck.specs.Rules.{Claim, Rules, Everywhere, AssignmentAt, BranchAt, LoopAt, LoopObeys, WriteAt, WriteObeys, OrderOf, OrderAt, ReleaseAt, ReleaseObeys, EmitAt, EmitObeys}
+
+Dominates-prop : (p q : Pair) → IsProp (Dominates p q)
+Dominates-prop p q = hlevel props
+
+module _ (c : Claim) (n : ℕ) (rows : List ℕ) where
+  assignment-prop : (node : Node) → IsProp (AssignmentAt c n rows node)
+  assignment-prop (Plain (Assign x e)) = hlevel (props, Dominates-prop)
+  assignment-prop _ = hlevel props
+
+  branch-prop : (node : Node) → IsProp (BranchAt c n rows node)
+  branch-prop (Branching guard inner) = hlevel (props, Dominates-prop)
+  branch-prop _ = hlevel props
+
+  loop-prop : (node : Node) → IsProp (LoopAt c n rows node)
+  loop-prop (Looping label inner) = hlevel (props, Dominates-prop)
+  loop-prop _ = hlevel props
+
+  write-prop : (node : Node) → IsProp (WriteAt c n rows node)
+  write-prop (Plain (Write_at rel w writing outcome)) = hlevel (props, Dominates-prop)
+  write-prop _ = hlevel props
+
+  order_of-prop : (w : ℕ) (writing : Writing) → IsProp (OrderOf c w writing)
+  order_of-prop w (Inserting key values) = hlevel props
+  order_of-prop w (Updating key key_class from sets) = hlevel (props, Dominates-prop)
+  order_of-prop w (Deleting key key_class) = hlevel (props, Dominates-prop)
+
+  order-prop : (node : Node) → IsProp (OrderAt c n rows node)
+  order-prop (Plain (Write_at rel w writing outcome)) = order_of-prop w writing
+  order-prop _ = hlevel props
+
+  release-prop : (node : Node) → IsProp (ReleaseAt c n rows node)
+  release-prop (Plain (Release e to into)) = hlevel (props, Dominates-prop)
+  release-prop _ = hlevel props
+
+  emit-prop : (node : Node) → IsProp (EmitAt c n rows node)
+  emit-prop (Plain (Emit e label)) = hlevel (props, Dominates-prop)
+  emit-prop _ = hlevel props
+
+pub Rules-prop : (c : Claim) → IsProp (Rules c)
+Rules-prop c = hlevel (props, Dominates-prop, assignment-prop, branch-prop, loop-prop, write-prop, order-prop, release-prop, emit-prop)

@@ -1,0 +1,97 @@
+-- What is stored by the name of a call.
+use Rattle.std.proofs.Common.{Bool, true, false, cond, List, [], ◌∷◌, Option, Some, None}
+use Rattle.std.specs.Prelude.{⊤}
+use Rattle.std.specs.List.{find, AllByRecursion}
+use Rattle.std.specs.Option.{IfSome}
+use Rattle.mls_lattice.specs.Policy.{Name}
+use Rattle.mls_translang.specs.Tx.{Tx}
+use Rattle.mls_translang.specs.Fits.{IsReadUnder}
+use Rattle.mls_meaning.specs.Secure.{Secure}
+use Rattle.mls_script.specs.declared.event.Command.{Command}
+use Rattle.mls_script.specs.declared.event.Command.TheVariants as commands
+use Rattle.mls_machine.specs.declared.stored.Stored.{Stored}
+use Rattle.mls_machine.specs.declared.stored.Stored.TheVariants.{Certified, Plain}
+use Rattle.mls_machine.specs.Stored.{tx_of, WhereCertified}
+use Rattle.mls_machine.specs.Site.{Site}
+use Rattle.mls_machine.specs.Denying.{stored_named}
+use Rattle.mls_machine.specs.Observation.{AreRead, AreSecure, IsNoCall}
+
+-- the transaction that is stored with a certificate, if one is
+abbrev pub certified_of : Option Stored → Option Tx
+certified_of None = None
+certified_of (Some (Plain tx)) = None
+certified_of (Some (Certified k)) = Some k.tx
+
+-- what is asked of a transaction where a command calls it and it has a certificate
+abbrev pub WhereCalled : Site → (Tx → Type 0) → Command → Type 0
+WhereCalled site P (commands.Call name args) = IfSome (certified_of (stored_named site.stored name)) P
+WhereCalled site P command = ⊤
+
+-- it was read under the policy and the schemes
+abbrev pub CallsRead : Site → Command → Type 0
+CallsRead site = WhereCalled site (IsReadUnder site.policy site.schemes)
+
+-- ---- of all that are stored
+
+-- what holds of all holds of the one that is found
+pub found_holds : {X : Type 0} (P : X → Type 0) (test : X → Bool) (xs : List X) → AllByRecursion P xs → IfSome (find test xs) P
+found_holds P test [] h = tt
+found_holds P test (x ∷ xs) h = elim (test x) as (λ b. IfSome (cond b (Some x) (find test xs)) P) [ true ↦ h.0 | false ↦ found_holds P test xs h.1 ]
+
+where_called : (site : Site) (P : Tx → Type 0) → ((name : Name) → IfSome (certified_of (stored_named site.stored name)) P) → (command : Command) → WhereCalled site P command
+where_called site P h (commands.Open name) = tt
+where_called site P h commands.Close = tt
+where_called site P h commands.Audit = tt
+where_called site P h (commands.View rel label) = tt
+where_called site P h (commands.Insert rel key values) = tt
+where_called site P h (commands.Update rel key key_class from sets) = tt
+where_called site P h (commands.Delete rel key key_class) = tt
+where_called site P h (commands.Call name args) = h name
+
+-- the policy and the schemes that it was read under, and security
+pub record IsSafe (site : Site) (tx : Tx) : Type 0 where
+  pub read : IsReadUnder site.policy site.schemes tx
+  pub secure : Secure site.policy tx
+
+pub all_read : (site : Site) → AreRead site → (command : Command) → CallsRead site command
+all_read site read = where_called site (IsReadUnder site.policy site.schemes) (λ name. by_stored (stored_named site.stored name) (found_holds _ _ site.stored read))
+  where
+    by_stored : (o : Option Stored) → IfSome o (λ s. IsReadUnder site.policy site.schemes (tx_of s)) → IfSome (certified_of o) (IsReadUnder site.policy site.schemes)
+    by_stored None r = tt
+    by_stored (Some (Plain tx)) r = tt
+    by_stored (Some (Certified k)) r = r
+
+pub all_safe : (site : Site) → AreRead site → AreSecure site → (command : Command) → WhereCalled site (IsSafe site) command
+all_safe site read secure =
+    where_called site (IsSafe site) (λ name. by_stored (stored_named site.stored name) (found_holds _ _ site.stored read) (found_holds _ _ site.stored secure))
+  where
+    by_stored : (o : Option Stored) → IfSome o (λ s. IsReadUnder site.policy site.schemes (tx_of s)) → IfSome o (WhereCertified (Secure site.policy)) → IfSome (certified_of o) (IsSafe site)
+    by_stored None r s = tt
+    by_stored (Some (Plain tx)) r s = tt
+    by_stored (Some (Certified k)) r s = record { read = r; secure = s }
+
+-- ---- of one command
+
+pub no_call : (site : Site) (P : Tx → Type 0) (command : Command) → IsNoCall command → WhereCalled site P command
+no_call site P (commands.Open name) h = tt
+no_call site P commands.Close h = tt
+no_call site P commands.Audit h = tt
+no_call site P (commands.View rel label) h = tt
+no_call site P (commands.Insert rel key values) h = tt
+no_call site P (commands.Update rel key key_class from sets) h = tt
+no_call site P (commands.Delete rel key key_class) h = tt
+no_call site P (commands.Call name args) h = absurd h
+
+some_weaker : {X : Type 0} (P Q : X → Type 0) → ((x : X) → P x → Q x) → (o : Option X) → IfSome o P → IfSome o Q
+some_weaker P Q k None h = tt
+some_weaker P Q k (Some x) h = k x h
+
+pub weaker : (site : Site) (P Q : Tx → Type 0) → ((tx : Tx) → P tx → Q tx) → (command : Command) → WhereCalled site P command → WhereCalled site Q command
+weaker site P Q k (commands.Open name) h = tt
+weaker site P Q k commands.Close h = tt
+weaker site P Q k commands.Audit h = tt
+weaker site P Q k (commands.View rel label) h = tt
+weaker site P Q k (commands.Insert rel key values) h = tt
+weaker site P Q k (commands.Update rel key key_class from sets) h = tt
+weaker site P Q k (commands.Delete rel key key_class) h = tt
+weaker site P Q k (commands.Call name args) h = some_weaker P Q k (certified_of (stored_named site.stored name)) h

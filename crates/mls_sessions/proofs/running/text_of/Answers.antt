@@ -1,0 +1,8 @@
+use Rattle.std.proofs.Common.{ap, ◌∙◌}
+use Rattle.mls_machine.specs.Output.{printed}
+use Rattle.mls_sessions.specs.World.{site_of}
+use Rattle.mls_sessions.proofs.PrintingSteps.{lines_under}
+use Rattle.mls_sessions.proofs.running.text_of.Goals as goal
+
+pub returns-in-Ok-clause-done : goal.returns-in-Ok-clause-done
+returns-in-Ok-clause-done c = c.in-Ok.ensures ∙ ap printed (lines_under (site_of c.args.rules.now) c.args.event.now c.args.reply.now)

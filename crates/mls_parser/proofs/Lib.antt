@@ -8,3 +8,4 @@ pub mod SoundLemmas
 pub mod WholeLemmas
 pub mod BlockLemmas
 pub mod PlaceLemmas
+mod TxLemmas

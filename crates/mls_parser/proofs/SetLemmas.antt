@@ -1,11 +1,13 @@
 -- What an update sets, one at a time.
-use Rattle.std.proofs.Common.{◌≡◌, ℕ, zero, suc, ◌+◌, ◌<◌, ◌≤◌, Bool, true, false, ◌||◌, nat_eq, List, [], ◌∷◌, ◌++◌, length, get_or, set, drop, Option, Some, None, refl, sym, ap, ◌∙◌, subst, arith, inl, inr, get_or-set_same, get_or-set_other}
+use Rattle.std.proofs.Common.{◌≡◌, ℕ, ◌+◌, ◌<◌, ◌≤◌, Bool, true, false, ◌||◌, nat_eq, List, [], ◌∷◌, ◌++◌, length, get_or, set, drop, Option, Some, None, refl, sym, ap, ◌∙◌, subst, arith, inl, inr, get_or-set_same, get_or-set_other}
 use Rattle.std.specs.Prelude.{option_to_list}
 use Rattle.std.specs.Option.{IfSome}
 use Rattle.std.specs.List.{list_any}
+use Rattle.std.specs.Cmp.{nat_eq_equiv}
 use Rattle.std.proofs.Math.ListN.{length-set}
 use Rattle.std.proofs.lemmas.Bool.{cases_eq}
-use Rattle.std.proofs.lemmas.List.{drop_more, append-nil, get_or_past}
+use Rattle.std.proofs.lemmas.Bool.Decides.{nat_tests}
+use Rattle.std.proofs.lemmas.List.{drop_more, append-nil}
 use Rattle.std.proofs.lemmas.List.Folds.{list_any-append}
 use Rattle.std.proofs.Math.ListN.{drop_of_length-le}
 use Rattle.mls_scheme.specs.Scheme.{Scheme}
@@ -26,14 +28,10 @@ abbrev pub Marks : ℕ → List Bool → List ℕ → Type 0
 Marks n marks seen = (i : ℕ) → i < n → get_or marks i false ≡ list_any (nat_eq i) seen
 
 nat_eq-refl : (n : ℕ) → nat_eq n n ≡ true
-nat_eq-refl zero = refl
-nat_eq-refl (suc n) = nat_eq-refl n
+nat_eq-refl n = nat_eq_equiv.refl n
 
 nat_eq-other : (m n : ℕ) → (m ≡ n → ⊥) → nat_eq m n ≡ false
-nat_eq-other zero zero d = absurd (d refl)
-nat_eq-other zero (suc n) d = refl
-nat_eq-other (suc m) zero d = refl
-nat_eq-other (suc m) (suc n) d = nat_eq-other m n (λ e. d (ap (λ k. suc k) e))
+nat_eq-other m n d = grind (arith, nat_tests, d)
 
 or_true : (b : Bool) → (b || true) ≡ true
 or_true true = refl
@@ -70,6 +68,13 @@ pub marked_more : (n : ℕ) (marks : List Bool) (seen : List ℕ) → n ≤ leng
 marked_more n marks seen few h None w = subst (Marks n marks) (sym (append-nil seen)) h
 marked_more n marks seen few h (Some i) w = marks_more n marks seen i (omega (arith, w, few)) h
 
+-- ---- a fault before others
+
+pub least-first : (found : Option PlacedFault) (x : PlacedFault) (ys : List PlacedFault) → least_from (least_from found (x ∷ [])) ys ≡ least_from found (x ∷ ys)
+least-first found x ys = sym (least-append found (x ∷ []) ys)
+
+pub ruleset first_steps = (least-first, least-append, least-none)
+
 -- ---- settings
 
 -- what is left, behind those that set what is marked, is the whole
@@ -84,7 +89,7 @@ module _ (p : Place) (scheme : Scheme) (sets : List (PlacedName × Expr)) (f : O
   sets_begin marks few none = record { seen = []; marks_are = no_marks (length scheme.others) marks none; enough = few; found = refl }
 
   pub sets_more : (marks more : List Bool) (g h : Option PlacedFault) (i : ℕ) (x : PlacedName × Expr) (o : Option ℕ) (again : Bool) → i < length sets → x ≡ get_or sets i x
-      → o ≡ other_named scheme x.0.0 → IfSome o (λ k. k < length scheme.others) → again ≡ is_marked marks o → h ≡ least_from g (set_faults p scheme again o x) → more ≡ marked marks o
+      → o ≡ other_named scheme x.0.0 → IfSome o (λ k. k < length scheme.others) → again ≡ is_marked marks o → h ≡ least_from g (set_faults p scheme again (other_named scheme x.0.0) x) → more ≡ marked marks o
       → IsSoFar p scheme marks g (drop i sets) f sets → IsSoFar p scheme more h (drop (i + 1) sets) f sets
   sets_more marks more g h i x o again lt is named within asked found put s =
       let told = is_told (length scheme.others) marks s.seen s.marks_are o within in
@@ -95,7 +100,7 @@ module _ (p : Place) (scheme : Scheme) (sets : List (PlacedName × Expr)) (f : O
         marks_are = subst (λ m. Marks (length scheme.others) m (s.seen ++ option_to_list o)) (sym put) (marked_more (length scheme.others) marks s.seen s.enough s.marks_are o within);
         enough = omega (arith, ap length put, same_length marks o, s.enough);
         found =
-            ap (λ k. least_from k rest) (found ∙ ap (λ b. least_from g (set_faults p scheme b o x)) (asked ∙ told))
+            ap (λ k. least_from k rest) (found ∙ (λ j. least_from g (set_faults p scheme ((asked ∙ told) j) (sym named j) x)))
             ∙ sym (least-append g (set_faults p scheme (is_among s.seen o) o x) rest)
             ∙ ap (least_from g) (λ j. set_faults p scheme (is_among s.seen (named j)) (named j) x ++ sets_faults p scheme (s.seen ++ option_to_list (named j)) (drop (i + 1) sets))
             ∙ ap (λ l. least_from g (sets_faults p scheme s.seen l)) here

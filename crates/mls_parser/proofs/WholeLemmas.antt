@@ -1,10 +1,10 @@
 -- What blocks and transactions without faults are.
-use Rattle.std.proofs.Common.{◌≡◌, ℕ, zero, suc, ◌+◌, ◌<◌, ◌≤◌, max, cond, Bool, true, false, not, ◌||◌, nat_lt, List, [], ◌∷◌, ◌++◌, length, map, Option, Some, None, refl, sym, ap, subst, ◌∙◌, arith, append_assoc}
+use Rattle.std.proofs.Common.{◌≡◌, ℕ, suc, ◌+◌, ◌≤◌, max, cond, Bool, true, false, not, ◌||◌, nat_lt, List, [], ◌∷◌, ◌++◌, length, map, Some, None, refl, sym, ap, subst, ◌∙◌, arith, append_assoc}
 use Rattle.std.specs.Prelude.{is_some}
 use Rattle.std.specs.List.{AllByRecursion, IsDistinct, list_any, position, prefix_len}
 use Rattle.std.specs.Str.{bytes_eq}
 use Rattle.std.specs.Cmp.Lexicographic.{nat_list_eq_equiv}
-use Rattle.std.proofs.lemmas.Bool.{or_parts, cases_Bool}
+use Rattle.std.proofs.lemmas.Bool.{or_parts}
 use Rattle.std.proofs.lemmas.Bool.Decides.{nat_tests}
 use Rattle.std.proofs.lemmas.List.{append-nil, length-append, length-map, map_push}
 use Rattle.std.proofs.lemmas.List.Folds.{list_any-append}
@@ -14,12 +14,11 @@ use Rattle.mls_lattice.specs.Name.{is_name}
 use Rattle.mls_lattice.specs.Policy.{Name, Tables, labels_of}
 use Rattle.mls_scheme.specs.declared.value.Kind.{Kind}
 use Rattle.mls_scheme.specs.Scheme.{Schemes}
-use Rattle.mls_tokens.specs.Passing.{PlacedName}
 use Rattle.mls_translang.specs.declared.tx.Parameter.{Parameter}
 use Rattle.mls_translang.specs.Named.{has_name}
 use Rattle.mls_translang.specs.Tree as core
-use Rattle.mls_translang.specs.Scope.{names_in, IsFresh}
-use Rattle.mls_translang.specs.Tx.{Tx, IsTx, scope_of, depth, BlockIsOwn}
+use Rattle.mls_translang.specs.Scope.{names_in}
+use Rattle.mls_translang.specs.Tx.{Tx, IsTx, depth, BlockIsOwn}
 use Rattle.mls_translang.specs.Fits.{IsLabel, BlockFits, IsReadUnder, AreReadUnder}
 use Rattle.mls_translang.specs.Kinds.{BlockKinds}
 use Rattle.mls_translang.specs.Tokens.{Place}
@@ -28,11 +27,11 @@ use Rattle.mls_syntax.specs.declared.transaction.Variable.{Variable as Var}
 use Rattle.mls_syntax.specs.declared.transaction.Transaction.{Transaction}
 use Rattle.mls_syntax.specs.Tree.{Block, End, Do, If, For, statements}
 use Rattle.mls_syntax.specs.Limits.{depth as depth_of, BlockIsShallow, IsLimited, AreLimited}
-use Rattle.mls_parser.specs.Fault.{unless, least_from}
+use Rattle.mls_parser.specs.Fault.{least_from}
 use Rattle.mls_parser.specs.Names.{label_named, relation_named, parameter_named, variable_named, row_named, numbered, is_taken}
 use Rattle.mls_parser.specs.Infer.{may_be_truth, infer}
 use Rattle.mls_parser.specs.Faults.{known, tested, label_faults, stmt_faults, inside, loop_faults, block_faults, kept, param_of, var_of, params_from, params_faults, vars_from, vars_faults, outermost, levels_faults, tx_faults, txs_faults}
-use Rattle.mls_parser.specs.Elaboration.{expr, label, block, transaction}
+use Rattle.mls_parser.specs.Elaboration.{expr, block, transaction}
 use Rattle.mls_parser.proofs.FaultLemmas.{neither, holds, none_at_all}
 use Rattle.mls_parser.proofs.SortLemmas.{as_truth, tested_right}
 use Rattle.mls_parser.proofs.SoundLemmas.{known_label, known_relation, stmt_right}
@@ -56,11 +55,12 @@ module _ {X : Type 0} (test : X → Bool) where
 
   any_within : (xs : List X) → nat_lt (prefix_len (λ x. not (test x)) xs) (length xs) ≡ list_any test xs
   any_within [] = refl
-  any_within (x ∷ xs) = go (test x)
+  any_within (x ∷ xs) = go (test x) (any_within xs)
     where
-      go : (b : Bool) → nat_lt (cond (not b) (1 + prefix_len (λ x. not (test x)) xs) 0) (suc (length xs)) ≡ (b || list_any test xs)
-      go true = none_below (length xs)
-      go false = shifted (prefix_len (λ x. not (test x)) xs) (length xs) ∙ any_within xs
+      go : (b : Bool) → nat_lt (prefix_len (λ x. not (test x)) xs) (length xs) ≡ list_any test xs
+          → nat_lt (cond (not b) (1 + prefix_len (λ x. not (test x)) xs) 0) (suc (length xs)) ≡ (b || list_any test xs)
+      go true e = none_below (length xs)
+      go false e = shifted (prefix_len (λ x. not (test x)) xs) (length xs) ∙ e
 
   pub some_position : (xs : List X) → is_some (position test xs) ≡ list_any test xs
   some_position xs = is_some-cond (nat_lt (prefix_len (λ x. not (test x)) xs) (length xs)) (prefix_len (λ x. not (test x)) xs) ∙ any_within xs
@@ -244,7 +244,7 @@ module _ (params : List (Name × Parameter)) where
 
 module _ (policy : Tables) (schemes : Schemes) where
   pub record IsRightTx (earlier : List Name) (tx : Transaction) : Type 0 where
-    pub tx : IsTx (transaction policy schemes tx)
+    pub is_tx : IsTx (transaction policy schemes tx)
     pub read : IsReadUnder policy schemes (transaction policy schemes tx)
     pub new : list_any (bytes_eq tx.name.0) earlier ≡ false
 
@@ -268,7 +268,7 @@ module _ (policy : Tables) (schemes : Schemes) where
       let vars = vars_right ps [] tx.vars (record { names = tt; apart = subst (IsDistinct bytes_eq) (sym (append-nil (names_of ps))) params.apart }) l.vars w.0 in
       let body = block_right (outermost policy schemes tx) tx.body l.parts w.1 in
       record {
-        tx = record {
+        is_tx = record {
           name = l.name;
           names = all_append IsNamed (names_of ps) (names_of (vars_from [] tx.vars)) params.names vars.names;
           apart = vars.apart;
@@ -305,7 +305,7 @@ module _ (policy : Tables) (schemes : Schemes) where
       let one = tx_right earlier tx l.0 t.0 in
       let more = all_right (earlier ++ tx.name.0 ∷ []) txs (IsDistinct-push nat_list_eq_equiv earlier tx.name.0 d one.new) l.1 t.1 in
       record {
-        each = (one.tx, more.each);
+        each = (one.is_tx, more.each);
         read = (one.read, more.read);
         apart = subst (IsDistinct bytes_eq) (append_assoc earlier (tx.name.0 ∷ []) (map (λ x. x.name) (map (transaction policy schemes) txs))) more.apart;
       }

@@ -1,5 +1,5 @@
 -- The causes for which texts of transactions are refused, and which of several faults is answered.
-use Rattle.std.specs.Prelude.{◌≡◌, ℕ, ◌+◌, ◌-◌, Bool, true, false, not, ◌==◌, ◌&&◌, ◌||◌, nat_lt, if◌then◌else◌, List, [], ◌∷◌, codes, Option, Some, None, is_some, take, reverse}
+use Rattle.std.specs.Prelude.{ℕ, ◌+◌, ◌-◌, Bool, true, false, ◌==◌, ◌&&◌, ◌||◌, nat_lt, if◌then◌else◌, List, [], ◌∷◌, codes, Option, Some, None, take, reverse}
 use Rattle.std.specs.List.{count_by, prefix_len}
 use Rattle.mls_tokens.specs.Text.{is_no_feed}
 use Rattle.mls_syntax.specs.declared.fault.SyntaxCause.{SyntaxCause}

@@ -53,7 +53,7 @@ impl Context<'_> {
     }
 
     /// The same of an attribute that gets a value, if the name is that of an attribute, which may be set already.
-    #[tactic(auto, using(crate::proofs::FaultLemmas::fault_steps))]
+    #[tactic(auto, using(crate::proofs::SetLemmas::first_steps))]
     fn check_set(&self, found: Found, scheme: &Scheme, again: bool, set: &(Name, Expr)) -> Found
         requires { IsPlace self.now }
         ensures { result ≡ least_from found (set_faults self.now scheme.now again (other_named scheme.now set.now.0.0) set.now) }

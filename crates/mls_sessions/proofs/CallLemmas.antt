@@ -16,14 +16,12 @@ use Rattle.mls_filterview.specs.Content.{State}
 use Rattle.mls_audit.specs.declared.entry.Entry.{Entry}
 use Rattle.mls_audit.specs.Entry.{label_of}
 use Rattle.mls_audit.specs.Spelling.{HasSpelling, entry_spelling}
-use Rattle.mls_translang.specs.Tx.{Tx}
 use Rattle.mls_translang.specs.Fits.{IsReadUnder}
 use Rattle.mls_certcheck.specs.declared.certified.Certified.{Certified as Checked}
 use Rattle.mls_meaning.specs.declared.run.Run.{Run}
 use Rattle.mls_meaning.specs.Meaning.{Item, run_tx}
 use Rattle.mls_meaning.specs.Laws.{IsItem}
 use Rattle.mls_script.specs.declared.event.Event.{Event}
-use Rattle.mls_script.specs.declared.event.Command.{Command}
 use Rattle.mls_script.specs.declared.event.Command.TheVariants as commands
 use Rattle.mls_machine.specs.declared.reply.Denial.TheVariants.{UnknownTransaction, NotCertified}
 use Rattle.mls_machine.specs.declared.reply.Reply.TheVariants.{Ran}

@@ -20,7 +20,7 @@ use Rattle.mls_sessions.specs.declared.change.Deed.{Deed}
 use Rattle.mls_sessions.specs.declared.change.Deed.TheVariants.{Deny, Write, Call}
 use Rattle.mls_sessions.specs.declared.session.Session.{Session}
 use Rattle.mls_sessions.specs.Denying.{denial_in}
-use Rattle.mls_sessions.specs.World.{sessions_of, entries_in, world_at, IsEntryOf}
+use Rattle.mls_sessions.specs.World.{sessions_of, world_at, IsEntryOf}
 
 -- ---- faults
 

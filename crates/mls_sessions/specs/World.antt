@@ -4,7 +4,6 @@ use Rattle.std.specs.List.{AllByRecursion, filter_map}
 use Rattle.std.specs.Str.{bytes_eq}
 use Rattle.mls_lattice.specs.Policy.{Name, Tables}
 use Rattle.mls_scheme.specs.Scheme.{Schemes}
-use Rattle.mls_scheme.specs.Table.{Database}
 use Rattle.mls_filterview.specs.Content.{Content}
 use Rattle.mls_filterview.specs.Stored.{AreContent}
 use Rattle.mls_audit.specs.declared.entry.Entry.{Entry}

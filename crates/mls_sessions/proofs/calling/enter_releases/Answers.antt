@@ -1,4 +1,4 @@
-use Rattle.std.proofs.Common.{take, map, rules, arith}
+use Rattle.std.proofs.Common.{arith}
 use Rattle.mls_audit.specs.Spelling.{HasSpelling}
 use Rattle.mls_machine.specs.Machine.{release_entry}
 use Rattle.mls_sessions.specs.World.{site_of}

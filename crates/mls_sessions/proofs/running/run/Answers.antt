@@ -1,5 +1,4 @@
 use Rattle.std.proofs.Common.{rules, ◌-◌, ◌+◌}
-use Rattle.mls_machine.specs.Observation.{AreStored}
 use Rattle.mls_machine.proofs.KeepingLemmas.{keep_integrity}
 use Rattle.mls_machine.proofs.RunLemmas.{accepted_alike, first_accepted_alike}
 use Rattle.mls_sessions.specs.Engine.{site, world_of}

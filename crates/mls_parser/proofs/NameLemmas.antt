@@ -16,7 +16,7 @@ use Rattle.mls_translang.specs.declared.row.Row.{Row}
 use Rattle.mls_translang.specs.Named.{has_name}
 use Rattle.mls_translang.specs.Kinds.{field_of}
 
-no_label : Named
+pub no_label : Named
 no_label = record { name = []; value = bottom }
 
 -- ---- labels

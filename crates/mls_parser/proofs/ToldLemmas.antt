@@ -178,3 +178,5 @@ module _ (policy : Tables) (schemes : Schemes) where
   elaborated_told txs bytes xs e l s =
       let F : Result (List Tx) PlacedFault → Type 0 = λ r. IfOk r (Tells policy schemes bytes) in
       subst F e (answered txs bytes (least (txs_faults policy schemes [] txs)) refl l s)
+
+pub ruleset told_steps = (elaborated_told)

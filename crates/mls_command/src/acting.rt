@@ -120,7 +120,9 @@ fn run_files<H: Host, W: Write>(
 }
 
 /// The canonical texts of a policy and its schemes.
-fn texts_of(alloc: Global, policy: &Policy, schemes: &Schemes) -> Result<Vec<u8>, AllocError> {
+fn texts_of(alloc: Global, policy: &Policy, schemes: &Schemes) -> Result<Vec<u8>, AllocError>
+    requires { AreUnder (length policy.now.labels) schemes.now }
+{
     let mut text = policy.canon(alloc)?;
     text.append(&mut schemes.canon(alloc, policy)?)?;
     Ok(text)

@@ -1,0 +1,13 @@
+pub mod PassedLemmas
+pub mod ExprLemmas
+pub mod ExprSteps
+pub mod ItemSteps
+pub mod StmtLemmas
+pub mod BlockLemmas
+pub mod TextLemmas
+pub mod LimitLemmas
+pub mod StmtSteps
+pub mod ListSteps
+pub mod AgainLemmas
+pub mod BlockAgain
+pub mod TextAgain

@@ -1,0 +1,354 @@
+-- Transactions are read as what stands there.
+use Rattle.std.proofs.Common.{◌≡◌, ℕ, zero, suc, ◌≤◌, true, false, List, [], ◌∷◌, ◌++◌, length, Option, Some, None, Result, Ok, inl, inr, refl, sym, ap, ◌∙◌, subst, arith, append_assoc}
+use Rattle.std.specs.Prelude.{codes, ◌⊎◌, if◌then◌else◌}
+use Rattle.std.specs.List.{AllByRecursion, flat_map}
+use Rattle.std.specs.Str.{bytes_eq}
+use Rattle.std.proofs.lemmas.List.{append-nil}
+use Rattle.mls_lattice.specs.Name.{is_name}
+use Rattle.mls_lattice.specs.Policy.{Name as Bytes}
+use Rattle.mls_lattice.specs.Reading.{◌>>=◌}
+use Rattle.mls_scheme.specs.declared.value.Kind.{Kind}
+use Rattle.mls_scheme.specs.declared.value.Kind.TheVariants as kinds
+use Rattle.mls_tokens.specs.declared.fault.TokenCause.{TokenCause}
+use Rattle.mls_tokens.specs.declared.fault.TokenCause.TheVariants as causes
+use Rattle.mls_tokens.specs.declared.fault.TokenFault.{TokenFault}
+use Rattle.mls_tokens.specs.declared.token.Token.{Token}
+use Rattle.mls_tokens.specs.declared.token.Token.TheVariants.{Word, Int, Text, Sign}
+use Rattle.mls_tokens.specs.declared.token.Placed.{Placed}
+use Rattle.mls_tokens.specs.declared.sign.Sign.TheVariants as sign
+use Rattle.mls_tokens.specs.Scanning.{Left, tokens_in}
+use Rattle.mls_tokens.specs.Passing.{is_word, is_sign, taken, PlacedName, is_expected, over_with, is_over}
+use Rattle.mls_translang.specs.Tokens.{separated, kind_token}
+use Rattle.mls_syntax.specs.declared.fault.SyntaxFault.{SyntaxFault}
+use Rattle.mls_syntax.specs.declared.transaction.Parameter.{Parameter}
+use Rattle.mls_syntax.specs.declared.transaction.Variable.{Variable}
+use Rattle.mls_syntax.specs.declared.transaction.Transaction.{Transaction}
+use Rattle.mls_syntax.specs.Tree.{statements}
+use Rattle.mls_syntax.specs.Limits.{depth, BlockAll}
+use Rattle.mls_syntax.specs.Fault.{in_syntax}
+use Rattle.mls_syntax.specs.Words.{kind_of_word, kind_of, pass_known}
+use Rattle.mls_syntax.specs.ReadExpr.{sign_at, after_item}
+use Rattle.mls_syntax.specs.ReadBlock.{word_at, name_at, name_behind, body_at}
+use Rattle.mls_syntax.specs.Reading.{too_many, param_at, params_from, params_behind, params_at, var_at, or_var, vars_from, vars_at, interval_at, transaction_at, transactions_from}
+use Rattle.mls_syntax.specs.Spelling.{name_token, behind_tokens, param_tokens, params_tokens, var_tokens, SpellsTransaction, SpellsEach}
+use Rattle.mls_syntax.proofs.PassedLemmas.{bind_ok, same_ok, syntax_ok, Passed, passed_none, passed_more, sign_taken, sign_found, word_taken, known_found}
+use Rattle.mls_syntax.proofs.ExprLemmas.{chosen, IsNested}
+use Rattle.mls_syntax.proofs.StmtLemmas.{named, behind, worded}
+use Rattle.mls_syntax.proofs.BlockLemmas.{test_word, closed, body_found}
+
+-- ---- kinds
+
+kind_word : (w : Bytes) (k : Kind) → kind_of_word w ≡ Some k → Word w ≡ kind_token k
+kind_word w k e = first (test_word w (codes "int") kinds.Int k (if bytes_eq w (codes "text") then Some kinds.Text else None) e)
+  where
+    second : ((Word w ≡ Word (codes "text")) × (kinds.Text ≡ k)) ⊎ (None ≡ Some k) → Word w ≡ kind_token k
+    second (inl h) = h.0 ∙ ap kind_token h.1
+    second (inr h) = absurd cc
+
+    first : ((Word w ≡ Word (codes "int")) × (kinds.Int ≡ k)) ⊎ ((if bytes_eq w (codes "text") then Some kinds.Text else None) ≡ Some k) → Word w ≡ kind_token k
+    first (inl h) = h.0 ∙ ap kind_token h.1
+    first (inr h) = second (test_word w (codes "text") kinds.Text k None h)
+
+kind_is : (t : Token) (k : Kind) → kind_of t ≡ Some k → t ≡ kind_token k
+kind_is (Word w) k e = kind_word w k e
+kind_is (Int n) k e = absurd cc
+kind_is (Text s) k e = absurd cc
+kind_is (Sign s) k e = absurd cc
+
+kind_found : (l : Left) (x : (Kind × ℕ) × Left) → in_syntax (pass_known kind_of l) ≡ Ok x → Passed (kind_token x.0.0 ∷ []) l x.1
+kind_found l x e =
+    let h = known_found kind_of l x (syntax_ok (pass_known kind_of l) x e) in
+    subst (λ t. Passed (t ∷ []) l x.1) (kind_is h.0 x.0.0 h.1) h.2
+
+-- ---- parameters
+
+abbrev ParamNamed : Parameter → Type 0
+ParamNamed p = is_name p.name.0 ≡ true
+
+record ParamFound (name : PlacedName) (l : Left) (x : Parameter × Left) : Type 0 where
+  passed : Passed (Sign sign.Colon ∷ kind_token x.0.kind ∷ behind_tokens (codes "at") x.0.label) l x.1
+  named : name ≡ x.0.name
+
+param_found : (name : PlacedName) (l : Left) (x : Parameter × Left) → param_at name l ≡ Ok x → ParamFound name l x
+unfolding param_at
+param_found name l x e =
+    let c = bind_ok (sign_at sign.Colon l) (λ c. in_syntax (pass_known kind_of c.1) >>= λ k. name_behind (codes "at") k.1 >>= λ w. Ok (record { name = name; kind = k.0.0; label = w.0 }, w.1)) x e in
+    let k = bind_ok (in_syntax (pass_known kind_of c.0.1)) (λ k. name_behind (codes "at") k.1 >>= λ w. Ok (record { name = name; kind = k.0.0; label = w.0 }, w.1)) x c.2 in
+    let w = bind_ok (name_behind (codes "at") k.0.1) (λ w. Ok (record { name = name; kind = k.0.0.0; label = w.0 }, w.1)) x k.2 in
+    let done : Result (Parameter × Left) SyntaxFault = Ok (record { name = name; kind = k.0.0.0; label = w.0.0 }, w.0.1) in
+    subst (ParamFound name l) (same_ok done (record { name = name; kind = k.0.0.0; label = w.0.0 }, w.0.1) x refl w.2)
+    (record {
+      passed = passed_more (Sign sign.Colon ∷ []) (kind_token k.0.0.0 ∷ behind_tokens (codes "at") w.0.0) l c.0.1 w.0.1 (sign_found sign.Colon l c.0 c.1)
+          (passed_more (kind_token k.0.0.0 ∷ []) (behind_tokens (codes "at") w.0.0) c.0.1 k.0.1 w.0.1 (kind_found c.0.1 k.0 k.1) (behind (codes "at") k.0.1 w.0 w.1));
+      named = refl;
+    })
+
+record ParamsFound (room : ℕ) (front : List Parameter) (l : Left) (y : List Parameter × Left) : Type 0 where
+  head : Parameter
+  tail : List Parameter
+  whole : front ++ head ∷ tail ≡ y.0
+  passed : Passed (separated param_tokens (head ∷ tail)) l y.1
+  names : AllByRecursion ParamNamed (head ∷ tail)
+  few : length (head ∷ tail) ≤ room
+
+-- one with its name
+one_param : (l : Left) (n : PlacedName × Left) (p : Parameter × Left) → name_at l ≡ Ok n → param_at n.0 n.1 ≡ Ok p → Passed (param_tokens p.0) l p.1 × ParamNamed p.0
+one_param l n p is e =
+    let name = named l n is in
+    let rest = param_found n.0 n.1 p e in
+    let same : name_token n.0 ≡ name_token p.0.name = ap name_token rest.named in (
+      subst (λ t. Passed (t ∷ Sign sign.Colon ∷ kind_token p.0.kind ∷ behind_tokens (codes "at") p.0.label) l p.1) same
+          (passed_more (name_token n.0 ∷ []) (Sign sign.Colon ∷ kind_token p.0.kind ∷ behind_tokens (codes "at") p.0.label) l n.1 p.1 name.0 rest.passed),
+      subst (λ (m : PlacedName). is_name m.0 ≡ true) rest.named name.1,
+    )
+
+params_found : (room : ℕ) (front : List Parameter) (l : Left) (y : List Parameter × Left) → params_from room front l ≡ Ok y → ParamsFound room front l y
+unfolding params_from
+params_found zero front l y e =
+    let n = bind_ok (name_at l) (λ n. too_many n.0.1) y e in
+    absurd (let bad = n.2 in cc)
+params_found (suc room) front l y e =
+    let n = bind_ok (name_at l) (λ n. param_at n.0 n.1 >>= λ p. after_item (λ ps r. params_from room ps r) (front ++ p.0 ∷ []) p.1 (taken (is_sign sign.Comma) p.1)) y e in
+    let p = bind_ok (param_at n.0.0 n.0.1) (λ p. after_item (λ ps r. params_from room ps r) (front ++ p.0 ∷ []) p.1 (taken (is_sign sign.Comma) p.1)) y n.2 in
+    go p.0 (one_param l n.0 p.0 n.1 p.1) (taken (is_sign sign.Comma) p.0.1) refl (λ c h. params_found room (front ++ p.0.0 ∷ []) c y h) p.2
+  where
+    go : (p : Parameter × Left) → Passed (param_tokens p.0) l p.1 × ParamNamed p.0 → (o : Option (ℕ × Left)) → taken (is_sign sign.Comma) p.1 ≡ o
+        → ((c : Left) → params_from room (front ++ p.0 ∷ []) c ≡ Ok y → ParamsFound room (front ++ p.0 ∷ []) c y)
+        → after_item (λ ps r. params_from room ps r) (front ++ p.0 ∷ []) p.1 o ≡ Ok y → ParamsFound (suc room) front l y
+    go p here None is more h =
+        let done : Result (List Parameter × Left) SyntaxFault = Ok (front ++ p.0 ∷ [], p.1) in
+        subst (ParamsFound (suc room) front l) (same_ok done (front ++ p.0 ∷ [], p.1) y refl h)
+        (record { head = p.0; tail = []; whole = refl; passed = subst (λ ts. Passed ts l p.1) (sym (append-nil (param_tokens p.0))) here.0; names = (here.1, tt); few = omega arith })
+    go p here (Some c) is more h =
+        let rest = more c.1 h in
+        record {
+          head = p.0;
+          tail = rest.head ∷ rest.tail;
+          whole = sym (append_assoc front (p.0 ∷ []) (rest.head ∷ rest.tail)) ∙ rest.whole;
+          passed = passed_more (param_tokens p.0) (Sign sign.Comma ∷ separated param_tokens (rest.head ∷ rest.tail)) l p.1 y.1 here.0
+              (passed_more (Sign sign.Comma ∷ []) (separated param_tokens (rest.head ∷ rest.tail)) p.1 c.1 y.1 (sign_taken sign.Comma p.1 c is) rest.passed);
+          names = (here.1, rest.names);
+          few = (let f = rest.few in omega (arith, f));
+        }
+
+record ParamsRead (ts : List Parameter → List Token) (l : Left) (y : List Parameter × Left) : Type 0 where
+  passed : Passed (ts y.0) l y.1
+  names : AllByRecursion ParamNamed y.0
+  few : length y.0 ≤ 64
+
+abbrev params_end : List Parameter → List Token
+params_end ps = separated param_tokens ps ++ Sign sign.RightParen ∷ []
+
+params_rest : (l : Left) (o : Option (ℕ × Left)) (y : List Parameter × Left) → taken (is_sign sign.RightParen) l ≡ o → params_behind l o ≡ Ok y → ParamsRead params_end l y
+params_rest l (Some end) y is e =
+    let done : Result (List Parameter × Left) SyntaxFault = Ok ([], end.1) in
+    subst (ParamsRead params_end l) (same_ok done ([], end.1) y refl e) (record { passed = sign_taken sign.RightParen l end is; names = tt; few = omega arith })
+params_rest l None y is e =
+    let ps = bind_ok (params_from 64 [] l) (λ ps. sign_at sign.RightParen ps.1 >>= λ end. Ok (ps.0, end.1)) y e in
+    let end = bind_ok (sign_at sign.RightParen ps.0.1) (λ end. Ok (ps.0.0, end.1)) y ps.2 in
+    let found = params_found 64 [] l ps.0 ps.1 in
+    let done : Result (List Parameter × Left) SyntaxFault = Ok (ps.0.0, end.0.1) in
+    let tokens : Passed (separated param_tokens ps.0.0) l ps.0.1 = subst (λ (xs : List Parameter). Passed (separated param_tokens xs) l ps.0.1) found.whole found.passed in
+    subst (ParamsRead params_end l) (same_ok done (ps.0.0, end.0.1) y refl end.2)
+    (record {
+      passed = passed_more (separated param_tokens ps.0.0) (Sign sign.RightParen ∷ []) l ps.0.1 end.0.1 tokens (sign_found sign.RightParen ps.0.1 end.0 end.1);
+      names = subst (λ (xs : List Parameter). AllByRecursion ParamNamed xs) found.whole found.names;
+      few = subst (λ (xs : List Parameter). length xs ≤ 64) found.whole found.few;
+    })
+
+params_read : (l : Left) (y : List Parameter × Left) → params_at l ≡ Ok y → ParamsRead params_tokens l y
+unfolding params_at
+params_read l y e =
+    let o = bind_ok (sign_at sign.LeftParen l) (λ o. params_behind o.1 (taken (is_sign sign.RightParen) o.1)) y e in
+    let rest = params_rest o.0.1 (taken (is_sign sign.RightParen) o.0.1) y refl o.2 in
+    record { passed = passed_more (Sign sign.LeftParen ∷ []) (params_end y.0) l o.0.1 y.1 (sign_found sign.LeftParen l o.0 o.1) rest.passed; names = rest.names; few = rest.few }
+
+-- ---- variables
+
+abbrev VarNamed : Variable → Type 0
+VarNamed v = is_name v.name.0 ≡ true
+
+abbrev var_rest : Variable → List Token
+var_rest v = name_token v.name ∷ Sign sign.Colon ∷ kind_token v.kind ∷ Sign sign.Semicolon ∷ []
+
+var_found : (l : Left) (x : Variable × Left) → var_at l ≡ Ok x → Passed (var_rest x.0) l x.1 × VarNamed x.0
+unfolding var_at
+var_found l x e =
+    let n = bind_ok (name_at l) (λ n. sign_at sign.Colon n.1 >>= λ c. in_syntax (pass_known kind_of c.1) >>= λ k. sign_at sign.Semicolon k.1 >>= λ end. Ok (record { name = n.0; kind = k.0.0 }, end.1)) x e in
+    let c = bind_ok (sign_at sign.Colon n.0.1) (λ c. in_syntax (pass_known kind_of c.1) >>= λ k. sign_at sign.Semicolon k.1 >>= λ end. Ok (record { name = n.0.0; kind = k.0.0 }, end.1)) x n.2 in
+    let k = bind_ok (in_syntax (pass_known kind_of c.0.1)) (λ k. sign_at sign.Semicolon k.1 >>= λ end. Ok (record { name = n.0.0; kind = k.0.0 }, end.1)) x c.2 in
+    let end = bind_ok (sign_at sign.Semicolon k.0.1) (λ end. Ok (record { name = n.0.0; kind = k.0.0.0 }, end.1)) x k.2 in
+    let name = named l n.0 n.1 in
+    let done : Result (Variable × Left) SyntaxFault = Ok (record { name = n.0.0; kind = k.0.0.0 }, end.0.1) in
+    subst (λ (y : Variable × Left). Passed (var_rest y.0) l y.1 × VarNamed y.0) (same_ok done (record { name = n.0.0; kind = k.0.0.0 }, end.0.1) x refl end.2) (
+      passed_more (name_token n.0.0 ∷ []) (Sign sign.Colon ∷ kind_token k.0.0.0 ∷ Sign sign.Semicolon ∷ []) l n.0.1 end.0.1 name.0
+          (passed_more (Sign sign.Colon ∷ []) (kind_token k.0.0.0 ∷ Sign sign.Semicolon ∷ []) n.0.1 c.0.1 end.0.1 (sign_found sign.Colon n.0.1 c.0 c.1)
+          (passed_more (kind_token k.0.0.0 ∷ []) (Sign sign.Semicolon ∷ []) c.0.1 k.0.1 end.0.1 (kind_found c.0.1 k.0 k.1) (sign_found sign.Semicolon k.0.1 end.0 end.1))),
+      name.1,
+    )
+
+record VarsFound (room : ℕ) (front : List Variable) (l : Left) (y : List Variable × Left) : Type 0 where
+  new : List Variable
+  whole : front ++ new ≡ y.0
+  passed : Passed (flat_map var_tokens new) l y.1
+  names : AllByRecursion VarNamed new
+  few : length new ≤ room
+
+abbrev ok_vars : List Variable × Left → Result (List Variable × Left) SyntaxFault
+ok_vars x = Ok x
+
+no_vars : (room : ℕ) (front : List Variable) (l : Left) (y : List Variable × Left) → ok_vars (front, l) ≡ ok_vars y → VarsFound room front l y
+no_vars room front l y e =
+    let done : Result (List Variable × Left) SyntaxFault = Ok (front, l) in
+    subst (VarsFound room front l) (same_ok done (front, l) y refl e) (record { new = []; whole = append-nil front; passed = passed_none l; names = tt; few = omega arith })
+
+vars_found : (room : ℕ) (front : List Variable) (l : Left) (y : List Variable × Left) → vars_from room front l ≡ Ok y → VarsFound room front l y
+unfolding vars_from
+vars_found zero front l y e = go (taken (is_word (codes "var")) l) e
+  where
+    go : (o : Option (ℕ × Left)) → or_var (λ at r. too_many at) front l o ≡ Ok y → VarsFound zero front l y
+    go None h = no_vars zero front l y h
+    go (Some w) h = absurd cc
+vars_found (suc room) front l y e = go (λ xs r h. vars_found room xs r y h) (taken (is_word (codes "var")) l) refl e
+  where
+    go : ((xs : List Variable) (r : Left) → vars_from room xs r ≡ Ok y → VarsFound room xs r y) → (o : Option (ℕ × Left)) → taken (is_word (codes "var")) l ≡ o → or_var (λ at r. var_at r >>= λ v. vars_from room (front ++ v.0 ∷ []) v.1) front l o ≡ Ok y → VarsFound (suc room) front l y
+    go more None is h = no_vars (suc room) front l y h
+    go more (Some w) is h =
+        let v = bind_ok (var_at w.1) (λ v. vars_from room (front ++ v.0 ∷ []) v.1) y h in
+        let one = var_found w.1 v.0 v.1 in
+        let rest = more (front ++ v.0.0 ∷ []) v.0.1 v.2 in
+        record {
+          new = v.0.0 ∷ rest.new;
+          whole = sym (append_assoc front (v.0.0 ∷ []) rest.new) ∙ rest.whole;
+          passed = passed_more (Word (codes "var") ∷ []) (var_rest v.0.0 ++ flat_map var_tokens rest.new) l w.1 y.1 (word_taken (codes "var") l w is)
+              (passed_more (var_rest v.0.0) (flat_map var_tokens rest.new) w.1 v.0.1 y.1 one.0 rest.passed);
+          names = (one.1, rest.names);
+          few = (let f = rest.few in omega (arith, f));
+        }
+
+-- ---- transactions
+
+-- all that the limits say but of literals
+pub record IsSized (t : Transaction) : Type 0 where
+  pub name : is_name t.name.0 ≡ true
+  pub params : AllByRecursion ParamNamed t.params
+  pub vars : AllByRecursion VarNamed t.vars
+  pub few_params : length t.params ≤ 64
+  pub few_vars : length t.vars ≤ 64
+  pub few_statements : statements t.body ≤ 1000
+  pub shallow : depth t.body ≤ 16
+  pub parts : BlockAll IsNested t.body
+
+abbrev interval_tokens : PlacedName × PlacedName → List Token
+interval_tokens i = behind_tokens (codes "levels") i.0 ++ behind_tokens (codes "to") i.1
+
+interval_found : (l : Left) (x : (PlacedName × PlacedName) × Left) → interval_at l ≡ Ok x → Passed (interval_tokens x.0) l x.1
+unfolding interval_at
+interval_found l x e =
+    let lo = bind_ok (name_behind (codes "levels") l) (λ lo. name_behind (codes "to") lo.1 >>= λ hi. Ok ((lo.0, hi.0), hi.1)) x e in
+    let hi = bind_ok (name_behind (codes "to") lo.0.1) (λ hi. Ok ((lo.0.0, hi.0), hi.1)) x lo.2 in
+    let done : Result ((PlacedName × PlacedName) × Left) SyntaxFault = Ok ((lo.0.0, hi.0.0), hi.0.1) in
+    subst (λ (y : (PlacedName × PlacedName) × Left). Passed (interval_tokens y.0) l y.1) (same_ok done ((lo.0.0, hi.0.0), hi.0.1) x refl hi.2)
+    (passed_more (behind_tokens (codes "levels") lo.0.0) (behind_tokens (codes "to") hi.0.0) l lo.0.1 hi.0.1 (behind (codes "levels") l lo.0 lo.1) (behind (codes "to") lo.0.1 hi.0 hi.1))
+
+record TransactionFound (l : Left) (x : Transaction × Left) : Type 0 where
+  more : List Token
+  passed : Passed more l x.1
+  spelled : SpellsTransaction x.0 (Word (codes "transaction") ∷ more)
+  sized : IsSized x.0
+
+transaction_found : (l : Left) (x : Transaction × Left) → transaction_at l ≡ Ok x → TransactionFound l x
+unfolding transaction_at vars_at
+transaction_found l x e =
+    let n = bind_ok (name_at l) (λ n. interval_at n.1 >>= λ i. params_at i.1 >>= λ ps. sign_at sign.LeftBrace ps.1 >>= λ c. vars_at c.1 >>= λ vs. body_at vs.1 >>= λ b. Ok (record { name = n.0; lo = i.0.0; hi = i.0.1; params = ps.0; vars = vs.0; body = b.0 }, b.2)) x e in
+    let i = bind_ok (interval_at n.0.1) (λ i. params_at i.1 >>= λ ps. sign_at sign.LeftBrace ps.1 >>= λ c. vars_at c.1 >>= λ vs. body_at vs.1 >>= λ b. Ok (record { name = n.0.0; lo = i.0.0; hi = i.0.1; params = ps.0; vars = vs.0; body = b.0 }, b.2)) x n.2 in
+    let ps = bind_ok (params_at i.0.1) (λ ps. sign_at sign.LeftBrace ps.1 >>= λ c. vars_at c.1 >>= λ vs. body_at vs.1 >>= λ b. Ok (record { name = n.0.0; lo = i.0.0.0; hi = i.0.0.1; params = ps.0; vars = vs.0; body = b.0 }, b.2)) x i.2 in
+    let c = bind_ok (sign_at sign.LeftBrace ps.0.1) (λ c. vars_at c.1 >>= λ vs. body_at vs.1 >>= λ b. Ok (record { name = n.0.0; lo = i.0.0.0; hi = i.0.0.1; params = ps.0.0; vars = vs.0; body = b.0 }, b.2)) x ps.2 in
+    let vs = bind_ok (vars_at c.0.1) (λ vs. body_at vs.1 >>= λ b. Ok (record { name = n.0.0; lo = i.0.0.0; hi = i.0.0.1; params = ps.0.0; vars = vs.0; body = b.0 }, b.2)) x c.2 in
+    let b = bind_ok (body_at vs.0.1) (λ b. Ok (record { name = n.0.0; lo = i.0.0.0; hi = i.0.0.1; params = ps.0.0; vars = vs.0.0; body = b.0 }, b.2)) x vs.2 in
+    let name = named l n.0 n.1 in
+    let params = params_read i.0.1 ps.0 ps.1 in
+    let vars = vars_found 64 [] c.0.1 vs.0 vs.1 in
+    let body = body_found vs.0.1 b.0 b.1 in
+    let done : Result (Transaction × Left) SyntaxFault = Ok (record { name = n.0.0; lo = i.0.0.0; hi = i.0.0.1; params = ps.0.0; vars = vs.0.0; body = b.0.0 }, b.0.2) in
+    let declared : Passed (flat_map var_tokens vs.0.0) c.0.1 vs.0.1 = subst (λ (xs : List Variable). Passed (flat_map var_tokens xs) c.0.1 vs.0.1) vars.whole vars.passed in
+    let inside : List Token = flat_map var_tokens vs.0.0 ++ closed body.tokens in
+    let same : inside ≡ closed (flat_map var_tokens vs.0.0 ++ body.tokens) = sym (append_assoc (flat_map var_tokens vs.0.0) body.tokens (Sign sign.RightBrace ∷ [])) in
+    let block : List Token = Sign sign.LeftBrace ∷ closed (flat_map var_tokens vs.0.0 ++ body.tokens) in
+    let block_read : Passed block ps.0.1 b.0.2 =
+    passed_more (Sign sign.LeftBrace ∷ []) (closed (flat_map var_tokens vs.0.0 ++ body.tokens)) ps.0.1 c.0.1 b.0.2 (sign_found sign.LeftBrace ps.0.1 c.0 c.1)
+    (subst (λ ts. Passed ts c.0.1 b.0.2) same (passed_more (flat_map var_tokens vs.0.0) (closed body.tokens) c.0.1 vs.0.1 b.0.2 declared body.passed)) in
+    subst (TransactionFound l) (same_ok done (record { name = n.0.0; lo = i.0.0.0; hi = i.0.0.1; params = ps.0.0; vars = vs.0.0; body = b.0.0 }, b.0.2) x refl b.2)
+    (record {
+      more = name_token n.0.0 ∷ (interval_tokens i.0.0 ++ (params_tokens ps.0.0 ++ block));
+      passed = passed_more (name_token n.0.0 ∷ []) (interval_tokens i.0.0 ++ (params_tokens ps.0.0 ++ block)) l n.0.1 b.0.2 name.0
+          (passed_more (interval_tokens i.0.0) (params_tokens ps.0.0 ++ block) n.0.1 i.0.1 b.0.2 (interval_found n.0.1 i.0 i.1)
+          (passed_more (params_tokens ps.0.0) block i.0.1 ps.0.1 b.0.2 params.passed block_read));
+      spelled = (body.tokens, refl, body.kept.spelled);
+      sized = record {
+        name = name.1;
+        params = params.names;
+        vars = subst (λ (xs : List Variable). AllByRecursion VarNamed xs) vars.whole vars.names;
+        few_params = params.few;
+        few_vars = subst (λ (xs : List Variable). length xs ≤ 64) vars.whole vars.few;
+        few_statements = (let a = body.counted in let f = body.few in omega (arith, a, f));
+        shallow = body.kept.depth;
+        parts = body.kept.parts;
+      };
+    })
+
+-- ---- the whole text
+
+pub record EachFound (room : ℕ) (front : List Transaction) (l : Left) (txs : List Transaction) : Type 0 where
+  pub new : List Transaction
+  pub whole : front ++ new ≡ txs
+  pub spelled : SpellsEach new (tokens_in l.placed)
+  pub end : l.stop.cause ≡ causes.Expected
+  pub sized : AllByRecursion IsSized new
+  pub few : length new ≤ room
+
+expected_is : (c : TokenCause) → is_expected c ≡ true → c ≡ causes.Expected
+expected_is causes.Token e = absurd cc
+expected_is causes.Expected e = refl
+expected_is causes.TooLong e = absurd cc
+expected_is causes.Memory e = absurd cc
+
+over_is : (ps : List Placed) (stop : TokenFault) → over_with ps stop ≡ true → (tokens_in ps ≡ []) × (stop.cause ≡ causes.Expected)
+over_is [] stop e = (refl, expected_is stop.cause e)
+over_is (p ∷ ps) stop e = absurd cc
+
+abbrev ok_all : List Transaction → Result (List Transaction) SyntaxFault
+ok_all txs = Ok txs
+
+at_end : (room : ℕ) (front : List Transaction) (l : Left) (txs : List Transaction) → is_over l ≡ true → ok_all front ≡ ok_all txs → EachFound room front l txs
+at_end room front l txs on e =
+    let over = over_is l.placed l.stop on in
+    let done : Result (List Transaction) SyntaxFault = Ok front in
+    record { new = []; whole = append-nil front ∙ same_ok done front txs refl e; spelled = over.0; end = over.1; sized = tt; few = omega arith }
+
+pub each_found : (room : ℕ) (front : List Transaction) (l : Left) (txs : List Transaction) → transactions_from room front l ≡ Ok txs → EachFound room front l txs
+unfolding transactions_from
+each_found zero front l txs e = go (chosen (is_over l) (Ok front) (word_at (codes "transaction") l >>= λ w. too_many w.0) (Ok txs) e)
+  where
+    go : ((is_over l ≡ true) × (ok_all front ≡ ok_all txs)) ⊎ ((is_over l ≡ false) × ((word_at (codes "transaction") l >>= λ w. too_many w.0) ≡ ok_all txs)) → EachFound zero front l txs
+    go (inl h) = at_end zero front l txs h.0 h.1
+    go (inr h) = absurd (let w = bind_ok (word_at (codes "transaction") l) (λ w. too_many w.0) txs h.1 in let bad = w.2 in cc)
+each_found (suc room) front l txs e = go (λ xs r h. each_found room xs r txs h) (chosen (is_over l) (Ok front) (word_at (codes "transaction") l >>= λ w. transaction_at w.1 >>= λ t. transactions_from room (front ++ t.0 ∷ []) t.1) (Ok txs) e)
+  where
+    go : ((xs : List Transaction) (r : Left) → transactions_from room xs r ≡ Ok txs → EachFound room xs r txs) → ((is_over l ≡ true) × (ok_all front ≡ ok_all txs))
+        ⊎ ((is_over l ≡ false) × ((word_at (codes "transaction") l >>= λ w. transaction_at w.1 >>= λ t. transactions_from room (front ++ t.0 ∷ []) t.1) ≡ ok_all txs)) → EachFound (suc room) front l txs
+    go more (inl h) = at_end (suc room) front l txs h.0 h.1
+    go more (inr h) =
+        let w = bind_ok (word_at (codes "transaction") l) (λ w. transaction_at w.1 >>= λ t. transactions_from room (front ++ t.0 ∷ []) t.1) txs h.1 in
+        let t = bind_ok (transaction_at w.0.1) (λ t. transactions_from room (front ++ t.0 ∷ []) t.1) txs w.2 in
+        let one = transaction_found w.0.1 t.0 t.1 in
+        let rest = more (front ++ t.0.0 ∷ []) t.0.1 t.2 in
+        let passed = passed_more (Word (codes "transaction") ∷ []) one.more l w.0.1 t.0.1 (worded (codes "transaction") l w.0 w.1) one.passed in
+        record {
+          new = t.0.0 ∷ rest.new;
+          whole = sym (append_assoc front (t.0.0 ∷ []) rest.new) ∙ rest.whole;
+          spelled = (Word (codes "transaction") ∷ one.more, tokens_in t.0.1.placed, passed.tokens, one.spelled, rest.spelled);
+          end = ap (λ (f : TokenFault). f.cause) (sym passed.stop) ∙ rest.end;
+          sized = (one.sized, rest.sized);
+          few = (let f = rest.few in omega (arith, f));
+        }

@@ -1,0 +1,17 @@
+pub mod ExprTree
+pub mod ExprCode
+pub mod Exprs
+pub mod ExprFalls
+pub mod Tree
+pub mod BlockCode
+pub mod Blocks
+pub mod BlockFalls
+pub mod Limits
+pub mod Fault
+pub mod Words
+pub mod ReadExpr
+pub mod ReadBlock
+pub mod Reading
+pub mod Spelling
+pub mod Places
+pub mod Next

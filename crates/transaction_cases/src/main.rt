@@ -2,7 +2,11 @@
 //! `stdout`.
 #![tactic(auto)]
 
+ghost use Rattle.std.specs.Prelude.{length};
+ghost use Rattle.mls_scheme.specs.Scheme.{AreUnder};
+
 mod checks;
+mod evaluations;
 mod limits;
 mod prints;
 mod table;
@@ -14,7 +18,9 @@ use mls_scheme::Schemes;
 use std::fs;
 use std::io::{self, Error, ErrorKind, Write};
 
-fn tell_tables(rt: &HostRuntime, policy: &Policy, schemes: &Schemes) -> io::Result<()> {
+fn tell_tables(rt: &HostRuntime, policy: &Policy, schemes: &Schemes) -> io::Result<()>
+    requires { AreUnder (length policy.now.labels) schemes.now }
+{
     for table in TABLES {
         let text = tell(rt, policy, schemes, table)?;
         rt.stdout().write_all(text.as_bytes())?;

@@ -1,5 +1,8 @@
 //! The tables, in the order in which they are told.
-use crate::{checks, limits, prints, texts};
+ghost use Rattle.std.specs.Prelude.{length};
+ghost use Rattle.mls_scheme.specs.Scheme.{AreUnder};
+
+use crate::{checks, evaluations, limits, prints, texts};
 use case_tables::{Case, case_at};
 use mls_lattice::Policy;
 use mls_scheme::Schemes;
@@ -14,9 +17,16 @@ pub enum Table {
     Limits,
     Prints,
     Checks,
+    Evaluations,
 }
 
-pub const TABLES: [Table; 4] = [Table::Texts, Table::Limits, Table::Prints, Table::Checks];
+pub const TABLES: [Table; 5] = [
+    Table::Texts,
+    Table::Limits,
+    Table::Prints,
+    Table::Checks,
+    Table::Evaluations,
+];
 
 impl Table {
     fn file(self) -> &'static str {
@@ -25,6 +35,7 @@ impl Table {
             Table::Limits => "limits.txt",
             Table::Prints => "prints.txt",
             Table::Checks => "checks.txt",
+            Table::Evaluations => "evaluations.txt",
         }
     }
 }
@@ -35,7 +46,9 @@ pub fn tell<R: Files + AllocGlobal>(
     policy: &Policy,
     schemes: &Schemes,
     table: Table,
-) -> io::Result<String> {
+) -> io::Result<String>
+    requires { AreUnder (length policy.now.labels) schemes.now }
+{
     let text = fs::read_to_string(rt, table.file())?;
     let mut out = String::new(rt.alloc());
     writeln!(out, "== {}", table.file())?;
@@ -50,11 +63,14 @@ fn tell_text(
     table: Table,
     text: &str,
     out: &mut String,
-) -> Result<(), AllocError> {
+) -> io::Result<()>
+    requires { AreUnder (length policy.now.labels) schemes.now }
+{
     let lines: Vec<&str> = text.lines().collect(alloc)?;
     match table {
-        Table::Checks => checks::tell_lines(alloc, policy, schemes, &lines, out),
-        _ => tell_lines(alloc, policy, schemes, table, &lines, out),
+        Table::Checks => Ok(checks::tell_lines(alloc, policy, schemes, &lines, out)?),
+        Table::Evaluations => evaluations::tell_lines(alloc, policy, schemes, &lines, out),
+        _ => Ok(tell_lines(alloc, policy, schemes, table, &lines, out)?),
     }
 }
 
@@ -86,6 +102,6 @@ fn tell_case(
         Table::Texts => texts::tell(alloc, policy, schemes, case.head, out),
         Table::Limits => limits::tell(alloc, policy, schemes, case.head, out),
         Table::Prints => prints::tell(alloc, policy, schemes, case, out),
-        Table::Checks => Ok(()),
+        Table::Checks | Table::Evaluations => Ok(()),
     }
 }

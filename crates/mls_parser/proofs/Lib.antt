@@ -8,4 +8,8 @@ pub mod SoundLemmas
 pub mod WholeLemmas
 pub mod BlockLemmas
 pub mod PlaceLemmas
-mod TxLemmas
+pub mod TxLemmas
+pub mod NumberLemmas
+pub mod SpelledLemmas
+pub mod ToldLemmas
+pub mod LeastLemmas

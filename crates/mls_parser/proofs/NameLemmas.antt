@@ -13,7 +13,7 @@ use Rattle.mls_scheme.specs.Scheme.{Attribute, Scheme, no_attribute, column_of, 
 use Rattle.mls_translang.specs.declared.row.Row.{Row}
 use Rattle.mls_translang.specs.Kinds.{field_of}
 
-no_label : Named
+pub no_label : Named
 no_label = record { name = []; value = bottom }
 
 -- ---- labels

@@ -38,7 +38,7 @@ use Rattle.mls_parser.proofs.SoundLemmas.{known_label, known_relation, stmt_righ
 
 -- ---- names that none has
 
-negated : (b : Bool) → not b ≡ true → b ≡ false
+pub negated : (b : Bool) → not b ≡ true → b ≡ false
 negated true e = absurd cc
 negated false e = refl
 
@@ -163,7 +163,7 @@ unfolding IsDistinct
 none_apart = tt
 
 module _ {T : Type 0} (xs : List (Name × T)) (x : Name × T) (new : has_name xs x.0 ≡ false) where
-  kept_new : kept xs x ≡ xs ++ x ∷ []
+  pub kept_new : kept xs x ≡ xs ++ x ∷ []
   kept_new = rw new refl
 
   names_more : names_of (kept xs x) ≡ names_of xs ++ x.0 ∷ []

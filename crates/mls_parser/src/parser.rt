@@ -3,8 +3,9 @@ ghost use Rattle.std.specs.Prelude.{◌≡◌, IfOk};
 ghost use Rattle.std.specs.List.{AllByRecursion};
 ghost use Rattle.mls_translang.specs.Tx.{IsTx};
 ghost use Rattle.mls_translang.specs.Fits.{AreReadUnder};
+ghost use Rattle.mls_translang.specs.Tells.{Tells};
 ghost use Rattle.mls_syntax.specs.Limits.{AreLimited};
-ghost use Rattle.mls_parser.specs.Parsing.{elaborated, parsed, Gives, parse_at, IsParsed};
+ghost use Rattle.mls_parser.specs.Parsing.{elaborated, parsed, Gives, parse_at, IsParsed, IsJudged};
 
 use crate::fault::{PlacedFault, TextFault};
 use crate::transaction::{check_transactions, transactions};
@@ -34,7 +35,7 @@ fn elaborate(
 }
 
 /// Both passes, with the place of a fault.
-#[tactic(auto, unfolding(crate::specs::Parsing::parsed))]
+#[tactic(auto, unfolding(crate::specs::Parsing::parsed), using(crate::proofs::ToldLemmas::told_steps))]
 fn placed(
     alloc: Global,
     policy: &Policy,
@@ -44,6 +45,7 @@ fn placed(
     ensures exact { Gives result (parsed policy.now schemes.now bytes.now) }
     ensures read { IfOk result (λ xs. AreReadUnder policy.now schemes.now xs) }
     ensures each { IfOk result (λ xs. AllByRecursion IsTx xs) }
+    ensures told { IfOk result (λ xs. Tells policy.now schemes.now bytes.now xs) }
 {
     let txs = syntax(alloc, bytes)?;
     elaborate(alloc, policy, schemes, &txs)
@@ -62,6 +64,10 @@ pub fn parse(
 ) -> Result<Items<Tx>, TextFault>
     // The transactions, or the fault with its line, column and cause.
     ensures exact { IsParsed result (parse_at policy.now schemes.now bytes.now) }
+    // The text tells the transactions that are read.
+    ensures told { IfOk result (λ txs. Tells policy.now schemes.now bytes.now txs) }
+    // What is read has no fault, and of all faults of a text whose form is right the least is answered.
+    ensures judged { IsJudged policy.now schemes.now bytes.now result }
     // What is read is read under both.
     ensures read { IfOk result (λ txs. AreReadUnder policy.now schemes.now txs) }
     ensures each { IfOk result (λ txs. AllByRecursion IsTx txs) }

@@ -1,7 +1,7 @@
 -- The class of a tuple is the least label that dominates all its classes.
-use Rattle.std.proofs.Common.{◌≡◌, ℕ, zero, suc, ◌<◌, true, List, [], ◌∷◌, length, arith, subst, sym, ◌∙◌, refl, inl, inr}
+use Rattle.std.proofs.Common.{◌≡◌, ℕ, zero, suc, ◌<◌, true, List, [], ◌∷◌, length, arith, subst, sym, refl, inl, inr}
 use Rattle.mls_lattice.specs.Lattice.{Pair, join, Dominates}
-use Rattle.mls_lattice.specs.Labels.{Labels, label_of, below, AreDistinct}
+use Rattle.mls_lattice.specs.Labels.{Labels, label_of, below}
 use Rattle.mls_lattice.proofs.LatticeLemmas.{⊑-Dominates, Dominates-refl, Dominates-trans, Dominates-antisym, join-left, join-right, join-least}
 use Rattle.mls_scheme.specs.declared.tuple.Element.{Element}
 use Rattle.mls_scheme.specs.declared.tuple.Tuple.{Tuple}
@@ -40,10 +40,3 @@ class_of_stored ls n T stored m t h =
       | inr e ↦ subst (λ k. Dominates (tuple_class ls t) (label_of ls k)) (sym e.2) (join_of-each ls (label_of ls t.key_class) t.elements e.0 e.1)
     ])
     (join_of-least ls (label_of ls t.key_class) (label_of ls m) t.elements (below-Dominates ls t.key_class m (st.greatest t.key_class (inl refl))) (λ i l. below-Dominates ls (at t.elements i).class m (st.greatest (at t.elements i).class (inr (i, l, refl)))))
-
--- so the tuple stands there once
-pub one_class : (ls : Labels) → AreDistinct ls → (n : ℕ) (T : Table) → IsStored ls n T → (k m : ℕ) (t : Tuple) → Has T k t → Has T m t → k ≡ m
-one_class ls distinct n T stored k m t h g =
-    let sk = stored (place_of k t) t.elements h in
-    let sm = stored (place_of m t) t.elements g in
-    distinct k m (sk.declared k sk.own) (sm.declared m sm.own) (sym (class_of_stored ls n T stored k t h) ∙ class_of_stored ls n T stored m t g)

@@ -16,10 +16,10 @@ use Rattle.mls_scheme.proofs.TableLemmas.{same_table, get_kept}
 use Rattle.mls_filterview.specs.Stored.{with_class, is_entity, IsStored}
 use Rattle.mls_filterview.specs.View.{IsAmong}
 use Rattle.mls_filterview.specs.Fragment.{IsAlone}
+use Rattle.mls_filterview.proofs.EntityTests.{entity_decides}
 use Rattle.mls_updates.specs.Writes.{is_above}
 use Rattle.mls_updates.specs.Steps.{drop_each, AreAlone, AreDownwards, AreAbove}
 use Rattle.mls_updates.proofs.SetLemmas.{all_among}
-use Rattle.mls_updates.proofs.ChangeLemmas.{entity_decides}
 use Rattle.mls_updates.proofs.StateLemmas.{drop_split}
 
 -- ---- a tuple less

@@ -16,11 +16,12 @@ use Rattle.mls_scheme.specs.declared.place.Place.{Place}
 use Rattle.mls_scheme.specs.Scheme.{Scheme}
 use Rattle.mls_scheme.proofs.TableLemmas.{get_kept, get_change}
 use Rattle.mls_filterview.specs.Stored.{IsStored, IsStoredTuple, Occurs, AgreesBelow, with_class, is_entity}
+use Rattle.mls_filterview.proofs.EntityTests.{entity_decides}
 use Rattle.mls_updates.specs.declared.outcome.Outcome.{Outcome}
 use Rattle.mls_updates.specs.Outcome.{is_done}
 use Rattle.mls_updates.specs.Writes.{Key, Sets, Write, Insert, Update, Delete, WriteFits, first_refusal, place, is_above, root, set_element, derived, updated, update_in, insert_refusals, update_own_refusals, update_own, update_below_refusals, update_below, delete_refusals, write}
 use Rattle.mls_updates.proofs.SetLemmas.{none_among, IsSet, some_set, length-derived, length-updated, at-derived, at-updated, derived_cases, updated_cases, updated_class}
-use Rattle.mls_updates.proofs.ChangeLemmas.{get_new, get_again, inserted_cases, kept_cases, changed_cases, entity_decides}
+use Rattle.mls_updates.proofs.ChangeLemmas.{get_new, get_again, inserted_cases, kept_cases, changed_cases}
 
 -- ---- outcomes
 

@@ -14,10 +14,10 @@ use Rattle.mls_scheme.specs.declared.place.Place.{Place}
 use Rattle.mls_scheme.proofs.TableLemmas.{same_table, get_change}
 use Rattle.mls_filterview.specs.Stored.{is_entity}
 use Rattle.mls_filterview.specs.Fragment.{set_from, set_in, HasCell}
+use Rattle.mls_filterview.proofs.EntityTests.{entity_decides}
 use Rattle.mls_updates.specs.Writes.{Sets, set_element, updated, update_in}
 use Rattle.mls_updates.specs.Steps.{set_each}
 use Rattle.mls_updates.proofs.SetLemmas.{set_cases, length-updated, at-updated}
-use Rattle.mls_updates.proofs.ChangeLemmas.{entity_decides}
 use Rattle.mls_updates.proofs.StateLemmas.{drop_split}
 
 -- ---- one cell

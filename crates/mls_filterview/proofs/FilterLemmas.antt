@@ -1,6 +1,6 @@
 -- The view of a list of tuples, from its steps.
-use Rattle.std.proofs.Common.{◌≡◌, ℕ, zero, suc, ◌<◌, Bool, true, false, cond, List, [], ◌∷◌, length, map, Option, Some, None, refl, sym, ap, ◌∙◌, subst, arith, inl, inr}
-use Rattle.std.specs.Prelude.{◌↔◌, ◌⊎◌}
+use Rattle.std.proofs.Common.{◌≡◌, ℕ, ◌<◌, Bool, true, false, cond, List, [], ◌∷◌, map, Option, Some, None, refl, sym, ap, ◌∙◌, subst, inl, inr}
+use Rattle.std.specs.Prelude.{◌↔◌}
 use Rattle.std.specs.List.{filter, AllByRecursion}
 use Rattle.std.specs.List.Sorted.{IsStrictlySortedBy}
 use Rattle.std.specs.Ordering.{nat_cmp, ordering_then, is_lt}
@@ -12,7 +12,7 @@ use Rattle.std.specs.FinMap.{IsAntisymmetric, slice_cmp-IsAntisymmetric, nat_cmp
 use Rattle.std.specs.FinMap.Entries.{below_all}
 use Rattle.std.proofs.lemmas.Cmp.{tied_itself}
 use Rattle.std.proofs.lemmas.List.Kept.{IsStrictlySortedBy-filter}
-use Rattle.std.proofs.lemmas.Bool.{true≢false, and_from}
+use Rattle.std.proofs.lemmas.Bool.{and_from}
 use Rattle.std.proofs.lemmas.Option.{same_Some}
 use Rattle.mls_lattice.specs.Labels.{Labels, below, AreDistinct}
 use Rattle.mls_lattice.proofs.LatticeLemmas.{below-antisym}
@@ -20,14 +20,15 @@ use Rattle.mls_scheme.specs.declared.value.Value.{Value}
 use Rattle.mls_scheme.specs.declared.tuple.Element.{Element}
 use Rattle.mls_scheme.specs.declared.tuple.Tuple.{Tuple}
 use Rattle.mls_scheme.specs.Value.{value_cmp}
-use Rattle.mls_scheme.specs.Tuple.{at, HasClassesBelow}
+use Rattle.mls_scheme.specs.Tuple.{HasClassesBelow}
 use Rattle.mls_scheme.specs.Table.{place_cmp, Table, Has, IsIn, tuple_at, place_of}
 use Rattle.mls_scheme.proofs.OrderLemmas.{value_exact, place_exact}
 use Rattle.mls_filterview.specs.Subsumption.{Subsumes, IsMax, is_max_among, entity_cmp, AreByEntity}
 use Rattle.mls_filterview.specs.View.{hide, filtered, Filter, View, low, rows, IsAmong}
 use Rattle.mls_filterview.specs.Stored.{IsStored}
-use Rattle.mls_filterview.specs.Filtering.{EachOnce, seen, greatest_from, class_number, row_of, element_cmp, row_cmp}
+use Rattle.mls_filterview.specs.Filtering.{EachOnce, seen, class_number, row_of, element_cmp, row_cmp}
 use Rattle.mls_filterview.specs.RowOrder.{row_total}
+use Rattle.mls_filterview.proofs.ClassLemmas.{class_top}
 use Rattle.mls_filterview.proofs.LevelLemmas.{SameTuples, max_of_same, View-same}
 use Rattle.mls_filterview.proofs.AmongLemmas.{among_map, map_among, among_filter, filter_among, all_at}
 use Rattle.mls_filterview.proofs.EntryLemmas.{Entry, among_entries, sorted_filter, so_true, same_lists}
@@ -98,38 +99,11 @@ seen_bounded n ls c (t ∷ ts) h =
 
 -- ---- the number of a stored tuple's class
 
-greatest_from-top : (ls : Labels) → AreDistinct ls → (m : ℕ) → m < length ls → (k : ℕ) (es : List Element) → k < length ls → below ls k m ≡ true
-    → ((i : ℕ) → i < length es → (below ls (at es i).class m ≡ true) × ((at es i).class < length ls)) → (m ≡ k) ⊎ ((i : ℕ) × (i < length es) × (m ≡ (at es i).class)) → greatest_from ls k es ≡ m
-greatest_from-top ls distinct m dm k [] dk b each (inl e) = sym e
-greatest_from-top ls distinct m dm k [] dk b each (inr h) = absurd (let l = h.1 in omega arith)
-greatest_from-top ls distinct m dm k (e ∷ es) dk b each occurs =
-    elim (below ls k e.class) as (λ t. below ls k e.class ≡ t → greatest_from ls (cond t e.class k) es ≡ m) [
-      | true ↦ λ t. greatest_from-top ls distinct m dm e.class es first.1 first.0 rest (up t occurs)
-      | false ↦ λ t. greatest_from-top ls distinct m dm k es dk b rest (stays t occurs)
-    ] refl
-  where
-    first : (below ls e.class m ≡ true) × (e.class < length ls)
-    first = each 0 (omega arith)
-
-    rest : (i : ℕ) → i < length es → (below ls (at es i).class m ≡ true) × ((at es i).class < length ls)
-    rest i l = each (suc i) (omega arith)
-
-    up : below ls k e.class ≡ true → (m ≡ k) ⊎ ((i : ℕ) × (i < length (e ∷ es)) × (m ≡ (at (e ∷ es) i).class)) → (m ≡ e.class) ⊎ ((i : ℕ) × (i < length es) × (m ≡ (at es i).class))
-    up t (inl q) = inl (below-antisym ls distinct m e.class dm first.1 (subst (λ x. below ls x e.class ≡ true) (sym q) t) first.0)
-    up t (inr (zero, l, q)) = inl q
-    up t (inr (suc i, l, q)) = inr (i, omega arith, q)
-
-    stays : below ls k e.class ≡ false → (m ≡ k) ⊎ ((i : ℕ) × (i < length (e ∷ es)) × (m ≡ (at (e ∷ es) i).class)) → (m ≡ k) ⊎ ((i : ℕ) × (i < length es) × (m ≡ (at es i).class))
-    stays t (inl q) = inl q
-    stays t (inr (zero, l, q)) = absurd (true≢false (sym b ∙ ap (below ls k) q ∙ t))
-    stays t (inr (suc i, l, q)) = inr (i, omega arith, q)
-
 pub class_number-stored : (ls : Labels) → AreDistinct ls → (n : ℕ) (T : Table) → IsStored ls n T → (m : ℕ) (t : Tuple) → Has T m t → class_number ls t ≡ m
-unfolding class_number
 class_number-stored ls distinct n T stored m t h =
     let st = stored (place_of m t) t.elements h in
-    greatest_from-top ls distinct m (st.declared m st.own) t.key_class t.elements (st.declared t.key_class (inl refl)) (st.greatest t.key_class (inl refl))
-    (λ i l. (st.greatest (at t.elements i).class (inr (i, l, refl)), st.declared (at t.elements i).class (inr (i, l, refl)))) st.own
+    let top = class_top ls t st.comparable in
+    below-antisym ls distinct (class_number ls t) m (st.declared (class_number ls t) top.own) (st.declared m st.own) (st.greatest (class_number ls t) top.own) (top.greatest m st.own)
 
 -- ---- rows in order
 

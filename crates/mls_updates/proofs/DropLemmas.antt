@@ -17,9 +17,9 @@ use Rattle.mls_filterview.specs.Stored.{with_class, is_entity, IsStored}
 use Rattle.mls_filterview.specs.View.{IsAmong}
 use Rattle.mls_filterview.specs.Fragment.{IsAlone}
 use Rattle.mls_filterview.proofs.EntityTests.{entity_decides}
+use Rattle.mls_filterview.proofs.AmongLemmas.{all_at}
 use Rattle.mls_updates.specs.Writes.{is_above}
 use Rattle.mls_updates.specs.Steps.{drop_each, AreAlone, AreDownwards, AreAbove}
-use Rattle.mls_updates.proofs.SetLemmas.{all_among}
 use Rattle.mls_updates.proofs.StateLemmas.{drop_split}
 
 -- ---- a tuple less
@@ -91,7 +91,7 @@ module _ (p : Place) where
       where
         later : (q : Place) → q.class ≢ m → below ls m q.class ≡ true → IsAmong q.class (m ∷ ms) → ⊥
         later q ne up (inl same) = ne same
-        later q ne up (inr h) = true≢false (sym up ∙ all_among (λ k. below ls m k ≡ false) ms q.class d.0 h)
+        later q ne up (inr h) = true≢false (sym up ∙ all_at (λ k. below ls m k ≡ false) ms d.0 q.class h)
 
         rest : (q : Place) → (q.class ≡ m → ⊥) → IsAmong q.class (m ∷ ms) → IsAmong q.class ms
         rest q ne (inl same) = absurd (ne same)
@@ -108,7 +108,7 @@ module _ (p : Place) where
         by_place : (q : Place) → get (drop_each p ms T) q ≡ cond (not (is_above ls p q)) (get T q) None
         by_place q = elim (cases_Bool (is_above ls p q)) [
           | inl b ↦ by_look q b (get T q) refl ∙ sym (ap (λ x. cond (not x) (get T q) None) b)
-          | inr b ↦ stays ms T q (λ e h. true≢false (sym (and_from (is_entity p q) (below ls p.class q.class) e (all_among (λ m. below ls p.class m ≡ true) ms q.class a h)) ∙ b))
+          | inr b ↦ stays ms T q (λ e h. true≢false (sym (and_from (is_entity p q) (below ls p.class q.class) e (all_at (λ m. below ls p.class m ≡ true) ms a q.class h)) ∙ b))
               ∙ sym (ap (λ x. cond (not x) (get T q) None) b)
         ]
 

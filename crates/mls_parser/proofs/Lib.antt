@@ -12,3 +12,4 @@ pub mod TxLemmas
 pub mod NumberLemmas
 pub mod SpelledLemmas
 pub mod ToldLemmas
+pub mod FoundLemmas

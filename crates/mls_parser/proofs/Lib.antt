@@ -13,3 +13,5 @@ pub mod NumberLemmas
 pub mod SpelledLemmas
 pub mod ToldLemmas
 pub mod FoundLemmas
+pub mod Written
+pub mod WrittenLemmas

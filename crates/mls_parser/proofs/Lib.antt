@@ -15,3 +15,4 @@ pub mod ToldLemmas
 pub mod FoundLemmas
 pub mod Written
 pub mod WrittenLemmas
+pub mod LeastLemmas

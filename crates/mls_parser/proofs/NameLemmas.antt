@@ -1,19 +1,16 @@
 -- What stands behind numbers of names.
-use Rattle.std.proofs.Common.{◌≡◌, ℕ, zero, suc, ◌+◌, ◌-◌, ◌<◌, ◌≤◌, cond, true, false, nat_lt, List, [], ◌∷◌, length, get_or, Option, Some, None, option_map, slice_get, refl, sym, ap, ◌∙◌, arith}
-use Rattle.std.specs.Prelude.{is_some}
+use Rattle.std.proofs.Common.{◌≡◌, ℕ, zero, suc, ◌-◌, ◌<◌, ◌≤◌, true, false, nat_lt, List, [], ◌∷◌, length, get_or, Option, Some, None, option_map, slice_get, sym, ap, ◌∙◌, arith}
 use Rattle.std.specs.Option.{IfSome}
-use Rattle.std.specs.List.{position, list_any, AllByRecursion}
+use Rattle.std.specs.List.{position, AllByRecursion}
 use Rattle.std.specs.Str.{bytes_eq}
 use Rattle.std.proofs.lemmas.Bool.Decides.{nat_tests}
 use Rattle.std.proofs.lemmas.List.Quantifiers.{position-Some}
-use Rattle.std.proofs.lemmas.List.{get_or_default}
 use Rattle.std.proofs.lemmas.Option.{slice_get-get_or}
 use Rattle.mls_lattice.specs.Lattice.{bottom}
 use Rattle.mls_lattice.specs.Policy.{Name, Named, Tables}
 use Rattle.mls_scheme.specs.declared.attributes.Column.{Column}
-use Rattle.mls_scheme.specs.Scheme.{Attribute, Scheme, Schemes, no_attribute, column_of, other_of}
+use Rattle.mls_scheme.specs.Scheme.{Attribute, Scheme, no_attribute, column_of, other_of}
 use Rattle.mls_translang.specs.declared.row.Row.{Row}
-use Rattle.mls_translang.specs.Named.{has_name}
 use Rattle.mls_translang.specs.Kinds.{field_of}
 
 pub no_label : Named

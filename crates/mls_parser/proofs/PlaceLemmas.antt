@@ -1,5 +1,5 @@
 -- Places of statements.
-use Rattle.std.proofs.Common.{◌≡◌, ℕ, ◌+◌, ◌<◌, ◌≤◌, List, [], ◌∷◌, length, refl, sym, ap, subst, arith}
+use Rattle.std.proofs.Common.{◌≡◌, ℕ, ◌+◌, ◌<◌, ◌≤◌, List, [], ◌∷◌, length, sym, subst, arith}
 use Rattle.mls_lattice.specs.Policy.{Name, Tables}
 use Rattle.mls_scheme.specs.Scheme.{Schemes}
 use Rattle.mls_translang.specs.declared.row.Row.{Row}
@@ -7,7 +7,7 @@ use Rattle.mls_translang.specs.Tokens.{Place, with_rows}
 use Rattle.mls_syntax.specs.declared.transaction.Transaction.{Transaction}
 use Rattle.mls_syntax.specs.Limits.{IsLimited}
 use Rattle.mls_parser.specs.Names.{IsPlace, label_named, numbered}
-use Rattle.mls_parser.specs.Faults.{outermost, params_from, vars_from}
+use Rattle.mls_parser.specs.Faults.{outermost}
 use Rattle.mls_parser.proofs.WholeLemmas.{few_params, few_vars}
 use Rattle.mls_parser.proofs.FaultLemmas.{least-append, least-none}
 

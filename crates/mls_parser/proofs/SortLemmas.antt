@@ -1,11 +1,10 @@
 -- What an expression without faults is and gives.
-use Rattle.std.proofs.Common.{◌≡◌, ℕ, ◌+◌, ◌-◌, ◌^◌, ◌<◌, ◌≤◌, max, nat_lt, Bool, true, false, ◌&&◌, ◌||◌, List, [], ◌∷◌, ◌++◌, length, get_or, map, Option, Some, None, option_map, slice_get, inl, inr, ◌⊎◌, refl, sym, ap, subst, ◌∙◌, arith}
+use Rattle.std.proofs.Common.{◌≡◌, ℕ, ◌+◌, ◌^◌, ◌<◌, ◌≤◌, max, nat_lt, Bool, true, false, ◌&&◌, ◌||◌, List, [], length, get_or, Option, Some, None, option_map, refl, sym, ap, subst, ◌∙◌, arith}
 use Rattle.std.specs.Prelude.{is_some}
 use Rattle.std.specs.List.{position}
 use Rattle.std.specs.Str.{bytes_eq}
 use Rattle.std.proofs.lemmas.Bool.{and_parts}
 use Rattle.std.proofs.lemmas.Bool.Decides.{nat_tests}
-use Rattle.std.proofs.lemmas.List.{length-append}
 use Rattle.std.proofs.lemmas.List.Quantifiers.{position-Some}
 use Rattle.std.proofs.lemmas.Option.{slice_get-get_or}
 use Rattle.mls_lattice.specs.Policy.{Name}
@@ -24,7 +23,7 @@ use Rattle.mls_translang.specs.Tree as core
 use Rattle.mls_translang.specs.Scope.{kind_of_var, kind_of_param}
 use Rattle.mls_translang.specs.Tx.{IsLiteral, HasOwn, IsOwn, nesting}
 use Rattle.mls_translang.specs.Fits.{width, ExprFits}
-use Rattle.mls_translang.specs.Kinds.{Of, Truth, HasSort, field_of}
+use Rattle.mls_translang.specs.Kinds.{Of, Truth, HasSort}
 use Rattle.mls_translang.specs.Tokens.{Place}
 use Rattle.mls_syntax.specs.ExprTree.{Expr, Literal, Null, Name as Named, Field, No, Op}
 use Rattle.mls_syntax.specs.Limits.{HasLiterals, IsShallow, nesting as depth_of}
@@ -36,7 +35,7 @@ use Rattle.mls_parser.specs.Names.{variable_named, parameter_named, row_named, o
 use Rattle.mls_parser.specs.Infer.{may_be, may_be_truth, may_be_value, both, operands_fit, given_by, of_kind, of_referent, of_attribute, of_field, infer}
 use Rattle.mls_parser.specs.Faults.{expr_faults, field_faults, tested, place_of}
 use Rattle.mls_parser.specs.Elaboration.{refer, field, expr}
-use Rattle.mls_parser.proofs.FaultLemmas.{neither, holds, some_of, is_known}
+use Rattle.mls_parser.proofs.FaultLemmas.{neither, holds}
 
 -- ---- what is known of an expression holds
 

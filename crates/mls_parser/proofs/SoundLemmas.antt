@@ -1,11 +1,9 @@
 -- What statements without faults are.
-use Rattle.std.proofs.Common.{◌≡◌, ℕ, zero, suc, ◌+◌, ◌<◌, ◌≤◌, max, Bool, true, false, not, ◌||◌, ◌==◌, nat_eq, List, [], ◌∷◌, ◌++◌, length, get_or, map, Option, Some, None, option_map, slice_get, refl, sym, ap, subst, ◌∙◌, arith, append_assoc}
-use Rattle.std.specs.Prelude.{is_some, option_to_list}
+use Rattle.std.proofs.Common.{◌≡◌, ℕ, ◌<◌, Bool, true, false, not, ◌==◌, nat_eq, List, [], ◌∷◌, ◌++◌, length, map, Option, Some, None, option_map, refl, sym, ap, subst, ◌∙◌, arith, append_assoc}
+use Rattle.std.specs.Prelude.{option_to_list}
 use Rattle.std.specs.Option.{IfSome}
-use Rattle.std.specs.List.{AllByRecursion, AllZip, IsDistinct, list_any, position, position_or_len}
-use Rattle.std.specs.Str.{bytes_eq}
+use Rattle.std.specs.List.{AllByRecursion, IsDistinct, list_any}
 use Rattle.std.specs.Cmp.{nat_eq_equiv}
-use Rattle.std.proofs.lemmas.Bool.{or_parts}
 use Rattle.std.proofs.lemmas.Bool.Decides.{nat_tests}
 use Rattle.std.proofs.lemmas.List.{append-nil, length-map}
 use Rattle.std.proofs.lemmas.List.Quantifiers.{position-Some}
@@ -15,28 +13,26 @@ use Rattle.mls_lattice.specs.Lattice.{bottom}
 use Rattle.mls_lattice.specs.Policy.{Name, Named, Tables, labels_of}
 use Rattle.mls_scheme.specs.declared.value.Kind.{Kind}
 use Rattle.mls_scheme.specs.declared.value.Kind.TheVariants as kinds
-use Rattle.mls_scheme.specs.Scheme.{Attribute, Scheme, Schemes, scheme_of, other_of, no_attribute, no_scheme}
+use Rattle.mls_scheme.specs.Scheme.{Attribute, Scheme, Schemes, other_of, no_attribute, no_scheme}
 use Rattle.mls_tokens.specs.Passing.{PlacedName}
 use Rattle.mls_translang.specs.Tree as core
 use Rattle.mls_translang.specs.Scope.{kind_of_var}
 use Rattle.mls_translang.specs.Tx.{IsOwn, WritingIsOwn, StmtIsOwn}
-use Rattle.mls_translang.specs.Fits.{IsLabel, ExprFits, ListFits, SetsFit, WritingFits, StmtFits}
-use Rattle.mls_translang.specs.Kinds.{Of, Truth, HasSort, HasKind, HaveKinds, WritingKinds, Assigns, StmtKinds}
+use Rattle.mls_translang.specs.Fits.{ExprFits, ListFits, WritingFits, StmtFits}
+use Rattle.mls_translang.specs.Kinds.{HasKind, HaveKinds, WritingKinds, Assigns, StmtKinds}
 use Rattle.mls_translang.specs.Tokens.{Place}
 use Rattle.mls_syntax.specs.declared.list.ExprList.{ExprList}
 use Rattle.mls_syntax.specs.ExprTree.{Expr}
 use Rattle.mls_syntax.specs.Tree.{Writing, Inserting, Updating, Deleting, Stmt, Assign, Write_at, Release, Emit}
 use Rattle.mls_syntax.specs.Limits.{IsShallow, WritingIsShallow, StmtIsShallow}
-use Rattle.mls_parser.specs.declared.fault.PlacedFault.{PlacedFault}
 use Rattle.mls_parser.specs.declared.inferred.Inferred.{Inferred}
 use Rattle.mls_parser.specs.declared.inferred.Inferred.TheVariants as inferred
-use Rattle.mls_parser.specs.Fault.{unless}
 use Rattle.mls_parser.specs.Names.{label_named, relation_named, variable_named, other_named, numbered}
-use Rattle.mls_parser.specs.Infer.{may_be, may_be_truth, may_be_value, infer}
+use Rattle.mls_parser.specs.Infer.{may_be, may_be_value, infer}
 use Rattle.mls_parser.specs.Faults.{known, expr_faults, tested, items_faults, list_faults, set_faults, is_among, sets_faults, label_faults, fits_variable, variable_faults, target_faults, outcome_faults, writing_faults, scheme_named, stmt_faults}
-use Rattle.mls_parser.specs.Elaboration.{expr, label, variable, set, writing, stmt}
-use Rattle.mls_parser.proofs.FaultLemmas.{neither, holds, some_of, is_known}
-use Rattle.mls_parser.proofs.SortLemmas.{Gives, as_kind, as_value, variable_within, variable_kind, IsRight, expr_right, tested_right}
+use Rattle.mls_parser.specs.Elaboration.{expr, variable, set, writing, stmt}
+use Rattle.mls_parser.proofs.FaultLemmas.{neither, holds, is_known}
+use Rattle.mls_parser.proofs.SortLemmas.{Gives, as_kind, as_value, variable_within, variable_kind, expr_right, tested_right}
 
 -- ---- numbers of names
 

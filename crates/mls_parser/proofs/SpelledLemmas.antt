@@ -1,9 +1,9 @@
 -- What stands for a syntax tree without faults has its tokens.
-use Rattle.std.proofs.Common.{◌≡◌, ℕ, Bool, true, List, [], ◌∷◌, ◌++◌, map, Option, Some, None, option_map, inl, inr, refl, sym, ap, subst, ◌∙◌}
+use Rattle.std.proofs.Common.{◌≡◌, ℕ, Bool, true, List, [], ◌∷◌, ◌++◌, map, Option, Some, None, option_map, refl, ap}
 use Rattle.std.specs.Prelude.{codes, is_some, option_to_list}
 use Rattle.std.specs.List.{AllByRecursion, flat_map}
-use Rattle.mls_lattice.specs.Policy.{Name, Tables}
-use Rattle.mls_scheme.specs.Scheme.{Attribute, Scheme, Schemes, scheme_of, other_of}
+use Rattle.mls_lattice.specs.Policy.{Name}
+use Rattle.mls_scheme.specs.Scheme.{Attribute, Scheme, other_of}
 use Rattle.mls_tokens.specs.declared.token.Token.{Token}
 use Rattle.mls_tokens.specs.declared.token.Token.TheVariants.{Word, Sign}
 use Rattle.mls_tokens.specs.declared.sign.Sign.TheVariants as sign
@@ -18,11 +18,11 @@ use Rattle.mls_syntax.specs.Spelling.{name_token, expr_tokens, list_tokens, set_
 use Rattle.mls_parser.specs.declared.inferred.Inferred.{Inferred}
 use Rattle.mls_parser.specs.declared.inferred.Inferred.TheVariants.{Value}
 use Rattle.mls_scheme.specs.declared.value.Kind.TheVariants.{Int}
-use Rattle.mls_parser.specs.Names.{relation_named, label_named, variable_named, parameter_named, row_named, attribute_named, other_named, numbered, referent_or, referent, row_scheme}
+use Rattle.mls_parser.specs.Names.{relation_named, variable_named, parameter_named, row_named, attribute_named, other_named, numbered, referent_or, referent, row_scheme}
 use Rattle.mls_parser.specs.Infer.{infer, may_be, may_be_value}
 use Rattle.mls_parser.specs.Faults.{known, expr_faults, field_faults, tested, items_faults, list_faults, set_faults, is_among, sets_faults, label_faults, variable_faults, target_faults, outcome_faults, writing_faults, scheme_named, stmt_faults}
 use Rattle.mls_parser.specs.Elaboration.{refer, field, expr, label, variable, set, writing, stmt}
-use Rattle.mls_parser.proofs.FaultLemmas.{neither, holds, is_known}
+use Rattle.mls_parser.proofs.FaultLemmas.{neither, holds}
 use Rattle.mls_parser.proofs.NumberLemmas.{variable_there, parameter_there, row_there, attribute_there, other_there, of_known, label_spelled, relation_spelled}
 
 -- ---- lists

@@ -1,5 +1,5 @@
 -- A text of syntax trees without faults tells what they stand for.
-use Rattle.std.proofs.Common.{◌≡◌, ℕ, Bool, true, false, List, [], ◌∷◌, ◌++◌, map, Option, Some, None, Result, Ok, Err, inl, inr, refl, sym, ap, subst, ◌∙◌, append_assoc}
+use Rattle.std.proofs.Common.{◌≡◌, ℕ, List, [], ◌∷◌, ◌++◌, map, Option, Some, None, Result, Ok, inl, inr, refl, sym, ap, subst, ◌∙◌, append_assoc}
 use Rattle.std.specs.Prelude.{codes, not, ◌||◌, IfOk}
 use Rattle.std.specs.List.{AllByRecursion, flat_map}
 use Rattle.std.proofs.lemmas.Bool.{or_parts}
@@ -11,7 +11,6 @@ use Rattle.mls_scheme.specs.Scheme.{Schemes}
 use Rattle.mls_tokens.specs.declared.token.Token.{Token}
 use Rattle.mls_tokens.specs.declared.token.Token.TheVariants.{Word, Sign}
 use Rattle.mls_tokens.specs.declared.sign.Sign.TheVariants as sign
-use Rattle.mls_tokens.specs.Passing.{PlacedName}
 use Rattle.mls_translang.specs.declared.tx.Parameter.{Parameter}
 use Rattle.mls_translang.specs.Named.{has_name}
 use Rattle.mls_translang.specs.Tx.{Tx}
@@ -24,15 +23,14 @@ use Rattle.mls_syntax.specs.declared.transaction.Variable.{Variable as Var}
 use Rattle.mls_syntax.specs.declared.transaction.Transaction.{Transaction}
 use Rattle.mls_syntax.specs.Limits.{AreLimited}
 use Rattle.mls_syntax.specs.Tree.{Block, End, Do, If, For}
-use Rattle.mls_syntax.specs.Spelling.{name_token, stmt_tokens, expr_tokens, for_tokens, heading_tokens, param_tokens, params_tokens, var_tokens, SpellsOther, SpellsBlock, SpellsTransaction, SpellsEach, SpellsText}
-use Rattle.mls_parser.specs.declared.fault.TextCause.TheVariants as cause
+use Rattle.mls_syntax.specs.Spelling.{name_token, param_tokens, params_tokens, var_tokens, SpellsOther, SpellsBlock, SpellsTransaction, SpellsEach, SpellsText}
 use Rattle.mls_parser.specs.declared.fault.PlacedFault.{PlacedFault}
-use Rattle.mls_parser.specs.Fault.{least, least_from}
-use Rattle.mls_parser.specs.Names.{label_named, relation_named, numbered, is_taken}
+use Rattle.mls_parser.specs.Fault.{least}
+use Rattle.mls_parser.specs.Names.{label_named, relation_named, numbered}
 use Rattle.mls_parser.specs.Infer.{may_be_truth}
 use Rattle.mls_parser.specs.Faults.{known, tested, label_faults, stmt_faults, inside, loop_faults, block_faults, kept, param_of, var_of, params_from, params_faults, vars_from, vars_faults, outermost, levels_faults, tx_faults, txs_faults}
 use Rattle.mls_parser.specs.Elaboration.{block, transaction}
-use Rattle.mls_parser.specs.Parsing.{answer, elaborated, Gives}
+use Rattle.mls_parser.specs.Parsing.{answer, elaborated}
 use Rattle.mls_parser.proofs.FaultLemmas.{neither, holds, none_at_all}
 use Rattle.mls_parser.proofs.NumberLemmas.{label_spelled, relation_spelled}
 use Rattle.mls_parser.proofs.SpelledLemmas.{flat_same, separated_same, tested_spelled, stmt_spelled}
@@ -56,9 +54,10 @@ block_told (Do stmt rest) p ts h s =
 block_told (If guard one other rest) p ts h s =
     let t = neither (tested p may_be_truth guard) _ h in
     let u = neither (block_faults p one) _ t.1 in
-    let v = neither (block_faults p other) (block_faults p rest) u.1 in
-    (
-      s.0, s.1, s.2,
+    let v = neither (block_faults p other) (block_faults p rest) u.1 in (
+      s.0,
+      s.1,
+      s.2,
       s.3 ∙ ap (λ l. Word (codes "if") ∷ (l ++ (braced s.0 ++ (s.1 ++ s.2)))) (sym (tested_spelled p may_be_truth guard t.0)),
       block_told one p s.0 u.0 s.4,
       other_told p other s.1 s.5 (λ inner o. block_told other p inner v.0 o),
@@ -70,9 +69,9 @@ block_told (For row rel label body rest) p ts h s =
     let v = neither _ (known (relation_named p.schemes rel.0) rel.1 ++ label_faults p label) t.0 in
     let w = neither (known (relation_named p.schemes rel.0) rel.1) (label_faults p label) v.1 in
     let relation = sym (relation_spelled p.schemes rel.0 rel.1 w.0) in
-    let at = sym (label_spelled p.policy label.0 label.1 w.1) in
-    (
-      s.0, s.1,
+    let at = sym (label_spelled p.policy label.0 label.1 w.1) in (
+      s.0,
+      s.1,
       s.2 ∙ (λ i. Word (codes "for") ∷ name_token row ∷ Word (codes "in") ∷ Word (relation i) ∷ Word (codes "at") ∷ Word (at i) ∷ (braced s.0 ++ s.1)),
       block_told body (inside p row rel) s.0 u.0 s.3,
       block_told rest p s.1 u.1 s.4,
@@ -144,8 +143,7 @@ module _ (policy : Tables) (schemes : Schemes) where
       let low = sym (label_spelled policy tx.lo.0 tx.lo.1 lo.0) in
       let high = sym (label_spelled policy tx.hi.0 tx.hi.1 hi.0) in
       let params = sym (params_spelled policy p refl tx.params v.0) in
-      let vars = sym (ap (flat_map core.var_tokens) (vars_are ps [] tx.vars w.0) ∙ flat_same var_of core.var_tokens var_tokens tx.vars (each_var tx.vars)) in
-      (
+      let vars = sym (ap (flat_map core.var_tokens) (vars_are ps [] tx.vars w.0) ∙ flat_same var_of core.var_tokens var_tokens tx.vars (each_var tx.vars)) in (
         s.0,
         s.1 ∙ (λ i. Word (codes "transaction") ∷ name_token tx.name ∷ Word (codes "levels") ∷ Word (low i) ∷ Word (codes "to") ∷ Word (high i) ∷ (params i ++ braced (vars i ++ s.0))),
         block_told tx.body p s.0 w.1 s.2,

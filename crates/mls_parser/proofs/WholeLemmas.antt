@@ -1,10 +1,10 @@
 -- What blocks and transactions without faults are.
-use Rattle.std.proofs.Common.{◌≡◌, ℕ, zero, suc, ◌+◌, ◌<◌, ◌≤◌, max, cond, Bool, true, false, not, ◌||◌, nat_lt, List, [], ◌∷◌, ◌++◌, length, map, Option, Some, None, refl, sym, ap, subst, ◌∙◌, arith, append_assoc}
+use Rattle.std.proofs.Common.{◌≡◌, ℕ, suc, ◌+◌, ◌≤◌, max, cond, Bool, true, false, not, ◌||◌, nat_lt, List, [], ◌∷◌, ◌++◌, length, map, Some, None, refl, sym, ap, subst, ◌∙◌, arith, append_assoc}
 use Rattle.std.specs.Prelude.{is_some}
 use Rattle.std.specs.List.{AllByRecursion, IsDistinct, list_any, position, prefix_len}
 use Rattle.std.specs.Str.{bytes_eq}
 use Rattle.std.specs.Cmp.Lexicographic.{nat_list_eq_equiv}
-use Rattle.std.proofs.lemmas.Bool.{or_parts, cases_Bool}
+use Rattle.std.proofs.lemmas.Bool.{or_parts}
 use Rattle.std.proofs.lemmas.Bool.Decides.{nat_tests}
 use Rattle.std.proofs.lemmas.List.{append-nil, length-append, length-map, map_push}
 use Rattle.std.proofs.lemmas.List.Folds.{list_any-append}
@@ -14,12 +14,11 @@ use Rattle.mls_lattice.specs.Name.{is_name}
 use Rattle.mls_lattice.specs.Policy.{Name, Tables, labels_of}
 use Rattle.mls_scheme.specs.declared.value.Kind.{Kind}
 use Rattle.mls_scheme.specs.Scheme.{Schemes}
-use Rattle.mls_tokens.specs.Passing.{PlacedName}
 use Rattle.mls_translang.specs.declared.tx.Parameter.{Parameter}
 use Rattle.mls_translang.specs.Named.{has_name}
 use Rattle.mls_translang.specs.Tree as core
-use Rattle.mls_translang.specs.Scope.{names_in, IsFresh}
-use Rattle.mls_translang.specs.Tx.{Tx, IsTx, scope_of, depth, BlockIsOwn}
+use Rattle.mls_translang.specs.Scope.{names_in}
+use Rattle.mls_translang.specs.Tx.{Tx, IsTx, depth, BlockIsOwn}
 use Rattle.mls_translang.specs.Fits.{IsLabel, BlockFits, IsReadUnder, AreReadUnder}
 use Rattle.mls_translang.specs.Kinds.{BlockKinds}
 use Rattle.mls_translang.specs.Tokens.{Place}
@@ -28,11 +27,11 @@ use Rattle.mls_syntax.specs.declared.transaction.Variable.{Variable as Var}
 use Rattle.mls_syntax.specs.declared.transaction.Transaction.{Transaction}
 use Rattle.mls_syntax.specs.Tree.{Block, End, Do, If, For, statements}
 use Rattle.mls_syntax.specs.Limits.{depth as depth_of, BlockIsShallow, IsLimited, AreLimited}
-use Rattle.mls_parser.specs.Fault.{unless, least_from}
+use Rattle.mls_parser.specs.Fault.{least_from}
 use Rattle.mls_parser.specs.Names.{label_named, relation_named, parameter_named, variable_named, row_named, numbered, is_taken}
 use Rattle.mls_parser.specs.Infer.{may_be_truth, infer}
 use Rattle.mls_parser.specs.Faults.{known, tested, label_faults, stmt_faults, inside, loop_faults, block_faults, kept, param_of, var_of, params_from, params_faults, vars_from, vars_faults, outermost, levels_faults, tx_faults, txs_faults}
-use Rattle.mls_parser.specs.Elaboration.{expr, label, block, transaction}
+use Rattle.mls_parser.specs.Elaboration.{expr, block, transaction}
 use Rattle.mls_parser.proofs.FaultLemmas.{neither, holds, none_at_all}
 use Rattle.mls_parser.proofs.SortLemmas.{as_truth, tested_right}
 use Rattle.mls_parser.proofs.SoundLemmas.{known_label, known_relation, stmt_right}

@@ -1,5 +1,5 @@
 -- The trees that syntax trees stand for.
-use Rattle.std.specs.Prelude.{ℕ, List, map, Option, Some, None, option_map}
+use Rattle.std.specs.Prelude.{ℕ, map, Option, Some, None, option_map}
 use Rattle.mls_lattice.specs.Policy.{Name, Tables}
 use Rattle.mls_scheme.specs.Scheme.{Scheme, Schemes}
 use Rattle.mls_tokens.specs.Passing.{PlacedName}

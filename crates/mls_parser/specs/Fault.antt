@@ -1,6 +1,6 @@
 -- The causes for which texts of transactions are refused, and which of several faults is answered.
-use Rattle.std.specs.Prelude.{◌≡◌, ℕ, ◌+◌, ◌-◌, Bool, true, false, not, ◌==◌, ◌&&◌, ◌||◌, nat_lt, if◌then◌else◌, List, [], ◌∷◌, codes, Option, Some, None, is_some, take, reverse}
-use Rattle.std.specs.List.{count_by, prefix_len}
+use Rattle.std.specs.Prelude.{◌≡◌, ℕ, ◌+◌, ◌-◌, Bool, true, false, ◌==◌, ◌&&◌, ◌||◌, nat_lt, if◌then◌else◌, List, [], ◌∷◌, codes, Option, Some, None, take, reverse}
+use Rattle.std.specs.List.{count_by, prefix_len, Contains, AllByRecursion}
 use Rattle.mls_tokens.specs.Text.{is_no_feed}
 use Rattle.mls_syntax.specs.declared.fault.SyntaxCause.{SyntaxCause}
 use Rattle.mls_syntax.specs.declared.fault.SyntaxCause.TheVariants as syntax
@@ -71,6 +71,11 @@ least_from found (f ∷ fs) = least_from (Some (sooner found f)) fs
 
 abbrev pub least : List PlacedFault → Option PlacedFault
 least faults = least_from None faults
+
+-- one of these, before which none of them stands
+pub record IsLeast (faults : List PlacedFault) (f : PlacedFault) : Type 0 where
+  pub one : Contains faults f
+  pub first : AllByRecursion (λ g. is_before g f ≡ false) faults
 
 -- ---- lines and columns
 

@@ -9,7 +9,7 @@ use Rattle.mls_syntax.specs.Reading.{syntax_at}
 use Rattle.mls_parser.specs.declared.fault.TextCause.TheVariants.{Memory}
 use Rattle.mls_parser.specs.declared.fault.TextFault.{TextFault}
 use Rattle.mls_parser.specs.declared.fault.PlacedFault.{PlacedFault}
-use Rattle.mls_parser.specs.Fault.{least, from_syntax, in_text}
+use Rattle.mls_parser.specs.Fault.{least, IsLeast, from_syntax, in_text}
 use Rattle.mls_parser.specs.Faults.{txs_faults}
 use Rattle.mls_parser.specs.Elaboration.{transaction}
 
@@ -49,3 +49,10 @@ parse_at policy schemes bytes = placed_in bytes (parsed policy schemes bytes)
 abbrev pub IsParsed : Result (List Tx) TextFault → Result (List Tx) TextFault → Type 0
 IsParsed (Ok txs) read = read ≡ Ok txs
 IsParsed (Err e) read = (e.cause ≡ Memory → ⊥) → read ≡ Err e
+
+-- What is read has no fault. The fault of a text whose form is right is one of the faults of its syntax trees, and none of them stands
+-- before it.
+abbrev pub IsJudged : Tables → Schemes → List ℕ → Result (List Tx) TextFault → Type 0
+IsJudged policy schemes bytes (Ok xs) = (txs : List Transaction) → syntax_at bytes ≡ Ok txs → txs_faults policy schemes [] txs ≡ []
+IsJudged policy schemes bytes (Err e) =
+    (txs : List Transaction) → syntax_at bytes ≡ Ok txs → (e.cause ≡ Memory → ⊥) → (f : PlacedFault) × IsLeast (txs_faults policy schemes [] txs) f × (e ≡ in_text bytes f)

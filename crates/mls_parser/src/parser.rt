@@ -5,7 +5,7 @@ ghost use Rattle.mls_translang.specs.Tx.{IsTx};
 ghost use Rattle.mls_translang.specs.Fits.{AreReadUnder};
 ghost use Rattle.mls_translang.specs.Tells.{Tells};
 ghost use Rattle.mls_syntax.specs.Limits.{AreLimited};
-ghost use Rattle.mls_parser.specs.Parsing.{elaborated, parsed, Gives, parse_at, IsParsed};
+ghost use Rattle.mls_parser.specs.Parsing.{elaborated, parsed, Gives, parse_at, IsParsed, IsJudged};
 
 use crate::fault::{PlacedFault, TextFault};
 use crate::transaction::{check_transactions, transactions};
@@ -66,6 +66,8 @@ pub fn parse(
     ensures exact { IsParsed result (parse_at policy.now schemes.now bytes.now) }
     // The text tells the transactions that are read.
     ensures told { IfOk result (λ txs. Tells policy.now schemes.now bytes.now txs) }
+    // What is read has no fault, and of all faults of a text whose form is right the least is answered.
+    ensures judged { IsJudged policy.now schemes.now bytes.now result }
     // What is read is read under both.
     ensures read { IfOk result (λ txs. AreReadUnder policy.now schemes.now txs) }
     ensures each { IfOk result (λ txs. AllByRecursion IsTx txs) }

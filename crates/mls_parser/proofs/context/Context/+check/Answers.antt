@@ -1,4 +1,4 @@
-use Rattle.std.proofs.Common.{◌≡◌, ◌∙◌, length}
+use Rattle.std.proofs.Common.{◌∙◌, length}
 use Rattle.mls_parser.proofs.BlockLemmas.{depth_rest, faults_here}
 use Rattle.mls_parser.proofs.context.Context.+check.Goals as goal
 

@@ -1,4 +1,4 @@
-use Rattle.std.proofs.Common.{◌≡◌, ◌+◌, ◌∙◌, ap, length, drop}
+use Rattle.std.proofs.Common.{◌+◌, ◌∙◌, ap, length, drop}
 use Rattle.mls_syntax.specs.Blocks.{block_of}
 use Rattle.mls_translang.specs.Blocks.{block_of as core_of}
 use Rattle.mls_parser.specs.Elaboration.{block}

@@ -1,0 +1,6 @@
+pub mod DataLemmas
+pub mod EvaluationLemmas
+pub mod FrameLemmas
+pub mod PlainLemmas
+pub mod RunLemmas
+pub mod WriteLemmas

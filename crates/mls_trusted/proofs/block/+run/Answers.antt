@@ -1,0 +1,143 @@
+use Rattle.std.proofs.Common.{◌≡◌, OnOk, ◌∷◌, [], ◌++◌, append_assoc, sym, ap, ◌∙◌, subst, arith}
+use Rattle.std.specs.List.{AllByRecursion}
+use Rattle.mls_lattice.specs.Policy.{labels_of}
+use Rattle.mls_translang.specs.declared.block.Stmt.{Stmt}
+use Rattle.mls_translang.specs.Tree.{Do, If, For, Assign, Release, Emit, End}
+use Rattle.mls_translang.specs.Blocks.{block_of}
+use Rattle.mls_translang.proofs.BlockLemmas.{size_step}
+use Rattle.mls_meaning.specs.Expressions.{is_true, eval}
+use Rattle.mls_trusted.specs.Frames.{around_of, progress_of, MayRun, run_of, loop_of, IsReady, IsRun}
+use Rattle.mls_trusted.proofs.RunLemmas.{run_none, run_start, run_stmts, may_here, branch_one, branch_other, loop_same, run_rows_more, ok_same, ok_step, ready_read, may_each, entered, entered_around}
+use Rattle.mls_trusted.proofs.block.+run.Goals as goal
+
+pub run_block-loop-stmt-init : goal.run_block-loop-stmt-init
+run_block-loop-stmt-init g t c =
+    let call = c.args.call.now in
+    let around = around_of c.args.frame.now in
+    record {
+      clean = λ h. h;
+      count = omega arith;
+      ran = run_start call g.B.Base.is_clean g.B.Base.state (run_of call End around) c.args.base.now c.args.frame.now
+          (run_none (labels_of call.policy.now) call.schemes.now call.args.now around) c.requires.ready;
+      may = subst (MayRun call around) (sym (ap block_of c.deref-stmt-items.ensures.value ∙ c.block.view_is)) c.requires.may;
+      size = omega arith;
+    }
+
+pub run_block-loop-stmt-preserved : goal.run_block-loop-stmt-preserved
+run_block-loop-stmt-preserved g t c =
+    let call = c.args.call.now in
+    let xs = c.deref-stmt-items.result.now in
+    let i = c.loop-stmt.stmt-index in
+    let x = c.stmt-item.result in
+    let inv = c.loop-stmt.invariant in
+    let one = c.in_ok-run_stmt.ensures in
+    record {
+      clean = λ h. inv.clean (one.call.clean h);
+      count = (let a = inv.count in let b = one.call.count in omega (arith, a, b));
+      ran = run_stmts call g.B.Base.is_clean g.B.Base.state xs i x c.stmt-item.is c.loop-stmt-test.true
+          c.args.base.now c.loop-stmt.base c.run_stmt.new.base c.args.frame.now c.loop-stmt.frame c.run_stmt.new.frame one.call.clean inv.ran one.ran;
+      may = (may_here call (around_of c.args.frame.now) xs i x c.stmt-item.is c.loop-stmt-test.true inv.may).1;
+      size = (size_step xs i x c.stmt-item.is c.loop-stmt-test.true (block_of xs) inv.size).1;
+    }
+
+pub run_branch-returns-then-is_true-clause-ran : goal.run_branch-returns-then-is_true-clause-ran
+run_branch-returns-then-is_true-clause-ran g t c =
+    let call = c.args.call.now in
+    let f = c.args.frame.now in
+    let guard = c.args.guard.now in
+    let one = c.args.one.now in
+    let other = c.args.other.now in
+    let holds = sym (c.is_true.ensures ∙ ap is_true c.eval.ensures ∙ ap (λ env. is_true (eval env guard)) c.environment.ensures) ∙ c.if-is_true.true in
+    ok_same call g.B.Base.is_clean g.B.Base.state c.run_block.result (run_of call one (around_of f)) (run_of call (If guard one other End) (around_of f))
+    c.args.base.now c.run_block.new.base f c.run_block.new.frame (λ db. branch_one call f guard one other db holds) c.run_block.ensures.ran
+
+pub run_branch-returns-else-is_true-clause-ran : goal.run_branch-returns-else-is_true-clause-ran
+run_branch-returns-else-is_true-clause-ran g t c =
+    let call = c.args.call.now in
+    let f = c.args.frame.now in
+    let guard = c.args.guard.now in
+    let one = c.args.one.now in
+    let other = c.args.other.now in
+    let run = c.run_block-else-is_true in
+    let fails = sym (c.is_true.ensures ∙ ap is_true c.eval.ensures ∙ ap (λ env. is_true (eval env guard)) c.environment.ensures) ∙ c.if-is_true.false in
+    ok_same call g.B.Base.is_clean g.B.Base.state run.result (run_of call other (around_of f)) (run_of call (If guard one other End) (around_of f))
+    c.args.base.now run.new.base f run.new.frame (λ db. branch_other call f guard one other db fails) run.ensures.ran
+
+pub run_loop-run_rows-requires : goal.run_loop-run_rows-requires
+run_loop-run_rows-requires g t c κs within =
+    let call = c.args.call.now in
+    let f = c.args.frame.now in
+    let read = c.in_ok-rows.ensures in
+    let ready = ready_read call g.B.Base.is_clean g.B.Base.state c.args.base.now c.rows_at.new.base f read.call.clean read.mode read.same c.requires.ready in
+    let may = may_each call (around_of f) c.args.relation c.args.label c.args.body.now c.requires.may c.in_ok-rows.rows.items read.kinds in
+    (omega arith, (within, (ready, may)))
+
+pub run_row-run_block-requires : goal.run_row-run_block-requires
+run_row-run_block-requires g t c κs within =
+    let call = c.args.call.now in
+    let f = c.args.frame.now in
+    let into = c.enter.new.self in
+    let body = c.args.body.now in
+    let is = c.in_ok-made.ensures.value in
+    let rest = subst (λ r. OnOk r (into ≡ record f { rows = into.rows })) is c.enter.ensures.rest in
+    let rows = subst (λ r. OnOk r (into.rows.items ≡ f.rows.items ++ c.args.row ∷ [])) is c.enter.ensures.rows in
+    let ready = subst (λ b. IsReady call g.B.Base.is_clean g.B.Base.state b into) (sym c.in_ok-made.ensures.same) (entered call g.B.Base.is_clean g.B.Base.state c.args.base.now f into rest c.requires.ready) in
+    let may = subst (λ around. MayRun call around body) (entered_around call g.B.Base.is_clean g.B.Base.state f into c.args.row rows) c.requires.may in
+    (omega arith, (within, (ready, may)))
+
+pub run_rows-loop-row-preserved : goal.run_rows-loop-row-preserved
+run_rows-loop-row-preserved g t c =
+    let call = c.args.call.now in
+    let f = c.args.frame.now in
+    let inv = c.loop-row.invariant in
+    let one = c.in_ok-run_row.ensures in
+    let done = c.loop-row.yielded in
+    let row = c.in-Some.row in
+    let rest = c.next.new.self.rest.items in
+    let next = c.in-Some.ensures.steps.0 in
+    record {
+      clean = λ h. inv.clean (one.call.clean h);
+      count = (let a = inv.count in let b = one.call.count in omega (arith, a, b));
+      ran = run_rows_more call g.B.Base.is_clean g.B.Base.state c.args.body.now done row
+          c.args.base.now c.loop-row.base c.run_row.new.base f c.loop-row.frame c.run_row.new.frame one.call.clean inv.ran one.ran;
+      all = append_assoc done (row ∷ []) rest ∙ ap (λ l. done ++ l) (sym next) ∙ inv.all;
+      may = (subst (AllByRecursion (λ r. MayRun call (r ∷ around_of f) c.args.body.now)) next inv.may).1;
+    }
+
+pub run_stmt-returns-in-For-clause-ran : goal.run_stmt-returns-in-For-clause-ran
+run_stmt-returns-in-For-clause-ran g t c =
+    let call = c.args.call.now in
+    let f = c.args.frame.now in
+    let x = c.in-For in
+    subst (λ (s : Stmt). OnOk c.run_loop.result (IsRun call g.B.Base.is_clean g.B.Base.state (run_of call (block_of (s ∷ [])) (around_of f)) c.args.base.now c.run_loop.new.base f c.run_loop.new.frame)) (sym x.is)
+    (ok_same call g.B.Base.is_clean g.B.Base.state c.run_loop.result (loop_of call x.relation x.label x.body (around_of f)) (run_of call (For x.row x.relation x.label x.body End) (around_of f))
+    c.args.base.now c.run_loop.new.base f c.run_loop.new.frame (λ db. loop_same call x.row x.relation x.label x.body (around_of f) (progress_of db f)) c.run_loop.ensures.ran)
+
+pub run_stmt-returns-in-Assign-clause-ran : goal.run_stmt-returns-in-Assign-clause-ran
+run_stmt-returns-in-Assign-clause-ran g t c =
+    let call = c.args.call.now in
+    let f = c.args.frame.now in
+    let x = c.in-Assign in
+    subst (λ (s : Stmt). OnOk c.made.result (IsRun call g.B.Base.is_clean g.B.Base.state (run_of call (block_of (s ∷ [])) (around_of f)) c.args.base.now c.made.new.base f c.assign.new.frame)) (sym x.is)
+    (ok_step call g.B.Base.is_clean g.B.Base.state c.made.result c.assign.result (run_of call (Do (Assign x.variable x.value) End) (around_of f)) c.args.base.now c.made.new.base f c.assign.new.frame
+    c.requires.ready c.made.ensures.value c.made.ensures.same c.assign.ensures)
+
+pub run_stmt-returns-in-Release-clause-ran : goal.run_stmt-returns-in-Release-clause-ran
+run_stmt-returns-in-Release-clause-ran g t c =
+    let call = c.args.call.now in
+    let f = c.args.frame.now in
+    let x = c.in-Release in
+    let m = c.made-in-Release in
+    subst (λ (s : Stmt). OnOk m.result (IsRun call g.B.Base.is_clean g.B.Base.state (run_of call (block_of (s ∷ [])) (around_of f)) c.args.base.now m.new.base f c.release.new.frame)) (sym x.is)
+    (ok_step call g.B.Base.is_clean g.B.Base.state m.result c.release.result (run_of call (Do (Release x.value x.to x.into) End) (around_of f)) c.args.base.now m.new.base f c.release.new.frame
+    c.requires.ready m.ensures.value m.ensures.same c.release.ensures)
+
+pub run_stmt-returns-in-Emit-clause-ran : goal.run_stmt-returns-in-Emit-clause-ran
+run_stmt-returns-in-Emit-clause-ran g t c =
+    let call = c.args.call.now in
+    let f = c.args.frame.now in
+    let x = c.in-Emit in
+    let m = c.made-in-Emit in
+    subst (λ (s : Stmt). OnOk m.result (IsRun call g.B.Base.is_clean g.B.Base.state (run_of call (block_of (s ∷ [])) (around_of f)) c.args.base.now m.new.base f c.emit.new.frame)) (sym x.is)
+    (ok_step call g.B.Base.is_clean g.B.Base.state m.result c.emit.result (run_of call (Do (Emit x.value x.label) End) (around_of f)) c.args.base.now m.new.base f c.emit.new.frame
+    c.requires.ready m.ensures.value m.ensures.same c.emit.ensures)

@@ -1,0 +1,46 @@
+use Rattle.std.proofs.Common.{◌≡◌, ◌+◌, ◌*◌, ◌≤◌, ◌++◌, [], ◌∷◌, drop, take}
+use Rattle.std.specs.List.{AllByRecursion}
+use Rattle.mls_translang.specs.Tree.{statements}
+use Rattle.mls_translang.specs.Blocks.{block_of}
+use Rattle.mls_trusted.specs.Frames.{around_of, MayRun, run_of, rows_of, IsRun}
+use Rattle.mls_trusted.proofs.block.+run.Given as goal
+
+-- so far the statements up to here have run
+abbrev pub invariant-run_block-loop-stmt : goal.invariant-run_block-loop-stmt
+invariant-run_block-loop-stmt g l = record {
+  clean : g.B.Base.is_clean l.base → g.B.Base.is_clean l.fn.base;
+  count : g.B.Base.failures l.fn.base ≤ g.B.Base.failures l.base;
+  ran : IsRun l.call g.B.Base.is_clean g.B.Base.state (run_of l.call (block_of (take l.stmt-index l.stmt-items)) (around_of l.fn.frame)) l.fn.base l.base l.fn.frame l.frame;
+  may : MayRun l.call (around_of l.fn.frame) (block_of (drop l.stmt-index l.stmt-items));
+  size : statements (block_of (drop l.stmt-index l.stmt-items)) ≤ statements (block_of l.stmt-items);
+}
+
+-- so far the body has run at these rows
+abbrev pub invariant-run_rows-loop-row : goal.invariant-run_rows-loop-row
+invariant-run_rows-loop-row g l = record {
+  clean : g.B.Base.is_clean l.base → g.B.Base.is_clean l.fn.base;
+  count : g.B.Base.failures l.fn.base ≤ g.B.Base.failures l.base;
+  ran : IsRun l.call g.B.Base.is_clean g.B.Base.state (rows_of l.call l.body (around_of l.fn.frame) l.yielded) l.fn.base l.base l.fn.frame l.frame;
+  all : l.yielded ++ l.row-iterator.rest.items ≡ l.fn.rows.items;
+  may : AllByRecursion (λ row. MayRun l.call (row ∷ around_of l.fn.frame) l.body) l.row-iterator.rest.items;
+}
+
+-- ---- how deep
+
+abbrev pub decreases-run_block : goal.decreases-run_block
+decreases-run_block g l = 8 * statements l.block.now + 1
+
+abbrev pub decreases-run_branch : goal.decreases-run_branch
+decreases-run_branch g l = 8 * (statements l.one.now + statements l.other.now) + 4
+
+abbrev pub decreases-run_row : goal.decreases-run_row
+decreases-run_row g l = 8 * statements l.body.now + 3
+
+abbrev pub decreases-run_rows : goal.decreases-run_rows
+decreases-run_rows g l = 8 * statements l.body.now + 4
+
+abbrev pub decreases-run_loop : goal.decreases-run_loop
+decreases-run_loop g l = 8 * statements l.body.now + 5
+
+abbrev pub decreases-run_stmt : goal.decreases-run_stmt
+decreases-run_stmt g l = 8 * statements (block_of (l.stmt.now ∷ []))

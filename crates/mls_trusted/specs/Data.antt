@@ -1,0 +1,37 @@
+-- What the data of an evaluation stand for.
+use Rattle.std.specs.Prelude.{Bool, ℤ, Option, Some, None, reverse, is_none, slice_index_or}
+use Rattle.std.specs.declared.cmp.Ordering.{Ordering}
+use Rattle.mls_scheme.specs.declared.value.Value.{Value}
+use Rattle.mls_scheme.specs.declared.value.Value.TheVariants.{Int}
+use Rattle.mls_scheme.specs.Value.{value_cmp}
+use Rattle.mls_meaning.specs.Expressions.{Datum, Plain, Truth, Environment}
+use Rattle.mls_trusted.specs.declared.datum.Datum as of_datum
+use Rattle.mls_trusted.specs.declared.datum.Datum.TheVariants as given
+use Rattle.mls_trusted.specs.declared.environment.Environment as of_environment
+
+abbrev pub datum_of : of_datum.Datum → Datum
+datum_of given.Null = Plain None
+datum_of (given.Lent v) = Plain (Some v.now)
+datum_of (given.Number n) = Plain (Some (Int n))
+datum_of (given.Truth holds) = Truth holds
+
+-- a number, or null
+abbrev pub of_number : Option ℤ → Datum
+of_number None = Plain None
+of_number (Some n) = Plain (Some (Int n))
+
+abbrev pub number_of : Option Value → Option ℤ
+number_of (Some (Int n)) = Some n
+number_of _ = None
+
+abbrev pub is_null : Option Value → Bool
+is_null v = is_none v
+
+-- the order of two values
+abbrev pub order_of : Option Value → Option Value → Option Ordering
+order_of (Some a) (Some b) = Some (value_cmp a b)
+order_of _ _ = None
+
+-- what an evaluation reads; the rows of loops stand the outermost first
+abbrev pub env_of : of_environment.Environment → Environment
+env_of e = record { args = e.args.now; rows = reverse e.rows.now; vars = λ i. slice_index_or e.vars.now i None }

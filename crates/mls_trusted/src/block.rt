@@ -1,0 +1,175 @@
+//! Statements, run over a base.
+ghost use Rattle.std.specs.Prelude.{IfErr, OnOk, [], ◌∷◌};
+ghost use Rattle.std.specs.List.{AllByRecursion};
+ghost use Rattle.mls_filterview.specs.Calls.{IsCall, IsServed};
+ghost use Rattle.mls_translang.specs.Tree.{If, End};
+ghost use Rattle.mls_translang.specs.Blocks.{block_of};
+ghost use Rattle.mls_trusted.specs.Frames.{around_of, MayRun, MayLoop, run_of, rows_of, loop_of, IsReady, IsRun};
+
+use crate::call::Call;
+use crate::fitting::rows_at;
+use crate::frame::Frame;
+use crate::plain::{assign, emit, release};
+use crate::write::{delete_at, insert_at, update_at};
+use mls_filterview::{Base, BaseFault, made};
+use mls_lattice::LabelNo;
+use mls_scheme::{RelNo, Tuple};
+use mls_translang::{Block, Expr, Stmt};
+
+/// Runs the statements of a block, inside a change.
+#[cycle(run)]
+pub(crate) fn run_block<B: Base>(
+    call: &Call<'_>,
+    base: &mut B,
+    frame: &mut Frame,
+    block: &Block,
+) -> Result<(), BaseFault>
+    requires ready { IsReady call.now B.is_clean B.state base.old frame.old }
+    requires may { MayRun call.now (around_of frame.old) block.now }
+    ensures call { IsCall B.is_clean B.failures B.state base.old base.new result }
+    ensures served { IfErr result IsServed }
+    ensures ran { OnOk result (IsRun call.now B.is_clean B.state (run_of call.now block.now (around_of frame.old)) base.old base.new frame.old frame.new) }
+{
+    for stmt in &block.stmts {
+        run_stmt(call, base, frame, stmt)?;
+    }
+    Ok(())
+}
+
+/// Runs one block where the guard is true, else the other.
+#[cycle(run)]
+fn run_branch<B: Base>(
+    call: &Call<'_>,
+    base: &mut B,
+    frame: &mut Frame,
+    guard: &Expr,
+    one: &Block,
+    other: &Block,
+) -> Result<(), BaseFault>
+    requires ready { IsReady call.now B.is_clean B.state base.old frame.old }
+    requires may { MayRun call.now (around_of frame.old) (If guard.now one.now other.now End) }
+    ensures call { IsCall B.is_clean B.failures B.state base.old base.new result }
+    ensures served { IfErr result IsServed }
+    ensures ran { OnOk result (IsRun call.now B.is_clean B.state (run_of call.now (If guard.now one.now other.now End) (around_of frame.old)) base.old base.new frame.old frame.new) }
+{
+    if frame.environment(call.args).eval(guard).is_true() {
+        run_block(call, base, frame, one)
+    } else {
+        run_block(call, base, frame, other)
+    }
+}
+
+/// Runs the body of a loop at a row.
+#[cycle(run)]
+fn run_row<B: Base>(
+    call: &Call<'_>,
+    base: &mut B,
+    frame: &mut Frame,
+    row: Tuple,
+    body: &Block,
+) -> Result<(), BaseFault>
+    requires ready { IsReady call.now B.is_clean B.state base.old frame.old }
+    requires may { MayRun call.now (row ∷ around_of frame.old) body.now }
+    ensures call { IsCall B.is_clean B.failures B.state base.old base.new result }
+    ensures served { IfErr result IsServed }
+    ensures ran { OnOk result (IsRun call.now B.is_clean B.state (run_of call.now body.now (row ∷ around_of frame.old)) base.old base.new frame.old frame.new) }
+{
+    made(base, frame.enter(row))?;
+    run_block(call, base, frame, body)?;
+    frame.leave();
+    Ok(())
+}
+
+/// Runs the body of a loop at each of the rows.
+#[cycle(run)]
+fn run_rows<B: Base>(
+    call: &Call<'_>,
+    base: &mut B,
+    frame: &mut Frame,
+    rows: Vec<Tuple>,
+    body: &Block,
+) -> Result<(), BaseFault>
+    requires ready { IsReady call.now B.is_clean B.state base.old frame.old }
+    requires may { AllByRecursion (λ row. MayRun call.now (row ∷ around_of frame.old) body.now) rows.items }
+    ensures call { IsCall B.is_clean B.failures B.state base.old base.new result }
+    ensures served { IfErr result IsServed }
+    ensures ran { OnOk result (IsRun call.now B.is_clean B.state (rows_of call.now body.now (around_of frame.old) rows.items) base.old base.new frame.old frame.new) }
+{
+    for row in rows {
+        run_row(call, base, frame, row, body)?;
+    }
+    Ok(())
+}
+
+/// Runs a loop over the rows of the view as it stands here.
+#[cycle(run)]
+fn run_loop<B: Base>(
+    call: &Call<'_>,
+    base: &mut B,
+    frame: &mut Frame,
+    relation: RelNo,
+    label: LabelNo,
+    body: &Block,
+) -> Result<(), BaseFault>
+    requires ready { IsReady call.now B.is_clean B.state base.old frame.old }
+    requires may { MayLoop call.now relation label (around_of frame.old) body.now }
+    ensures call { IsCall B.is_clean B.failures B.state base.old base.new result }
+    ensures served { IfErr result IsServed }
+    ensures ran { OnOk result (IsRun call.now B.is_clean B.state (loop_of call.now relation label body.now (around_of frame.old)) base.old base.new frame.old frame.new) }
+{
+    let rows = rows_at(call, base, relation, label)?;
+    run_rows(call, base, frame, rows, body)
+}
+
+/// Runs a statement.
+#[cycle(run)]
+fn run_stmt<B: Base>(
+    call: &Call<'_>,
+    base: &mut B,
+    frame: &mut Frame,
+    stmt: &Stmt,
+) -> Result<(), BaseFault>
+    requires ready { IsReady call.now B.is_clean B.state base.old frame.old }
+    requires may { MayRun call.now (around_of frame.old) (block_of (stmt.now ∷ [])) }
+    ensures call { IsCall B.is_clean B.failures B.state base.old base.new result }
+    ensures served { IfErr result IsServed }
+    ensures ran { OnOk result (IsRun call.now B.is_clean B.state (run_of call.now (block_of (stmt.now ∷ [])) (around_of frame.old)) base.old base.new frame.old frame.new) }
+{
+    match stmt {
+        Stmt::If { guard, one, other } => run_branch(call, base, frame, guard, one, other),
+        Stmt::For {
+            relation,
+            label,
+            body,
+            ..
+        } => run_loop(call, base, frame, *relation, *label, body),
+        Stmt::Insert {
+            relation,
+            key,
+            values,
+            at,
+            outcome,
+        } => insert_at(call, base, frame, *relation, key, values, *at, *outcome),
+        Stmt::Update {
+            relation,
+            key,
+            key_class,
+            from,
+            at,
+            sets,
+            outcome,
+        } => update_at(
+            call, base, frame, *relation, key, *key_class, *from, sets, *at, *outcome,
+        ),
+        Stmt::Delete {
+            relation,
+            key,
+            key_class,
+            at,
+            outcome,
+        } => delete_at(call, base, frame, *relation, key, *key_class, *at, *outcome),
+        Stmt::Assign { variable, value } => made(base, assign(call, frame, *variable, value)),
+        Stmt::Release { value, to, into } => made(base, release(call, frame, value, *to, *into)),
+        Stmt::Emit { value, label } => made(base, emit(call, frame, value, *label)),
+    }
+}

@@ -1,0 +1,71 @@
+//! What expressions read, and what they give.
+ghost use Rattle.std.specs.Prelude.{◌≡◌, None, reverse, slice_index_or};
+ghost use Rattle.mls_meaning.specs.Expressions.{Plain, cell_of, no_tuple, eval};
+ghost use Rattle.mls_trusted.specs.Data.{datum_of, env_of};
+
+use crate::datum::Datum;
+use crate::operator::apply;
+use mls_scheme::{Tuple, Value};
+use mls_translang::{Expr, Term};
+
+/// Arguments and variables by number, and the rows of the loops around, the outermost first.
+#[derive(Clone, Copy)]
+pub(crate) struct Environment<'a> {
+    pub args: &'a [Option<Value>],
+    pub rows: &'a [Tuple],
+    pub vars: &'a [Option<Value>],
+}
+
+/// The value of a number, or null.
+fn value_at(values: &[Option<Value>], number: u8) -> Datum<'_>
+    ensures { datum_of result ≡ Plain (slice_index_or values.now number None) }
+{
+    match values.get(usize::from(number)) {
+        Some(value) => Datum::lent(value),
+        None => Datum::Null,
+    }
+}
+
+/// An attribute of a row by number, the key first.
+pub(crate) fn cell(row: &Tuple, attribute: usize) -> Datum<'_>
+    ensures { datum_of result ≡ Plain (cell_of row.now attribute) }
+{
+    let keys = row.key.len();
+    if attribute < keys {
+        return Datum::Lent(&row.key[attribute]);
+    }
+    match row.elements.get(attribute - keys) {
+        Some(element) => Datum::lent(&element.value),
+        None => Datum::Null,
+    }
+}
+
+/// An attribute of the row at a depth, the innermost one first.
+fn field(rows: &[Tuple], depth: u8, attribute: u8) -> Datum<'_>
+    ensures { datum_of result ≡ Plain (cell_of (slice_index_or (reverse rows.now) depth no_tuple) attribute) }
+{
+    let depth = usize::from(depth);
+    if depth < rows.len() {
+        cell(&rows[rows.len() - 1 - depth], usize::from(attribute))
+    } else {
+        Datum::Null
+    }
+}
+
+impl<'a> Environment<'a> {
+    /// What an expression gives.
+    #[tactic(auto, unfolding(mls_meaning::specs::Expressions::eval))]
+    pub fn eval(&self, expr: &'a Expr) -> Datum<'a>
+        ensures { datum_of result ≡ eval (env_of self.now) expr.now }
+    {
+        match &expr.term {
+            Term::Known(value) => Datum::Lent(value),
+            Term::Null => Datum::Null,
+            Term::Variable(number) => value_at(self.vars, *number),
+            Term::Parameter(number) => value_at(self.args, *number),
+            Term::Field { depth, attribute } => field(self.rows, *depth, *attribute),
+            Term::Not(inner) => Datum::Truth(!self.eval(inner).is_true()),
+            Term::Op(operator, left, right) => apply(*operator, self.eval(left), self.eval(right)),
+        }
+    }
+}

@@ -1,0 +1,94 @@
+//! Rows of a view, of the kinds of their relation.
+ghost use Rattle.std.specs.Prelude.{◌≡◌, ◌↔◌, ◌<◌, ◌+◌, true, length, IsTrue, IfOk, IfErr, OnOk};
+ghost use Rattle.std.specs.List.{AllByRecursion};
+ghost use Rattle.mls_lattice.specs.Policy.{labels_of};
+ghost use Rattle.mls_scheme.specs.Scheme.{scheme_of};
+ghost use Rattle.mls_filterview.specs.Calls.{IsCall, IsServed};
+ghost use Rattle.mls_filterview.specs.Stored.{AreContent};
+ghost use Rattle.mls_filterview.specs.View.{rows};
+ghost use Rattle.mls_translang.specs.Kinds.{field_of};
+ghost use Rattle.mls_meaning.specs.Expressions.{value_of};
+ghost use Rattle.mls_meaning.specs.Kinds.{RowKinds};
+ghost use Rattle.mls_trusted.specs.Data.{datum_of};
+
+use crate::call::Call;
+use crate::environment::cell;
+use mls_filterview::{Base, BaseFault, view};
+use mls_lattice::LabelNo;
+use mls_scheme::{Kind, RelNo, Scheme, Tuple};
+
+/// The kind of an attribute by number, the key first; past the last one it is that of numbers.
+fn kind_of(scheme: &Scheme, attribute: usize) -> Kind
+    ensures { result ≡ (field_of scheme.now attribute).kind }
+{
+    let keys = scheme.keys();
+    if attribute < keys.len() {
+        return keys.get(attribute).kind;
+    }
+    let others = scheme.others();
+    if attribute - keys.len() < others.len() {
+        others.get(attribute - keys.len()).kind
+    } else {
+        Kind::Int
+    }
+}
+
+/// How many values a row has, key and others.
+fn width(row: &Tuple) -> usize
+    ensures { result ≡ length row.now.key + length row.now.elements }
+{
+    row.key.as_slice().len() + row.elements.as_slice().len()
+}
+
+/// Whether each value of a row is of the kind of its attribute.
+fn is_of_kinds(scheme: &Scheme, row: &Tuple) -> bool
+    ensures { IsTrue result ↔ RowKinds scheme.now row.now }
+{
+    for attribute in 0..width(row) {
+        if !cell(row, attribute).fits_kind(kind_of(scheme, attribute)) {
+            return false;
+        }
+    }
+    true
+}
+
+/// Whether the rows are of the kinds of a relation.
+fn are_of_kinds(scheme: &Scheme, rows: &[Tuple]) -> bool
+    ensures { IsTrue result ↔ AllByRecursion (RowKinds scheme.now) rows.now }
+{
+    for row in rows {
+        if !is_of_kinds(scheme, row) {
+            return false;
+        }
+    }
+    true
+}
+
+/// What a level sees of a relation. Only a store that does not give back what was written to it can give values of other
+/// kinds: then there are no rows.
+pub(crate) fn rows_at<B: Base>(
+    call: &Call<'_>,
+    base: &mut B,
+    relation: RelNo,
+    label: LabelNo,
+) -> Result<Vec<Tuple>, BaseFault>
+    requires label { label < length call.now.policy.now.labels }
+    requires relation { relation < length call.now.schemes.now }
+    requires begun { (B.state base.old).begun ≡ true }
+    requires content { B.is_clean base.old → AreContent (labels_of call.now.policy.now) call.now.schemes.now (B.state base.old).now.db }
+    ensures call { IsCall B.is_clean B.failures B.state base.old base.new result }
+    ensures served { IfErr result IsServed }
+    ensures mode { OnOk result ((B.state base.new).begun ≡ true) }
+    ensures kinds { IfOk result (λ v. AllByRecursion (RowKinds (scheme_of call.now.schemes.now relation)) v.items) }
+    ensures rows { B.is_clean base.new → IfOk result (λ v. v.items ≡ rows (labels_of call.now.policy.now) label ((B.state base.old).now.db relation)) }
+    ensures same { B.is_clean base.new → OnOk result (B.state base.new ≡ B.state base.old) }
+{
+    // That the labels of a policy are distinct.
+    let _count = call.policy.label_count();
+    let rows = view(call.alloc, base, call.policy, relation, label)?;
+    if are_of_kinds(call.schemes.scheme(relation), &rows) {
+        Ok(rows)
+    } else {
+        Ok(Vec::new(call.alloc))
+    }
+}

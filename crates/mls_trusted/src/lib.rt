@@ -1,0 +1,17 @@
+//! Certified transactions, run over a base.
+#![tactic(auto)]
+
+mod block;
+mod call;
+mod datum;
+mod environment;
+mod evaluation;
+mod fitting;
+mod frame;
+mod operand;
+mod operator;
+mod plain;
+mod write;
+
+pub use evaluation::{evaluate, evaluate_in};
+pub use mls_meaning::Run;

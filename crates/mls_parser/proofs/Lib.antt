@@ -16,3 +16,4 @@ pub mod FoundLemmas
 pub mod Written
 pub mod WrittenLemmas
 pub mod LeastLemmas
+pub mod AgainLemmas

@@ -17,3 +17,4 @@ pub mod Written
 pub mod WrittenLemmas
 pub mod LeastLemmas
 pub mod AgainLemmas
+pub mod BareLemmas

@@ -18,3 +18,4 @@ pub mod WrittenLemmas
 pub mod LeastLemmas
 pub mod AgainLemmas
 pub mod BareLemmas
+pub mod ParsedLemmas

@@ -67,7 +67,7 @@ module _ {X : Type 0} (test : X → Bool) where
 
 module _ {X : Type 0} (name_of : X → Name) where
   -- a name is in a list where a thing in it has the name
-  named_any : (xs : List X) (name : Name) → list_any (bytes_eq name) (map name_of xs) ≡ list_any (λ x. bytes_eq (name_of x) name) xs
+  pub named_any : (xs : List X) (name : Name) → list_any (bytes_eq name) (map name_of xs) ≡ list_any (λ x. bytes_eq (name_of x) name) xs
   named_any [] name = refl
   named_any (x ∷ xs) name = λ i. nat_list_eq_equiv.symm name (name_of x) i || named_any xs name i
 

@@ -1,5 +1,5 @@
 -- What is stored was read under the policy and the schemes, and was checked under the policy where it has a certificate.
-use Rattle.std.proofs.Common.{◌≡◌, List, [], ◌∷◌, ◌++◌, Option, Some, None, Result, Ok, Err, sym, subst, ap, ◌∙◌}
+use Rattle.std.proofs.Common.{◌≡◌, List, [], ◌∷◌, Option, Some, None, Ok, Err, sym, subst, ap, ◌∙◌}
 use Rattle.std.specs.List.{AllByRecursion}
 use Rattle.mls_lattice.specs.Policy.{Tables}
 use Rattle.mls_scheme.specs.Scheme.{Schemes}
@@ -16,7 +16,7 @@ use Rattle.mls_machine.specs.declared.stored.Stored.TheVariants.{Certified, Plai
 use Rattle.mls_machine.specs.Stored.{tx_of, IsMadeUnder}
 use Rattle.mls_machine.specs.Observation.{AreRead, AreCertified}
 use Rattle.mls_machine.proofs.RunLemmas.{made_certified}
-use Rattle.mls_command.specs.Storing.{IsChecked, IsStoredWith, AreStoredWith, cert_named}
+use Rattle.mls_command.specs.Storing.{IsStoredWith, AreStoredWith, cert_named}
 
 -- what is refused breaks a rule
 pub refused_breaks : (c : Claim) (e : Refusal) → First c ≡ Err e → Rules c → ⊥

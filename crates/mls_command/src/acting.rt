@@ -86,6 +86,7 @@ fn certificates_of<H: Host>(
 }
 
 /// What a run stores.
+#[tactic(auto, using(crate::proofs::StoringLemmas::stored_read))]
 fn stored_files<H: Host>(
     alloc: Global,
     host: &mut H,

@@ -1,4 +1,4 @@
-use Rattle.std.proofs.Common.{◌≡◌, rules}
+use Rattle.std.proofs.Common.{rules}
 use Rattle.mls_certcheck.specs.Rules.{claim}
 use Rattle.mls_command.proofs.StoringLemmas.{refused_breaks}
 use Rattle.mls_command.proofs.storing.checked.Goals as goal

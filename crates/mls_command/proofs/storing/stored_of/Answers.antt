@@ -1,7 +1,5 @@
 use Rattle.std.proofs.Common.{◌≡◌, rules, ◌++◌, ◌∷◌, [], sym, subst}
 use Rattle.std.proofs.lemmas.Slice.Zip.{all_zipped_more}
-use Rattle.mls_translang.specs.Tx.{Tx}
-use Rattle.mls_machine.specs.declared.stored.Stored.{Stored}
 use Rattle.mls_command.specs.Storing.{cert_named, IsStoredWith, AreStoredWith}
 use Rattle.mls_command.proofs.storing.stored_of.Goals as goal
 

@@ -33,7 +33,7 @@ use Rattle.mls_parser.specs.Names.{label_named, relation_named, numbered}
 use Rattle.mls_parser.specs.Faults.{known, kept, param_of, var_of, params_from, params_faults, vars_from, vars_faults, outermost, levels_faults, name_faults, block_faults, tx_faults, txs_faults}
 use Rattle.mls_parser.specs.Elaboration.{block, transaction}
 use Rattle.mls_parser.specs.Parsing.{answer, elaborated, behind, parsed, placed_in, parse_at}
-use Rattle.mls_parser.specs.Laws.{ReadsWhatIsTold, TellsOnce, ReadsPrints, Under}
+use Rattle.mls_parser.specs.Laws.{TellsNone, ReadsWhatIsTold, TellsOnce, ReadsPrints, Under}
 use Rattle.mls_parser.proofs.FaultLemmas.{least-none}
 use Rattle.mls_parser.proofs.WholeLemmas.{kept_new, named_any, some_position}
 use Rattle.mls_parser.proofs.FoundLemmas.{HasNames, distinct_front, label_again, new_behind}
@@ -185,6 +185,13 @@ module _ (policy : Tables) (schemes : Schemes) (of_policy : IsPolicy policy) (of
 
   same_read : (txs us : List Tx) (r : Result (List Tx) TextFault) → r ≡ Ok txs → r ≡ Ok us → txs ≡ us
   same_read txs us r e f = cc
+
+-- a text that is refused tells none
+pub never_told : (policy : Tables) (schemes : Schemes) → IsPolicy policy → AreSchemes schemes → (bytes : List ℕ) (e : TextFault) → parse_at policy schemes bytes ≡ Err e → TellsNone policy schemes bytes
+never_told policy schemes p s bytes e is = λ txs t. refused (parse_at policy schemes bytes) txs is (told_read policy schemes p s bytes txs t)
+  where
+    refused : (r : Result (List Tx) TextFault) (txs : List Tx) → r ≡ Err e → r ≡ Ok txs → ⊥
+    refused r txs a b = absurd cc
 
 pub reads_what_is_told : Under ReadsWhatIsTold
 reads_what_is_told policy schemes p s bytes txs = (read_told policy schemes p s bytes txs, told_read policy schemes p s bytes txs)

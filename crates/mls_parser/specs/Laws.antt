@@ -8,6 +8,10 @@ use Rattle.mls_translang.specs.Tokens.{printed}
 use Rattle.mls_translang.specs.Tx.{Tx, IsTx}
 use Rattle.mls_parser.specs.Parsing.{parse_at}
 
+-- no list of transactions is told
+abbrev pub TellsNone : Tables → Schemes → List ℕ → Type 0
+TellsNone policy schemes bytes = (txs : List Tx) → Tells policy schemes bytes txs → ⊥
+
 module _ (policy : Tables) (schemes : Schemes) where
   -- a text is read as the transactions that it tells
   abbrev pub ReadsWhatIsTold : Type 0

@@ -1,7 +1,7 @@
 //! Texts of transactions: what the names of syntax trees stand for, and the transactions that they are.
 #![tactic(auto)]
 
-ghost use Rattle.mls_parser.specs.Laws.{ReadsWhatIsTold, TellsOnce, ReadsPrints, Under};
+ghost use Rattle.mls_parser.specs.Laws.{TextsAreReadAsTold, TransactionsAreReadOnce, PrintsAreRead, Under};
 
 mod block;
 mod check_block;
@@ -22,16 +22,16 @@ pub use fault::{TextCause, TextFault};
 pub use parser::parse;
 
 /// A text is read as the transactions that it tells.
-pub fn reads_what_is_told()
-    ensures { Under ReadsWhatIsTold }
+pub fn texts_are_read_as_told()
+    ensures { Under TextsAreReadAsTold }
 {}
 
 /// A text tells one list of transactions at most.
-pub fn tells_once()
-    ensures { Under TellsOnce }
+pub fn transactions_are_read_once()
+    ensures { Under TransactionsAreReadOnce }
 {}
 
 /// The printed text of a transaction is read as that transaction alone.
-pub fn reads_prints()
-    ensures { Under ReadsPrints }
+pub fn prints_are_read()
+    ensures { Under PrintsAreRead }
 {}

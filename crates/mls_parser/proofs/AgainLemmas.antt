@@ -1,20 +1,18 @@
 -- The syntax tree that is written for a statement has no fault and stands for it.
-use Rattle.std.proofs.Common.{◌≡◌, ℕ, ◌+◌, ◌<◌, ◌≤◌, Bool, true, false, not, ◌&&◌, ◌||◌, ◌==◌, nat_eq, List, [], ◌∷◌, ◌++◌, length, map, Option, Some, None, option_map, refl, sym, ap, subst, ◌∙◌, append_assoc, arith}
-use Rattle.std.specs.Prelude.{is_some, option_to_list}
+use Rattle.std.proofs.Common.{◌≡◌, ℕ, ◌<◌, Bool, true, false, not, ◌&&◌, ◌||◌, ◌==◌, nat_eq, List, [], ◌∷◌, ◌++◌, length, map, Option, Some, None, option_map, refl, sym, ap, subst, ◌∙◌, append_assoc}
+use Rattle.std.specs.Prelude.{option_to_list}
 use Rattle.std.specs.Option.{IfSome}
 use Rattle.std.specs.List.{AllByRecursion, IsDistinct, list_any}
 use Rattle.std.specs.Cmp.{nat_eq_equiv}
 use Rattle.std.proofs.lemmas.List.{length-map}
-use Rattle.mls_lattice.specs.Canon.{label_name}
 use Rattle.mls_lattice.specs.Labels.{below}
-use Rattle.mls_lattice.specs.Policy.{Name, Tables, labels_of}
+use Rattle.mls_lattice.specs.Policy.{Name, labels_of}
 use Rattle.mls_scheme.specs.declared.value.Kind.{Kind}
 use Rattle.mls_scheme.specs.declared.value.Kind.TheVariants as kinds
 use Rattle.mls_scheme.specs.declared.value.Value.{Value}
 use Rattle.mls_scheme.specs.declared.value.Value.TheVariants as values
 use Rattle.mls_scheme.specs.Value.{kind_of, is_kind}
-use Rattle.mls_scheme.specs.Scheme.{Attribute, Scheme, Schemes, IsScheme, scheme_of, other_of}
-use Rattle.mls_tokens.specs.Passing.{PlacedName}
+use Rattle.mls_scheme.specs.Scheme.{Attribute, Scheme, IsScheme, scheme_of, other_of}
 use Rattle.mls_translang.specs.declared.operator.Operator.{Operator}
 use Rattle.mls_translang.specs.declared.operator.Operator.TheVariants as operators
 use Rattle.mls_translang.specs.Tree.{Expr, Known, Null, Var, Param, Field, No, Op, Writing, Inserting, Updating, Deleting, Stmt, Assign, Write_at, Release, Emit, Block, End, Do, If, For}
@@ -33,9 +31,9 @@ use Rattle.mls_parser.specs.declared.names.Referent.TheVariants as referents
 use Rattle.mls_parser.specs.declared.inferred.Inferred.{Inferred}
 use Rattle.mls_parser.specs.declared.inferred.Inferred.TheVariants as inferred
 use Rattle.mls_parser.specs.Fault.{unless}
-use Rattle.mls_parser.specs.Names.{label_named, relation_named, variable_named, parameter_named, row_named, attribute_named, other_named, numbered, referent, referent_or, row_scheme, is_taken}
+use Rattle.mls_parser.specs.Names.{relation_named, parameter_named, numbered, referent, referent_or, row_scheme, is_taken}
 use Rattle.mls_parser.specs.Infer.{same_kind, may_be, may_be_truth, may_be_value, both, operands_fit, given_by, of_kind, of_referent, of_attribute, of_field, infer}
-use Rattle.mls_parser.specs.Faults.{known, field_faults, expr_faults, tested, place_of, items_faults, list_faults, is_among, set_faults, sets_faults, label_faults, fits_variable, variable_faults, target_faults, outcome_faults, writing_faults, scheme_named, stmt_faults, inside, loop_faults, block_faults}
+use Rattle.mls_parser.specs.Faults.{known, field_faults, expr_faults, tested, place_of, items_faults, list_faults, is_among, set_faults, sets_faults, label_faults, fits_variable, variable_faults, target_faults, outcome_faults, writing_faults, stmt_faults, inside, block_faults}
 use Rattle.mls_parser.specs.Elaboration.{refer, field, expr, label, variable, set, writing, stmt, block}
 use Rattle.mls_parser.proofs.WholeLemmas.{all_taken}
 use Rattle.mls_parser.proofs.Written.{named, written, written_label, written_relation, written_variable, written_list, written_set, written_writing, written_stmt, written_block}

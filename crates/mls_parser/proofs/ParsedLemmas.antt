@@ -1,5 +1,5 @@
 -- What a text tells is read from it: so a text tells one list of transactions at most, and a printed transaction is read as it is.
-use Rattle.std.proofs.Common.{◌≡◌, ◌↔◌, ℕ, ◌<◌, ◌≤◌, Bool, true, false, not, ◌||◌, List, [], ◌∷◌, ◌++◌, length, map, Option, Some, None, Result, Ok, Err, refl, sym, ap, subst, ◌∙◌, append_assoc, arith}
+use Rattle.std.proofs.Common.{◌≡◌, ℕ, ◌≤◌, true, false, not, ◌||◌, List, [], ◌∷◌, ◌++◌, length, map, None, Result, Ok, Err, refl, sym, ap, subst, ◌∙◌, append_assoc, arith}
 use Rattle.std.specs.Prelude.{is_some}
 use Rattle.std.specs.List.{AllByRecursion, IsDistinct, list_any}
 use Rattle.std.specs.Str.{bytes_eq}
@@ -20,7 +20,6 @@ use Rattle.mls_translang.specs.Tx.{Tx, IsTx}
 use Rattle.mls_translang.proofs.TellsLemmas.{prints_are_told}
 use Rattle.mls_syntax.specs.declared.transaction.Transaction.{Transaction}
 use Rattle.mls_syntax.specs.declared.fault.SyntaxFault.{SyntaxFault}
-use Rattle.mls_syntax.specs.Places.{bare_transaction}
 use Rattle.mls_syntax.specs.Reading.{syntax_at}
 use Rattle.mls_syntax.specs.Spelling.{SpellsText}
 use Rattle.mls_syntax.proofs.LimitLemmas.{text_found, limits_found}
@@ -28,16 +27,16 @@ use Rattle.mls_syntax.proofs.TextAgain.{texts_are_read}
 use Rattle.mls_parser.specs.declared.fault.TextCause.TheVariants as cause
 use Rattle.mls_parser.specs.declared.fault.PlacedFault.{PlacedFault}
 use Rattle.mls_parser.specs.declared.fault.TextFault.{TextFault}
-use Rattle.mls_parser.specs.Fault.{least, least_from}
+use Rattle.mls_parser.specs.Fault.{least}
 use Rattle.mls_parser.specs.Names.{label_named, relation_named, numbered}
-use Rattle.mls_parser.specs.Faults.{known, kept, param_of, var_of, params_from, params_faults, vars_from, vars_faults, outermost, levels_faults, name_faults, block_faults, tx_faults, txs_faults}
+use Rattle.mls_parser.specs.Faults.{kept, param_of, params_from, params_faults, vars_from, vars_faults, outermost, block_faults, tx_faults, txs_faults}
 use Rattle.mls_parser.specs.Elaboration.{block, transaction}
 use Rattle.mls_parser.specs.Parsing.{answer, elaborated, behind, parsed, placed_in, parse_at}
-use Rattle.mls_parser.specs.Laws.{ReadsWhatIsTold, TellsOnce, ReadsPrints, Under}
+use Rattle.mls_parser.specs.Laws.{TellsNone, TextsAreReadAsTold, TransactionsAreReadOnce, PrintsAreRead, Under}
 use Rattle.mls_parser.proofs.FaultLemmas.{least-none}
 use Rattle.mls_parser.proofs.WholeLemmas.{kept_new, named_any, some_position}
 use Rattle.mls_parser.proofs.FoundLemmas.{HasNames, distinct_front, label_again, new_behind}
-use Rattle.mls_parser.proofs.Written.{written_param, written_var, written_block, written_tx}
+use Rattle.mls_parser.proofs.Written.{written_param, written_var, written_tx}
 use Rattle.mls_parser.proofs.WrittenLemmas.{each_spelled, all_writable, names_outside}
 use Rattle.mls_parser.proofs.AgainLemmas.{none, none_two, none_known, block_again}
 use Rattle.mls_parser.proofs.BareLemmas.{causes, no_causes, txs_bare, txs_same}
@@ -186,12 +185,19 @@ module _ (policy : Tables) (schemes : Schemes) (of_policy : IsPolicy policy) (of
   same_read : (txs us : List Tx) (r : Result (List Tx) TextFault) → r ≡ Ok txs → r ≡ Ok us → txs ≡ us
   same_read txs us r e f = cc
 
-pub reads_what_is_told : Under ReadsWhatIsTold
-reads_what_is_told policy schemes p s bytes txs = (read_told policy schemes p s bytes txs, told_read policy schemes p s bytes txs)
+-- a text that is refused tells none
+pub never_told : (policy : Tables) (schemes : Schemes) → IsPolicy policy → AreSchemes schemes → (bytes : List ℕ) (e : TextFault) → parse_at policy schemes bytes ≡ Err e → TellsNone policy schemes bytes
+never_told policy schemes p s bytes e is = λ txs t. refused (parse_at policy schemes bytes) txs is (told_read policy schemes p s bytes txs t)
+  where
+    refused : (r : Result (List Tx) TextFault) (txs : List Tx) → r ≡ Err e → r ≡ Ok txs → ⊥
+    refused r txs a b = absurd cc
 
-pub tells_once : Under TellsOnce
-tells_once policy schemes p s bytes txs us a b =
+pub texts_are_read_as_told : Under TextsAreReadAsTold
+texts_are_read_as_told policy schemes p s bytes txs = (read_told policy schemes p s bytes txs, told_read policy schemes p s bytes txs)
+
+pub transactions_are_read_once : Under TransactionsAreReadOnce
+transactions_are_read_once policy schemes p s bytes txs us a b =
     same_read policy schemes p s txs us (parse_at policy schemes bytes) (told_read policy schemes p s bytes txs a) (told_read policy schemes p s bytes us b)
 
-pub reads_prints : Under ReadsPrints
-reads_prints policy schemes p s tx is read = told_read policy schemes p s (printed policy schemes tx) (tx ∷ []) (prints_are_told policy schemes tx p s is read)
+pub prints_are_read : Under PrintsAreRead
+prints_are_read policy schemes p s tx is read = told_read policy schemes p s (printed policy schemes tx) (tx ∷ []) (prints_are_told policy schemes tx p s is read)

@@ -1,14 +1,13 @@
 -- The tokens and the limits of the syntax tree that is written for a transaction.
-use Rattle.std.proofs.Common.{◌≡◌, ℕ, ◌+◌, ◌<◌, ◌≤◌, max, Bool, true, false, List, [], ◌∷◌, ◌++◌, length, map, Option, Some, None, option_map, inl, inr, refl, sym, ap, subst, ◌∙◌, arith}
+use Rattle.std.proofs.Common.{◌≡◌, ℕ, ◌+◌, ◌<◌, max, true, false, List, [], ◌∷◌, ◌++◌, length, map, Option, Some, None, option_map, inl, inr, refl, sym, ap, ◌∙◌, arith}
 use Rattle.std.specs.Prelude.{codes}
 use Rattle.std.specs.Option.{IfSome}
-use Rattle.std.specs.List.{AllByRecursion, IsDistinct, flat_map, list_any}
+use Rattle.std.specs.List.{AllByRecursion, list_any}
 use Rattle.std.specs.Str.{bytes_eq}
 use Rattle.std.proofs.lemmas.List.{length-map}
 use Rattle.std.proofs.lemmas.Bool.{or_parts}
 use Rattle.mls_parser.specs.Names.{row_scheme}
 use Rattle.std.proofs.lemmas.Map.Keys.{IsDistinct-cons}
-use Rattle.mls_lattice.specs.Canon.{label_name}
 use Rattle.mls_lattice.specs.Name.{is_name}
 use Rattle.mls_lattice.specs.Policy.{Name, Tables, IsPolicy, AreNames}
 use Rattle.mls_scheme.specs.declared.value.Kind.{Kind}
@@ -18,18 +17,17 @@ use Rattle.mls_tokens.specs.declared.token.Token.TheVariants.{Word, Sign}
 use Rattle.mls_tokens.specs.declared.sign.Sign.TheVariants as sign
 use Rattle.mls_translang.specs.declared.tx.Parameter.{Parameter}
 use Rattle.mls_translang.specs.Tree.{Expr, Known, Null, Var, Param, Field, No, Op, Writing, Inserting, Updating, Deleting, Stmt, Assign, Write_at, Release, Emit, Block, End, Do, If, For, statements, is_end}
-use Rattle.mls_translang.specs.Fits.{IsLabel, ExprFits, WritingFits, StmtFits, BlockFits, IsReadUnder, AreReadUnder}
+use Rattle.mls_translang.specs.Fits.{IsLabel, ExprFits, WritingFits, StmtFits, BlockFits, IsReadUnder}
 use Rattle.mls_translang.specs.Tokens as core
 use Rattle.mls_translang.specs.Tokens.{Place, at_row, outermost, operator_token, kind_token}
-use Rattle.mls_translang.specs.Tells.{TellsOther, TellsBlock, TellsTx, TellsEach, Tells}
-use Rattle.mls_translang.specs.Tx.{Tx, IsTx, scope_of, nesting, depth, HasOwn, IsOwn, WritingIsOwn, StmtIsOwn, BlockIsOwn}
+use Rattle.mls_translang.specs.Tells.{TellsOther, TellsBlock, TellsTx, TellsEach}
+use Rattle.mls_translang.specs.Tx.{Tx, IsTx, nesting, depth, HasOwn, IsOwn, WritingIsOwn, StmtIsOwn, BlockIsOwn}
 use Rattle.mls_translang.specs.Scope.{IsFresh, names_in}
-use Rattle.mls_syntax.specs.ExprTree as syntax
 use Rattle.mls_syntax.specs.Tree as tree
 use Rattle.mls_syntax.specs.Limits as limits
 use Rattle.mls_syntax.specs.Limits.{HasLiterals, IsShallow, WritingIsShallow, StmtIsShallow, BlockIsShallow, IsLimited}
-use Rattle.mls_syntax.specs.Places.{IsNamed, ExprIsNamed, ListIsNamed, SetIsNamed, WritingIsNamed, StmtIsNamed, BlockIsNamed, IsWritable}
-use Rattle.mls_syntax.specs.Spelling.{expr_tokens, list_tokens, set_tokens, outcome_tokens, write_tokens, stmt_tokens, param_tokens, params_tokens, var_tokens, SpellsOther, SpellsBlock, SpellsTransaction, SpellsEach, SpellsText}
+use Rattle.mls_syntax.specs.Places.{IsNamed, ExprIsNamed, SetIsNamed, WritingIsNamed, StmtIsNamed, BlockIsNamed, IsWritable}
+use Rattle.mls_syntax.specs.Spelling.{expr_tokens, list_tokens, set_tokens, outcome_tokens, write_tokens, stmt_tokens, param_tokens, var_tokens, SpellsOther, SpellsBlock, SpellsTransaction, SpellsEach}
 use Rattle.mls_parser.proofs.Written.{written, written_label, written_relation, written_variable, written_list, written_set, written_writing, written_stmt, written_block, written_param, written_var, written_tx}
 use Rattle.mls_parser.proofs.SpelledLemmas.{flat_same, separated_same}
 use Rattle.mls_parser.proofs.FoundLemmas.{HasNames, all_front, all_behind, label_is_name, scheme_valid, attribute_is_name, other_is_name, variable_is_name, parameter_is_name, row_is_name, row_valid}
@@ -100,7 +98,9 @@ block_spelled : (b : Block) (p : Place) (ts : List Token) → TellsBlock p b ts 
 block_spelled End p ts t = t
 block_spelled (Do stmt rest) p ts t = (t.0, t.1 ∙ ap (λ l. l ++ t.0) (sym (stmt_spelled p stmt)), block_spelled rest p t.0 t.2)
 block_spelled (If guard one other rest) p ts t = (
-  t.0, t.1, t.2,
+  t.0,
+  t.1,
+  t.2,
   t.3 ∙ ap (λ l. Word (codes "if") ∷ (l ++ (core.braced t.0 ++ (t.1 ++ t.2)))) (sym (written_spelled p guard)),
   block_spelled one p t.0 t.4,
   other_spelled p other t.1 t.5 (λ inner o. block_spelled other p inner o),
@@ -122,8 +122,7 @@ module _ (policy : Tables) (schemes : Schemes) where
   tx_spelled tx ts t =
       let p = outermost policy schemes tx in
       let params = sym (separated_same (written_param p) param_tokens (core.param_tokens p) tx.params (each_param p tx.params)) in
-      let vars = sym (flat_same written_var var_tokens core.var_tokens tx.vars (each_var tx.vars)) in
-      (
+      let vars = sym (flat_same written_var var_tokens core.var_tokens tx.vars (each_var tx.vars)) in (
         t.0,
         t.1 ∙ (λ i. core.heading_tokens p tx.name tx.lo tx.hi ++ ((Sign sign.LeftParen ∷ (params i ++ Sign sign.RightParen ∷ [])) ++ core.braced (vars i ++ t.0))),
         block_spelled tx.body p t.0 t.2,

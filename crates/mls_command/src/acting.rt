@@ -1,10 +1,12 @@
 //! What the program does with its words.
-ghost use Rattle.std.specs.Prelude.{length, IfOk};
+ghost use Rattle.std.specs.Prelude.{length, IfOk, OnOk};
 ghost use Rattle.std.specs.List.{AllByRecursion};
+ghost use Rattle.std.specs.Io.KnownBytes.{Appends};
 ghost use Rattle.mls_scheme.specs.Scheme.{AreUnder};
 ghost use Rattle.mls_translang.specs.Fits.{IsReadUnder};
 ghost use Rattle.mls_script.specs.Event.{EventFits};
 ghost use Rattle.mls_machine.specs.Observation.{AreRead, AreCertified};
+ghost use Rattle.mls_command.specs.Running.{output, IsScriptRun};
 
 use crate::host::Host;
 use crate::refusal::{Refusal, Role};
@@ -114,11 +116,13 @@ fn run_script<W: Write>(
     requires under { AreUnder (length policy.now.labels) schemes.now }
     requires read { AreRead (record { policy = policy.now; schemes = schemes.now; stored = stored }) }
     requires certified { AreCertified (record { policy = policy.now; schemes = schemes.now; stored = stored }) }
+    ensures { OnOk result (IsScriptRun (record { policy = policy.now; schemes = schemes.now; stored = stored }) bytes.now (W.contents out.old) (W.contents out.new)) }
 {
     let events = script(alloc, policy, schemes, bytes)?;
     Ok(run_events(alloc, policy, schemes, stored, &events, out)?)
 }
 
+/// Answers events over an empty database.
 fn run_events<W: Write>(
     alloc: Global,
     policy: &Policy,
@@ -131,6 +135,7 @@ fn run_events<W: Write>(
     requires read { AreRead (record { policy = policy.now; schemes = schemes.now; stored = stored }) }
     requires certified { AreCertified (record { policy = policy.now; schemes = schemes.now; stored = stored }) }
     requires fits { AllByRecursion (EventFits policy.now schemes.now) events.now }
+    ensures { OnOk result (Appends (W.contents out.old) (W.contents out.new) (output (record { policy = policy.now; schemes = schemes.now; stored = stored }) events.now)) }
 {
     let base = ListBase::new(alloc);
     let mut engine = Engine::new(alloc, base, policy, schemes, stored);

@@ -1,4 +1,6 @@
 //! Labels, users and rights of the sample policy.
+ghost use Rattle.std.specs.Prelude.{◌<◌, length};
+
 use crate::tuples::name_of;
 use bitflags::Flags;
 use mls_lattice::{Label, Policy, UserNo};
@@ -53,7 +55,9 @@ fn tell_labels(policy: &Policy, names: &str, out: &mut String) -> Result<(), All
 }
 
 /// Writes the number of a user, its clearance and its trusted interval.
-fn push_user(policy: &Policy, user: UserNo, out: &mut String) -> Result<(), AllocError> {
+fn push_user(policy: &Policy, user: UserNo, out: &mut String) -> Result<(), AllocError>
+    requires { user < length policy.now.users }
+{
     let clearance = name_of(policy, policy.clearance(user));
     write!(
         out,

@@ -55,7 +55,7 @@ impl<B: Base> Faulty<B> {
 
     /// The base behind it.
     pub fn finish(self) -> B
-        ensures { result ≡ self.entry.base }
+        ensures { result ≡ self.base }
     {
         let Faulty {
             base,

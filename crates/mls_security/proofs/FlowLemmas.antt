@@ -11,6 +11,7 @@ use Rattle.mls_scheme.specs.declared.value.Value.{Value}
 use Rattle.mls_scheme.specs.declared.value.Value.TheVariants.{Int}
 use Rattle.mls_scheme.specs.declared.tuple.Tuple.{Tuple}
 use Rattle.mls_scheme.specs.Scheme.{Schemes, scheme_of}
+use Rattle.mls_filterview.specs.Rules.{no_tuple}
 use Rattle.mls_filterview.specs.View.{low, rows}
 use Rattle.mls_filterview.proofs.LowLemmas.{rows_under}
 use Rattle.mls_filterview.proofs.SubsumptionLemmas.{same_value-true, same_value-refl}
@@ -22,7 +23,7 @@ use Rattle.mls_translang.specs.Tree.{Expr, Stmt, Assign, Write_at, Release, Emit
 use Rattle.mls_translang.specs.Scope.{Scope, in_loop}
 use Rattle.mls_translang.specs.Fits.{BlockFits}
 use Rattle.mls_translang.specs.Tx.{Tx}
-use Rattle.mls_meaning.specs.Expressions.{no_tuple, is_true, same, value_in, holds_in}
+use Rattle.mls_meaning.specs.Expressions.{is_true, same, value_in, holds_in}
 use Rattle.mls_meaning.specs.Meaning.{Item, Variables, Progress, set_var, set_outcome, do_write, environment, perform, for_each, run_block}
 use Rattle.mls_meaning.specs.Secure.{AreStored, seen_items, Split}
 use Rattle.mls_meaning.proofs.KeepingLemmas.{Extends, cond_kept, for_each_kept, perform_stored, block_stored, block_extends}
@@ -39,7 +40,8 @@ split_here : (xs : List Item) (i j : Item) → i.0 ≡ j.0 → (i.1 ≡ j.1 → 
 split_here [] i j e n = inl (e, n)
 split_here (x ∷ xs) i j e n = inr (refl, split_here xs i j e n)
 
-split_more : (xs ys us vs : List Item) → Split xs ys → Split (xs ++ us) (ys ++ vs)
+-- lists that split go on so
+pub split_more : (xs ys us vs : List Item) → Split xs ys → Split (xs ++ us) (ys ++ vs)
 split_more [] ys us vs h = absurd h
 split_more (x ∷ xs) [] us vs h = absurd h
 split_more (x ∷ xs) (y ∷ ys) us vs (inl h) = inl h

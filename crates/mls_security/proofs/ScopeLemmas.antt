@@ -5,9 +5,10 @@ use Rattle.std.specs.List.{AllByRecursion}
 use Rattle.mls_lattice.specs.Lattice.{Pair, Dominates, ◌⊑◌, join}
 use Rattle.mls_lattice.specs.Labels.{label_of}
 use Rattle.mls_lattice.proofs.LatticeLemmas.{join-left, join-right}
+use Rattle.mls_filterview.specs.Rules.{no_tuple}
 use Rattle.mls_updates.specs.Writes.{Insert, Update, Delete}
 use Rattle.mls_translang.specs.Tree.{Expr, Known, Null, Var, Param, Field, No, Op, Writing, Inserting, Updating, Deleting}
-use Rattle.mls_meaning.specs.Expressions.{Plain, Truth, is_true, value_of, cell_of, no_tuple, apply, Environment, eval, value_in}
+use Rattle.mls_meaning.specs.Expressions.{Plain, Truth, is_true, value_of, cell_of, apply, Environment, eval, value_in}
 use Rattle.mls_meaning.specs.Meaning.{values_set, write_in}
 use Rattle.mls_certcheck.specs.Rules.{Claim, var_label, param_label, lab, operands}
 use Rattle.mls_security.proofs.PlaceLemmas.{seen_under, all_front, all_back}

@@ -1,5 +1,6 @@
 -- A call keeps kinds and intervals, and what it gives has labels and kinds.
 use Rattle.std.proofs.Common.{◌≡◌, ℕ, zero, suc, ◌-◌, ◌<◌, true, false, cond, List, [], ◌∷◌, length, map, Option, Some, None, refl, sym, ap, ◌∙◌, subst, arith, inl, inr, ℤ}
+use Rattle.std.proofs.SliceLists.{all_by_recursion_push}
 use Rattle.std.specs.Prelude.{◌⊎◌, nat_eq, nat_lt, slice_index_or, pos, ◌+ℤ◌, ◌-ℤ◌, ◌*ℤ◌}
 use Rattle.std.specs.List.{AllZip, AllByRecursion}
 use Rattle.std.specs.Option.{IfSome}
@@ -41,7 +42,7 @@ use Rattle.mls_meaning.specs.Expressions.{bounded, calculate, cell_of, Environme
 use Rattle.mls_meaning.specs.Meaning.{Variables, Progress, set_var, set_outcome, environment, values_set, write_in, perform, for_each, run_block}
 use Rattle.mls_meaning.specs.Kinds.{RowKinds, VarsFit, AroundFits}
 use Rattle.mls_meaning.specs.Laws.{IsItem}
-use Rattle.mls_meaning.proofs.KeepingLemmas.{table_holds, all_push, cond_kept, write_fits}
+use Rattle.mls_meaning.proofs.KeepingLemmas.{table_holds, cond_kept, write_fits}
 
 -- ---- operators
 
@@ -217,14 +218,14 @@ module _ (policy : Tables) (schemes : Schemes) (hi : ℕ) where
           content = h.content;
           vars = set_kind scope into (value_in env e) s.vars h.vars (assigned scope env k into e z);
           emitted = h.emitted;
-          released = all_push (λ i. IsItem policy i × (below ls i.0 hi ≡ true)) s.released (to, value_in env e) h.released (record { label = f.1; kind = (z.0, value_kind scope env k z.0 e z.2) }, f.2);
+          released = all_by_recursion_push (λ i. IsItem policy i × (below ls i.0 hi ≡ true)) s.released (to, value_in env e) h.released (record { label = f.1; kind = (z.0, value_kind scope env k z.0 e z.2) }, f.2);
         }
     stmt_keeps scope around (Emit e label) s f z o h =
         let env = environment args around s in
         record {
           content = h.content;
           vars = h.vars;
-          emitted = all_push (IsItem policy) s.emitted (label, value_in env e) h.emitted (record { label = f.1; kind = (z.0, value_kind scope env (environment_fits scope around s o h) z.0 e z.1) });
+          emitted = all_by_recursion_push (IsItem policy) s.emitted (label, value_in env e) h.emitted (record { label = f.1; kind = (z.0, value_kind scope env (environment_fits scope around s o h) z.0 e z.1) });
           released = h.released;
         }
 

@@ -25,6 +25,9 @@ use Rattle.mls_certificate.specs.Spelling.{byte_text, label_text, spaced_label, 
 abbrev pub done : {A : Type 0} → A → Result A CertFault
 done x = Ok x
 
+pub ok_is : {A : Type 0} (x y : A) → done x ≡ done y → x ≡ y
+ok_is x y e = cc
+
 -- ---- bytes above a mark are cut nowhere
 
 abbrev pub Above : ℕ → List ℕ → Type 0
@@ -201,9 +204,6 @@ unfolding cert_at cert_in
 cert_again c is =
     ap cert_at (lines_again c is)
     ∙ rw (vars_again 1 c.var_labels is.0, pcs_again 2 c.pc_labels is.1) refl
-
-ok_is : (c d : Cert) → done c ≡ done d → c ≡ d
-ok_is c d e = cc
 
 -- no two certificates have one text
 pub unambiguous : AreUnambiguous

@@ -10,8 +10,8 @@ use crate::entity::is_one_entity;
 use mls_lattice::{Label, LabelNo, Policy};
 use mls_scheme::{Element, Tuple, tuple_class};
 
-/// Whether two labels are one.
-fn is_same_label(left: Label, right: Label) -> bool
+/// Whether two labels have one value.
+pub fn is_same_label(left: Label, right: Label) -> bool
     ensures { result ≡ same_pair (pair_of left) (pair_of right) }
 {
     left == right

@@ -19,6 +19,7 @@ mod viewing;
 pub use base::{Base, BaseFault, abandon, made};
 pub use checking::integrity;
 pub use entity::{is_entity, is_same_entity};
+pub use entity_rules::is_same_label;
 pub use filtering::filter;
 pub use fragment::{Cell, Fragment, Node};
 pub use laws::{

@@ -1,5 +1,6 @@
 -- The name of a number stands for it.
-use Rattle.std.proofs.Common.{◌≡◌, ℕ, zero, suc, ◌+◌, ◌-◌, ◌<◌, ◌≤◌, nat_lt, Bool, true, false, ◌||◌, List, [], ◌∷◌, ◌++◌, length, map, get_or, Option, Some, None, option_map, inl, inr, refl, sym, ap, subst, ◌∙◌, arith}
+use Rattle.std.proofs.Common.{◌≡◌, ℕ, zero, suc, ◌+◌, ◌-◌, ◌<◌, ◌≤◌, nat_lt, Bool, true, false, ◌||◌, List, [], ◌∷◌, ◌++◌, length, map, get_or, Option, Some, None, option_map, slice_get, inl, inr, refl, sym, ap, subst, ◌∙◌, arith}
+use Rattle.std.proofs.Recursive.{every_front, every_back}
 use Rattle.std.specs.Prelude.{is_some}
 use Rattle.std.specs.Option.{unwrap_or}
 use Rattle.std.specs.List.{AllByRecursion, IsDistinct, list_any, position, position_or_len}
@@ -8,7 +9,8 @@ use Rattle.std.specs.Str.{bytes_eq}
 use Rattle.std.specs.Cmp.Lexicographic.{nat_list_eq_equiv}
 use Rattle.std.proofs.lemmas.Bool.{lt-ltb, cases_lt}
 use Rattle.std.proofs.lemmas.Bool.Decides.{nat_tests}
-use Rattle.std.proofs.lemmas.List.{map-append, get_or-map, length-map}
+use Rattle.std.proofs.lemmas.List.{map-append, get_or-map, length-map, length-append}
+use Rattle.std.proofs.lemmas.List.Elements.{All-from_recursion}
 use Rattle.std.proofs.lemmas.List.Sums.{position_or_len_is}
 use Rattle.std.proofs.lemmas.Map.Keys.{apart_from_distinct, IsDistinct-head, IsDistinct-tail}
 use Rattle.std.proofs.lemmas.Option.{slice_get-get_or}
@@ -27,24 +29,11 @@ use Rattle.mls_parser.proofs.WholeLemmas.{some_position, named_any}
 
 -- ---- lists
 
-pub all_at : {A : Type 0} (P : A → Type 0) (xs : List A) (n : ℕ) (d : A) → AllByRecursion P xs → n < length xs → P (get_or xs n d)
-all_at P [] n d h within = absurd (omega arith)
-all_at P (x ∷ xs) zero d h within = h.0
-all_at P (x ∷ xs) (suc n) d h within = all_at P xs n d h.1 (omega arith)
-
-pub all_front : {A : Type 0} (P : A → Type 0) (xs ys : List A) → AllByRecursion P (xs ++ ys) → AllByRecursion P xs
-all_front P [] ys h = tt
-all_front P (x ∷ xs) ys h = (h.0, all_front P xs ys h.1)
-
-pub all_behind : {A : Type 0} (P : A → Type 0) (xs ys : List A) → AllByRecursion P (xs ++ ys) → AllByRecursion P ys
-all_behind P [] ys h = h
-all_behind P (x ∷ xs) ys h = all_behind P xs ys h.1
-
 module _ {K : Type 0} (eq : K → K → Bool) where
   pub distinct_front : (xs ys : List K) → IsDistinct eq (xs ++ ys) → IsDistinct eq xs
   unfolding IsDistinct
   distinct_front [] ys h = tt
-  distinct_front (x ∷ xs) ys h = (all_front (λ y. eq x y ≡ false) xs ys h.0, distinct_front xs ys h.1)
+  distinct_front (x ∷ xs) ys h = (every_front (λ y. eq x y ≡ false) _ xs ys h.0 refl, distinct_front xs ys h.1)
 
   pub distinct_behind : (xs ys : List K) → IsDistinct eq (xs ++ ys) → IsDistinct eq ys
   distinct_behind [] ys h = h
@@ -57,14 +46,14 @@ module _ {K : Type 0} (eq : K → K → Bool) where
   -- none in the front is one of those behind
   pub apart_behind : (xs ys : List K) (n : ℕ) (d : K) → IsDistinct eq (xs ++ ys) → n < length xs → list_any (eq (get_or xs n d)) ys ≡ false
   apart_behind [] ys n d h within = absurd (omega arith)
-  apart_behind (x ∷ xs) ys zero d h within = none_any x ys (all_behind (λ y. eq x y ≡ false) xs ys (IsDistinct-head eq x (xs ++ ys) h))
+  apart_behind (x ∷ xs) ys zero d h within = none_any x ys (every_back (λ y. eq x y ≡ false) _ xs ys (IsDistinct-head eq x (xs ++ ys) h) refl)
   apart_behind (x ∷ xs) ys (suc n) d h within = apart_behind xs ys n d (IsDistinct-tail eq x (xs ++ ys) h) (omega arith)
 
   -- none behind is one of those in the front
   pub apart_front : IsEquivalence eq → (xs ys : List K) (n : ℕ) (d : K) → IsDistinct eq (xs ++ ys) → n < length ys → list_any (eq (get_or ys n d)) xs ≡ false
   apart_front q [] ys n d h within = refl
   apart_front q (x ∷ xs) ys n d h within =
-      let first = all_at (λ z. eq x z ≡ false) ys n d (all_behind (λ z. eq x z ≡ false) xs ys (IsDistinct-head eq x (xs ++ ys) h)) within in
+      let first = All-from_recursion (λ z. eq x z ≡ false) ys (every_back (λ z. eq x z ≡ false) _ xs ys (IsDistinct-head eq x (xs ++ ys) h) refl) n d within in
       λ i. (q.symm (get_or ys n d) x ∙ first) i || apart_front q xs ys n d (IsDistinct-tail eq x (xs ++ ys) h) within i
 
   pub new_behind : IsEquivalence eq → (xs : List K) (y : K) (ys : List K) → IsDistinct eq (xs ++ y ∷ ys) → list_any (eq y) xs ≡ false
@@ -87,7 +76,7 @@ module _ {X : Type 0} (name : X → Name) (xs : List X) (d : X) where
   pub is_name_at : AreNames (map name xs) → (n : ℕ) → n < length xs → is_name (name (get_or xs n d)) ≡ true
   is_name_at names n within =
       subst (λ (x : Name). is_name x ≡ true) (get_or-map name xs n d [] within)
-      (all_at (λ (x : Name). is_name x ≡ true) (map name xs) n [] names (omega (arith, length-map xs name)))
+      (All-from_recursion (λ (x : Name). is_name x ≡ true) (map name xs) names n [] (omega (arith, length-map xs name)))
 
 pub none_of : {X : Type 0} (o : Option X) → is_some o ≡ false → o ≡ None
 none_of None e = refl
@@ -110,7 +99,7 @@ unfolding relation_named
 relation_again schemes valid n within = found_again (λ s. s.name) schemes no_scheme valid.distinct n within
 
 pub scheme_valid : (schemes : Schemes) → AreSchemes schemes → (n : ℕ) → n < length schemes → IsScheme (scheme_of schemes n)
-scheme_valid schemes valid n within = all_at IsScheme schemes n no_scheme valid.each within
+scheme_valid schemes valid n within = All-from_recursion IsScheme schemes valid.each n no_scheme within
 
 -- ---- attributes
 
@@ -129,7 +118,7 @@ module _ (scheme : Scheme) (valid : IsScheme scheme) where
   other_again n within = found_again name_of scheme.others no_attribute (distinct_behind bytes_eq (map name_of scheme.keys) (map name_of scheme.others) split_apart) n within
 
   pub other_is_name : (n : ℕ) → n < length scheme.others → is_name (other_of scheme n).name ≡ true
-  other_is_name n within = is_name_at name_of scheme.others no_attribute (all_behind (λ x. is_name x ≡ true) (map name_of scheme.keys) (map name_of scheme.others) split_names) n within
+  other_is_name n within = is_name_at name_of scheme.others no_attribute (every_back (λ x. is_name x ≡ true) _ (map name_of scheme.keys) (map name_of scheme.others) split_names refl) n within
 
   key_again : (n : ℕ) → n < length scheme.keys → position (λ a. bytes_eq a.name (get_or scheme.keys n no_attribute).name) scheme.keys ≡ Some n
   key_again n within = found_again name_of scheme.keys no_attribute (distinct_front bytes_eq (map name_of scheme.keys) (map name_of scheme.others) split_apart) n within
@@ -172,7 +161,7 @@ module _ (scheme : Scheme) (valid : IsScheme scheme) where
   attribute_is_name n lt =
       elim (cases_lt n (length scheme.keys)) [
         | inl key ↦ subst (λ a. is_name a.name ≡ true) (sym (as_key n key))
-            (is_name_at name_of scheme.keys no_attribute (all_front (λ x. is_name x ≡ true) (map name_of scheme.keys) (map name_of scheme.others) split_names) n key)
+            (is_name_at name_of scheme.keys no_attribute (every_front (λ x. is_name x ≡ true) _ (map name_of scheme.keys) (map name_of scheme.others) split_names refl) n key)
         | inr other ↦
             let le : length scheme.keys ≤ n = omega (arith, other) in
             subst (λ a. is_name a.name ≡ true) (sym (as_other n le)) (other_is_name (n - length scheme.keys) (omega (arith, le, lt)))
@@ -224,21 +213,21 @@ module _ (p : Place) (h : HasNames p) where
   inner_apart = distinct_behind bytes_eq row_names (param_names ++ var_names) h.apart
 
   inner_names : AreNames (param_names ++ var_names)
-  inner_names = all_behind (λ n. is_name n ≡ true) row_names (param_names ++ var_names) h.names
+  inner_names = every_back (λ n. is_name n ≡ true) _ row_names (param_names ++ var_names) h.names refl
 
   pub variable_again : (n : ℕ) → n < length p.scope.vars → variable_named p (name_at p.scope.vars n) ≡ Some n
   unfolding variable_named
   variable_again n within = pair_again p.scope.vars n (distinct_behind bytes_eq param_names var_names inner_apart) within
 
   pub variable_is_name : (n : ℕ) → n < length p.scope.vars → is_name (name_at p.scope.vars n) ≡ true
-  variable_is_name n within = pair_is_name p.scope.vars n (all_behind (λ x. is_name x ≡ true) param_names var_names inner_names) within
+  variable_is_name n within = pair_is_name p.scope.vars n (every_back (λ x. is_name x ≡ true) _ param_names var_names inner_names refl) within
 
   pub parameter_again : (n : ℕ) → n < length p.scope.params → parameter_named p (name_at p.scope.params n) ≡ Some n
   unfolding parameter_named
   parameter_again n within = pair_again p.scope.params n (distinct_front bytes_eq param_names var_names inner_apart) within
 
   pub parameter_is_name : (n : ℕ) → n < length p.scope.params → is_name (name_at p.scope.params n) ≡ true
-  parameter_is_name n within = pair_is_name p.scope.params n (all_front (λ x. is_name x ≡ true) param_names var_names inner_names) within
+  parameter_is_name n within = pair_is_name p.scope.params n (every_front (λ x. is_name x ≡ true) _ param_names var_names inner_names refl) within
 
   pub no_variable : (n : ℕ) → n < length p.scope.params → variable_named p (name_at p.scope.params n) ≡ None
   unfolding variable_named
@@ -252,7 +241,7 @@ module _ (p : Place) (h : HasNames p) where
   row_again n within = found_again (λ r. r.name) p.scope.rows no_row (distinct_front bytes_eq row_names (param_names ++ var_names) h.apart) n within
 
   pub row_is_name : (n : ℕ) → n < length p.scope.rows → is_name (row_at p.scope n).name ≡ true
-  row_is_name n within = is_name_at (λ r. r.name) p.scope.rows no_row (all_front (λ x. is_name x ≡ true) row_names (param_names ++ var_names) h.names) n within
+  row_is_name n within = is_name_at (λ r. r.name) p.scope.rows no_row (every_front (λ x. is_name x ≡ true) _ row_names (param_names ++ var_names) h.names refl) n within
 
   pub row_valid : (n : ℕ) → n < length p.scope.rows → IsScheme (row_scheme p n)
-  row_valid n within = scheme_valid p.schemes h.schemes (row_at p.scope n).relation (all_at (λ r. r.relation < length p.schemes) p.scope.rows n no_row h.rows within)
+  row_valid n within = scheme_valid p.schemes h.schemes (row_at p.scope n).relation (All-from_recursion (λ r. r.relation < length p.schemes) p.scope.rows h.rows n no_row within)

@@ -1,5 +1,6 @@
 -- What blocks and transactions without faults are.
 use Rattle.std.proofs.Common.{◌≡◌, ℕ, suc, ◌+◌, ◌≤◌, max, cond, Bool, true, false, not, ◌||◌, nat_lt, List, [], ◌∷◌, ◌++◌, length, map, Some, None, refl, sym, ap, subst, ◌∙◌, arith, append_assoc}
+use Rattle.std.proofs.SliceLists.{all_by_recursion_push}
 use Rattle.std.specs.Prelude.{is_some}
 use Rattle.std.specs.List.{AllByRecursion, IsDistinct, list_any, position, prefix_len}
 use Rattle.std.specs.Str.{bytes_eq}
@@ -144,10 +145,6 @@ same_statements p (For row rel at body rest) = λ i. 1 + same_statements (inside
 
 -- ---- lists that grow at their end
 
-all_push : {X : Type 0} (P : X → Type 0) (xs : List X) (x : X) → AllByRecursion P xs → P x → AllByRecursion P (xs ++ x ∷ [])
-all_push P [] x h here = (here, tt)
-all_push P (y ∷ ys) x h here = (h.0, all_push P ys x h.1 here)
-
 all_append : {X : Type 0} (P : X → Type 0) (xs ys : List X) → AllByRecursion P xs → AllByRecursion P ys → AllByRecursion P (xs ++ ys)
 all_append P [] ys a b = b
 all_append P (x ∷ xs) ys a b = (a.0, all_append P xs ys a.1 b)
@@ -195,10 +192,10 @@ module _ (policy : Tables) where
       let e = names_more front (param_of policy x) new in
       params_right (kept front (param_of policy x)) xs
       (record {
-        names = subst (AllByRecursion IsNamed) (sym e) (all_push IsNamed (names_of front) x.name.0 f.names n.0);
+        names = subst (AllByRecursion IsNamed) (sym e) (all_by_recursion_push IsNamed (names_of front) x.name.0 f.names n.0);
         apart = subst (IsDistinct bytes_eq) (sym e) (IsDistinct-push nat_list_eq_equiv (names_of front) x.name.0 f.apart free);
         labels = subst (AllByRecursion (λ p. IsLabel policy p.1.label)) (sym (kept_new front (param_of policy x) new))
-            (all_push (λ p. IsLabel policy p.1.label) front (param_of policy x) f.labels (known_label policy x.label.0 x.label.1 u.0));
+            (all_by_recursion_push (λ p. IsLabel policy p.1.label) front (param_of policy x) f.labels (known_label policy x.label.0 x.label.1 u.0));
       })
       n.1 u.1
 
@@ -233,7 +230,7 @@ module _ (params : List (Name × Parameter)) where
       let e = names_more front (var_of x) both.1 in
       vars_right (kept front (var_of x)) xs
       (record {
-        names = subst (AllByRecursion IsNamed) (sym e) (all_push IsNamed (names_of front) x.name.0 f.names n.0);
+        names = subst (AllByRecursion IsNamed) (sym e) (all_by_recursion_push IsNamed (names_of front) x.name.0 f.names n.0);
         apart = subst (λ ns. IsDistinct bytes_eq (names_of params ++ ns)) (sym e)
             (subst (IsDistinct bytes_eq) (append_assoc (names_of params) (names_of front) (x.name.0 ∷ []))
             (IsDistinct-push nat_list_eq_equiv (names_of params ++ names_of front) x.name.0 f.apart free));

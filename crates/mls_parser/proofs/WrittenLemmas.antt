@@ -1,5 +1,6 @@
 -- The tokens and the limits of the syntax tree that is written for a transaction.
-use Rattle.std.proofs.Common.{◌≡◌, ℕ, ◌+◌, ◌<◌, max, true, false, List, [], ◌∷◌, ◌++◌, length, map, Option, Some, None, option_map, inl, inr, refl, sym, ap, ◌∙◌, arith}
+use Rattle.std.proofs.Common.{◌≡◌, ℕ, ◌+◌, ◌<◌, ◌≤◌, max, Bool, true, false, List, [], ◌∷◌, ◌++◌, length, map, Option, Some, None, option_map, inl, inr, refl, sym, ap, subst, ◌∙◌, arith}
+use Rattle.std.proofs.Recursive.{every_front, every_back}
 use Rattle.std.specs.Prelude.{codes}
 use Rattle.std.specs.Option.{IfSome}
 use Rattle.std.specs.List.{AllByRecursion, list_any}
@@ -30,7 +31,7 @@ use Rattle.mls_syntax.specs.Places.{IsNamed, ExprIsNamed, SetIsNamed, WritingIsN
 use Rattle.mls_syntax.specs.Spelling.{expr_tokens, list_tokens, set_tokens, outcome_tokens, write_tokens, stmt_tokens, param_tokens, var_tokens, SpellsOther, SpellsBlock, SpellsTransaction, SpellsEach}
 use Rattle.mls_parser.proofs.Written.{written, written_label, written_relation, written_variable, written_list, written_set, written_writing, written_stmt, written_block, written_param, written_var, written_tx}
 use Rattle.mls_parser.proofs.SpelledLemmas.{flat_same, separated_same}
-use Rattle.mls_parser.proofs.FoundLemmas.{HasNames, all_front, all_behind, label_is_name, scheme_valid, attribute_is_name, other_is_name, variable_is_name, parameter_is_name, row_is_name, row_valid}
+use Rattle.mls_parser.proofs.FoundLemmas.{HasNames, label_is_name, scheme_valid, attribute_is_name, other_is_name, variable_is_name, parameter_is_name, row_is_name, row_valid}
 
 -- ---- tokens
 
@@ -287,8 +288,8 @@ module _ (policy : Tables) (schemes : Schemes) (of_policy : IsPolicy policy) (of
       record {
         limits = record {
           name = is.name;
-          params = params_named p tx.params (all_front (λ x. is_name x ≡ true) (map (λ x. x.0) tx.params) (map (λ x. x.0) tx.vars) is.names);
-          vars = vars_named tx.vars (all_behind (λ x. is_name x ≡ true) (map (λ x. x.0) tx.params) (map (λ x. x.0) tx.vars) is.names);
+          params = params_named p tx.params (every_front (λ x. is_name x ≡ true) _ (map (λ x. x.0) tx.params) (map (λ x. x.0) tx.vars) is.names refl);
+          vars = vars_named tx.vars (every_back (λ x. is_name x ≡ true) _ (map (λ x. x.0) tx.params) (map (λ x. x.0) tx.vars) is.names refl);
           few_params = omega (arith, length-map tx.params (written_param p), is.few_params);
           few_vars = omega (arith, length-map tx.vars written_var, is.few_vars);
           few_statements = rw (same_statements tx.body p) is.few_statements;

@@ -31,7 +31,7 @@ zip_from R d e [] (y ∷ ys) n h = absurd (omega arith)
 zip_from R d e (x ∷ xs) [] n h = absurd (omega arith)
 zip_from R d e (x ∷ xs) (y ∷ ys) n h = (h 0 (omega arith), zip_from R d e xs ys (omega arith) (λ i l. h (suc i) (omega arith)))
 
-zip_at : {A B : Type 0} (R : A → B → Type 0) (d : A) (e : B) (xs : List A) (ys : List B) → AllZip R xs ys → (i : ℕ) → i < length xs → R (slice_index_or xs i d) (slice_index_or ys i e)
+pub zip_at : {A B : Type 0} (R : A → B → Type 0) (d : A) (e : B) (xs : List A) (ys : List B) → AllZip R xs ys → (i : ℕ) → i < length xs → R (slice_index_or xs i d) (slice_index_or ys i e)
 zip_at R d e [] [] h i l = absurd (omega arith)
 zip_at R d e [] (y ∷ ys) h i l = absurd h
 zip_at R d e (x ∷ xs) [] h i l = absurd h

@@ -22,6 +22,7 @@ use Rattle.mls_tokens.specs.declared.sign.Sign.TheVariants.{Comma}
 use Rattle.mls_tokens.specs.Scanning.{Left, tokens_in, tokens_at}
 use Rattle.mls_tokens.specs.Passing.{is_word, is_sign, PlacedName, is_expected, over_with, is_over, pass_end}
 use Rattle.mls_tokens.proofs.TokensLemmas.{tokens_exact}
+use Rattle.mls_tokens.proofs.NextLemmas.{Gets, took, NotNext, not_taken, word_gets, name_gets}
 use Rattle.mls_script.specs.declared.event.Event.{Event}
 use Rattle.mls_script.specs.declared.event.Command.{Command}
 use Rattle.mls_script.specs.declared.event.Command.TheVariants as commands
@@ -41,7 +42,7 @@ use Rattle.mls_script.specs.Reading.{Looked, label_named, relation_named, pass_s
 use Rattle.mls_script.specs.Script.{Line, Tells, IsLineOf, ReadsScript, ScriptsAreOnce}
 use Rattle.mls_script.proofs.ScriptSteps.{split_ended}
 use Rattle.mls_script.proofs.PartLemmas.{PartFits}
-use Rattle.mls_script.proofs.AgainLemmas.{label_again, relation_again, scheme_valid, label_is_name, relation_is_name, Read, took, not_taken, NotNext, pass_read, word_same, name_read, list_read, kinds_again, sets_read}
+use Rattle.mls_script.proofs.AgainLemmas.{label_again, relation_again, scheme_valid, label_is_name, relation_is_name, list_read, kinds_again, sets_read}
 
 -- ---- what a part puts into a draft
 
@@ -64,11 +65,11 @@ filled (p ∷ ps) d f = filled ps d (put p d f)
 
 module _ (policy : Tables) (schemes : Schemes) (is_policy : IsPolicy policy) (are_schemes : AreSchemes schemes) where
   abbrev Reads : (Left → Result (Looked × Left) TokenFault) → Left → Draft → List Token → Type 0
-  Reads f l d us = Read f l (λ looked. looked ≡ Ok d) us
+  Reads f l d us = Gets (f l) l (λ looked. looked ≡ Ok d) us
 
   label_read : (p : Part) (n : ℕ) (f : Draft) (us : List Token) (l : Left) → n < length policy.labels → tokens_in l.placed ≡ Word (label_name policy n) ∷ us → Reads (label_at policy p (Ok f)) l (put_label p f n) us
   label_read p n f us l within e =
-      let name = name_read (label_name policy n) us l (label_is_name policy is_policy n within) e in
+      let name = name_gets (label_name policy n) us l (label_is_name policy is_policy n within) e in
       let found : label_named policy name.value ≡ Ok n = ap (λ (s : Name). label_named policy (s, name.value.1)) name.holds ∙ label_again policy is_policy n name.value.1 within in
       record {
         value = with_label p (Ok f) (label_named policy name.value);
@@ -79,9 +80,9 @@ module _ (policy : Tables) (schemes : Schemes) (is_policy : IsPolicy policy) (ar
         stop = name.stop;
       }
 
-  name_part_read : (p : Part) (s : Name) (f : Draft) (us : List Token) (l : Left) → is_name s ≡ true → tokens_in l.placed ≡ Word s ∷ us → Read (name_at p (Ok f)) l (λ looked. looked ≡ with_name p (Ok f) s) us
+  name_part_read : (p : Part) (s : Name) (f : Draft) (us : List Token) (l : Left) → is_name s ≡ true → tokens_in l.placed ≡ Word s ∷ us → Gets (name_at p (Ok f) l) l (λ looked. looked ≡ with_name p (Ok f) s) us
   name_part_read p s f us l named e =
-      let name = name_read s us l named e in
+      let name = name_gets s us l named e in
       record {
         value = with_name p (Ok f) name.value.0;
         rest = name.rest;
@@ -93,7 +94,7 @@ module _ (policy : Tables) (schemes : Schemes) (is_policy : IsPolicy policy) (ar
 
   relation_read : (n : ℕ) (f : Draft) (us : List Token) (l : Left) → n < length schemes → tokens_in l.placed ≡ Word (relation_name schemes n) ∷ us → Reads (relation_at schemes (Ok f)) l (record f { rel = n }) us
   relation_read n f us l within e =
-      let name = name_read (relation_name schemes n) us l (relation_is_name schemes are_schemes n within) e in
+      let name = name_gets (relation_name schemes n) us l (relation_is_name schemes are_schemes n within) e in
       let found : relation_named schemes name.value ≡ Ok n = ap (λ (s : Name). relation_named schemes (s, name.value.1)) name.holds ∙ relation_again schemes are_schemes n name.value.1 within in
       record {
         value = with_relation (Ok f) (relation_named schemes name.value);
@@ -191,7 +192,7 @@ module _ (policy : Tables) (schemes : Schemes) (is_policy : IsPolicy policy) (ar
   word_read : (o : Option Name) (us : List Token) (l : Left) → tokens_in l.placed ≡ word_tokens o ++ us → (r : Left) × (pass_word o l ≡ Ok r) × (tokens_in r.placed ≡ us) × (r.stop ≡ l.stop)
   word_read None us l e = (l, refl, e, refl)
   word_read (Some w) us l e =
-      let x = pass_read (is_word w) (Word w) us l (word_same w) e in
+      let x = word_gets w us l e in
       (x.rest, ap (λ r. r >>= λ (x : ℕ × Left). Ok x.1) x.is, x.tokens, x.stop)
 
   part_read : (p : Part) (d f : Draft) (us : List Token) (l : Left) → Knows p d f → PartFits policy schemes d p → NotNext (is_sign Comma) us → tokens_in l.placed ≡ part_tokens policy schemes d p ++ us
@@ -258,7 +259,7 @@ known_verb v.Update = refl
 known_verb v.Delete = refl
 known_verb v.Call = refl
 
-verb_read : (xs : List Verb) (w : Name) (x : Verb) (us : List Token) (l : Left) → tokens_in l.placed ≡ Word w ∷ us → first_with xs w ≡ Some x → Read (verb_among xs) l (λ y. y ≡ x) us
+verb_read : (xs : List Verb) (w : Name) (x : Verb) (us : List Token) (l : Left) → tokens_in l.placed ≡ Word w ∷ us → first_with xs w ≡ Some x → Gets (verb_among xs l) l (λ y. y ≡ x) us
 verb_read [] w x us l e first = absurd cc
 verb_read (y ∷ ys) w x us l e first =
     elim (cases_Bool (bytes_eq w (verb_word y))) [

@@ -23,8 +23,8 @@ use Rattle.mls_tokens.specs.declared.token.Token.TheVariants.{Sign}
 use Rattle.mls_tokens.specs.declared.token.Placed.{Placed}
 use Rattle.mls_tokens.specs.declared.sign.Sign.TheVariants.{LeftParen, RightParen, Comma, Equals}
 use Rattle.mls_tokens.specs.Scanning.{Left, tokens_in}
-use Rattle.mls_tokens.specs.Passing.{left, is_sign, taken, pass, PlacedName}
-use Rattle.mls_tokens.proofs.NextLemmas.{Gets, next_is, took, NotNext, not_taken, pass_gets, name_gets}
+use Rattle.mls_tokens.specs.Passing.{left, is_sign, taken, pass}
+use Rattle.mls_tokens.proofs.NextLemmas.{Gets, gets_more, done, gets_done, next_is, NotNext, not_taken, took_sign, sign_gets, name_gets}
 use Rattle.mls_script.specs.declared.lists.Listed.{Listed}
 use Rattle.mls_script.specs.declared.lists.Setting.{Setting}
 use Rattle.mls_script.specs.Event.{Sets, SetsFit}
@@ -139,7 +139,7 @@ module _ {X A Y : Type 0} (item : Left → Result (X × Left) TokenFault) (push 
   items_read (z ∷ zs) zero acc l y us enough good all end e = absurd (omega arith)
   items_read (z ∷ zs) (suc n) acc l y us enough good all end e =
       let first = again y (flat_map (λ z. Sign Comma ∷ toks z) (z ∷ zs) ++ us) l good (e ∙ append_assoc (toks y) (flat_map (λ z. Sign Comma ∷ toks z) (z ∷ zs)) us) in
-      let comma = took (is_sign Comma) (Sign Comma) (separated toks (z ∷ zs) ++ us) first.rest refl first.tokens in
+      let comma = took_sign Comma (separated toks (z ∷ zs) ++ us) first.rest first.tokens in
       let more = items_read zs n (push acc first.value) comma.rest z us (omega arith) all.0 all.1 end comma.tokens in
       record {
         values = first.value ∷ more.values;
@@ -176,11 +176,11 @@ all_good (y ∷ ys) = (tt, all_good ys)
 
 behind_read : (vs : List (Option Value)) (us : List Token) (l : Left) → tokens_in l.placed ≡ separated (λ v. value_token v ∷ []) vs ++ Sign RightParen ∷ us → Gets (list_behind l (taken (is_sign RightParen) l)) l (λ x. x.values ≡ vs) us
 behind_read [] us l e =
-    let end = took (is_sign RightParen) (Sign RightParen) us l refl e in
+    let end = took_sign RightParen us l e in
     record { value = record none_listed { end = end.at }; rest = end.rest; is = ap (list_behind l) end.is; holds = refl; tokens = end.tokens; stop = end.stop }
 behind_read (v ∷ vs) us l e =
     let items = all_read pass_value push_value (λ v. value_token v ∷ []) (λ v x. x.0 ≡ v) (λ v. ⊤) (λ v us l good e. value_read v us l e) vs none_listed l v (Sign RightParen ∷ us) tt (all_good vs) refl e in
-    let end = pass_gets (is_sign RightParen) (Sign RightParen) us items.rest refl items.tokens in
+    let end = sign_gets RightParen us items.rest items.tokens in
     let listed = pushed push_value none_listed items.values in
     record {
       value = record listed { end = end.value };
@@ -196,17 +196,9 @@ behind_read (v ∷ vs) us l e =
 pub list_read : (vs : List (Option Value)) (us : List Token) (l : Left) → tokens_in l.placed ≡ list_tokens vs ++ us → Gets (pass_list l) l (λ x. x.values ≡ vs) us
 unfolding pass_list
 list_read vs us l e =
-    let first = pass_gets (is_sign LeftParen) (Sign LeftParen) (separated (λ v. value_token v ∷ []) vs ++ Sign RightParen ∷ us) l refl
-    (e ∙ ap (λ ts. Sign LeftParen ∷ ts) (append_assoc (separated (λ v. value_token v ∷ []) vs) (Sign RightParen ∷ []) us)) in
-    let more = behind_read vs us first.rest first.tokens in
-    record {
-      value = more.value;
-      rest = more.rest;
-      is = ap (λ r. r >>= λ (x : ℕ × Left). list_behind x.1 (taken (is_sign RightParen) x.1)) first.is ∙ more.is;
-      holds = more.holds;
-      tokens = more.tokens;
-      stop = more.stop ∙ first.stop;
-    }
+    gets_more (λ x. list_behind x.1 (taken (is_sign RightParen) x.1))
+    (sign_gets LeftParen (separated (λ v. value_token v ∷ []) vs ++ Sign RightParen ∷ us) l (e ∙ ap (λ ts. Sign LeftParen ∷ ts) (append_assoc (separated (λ v. value_token v ∷ []) vs) (Sign RightParen ∷ []) us)))
+    (λ x m h t. behind_read vs us m t)
 
 pub kinds_again : (attributes : List Attribute) (vs : List (Option Value)) (places : List ℕ) (end : ℕ) → HaveKinds attributes vs → misfit attributes vs places end ≡ None
 kinds_again [] [] places end h = refl
@@ -222,19 +214,11 @@ IsSetting scheme y s = (s.name ≡ (other_of scheme y.0).name) × (s.value ≡ y
 pub setting_read : (scheme : Scheme) (y : ℕ × Option Value) (us : List Token) (l : Left) → is_name (other_of scheme y.0).name ≡ true → tokens_in l.placed ≡ set_tokens scheme y ++ us → Gets (pass_setting l) l (IsSetting scheme y) us
 unfolding pass_setting
 setting_read scheme y us l named e =
-    let n = name_gets (other_of scheme y.0).name (Sign Equals ∷ value_token y.1 ∷ us) l named e in
-    let q = pass_gets (is_sign Equals) (Sign Equals) (value_token y.1 ∷ us) n.rest refl n.tokens in
-    let v = value_read y.1 us q.rest q.tokens in
-    record {
-      value = record { name = n.value.0; name_at = n.value.1; value = v.value.0; value_at = v.value.1 };
-      rest = v.rest;
-      is = ap (λ r. r >>= λ (n : PlacedName × Left). pass (is_sign Equals) n.1 >>= λ e. pass_value e.1 >>= λ v. Ok (record { name = n.0.0; name_at = n.0.1; value = v.0.0; value_at = v.0.1 }, v.1)) n.is
-          ∙ ap (λ r. r >>= λ (e : ℕ × Left). pass_value e.1 >>= λ v. Ok (record { name = n.value.0; name_at = n.value.1; value = v.0.0; value_at = v.0.1 }, v.1)) q.is
-          ∙ ap (λ r. r >>= λ (v : PlacedValue × Left). Ok (record { name = n.value.0; name_at = n.value.1; value = v.0.0; value_at = v.0.1 }, v.1)) v.is;
-      holds = (n.holds, v.holds);
-      tokens = v.tokens;
-      stop = v.stop ∙ q.stop ∙ n.stop;
-    }
+    gets_more (λ n. pass (is_sign Equals) n.1 >>= λ q. pass_value q.1 >>= λ v. done (record { name = n.0.0; name_at = n.0.1; value = v.0.0; value_at = v.0.1 }) v.1)
+    (name_gets (other_of scheme y.0).name (Sign Equals ∷ value_token y.1 ∷ us) l named e)
+    (λ n m same t. gets_more (λ q. pass_value q.1 >>= λ v. done (record { name = n.0; name_at = n.1; value = v.0.0; value_at = v.0.1 }) v.1) (sign_gets Equals (value_token y.1 ∷ us) m t)
+    (λ q m2 h t2. gets_more (λ v. done (record { name = n.0; name_at = n.1; value = v.0.0; value_at = v.0.1 }) v.1) (value_read y.1 us m2 t2)
+    (λ v m3 equal t3. gets_done (record { name = n.0; name_at = n.1; value = v.0; value_at = v.1 }) m3 (IsSetting scheme y) us (same, equal) t3)))
 
 flipped : (m n : ℕ) → nat_eq m n ≡ false → nat_eq n m ≡ false
 flipped m n h = nat_eq_equiv.symm n m ∙ h

@@ -84,7 +84,7 @@ not_first test (t ∷ ts) (p ∷ ps) stop off e = rw (ap test (next_is p ps t ts
 pub not_taken : (test : Token → Bool) (ts : List Token) (l : Left) → NotNext test ts → tokens_in l.placed ≡ ts → taken test l ≡ None
 not_taken test ts l off e = not_first test ts l.placed l.stop off e
 
-pub pass_gets : (test : Token → Bool) (t : Token) (us : List Token) (l : Left) → test t ≡ true → tokens_in l.placed ≡ t ∷ us → Gets (pass test l) l (λ _. ⊤) us
+pass_gets : (test : Token → Bool) (t : Token) (us : List Token) (l : Left) → test t ≡ true → tokens_in l.placed ≡ t ∷ us → Gets (pass test l) l (λ _. ⊤) us
 pass_gets test t us l on e =
     let h = took test t us l on e in
     record { value = h.at; rest = h.rest; is = ap (λ o. or_refused o l) h.is; holds = tt; tokens = h.tokens; stop = h.stop }

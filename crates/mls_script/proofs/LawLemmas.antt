@@ -7,6 +7,7 @@ use Rattle.std.proofs.lemmas.List.{append-nil}
 use Rattle.std.proofs.lemmas.List.Elements.{filter_map-append}
 use Rattle.mls_lattice.specs.Policy.{Tables}
 use Rattle.mls_lattice.specs.Reading.{◌>>=◌}
+use Rattle.mls_lattice.proofs.ReadingLemmas.{bind_ok}
 use Rattle.mls_scheme.specs.Scheme.{Schemes}
 use Rattle.mls_tokens.specs.declared.fault.TokenCause.{TokenCause}
 use Rattle.mls_tokens.specs.declared.fault.TokenCause.TheVariants as causes
@@ -16,6 +17,7 @@ use Rattle.mls_tokens.specs.declared.token.Placed.{Placed}
 use Rattle.mls_tokens.specs.Scanning.{Left, tokens_in, tokens_at}
 use Rattle.mls_tokens.specs.Passing.{is_word, taken, is_expected, over_with, is_over, pass_end}
 use Rattle.mls_tokens.proofs.TokensLemmas.{tokens_exact}
+use Rattle.mls_tokens.proofs.PassedLemmas.{same_ok, Passed, passed_more, word_taken}
 use Rattle.mls_script.specs.declared.event.Event.{Event}
 use Rattle.mls_script.specs.declared.fault.ScriptCause.TheVariants.{Unterminated}
 use Rattle.mls_script.specs.declared.fault.LineFault.{LineFault}
@@ -30,7 +32,6 @@ use Rattle.mls_script.specs.Tokens.{parts_tokens, event_tokens}
 use Rattle.mls_script.specs.Reading.{Looked, parts_at, verb_or, verb_among, command_at, sentence_at, told_at, form_of, event_in, line_at, in_script, lines_at, split_lines, script_at, IsRead}
 use Rattle.mls_script.specs.Script.{Line, Tells, IsLineOf, ReadsScript}
 use Rattle.mls_script.proofs.KindLemmas.{IsToken, all_tokens, list_kinds}
-use Rattle.mls_script.proofs.FoundLemmas.{bind_ok, same_ok, Passed, passed_more, taken_word}
 use Rattle.mls_script.proofs.PartLemmas.{upto, PartFits, PartsFound, parts_found, Rising}
 
 -- ---- verbs
@@ -44,7 +45,7 @@ verb_found (v ∷ vs) l x e = behind (taken (is_word (verb_word v)) l) refl e (v
     behind None is h more = more h
     behind (Some y) is h more =
         let done : Result (Verb × Left) TokenFault = Ok (v, y.1) in
-        subst (λ (z : Verb × Left). Passed (Word (verb_word z.0) ∷ []) l z.1) (same_ok done (v, y.1) x refl h) (taken_word (verb_word v) l y is)
+        subst (λ (z : Verb × Left). Passed (Word (verb_word z.0) ∷ []) l z.1) (same_ok done (v, y.1) x refl h) (word_taken (verb_word v) l y is)
 
 module _ (policy : Tables) (schemes : Schemes) where
   -- ---- an event

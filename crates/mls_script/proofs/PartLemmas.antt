@@ -13,6 +13,7 @@ use Rattle.std.proofs.lemmas.Slice.Eq.{bytes_eq-Decides}
 use Rattle.mls_lattice.specs.Name.{is_name}
 use Rattle.mls_lattice.specs.Policy.{Name, Tables}
 use Rattle.mls_lattice.specs.Reading.{◌>>=◌}
+use Rattle.mls_lattice.proofs.ReadingLemmas.{bind_ok}
 use Rattle.mls_scheme.specs.declared.value.Value.{Value}
 use Rattle.mls_scheme.specs.Value.{fits_kind}
 use Rattle.mls_scheme.specs.Scheme.{Attribute, Scheme, Schemes, scheme_of, no_scheme, no_attribute, other_of}
@@ -23,6 +24,7 @@ use Rattle.mls_tokens.specs.declared.token.Token.TheVariants.{Word, Sign}
 use Rattle.mls_tokens.specs.declared.sign.Sign.TheVariants.{Comma, Equals}
 use Rattle.mls_tokens.specs.Scanning.{Left}
 use Rattle.mls_tokens.specs.Passing.{is_word, pass, PlacedName, pass_name}
+use Rattle.mls_tokens.proofs.PassedLemmas.{same_ok, Passed, passed_none, passed_more, word_found, name_found}
 use Rattle.mls_script.specs.declared.fault.LineFault.{LineFault}
 use Rattle.mls_script.specs.declared.draft.Draft.{Draft}
 use Rattle.mls_script.specs.declared.grammar.Part.{Part}
@@ -33,7 +35,7 @@ use Rattle.mls_script.specs.Event.{Sets, SetsFit}
 use Rattle.mls_script.specs.Grammar.{part_word}
 use Rattle.mls_script.specs.Tokens.{no_label, label_name, relation_name, value_token, separated, list_tokens, set_tokens, word_tokens, said, part_tokens, parts_tokens}
 use Rattle.mls_script.specs.Reading.{Looked, known_or, label_named, relation_named, misfit, fit_or, held, place_at, new_or, kind_or, set_at, push_set, pass_setting, pass_sets, pass_list, put_label, put_name, put_values, attributes_of, with_label, with_name, with_relation, with_sets, with_values, with_arguments, label_at, name_at, relation_at, list_at, arguments_at, sets_at, content_at, pass_word, part_at, parts_at}
-use Rattle.mls_script.proofs.FoundLemmas.{bind_ok, same_ok, Passed, passed_none, passed_more, word_found, name_found, pushed, all_found, list_found, setting_tokens, setting_found}
+use Rattle.mls_script.proofs.FoundLemmas.{pushed, all_found, list_found, setting_tokens, setting_found}
 
 -- ---- names by number
 

@@ -16,6 +16,7 @@ use Rattle.mls_tokens.specs.declared.sign.Sign.TheVariants as sign
 use Rattle.mls_tokens.specs.Scanning.{Left, tokens_at, tokens_in}
 use Rattle.mls_tokens.specs.Passing.{is_word, is_sign, taken, PlacedName, is_expected, over_with, is_over}
 use Rattle.mls_tokens.proofs.TokensLemmas.{tokens_exact}
+use Rattle.mls_tokens.proofs.NextLemmas.{Gets, gets_more, done, gets_done, gets_is, NotNext, not_taken, took_word, took_sign}
 use Rattle.mls_translang.specs.Tokens.{separated, braced as braced_tokens, kind_token}
 use Rattle.mls_syntax.specs.declared.fault.SyntaxFault.{SyntaxFault}
 use Rattle.mls_syntax.specs.declared.transaction.Parameter.{Parameter}
@@ -31,7 +32,7 @@ use Rattle.mls_syntax.specs.ReadExpr.{sign_at, after_item}
 use Rattle.mls_syntax.specs.ReadBlock.{word_at, name_behind, body_at}
 use Rattle.mls_syntax.specs.Reading.{too_many, param_at, params_from, params_behind, params_at, var_at, or_var, vars_from, vars_at, interval_at, transaction_at, transactions_from, syntax_at}
 use Rattle.mls_syntax.specs.Spelling.{name_token, param_tokens, params_tokens, var_tokens, SpellsBlock, SpellsEach}
-use Rattle.mls_syntax.proofs.AgainLemmas.{Gets, gets_more, done, gets_done, gets_is, NotNext, not_taken, took_word, took_sign, sign_gets, word_gets, Called, name_gets, behind_gets, known_gets, IsWhole, IsSet}
+use Rattle.mls_syntax.proofs.AgainLemmas.{sign_gets, word_gets, Called, name_gets, behind_gets, known_gets, IsWhole, IsSet}
 use Rattle.mls_syntax.proofs.BlockAgain.{WritingIsGood, StmtIsGood, BlockIsGood, Closed, IsOther, block_begins, body_again}
 
 -- ---- parameters

@@ -1,5 +1,5 @@
 //! Policies and schemes: their faults, and their canonical texts.
-use case_tables::{Case, indent, joined, text_of, unfolded};
+use case_tables::{Case, indent, joined, push_line, text_of, unfolded};
 use mls_lattice::Policy;
 use mls_scheme::Schemes;
 use std::alloc::{AllocError, Global};
@@ -89,6 +89,7 @@ pub fn tell(
     case: &Case<'_>,
     out: &mut String,
 ) -> Result<(), AllocError> {
+    push_line(out, case.head)?;
     let text = joined(alloc, case.body)?;
     indent(out, &told(alloc, policy, case.head, &text)?)
 }

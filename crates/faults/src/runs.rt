@@ -1,5 +1,5 @@
 //! What a run leaves where a call of the base, or a write, fails.
-ghost use Rattle.std.specs.Prelude.{◌≡◌, false, length};
+ghost use Rattle.std.specs.Prelude.{◌≡◌, false, [], length};
 ghost use Rattle.std.specs.List.{AllByRecursion};
 ghost use Rattle.mls_scheme.specs.Scheme.{AreUnder};
 ghost use Rattle.mls_script.specs.Event.{EventFits};
@@ -9,10 +9,10 @@ ghost use Rattle.mls_sessions.specs.World.{site_under, IsSound};
 use crate::faulty::Faulty;
 use crate::narrow::Narrow;
 use mls_filterview::Base;
-use mls_lattice::Policy;
+use mls_lattice::{Items, Policy};
 use mls_scheme::Schemes;
 use mls_script::Event;
-use mls_sessions::{Engine, RunFault, run};
+use mls_sessions::{Engine, RunFault, Stored, run};
 use mls_updates::ListBase;
 use std::alloc::{AllocError, Global};
 
@@ -59,6 +59,12 @@ pub struct Scripts<'a> {
     pub questions: &'a [Event],
 }
 
+fn none_stored(alloc: Global) -> Items<Stored>
+    ensures { result ≡ [] }
+{
+    Items::from(Vec::new(alloc))
+}
+
 /// Runs events over a base.
 fn run_over<B: Base>(
     alloc: Global,
@@ -75,7 +81,7 @@ fn run_over<B: Base>(
     ensures idle { (B.state result.1).begun ≡ false }
     ensures sound { B.is_clean result.1 → IsSound (site_under policy.now schemes.now) (B.state result.1).now }
 {
-    let mut engine = Engine::new(alloc, base, policy, schemes);
+    let mut engine = Engine::new(alloc, base, policy, schemes, none_stored(alloc));
     let end = run(&mut engine, events, out);
     (end, engine.finish())
 }

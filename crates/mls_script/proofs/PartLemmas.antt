@@ -5,6 +5,7 @@ use Rattle.std.specs.Cmp.{nat_eq_equiv}
 use Rattle.std.specs.List.{flat_map, AllByRecursion, IsDistinct, list_any, position, slice_get}
 use Rattle.std.specs.Str.{bytes_eq}
 use Rattle.std.proofs.lemmas.Bool.{cases_Bool, ltb-true, lt-ltb}
+use Rattle.std.proofs.SliceLists.{all_by_recursion_push}
 use Rattle.std.proofs.lemmas.List.{append-nil, map-append}
 use Rattle.std.proofs.lemmas.List.Quantifiers.{position-Some}
 use Rattle.std.proofs.lemmas.Map.Keys.{IsDistinct-push}
@@ -93,10 +94,6 @@ set_none : (scheme : Scheme) → AreSet scheme []
 unfolding IsDistinct
 set_none scheme = record { known = tt; distinct = tt; kinds = tt }
 
-all_more : {A : Type 0} (P : A → Type 0) (xs : List A) (x : A) → AllByRecursion P xs → P x → AllByRecursion P (xs ++ x ∷ [])
-all_more P [] x h p = (p, tt)
-all_more P (y ∷ ys) x h p = (h.0, all_more P ys x h.1 p)
-
 record SetFound (scheme : Scheme) (sets : Sets) (s : Setting) (x : ℕ × Option Value) : Type 0 where
   name : (other_of scheme x.0).name ≡ s.name
   value : x.1 ≡ s.value
@@ -137,9 +134,9 @@ set_found scheme sets s x e =
 
 set_more : (scheme : Scheme) (sets : Sets) (s : Setting) (x : ℕ × Option Value) → SetFound scheme sets s x → AreSet scheme sets → AreSet scheme (sets ++ x ∷ [])
 set_more scheme sets s x f h = record {
-  known = all_more (λ y. y.0 < length scheme.others) sets x h.known f.known;
+  known = all_by_recursion_push (λ y. y.0 < length scheme.others) sets x h.known f.known;
   distinct = subst (IsDistinct nat_eq) (sym (map-append (λ y. y.0) sets (x ∷ []))) (IsDistinct-push nat_eq_equiv (map (λ y. y.0) sets) x.0 h.distinct f.new);
-  kinds = all_more (λ y. fits_kind y.1 (other_of scheme y.0).kind ≡ true) sets x h.kinds f.kind;
+  kinds = all_by_recursion_push (λ y. fits_kind y.1 (other_of scheme y.0).kind ≡ true) sets x h.kinds f.kind;
 }
 
 set_said : (scheme : Scheme) (sets : Sets) (s : Setting) (x : ℕ × Option Value) → SetFound scheme sets s x → setting_tokens s ≡ set_tokens scheme x

@@ -6,6 +6,8 @@ use Rattle.std.specs.List.{flat_map, AllByRecursion, AllZip, IsDistinct, list_an
 use Rattle.std.specs.Str.{bytes_eq}
 use Rattle.std.proofs.lemmas.Bool.{lt-ltb}
 use Rattle.std.proofs.lemmas.List.{append-nil, map-append, get_or-map, length-map}
+use Rattle.std.proofs.Recursive.{every_back}
+use Rattle.std.proofs.lemmas.List.Elements.{All-from_recursion}
 use Rattle.std.proofs.lemmas.List.Sums.{position_or_len_is}
 use Rattle.std.proofs.lemmas.Map.Keys.{apart_from_distinct, IsDistinct-head, IsDistinct-tail}
 use Rattle.std.proofs.lemmas.Slice.Eq.{bytes_eq-Decides}
@@ -52,15 +54,6 @@ distinct_behind : (xs ys : List Name) → IsDistinct bytes_eq (xs ++ ys) → IsD
 distinct_behind [] ys h = h
 distinct_behind (x ∷ xs) ys h = distinct_behind xs ys (IsDistinct-tail bytes_eq x (xs ++ ys) h)
 
-all_at : {A : Type 0} (P : A → Type 0) (xs : List A) (n : ℕ) (d : A) → AllByRecursion P xs → n < length xs → P (get_or xs n d)
-all_at P [] n d h within = absurd (omega arith)
-all_at P (x ∷ xs) zero d h within = h.0
-all_at P (x ∷ xs) (suc n) d h within = all_at P xs n d h.1 (omega arith)
-
-all_behind : {A : Type 0} (P : A → Type 0) (xs ys : List A) → AllByRecursion P (xs ++ ys) → AllByRecursion P ys
-all_behind P [] ys h = h
-all_behind P (x ∷ xs) ys h = all_behind P xs ys h.1
-
 pub label_again : (policy : Tables) → IsPolicy policy → (n at : ℕ) → n < length policy.labels → label_named policy (label_name policy n, at) ≡ Ok n
 label_again policy valid n at within = ap (known_or at) (position_again (λ (l : Named). l.name) policy.labels no_label valid.names n within)
 
@@ -75,19 +68,19 @@ other_again scheme valid n within =
 pub label_is_name : (policy : Tables) → IsPolicy policy → (n : ℕ) → n < length policy.labels → is_name (label_name policy n) ≡ true
 label_is_name policy valid n within =
     subst (λ (x : Name). is_name x ≡ true) (get_or-map (λ (l : Named). l.name) policy.labels n no_label [] within)
-    (all_at (λ (x : Name). is_name x ≡ true) (map (λ l. l.name) policy.labels) n [] valid.label_names (omega (arith, length-map policy.labels (λ (l : Named). l.name))))
+    (All-from_recursion (λ (x : Name). is_name x ≡ true) (map (λ l. l.name) policy.labels) valid.label_names n [] (omega (arith, length-map policy.labels (λ (l : Named). l.name))))
 
 pub scheme_valid : (schemes : Schemes) → AreSchemes schemes → (n : ℕ) → n < length schemes → IsScheme (scheme_of schemes n)
-scheme_valid schemes valid n within = all_at IsScheme schemes n no_scheme valid.each within
+scheme_valid schemes valid n within = All-from_recursion IsScheme schemes valid.each n no_scheme within
 
 pub relation_is_name : (schemes : Schemes) → AreSchemes schemes → (n : ℕ) → n < length schemes → is_name (relation_name schemes n) ≡ true
 relation_is_name schemes valid n within = (scheme_valid schemes valid n within).named
 
 other_is_name : (scheme : Scheme) → IsScheme scheme → (n : ℕ) → n < length scheme.others → is_name (other_of scheme n).name ≡ true
 other_is_name scheme valid n within =
-    let names = all_behind (λ (x : Name). is_name x ≡ true) (map (λ a. a.name) scheme.keys) (map (λ a. a.name) scheme.others) (subst AreNames (map-append (λ a. a.name) scheme.keys scheme.others) valid.names) in
+    let names = every_back (λ (x : Name). is_name x ≡ true) _ (map (λ a. a.name) scheme.keys) (map (λ a. a.name) scheme.others) (subst AreNames (map-append (λ a. a.name) scheme.keys scheme.others) valid.names) refl in
     subst (λ (x : Name). is_name x ≡ true) (get_or-map (λ (a : Attribute). a.name) scheme.others n no_attribute [] within)
-    (all_at (λ (x : Name). is_name x ≡ true) (map (λ a. a.name) scheme.others) n [] names (omega (arith, length-map scheme.others (λ (a : Attribute). a.name))))
+    (All-from_recursion (λ (x : Name). is_name x ≡ true) (map (λ a. a.name) scheme.others) names n [] (omega (arith, length-map scheme.others (λ (a : Attribute). a.name))))
 
 -- ---- values
 
@@ -226,7 +219,7 @@ flipped m n h = nat_eq_equiv.symm n m ∙ h
 fresh : (ms ns : List ℕ) (n : ℕ) → IsDistinct nat_eq (ms ++ n ∷ ns) → list_any (nat_eq n) ms ≡ false
 fresh [] ns n h = refl
 fresh (m ∷ ms) ns n h =
-    let apart = all_behind (λ y. nat_eq m y ≡ false) ms (n ∷ ns) (IsDistinct-head nat_eq m (ms ++ n ∷ ns) h) in
+    let apart = every_back (λ y. nat_eq m y ≡ false) _ ms (n ∷ ns) (IsDistinct-head nat_eq m (ms ++ n ∷ ns) h) refl in
     rw (flipped m n apart.0) (fresh ms ns n (IsDistinct-tail nat_eq m (ms ++ n ∷ ns) h))
 
 set_again : (scheme : Scheme) → IsScheme scheme → (front : Sets) (y : ℕ × Option Value) (s : Setting) → IsSetting scheme y s → y.0 < length scheme.others → list_any (nat_eq y.0) (map (λ x. x.0) front) ≡ false

@@ -9,15 +9,13 @@ use Rattle.mls_lattice.specs.Policy.{Tables}
 use Rattle.mls_lattice.specs.Reading.{◌>>=◌}
 use Rattle.mls_lattice.proofs.ReadingLemmas.{bind_ok}
 use Rattle.mls_scheme.specs.Scheme.{Schemes}
-use Rattle.mls_tokens.specs.declared.fault.TokenCause.{TokenCause}
 use Rattle.mls_tokens.specs.declared.fault.TokenCause.TheVariants as causes
 use Rattle.mls_tokens.specs.declared.fault.TokenFault.{TokenFault}
 use Rattle.mls_tokens.specs.declared.token.Token.TheVariants.{Word}
-use Rattle.mls_tokens.specs.declared.token.Placed.{Placed}
 use Rattle.mls_tokens.specs.Scanning.{Left, tokens_in, tokens_at}
-use Rattle.mls_tokens.specs.Passing.{is_word, taken, is_expected, over_with, is_over, pass_end}
+use Rattle.mls_tokens.specs.Passing.{is_word, taken, is_over, pass_end}
 use Rattle.mls_tokens.proofs.TokensLemmas.{tokens_exact}
-use Rattle.mls_tokens.proofs.PassedLemmas.{same_ok, Passed, passed_more, word_taken}
+use Rattle.mls_tokens.proofs.PassedLemmas.{same_ok, Passed, passed_more, word_taken, over_is}
 use Rattle.mls_script.specs.declared.event.Event.{Event}
 use Rattle.mls_script.specs.declared.fault.ScriptCause.TheVariants.{Unterminated}
 use Rattle.mls_script.specs.declared.fault.LineFault.{LineFault}
@@ -117,16 +115,6 @@ module _ (policy : Tables) (schemes : Schemes) where
             (subst (λ ts. Passed ts l m) (front_tokens more.front d more.kept) first.passed)
             (passed_more (Word (verb_word v) ∷ []) (parts_tokens policy schemes d (parts_of v)) m n r word more.passed));
       }
-
-  over_is : (ps : List Placed) (stop : TokenFault) → over_with ps stop ≡ true → (tokens_in ps ≡ []) × (stop.cause ≡ causes.Expected)
-  over_is [] stop h = (refl, expected stop.cause h)
-    where
-      expected : (c : TokenCause) → is_expected c ≡ true → c ≡ causes.Expected
-      expected causes.Token h = absurd cc
-      expected causes.Expected h = refl
-      expected causes.TooLong h = absurd cc
-      expected causes.Memory h = absurd cc
-  over_is (p ∷ ps) stop h = absurd cc
 
   end_found : (l : Left) (u : Unit {0}) → pass_end l ≡ Ok u → is_over l ≡ true
   end_found l u e =
@@ -239,7 +227,7 @@ split_found (b ∷ bs) front h =
 
 -- ---- all lines
 
-listed : (o : Option Event) (text : List ℕ) → option_to_list o ≡ filter_map (λ (x : Line). x.event) (record { text = text; event = o } ∷ [])
+pub listed : (o : Option Event) (text : List ℕ) → option_to_list o ≡ filter_map (λ (x : Line). x.event) (record { text = text; event = o } ∷ [])
 listed None text = refl
 listed (Some e) text = refl
 

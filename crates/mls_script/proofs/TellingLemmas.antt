@@ -17,12 +17,11 @@ use Rattle.mls_tokens.specs.declared.fault.TokenCause.TheVariants as causes
 use Rattle.mls_tokens.specs.declared.fault.TokenFault.{TokenFault}
 use Rattle.mls_tokens.specs.declared.token.Token.{Token}
 use Rattle.mls_tokens.specs.declared.token.Token.TheVariants.{Word}
-use Rattle.mls_tokens.specs.declared.token.Placed.{Placed}
 use Rattle.mls_tokens.specs.declared.sign.Sign.TheVariants.{Comma}
 use Rattle.mls_tokens.specs.Scanning.{Left, tokens_in, tokens_at}
-use Rattle.mls_tokens.specs.Passing.{is_word, is_sign, is_expected, over_with, is_over, pass_end}
+use Rattle.mls_tokens.specs.Passing.{is_word, is_sign, is_over, pass_end}
 use Rattle.mls_tokens.proofs.TokensLemmas.{tokens_exact}
-use Rattle.mls_tokens.proofs.NextLemmas.{Gets, gets_more, done, gets_done, gets_is, took, NotNext, not_taken, word_gets, name_gets}
+use Rattle.mls_tokens.proofs.NextLemmas.{Gets, gets_more, done, gets_done, gets_is, took, NotNext, not_taken, word_gets, name_gets, over_again, not_over}
 use Rattle.mls_script.specs.declared.event.Event.{Event}
 use Rattle.mls_script.specs.declared.event.Command.{Command}
 use Rattle.mls_script.specs.declared.event.Command.TheVariants as commands
@@ -42,6 +41,7 @@ use Rattle.mls_script.specs.Reading.{Looked, label_named, relation_named, pass_s
 use Rattle.mls_script.specs.Script.{Line, Tells, IsLineOf, ReadsScript, ScriptsAreOnce}
 use Rattle.mls_script.proofs.ScriptSteps.{split_ended}
 use Rattle.mls_script.proofs.PartLemmas.{PartFits}
+use Rattle.mls_script.proofs.LawLemmas.{listed}
 use Rattle.mls_script.proofs.AgainLemmas.{label_again, relation_again, scheme_valid, label_is_name, relation_is_name, list_read, kinds_again, sets_read}
 
 -- ---- what a part puts into a draft
@@ -253,14 +253,6 @@ event_again level session (commands.Update rel key key_class from sets) = refl
 event_again level session (commands.Delete rel key key_class) = refl
 event_again level session (commands.Call tx args) = refl
 
-over_again : (ps : List Placed) (stop : TokenFault) → tokens_in ps ≡ [] → stop.cause ≡ causes.Expected → over_with ps stop ≡ true
-over_again [] stop none is = ap is_expected is
-over_again (p ∷ ps) stop none is = absurd cc
-
-not_over : (ps : List Placed) (stop : TokenFault) (t : Token) (ts : List Token) → tokens_in ps ≡ t ∷ ts → over_with ps stop ≡ false
-not_over [] stop t ts e = absurd cc
-not_over (p ∷ ps) stop t ts e = refl
-
 module _ (policy : Tables) (schemes : Schemes) where
   front_same : (level : ℕ) (session : Name) (c : Command) → parts_tokens policy schemes (draft_of (begun level session) c) (Level ∷ Session ∷ []) ≡ Word (label_name policy level) ∷ Word session ∷ []
   front_same level session (commands.Open user) = refl
@@ -335,10 +327,6 @@ module _ (policy : Tables) (schemes : Schemes) where
     abbrev fed : Line → List ℕ
     fed line = line.text ++ 10 ∷ []
 
-    events_of : (o : Option Event) (text : List ℕ) → option_to_list o ≡ filter_map (λ (x : Line). x.event) (record { text = text; event = o } ∷ [])
-    events_of None text = refl
-    events_of (Some e) text = refl
-
     lines_again : (lines : List Line) (number : ℕ) (events : List Event) → AllByRecursion (IsLineOf policy schemes) lines
         → lines_at policy schemes number events (split_lines [] (flat_map fed lines)) ≡ Ok (events ++ filter_map (λ (x : Line). x.event) lines)
     lines_again [] number events h = ap (λ (x : List Event). Ok x) (sym (append-nil events))
@@ -349,7 +337,7 @@ module _ (policy : Tables) (schemes : Schemes) where
         ∙ ap (λ r. in_script number r >>= λ e. lines_at policy schemes (number + 1) (events ++ option_to_list e) (split_lines [] (flat_map fed lines))) (line_again line.text line.event h.0.tells)
         ∙ lines_again lines (number + 1) (events ++ option_to_list line.event) h.1
         ∙ ap (λ (x : List Event). Ok x) (append_assoc events (option_to_list line.event) (filter_map (λ (x : Line). x.event) lines)
-        ∙ ap (λ x. events ++ x) (ap (λ x. x ++ filter_map (λ (y : Line). y.event) lines) (events_of line.event line.text) ∙ sym (filter_map-append (λ (y : Line). y.event) (line ∷ []) lines)))
+        ∙ ap (λ x. events ++ x) (ap (λ x. x ++ filter_map (λ (y : Line). y.event) lines) (listed line.event line.text) ∙ sym (filter_map-append (λ (y : Line). y.event) (line ∷ []) lines)))
 
     pub script_again : (bytes : List ℕ) (es : List Event) → ReadsScript policy schemes bytes es → script_at policy schemes bytes ≡ Ok es
     unfolding script_at

@@ -1,9 +1,9 @@
 -- What stands there is read: expressions and lists.
-use Rattle.std.proofs.Common.{◌≡◌, ℕ, zero, suc, ◌<◌, ◌≤◌, Bool, true, false, List, [], ◌∷◌, ◌++◌, length, map, Option, Some, None, Result, Ok, inl, inr, refl, sym, ap, ◌∙◌, subst, arith, append_assoc, length-append}
-use Rattle.std.specs.Prelude.{codes, not, ⊤}
+use Rattle.std.proofs.Common.{◌≡◌, ℕ, zero, suc, ◌<◌, ◌≤◌, true, false, List, [], ◌∷◌, ◌++◌, length, map, Option, Some, None, Result, Ok, inl, inr, refl, sym, ap, ◌∙◌, subst, arith, append_assoc, length-append}
+use Rattle.std.specs.Prelude.{codes, ⊤}
 use Rattle.std.specs.List.{AllByRecursion, flat_map}
 use Rattle.std.specs.Str.{bytes_eq}
-use Rattle.std.proofs.lemmas.Bool.{cases_Bool, and_parts}
+use Rattle.std.proofs.lemmas.Bool.{cases_Bool, and_parts, not-true}
 use Rattle.std.proofs.lemmas.List.{append-nil, length-map}
 use Rattle.std.proofs.lemmas.Slice.Eq.{bytes_eq-Decides}
 use Rattle.mls_lattice.specs.Name.{is_name, is_reserved}
@@ -102,13 +102,9 @@ module _ (v : Head) (t : Token) (us : List Token) (found : head_of t ≡ Some v)
 
 -- ---- names are no reserved words
 
-not_true : (b : Bool) → not b ≡ true → b ≡ false
-not_true true e = absurd cc
-not_true false e = refl
-
 pub not_reserved : (s : Bytes) → is_name s ≡ true → is_reserved s ≡ false
 unfolding is_name
-not_reserved s h = not_true (is_reserved s) (and_parts _ _ h).1
+not_reserved s h = not-true (is_reserved s) (and_parts _ _ h).1
 
 pub differs : (w s : Bytes) → is_reserved w ≡ true → is_name s ≡ true → bytes_eq s w ≡ false
 differs w s word named =

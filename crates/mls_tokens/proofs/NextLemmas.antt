@@ -5,6 +5,7 @@ use Rattle.std.specs.Str.{bytes_eq}
 use Rattle.std.proofs.lemmas.Slice.Eq.{bytes_eq-Decides}
 use Rattle.mls_lattice.specs.Name.{is_name}
 use Rattle.mls_lattice.specs.Reading.{◌>>=◌}
+use Rattle.mls_tokens.specs.declared.fault.TokenCause.TheVariants as causes
 use Rattle.mls_tokens.specs.declared.fault.TokenFault.{TokenFault}
 use Rattle.mls_tokens.specs.declared.token.Token.{Token}
 use Rattle.mls_tokens.specs.declared.token.Token.TheVariants.{Word, Sign as Sign_token}
@@ -12,7 +13,7 @@ use Rattle.mls_tokens.specs.declared.token.Placed.{Placed}
 use Rattle.mls_tokens.specs.declared.sign.Sign.{Sign}
 use Rattle.mls_tokens.specs.Sign.{sign_text}
 use Rattle.mls_tokens.specs.Scanning.{Left, tokens_in}
-use Rattle.mls_tokens.specs.Passing.{left, is_word, is_sign, take_first, taken, or_refused, pass, name_in, named_first, pass_name}
+use Rattle.mls_tokens.specs.Passing.{left, is_word, is_sign, take_first, taken, or_refused, pass, name_in, named_first, pass_name, is_expected, over_with}
 
 -- ---- steps
 
@@ -116,3 +117,13 @@ name_first s us (p ∷ ps) stop named e =
 
 pub name_gets : (s : List ℕ) (us : List Token) (l : Left) → is_name s ≡ true → tokens_in l.placed ≡ Word s ∷ us → Gets (pass_name l) l (λ x. x.0 ≡ s) us
 name_gets s us l named e = name_first s us l.placed l.stop named e
+
+-- ---- the end
+
+pub over_again : (ps : List Placed) (stop : TokenFault) → tokens_in ps ≡ [] → stop.cause ≡ causes.Expected → over_with ps stop ≡ true
+over_again [] stop e h = ap is_expected h
+over_again (p ∷ ps) stop e h = absurd cc
+
+pub not_over : (ps : List Placed) (stop : TokenFault) (t : Token) (ts : List Token) → tokens_in ps ≡ t ∷ ts → over_with ps stop ≡ false
+not_over [] stop t ts e = absurd cc
+not_over (p ∷ ps) stop t ts e = refl

@@ -4,6 +4,8 @@ use Rattle.std.proofs.lemmas.Bool.{cases_Bool}
 use Rattle.std.proofs.lemmas.List.{length-map}
 use Rattle.std.proofs.lemmas.Slice.Eq.{bytes_eq-Decides}
 use Rattle.mls_lattice.specs.Name.{is_name}
+use Rattle.mls_tokens.specs.declared.fault.TokenCause.{TokenCause}
+use Rattle.mls_tokens.specs.declared.fault.TokenCause.TheVariants as causes
 use Rattle.mls_tokens.specs.declared.fault.TokenFault.{TokenFault}
 use Rattle.mls_tokens.specs.declared.token.Token.{Token}
 use Rattle.mls_tokens.specs.declared.token.Token.TheVariants.{Word, Int, Text, Sign as Sign_token}
@@ -12,7 +14,7 @@ use Rattle.mls_tokens.specs.declared.sign.Sign.{Sign}
 use Rattle.mls_tokens.specs.declared.sign.Sign.TheVariants.{Becomes, Differs, AtMost, AtLeast, LeftParen, RightParen, LeftBrace, RightBrace, Comma, Semicolon, Colon, Dot, Equals, Less, Greater, Plus, Minus, Times}
 use Rattle.mls_tokens.specs.Sign.{sign_text, sign_goes_on, sign_at}
 use Rattle.mls_tokens.specs.Scanning.{Left, tokens_in}
-use Rattle.mls_tokens.specs.Passing.{left, is_word, is_sign, take_first, taken, or_refused, pass, PlacedName, name_in, named_first, pass_name_of, pass_name}
+use Rattle.mls_tokens.specs.Passing.{left, is_word, is_sign, take_first, taken, or_refused, pass, PlacedName, name_in, named_first, pass_name_of, pass_name, is_expected, over_with}
 use Rattle.mls_tokens.proofs.SignLemmas.{sign_again}
 
 -- one answer is one value
@@ -154,3 +156,15 @@ name_of_found (p ∷ ps) stop x e = name_first p.token ps stop p.at (name_in p.t
 
 pub name_found : (l : Left) (x : PlacedName × Left) → pass_name l ≡ Ok x → NameFound alone l x
 name_found l x e = name_of_found l.placed l.stop x e
+
+-- ---- the end
+
+expected_is : (c : TokenCause) → is_expected c ≡ true → c ≡ causes.Expected
+expected_is causes.Token e = absurd cc
+expected_is causes.Expected e = refl
+expected_is causes.TooLong e = absurd cc
+expected_is causes.Memory e = absurd cc
+
+pub over_is : (ps : List Placed) (stop : TokenFault) → over_with ps stop ≡ true → (tokens_in ps ≡ []) × (stop.cause ≡ causes.Expected)
+over_is [] stop e = (refl, expected_is stop.cause e)
+over_is (p ∷ ps) stop e = absurd cc

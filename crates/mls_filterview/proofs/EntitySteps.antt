@@ -1,7 +1,7 @@
 -- The tests of elements, as they are computed.
 use Rattle.std.proofs.Common.{◌≡◌, ℕ, zero, suc, ◌<◌, ◌≤◌, ◌+◌, Bool, true, false, not, ◌&&◌, ◌||◌, List, [], ◌∷◌, length, get_or, drop, refl, sym, ap, ◌∙◌, arith}
 use Rattle.std.specs.Prelude.{◌↔◌}
-use Rattle.std.proofs.lemmas.Bool.{false_from_ne_true, false≢true}
+use Rattle.std.proofs.lemmas.Bool.{false_from_ne_true, false≢true, or_right}
 use Rattle.mls_lattice.specs.Labels.{Labels, below}
 use Rattle.mls_scheme.specs.declared.tuple.Element.{Element}
 use Rattle.mls_filterview.specs.Subsumption.{same_element}
@@ -59,11 +59,7 @@ module _ (ls : Labels) (m : ℕ) where
 
   pub has : (es fs : List Element) (i : ℕ) (e : Element) → i < length es → e ≡ get_or es i e → has_at e (drop i fs) ≡ true
       → has_below ls m (drop i es) (drop i fs) ≡ has_below ls m es fs → has_below ls m (drop (i + 1) es) (drop (i + 1) fs) ≡ has_below ls m es fs
-  has es fs i e l q h all = next es fs i e l q (ap (λ x. not (below ls e.class m) || x) h ∙ or_true (not (below ls e.class m))) all
-    where
-      or_true : (b : Bool) → (b || true) ≡ true
-      or_true true = refl
-      or_true false = refl
+  has es fs i e l q h all = next es fs i e l q (or_right (not (below ls e.class m)) _ h) all
 
 pub ruleset element_steps = (has_at-none)
 

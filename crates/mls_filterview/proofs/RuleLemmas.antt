@@ -2,7 +2,7 @@
 use Rattle.std.proofs.Common.{◌≡◌, ℕ, zero, suc, ◌<◌, Bool, true, false, not, ◌&&◌, ◌||◌, cond, List, [], ◌∷◌, length, take, Option, Some, None, refl, sym, ap, ◌∙◌, subst, arith, inl, inr}
 use Rattle.std.specs.Prelude.{◌⊎◌, is_some, nat_eq, slice_index_or}
 use Rattle.std.specs.List.{list_all, list_any, AllZip}
-use Rattle.std.proofs.lemmas.Bool.{true≢false, false≢true, and_parts, and_from, or_cases, cases_Bool, not-true, not_from_false, eqb-true, eq-eqb, false_from_ne_true}
+use Rattle.std.proofs.lemmas.Bool.{true≢false, false≢true, and_parts, and_from, or_cases, cases_Bool, not-true, not_from_false, eqb-true, eq-eqb, false_from_ne_true, or_right}
 use Rattle.std.proofs.lemmas.Option.{same_Some, none-some}
 use Rattle.mls_lattice.specs.Lattice.{same_pair}
 use Rattle.mls_lattice.specs.Labels.{Labels, label_of, below}
@@ -233,11 +233,7 @@ module _ (ls : Labels) where
 
     comparable-from : (a b : ℕ) → ((below ls a b ≡ true) ⊎ (below ls b a ≡ true)) → is_comparable ls a b ≡ true
     comparable-from a b (inl h) = ap (λ x. x || below ls b a) h
-    comparable-from a b (inr h) = ap (λ x. below ls a b || x) h ∙ or_true (below ls a b)
-      where
-        or_true : (b : Bool) → (b || true) ≡ true
-        or_true true = refl
-        or_true false = refl
+    comparable-from a b (inr h) = or_right (below ls a b) _ h
 
     closed-from : IsClosed ls ts t → (is_chain ls t && has_each_class ls ts t) ≡ true
     closed-from c =

@@ -1,9 +1,10 @@
 -- The syntax tree that is written for a statement has no fault and stands for it.
-use Rattle.std.proofs.Common.{◌≡◌, ℕ, ◌<◌, Bool, true, false, not, ◌&&◌, ◌||◌, ◌==◌, nat_eq, List, [], ◌∷◌, ◌++◌, length, map, Option, Some, None, option_map, refl, sym, ap, subst, ◌∙◌, append_assoc}
-use Rattle.std.specs.Prelude.{option_to_list}
+use Rattle.std.proofs.Common.{◌≡◌, ℕ, ◌+◌, ◌<◌, ◌≤◌, Bool, true, false, not, ◌&&◌, ◌||◌, ◌==◌, nat_eq, List, [], ◌∷◌, ◌++◌, length, map, Option, Some, None, option_map, refl, sym, ap, subst, ◌∙◌, append_assoc, arith}
+use Rattle.std.specs.Prelude.{is_some, option_to_list}
 use Rattle.std.specs.Option.{IfSome}
 use Rattle.std.specs.List.{AllByRecursion, IsDistinct, list_any}
 use Rattle.std.specs.Cmp.{nat_eq_equiv}
+use Rattle.std.proofs.lemmas.Bool.{and_from, or_right}
 use Rattle.std.proofs.lemmas.List.{length-map}
 use Rattle.mls_lattice.specs.Labels.{below}
 use Rattle.mls_lattice.specs.Policy.{Name, labels_of}
@@ -68,16 +69,9 @@ literal_agrees (values.Int n) kinds.Text e = absurd cc
 literal_agrees (values.Text s) kinds.Int e = absurd cc
 literal_agrees (values.Text s) kinds.Text e = refl
 
-and_true : (a b : Bool) → a ≡ true → b ≡ true → (a && b) ≡ true
-and_true a b p q = λ i. p i && q i
-
-or_right : (a : Bool) → (a || true) ≡ true
-or_right true = refl
-or_right false = refl
-
 some_kind : (k : Kind) (a b : Inferred) → both k a b ≡ true → (both kinds.Int a b || both kinds.Text a b) ≡ true
 some_kind kinds.Int a b e = ap (λ x. x || both kinds.Text a b) e
-some_kind kinds.Text a b e = ap (λ x. both kinds.Int a b || x) e ∙ or_right (both kinds.Int a b)
+some_kind kinds.Text a b e = or_right (both kinds.Int a b) _ e
 
 -- the operands of an operator have a sort, with which it fits
 pub record FitsOperator (op : Operator) (t : Sort) (operands : Sort → Type 0) : Type 0 where
@@ -87,17 +81,17 @@ pub record FitsOperator (op : Operator) (t : Sort) (operands : Sort → Type 0) 
   pub gives : Agrees t (given_by op)
 
 operator_fits : (op : Operator) (t : Sort) (operands : Sort → Type 0) → OperatorGives op t operands → FitsOperator op t operands
-operator_fits operators.Plus t operands h = record { sort = Of kinds.Int; holds = h.1; fit = λ a b p q. and_true (may_be a kinds.Int) (may_be b kinds.Int) p q; gives = subst (λ s. Agrees s (given_by operators.Plus)) (sym h.0) refl }
-operator_fits operators.Minus t operands h = record { sort = Of kinds.Int; holds = h.1; fit = λ a b p q. and_true (may_be a kinds.Int) (may_be b kinds.Int) p q; gives = subst (λ s. Agrees s (given_by operators.Minus)) (sym h.0) refl }
-operator_fits operators.Times t operands h = record { sort = Of kinds.Int; holds = h.1; fit = λ a b p q. and_true (may_be a kinds.Int) (may_be b kinds.Int) p q; gives = subst (λ s. Agrees s (given_by operators.Times)) (sym h.0) refl }
-operator_fits operators.And t operands h = record { sort = Truth; holds = h.1; fit = λ a b p q. and_true (may_be_truth a) (may_be_truth b) p q; gives = subst (λ s. Agrees s (given_by operators.And)) (sym h.0) refl }
-operator_fits operators.Or t operands h = record { sort = Truth; holds = h.1; fit = λ a b p q. and_true (may_be_truth a) (may_be_truth b) p q; gives = subst (λ s. Agrees s (given_by operators.Or)) (sym h.0) refl }
-operator_fits operators.Equal t operands h = record { sort = Of h.1.0; holds = h.1.1; fit = λ a b p q. some_kind h.1.0 a b (and_true (may_be a h.1.0) (may_be b h.1.0) p q); gives = subst (λ s. Agrees s (given_by operators.Equal)) (sym h.0) refl }
-operator_fits operators.Unequal t operands h = record { sort = Of h.1.0; holds = h.1.1; fit = λ a b p q. some_kind h.1.0 a b (and_true (may_be a h.1.0) (may_be b h.1.0) p q); gives = subst (λ s. Agrees s (given_by operators.Unequal)) (sym h.0) refl }
-operator_fits operators.Less t operands h = record { sort = Of h.1.0; holds = h.1.1; fit = λ a b p q. some_kind h.1.0 a b (and_true (may_be a h.1.0) (may_be b h.1.0) p q); gives = subst (λ s. Agrees s (given_by operators.Less)) (sym h.0) refl }
-operator_fits operators.AtMost t operands h = record { sort = Of h.1.0; holds = h.1.1; fit = λ a b p q. some_kind h.1.0 a b (and_true (may_be a h.1.0) (may_be b h.1.0) p q); gives = subst (λ s. Agrees s (given_by operators.AtMost)) (sym h.0) refl }
-operator_fits operators.Greater t operands h = record { sort = Of h.1.0; holds = h.1.1; fit = λ a b p q. some_kind h.1.0 a b (and_true (may_be a h.1.0) (may_be b h.1.0) p q); gives = subst (λ s. Agrees s (given_by operators.Greater)) (sym h.0) refl }
-operator_fits operators.AtLeast t operands h = record { sort = Of h.1.0; holds = h.1.1; fit = λ a b p q. some_kind h.1.0 a b (and_true (may_be a h.1.0) (may_be b h.1.0) p q); gives = subst (λ s. Agrees s (given_by operators.AtLeast)) (sym h.0) refl }
+operator_fits operators.Plus t operands h = record { sort = Of kinds.Int; holds = h.1; fit = λ a b p q. and_from (may_be a kinds.Int) (may_be b kinds.Int) p q; gives = subst (λ s. Agrees s (given_by operators.Plus)) (sym h.0) refl }
+operator_fits operators.Minus t operands h = record { sort = Of kinds.Int; holds = h.1; fit = λ a b p q. and_from (may_be a kinds.Int) (may_be b kinds.Int) p q; gives = subst (λ s. Agrees s (given_by operators.Minus)) (sym h.0) refl }
+operator_fits operators.Times t operands h = record { sort = Of kinds.Int; holds = h.1; fit = λ a b p q. and_from (may_be a kinds.Int) (may_be b kinds.Int) p q; gives = subst (λ s. Agrees s (given_by operators.Times)) (sym h.0) refl }
+operator_fits operators.And t operands h = record { sort = Truth; holds = h.1; fit = λ a b p q. and_from (may_be_truth a) (may_be_truth b) p q; gives = subst (λ s. Agrees s (given_by operators.And)) (sym h.0) refl }
+operator_fits operators.Or t operands h = record { sort = Truth; holds = h.1; fit = λ a b p q. and_from (may_be_truth a) (may_be_truth b) p q; gives = subst (λ s. Agrees s (given_by operators.Or)) (sym h.0) refl }
+operator_fits operators.Equal t operands h = record { sort = Of h.1.0; holds = h.1.1; fit = λ a b p q. some_kind h.1.0 a b (and_from (may_be a h.1.0) (may_be b h.1.0) p q); gives = subst (λ s. Agrees s (given_by operators.Equal)) (sym h.0) refl }
+operator_fits operators.Unequal t operands h = record { sort = Of h.1.0; holds = h.1.1; fit = λ a b p q. some_kind h.1.0 a b (and_from (may_be a h.1.0) (may_be b h.1.0) p q); gives = subst (λ s. Agrees s (given_by operators.Unequal)) (sym h.0) refl }
+operator_fits operators.Less t operands h = record { sort = Of h.1.0; holds = h.1.1; fit = λ a b p q. some_kind h.1.0 a b (and_from (may_be a h.1.0) (may_be b h.1.0) p q); gives = subst (λ s. Agrees s (given_by operators.Less)) (sym h.0) refl }
+operator_fits operators.AtMost t operands h = record { sort = Of h.1.0; holds = h.1.1; fit = λ a b p q. some_kind h.1.0 a b (and_from (may_be a h.1.0) (may_be b h.1.0) p q); gives = subst (λ s. Agrees s (given_by operators.AtMost)) (sym h.0) refl }
+operator_fits operators.Greater t operands h = record { sort = Of h.1.0; holds = h.1.1; fit = λ a b p q. some_kind h.1.0 a b (and_from (may_be a h.1.0) (may_be b h.1.0) p q); gives = subst (λ s. Agrees s (given_by operators.Greater)) (sym h.0) refl }
+operator_fits operators.AtLeast t operands h = record { sort = Of h.1.0; holds = h.1.1; fit = λ a b p q. some_kind h.1.0 a b (and_from (may_be a h.1.0) (may_be b h.1.0) p q); gives = subst (λ s. Agrees s (given_by operators.AtLeast)) (sym h.0) refl }
 
 module _ (p : Place) (n : HasNames p) where
   -- ---- expressions

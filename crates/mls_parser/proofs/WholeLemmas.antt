@@ -5,7 +5,7 @@ use Rattle.std.specs.Prelude.{is_some}
 use Rattle.std.specs.List.{AllByRecursion, IsDistinct, list_any, position, prefix_len}
 use Rattle.std.specs.Str.{bytes_eq}
 use Rattle.std.specs.Cmp.Lexicographic.{nat_list_eq_equiv}
-use Rattle.std.proofs.lemmas.Bool.{or_parts}
+use Rattle.std.proofs.lemmas.Bool.{or_parts, not-true}
 use Rattle.std.proofs.lemmas.Bool.Decides.{nat_tests}
 use Rattle.std.proofs.lemmas.List.{append-nil, length-append, length-map, map_push}
 use Rattle.std.proofs.lemmas.List.Folds.{list_any-append}
@@ -38,10 +38,6 @@ use Rattle.mls_parser.proofs.SortLemmas.{as_truth, tested_right}
 use Rattle.mls_parser.proofs.SoundLemmas.{known_label, known_relation, stmt_right}
 
 -- ---- names that none has
-
-pub negated : (b : Bool) → not b ≡ true → b ≡ false
-negated true e = absurd cc
-negated false e = refl
 
 shifted : (k n : ℕ) → nat_lt (1 + k) (suc n) ≡ nat_lt k n
 shifted k n = grind (arith, nat_tests)
@@ -122,7 +118,7 @@ block_right p (For row rel at body rest) l h =
     let u = neither (block_faults (inside p row rel) body) (block_faults p rest) t.1 in
     let v = neither _ (known (relation_named p.schemes rel.0) rel.1 ++ label_faults p at) t.0 in
     let w = neither (known (relation_named p.schemes rel.0) rel.1) (label_faults p at) v.1 in
-    let free = all_taken p row.0 ∙ negated (is_taken p row.0) (holds (not (is_taken p row.0)) row.1 _ v.0) in
+    let free = all_taken p row.0 ∙ not-true (is_taken p row.0) (holds (not (is_taken p row.0)) row.1 _ v.0) in
     let b = block_right (inside p row rel) body l.1 u.0 in
     let r = block_right p rest l.2 u.1 in
     record {
@@ -187,7 +183,7 @@ module _ (policy : Tables) where
   params_right front (x ∷ xs) f n h =
       let t = neither _ (known (label_named policy x.label.0) x.label.1 ++ params_faults policy (kept front (param_of policy x)) xs) h in
       let u = neither (known (label_named policy x.label.0) x.label.1) (params_faults policy (kept front (param_of policy x)) xs) t.1 in
-      let new = negated (has_name front x.name.0) (holds (not (has_name front x.name.0)) x.name.1 _ t.0) in
+      let new = not-true (has_name front x.name.0) (holds (not (has_name front x.name.0)) x.name.1 _ t.0) in
       let free = named_any (λ y. y.0) front x.name.0 ∙ new in
       let e = names_more front (param_of policy x) new in
       params_right (kept front (param_of policy x)) xs
@@ -223,7 +219,7 @@ module _ (params : List (Name × Parameter)) where
   vars_right front (x ∷ xs) f n h =
       let t = neither _ (vars_faults params (kept front (var_of x)) xs) h in
       let both = or_parts (has_name params x.name.0) (has_name front x.name.0)
-      (negated (has_name params x.name.0 || has_name front x.name.0) (holds (not (has_name params x.name.0 || has_name front x.name.0)) x.name.1 _ t.0)) in
+      (not-true (has_name params x.name.0 || has_name front x.name.0) (holds (not (has_name params x.name.0 || has_name front x.name.0)) x.name.1 _ t.0)) in
       let free : list_any (bytes_eq x.name.0) (names_of params ++ names_of front) ≡ false =
       list_any-append (bytes_eq x.name.0) (names_of params) (names_of front)
       ∙ (λ i. (named_any (λ y. y.0) params x.name.0 ∙ both.0) i || (named_any (λ y. y.0) front x.name.0 ∙ both.1) i) in
@@ -259,7 +255,7 @@ module _ (policy : Tables) (schemes : Schemes) where
       let lo = neither (known (label_named policy tx.lo.0) tx.lo.1) _ u.0 in
       let hi = neither (known (label_named policy tx.hi.0) tx.hi.1) _ lo.1 in
       let apart = or_parts (is_some (relation_named schemes tx.name.0)) (list_any (bytes_eq tx.name.0) earlier)
-      (negated (is_some (relation_named schemes tx.name.0) || list_any (bytes_eq tx.name.0) earlier)
+      (not-true (is_some (relation_named schemes tx.name.0) || list_any (bytes_eq tx.name.0) earlier)
       (holds (not (is_some (relation_named schemes tx.name.0) || list_any (bytes_eq tx.name.0) earlier)) tx.name.1 _ t.0)) in
       let params = params_right policy [] tx.params (no_params policy) l.params v.0 in
       let vars = vars_right ps [] tx.vars (record { names = tt; apart = subst (IsDistinct bytes_eq) (sym (append-nil (names_of ps))) params.apart }) l.vars w.0 in

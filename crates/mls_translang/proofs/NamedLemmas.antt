@@ -1,5 +1,5 @@
 -- Things by name, as a list and as the entries of a map.
-use Rattle.std.proofs.Common.{◌≡◌, ◌+◌, List, [], ◌∷◌, map, cond, not, nat_lt, Some, None, String, string_bytes, refl, sym, ap, ◌∙◌, Bool, true, false, ◌||◌, ◌++◌}
+use Rattle.std.proofs.Common.{◌≡◌, ◌+◌, List, [], ◌∷◌, map, cond, not, nat_lt, Some, None, String, string_bytes, refl, sym, ap, ◌∙◌, false, ◌++◌}
 use Rattle.std.specs.List.{position, prefix_len}
 use Rattle.std.specs.Str.{bytes_eq}
 use Rattle.std.specs.Map.{keys_of}

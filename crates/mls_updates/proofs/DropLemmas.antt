@@ -4,6 +4,7 @@ use Rattle.std.specs.Prelude.{◌≢◌}
 use Rattle.std.specs.List.{AllByRecursion}
 use Rattle.std.specs.FinMap.{get, remove, get-remove, retain_keys}
 use Rattle.std.proofs.lemmas.Bool.{cases_Bool, cond-true, cond-false, true≢false, and_parts, and_from, false_from_ne_true}
+use Rattle.std.proofs.lemmas.List.{drop_more}
 use Rattle.std.proofs.lemmas.Option.{none-some}
 use Rattle.mls_lattice.specs.Labels.{Labels, below}
 use Rattle.mls_lattice.proofs.LatticeLemmas.{below-trans}
@@ -20,7 +21,6 @@ use Rattle.mls_filterview.proofs.EntityTests.{entity_decides}
 use Rattle.mls_filterview.proofs.AmongLemmas.{all_at}
 use Rattle.mls_updates.specs.Writes.{is_above}
 use Rattle.mls_updates.specs.Steps.{drop_each, AreAlone, AreDownwards, AreAbove}
-use Rattle.mls_updates.proofs.StateLemmas.{drop_split}
 
 -- ---- a tuple less
 
@@ -134,11 +134,11 @@ module _ (p q : Place) (ms : List ℕ) (i d : ℕ) (within : i < length ms) (key
   here = λ j. record { key = key j; key_class = key_class j; class = class j }
 
   pub drop_next : (T : Table) → drop_each p (drop i ms) T ≡ drop_each p (drop (i + 1) ms) (remove T q)
-  drop_next T = ap (λ ks. drop_each p ks T) (drop_split ms i d within) ∙ ap (λ r. drop_each p (drop (i + 1) ms) (remove T r)) (sym here)
+  drop_next T = ap (λ ks. drop_each p ks T) (drop_more ms i d within) ∙ ap (λ r. drop_each p (drop (i + 1) ms) (remove T r)) (sym here)
 
   pub alone_now : (T : Table) → AreAlone p (drop i ms) T → IsAlone T q
-  alone_now T h = subst (IsAlone T) (sym here) (subst (λ ks. AreAlone p ks T) (drop_split ms i d within) h).0
+  alone_now T h = subst (IsAlone T) (sym here) (subst (λ ks. AreAlone p ks T) (drop_more ms i d within) h).0
 
   pub alone_next : (T U : Table) → U ≡ remove T q → AreAlone p (drop i ms) T → AreAlone p (drop (i + 1) ms) U
   alone_next T U e h =
-      subst (AreAlone p (drop (i + 1) ms)) (ap (remove T) (sym here) ∙ sym e) (subst (λ ks. AreAlone p ks T) (drop_split ms i d within) h).1
+      subst (AreAlone p (drop (i + 1) ms)) (ap (remove T) (sym here) ∙ sym e) (subst (λ ks. AreAlone p ks T) (drop_more ms i d within) h).1

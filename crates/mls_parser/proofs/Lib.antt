@@ -12,4 +12,10 @@ pub mod TxLemmas
 pub mod NumberLemmas
 pub mod SpelledLemmas
 pub mod ToldLemmas
+pub mod FoundLemmas
+pub mod Written
+pub mod WrittenLemmas
 pub mod LeastLemmas
+pub mod AgainLemmas
+pub mod BareLemmas
+pub mod ParsedLemmas

@@ -5,7 +5,7 @@ use Rattle.std.specs.Option.{IfSome}
 use Rattle.std.specs.List.{list_any}
 use Rattle.std.specs.Cmp.{nat_eq_equiv}
 use Rattle.std.proofs.Math.ListN.{length-set}
-use Rattle.std.proofs.lemmas.Bool.{cases_eq}
+use Rattle.std.proofs.lemmas.Bool.{cases_eq, or_right}
 use Rattle.std.proofs.lemmas.Bool.Decides.{nat_tests}
 use Rattle.std.proofs.lemmas.List.{drop_more, append-nil}
 use Rattle.std.proofs.lemmas.List.Folds.{list_any-append}
@@ -33,10 +33,6 @@ nat_eq-refl n = nat_eq_equiv.refl n
 nat_eq-other : (m n : ℕ) → (m ≡ n → ⊥) → nat_eq m n ≡ false
 nat_eq-other m n d = grind (arith, nat_tests, d)
 
-or_true : (b : Bool) → (b || true) ≡ true
-or_true true = refl
-or_true false = refl
-
 or_false : (b : Bool) → (b || false) ≡ b
 or_false true = refl
 or_false false = refl
@@ -52,7 +48,7 @@ marks_more n marks seen i within h j lt =
     elim (cases_eq j i) [
       | inl e ↦
           (λ k. get_or (set marks i true) (e k) false) ∙ get_or-set_same marks i true false within
-          ∙ sym (one_more seen i j ∙ ap (λ b. list_any (nat_eq j) seen || (b || false)) (ap (nat_eq j) (sym e) ∙ nat_eq-refl j) ∙ or_true (list_any (nat_eq j) seen))
+          ∙ sym (one_more seen i j ∙ ap (λ b. list_any (nat_eq j) seen || (b || false)) (ap (nat_eq j) (sym e) ∙ nat_eq-refl j) ∙ or_right (list_any (nat_eq j) seen) true refl)
       | inr d ↦
           get_or-set_other marks i j true false d ∙ h j lt
           ∙ sym (one_more seen i j ∙ ap (λ b. list_any (nat_eq j) seen || (b || false)) (nat_eq-other j i d) ∙ or_false (list_any (nat_eq j) seen))

@@ -5,6 +5,7 @@ use Rattle.std.specs.Option.{IfSome}
 use Rattle.std.specs.List.{AllByRecursion, IsDistinct, list_any}
 use Rattle.std.specs.Cmp.{nat_eq_equiv}
 use Rattle.std.proofs.lemmas.Bool.Decides.{nat_tests}
+use Rattle.std.proofs.lemmas.Bool.{not-true}
 use Rattle.std.proofs.lemmas.List.{append-nil, length-map}
 use Rattle.std.proofs.lemmas.List.Quantifiers.{position-Some}
 use Rattle.std.proofs.lemmas.Map.Keys.{IsDistinct-push}
@@ -128,13 +129,9 @@ module _ (p : Place) where
         let t = neither _ (tested p (λ g. may_be g (other_of scheme i).kind) x.1) h in
         let r = tested_right p (λ g. may_be g (other_of scheme i).kind) x.1 l t.1 in (
           record { within = other_within scheme x.0.0 i is; own = r.1.own; fits = r.1.fits; kind = as_kind p (infer p x.1) (other_of scheme i).kind (expr p x.1) r.0 r.1.gives },
-          negated again (holds (not again) x.0.1 _ t.0),
+          not-true again (holds (not again) x.0.1 _ t.0),
           (i, refl),
         )
-      where
-        negated : (b : Bool) → not b ≡ true → b ≡ false
-        negated true e = absurd cc
-        negated false e = refl
 
     pub record AreRightSets (seen : List ℕ) (sets : List (ℕ × core.Expr)) : Type 0 where
       pub each : AllByRecursion IsRightSet sets

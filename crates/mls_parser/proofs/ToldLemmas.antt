@@ -2,7 +2,7 @@
 use Rattle.std.proofs.Common.{◌≡◌, ℕ, List, [], ◌∷◌, ◌++◌, map, Option, Some, None, Result, Ok, inl, inr, refl, sym, ap, subst, ◌∙◌, append_assoc}
 use Rattle.std.specs.Prelude.{codes, not, ◌||◌, IfOk}
 use Rattle.std.specs.List.{AllByRecursion, flat_map}
-use Rattle.std.proofs.lemmas.Bool.{or_parts}
+use Rattle.std.proofs.lemmas.Bool.{or_parts, not-true}
 use Rattle.std.proofs.lemmas.List.{append-nil}
 use Rattle.mls_lattice.specs.Policy.{Name, Tables}
 use Rattle.mls_lattice.specs.Canon.{label_name}
@@ -34,7 +34,7 @@ use Rattle.mls_parser.specs.Parsing.{answer, elaborated}
 use Rattle.mls_parser.proofs.FaultLemmas.{neither, holds, none_at_all}
 use Rattle.mls_parser.proofs.NumberLemmas.{label_spelled, relation_spelled}
 use Rattle.mls_parser.proofs.SpelledLemmas.{flat_same, separated_same, tested_spelled, stmt_spelled}
-use Rattle.mls_parser.proofs.WholeLemmas.{are_txs, are_read, negated, kept_new}
+use Rattle.mls_parser.proofs.WholeLemmas.{are_txs, are_read, kept_new}
 
 -- ---- blocks
 
@@ -85,7 +85,7 @@ module _ (policy : Tables) where
   params_are front (x ∷ xs) h =
       let t = neither _ (known (label_named policy x.label.0) x.label.1 ++ params_faults policy (kept front (param_of policy x)) xs) h in
       let u = neither (known (label_named policy x.label.0) x.label.1) (params_faults policy (kept front (param_of policy x)) xs) t.1 in
-      let new = negated (has_name front x.name.0) (holds (not (has_name front x.name.0)) x.name.1 _ t.0) in
+      let new = not-true (has_name front x.name.0) (holds (not (has_name front x.name.0)) x.name.1 _ t.0) in
       params_are (kept front (param_of policy x)) xs u.1
       ∙ ap (λ l. l ++ map (param_of policy) xs) (kept_new front (param_of policy x) new)
       ∙ append_assoc front (param_of policy x ∷ []) (map (param_of policy) xs)
@@ -117,7 +117,7 @@ module _ (params : List (Name × Parameter)) where
   vars_are front (x ∷ xs) h =
       let t = neither _ (vars_faults params (kept front (var_of x)) xs) h in
       let both = or_parts (has_name params x.name.0) (has_name front x.name.0)
-      (negated (has_name params x.name.0 || has_name front x.name.0) (holds (not (has_name params x.name.0 || has_name front x.name.0)) x.name.1 _ t.0)) in
+      (not-true (has_name params x.name.0 || has_name front x.name.0) (holds (not (has_name params x.name.0 || has_name front x.name.0)) x.name.1 _ t.0)) in
       vars_are (kept front (var_of x)) xs t.1
       ∙ ap (λ l. l ++ map var_of xs) (kept_new front (var_of x) both.1)
       ∙ append_assoc front (var_of x ∷ []) (map var_of xs)

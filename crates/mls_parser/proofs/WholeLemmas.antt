@@ -1,10 +1,11 @@
 -- What blocks and transactions without faults are.
 use Rattle.std.proofs.Common.{◌≡◌, ℕ, suc, ◌+◌, ◌≤◌, max, cond, Bool, true, false, not, ◌||◌, nat_lt, List, [], ◌∷◌, ◌++◌, length, map, Some, None, refl, sym, ap, subst, ◌∙◌, arith, append_assoc}
+use Rattle.std.proofs.SliceLists.{all_by_recursion_push}
 use Rattle.std.specs.Prelude.{is_some}
 use Rattle.std.specs.List.{AllByRecursion, IsDistinct, list_any, position, prefix_len}
 use Rattle.std.specs.Str.{bytes_eq}
 use Rattle.std.specs.Cmp.Lexicographic.{nat_list_eq_equiv}
-use Rattle.std.proofs.lemmas.Bool.{or_parts}
+use Rattle.std.proofs.lemmas.Bool.{or_parts, not-true}
 use Rattle.std.proofs.lemmas.Bool.Decides.{nat_tests}
 use Rattle.std.proofs.lemmas.List.{append-nil, length-append, length-map, map_push}
 use Rattle.std.proofs.lemmas.List.Folds.{list_any-append}
@@ -38,10 +39,6 @@ use Rattle.mls_parser.proofs.SoundLemmas.{known_label, known_relation, stmt_righ
 
 -- ---- names that none has
 
-pub negated : (b : Bool) → not b ≡ true → b ≡ false
-negated true e = absurd cc
-negated false e = refl
-
 shifted : (k n : ℕ) → nat_lt (1 + k) (suc n) ≡ nat_lt k n
 shifted k n = grind (arith, nat_tests)
 
@@ -67,7 +64,7 @@ module _ {X : Type 0} (test : X → Bool) where
 
 module _ {X : Type 0} (name_of : X → Name) where
   -- a name is in a list where a thing in it has the name
-  named_any : (xs : List X) (name : Name) → list_any (bytes_eq name) (map name_of xs) ≡ list_any (λ x. bytes_eq (name_of x) name) xs
+  pub named_any : (xs : List X) (name : Name) → list_any (bytes_eq name) (map name_of xs) ≡ list_any (λ x. bytes_eq (name_of x) name) xs
   named_any [] name = refl
   named_any (x ∷ xs) name = λ i. nat_list_eq_equiv.symm name (name_of x) i || named_any xs name i
 
@@ -121,7 +118,7 @@ block_right p (For row rel at body rest) l h =
     let u = neither (block_faults (inside p row rel) body) (block_faults p rest) t.1 in
     let v = neither _ (known (relation_named p.schemes rel.0) rel.1 ++ label_faults p at) t.0 in
     let w = neither (known (relation_named p.schemes rel.0) rel.1) (label_faults p at) v.1 in
-    let free = all_taken p row.0 ∙ negated (is_taken p row.0) (holds (not (is_taken p row.0)) row.1 _ v.0) in
+    let free = all_taken p row.0 ∙ not-true (is_taken p row.0) (holds (not (is_taken p row.0)) row.1 _ v.0) in
     let b = block_right (inside p row rel) body l.1 u.0 in
     let r = block_right p rest l.2 u.1 in
     record {
@@ -143,10 +140,6 @@ same_statements p (If guard one other rest) = λ i. 1 + same_statements p one i 
 same_statements p (For row rel at body rest) = λ i. 1 + same_statements (inside p row rel) body i + same_statements p rest i
 
 -- ---- lists that grow at their end
-
-all_push : {X : Type 0} (P : X → Type 0) (xs : List X) (x : X) → AllByRecursion P xs → P x → AllByRecursion P (xs ++ x ∷ [])
-all_push P [] x h here = (here, tt)
-all_push P (y ∷ ys) x h here = (h.0, all_push P ys x h.1 here)
 
 all_append : {X : Type 0} (P : X → Type 0) (xs ys : List X) → AllByRecursion P xs → AllByRecursion P ys → AllByRecursion P (xs ++ ys)
 all_append P [] ys a b = b
@@ -190,15 +183,15 @@ module _ (policy : Tables) where
   params_right front (x ∷ xs) f n h =
       let t = neither _ (known (label_named policy x.label.0) x.label.1 ++ params_faults policy (kept front (param_of policy x)) xs) h in
       let u = neither (known (label_named policy x.label.0) x.label.1) (params_faults policy (kept front (param_of policy x)) xs) t.1 in
-      let new = negated (has_name front x.name.0) (holds (not (has_name front x.name.0)) x.name.1 _ t.0) in
+      let new = not-true (has_name front x.name.0) (holds (not (has_name front x.name.0)) x.name.1 _ t.0) in
       let free = named_any (λ y. y.0) front x.name.0 ∙ new in
       let e = names_more front (param_of policy x) new in
       params_right (kept front (param_of policy x)) xs
       (record {
-        names = subst (AllByRecursion IsNamed) (sym e) (all_push IsNamed (names_of front) x.name.0 f.names n.0);
+        names = subst (AllByRecursion IsNamed) (sym e) (all_by_recursion_push IsNamed (names_of front) x.name.0 f.names n.0);
         apart = subst (IsDistinct bytes_eq) (sym e) (IsDistinct-push nat_list_eq_equiv (names_of front) x.name.0 f.apart free);
         labels = subst (AllByRecursion (λ p. IsLabel policy p.1.label)) (sym (kept_new front (param_of policy x) new))
-            (all_push (λ p. IsLabel policy p.1.label) front (param_of policy x) f.labels (known_label policy x.label.0 x.label.1 u.0));
+            (all_by_recursion_push (λ p. IsLabel policy p.1.label) front (param_of policy x) f.labels (known_label policy x.label.0 x.label.1 u.0));
       })
       n.1 u.1
 
@@ -226,14 +219,14 @@ module _ (params : List (Name × Parameter)) where
   vars_right front (x ∷ xs) f n h =
       let t = neither _ (vars_faults params (kept front (var_of x)) xs) h in
       let both = or_parts (has_name params x.name.0) (has_name front x.name.0)
-      (negated (has_name params x.name.0 || has_name front x.name.0) (holds (not (has_name params x.name.0 || has_name front x.name.0)) x.name.1 _ t.0)) in
+      (not-true (has_name params x.name.0 || has_name front x.name.0) (holds (not (has_name params x.name.0 || has_name front x.name.0)) x.name.1 _ t.0)) in
       let free : list_any (bytes_eq x.name.0) (names_of params ++ names_of front) ≡ false =
       list_any-append (bytes_eq x.name.0) (names_of params) (names_of front)
       ∙ (λ i. (named_any (λ y. y.0) params x.name.0 ∙ both.0) i || (named_any (λ y. y.0) front x.name.0 ∙ both.1) i) in
       let e = names_more front (var_of x) both.1 in
       vars_right (kept front (var_of x)) xs
       (record {
-        names = subst (AllByRecursion IsNamed) (sym e) (all_push IsNamed (names_of front) x.name.0 f.names n.0);
+        names = subst (AllByRecursion IsNamed) (sym e) (all_by_recursion_push IsNamed (names_of front) x.name.0 f.names n.0);
         apart = subst (λ ns. IsDistinct bytes_eq (names_of params ++ ns)) (sym e)
             (subst (IsDistinct bytes_eq) (append_assoc (names_of params) (names_of front) (x.name.0 ∷ []))
             (IsDistinct-push nat_list_eq_equiv (names_of params ++ names_of front) x.name.0 f.apart free));
@@ -262,7 +255,7 @@ module _ (policy : Tables) (schemes : Schemes) where
       let lo = neither (known (label_named policy tx.lo.0) tx.lo.1) _ u.0 in
       let hi = neither (known (label_named policy tx.hi.0) tx.hi.1) _ lo.1 in
       let apart = or_parts (is_some (relation_named schemes tx.name.0)) (list_any (bytes_eq tx.name.0) earlier)
-      (negated (is_some (relation_named schemes tx.name.0) || list_any (bytes_eq tx.name.0) earlier)
+      (not-true (is_some (relation_named schemes tx.name.0) || list_any (bytes_eq tx.name.0) earlier)
       (holds (not (is_some (relation_named schemes tx.name.0) || list_any (bytes_eq tx.name.0) earlier)) tx.name.1 _ t.0)) in
       let params = params_right policy [] tx.params (no_params policy) l.params v.0 in
       let vars = vars_right ps [] tx.vars (record { names = tt; apart = subst (IsDistinct bytes_eq) (sym (append-nil (names_of ps))) params.apart }) l.vars w.0 in

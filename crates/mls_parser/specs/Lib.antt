@@ -5,3 +5,4 @@ pub mod Infer
 pub mod Faults
 pub mod Elaboration
 pub mod Parsing
+pub mod Laws

@@ -1,10 +1,12 @@
 //! Transactions of a text.
-ghost use Rattle.std.specs.Prelude.{◌≡◌, IfOk};
+ghost use Rattle.std.specs.Prelude.{◌≡◌, ◌≢◌, IfOk, IfErr};
 ghost use Rattle.std.specs.List.{AllByRecursion};
 ghost use Rattle.mls_translang.specs.Tx.{IsTx};
 ghost use Rattle.mls_translang.specs.Fits.{AreReadUnder};
 ghost use Rattle.mls_translang.specs.Tells.{Tells};
 ghost use Rattle.mls_syntax.specs.Limits.{AreLimited};
+ghost use Rattle.mls_parser.specs.declared.fault.TextCause.TheVariants.{Memory};
+ghost use Rattle.mls_parser.specs.Laws.{TellsNone};
 ghost use Rattle.mls_parser.specs.Parsing.{elaborated, parsed, Gives, parse_at, IsParsed, IsJudged};
 
 use crate::fault::{PlacedFault, TextFault};
@@ -66,12 +68,16 @@ pub fn parse(
     ensures exact { IsParsed result (parse_at policy.now schemes.now bytes.now) }
     // The text tells the transactions that are read.
     ensures told { IfOk result (λ txs. Tells policy.now schemes.now bytes.now txs) }
+    // Unless memory runs out, a text that is refused tells none.
+    ensures refused { IfErr result (λ e. e.cause ≢ Memory → TellsNone policy.now schemes.now bytes.now) }
     // What is read has no fault, and of all faults of a text whose form is right the least is answered.
     ensures judged { IsJudged policy.now schemes.now bytes.now result }
     // What is read is read under both.
     ensures read { IfOk result (λ txs. AreReadUnder policy.now schemes.now txs) }
     ensures each { IfOk result (λ txs. AllByRecursion IsTx txs) }
 {
+    // what holds of every policy and of all schemes
+    let _counts = (policy.label_count(), schemes.count());
     match placed(alloc, policy, schemes, bytes) {
         Ok(txs) => Ok(txs),
         Err(fault) => Err(fault.in_text(bytes)),

@@ -1,15 +1,12 @@
 -- Entries added to the audit list, one after another.
 use Rattle.std.proofs.Common.{◌≡◌, ℕ, ◌+◌, ◌<◌, ◌≤◌, List, [], ◌∷◌, ◌++◌, length, map, take, get_or, sym, ap, ◌∙◌, subst, append-nil, append_assoc}
+use Rattle.std.proofs.SliceLists.{all_by_recursion_push}
 use Rattle.std.specs.List.{AllByRecursion}
 use Rattle.std.proofs.lemmas.List.{take_more, take_all, map-append}
 use Rattle.mls_filterview.specs.Content.{State, with_entry}
 use Rattle.mls_audit.specs.declared.entry.Entry.{Entry}
 use Rattle.mls_audit.specs.Spelling.{entry_spelling}
 use Rattle.mls_sessions.specs.Calling.{with_entries}
-
-all_more : {X : Type 0} (P : X → Type 0) (xs : List X) (x : X) → AllByRecursion P xs → P x → AllByRecursion P (xs ++ x ∷ [])
-all_more P [] x all one = (one, tt)
-all_more P (y ∷ xs) x all one = (all.0, all_more P xs x all.1 one)
 
 pub none_entered : (s : State) → s ≡ with_entries s []
 none_entered s = λ i. record s { now = record { db = s.now.db; audit = sym (append-nil s.now.audit) i } }
@@ -36,7 +33,7 @@ module _ {X : Type 0} (f : X → Entry) (items : List X) (i : ℕ) where
         k ∙ ap (λ v. with_entry v (entry_spelling (f x))) h ∙ last_entered s (map f (take i items)) (f x) ∙ ap (with_entries s) (sym one_more)
 
     pub each_more : (P : Entry → Type 0) → AllByRecursion P (map f (take i items)) → P (f x) → AllByRecursion P (map f (take (i + 1) items))
-    each_more P all one = subst (AllByRecursion P) (sym one_more) (all_more P (map f (take i items)) (f x) all one)
+    each_more P all one = subst (AllByRecursion P) (sym one_more) (all_by_recursion_push P (map f (take i items)) (f x) all one)
 
   module _ (over : length items ≤ i) where
     pub entered_all : (s t : State) → t ≡ with_entries s (map f (take i items)) → t ≡ with_entries s (map f items)

@@ -5,6 +5,7 @@ ghost use Rattle.mls_machine.specs.Denying.{are_wrong_at, fitted};
 
 use mls_scheme::{Kind, Value, fits_kind};
 use mls_translang::{Parameter, Tx};
+use mls_updates::copy_value;
 use std::alloc::{AllocError, Global};
 
 /// Whether an argument has the wrong kind, at a parameter of the lowest label.
@@ -34,22 +35,12 @@ pub(crate) fn are_wrong(tx: &Tx, args: &[Option<Value>]) -> bool
     args.len() != tx.params().len() || has_misfit(tx, args)
 }
 
-/// An equal value, or null.
-pub(crate) fn copy_of(value: &Option<Value>) -> Result<Option<Value>, AllocError>
-    ensures { IfOk result (λ v. v ≡ value.now) }
-{
-    match value {
-        Some(value) => Ok(Some(value.copy()?)),
-        None => Ok(None),
-    }
-}
-
 /// An argument for a parameter of a kind: null where it has another one.
 fn fitted_to(kind: Kind, arg: &Option<Value>) -> Result<Option<Value>, AllocError>
     ensures { IfOk result (λ v. v ≡ (if fits_kind arg.now kind then arg.now else None)) }
 {
     if fits_kind(arg, kind) {
-        copy_of(arg)
+        copy_value(arg)
     } else {
         Ok(None)
     }

@@ -22,7 +22,7 @@ ghost use Rattle.mls_sessions.specs.World.{site_of, IsSound};
 ghost use Rattle.mls_sessions.specs.Calling.{with_entries};
 ghost use Rattle.mls_sessions.specs.Turns.{IsDeedOf, IsDoneOf, HasKnownNumbers};
 
-use crate::arguments::{copy_of, fitted};
+use crate::arguments::fitted;
 use crate::change::Deed;
 use crate::finding::certified_named;
 use crate::naming::user_name;
@@ -36,6 +36,7 @@ use mls_meaning::Run;
 use mls_scheme::Value;
 use mls_script::{Command, Event};
 use mls_trusted::evaluate_in;
+use mls_updates::copy_value;
 use std::alloc::AllocError;
 
 /// The bytes of the entry of a call.
@@ -78,7 +79,7 @@ fn released_bytes(
 {
     let user = Str::copy_of(rules.alloc, user_name(rules.policy, user))?;
     let session = Str::copy_of(rules.alloc, &event.session)?;
-    let value = copy_of(&item.1)?;
+    let value = copy_value(&item.1)?;
     let entry = Entry::Released {
         label: item.0,
         user,

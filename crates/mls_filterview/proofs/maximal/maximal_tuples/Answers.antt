@@ -2,7 +2,7 @@ use Rattle.std.proofs.Common.{◌++◌, length, map, sym, ap, ◌∙◌, arith}
 use Rattle.std.specs.List.{prefix_len}
 use Rattle.mls_scheme.specs.Table.{tuple_at}
 use Rattle.mls_filterview.proofs.EntityLemmas.{same, maximal, maximal_more, front_some, not_empty}
-use Rattle.mls_filterview.proofs.viewing.maximal_tuples.Goals as goal
+use Rattle.mls_filterview.proofs.maximal.maximal_tuples.Goals as goal
 
 pub loop-rest-smaller : goal.loop-rest-smaller
 loop-rest-smaller c =

@@ -1,0 +1,5 @@
+pub mod Bounds
+pub mod Walk
+pub mod Least
+pub mod Fault
+pub mod Rising

@@ -1,0 +1,71 @@
+//! What flows out of expressions.
+ghost use Rattle.std.specs.Prelude.{◌≡◌, ◌∷◌, ◌++◌, IfOk, OnOk, slice_index};
+ghost use Rattle.mls_labeller.specs.Bounds.{names};
+ghost use Rattle.mls_labeller.specs.declared.bound.Slot.TheVariants.{Statement};
+ghost use Rattle.mls_labeller.specs.declared.bound.Source.TheVariants.{Held};
+
+use crate::bound::{Slot, Source};
+use mls_lattice::LabelNo;
+use mls_translang::{Expr, Term};
+use std::alloc::{AllocError, Global};
+
+/// The label of the loop that stands so many loops outwards, or the first label.
+fn row_label(rows: &[LabelNo], depth: u8) -> LabelNo
+    ensures { result ≡ slice_index rows.now depth }
+{
+    let depth = usize::from(depth);
+    if depth < rows.len() {
+        rows[depth]
+    } else {
+        LabelNo::new(0)
+    }
+}
+
+/// Adds the names in an expression.
+fn names_to(sources: &mut Vec<Source>, rows: &[LabelNo], expr: &Expr) -> Result<(), AllocError>
+    ensures { OnOk result (sources.new.items ≡ sources.old.items ++ names rows.now expr.now) }
+{
+    match &expr.term {
+        Term::Known(_) | Term::Null => {}
+        Term::Variable(place) => sources.push(Source::Held(Slot::Variable(*place)))?,
+        Term::Parameter(place) => sources.push(Source::Parameter(*place))?,
+        Term::Field { depth, .. } => sources.push(Source::Declared(row_label(rows, *depth)))?,
+        Term::Not(expr) => names_to(sources, rows, expr)?,
+        Term::Op(_, left, right) => {
+            names_to(sources, rows, left)?;
+            names_to(sources, rows, right)?;
+        }
+    }
+    Ok(())
+}
+
+/// What flows on where a statement runs that asks for an expression.
+pub(crate) fn sources_of(
+    alloc: Global,
+    number: usize,
+    rows: &[LabelNo],
+    expr: &Expr,
+) -> Result<Vec<Source>, AllocError>
+    ensures { IfOk result (λ v. v.items ≡ Held (Statement number) ∷ names rows.now expr.now) }
+{
+    let mut sources = Vec::new(alloc);
+    sources.push(Source::Held(Slot::Statement(number)))?;
+    names_to(&mut sources, rows, expr)?;
+    Ok(sources)
+}
+
+/// The labels of the loops inside one more, the innermost first.
+pub(crate) fn rows_inside(
+    alloc: Global,
+    label: LabelNo,
+    rows: &[LabelNo],
+) -> Result<Vec<LabelNo>, AllocError>
+    ensures { IfOk result (λ v. v.items ≡ label ∷ rows.now) }
+{
+    let mut inside = Vec::new(alloc);
+    inside.push(label)?;
+    for around in rows {
+        inside.push(*around)?;
+    }
+    Ok(inside)
+}

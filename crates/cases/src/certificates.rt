@@ -1,6 +1,7 @@
 //! Certificates, and files of them: what is read of a text, and what is printed for that.
-use crate::block::{cases_of, unfolded};
+use case_tables::unfolded;
 use mls_certificate::{Cert, CertCause, CertFault, certs_read};
+use mls_lattice::Str;
 use std::alloc::{AllocError, Global};
 
 /// Writes the text of a certificate, a bar for each end of a line.
@@ -8,7 +9,8 @@ fn push_cert(alloc: Global, cert: &Cert, out: &mut String) -> Result<(), AllocEr
     let text = cert.print(alloc)?;
     out.push(' ')?;
     for line in text.lines() {
-        write!(out, "{line}|")?;
+        out.push_str(line)?;
+        out.push('|')?;
     }
     Ok(())
 }
@@ -25,15 +27,18 @@ fn tell_cert(alloc: Global, bytes: &[u8], out: &mut String) -> Result<(), AllocE
     }
 }
 
+fn push_blocks(alloc: Global, blocks: &[(Str, Cert)], out: &mut String) -> Result<(), AllocError> {
+    for block in blocks {
+        out.push(' ')?;
+        out.push_str(block.0.as_str())?;
+        push_cert(alloc, &block.1, out)?;
+    }
+    Ok(())
+}
+
 fn tell_file(alloc: Global, bytes: &[u8], out: &mut String) -> Result<(), AllocError> {
     match certs_read(alloc, bytes) {
-        Ok(blocks) => {
-            for block in &blocks {
-                write!(out, " {}", block.0.as_str())?;
-                push_cert(alloc, &block.1, out)?;
-            }
-            Ok(())
-        }
+        Ok(blocks) => push_blocks(alloc, &blocks, out),
         Err(fault) => push_fault(out, fault),
     }
 }
@@ -50,18 +55,18 @@ fn tell_prefixes(alloc: Global, bytes: &[u8], out: &mut String) -> Result<(), Al
     Ok(())
 }
 
-/// Tells what texts are read as: a line is `cert`, `file` or `prefixes`, and the text.
-pub fn tell(alloc: Global, table: &str, out: &mut String) -> Result<(), AllocError> {
-    for case in cases_of(alloc, table)? {
-        let (kind, text) = case.head.split_once(' ').unwrap_or((case.head, ""));
-        let bytes = unfolded(alloc, text)?;
-        write!(out, "{}:", case.head)?;
-        match kind {
-            "cert" => tell_cert(alloc, &bytes, out)?,
-            "file" => tell_file(alloc, &bytes, out)?,
-            _ => tell_prefixes(alloc, &bytes, out)?,
-        }
-        out.push('\n')?;
+fn tell_bytes(alloc: Global, kind: &str, bytes: &[u8], out: &mut String) -> Result<(), AllocError> {
+    match kind {
+        "cert" => tell_cert(alloc, bytes, out),
+        "file" => tell_file(alloc, bytes, out),
+        _ => tell_prefixes(alloc, bytes, out),
     }
-    Ok(())
+}
+
+/// Tells what texts are read as: a line is `cert`, `file` or `prefixes`, and the text.
+pub fn tell(alloc: Global, head: &str, out: &mut String) -> Result<(), AllocError> {
+    let (kind, text) = head.split_once(' ').unwrap_or((head, ""));
+    write!(out, "{head}:")?;
+    tell_bytes(alloc, kind, &unfolded(alloc, text)?, out)?;
+    out.push('\n')
 }

@@ -3,66 +3,97 @@ ghost use Rattle.std.specs.Prelude.{◌<◌, IfOk, length};
 ghost use Rattle.std.specs.List.{AllByRecursion};
 ghost use Rattle.mls_audit.specs.Entry.{label_of};
 
-use crate::block::{Case, cases_of};
 use crate::show::{push_hex, push_value};
+use case_tables::{Case, inner};
 use mls_audit::{Entry, EntryFault, entry_bytes, entry_of, visible};
-use mls_lattice::Policy;
+use mls_lattice::{LabelNo, Policy};
+use mls_scheme::Value;
 use std::alloc::{AllocError, Global};
 
+/// Writes words, each after a blank.
+fn push_words(out: &mut String, words: &[&str]) -> Result<(), AllocError> {
+    for word in words {
+        out.push(' ')?;
+        out.push_str(word)?;
+    }
+    Ok(())
+}
+
+/// Writes what was released, after a blank.
+fn push_released(out: &mut String, value: &Option<Value>) -> Result<(), AllocError> {
+    match value {
+        Some(value) => {
+            out.push(' ')?;
+            push_value(out, value)
+        }
+        None => out.push_str(" null"),
+    }
+}
+
 fn push_entry(out: &mut String, entry: &Entry) -> Result<(), AllocError> {
-    write!(out, "label {} ", entry.label().byte())?;
+    write!(out, "label {}", entry.label().byte())?;
     match entry {
         Entry::Called {
             user,
             session,
             transaction,
             ..
-        } => write!(
+        } => push_words(
             out,
-            "called {} {} {}",
-            user.as_str(),
-            session.as_str(),
-            transaction.as_str()
+            &[
+                "called",
+                user.as_str(),
+                session.as_str(),
+                transaction.as_str(),
+            ],
         ),
         Entry::Denied {
             user,
             session,
             code,
             ..
-        } => write!(out, "denied {} {} {code}", user.as_str(), session.as_str()),
+        } => {
+            push_words(out, &["denied", user.as_str(), session.as_str()])?;
+            write!(out, " {code}")
+        }
         Entry::Released {
             user,
             session,
             value,
             ..
         } => {
-            write!(out, "released {} {} ", user.as_str(), session.as_str())?;
-            match value {
-                Some(value) => push_value(out, value),
-                None => out.push_str("null"),
-            }
+            push_words(out, &["released", user.as_str(), session.as_str()])?;
+            push_released(out, value)
         }
     }
+}
+
+fn push_spelled(out: &mut String, entry: &Entry, written: &[u8]) -> Result<(), AllocError> {
+    out.push(' ')?;
+    push_entry(out, entry)?;
+    out.push_str(" = ")?;
+    push_hex(out, written)
 }
 
 /// Writes an entry, and the bytes that are written for it.
 fn tell_entry(alloc: Global, bytes: &[u8], out: &mut String) -> Result<(), EntryFault> {
     let entry = entry_of(alloc, bytes)?;
     let written = entry_bytes(alloc, &entry)?;
-    out.push(' ')?;
-    push_entry(out, &entry)?;
-    out.push_str(" = ")?;
-    push_hex(out, &written)?;
-    Ok(())
+    Ok(push_spelled(out, &entry, &written)?)
+}
+
+fn answer_of(alloc: Global, bytes: &[u8]) -> &'static str {
+    match entry_of(alloc, bytes) {
+        Ok(_) => "read",
+        Err(fault) => fault.word(),
+    }
 }
 
 /// Writes what each part of the bytes that is shorter is read as.
-fn tell_prefixes(alloc: Global, bytes: &[u8], out: &mut String) -> Result<(), EntryFault> {
+fn tell_prefixes(alloc: Global, bytes: &[u8], out: &mut String) -> Result<(), AllocError> {
     for count in 0..bytes.len() {
-        match entry_of(alloc, &bytes[..count]) {
-            Ok(_) => out.push_str(" read")?,
-            Err(fault) => write!(out, " {}", fault.word())?,
-        }
+        out.push(' ')?;
+        out.push_str(answer_of(alloc, &bytes[..count]))?;
     }
     Ok(())
 }
@@ -91,9 +122,26 @@ fn entries_of(alloc: Global, policy: &Policy, lines: &[&str]) -> Result<Vec<Entr
 {
     let mut entries = Vec::new(alloc);
     for line in lines {
-        entries.push(known_entry(alloc, policy, line)?)?;
+        entries.push(known_entry(alloc, policy, inner(line))?)?;
     }
     Ok(entries)
+}
+
+fn push_entries(out: &mut String, entries: &[Entry]) -> Result<(), AllocError> {
+    for entry in entries {
+        out.push_str("\n  ")?;
+        push_entry(out, entry)?;
+    }
+    Ok(())
+}
+
+fn level_of(policy: &Policy, name: &str) -> Result<LabelNo, EntryFault>
+    ensures { IfOk result (λ l. l < length policy.now.labels) }
+{
+    match policy.label(name) {
+        Some(label) if label.index() < policy.label_count() => Ok(label),
+        _ => Err(EntryFault::BadText),
+    }
 }
 
 /// Writes the entries of a body that a level sees.
@@ -104,17 +152,16 @@ fn tell_visible(
     body: &[&str],
     out: &mut String,
 ) -> Result<(), EntryFault> {
+    let level = level_of(policy, level)?;
     let entries = entries_of(alloc, policy, body)?;
-    let Some(level) = policy.label(level) else {
-        return Err(EntryFault::BadText);
-    };
-    if level.index() < policy.label_count() {
-        for entry in visible(alloc, policy, &entries, level)? {
-            out.push_str("\n  ")?;
-            push_entry(out, &entry)?;
-        }
+    Ok(push_entries(out, &visible(alloc, policy, &entries, level)?)?)
+}
+
+fn tell_bytes(alloc: Global, kind: &str, bytes: &[u8], out: &mut String) -> Result<(), EntryFault> {
+    match kind {
+        "entry" => tell_entry(alloc, bytes, out),
+        _ => Ok(tell_prefixes(alloc, bytes, out)?),
     }
-    Ok(())
 }
 
 fn tell_case(
@@ -122,27 +169,24 @@ fn tell_case(
     policy: &Policy,
     case: &Case<'_>,
     out: &mut String,
-) -> Result<(), AllocError> {
+) -> Result<(), EntryFault> {
     let (kind, rest) = case.head.split_once(' ').unwrap_or((case.head, ""));
-    write!(out, "{}:", case.head)?;
-    let read = match kind {
-        "entry" => bytes_of(alloc, rest).and_then(|bytes| tell_entry(alloc, &bytes, out)),
-        "prefixes" => bytes_of(alloc, rest).and_then(|bytes| tell_prefixes(alloc, &bytes, out)),
-        _ => tell_visible(alloc, policy, rest, &case.body, out),
-    };
-    match read {
-        Ok(()) => out.push('\n'),
-        Err(fault) => writeln!(out, " {}", fault.word()),
+    if kind == "visible" {
+        return tell_visible(alloc, policy, rest, case.body, out);
     }
+    tell_bytes(alloc, kind, &bytes_of(alloc, rest)?, out)
 }
 
 /// Tells what bytes spell: a line is `entry` or `prefixes`, and the bytes. `visible`, and a label, has lines of bytes below.
-pub fn tell(alloc: Global, policy: &str, table: &str, out: &mut String) -> Result<(), AllocError> {
-    let Ok(policy) = Policy::read(alloc, policy.as_bytes()) else {
-        return writeln!(out, "no policy");
-    };
-    for case in cases_of(alloc, table)? {
-        tell_case(alloc, &policy, &case, out)?;
+pub fn tell(
+    alloc: Global,
+    policy: &Policy,
+    case: &Case<'_>,
+    out: &mut String,
+) -> Result<(), AllocError> {
+    write!(out, "{}:", case.head)?;
+    match tell_case(alloc, policy, case, out) {
+        Ok(()) => out.push('\n'),
+        Err(fault) => writeln!(out, " {}", fault.word()),
     }
-    Ok(())
 }

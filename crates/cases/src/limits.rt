@@ -1,164 +1,148 @@
 //! Documents of so many parts, which would be long to write out.
-use crate::block::cases_of;
 use crate::documents::told;
+use case_tables::push_line;
 use mls_lattice::Policy;
 use std::alloc::{AllocError, Global};
 
-/// The number that follows a word, or 0.
-fn count_of(head: &str, word: &str) -> u16 {
-    match head.split_once(word) {
-        Some((_, rest)) => {
-            let number = rest
-                .trim_start()
-                .split_once(' ')
-                .map_or(rest.trim_start(), |parts| parts.0);
-            number.parse::<u16>().unwrap_or(0)
-        }
-        None => 0,
+/// The number that stands at a place among words, or 0.
+fn count_at(words: &[&str], place: usize) -> u16 {
+    words
+        .get(place)
+        .map_or(0, |word| word.parse::<u16>().unwrap_or(0))
+}
+
+/// Writes so many texts, each with its number from 1 in the middle.
+fn push_each(text: &mut String, front: &str, count: u16, back: &str) -> Result<(), AllocError> {
+    for number in 0..count {
+        write!(text, "{front}{}{back}", number as u32 + 1)?;
     }
+    Ok(())
 }
 
 /// Writes a list of names: a letter, and the numbers from 1.
-fn names_to(text: &mut String, field: &str, letter: char, count: u16) -> Result<(), AllocError> {
-    write!(text, "{field} = [")?;
-    for number in 0..count {
-        write!(text, "\"{letter}{}\", ", number as u32 + 1)?;
-    }
-    writeln!(text, "]")
+fn push_names(text: &mut String, front: &str, letter: &str, count: u16) -> Result<(), AllocError> {
+    text.push_str(front)?;
+    push_each(text, letter, count, "\", ")?;
+    push_line(text, "]")
 }
 
 /// Writes labels of sixteen levels, sixteen of each category.
-fn labels_to(text: &mut String, count: u16) -> Result<(), AllocError> {
+fn push_labels(text: &mut String, count: u16) -> Result<(), AllocError> {
     for number in 0..count {
         let (level, category) = (number % 16 + 1, number / 16 + 1);
-        writeln!(text, "[[label]]\nname = \"A{}\"", number as u32 + 1)?;
-        writeln!(text, "level = \"L{level}\"\ncategories = [\"K{category}\"]")?;
-    }
-    Ok(())
-}
-
-fn users_to(text: &mut String, count: u16) -> Result<(), AllocError> {
-    for number in 0..count {
-        writeln!(text, "[[user]]\nname = \"U{}\"", number as u32 + 1)?;
-        writeln!(text, "clearance = \"A1\"")?;
-    }
-    Ok(())
-}
-
-fn entries_to(text: &mut String, count: u16) -> Result<(), AllocError> {
-    for number in 0..count {
-        writeln!(text, "[[matrix]]\nuser = \"U1\"")?;
-        writeln!(
+        write!(
             text,
-            "object = \"T{}\"\nmodes = [\"read\"]",
+            "[[label]]\nname = \"A{}\"\nlevel = \"L{level}\"\ncategories = [\"K{category}\"]\n",
             number as u32 + 1
         )?;
     }
     Ok(())
 }
 
-fn policy_of(alloc: Global, head: &str) -> Result<String, AllocError> {
-    let mut text = String::from_str(alloc, "version = 1\n")?;
-    names_to(&mut text, "levels", 'L', count_of(head, "levels"))?;
-    names_to(&mut text, "categories", 'K', count_of(head, "categories"))?;
-    labels_to(&mut text, count_of(head, "labels"))?;
-    users_to(&mut text, count_of(head, "users"))?;
-    entries_to(&mut text, count_of(head, "entries"))?;
-    Ok(text)
+/// The parts of a policy in their order: levels, categories, labels, users and entries of the matrix.
+fn push_policy(text: &mut String, words: &[&str]) -> Result<(), AllocError> {
+    push_names(text, "levels = [", "\"L", count_at(words, 2))?;
+    push_names(text, "categories = [", "\"K", count_at(words, 4))?;
+    push_labels(text, count_at(words, 6))?;
+    push_each(
+        text,
+        "[[user]]\nname = \"U",
+        count_at(words, 8),
+        "\"\nclearance = \"A1\"\n",
+    )?;
+    push_each(
+        text,
+        "[[matrix]]\nuser = \"U1\"\nobject = \"T",
+        count_at(words, 10),
+        "\"\nmodes = [\"read\"]\n",
+    )
 }
 
-/// Writes so many tables of attributes.
-fn attributes_to(
-    text: &mut String,
-    table: &str,
-    letter: char,
-    count: u16,
-) -> Result<(), AllocError> {
-    for number in 0..count {
-        writeln!(
-            text,
-            "[[relation.{table}]]\nname = \"{letter}{}\"",
-            number as u32 + 1
-        )?;
-        writeln!(text, "kind = \"int\"\nlow = \"U\"\nhigh = \"H\"")?;
-    }
-    Ok(())
-}
+const ATTRIBUTE: &str = "\"\nkind = \"int\"\nlow = \"U\"\nhigh = \"H\"\n";
 
-fn schemes_of(alloc: Global, head: &str) -> Result<String, AllocError> {
-    let mut text = String::from_str(alloc, "version = 1\n")?;
-    for number in 0..count_of(head, "relations") {
+/// The relations of schemes, each with its key and other attributes.
+fn push_schemes(text: &mut String, words: &[&str]) -> Result<(), AllocError> {
+    for number in 0..count_at(words, 2) {
         writeln!(text, "[[relation]]\nname = \"R{}\"", number as u32 + 1)?;
-        attributes_to(&mut text, "key", 'k', count_of(head, "keys"))?;
-        attributes_to(&mut text, "attribute", 'a', count_of(head, "attributes"))?;
+        push_each(
+            text,
+            "[[relation.key]]\nname = \"k",
+            count_at(words, 4),
+            ATTRIBUTE,
+        )?;
+        push_each(
+            text,
+            "[[relation.attribute]]\nname = \"a",
+            count_at(words, 6),
+            ATTRIBUTE,
+        )?;
     }
-    Ok(text)
+    Ok(())
 }
 
-/// Lines in a row that begin with one word.
-#[derive(Clone, Copy, Debug)]
-struct Run<'a> {
-    word: &'a str,
-    count: usize,
-    first: &'a str,
-    last: &'a str,
+fn document_of(alloc: Global, head: &str) -> Result<String, AllocError> {
+    let words: Vec<&str> = head.split_ascii_whitespace().collect(alloc)?;
+    let mut text = String::from_str(alloc, "version = 1\n")?;
+    if head.starts_with("policy ") {
+        push_policy(&mut text, &words)?;
+    } else {
+        push_schemes(&mut text, &words)?;
+    }
+    Ok(text)
 }
 
 fn word_of(line: &str) -> &str {
     line.split_once(' ').map_or(line, |words| words.0)
 }
 
-fn tell_run(out: &mut String, run: Run<'_>) -> Result<(), AllocError> {
-    if run.count == 1 {
-        return writeln!(out, "  {}", run.first);
-    }
-    writeln!(out, "  {} lines: {} .. {}", run.count, run.first, run.last)
-}
-
-/// Tells a text by its runs of lines that begin with one word.
-fn tell_runs(out: &mut String, text: &str) -> Result<(), AllocError> {
-    let mut open: Option<Run<'_>> = None;
-    for line in text.lines() {
-        let next = match open {
-            Some(run) if run.word == word_of(line) => Run {
-                count: run.count.saturating_add(1),
-                last: line,
-                ..run
-            },
-            _ => {
-                if let Some(run) = open {
-                    tell_run(out, run)?;
-                }
-                Run {
-                    word: word_of(line),
-                    count: 1,
-                    first: line,
-                    last: line,
-                }
-            }
-        };
-        open = Some(next);
-    }
-    match open {
-        Some(run) => tell_run(out, run),
-        None => Ok(()),
+/// Whether no line, or one with another first word, stands before a line.
+fn begins_run(before: Option<&&str>, line: &str) -> bool {
+    match before {
+        Some(before) => word_of(before) != word_of(line),
+        None => true,
     }
 }
 
-/// Tells documents of so many parts. The first word of a case says what its document is.
-pub fn tell(alloc: Global, policy: &str, table: &str, out: &mut String) -> Result<(), AllocError> {
-    let Ok(policy) = Policy::read(alloc, policy.as_bytes()) else {
-        return writeln!(out, "no policy");
-    };
-    for case in cases_of(alloc, table)? {
-        let kind = word_of(case.head);
-        let text = if kind == "policy" {
-            policy_of(alloc, case.head)?
-        } else {
-            schemes_of(alloc, case.head)?
-        };
-        writeln!(out, "{}", case.head)?;
-        tell_runs(out, &told(alloc, kind, &policy, &text)?)?;
+/// The last of the lines that follow each other with one first word, and how many there are.
+fn end_of_run<'a>(first: &'a str, lines: &[&'a str]) -> (&'a str, usize) {
+    let mut last = first;
+    for (at, line) in lines.iter().enumerate() {
+        if word_of(line) != word_of(first) {
+            return (last, at);
+        }
+        last = line;
+    }
+    (last, lines.len())
+}
+
+fn tell_run(out: &mut String, first: &str, lines: &[&str]) -> Result<(), AllocError> {
+    match end_of_run(first, lines) {
+        (_, 1) => writeln!(out, "  {first}"),
+        (last, count) => writeln!(out, "  {count} lines: {first} .. {last}"),
+    }
+}
+
+/// Tells lines by their runs with one first word.
+fn tell_runs(out: &mut String, lines: &[&str]) -> Result<(), AllocError> {
+    let mut before = None;
+    for (at, line) in lines.iter().enumerate() {
+        if begins_run(before, line) {
+            tell_run(out, line, &lines[at..])?;
+        }
+        before = Some(line);
     }
     Ok(())
+}
+
+/// Tells a document of so many parts.
+pub fn tell(
+    alloc: Global,
+    policy: &Policy,
+    head: &str,
+    out: &mut String,
+) -> Result<(), AllocError> {
+    push_line(out, head)?;
+    let text = told(alloc, policy, head, &document_of(alloc, head)?)?;
+    let lines: Vec<&str> = text.lines().collect(alloc)?;
+    tell_runs(out, &lines)
 }

@@ -1,9 +1,10 @@
 //! Labels, users and rights of the sample policy.
-use crate::block::cases_of;
+ghost use Rattle.std.specs.Prelude.{◌<◌, length};
+
 use crate::tuples::name_of;
 use bitflags::Flags;
-use mls_lattice::{Label, Policy};
-use std::alloc::{AllocError, Global};
+use mls_lattice::{Label, Policy, UserNo};
+use std::alloc::AllocError;
 
 fn push_label(out: &mut String, label: Label) -> Result<(), AllocError> {
     write!(out, " rank {} categories {:b}", label.rank, label.cats)
@@ -26,30 +27,37 @@ fn value_of(policy: &Policy, name: &str) -> Option<Label> {
     }
 }
 
-/// Writes how two labels compare, their join and their meet.
-fn tell_labels(policy: &Policy, names: &str, out: &mut String) -> Result<(), AllocError> {
-    let (first, second) = names.split_once(' ').unwrap_or((names, ""));
-    let (Some(first), Some(second)) = (value_of(policy, first), value_of(policy, second)) else {
-        return out.push_str(" none");
-    };
-    let words = match (first.dominates(second), second.dominates(first)) {
+/// How a label compares with another.
+fn word_of(first: Label, second: Label) -> &'static str {
+    match (first.dominates(second), second.dominates(first)) {
         (true, true) => " equal",
         (true, false) => " above",
         (false, true) => " below",
         (false, false) => " incomparable",
-    };
-    out.push_str(words)?;
+    }
+}
+
+/// Writes how two labels compare, their join and their meet.
+fn push_labels(out: &mut String, first: Label, second: Label) -> Result<(), AllocError> {
+    out.push_str(word_of(first, second))?;
     out.push_str(", join")?;
     push_label(out, first.join(second))?;
     out.push_str(", meet")?;
     push_label(out, first.meet(second))
 }
 
+fn tell_labels(policy: &Policy, names: &str, out: &mut String) -> Result<(), AllocError> {
+    let (first, second) = names.split_once(' ').unwrap_or((names, ""));
+    match (value_of(policy, first), value_of(policy, second)) {
+        (Some(first), Some(second)) => push_labels(out, first, second),
+        _ => out.push_str(" none"),
+    }
+}
+
 /// Writes the number of a user, its clearance and its trusted interval.
-fn tell_user(policy: &Policy, name: &str, out: &mut String) -> Result<(), AllocError> {
-    let Some(user) = policy.user(name) else {
-        return out.push_str(" none");
-    };
+fn push_user(policy: &Policy, user: UserNo, out: &mut String) -> Result<(), AllocError>
+    requires { user < length policy.now.users }
+{
     let clearance = name_of(policy, policy.clearance(user));
     write!(
         out,
@@ -59,14 +67,17 @@ fn tell_user(policy: &Policy, name: &str, out: &mut String) -> Result<(), AllocE
     )?;
     match policy.trusted(user) {
         Some((low, high)) => {
-            write!(
-                out,
-                " trusted {} to {}",
-                name_of(policy, low),
-                name_of(policy, high)
-            )
+            let (low, high) = (name_of(policy, low), name_of(policy, high));
+            write!(out, " trusted {low} to {high}")
         }
         None => Ok(()),
+    }
+}
+
+fn tell_user(policy: &Policy, name: &str, out: &mut String) -> Result<(), AllocError> {
+    match policy.user(name) {
+        Some(user) => push_user(policy, user, out),
+        None => out.push_str(" none"),
     }
 }
 
@@ -80,20 +91,14 @@ fn tell_modes(policy: &Policy, names: &str, out: &mut String) -> Result<(), Allo
 }
 
 /// Tells what a policy says of `label NAME`, `labels NAME NAME`, `user NAME` and `modes USER OBJECT`.
-pub fn tell(alloc: Global, policy: &str, table: &str, out: &mut String) -> Result<(), AllocError> {
-    let Ok(policy) = Policy::read(alloc, policy.as_bytes()) else {
-        return writeln!(out, "no policy");
-    };
-    for case in cases_of(alloc, table)? {
-        let (kind, names) = case.head.split_once(' ').unwrap_or((case.head, ""));
-        write!(out, "{}:", case.head)?;
-        match kind {
-            "label" => tell_label(&policy, names, out)?,
-            "labels" => tell_labels(&policy, names, out)?,
-            "user" => tell_user(&policy, names, out)?,
-            _ => tell_modes(&policy, names, out)?,
-        }
-        out.push('\n')?;
+pub fn tell(policy: &Policy, head: &str, out: &mut String) -> Result<(), AllocError> {
+    let (kind, names) = head.split_once(' ').unwrap_or((head, ""));
+    write!(out, "{head}:")?;
+    match kind {
+        "label" => tell_label(policy, names, out)?,
+        "labels" => tell_labels(policy, names, out)?,
+        "user" => tell_user(policy, names, out)?,
+        _ => tell_modes(policy, names, out)?,
     }
-    Ok(())
+    out.push('\n')
 }

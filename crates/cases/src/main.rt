@@ -1,32 +1,49 @@
 //! Cases: what the public calls answer for the tables in `data/`. Adding a case is adding a line there, and its answer to `stdout`.
 #![tactic(auto)]
 
-mod block;
+ghost use Rattle.std.specs.Prelude.{length};
+ghost use Rattle.mls_scheme.specs.Scheme.{AreUnder};
+
 mod certificates;
-mod desk;
 mod documents;
 mod entries;
 mod keys;
 mod limits;
 mod lookups;
-mod policies;
 mod reads;
-mod schemes;
-mod scripts;
 mod show;
 mod table;
 mod tuples;
 mod views;
-mod writers;
 
 use crate::table::{TABLES, tell};
-use std::io::{self, Write};
+use mls_lattice::Policy;
+use mls_scheme::Schemes;
+use std::fs;
+use std::io::{self, Error, ErrorKind, Write};
 
-fn main(rt: HostRuntime) -> io::Result<()> {
-    let mut out = rt.stdout();
+fn tell_tables(rt: &HostRuntime, policy: &Policy, schemes: &Schemes) -> io::Result<()>
+    requires { AreUnder (length policy.now.labels) schemes.now }
+{
     for table in TABLES {
-        let text = tell(&rt, table)?;
-        out.write_all(text.as_bytes())?;
+        let text = tell(rt, policy, schemes, table)?;
+        rt.stdout().write_all(text.as_bytes())?;
     }
     Ok(())
+}
+
+fn tell_under(rt: &HostRuntime, policy: &Policy) -> io::Result<()> {
+    let text = fs::read_to_string(rt, "schemes.toml")?;
+    match Schemes::read(rt.alloc(), policy, text.as_bytes()) {
+        Ok(schemes) => tell_tables(rt, policy, &schemes),
+        Err(_) => Err(Error::from(ErrorKind::InvalidData)),
+    }
+}
+
+fn main(rt: HostRuntime) -> io::Result<()> {
+    let text = fs::read_to_string(&rt, "policy.toml")?;
+    match Policy::read(rt.alloc(), text.as_bytes()) {
+        Ok(policy) => tell_under(&rt, &policy),
+        Err(_) => Err(Error::from(ErrorKind::InvalidData)),
+    }
 }

@@ -3,8 +3,9 @@ ghost use Rattle.std.specs.Prelude.{length};
 ghost use Rattle.std.specs.List.{AllByRecursion};
 ghost use Rattle.mls_scheme.specs.Tuple.{HasClassesBelow};
 
-use crate::block::{Case, cases_of};
-use crate::tuples::{TupleFault, label_of, push_tuple, tuples_of};
+use crate::tuples::{TupleFault, label_of, tuples_of};
+use crate::views::push_rows;
+use case_tables::{Case, push_line};
 use mls_filterview::{Base, BaseFault, Cell, Fragment, Node, view};
 use mls_lattice::{Items, LabelNo, Policy};
 use mls_scheme::{Place, RelNo, Tuple, Value, copy_key, tuple_class};
@@ -179,37 +180,29 @@ fn view_of(
     Ok(view(alloc, &mut base, policy, RelNo::new(0), level))
 }
 
-fn tell_case(
+fn tell_view(
     alloc: Global,
     policy: &Policy,
     case: &Case<'_>,
     out: &mut String,
 ) -> Result<(), TupleFault> {
-    let labels = case.head.split_once(':').map_or(case.head, |parts| parts.0);
-    let labels = labels.split_once(' ').unwrap_or((labels, ""));
-    match view_of(alloc, policy, labels, &case.body)? {
-        Ok(rows) => {
-            for row in rows {
-                out.push_str("  ")?;
-                push_tuple(out, policy, &row)?;
-                out.push('\n')?;
-            }
-        }
-        Err(fault) => writeln!(out, "  {fault:?}")?,
+    let labels = case.head.split_once(' ').unwrap_or((case.head, ""));
+    match view_of(alloc, policy, labels, case.body)? {
+        Ok(rows) => Ok(push_rows(out, policy, &rows)?),
+        Err(fault) => Ok(writeln!(out, "  {fault:?}")?),
     }
-    Ok(())
 }
 
-/// Tells views: a case is `LABEL BROKEN: title`, and the tuples of the base below.
-pub fn tell(alloc: Global, policy: &str, table: &str, out: &mut String) -> Result<(), AllocError> {
-    let Ok(policy) = Policy::read(alloc, policy.as_bytes()) else {
-        return writeln!(out, "no policy");
-    };
-    for case in cases_of(alloc, table)? {
-        writeln!(out, "{}", case.head)?;
-        if let Err(fault) = tell_case(alloc, &policy, &case, out) {
-            writeln!(out, "  {fault:?}")?;
-        }
+/// Tells views: a case is `LABEL BROKEN`, and the tuples of the base below.
+pub fn tell(
+    alloc: Global,
+    policy: &Policy,
+    case: &Case<'_>,
+    out: &mut String,
+) -> Result<(), AllocError> {
+    push_line(out, case.head)?;
+    match tell_view(alloc, policy, case, out) {
+        Ok(()) => Ok(()),
+        Err(fault) => writeln!(out, "  {fault:?}"),
     }
-    Ok(())
 }

@@ -1,14 +1,17 @@
 //! The tables, in the order in which they are told.
-use crate::{
-    certificates, documents, entries, keys, limits, lookups, policies, reads, schemes, scripts,
-    views, writers,
-};
+ghost use Rattle.std.specs.Prelude.{length};
+ghost use Rattle.mls_scheme.specs.Scheme.{AreUnder};
+
+use crate::{certificates, documents, entries, keys, limits, lookups, reads, views};
+use case_tables::{Case, case_at};
+use mls_lattice::Policy;
+use mls_scheme::Schemes;
 use std::alloc::{AllocError, Global};
 use std::rt::Files;
 use std::{fs, io};
 
 /// What the cases of a file are about.
-#[derive(Clone, Copy, PartialEq, Eq, Debug)]
+#[derive(Clone, Copy)]
 pub enum Table {
     Policies,
     Schemes,
@@ -19,14 +22,10 @@ pub enum Table {
     Entries,
     Views,
     Reads,
-    ScriptFaults,
-    Scripts,
-    Commands,
-    Writers,
     Certificates,
 }
 
-pub const TABLES: [Table; 14] = [
+pub const TABLES: [Table; 10] = [
     Table::Policies,
     Table::Schemes,
     Table::Documents,
@@ -36,19 +35,8 @@ pub const TABLES: [Table; 14] = [
     Table::Entries,
     Table::Views,
     Table::Reads,
-    Table::ScriptFaults,
-    Table::Scripts,
-    Table::Commands,
-    Table::Writers,
     Table::Certificates,
 ];
-
-/// The policy and the schemes that other tables are read under.
-#[derive(Drop)]
-struct Samples {
-    policy: String,
-    schemes: String,
-}
 
 impl Table {
     fn file(self) -> &'static str {
@@ -62,50 +50,66 @@ impl Table {
             Table::Entries => "entries.txt",
             Table::Views => "views.txt",
             Table::Reads => "reads.txt",
-            Table::Scripts => "scripts.txt",
-            Table::ScriptFaults => "script_faults.txt",
-            Table::Commands => "commands.txt",
-            Table::Writers => "writers.txt",
             Table::Certificates => "certificates.txt",
         }
     }
 }
 
-/// What is told of the cases of a table.
-pub fn tell<R: Files + AllocGlobal>(rt: &R, table: Table) -> io::Result<String> {
+/// What is told of the cases of a table, under the sample policy and schemes.
+pub fn tell<R: Files + AllocGlobal>(
+    rt: &R,
+    policy: &Policy,
+    schemes: &Schemes,
+    table: Table,
+) -> io::Result<String>
+    requires { AreUnder (length policy.now.labels) schemes.now }
+{
     let text = fs::read_to_string(rt, table.file())?;
-    let samples = Samples {
-        policy: fs::read_to_string(rt, "policy.toml")?,
-        schemes: fs::read_to_string(rt, "schemes.toml")?,
-    };
     let mut out = String::new(rt.alloc());
     writeln!(out, "== {}", table.file())?;
-    tell_cases(rt, table, &samples, &text, &mut out)?;
+    tell_text(rt.alloc(), policy, schemes, table, &text, &mut out)?;
     Ok(out)
 }
 
-fn tell_cases<R: Files + AllocGlobal>(
-    rt: &R,
+fn tell_text(
+    alloc: Global,
+    policy: &Policy,
+    schemes: &Schemes,
     table: Table,
-    samples: &Samples,
     text: &str,
     out: &mut String,
-) -> Result<(), AllocError> {
-    let policy = samples.policy.as_str();
+) -> Result<(), AllocError>
+    requires { AreUnder (length policy.now.labels) schemes.now }
+{
+    let lines: Vec<&str> = text.lines().collect(alloc)?;
+    for at in 0..lines.len() {
+        if let Some(case) = case_at(&lines[at..]) {
+            tell_case(alloc, policy, schemes, table, &case, out)?;
+        }
+    }
+    Ok(())
+}
+
+fn tell_case(
+    alloc: Global,
+    policy: &Policy,
+    schemes: &Schemes,
+    table: Table,
+    case: &Case<'_>,
+    out: &mut String,
+) -> Result<(), AllocError>
+    requires { AreUnder (length policy.now.labels) schemes.now }
+{
     match table {
-        Table::Policies => policies::tell(rt.alloc(), text, out),
-        Table::Schemes => schemes::tell(rt.alloc(), policy, text, out),
-        Table::Documents => documents::tell(rt.alloc(), policy, text, out),
-        Table::Limits => limits::tell(rt.alloc(), policy, text, out),
-        Table::Lookups => lookups::tell(rt.alloc(), policy, text, out),
-        Table::Keys => keys::tell(rt.alloc(), text, out),
-        Table::Entries => entries::tell(rt.alloc(), policy, text, out),
-        Table::Views => views::tell(rt.alloc(), policy, &samples.schemes, text, out),
-        Table::Reads => reads::tell(rt.alloc(), policy, text, out),
-        Table::ScriptFaults => scripts::tell_faults(rt, text, out),
-        Table::Scripts => scripts::tell(rt, text, out),
-        Table::Commands => scripts::tell_commands(rt, text, out),
-        Table::Writers => writers::tell(rt, text, out),
-        Table::Certificates => certificates::tell(rt.alloc(), text, out),
+        Table::Policies => documents::tell_policy(alloc, case.head, out),
+        Table::Schemes => documents::tell_schemes(alloc, policy, case.head, out),
+        Table::Documents => documents::tell(alloc, policy, case, out),
+        Table::Limits => limits::tell(alloc, policy, case.head, out),
+        Table::Lookups => lookups::tell(policy, case.head, out),
+        Table::Keys => keys::tell(alloc, case.head, out),
+        Table::Entries => entries::tell(alloc, policy, case, out),
+        Table::Views => views::tell(alloc, policy, schemes, case, out),
+        Table::Reads => reads::tell(alloc, policy, case, out),
+        Table::Certificates => certificates::tell(alloc, case.head, out),
     }
 }

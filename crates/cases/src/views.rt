@@ -4,12 +4,22 @@ ghost use Rattle.std.specs.List.{AllByRecursion};
 ghost use Rattle.mls_scheme.specs.Scheme.{AreUnder};
 ghost use Rattle.mls_scheme.specs.Tuple.{HasClassesBelow};
 
-use crate::block::{Case, cases_of};
 use crate::tuples::{TupleFault, label_of, push_tuple, tuples_of};
+use case_tables::{Case, push_line};
 use mls_filterview::{filter, integrity, subsumes};
 use mls_lattice::Policy;
 use mls_scheme::{Schemes, Tuple, tuple_class};
 use std::alloc::{AllocError, Global};
+
+/// Writes a line for each tuple.
+pub fn push_rows(out: &mut String, policy: &Policy, rows: &[Tuple]) -> Result<(), AllocError> {
+    for row in rows {
+        out.push_str("  ")?;
+        push_tuple(out, policy, row)?;
+        out.push('\n')?;
+    }
+    Ok(())
+}
 
 fn tell_filter(
     alloc: Global,
@@ -21,12 +31,8 @@ fn tell_filter(
     requires { AllByRecursion (HasClassesBelow (length policy.now.labels)) tuples.now }
 {
     let level = label_of(policy, level)?;
-    for row in filter(alloc, policy, tuples, level)? {
-        out.push_str("  ")?;
-        push_tuple(out, policy, &row)?;
-        out.push('\n')?;
-    }
-    Ok(())
+    let rows = filter(alloc, policy, tuples, level)?;
+    Ok(push_rows(out, policy, &rows)?)
 }
 
 fn tell_integrity(
@@ -85,7 +91,7 @@ fn tell_case(
 ) -> Result<(), TupleFault>
     requires { AreUnder (length policy.now.labels) schemes.now }
 {
-    let tuples = tuples_of(alloc, policy, &case.body)?;
+    let tuples = tuples_of(alloc, policy, case.body)?;
     let words = case.head.split_once(':').map_or(case.head, |parts| parts.0);
     match words.split_once(' ') {
         Some(("filter", level)) => tell_filter(alloc, policy, level, &tuples, out),
@@ -95,37 +101,19 @@ fn tell_case(
     }
 }
 
-fn tell_cases(
+/// Tells of lists of tuples: a case is `filter LABEL: title`, `integrity RELATION: title`, `subsumes: title` or `classes: title`.
+pub fn tell(
     alloc: Global,
     policy: &Policy,
     schemes: &Schemes,
-    table: &str,
+    case: &Case<'_>,
     out: &mut String,
 ) -> Result<(), AllocError>
     requires { AreUnder (length policy.now.labels) schemes.now }
 {
-    for case in cases_of(alloc, table)? {
-        writeln!(out, "{}", case.head)?;
-        if let Err(fault) = tell_case(alloc, policy, schemes, &case, out) {
-            writeln!(out, "  {fault:?}")?;
-        }
-    }
-    Ok(())
-}
-
-/// Tells of lists of tuples: a case is `filter LABEL: title`, `integrity RELATION: title`, `subsumes: title` or `classes: title`.
-pub fn tell(
-    alloc: Global,
-    policy: &str,
-    schemes: &str,
-    table: &str,
-    out: &mut String,
-) -> Result<(), AllocError> {
-    let Ok(policy) = Policy::read(alloc, policy.as_bytes()) else {
-        return writeln!(out, "no policy");
-    };
-    match Schemes::read(alloc, &policy, schemes.as_bytes()) {
-        Ok(schemes) => tell_cases(alloc, &policy, &schemes, table, out),
-        Err(_) => writeln!(out, "no schemes"),
+    push_line(out, case.head)?;
+    match tell_case(alloc, policy, schemes, case, out) {
+        Ok(()) => Ok(()),
+        Err(fault) => writeln!(out, "  {fault:?}"),
     }
 }

@@ -1,6 +1,7 @@
 -- Labels, by place and by number.
-use Rattle.std.proofs.Common.{◌≡◌, ℕ, ◌<◌, ◌≤◌, Bool, true, false, List, length, map, get_or, refl, sym, arith}
+use Rattle.std.proofs.Common.{◌≡◌, ℕ, ◌<◌, ◌≤◌, Bool, List, length, map, get_or, refl, arith}
 use Rattle.std.specs.Prelude.{◌↔◌, IsTrue}
+use Rattle.std.specs.Cmp.{both_ways}
 use Rattle.std.proofs.lemmas.List.{get_or-map, get_or_past, length-map}
 use Rattle.mls_lattice.specs.declared.label.Label.{Label}
 use Rattle.mls_lattice.specs.Lattice.{Pair, Dominates, ◌⊑◌, bottom, cats_of, cats_below, pair_of}
@@ -12,14 +13,9 @@ pub bottom_pair : pair_of (record { rank = 0; cats = 0 }) ≡ bottom
 unfolding cats_of cats_below
 bottom_pair = refl
 
-same_bools : (a b : Bool) → (a ≡ true → b ≡ true) → (b ≡ true → a ≡ true) → a ≡ b
-same_bools true b f g = sym (f refl)
-same_bools false true f g = g refl
-same_bools false false f g = refl
-
 -- the test is the relation
 pub test_dominates : (b : Bool) (p q : Pair) → (IsTrue b ↔ Dominates q p) → b ≡ (p ⊑ q)
-test_dominates b p q h = same_bools b (p ⊑ q) (λ e. Dominates-⊑ p q (h.0 e)) (λ e. h.1 (⊑-Dominates p q e))
+test_dominates b p q h = both_ways b (p ⊑ q) (λ e. Dominates-⊑ p q (h.0 e)) (λ e. h.1 (⊑-Dominates p q e))
 
 pub label_here : (labels : List Label) (place : ℕ) (d : Label) → place < length labels → get_or (map pair_of labels) place bottom ≡ pair_of (get_or labels place d)
 label_here labels place d lt = get_or-map pair_of labels place d bottom lt

@@ -4,6 +4,7 @@ use Rattle.std.specs.List.{flat_map}
 use Rattle.std.proofs.lemmas.List.{append-nil}
 use Rattle.std.proofs.Math.Seq.{drop-cons}
 use Rattle.std.proofs.Math.ListN.{drop_of_length-le}
+use Rattle.std.proofs.lemmas.List.Concat.{flat_map-append}
 use Rattle.mls_lattice.specs.Reading.{◌>>=◌}
 use Rattle.mls_translang.specs.Tree.{Expr, Stmt as Simple, Assign, Write_at, Inserting, Updating, Deleting, Release, Emit, Block, End, Do, If, For, statements}
 use Rattle.mls_translang.specs.Tx.{depth}
@@ -23,10 +24,6 @@ verdict-append [] us = refl
 verdict-append (t ∷ ts) us =
     let more : verdict (ts ++ us) ≡ (verdict ts >>= λ _. verdict us) = verdict-append ts us in
     elim t.0 as (λ b. cond b (verdict (ts ++ us)) (Err t.1) ≡ (cond b (verdict ts) (Err t.1) >>= λ _. verdict us)) [ true ↦ more | false ↦ refl ]
-
-flat_map-append : {A B : Type 0} (f : A → List B) (xs ys : List A) → flat_map f (xs ++ ys) ≡ flat_map f xs ++ flat_map f ys
-flat_map-append f [] ys = refl
-flat_map-append f (x ∷ xs) ys = ap (λ zs. f x ++ zs) (flat_map-append f xs ys) ∙ sym (append_assoc (f x) (flat_map f xs) (flat_map f ys))
 
 abbrev pub all_of : Claim → List Place → Result (Unit {0}) Refusal
 all_of c ps = verdict (flat_map (tests_at c) ps)

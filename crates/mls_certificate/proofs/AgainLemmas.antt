@@ -1,12 +1,12 @@
 -- What is written of a certificate is read again.
-use Rattle.std.proofs.Common.{◌≡◌, ℕ, suc, ◌+◌, ◌-◌, ◌/◌, ◌%◌, ◌<◌, ◌≤◌, ◌^◌, ◌⊎◌, Bool, true, false, cond, ◌||◌, ◌&&◌, ◌==◌, nat_lt, nat_le, List, [], ◌∷◌, ◌++◌, length, map, take, drop, codes, inl, inr, Result, Ok, refl, sym, ap, ◌∙◌, append_assoc, arith, ne_eqb, le-ltb, lt-ltb}
+use Rattle.std.proofs.Common.{◌≡◌, ℕ, suc, ◌+◌, ◌-◌, ◌/◌, ◌%◌, ◌<◌, ◌≤◌, ◌^◌, ◌⊎◌, Bool, true, false, cond, ◌&&◌, ◌==◌, nat_lt, nat_le, List, [], ◌∷◌, ◌++◌, length, map, take, drop, codes, inl, inr, Result, Ok, refl, sym, ap, ◌∙◌, append_assoc, arith, ne_eqb, le-ltb, lt-ltb}
 use Rattle.std.specs.Prelude.{slice_index}
 use Rattle.std.specs.Char.{is_ascii_digit, digit_char}
 use Rattle.std.specs.Fmt.{decimal}
 use Rattle.std.specs.Int.{w32, to_be_bytes, from_be_bytes}
 use Rattle.std.specs.List.{AllByRecursion, All, flat_map}
 use Rattle.std.specs.Str.Parse.{digits_value, AllDigits}
-use Rattle.std.proofs.lemmas.Bool.{cases_lt}
+use Rattle.std.proofs.lemmas.Bool.{cases_lt, or_right}
 use Rattle.std.proofs.lemmas.Bool.Decides.{nat_tests}
 use Rattle.std.proofs.lemmas.Fmt.{decimal_is_IsNumeral, decimal_digit, first_decimal}
 use Rattle.std.proofs.lemmas.List.{append-nil, length-append}
@@ -24,6 +24,9 @@ use Rattle.mls_certificate.specs.Spelling.{byte_text, label_text, spaced_label, 
 
 abbrev pub done : {A : Type 0} → A → Result A CertFault
 done x = Ok x
+
+pub ok_is : {A : Type 0} (x y : A) → done x ≡ done y → x ≡ y
+ok_is x y e = cc
 
 -- ---- bytes above a mark are cut nowhere
 
@@ -71,17 +74,13 @@ labels_above (l ∷ ls) is = Above-append 10 (spaced_label l) (flat_map spaced_l
 
 -- ---- labels
 
-or_true : (b : Bool) → (b || true) ≡ true
-or_true true = refl
-or_true false = refl
-
 shown : (text : List ℕ) → 0 < length text → are_digits text ≡ true → (length text ≡ 1) ⊎ (48 < slice_index text 0) → is_decimal text ≡ true
 unfolding is_decimal
 shown text some digits (inl one) = rw (digits, one) refl
 shown text some digits (inr more) =
     let full : (length text == 0) ≡ false = ne_eqb _ 0 (λ e. omega arith) in
     let lead : (slice_index text 0 == 48) ≡ false = ne_eqb _ 48 (λ e. omega arith) in
-    rw (full, digits, lead) (or_true (length text == 1))
+    rw (full, digits, lead) (or_right (length text == 1) true refl)
 
 decimal_shown : (n : ℕ) → n < 256 → is_decimal (decimal n) ≡ true
 decimal_shown n small =
@@ -201,9 +200,6 @@ unfolding cert_at cert_in
 cert_again c is =
     ap cert_at (lines_again c is)
     ∙ rw (vars_again 1 c.var_labels is.0, pcs_again 2 c.pc_labels is.1) refl
-
-ok_is : (c d : Cert) → done c ≡ done d → c ≡ d
-ok_is c d e = cc
 
 -- no two certificates have one text
 pub unambiguous : AreUnambiguous

@@ -18,15 +18,12 @@ use Rattle.mls_lattice.specs.declared.label.Label.{Label}
 use Rattle.mls_lattice.specs.Reading.{◌>>=◌}
 use Rattle.mls_lattice.proofs.ReadingLemmas.{bind_ok, guard_ok, pass_ok}
 use Rattle.mls_certificate.proofs.LabelLemmas.{own, some_digits}
-use Rattle.mls_certificate.proofs.AgainLemmas.{done}
+use Rattle.mls_certificate.proofs.AgainLemmas.{ok_is}
 use Rattle.mls_certificate.specs.declared.cert.Cert.{Cert}
 use Rattle.mls_certificate.specs.declared.fault.CertFault.{CertFault}
 use Rattle.mls_certificate.specs.declared.fault.CertCause.TheVariants.{Label as BadLabel}
 use Rattle.mls_certificate.specs.Reading.{Gives, refused, pieces, is_decimal, number_in, rank_in, digit_in, byte_in, bytes_in, cats_in, label_in, labels_in, worded_in, line_in, cert_in, is_end, cert_at, text_in}
 use Rattle.mls_certificate.specs.Spelling.{byte_text, label_text, spaced_label, labels_line, cert_text, IsLabel, IsCert}
-
-pub ok_is : {A : Type 0} (x y : A) → done x ≡ done y → x ≡ y
-ok_is x y e = cc
 
 -- ---- ranks
 

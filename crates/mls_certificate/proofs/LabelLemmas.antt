@@ -1,11 +1,12 @@
 -- The numbers in a label.
-use Rattle.std.proofs.Common.{◌≡◌, ℕ, zero, suc, ◌<◌, true, not, ◌==◌, nat_lt, List, [], ◌∷◌, length, Result, Ok, Err, refl, sym, ap, rules, arith}
+use Rattle.std.proofs.Common.{◌≡◌, ℕ, ◌<◌, true, not, ◌==◌, nat_lt, List, [], ◌∷◌, length, Result, Ok, Err, refl, sym, ap, rules, arith}
 use Rattle.std.specs.Prelude.{MatchResult, IsOk, IsUtf8}
 use Rattle.std.specs.Str.{IsAscii}
 use Rattle.std.specs.Str.Parse.{digits_value, ParsesUnsigned}
 use Rattle.std.specs.Char.{is_ascii_digit}
 use Rattle.std.proofs.lemmas.Bool.{and_parts, lt-ltb, ltb-true, false_from_ne_true}
 use Rattle.std.proofs.lemmas.Bool.Decides.{nat_tests}
+use Rattle.std.proofs.lemmas.Str.Ascii.{IsAscii-cons}
 use Rattle.std.proofs.lemmas.Str.Parse.{IsNumeralModel, IsDigitsTest, numerals_by_value, parse_digits}
 use Rattle.std.proofs.lemmas.Str.{IsUtf8-from_ascii}
 use Rattle.mls_certificate.specs.declared.fault.CertCause.TheVariants.{Label as BadLabel}
@@ -20,13 +21,9 @@ own = numerals_by_value (λ ds. are_digits ds ≡ true) digits_test
 digit_small : (b : ℕ) → is_ascii_digit b ≡ true → b < 128
 digit_small b h = grind (arith, nat_tests)
 
-pub cons_ascii : (b : ℕ) (bs : List ℕ) → b < 128 → IsAscii bs → IsAscii (b ∷ bs)
-cons_ascii b bs small rest zero = small
-cons_ascii b bs small rest (suc i) = rest i
-
 pub digits_ascii : (ds : List ℕ) → are_digits ds ≡ true → IsAscii ds
 digits_ascii [] h = λ i. omega arith
-digits_ascii (d ∷ ds) h = let p = and_parts _ _ h in cons_ascii d ds (digit_small d p.0) (digits_ascii ds p.1)
+digits_ascii (d ∷ ds) h = let p = and_parts _ _ h in IsAscii-cons d ds (digit_small d p.0) (digits_ascii ds p.1)
 
 pub decimal_ascii : (text : List ℕ) → is_decimal text ≡ true → IsAscii text
 unfolding is_decimal

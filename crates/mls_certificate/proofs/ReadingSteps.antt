@@ -2,6 +2,7 @@
 use Rattle.std.proofs.Common.{◌≡◌, ℕ, ◌+◌, ◌-◌, ◌≤◌, Bool, true, false, cond, ◌==◌, List, [], ◌∷◌, ◌++◌, length, map, take, drop, get_or, codes, Option, Some, None, Result, Ok, Err, refl, sym, ap, ◌∙◌, arith, Bor}
 use Rattle.std.proofs.lemmas.List.{drop-map, drop-drop, take_all, length-drop}
 use Rattle.mls_lattice.specs.Reading.{◌>>=◌}
+use Rattle.mls_lattice.proofs.ReadingLemmas.{bind_ok}
 use Rattle.mls_certificate.specs.declared.fault.CertFault.{CertFault}
 use Rattle.mls_certificate.specs.declared.fault.CertCause.TheVariants.{Line}
 use Rattle.mls_certificate.specs.Reading.{Block, refused, name_in, line_in, block_in, end_in, step_in, blocks_in}
@@ -14,11 +15,6 @@ step_four blocks line (x ∷ []) d b long h = absurd (omega arith)
 step_four blocks line (x ∷ y ∷ []) d b long h = absurd (omega arith)
 step_four blocks line (x ∷ y ∷ z ∷ []) d b long h = absurd (omega arith)
 step_four blocks line (x ∷ y ∷ z ∷ w ∷ rest) d b long h = rw h refl
-
--- the value of a step that did not fail
-pub bind_ok : {A B : Type 0} (r : Result A CertFault) (f : A → Result B CertFault) (y : B) → (r >>= f) ≡ Ok y → (x : A) × (r ≡ Ok x) × (f x ≡ Ok y)
-bind_ok (Ok x) f y e = (x, refl, e)
-bind_ok (Err d) f y e = absurd cc
 
 bind_err : {A B : Type 0} (r : Result A CertFault) (f : A → B) (d : CertFault) → (r >>= (λ x. Ok (f x))) ≡ Err d → r ≡ Err d
 bind_err (Ok x) f d e = absurd cc

@@ -5,6 +5,7 @@ mod acting;
 mod host;
 mod refusal;
 mod samples;
+mod storing;
 mod words;
 
 pub use crate::acting::act;

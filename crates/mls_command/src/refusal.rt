@@ -2,7 +2,9 @@
 ghost use Rattle.std.specs.Prelude.{◌≡◌, ◌⊎◌};
 
 use crate::host::HostFault;
+use mls_certificate::{CertCause, CertFault};
 use mls_lattice::PolicyFault;
+use mls_parser::{TextCause, TextFault};
 use mls_scheme::SchemeFault;
 use mls_script::{ScriptCause, ScriptFault};
 use mls_sessions::{RunCause, RunFault};
@@ -10,10 +12,12 @@ use std::alloc::AllocError;
 use std::io::{self, Write};
 
 /// What an input is to the program.
-#[derive(Clone, Copy, PartialEq, Eq, Debug)]
+#[derive(Clone, Copy)]
 pub enum Role {
     Policy,
     Schemes,
+    Transactions,
+    Certificates,
     Script,
 }
 
@@ -22,13 +26,15 @@ impl Role {
         match self {
             Role::Policy => "policy",
             Role::Schemes => "schemes",
+            Role::Transactions => "transactions",
+            Role::Certificates => "certificates",
             Role::Script => "script",
         }
     }
 }
 
 /// Why a command ends without success.
-#[derive(Drop, Debug)]
+#[derive(Drop)]
 pub enum Refusal {
     /// The command line is bad, or asks for help: the text that is printed.
     Usage(String),
@@ -36,11 +42,42 @@ pub enum Refusal {
     TooLong(Role),
     Policy(PolicyFault),
     Schemes(SchemeFault),
+    Transactions(TextFault),
+    Certificates(CertFault),
     Script(ScriptFault),
     Run(RunFault),
     /// What a command other than a run prints was not taken.
     Output,
     Memory,
+}
+
+fn tell_input<W: Write>(err: &mut W, role: Role, word: &str) -> io::Result<()> {
+    writeln!(err, "mldb: {}: {word}", role.word())
+}
+
+fn tell_fault<W: Write>(err: &mut W, role: Role, code: u8, word: &str) -> io::Result<()> {
+    writeln!(err, "mldb: {}: {code} {word}", role.word())
+}
+
+fn tell_transactions<W: Write>(err: &mut W, fault: &TextFault) -> io::Result<()> {
+    let (code, word) = (fault.cause.code(), fault.cause.word());
+    let (line, column) = (fault.line, fault.column);
+    writeln!(err, "mldb: transactions: {code} {word} at {line}:{column}")
+}
+
+fn tell_certificates<W: Write>(err: &mut W, fault: &CertFault) -> io::Result<()> {
+    let (code, word) = (fault.cause.code(), fault.cause.word());
+    writeln!(err, "mldb: certificates: {code} {word} at {}", fault.line)
+}
+
+fn tell_script<W: Write>(err: &mut W, fault: &ScriptFault) -> io::Result<()> {
+    let (code, word) = (fault.cause.code(), fault.cause.word());
+    let (line, column) = (fault.line, fault.column);
+    writeln!(err, "mldb: script: {code} {word} at {line}:{column}")
+}
+
+fn tell_run<W: Write>(err: &mut W, fault: &RunFault) -> io::Result<()> {
+    writeln!(err, "mldb: run: {} at {}", fault.cause.word(), fault.event)
 }
 
 impl Refusal {
@@ -51,6 +88,15 @@ impl Refusal {
             (HostFault::TooLong, _) => Refusal::TooLong(role),
             (HostFault::Memory, Role::Policy) => Refusal::Policy(PolicyFault::Memory),
             (HostFault::Memory, Role::Schemes) => Refusal::Schemes(SchemeFault::Memory),
+            (HostFault::Memory, Role::Transactions) => Refusal::Transactions(TextFault {
+                line: 1,
+                column: 1,
+                cause: TextCause::Memory,
+            }),
+            (HostFault::Memory, Role::Certificates) => Refusal::Certificates(CertFault {
+                line: 1,
+                cause: CertCause::Memory,
+            }),
             (HostFault::Memory, Role::Script) => Refusal::Script(ScriptFault {
                 line: 1,
                 column: 1,
@@ -69,6 +115,8 @@ impl Refusal {
             | Refusal::Run(_)
             | Refusal::Output
             | Refusal::Memory => 3,
+            Refusal::Transactions(fault) if fault.cause == TextCause::Memory => 3,
+            Refusal::Certificates(fault) if fault.cause == CertCause::Memory => 3,
             Refusal::Script(fault) if fault.cause == ScriptCause::Memory => 3,
             _ => 2,
         }
@@ -77,31 +125,17 @@ impl Refusal {
     /// Writes the line that tells the refusal.
     pub fn tell<W: Write>(&self, err: &mut W) -> io::Result<()> {
         match self {
-            Refusal::Usage(text) => write!(err, "{text}"),
-            Refusal::Unreadable(role) => writeln!(err, "mldb: {}: unreadable", role.word()),
-            Refusal::TooLong(role) => writeln!(err, "mldb: {}: too long", role.word()),
-            Refusal::Policy(fault) => {
-                writeln!(err, "mldb: policy: {} {}", fault.code(), fault.word())
-            }
-            Refusal::Schemes(fault) => {
-                writeln!(err, "mldb: schemes: {} {}", fault.code(), fault.word())
-            }
-            Refusal::Script(fault) => {
-                let cause = fault.cause;
-                writeln!(
-                    err,
-                    "mldb: script: {} {} at {}:{}",
-                    cause.code(),
-                    cause.word(),
-                    fault.line,
-                    fault.column
-                )
-            }
-            Refusal::Run(fault) => {
-                writeln!(err, "mldb: run: {} at {}", fault.cause.word(), fault.event)
-            }
-            Refusal::Output => writeln!(err, "mldb: output: Write"),
-            Refusal::Memory => writeln!(err, "mldb: memory"),
+            Refusal::Usage(text) => err.write_all(text.as_bytes()),
+            Refusal::Unreadable(role) => tell_input(err, *role, "unreadable"),
+            Refusal::TooLong(role) => tell_input(err, *role, "too long"),
+            Refusal::Policy(fault) => tell_fault(err, Role::Policy, fault.code(), fault.word()),
+            Refusal::Schemes(fault) => tell_fault(err, Role::Schemes, fault.code(), fault.word()),
+            Refusal::Transactions(fault) => tell_transactions(err, fault),
+            Refusal::Certificates(fault) => tell_certificates(err, fault),
+            Refusal::Script(fault) => tell_script(err, fault),
+            Refusal::Run(fault) => tell_run(err, fault),
+            Refusal::Output => err.write_all(b"mldb: output: Write\n"),
+            Refusal::Memory => err.write_all(b"mldb: memory\n"),
         }
     }
 }
@@ -121,6 +155,18 @@ impl From<PolicyFault> for Refusal {
 impl From<SchemeFault> for Refusal {
     fn from(fault: SchemeFault) -> Refusal {
         Refusal::Schemes(fault)
+    }
+}
+
+impl From<TextFault> for Refusal {
+    fn from(fault: TextFault) -> Refusal {
+        Refusal::Transactions(fault)
+    }
+}
+
+impl From<CertFault> for Refusal {
+    fn from(fault: CertFault) -> Refusal {
+        Refusal::Certificates(fault)
     }
 }
 

@@ -13,22 +13,25 @@ Example:
   mldb run samples/policy.toml samples/schemes.toml samples/first.script
 ";
 
+/// The files of a run, each named by a path; transactions and certificates where they are given.
+#[derive(Clone, Copy)]
+pub struct RunFiles<'a> {
+    pub policy: &'a str,
+    pub schemes: &'a str,
+    pub transactions: Option<&'a str>,
+    pub certificates: Option<&'a str>,
+    pub script: &'a str,
+}
+
 /// What the words ask for.
-#[derive(Clone, Copy, Debug)]
+#[derive(Clone, Copy)]
 pub enum Job<'a> {
     /// The script on standard input, under the sample policy and schemes.
     Samples,
-    /// A script, under a policy and schemes, each named by a path.
-    Run {
-        policy: &'a str,
-        schemes: &'a str,
-        script: &'a str,
-    },
+    /// A script, under a policy and schemes.
+    Run(RunFiles<'a>),
     /// The canonical texts of a policy and schemes, each named by a path.
-    ShowPolicy {
-        policy: &'a str,
-        schemes: &'a str,
-    },
+    ShowPolicy { policy: &'a str, schemes: &'a str },
 }
 
 fn policy_argument<'a>(alloc: Global) -> Arg<'a> {
@@ -50,12 +53,28 @@ fn show_policy_command<'a>(alloc: Global) -> Result<Command<'a>, AllocError> {
         .arg(schemes_argument(alloc))
 }
 
+fn transactions_option<'a>(alloc: Global) -> Arg<'a> {
+    Arg::new(alloc, "transactions")
+        .long("transactions")
+        .value_name("FILE")
+        .help("The stored transactions, which the script can call")
+}
+
+fn certificates_option<'a>(alloc: Global) -> Arg<'a> {
+    Arg::new(alloc, "certificates")
+        .long("certificates")
+        .value_name("FILE")
+        .help("Their certificates: without one that holds, no call is allowed")
+}
+
 fn run_command<'a>(alloc: Global) -> Result<Command<'a>, AllocError> {
     let script = Arg::new(alloc, "SCRIPT")
         .required(true)
         .help("The commands of the sessions, one a line");
     Command::new(alloc, "run")
         .about("Runs a script, and prints a line for each reply")
+        .arg(transactions_option(alloc))?
+        .arg(certificates_option(alloc))?
         .arg(policy_argument(alloc))?
         .arg(schemes_argument(alloc))?
         .arg(script)
@@ -84,7 +103,7 @@ fn usage(alloc: Global, error: &Error) -> Refusal {
 fn no_command(alloc: Global) -> Refusal {
     match String::from_str(
         alloc,
-        "mldb: run POLICY SCHEMES SCRIPT | show-policy POLICY SCHEMES\n",
+        "mldb: run [--transactions FILE] [--certificates FILE] POLICY SCHEMES SCRIPT | show-policy POLICY SCHEMES\n",
     ) {
         Ok(text) => Refusal::Usage(text),
         Err(_) => Refusal::Memory,
@@ -92,11 +111,13 @@ fn no_command(alloc: Global) -> Refusal {
 }
 
 fn run_job<'a>(run: &ArgMatches<'a>) -> Option<Job<'a>> {
-    Some(Job::Run {
+    Some(Job::Run(RunFiles {
         policy: run.get_str("POLICY")?,
         schemes: run.get_str("SCHEMES")?,
+        transactions: run.get_str("transactions"),
+        certificates: run.get_str("certificates"),
         script: run.get_str("SCRIPT")?,
-    })
+    }))
 }
 
 fn show_policy_job<'a>(show: &ArgMatches<'a>) -> Option<Job<'a>> {
@@ -120,5 +141,8 @@ pub fn job_of<'a>(alloc: Global, words: &'a [&'a str]) -> Result<Job<'a>, Refusa
         Some(("show-policy", show)) => show_policy_job(show),
         _ => None,
     };
-    job.ok_or(no_command(alloc))
+    match job {
+        Some(job) => Ok(job),
+        None => Err(no_command(alloc)),
+    }
 }

@@ -45,6 +45,11 @@ pub each_among : {A : Type 0} (P : A → Type 0) (xs : List A) → ((x : A) → 
 each_among P [] h = tt
 each_among P (x ∷ xs) h = (h x (inl refl), each_among P xs (λ y i. h y (inr i)))
 
+pub all_at : {A : Type 0} (P : A → Type 0) (xs : List A) → AllByRecursion P xs → (x : A) → IsAmong x xs → P x
+all_at P [] h x i = absurd i
+all_at P (y ∷ ys) h x (inl e) = subst P (sym e) h.0
+all_at P (y ∷ ys) h x (inr i) = all_at P ys h.1 x i
+
 -- ---- appending, and the membership of std
 
 pub among_append : {A : Type 0} (xs ys : List A) (x : A) → IsAmong x (xs ++ ys) → IsAmong x xs ⊎ IsAmong x ys

@@ -1,13 +1,13 @@
 -- A list whose rows keep all rules has the tuples of a table of the stored form, and the other way round.
 use Rattle.std.proofs.Common.{◌≡◌, ℕ, zero, suc, ◌<◌, true, false, cond, List, [], ◌∷◌, length, Some, None, refl, sym, ap, ◌∙◌, subst, arith, inl, inr}
-use Rattle.std.specs.Prelude.{◌⊎◌, ◌↔◌, ⊤}
+use Rattle.std.specs.Prelude.{◌↔◌, ⊤}
 use Rattle.std.specs.List.{AllByRecursion}
 use Rattle.std.specs.FinMap.{get, empty, insert, get-empty}
 use Rattle.std.proofs.lemmas.Option.{same_Some, none-some}
 use Rattle.std.proofs.lemmas.Slice.Zip.{AllZip-long}
 use Rattle.mls_lattice.specs.Lattice.{Dominates}
 use Rattle.mls_lattice.specs.Labels.{Labels, label_of, below, AreDistinct}
-use Rattle.mls_lattice.proofs.LatticeLemmas.{below-refl, below-trans, Dominates-antisym}
+use Rattle.mls_lattice.proofs.LatticeLemmas.{below-refl, Dominates-antisym}
 use Rattle.mls_scheme.specs.declared.tuple.Element.{Element}
 use Rattle.mls_scheme.specs.declared.tuple.Tuple.{Tuple}
 use Rattle.mls_scheme.specs.declared.place.Place.{Place}
@@ -21,68 +21,15 @@ use Rattle.mls_filterview.specs.declared.rule.Rule.{Rule}
 use Rattle.mls_filterview.specs.declared.rule.Rule.TheVariants.{Entity, Null, Interval, Poly, Closure}
 use Rattle.mls_filterview.specs.View.{IsAmong}
 use Rattle.mls_filterview.specs.Stored.{with_class, AgreesBelow, IsStoredTuple, IsContent}
-use Rattle.mls_filterview.specs.Filtering.{EachOnce, greatest_from, class_number}
+use Rattle.mls_filterview.specs.Filtering.{EachOnce, class_number}
 use Rattle.mls_filterview.specs.Rules.{row_at, OccursIn, AreOfOneEntity, IsOfClass, IsFirstOfClass, HasBelow, IsClosed, Keeps, IsFirstBroken, IsStoredList}
 use Rattle.mls_filterview.specs.Checking.{broken_rule}
-use Rattle.mls_filterview.proofs.ClassLemmas.{join_of-first, join_of-each, join_of-least, below-Dominates, class_of_stored}
+use Rattle.mls_filterview.proofs.AmongLemmas.{all_at}
+use Rattle.mls_filterview.proofs.ClassLemmas.{IsTop, class_top, join_of-first, join_of-each, join_of-least, below-Dominates, class_of_stored}
 use Rattle.mls_filterview.proofs.SubsumptionLemmas.{same_tuple}
 use Rattle.mls_filterview.proofs.RuleLemmas.{row-among, among-row, none_broken, one_broken}
 
 -- ---- the class of a tuple whose classes are comparable
-
--- m is k or one of the classes of the elements
-abbrev IsClassFrom : ℕ → List Element → ℕ → Type 0
-IsClassFrom k es m = (m ≡ k) ⊎ ((i : ℕ) × (i < length es) × (m ≡ (at es i).class))
-
-record IsTop (ls : Labels) (k : ℕ) (es : List Element) (m : ℕ) : Type 0 where
-  pub own : IsClassFrom k es m
-  pub greatest : (a : ℕ) → IsClassFrom k es a → below ls a m ≡ true
-
-greatest_from_top : (ls : Labels) (k : ℕ) (es : List Element) → ((a b : ℕ) → IsClassFrom k es a → IsClassFrom k es b → (below ls a b ≡ true) ⊎ (below ls b a ≡ true)) → IsTop ls k es (greatest_from ls k es)
-greatest_from_top ls k [] c = record { own = inl refl; greatest = greatest }
-  where
-    greatest : (a : ℕ) → IsClassFrom k [] a → below ls a k ≡ true
-    greatest a (inl e) = ap (λ x. below ls x k) e ∙ below-refl ls k
-    greatest a (inr o) = absurd (let l = o.1 in omega arith)
-greatest_from_top ls k (e ∷ es) c =
-    elim (below ls k e.class) as (λ b. below ls k e.class ≡ b → IsTop ls k (e ∷ es) (greatest_from ls (cond b e.class k) es)) [
-      | true ↦ λ t. up t (greatest_from_top ls e.class es (λ a b o q. c a b (from_head a o) (from_head b q)))
-      | false ↦ λ t. stays t (greatest_from_top ls k es (λ a b o q. c a b (from_key a o) (from_key b q)))
-    ] refl
-  where
-    from_head : (a : ℕ) → IsClassFrom e.class es a → IsClassFrom k (e ∷ es) a
-    from_head a (inl q) = inr (0, omega arith, q)
-    from_head a (inr o) = inr (suc o.0, (let l = o.1 in omega arith), o.2)
-
-    from_key : (a : ℕ) → IsClassFrom k es a → IsClassFrom k (e ∷ es) a
-    from_key a (inl q) = inl q
-    from_key a (inr o) = inr (suc o.0, (let l = o.1 in omega arith), o.2)
-
-    up : below ls k e.class ≡ true → IsTop ls e.class es (greatest_from ls e.class es) → IsTop ls k (e ∷ es) (greatest_from ls e.class es)
-    up t top = record { own = from_head (greatest_from ls e.class es) top.own; greatest = greatest }
-      where
-        greatest : (a : ℕ) → IsClassFrom k (e ∷ es) a → below ls a (greatest_from ls e.class es) ≡ true
-        greatest a (inl q) = below-trans ls a e.class (greatest_from ls e.class es) (ap (λ x. below ls x e.class) q ∙ t) (top.greatest e.class (inl refl))
-        greatest a (inr (zero, l, q)) = top.greatest a (inl q)
-        greatest a (inr (suc i, l, q)) = top.greatest a (inr (i, omega arith, q))
-
-    under : below ls k e.class ≡ false → below ls e.class k ≡ true
-    under t = elim (c k e.class (inl refl) (inr (0, omega arith, refl))) [ inl h ↦ absurd (true_false (sym h ∙ t)) | inr h ↦ h ]
-      where
-        true_false : true ≡ false → ⊥
-        true_false h = cc
-
-    stays : below ls k e.class ≡ false → IsTop ls k es (greatest_from ls k es) → IsTop ls k (e ∷ es) (greatest_from ls k es)
-    stays t top = record { own = from_key (greatest_from ls k es) top.own; greatest = greatest }
-      where
-        greatest : (a : ℕ) → IsClassFrom k (e ∷ es) a → below ls a (greatest_from ls k es) ≡ true
-        greatest a (inl q) = top.greatest a (inl q)
-        greatest a (inr (zero, l, q)) = below-trans ls a k (greatest_from ls k es) (ap (λ x. below ls x k) q ∙ under t) (top.greatest k (inl refl))
-        greatest a (inr (suc i, l, q)) = top.greatest a (inr (i, omega arith, q))
-
-class_top : (ls : Labels) (t : Tuple) → ((a b : ℕ) → OccursIn t a → OccursIn t b → (below ls a b ≡ true) ⊎ (below ls b a ≡ true)) → IsTop ls t.key_class t.elements (class_number ls t)
-unfolding class_number
-class_top ls t c = greatest_from_top ls t.key_class t.elements c
 
 -- the tuple's class is that of its greatest class
 class_is : (ls : Labels) (t : Tuple) (m : ℕ) → IsTop ls t.key_class t.elements m → tuple_class ls t ≡ label_of ls m
@@ -100,11 +47,6 @@ class_bound : (n : ℕ) (es : List Element) → AllByRecursion (λ e. e.class < 
 class_bound n [] h i l = absurd (omega arith)
 class_bound n (e ∷ es) h zero l = h.0
 class_bound n (e ∷ es) h (suc i) l = class_bound n es h.1 i (omega arith)
-
-row_bound : (n : ℕ) (ts : List Tuple) → AllByRecursion (HasClassesBelow n) ts → (t : Tuple) → IsAmong t ts → HasClassesBelow n t
-row_bound n [] h t i = absurd i
-row_bound n (s ∷ ts) h t (inl e) = subst (HasClassesBelow n) (sym e) h.0
-row_bound n (s ∷ ts) h t (inr i) = row_bound n ts h.1 t i
 
 occurs_bound : (n : ℕ) (t : Tuple) → HasClassesBelow n t → (m : ℕ) → OccursIn t m → m < n
 occurs_bound n t h m (inl e) = subst (λ x. x < n) (sym e) h.key_class
@@ -181,7 +123,7 @@ module _ (ls : Labels) (distinct : AreDistinct ls) (scheme : Scheme) (ts : List 
     has_class t h = class_is ls t (class_number ls t) (top t h)
 
     declared : (t : Tuple) → IsAmong t ts → (m : ℕ) → OccursIn t m → m < length ls
-    declared t h m o = occurs_bound (length ls) t (row_bound (length ls) ts bounded t h) m o
+    declared t h m o = occurs_bound (length ls) t (all_at (HasClassesBelow (length ls)) ts bounded t h) m o
 
     once : PlacesOnce ls ts
     once = places_once ls ts (λ i j l k e.

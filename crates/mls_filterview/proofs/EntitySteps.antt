@@ -1,30 +1,12 @@
--- The tests of an entity's tuples, as they are computed.
+-- The tests of elements, as they are computed.
 use Rattle.std.proofs.Common.{◌≡◌, ℕ, zero, suc, ◌<◌, ◌≤◌, ◌+◌, Bool, true, false, not, ◌&&◌, ◌||◌, List, [], ◌∷◌, length, get_or, drop, refl, sym, ap, ◌∙◌, arith}
 use Rattle.std.specs.Prelude.{◌↔◌}
-use Rattle.std.proofs.lemmas.Bool.{false_from_ne_true, false≢true}
+use Rattle.std.proofs.lemmas.Bool.{false_from_ne_true, false≢true, or_right}
 use Rattle.mls_lattice.specs.Labels.{Labels, below}
 use Rattle.mls_scheme.specs.declared.tuple.Element.{Element}
-use Rattle.mls_scheme.specs.declared.tuple.Tuple.{Tuple}
-use Rattle.mls_scheme.specs.Table.{place_of}
-use Rattle.mls_scheme.proofs.OrderLemmas.{is_place-true, is_place-same}
 use Rattle.mls_filterview.specs.Subsumption.{same_element}
-use Rattle.mls_filterview.specs.Checking.{is_one_entity, has_at, has_below}
+use Rattle.mls_filterview.specs.Checking.{has_at, has_below}
 use Rattle.mls_filterview.proofs.SubsumptionLemmas.{same_element-true, same_element-from}
-
--- ---- entities
-
-pub one_entity-true : (s t : Tuple) → is_one_entity s t ≡ true → (s.key ≡ t.key) × (s.key_class ≡ t.key_class)
-one_entity-true s t h = let p = is_place-true (place_of 0 s) (place_of 0 t) h in (ap (λ x. x.key) p, ap (λ x. x.key_class) p)
-
-pub one_entity-from : (s t : Tuple) → s.key ≡ t.key → s.key_class ≡ t.key_class → is_one_entity s t ≡ true
-one_entity-from s t k c = is_place-same (place_of 0 s) (place_of 0 t) (λ i. record { key = k i; key_class = c i; class = 0 })
-
-pub other_key_class : (s t : Tuple) → (s.key_class ≡ t.key_class → ⊥) → is_one_entity s t ≡ false
-other_key_class s t h = false_from_ne_true (is_one_entity s t) (λ e. h (one_entity-true s t e).1)
-
-pub one_key : (s t : Tuple) (b : Bool) → s.key_class ≡ t.key_class → (b ≡ true) ↔ (s.key ≡ t.key) → b ≡ is_one_entity s t
-one_key s t true c h = sym (one_entity-from s t (h.0 refl) c)
-one_key s t false c h = sym (false_from_ne_true (is_one_entity s t) (λ e. false≢true (h.1 (one_entity-true s t e).0)))
 
 -- ---- elements
 
@@ -77,13 +59,7 @@ module _ (ls : Labels) (m : ℕ) where
 
   pub has : (es fs : List Element) (i : ℕ) (e : Element) → i < length es → e ≡ get_or es i e → has_at e (drop i fs) ≡ true
       → has_below ls m (drop i es) (drop i fs) ≡ has_below ls m es fs → has_below ls m (drop (i + 1) es) (drop (i + 1) fs) ≡ has_below ls m es fs
-  has es fs i e l q h all = next es fs i e l q (ap (λ x. not (below ls e.class m) || x) h ∙ or_true (not (below ls e.class m))) all
-    where
-      or_true : (b : Bool) → (b || true) ≡ true
-      or_true true = refl
-      or_true false = refl
-
-pub ruleset one_entity_steps = (other_key_class, one_key)
+  has es fs i e l q h all = next es fs i e l q (or_right (not (below ls e.class m)) _ h) all
 
 pub ruleset element_steps = (has_at-none)
 

@@ -24,7 +24,7 @@ use Rattle.mls_filterview.proofs.IntegrityLemmas.{inter_instance_integrity}
 abbrev pub SameTuples : (Tuple → Type 0) → (Tuple → Type 0) → Type 0
 SameTuples X Y = (t : Tuple) → X t ↔ Y t
 
-max_of_same : (X Y : Tuple → Type 0) → SameTuples X Y → (t : Tuple) → IsMax X t → IsMax Y t
+pub max_of_same : (X Y : Tuple → Type 0) → SameTuples X Y → (t : Tuple) → IsMax X t → IsMax Y t
 max_of_same X Y h t m = ((h t).0 m.0, λ s y k. m.1 s ((h s).1 y) k)
 
 pub View-same : (ls : Labels) (c : ℕ) (X Y : Tuple → Type 0) → SameTuples X Y → SameTuples (View ls X c) (View ls Y c)

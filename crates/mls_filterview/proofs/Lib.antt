@@ -19,5 +19,6 @@ pub mod ListedLemmas
 pub mod EntityLemmas
 pub mod FittingSteps
 pub mod EntitySteps
+pub mod EntityTests
 pub mod RuleLemmas
 pub mod CheckingLemmas

@@ -1,5 +1,5 @@
 -- The tuples listed from a map of rows are the rows of the table.
-use Rattle.std.proofs.Common.{◌≡◌, ℕ, Bool, true, false, cond, List, [], ◌∷◌, length, map, Option, Some, refl, sym, ap, ◌∙◌, subst}
+use Rattle.std.proofs.Common.{◌≡◌, ℕ, true, cond, List, [], ◌∷◌, length, map, Option, Some, refl, sym, ap, ◌∙◌, subst}
 use Rattle.std.specs.Prelude.{◌↔◌}
 use Rattle.std.specs.List.{filter, AllByRecursion}
 use Rattle.std.specs.List.Sorted.{IsStrictlySortedBy}
@@ -9,32 +9,23 @@ use Rattle.std.specs.Ordering.{is_lt}
 use Rattle.std.specs.declared.cmp.Ordering.TheVariants.{Less}
 use Rattle.std.specs.FinMap.{find, is_sorted}
 use Rattle.std.specs.FinMap.Entries.{below_all}
-use Rattle.std.proofs.lemmas.Bool.{and_from, false_from_ne_true, false≢true}
+use Rattle.std.proofs.lemmas.Bool.{and_from}
 use Rattle.std.proofs.lemmas.Map.Keys.{sorted_head, sorted_tail}
 use Rattle.mls_lattice.specs.Labels.{Labels, AreDistinct}
 use Rattle.mls_scheme.specs.declared.value.Value.{Value}
 use Rattle.mls_scheme.specs.declared.tuple.Tuple.{Tuple}
 use Rattle.mls_scheme.specs.declared.place.Place.{Place}
 use Rattle.mls_scheme.specs.Table.{place_cmp, Table, IsIn, tuple_at}
-use Rattle.mls_scheme.proofs.OrderLemmas.{is_place, is_place-true, is_place-same}
+use Rattle.mls_scheme.proofs.OrderLemmas.{is_place}
 use Rattle.mls_filterview.specs.declared.fragment.Node.{Node}
 use Rattle.mls_filterview.specs.declared.fragment.Cell.{Cell}
 use Rattle.mls_filterview.specs.Subsumption.{is_max_among}
 use Rattle.mls_filterview.specs.View.{View, rows, IsAmong, AreInOrder}
-use Rattle.mls_filterview.specs.Stored.{with_class, IsStored}
+use Rattle.mls_filterview.specs.Stored.{IsStored}
 use Rattle.mls_filterview.specs.Assembly.{CellPlace, AreValues, AreRows, AreLow}
 use Rattle.mls_filterview.proofs.EntryLemmas.{Entry, found_in, among_found, so_from}
 use Rattle.mls_filterview.proofs.RowLemmas.{rows-listed, rows_are_the_view}
 use Rattle.mls_filterview.proofs.AssemblyLemmas.{rows_low}
-
--- ---- places of one entity
-
-pub one_entity : (p q : Place) (b : Bool) → p.key_class ≡ q.key_class → (b ≡ true) ↔ (p.key ≡ q.key) → b ≡ is_place (with_class p q.class) q
-one_entity p q true c h = sym (is_place-same (with_class p q.class) q (λ i. record { key = h.0 refl i; key_class = c i; class = q.class }))
-one_entity p q false c h = sym (false_from_ne_true (is_place (with_class p q.class) q) (λ t. false≢true (h.1 (ap (λ x. x.key) (is_place-true (with_class p q.class) q t)))))
-
-pub other_entity : (p q : Place) → (p.key_class ≡ q.key_class → ⊥) → false ≡ is_place (with_class p q.class) q
-other_entity p q h = sym (false_from_ne_true (is_place (with_class p q.class) q) (λ t. h (ap (λ x. x.key_class) (is_place-true (with_class p q.class) q t))))
 
 -- ---- the entries of a map in order
 

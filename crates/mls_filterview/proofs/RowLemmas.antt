@@ -1,24 +1,38 @@
 -- The rows are the view, in the order of places.
-use Rattle.std.proofs.Common.{◌≡◌, ℕ, true, not, ◌&&◌, List, map, Some, refl, sym, ap, ◌∙◌, subst}
+use Rattle.std.proofs.Common.{◌≡◌, ℕ, true, false, not, ◌&&◌, List, map, Some, refl, sym, ap, ◌∙◌, subst}
 use Rattle.std.specs.Prelude.{◌↔◌, IsTrue}
 use Rattle.std.specs.List.{filter, AllByRecursion}
 use Rattle.std.specs.FinMap.{get, entries, entries_sorted, is_sorted}
 use Rattle.std.proofs.lemmas.Bool.{true≢false, and_parts, and_from, not-true, not_from_false, false_from_ne_true, true_from_ne_false}
-use Rattle.std.proofs.lemmas.Option.{same_Some}
 use Rattle.mls_lattice.specs.Labels.{Labels, below, AreDistinct}
 use Rattle.mls_scheme.specs.declared.tuple.Tuple.{Tuple}
 use Rattle.mls_scheme.specs.Table.{place_cmp, Table, Has, IsIn, tuple_at, place_of}
-use Rattle.mls_scheme.proofs.OrderLemmas.{is_place, is_place-true, is_place-same}
-use Rattle.mls_filterview.specs.Subsumption.{IsMax, subsumes_entry, is_max_among}
+use Rattle.mls_filterview.specs.Subsumption.{Subsumes, IsMax, subsumes_entry, is_max_among}
 use Rattle.mls_filterview.specs.View.{View, low, rows, IsAmong}
 use Rattle.mls_filterview.specs.Stored.{IsStored}
 use Rattle.mls_filterview.specs.Laws.{RowsAreTheView}
 use Rattle.mls_filterview.proofs.LowLemmas.{get_low_in, from_low}
-use Rattle.mls_filterview.proofs.SubsumptionLemmas.{same_tuple, subsumes_entry-true, subsumes_entry-from}
-use Rattle.mls_filterview.proofs.ClassLemmas.{one_class}
+use Rattle.mls_filterview.proofs.SubsumptionLemmas.{Subsumes-refl, Subsumes-antisym, subsumes_entry-true, subsumes_entry-from}
 use Rattle.mls_filterview.proofs.ViewLemmas.{view-low}
 use Rattle.mls_filterview.proofs.AmongLemmas.{among_map, map_among, among_filter, filter_among, none_of, all_none, each_among}
 use Rattle.mls_filterview.proofs.EntryLemmas.{Entry, among_entries, entries_among, sorted_filter, so_true, so_from, entries_are}
+
+-- ---- entries that no other one subsumes
+
+subsumed_back : (d e : Entry) → Subsumes (tuple_at d.0 d.1) (tuple_at e.0 e.1) → (subsumes_entry d e && not (subsumes_entry e d)) ≡ false → subsumes_entry e d ≡ true
+subsumed_back d e k f = true_from_ne_false (subsumes_entry e d) (λ z. true≢false (sym (and_from _ _ (subsumes_entry-from d e k) (not_from_false _ z)) ∙ f))
+
+-- an entry whose tuple is that of each entry that subsumes it
+pub max_among : (es : List Entry) (e : Entry) → ((d : Entry) → IsAmong d es → Subsumes (tuple_at d.0 d.1) (tuple_at e.0 e.1) → tuple_at d.0 d.1 ≡ tuple_at e.0 e.1) → is_max_among es e ≡ true
+max_among es e h = not_from_false _ (all_none (λ d. subsumes_entry d e && not (subsumes_entry e d)) es (λ d i. false_from_ne_true _ (λ t.
+    let p = and_parts _ _ t in
+    let q = h d i (subsumes_entry-true d e p.0) in
+    true≢false (sym (subsumes_entry-from e d (subst (λ x. Subsumes x (tuple_at d.0 d.1)) q (Subsumes-refl (tuple_at d.0 d.1)))) ∙ not-true _ p.1))))
+
+-- and the tuple of such an entry is that of each entry that subsumes it
+pub among_max : (es : List Entry) (e : Entry) → is_max_among es e ≡ true → (d : Entry) → IsAmong d es → Subsumes (tuple_at d.0 d.1) (tuple_at e.0 e.1) → tuple_at d.0 d.1 ≡ tuple_at e.0 e.1
+among_max es e m d i k =
+    Subsumes-antisym (tuple_at d.0 d.1) (tuple_at e.0 e.1) k (subsumes_entry-true e d (subsumed_back d e k (none_of (λ d. subsumes_entry d e && not (subsumes_entry e d)) es (not-true _ m) d i)))
 
 module _ (ls : Labels) (distinct : AreDistinct ls) (n : ℕ) (T : Table) (stored : IsStored ls n T) (c : ℕ) where
   abbrev L : Table
@@ -31,29 +45,15 @@ module _ (ls : Labels) (distinct : AreDistinct ls) (n : ℕ) (T : Table) (stored
   pub in_table : (e : Entry) → get L e.0 ≡ Some e.1 → Has T e.0.class (tuple_at e.0 e.1)
   in_table e h = (from_low ls c T (tuple_at e.0 e.1) e.0.class h).0
 
-  -- entries of one tuple are one
-  one_place : (d e : Entry) → get L d.0 ≡ Some d.1 → get L e.0 ≡ Some e.1 → tuple_at d.0 d.1 ≡ tuple_at e.0 e.1 → d.0 ≡ e.0
-  one_place d e h k q =
-      let same = one_class ls distinct n T stored d.0.class e.0.class (tuple_at e.0 e.1) (subst (Has T d.0.class) q (in_table d h)) (in_table e k) in
-      λ i. record { key = (q i).key; key_class = (q i).key_class; class = same i }
-
   -- the test of an entry says whether its tuple is on top of low
   max-true : (e : Entry) → get L e.0 ≡ Some e.1 → is_max_among (entries L) e ≡ true → IsMax (IsIn L) (tuple_at e.0 e.1)
   max-true e h m = (
     (e.0.class, h),
-    λ s i k.
-        let d : Entry = (place_of i.0 s, s.elements) in
-        let f = none_of (λ d. not (is_place d.0 e.0) && subsumes_entry d e) (entries L) (not-true _ m) d (entries_among L d.0 d.1 i.1) in
-        let p : is_place d.0 e.0 ≡ true = true_from_ne_false (is_place d.0 e.0) (λ z. true≢false (sym (and_from _ _ (not_from_false _ z) (subsumes_entry-from d e k)) ∙ f)) in
-        same_tuple s (tuple_at e.0 e.1) k.key k.key_class (same_Some d.1 e.1 (sym i.1 ∙ ap (get L) (is_place-true d.0 e.0 p) ∙ h)),
+    λ s i k. among_max (entries L) e m (place_of i.0 s, s.elements) (entries_among L (place_of i.0 s) s.elements i.1) k,
   )
 
   max-from : (e : Entry) → get L e.0 ≡ Some e.1 → IsMax (IsIn L) (tuple_at e.0 e.1) → is_max_among (entries L) e ≡ true
-  max-from e h m = not_from_false _ (all_none (λ d. not (is_place d.0 e.0) && subsumes_entry d e) (entries L) (λ d i. false_from_ne_true _ (λ t.
-      let p = and_parts _ _ t in
-      let g = among_entries L d i in
-      let q = m.1 (tuple_at d.0 d.1) (d.0.class, g) (subsumes_entry-true d e p.1) in
-      true≢false (sym (is_place-same d.0 e.0 (one_place d e g h q)) ∙ not-true _ p.0))))
+  max-from e h m = max_among (entries L) e (λ d i k. m.1 (tuple_at d.0 d.1) (d.0.class, among_entries L d i) k)
 
   -- the rows are just the tuples of the view
   pub rows-view : (t : Tuple) → IsAmong t (rows ls c T) ↔ View ls (IsIn T) c t

@@ -2,7 +2,7 @@
 use Rattle.std.proofs.Common.{◌≡◌, ℕ, zero, suc, ◌<◌, Bool, true, false, not, ◌&&◌, ◌||◌, cond, List, [], ◌∷◌, length, take, Option, Some, None, refl, sym, ap, ◌∙◌, subst, arith, inl, inr}
 use Rattle.std.specs.Prelude.{◌⊎◌, is_some, nat_eq, slice_index_or}
 use Rattle.std.specs.List.{list_all, list_any, AllZip}
-use Rattle.std.proofs.lemmas.Bool.{true≢false, false≢true, and_parts, and_from, or_cases, cases_Bool, not-true, not_from_false, eqb-true, eq-eqb, false_from_ne_true}
+use Rattle.std.proofs.lemmas.Bool.{true≢false, false≢true, and_parts, and_from, or_cases, cases_Bool, not-true, not_from_false, eqb-true, eq-eqb, false_from_ne_true, or_right}
 use Rattle.std.proofs.lemmas.Option.{same_Some, none-some}
 use Rattle.mls_lattice.specs.Lattice.{same_pair}
 use Rattle.mls_lattice.specs.Labels.{Labels, label_of, below}
@@ -23,7 +23,7 @@ use Rattle.mls_filterview.specs.Rules.{row_at, OccursIn, AreOfOneEntity, IsOfCla
 use Rattle.mls_filterview.specs.Checking.{all_classes, is_above_key, has_nulls_at_key, fits_value, fits_element, all_zip, fits_scheme, has_same_class, is_of_class, has_below, agrees_with_first, is_determined, is_comparable, is_chain, has_each_class, broken_rule}
 use Rattle.mls_filterview.proofs.AmongLemmas.{none_of, all_none}
 use Rattle.mls_filterview.proofs.SubsumptionLemmas.{same_element-true, same_element-from}
-use Rattle.mls_filterview.proofs.EntitySteps.{one_entity-true, one_entity-from}
+use Rattle.mls_filterview.proofs.EntityTests.{entity_decides}
 
 -- ---- lists
 
@@ -117,17 +117,17 @@ module _ (ls : Labels) (scheme : Scheme) (t : Tuple) where
 
 module _ (ls : Labels) where
   of_class-true : (s t : Tuple) (m : ℕ) → is_of_class ls t m s ≡ true → IsOfClass ls s t m
-  of_class-true s t m h = let r = and_parts _ _ h in (one_entity-true s t r.0, same_pair-same (tuple_class ls s) (label_of ls m) r.1)
+  of_class-true s t m h = let r = and_parts _ _ h in ((entity_decides (place_of 0 s) (place_of 0 t)).0 r.0, same_pair-same (tuple_class ls s) (label_of ls m) r.1)
 
   of_class-from : (s t : Tuple) (m : ℕ) → IsOfClass ls s t m → is_of_class ls t m s ≡ true
   of_class-from s t m h =
-      and_from _ _ (one_entity-from s t h.0.0 h.0.1) (ap (same_pair (tuple_class ls s)) (sym h.1) ∙ same_pair-refl (tuple_class ls s))
+      and_from _ _ ((entity_decides (place_of 0 s) (place_of 0 t)).1 h.0) (ap (same_pair (tuple_class ls s)) (sym h.1) ∙ same_pair-refl (tuple_class ls s))
 
   same_class-true : (s t : Tuple) → has_same_class ls t s ≡ true → AreOfOneEntity s t × (tuple_class ls s ≡ tuple_class ls t)
-  same_class-true s t h = let r = and_parts _ _ h in (one_entity-true s t r.0, same_pair-same (tuple_class ls s) (tuple_class ls t) r.1)
+  same_class-true s t h = let r = and_parts _ _ h in ((entity_decides (place_of 0 s) (place_of 0 t)).0 r.0, same_pair-same (tuple_class ls s) (tuple_class ls t) r.1)
 
   same_class-from : (s t : Tuple) → AreOfOneEntity s t → tuple_class ls s ≡ tuple_class ls t → has_same_class ls t s ≡ true
-  same_class-from s t h e = and_from _ _ (one_entity-from s t h.0 h.1) (ap (same_pair (tuple_class ls s)) (sym e) ∙ same_pair-refl (tuple_class ls s))
+  same_class-from s t h e = and_from _ _ ((entity_decides (place_of 0 s) (place_of 0 t)).1 h) (ap (same_pair (tuple_class ls s)) (sym e) ∙ same_pair-refl (tuple_class ls s))
 
   not-below : (a m : ℕ) (b : Bool) → below ls a m ≡ true → (not (below ls a m) || b) ≡ true → b ≡ true
   not-below a m b h k = ap (λ x. not x || b) (sym h) ∙ k
@@ -233,11 +233,7 @@ module _ (ls : Labels) where
 
     comparable-from : (a b : ℕ) → ((below ls a b ≡ true) ⊎ (below ls b a ≡ true)) → is_comparable ls a b ≡ true
     comparable-from a b (inl h) = ap (λ x. x || below ls b a) h
-    comparable-from a b (inr h) = ap (λ x. below ls a b || x) h ∙ or_true (below ls a b)
-      where
-        or_true : (b : Bool) → (b || true) ≡ true
-        or_true true = refl
-        or_true false = refl
+    comparable-from a b (inr h) = or_right (below ls a b) _ h
 
     closed-from : IsClosed ls ts t → (is_chain ls t && has_each_class ls ts t) ≡ true
     closed-from c =

@@ -1,12 +1,11 @@
 -- Worked rows, which compute: small relations, and which of their tuples no other one subsumes.
 use Rattle.std.proofs.Common.{◌≡◌, ℕ, List, [], ◌∷◌, Option, Some, None, refl}
 use Rattle.std.specs.Prelude.{codes}
-use Rattle.std.specs.List.{filter}
 use Rattle.mls_scheme.specs.declared.value.Value.{Value}
 use Rattle.mls_scheme.specs.declared.value.Value.TheVariants.{Text}
 use Rattle.mls_scheme.specs.Table.{place_cmp}
-use Rattle.mls_filterview.specs.Subsumption.{is_max_among}
 use Rattle.mls_filterview.proofs.EntryLemmas.{Entry}
+use Rattle.mls_filterview.proofs.EntityLemmas.{maximal}
 
 abbrev word : List ℕ → Option Value
 word text = Some (Text text)
@@ -17,9 +16,6 @@ entry class name key_class v k w m = (
   record { key = Text name ∷ []; key_class = key_class; class = class },
   record { value = v; class = k } ∷ record { value = w; class = m } ∷ [],
 )
-
-abbrev maximal : List Entry → List Entry
-maximal es = filter (is_max_among es) es
 
 voyager : List Entry
 voyager =

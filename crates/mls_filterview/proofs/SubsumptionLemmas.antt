@@ -11,8 +11,9 @@ use Rattle.mls_scheme.specs.Value.{value_eq}
 use Rattle.mls_scheme.specs.Tuple.{at, null_element}
 use Rattle.mls_scheme.specs.Table.{tuple_at}
 use Rattle.mls_scheme.specs.declared.place.Place.{Place}
-use Rattle.mls_scheme.proofs.OrderLemmas.{value_eq-true, value_eq-same, is_place-true, is_place-same}
+use Rattle.mls_scheme.proofs.OrderLemmas.{value_eq-true, value_eq-same}
 use Rattle.mls_filterview.specs.Subsumption.{Covers, Subsumes, same_element, covers, all_cover, subsumes_entry}
+use Rattle.mls_filterview.proofs.EntityTests.{entity_decides}
 
 Covers-trans : (a b c : Element) → Covers a b → Covers b c → Covers a c
 Covers-trans a b c (inl p) k = subst (λ x. Covers x c) (sym p) k
@@ -111,11 +112,11 @@ all_cover-from (a ∷ as') (b ∷ bs) n h = and_from _ _ (covers-from a b (h 0 (
 pub subsumes_entry-true : (d e : Place × List Element) → subsumes_entry d e ≡ true → Subsumes (tuple_at d.0 d.1) (tuple_at e.0 e.1)
 subsumes_entry-true d e h =
     let p = and_parts _ _ h in
-    let q = is_place-true _ e.0 p.0 in
+    let q = (entity_decides d.0 e.0).0 p.0 in
     let r = all_cover-true d.1 e.1 p.1 in
-    record { key = ap (λ x. x.key) q; key_class = ap (λ x. x.key_class) q; count = r.0; each = r.1 }
+    record { key = q.0; key_class = q.1; count = r.0; each = r.1 }
 
 pub subsumes_entry-from : (d e : Place × List Element) → Subsumes (tuple_at d.0 d.1) (tuple_at e.0 e.1) → subsumes_entry d e ≡ true
 subsumes_entry-from d e h =
-    and_from _ _ (is_place-same (record { key = d.0.key; key_class = d.0.key_class; class = e.0.class }) e.0 (λ i. record { key = h.key i; key_class = h.key_class i; class = e.0.class }))
+    and_from _ _ ((entity_decides d.0 e.0).1 (h.key, h.key_class))
     (all_cover-from d.1 e.1 h.count h.each)

@@ -7,7 +7,6 @@ use Rattle.mls_scheme.specs.declared.tuple.Element.{Element}
 use Rattle.mls_scheme.specs.declared.tuple.Tuple.{Tuple}
 use Rattle.mls_scheme.specs.Tuple.{is_null}
 use Rattle.mls_scheme.specs.Table.{place_of}
-use Rattle.mls_scheme.proofs.OrderLemmas.{is_place-same}
 use Rattle.mls_filterview.specs.Subsumption.{Subsumes, same_element, covers, all_cover}
 use Rattle.mls_filterview.specs.Filtering.{subsumes_tuple}
 use Rattle.mls_filterview.proofs.SubsumptionLemmas.{same_element-true, subsumes_entry-true, subsumes_entry-from}
@@ -29,29 +28,12 @@ all_cover-uneven [] (b ∷ bs) h = refl
 all_cover-uneven (a ∷ as') [] h = refl
 all_cover-uneven (a ∷ as') (b ∷ bs) h = and_right (covers a b) (all_cover as' bs) (all_cover-uneven as' bs (λ e. h (omega arith)))
 
--- ---- tuples
-
-pub subsumes_tuple-true : (s t : Tuple) → subsumes_tuple s t ≡ true → Subsumes s t
-unfolding subsumes_tuple
-subsumes_tuple-true s t h = subsumes_entry-true (place_of 0 s, s.elements) (place_of 0 t, t.elements) h
-
-pub subsumes_tuple-from : (s t : Tuple) → Subsumes s t → subsumes_tuple s t ≡ true
-unfolding subsumes_tuple
-subsumes_tuple-from s t h = subsumes_entry-from (place_of 0 s, s.elements) (place_of 0 t, t.elements) h
-
-pub other_class : (s t : Tuple) → (s.key_class ≡ t.key_class → ⊥) → subsumes_tuple s t ≡ false
-other_class s t h = false_from_ne_true (subsumes_tuple s t) (λ e. h (subsumes_tuple-true s t e).key_class)
-
-pub other_key : (s t : Tuple) → (s.key ≡ t.key → ⊥) → subsumes_tuple s t ≡ false
-other_key s t h = false_from_ne_true (subsumes_tuple s t) (λ e. h (subsumes_tuple-true s t e).key)
-
-pub same_entity : (s t : Tuple) → s.key ≡ t.key → s.key_class ≡ t.key_class → all_cover s.elements t.elements ≡ subsumes_tuple s t
-unfolding subsumes_tuple
-same_entity s t k c = sym (ap (λ b. b && all_cover s.elements t.elements) (is_place-same (place_of 0 s) (place_of 0 t) (λ i. record { key = k i; key_class = c i; class = 0 })))
-
 pub ruleset uneven = (all_cover-uneven)
 
-pub ruleset entity_steps = (other_class, other_key, same_entity)
+-- ---- tuples
 
 pub subsumes_tuple-is : (b : Bool) (s t : Tuple) → b ≡ subsumes_tuple s t → (b ≡ true) ↔ Subsumes s t
-subsumes_tuple-is b s t e = (λ h. subsumes_tuple-true s t (sym e ∙ h), λ h. e ∙ subsumes_tuple-from s t h)
+subsumes_tuple-is b s t e = (
+  λ h. subsumes_entry-true (place_of 0 s, s.elements) (place_of 0 t, t.elements) (sym e ∙ h),
+  λ h. e ∙ subsumes_entry-from (place_of 0 s, s.elements) (place_of 0 t, t.elements) h,
+)

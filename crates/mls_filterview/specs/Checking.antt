@@ -1,7 +1,6 @@
 -- The rules of the stored form, as tests of a row.
 use Rattle.std.specs.Prelude.{ℕ, Bool, true, false, not, ◌&&◌, ◌||◌, if◌then◌else◌, nat_eq, is_some, List, [], ◌∷◌, take, drop, Option, Some, None}
 use Rattle.std.specs.List.{list_all, list_any}
-use Rattle.std.specs.Ordering.{eq_by_cmp}
 use Rattle.mls_lattice.specs.Lattice.{same_pair}
 use Rattle.mls_lattice.specs.Labels.{Labels, label_of, below}
 use Rattle.mls_scheme.specs.declared.value.Value.{Value}
@@ -9,11 +8,12 @@ use Rattle.mls_scheme.specs.declared.tuple.Element.{Element}
 use Rattle.mls_scheme.specs.declared.tuple.Tuple.{Tuple}
 use Rattle.mls_scheme.specs.Value.{is_kind, fits_kind}
 use Rattle.mls_scheme.specs.Tuple.{tuple_class}
-use Rattle.mls_scheme.specs.Table.{place_cmp, place_of}
+use Rattle.mls_scheme.specs.Table.{place_of}
 use Rattle.mls_scheme.specs.Scheme.{Attribute, Scheme}
 use Rattle.mls_scheme.specs.Fits.{in_interval}
 use Rattle.mls_filterview.specs.declared.rule.Rule.{Rule}
 use Rattle.mls_filterview.specs.declared.rule.Rule.TheVariants.{Entity, Null, Interval, Poly, Closure}
+use Rattle.mls_filterview.specs.Stored.{is_entity}
 use Rattle.mls_filterview.specs.Subsumption.{same_element}
 use Rattle.mls_filterview.specs.Rules.{row_at}
 
@@ -48,7 +48,7 @@ fits_scheme ls scheme t = all_zip (fits_value ls t.key_class) scheme.keys t.key 
 -- ---- tuples of one entity
 
 abbrev pub is_one_entity : Tuple → Tuple → Bool
-is_one_entity s t = eq_by_cmp place_cmp (place_of 0 s) (place_of 0 t)
+is_one_entity s t = is_entity (place_of 0 s) (place_of 0 t)
 
 abbrev pub has_same_class : Labels → Tuple → Tuple → Bool
 has_same_class ls t s = is_one_entity s t && same_pair (tuple_class ls s) (tuple_class ls t)

@@ -1,6 +1,6 @@
 -- The view of a list of tuples, step by step.
-use Rattle.std.specs.Prelude.{ℕ, ⊤, Bool, not, ◌&&◌, if◌then◌else◌, List, [], ◌∷◌, map}
-use Rattle.std.specs.List.{filter, list_any}
+use Rattle.std.specs.Prelude.{ℕ, ⊤, Bool, if◌then◌else◌, List, [], ◌∷◌, map}
+use Rattle.std.specs.List.{filter}
 use Rattle.std.specs.Ordering.{nat_cmp, on, then_cmp}
 use Rattle.std.specs.Option.{option_cmp}
 use Rattle.std.specs.Cmp.Lexicographic.{slice_cmp}
@@ -24,15 +24,8 @@ abbrev pub seen : Labels → ℕ → List Tuple → List Tuple
 seen ls c ts = map (filtered ls c) (filter (λ t. below ls t.key_class c) ts)
 
 -- whether the first tuple subsumes the second
-unfoldable pub subsumes_tuple : Tuple → Tuple → Bool
+abbrev pub subsumes_tuple : Tuple → Tuple → Bool
 subsumes_tuple s t = subsumes_entry (place_of 0 s, s.elements) (place_of 0 t, t.elements)
-
--- whether a tuple of the list subsumes this one, and this one does not subsume it
-abbrev pub is_covered : List Tuple → Tuple → Bool
-is_covered ts t = list_any (λ s. subsumes_tuple s t && not (subsumes_tuple t s)) ts
-
-abbrev pub uncovered : List Tuple → List Tuple
-uncovered ts = filter (λ t. not (is_covered ts t)) ts
 
 -- from a class up to each class of elements, in turn, that dominates the class reached
 abbrev pub greatest_from : Labels → ℕ → List Element → ℕ

@@ -1,14 +1,17 @@
 -- Subsumption (Jajodia and Sandhu 1991).
-use Rattle.std.specs.Prelude.{◌≡◌, ℕ, ◌<◌, Bool, true, false, not, ◌&&◌, ◌||◌, nat_eq, List, [], ◌∷◌, length, is_some, ◌⊎◌}
-use Rattle.std.specs.List.{list_any}
-use Rattle.std.specs.Ordering.{eq_by_cmp}
+use Rattle.std.specs.Prelude.{◌≡◌, ⊤, ℕ, ◌<◌, Bool, true, false, not, ◌&&◌, ◌||◌, nat_eq, List, [], ◌∷◌, length, is_some, ◌⊎◌}
+use Rattle.std.specs.List.{list_any, AllByRecursion}
+use Rattle.std.specs.Ordering.{nat_cmp, on, then_cmp}
+use Rattle.std.specs.Cmp.Lexicographic.{slice_cmp}
+use Rattle.std.specs.declared.cmp.Ordering.{Ordering}
+use Rattle.std.specs.declared.cmp.Ordering.TheVariants.{Greater}
 use Rattle.std.specs.Option.{option_eq}
 use Rattle.mls_scheme.specs.declared.tuple.Element.{Element}
 use Rattle.mls_scheme.specs.declared.tuple.Tuple.{Tuple}
-use Rattle.mls_scheme.specs.Value.{value_eq}
+use Rattle.mls_scheme.specs.Value.{value_eq, value_cmp}
 use Rattle.mls_scheme.specs.Tuple.{at}
-use Rattle.mls_scheme.specs.Table.{place_cmp}
 use Rattle.mls_scheme.specs.declared.place.Place.{Place}
+use Rattle.mls_filterview.specs.Stored.{is_entity}
 
 -- a is b, or has a value where b has none
 abbrev pub Covers : Element → Element → Type 0
@@ -41,8 +44,19 @@ all_cover (a ∷ as') (b ∷ bs) = covers a b && all_cover as' bs
 
 -- whether an entry of a table subsumes another
 abbrev pub subsumes_entry : Place × List Element → Place × List Element → Bool
-subsumes_entry d e = eq_by_cmp place_cmp (record { key = d.0.key; key_class = d.0.key_class; class = e.0.class }) e.0 && all_cover d.1 e.1
+subsumes_entry d e = is_entity d.0 e.0 && all_cover d.1 e.1
 
--- whether no other entry subsumes this one
+-- whether this entry subsumes each entry that subsumes it
 abbrev pub is_max_among : List (Place × List Element) → Place × List Element → Bool
-is_max_among es e = not (list_any (λ d. not (eq_by_cmp place_cmp d.0 e.0) && subsumes_entry d e) es)
+is_max_among es e = not (list_any (λ d. subsumes_entry d e && not (subsumes_entry e d)) es)
+
+-- ---- entities in order
+
+-- by key and number of the key class
+abbrev pub entity_cmp : Place → Place → Ordering
+entity_cmp = then_cmp (on (λ p. p.key) (slice_cmp value_cmp)) (on (λ p. p.key_class) nat_cmp)
+
+-- no entry is of an entity before that of an earlier entry
+abbrev pub AreByEntity : List (Place × List Element) → Type 0
+AreByEntity [] = ⊤
+AreByEntity (e ∷ es) = AllByRecursion (λ d. entity_cmp e.0 d.0 ≡ Greater → ⊥) es × AreByEntity es

@@ -4,27 +4,17 @@ ghost use Rattle.std.specs.List.{list_any, AllByRecursion};
 ghost use Rattle.mls_lattice.specs.Lattice.{pair_of, same_pair};
 ghost use Rattle.mls_lattice.specs.Policy.{labels_of};
 ghost use Rattle.mls_scheme.specs.Tuple.{HasClassesBelow};
-ghost use Rattle.mls_filterview.specs.Checking.{all_classes, is_one_entity, has_same_class, is_of_class, has_at, has_below, agrees_with_first, is_determined, is_comparable, is_chain, has_each_class};
+ghost use Rattle.mls_filterview.specs.Checking.{all_classes, has_same_class, is_of_class, has_at, has_below, agrees_with_first, is_determined, is_comparable, is_chain, has_each_class};
 
+use crate::entity::is_one_entity;
 use mls_lattice::{Label, LabelNo, Policy};
-use mls_scheme::{Element, Tuple, same_key, tuple_class};
+use mls_scheme::{Element, Tuple, tuple_class};
 
-/// Whether two labels are one.
-fn is_same_label(left: Label, right: Label) -> bool
+/// Whether two labels have one value.
+pub fn is_same_label(left: Label, right: Label) -> bool
     ensures { result ≡ same_pair (pair_of left) (pair_of right) }
 {
     left == right
-}
-
-/// Whether two tuples have one key and one key class.
-#[tactic(auto, using(crate::proofs::EntitySteps::one_entity_steps))]
-fn is_one_entity(left: &Tuple, right: &Tuple) -> bool
-    ensures { result ≡ is_one_entity left.now right.now }
-{
-    if left.key_class != right.key_class {
-        return false;
-    }
-    same_key(&left.key, &right.key)
 }
 
 /// Whether two tuples have one entity and one class.

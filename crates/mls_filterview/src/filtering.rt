@@ -5,14 +5,14 @@ ghost use Rattle.std.specs.declared.cmp.Ordering.TheVariants.{Equal};
 ghost use Rattle.std.specs.List.{AllByRecursion};
 ghost use Rattle.mls_lattice.specs.Policy.{labels_of};
 ghost use Rattle.mls_scheme.specs.Tuple.{HasClassesBelow};
-ghost use Rattle.mls_scheme.specs.Table.{Table, IsIn, tuple_at};
+ghost use Rattle.mls_scheme.specs.Table.{Table, IsIn};
 ghost use Rattle.mls_scheme.specs.declared.tuple.Tuple.{Tuple as SpecTuple};
 ghost use Rattle.mls_filterview.specs.View.{hide, filtered, View, rows, IsAmong};
 ghost use Rattle.mls_filterview.specs.Stored.{IsStored};
-ghost use Rattle.mls_filterview.specs.Filtering.{EachOnce, seen, is_covered, uncovered, class_number, row_of, row_cmp};
+ghost use Rattle.mls_filterview.specs.Filtering.{EachOnce, seen, class_number, row_of, row_cmp};
 
+use crate::maximal::maximal_tuples;
 use crate::row::Row;
-use crate::subsumption::says_all;
 use mls_lattice::{Items, LabelNo, Policy};
 use mls_scheme::{Element, Place, Tuple, copy_key};
 use std::alloc::{AllocError, Global};
@@ -39,10 +39,9 @@ pub fn filter(
     // for the distinctness of labels
     let _labels = policy.label_count();
     let seen = seen(alloc, policy, tuples, label)?;
-    let seen = uncovered(alloc, &seen)?;
     let mut rows = rows_of(alloc, policy, seen)?;
     arrange(&mut rows)?;
-    tuples_of(alloc, &rows)
+    maximal_tuples(alloc, &rows)
 }
 
 /// What a level sees of the tuples whose key class it dominates.
@@ -108,28 +107,6 @@ fn hide(
     }
 }
 
-/// The tuples that no other one subsumes.
-fn uncovered(alloc: Global, tuples: &[Tuple]) -> Result<Vec<Tuple>, AllocError>
-    ensures { IfOk result (λ v. v.items ≡ uncovered tuples.now) }
-{
-    let mut left = Vec::new(alloc);
-    for tuple in tuples {
-        if !is_covered(tuples, tuple) {
-            left.push(tuple.copy()?)?;
-        }
-    }
-    Ok(left)
-}
-
-/// Whether another tuple subsumes this one.
-fn is_covered(tuples: &[Tuple], tuple: &Tuple) -> bool
-    ensures { result ≡ is_covered tuples.now tuple.now }
-{
-    tuples
-        .iter()
-        .any(|other| says_all(other, tuple) && !says_all(tuple, other))
-}
-
 /// The tuples with their places.
 fn rows_of(alloc: Global, policy: &Policy, tuples: Vec<Tuple>) -> Result<Vec<Row>, AllocError>
     requires { AllByRecursion (HasClassesBelow (length policy.now.labels)) tuples.items }
@@ -175,15 +152,4 @@ fn arrange<T: Ord + Drop>(items: &mut Vec<T>) -> Result<(), AllocError>
     items.sort()?;
     items.dedup();
     Ok(())
-}
-
-/// The tuples of rows.
-fn tuples_of(alloc: Global, rows: &[Row]) -> Result<Vec<Tuple>, AllocError>
-    ensures { IfOk result (λ v. v.items ≡ map (λ r. tuple_at r.0 r.1) rows.now) }
-{
-    let mut tuples = Vec::new(alloc);
-    for row in rows {
-        tuples.push(row.tuple()?)?;
-    }
-    Ok(tuples)
 }

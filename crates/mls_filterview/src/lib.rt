@@ -4,11 +4,13 @@
 mod assembly;
 mod base;
 mod checking;
+mod entity;
 mod entity_rules;
 mod filtering;
 mod fitting;
 mod fragment;
 mod laws;
+mod maximal;
 mod row;
 mod rule;
 mod subsumption;
@@ -16,6 +18,8 @@ mod viewing;
 
 pub use base::{Base, BaseFault, abandon, made};
 pub use checking::integrity;
+pub use entity::{is_entity, is_same_entity};
+pub use entity_rules::is_same_label;
 pub use filtering::filter;
 pub use fragment::{Cell, Fragment, Node};
 pub use laws::{

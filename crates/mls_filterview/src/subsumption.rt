@@ -3,7 +3,8 @@ ghost use Rattle.std.specs.Prelude.{◌≡◌, ◌↔◌, IsTrue};
 ghost use Rattle.mls_filterview.specs.Subsumption.{covers, all_cover, Subsumes};
 ghost use Rattle.mls_filterview.specs.Filtering.{subsumes_tuple};
 
-use mls_scheme::{Element, Tuple, same_key};
+use crate::entity::is_one_entity;
+use mls_scheme::{Element, Tuple};
 
 /// Whether the first tuple says all that the second one says.
 pub fn subsumes(left: &Tuple, right: &Tuple) -> bool
@@ -13,17 +14,10 @@ pub fn subsumes(left: &Tuple, right: &Tuple) -> bool
 }
 
 /// Whether the first tuple subsumes the second one.
-#[tactic(auto, using(crate::proofs::SubsumptionSteps::entity_steps))]
-pub(crate) fn says_all(left: &Tuple, right: &Tuple) -> bool
+fn says_all(left: &Tuple, right: &Tuple) -> bool
     ensures { result ≡ subsumes_tuple left.now right.now }
 {
-    if left.key_class != right.key_class {
-        return false;
-    }
-    if !same_key(&left.key, &right.key) {
-        return false;
-    }
-    all_cover(&left.elements, &right.elements)
+    is_one_entity(left, right) && all_cover(&left.elements, &right.elements)
 }
 
 /// Whether each element of the first list is that of the second one, or has a value where that has none.

@@ -1,9 +1,10 @@
 -- Steps and runs keep what writes keep: the stored form, and with it integrity.
-use Rattle.std.proofs.Common.{◌≡◌, ℕ, zero, suc, ◌<◌, Bool, true, false, cond, List, [], ◌∷◌, length, take, Option, Some, None, Ok, Err, Result, refl, sym, ap, subst, eqb-true}
+use Rattle.std.proofs.Common.{◌≡◌, ℕ, zero, suc, ◌<◌, Bool, true, false, cond, List, [], ◌∷◌, length, take, Option, Some, None, Ok, Err, Result, refl, sym, subst, eqb-true}
 use Rattle.std.specs.Prelude.{nat_eq}
-use Rattle.std.specs.List.{AllZip, AllByRecursion}
+use Rattle.std.specs.List.{AllByRecursion}
 use Rattle.std.specs.Option.{IfSome}
 use Rattle.std.proofs.lemmas.List.{length-map}
+use Rattle.std.proofs.lemmas.Slice.Zip.{AllZip-long}
 use Rattle.mls_lattice.specs.Labels.{AreDistinct}
 use Rattle.mls_lattice.specs.Policy.{Name}
 use Rattle.mls_scheme.specs.declared.value.Value.{Value}
@@ -31,12 +32,6 @@ use Rattle.mls_machine.specs.Laws.{RunsKeepIntegrity}
 use Rattle.mls_machine.proofs.DenyingLemmas.{may_run}
 use Rattle.mls_machine.proofs.CalledLemmas.{certified_of, CallsRead, all_read}
 use Rattle.mls_machine.proofs.ArgumentLemmas.{fitted_fit}
-
-zip_count : {A C : Type 0} (R : A → C → Type 0) (xs : List A) (ys : List C) → AllZip R xs ys → length ys ≡ length xs
-zip_count R [] [] h = refl
-zip_count R [] (y ∷ ys) h = absurd h
-zip_count R (x ∷ xs) [] h = absurd h
-zip_count R (x ∷ xs) (y ∷ ys) h = ap suc (zip_count R xs ys h.1)
 
 -- what a write of a script fits
 pub record Fitting (site : Site) (level rel : ℕ) (wr : Write) : Type 0 where
@@ -85,7 +80,7 @@ module _ (site : Site) (P : ℕ → Table → Type 0) (keeps : Kept site P) wher
     inside_holds commands.Audit user fits read = all
     inside_holds (commands.View rel label) user fits read = unless_holds _ w e user _ all (λ none. all)
     inside_holds (commands.Insert rel key values) user fits read =
-        write_holds user rel (Insert key values) _ (record { numbers = (level_fits, zip_count _ (site_scheme site rel).others values fits.2); kinds = (fits.1, fits.2) })
+        write_holds user rel (Insert key values) _ (record { numbers = (level_fits, AllZip-long _ (site_scheme site rel).others values fits.2); kinds = (fits.1, fits.2) })
     inside_holds (commands.Update rel key key_class from sets) user fits read =
         write_holds user rel (Update key key_class from sets) _ (record { numbers = (level_fits, fits.4.some, fits.4.known); kinds = fits.4.kinds })
     inside_holds (commands.Delete rel key key_class) user fits read = write_holds user rel (Delete key key_class) _ (record { numbers = tt; kinds = tt })

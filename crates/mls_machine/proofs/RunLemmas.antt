@@ -8,6 +8,7 @@ use Rattle.mls_lattice.specs.Labels.{below, AreDistinct}
 use Rattle.mls_meaning.specs.Meaning.{Item}
 use Rattle.mls_meaning.specs.Secure.{seen_items, Split, Secure}
 use Rattle.mls_certcheck.specs.Rules.{Rules, claim}
+use Rattle.mls_security.proofs.FlowLemmas.{split_more}
 use Rattle.mls_security.proofs.LawLemmas.{secure_rules}
 use Rattle.mls_script.specs.declared.event.Event.{Event}
 use Rattle.mls_script.specs.declared.event.Command.{Command}
@@ -148,13 +149,6 @@ module _ (site : Site) (distinct : AreDistinct (site_labels site)) (c : ℕ) whe
 
   Claim : List Event → Type 0
   Claim es = (fs : List Event) (v w : World) → AreGood es → AreGood fs → AreStored site v.db → AreStored site w.db → LowAgree (site_labels site) c v w → sees es ≡ sees fs → Released_alike v w es fs → Ends v w es fs
-
-  -- a list that splits from another goes on so
-  split_more : (xs ys rest other : List Item) → Split xs ys → Split (xs ++ rest) (ys ++ other)
-  split_more [] ys rest other h = absurd h
-  split_more (x ∷ xs) [] rest other h = absurd h
-  split_more (x ∷ xs) (y ∷ ys) rest other (inl h) = inl h
-  split_more (x ∷ xs) (y ∷ ys) rest other (inr h) = inr (h.0, split_more xs ys rest other h.1)
 
   -- what is asked of the calls that c sees, at the first of them and at the others
   ceiling_at : (e : Event) (es : List Event) → Sees e true → AreBelowCeiling site c (e ∷ es) → IsBelowCeiling site c e.command × AreBelowCeiling site c es

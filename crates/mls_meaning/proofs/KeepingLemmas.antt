@@ -1,5 +1,6 @@
 -- One run of a block: it keeps the stored form, and releases are added at the end.
 use Rattle.std.proofs.Common.{◌≡◌, ℕ, ◌<◌, Bool, true, false, cond, List, [], ◌∷◌, ◌++◌, length, Option, refl, sym, ap, ◌∙◌, subst, append_assoc}
+use Rattle.std.proofs.SliceLists.{all_by_recursion_push}
 use Rattle.std.specs.Prelude.{nat_eq}
 use Rattle.std.specs.List.{AllByRecursion}
 use Rattle.std.proofs.lemmas.Bool.{eqb-true}
@@ -44,10 +45,6 @@ for_each_kept P f k (row ∷ rest) s h = for_each_kept P f k rest (f row s) (k r
 
 -- ---- items
 
-pub all_push : {X : Type 0} (P : X → Type 0) (xs : List X) (x : X) → AllByRecursion P xs → P x → AllByRecursion P (xs ++ x ∷ [])
-all_push P [] x h k = (k, tt)
-all_push P (y ∷ ys) x h k = (h.0, all_push P ys x h.1 k)
-
 -- the items have declared labels
 pub record AreLabelled (policy : Tables) (s : Progress) : Type 0 where
   pub emitted : AllByRecursion (λ i. IsLabel policy i.0) s.emitted
@@ -64,8 +61,8 @@ module _ (policy : Tables) (schemes : Schemes) (hi : ℕ) (args : List (Option V
   unfolding perform
   perform_labelled scope around (Assign x e) s f h = record { emitted = h.emitted; released = h.released }
   perform_labelled scope around (Write_at rel w writing outcome) s f h = record { emitted = h.emitted; released = h.released }
-  perform_labelled scope around (Release e to into) s f h = record { emitted = h.emitted; released = all_push (λ i. IsLabel policy i.0) s.released (to, value_in (environment args around s) e) h.released f.1 }
-  perform_labelled scope around (Emit e label) s f h = record { emitted = all_push (λ i. IsLabel policy i.0) s.emitted (label, value_in (environment args around s) e) h.emitted f.1; released = h.released }
+  perform_labelled scope around (Release e to into) s f h = record { emitted = h.emitted; released = all_by_recursion_push (λ i. IsLabel policy i.0) s.released (to, value_in (environment args around s) e) h.released f.1 }
+  perform_labelled scope around (Emit e label) s f h = record { emitted = all_by_recursion_push (λ i. IsLabel policy i.0) s.emitted (label, value_in (environment args around s) e) h.emitted f.1; released = h.released }
 
   pub block_labelled : (scope : Scope) (block : Block) → BlockFits policy schemes hi scope block → (around : List Tuple) (s : Progress) → AreLabelled policy s → AreLabelled policy (run_one block around s)
   unfolding run_block

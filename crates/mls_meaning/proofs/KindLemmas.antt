@@ -1,5 +1,6 @@
 -- A call keeps kinds and intervals, and what it gives has labels and kinds.
 use Rattle.std.proofs.Common.{◌≡◌, ℕ, zero, suc, ◌-◌, ◌<◌, true, false, cond, List, [], ◌∷◌, length, map, Option, Some, None, refl, sym, ap, ◌∙◌, subst, arith, inl, inr, ℤ}
+use Rattle.std.proofs.SliceLists.{all_by_recursion_push}
 use Rattle.std.specs.Prelude.{◌⊎◌, nat_eq, nat_lt, slice_index_or, pos, ◌+ℤ◌, ◌-ℤ◌, ◌*ℤ◌}
 use Rattle.std.specs.List.{AllZip, AllByRecursion}
 use Rattle.std.specs.Option.{IfSome}
@@ -7,6 +8,7 @@ use Rattle.std.specs.FinMap.{get}
 use Rattle.std.proofs.lemmas.Bool.{cases_Bool, eqb-true, ltb-true, ltb-false}
 use Rattle.std.proofs.lemmas.List.{get_or-map, get_or_past}
 use Rattle.std.proofs.lemmas.Option.{same_Some}
+use Rattle.std.proofs.lemmas.Slice.Zip.{AllZip-long}
 use Rattle.mls_lattice.specs.Labels.{Labels, below, AreDistinct}
 use Rattle.mls_lattice.specs.Policy.{Name, Tables, labels_of}
 use Rattle.mls_scheme.specs.declared.value.Kind.{Kind}
@@ -21,6 +23,7 @@ use Rattle.mls_scheme.specs.Tuple.{at, null_element}
 use Rattle.mls_scheme.specs.Table.{Table, tuple_at}
 use Rattle.mls_scheme.specs.Scheme.{Attribute, Scheme, Schemes, scheme_of, other_of, no_attribute}
 use Rattle.mls_scheme.specs.Fits.{in_interval, Fits}
+use Rattle.mls_filterview.specs.Rules.{no_tuple}
 use Rattle.mls_filterview.specs.View.{rows}
 use Rattle.mls_filterview.specs.Stored.{IsContent, AreContent}
 use Rattle.mls_filterview.proofs.RowLemmas.{rows_are_the_view}
@@ -28,17 +31,18 @@ use Rattle.mls_updates.specs.declared.outcome.Outcome.{Outcome}
 use Rattle.mls_updates.specs.declared.outcome.Outcome.TheVariants.{Done, KeyNull, Duplicate, NoTuple, NullAboveKey, Inherited, OutOfInterval, AlreadyDerived}
 use Rattle.mls_updates.specs.Outcome.{code_of}
 use Rattle.mls_updates.specs.Writes.{WriteKinds, write}
+use Rattle.mls_updates.proofs.FittingLemmas.{zip_at}
 use Rattle.mls_updates.proofs.LawLemmas.{keep_content}
 use Rattle.mls_translang.specs.declared.operator.Operator.TheVariants as operators
 use Rattle.mls_translang.specs.Tree.{Expr, Known, Null, Var, Param, Field, No, Op, Writing, Inserting, Updating, Deleting, Stmt, Assign, Write_at, Release, Emit, Block, End, Do, If, For}
 use Rattle.mls_translang.specs.Scope.{Scope, in_loop, row_at, kind_of_var, kind_of_param}
 use Rattle.mls_translang.specs.Kinds.{Sort, Of, Truth, field_of, HasKind, HaveKinds, WritingKinds, Assigns, StmtKinds, BlockKinds}
 use Rattle.mls_translang.specs.Fits.{StmtFits, BlockFits}
-use Rattle.mls_meaning.specs.Expressions.{bounded, calculate, cell_of, no_tuple, Environment, eval, value_in, holds_in}
+use Rattle.mls_meaning.specs.Expressions.{bounded, calculate, cell_of, Environment, eval, value_in, holds_in}
 use Rattle.mls_meaning.specs.Meaning.{Variables, Progress, set_var, set_outcome, environment, values_set, write_in, perform, for_each, run_block}
 use Rattle.mls_meaning.specs.Kinds.{RowKinds, VarsFit, AroundFits}
 use Rattle.mls_meaning.specs.Laws.{IsItem}
-use Rattle.mls_meaning.proofs.KeepingLemmas.{table_holds, all_push, cond_kept, write_fits}
+use Rattle.mls_meaning.proofs.KeepingLemmas.{table_holds, cond_kept, write_fits}
 
 -- ---- operators
 
@@ -73,28 +77,15 @@ module _ (ls : Labels) (scheme : Scheme) (p : Place) (es : List Element) (h : Fi
   abbrev OtherFits : Attribute → Element → Type 0
   OtherFits a e = (fits_kind e.value a.kind ≡ true) × (in_interval ls e.class a ≡ true)
 
-  zip_length : {A B : Type 0} (R : A → B → Type 0) (xs : List A) (ys : List B) → AllZip R xs ys → length xs ≡ length ys
-  zip_length R [] [] z = refl
-  zip_length R [] (y ∷ ys) z = absurd z
-  zip_length R (x ∷ xs) [] z = absurd z
-  zip_length R (x ∷ xs) (y ∷ ys) z = ap suc (zip_length R xs ys z.1)
-
-  zip_at : {A B : Type 0} (R : A → B → Type 0) (d : A) (e : B) (xs : List A) (ys : List B) → AllZip R xs ys → (i : ℕ) → i < length xs → R (slice_index_or xs i d) (slice_index_or ys i e)
-  zip_at R d e [] [] z i l = absurd (omega arith)
-  zip_at R d e [] (y ∷ ys) z i l = absurd z
-  zip_at R d e (x ∷ xs) [] z i l = absurd z
-  zip_at R d e (x ∷ xs) (y ∷ ys) z zero l = z.0
-  zip_at R d e (x ∷ xs) (y ∷ ys) z (suc i) l = zip_at R d e xs ys z.1 i (omega arith)
-
   element_kind : (j : ℕ) → (nat_lt j (length scheme.others) ≡ true) ⊎ (nat_lt j (length scheme.others) ≡ false) → fits_kind (at es j).value (other_of scheme j).kind ≡ true
   element_kind j (inl l) = (zip_at OtherFits no_attribute null_element scheme.others es h.others j (ltb-true j _ l)).0
   element_kind j (inr l) =
-      let m : length scheme.others ≡ length es = zip_length OtherFits scheme.others es h.others in
+      let m : length scheme.others ≡ length es = sym (AllZip-long OtherFits scheme.others es h.others) in
       ap (λ (e : Element). fits_kind e.value (other_of scheme j).kind) (get_or_past es j null_element (omega (arith, ltb-false j (length scheme.others) l)))
 
   pub row_kinds : RowKinds scheme (tuple_at p es)
   row_kinds i =
-      let n : length scheme.keys ≡ length p.key = zip_length KeyFits scheme.keys p.key h.key in
+      let n : length scheme.keys ≡ length p.key = sym (AllZip-long KeyFits scheme.keys p.key h.key) in
       subst (λ m. fits_kind (cond (nat_lt i m) (slice_index_or (map Some p.key) i None) (at es (i - m)).value) (field_of scheme i).kind ≡ true) n
       (elim (nat_lt i (length scheme.keys)) as (λ b. nat_lt i (length scheme.keys) ≡ b
       → fits_kind (cond b (slice_index_or (map Some p.key) i None) (at es (i - length scheme.keys)).value)
@@ -227,14 +218,14 @@ module _ (policy : Tables) (schemes : Schemes) (hi : ℕ) where
           content = h.content;
           vars = set_kind scope into (value_in env e) s.vars h.vars (assigned scope env k into e z);
           emitted = h.emitted;
-          released = all_push (λ i. IsItem policy i × (below ls i.0 hi ≡ true)) s.released (to, value_in env e) h.released (record { label = f.1; kind = (z.0, value_kind scope env k z.0 e z.2) }, f.2);
+          released = all_by_recursion_push (λ i. IsItem policy i × (below ls i.0 hi ≡ true)) s.released (to, value_in env e) h.released (record { label = f.1; kind = (z.0, value_kind scope env k z.0 e z.2) }, f.2);
         }
     stmt_keeps scope around (Emit e label) s f z o h =
         let env = environment args around s in
         record {
           content = h.content;
           vars = h.vars;
-          emitted = all_push (IsItem policy) s.emitted (label, value_in env e) h.emitted (record { label = f.1; kind = (z.0, value_kind scope env (environment_fits scope around s o h) z.0 e z.1) });
+          emitted = all_by_recursion_push (IsItem policy) s.emitted (label, value_in env e) h.emitted (record { label = f.1; kind = (z.0, value_kind scope env (environment_fits scope around s o h) z.0 e z.1) });
           released = h.released;
         }
 

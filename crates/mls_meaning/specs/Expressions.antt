@@ -7,6 +7,7 @@ use Rattle.mls_scheme.specs.declared.value.Value.TheVariants.{Int}
 use Rattle.mls_scheme.specs.Value.{is_signed, value_cmp, value_eq}
 use Rattle.mls_scheme.specs.declared.tuple.Tuple.{Tuple}
 use Rattle.mls_scheme.specs.Tuple.{at}
+use Rattle.mls_filterview.specs.Rules.{no_tuple}
 use Rattle.mls_translang.specs.declared.operator.Operator.{Operator}
 use Rattle.mls_translang.specs.declared.operator.Operator.TheVariants as operators
 use Rattle.mls_translang.specs.Tree.{Expr, Known, Null, Var, Param, Field, No, Op}
@@ -66,9 +67,6 @@ apply operators.Or a b = Truth (is_true a || is_true b)
 -- an attribute of a row by number, the key first
 abbrev pub cell_of : Tuple → ℕ → Option Value
 cell_of t i = if nat_lt i (length t.key) then slice_index_or (map Some t.key) i None else (at t.elements (i - length t.key)).value
-
-abbrev pub no_tuple : Tuple
-no_tuple = record { key = []; key_class = 0; elements = [] }
 
 -- what expressions read: arguments, the rows of the loops around, the innermost first, and variables by number
 pub record Environment : Type 0 where

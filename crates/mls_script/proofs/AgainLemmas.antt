@@ -1,11 +1,13 @@
 -- What a line tells is what is read: so a text that tells events is never refused, and tells one list of them.
-use Rattle.std.proofs.Common.{◌≡◌, ℕ, zero, suc, ◌<◌, ◌≤◌, Bool, true, false, List, [], ◌∷◌, ◌++◌, length, map, get_or, drop, Option, Some, None, Result, Ok, refl, sym, ap, ◌∙◌, subst, arith, append_assoc, length-append}
+use Rattle.std.proofs.Common.{◌≡◌, ℕ, zero, suc, ◌<◌, ◌≤◌, true, false, List, [], ◌∷◌, ◌++◌, length, map, get_or, drop, Option, Some, None, Result, Ok, refl, sym, ap, ◌∙◌, subst, arith, append_assoc, length-append}
 use Rattle.std.specs.Prelude.{nat_eq, ⊤}
 use Rattle.std.specs.Cmp.{nat_eq_equiv}
 use Rattle.std.specs.List.{flat_map, AllByRecursion, AllZip, IsDistinct, list_any, position, position_or_len}
 use Rattle.std.specs.Str.{bytes_eq}
 use Rattle.std.proofs.lemmas.Bool.{lt-ltb}
 use Rattle.std.proofs.lemmas.List.{append-nil, map-append, get_or-map, length-map}
+use Rattle.std.proofs.Recursive.{every_back}
+use Rattle.std.proofs.lemmas.List.Elements.{All-from_recursion}
 use Rattle.std.proofs.lemmas.List.Sums.{position_or_len_is}
 use Rattle.std.proofs.lemmas.Map.Keys.{apart_from_distinct, IsDistinct-head, IsDistinct-tail}
 use Rattle.std.proofs.lemmas.Slice.Eq.{bytes_eq-Decides}
@@ -19,11 +21,12 @@ use Rattle.mls_scheme.specs.Scheme.{Attribute, Scheme, Schemes, IsScheme, AreSch
 use Rattle.mls_scheme.specs.Fits.{HaveKinds}
 use Rattle.mls_tokens.specs.declared.fault.TokenFault.{TokenFault}
 use Rattle.mls_tokens.specs.declared.token.Token.{Token}
-use Rattle.mls_tokens.specs.declared.token.Token.TheVariants.{Word, Sign}
+use Rattle.mls_tokens.specs.declared.token.Token.TheVariants.{Sign}
 use Rattle.mls_tokens.specs.declared.token.Placed.{Placed}
 use Rattle.mls_tokens.specs.declared.sign.Sign.TheVariants.{LeftParen, RightParen, Comma, Equals}
 use Rattle.mls_tokens.specs.Scanning.{Left, tokens_in}
-use Rattle.mls_tokens.specs.Passing.{left, is_word, is_sign, take_first, taken, or_refused, pass, PlacedName, name_in, named_first, pass_name}
+use Rattle.mls_tokens.specs.Passing.{left, is_sign, taken, pass}
+use Rattle.mls_tokens.proofs.NextLemmas.{Gets, gets_more, done, gets_done, next_is, NotNext, not_taken, took_sign, sign_gets, name_gets}
 use Rattle.mls_script.specs.declared.lists.Listed.{Listed}
 use Rattle.mls_script.specs.declared.lists.Setting.{Setting}
 use Rattle.mls_script.specs.Event.{Sets, SetsFit}
@@ -51,15 +54,6 @@ distinct_behind : (xs ys : List Name) → IsDistinct bytes_eq (xs ++ ys) → IsD
 distinct_behind [] ys h = h
 distinct_behind (x ∷ xs) ys h = distinct_behind xs ys (IsDistinct-tail bytes_eq x (xs ++ ys) h)
 
-all_at : {A : Type 0} (P : A → Type 0) (xs : List A) (n : ℕ) (d : A) → AllByRecursion P xs → n < length xs → P (get_or xs n d)
-all_at P [] n d h within = absurd (omega arith)
-all_at P (x ∷ xs) zero d h within = h.0
-all_at P (x ∷ xs) (suc n) d h within = all_at P xs n d h.1 (omega arith)
-
-all_behind : {A : Type 0} (P : A → Type 0) (xs ys : List A) → AllByRecursion P (xs ++ ys) → AllByRecursion P ys
-all_behind P [] ys h = h
-all_behind P (x ∷ xs) ys h = all_behind P xs ys h.1
-
 pub label_again : (policy : Tables) → IsPolicy policy → (n at : ℕ) → n < length policy.labels → label_named policy (label_name policy n, at) ≡ Ok n
 label_again policy valid n at within = ap (known_or at) (position_again (λ (l : Named). l.name) policy.labels no_label valid.names n within)
 
@@ -74,97 +68,34 @@ other_again scheme valid n within =
 pub label_is_name : (policy : Tables) → IsPolicy policy → (n : ℕ) → n < length policy.labels → is_name (label_name policy n) ≡ true
 label_is_name policy valid n within =
     subst (λ (x : Name). is_name x ≡ true) (get_or-map (λ (l : Named). l.name) policy.labels n no_label [] within)
-    (all_at (λ (x : Name). is_name x ≡ true) (map (λ l. l.name) policy.labels) n [] valid.label_names (omega (arith, length-map policy.labels (λ (l : Named). l.name))))
+    (All-from_recursion (λ (x : Name). is_name x ≡ true) (map (λ l. l.name) policy.labels) valid.label_names n [] (omega (arith, length-map policy.labels (λ (l : Named). l.name))))
 
 pub scheme_valid : (schemes : Schemes) → AreSchemes schemes → (n : ℕ) → n < length schemes → IsScheme (scheme_of schemes n)
-scheme_valid schemes valid n within = all_at IsScheme schemes n no_scheme valid.each within
+scheme_valid schemes valid n within = All-from_recursion IsScheme schemes valid.each n no_scheme within
 
 pub relation_is_name : (schemes : Schemes) → AreSchemes schemes → (n : ℕ) → n < length schemes → is_name (relation_name schemes n) ≡ true
 relation_is_name schemes valid n within = (scheme_valid schemes valid n within).named
 
 other_is_name : (scheme : Scheme) → IsScheme scheme → (n : ℕ) → n < length scheme.others → is_name (other_of scheme n).name ≡ true
 other_is_name scheme valid n within =
-    let names = all_behind (λ (x : Name). is_name x ≡ true) (map (λ a. a.name) scheme.keys) (map (λ a. a.name) scheme.others) (subst AreNames (map-append (λ a. a.name) scheme.keys scheme.others) valid.names) in
+    let names = every_back (λ (x : Name). is_name x ≡ true) _ (map (λ a. a.name) scheme.keys) (map (λ a. a.name) scheme.others) (subst AreNames (map-append (λ a. a.name) scheme.keys scheme.others) valid.names) refl in
     subst (λ (x : Name). is_name x ≡ true) (get_or-map (λ (a : Attribute). a.name) scheme.others n no_attribute [] within)
-    (all_at (λ (x : Name). is_name x ≡ true) (map (λ a. a.name) scheme.others) n [] names (omega (arith, length-map scheme.others (λ (a : Attribute). a.name))))
+    (All-from_recursion (λ (x : Name). is_name x ≡ true) (map (λ a. a.name) scheme.others) names n [] (omega (arith, length-map scheme.others (λ (a : Attribute). a.name))))
 
--- ---- what is next is passed
-
--- a reading that gives such a value, before these tokens
-pub record Read {X : Type 0} (f : Left → Result (X × Left) TokenFault) (l : Left) (P : X → Type 0) (us : List Token) : Type 0 where
-  pub value : X
-  pub rest : Left
-  pub is : f l ≡ Ok (value, rest)
-  pub holds : P value
-  pub tokens : tokens_in rest.placed ≡ us
-  pub stop : rest.stop ≡ l.stop
-
-abbrev head_of : Token → List Token → Token
-head_of d [] = d
-head_of d (t ∷ ts) = t
-
-abbrev tail_of : List Token → List Token
-tail_of [] = []
-tail_of (t ∷ ts) = ts
-
-pub record Took (test : Token → Bool) (l : Left) (us : List Token) : Type 0 where
-  pub at : ℕ
-  pub rest : Left
-  pub is : taken test l ≡ Some (at, rest)
-  pub tokens : tokens_in rest.placed ≡ us
-  pub stop : rest.stop ≡ l.stop
-
-took_first : (test : Token → Bool) (t : Token) (us : List Token) (ps : List Placed) (stop : TokenFault) → test t ≡ true → tokens_in ps ≡ t ∷ us → Took test (left ps stop) us
-took_first test t us [] stop on e = absurd cc
-took_first test t us (p ∷ ps) stop on e =
-    let same : p.token ≡ t = ap (head_of t) e in
-    record { at = p.at; rest = left ps stop; is = rw (ap test same ∙ on) refl; tokens = ap tail_of e; stop = refl }
-
-pub took : (test : Token → Bool) (t : Token) (us : List Token) (l : Left) → test t ≡ true → tokens_in l.placed ≡ t ∷ us → Took test l us
-took test t us l on e = took_first test t us l.placed l.stop on e
-
--- the first of some tokens fails a test
-abbrev pub NotNext : (Token → Bool) → List Token → Type 0
-NotNext test [] = ⊤
-NotNext test (t ∷ ts) = test t ≡ false
-
-not_first : (test : Token → Bool) (ts : List Token) (ps : List Placed) (stop : TokenFault) → NotNext test ts → tokens_in ps ≡ ts → take_first test ps stop ≡ None
-not_first test ts [] stop off e = refl
-not_first test [] (p ∷ ps) stop off e = absurd cc
-not_first test (t ∷ ts) (p ∷ ps) stop off e = let same : p.token ≡ t = ap (head_of t) e in rw (ap test same ∙ off) refl
-
-pub not_taken : (test : Token → Bool) (ts : List Token) (l : Left) → NotNext test ts → tokens_in l.placed ≡ ts → taken test l ≡ None
-not_taken test ts l off e = not_first test ts l.placed l.stop off e
-
-pub pass_read : (test : Token → Bool) (t : Token) (us : List Token) (l : Left) → test t ≡ true → tokens_in l.placed ≡ t ∷ us → Read (pass test) l (λ _. ⊤) us
-pass_read test t us l on e =
-    let h = took test t us l on e in
-    record { value = h.at; rest = h.rest; is = ap (λ o. or_refused o l) h.is; holds = tt; tokens = h.tokens; stop = h.stop }
-
-pub word_same : (w : Name) → is_word w (Word w) ≡ true
-word_same w = (bytes_eq-Decides w w).1 refl
-
-name_first : (s : Name) (us : List Token) (ps : List Placed) (stop : TokenFault) → is_name s ≡ true → tokens_in ps ≡ Word s ∷ us → Read pass_name (left ps stop) (λ x. x.0 ≡ s) us
-name_first s us [] stop named e = absurd cc
-name_first s us (p ∷ ps) stop named e =
-    let same : p.token ≡ Word s = ap (head_of (Word s)) e in
-    record { value = (s, p.at); rest = left ps stop; is = ap (λ t. named_first p.at (left ps stop) (name_in t)) same ∙ rw named refl; holds = refl; tokens = ap tail_of e; stop = refl }
-
-pub name_read : (s : Name) (us : List Token) (l : Left) → is_name s ≡ true → tokens_in l.placed ≡ Word s ∷ us → Read pass_name l (λ x. x.0 ≡ s) us
-name_read s us l named e = name_first s us l.placed l.stop named e
+-- ---- values
 
 value_again : (v : Option Value) → value_in (value_token v) ≡ Some v
 value_again None = refl
 value_again (Some (values.Int n)) = refl
 value_again (Some (values.Text s)) = refl
 
-value_first : (v : Option Value) (us : List Token) (ps : List Placed) (stop : TokenFault) → tokens_in ps ≡ value_token v ∷ us → Read pass_value (left ps stop) (λ x. x.0 ≡ v) us
+value_first : (v : Option Value) (us : List Token) (ps : List Placed) (stop : TokenFault) → tokens_in ps ≡ value_token v ∷ us → Gets (pass_value (left ps stop)) (left ps stop) (λ x. x.0 ≡ v) us
 value_first v us [] stop e = absurd cc
 value_first v us (p ∷ ps) stop e =
-    let same : p.token ≡ value_token v = ap (head_of (value_token v)) e in
-    record { value = (v, p.at); rest = left ps stop; is = ap (λ t. valued p.at (left ps stop) (value_in t)) same ∙ ap (valued p.at (left ps stop)) (value_again v); holds = refl; tokens = ap tail_of e; stop = refl }
+    let h = next_is p ps (value_token v) us e in
+    record { value = (v, p.at); rest = left ps stop; is = ap (λ t. valued p.at (left ps stop) (value_in t)) h.0 ∙ ap (valued p.at (left ps stop)) (value_again v); holds = refl; tokens = h.1; stop = refl }
 
-pub value_read : (v : Option Value) (us : List Token) (l : Left) → tokens_in l.placed ≡ value_token v ∷ us → Read pass_value l (λ x. x.0 ≡ v) us
+pub value_read : (v : Option Value) (us : List Token) (l : Left) → tokens_in l.placed ≡ value_token v ∷ us → Gets (pass_value l) l (λ x. x.0 ≡ v) us
 value_read v us l e = value_first v us l.placed l.stop e
 
 -- ---- items with a comma between each two
@@ -174,7 +105,7 @@ commas_length toks [] = omega arith
 commas_length toks (y ∷ ys) = let h = commas_length toks ys in omega (arith, length-append (toks y) (flat_map (λ z. Sign Comma ∷ toks z) ys), h)
 
 module _ {X A Y : Type 0} (item : Left → Result (X × Left) TokenFault) (push : A → X → A) (toks : Y → List Token) (Is : Y → X → Type 0) (Good : Y → Type 0)
-    (again : (y : Y) (us : List Token) (l : Left) → Good y → tokens_in l.placed ≡ toks y ++ us → Read item l (Is y) us) where
+    (again : (y : Y) (us : List Token) (l : Left) → Good y → tokens_in l.placed ≡ toks y ++ us → Gets (item l) l (Is y) us) where
   pub record ItemsRead (n : ℕ) (acc : A) (l : Left) (ys : List Y) (us : List Token) : Type 0 where
     pub values : List X
     pub rest : Left
@@ -201,7 +132,7 @@ module _ {X A Y : Type 0} (item : Left → Result (X × Left) TokenFault) (push 
   items_read (z ∷ zs) zero acc l y us enough good all end e = absurd (omega arith)
   items_read (z ∷ zs) (suc n) acc l y us enough good all end e =
       let first = again y (flat_map (λ z. Sign Comma ∷ toks z) (z ∷ zs) ++ us) l good (e ∙ append_assoc (toks y) (flat_map (λ z. Sign Comma ∷ toks z) (z ∷ zs)) us) in
-      let comma = took (is_sign Comma) (Sign Comma) (separated toks (z ∷ zs) ++ us) first.rest refl first.tokens in
+      let comma = took_sign Comma (separated toks (z ∷ zs) ++ us) first.rest first.tokens in
       let more = items_read zs n (push acc first.value) comma.rest z us (omega arith) all.0 all.1 end comma.tokens in
       record {
         values = first.value ∷ more.values;
@@ -236,13 +167,13 @@ all_good : {Y : Type 0} (ys : List Y) → AllByRecursion (λ (y : Y). ⊤) ys
 all_good [] = tt
 all_good (y ∷ ys) = (tt, all_good ys)
 
-behind_read : (vs : List (Option Value)) (us : List Token) (l : Left) → tokens_in l.placed ≡ separated (λ v. value_token v ∷ []) vs ++ Sign RightParen ∷ us → Read (λ l. list_behind l (taken (is_sign RightParen) l)) l (λ x. x.values ≡ vs) us
+behind_read : (vs : List (Option Value)) (us : List Token) (l : Left) → tokens_in l.placed ≡ separated (λ v. value_token v ∷ []) vs ++ Sign RightParen ∷ us → Gets (list_behind l (taken (is_sign RightParen) l)) l (λ x. x.values ≡ vs) us
 behind_read [] us l e =
-    let end = took (is_sign RightParen) (Sign RightParen) us l refl e in
+    let end = took_sign RightParen us l e in
     record { value = record none_listed { end = end.at }; rest = end.rest; is = ap (list_behind l) end.is; holds = refl; tokens = end.tokens; stop = end.stop }
 behind_read (v ∷ vs) us l e =
     let items = all_read pass_value push_value (λ v. value_token v ∷ []) (λ v x. x.0 ≡ v) (λ v. ⊤) (λ v us l good e. value_read v us l e) vs none_listed l v (Sign RightParen ∷ us) tt (all_good vs) refl e in
-    let end = pass_read (is_sign RightParen) (Sign RightParen) us items.rest refl items.tokens in
+    let end = sign_gets RightParen us items.rest items.tokens in
     let listed = pushed push_value none_listed items.values in
     record {
       value = record listed { end = end.value };
@@ -255,20 +186,12 @@ behind_read (v ∷ vs) us l e =
       stop = end.stop ∙ items.stop;
     }
 
-pub list_read : (vs : List (Option Value)) (us : List Token) (l : Left) → tokens_in l.placed ≡ list_tokens vs ++ us → Read pass_list l (λ x. x.values ≡ vs) us
+pub list_read : (vs : List (Option Value)) (us : List Token) (l : Left) → tokens_in l.placed ≡ list_tokens vs ++ us → Gets (pass_list l) l (λ x. x.values ≡ vs) us
 unfolding pass_list
 list_read vs us l e =
-    let first = pass_read (is_sign LeftParen) (Sign LeftParen) (separated (λ v. value_token v ∷ []) vs ++ Sign RightParen ∷ us) l refl
-    (e ∙ ap (λ ts. Sign LeftParen ∷ ts) (append_assoc (separated (λ v. value_token v ∷ []) vs) (Sign RightParen ∷ []) us)) in
-    let more = behind_read vs us first.rest first.tokens in
-    record {
-      value = more.value;
-      rest = more.rest;
-      is = ap (λ r. r >>= λ (x : ℕ × Left). list_behind x.1 (taken (is_sign RightParen) x.1)) first.is ∙ more.is;
-      holds = more.holds;
-      tokens = more.tokens;
-      stop = more.stop ∙ first.stop;
-    }
+    gets_more (λ x. list_behind x.1 (taken (is_sign RightParen) x.1))
+    (sign_gets LeftParen (separated (λ v. value_token v ∷ []) vs ++ Sign RightParen ∷ us) l (e ∙ ap (λ ts. Sign LeftParen ∷ ts) (append_assoc (separated (λ v. value_token v ∷ []) vs) (Sign RightParen ∷ []) us)))
+    (λ x m h t. behind_read vs us m t)
 
 pub kinds_again : (attributes : List Attribute) (vs : List (Option Value)) (places : List ℕ) (end : ℕ) → HaveKinds attributes vs → misfit attributes vs places end ≡ None
 kinds_again [] [] places end h = refl
@@ -281,22 +204,14 @@ kinds_again (a ∷ as') (v ∷ vs) places end h = rw h.0 (kinds_again as' vs (dr
 abbrev IsSetting : Scheme → ℕ × Option Value → Setting → Type 0
 IsSetting scheme y s = (s.name ≡ (other_of scheme y.0).name) × (s.value ≡ y.1)
 
-pub setting_read : (scheme : Scheme) (y : ℕ × Option Value) (us : List Token) (l : Left) → is_name (other_of scheme y.0).name ≡ true → tokens_in l.placed ≡ set_tokens scheme y ++ us → Read pass_setting l (IsSetting scheme y) us
+pub setting_read : (scheme : Scheme) (y : ℕ × Option Value) (us : List Token) (l : Left) → is_name (other_of scheme y.0).name ≡ true → tokens_in l.placed ≡ set_tokens scheme y ++ us → Gets (pass_setting l) l (IsSetting scheme y) us
 unfolding pass_setting
 setting_read scheme y us l named e =
-    let n = name_read (other_of scheme y.0).name (Sign Equals ∷ value_token y.1 ∷ us) l named e in
-    let q = pass_read (is_sign Equals) (Sign Equals) (value_token y.1 ∷ us) n.rest refl n.tokens in
-    let v = value_read y.1 us q.rest q.tokens in
-    record {
-      value = record { name = n.value.0; name_at = n.value.1; value = v.value.0; value_at = v.value.1 };
-      rest = v.rest;
-      is = ap (λ r. r >>= λ (n : PlacedName × Left). pass (is_sign Equals) n.1 >>= λ e. pass_value e.1 >>= λ v. Ok (record { name = n.0.0; name_at = n.0.1; value = v.0.0; value_at = v.0.1 }, v.1)) n.is
-          ∙ ap (λ r. r >>= λ (e : ℕ × Left). pass_value e.1 >>= λ v. Ok (record { name = n.value.0; name_at = n.value.1; value = v.0.0; value_at = v.0.1 }, v.1)) q.is
-          ∙ ap (λ r. r >>= λ (v : PlacedValue × Left). Ok (record { name = n.value.0; name_at = n.value.1; value = v.0.0; value_at = v.0.1 }, v.1)) v.is;
-      holds = (n.holds, v.holds);
-      tokens = v.tokens;
-      stop = v.stop ∙ q.stop ∙ n.stop;
-    }
+    gets_more (λ n. pass (is_sign Equals) n.1 >>= λ q. pass_value q.1 >>= λ v. done (record { name = n.0.0; name_at = n.0.1; value = v.0.0; value_at = v.0.1 }) v.1)
+    (name_gets (other_of scheme y.0).name (Sign Equals ∷ value_token y.1 ∷ us) l named e)
+    (λ n m same t. gets_more (λ q. pass_value q.1 >>= λ v. done (record { name = n.0; name_at = n.1; value = v.0.0; value_at = v.0.1 }) v.1) (sign_gets Equals (value_token y.1 ∷ us) m t)
+    (λ q m2 h t2. gets_more (λ v. done (record { name = n.0; name_at = n.1; value = v.0.0; value_at = v.0.1 }) v.1) (value_read y.1 us m2 t2)
+    (λ v m3 equal t3. gets_done (record { name = n.0; name_at = n.1; value = v.0; value_at = v.1 }) m3 (IsSetting scheme y) us (same, equal) t3)))
 
 flipped : (m n : ℕ) → nat_eq m n ≡ false → nat_eq n m ≡ false
 flipped m n h = nat_eq_equiv.symm n m ∙ h
@@ -304,7 +219,7 @@ flipped m n h = nat_eq_equiv.symm n m ∙ h
 fresh : (ms ns : List ℕ) (n : ℕ) → IsDistinct nat_eq (ms ++ n ∷ ns) → list_any (nat_eq n) ms ≡ false
 fresh [] ns n h = refl
 fresh (m ∷ ms) ns n h =
-    let apart = all_behind (λ y. nat_eq m y ≡ false) ms (n ∷ ns) (IsDistinct-head nat_eq m (ms ++ n ∷ ns) h) in
+    let apart = every_back (λ y. nat_eq m y ≡ false) _ ms (n ∷ ns) (IsDistinct-head nat_eq m (ms ++ n ∷ ns) h) refl in
     rw (flipped m n apart.0) (fresh ms ns n (IsDistinct-tail nat_eq m (ms ++ n ∷ ns) h))
 
 set_again : (scheme : Scheme) → IsScheme scheme → (front : Sets) (y : ℕ × Option Value) (s : Setting) → IsSetting scheme y s → y.0 < length scheme.others → list_any (nat_eq y.0) (map (λ x. x.0) front) ≡ false
@@ -333,7 +248,7 @@ names_good scheme valid [] h = tt
 names_good scheme valid (y ∷ ys) h = (other_is_name scheme valid y.0 h.0, names_good scheme valid ys h.1)
 
 pub sets_read : (scheme : Scheme) → IsScheme scheme → (sets : Sets) (us : List Token) (l : Left) → SetsFit scheme sets → NotNext (is_sign Comma) us → tokens_in l.placed ≡ separated (set_tokens scheme) sets ++ us
-    → Read (pass_sets (Some scheme)) l (λ x. x ≡ Ok sets) us
+    → Gets (pass_sets (Some scheme) l) l (λ x. x ≡ Ok sets) us
 unfolding pass_sets
 sets_read scheme valid [] us l fit end e = absurd (let some = fit.some in omega arith)
 sets_read scheme valid (y ∷ ys) us l fit end e =

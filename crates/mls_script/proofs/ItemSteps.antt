@@ -1,31 +1,12 @@
 -- Items with a comma between each two, item by item.
-use Rattle.std.proofs.Common.{◌≡◌, ℕ, zero, suc, ◌<◌, ◌≤◌, Bool, List, [], ◌∷◌, length, Option, Some, None, Result, Ok, Err, inl, inr, refl, ap, ◌∙◌, arith}
-use Rattle.std.proofs.lemmas.Bool.{cases_Bool}
+use Rattle.std.proofs.Common.{◌≡◌, ℕ, zero, suc, ◌<◌, ◌≤◌, length, Option, Some, None, Result, Ok, Err, refl, ap, ◌∙◌, arith}
 use Rattle.mls_lattice.specs.Reading.{◌>>=◌}
 use Rattle.mls_tokens.specs.declared.fault.TokenFault.{TokenFault}
-use Rattle.mls_tokens.specs.declared.token.Token.{Token}
-use Rattle.mls_tokens.specs.declared.token.Placed.{Placed}
 use Rattle.mls_tokens.specs.declared.sign.Sign.TheVariants.{Comma}
 use Rattle.mls_tokens.specs.Scanning.{Left}
-use Rattle.mls_tokens.specs.Passing.{left, is_sign, taken, take_first}
+use Rattle.mls_tokens.specs.Passing.{is_sign, taken}
+use Rattle.mls_tokens.proofs.PassedLemmas.{taken_shorter}
 use Rattle.mls_script.specs.Reading.{after_item, items_from, items_at}
-
-abbrev gives : ℕ × Left → Option (ℕ × Left)
-gives x = Some x
-
-gives_is : (x y : ℕ × Left) → gives x ≡ gives y → x ≡ y
-gives_is x y e = cc
-
-taken_shorter : (test : Token → Bool) (ps : List Placed) (stop : TokenFault) (at : ℕ) (l : Left) → take_first test ps stop ≡ Some (at, l) → length l.placed < length ps
-taken_shorter test [] stop at l e = absurd cc
-taken_shorter test (p ∷ ps) stop at l e =
-    elim (cases_Bool (test p.token)) [
-      | inl on ↦
-          let same = gives_is (p.at, left ps stop) (at, l) (rw on at e) in
-          let len : length ps ≡ length l.placed = ap (λ (x : ℕ × Left). length x.1.placed) same in
-          omega (arith, len)
-      | inr off ↦ absurd (let h = rw off at e in cc)
-    ]
 
 module _ {X A : Type 0} (item : Left → Result (X × Left) TokenFault) (push : A → X → A) (first : A) (start : Left) where
   -- what is left to read, behind the items that were read, is the whole
@@ -55,6 +36,6 @@ module _ {X A : Type 0} (item : Left → Result (X × Left) TokenFault) (push : 
         where
           step : (most : ℕ) → length l.placed ≤ most → items_at item push first start ≡ items_from item push most (push acc x) behind → ItemsSoFar (push acc x) behind
           step zero enough same = absurd (omega arith)
-          step (suc most) enough same = record { most = most; enough = (let s = taken_shorter (is_sign Comma) rest.placed rest.stop at behind e in omega arith); same = same }
+          step (suc most) enough same = record { most = most; enough = (let s = taken_shorter (is_sign Comma) rest at behind e in omega arith); same = same }
 
 pub ruleset item_steps = (items_none, items_err, items_end, items_more)

@@ -7,15 +7,15 @@ use Rattle.std.proofs.lemmas.List.{append-nil}
 use Rattle.std.proofs.lemmas.List.Elements.{filter_map-append}
 use Rattle.mls_lattice.specs.Policy.{Tables}
 use Rattle.mls_lattice.specs.Reading.{◌>>=◌}
+use Rattle.mls_lattice.proofs.ReadingLemmas.{bind_ok}
 use Rattle.mls_scheme.specs.Scheme.{Schemes}
-use Rattle.mls_tokens.specs.declared.fault.TokenCause.{TokenCause}
 use Rattle.mls_tokens.specs.declared.fault.TokenCause.TheVariants as causes
 use Rattle.mls_tokens.specs.declared.fault.TokenFault.{TokenFault}
 use Rattle.mls_tokens.specs.declared.token.Token.TheVariants.{Word}
-use Rattle.mls_tokens.specs.declared.token.Placed.{Placed}
 use Rattle.mls_tokens.specs.Scanning.{Left, tokens_in, tokens_at}
-use Rattle.mls_tokens.specs.Passing.{is_word, taken, is_expected, over_with, is_over, pass_end}
+use Rattle.mls_tokens.specs.Passing.{is_word, taken, is_over, pass_end}
 use Rattle.mls_tokens.proofs.TokensLemmas.{tokens_exact}
+use Rattle.mls_tokens.proofs.PassedLemmas.{same_ok, Passed, passed_more, word_taken, over_is}
 use Rattle.mls_script.specs.declared.event.Event.{Event}
 use Rattle.mls_script.specs.declared.fault.ScriptCause.TheVariants.{Unterminated}
 use Rattle.mls_script.specs.declared.fault.LineFault.{LineFault}
@@ -30,7 +30,6 @@ use Rattle.mls_script.specs.Tokens.{parts_tokens, event_tokens}
 use Rattle.mls_script.specs.Reading.{Looked, parts_at, verb_or, verb_among, command_at, sentence_at, told_at, form_of, event_in, line_at, in_script, lines_at, split_lines, script_at, IsRead}
 use Rattle.mls_script.specs.Script.{Line, Tells, IsLineOf, ReadsScript}
 use Rattle.mls_script.proofs.KindLemmas.{IsToken, all_tokens, list_kinds}
-use Rattle.mls_script.proofs.FoundLemmas.{bind_ok, same_ok, Passed, passed_more, taken_word}
 use Rattle.mls_script.proofs.PartLemmas.{upto, PartFits, PartsFound, parts_found, Rising}
 
 -- ---- verbs
@@ -44,7 +43,7 @@ verb_found (v ∷ vs) l x e = behind (taken (is_word (verb_word v)) l) refl e (v
     behind None is h more = more h
     behind (Some y) is h more =
         let done : Result (Verb × Left) TokenFault = Ok (v, y.1) in
-        subst (λ (z : Verb × Left). Passed (Word (verb_word z.0) ∷ []) l z.1) (same_ok done (v, y.1) x refl h) (taken_word (verb_word v) l y is)
+        subst (λ (z : Verb × Left). Passed (Word (verb_word z.0) ∷ []) l z.1) (same_ok done (v, y.1) x refl h) (word_taken (verb_word v) l y is)
 
 module _ (policy : Tables) (schemes : Schemes) where
   -- ---- an event
@@ -116,16 +115,6 @@ module _ (policy : Tables) (schemes : Schemes) where
             (subst (λ ts. Passed ts l m) (front_tokens more.front d more.kept) first.passed)
             (passed_more (Word (verb_word v) ∷ []) (parts_tokens policy schemes d (parts_of v)) m n r word more.passed));
       }
-
-  over_is : (ps : List Placed) (stop : TokenFault) → over_with ps stop ≡ true → (tokens_in ps ≡ []) × (stop.cause ≡ causes.Expected)
-  over_is [] stop h = (refl, expected stop.cause h)
-    where
-      expected : (c : TokenCause) → is_expected c ≡ true → c ≡ causes.Expected
-      expected causes.Token h = absurd cc
-      expected causes.Expected h = refl
-      expected causes.TooLong h = absurd cc
-      expected causes.Memory h = absurd cc
-  over_is (p ∷ ps) stop h = absurd cc
 
   end_found : (l : Left) (u : Unit {0}) → pass_end l ≡ Ok u → is_over l ≡ true
   end_found l u e =
@@ -238,7 +227,7 @@ split_found (b ∷ bs) front h =
 
 -- ---- all lines
 
-listed : (o : Option Event) (text : List ℕ) → option_to_list o ≡ filter_map (λ (x : Line). x.event) (record { text = text; event = o } ∷ [])
+pub listed : (o : Option Event) (text : List ℕ) → option_to_list o ≡ filter_map (λ (x : Line). x.event) (record { text = text; event = o } ∷ [])
 listed None text = refl
 listed (Some e) text = refl
 

@@ -1,10 +1,12 @@
 -- What the parts of a line say is what was read, and fits.
 use Rattle.std.proofs.Common.{◌≡◌, ℕ, zero, suc, ◌<◌, ◌≤◌, true, false, List, [], ◌∷◌, ◌++◌, length, map, drop, Option, Some, None, Result, Ok, Err, inl, inr, refl, sym, ap, ◌∙◌, subst, arith, append_assoc, cond, nat_lt}
+use Rattle.std.proofs.SliceLists.{all_by_recursion_push}
 use Rattle.std.specs.Prelude.{nat_eq, option_map, if◌then◌else◌, ⊤}
 use Rattle.std.specs.Cmp.{nat_eq_equiv}
 use Rattle.std.specs.List.{flat_map, AllByRecursion, IsDistinct, list_any, position, slice_get}
 use Rattle.std.specs.Str.{bytes_eq}
 use Rattle.std.proofs.lemmas.Bool.{cases_Bool, ltb-true, lt-ltb}
+use Rattle.std.proofs.SliceLists.{all_by_recursion_push}
 use Rattle.std.proofs.lemmas.List.{append-nil, map-append}
 use Rattle.std.proofs.lemmas.List.Quantifiers.{position-Some}
 use Rattle.std.proofs.lemmas.Map.Keys.{IsDistinct-push}
@@ -12,6 +14,7 @@ use Rattle.std.proofs.lemmas.Slice.Eq.{bytes_eq-Decides}
 use Rattle.mls_lattice.specs.Name.{is_name}
 use Rattle.mls_lattice.specs.Policy.{Name, Tables}
 use Rattle.mls_lattice.specs.Reading.{◌>>=◌}
+use Rattle.mls_lattice.proofs.ReadingLemmas.{bind_ok}
 use Rattle.mls_scheme.specs.declared.value.Value.{Value}
 use Rattle.mls_scheme.specs.Value.{fits_kind}
 use Rattle.mls_scheme.specs.Scheme.{Attribute, Scheme, Schemes, scheme_of, no_scheme, no_attribute, other_of}
@@ -22,6 +25,7 @@ use Rattle.mls_tokens.specs.declared.token.Token.TheVariants.{Word, Sign}
 use Rattle.mls_tokens.specs.declared.sign.Sign.TheVariants.{Comma, Equals}
 use Rattle.mls_tokens.specs.Scanning.{Left}
 use Rattle.mls_tokens.specs.Passing.{is_word, pass, PlacedName, pass_name}
+use Rattle.mls_tokens.proofs.PassedLemmas.{same_ok, Passed, passed_none, passed_more, word_found, name_found}
 use Rattle.mls_script.specs.declared.fault.LineFault.{LineFault}
 use Rattle.mls_script.specs.declared.draft.Draft.{Draft}
 use Rattle.mls_script.specs.declared.grammar.Part.{Part}
@@ -32,7 +36,7 @@ use Rattle.mls_script.specs.Event.{Sets, SetsFit}
 use Rattle.mls_script.specs.Grammar.{part_word}
 use Rattle.mls_script.specs.Tokens.{no_label, label_name, relation_name, value_token, separated, list_tokens, set_tokens, word_tokens, said, part_tokens, parts_tokens}
 use Rattle.mls_script.specs.Reading.{Looked, known_or, label_named, relation_named, misfit, fit_or, held, place_at, new_or, kind_or, set_at, push_set, pass_setting, pass_sets, pass_list, put_label, put_name, put_values, attributes_of, with_label, with_name, with_relation, with_sets, with_values, with_arguments, label_at, name_at, relation_at, list_at, arguments_at, sets_at, content_at, pass_word, part_at, parts_at}
-use Rattle.mls_script.proofs.FoundLemmas.{bind_ok, same_ok, Passed, passed_none, passed_more, word_found, name_found, pushed, all_found, list_found, setting_tokens, setting_found}
+use Rattle.mls_script.proofs.FoundLemmas.{pushed, all_found, list_found, setting_tokens, setting_found}
 
 -- ---- names by number
 
@@ -91,10 +95,6 @@ set_none : (scheme : Scheme) → AreSet scheme []
 unfolding IsDistinct
 set_none scheme = record { known = tt; distinct = tt; kinds = tt }
 
-all_more : {A : Type 0} (P : A → Type 0) (xs : List A) (x : A) → AllByRecursion P xs → P x → AllByRecursion P (xs ++ x ∷ [])
-all_more P [] x h p = (p, tt)
-all_more P (y ∷ ys) x h p = (h.0, all_more P ys x h.1 p)
-
 record SetFound (scheme : Scheme) (sets : Sets) (s : Setting) (x : ℕ × Option Value) : Type 0 where
   name : (other_of scheme x.0).name ≡ s.name
   value : x.1 ≡ s.value
@@ -135,9 +135,9 @@ set_found scheme sets s x e =
 
 set_more : (scheme : Scheme) (sets : Sets) (s : Setting) (x : ℕ × Option Value) → SetFound scheme sets s x → AreSet scheme sets → AreSet scheme (sets ++ x ∷ [])
 set_more scheme sets s x f h = record {
-  known = all_more (λ y. y.0 < length scheme.others) sets x h.known f.known;
+  known = all_by_recursion_push (λ y. y.0 < length scheme.others) sets x h.known f.known;
   distinct = subst (IsDistinct nat_eq) (sym (map-append (λ y. y.0) sets (x ∷ []))) (IsDistinct-push nat_eq_equiv (map (λ y. y.0) sets) x.0 h.distinct f.new);
-  kinds = all_more (λ y. fits_kind y.1 (other_of scheme y.0).kind ≡ true) sets x h.kinds f.kind;
+  kinds = all_by_recursion_push (λ y. fits_kind y.1 (other_of scheme y.0).kind ≡ true) sets x h.kinds f.kind;
 }
 
 set_said : (scheme : Scheme) (sets : Sets) (s : Setting) (x : ℕ × Option Value) → SetFound scheme sets s x → setting_tokens s ≡ set_tokens scheme x

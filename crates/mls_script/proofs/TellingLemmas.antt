@@ -17,11 +17,11 @@ use Rattle.mls_tokens.specs.declared.fault.TokenCause.TheVariants as causes
 use Rattle.mls_tokens.specs.declared.fault.TokenFault.{TokenFault}
 use Rattle.mls_tokens.specs.declared.token.Token.{Token}
 use Rattle.mls_tokens.specs.declared.token.Token.TheVariants.{Word}
-use Rattle.mls_tokens.specs.declared.token.Placed.{Placed}
 use Rattle.mls_tokens.specs.declared.sign.Sign.TheVariants.{Comma}
 use Rattle.mls_tokens.specs.Scanning.{Left, tokens_in, tokens_at}
-use Rattle.mls_tokens.specs.Passing.{is_word, is_sign, PlacedName, is_expected, over_with, is_over, pass_end}
+use Rattle.mls_tokens.specs.Passing.{is_word, is_sign, is_over, pass_end}
 use Rattle.mls_tokens.proofs.TokensLemmas.{tokens_exact}
+use Rattle.mls_tokens.proofs.NextLemmas.{Gets, gets_more, done, gets_done, gets_is, took, NotNext, not_taken, word_gets, name_gets, over_again, not_over}
 use Rattle.mls_script.specs.declared.event.Event.{Event}
 use Rattle.mls_script.specs.declared.event.Command.{Command}
 use Rattle.mls_script.specs.declared.event.Command.TheVariants as commands
@@ -41,7 +41,8 @@ use Rattle.mls_script.specs.Reading.{Looked, label_named, relation_named, pass_s
 use Rattle.mls_script.specs.Script.{Line, Tells, IsLineOf, ReadsScript, ScriptsAreOnce}
 use Rattle.mls_script.proofs.ScriptSteps.{split_ended}
 use Rattle.mls_script.proofs.PartLemmas.{PartFits}
-use Rattle.mls_script.proofs.AgainLemmas.{label_again, relation_again, scheme_valid, label_is_name, relation_is_name, Read, took, not_taken, NotNext, pass_read, word_same, name_read, list_read, kinds_again, sets_read}
+use Rattle.mls_script.proofs.LawLemmas.{listed}
+use Rattle.mls_script.proofs.AgainLemmas.{label_again, relation_again, scheme_valid, label_is_name, relation_is_name, list_read, kinds_again, sets_read}
 
 -- ---- what a part puts into a draft
 
@@ -64,45 +65,24 @@ filled (p ∷ ps) d f = filled ps d (put p d f)
 
 module _ (policy : Tables) (schemes : Schemes) (is_policy : IsPolicy policy) (are_schemes : AreSchemes schemes) where
   abbrev Reads : (Left → Result (Looked × Left) TokenFault) → Left → Draft → List Token → Type 0
-  Reads f l d us = Read f l (λ looked. looked ≡ Ok d) us
+  Reads f l d us = Gets (f l) l (λ looked. looked ≡ Ok d) us
 
   label_read : (p : Part) (n : ℕ) (f : Draft) (us : List Token) (l : Left) → n < length policy.labels → tokens_in l.placed ≡ Word (label_name policy n) ∷ us → Reads (label_at policy p (Ok f)) l (put_label p f n) us
   label_read p n f us l within e =
-      let name = name_read (label_name policy n) us l (label_is_name policy is_policy n within) e in
-      let found : label_named policy name.value ≡ Ok n = ap (λ (s : Name). label_named policy (s, name.value.1)) name.holds ∙ label_again policy is_policy n name.value.1 within in
-      record {
-        value = with_label p (Ok f) (label_named policy name.value);
-        rest = name.rest;
-        is = ap (λ r. r >>= λ (n : PlacedName × Left). Ok (with_label p (Ok f) (label_named policy n.0), n.1)) name.is;
-        holds = ap (with_label p (Ok f)) found;
-        tokens = name.tokens;
-        stop = name.stop;
-      }
+      gets_more (λ x. done (with_label p (Ok f) (label_named policy x.0)) x.1) (name_gets (label_name policy n) us l (label_is_name policy is_policy n within) e)
+      (λ x m same t. gets_done (with_label p (Ok f) (label_named policy x)) m (λ looked. looked ≡ Ok (put_label p f n)) us
+      (ap (with_label p (Ok f)) (ap (λ (s : Name). label_named policy (s, x.1)) same ∙ label_again policy is_policy n x.1 within)) t)
 
-  name_part_read : (p : Part) (s : Name) (f : Draft) (us : List Token) (l : Left) → is_name s ≡ true → tokens_in l.placed ≡ Word s ∷ us → Read (name_at p (Ok f)) l (λ looked. looked ≡ with_name p (Ok f) s) us
+  name_part_read : (p : Part) (s : Name) (f : Draft) (us : List Token) (l : Left) → is_name s ≡ true → tokens_in l.placed ≡ Word s ∷ us → Gets (name_at p (Ok f) l) l (λ looked. looked ≡ with_name p (Ok f) s) us
   name_part_read p s f us l named e =
-      let name = name_read s us l named e in
-      record {
-        value = with_name p (Ok f) name.value.0;
-        rest = name.rest;
-        is = ap (λ r. r >>= λ (n : PlacedName × Left). Ok (with_name p (Ok f) n.0.0, n.1)) name.is;
-        holds = ap (with_name p (Ok f)) name.holds;
-        tokens = name.tokens;
-        stop = name.stop;
-      }
+      gets_more (λ x. done (with_name p (Ok f) x.0.0) x.1) (name_gets s us l named e)
+      (λ x m same t. gets_done (with_name p (Ok f) x.0) m (λ looked. looked ≡ with_name p (Ok f) s) us (ap (with_name p (Ok f)) same) t)
 
   relation_read : (n : ℕ) (f : Draft) (us : List Token) (l : Left) → n < length schemes → tokens_in l.placed ≡ Word (relation_name schemes n) ∷ us → Reads (relation_at schemes (Ok f)) l (record f { rel = n }) us
   relation_read n f us l within e =
-      let name = name_read (relation_name schemes n) us l (relation_is_name schemes are_schemes n within) e in
-      let found : relation_named schemes name.value ≡ Ok n = ap (λ (s : Name). relation_named schemes (s, name.value.1)) name.holds ∙ relation_again schemes are_schemes n name.value.1 within in
-      record {
-        value = with_relation (Ok f) (relation_named schemes name.value);
-        rest = name.rest;
-        is = ap (λ r. r >>= λ (n : PlacedName × Left). Ok (with_relation (Ok f) (relation_named schemes n.0), n.1)) name.is;
-        holds = ap (with_relation (Ok f)) found;
-        tokens = name.tokens;
-        stop = name.stop;
-      }
+      gets_more (λ x. done (with_relation (Ok f) (relation_named schemes x.0)) x.1) (name_gets (relation_name schemes n) us l (relation_is_name schemes are_schemes n within) e)
+      (λ x m same t. gets_done (with_relation (Ok f) (relation_named schemes x)) m (λ looked. looked ≡ Ok (record f { rel = n })) us
+      (ap (with_relation (Ok f)) (ap (λ (s : Name). relation_named schemes (s, x.1)) same ∙ relation_again schemes are_schemes n x.1 within)) t)
 
   held_again : (p : Part) (rel : ℕ) (l : Listed) (vs : List (Option Value)) → rel < length schemes → l.values ≡ vs → HaveKinds (attributes_of p (scheme_of schemes rel)) vs → held (option_map (attributes_of p) (slice_get schemes rel)) l ≡ Ok vs
   held_again p rel l vs within same kinds =
@@ -113,41 +93,22 @@ module _ (policy : Tables) (schemes : Schemes) (is_policy : IsPolicy policy) (ar
   list_part_read : (p : Part) (vs : List (Option Value)) (f : Draft) (us : List Token) (l : Left) → f.rel < length schemes → HaveKinds (attributes_of p (scheme_of schemes f.rel)) vs → tokens_in l.placed ≡ list_tokens vs ++ us
       → Reads (list_at schemes p (Ok f)) l (put_values p f vs) us
   list_part_read p vs f us l within kinds e =
-      let list = list_read vs us l e in
-      record {
-        value = with_values schemes p (Ok f) list.value;
-        rest = list.rest;
-        is = ap (λ r. r >>= λ (vs : Listed × Left). Ok (with_values schemes p (Ok f) vs.0, vs.1)) list.is;
-        holds = ap (λ r. r >>= λ vs. Ok (put_values p f vs)) (held_again p f.rel list.value vs within list.holds kinds);
-        tokens = list.tokens;
-        stop = list.stop;
-      }
+      gets_more (λ x. done (with_values schemes p (Ok f) x.0) x.1) (list_read vs us l e)
+      (λ x m same t. gets_done (with_values schemes p (Ok f) x) m (λ looked. looked ≡ Ok (put_values p f vs)) us
+      (ap (λ r. r >>= λ vs. Ok (put_values p f vs)) (held_again p f.rel x vs within same kinds)) t)
 
   arguments_read : (vs : List (Option Value)) (f : Draft) (us : List Token) (l : Left) → tokens_in l.placed ≡ list_tokens vs ++ us → Reads (arguments_at (Ok f)) l (record f { values = vs }) us
   arguments_read vs f us l e =
-      let list = list_read vs us l e in
-      record {
-        value = with_arguments (Ok f) list.value.values;
-        rest = list.rest;
-        is = ap (λ r. r >>= λ (vs : Listed × Left). Ok (with_arguments (Ok f) vs.0.values, vs.1)) list.is;
-        holds = ap (with_arguments (Ok f)) list.holds;
-        tokens = list.tokens;
-        stop = list.stop;
-      }
+      gets_more (λ x. done (with_arguments (Ok f) x.0.values) x.1) (list_read vs us l e)
+      (λ x m same t. gets_done (with_arguments (Ok f) x.values) m (λ looked. looked ≡ Ok (record f { values = vs })) us (ap (with_arguments (Ok f)) same) t)
 
   sets_part_read : (sets : Sets) (f : Draft) (us : List Token) (l : Left) → f.rel < length schemes → SetsFit (scheme_of schemes f.rel) sets → NotNext (is_sign Comma) us → tokens_in l.placed ≡ separated (set_tokens (scheme_of schemes f.rel)) sets ++ us
       → Reads (sets_at schemes (Ok f)) l (record f { sets = sets }) us
   sets_part_read sets f us l within fit end e =
-      let read = sets_read (scheme_of schemes f.rel) (scheme_valid schemes are_schemes f.rel within) sets us l fit end e in
-      record {
-        value = with_sets (Ok f) read.value;
-        rest = read.rest;
-        is = ap (λ o. pass_sets o l >>= λ s. Ok (with_sets (Ok f) s.0, s.1)) (slice_get-get_or schemes f.rel no_scheme within)
-            ∙ ap (λ r. r >>= λ (s : Result Sets LineFault × Left). Ok (with_sets (Ok f) s.0, s.1)) read.is;
-        holds = ap (with_sets (Ok f)) read.holds;
-        tokens = read.tokens;
-        stop = read.stop;
-      }
+      gets_is (sets_at schemes (Ok f) l) (pass_sets (Some (scheme_of schemes f.rel)) l >>= λ x. done (with_sets (Ok f) x.0) x.1) l (λ looked. looked ≡ Ok (record f { sets = sets })) us
+      (ap (λ o. pass_sets o l >>= λ x. Ok (with_sets (Ok f) x.0, x.1)) (slice_get-get_or schemes f.rel no_scheme within))
+      (gets_more (λ x. done (with_sets (Ok f) x.0) x.1) (sets_read (scheme_of schemes f.rel) (scheme_valid schemes are_schemes f.rel within) sets us l fit end e)
+      (λ x m same t. gets_done (with_sets (Ok f) x) m (λ looked. looked ≡ Ok (record f { sets = sets })) us (ap (with_sets (Ok f)) same) t))
 
   -- a key, other values and new values stand behind their relation
   abbrev Knows : Part → Draft → Draft → Type 0
@@ -191,7 +152,7 @@ module _ (policy : Tables) (schemes : Schemes) (is_policy : IsPolicy policy) (ar
   word_read : (o : Option Name) (us : List Token) (l : Left) → tokens_in l.placed ≡ word_tokens o ++ us → (r : Left) × (pass_word o l ≡ Ok r) × (tokens_in r.placed ≡ us) × (r.stop ≡ l.stop)
   word_read None us l e = (l, refl, e, refl)
   word_read (Some w) us l e =
-      let x = pass_read (is_word w) (Word w) us l (word_same w) e in
+      let x = word_gets w us l e in
       (x.rest, ap (λ r. r >>= λ (x : ℕ × Left). Ok x.1) x.is, x.tokens, x.stop)
 
   part_read : (p : Part) (d f : Draft) (us : List Token) (l : Left) → Knows p d f → PartFits policy schemes d p → NotNext (is_sign Comma) us → tokens_in l.placed ≡ part_tokens policy schemes d p ++ us
@@ -230,16 +191,10 @@ module _ (policy : Tables) (schemes : Schemes) (is_policy : IsPolicy policy) (ar
       → tokens_in l.placed ≡ parts_tokens policy schemes d ps ++ us → Reads (parts_at policy schemes ps (Ok f)) l (filled ps d f) us
   parts_read [] d f us l known fits end e = record { value = Ok f; rest = l; is = refl; holds = refl; tokens = e; stop = refl }
   parts_read (p ∷ ps) d f us l known fits end e =
-      let first = part_read p d f (parts_tokens policy schemes d ps ++ us) l known.0 fits.0 (parts_no_comma ps d us end) (e ∙ append_assoc (part_tokens policy schemes d p) (parts_tokens policy schemes d ps) us) in
-      let more = parts_read ps d (put p d f) us first.rest known.1 fits.1 end first.tokens in
-      record {
-        value = more.value;
-        rest = more.rest;
-        is = ap (λ r. r >>= λ (x : Looked × Left). parts_at policy schemes ps x.0 x.1) first.is ∙ ap (λ looked. parts_at policy schemes ps looked first.rest) first.holds ∙ more.is;
-        holds = more.holds;
-        tokens = more.tokens;
-        stop = more.stop ∙ first.stop;
-      }
+      gets_more (λ x. parts_at policy schemes ps x.0 x.1)
+      (part_read p d f (parts_tokens policy schemes d ps ++ us) l known.0 fits.0 (parts_no_comma ps d us end) (e ∙ append_assoc (part_tokens policy schemes d p) (parts_tokens policy schemes d ps) us))
+      (λ x m same t. gets_is (parts_at policy schemes ps x m) (parts_at policy schemes ps (Ok (put p d f)) m) m (λ looked. looked ≡ Ok (filled ps d (put p d f))) us
+      (ap (λ looked. parts_at policy schemes ps looked m) same) (parts_read ps d (put p d f) us m known.1 fits.1 end t))
 
 -- ---- verbs
 
@@ -258,7 +213,7 @@ known_verb v.Update = refl
 known_verb v.Delete = refl
 known_verb v.Call = refl
 
-verb_read : (xs : List Verb) (w : Name) (x : Verb) (us : List Token) (l : Left) → tokens_in l.placed ≡ Word w ∷ us → first_with xs w ≡ Some x → Read (verb_among xs) l (λ y. y ≡ x) us
+verb_read : (xs : List Verb) (w : Name) (x : Verb) (us : List Token) (l : Left) → tokens_in l.placed ≡ Word w ∷ us → first_with xs w ≡ Some x → Gets (verb_among xs l) l (λ y. y ≡ x) us
 verb_read [] w x us l e first = absurd cc
 verb_read (y ∷ ys) w x us l e first =
     elim (cases_Bool (bytes_eq w (verb_word y))) [
@@ -297,14 +252,6 @@ event_again level session (commands.Insert rel key values) = refl
 event_again level session (commands.Update rel key key_class from sets) = refl
 event_again level session (commands.Delete rel key key_class) = refl
 event_again level session (commands.Call tx args) = refl
-
-over_again : (ps : List Placed) (stop : TokenFault) → tokens_in ps ≡ [] → stop.cause ≡ causes.Expected → over_with ps stop ≡ true
-over_again [] stop none is = ap is_expected is
-over_again (p ∷ ps) stop none is = absurd cc
-
-not_over : (ps : List Placed) (stop : TokenFault) (t : Token) (ts : List Token) → tokens_in ps ≡ t ∷ ts → over_with ps stop ≡ false
-not_over [] stop t ts e = absurd cc
-not_over (p ∷ ps) stop t ts e = refl
 
 module _ (policy : Tables) (schemes : Schemes) where
   front_same : (level : ℕ) (session : Name) (c : Command) → parts_tokens policy schemes (draft_of (begun level session) c) (Level ∷ Session ∷ []) ≡ Word (label_name policy level) ∷ Word session ∷ []
@@ -380,10 +327,6 @@ module _ (policy : Tables) (schemes : Schemes) where
     abbrev fed : Line → List ℕ
     fed line = line.text ++ 10 ∷ []
 
-    events_of : (o : Option Event) (text : List ℕ) → option_to_list o ≡ filter_map (λ (x : Line). x.event) (record { text = text; event = o } ∷ [])
-    events_of None text = refl
-    events_of (Some e) text = refl
-
     lines_again : (lines : List Line) (number : ℕ) (events : List Event) → AllByRecursion (IsLineOf policy schemes) lines
         → lines_at policy schemes number events (split_lines [] (flat_map fed lines)) ≡ Ok (events ++ filter_map (λ (x : Line). x.event) lines)
     lines_again [] number events h = ap (λ (x : List Event). Ok x) (sym (append-nil events))
@@ -394,7 +337,7 @@ module _ (policy : Tables) (schemes : Schemes) where
         ∙ ap (λ r. in_script number r >>= λ e. lines_at policy schemes (number + 1) (events ++ option_to_list e) (split_lines [] (flat_map fed lines))) (line_again line.text line.event h.0.tells)
         ∙ lines_again lines (number + 1) (events ++ option_to_list line.event) h.1
         ∙ ap (λ (x : List Event). Ok x) (append_assoc events (option_to_list line.event) (filter_map (λ (x : Line). x.event) lines)
-        ∙ ap (λ x. events ++ x) (ap (λ x. x ++ filter_map (λ (y : Line). y.event) lines) (events_of line.event line.text) ∙ sym (filter_map-append (λ (y : Line). y.event) (line ∷ []) lines)))
+        ∙ ap (λ x. events ++ x) (ap (λ x. x ++ filter_map (λ (y : Line). y.event) lines) (listed line.event line.text) ∙ sym (filter_map-append (λ (y : Line). y.event) (line ∷ []) lines)))
 
     pub script_again : (bytes : List ℕ) (es : List Event) → ReadsScript policy schemes bytes es → script_at policy schemes bytes ≡ Ok es
     unfolding script_at

@@ -1,5 +1,6 @@
 -- Two runs of a block that obeys its certificate.
 use Rattle.std.proofs.Common.{◌≡◌, ℕ, zero, suc, ◌+◌, true, false, cond, List, [], ◌∷◌, ◌++◌, Option, Some, None, refl, sym, ap, ◌∙◌, subst, inl, inr, pos}
+use Rattle.std.proofs.Recursive.{every_front, every_back}
 use Rattle.std.specs.Prelude.{nat_eq, ◌⊎◌, slice_index, slice_index_or}
 use Rattle.std.proofs.lemmas.Bool.{true≢false, cases_Bool, eqb-true}
 use Rattle.std.proofs.lemmas.List.Elements.{filter-append}
@@ -11,6 +12,7 @@ use Rattle.mls_scheme.specs.declared.value.Value.{Value}
 use Rattle.mls_scheme.specs.declared.value.Value.TheVariants.{Int}
 use Rattle.mls_scheme.specs.declared.tuple.Tuple.{Tuple}
 use Rattle.mls_scheme.specs.Scheme.{Schemes, scheme_of}
+use Rattle.mls_filterview.specs.Rules.{no_tuple}
 use Rattle.mls_filterview.specs.View.{low, rows}
 use Rattle.mls_filterview.proofs.LowLemmas.{rows_under}
 use Rattle.mls_filterview.proofs.SubsumptionLemmas.{same_value-true, same_value-refl}
@@ -22,14 +24,14 @@ use Rattle.mls_translang.specs.Tree.{Expr, Stmt, Assign, Write_at, Release, Emit
 use Rattle.mls_translang.specs.Scope.{Scope, in_loop}
 use Rattle.mls_translang.specs.Fits.{BlockFits}
 use Rattle.mls_translang.specs.Tx.{Tx}
-use Rattle.mls_meaning.specs.Expressions.{no_tuple, is_true, same, value_in, holds_in}
+use Rattle.mls_meaning.specs.Expressions.{is_true, same, value_in, holds_in}
 use Rattle.mls_meaning.specs.Meaning.{Item, Variables, Progress, set_var, set_outcome, do_write, environment, perform, for_each, run_block}
 use Rattle.mls_meaning.specs.Secure.{AreStored, seen_items, Split}
 use Rattle.mls_meaning.proofs.KeepingLemmas.{Extends, cond_kept, for_each_kept, perform_stored, block_stored, block_extends}
 use Rattle.mls_certificate.specs.declared.cert.Cert.{Cert}
 use Rattle.mls_certcheck.specs.Place.{Plain, directs, places}
 use Rattle.mls_certcheck.specs.Rules.{Claim, claim, hi, pc, lab, var_label, param_label}
-use Rattle.mls_security.proofs.PlaceLemmas.{unseen_above, seen_under, below-⊑, all_front, all_back, Obeys, BlockObeys}
+use Rattle.mls_security.proofs.PlaceLemmas.{unseen_above, seen_under, below-⊑, Obeys, BlockObeys}
 use Rattle.mls_security.proofs.QuietLemmas.{Agrees, agrees_trans, agrees_sym, agrees_same, seen_not, quiet_write, quiet_block}
 use Rattle.mls_security.proofs.ScopeLemmas.{EnvironmentsAgree, eval_same, value_same, write_same}
 
@@ -39,7 +41,8 @@ split_here : (xs : List Item) (i j : Item) → i.0 ≡ j.0 → (i.1 ≡ j.1 → 
 split_here [] i j e n = inl (e, n)
 split_here (x ∷ xs) i j e n = inr (refl, split_here xs i j e n)
 
-split_more : (xs ys us vs : List Item) → Split xs ys → Split (xs ++ us) (ys ++ vs)
+-- lists that split go on so
+pub split_more : (xs ys us vs : List Item) → Split xs ys → Split (xs ++ us) (ys ++ vs)
 split_more [] ys us vs h = absurd h
 split_more (x ∷ xs) [] us vs h = absurd h
 split_more (x ∷ xs) (y ∷ ys) us vs (inl h) = inl h
@@ -245,12 +248,12 @@ module _ (policy : Tables) (distinct : AreDistinct (labels_of policy)) (tx : Tx)
   related_block scope (If guard one other rest) n a loops h f rs qs ar s t p q g =
       let l = lab k loops guard in
       let m : Pair = join (pc k n) l in
-      let later = all_back (Obeys k) (places (n + 1) n loops one) _ h.1 in
-      let obeys_1 = all_front (Obeys k) (places (n + 1) n loops one) _ h.1 in
-      let obeys_2 = all_front (Obeys k) (places (n + 1 + statements one) n loops other) _ later in
-      let obeys_3 = all_back (Obeys k) (places (n + 1 + statements one) n loops other) _ later in
-      let above_1 = all_front (λ j. Dominates (pc k j) m) (directs (n + 1) one) _ h.0.branch in
-      let above_2 = all_back (λ j. Dominates (pc k j) m) (directs (n + 1) one) _ h.0.branch in
+      let later = every_back (Obeys k) _ (places (n + 1) n loops one) _ h.1 refl in
+      let obeys_1 = every_front (Obeys k) _ (places (n + 1) n loops one) _ h.1 refl in
+      let obeys_2 = every_front (Obeys k) _ (places (n + 1 + statements one) n loops other) _ later refl in
+      let obeys_3 = every_back (Obeys k) _ (places (n + 1 + statements one) n loops other) _ later refl in
+      let above_1 = every_front (λ j. Dominates (pc k j) m) _ (directs (n + 1) one) _ h.0.branch refl in
+      let above_2 = every_back (λ j. Dominates (pc k j) m) _ (directs (n + 1) one) _ h.0.branch refl in
       let b = holds_in (environment args rs s) guard in
       let d = holds_in (environment brgs qs t) guard in
       let s' = cond b (run_1 one rs s) (run_1 other rs s) in
@@ -275,8 +278,8 @@ module _ (policy : Tables) (distinct : AreDistinct (labels_of policy)) (tx : Tx)
       (related_block scope rest (n + (1 + statements one + statements other)) a loops obeys_3 f.3 rs qs ar s' t' p' q') middle
   related_block scope (For name rel label body rest) n a loops h f rs qs ar s t p q g =
       let m : Pair = join (pc k n) (label_of ls label) in
-      let obeys_1 = all_front (Obeys k) (places (n + 1) n (label ∷ loops) body) _ h.1 in
-      let obeys_2 = all_back (Obeys k) (places (n + 1) n (label ∷ loops) body) _ h.1 in
+      let obeys_1 = every_front (Obeys k) _ (places (n + 1) n (label ∷ loops) body) _ h.1 refl in
+      let obeys_2 = every_back (Obeys k) _ (places (n + 1) n (label ∷ loops) body) _ h.1 refl in
       let rows_1 = rows ls label (s.db rel) in
       let rows_2 = rows ls label (t.db rel) in
       let inside = in_loop scope name rel in

@@ -1,5 +1,6 @@
 -- What the rules say of a block, statement by statement.
-use Rattle.std.proofs.Common.{◌≡◌, ℕ, ◌+◌, Bool, true, false, List, [], ◌∷◌, ◌++◌, sym, ◌∙◌}
+use Rattle.std.proofs.Common.{◌≡◌, ℕ, ◌+◌, Bool, true, false, List, [], ◌∷◌, refl, sym, ◌∙◌}
+use Rattle.std.proofs.Recursive.{every_back}
 use Rattle.std.specs.List.{AllByRecursion}
 use Rattle.std.proofs.lemmas.Bool.{true≢false, false_from_ne_true}
 use Rattle.mls_lattice.specs.Lattice.{Pair, Dominates, ◌⊑◌}
@@ -24,16 +25,6 @@ below-⊑ ls a c b h = h
 pub ⊑-below : (ls : Labels) (a c : ℕ) (b : Bool) → below ls a c ≡ b → label_of ls a ⊑ label_of ls c ≡ b
 unfolding below
 ⊑-below ls a c b h = h
-
--- ---- lists
-
-pub all_front : {A : Type 0} (P : A → Type 0) (xs ys : List A) → AllByRecursion P (xs ++ ys) → AllByRecursion P xs
-all_front P [] ys h = tt
-all_front P (x ∷ xs) ys h = (h.0, all_front P xs ys h.1)
-
-pub all_back : {A : Type 0} (P : A → Type 0) (xs ys : List A) → AllByRecursion P (xs ++ ys) → AllByRecursion P ys
-all_back P [] ys h = h
-all_back P (x ∷ xs) ys h = all_back P xs ys h.1
 
 -- ---- statements
 
@@ -77,7 +68,7 @@ module _ (k : Claim) where
   around_above (If guard one other rest) n a rows h = (
     h.0.context,
     around_above rest (n + (1 + statements one + statements other)) a rows
-        (all_back (Obeys k) (places (n + 1 + statements one) n rows other) _ (all_back (Obeys k) (places (n + 1) n rows one) _ h.1)),
+        (every_back (Obeys k) _ (places (n + 1 + statements one) n rows other) _ (every_back (Obeys k) _ (places (n + 1) n rows one) _ h.1 refl) refl),
   )
   around_above (For row rel label body rest) n a rows h =
-      (h.0.context, around_above rest (n + (1 + statements body)) a rows (all_back (Obeys k) (places (n + 1) n (label ∷ rows) body) _ h.1))
+      (h.0.context, around_above rest (n + (1 + statements body)) a rows (every_back (Obeys k) _ (places (n + 1) n (label ∷ rows) body) _ h.1 refl))

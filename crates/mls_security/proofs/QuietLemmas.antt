@@ -1,5 +1,6 @@
 -- Statements whose label a level does not dominate change nothing that it may see.
 use Rattle.std.proofs.Common.{◌≡◌, ℕ, ◌+◌, true, false, cond, List, [], ◌∷◌, ◌++◌, length, Option, Some, None, refl, sym, ap, ◌∙◌}
+use Rattle.std.proofs.Recursive.{every_front, every_back}
 use Rattle.std.specs.Prelude.{nat_eq}
 use Rattle.std.specs.Option.{IfSome}
 use Rattle.std.proofs.lemmas.Bool.{true≢false, eqb-true, ne_eqb}
@@ -27,7 +28,7 @@ use Rattle.mls_meaning.proofs.KeepingLemmas.{cond_kept, for_each_kept, perform_s
 use Rattle.mls_certificate.specs.declared.cert.Cert.{Cert}
 use Rattle.mls_certcheck.specs.Place.{Plain, directs, places}
 use Rattle.mls_certcheck.specs.Rules.{Claim, claim, pc, lab, var_label}
-use Rattle.mls_security.proofs.PlaceLemmas.{unseen_above, below-⊑, all_front, all_back, Obeys, BlockObeys, AreAbove}
+use Rattle.mls_security.proofs.PlaceLemmas.{unseen_above, below-⊑, Obeys, BlockObeys, AreAbove}
 
 -- two runs look alike to c so far: the low tuples, the variables of labels that it dominates, and the items
 pub record Agrees (k : Claim) (c : ℕ) (s t : Progress) : Type 0 where
@@ -127,12 +128,12 @@ module _ (policy : Tables) (distinct : AreDistinct (labels_of policy)) (tx : Tx)
   quiet_block scope (If guard one other rest) n a loops l h above f out around s stored =
       let m : Pair = join (pc k n) (lab k loops guard) in
       let inner : m ⊑ level ≡ false = unseen_above level (pc k n) m (join-left (pc k n) (lab k loops guard)) (unseen_above level l (pc k n) above.0 out) in
-      let later = all_back (Obeys k) (places (n + 1) n loops one) _ h.1 in
-      let obeys_1 = all_front (Obeys k) (places (n + 1) n loops one) _ h.1 in
-      let obeys_2 = all_front (Obeys k) (places (n + 1 + statements one) n loops other) _ later in
-      let obeys_3 = all_back (Obeys k) (places (n + 1 + statements one) n loops other) _ later in
-      let above_1 = all_front (λ j. Dominates (pc k j) m) (directs (n + 1) one) _ h.0.branch in
-      let above_2 = all_back (λ j. Dominates (pc k j) m) (directs (n + 1) one) _ h.0.branch in
+      let later = every_back (Obeys k) _ (places (n + 1) n loops one) _ h.1 refl in
+      let obeys_1 = every_front (Obeys k) _ (places (n + 1) n loops one) _ h.1 refl in
+      let obeys_2 = every_front (Obeys k) _ (places (n + 1 + statements one) n loops other) _ later refl in
+      let obeys_3 = every_back (Obeys k) _ (places (n + 1 + statements one) n loops other) _ later refl in
+      let above_1 = every_front (λ j. Dominates (pc k j) m) _ (directs (n + 1) one) _ h.0.branch refl in
+      let above_2 = every_back (λ j. Dominates (pc k j) m) _ (directs (n + 1) one) _ h.0.branch refl in
       let b = holds_in (environment args around s) guard in
       agrees_trans
       (cond_kept (Agrees k c s) b _ _ (quiet_block scope one (n + 1) n loops m obeys_1 above_1 f.1 inner around s stored) (quiet_block scope other (n + 1 + statements one) n loops m obeys_2 above_2 f.2 inner around s stored))
@@ -141,8 +142,8 @@ module _ (policy : Tables) (distinct : AreDistinct (labels_of policy)) (tx : Tx)
   quiet_block scope (For name rel label body rest) n a loops l h above f out around s stored =
       let m : Pair = join (pc k n) (label_of ls label) in
       let inner : m ⊑ level ≡ false = unseen_above level (pc k n) m (join-left (pc k n) (label_of ls label)) (unseen_above level l (pc k n) above.0 out) in
-      let obeys_1 = all_front (Obeys k) (places (n + 1) n (label ∷ loops) body) _ h.1 in
-      let obeys_2 = all_back (Obeys k) (places (n + 1) n (label ∷ loops) body) _ h.1 in
+      let obeys_1 = every_front (Obeys k) _ (places (n + 1) n (label ∷ loops) body) _ h.1 refl in
+      let obeys_2 = every_back (Obeys k) _ (places (n + 1) n (label ∷ loops) body) _ h.1 refl in
       let looped = for_each_kept (λ t. Agrees k c s t × AreStored ls schemes t.db) (λ row t. run_block ls schemes args body (row ∷ around) t)
       (λ row t p. (
         agrees_trans p.0 (quiet_block (in_loop scope name rel) body (n + 1) n (label ∷ loops) m obeys_1 h.0.row_loop.body f.2 inner (row ∷ around) t p.1),

@@ -1,16 +1,18 @@
 -- Expressions and writes give the same where the names in them that c sees stand for the same.
 use Rattle.std.proofs.Common.{◌≡◌, ℕ, true, List, [], ◌∷◌, map, None, refl, ap}
+use Rattle.std.proofs.Recursive.{every_front, every_back}
 use Rattle.std.specs.Prelude.{not, slice_index, slice_index_or}
 use Rattle.std.specs.List.{AllByRecursion}
 use Rattle.mls_lattice.specs.Lattice.{Pair, Dominates, ◌⊑◌, join}
 use Rattle.mls_lattice.specs.Labels.{label_of}
 use Rattle.mls_lattice.proofs.LatticeLemmas.{join-left, join-right}
+use Rattle.mls_filterview.specs.Rules.{no_tuple}
 use Rattle.mls_updates.specs.Writes.{Insert, Update, Delete}
 use Rattle.mls_translang.specs.Tree.{Expr, Known, Null, Var, Param, Field, No, Op, Writing, Inserting, Updating, Deleting}
-use Rattle.mls_meaning.specs.Expressions.{Plain, Truth, is_true, value_of, cell_of, no_tuple, apply, Environment, eval, value_in}
+use Rattle.mls_meaning.specs.Expressions.{Plain, Truth, is_true, value_of, cell_of, apply, Environment, eval, value_in}
 use Rattle.mls_meaning.specs.Meaning.{values_set, write_in}
 use Rattle.mls_certcheck.specs.Rules.{Claim, var_label, param_label, lab, operands}
-use Rattle.mls_security.proofs.PlaceLemmas.{seen_under, all_front, all_back}
+use Rattle.mls_security.proofs.PlaceLemmas.{seen_under}
 
 -- two environments agree at the names that c sees
 pub record EnvironmentsAgree (k : Claim) (c : ℕ) (loops : List ℕ) (a b : Environment) : Type 0 where
@@ -56,8 +58,8 @@ module _ (k : Claim) (c : ℕ) (loops : List ℕ) (a b : Environment) (agree : E
     sets_same (s ∷ ss) h = λ i. (s.0, one_same s.1 h.0 i) ∷ sets_same ss h.1 i
 
     pub write_same : (writing : Writing) → AreUnder (operands writing) → write_in a writing ≡ write_in b writing
-    write_same (Inserting key values) h = λ i. Insert (values_same key (all_front (λ e. Dominates w (lab k loops e)) key values h) i) (values_same values (all_back (λ e. Dominates w (lab k loops e)) key values h) i)
+    write_same (Inserting key values) h = λ i. Insert (values_same key (every_front (λ e. Dominates w (lab k loops e)) _ key values h refl) i) (values_same values (every_back (λ e. Dominates w (lab k loops e)) _ key values h refl) i)
     write_same (Updating key key_class from sets) h =
-        λ i. Update (values_same key (all_front (λ e. Dominates w (lab k loops e)) key (map (λ s. s.1) sets) h) i) key_class from
-        (sets_same sets (all_back (λ e. Dominates w (lab k loops e)) key (map (λ s. s.1) sets) h) i)
+        λ i. Update (values_same key (every_front (λ e. Dominates w (lab k loops e)) _ key (map (λ s. s.1) sets) h refl) i) key_class from
+        (sets_same sets (every_back (λ e. Dominates w (lab k loops e)) _ key (map (λ s. s.1) sets) h refl) i)
     write_same (Deleting key key_class) h = λ i. Delete (values_same key h i) key_class

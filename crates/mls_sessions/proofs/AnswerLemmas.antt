@@ -8,7 +8,6 @@ use Rattle.mls_filterview.specs.declared.base.BaseFault.{BaseFault}
 use Rattle.mls_filterview.specs.declared.base.BaseFault.TheVariants as faults
 use Rattle.mls_filterview.specs.Calls.{IsServed}
 use Rattle.mls_filterview.specs.Content.{State}
-use Rattle.mls_audit.specs.declared.entry.Entry.{Entry}
 use Rattle.mls_script.specs.declared.event.Event.{Event}
 use Rattle.mls_script.specs.Event.{EventFits}
 use Rattle.mls_machine.specs.declared.reply.Reply.{Reply}
@@ -72,7 +71,7 @@ module _ {B : Type 0} (state : B → State) (is_clean : B → Type 0) (old new :
   reply_known h kept ready c fits =
       subst (λ rules. ReplyIsKnown (site_of rules).policy r) (sym kept)
       (subst (ReplyIsKnown (site old).policy) (sym h.reply)
-      (step_known (site old) ready.distinct tt (world_of state old) (stored_at state is_clean old ready c)
+      (step_known (site old) ready.distinct ready.read (world_of state old) (stored_at state is_clean old ready c)
       (entries_known (length (site old).policy.labels) (state old.base).now.audit) event fits.level).reply)
 
 -- ---- the cause of the store

@@ -1,5 +1,5 @@
 -- What each way through a step does is the machine's step, and the engine keeps what it holds.
-use Rattle.std.proofs.Common.{◌≡◌, ℕ, false, ◌<◌, List, length, Option, Some, None, Result, Ok, Err, refl, sym, ap, ◌∙◌, subst, Vec, Global, arith}
+use Rattle.std.proofs.Common.{◌≡◌, ℕ, false, List, length, Option, Some, None, Result, Ok, Err, refl, sym, ap, ◌∙◌, subst, Vec, Global, arith}
 use Rattle.std.specs.Prelude.{IfOk, IfErr, OnErr}
 use Rattle.mls_filterview.specs.declared.base.BaseFault.{BaseFault}
 use Rattle.mls_filterview.specs.declared.base.BaseFault.TheVariants as faults
@@ -136,7 +136,7 @@ module _ {B : Type 0} (state : B → State) (is_clean : B → Type 0) (failures 
     over_sound : (r : Result Reply BaseFault) → IsTurn is_clean failures now old.base b r → is_clean b → Over r → IsSound (site old) (now b)
     over_sound (Ok r) t c h = record {
       content = subst (AreContent (site_labels (site old)) (site old).schemes) (sym (ap (λ (x : World). x.db) (over_world r h)))
-          (step_content (site old) ready.distinct tt w event (ready.sound (t.clean c)).content fits);
+          (step_content (site old) ready.distinct ready.read w event (ready.sound (t.clean c)).content fits);
       entries = h.entries (ready.sound (t.clean c)).entries;
     }
     over_sound (Err e) t c h = subst (IsSound (site old)) (sym (t.fault.same c)) (ready.sound (t.clean c))
@@ -146,7 +146,7 @@ module _ {B : Type 0} (state : B → State) (is_clean : B → Type 0) (failures 
       turn = over_turn r t;
       kept = record {
         rules = refl;
-        ready = record { under = ready.under; distinct = ready.distinct; users = ready.users; idle = idle; sound = λ c. over_sound r t c (h c) };
+        ready = record { under = ready.under; distinct = ready.distinct; read = ready.read; certified = ready.certified; users = ready.users; idle = idle; sound = λ c. over_sound r t c (h c) };
       };
       done = λ c. over_done r (h c);
     }
@@ -158,7 +158,7 @@ module _ {B : Type 0} (state : B → State) (is_clean : B → Type 0) (failures 
     with_them = record old { sessions = sessions }
 
     them_kept : IsKept state is_clean old with_them
-    them_kept = record { rules = refl; ready = record { under = ready.under; distinct = ready.distinct; users = users; idle = ready.idle; sound = ready.sound } }
+    them_kept = record { rules = refl; ready = record { under = ready.under; distinct = ready.distinct; read = ready.read; certified = ready.certified; users = users; idle = ready.idle; sound = ready.sound } }
 
     pub answers_closed : sessions_of sessions.items ≡ with_session (sessions_of old.sessions.items) event.level event.session None → s ≡ closed w event → Answers with_them (Ok Closed)
     answers_closed h is = record {

@@ -1,15 +1,11 @@
 -- Classes that are numbers of labels, as a test and as a fact.
-use Rattle.std.proofs.Common.{◌≡◌, ℕ, ◌<◌, Bool, true, false, ◌&&◌, List, [], ◌∷◌, refl, ltb-true, lt-ltb}
+use Rattle.std.proofs.Common.{◌≡◌, ℕ, ◌<◌, true, List, [], ◌∷◌, refl, ltb-true, lt-ltb}
 use Rattle.std.specs.List.{AllByRecursion}
-use Rattle.std.proofs.lemmas.Bool.{and_parts}
+use Rattle.std.proofs.lemmas.Bool.{and_parts, and_from}
 use Rattle.mls_scheme.specs.declared.tuple.Element.{Element}
 use Rattle.mls_scheme.specs.declared.tuple.Tuple.{Tuple}
 use Rattle.mls_scheme.specs.Tuple.{HasClassesBelow}
 use Rattle.mls_sessions.specs.Known.{elements_known, tuples_known}
-
-both : (a b : Bool) → a ≡ true → b ≡ true → (a && b) ≡ true
-both true b h k = k
-both false b h k = h
 
 elements-true : (n : ℕ) (es : List Element) → elements_known n es ≡ true → AllByRecursion (λ e. e.class < n) es
 elements-true n [] h = tt
@@ -17,7 +13,7 @@ elements-true n (e ∷ es) h = let p = and_parts _ _ h in (ltb-true e.class n p.
 
 elements-again : (n : ℕ) (es : List Element) → AllByRecursion (λ e. e.class < n) es → elements_known n es ≡ true
 elements-again n [] h = refl
-elements-again n (e ∷ es) h = both _ _ (lt-ltb e.class n h.0) (elements-again n es h.1)
+elements-again n (e ∷ es) h = and_from _ _ (lt-ltb e.class n h.0) (elements-again n es h.1)
 
 pub tuples-true : (n : ℕ) (ts : List Tuple) → tuples_known n ts ≡ true → AllByRecursion (HasClassesBelow n) ts
 tuples-true n [] h = tt
@@ -28,6 +24,6 @@ tuples-true n (t ∷ ts) h =
 
 pub tuples-again : (n : ℕ) (ts : List Tuple) → AllByRecursion (HasClassesBelow n) ts → tuples_known n ts ≡ true
 tuples-again n [] h = refl
-tuples-again n (t ∷ ts) h = both _ _ (both _ _ (lt-ltb t.key_class n h.0.key_class) (elements-again n t.elements h.0.elements)) (tuples-again n ts h.1)
+tuples-again n (t ∷ ts) h = and_from _ _ (and_from _ _ (lt-ltb t.key_class n h.0.key_class) (elements-again n t.elements h.0.elements)) (tuples-again n ts h.1)
 
 pub ruleset known_steps = (tuples-true, tuples-again)

@@ -4,6 +4,9 @@ pub mod PrintingSteps
 pub mod SessionLemmas
 pub mod TurnLemmas
 pub mod StepLemmas
+pub mod ArgumentLemmas
+pub mod CallLemmas
+pub mod EnteringLemmas
 pub mod EngineLemmas
 pub mod NamingLemmas
 pub mod AnswerLemmas

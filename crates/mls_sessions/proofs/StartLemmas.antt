@@ -1,5 +1,5 @@
 -- What a run begins with: no content is sound.
-use Rattle.std.proofs.Common.{◌≡◌, List, Option, Some, None, sym, ◌∙◌}
+use Rattle.std.proofs.Common.{◌≡◌, List, Some, None, sym, ◌∙◌}
 use Rattle.std.specs.FinMap.{get, get-empty}
 use Rattle.mls_scheme.specs.declared.tuple.Element.{Element}
 use Rattle.mls_scheme.specs.declared.place.Place.{Place}

@@ -1,12 +1,13 @@
 -- Content that a call left, as a step of the machine.
-use Rattle.std.proofs.Common.{◌≡◌, ℕ, ◌<◌, Bool, true, false, cond, List, [], ◌∷◌, ◌++◌, length, take, drop, get_or, Option, Some, None, Result, Ok, Err, refl, sym, ap, ◌∙◌, subst, ltb-true, lt-ltb, ◌+◌, append-nil}
+use Rattle.std.proofs.Common.{◌≡◌, ℕ, ◌<◌, true, false, cond, List, [], ◌∷◌, ◌++◌, length, take, get_or, Option, Some, None, Result, Ok, Err, refl, sym, ap, ◌∙◌, subst, ltb-true, lt-ltb, ◌+◌, append-nil}
+use Rattle.std.proofs.SliceLists.{all_by_recursion_push}
 use Rattle.std.specs.Prelude.{nat_lt}
-use Rattle.std.specs.List.{AllByRecursion, filter_map, cons_option}
+use Rattle.std.specs.List.{AllByRecursion, cons_option}
 use Rattle.std.proofs.lemmas.List.{take_more}
 use Rattle.std.proofs.lemmas.List.Elements.{filter_map-append}
 use Rattle.mls_lattice.specs.Labels.{Labels, below}
 use Rattle.mls_scheme.specs.declared.tuple.Tuple.{Tuple}
-use Rattle.mls_filterview.specs.Content.{State, Content, with_entry}
+use Rattle.mls_filterview.specs.Content.{State, with_entry}
 use Rattle.mls_filterview.specs.View.{rows}
 use Rattle.mls_updates.specs.declared.outcome.Outcome.{Outcome}
 use Rattle.mls_updates.specs.Writes.{Write}
@@ -27,10 +28,6 @@ use Rattle.mls_sessions.specs.World.{declared, entries_in, IsEntryOf, world_at}
 use Rattle.mls_sessions.specs.Turns.{IsStepOver}
 
 -- ---- entries
-
-all_more : {X : Type 0} (P : X → Type 0) (xs : List X) (x : X) → AllByRecursion P xs → P x → AllByRecursion P (xs ++ x ∷ [])
-all_more P [] x all one = (one, tt)
-all_more P (y ∷ xs) x all one = (all.0, all_more P xs x all.1 one)
 
 module _ (count : ℕ) where
   abbrev pub read : List ℕ → Option Entry
@@ -88,7 +85,7 @@ module _ (site : Site) (s t : State) where
     world = λ sessions. ap (λ (x : State). world_at site sessions x.now) h
         ∙ ap (λ es. record { db = s.now.db; sessions = sessions; audit = es }) (entries_more (length site.policy.labels) s.now.audit bytes (denial_entry site event user denial) spelled within is);
     entries = λ all. subst (λ (x : State). AllByRecursion (IsEntryOf (length site.policy.labels)) x.now.audit) (sym h)
-        (all_more _ s.now.audit bytes all (record { entry = denial_entry site event user denial; spelled = spelled; declared = within; is = is }));
+        (all_by_recursion_push _ s.now.audit bytes all (record { entry = denial_entry site event user denial; spelled = spelled; declared = within; is = is }));
   }
 
   pub wrote_over : (event : Event) (user rel : ℕ) (wr : Write) (o : Outcome) → first_denial (write_denials site event.level user rel wr) ≡ None

@@ -1,11 +1,10 @@
 -- Calls of a base, one after another, as one event: what a fault goes back to.
-use Rattle.std.proofs.Common.{◌≡◌, ℕ, ◌≤◌, Bool, true, false, cond, Result, Ok, Err, refl, sym, ap, ◌∙◌, arith}
-use Rattle.std.specs.Prelude.{IfErr}
+use Rattle.std.proofs.Common.{◌≡◌, ℕ, ◌≤◌, Bool, true, false, cond, Ok, Err, refl, ap, ◌∙◌, arith}
 use Rattle.mls_filterview.specs.declared.base.BaseFault.{BaseFault}
 use Rattle.mls_filterview.specs.declared.base.BaseFault.TheVariants.{Store, Memory, NotBegun, Begun}
 use Rattle.mls_filterview.specs.Calls.{begun_after, IsCall, IsServed}
 use Rattle.mls_filterview.specs.Content.{State, Content, after, ended}
-use Rattle.mls_sessions.specs.Turns.{IsUndone, IsTurn}
+use Rattle.mls_sessions.specs.Turns.{IsTurn}
 
 -- a fault outside a change leaves what is held
 outside : (e : BaseFault) (s t : State) → IsServed e → s.begun ≡ false → t ≡ after e s → t.now ≡ s.now

@@ -6,6 +6,7 @@ use Rattle.mls_filterview.specs.declared.base.BaseFault.{BaseFault}
 use Rattle.mls_filterview.specs.Content.{State}
 use Rattle.mls_machine.specs.declared.reply.Reply.{Reply}
 use Rattle.mls_machine.specs.Site.{Site, site_labels}
+use Rattle.mls_machine.specs.Observation.{AreRead, AreCertified}
 use Rattle.mls_machine.specs.Machine.{World, Step}
 use Rattle.mls_sessions.specs.declared.engine.Engine.{Engine}
 use Rattle.mls_sessions.specs.World.{site_of, sessions_of, AreForUsers, world_at, IsSound}
@@ -22,6 +23,8 @@ module _ {B : Type 0} (state : B → State) where
   pub record IsReady (is_clean : B → Type 0) (e : Engine B) : Type 0 where
     pub under : AreUnder (length (site e).policy.labels) (site e).schemes
     pub distinct : AreDistinct (site_labels (site e))
+    pub read : AreRead (site e)
+    pub certified : AreCertified (site e)
     pub users : AreForUsers (length (site e).policy.users) e.sessions.items
     pub idle : (state e.base).begun ≡ false
     pub sound : is_clean e.base → IsSound (site e) (state e.base).now

@@ -2,6 +2,7 @@ pub mod Denying
 pub mod World
 pub mod Turns
 pub mod Engine
+pub mod Calling
 pub mod Cause
 pub mod Known
 pub mod Run

@@ -17,10 +17,10 @@ use Rattle.mls_machine.specs.Site.{Site}
 use Rattle.mls_machine.specs.Machine.{Sessions, World, Step, denied, step_inside}
 use Rattle.mls_machine.specs.Output.{EntriesAreKnown, ItemsAreKnown}
 use Rattle.mls_sessions.specs.declared.change.Deed.{Deed}
-use Rattle.mls_sessions.specs.declared.change.Deed.TheVariants.{Deny, Write}
+use Rattle.mls_sessions.specs.declared.change.Deed.TheVariants.{Deny, Write, Call}
 use Rattle.mls_sessions.specs.declared.session.Session.{Session}
 use Rattle.mls_sessions.specs.Denying.{denial_in}
-use Rattle.mls_sessions.specs.World.{sessions_of, entries_in, world_at, IsEntryOf}
+use Rattle.mls_sessions.specs.World.{sessions_of, world_at, IsEntryOf}
 
 -- ---- faults
 
@@ -64,16 +64,22 @@ is_write (commands.Update rel key key_class from sets) = true
 is_write (commands.Delete rel key key_class) = true
 is_write (commands.Call name args) = false
 
--- the user is one of the policy; the event writes
+abbrev pub is_call : Command → Bool
+is_call (commands.Call name args) = true
+is_call command = false
+
+-- the user is one of the policy; the event writes; it is a call that is not denied
 abbrev pub IsDeedOf : Site → Event → Deed → Type 0
 IsDeedOf site event (Deny user denial) = user < length site.policy.users
 IsDeedOf site event Write = is_write event.command ≡ true
+IsDeedOf site event (Call user) = (user < length site.policy.users) × (is_call event.command ≡ true) × (denial_in site event.level user event.command ≡ None)
 
 -- the denial is entered; the event of a session in which it is not denied is answered
 abbrev pub IsDoneOf : Site → Event → Deed → Content → Content → Reply → Type 0
 IsDoneOf site event (Deny user denial) s t r = IsStepOver site (λ w. denied site w event user denial) s t r
 IsDoneOf site event Write s t r =
     (user : ℕ) → denial_in site event.level user event.command ≡ None → IsStepOver site (λ w. step_inside site w event event.command user) s t r
+IsDoneOf site event (Call user) s t r = IsStepOver site (λ w. step_inside site w event event.command user) s t r
 
 -- ---- replies over any store
 

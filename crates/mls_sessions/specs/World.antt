@@ -4,7 +4,6 @@ use Rattle.std.specs.List.{AllByRecursion, filter_map}
 use Rattle.std.specs.Str.{bytes_eq}
 use Rattle.mls_lattice.specs.Policy.{Name, Tables}
 use Rattle.mls_scheme.specs.Scheme.{Schemes}
-use Rattle.mls_scheme.specs.Table.{Database}
 use Rattle.mls_filterview.specs.Content.{Content}
 use Rattle.mls_filterview.specs.Stored.{AreContent}
 use Rattle.mls_audit.specs.declared.entry.Entry.{Entry}
@@ -21,9 +20,9 @@ use Rattle.mls_sessions.specs.declared.session.Session.{Session}
 abbrev pub site_under : Tables → Schemes → Site
 site_under policy schemes = record { policy = policy; schemes = schemes; stored = [] }
 
--- what a run is under: no transaction is stored
+-- what a run is under
 abbrev pub site_of : Rules → Site
-site_of rules = record { policy = rules.policy.now; schemes = rules.schemes.now; stored = [] }
+site_of rules = record { policy = rules.policy.now; schemes = rules.schemes.now; stored = rules.stored }
 
 -- ---- sessions
 

@@ -1,4 +1,4 @@
-//! Events that change the base: denials, which are entered, and writes. Each is one change.
+//! Events that change the base: denials, which are entered, writes and calls. Each is one change.
 ghost use Rattle.std.specs.Prelude.{◌≡◌, ◌<◌, true, false, length, IfOk, IfErr, OnOk};
 ghost use Rattle.mls_lattice.specs.Policy.{labels_of};
 ghost use Rattle.mls_scheme.specs.Scheme.{AreUnder};
@@ -6,9 +6,11 @@ ghost use Rattle.mls_filterview.specs.Calls.{IsCall, IsServed};
 ghost use Rattle.mls_audit.specs.Spelling.{HasSpelling, entry_spelling};
 ghost use Rattle.mls_script.specs.Event.{EventFits};
 ghost use Rattle.mls_machine.specs.Machine.{denial_entry};
+ghost use Rattle.mls_machine.specs.Observation.{AreRead};
 ghost use Rattle.mls_sessions.specs.World.{site_of, IsSound};
 ghost use Rattle.mls_sessions.specs.Turns.{IsTurn, IsDeedOf, IsDoneOf, HasKnownNumbers};
 
+use crate::calling::call;
 use crate::naming::user_name;
 use crate::rules::Rules;
 use mls_audit::{Entry, entry_bytes};
@@ -26,6 +28,8 @@ pub(crate) enum Deed {
     Deny { user: UserNo, denial: Denial },
     /// It writes.
     Write,
+    /// It calls a transaction, in the session of this user.
+    Call { user: UserNo },
 }
 
 /// The bytes of the entry of a denial.
@@ -92,6 +96,7 @@ fn write<B: Base>(rules: &Rules, base: &mut B, event: &Event) -> Result<Reply, B
         alloc,
         policy,
         schemes,
+        ..
     } = *rules;
     let level = event.level;
     let outcome = match &event.command {
@@ -123,6 +128,7 @@ fn act<B: Base>(rules: &Rules, base: &mut B, event: &Event, deed: Deed) -> Resul
     requires under { AreUnder (length rules.now.policy.now.labels) rules.now.schemes.now }
     requires sound { B.is_clean base.old → IsSound (site_of rules.now) (B.state base.old).now }
     requires fits { EventFits rules.now.policy.now rules.now.schemes.now event.now }
+    requires read { AreRead (site_of rules.now) }
     requires deed { IsDeedOf (site_of rules.now) event.now deed }
     ensures call { IsCall B.is_clean B.failures B.state base.old base.new result }
     ensures served { IfErr result IsServed }
@@ -134,6 +140,7 @@ fn act<B: Base>(rules: &Rules, base: &mut B, event: &Event, deed: Deed) -> Resul
     match deed {
         Deed::Deny { user, denial } => enter(rules, base, event, user, denial),
         Deed::Write => write(rules, base, event),
+        Deed::Call { user } => call(rules, base, event, user),
     }
 }
 
@@ -148,6 +155,7 @@ pub(crate) fn change<B: Base>(
     requires under { AreUnder (length rules.now.policy.now.labels) rules.now.schemes.now }
     requires sound { B.is_clean base.old → IsSound (site_of rules.now) (B.state base.old).now }
     requires fits { EventFits rules.now.policy.now rules.now.schemes.now event.now }
+    requires read { AreRead (site_of rules.now) }
     requires deed { IsDeedOf (site_of rules.now) event.now deed }
     ensures turn { IsTurn B.is_clean B.failures (λ b. (B.state b).now) base.old base.new result }
     ensures idle { (B.state base.new).begun ≡ false }

@@ -2,10 +2,12 @@
 ghost use Rattle.std.specs.Prelude.{◌≡◌, ◌==◌, ◌<◌, bit_and, length, map};
 ghost use Rattle.std.specs.List.{AllByRecursion, list_any};
 ghost use Rattle.mls_script.specs.Event.{CommandFits};
+ghost use Rattle.mls_machine.specs.Observation.{AreRead};
 ghost use Rattle.mls_machine.specs.Denying.{first_denial, clearance_of, exceed, lacks_on, lacks, access_denials};
 ghost use Rattle.mls_sessions.specs.Denying.{denial_in};
 ghost use Rattle.mls_sessions.specs.World.{site_of};
 
+use crate::denying_calls::call_denial;
 use crate::rules::Rules;
 use bitflags::Flags;
 use mls_lattice::{LabelNo, Modes, Policy, UserNo};
@@ -25,7 +27,7 @@ fn has_any(granted: Modes, modes: &[Modes]) -> bool
 }
 
 /// Whether the matrix grants a user none of the modes on what has a name.
-fn lacks_on(rules: &Rules, user: UserNo, object: &str, modes: &[Modes]) -> bool
+pub(crate) fn lacks_on(rules: &Rules, user: UserNo, object: &str, modes: &[Modes]) -> bool
     ensures { result ≡ lacks_on (site_of rules.now) user object.now (map (λ m. m.0) modes.now) }
 {
     !has_any(rules.policy.modes(user, object), modes)
@@ -40,7 +42,7 @@ fn lacks(rules: &Rules, user: UserNo, rel: RelNo, modes: &[Modes]) -> bool
 }
 
 /// Whether one of the labels is not dominated by a limit.
-fn exceed(rules: &Rules, limit: LabelNo, labels: &[LabelNo]) -> bool
+pub(crate) fn exceed(rules: &Rules, limit: LabelNo, labels: &[LabelNo]) -> bool
     requires limit { limit < length rules.now.policy.now.labels }
     requires labels { AllByRecursion (λ l. l < length rules.now.policy.now.labels) labels.now }
     ensures { result ≡ exceed (site_of rules.now) limit labels.now }
@@ -99,6 +101,7 @@ pub(crate) fn denial_of(
 ) -> Option<Denial>
     requires level { level < length rules.now.policy.now.labels }
     requires user { user < length rules.now.policy.now.users }
+    requires read { AreRead (site_of rules.now) }
     requires fits { CommandFits rules.now.policy.now rules.now.schemes.now command.now }
     ensures { result ≡ denial_in (site_of rules.now) level user command.now }
 {
@@ -125,6 +128,6 @@ pub(crate) fn denial_of(
         Command::Delete { rel, key_class, .. } => {
             access_denial(rules, level, user, *rel, &[Modes::WRITE], &[*key_class])
         }
-        Command::Call { .. } => Some(Denial::UnknownTransaction),
+        Command::Call { tx, args } => call_denial(rules, level, user, tx, args),
     }
 }

@@ -3,7 +3,8 @@ ghost use Rattle.std.specs.Prelude.{◌≡◌, false, length, Some, IfOk};
 ghost use Rattle.mls_scheme.specs.Scheme.{AreUnder};
 ghost use Rattle.mls_script.specs.Event.{EventFits};
 ghost use Rattle.mls_machine.specs.Machine.{no_sessions, step};
-ghost use Rattle.mls_sessions.specs.World.{site_under, sessions_of, world_at, IsSound};
+ghost use Rattle.mls_machine.specs.Observation.{AreRead, AreCertified};
+ghost use Rattle.mls_sessions.specs.World.{sessions_of, world_at, IsSound};
 ghost use Rattle.mls_sessions.specs.Engine.{site, world_of, IsReady, IsStep, IsKept, IsEngineTurn};
 ghost use Rattle.mls_sessions.specs.Turns.{HasKnownNumbers};
 
@@ -13,8 +14,8 @@ use crate::looking::{audit, look};
 use crate::rules::Rules;
 use crate::session::{Session, close, open, user_of};
 use mls_filterview::{Base, BaseFault};
-use mls_lattice::{Policy, UserNo};
-use mls_machine::Reply;
+use mls_lattice::{Items, Policy, UserNo};
+use mls_machine::{Reply, Stored};
 use mls_scheme::Schemes;
 use mls_script::{Command, Event};
 use std::alloc::Global;
@@ -28,14 +29,23 @@ pub struct Engine<'a, B: Base> {
 
 impl<'a, B: Base> Engine<'a, B> {
     /// An engine with no session open. It takes no memory. The strings of the base's audit list are entries of declared
-    /// labels. No transaction is stored, so each call is denied.
-    pub fn new(alloc: Global, base: B, policy: &'a Policy, schemes: &'a Schemes) -> Engine<'a, B>
+    /// labels; the stored transactions were read under the policy and the schemes, and those with certificates were
+    /// checked under the policy. Where two have one name, the first is called.
+    pub fn new(
+        alloc: Global,
+        base: B,
+        policy: &'a Policy,
+        schemes: &'a Schemes,
+        stored: Items<Stored>,
+    ) -> Engine<'a, B>
         requires under { AreUnder (length policy.now.labels) schemes.now }
+        requires read { AreRead (record { policy = policy.now; schemes = schemes.now; stored = stored }) }
+        requires certified { AreCertified (record { policy = policy.now; schemes = schemes.now; stored = stored }) }
         requires idle { (B.state base).begun ≡ false }
-        requires sound { B.is_clean base → IsSound (site_under policy.now schemes.now) (B.state base).now }
+        requires sound { B.is_clean base → IsSound (record { policy = policy.now; schemes = schemes.now; stored = stored }) (B.state base).now }
         ensures base { result.base ≡ base }
-        ensures site { site result ≡ site_under policy.now schemes.now }
-        ensures world { world_of B.state result ≡ world_at (site_under policy.now schemes.now) no_sessions (B.state base).now }
+        ensures site { site result ≡ record { policy = policy.now; schemes = schemes.now; stored = stored } }
+        ensures world { world_of B.state result ≡ world_at (record { policy = policy.now; schemes = schemes.now; stored = stored }) no_sessions (B.state base).now }
         ensures ready { IsReady B.state B.is_clean result }
     {
         // That the labels of a policy are distinct.
@@ -44,6 +54,7 @@ impl<'a, B: Base> Engine<'a, B> {
             alloc,
             policy,
             schemes,
+            stored,
         };
         Engine {
             rules,
@@ -79,7 +90,7 @@ impl<'a, B: Base> Engine<'a, B> {
             return change(&self.rules, &mut self.base, event, deed);
         }
         match &event.command {
-            Command::Open(_) | Command::Call { .. } => unreachable!(),
+            Command::Open(_) => unreachable!(),
             Command::Close => {
                 close(&mut self.sessions, event.level, &event.session);
                 Ok(Reply::Closed)
@@ -89,10 +100,13 @@ impl<'a, B: Base> Engine<'a, B> {
             Command::Insert { .. } | Command::Update { .. } | Command::Delete { .. } => {
                 change(&self.rules, &mut self.base, event, Deed::Write)
             }
+            Command::Call { .. } => {
+                change(&self.rules, &mut self.base, event, Deed::Call { user })
+            }
         }
     }
 
-    /// Answers an event, as one change of the base where it writes or its denial is entered.
+    /// Answers an event, as one change of the base where it writes or calls, or where its denial is entered.
     ///
     /// `Store` comes where the store fails, `Memory` where a growth is refused; content, sessions and the audit list are
     /// then as they were before the event.

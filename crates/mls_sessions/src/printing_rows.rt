@@ -1,7 +1,7 @@
 //! The rows of a view.
 ghost use Rattle.std.specs.Prelude.{◌≡◌, ◌<◌, ◌++◌, length, codes, OnOk, Some};
 ghost use Rattle.std.specs.List.{flat_map, AllByRecursion};
-ghost use Rattle.mls_lattice.specs.Lattice.{pair_of, same_pair};
+ghost use Rattle.mls_lattice.specs.Lattice.{pair_of};
 ghost use Rattle.mls_lattice.specs.Canon.{label_name};
 ghost use Rattle.mls_lattice.specs.Policy.{labels_of};
 ghost use Rattle.mls_scheme.specs.Tuple.{tuple_class, HasClassesBelow};
@@ -9,6 +9,7 @@ ghost use Rattle.mls_machine.specs.Output.{cell_entry, name_of, row_text};
 
 use crate::naming::label_name;
 use crate::printing::{push_cell, push_str, push_value};
+use mls_filterview::is_same_label;
 use mls_lattice::{Label, LabelNo, Policy};
 use mls_scheme::{Element, Tuple, Value, tuple_class};
 use std::alloc::{AllocError, Global};
@@ -55,12 +56,6 @@ fn push_elements(
     Ok(())
 }
 
-fn is_same(left: Label, right: Label) -> bool
-    ensures { result ≡ same_pair (pair_of left) (pair_of right) }
-{
-    left == right
-}
-
 /// The name of the first label of a value, or nothing.
 #[tactic(auto, using(crate::proofs::PrintingSteps::naming))]
 fn name_of(policy: &Policy, class: Label) -> &str
@@ -68,7 +63,7 @@ fn name_of(policy: &Policy, class: Label) -> &str
 {
     for number in 0..policy.label_count() {
         let label = LabelNo::new(number as u8);
-        if is_same(policy.value(label), class) {
+        if is_same_label(policy.value(label), class) {
             return label_name(policy, label);
         }
     }

@@ -1,9 +1,9 @@
 -- What stands there is read: expressions and lists.
-use Rattle.std.proofs.Common.{◌≡◌, ℕ, zero, suc, ◌<◌, ◌≤◌, Bool, true, false, List, [], ◌∷◌, ◌++◌, length, map, Option, Some, None, Ok, inl, inr, refl, sym, ap, ◌∙◌, subst, arith, append_assoc, length-append}
-use Rattle.std.specs.Prelude.{codes, not, ⊤}
+use Rattle.std.proofs.Common.{◌≡◌, ℕ, zero, suc, ◌<◌, ◌≤◌, true, false, List, [], ◌∷◌, ◌++◌, length, map, Option, Some, None, Result, Ok, inl, inr, refl, sym, ap, ◌∙◌, subst, arith, append_assoc, length-append}
+use Rattle.std.specs.Prelude.{codes, ⊤}
 use Rattle.std.specs.List.{AllByRecursion, flat_map}
 use Rattle.std.specs.Str.{bytes_eq}
-use Rattle.std.proofs.lemmas.Bool.{cases_Bool, and_parts}
+use Rattle.std.proofs.lemmas.Bool.{cases_Bool, and_parts, not-true}
 use Rattle.std.proofs.lemmas.List.{append-nil, length-map}
 use Rattle.std.proofs.lemmas.Slice.Eq.{bytes_eq-Decides}
 use Rattle.mls_lattice.specs.Name.{is_name, is_reserved}
@@ -17,9 +17,9 @@ use Rattle.mls_tokens.specs.declared.token.Token.TheVariants.{Word, Sign}
 use Rattle.mls_tokens.specs.declared.token.Placed.{Placed}
 use Rattle.mls_tokens.specs.declared.sign.Sign.{Sign as Mark}
 use Rattle.mls_tokens.specs.declared.sign.Sign.TheVariants as sign
-use Rattle.mls_tokens.specs.Sign.{sign_text}
 use Rattle.mls_tokens.specs.Scanning.{Left, tokens_in}
-use Rattle.mls_tokens.specs.Passing.{left, is_word, is_sign, take_first, taken, or_refused, PlacedName, name_in, named_first, pass_name}
+use Rattle.mls_tokens.specs.Passing.{left, is_sign, taken, PlacedName, pass_name}
+use Rattle.mls_tokens.proofs.NextLemmas.{Gets, gets_more, done, gets_done, gets_is, next_is, NotNext, not_taken, took_sign, word_gets as word_passes, sign_gets as sign_passes, name_gets as name_passes}
 use Rattle.mls_translang.specs.declared.operator.Operator.{Operator}
 use Rattle.mls_translang.specs.declared.operator.Operator.TheVariants as operators
 use Rattle.mls_translang.specs.Tokens.{value_token, operator_token, separated, comma_tokens}
@@ -36,130 +36,30 @@ use Rattle.mls_syntax.specs.ReadBlock.{word_at, name_at, name_behind}
 use Rattle.mls_syntax.specs.Spelling.{name_token, expr_tokens, list_tokens, set_tokens}
 use Rattle.mls_syntax.proofs.ExprLemmas.{IsNested}
 
--- ---- steps
+-- ---- tokens
 
--- a reading that gives such a value, before these tokens
-pub record Gets {X : Type 0} (r : Read X) (l : Left) (P : X → Type 0) (us : List Token) : Type 0 where
-  pub value : X
-  pub rest : Left
-  pub is : r ≡ Ok (value, rest)
-  pub holds : P value
-  pub tokens : tokens_in rest.placed ≡ us
-  pub stop : rest.stop ≡ l.stop
-
-pub gets_more : {X Y : Type 0} {r : Read X} (g : X × Left → Read Y) {l : Left} {P : X → Type 0} {us : List Token} {Q : Y → Type 0} {vs : List Token}
-    → Gets r l P us → ((x : X) (m : Left) → P x → tokens_in m.placed ≡ us → Gets (g (x, m)) m Q vs) → Gets (r >>= g) l Q vs
-gets_more g a next =
-    let b = next a.value a.rest a.holds a.tokens in
-    record { value = b.value; rest = b.rest; is = ap (λ z. z >>= g) a.is ∙ b.is; holds = b.holds; tokens = b.tokens; stop = b.stop ∙ a.stop }
-
-abbrev pub done : {X : Type 0} → X → Left → Read X
-done x l = Ok (x, l)
-
-pub gets_done : {X : Type 0} (x : X) (l : Left) (P : X → Type 0) (us : List Token) → P x → tokens_in l.placed ≡ us → Gets (done x l) l P us
-gets_done x l P us h t = record { value = x; rest = l; is = refl; holds = h; tokens = t; stop = refl }
-
--- the same reading
-pub gets_is : {X : Type 0} (r s : Read X) (l : Left) (P : X → Type 0) (us : List Token) → r ≡ s → Gets s l P us → Gets r l P us
-gets_is r s l P us e h = record { value = h.value; rest = h.rest; is = e ∙ h.is; holds = h.holds; tokens = h.tokens; stop = h.stop }
-
--- ---- the next token
-
-abbrev first_of : Token → List Token → Token
-first_of d [] = d
-first_of d (t ∷ ts) = t
-
-abbrev behind_first : List Token → List Token
-behind_first [] = []
-behind_first (t ∷ ts) = ts
-
-pub record Took (test : Token → Bool) (l : Left) (us : List Token) : Type 0 where
-  pub at : ℕ
-  pub rest : Left
-  pub is : taken test l ≡ Some (at, rest)
-  pub tokens : tokens_in rest.placed ≡ us
-  pub stop : rest.stop ≡ l.stop
-
-took_first : (test : Token → Bool) (t : Token) (us : List Token) (ps : List Placed) (stop : TokenFault) → test t ≡ true → tokens_in ps ≡ t ∷ us → Took test (left ps stop) us
-took_first test t us [] stop on e = absurd cc
-took_first test t us (p ∷ ps) stop on e =
-    let same : p.token ≡ t = ap (first_of t) e in
-    record { at = p.at; rest = left ps stop; is = rw (ap test same ∙ on) refl; tokens = ap behind_first e; stop = refl }
-
-took : (test : Token → Bool) (t : Token) (us : List Token) (l : Left) → test t ≡ true → tokens_in l.placed ≡ t ∷ us → Took test l us
-took test t us l on e = took_first test t us l.placed l.stop on e
-
--- the first of some tokens fails a test
-abbrev pub NotNext : (Token → Bool) → List Token → Type 0
-NotNext test [] = ⊤
-NotNext test (t ∷ ts) = test t ≡ false
-
-not_first : (test : Token → Bool) (ts : List Token) (ps : List Placed) (stop : TokenFault) → NotNext test ts → tokens_in ps ≡ ts → take_first test ps stop ≡ None
-not_first test ts [] stop off e = refl
-not_first test [] (p ∷ ps) stop off e = absurd cc
-not_first test (t ∷ ts) (p ∷ ps) stop off e = let same : p.token ≡ t = ap (first_of t) e in rw (ap test same ∙ off) refl
-
-pub not_taken : (test : Token → Bool) (ts : List Token) (l : Left) → NotNext test ts → tokens_in l.placed ≡ ts → taken test l ≡ None
-not_taken test ts l off e = not_first test ts l.placed l.stop off e
-
-same_bytes : (s : Bytes) → bytes_eq s s ≡ true
-same_bytes s = (bytes_eq-Decides s s).1 refl
-
-pub took_word : (w : Bytes) (us : List Token) (l : Left) → tokens_in l.placed ≡ Word w ∷ us → Took (is_word w) l us
-took_word w us l e = took (is_word w) (Word w) us l (same_bytes w) e
-
-pub took_sign : (s : Mark) (us : List Token) (l : Left) → tokens_in l.placed ≡ Sign s ∷ us → Took (is_sign s) l us
-took_sign s us l e = took (is_sign s) (Sign s) us l (same_bytes (sign_text s)) e
+pub syntax_gets : {X : Type 0} {r : Result (X × Left) TokenFault} {l : Left} {P : X → Type 0} {us : List Token} → Gets r l P us → Gets (in_syntax r) l P us
+syntax_gets h = record { value = h.value; rest = h.rest; is = ap in_syntax h.is; holds = h.holds; tokens = h.tokens; stop = h.stop }
 
 pub sign_gets : (s : Mark) (us : List Token) (l : Left) → tokens_in l.placed ≡ Sign s ∷ us → Gets (sign_at s l) l (λ _. ⊤) us
-sign_gets s us l e =
-    let h = took_sign s us l e in
-    record { value = h.at; rest = h.rest; is = ap (λ o. in_syntax (or_refused o l)) h.is; holds = tt; tokens = h.tokens; stop = h.stop }
+sign_gets s us l e = syntax_gets (sign_passes s us l e)
 
 pub word_gets : (w : Bytes) (us : List Token) (l : Left) → tokens_in l.placed ≡ Word w ∷ us → Gets (word_at w l) l (λ _. ⊤) us
-word_gets w us l e =
-    let h = took_word w us l e in
-    record { value = h.at; rest = h.rest; is = ap (λ o. in_syntax (or_refused o l)) h.is; holds = tt; tokens = h.tokens; stop = h.stop }
+word_gets w us l e = syntax_gets (word_passes w us l e)
 
 -- ---- names
-
-pub record NameTook (s : Bytes) (l : Left) (us : List Token) : Type 0 where
-  pub at : ℕ
-  pub rest : Left
-  pub is : pass_name l ≡ Ok ((s, at), rest)
-  pub tokens : tokens_in rest.placed ≡ us
-  pub stop : rest.stop ≡ l.stop
-
-name_first : (s : Bytes) (us : List Token) (ps : List Placed) (stop : TokenFault) → is_name s ≡ true → tokens_in ps ≡ Word s ∷ us → NameTook s (left ps stop) us
-name_first s us [] stop named e = absurd cc
-name_first s us (p ∷ ps) stop named e =
-    let same : p.token ≡ Word s = ap (first_of (Word s)) e in
-    let found : name_in p.token ≡ Some s = ap name_in same ∙ rw named refl in
-    record { at = p.at; rest = left ps stop; is = ap (named_first p.at (left ps stop)) found; tokens = ap behind_first e; stop = refl }
-
-pub name_took : (s : Bytes) (us : List Token) (l : Left) → is_name s ≡ true → tokens_in l.placed ≡ Word s ∷ us → NameTook s l us
-name_took s us l named e = name_first s us l.placed l.stop named e
 
 abbrev pub Called : PlacedName → PlacedName → Type 0
 Called n m = bare_name m ≡ bare_name n
 
+called_gets : (n : PlacedName) {r : Result (PlacedName × Left) TokenFault} {l : Left} {us : List Token} → Gets r l (λ x. x.0 ≡ n.0) us → Gets (in_syntax r) l (Called n) us
+called_gets n h = record { value = h.value; rest = h.rest; is = ap in_syntax h.is; holds = ap (λ s. (s, 0)) h.holds; tokens = h.tokens; stop = h.stop }
+
 pub name_gets : (n : PlacedName) (us : List Token) (l : Left) → IsNamed n → tokens_in l.placed ≡ name_token n ∷ us → Gets (name_at l) l (Called n) us
-name_gets n us l named e =
-    let h = name_took n.0 us l named e in
-    record { value = (n.0, h.at); rest = h.rest; is = ap in_syntax h.is; holds = refl; tokens = h.tokens; stop = h.stop }
+name_gets n us l named e = called_gets n (name_passes n.0 us l named e)
 
 pub behind_gets : (w : Bytes) (n : PlacedName) (us : List Token) (l : Left) → IsNamed n → tokens_in l.placed ≡ Word w ∷ name_token n ∷ us → Gets (name_behind w l) l (Called n) us
-behind_gets w n us l named e =
-    let word = took_word w (name_token n ∷ us) l e in
-    let h = name_took n.0 us word.rest named word.tokens in
-    record {
-      value = (n.0, h.at);
-      rest = h.rest;
-      is = ap (λ o. in_syntax (or_refused o l >>= λ x. pass_name x.1)) word.is ∙ ap in_syntax h.is;
-      holds = refl;
-      tokens = h.tokens;
-      stop = h.stop ∙ word.stop;
-    }
+behind_gets w n us l named e = called_gets n (gets_more (λ x. pass_name x.1) (word_passes w (name_token n ∷ us) l e) (λ x m s t. name_passes n.0 us m named t))
 
 -- ---- other tokens
 
@@ -170,13 +70,13 @@ module _ {X : Type 0} (what : Token → Option X) (v : X) (t : Token) (us : List
   known_first : (ps : List Placed) (stop : TokenFault) → tokens_in ps ≡ t ∷ us → Gets (in_syntax (pass_known_of what ps stop)) (left ps stop) (Is v) us
   known_first [] stop e = absurd cc
   known_first (p ∷ ps) stop e =
-      let same : p.token ≡ t = ap (first_of t) e in
+      let h = next_is p ps t us e in
       record {
         value = (v, p.at);
         rest = left ps stop;
-        is = ap (λ o. in_syntax (known p.at (left ps stop) o)) (ap what same ∙ found);
+        is = ap (λ o. in_syntax (known p.at (left ps stop) o)) (ap what h.0 ∙ found);
         holds = refl;
-        tokens = ap behind_first e;
+        tokens = h.1;
         stop = refl;
       }
 
@@ -187,13 +87,13 @@ module _ (v : Head) (t : Token) (us : List Token) (found : head_of t ≡ Some v)
   head_first : (ps : List Placed) (stop : TokenFault) → tokens_in ps ≡ t ∷ us → Gets (in_syntax (pass_head_of ps stop)) (left ps stop) (Is v) us
   head_first [] stop e = absurd cc
   head_first (p ∷ ps) stop e =
-      let same : p.token ≡ t = ap (first_of t) e in
+      let h = next_is p ps t us e in
       record {
         value = (v, p.at);
         rest = left ps stop;
-        is = ap (λ o. in_syntax (known p.at (left ps stop) o)) (ap head_of same ∙ found);
+        is = ap (λ o. in_syntax (known p.at (left ps stop) o)) (ap head_of h.0 ∙ found);
         holds = refl;
-        tokens = ap behind_first e;
+        tokens = h.1;
         stop = refl;
       }
 
@@ -202,13 +102,9 @@ module _ (v : Head) (t : Token) (us : List Token) (found : head_of t ≡ Some v)
 
 -- ---- names are no reserved words
 
-not_true : (b : Bool) → not b ≡ true → b ≡ false
-not_true true e = absurd cc
-not_true false e = refl
-
 pub not_reserved : (s : Bytes) → is_name s ≡ true → is_reserved s ≡ false
 unfolding is_name
-not_reserved s h = not_true (is_reserved s) (and_parts _ _ h).1
+not_reserved s h = not-true (is_reserved s) (and_parts _ _ h).1
 
 pub differs : (w s : Bytes) → is_reserved w ≡ true → is_name s ≡ true → bytes_eq s w ≡ false
 differs w s word named =
@@ -281,12 +177,12 @@ name_gets_dotless n at us m off j = record {
 field_gets : (n a : PlacedName) (at : ℕ) (us : List Token) (m : Left) → IsNamed a → tokens_in m.placed ≡ Sign sign.Dot ∷ name_token a ∷ us → Gets (named_at (n.0, at) m) m (Same (Field n a)) us
 field_gets n a at us m named j =
     let dot = took_sign sign.Dot (name_token a ∷ us) m j in
-    let h = name_took a.0 us dot.rest named dot.tokens in
+    let h = name_passes a.0 us dot.rest named dot.tokens in
     record {
-      value = Field (n.0, at) (a.0, h.at);
+      value = Field (n.0, at) h.value;
       rest = h.rest;
       is = ap (λ o. in_syntax (dotted (n.0, at) m o)) dot.is ∙ ap (λ r. in_syntax (r >>= λ y. Ok (Field (n.0, at) y.0, y.1))) h.is;
-      holds = refl;
+      holds = ap (λ s. Field (bare_name n) (s, 0)) h.holds;
       tokens = h.tokens;
       stop = h.stop ∙ dot.stop;
     }

@@ -14,6 +14,7 @@ use Rattle.mls_tokens.specs.declared.token.Token.TheVariants.{Word, Sign}
 use Rattle.mls_tokens.specs.declared.sign.Sign.TheVariants as sign
 use Rattle.mls_tokens.specs.Scanning.{Left, tokens_in}
 use Rattle.mls_tokens.specs.Passing.{is_word, is_sign, taken, PlacedName}
+use Rattle.mls_tokens.proofs.NextLemmas.{Gets, gets_more, done, gets_done, gets_is, NotNext, not_taken, took_word, took_sign}
 use Rattle.mls_translang.specs.Tokens.{separated, braced as braced_tokens}
 use Rattle.mls_syntax.specs.declared.fault.SyntaxCause.TheVariants.{TooLong}
 use Rattle.mls_syntax.specs.declared.list.ExprList.{ExprList}
@@ -33,7 +34,7 @@ use Rattle.mls_syntax.specs.Words.{opening_of}
 use Rattle.mls_syntax.specs.ReadExpr.{sign_at, whole_at, list_at, sets_at}
 use Rattle.mls_syntax.specs.ReadBlock.{word_at, name_behind, list_behind, outcome_of, outcome_at, keyed_at, assign_at, insert_at, classes_at, update_at, delete_at, release_at, emit_at, plain_at, Counted, with_count, braced, other_of, other_at, content_at, opened, stmt_with, deep_stmt, end_or, stmts_from, stmts_with, stmts_at, body_at}
 use Rattle.mls_syntax.specs.Spelling.{name_token, behind_tokens, expr_tokens, list_tokens, set_tokens, outcome_tokens, keyed_tokens, write_tokens, stmt_tokens, for_tokens, SpellsOther, SpellsBlock}
-use Rattle.mls_syntax.proofs.AgainLemmas.{Gets, gets_more, done, gets_done, gets_is, NotNext, not_taken, took_word, took_sign, sign_gets, word_gets, Called, name_gets, behind_gets, known_gets, differs, IsWhole, whole_again, SameList, list_again, NoDot, IsSet, sets_again}
+use Rattle.mls_syntax.proofs.AgainLemmas.{sign_gets, word_gets, Called, name_gets, behind_gets, known_gets, differs, IsWhole, whole_again, SameList, list_again, NoDot, IsSet, sets_again}
 
 -- ---- parts of statements
 

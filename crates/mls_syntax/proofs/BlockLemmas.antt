@@ -8,11 +8,13 @@ use Rattle.std.proofs.lemmas.Slice.Eq.{bytes_eq-Decides}
 use Rattle.mls_lattice.specs.Name.{is_name}
 use Rattle.mls_lattice.specs.Policy.{Name as Bytes}
 use Rattle.mls_lattice.specs.Reading.{◌>>=◌}
+use Rattle.mls_lattice.proofs.ReadingLemmas.{bind_ok}
 use Rattle.mls_tokens.specs.declared.token.Token.{Token}
 use Rattle.mls_tokens.specs.declared.token.Token.TheVariants.{Word, Int, Text, Sign}
 use Rattle.mls_tokens.specs.declared.sign.Sign.TheVariants as sign
 use Rattle.mls_tokens.specs.Scanning.{Left}
 use Rattle.mls_tokens.specs.Passing.{is_word, is_sign, taken, PlacedName}
+use Rattle.mls_tokens.proofs.PassedLemmas.{same_ok, Passed, passed_none, passed_more, sign_taken, word_taken}
 use Rattle.mls_translang.specs.Tokens.{braced as braced_tokens}
 use Rattle.mls_syntax.specs.declared.fault.SyntaxFault.{SyntaxFault}
 use Rattle.mls_syntax.specs.declared.fault.SyntaxCause.TheVariants.{Depth, TooLong}
@@ -31,7 +33,7 @@ use Rattle.mls_syntax.specs.Words.{plain_of_word, opening_of_word, opening_of, p
 use Rattle.mls_syntax.specs.ReadExpr.{sign_at, whole_at}
 use Rattle.mls_syntax.specs.ReadBlock.{name_at, name_behind, plain_at, Counted, with_count, braced, other_of, other_at, if_at, for_at, content_at, opened, stmt_with, deep_stmt, end_or, stmts_from, stmts_with, stmts_at, body_at}
 use Rattle.mls_syntax.specs.Spelling.{name_token, behind_tokens, expr_tokens, stmt_tokens, for_tokens, SpellsOther, SpellsBlock}
-use Rattle.mls_syntax.proofs.PassedLemmas.{bind_ok, same_ok, syntax_ok, Passed, passed_none, passed_more, sign_taken, sign_found, word_taken, known_found}
+use Rattle.mls_syntax.proofs.PassedLemmas.{syntax_ok, sign_found, known_found}
 use Rattle.mls_syntax.proofs.ExprLemmas.{chosen, some_is, IsNested, whole_found}
 use Rattle.mls_syntax.proofs.StmtLemmas.{named, behind, PlainFound, PlainIs, plain_found}
 

@@ -8,6 +8,7 @@ use Rattle.std.proofs.lemmas.Slice.Eq.{bytes_eq-Decides}
 use Rattle.mls_lattice.specs.Name.{is_name}
 use Rattle.mls_lattice.specs.Policy.{Name as Bytes}
 use Rattle.mls_lattice.specs.Reading.{◌>>=◌}
+use Rattle.mls_lattice.proofs.ReadingLemmas.{bind_ok}
 use Rattle.mls_tokens.specs.declared.fault.TokenFault.{TokenFault}
 use Rattle.mls_tokens.specs.declared.token.Token.{Token}
 use Rattle.mls_tokens.specs.declared.token.Token.TheVariants.{Word, Int, Text, Sign}
@@ -15,6 +16,7 @@ use Rattle.mls_tokens.specs.declared.sign.Sign.{Sign as Mark}
 use Rattle.mls_tokens.specs.declared.sign.Sign.TheVariants as sign
 use Rattle.mls_tokens.specs.Scanning.{Left}
 use Rattle.mls_tokens.specs.Passing.{is_sign, taken, PlacedName, pass_name}
+use Rattle.mls_tokens.proofs.PassedLemmas.{same_ok, Passed, passed_none, passed_more, passed_shorter, sign_taken, name_found}
 use Rattle.mls_translang.specs.declared.operator.Operator.{Operator}
 use Rattle.mls_translang.specs.declared.operator.Operator.TheVariants as operators
 use Rattle.mls_translang.specs.Tokens.{value_token, operator_token, separated}
@@ -28,7 +30,7 @@ use Rattle.mls_syntax.specs.Fault.{in_syntax}
 use Rattle.mls_syntax.specs.Words.{head_of_sign, head_of_word, head_of, operator_of_sign, operator_of_word, operator_of, pass_known, pass_head}
 use Rattle.mls_syntax.specs.ReadExpr.{Read, sign_at, too_deep, dotted, behind_head, term_at, negation, operation, expr_at, whole_at, after_item, items_from, items_at, list_behind, list_at, set_at, sets_at}
 use Rattle.mls_syntax.specs.Spelling.{name_token, expr_tokens, list_tokens, set_tokens}
-use Rattle.mls_syntax.proofs.PassedLemmas.{bind_ok, same_ok, syntax_ok, Passed, passed_none, passed_more, passed_shorter, sign_taken, sign_found, name_found, known_found, head_found}
+use Rattle.mls_syntax.proofs.PassedLemmas.{syntax_ok, sign_found, known_found, head_found}
 
 -- ---- which token it was
 

@@ -4,10 +4,10 @@ use Rattle.mls_lattice.specs.Reading.{◌>>=◌}
 use Rattle.mls_tokens.specs.declared.sign.Sign.TheVariants.{Comma}
 use Rattle.mls_tokens.specs.Scanning.{Left}
 use Rattle.mls_tokens.specs.Passing.{PlacedName, is_sign, taken}
+use Rattle.mls_tokens.proofs.PassedLemmas.{taken_shorter}
 use Rattle.mls_syntax.specs.declared.fault.SyntaxFault.{SyntaxFault}
 use Rattle.mls_syntax.specs.ExprTree.{Expr}
 use Rattle.mls_syntax.specs.ReadExpr.{Read, after_item, items_from, items_at, whole_at, set_at}
-use Rattle.mls_syntax.proofs.PassedLemmas.{taken_shorter}
 use Rattle.mls_syntax.proofs.ExprLemmas.{whole_shorter, set_shorter}
 
 module _ {X : Type 0} (item : Left → Read X) (start : Left) where

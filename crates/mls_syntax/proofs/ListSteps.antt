@@ -6,6 +6,7 @@ use Rattle.mls_lattice.specs.Reading.{◌>>=◌}
 use Rattle.mls_tokens.specs.declared.sign.Sign.TheVariants.{Comma}
 use Rattle.mls_tokens.specs.Scanning.{Left}
 use Rattle.mls_tokens.specs.Passing.{is_word, is_sign, taken, PlacedName, is_over}
+use Rattle.mls_tokens.proofs.PassedLemmas.{same_ok}
 use Rattle.mls_syntax.specs.declared.fault.SyntaxFault.{SyntaxFault}
 use Rattle.mls_syntax.specs.declared.transaction.Parameter.{Parameter}
 use Rattle.mls_syntax.specs.declared.transaction.Variable.{Variable}
@@ -14,7 +15,6 @@ use Rattle.mls_syntax.specs.ReadExpr.{Read, after_item}
 use Rattle.mls_syntax.specs.ReadBlock.{word_at, name_at}
 use Rattle.mls_syntax.specs.Reading.{too_many, param_at, params_from, var_at, or_var, vars_from, vars_at, transaction_at, transactions_from}
 use Rattle.mls_syntax.specs.Next.{next_param_at, var_if, next_var_at, next_transaction_at}
-use Rattle.mls_syntax.proofs.PassedLemmas.{same_ok}
 
 -- ---- room
 

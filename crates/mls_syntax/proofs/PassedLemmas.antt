@@ -1,175 +1,25 @@
--- The tokens that were passed.
-use Rattle.std.proofs.Common.{◌≡◌, ℕ, ◌<◌, ◌+◌, Bool, true, false, List, [], ◌∷◌, ◌++◌, length, Option, Some, None, Result, Ok, Err, inl, inr, refl, sym, ap, ◌∙◌, subst, append_assoc, arith, length-append}
-use Rattle.std.proofs.lemmas.Bool.{cases_Bool}
-use Rattle.std.proofs.lemmas.List.{length-map}
-use Rattle.std.proofs.lemmas.Slice.Eq.{bytes_eq-Decides}
-use Rattle.mls_lattice.specs.Name.{is_name}
+-- The tokens that the first pass passed.
+use Rattle.std.proofs.Common.{◌≡◌, ℕ, List, [], ◌∷◌, Option, Some, None, Result, Ok, Err, refl, ap, subst}
 use Rattle.mls_lattice.specs.Policy.{Name}
-use Rattle.mls_lattice.specs.Reading.{◌>>=◌}
+use Rattle.mls_lattice.proofs.ReadingLemmas.{bind_ok}
 use Rattle.mls_tokens.specs.declared.fault.TokenFault.{TokenFault}
 use Rattle.mls_tokens.specs.declared.token.Token.{Token}
-use Rattle.mls_tokens.specs.declared.token.Token.TheVariants.{Word, Int, Text, Sign}
+use Rattle.mls_tokens.specs.declared.token.Token.TheVariants.{Word, Sign}
 use Rattle.mls_tokens.specs.declared.token.Placed.{Placed}
 use Rattle.mls_tokens.specs.declared.sign.Sign.{Sign as Mark}
-use Rattle.mls_tokens.specs.declared.sign.Sign.TheVariants.{Becomes, Differs, AtMost, AtLeast, LeftParen, RightParen, LeftBrace, RightBrace, Comma, Semicolon, Colon, Dot, Equals, Less, Greater, Plus, Minus, Times}
-use Rattle.mls_tokens.specs.Sign.{sign_text, sign_goes_on, sign_at as sign_read}
-use Rattle.mls_tokens.proofs.SignLemmas.{sign_again}
-use Rattle.mls_tokens.specs.Scanning.{Left, tokens_in}
-use Rattle.mls_tokens.specs.Passing.{left, is_word, is_sign, take_first, taken, or_refused, pass, PlacedName, name_in, named_first, pass_name_of, pass_name}
+use Rattle.mls_tokens.specs.Scanning.{Left}
+use Rattle.mls_tokens.specs.Passing.{left, is_word, is_sign, pass, PlacedName, pass_name}
+use Rattle.mls_tokens.proofs.PassedLemmas.{same_ok, Passed, passed_more, word_found, sign_found as sign_passed, NameFound, name_found}
 use Rattle.mls_syntax.specs.Fault.{in_syntax}
 use Rattle.mls_syntax.specs.Words.{known, pass_known_of, pass_known, pass_head_of, pass_head, head_of, pass_name_behind}
 use Rattle.mls_syntax.specs.declared.words.Head.{Head}
-
--- ---- steps
-
-pub bind_ok : {A B E : Type 0} (r : Result A E) (f : A → Result B E) (y : B) → (r >>= f) ≡ Ok y → (x : A) × (r ≡ Ok x) × (f x ≡ Ok y)
-bind_ok (Ok x) f y e = (x, refl, e)
-bind_ok (Err d) f y e = absurd cc
-
-pub same_ok : {A E : Type 0} (r : Result A E) (x y : A) → r ≡ Ok x → r ≡ Ok y → x ≡ y
-same_ok r x y p q = cc
 
 pub syntax_ok : {A : Type 0} (r : Result A TokenFault) (x : A) → in_syntax r ≡ Ok x → r ≡ Ok x
 syntax_ok (Ok y) x e = ap (λ z. Ok z) (same_ok (in_syntax (Ok y)) y x refl e)
 syntax_ok (Err d) x e = absurd cc
 
--- ---- tokens
-
-pub record Passed (ts : List Token) (l r : Left) : Type 0 where
-  pub tokens : tokens_in l.placed ≡ ts ++ tokens_in r.placed
-  pub stop : r.stop ≡ l.stop
-
-pub passed_none : (l : Left) → Passed [] l l
-passed_none l = record { tokens = refl; stop = refl }
-
-pub passed_more : (ts us : List Token) (l m r : Left) → Passed ts l m → Passed us m r → Passed (ts ++ us) l r
-passed_more ts us l m r a b = record { tokens = a.tokens ∙ ap (λ x. ts ++ x) b.tokens ∙ sym (append_assoc ts us (tokens_in r.placed)); stop = b.stop ∙ a.stop }
-
--- some tokens more are left before than behind
-pub passed_shorter : (ts : List Token) (l r : Left) → Passed ts l r → length l.placed ≡ length ts + length r.placed
-passed_shorter ts l r h =
-    sym (length-map l.placed (λ p. p.token)) ∙ ap length h.tokens ∙ length-append ts (tokens_in r.placed) ∙ ap (λ n. length ts + n) (length-map r.placed (λ p. p.token))
-
--- ---- signs are written apart
-
-ends_at_end : (s : Mark) → sign_goes_on s 0 ≡ false
-ends_at_end Becomes = refl
-ends_at_end Differs = refl
-ends_at_end AtMost = refl
-ends_at_end AtLeast = refl
-ends_at_end LeftParen = refl
-ends_at_end RightParen = refl
-ends_at_end LeftBrace = refl
-ends_at_end RightBrace = refl
-ends_at_end Comma = refl
-ends_at_end Semicolon = refl
-ends_at_end Colon = refl
-ends_at_end Dot = refl
-ends_at_end Equals = refl
-ends_at_end Less = refl
-ends_at_end Greater = refl
-ends_at_end Plus = refl
-ends_at_end Minus = refl
-ends_at_end Times = refl
-
-signs_is : (x y : Mark × List ℕ) (o : Option (Mark × List ℕ)) → o ≡ Some x → o ≡ Some y → x ≡ y
-signs_is x y o p q = cc
-
-sign_once : (s t : Mark) → sign_text s ≡ sign_text t → s ≡ t
-sign_once s t same =
-    ap (λ (x : Mark × List ℕ). x.0)
-    (signs_is (s, []) (t, []) (sign_read (sign_text s ++ [])) (sign_again s [] (ends_at_end s)) (ap (λ (x : List ℕ). sign_read (x ++ [])) same ∙ sign_again t [] (ends_at_end t)))
-
--- ---- words and signs
-
-abbrev TokenTaken : (Token → Bool) → Left → Left → Type 0
-TokenTaken test l r = (t : Token) × (test t ≡ true) × Passed (t ∷ []) l r
-
-abbrev gives : ℕ × Left → Option (ℕ × Left)
-gives x = Some x
-
-gives_is : (x y : ℕ × Left) → gives x ≡ gives y → x ≡ y
-gives_is x y e = cc
-
-first_found : (test : Token → Bool) (ps : List Placed) (stop : TokenFault) (at : ℕ) (r : Left) → take_first test ps stop ≡ Some (at, r) → TokenTaken test (left ps stop) r
-first_found test [] stop at r e = absurd cc
-first_found test (p ∷ ps) stop at r e =
-    elim (cases_Bool (test p.token)) [
-      | inl on ↦
-          let same = gives_is (p.at, left ps stop) (at, r) (rw on at e) in
-          subst (λ (x : ℕ × Left). TokenTaken test (left (p ∷ ps) stop) x.1) same (p.token, on, record { tokens = refl; stop = refl })
-      | inr off ↦ absurd (let h = rw off at e in cc)
-    ]
-
-taken_found : (test : Token → Bool) (l : Left) (at : ℕ) (r : Left) → taken test l ≡ Some (at, r) → TokenTaken test l r
-taken_found test l at r e = first_found test l.placed l.stop at r e
-
-pub taken_shorter : (test : Token → Bool) (l : Left) (at : ℕ) (r : Left) → taken test l ≡ Some (at, r) → length r.placed < length l.placed
-taken_shorter test l at r e = let h = taken_found test l at r e in omega (arith, passed_shorter (h.0 ∷ []) l r h.2)
-
-or_found : {X : Type 0} (o : Option X) (l : Left) (x : X) → or_refused o l ≡ Ok x → o ≡ Some x
-or_found None l x e = absurd cc
-or_found (Some y) l x e = ap (λ z. Some z) (same_ok (or_refused (Some y) l) y x refl e)
-
-pass_found : (test : Token → Bool) (l : Left) (x : ℕ × Left) → pass test l ≡ Ok x → TokenTaken test l x.1
-pass_found test l x e = taken_found test l x.0 x.1 (or_found (taken test l) l x e)
-
-word_is : (w : Name) (t : Token) → is_word w t ≡ true → t ≡ Word w
-word_is w (Word s) h = ap (λ (x : Name). Word x) ((bytes_eq-Decides s w).0 h)
-word_is w (Int n) h = absurd cc
-word_is w (Text s) h = absurd cc
-word_is w (Sign s) h = absurd cc
-
-pub word_found : (w : Name) (l : Left) (x : ℕ × Left) → pass (is_word w) l ≡ Ok x → Passed (Word w ∷ []) l x.1
-word_found w l x e = let h = pass_found (is_word w) l x e in subst (λ t. Passed (t ∷ []) l x.1) (word_is w h.0 h.1) h.2
-
-pub word_taken : (w : Name) (l : Left) (x : ℕ × Left) → taken (is_word w) l ≡ Some x → Passed (Word w ∷ []) l x.1
-word_taken w l x e = let h = taken_found (is_word w) l x.0 x.1 e in subst (λ t. Passed (t ∷ []) l x.1) (word_is w h.0 h.1) h.2
-
-sign_is : (s : Mark) (t : Token) → is_sign s t ≡ true → t ≡ Sign s
-sign_is s (Word w) h = absurd cc
-sign_is s (Int n) h = absurd cc
-sign_is s (Text w) h = absurd cc
-sign_is s (Sign t) h = ap (λ (x : Mark). Sign x) (sign_once t s ((bytes_eq-Decides (sign_text t) (sign_text s)).0 h))
-
-pub sign_taken : (s : Mark) (l : Left) (x : ℕ × Left) → taken (is_sign s) l ≡ Some x → Passed (Sign s ∷ []) l x.1
-sign_taken s l x e = let h = taken_found (is_sign s) l x.0 x.1 e in subst (λ t. Passed (t ∷ []) l x.1) (sign_is s h.0 h.1) h.2
-
 pub sign_found : (s : Mark) (l : Left) (x : ℕ × Left) → in_syntax (pass (is_sign s) l) ≡ Ok x → Passed (Sign s ∷ []) l x.1
-sign_found s l x e = sign_taken s l x (or_found (taken (is_sign s) l) l x (syntax_ok (pass (is_sign s) l) x e))
-
--- ---- names
-
-named_is : (t : Token) (s : Name) → name_in t ≡ Some s → (t ≡ Word s) × (is_name s ≡ true)
-named_is (Word w) s e =
-    elim (cases_Bool (is_name w)) [
-      | inl named ↦ let same : w ≡ s = let h = rw named at e in cc in (ap (λ (x : Name). Word x) same, ap is_name (sym same) ∙ named)
-      | inr other ↦ absurd (let h = rw other at e in cc)
-    ]
-named_is (Int n) s e = absurd cc
-named_is (Text w) s e = absurd cc
-named_is (Sign w) s e = absurd cc
-
-pub record NameFound (ts : Name → List Token) (l : Left) (x : PlacedName × Left) : Type 0 where
-  pub name : is_name x.0.0 ≡ true
-  pub passed : Passed (ts x.0.0) l x.1
-
-abbrev alone : Name → List Token
-alone s = Word s ∷ []
-
-name_first : (t : Token) (ps : List Placed) (stop : TokenFault) (at : ℕ) (o : Option Name) (x : PlacedName × Left) → name_in t ≡ o → named_first at (left ps stop) o ≡ Ok x → NameFound alone (left (record { token = t; at = at } ∷ ps) stop) x
-name_first t ps stop at None x is e = absurd cc
-name_first t ps stop at (Some s) x is e =
-    let h = named_is t s is in
-    subst (λ y. NameFound alone (left (record { token = t; at = at } ∷ ps) stop) y) (same_ok (named_first at (left ps stop) (Some s)) ((s, at), left ps stop) x refl e)
-    (record { name = h.1; passed = record { tokens = ap (λ y. y ∷ tokens_in ps) h.0; stop = refl } })
-
-name_of_found : (ps : List Placed) (stop : TokenFault) (x : PlacedName × Left) → pass_name_of ps stop ≡ Ok x → NameFound alone (left ps stop) x
-name_of_found [] stop x e = absurd cc
-name_of_found (p ∷ ps) stop x e = name_first p.token ps stop p.at (name_in p.token) x refl e
-
-pub name_found : (l : Left) (x : PlacedName × Left) → pass_name l ≡ Ok x → NameFound alone l x
-name_found l x e = name_of_found l.placed l.stop x e
+sign_found s l x e = sign_passed s l x (syntax_ok (pass (is_sign s) l) x e)
 
 pub behind_found : (w : Name) (l : Left) (x : PlacedName × Left) → pass_name_behind w l ≡ Ok x → NameFound (λ s. Word w ∷ Word s ∷ []) l x
 behind_found w l x e =

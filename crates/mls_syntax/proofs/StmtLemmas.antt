@@ -5,11 +5,13 @@ use Rattle.std.specs.List.{AllByRecursion}
 use Rattle.mls_lattice.specs.Name.{is_name}
 use Rattle.mls_lattice.specs.Policy.{Name as Bytes}
 use Rattle.mls_lattice.specs.Reading.{◌>>=◌}
+use Rattle.mls_lattice.proofs.ReadingLemmas.{bind_ok}
 use Rattle.mls_tokens.specs.declared.token.Token.{Token}
 use Rattle.mls_tokens.specs.declared.token.Token.TheVariants.{Word, Sign}
 use Rattle.mls_tokens.specs.declared.sign.Sign.TheVariants as sign
 use Rattle.mls_tokens.specs.Scanning.{Left}
 use Rattle.mls_tokens.specs.Passing.{is_word, taken, pass, PlacedName, pass_name}
+use Rattle.mls_tokens.proofs.PassedLemmas.{same_ok, Passed, passed_none, passed_more, word_found, word_taken, name_found}
 use Rattle.mls_translang.specs.Tokens.{separated}
 use Rattle.mls_syntax.specs.declared.fault.SyntaxFault.{SyntaxFault}
 use Rattle.mls_syntax.specs.declared.list.ExprList.{ExprList}
@@ -24,7 +26,7 @@ use Rattle.mls_syntax.specs.Words.{pass_name_behind}
 use Rattle.mls_syntax.specs.ReadExpr.{sign_at, whole_at, list_at, sets_at}
 use Rattle.mls_syntax.specs.ReadBlock.{word_at, name_at, name_behind, list_behind, outcome_of, outcome_at, keyed_at, assign_at, insert_at, classes_at, update_at, delete_at, release_at, emit_at, plain_at}
 use Rattle.mls_syntax.specs.Spelling.{name_token, behind_tokens, expr_tokens, list_tokens, set_tokens, outcome_tokens, keyed_tokens, stmt_tokens}
-use Rattle.mls_syntax.proofs.PassedLemmas.{bind_ok, same_ok, syntax_ok, Passed, passed_none, passed_more, word_found, word_taken, sign_found, name_found, behind_found}
+use Rattle.mls_syntax.proofs.PassedLemmas.{syntax_ok, sign_found, behind_found}
 use Rattle.mls_syntax.proofs.ExprLemmas.{IsNested, whole_found, list_found, sets_found}
 
 -- ---- words, names and lists

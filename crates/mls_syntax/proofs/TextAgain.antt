@@ -1,5 +1,5 @@
 -- What a text says is read.
-use Rattle.std.proofs.Common.{◌≡◌, ℕ, zero, suc, ◌≤◌, Bool, true, false, List, [], ◌∷◌, ◌++◌, length, map, Some, None, Result, Ok, refl, sym, ap, ◌∙◌, arith, append_assoc}
+use Rattle.std.proofs.Common.{◌≡◌, ℕ, zero, suc, ◌≤◌, Bool, true, List, [], ◌∷◌, ◌++◌, length, map, Some, None, Result, Ok, refl, sym, ap, ◌∙◌, arith, append_assoc}
 use Rattle.std.specs.Prelude.{codes, if◌then◌else◌}
 use Rattle.std.specs.List.{AllByRecursion, flat_map}
 use Rattle.std.proofs.lemmas.List.{append-nil}
@@ -11,11 +11,11 @@ use Rattle.mls_tokens.specs.declared.fault.TokenCause.TheVariants as causes
 use Rattle.mls_tokens.specs.declared.fault.TokenFault.{TokenFault}
 use Rattle.mls_tokens.specs.declared.token.Token.{Token}
 use Rattle.mls_tokens.specs.declared.token.Token.TheVariants.{Word, Sign}
-use Rattle.mls_tokens.specs.declared.token.Placed.{Placed}
 use Rattle.mls_tokens.specs.declared.sign.Sign.TheVariants as sign
 use Rattle.mls_tokens.specs.Scanning.{Left, tokens_at, tokens_in}
-use Rattle.mls_tokens.specs.Passing.{is_word, is_sign, taken, PlacedName, is_expected, over_with, is_over}
+use Rattle.mls_tokens.specs.Passing.{is_word, is_sign, taken, PlacedName, is_over}
 use Rattle.mls_tokens.proofs.TokensLemmas.{tokens_exact}
+use Rattle.mls_tokens.proofs.NextLemmas.{Gets, gets_more, done, gets_done, gets_is, NotNext, not_taken, took_word, took_sign, over_again, not_over}
 use Rattle.mls_translang.specs.Tokens.{separated, braced as braced_tokens, kind_token}
 use Rattle.mls_syntax.specs.declared.fault.SyntaxFault.{SyntaxFault}
 use Rattle.mls_syntax.specs.declared.transaction.Parameter.{Parameter}
@@ -31,7 +31,7 @@ use Rattle.mls_syntax.specs.ReadExpr.{sign_at, after_item}
 use Rattle.mls_syntax.specs.ReadBlock.{word_at, name_behind, body_at}
 use Rattle.mls_syntax.specs.Reading.{too_many, param_at, params_from, params_behind, params_at, var_at, or_var, vars_from, vars_at, interval_at, transaction_at, transactions_from, syntax_at}
 use Rattle.mls_syntax.specs.Spelling.{name_token, param_tokens, params_tokens, var_tokens, SpellsBlock, SpellsEach}
-use Rattle.mls_syntax.proofs.AgainLemmas.{Gets, gets_more, done, gets_done, gets_is, NotNext, not_taken, took_word, took_sign, sign_gets, word_gets, Called, name_gets, behind_gets, known_gets, IsWhole, IsSet}
+use Rattle.mls_syntax.proofs.AgainLemmas.{sign_gets, word_gets, Called, name_gets, behind_gets, known_gets, IsWhole, IsSet}
 use Rattle.mls_syntax.proofs.BlockAgain.{WritingIsGood, StmtIsGood, BlockIsGood, Closed, IsOther, block_begins, body_again}
 
 -- ---- parameters
@@ -237,14 +237,6 @@ transaction_again t b us l h spelled k =
     })))))
 
 -- ---- the whole text
-
-over_again : (ps : List Placed) (stop : TokenFault) → tokens_in ps ≡ [] → stop.cause ≡ causes.Expected → over_with ps stop ≡ true
-over_again [] stop e h = ap is_expected h
-over_again (p ∷ ps) stop e h = absurd cc
-
-not_over : (ps : List Placed) (stop : TokenFault) (t : Token) (ts : List Token) → tokens_in ps ≡ t ∷ ts → over_with ps stop ≡ false
-not_over [] stop t ts e = absurd cc
-not_over (p ∷ ps) stop t ts e = refl
 
 record EachRead (room : ℕ) (front : List Transaction) (l : Left) (txs : List Transaction) : Type 0 where
   new : List Transaction

@@ -7,17 +7,17 @@ use Rattle.std.proofs.lemmas.List.{append-nil}
 use Rattle.mls_lattice.specs.Name.{is_name}
 use Rattle.mls_lattice.specs.Policy.{Name as Bytes}
 use Rattle.mls_lattice.specs.Reading.{◌>>=◌}
+use Rattle.mls_lattice.proofs.ReadingLemmas.{bind_ok}
 use Rattle.mls_scheme.specs.declared.value.Kind.{Kind}
 use Rattle.mls_scheme.specs.declared.value.Kind.TheVariants as kinds
-use Rattle.mls_tokens.specs.declared.fault.TokenCause.{TokenCause}
 use Rattle.mls_tokens.specs.declared.fault.TokenCause.TheVariants as causes
 use Rattle.mls_tokens.specs.declared.fault.TokenFault.{TokenFault}
 use Rattle.mls_tokens.specs.declared.token.Token.{Token}
 use Rattle.mls_tokens.specs.declared.token.Token.TheVariants.{Word, Int, Text, Sign}
-use Rattle.mls_tokens.specs.declared.token.Placed.{Placed}
 use Rattle.mls_tokens.specs.declared.sign.Sign.TheVariants as sign
 use Rattle.mls_tokens.specs.Scanning.{Left, tokens_in}
-use Rattle.mls_tokens.specs.Passing.{is_word, is_sign, taken, PlacedName, is_expected, over_with, is_over}
+use Rattle.mls_tokens.specs.Passing.{is_word, is_sign, taken, PlacedName, is_over}
+use Rattle.mls_tokens.proofs.PassedLemmas.{same_ok, Passed, passed_none, passed_more, sign_taken, word_taken, over_is}
 use Rattle.mls_translang.specs.Tokens.{separated, kind_token}
 use Rattle.mls_syntax.specs.declared.fault.SyntaxFault.{SyntaxFault}
 use Rattle.mls_syntax.specs.declared.transaction.Parameter.{Parameter}
@@ -31,7 +31,7 @@ use Rattle.mls_syntax.specs.ReadExpr.{sign_at, after_item}
 use Rattle.mls_syntax.specs.ReadBlock.{word_at, name_at, name_behind, body_at}
 use Rattle.mls_syntax.specs.Reading.{too_many, param_at, params_from, params_behind, params_at, var_at, or_var, vars_from, vars_at, interval_at, transaction_at, transactions_from}
 use Rattle.mls_syntax.specs.Spelling.{name_token, behind_tokens, param_tokens, params_tokens, var_tokens, SpellsTransaction, SpellsEach}
-use Rattle.mls_syntax.proofs.PassedLemmas.{bind_ok, same_ok, syntax_ok, Passed, passed_none, passed_more, sign_taken, sign_found, word_taken, known_found}
+use Rattle.mls_syntax.proofs.PassedLemmas.{syntax_ok, sign_found, known_found}
 use Rattle.mls_syntax.proofs.ExprLemmas.{chosen, IsNested}
 use Rattle.mls_syntax.proofs.StmtLemmas.{named, behind, worded}
 use Rattle.mls_syntax.proofs.BlockLemmas.{test_word, closed, body_found}
@@ -306,16 +306,6 @@ pub record EachFound (room : ℕ) (front : List Transaction) (l : Left) (txs : L
   pub end : l.stop.cause ≡ causes.Expected
   pub sized : AllByRecursion IsSized new
   pub few : length new ≤ room
-
-expected_is : (c : TokenCause) → is_expected c ≡ true → c ≡ causes.Expected
-expected_is causes.Token e = absurd cc
-expected_is causes.Expected e = refl
-expected_is causes.TooLong e = absurd cc
-expected_is causes.Memory e = absurd cc
-
-over_is : (ps : List Placed) (stop : TokenFault) → over_with ps stop ≡ true → (tokens_in ps ≡ []) × (stop.cause ≡ causes.Expected)
-over_is [] stop e = (refl, expected_is stop.cause e)
-over_is (p ∷ ps) stop e = absurd cc
 
 abbrev ok_all : List Transaction → Result (List Transaction) SyntaxFault
 ok_all txs = Ok txs

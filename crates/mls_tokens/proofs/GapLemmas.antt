@@ -4,7 +4,7 @@ use Rattle.std.specs.Prelude.{Result, IsUtf8}
 use Rattle.std.specs.List.{prefix_len, AllByRecursion, flat_map}
 use Rattle.std.specs.Str.{is_utf8}
 use Rattle.std.specs.Str.Lossy.{utf8_valid_len}
-use Rattle.std.proofs.lemmas.Bool.{cases_Bool, false_from_ne_true, eqb-true}
+use Rattle.std.proofs.lemmas.Bool.{cases_Bool, false_from_ne_true, eqb-true, or_parts}
 use Rattle.std.proofs.lemmas.Bool.Decides.{nat_tests}
 use Rattle.std.proofs.lemmas.List.{take_at}
 use Rattle.std.proofs.lemmas.Str.{is_utf8-from_IsUtf8, IsUtf8-from_is_utf8}
@@ -23,10 +23,6 @@ some_fault bytes h = rw (false_from_ne_true (is_utf8 (comment_in bytes)) (λ e. 
 pub ruleset comment_steps = (no_fault, some_fault)
 
 -- ---- what is passed is a gap
-
-or_parts : (x y : Bool) → (x || y) ≡ false → (x ≡ false) × (y ≡ false)
-or_parts true y h = absurd cc
-or_parts false y h = (refl, h)
 
 abbrev passed : List ℕ → Result (List ℕ) ℕ
 passed rest = Ok rest

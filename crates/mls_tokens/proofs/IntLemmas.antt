@@ -76,9 +76,6 @@ some_digit : (bs : List ℕ) → is_ascii_digit (slice_index bs 0) ≡ true → 
 some_digit [] h = absurd cc
 some_digit (b ∷ bs) h = rw (h, one-add (prefix_len is_ascii_digit bs)) (omega arith)
 
-no_minus : (b : ℕ) → is_ascii_digit b ≡ true → (b == 45) ≡ false
-no_minus b h = grind (arith, nat_tests)
-
 pub int_text : (bytes : List ℕ) → IsTrue (starts_int bytes) → IsIntText (take (int_len bytes) bytes)
 unfolding int_len
 int_text [] h = absurd cc

@@ -7,3 +7,5 @@ pub mod TokenLemmas
 pub mod AgainLemmas
 pub mod TokensLemmas
 pub mod PassingSteps
+pub mod PassedLemmas
+pub mod NextLemmas

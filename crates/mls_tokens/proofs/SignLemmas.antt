@@ -3,7 +3,7 @@ use Rattle.std.proofs.Common.{◌≡◌, ℕ, Bool, true, false, ◌&&◌, ◌||
 use Rattle.std.specs.Prelude.{nat_eq}
 use Rattle.std.specs.List.{starts_with}
 use Rattle.std.specs.Char.{is_ascii_alphabetic, is_ascii_digit}
-use Rattle.std.proofs.lemmas.Bool.{cases_Bool}
+use Rattle.std.proofs.lemmas.Bool.{cases_Bool, or_parts}
 use Rattle.std.proofs.lemmas.Slice.Eq.{bytes_eq-Decides}
 use Rattle.std.proofs.lemmas.List.{take-append-drop}
 use Rattle.mls_tokens.specs.declared.sign.Sign.{Sign}
@@ -53,10 +53,6 @@ begins t bytes = starts_with nat_eq bytes (sign_text t)
 and_true : (x : Bool) → (x && true) ≡ false → x ≡ false
 and_true true h = h
 and_true false h = refl
-
-or_parts : (x y : Bool) → (x || y) ≡ false → (x ≡ false) × (y ≡ false)
-or_parts true y h = absurd cc
-or_parts false y h = (refl, h)
 
 behind_colon : (rest : List ℕ) → begins Becomes (58 ∷ rest) ≡ false → sign_goes_on Colon (slice_index rest 0) ≡ false
 behind_colon [] h = refl

@@ -1,18 +1,15 @@
 -- Things by name, as a list and as the entries of a map.
-use Rattle.std.proofs.Common.{◌≡◌, ◌+◌, List, [], ◌∷◌, map, cond, not, nat_lt, Some, None, String, string_bytes, refl, sym, ap, ◌∙◌, Bool, true, false, ◌||◌, ◌++◌}
+use Rattle.std.proofs.Common.{◌≡◌, ◌+◌, List, [], ◌∷◌, map, cond, not, nat_lt, Some, None, String, string_bytes, refl, sym, ap, ◌∙◌, false, ◌++◌}
 use Rattle.std.specs.List.{position, prefix_len}
 use Rattle.std.specs.Str.{bytes_eq}
 use Rattle.std.specs.Map.{keys_of}
 use Rattle.std.specs.Cmp.Lexicographic.{nat_list_eq_equiv}
+use Rattle.std.proofs.lemmas.Bool.{or_parts}
 use Rattle.std.proofs.lemmas.List.{length-map}
 use Rattle.mls_lattice.specs.Policy.{Name}
 use Rattle.std.specs.String.{string_eq}
 use Rattle.indexmap.specs.IndexMap.{insert_entry}
 use Rattle.mls_translang.specs.Named.{item_of, has_name}
-
-either : (a b : Bool) → (a || b) ≡ false → (a ≡ false) × (b ≡ false)
-either true b h = absurd cc
-either false b h = (refl, h)
 
 module _ {Z T : Type 0} where
   before : (es : List (String Z × T)) (name : Name) → prefix_len (λ k. not (bytes_eq name (string_bytes k))) (keys_of es) ≡ prefix_len (λ (x : Name × T). not (bytes_eq x.0 name)) (map item_of es)
@@ -31,6 +28,6 @@ module _ {Z T : Type 0} where
       → map item_of (insert_entry string_eq es name item) ≡ map item_of es ++ item_of (name, item) ∷ []
   pushed [] name item new = refl
   pushed (e ∷ es) name item new =
-      let apart = either (bytes_eq (string_bytes e.0) (string_bytes name)) (has_name (map item_of es) (string_bytes name)) new in
+      let apart = or_parts (bytes_eq (string_bytes e.0) (string_bytes name)) (has_name (map item_of es) (string_bytes name)) new in
       let other : string_eq name e.0 ≡ false = nat_list_eq_equiv.symm (string_bytes name) (string_bytes e.0) ∙ apart.0 in
       rw other (ap (λ xs. item_of e ∷ xs) (pushed es name item apart.1))

@@ -1,8 +1,9 @@
 -- The printed text of a transaction is its tokens.
-use Rattle.std.proofs.Common.{◌≡◌, ℕ, zero, suc, ◌-◌, ◌<◌, true, List, [], ◌∷◌, ◌++◌, map, codes, length, get_or, slice_get, option_map, refl, ap, ◌∙◌, inl, inr, arith}
+use Rattle.std.proofs.Common.{◌≡◌, ℕ, ◌-◌, ◌<◌, true, List, [], ◌∷◌, ◌++◌, map, codes, length, slice_get, option_map, refl, ap, ◌∙◌, inl, inr, arith}
 use Rattle.std.specs.Option.{unwrap_or}
 use Rattle.std.specs.List.{AllByRecursion, flat_map}
 use Rattle.std.proofs.lemmas.Bool.{cases_lt, lt-ltb, le-ltb}
+use Rattle.std.proofs.lemmas.List.Elements.{All-from_recursion}
 use Rattle.std.proofs.lemmas.Option.{slice_get-get_or}
 use Rattle.mls_lattice.specs.Name.{is_name}
 use Rattle.mls_lattice.specs.Lattice.{bottom}
@@ -24,11 +25,6 @@ use Rattle.mls_translang.proofs.ReadsBackLemmas.{layouts_are_tokens}
 
 -- ---- what holds of each holds of one
 
-each_at : {X : Type 0} (P : X → Type 0) (xs : List X) (n : ℕ) (d : X) → AllByRecursion P xs → n < length xs → P (get_or xs n d)
-each_at P [] n d h within = absurd (omega arith)
-each_at P (x ∷ xs) zero d h within = h.0
-each_at P (x ∷ xs) (suc n) d h within = each_at P xs n d h.1 (omega arith)
-
 unmapped : {X : Type 0} (f : X → Name) (xs : List X) → AreNames (map f xs) → AllByRecursion (λ x. is_name (f x) ≡ true) xs
 unmapped f [] h = tt
 unmapped f (x ∷ xs) h = (h.0, unmapped f xs h.1)
@@ -41,7 +37,7 @@ split P (x ∷ xs) ys h = let rest = split P xs ys h.1 in ((h.0, rest.0), rest.1
 looked_up : {X : Type 0} (f : X → Name) (xs : List X) (n : ℕ) (d : X) → AllByRecursion (λ x. is_name (f x) ≡ true) xs → n < length xs
     → is_name (unwrap_or (option_map f (slice_get xs n)) []) ≡ true
 looked_up f xs n d h within =
-    ap (λ o. is_name (unwrap_or (option_map f o) [])) (slice_get-get_or xs n d within) ∙ each_at (λ x. is_name (f x) ≡ true) xs n d h within
+    ap (λ o. is_name (unwrap_or (option_map f o) [])) (slice_get-get_or xs n d within) ∙ All-from_recursion (λ x. is_name (f x) ≡ true) xs h n d within
 
 -- ---- the names of schemes
 
@@ -50,7 +46,7 @@ IsNamed a = is_name a.name ≡ true
 
 module _ (schemes : Schemes) (are : AreSchemes schemes) where
   scheme_is : (r : ℕ) → r < length schemes → IsScheme (scheme_of schemes r)
-  scheme_is r within = each_at IsScheme schemes r no_scheme are.each within
+  scheme_is r within = All-from_recursion IsScheme schemes are.each r no_scheme within
 
   attributes : (r : ℕ) → r < length schemes → AllByRecursion IsNamed (scheme_of schemes r).keys × AllByRecursion IsNamed (scheme_of schemes r).others
   attributes r within =
@@ -59,15 +55,15 @@ module _ (schemes : Schemes) (are : AreSchemes schemes) where
 
   other_named : (r i : ℕ) → i < length (scheme_of schemes r).others → is_name (other_of (scheme_of schemes r) i).name ≡ true
   other_named r i within =
-      each_at IsNamed (scheme_of schemes r).others i no_attribute (attributes r (has_attribute schemes r i (omega arith))).1 within
+      All-from_recursion IsNamed (scheme_of schemes r).others (attributes r (has_attribute schemes r i (omega arith))).1 i no_attribute within
 
   field_named : (r i : ℕ) → i < width (scheme_of schemes r) → is_name (field_of (scheme_of schemes r) i).name ≡ true
   field_named r i within =
       let s = scheme_of schemes r in
       let names = attributes r (has_attribute schemes r i within) in
       elim (cases_lt i (length s.keys)) [
-        | inl lt ↦ rw (lt-ltb i (length s.keys) lt) (each_at IsNamed s.keys i no_attribute names.0 lt)
-        | inr le ↦ rw (le-ltb i (length s.keys) le) (each_at IsNamed s.others (i - length s.keys) no_attribute names.1 (omega arith))
+        | inl lt ↦ rw (lt-ltb i (length s.keys) lt) (All-from_recursion IsNamed s.keys names.0 i no_attribute lt)
+        | inr le ↦ rw (le-ltb i (length s.keys) le) (All-from_recursion IsNamed s.others names.1 (i - length s.keys) no_attribute (omega arith))
       ]
 
 -- ---- a transaction

@@ -154,11 +154,6 @@ impl Printer {
         }
     }
 
-    /// The allocator of the text.
-    pub(crate) fn alloc(&self) -> Global {
-        self.alloc
-    }
-
     /// Writes a name or a reserved word.
     pub fn word(&mut self, word: &str) -> Result<(), AllocError>
         ensures { OnOk result (self.new ≡ put self.old (token.Word word.now)) }

@@ -24,6 +24,7 @@ use std::alloc::{AllocError, Global};
 /// Writes the statements of a block.
 #[cycle(print)]
 pub(crate) fn block_to(
+    alloc: Global,
     names: &Names<'_>,
     out: &mut Printer,
     block: &Block,
@@ -33,7 +34,7 @@ pub(crate) fn block_to(
     ensures { OnOk result (out.new ≡ puts out.old (block_tokens names.now block.now)) }
 {
     for stmt in &block.stmts {
-        stmt_to(names, out, stmt)?;
+        stmt_to(alloc, names, out, stmt)?;
     }
     Ok(())
 }
@@ -41,19 +42,29 @@ pub(crate) fn block_to(
 /// Writes a block in its braces.
 #[cycle(print)]
 #[tactic(auto, using(crate::proofs::LayoutLemmas::lists))]
-fn braced_to(names: &Names<'_>, out: &mut Printer, block: &Block) -> Result<(), AllocError>
+fn braced_to(
+    alloc: Global,
+    names: &Names<'_>,
+    out: &mut Printer,
+    block: &Block,
+) -> Result<(), AllocError>
     requires own { BlockIsOwn names.now.scope block.now }
     requires fits { BlockFits names.now.policy names.now.schemes names.now.hi names.now.scope block.now }
     ensures { OnOk result (out.new ≡ puts out.old (braced (block_tokens names.now block.now))) }
 {
     out.sign(Sign::LeftBrace)?;
-    block_to(names, out, block)?;
+    block_to(alloc, names, out, block)?;
     out.sign(Sign::RightBrace)
 }
 
 /// Writes the other block of an `if`, where it has statements.
 #[cycle(print)]
-fn else_to(names: &Names<'_>, out: &mut Printer, block: &Block) -> Result<(), AllocError>
+fn else_to(
+    alloc: Global,
+    names: &Names<'_>,
+    out: &mut Printer,
+    block: &Block,
+) -> Result<(), AllocError>
     requires own { BlockIsOwn names.now.scope block.now }
     requires fits { BlockFits names.now.policy names.now.schemes names.now.hi names.now.scope block.now }
     ensures { OnOk result (out.new ≡ puts out.old (else_tokens block.now (braced (block_tokens names.now block.now)))) }
@@ -62,13 +73,14 @@ fn else_to(names: &Names<'_>, out: &mut Printer, block: &Block) -> Result<(), Al
         return Ok(());
     }
     out.word("else")?;
-    braced_to(names, out, block)
+    braced_to(alloc, names, out, block)
 }
 
 /// Writes an `if`.
 #[cycle(print)]
 #[tactic(auto, using(crate::proofs::LayoutLemmas::lists))]
 fn if_to(
+    alloc: Global,
     names: &Names<'_>,
     out: &mut Printer,
     guard: &Expr,
@@ -81,8 +93,8 @@ fn if_to(
 {
     out.word("if")?;
     expr_to(names, out, guard)?;
-    braced_to(names, out, one)?;
-    else_to(names, out, other)
+    braced_to(alloc, names, out, one)?;
+    else_to(alloc, names, out, other)
 }
 
 /// Writes what a loop begins with.
@@ -116,6 +128,7 @@ fn rows_of(alloc: Global, name: &str, relation: RelNo, rows: &[Row]) -> Result<V
 /// Writes the body of a loop.
 #[cycle(print)]
 fn body_to(
+    alloc: Global,
     names: &Names<'_>,
     out: &mut Printer,
     row: &str,
@@ -126,22 +139,27 @@ fn body_to(
     requires fits { BlockFits names.now.policy names.now.schemes names.now.hi (in_loop names.now.scope row.now relation) body.now }
     ensures { OnOk result (out.new ≡ puts out.old (braced (block_tokens (at_row names.now row.now relation) body.now))) }
 {
-    let rows = rows_of(out.alloc(), row, relation, (&*names).rows)?;
+    let rows = rows_of(alloc, row, relation, (&*names).rows)?;
     let inner = (&*names).with_rows(&rows);
-    braced_to(&inner, out, body)
+    braced_to(alloc, &inner, out, body)
 }
 
 /// Writes a statement.
 #[cycle(print)]
 #[tactic(auto, using(crate::proofs::LayoutLemmas::lists))]
-fn stmt_to(names: &Names<'_>, out: &mut Printer, stmt: &Stmt) -> Result<(), AllocError>
+fn stmt_to(
+    alloc: Global,
+    names: &Names<'_>,
+    out: &mut Printer,
+    stmt: &Stmt,
+) -> Result<(), AllocError>
     requires own { BlockIsOwn names.now.scope (block_of (stmt.now ∷ [])) }
     requires fits { BlockFits names.now.policy names.now.schemes names.now.hi names.now.scope (block_of (stmt.now ∷ [])) }
     ensures { OnOk result (out.new ≡ puts out.old (block_tokens names.now (block_of (stmt.now ∷ [])))) }
 {
     match stmt {
         Stmt::Assign { variable, value } => assign_to(names, out, *variable, value),
-        Stmt::If { guard, one, other } => if_to(names, out, guard, one, other),
+        Stmt::If { guard, one, other } => if_to(alloc, names, out, guard, one, other),
         Stmt::For {
             row,
             relation,
@@ -149,7 +167,7 @@ fn stmt_to(names: &Names<'_>, out: &mut Printer, stmt: &Stmt) -> Result<(), Allo
             body,
         } => {
             for_to(names, out, row.as_str(), *relation, *label)?;
-            body_to(names, out, row.as_str(), *relation, body)
+            body_to(alloc, names, out, row.as_str(), *relation, body)
         }
         Stmt::Insert {
             relation,

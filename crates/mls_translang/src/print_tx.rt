@@ -116,26 +116,26 @@ fn heading_to(
 
 /// Writes the variables and the statements in their braces.
 #[tactic(auto, using(crate::proofs::LayoutLemmas::lists))]
-fn body_to(names: &Names<'_>, out: &mut Printer, tx: &Tx) -> Result<(), AllocError>
+fn body_to(alloc: Global, names: &Names<'_>, out: &mut Printer, tx: &Tx) -> Result<(), AllocError>
     requires names { names.now ≡ outermost names.now.policy names.now.schemes tx.now }
     requires read { IsReadUnder names.now.policy names.now.schemes tx.now }
     ensures { OnOk result (out.new ≡ puts out.old (braced (flat_map var_tokens tx.now.vars ++ block_tokens names.now tx.now.body))) }
 {
     out.sign(Sign::LeftBrace)?;
     vars_to(out, tx.vars())?;
-    block_to(names, out, tx.body())?;
+    block_to(alloc, names, out, tx.body())?;
     out.sign(Sign::RightBrace)
 }
 
 #[tactic(auto, using(crate::proofs::LayoutLemmas::lists))]
-fn tx_to(names: &Names<'_>, out: &mut Printer, tx: &Tx) -> Result<(), AllocError>
+fn tx_to(alloc: Global, names: &Names<'_>, out: &mut Printer, tx: &Tx) -> Result<(), AllocError>
     requires names { names.now ≡ outermost names.now.policy names.now.schemes tx.now }
     requires read { IsReadUnder names.now.policy names.now.schemes tx.now }
     ensures { OnOk result (out.new ≡ puts out.old (tx_tokens names.now tx.now)) }
 {
     heading_to(names, out, tx.name(), tx.lo(), tx.hi())?;
     listed_to(names, out, tx.params())?;
-    body_to(names, out, tx)
+    body_to(alloc, names, out, tx)
 }
 
 /// The canonical text of a transaction that was read under a policy and schemes.
@@ -155,7 +155,7 @@ pub fn print(
         rows: &[],
     };
     let mut out = Printer::new(alloc);
-    tx_to(&names, &mut out, tx)?;
+    tx_to(alloc, &names, &mut out, tx)?;
     let text = out.finish()?;
     Ok(text)
 }

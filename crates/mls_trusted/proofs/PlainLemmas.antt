@@ -1,5 +1,6 @@
 -- Statements that leave the database.
 use Rattle.std.proofs.Common.{◌≡◌, ℕ, ◌<◌, true, [], ◌∷◌, ◌++◌, length, Option, refl, sym, ap, ◌∙◌, subst}
+use Rattle.std.proofs.SliceLists.{all_by_recursion_push}
 use Rattle.std.specs.List.{AllByRecursion}
 use Rattle.mls_lattice.specs.Labels.{below}
 use Rattle.mls_lattice.specs.Policy.{labels_of}
@@ -13,7 +14,6 @@ use Rattle.mls_meaning.specs.Expressions.{value_in}
 use Rattle.mls_meaning.specs.Kinds.{VarsFit}
 use Rattle.mls_meaning.specs.Laws.{IsItem}
 use Rattle.mls_meaning.specs.Meaning.{set_var, perform, run_block}
-use Rattle.mls_meaning.proofs.KeepingLemmas.{all_push}
 use Rattle.mls_meaning.proofs.KindLemmas.{set_kind, value_kind, assigned}
 use Rattle.mls_trusted.specs.declared.call.Call.{Call}
 use Rattle.mls_trusted.specs.declared.frame.Frame.{Frame}
@@ -50,7 +50,7 @@ module _ (call : Call) (f : Frame) (i : IsFrame call f) (e : Expr) (v : Option V
         frame = record {
           count = i.count;
           vars = i.vars;
-          emitted = subst (AllByRecursion (IsItem call.policy.now)) (sym more) (all_push (IsItem call.policy.now) f.emitted.items (label, v) i.emitted item);
+          emitted = subst (AllByRecursion (IsItem call.policy.now)) (sym more) (all_by_recursion_push (IsItem call.policy.now) f.emitted.items (label, v) i.emitted item);
           released = i.released;
         };
         rows = refl;
@@ -70,7 +70,7 @@ module _ (call : Call) (f : Frame) (i : IsFrame call f) (e : Expr) (v : Option V
         vars = i.vars;
         emitted = i.emitted;
         released = subst (AllByRecursion (λ k. IsItem call.policy.now k × (below (labels_of call.policy.now) k.0 call.tx.now.hi ≡ true))) (sym more)
-            (all_push (λ k. IsItem call.policy.now k × (below (labels_of call.policy.now) k.0 call.tx.now.hi ≡ true)) f.released.items (to, v) i.released (item, m.fits.0.2));
+            (all_by_recursion_push (λ k. IsItem call.policy.now k × (below (labels_of call.policy.now) k.0 call.tx.now.hi ≡ true)) f.released.items (to, v) i.released (item, m.fits.0.2));
       } in
       record {
         frame = vars_frame call (set_var into v (vars_of f)) mid g h there (given_kind block m into a);

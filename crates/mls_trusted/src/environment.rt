@@ -1,6 +1,7 @@
 //! What expressions read, and what they give.
 ghost use Rattle.std.specs.Prelude.{◌≡◌, None, reverse, slice_index_or};
-ghost use Rattle.mls_meaning.specs.Expressions.{Plain, cell_of, no_tuple, eval};
+ghost use Rattle.mls_filterview.specs.Rules.{no_tuple};
+ghost use Rattle.mls_meaning.specs.Expressions.{Plain, cell_of, eval};
 ghost use Rattle.mls_trusted.specs.Data.{datum_of, env_of};
 
 use crate::datum::Datum;

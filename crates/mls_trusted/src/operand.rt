@@ -16,13 +16,6 @@ pub(crate) fn value_of(env: &Environment<'_>, expr: &Expr) -> Result<Option<Valu
     env.eval(expr).copied()
 }
 
-/// An equal value, or null.
-pub(crate) fn copy_of(value: &Option<Value>) -> Result<Option<Value>, AllocError>
-    ensures { IfOk result (λ v. v ≡ value.now) }
-{
-    value.clone()
-}
-
 /// The values of expressions.
 pub(crate) fn values_of(
     alloc: Global,

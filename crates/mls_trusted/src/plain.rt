@@ -5,9 +5,10 @@ ghost use Rattle.mls_trusted.specs.Frames.{around_of, IsFrame, MayRun, run_of, I
 
 use crate::call::Call;
 use crate::frame::Frame;
-use crate::operand::{copy_of, value_of};
+use crate::operand::value_of;
 use mls_lattice::LabelNo;
 use mls_translang::Expr;
+use mls_updates::copy_value;
 use std::alloc::AllocError;
 
 /// A variable gets a value.
@@ -39,7 +40,7 @@ pub(crate) fn release(
     ensures { OnOk result (IsStep call.now (run_of call.now (Do (Release value.now to into) End) (around_of frame.old)) frame.old frame.new) }
 {
     let value = value_of(&frame.environment(call.args), value)?;
-    frame.released.push((to, copy_of(&value)?))?;
+    frame.released.push((to, copy_value(&value)?))?;
     frame.set(into, value);
     Ok(())
 }

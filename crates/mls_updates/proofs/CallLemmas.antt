@@ -1,6 +1,5 @@
 -- What a call leaves is what the definition of its write says.
 use Rattle.std.proofs.Common.{◌≡◌, ℕ, zero, suc, ◌<◌, arith, List, [], ◌∷◌, length, Option, None, refl, sym, ap, ◌∙◌, subst}
-use Rattle.std.specs.List.{AllZip}
 use Rattle.std.proofs.lemmas.List.{length-map, get_or-map}
 use Rattle.mls_lattice.specs.Labels.{Labels, AreDistinct}
 use Rattle.mls_scheme.specs.declared.value.Value.{Value}
@@ -19,14 +18,6 @@ use Rattle.mls_updates.specs.Writes.{Write, WriteFits, WriteKinds, root, write}
 use Rattle.mls_updates.specs.Calls.{IsWritten}
 use Rattle.mls_updates.proofs.FittingLemmas.{write-content}
 use Rattle.mls_updates.proofs.StateLemmas.{table_of}
-
--- ---- content
-
-pub zip_length : {A B : Type 0} (R : A → B → Type 0) (xs : List A) (ys : List B) → AllZip R xs ys → length ys ≡ length xs
-zip_length R [] [] h = refl
-zip_length R [] (y ∷ ys) h = absurd h
-zip_length R (x ∷ xs) [] h = absurd h
-zip_length R (x ∷ xs) (y ∷ ys) h = ap suc (zip_length R xs ys h.1)
 
 -- ---- a tuple that is added
 

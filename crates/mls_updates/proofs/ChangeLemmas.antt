@@ -1,16 +1,15 @@
--- What a look-up finds in a table after a change, and the entities of places.
-use Rattle.std.proofs.Common.{◌≡◌, Bool, true, false, cond, List, Option, Some, None, refl, sym, ap, ◌∙◌, inl, inr}
-use Rattle.std.specs.Prelude.{◌⊎◌, ◌↔◌}
+-- What a look-up finds in a table after a change.
+use Rattle.std.proofs.Common.{◌≡◌, Bool, true, cond, List, Option, Some, None, refl, sym, ap, ◌∙◌, inl, inr}
+use Rattle.std.specs.Prelude.{◌⊎◌}
 use Rattle.std.specs.Option.{option_map}
 use Rattle.std.specs.FinMap.{get, insert, retain_keys}
-use Rattle.std.proofs.lemmas.Bool.{cases_Bool, true≢false, cond-true, cond-false, false_from_ne_true}
+use Rattle.std.proofs.lemmas.Bool.{cases_Bool, cond-true, cond-false, false_from_ne_true}
 use Rattle.std.proofs.lemmas.Option.{same_Some, none-some}
 use Rattle.mls_scheme.specs.declared.tuple.Element.{Element}
 use Rattle.mls_scheme.specs.Table.{Table, change}
 use Rattle.mls_scheme.specs.declared.place.Place.{Place}
 use Rattle.mls_scheme.proofs.OrderLemmas.{is_place, is_place-true, is_place-same}
 use Rattle.mls_scheme.proofs.TableLemmas.{get_put, get_kept, get_change}
-use Rattle.mls_filterview.specs.Stored.{with_class, is_entity}
 
 -- ---- a tuple more
 
@@ -50,16 +49,3 @@ changed_cases f T q fs h = by_old (get T q) refl
     by_old : (o : Option (List Element)) → get T q ≡ o → (es : List Element) × (get T q ≡ Some es) × (fs ≡ f q es)
     by_old None e = absurd (none-some fs (sym (ap (option_map (f q)) e) ∙ sym (get_change f T q) ∙ h))
     by_old (Some es) e = (es, e, sym (same_Some (f q es) fs (sym (ap (option_map (f q)) e) ∙ sym (get_change f T q) ∙ h)))
-
--- ---- entities
-
-pub entity_decides : (p q : Place) → (is_entity p q ≡ true) ↔ ((p.key ≡ q.key) × (p.key_class ≡ q.key_class))
-entity_decides p q = (
-  λ h. (let e = is_place-true p (with_class q p.class) h in (ap (λ x. x.key) e, ap (λ x. x.key_class) e)),
-  λ h. is_place-same p (with_class q p.class) (λ i. record { key = h.0 i; key_class = h.1 i; class = p.class }),
-)
-
--- a test of keys tells the entity where the key classes are one
-pub entity_by_keys : (p q : Place) (b : Bool) → p.key_class ≡ q.key_class → (b ≡ true) ↔ (p.key ≡ q.key) → b ≡ is_entity p q
-entity_by_keys p q true e h = sym ((entity_decides p q).1 (h.0 refl, e))
-entity_by_keys p q false e h = sym (false_from_ne_true _ (λ t. true≢false (sym (h.1 ((entity_decides p q).0 t).0))))

@@ -4,6 +4,7 @@ use Rattle.std.specs.Prelude.{◌≢◌}
 use Rattle.std.specs.List.{AllByRecursion}
 use Rattle.std.specs.FinMap.{get, remove, get-remove, retain_keys}
 use Rattle.std.proofs.lemmas.Bool.{cases_Bool, cond-true, cond-false, true≢false, and_parts, and_from, false_from_ne_true}
+use Rattle.std.proofs.lemmas.List.{drop_more}
 use Rattle.std.proofs.lemmas.Option.{none-some}
 use Rattle.mls_lattice.specs.Labels.{Labels, below}
 use Rattle.mls_lattice.proofs.LatticeLemmas.{below-trans}
@@ -16,11 +17,10 @@ use Rattle.mls_scheme.proofs.TableLemmas.{same_table, get_kept}
 use Rattle.mls_filterview.specs.Stored.{with_class, is_entity, IsStored}
 use Rattle.mls_filterview.specs.View.{IsAmong}
 use Rattle.mls_filterview.specs.Fragment.{IsAlone}
+use Rattle.mls_filterview.proofs.EntityTests.{entity_decides}
+use Rattle.mls_filterview.proofs.AmongLemmas.{all_at}
 use Rattle.mls_updates.specs.Writes.{is_above}
 use Rattle.mls_updates.specs.Steps.{drop_each, AreAlone, AreDownwards, AreAbove}
-use Rattle.mls_updates.proofs.SetLemmas.{all_among}
-use Rattle.mls_updates.proofs.ChangeLemmas.{entity_decides}
-use Rattle.mls_updates.proofs.StateLemmas.{drop_split}
 
 -- ---- a tuple less
 
@@ -91,7 +91,7 @@ module _ (p : Place) where
       where
         later : (q : Place) → q.class ≢ m → below ls m q.class ≡ true → IsAmong q.class (m ∷ ms) → ⊥
         later q ne up (inl same) = ne same
-        later q ne up (inr h) = true≢false (sym up ∙ all_among (λ k. below ls m k ≡ false) ms q.class d.0 h)
+        later q ne up (inr h) = true≢false (sym up ∙ all_at (λ k. below ls m k ≡ false) ms d.0 q.class h)
 
         rest : (q : Place) → (q.class ≡ m → ⊥) → IsAmong q.class (m ∷ ms) → IsAmong q.class ms
         rest q ne (inl same) = absurd (ne same)
@@ -108,7 +108,7 @@ module _ (p : Place) where
         by_place : (q : Place) → get (drop_each p ms T) q ≡ cond (not (is_above ls p q)) (get T q) None
         by_place q = elim (cases_Bool (is_above ls p q)) [
           | inl b ↦ by_look q b (get T q) refl ∙ sym (ap (λ x. cond (not x) (get T q) None) b)
-          | inr b ↦ stays ms T q (λ e h. true≢false (sym (and_from (is_entity p q) (below ls p.class q.class) e (all_among (λ m. below ls p.class m ≡ true) ms q.class a h)) ∙ b))
+          | inr b ↦ stays ms T q (λ e h. true≢false (sym (and_from (is_entity p q) (below ls p.class q.class) e (all_at (λ m. below ls p.class m ≡ true) ms a q.class h)) ∙ b))
               ∙ sym (ap (λ x. cond (not x) (get T q) None) b)
         ]
 
@@ -134,11 +134,11 @@ module _ (p q : Place) (ms : List ℕ) (i d : ℕ) (within : i < length ms) (key
   here = λ j. record { key = key j; key_class = key_class j; class = class j }
 
   pub drop_next : (T : Table) → drop_each p (drop i ms) T ≡ drop_each p (drop (i + 1) ms) (remove T q)
-  drop_next T = ap (λ ks. drop_each p ks T) (drop_split ms i d within) ∙ ap (λ r. drop_each p (drop (i + 1) ms) (remove T r)) (sym here)
+  drop_next T = ap (λ ks. drop_each p ks T) (drop_more ms i d within) ∙ ap (λ r. drop_each p (drop (i + 1) ms) (remove T r)) (sym here)
 
   pub alone_now : (T : Table) → AreAlone p (drop i ms) T → IsAlone T q
-  alone_now T h = subst (IsAlone T) (sym here) (subst (λ ks. AreAlone p ks T) (drop_split ms i d within) h).0
+  alone_now T h = subst (IsAlone T) (sym here) (subst (λ ks. AreAlone p ks T) (drop_more ms i d within) h).0
 
   pub alone_next : (T U : Table) → U ≡ remove T q → AreAlone p (drop i ms) T → AreAlone p (drop (i + 1) ms) U
   alone_next T U e h =
-      subst (AreAlone p (drop (i + 1) ms)) (ap (remove T) (sym here) ∙ sym e) (subst (λ ks. AreAlone p ks T) (drop_split ms i d within) h).1
+      subst (AreAlone p (drop (i + 1) ms)) (ap (remove T) (sym here) ∙ sym e) (subst (λ ks. AreAlone p ks T) (drop_more ms i d within) h).1

@@ -20,15 +20,12 @@ module _ (p : Place) (n : Node) where
   pub other_class : (n.label ≡ p.class → ⊥) → false ≡ is_at p n
   other_class ne = sym (false_from_ne_true (is_at p n) (λ h. ne (ap (λ q. q.class) (is_place-true (place_of_node n) p h))))
 
-  pub other_key_class : (n.key_class ≡ p.key_class → ⊥) → false ≡ is_at p n
-  other_key_class ne = sym (false_from_ne_true (is_at p n) (λ h. ne (ap (λ q. q.key_class) (is_place-true (place_of_node n) p h))))
+  pub by_entity : (b : Bool) → n.label ≡ p.class → IsTrue b ↔ ((n.key ≡ p.key) × (n.key_class ≡ p.key_class)) → b ≡ is_at p n
+  by_entity true same h = sym (is_place-same (place_of_node n) p (λ i. record { key = (h.0 refl).0 i; key_class = (h.0 refl).1 i; class = same i }))
+  by_entity false same h =
+      sym (false_from_ne_true (is_at p n) (λ t. (let e = is_place-true (place_of_node n) p t in true≢false (sym (h.1 (ap (λ q. q.key) e, ap (λ q. q.key_class) e))))))
 
-  pub by_key : (b : Bool) → n.label ≡ p.class → n.key_class ≡ p.key_class → IsTrue b ↔ (n.key ≡ p.key) → b ≡ is_at p n
-  by_key true same same_key h = sym (is_place-same (place_of_node n) p (λ i. record { key = h.0 refl i; key_class = same_key i; class = same i }))
-  by_key false same same_key h =
-      sym (false_from_ne_true (is_at p n) (λ t. true≢false (sym (h.1 (ap (λ q. q.key) (is_place-true (place_of_node n) p t))))))
-
-pub ruleset at_steps = (other_class, other_key_class, by_key)
+pub ruleset at_steps = (other_class, by_entity)
 
 -- the fragment of a class has the node of a place of this class just where the table has a tuple there
 module _ (T : Table) (p : Place) where

@@ -1,10 +1,11 @@
 -- The writes keep numbers, kinds and intervals.
-use Rattle.std.proofs.Common.{◌≡◌, ℕ, zero, suc, ◌<◌, Bool, true, false, cond, not, List, [], ◌∷◌, length, Option, Some, None, refl, sym, ap, ◌∙◌, subst, arith, inl, inr}
+use Rattle.std.proofs.Common.{◌≡◌, ℕ, zero, suc, ◌<◌, Bool, true, false, cond, not, List, [], ◌∷◌, length, Option, Some, None, refl, sym, ◌∙◌, subst, arith, inl, inr}
 use Rattle.std.specs.Prelude.{nat_eq, slice_index_or}
 use Rattle.std.specs.List.{list_any, list_all, AllByRecursion, AllZip}
 use Rattle.std.specs.Option.{unwrap_or}
 use Rattle.std.specs.FinMap.{get, insert, retain_keys}
 use Rattle.std.proofs.lemmas.Bool.{true≢false, cond_both, and_parts, not-false}
+use Rattle.std.proofs.lemmas.Slice.Zip.{AllZip-long}
 use Rattle.mls_lattice.specs.Labels.{Labels, AreDistinct}
 use Rattle.mls_scheme.specs.declared.value.Value.{Value}
 use Rattle.mls_scheme.specs.declared.tuple.Element.{Element}
@@ -15,9 +16,10 @@ use Rattle.mls_scheme.specs.declared.place.Place.{Place}
 use Rattle.mls_scheme.specs.Scheme.{Attribute, no_attribute, Scheme, other_of}
 use Rattle.mls_scheme.specs.Fits.{in_interval, HaveKinds, Fits}
 use Rattle.mls_filterview.specs.Stored.{IsContent, is_entity}
+use Rattle.mls_filterview.proofs.AmongLemmas.{all_at, none_of}
 use Rattle.mls_updates.specs.Outcome.{is_done}
 use Rattle.mls_updates.specs.Writes.{Key, Sets, Write, Insert, Update, Delete, WriteFits, WriteKinds, first_refusal, has_null, place, is_above, root, derived, updated, update_in, insert_refusals, update_own_refusals, update_own, update_below_refusals, update_below, delete_refusals, write}
-use Rattle.mls_updates.proofs.SetLemmas.{all_among, none_among, length-derived, length-updated, derived_cases, updated_cases}
+use Rattle.mls_updates.proofs.SetLemmas.{length-derived, length-updated, derived_cases, updated_cases}
 use Rattle.mls_updates.proofs.ChangeLemmas.{inserted_cases, kept_cases, changed_cases}
 use Rattle.mls_updates.proofs.KeptLemmas.{all_passed, found_if, insert-stored, write-stored}
 
@@ -29,7 +31,7 @@ zip_from R d e [] (y ∷ ys) n h = absurd (omega arith)
 zip_from R d e (x ∷ xs) [] n h = absurd (omega arith)
 zip_from R d e (x ∷ xs) (y ∷ ys) n h = (h 0 (omega arith), zip_from R d e xs ys (omega arith) (λ i l. h (suc i) (omega arith)))
 
-zip_at : {A B : Type 0} (R : A → B → Type 0) (d : A) (e : B) (xs : List A) (ys : List B) → AllZip R xs ys → (i : ℕ) → i < length xs → R (slice_index_or xs i d) (slice_index_or ys i e)
+pub zip_at : {A B : Type 0} (R : A → B → Type 0) (d : A) (e : B) (xs : List A) (ys : List B) → AllZip R xs ys → (i : ℕ) → i < length xs → R (slice_index_or xs i d) (slice_index_or ys i e)
 zip_at R d e [] [] h i l = absurd (omega arith)
 zip_at R d e [] (y ∷ ys) h i l = absurd h
 zip_at R d e (x ∷ xs) [] h i l = absurd h
@@ -59,22 +61,16 @@ module _ (ls : Labels) (scheme : Scheme) where
   each_fits : (es us : List Element) → length us ≡ length es → AllZip FitsAt scheme.others es
       → ((i : ℕ) → i < length es → FitsAt (other_of scheme i) (at es i) → FitsAt (other_of scheme i) (at us i)) → AllZip FitsAt scheme.others us
   each_fits es us n h f =
-      let m : length scheme.others ≡ length es = zip_length scheme.others es h in
+      let m : length scheme.others ≡ length es = sym (AllZip-long FitsAt scheme.others es h) in
       zip_from FitsAt no_attribute null_element scheme.others us (m ∙ sym n) (λ i l. f i (subst (λ k. i < k) m l) (zip_at FitsAt no_attribute null_element scheme.others es h i l))
-    where
-      zip_length : (as' : List Attribute) (xs : List Element) → AllZip FitsAt as' xs → length as' ≡ length xs
-      zip_length [] [] h = refl
-      zip_length [] (x ∷ xs) h = absurd h
-      zip_length (a ∷ as') [] h = absurd h
-      zip_length (a ∷ as') (x ∷ xs) h = ap suc (zip_length as' xs h.1)
 
   module _ (w : ℕ) (sets : Sets) (kinds : AllByRecursion (λ s. fits_kind s.1 (other_of scheme s.0).kind ≡ true) sets) where
     derived_fits : (es : List Element) → list_any (λ s. not (in_interval ls w (other_of scheme s.0))) sets ≡ false → AllZip FitsAt scheme.others es → AllZip FitsAt scheme.others (derived w sets es)
     derived_fits es within h = each_fits es (derived w sets es) (length-derived w sets es) h (λ i l f. elim (derived_cases w sets es i l) [
       | inl e ↦ subst (FitsAt (other_of scheme i)) (sym e) f
       | inr s ↦ subst (FitsAt (other_of scheme i)) (sym s.2) (
-        all_among (λ r. fits_kind r.1 (other_of scheme r.0).kind ≡ true) sets (i, s.0) kinds s.1,
-        not-false _ (none_among (λ r. not (in_interval ls w (other_of scheme r.0))) sets (i, s.0) within s.1),
+        all_at (λ r. fits_kind r.1 (other_of scheme r.0).kind ≡ true) sets kinds (i, s.0) s.1,
+        not-false _ (none_of (λ r. not (in_interval ls w (other_of scheme r.0))) sets within (i, s.0) s.1),
       )
     ])
 
@@ -82,7 +78,7 @@ module _ (ls : Labels) (scheme : Scheme) where
     updated_fits es h = each_fits es (updated w sets es) (length-updated w sets es) h (λ i l f. elim (updated_cases w sets es i l) [
       | inl e ↦ subst (FitsAt (other_of scheme i)) (sym e) f
       | inr s ↦ subst (FitsAt (other_of scheme i)) (sym s.1.2) (
-        all_among (λ r. fits_kind r.1 (other_of scheme r.0).kind ≡ true) sets (i, s.1.0) kinds s.1.1,
+        all_at (λ r. fits_kind r.1 (other_of scheme r.0).kind ≡ true) sets kinds (i, s.1.0) s.1.1,
         subst (λ k. in_interval ls k (other_of scheme i) ≡ true) s.0 f.1,
       )
     ])

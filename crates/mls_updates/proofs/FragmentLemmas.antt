@@ -1,5 +1,5 @@
 -- What a label holds of plain rows is the fragment of their table.
-use Rattle.std.proofs.Common.{◌≡◌, ℕ, true, false, cond, ◌&&◌, List, [], ◌∷◌, ◌++◌, map, length, Some, None, refl, sym, ap, ◌∙◌, subst, append_assoc, arith}
+use Rattle.std.proofs.Common.{◌≡◌, ℕ, true, false, cond, ◌&&◌, List, [], ◌∷◌, ◌++◌, map, Some, None, refl, sym, ap, ◌∙◌, subst, append_assoc}
 use Rattle.std.specs.Prelude.{nat_eq, IsPermutation}
 use Rattle.std.specs.List.{filter, flat_map}
 use Rattle.std.specs.Ordering.{is_eq}
@@ -7,8 +7,10 @@ use Rattle.std.specs.declared.cmp.Ordering.TheVariants.{Less, Equal, Greater}
 use Rattle.std.specs.FinMap.{entries, from_entries, entries-insert, get-entries, get-from_entries, empty, len-empty, len-entries, find}
 use Rattle.std.specs.FinMap.Entries.{put, by_order}
 use Rattle.std.proofs.lemmas.Bool.{eqb-true}
+use Rattle.std.proofs.lemmas.List.Concat.{flat_map_single}
 use Rattle.std.proofs.lemmas.Option.{none-some}
 use Rattle.std.proofs.lemmas.List.Sorted.{IsPermutation-refl, IsPermutation-trans, IsPermutation-append_comm, IsPermutation-append_left, IsPermutation-append_right}
+use Rattle.std.proofs.lemmas.List.{nil_from_length}
 use Rattle.mls_scheme.specs.declared.tuple.Element.{Element}
 use Rattle.mls_scheme.specs.declared.place.Place.{Place}
 use Rattle.mls_scheme.specs.Table.{place_cmp, Table}
@@ -34,10 +36,6 @@ apart rel (r ∷ rs) h =
       | false ↦ λ t. apart rel rs h.1
     ] refl
 
-no_length : {A : Type 0} (xs : List A) → length xs ≡ 0 → xs ≡ []
-no_length [] e = refl
-no_length (x ∷ xs) e = absurd (omega arith)
-
 module _ {Y : Type 0} (g : Entry → List Y) where
   to_front : (xs ys zs : List Y) → IsPermutation (xs ++ (ys ++ zs)) (ys ++ (xs ++ zs))
   to_front xs ys zs =
@@ -56,7 +54,7 @@ module _ {Y : Type 0} (g : Entry → List Y) where
 
   entries_each : (es : List Entry) → AreApart es → IsPermutation (flat_map g (entries (from_entries {R = place_cmp} es))) (flat_map g es)
   unfolding AreApart
-  entries_each [] h = subst (λ xs. IsPermutation (flat_map g xs) []) (sym (no_length (entries (empty {R = place_cmp})) (sym (len-entries empty) ∙ len-empty place_cmp (List Element)))) (IsPermutation-refl [])
+  entries_each [] h = subst (λ xs. IsPermutation (flat_map g xs) []) (sym (nil_from_length (entries (empty {R = place_cmp})) (sym (len-entries empty) ∙ len-empty place_cmp (List Element)))) (IsPermutation-refl [])
   entries_each (e ∷ es) h =
       let T : Table = from_entries es in
       let none : find place_cmp e.0 (entries T) ≡ None = sym (get-entries T e.0) ∙ get-from_entries place_total es e.0 ∙ h.0 in
@@ -94,15 +92,11 @@ module _ {Y : Type 0} (f : Entry → List Y) (label : ℕ) where
       subst (λ xs. IsPermutation xs (flat_map (λ r. f (entry_of r)) (filter (is_of rel label) rows))) (sym (of_entries (entries (from_entries (entries_of rel rows)))))
       (subst (IsPermutation (flat_map part (entries (from_entries (entries_of rel rows))))) (of_rows rel rows) (entries_each part (entries_of rel rows) (apart rel rows h)))
 
-one_each : {X Y : Type 0} (f : X → Y) (xs : List X) → flat_map (λ x. f x ∷ []) xs ≡ map f xs
-one_each f [] = refl
-one_each f (x ∷ xs) = ap (λ ys. f x ∷ ys) (one_each f xs)
-
 pub is_fragment : (rel label : ℕ) (rows : List Row) → HavePlaces rows → (f : Fragment) → f.nodes ≡ nodes_of rel label rows → f.cells ≡ cells_in rel label rows → IsFragment (table_of rows rel) label f
 is_fragment rel label rows h f nodes cells = record {
   nodes =
-      subst (IsPermutation (map node_of (of_class label (table_of rows rel)))) (one_each (λ r. node_of (entry_of r)) (filter (is_of rel label) rows) ∙ sym nodes)
-      (subst (λ xs. IsPermutation xs (flat_map (λ r. node_of (entry_of r) ∷ []) (filter (is_of rel label) rows))) (one_each node_of (of_class label (table_of rows rel)))
+      subst (IsPermutation (map node_of (of_class label (table_of rows rel)))) (flat_map_single (λ r. node_of (entry_of r)) (filter (is_of rel label) rows) ∙ sym nodes)
+      (subst (λ xs. IsPermutation xs (flat_map (λ r. node_of (entry_of r) ∷ []) (filter (is_of rel label) rows))) (flat_map_single node_of (of_class label (table_of rows rel)))
       (each_of (λ e. node_of e ∷ []) label rel rows h));
   cells = subst (IsPermutation (flat_map cells_of (of_class label (table_of rows rel)))) (sym cells) (each_of cells_of label rel rows h);
 }

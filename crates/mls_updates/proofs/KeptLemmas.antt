@@ -16,11 +16,13 @@ use Rattle.mls_scheme.specs.declared.place.Place.{Place}
 use Rattle.mls_scheme.specs.Scheme.{Scheme}
 use Rattle.mls_scheme.proofs.TableLemmas.{get_kept, get_change}
 use Rattle.mls_filterview.specs.Stored.{IsStored, IsStoredTuple, Occurs, AgreesBelow, with_class, is_entity}
+use Rattle.mls_filterview.proofs.EntityTests.{entity_decides}
+use Rattle.mls_filterview.proofs.AmongLemmas.{none_of}
 use Rattle.mls_updates.specs.declared.outcome.Outcome.{Outcome}
 use Rattle.mls_updates.specs.Outcome.{is_done}
 use Rattle.mls_updates.specs.Writes.{Key, Sets, Write, Insert, Update, Delete, WriteFits, first_refusal, place, is_above, root, set_element, derived, updated, update_in, insert_refusals, update_own_refusals, update_own, update_below_refusals, update_below, delete_refusals, write}
-use Rattle.mls_updates.proofs.SetLemmas.{none_among, IsSet, some_set, length-derived, length-updated, at-derived, at-updated, derived_cases, updated_cases, updated_class}
-use Rattle.mls_updates.proofs.ChangeLemmas.{get_new, get_again, inserted_cases, kept_cases, changed_cases, entity_decides}
+use Rattle.mls_updates.proofs.SetLemmas.{IsSet, some_set, length-derived, length-updated, at-derived, at-updated, derived_cases, updated_cases, updated_class}
+use Rattle.mls_updates.proofs.ChangeLemmas.{get_new, get_again, inserted_cases, kept_cases, changed_cases}
 
 -- ---- outcomes
 
@@ -153,7 +155,7 @@ module _ (ls : Labels) (n : ℕ) where
       null_at : (i : ℕ) → i < length fs → (at es i).value ≡ None → (at es i).class ≡ q.key_class
       null_at i l z = elim (derived_cases w sets fs i l) [
         | inl e ↦ ap (λ x. x.class) e ∙ st.null_at_key i l (ap (λ x. x.value) (sym e) ∙ z)
-        | inr s ↦ absurd (true≢false (ap is_none (sym z ∙ ap (λ x. x.value) s.2) ∙ none_among (λ r. is_none r.1) sets (i, s.0) known s.1))
+        | inr s ↦ absurd (true≢false (ap is_none (sym z ∙ ap (λ x. x.value) s.2) ∙ none_of (λ r. is_none r.1) sets known (i, s.0) s.1))
       ]
 
       own_class : Occurs p es w
@@ -235,7 +237,7 @@ module _ (ls : Labels) (n : ℕ) where
 
           set_null : (i : ℕ) → IsSet w sets i (at us i) → (at us i).value ≡ None → (p.class ≡ p.key_class) ⊎ (list_any (λ s. is_none s.1) sets ≡ false) → (at us i).class ≡ q.key_class
           set_null i s z (inl e) = ap (λ x. x.class) s.2 ∙ e ∙ ((entity_decides p q).0 in').1
-          set_null i s z (inr known) = absurd (true≢false (ap is_none (sym z ∙ ap (λ x. x.value) s.2) ∙ none_among (λ r. is_none r.1) sets (i, s.0) known s.1))
+          set_null i s z (inr known) = absurd (true≢false (ap is_none (sym z ∙ ap (λ x. x.value) s.2) ∙ none_of (λ r. is_none r.1) sets known (i, s.0) s.1))
 
           null_at : (i : ℕ) → i < length es → (at us i).value ≡ None → (at us i).class ≡ q.key_class
           null_at i l z = elim (updated_cases w sets es i l) [

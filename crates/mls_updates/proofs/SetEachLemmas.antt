@@ -5,7 +5,7 @@ use Rattle.std.specs.List.{list_any, AllByRecursion}
 use Rattle.std.specs.Option.{option_map}
 use Rattle.std.specs.FinMap.{get}
 use Rattle.std.proofs.lemmas.Bool.{cases_Bool, cond-true, cond-false, and_parts, eqb-true, eqb-false, eq-eqb, false_from_ne_true, not-false, or_parts}
-use Rattle.std.proofs.lemmas.List.{ext_get_or}
+use Rattle.std.proofs.lemmas.List.{ext_get_or, drop_more}
 use Rattle.mls_scheme.specs.declared.value.Value.{Value}
 use Rattle.mls_scheme.specs.declared.tuple.Element.{Element}
 use Rattle.mls_scheme.specs.Tuple.{at, null_element}
@@ -14,11 +14,10 @@ use Rattle.mls_scheme.specs.declared.place.Place.{Place}
 use Rattle.mls_scheme.proofs.TableLemmas.{same_table, get_change}
 use Rattle.mls_filterview.specs.Stored.{is_entity}
 use Rattle.mls_filterview.specs.Fragment.{set_from, set_in, HasCell}
+use Rattle.mls_filterview.proofs.EntityTests.{entity_decides}
 use Rattle.mls_updates.specs.Writes.{Sets, set_element, updated, update_in}
 use Rattle.mls_updates.specs.Steps.{set_each}
 use Rattle.mls_updates.proofs.SetLemmas.{set_cases, length-updated, at-updated}
-use Rattle.mls_updates.proofs.ChangeLemmas.{entity_decides}
-use Rattle.mls_updates.proofs.StateLemmas.{drop_split}
 
 -- ---- one cell
 
@@ -164,4 +163,4 @@ module _ (p : Place) (sets : Sets) (i : ℕ) (d : ℕ × Option Value) (within :
   cell_now T U is h = subst (λ X. HasCell X p (get_or sets i d).0) (sym is) (there_after p (drop (i + 1) sets) T (get_or sets i d).0 (cell_at p T sets i d within h))
 
   pub set_next : (T : Table) → set_each p (drop i sets) T ≡ change (set_in p (get_or sets i d).0 (get_or sets i d).1) (set_each p (drop (i + 1) sets) T)
-  set_next T = ap (λ ss. set_each p ss T) (drop_split sets i d within)
+  set_next T = ap (λ ss. set_each p ss T) (drop_more sets i d within)

@@ -1,8 +1,8 @@
 -- The elements that an update gives.
-use Rattle.std.proofs.Common.{◌≡◌, ℕ, ◌<◌, ◌+◌, Bool, false, cond, List, [], ◌∷◌, map, length, Option, refl, sym, ap, ◌∙◌, subst, arith, inl, inr}
+use Rattle.std.proofs.Common.{◌≡◌, ℕ, ◌<◌, ◌+◌, false, cond, List, [], ◌∷◌, map, length, Option, refl, sym, ap, ◌∙◌, subst, arith, inl, inr}
 use Rattle.std.specs.Prelude.{nat_eq, ◌⊎◌}
-use Rattle.std.specs.List.{list_any, enumerate_from, AllByRecursion}
-use Rattle.std.proofs.lemmas.Bool.{cases_Bool, cond-true, cond-false, or_parts, eqb-true, eq-eqb}
+use Rattle.std.specs.List.{enumerate_from, AllByRecursion}
+use Rattle.std.proofs.lemmas.Bool.{cases_Bool, cond-true, cond-false, eqb-true, eq-eqb}
 use Rattle.std.proofs.lemmas.List.{get_or-map, length-map}
 use Rattle.std.proofs.lemmas.List.FromFn.{get_or-enumerate_from, length-enumerate_from}
 use Rattle.mls_scheme.specs.declared.value.Value.{Value}
@@ -12,16 +12,6 @@ use Rattle.mls_filterview.specs.View.{IsAmong}
 use Rattle.mls_updates.specs.Writes.{Sets, set_element, derived, updated}
 
 -- ---- one item of a list
-
-pub all_among : {X : Type 0} (P : X → Type 0) (xs : List X) (x : X) → AllByRecursion P xs → IsAmong x xs → P x
-all_among P [] x h k = absurd k
-all_among P (y ∷ ys) x h (inl e) = subst P (sym e) h.0
-all_among P (y ∷ ys) x h (inr k) = all_among P ys x h.1 k
-
-pub none_among : {X : Type 0} (p : X → Bool) (xs : List X) (x : X) → list_any p xs ≡ false → IsAmong x xs → p x ≡ false
-none_among p [] x h k = absurd k
-none_among p (y ∷ ys) x h (inl e) = ap p e ∙ (or_parts _ _ h).0
-none_among p (y ∷ ys) x h (inr k) = none_among p ys x (or_parts _ _ h).1 k
 
 -- ---- one element
 

@@ -1,5 +1,5 @@
 -- States on the way of a write.
-use Rattle.std.proofs.Common.{◌≡◌, ℕ, zero, suc, ◌+◌, ◌<◌, ◌≤◌, arith, Bool, true, false, cond, List, [], ◌∷◌, length, drop, get_or, refl, sym, ap, ◌∙◌}
+use Rattle.std.proofs.Common.{◌≡◌, ℕ, zero, suc, ◌≤◌, arith, Bool, true, false, cond, List, [], ◌∷◌, length, drop, refl, sym, ap, ◌∙◌}
 use Rattle.std.specs.Prelude.{nat_eq}
 use Rattle.std.proofs.lemmas.Bool.{cond-true, eqb-true, eq-eqb}
 use Rattle.mls_scheme.specs.Table.{Table}
@@ -41,14 +41,6 @@ pub last_step : (rel : ℕ) (t x : State) (rest : Table → Table) → with_rela
 last_step rel t x rest way none = sym (same_state t rel) ∙ ap (with_relation t rel) (sym none) ∙ way
 
 -- what is left of a list
-pub drop_split : {X : Type 0} (xs : List X) (i : ℕ) (d : X) → i < length xs → drop i xs ≡ get_or xs i d ∷ drop (i + 1) xs
-drop_split {X} xs i d l = by_suc xs i l ∙ (let n : suc i ≡ i + 1 = omega arith in ap (λ k. get_or xs i d ∷ drop k xs) n)
-  where
-    by_suc : (ys : List X) (k : ℕ) → k < length ys → drop k ys ≡ get_or ys k d ∷ drop (suc k) ys
-    by_suc [] k h = absurd (omega arith)
-    by_suc (y ∷ ys) zero h = refl
-    by_suc (y ∷ ys) (suc k) h = by_suc ys k (omega arith)
-
 pub drop_end : {X : Type 0} (xs : List X) (i : ℕ) → length xs ≤ i → drop i xs ≡ []
 drop_end [] zero l = refl
 drop_end [] (suc i) l = refl

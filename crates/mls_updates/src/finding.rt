@@ -4,8 +4,8 @@ ghost use Rattle.std.specs.FinMap.{get};
 ghost use Rattle.mls_filterview.specs.Calls.{IsCall, IsServed};
 ghost use Rattle.mls_updates.specs.Finding.{is_at, has_node};
 
-use mls_filterview::{Base, BaseFault, Node};
-use mls_scheme::{Place, RelNo, same_key};
+use mls_filterview::{Base, BaseFault, Node, is_same_entity};
+use mls_scheme::{Place, RelNo};
 
 /// Whether a node is that of the tuple at a place.
 #[tactic(auto, using(crate::proofs::FindingLemmas::at_steps))]
@@ -15,10 +15,7 @@ pub(crate) fn is_at(node: &Node, place: &Place) -> bool
     if node.label != place.class {
         return false;
     }
-    if node.key_class != place.key_class {
-        return false;
-    }
-    same_key(&node.key, &place.key)
+    is_same_entity(&node.key, node.key_class, &place.key, place.key_class)
 }
 
 /// Whether one of the nodes is that of the tuple at a place.

@@ -34,4 +34,5 @@ pub use laws::{
 };
 pub use list_base::ListBase;
 pub use outcome::Outcome;
+pub use sets::copy_value;
 pub use updating::update;

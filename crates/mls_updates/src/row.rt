@@ -1,12 +1,11 @@
 //! One tuple, whole.
 ghost use Rattle.std.specs.Prelude.{◌≡◌, ◌++◌, ◌&&◌, if◌then◌else◌, nat_eq, IfOk, OnOk, map};
-ghost use Rattle.mls_filterview.specs.Stored.{is_entity};
 ghost use Rattle.mls_filterview.specs.Fragment.{node_of, cells_of, set_from};
 ghost use Rattle.mls_updates.specs.Rows.{entry_of, is_of, is_at, set_row};
 
-use mls_filterview::{Cell, Node};
+use mls_filterview::{Cell, Node, is_entity};
 use mls_lattice::{Items, LabelNo};
-use mls_scheme::{Element, Place, RelNo, Value, copy_key, same_key};
+use mls_scheme::{Element, Place, RelNo, Value, copy_key};
 use std::alloc::{AllocError, Global};
 
 /// A tuple of a relation, at its place.
@@ -76,16 +75,6 @@ impl Row {
             elements: Items::from(elements),
         })
     }
-}
-
-/// Whether two places differ in class at most.
-fn is_entity(place: &Place, other: &Place) -> bool
-    ensures { result ≡ is_entity place.now other.now }
-{
-    if place.key_class != other.key_class {
-        return false;
-    }
-    same_key(&place.key, &other.key)
 }
 
 /// The classes of elements.

@@ -10,7 +10,7 @@ use mls_scheme::{Scheme, Value, in_interval};
 use std::alloc::AllocError;
 
 /// An equal value, or null.
-pub(crate) fn copy_value(value: &Option<Value>) -> Result<Option<Value>, AllocError>
+pub fn copy_value(value: &Option<Value>) -> Result<Option<Value>, AllocError>
     ensures { IfOk result (λ v. v ≡ value.now) }
 {
     value.clone()

@@ -1,14 +1,14 @@
-use Rattle.std.proofs.Common.{◌≡◌, true, ◌∙◌, map, sym, ap, subst}
-use Rattle.std.specs.FinMap.{is_sorted}
+use Rattle.std.proofs.Common.{◌∙◌, map, sym, ap, subst}
 use Rattle.std.specs.BTreeMap.{get}
 use Rattle.std.proofs.Common.{List}
 use Rattle.std.specs.List.{filter}
 use Rattle.std.proofs.lemmas.Result.{IfOk-weaker}
 use Rattle.mls_scheme.specs.declared.tuple.Tuple.{Tuple}
-use Rattle.mls_scheme.specs.Table.{place_cmp, tuple_at}
-use Rattle.mls_filterview.specs.Subsumption.{is_max_among}
+use Rattle.mls_scheme.specs.Table.{tuple_at}
+use Rattle.mls_filterview.specs.Subsumption.{is_max_among, AreByEntity}
 use Rattle.mls_filterview.specs.Assembly.{cell_place_cmp}
 use Rattle.mls_filterview.proofs.EntryLemmas.{Entry}
+use Rattle.mls_filterview.proofs.EntityLemmas.{entities_sorted}
 use Rattle.mls_filterview.proofs.ListedLemmas.{listed_rows, sorted_keys}
 use Rattle.mls_filterview.proofs.viewing.tuples_of.Goals as goal
 
@@ -19,4 +19,4 @@ returns c = IfOk-weaker c.maximal_tuples.result _ _ (λ v e ls n T k stored low.
     ∙ listed_rows ls n T k c.args.low.nodes c.args.low.cells (get cell_place_cmp c.in_ok-values.values) c.in_ok-found.found.entries stored low c.in_ok-values.ensures c.entries_of.ensures.ordered c.in_ok-found.ensures) c.maximal_tuples.ensures
 
 pub maximal_tuples-requires : goal.maximal_tuples-requires
-maximal_tuples-requires c = subst (λ es. is_sorted place_cmp es ≡ true) (sym (c.deref.ensures.value ∙ c.in_ok-rows.ensures.items)) (sorted_keys c.in_ok-found.found.entries c.entries_of.ensures.ordered)
+maximal_tuples-requires c = subst AreByEntity (sym (c.deref.ensures.value ∙ c.in_ok-rows.ensures.items)) (entities_sorted c.in_ok-found.found.entries (sorted_keys c.in_ok-found.found.entries c.entries_of.ensures.ordered))

@@ -1,6 +1,6 @@
 use Rattle.std.proofs.Common.{◌∙◌, ap, sym}
 use Rattle.std.proofs.lemmas.Result.{IfOk-weaker}
-use Rattle.mls_machine.specs.declared.reply.Reply.TheVariants.{Rows, Entries, Ran}
+use Rattle.mls_machine.specs.declared.reply.Reply.TheVariants.{Rows, Entries}
 use Rattle.mls_sessions.specs.World.{site_under}
 use Rattle.mls_sessions.proofs.PrintingSteps.{rows_printed, entries_printed, ran_printed}
 use Rattle.mls_sessions.proofs.replies.reply_bytes.Goals as goal

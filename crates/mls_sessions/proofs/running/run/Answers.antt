@@ -1,5 +1,4 @@
 use Rattle.std.proofs.Common.{rules, ◌-◌, ◌+◌}
-use Rattle.mls_machine.specs.Observation.{AreStored}
 use Rattle.mls_machine.proofs.KeepingLemmas.{keep_integrity}
 use Rattle.mls_machine.proofs.RunLemmas.{accepted_alike, first_accepted_alike}
 use Rattle.mls_sessions.specs.Engine.{site, world_of}
@@ -20,17 +19,17 @@ loop-place-preserved g c = running_more g.B.Base.state g.B.Base.is_clean g.B.Bas
     c.answer.new.engine (g.W.Write.contents c.answer.new.out) c.answer.ensures.clean c.answer.ensures.count c.answer.ensures.kept (search rules)
 
 pub returns-in-Err-clause-integrity : goal.returns-in-Err-clause-integrity
-returns-in-Err-clause-integrity g c = λ h. keep_integrity (site c.args.engine.now) c.requires.ready.distinct tt (world_of g.B.Base.state c.args.engine.now) c.args.events.now
+returns-in-Err-clause-integrity g c = λ h. keep_integrity (site c.args.engine.now) c.requires.ready.distinct c.requires.ready.read (world_of g.B.Base.state c.args.engine.now) c.args.events.now
     (stored_at g.B.Base.state g.B.Base.is_clean c.args.engine.now c.requires.ready (c.loop-place.invariant.clean (c.answer.ensures.clean h))) c.requires.fits
 
 pub returns-clause-integrity : goal.returns-clause-integrity
-returns-clause-integrity g c = λ h. keep_integrity (site c.args.engine.now) c.requires.ready.distinct tt (world_of g.B.Base.state c.args.engine.now) c.args.events.now
+returns-clause-integrity g c = λ h. keep_integrity (site c.args.engine.now) c.requires.ready.distinct c.requires.ready.read (world_of g.B.Base.state c.args.engine.now) c.args.events.now
     (stored_at g.B.Base.state g.B.Base.is_clean c.args.engine.now c.requires.ready (c.loop-place.invariant.clean h)) c.requires.fits
 
 pub returns-clause-secret : goal.returns-clause-secret
-returns-clause-secret g c = λ h. accepted_alike (site c.args.engine.now) c.requires.ready.distinct tt tt (world_of g.B.Base.state c.args.engine.now) c.args.events.now
+returns-clause-secret g c = λ h. accepted_alike (site c.args.engine.now) c.requires.ready.distinct c.requires.ready.read c.requires.ready.certified (world_of g.B.Base.state c.args.engine.now) c.args.events.now
     (stored_at g.B.Base.state g.B.Base.is_clean c.args.engine.now c.requires.ready (c.loop-place.invariant.clean h)) c.requires.fits
 
 pub returns-in-Err-clause-secret_before : goal.returns-in-Err-clause-secret_before
-returns-in-Err-clause-secret_before g c = λ h. first_accepted_alike (site c.args.engine.now) c.requires.ready.distinct tt tt (world_of g.B.Base.state c.args.engine.now) c.args.events.now
+returns-in-Err-clause-secret_before g c = λ h. first_accepted_alike (site c.args.engine.now) c.requires.ready.distinct c.requires.ready.read c.requires.ready.certified (world_of g.B.Base.state c.args.engine.now) c.args.events.now
     (stored_at g.B.Base.state g.B.Base.is_clean c.args.engine.now c.requires.ready (c.loop-place.invariant.clean (c.answer.ensures.clean h))) c.requires.fits (c.loop-place.place + 1 - 1)

@@ -1,10 +1,9 @@
-use Rattle.std.proofs.Common.{sym, ◌∙◌}
 use Rattle.std.proofs.lemmas.Bool.{eqb-true, not-false}
-use Rattle.mls_updates.proofs.FindingLemmas.{by_key}
+use Rattle.std.proofs.Common.{sym}
+use Rattle.mls_updates.proofs.FindingLemmas.{by_entity}
 use Rattle.mls_updates.proofs.finding.is_at.Goals as goal
 
 pub returns : goal.returns
 returns c =
-    by_key c.args.place.now c.args.node.now c.same_key.result
-    (eqb-true _ _ (not-false _ (sym c.if-ne.ensures))) (eqb-true _ _ (not-false _ (sym c.if-ne-2.ensures)))
-    (λ h. sym c.deref.ensures ∙ c.same_key.ensures.0 h ∙ c.deref-2.ensures, λ e. c.same_key.ensures.1 (c.deref.ensures ∙ e ∙ sym c.deref-2.ensures))
+    by_entity c.args.place.now c.args.node.now c.is_same_entity.result (eqb-true _ _ (not-false _ (sym c.if-ne.ensures)))
+    (rw (← c.deref.ensures, ← c.deref-2.ensures) c.is_same_entity.ensures)

@@ -1,11 +1,12 @@
 use Rattle.std.proofs.Common.{◌≡◌, ◌<◌, length, IfOk, sym, ap, subst}
 use Rattle.std.proofs.lemmas.List.{length-map}
+use Rattle.std.proofs.lemmas.Slice.Zip.{AllZip-long}
 use Rattle.mls_lattice.specs.Policy.{labels_of}
 use Rattle.mls_scheme.specs.Scheme.{Scheme, IsScheme, scheme_of}
 use Rattle.mls_scheme.specs.Spelling.{IsSpelledKey}
 use Rattle.mls_updates.specs.Writes.{Insert, place}
 use Rattle.mls_updates.specs.Calls.{IsInserted}
-use Rattle.mls_updates.proofs.CallLemmas.{zip_length, written_content}
+use Rattle.mls_updates.proofs.CallLemmas.{written_content}
 use Rattle.mls_updates.proofs.LeftLemmas.{insert_null, insert_left}
 use Rattle.mls_updates.proofs.SpellingLemmas.{values_spelled, key_spelled}
 use Rattle.mls_updates.proofs.inserting.insert.Goals as goal
@@ -51,4 +52,4 @@ returns-clause-kept g c = λ clean.
     let declared = subst (λ n. c.args.w < n) (sym (length-map c.args.policy.now.labels (λ l. l.value))) c.requires.label in
     written_content (labels_of c.args.policy.now) c.label_count-count.ensures.distinct scheme c.args.rel c.args.w (Insert c.args.key.now c.args.values.now)
     (g.B.Base.state c.args.base.now) (g.B.Base.state c.insert_at.new.base) c.in_ok-outcome.outcome
-    (declared, zip_length _ scheme.others c.args.values.now c.requires.kinds.1) c.requires.kinds (c.requires.stored (c.in_ok-place.ensures.call.clean (c.in_ok-outcome.ensures.call.clean clean))) (returns-clause-done g c clean)
+    (declared, AllZip-long _ scheme.others c.args.values.now c.requires.kinds.1) c.requires.kinds (c.requires.stored (c.in_ok-place.ensures.call.clean (c.in_ok-outcome.ensures.call.clean clean))) (returns-clause-done g c clean)

@@ -2,6 +2,7 @@ use Rattle.std.proofs.Common.{sym, ap, ◌∙◌, None}
 use Rattle.std.proofs.lemmas.Result.{IfOk-weaker}
 use Rattle.mls_machine.specs.Machine.{with_session, denied, viewed, listed, step_inside}
 use Rattle.mls_sessions.specs.World.{sessions_of}
+use Rattle.mls_sessions.specs.Turns.{is_call}
 use Rattle.mls_sessions.specs.Engine.{site, world_of}
 use Rattle.mls_sessions.proofs.SessionLemmas.{user_known}
 use Rattle.mls_sessions.proofs.EngineLemmas.{none_from, denied_is, viewed_is, listed_is, closed_is, wrote_is, answers_over, answers_closed}
@@ -62,3 +63,20 @@ pub returns-in-Close-clause-done : goal.returns-in-Close-clause-done
 returns-in-Close-clause-done g c =
     (answers_closed g.B.Base.state g.B.Base.is_clean g.B.Base.failures c.args.self.now c.requires.ready c.args.event.now c.requires.fits c.close.new.sessions (c.close.ensures.users _ c.requires.ready.users)
     (c.close.ensures.closed ∙ ap (λ name. with_session (sessions_of c.args.self.now.sessions.items) c.args.event.now.level name None) c.deref.ensures) (closed_is (site c.args.self.now) (world_of g.B.Base.state c.args.self.now) c.args.event.now c.args.user c.requires.held c.in-Close.is)).done
+
+pub change-requires-in-Call-clause-deed : goal.change-requires-in-Call-clause-deed
+change-requires-in-Call-clause-deed g c = (
+  user_known _ c.args.self.now.sessions.items c.args.event.now.level c.args.event.now.session c.args.user c.requires.ready.users c.requires.held,
+  ap is_call c.in-Call.is,
+  sym c.denial_of.ensures ∙ none_from c.denial_of.result c.in_default.not-Some,
+)
+
+pub returns-in-Call-clause-kept : goal.returns-in-Call-clause-kept
+returns-in-Call-clause-kept g c =
+    (answers_over g.B.Base.state g.B.Base.is_clean g.B.Base.failures c.args.self.now c.requires.ready c.args.event.now c.requires.fits c.change-in-Call.new.base
+    (λ w. step_inside (site c.args.self.now) w c.args.event.now c.args.event.now.command c.args.user) (wrote_is (site c.args.self.now) (world_of g.B.Base.state c.args.self.now) c.args.event.now c.args.user c.requires.held) c.change-in-Call.result c.change-in-Call.ensures.turn c.change-in-Call.ensures.idle c.change-in-Call.ensures.done).kept
+
+pub returns-in-Call-clause-done : goal.returns-in-Call-clause-done
+returns-in-Call-clause-done g c =
+    (answers_over g.B.Base.state g.B.Base.is_clean g.B.Base.failures c.args.self.now c.requires.ready c.args.event.now c.requires.fits c.change-in-Call.new.base
+    (λ w. step_inside (site c.args.self.now) w c.args.event.now c.args.event.now.command c.args.user) (wrote_is (site c.args.self.now) (world_of g.B.Base.state c.args.self.now) c.args.event.now c.args.user c.requires.held) c.change-in-Call.result c.change-in-Call.ensures.turn c.change-in-Call.ensures.idle c.change-in-Call.ensures.done).done

@@ -1,4 +1,4 @@
-use Rattle.std.proofs.Common.{rules, sym, ◌∙◌}
+use Rattle.std.proofs.Common.{rules}
 use Rattle.mls_sessions.specs.Engine.{site, world_of}
 use Rattle.mls_sessions.proofs.EngineLemmas.{outside_is, answers_opened}
 use Rattle.mls_sessions.proofs.engine.Engine.step.Goals as goal

@@ -1,0 +1,6 @@
+//! Tables of cases: files whose cases are lines, or lines with short blocks below them.
+#![tactic(auto)]
+
+mod block;
+
+pub use crate::block::{Case, case_at, indent, inner, joined, push_line, text_of, unfolded};

@@ -1,0 +1,121 @@
+//! What runs leave where a call of the base, or a write, fails: the replies before the fault are whole, and content and audit list are those
+//! before or after its event. `data/` has the scripts, `stdout` what they have to leave.
+#![tactic(auto)]
+
+ghost use Rattle.std.specs.Prelude.{length};
+ghost use Rattle.std.specs.List.{AllByRecursion};
+ghost use Rattle.mls_scheme.specs.Scheme.{AreUnder};
+ghost use Rattle.mls_script.specs.Event.{EventFits};
+
+mod faulty;
+mod narrow;
+mod runs;
+
+use crate::runs::{Scripts, What, push_outcomes};
+use mls_lattice::Policy;
+use mls_scheme::Schemes;
+use mls_script::{Event, script};
+use std::alloc::{AllocError, Global};
+use std::fs;
+use std::io::{self, Error, ErrorKind, Write};
+
+/// The scripts, in the order in which they are told.
+const FILES: [&str; 2] = ["audit.script", "writes.script"];
+
+fn push_all(
+    alloc: Global,
+    policy: &Policy,
+    schemes: &Schemes,
+    scripts: Scripts<'_>,
+    out: &mut String,
+) -> Result<(), AllocError>
+    requires under { AreUnder (length policy.now.labels) schemes.now }
+    requires events { AllByRecursion (EventFits policy.now schemes.now) scripts.events.now }
+    requires questions { AllByRecursion (EventFits policy.now schemes.now) scripts.questions.now }
+{
+    for what in [What::Store, What::Memory, What::Write] {
+        push_outcomes(alloc, policy, schemes, scripts, what, out)?;
+    }
+    Ok(())
+}
+
+fn tell(
+    rt: &HostRuntime,
+    policy: &Policy,
+    schemes: &Schemes,
+    file: &str,
+    scripts: Scripts<'_>,
+) -> io::Result<()>
+    requires under { AreUnder (length policy.now.labels) schemes.now }
+    requires events { AllByRecursion (EventFits policy.now schemes.now) scripts.events.now }
+    requires questions { AllByRecursion (EventFits policy.now schemes.now) scripts.questions.now }
+{
+    let mut out = String::new(rt.alloc());
+    writeln!(out, "== {file}")?;
+    push_all(rt.alloc(), policy, schemes, scripts, &mut out)?;
+    rt.stdout().write_all(out.as_bytes())
+}
+
+fn tell_file(
+    rt: &HostRuntime,
+    policy: &Policy,
+    schemes: &Schemes,
+    file: &str,
+    questions: &[Event],
+) -> io::Result<()>
+    requires under { AreUnder (length policy.now.labels) schemes.now }
+    requires questions { AllByRecursion (EventFits policy.now schemes.now) questions.now }
+{
+    let text = fs::read_to_string(rt, file)?;
+    match script(rt.alloc(), policy, schemes, text.as_bytes()) {
+        Ok(events) => {
+            let scripts = Scripts {
+                events: &events,
+                questions,
+            };
+            tell(rt, policy, schemes, file, scripts)
+        }
+        Err(_) => Err(Error::from(ErrorKind::InvalidData)),
+    }
+}
+
+fn tell_files(
+    rt: &HostRuntime,
+    policy: &Policy,
+    schemes: &Schemes,
+    questions: &[Event],
+) -> io::Result<()>
+    requires under { AreUnder (length policy.now.labels) schemes.now }
+    requires questions { AllByRecursion (EventFits policy.now schemes.now) questions.now }
+{
+    for file in FILES {
+        tell_file(rt, policy, schemes, file, questions)?;
+    }
+    Ok(())
+}
+
+fn tell_asking(rt: &HostRuntime, policy: &Policy, schemes: &Schemes) -> io::Result<()>
+    requires { AreUnder (length policy.now.labels) schemes.now }
+{
+    let text = fs::read_to_string(rt, "questions.script")?;
+    match script(rt.alloc(), policy, schemes, text.as_bytes()) {
+        Ok(questions) => tell_files(rt, policy, schemes, &questions),
+        Err(_) => Err(Error::from(ErrorKind::InvalidData)),
+    }
+}
+
+fn tell_under(rt: &HostRuntime, policy: &Policy) -> io::Result<()> {
+    let text = fs::read_to_string(rt, "schemes.toml")?;
+    match Schemes::read(rt.alloc(), policy, text.as_bytes()) {
+        Ok(schemes) => tell_asking(rt, policy, &schemes),
+        Err(_) => Err(Error::from(ErrorKind::InvalidData)),
+    }
+}
+
+fn main(rt: HostRuntime) -> io::Result<()> {
+    let text = fs::read_to_string(&rt, "policy.toml")?;
+    match Policy::read(rt.alloc(), text.as_bytes()) {
+        Ok(policy) => tell_under(&rt, &policy),
+        Err(_) => Err(Error::from(ErrorKind::InvalidData)),
+    }
+}

@@ -1,0 +1,2 @@
+pub mod RunningLemmas
+pub mod StoringLemmas

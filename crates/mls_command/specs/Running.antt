@@ -1,0 +1,23 @@
+-- What a run of the program writes.
+use Rattle.std.specs.Prelude.{ℕ, List, [], Option}
+use Rattle.std.specs.Io.KnownBytes.{Appends}
+use Rattle.mls_filterview.specs.Content.{no_content}
+use Rattle.mls_script.specs.declared.event.Event.{Event}
+use Rattle.mls_script.specs.Script.{ReadsScript}
+use Rattle.mls_machine.specs.Site.{Site}
+use Rattle.mls_machine.specs.Machine.{World, no_sessions}
+use Rattle.mls_machine.specs.Output.{run_lines, printed}
+
+-- no tuple, no session and no entry
+abbrev pub first_world : World
+first_world = record { db = no_content.db; sessions = no_sessions; audit = [] }
+
+-- the lines of the replies to these events, from the first world
+abbrev pub output : Site → List Event → List ℕ
+output site es = printed (run_lines site first_world es)
+
+-- the script tells events, and what is written is the lines of their replies
+pub record IsScriptRun (site : Site) (script : List ℕ) (before after : Option (List ℕ)) : Type 0 where
+  pub events : List Event
+  pub read : ReadsScript site.policy site.schemes script events
+  pub written : Appends before after (output site events)

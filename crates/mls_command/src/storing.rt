@@ -1,0 +1,67 @@
+//! Transactions as they are stored: with the certificates that hold for them, or without.
+ghost use Rattle.std.specs.Prelude.{◌≡◌, IfOk, option_map};
+ghost use Rattle.mls_command.specs.Storing.{cert_named, IsChecked, IsStoredWith, AreStoredWith};
+
+use mls_certcheck::Certified;
+use mls_certificate::Cert;
+use mls_lattice::{Items, Policy, Str};
+use mls_machine::Stored;
+use mls_translang::Tx;
+use std::alloc::{AllocError, Global};
+
+/// The first certificate of a name.
+fn cert_named<'a>(blocks: &'a [(Str, Cert)], name: &str) -> Option<&'a Cert>
+    ensures { option_map (λ c. c.now) result ≡ cert_named blocks.now name.now }
+{
+    for block in blocks {
+        if block.0.as_str() == name {
+            return Some(&block.1);
+        }
+    }
+    None
+}
+
+fn copy_of(cert: &Cert) -> Result<Cert, AllocError>
+    ensures { IfOk result (λ c. c ≡ cert.now) }
+{
+    Ok(Cert {
+        var_labels: cert.var_labels.clone()?,
+        pc_labels: cert.pc_labels.clone()?,
+    })
+}
+
+/// A transaction with a certificate, where that holds for it.
+fn checked(policy: &Policy, tx: Tx, cert: Cert) -> Stored
+    ensures { IsChecked policy.now tx cert result }
+{
+    match Certified::new(policy, tx, cert) {
+        Ok(certified) => Stored::Certified(certified),
+        Err((tx, _, _)) => Stored::Plain(tx),
+    }
+}
+
+fn stored_as(policy: &Policy, blocks: &[(Str, Cert)], tx: Tx) -> Result<Stored, AllocError>
+    ensures { IfOk result (λ s. IsStoredWith policy.now (cert_named blocks.now tx.name) tx s) }
+{
+    match cert_named(blocks, tx.name()) {
+        Some(cert) => Ok(checked(policy, tx, copy_of(cert)?)),
+        None => Ok(Stored::Plain(tx)),
+    }
+}
+
+/// Transactions as they are stored, in order: each with the first certificate of its name where that holds for it under the policy.
+/// Certificates of other names are ignored.
+pub fn stored_of(
+    alloc: Global,
+    policy: &Policy,
+    txs: Items<Tx>,
+    blocks: &[(Str, Cert)],
+) -> Result<Items<Stored>, AllocError>
+    ensures { IfOk result (λ ss. AreStoredWith policy.now blocks.now txs ss) }
+{
+    let mut stored = Vec::new(alloc);
+    for tx in txs.into_vec() {
+        stored.push(stored_as(policy, blocks, tx)?)?;
+    }
+    Ok(Items::from(stored))
+}

@@ -1,0 +1,73 @@
+//! The rows that no other row subsumes, one entity after another.
+ghost use Rattle.std.specs.Prelude.{◌≡◌, ◌≤◌, ◌&&◌, ◌++◌, not, length, map, IfOk, OnOk};
+ghost use Rattle.std.specs.List.{filter, list_any, prefix_len};
+ghost use Rattle.mls_scheme.specs.Table.{tuple_at};
+ghost use Rattle.mls_filterview.specs.Subsumption.{subsumes_entry, is_max_among, AreByEntity};
+ghost use Rattle.mls_filterview.specs.Stored.{is_entity};
+
+use crate::entity::is_entity;
+use crate::row::Row;
+use crate::subsumption::all_cover;
+use mls_scheme::{Place, Tuple};
+use std::alloc::{AllocError, Global};
+
+/// Whether a row subsumes another.
+fn subsumes_row(left: &Row, right: &Row) -> bool
+    ensures { result ≡ subsumes_entry left.now right.now }
+{
+    is_entity(&left.place, &right.place) && all_cover(&left.elements, &right.elements)
+}
+
+/// Whether a row subsumes this one, and this one does not subsume it.
+fn is_subsumed(rows: &[Row], row: &Row) -> bool
+    ensures { result ≡ list_any (λ d. subsumes_entry d row.now && not (subsumes_entry row.now d)) rows.now }
+{
+    rows.iter().any(|other| subsumes_row(other, row) && !subsumes_row(row, other))
+}
+
+/// Whether this row subsumes each that subsumes it.
+fn is_maximal(rows: &[Row], row: &Row) -> bool
+    ensures { result ≡ is_max_among rows.now row.now }
+{
+    !is_subsumed(rows, row)
+}
+
+/// How many of the rows at the front are of the entity of a place.
+fn entity_len(rows: &[Row], place: &Place) -> usize
+    ensures run { result ≡ prefix_len (λ d. is_entity d.0 place.now) rows.now }
+    ensures within { result ≤ length rows.now }
+{
+    rows.iter()
+        .take_while(|row| is_entity(&row.place, place))
+        .count()
+}
+
+/// Adds the tuples of the rows that no other of these rows subsumes.
+fn add_maximal(tuples: &mut Vec<Tuple>, rows: &[Row]) -> Result<(), AllocError>
+    ensures { OnOk result (tuples.new.items ≡ tuples.old.items ++ map (λ e. tuple_at e.0 e.1) (filter (is_max_among rows.now) rows.now)) }
+{
+    for row in rows {
+        if is_maximal(rows, row) {
+            tuples.push(row.tuple()?)?;
+        }
+    }
+    Ok(())
+}
+
+/// The tuples of rows that no other tuple subsumes. Rows come in the order of entities, so that each is compared with those of
+/// its own alone.
+pub(crate) fn maximal_tuples(alloc: Global, rows: &[Row]) -> Result<Vec<Tuple>, AllocError>
+    requires { AreByEntity rows.now }
+    ensures { IfOk result (λ v. v.items ≡ map (λ e. tuple_at e.0 e.1) (filter (is_max_among rows.now) rows.now)) }
+{
+    let mut tuples = Vec::new(alloc);
+    let mut rest = rows;
+    while !rest.is_empty() {
+        let first = &rest[0];
+        let count = entity_len(rest, &first.place);
+        let (front, after) = rest.split_at(count);
+        add_maximal(&mut tuples, front)?;
+        rest = after;
+    }
+    Ok(tuples)
+}

@@ -1,0 +1,93 @@
+-- The name of the number that a name stands for.
+use Rattle.std.proofs.Common.{◌≡◌, ℕ, ◌+◌, ◌-◌, ◌<◌, nat_lt, true, false, List, [], ◌∷◌, length, get_or, Option, Some, None, option_map, slice_get, refl, sym, ap, subst, ◌∙◌, arith}
+use Rattle.std.specs.Option.{unwrap_or}
+use Rattle.std.specs.List.{position}
+use Rattle.std.specs.Str.{bytes_eq}
+use Rattle.std.proofs.lemmas.Slice.Eq.{bytes_eq-Decides}
+use Rattle.std.proofs.lemmas.Bool.Decides.{nat_tests}
+use Rattle.std.proofs.lemmas.List.Quantifiers.{position-Some}
+use Rattle.std.proofs.lemmas.Option.{slice_get-get_or}
+use Rattle.mls_lattice.specs.Canon.{label_name}
+use Rattle.mls_lattice.specs.Policy.{Name, Tables}
+use Rattle.mls_scheme.specs.Scheme.{Scheme, Schemes, scheme_of, other_of, no_scheme, no_attribute}
+use Rattle.mls_translang.specs.Kinds.{field_of}
+use Rattle.mls_translang.specs.Scope.{row_at, no_row}
+use Rattle.mls_translang.specs.Tokens.{Place, name_at}
+use Rattle.mls_parser.specs.Names.{label_named, relation_named, variable_named, parameter_named, row_named, or_behind, attribute_named, other_named, numbered}
+use Rattle.mls_parser.specs.Faults.{known}
+use Rattle.mls_parser.proofs.FaultLemmas.{is_known}
+use Rattle.mls_parser.proofs.NameLemmas.{no_label}
+
+module _ {X : Type 0} (name_of : X → Name) (xs : List X) (n : Name) where
+  -- what is found has the name
+  pub named_there : (i : ℕ) (d : X) → position (λ x. bytes_eq (name_of x) n) xs ≡ Some i → (i < length xs) × (name_of (get_or xs i d) ≡ n)
+  named_there i d e = let t = position-Some (λ x. bytes_eq (name_of x) n) xs i d e in (t.0, (bytes_eq-Decides (name_of (get_or xs i d)) n).0 t.1)
+
+  pub got_there : (i : ℕ) (d : X) → position (λ x. bytes_eq (name_of x) n) xs ≡ Some i → unwrap_or (option_map name_of (slice_get xs i)) [] ≡ n
+  got_there i d e = let t = named_there i d e in ap (λ o. unwrap_or (option_map name_of o) []) (slice_get-get_or xs i d t.0) ∙ t.1
+
+pub label_there : (policy : Tables) (n : Name) (i : ℕ) → label_named policy n ≡ Some i → label_name policy.labels i ≡ n
+unfolding label_named
+label_there policy n i e = got_there (λ l. l.name) policy.labels n i no_label e
+
+pub relation_there : (schemes : Schemes) (n : Name) (i : ℕ) → relation_named schemes n ≡ Some i → (scheme_of schemes i).name ≡ n
+unfolding relation_named
+relation_there schemes n i e = (named_there (λ s. s.name) schemes n i no_scheme e).1
+
+pub other_there : (scheme : Scheme) (n : Name) (i : ℕ) → other_named scheme n ≡ Some i → (other_of scheme i).name ≡ n
+unfolding other_named
+other_there scheme n i e = (named_there (λ a. a.name) scheme.others n i no_attribute e).1
+
+module _ (p : Place) (n : Name) where
+  pub variable_there : (i : ℕ) → variable_named p n ≡ Some i → name_at p.scope.vars i ≡ n
+  unfolding variable_named
+  variable_there i e = go p.scope.vars e
+    where
+      go : {T : Type 0} (xs : List (Name × T)) → position (λ v. bytes_eq v.0 n) xs ≡ Some i → name_at xs i ≡ n
+      go [] e = absurd cc
+      go (x ∷ xs) e = got_there (λ v. v.0) (x ∷ xs) n i x e
+
+  pub parameter_there : (i : ℕ) → parameter_named p n ≡ Some i → name_at p.scope.params i ≡ n
+  unfolding parameter_named
+  parameter_there i e = go p.scope.params e
+    where
+      go : {T : Type 0} (xs : List (Name × T)) → position (λ v. bytes_eq v.0 n) xs ≡ Some i → name_at xs i ≡ n
+      go [] e = absurd cc
+      go (x ∷ xs) e = got_there (λ v. v.0) (x ∷ xs) n i x e
+
+  pub row_there : (i : ℕ) → row_named p n ≡ Some i → (row_at p.scope i).name ≡ n
+  unfolding row_named
+  row_there i e = (named_there (λ r. r.name) p.scope.rows n i no_row e).1
+
+-- ---- attributes of rows
+
+behind_there : (scheme : Scheme) (n : Name) (a b : Option ℕ) (i : ℕ) → position (λ x. bytes_eq x.name n) scheme.keys ≡ a → position (λ x. bytes_eq x.name n) scheme.others ≡ b
+    → or_behind a (length scheme.keys) b ≡ Some i → (field_of scheme i).name ≡ n
+behind_there scheme n (Some j) b i is other e =
+    let same : j ≡ i = cc in
+    let t = named_there (λ x. x.name) scheme.keys n j no_attribute is in
+    let here : nat_lt i (length scheme.keys) ≡ true = grind (arith, nat_tests, t.0, same) in
+    rw here (subst (λ k. (get_or scheme.keys k no_attribute).name ≡ n) same t.1)
+behind_there scheme n None (Some j) i is other e =
+    let same : length scheme.keys + j ≡ i = cc in
+    let t = named_there (λ x. x.name) scheme.others n j no_attribute other in
+    let there : nat_lt i (length scheme.keys) ≡ false = grind (arith, nat_tests, same) in
+    let back : j ≡ i - length scheme.keys = omega (arith, same) in
+    rw there (subst (λ k. (get_or scheme.others k no_attribute).name ≡ n) back t.1)
+behind_there scheme n None None i is other e = absurd cc
+
+pub attribute_there : (scheme : Scheme) (n : Name) (i : ℕ) → attribute_named scheme n ≡ Some i → (field_of scheme i).name ≡ n
+unfolding attribute_named
+attribute_there scheme n i e = behind_there scheme n (position (λ x. bytes_eq x.name n) scheme.keys) (position (λ x. bytes_eq x.name n) scheme.others) i refl refl e
+
+-- ---- known names
+
+-- where a name stands for a number, what holds of the number holds
+pub of_known : (o : Option ℕ) (at : ℕ) (F : ℕ → Type 0) → known o at ≡ [] → ((i : ℕ) → o ≡ Some i → F i) → F (numbered o)
+of_known o at F h f = let i = is_known o at h in subst (λ m. F (numbered m)) (sym i.1) (f i.0 i.1)
+
+pub label_spelled : (policy : Tables) (n : Name) (at : ℕ) → known (label_named policy n) at ≡ [] → label_name policy.labels (numbered (label_named policy n)) ≡ n
+label_spelled policy n at h = of_known (label_named policy n) at (λ i. label_name policy.labels i ≡ n) h (label_there policy n)
+
+pub relation_spelled : (schemes : Schemes) (n : Name) (at : ℕ) → known (relation_named schemes n) at ≡ [] → (scheme_of schemes (numbered (relation_named schemes n))).name ≡ n
+relation_spelled schemes n at h = of_known (relation_named schemes n) at (λ i. (scheme_of schemes i).name ≡ n) h (relation_there schemes n)

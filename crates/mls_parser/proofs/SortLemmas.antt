@@ -1,0 +1,244 @@
+-- What an expression without faults is and gives.
+use Rattle.std.proofs.Common.{◌≡◌, ℕ, ◌+◌, ◌^◌, ◌<◌, ◌≤◌, max, nat_lt, Bool, true, false, ◌&&◌, ◌||◌, List, [], length, get_or, Option, Some, None, option_map, refl, sym, ap, subst, ◌∙◌, arith}
+use Rattle.std.specs.Prelude.{is_some}
+use Rattle.std.specs.List.{position}
+use Rattle.std.specs.Str.{bytes_eq}
+use Rattle.std.proofs.lemmas.Bool.{and_parts}
+use Rattle.std.proofs.lemmas.Bool.Decides.{nat_tests}
+use Rattle.std.proofs.lemmas.List.Quantifiers.{position-Some}
+use Rattle.std.proofs.lemmas.Option.{slice_get-get_or}
+use Rattle.mls_lattice.specs.Policy.{Name}
+use Rattle.mls_scheme.specs.declared.value.Kind.{Kind}
+use Rattle.mls_scheme.specs.declared.value.Kind.TheVariants as kinds
+use Rattle.mls_scheme.specs.declared.value.Value.{Value}
+use Rattle.mls_scheme.specs.declared.value.Value.TheVariants as values
+use Rattle.mls_scheme.specs.Value.{is_kind, kind_of}
+use Rattle.mls_scheme.specs.Scheme.{Attribute, Scheme, no_attribute}
+use Rattle.mls_scheme.proofs.KindLemmas.{signed-from, text-from}
+use Rattle.mls_tokens.specs.Passing.{PlacedName}
+use Rattle.mls_translang.specs.declared.operator.Operator.{Operator}
+use Rattle.mls_translang.specs.declared.operator.Operator.TheVariants as operators
+use Rattle.mls_translang.specs.declared.tx.Parameter.{Parameter}
+use Rattle.mls_translang.specs.Tree as core
+use Rattle.mls_translang.specs.Scope.{kind_of_var, kind_of_param}
+use Rattle.mls_translang.specs.Tx.{IsLiteral, HasOwn, IsOwn, nesting}
+use Rattle.mls_translang.specs.Fits.{width, ExprFits}
+use Rattle.mls_translang.specs.Kinds.{Of, Truth, HasSort}
+use Rattle.mls_translang.specs.Tokens.{Place}
+use Rattle.mls_syntax.specs.ExprTree.{Expr, Literal, Null, Name as Named, Field, No, Op}
+use Rattle.mls_syntax.specs.Limits.{HasLiterals, IsShallow, nesting as depth_of}
+use Rattle.mls_parser.specs.declared.names.Referent.{Referent}
+use Rattle.mls_parser.specs.declared.names.Referent.TheVariants.{Variable, Parameter as Param}
+use Rattle.mls_parser.specs.declared.inferred.Inferred.{Inferred}
+use Rattle.mls_parser.specs.declared.inferred.Inferred.TheVariants as inferred
+use Rattle.mls_parser.specs.Names.{variable_named, parameter_named, row_named, or_behind, attribute_named, numbered, referent_or, referent, row_scheme}
+use Rattle.mls_parser.specs.Infer.{may_be, may_be_truth, may_be_value, both, operands_fit, given_by, of_kind, of_referent, of_attribute, of_field, infer}
+use Rattle.mls_parser.specs.Faults.{expr_faults, field_faults, tested, place_of}
+use Rattle.mls_parser.specs.Elaboration.{refer, field, expr}
+use Rattle.mls_parser.proofs.FaultLemmas.{neither, holds}
+
+-- ---- what is known of an expression holds
+
+abbrev pub Gives : Place → Inferred → core.Expr → Type 0
+Gives p (inferred.Value k) e = HasSort p.schemes p.scope (Of k) e
+Gives p inferred.Truth e = HasSort p.schemes p.scope Truth e
+Gives p inferred.Null e = (k : Kind) → HasSort p.schemes p.scope (Of k) e
+Gives p inferred.Unknown e = ⊥
+
+pub record IsSound (p : Place) (given : Inferred) (e : core.Expr) : Type 0 where
+  pub own : HasOwn p.scope e
+  pub fits : ExprFits p.schemes p.scope e
+  pub gives : Gives p given e
+
+module _ (p : Place) where
+  pub as_kind : (given : Inferred) (k : Kind) (e : core.Expr) → may_be given k ≡ true → Gives p given e → HasSort p.schemes p.scope (Of k) e
+  as_kind (inferred.Value kinds.Int) kinds.Int e h g = g
+  as_kind (inferred.Value kinds.Int) kinds.Text e h g = absurd cc
+  as_kind (inferred.Value kinds.Text) kinds.Int e h g = absurd cc
+  as_kind (inferred.Value kinds.Text) kinds.Text e h g = g
+  as_kind inferred.Truth k e h g = absurd cc
+  as_kind inferred.Null k e h g = g k
+  as_kind inferred.Unknown k e h g = absurd g
+
+  pub as_truth : (given : Inferred) (e : core.Expr) → may_be_truth given ≡ true → Gives p given e → HasSort p.schemes p.scope Truth e
+  as_truth (inferred.Value j) e h g = absurd cc
+  as_truth inferred.Truth e h g = g
+  as_truth inferred.Null e h g = absurd cc
+  as_truth inferred.Unknown e h g = absurd g
+
+  pub as_value : (given : Inferred) (e : core.Expr) → may_be_value given ≡ true → Gives p given e → (k : Kind) × HasSort p.schemes p.scope (Of k) e
+  as_value (inferred.Value j) e h g = (j, g)
+  as_value inferred.Truth e h g = absurd cc
+  as_value inferred.Null e h g = (kinds.Int, g kinds.Int)
+  as_value inferred.Unknown e h g = absurd g
+
+  -- ---- operators
+
+  as_both : (k : Kind) (a b : Inferred) (x y : core.Expr) → both k a b ≡ true → Gives p a x → Gives p b y
+      → HasSort p.schemes p.scope (Of k) x × HasSort p.schemes p.scope (Of k) y
+  as_both k a b x y h g q = let t = and_parts (may_be a k) (may_be b k) h in (as_kind a k x t.0 g, as_kind b k y t.1 q)
+
+  as_truths : (a b : Inferred) (x y : core.Expr) → (may_be_truth a && may_be_truth b) ≡ true → Gives p a x → Gives p b y
+      → HasSort p.schemes p.scope Truth x × HasSort p.schemes p.scope Truth y
+  as_truths a b x y h g q = let t = and_parts (may_be_truth a) (may_be_truth b) h in (as_truth a x t.0 g, as_truth b y t.1 q)
+
+  some_both : (a b : Inferred) (x y : core.Expr) → (both kinds.Int a b || both kinds.Text a b) ≡ true → Gives p a x → Gives p b y
+      → (k : Kind) × (HasSort p.schemes p.scope (Of k) x × HasSort p.schemes p.scope (Of k) y)
+  some_both a b x y h g q = go (both kinds.Int a b) refl h
+    where
+      go : (t : Bool) → both kinds.Int a b ≡ t → (t || both kinds.Text a b) ≡ true → (k : Kind) × (HasSort p.schemes p.scope (Of k) x × HasSort p.schemes p.scope (Of k) y)
+      go true is e = (kinds.Int, as_both kinds.Int a b x y is g q)
+      go false is e = (kinds.Text, as_both kinds.Text a b x y e g q)
+
+  operator_gives : (op : Operator) (a b : Inferred) (x y : core.Expr) → operands_fit op a b ≡ true → Gives p a x → Gives p b y → Gives p (given_by op) (core.Op op x y)
+  operator_gives operators.Plus a b x y h g q = (refl, as_both kinds.Int a b x y h g q)
+  operator_gives operators.Minus a b x y h g q = (refl, as_both kinds.Int a b x y h g q)
+  operator_gives operators.Times a b x y h g q = (refl, as_both kinds.Int a b x y h g q)
+  operator_gives operators.And a b x y h g q = (refl, as_truths a b x y h g q)
+  operator_gives operators.Or a b x y h g q = (refl, as_truths a b x y h g q)
+  operator_gives operators.Equal a b x y h g q = (refl, some_both a b x y h g q)
+  operator_gives operators.Unequal a b x y h g q = (refl, some_both a b x y h g q)
+  operator_gives operators.Less a b x y h g q = (refl, some_both a b x y h g q)
+  operator_gives operators.AtMost a b x y h g q = (refl, some_both a b x y h g q)
+  operator_gives operators.Greater a b x y h g q = (refl, some_both a b x y h g q)
+  operator_gives operators.AtLeast a b x y h g q = (refl, some_both a b x y h g q)
+
+  -- ---- names
+
+  abbrev no_name : {T : Type 0} → T → Name × T
+  no_name x = ([], x)
+
+  no_param : Parameter
+  no_param = record { kind = kinds.Int; label = 0 }
+
+  pub variable_within : (name : Name) (i : ℕ) → variable_named p name ≡ Some i → i < length p.scope.vars
+  unfolding variable_named
+  variable_within name i e = (position-Some _ p.scope.vars i (no_name kinds.Int) e).0
+
+  pub parameter_within : (name : Name) (i : ℕ) → parameter_named p name ≡ Some i → i < length p.scope.params
+  unfolding parameter_named
+  parameter_within name i e = (position-Some _ p.scope.params i (no_name no_param) e).0
+
+  pub row_within : (name : Name) (i : ℕ) → row_named p name ≡ Some i → i < length p.scope.rows
+  unfolding row_named
+  row_within name i e = (position-Some _ p.scope.rows i (record { name = []; relation = 0 }) e).0
+
+  pub variable_kind : (i : ℕ) → i < length p.scope.vars → (k : Kind) × (kind_of_var p.scope i ≡ Some k)
+  variable_kind i lt = ((get_or p.scope.vars i (no_name kinds.Int)).1, ap (option_map (λ v. v.1)) (slice_get-get_or p.scope.vars i (no_name kinds.Int) lt))
+
+  pub parameter_kind : (i : ℕ) → i < length p.scope.params → (k : Kind) × (kind_of_param p.scope i ≡ Some k)
+  parameter_kind i lt = ((get_or p.scope.params i (no_name no_param)).1.kind, ap (option_map (λ v. v.1.kind)) (slice_get-get_or p.scope.params i (no_name no_param) lt))
+
+  variable_sound : (i : ℕ) → i < length p.scope.vars → IsSound p (of_referent p (Some (Variable i))) (refer (Some (Variable i)))
+  variable_sound i lt =
+      let k = variable_kind i lt in
+      let F : Option Kind → Type 0 = λ o. Gives p (of_kind o) (core.Var i) in
+      record { own = lt; fits = tt; gives = subst F (sym k.1) (k.0, refl, k.1) }
+
+  parameter_sound : (i : ℕ) → i < length p.scope.params → IsSound p (of_referent p (Some (Param i))) (refer (Some (Param i)))
+  parameter_sound i lt =
+      let k = parameter_kind i lt in
+      let F : Option Kind → Type 0 = λ o. Gives p (of_kind o) (core.Param i) in
+      record { own = lt; fits = tt; gives = subst F (sym k.1) (k.0, refl, k.1) }
+
+  name_sound : (name : Name) (a b : Option ℕ) → variable_named p name ≡ a → parameter_named p name ≡ b → is_some (referent_or a b) ≡ true
+      → IsSound p (of_referent p (referent_or a b)) (refer (referent_or a b))
+  name_sound name (Some i) b is other e = variable_sound i (variable_within name i is)
+  name_sound name None (Some i) is other e = parameter_sound i (parameter_within name i other)
+  name_sound name None None is other e = absurd cc
+
+  -- ---- fields
+
+  behind_within : (keys others : List Attribute) (name : Name) (a b : Option ℕ) (i : ℕ) → position (λ x. bytes_eq x.name name) keys ≡ a → position (λ x. bytes_eq x.name name) others ≡ b
+      → or_behind a (length keys) b ≡ Some i → i < length keys + length others
+  behind_within keys others name (Some j) b i is other e =
+      let same : j ≡ i = cc in
+      let lt = (position-Some _ keys j no_attribute is).0 in
+      omega arith
+  behind_within keys others name None (Some j) i is other e =
+      let same : length keys + j ≡ i = cc in
+      let lt = (position-Some _ others j no_attribute other).0 in
+      omega arith
+  behind_within keys others name None None i is other e = absurd cc
+
+  pub attribute_within : (scheme : Scheme) (name : Name) (i : ℕ) → attribute_named scheme name ≡ Some i → i < width scheme
+  unfolding attribute_named
+  attribute_within scheme name i e =
+      behind_within scheme.keys scheme.others name (position (λ x. bytes_eq x.name name) scheme.keys) (position (λ x. bytes_eq x.name name) scheme.others) i refl refl e
+
+  attribute_sound : (d : ℕ) (name : Name) → d < length p.scope.rows → (o : Option ℕ) → attribute_named (row_scheme p d) name ≡ o → is_some o ≡ true
+      → IsSound p (of_attribute (row_scheme p d) o) (core.Field d (numbered o))
+  attribute_sound d name lt None is e = absurd cc
+  attribute_sound d name lt (Some i) is e = record { own = lt; fits = attribute_within (row_scheme p d) name i is; gives = refl }
+
+  field_sound : (row attribute : PlacedName) (o : Option ℕ) → row_named p row.0 ≡ o → field_faults p o row attribute ≡ []
+      → IsSound p (of_field p o attribute.0) (field p o attribute.0)
+  field_sound row attribute None is e = absurd cc
+  field_sound row attribute (Some d) is e =
+      attribute_sound d attribute.0 (row_within row.0 d is) (attribute_named (row_scheme p d) attribute.0) refl
+      (holds (is_some (attribute_named (row_scheme p d) attribute.0)) attribute.1 _ e)
+
+  -- ---- expressions
+
+  literal_kind : (v : Value) → IsLiteral v → is_kind v (kind_of v) ≡ true
+  literal_kind (values.Int n) h = signed-from n h
+  literal_kind (values.Text s) h = sym (text-from s h.utf8) ∙ (let lt : length s ≤ 1024 = h.short in short (length s) lt)
+    where
+      short : (n : ℕ) → n ≤ 1024 → nat_lt n (2 ^ 32) ≡ true
+      short n h = grind (arith, nat_tests)
+
+  pub expr_sound : (e : Expr) → HasLiterals e → expr_faults p e ≡ [] → IsSound p (infer p e) (expr p e)
+  expr_sound (Literal v at) l h = record { own = l; fits = tt; gives = literal_kind v l }
+  expr_sound (Null at) l h = record { own = tt; fits = tt; gives = λ k. tt }
+  expr_sound (Named n) l h = name_sound n.0 (variable_named p n.0) (parameter_named p n.0) refl refl (holds (is_some (referent p n.0)) n.1 _ h)
+  expr_sound (Field row attribute) l h = field_sound row attribute (row_named p row.0) refl h
+  expr_sound (No at e) l h =
+      let t = neither _ (expr_faults p e) h in
+      let s = expr_sound e l t.1 in
+      record { own = s.own; fits = s.fits; gives = (refl, as_truth (infer p e) (expr p e) (holds (may_be_truth (infer p e)) at _ t.0) s.gives) }
+  expr_sound (Op at left op op_at right) l h =
+      let t = neither (expr_faults p left) _ h in
+      let u = neither _ (expr_faults p right) t.1 in
+      let a = expr_sound left l.0 t.0 in
+      let b = expr_sound right l.1 u.1 in
+      record {
+        own = (a.own, b.own);
+        fits = (a.fits, b.fits);
+        gives = operator_gives op (infer p left) (infer p right) (expr p left) (expr p right) (holds (operands_fit op (infer p left) (infer p right)) op_at _ u.0) a.gives b.gives;
+      }
+
+  -- ---- depths
+
+  refer_flat : (o : Option Referent) → nesting (refer o) ≡ 0
+  refer_flat None = refl
+  refer_flat (Some (Variable i)) = refl
+  refer_flat (Some (Param i)) = refl
+
+  field_flat : (o : Option ℕ) (name : Name) → nesting (field p o name) ≡ 0
+  field_flat None name = refl
+  field_flat (Some d) name = refl
+
+  same_nesting : (e : Expr) → nesting (expr p e) ≡ depth_of e
+  same_nesting (Literal v at) = refl
+  same_nesting (Null at) = refl
+  same_nesting (Named n) = refer_flat (referent p n.0)
+  same_nesting (Field row attribute) = field_flat (row_named p row.0) attribute.0
+  same_nesting (No at e) = ap (λ n. 1 + n) (same_nesting e)
+  same_nesting (Op at left op op_at right) = λ i. 1 + max (same_nesting left i) (same_nesting right i)
+
+  -- ---- expressions of statements
+
+  pub record IsRight (given : Inferred) (e : core.Expr) : Type 0 where
+    pub own : IsOwn p.scope e
+    pub fits : ExprFits p.schemes p.scope e
+    pub gives : Gives p given e
+
+  pub expr_right : (e : Expr) → IsShallow e → expr_faults p e ≡ [] → IsRight (infer p e) (expr p e)
+  expr_right e l h =
+      let s = expr_sound e l.literals h in
+      record { own = record { nesting = rw (same_nesting e) l.nesting; numbers = s.own }; fits = s.fits; gives = s.gives }
+
+  pub tested_right : (test : Inferred → Bool) (e : Expr) → IsShallow e → tested p test e ≡ [] → (test (infer p e) ≡ true) × IsRight (infer p e) (expr p e)
+  tested_right test e l h =
+      let t = neither _ (expr_faults p e) h in
+      (holds (test (infer p e)) (place_of e) _ t.0, expr_right e l t.1)

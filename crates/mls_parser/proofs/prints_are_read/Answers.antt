@@ -1,0 +1,5 @@
+use Rattle.mls_parser.proofs.ParsedLemmas.{prints_are_read as law}
+use Rattle.mls_parser.proofs.prints_are_read.Goals as goal
+
+pub returns : goal.returns
+returns c = law

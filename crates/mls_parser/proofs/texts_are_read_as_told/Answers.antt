@@ -1,0 +1,5 @@
+use Rattle.mls_parser.proofs.ParsedLemmas.{texts_are_read_as_told as law}
+use Rattle.mls_parser.proofs.texts_are_read_as_told.Goals as goal
+
+pub returns : goal.returns
+returns c = law

@@ -1,0 +1,92 @@
+-- The causes for which texts of transactions are refused, and which of several faults is answered.
+use Rattle.std.specs.Prelude.{◌≡◌, ℕ, ◌+◌, ◌-◌, Bool, true, false, ◌==◌, ◌&&◌, ◌||◌, nat_lt, if◌then◌else◌, List, [], ◌∷◌, codes, Option, Some, None, take, reverse}
+use Rattle.std.specs.List.{count_by, prefix_len, Contains, AllByRecursion}
+use Rattle.mls_tokens.specs.Text.{is_no_feed}
+use Rattle.mls_syntax.specs.declared.fault.SyntaxCause.{SyntaxCause}
+use Rattle.mls_syntax.specs.declared.fault.SyntaxCause.TheVariants as syntax
+use Rattle.mls_syntax.specs.declared.fault.SyntaxFault.{SyntaxFault}
+use Rattle.mls_parser.specs.declared.fault.TextCause.{TextCause}
+use Rattle.mls_parser.specs.declared.fault.TextCause.TheVariants.{Token, Expected, UnknownName, Kind, Repeated, Depth, TooLong, LabelOrder, Memory}
+use Rattle.mls_parser.specs.declared.fault.PlacedFault.{PlacedFault}
+use Rattle.mls_parser.specs.declared.fault.TextFault.{TextFault}
+
+abbrev pub code_of : TextCause → ℕ
+code_of Token = 21
+code_of Expected = 22
+code_of UnknownName = 23
+code_of Kind = 24
+code_of Repeated = 25
+code_of Depth = 26
+code_of TooLong = 27
+code_of LabelOrder = 28
+code_of Memory = 29
+
+abbrev pub word_of : TextCause → List ℕ
+word_of Token = codes "Token"
+word_of Expected = codes "Expected"
+word_of UnknownName = codes "UnknownName"
+word_of Kind = codes "Kind"
+word_of Repeated = codes "Repeated"
+word_of Depth = codes "Depth"
+word_of TooLong = codes "TooLong"
+word_of LabelOrder = codes "LabelOrder"
+word_of Memory = codes "Memory"
+
+-- ---- faults of a text
+
+abbrev pub fault : ℕ → TextCause → PlacedFault
+fault at cause = record { at = at; cause = cause }
+
+-- a fault at a place, unless a test holds
+abbrev pub unless : Bool → ℕ → TextCause → List PlacedFault
+unless true at cause = []
+unless false at cause = fault at cause ∷ []
+
+-- ---- faults of the first pass
+
+abbrev pub lifted_cause : SyntaxCause → TextCause
+lifted_cause syntax.Token = Token
+lifted_cause syntax.Expected = Expected
+lifted_cause syntax.Depth = Depth
+lifted_cause syntax.TooLong = TooLong
+lifted_cause syntax.Memory = Memory
+
+abbrev pub from_syntax : SyntaxFault → PlacedFault
+from_syntax f = fault f.at (lifted_cause f.cause)
+
+-- ---- the least of them
+
+-- it stands before the other, or at one place with it and has the smaller number
+unfoldable pub is_before : PlacedFault → PlacedFault → Bool
+is_before f g = nat_lt f.at g.at || (f.at == g.at && nat_lt (code_of f.cause) (code_of g.cause))
+
+abbrev pub sooner : Option PlacedFault → PlacedFault → PlacedFault
+sooner None g = g
+sooner (Some f) g = if is_before g f then g else f
+
+-- the least of these and of one that was found
+unfoldable pub least_from : Option PlacedFault → List PlacedFault → Option PlacedFault
+least_from found [] = found
+least_from found (f ∷ fs) = least_from (Some (sooner found f)) fs
+
+abbrev pub least : List PlacedFault → Option PlacedFault
+least faults = least_from None faults
+
+-- one of these, before which none of them stands
+pub record IsLeast (faults : List PlacedFault) (f : PlacedFault) : Type 0 where
+  pub one : Contains faults f
+  pub first : AllByRecursion (λ g. is_before g f ≡ false) faults
+
+-- ---- lines and columns
+
+-- the bytes before a place
+abbrev pub before : ℕ → List ℕ → List ℕ
+before at bytes = take (at - 1) bytes
+
+-- one more than the LFs before a place, and one more than the bytes between it and the last of these
+unfoldable pub in_text : List ℕ → PlacedFault → TextFault
+in_text bytes f = record {
+  line = 1 + count_by (λ b. b == 10) (before f.at bytes);
+  column = 1 + prefix_len is_no_feed (reverse (before f.at bytes));
+  cause = f.cause;
+}

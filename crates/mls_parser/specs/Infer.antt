@@ -1,0 +1,89 @@
+-- What expressions give, as far as names are known.
+use Rattle.std.specs.Prelude.{ℕ, Bool, true, false, ◌&&◌, ◌||◌, Option, Some, None}
+use Rattle.mls_scheme.specs.declared.value.Kind.{Kind}
+use Rattle.mls_scheme.specs.declared.value.Kind.TheVariants.{Int, Text}
+use Rattle.mls_scheme.specs.Value.{kind_of}
+use Rattle.mls_scheme.specs.Scheme.{Scheme}
+use Rattle.mls_lattice.specs.Policy.{Name}
+use Rattle.mls_translang.specs.declared.operator.Operator.{Operator}
+use Rattle.mls_translang.specs.declared.operator.Operator.TheVariants.{Plus, Minus, Times, And, Or}
+use Rattle.mls_translang.specs.Scope.{kind_of_var, kind_of_param}
+use Rattle.mls_translang.specs.Kinds.{field_of}
+use Rattle.mls_translang.specs.Tokens.{Place}
+use Rattle.mls_syntax.specs.ExprTree.{Expr, Literal, Null, Name as Named, Field, No, Op}
+use Rattle.mls_parser.specs.declared.names.Referent.{Referent}
+use Rattle.mls_parser.specs.declared.names.Referent.TheVariants.{Variable, Parameter}
+use Rattle.mls_parser.specs.declared.inferred.Inferred.{Inferred}
+use Rattle.mls_parser.specs.declared.inferred.Inferred.TheVariants as inferred
+use Rattle.mls_parser.specs.Names.{attribute_named, referent, row_named, row_scheme}
+
+-- ---- what may stand where
+
+abbrev pub same_kind : Kind → Kind → Bool
+same_kind Int Int = true
+same_kind Text Text = true
+same_kind _ _ = false
+
+-- null is of each kind, and what hangs on an unknown name may be anything
+abbrev pub may_be : Inferred → Kind → Bool
+may_be (inferred.Value j) k = same_kind j k
+may_be inferred.Truth k = false
+may_be inferred.Null k = true
+may_be inferred.Unknown k = true
+
+abbrev pub may_be_truth : Inferred → Bool
+may_be_truth (inferred.Value j) = false
+may_be_truth inferred.Truth = true
+may_be_truth inferred.Null = false
+may_be_truth inferred.Unknown = true
+
+abbrev pub may_be_value : Inferred → Bool
+may_be_value inferred.Truth = false
+may_be_value _ = true
+
+-- ---- operators
+
+abbrev pub both : Kind → Inferred → Inferred → Bool
+both k left right = may_be left k && may_be right k
+
+abbrev pub operands_fit : Operator → Inferred → Inferred → Bool
+operands_fit Plus left right = both Int left right
+operands_fit Minus left right = both Int left right
+operands_fit Times left right = both Int left right
+operands_fit And left right = may_be_truth left && may_be_truth right
+operands_fit Or left right = may_be_truth left && may_be_truth right
+operands_fit _ left right = both Int left right || both Text left right
+
+-- whatever its operands are
+abbrev pub given_by : Operator → Inferred
+given_by Plus = inferred.Value Int
+given_by Minus = inferred.Value Int
+given_by Times = inferred.Value Int
+given_by _ = inferred.Truth
+
+-- ---- expressions
+
+abbrev pub of_kind : Option Kind → Inferred
+of_kind None = inferred.Unknown
+of_kind (Some k) = inferred.Value k
+
+abbrev pub of_referent : Place → Option Referent → Inferred
+of_referent p (Some (Variable i)) = of_kind (kind_of_var p.scope i)
+of_referent p (Some (Parameter i)) = of_kind (kind_of_param p.scope i)
+of_referent p None = inferred.Unknown
+
+abbrev pub of_attribute : Scheme → Option ℕ → Inferred
+of_attribute scheme None = inferred.Unknown
+of_attribute scheme (Some i) = inferred.Value (field_of scheme i).kind
+
+abbrev pub of_field : Place → Option ℕ → Name → Inferred
+of_field p None name = inferred.Unknown
+of_field p (Some depth) name = of_attribute (row_scheme p depth) (attribute_named (row_scheme p depth) name)
+
+abbrev pub infer : Place → Expr → Inferred
+infer p (Literal v at) = inferred.Value (kind_of v)
+infer p (Null at) = inferred.Null
+infer p (Named n) = of_referent p (referent p n.0)
+infer p (Field row attribute) = of_field p (row_named p row.0) attribute.0
+infer p (No at e) = inferred.Truth
+infer p (Op at left op op_at right) = given_by op

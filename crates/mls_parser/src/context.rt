@@ -1,0 +1,192 @@
+//! The place in a transaction at which names are looked up.
+ghost use Rattle.std.specs.Prelude.{◌≡◌, ◌<◌, ◌≤◌, length, Some, IfSome};
+ghost use Rattle.std.specs.List.{AllByRecursion};
+ghost use Rattle.mls_scheme.specs.Scheme.{IsScheme, scheme_of};
+ghost use Rattle.mls_translang.specs.Scope.{kind_of_var, kind_of_param};
+ghost use Rattle.mls_parser.specs.Names.{label_named, relation_named, variable_named, parameter_named, row_named, numbered, referent, row_scheme, is_taken, IsReferent, IsPlace};
+ghost use Rattle.mls_parser.specs.Infer.{of_referent, of_field, infer};
+ghost use Rattle.mls_parser.specs.Faults.{scheme_named};
+
+use crate::inferred::{Inferred, given_by};
+use crate::names::{Referent, attribute, attribute_kind, row_place};
+use mls_lattice::{LabelNo, Policy};
+use mls_scheme::{Kind, RelNo, Scheme, Schemes};
+use mls_syntax::{Expr, Name, Term};
+use mls_translang::{Named, Parameter, Row};
+use std::marker::Model;
+
+/// A policy, schemes, a ceiling, parameters and variables, and the rows of the loops around, the innermost first.
+#[derive(Drop)]
+pub(crate) struct Context<'a> {
+    pub policy: &'a Policy,
+    pub schemes: &'a Schemes,
+    pub hi: LabelNo,
+    pub params: &'a Named<Parameter>,
+    pub vars: &'a Named<Kind>,
+    pub rows: &'a [Row],
+}
+
+impl<'a> Model for Context<'a> {
+    ghost use Rattle.std.specs.Coded.{codes};
+    ghost use Rattle.mls_lattice.specs.Lattice.{pair_code};
+    ghost use Rattle.mls_translang.specs.Tokens.{Place};
+
+    ghost Value = { Place };
+
+    ghost coded = { Prim.hlevel (codes, pair_code) };
+
+    ghost view = { λ a. record { policy = a.policy.now; schemes = a.schemes.now; hi = a.hi; scope = record { params = a.params.now; vars = a.vars.now; rows = a.rows.now } } };
+}
+
+/// The number of the label of a name.
+#[tactic(auto, unfolding(crate::specs::Names::label_named), using(crate::proofs::NameLemmas::place_steps))]
+pub(crate) fn label(policy: &Policy, name: &Name) -> Option<LabelNo>
+    ensures exact { result ≡ label_named policy.now name.now.0 }
+    ensures within { IfSome result (λ n. n < length policy.now.labels) }
+{
+    policy.label(name.text())
+}
+
+/// The same, or the first.
+pub(crate) fn label_or_first(policy: &Policy, name: &Name) -> LabelNo
+    ensures exact { result ≡ numbered (label_named policy.now name.now.0) }
+    ensures within { result < length policy.now.labels }
+{
+    // a policy has some label
+    let _count = policy.label_count();
+    match label(policy, name) {
+        Some(number) => number,
+        None => LabelNo::new(0),
+    }
+}
+
+/// The number of the relation of a name.
+#[tactic(auto, unfolding(crate::specs::Names::relation_named))]
+pub(crate) fn relation(schemes: &Schemes, name: &Name) -> Option<RelNo>
+    ensures exact { result ≡ relation_named schemes.now name.now.0 }
+    ensures within { IfSome result (λ n. n < length schemes.now) }
+{
+    schemes.relation(name.text())
+}
+
+/// The same, or the first.
+pub(crate) fn relation_or_first(schemes: &Schemes, name: &Name) -> RelNo
+    ensures exact { result ≡ numbered (relation_named schemes.now name.now.0) }
+    ensures within { result < length schemes.now }
+{
+    // there is some relation
+    let _count = schemes.count();
+    match relation(schemes, name) {
+        Some(number) => number,
+        None => RelNo::new(0),
+    }
+}
+
+impl Context<'_> {
+    /// The scheme of the relation of a name, or of the first.
+    pub fn scheme(&self, relation: &Name) -> &Scheme
+        ensures exact { result.now ≡ scheme_named self.now relation.now }
+        ensures valid { IsScheme result.now }
+    {
+        self.schemes
+            .scheme(relation_or_first(self.schemes, relation))
+    }
+
+    #[tactic(auto, unfolding(crate::specs::Names::variable_named))]
+    pub fn variable(&self, name: &Name) -> Option<usize>
+        ensures exact { result ≡ variable_named self.now name.now.0 }
+        ensures within { IfSome result (λ i. i < length self.now.scope.vars) }
+    {
+        self.vars.place(name.text())
+    }
+
+    #[tactic(auto, unfolding(crate::specs::Names::parameter_named))]
+    pub fn parameter(&self, name: &Name) -> Option<usize>
+        ensures exact { result ≡ parameter_named self.now name.now.0 }
+        ensures within { IfSome result (λ i. i < length self.now.scope.params) }
+    {
+        self.params.place(name.text())
+    }
+
+    /// The depth of the innermost row of a name.
+    #[tactic(auto, unfolding(crate::specs::Names::row_named))]
+    pub fn row(&self, name: &Name) -> Option<usize>
+        ensures exact { result ≡ row_named self.now name.now.0 }
+        ensures within { IfSome result (λ i. i < length self.now.scope.rows) }
+    {
+        row_place(self.rows, name.text())
+    }
+
+    /// The relation of the row at a depth.
+    #[tactic(auto, using(crate::proofs::NameLemmas::row_steps))]
+    pub fn row_scheme(&self, depth: usize) -> &Scheme
+        requires place { IsPlace self.now }
+        requires within { depth < length self.now.scope.rows }
+        ensures exact { result.now ≡ row_scheme self.now depth }
+        ensures valid { IsScheme result.now }
+    {
+        self.schemes.scheme(self.rows[depth].relation)
+    }
+
+    /// What a name in an expression refers to.
+    pub fn referent(&self, name: &Name) -> Option<Referent>
+        ensures exact { result ≡ referent self.now name.now.0 }
+        ensures within { IfSome result (IsReferent self.now) }
+    {
+        match (self.variable(name), self.parameter(name)) {
+            (Some(place), _) => Some(Referent::Variable(place)),
+            (None, Some(place)) => Some(Referent::Parameter(place)),
+            (None, None) => None,
+        }
+    }
+
+    /// Whether a row, a parameter or a variable has a name.
+    pub fn is_taken(&self, name: &Name) -> bool
+        ensures { result ≡ is_taken self.now name.now.0 }
+    {
+        self.row(name).is_some() || self.parameter(name).is_some() || self.variable(name).is_some()
+    }
+}
+
+impl Context<'_> {
+    /// The kind of the variable of a name, if there is one.
+    #[tactic(auto, unfolding(crate::specs::Names::variable_named))]
+    fn name_gives(&self, name: &Name) -> Inferred
+        ensures { result ≡ of_referent self.now (referent self.now name.now.0) }
+    {
+        match (self.variable(name), self.parameter(name)) {
+            (Some(place), _) => Inferred::Value(*self.vars.get(place)),
+            (None, Some(place)) => Inferred::Value(self.params.get(place).kind),
+            (None, None) => Inferred::Unknown,
+        }
+    }
+
+    fn field_gives(&self, row: &Name, name: &Name) -> Inferred
+        requires { IsPlace self.now }
+        ensures { result ≡ of_field self.now (row_named self.now row.now.0) name.now.0 }
+    {
+        let Some(depth) = self.row(row) else {
+            return Inferred::Unknown;
+        };
+        let scheme = self.row_scheme(depth);
+        match attribute(scheme, name.text()) {
+            Some(number) => Inferred::Value(attribute_kind(scheme, number)),
+            None => Inferred::Unknown,
+        }
+    }
+
+    /// What an expression gives.
+    pub fn infer(&self, expr: &Expr) -> Inferred
+        requires { IsPlace self.now }
+        ensures { result ≡ infer self.now expr.now }
+    {
+        match &expr.term {
+            Term::Literal { value, .. } => Inferred::Value(value.kind()),
+            Term::Null { .. } => Inferred::Null,
+            Term::Name(name) => self.name_gives(name),
+            Term::Field { row, attribute } => self.field_gives(row, attribute),
+            Term::Not { .. } => Inferred::Truth,
+            Term::Op { operator, .. } => given_by(*operator),
+        }
+    }
+}

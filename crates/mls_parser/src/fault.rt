@@ -1,0 +1,192 @@
+ghost use Rattle.std.specs.Prelude.{◌≡◌, ◌==◌, ◌≤◌, Some, length, reverse};
+ghost use Rattle.std.specs.List.{count_by, prefix_len};
+ghost use Rattle.mls_tokens.specs.Text.{is_no_feed};
+ghost use Rattle.mls_parser.specs.declared.fault.TextCause.TheVariants.{Memory};
+ghost use Rattle.mls_parser.specs.Fault.{code_of, word_of, unless, is_before, sooner, least_from, before, in_text, from_syntax};
+
+use mls_syntax::{SyntaxCause, SyntaxFault};
+use std::alloc::AllocError;
+use thiserror::Error;
+
+/// Why a text of transactions is refused.
+#[derive(Clone, Copy, PartialEq, Eq, Debug, Error)]
+pub enum TextCause {
+    #[error("no token stands here")]
+    Token,
+    #[error("no transaction goes on so")]
+    Expected,
+    #[error("a name is unknown")]
+    UnknownName,
+    #[error("an expression has the wrong kind, or a list the wrong length")]
+    Kind,
+    #[error("a name stands twice")]
+    Repeated,
+    #[error("statements or operators stand too deep in one another")]
+    Depth,
+    #[error("a text is too long, or there are too many of a sort")]
+    TooLong,
+    #[error("a label does not dominate another")]
+    LabelOrder,
+    #[error("out of memory")]
+    Memory,
+}
+
+/// A fault of the first pass.
+impl From<SyntaxFault> for PlacedFault {
+    ghost from_gives = { λ f e. e ≡ from_syntax f };
+
+    fn from(fault: SyntaxFault) -> PlacedFault {
+        let cause = match fault.cause {
+            SyntaxCause::Token => TextCause::Token,
+            SyntaxCause::Expected => TextCause::Expected,
+            SyntaxCause::Depth => TextCause::Depth,
+            SyntaxCause::TooLong => TextCause::TooLong,
+            SyntaxCause::Memory => TextCause::Memory,
+        };
+        PlacedFault {
+            at: fault.at,
+            cause,
+        }
+    }
+}
+
+impl From<AllocError> for PlacedFault {
+    ghost from_gives = { λ _ e. e.cause ≡ Memory };
+
+    fn from(_e: AllocError) -> PlacedFault {
+        PlacedFault {
+            at: 0,
+            cause: TextCause::Memory,
+        }
+    }
+}
+
+impl TextCause {
+    /// The number of the cause.
+    pub fn code(self) -> u8
+        ensures { result ≡ code_of self }
+    {
+        match self {
+            TextCause::Token => 21,
+            TextCause::Expected => 22,
+            TextCause::UnknownName => 23,
+            TextCause::Kind => 24,
+            TextCause::Repeated => 25,
+            TextCause::Depth => 26,
+            TextCause::TooLong => 27,
+            TextCause::LabelOrder => 28,
+            TextCause::Memory => 29,
+        }
+    }
+
+    /// The name of the cause.
+    pub fn word(self) -> &'static str
+        ensures { result.now ≡ word_of self }
+    {
+        match self {
+            TextCause::Token => "Token",
+            TextCause::Expected => "Expected",
+            TextCause::UnknownName => "UnknownName",
+            TextCause::Kind => "Kind",
+            TextCause::Repeated => "Repeated",
+            TextCause::Depth => "Depth",
+            TextCause::TooLong => "TooLong",
+            TextCause::LabelOrder => "LabelOrder",
+            TextCause::Memory => "Memory",
+        }
+    }
+}
+
+/// Where in a text of transactions which fault stands: lines, and the bytes of a line, are counted from 1.
+#[derive(Clone, Copy, PartialEq, Eq, Debug, Error)]
+#[error("line {line}, column {column}: {cause}")]
+pub struct TextFault {
+    pub line: usize,
+    pub column: usize,
+    pub cause: TextCause,
+}
+
+/// The place of a fault: the bytes of the whole text are counted from 1.
+#[derive(Clone, Copy, PartialEq, Eq, Debug)]
+pub(crate) struct PlacedFault {
+    pub at: usize,
+    pub cause: TextCause,
+}
+
+/// The least fault that was found so far.
+pub(crate) type Found = Option<PlacedFault>;
+
+impl PlacedFault {
+    /// The fault, by its line and column in the text.
+    #[tactic(auto, unfolding(crate::specs::Fault::in_text))]
+    pub fn in_text(self, bytes: &[u8]) -> TextFault
+        ensures { result ≡ in_text bytes.now self }
+    {
+        let before = before(self.at, bytes);
+        TextFault {
+            line: 1 + feeds(before),
+            column: 1 + behind_feed(before),
+            cause: self.cause,
+        }
+    }
+
+    #[tactic(auto, unfolding(crate::specs::Fault::is_before))]
+    fn is_before(self, other: PlacedFault) -> bool
+        ensures { result ≡ is_before self other }
+    {
+        self.at < other.at || self.at == other.at && self.cause.code() < other.cause.code()
+    }
+}
+
+/// The bytes before a place.
+fn before(at: usize, bytes: &[u8]) -> &[u8]
+    ensures { result.now ≡ before at bytes.now }
+{
+    let end = at.saturating_sub(1);
+    if end < bytes.len() {
+        &bytes[..end]
+    } else {
+        bytes
+    }
+}
+
+/// How many LFs there are.
+fn feeds(bytes: &[u8]) -> usize
+    ensures exact { result ≡ count_by (λ b. b == 10) bytes.now }
+    ensures few { result ≤ length bytes.now }
+{
+    bytes.iter().filter(|byte| **byte == b'\n').count()
+}
+
+/// How many bytes stand behind the last LF.
+fn behind_feed(bytes: &[u8]) -> usize
+    ensures exact { result ≡ prefix_len is_no_feed (reverse bytes.now) }
+    ensures few { result ≤ length bytes.now }
+{
+    bytes
+        .iter()
+        .rev()
+        .take_while(|byte| **byte != b'\n')
+        .count()
+}
+
+fn sooner(found: Found, fault: PlacedFault) -> PlacedFault
+    ensures { result ≡ sooner found fault }
+{
+    match found {
+        Some(first) if !fault.is_before(first) => first,
+        _ => fault,
+    }
+}
+
+/// One fault more, unless a test holds.
+#[tactic(auto, unfolding(crate::specs::Fault::least_from))]
+pub(crate) fn unless(found: Found, holds: bool, at: usize, cause: TextCause) -> Found
+    ensures { result ≡ least_from found (unless holds at cause) }
+{
+    if holds {
+        found
+    } else {
+        Some(sooner(found, PlacedFault { at, cause }))
+    }
+}

@@ -1,0 +1,37 @@
+use Rattle.std.proofs.Common.{arith}
+use Rattle.mls_audit.specs.Spelling.{HasSpelling}
+use Rattle.mls_machine.specs.Machine.{release_entry}
+use Rattle.mls_sessions.specs.World.{site_of}
+use Rattle.mls_sessions.proofs.EnteringLemmas.{none_entered, entered_more, each_more, entered_all, each_all}
+use Rattle.mls_sessions.proofs.calling.enter_releases.Goals as goal
+
+pub loop-item-init : goal.loop-item-init
+loop-item-init g c = record {
+  clean = λ h. h;
+  count = omega arith;
+  begun = c.requires.begun;
+  way = λ h. none_entered (g.B.Base.state c.args.base.now);
+  spelled = tt;
+}
+
+pub loop-item-preserved : goal.loop-item-preserved
+loop-item-preserved g c =
+    let f = release_entry (site_of c.args.rules.now) c.args.event.now c.args.user in
+    let inv = c.loop-item.invariant in
+    let one = c.in_ok-enter_release.ensures in
+    record {
+      clean = λ h. inv.clean (one.call.clean h);
+      count = (let a = inv.count in let b = one.call.count in omega (arith, a, b));
+      begun = one.mode;
+      way = λ h. entered_more f c.args.released.now c.loop-item.item-index c.item-item.result c.loop-item-test.true c.item-item.is
+          (g.B.Base.state c.args.base.now) (g.B.Base.state c.loop-item.base) (g.B.Base.state c.enter_release.new.base) (inv.way (one.call.clean h)) (one.done h);
+      spelled = each_more f c.args.released.now c.loop-item.item-index c.item-item.result c.loop-item-test.true c.item-item.is HasSpelling inv.spelled one.spelled;
+    }
+
+pub returns-clause-done : goal.returns-clause-done
+returns-clause-done g c = λ clean.
+    entered_all (release_entry (site_of c.args.rules.now) c.args.event.now c.args.user) c.args.released.now c.loop-item.item-index c.loop-item-test.false
+    (g.B.Base.state c.args.base.now) (g.B.Base.state c.loop-item.base) (c.loop-item.invariant.way clean)
+
+pub returns-clause-spelled : goal.returns-clause-spelled
+returns-clause-spelled g c = each_all (release_entry (site_of c.args.rules.now) c.args.event.now c.args.user) c.args.released.now c.loop-item.item-index c.loop-item-test.false HasSpelling c.loop-item.invariant.spelled

@@ -1,0 +1,20 @@
+use Rattle.std.proofs.Common.{◌≡◌, ◌≤◌, true, take, map}
+use Rattle.std.specs.List.{AllByRecursion}
+use Rattle.mls_audit.specs.Spelling.{HasSpelling}
+use Rattle.mls_machine.specs.Machine.{release_entry}
+use Rattle.mls_sessions.specs.World.{site_of}
+use Rattle.mls_sessions.specs.Calling.{with_entries}
+use Rattle.mls_sessions.proofs.calling.enter_releases.Given as goal
+
+abbrev pub invariant-loop-item : goal.invariant-loop-item
+invariant-loop-item g l =
+    let s = g.B.Base.state l.fn.base in
+    let t = g.B.Base.state l.base in
+    let es = map (release_entry (site_of l.rules) l.event l.user) (take l.item-index l.released) in
+    record {
+      clean : g.B.Base.is_clean l.base → g.B.Base.is_clean l.fn.base;
+      count : g.B.Base.failures l.fn.base ≤ g.B.Base.failures l.base;
+      begun : t.begun ≡ true;
+      way : g.B.Base.is_clean l.base → t ≡ with_entries s es;
+      spelled : AllByRecursion HasSpelling es;
+    }

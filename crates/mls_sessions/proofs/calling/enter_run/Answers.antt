@@ -1,0 +1,20 @@
+use Rattle.std.proofs.Common.{ap, ◌∙◌}
+use Rattle.std.proofs.lemmas.Result.{on_ok_weaker}
+use Rattle.mls_audit.specs.declared.entry.Entry.TheVariants.{Called}
+use Rattle.mls_lattice.specs.Canon.{user_name}
+use Rattle.std.specs.Prelude.{map}
+use Rattle.mls_machine.specs.Machine.{release_entry}
+use Rattle.mls_sessions.specs.World.{site_of}
+use Rattle.mls_sessions.specs.Calling.{with_entries}
+use Rattle.mls_sessions.proofs.EnteringLemmas.{first_entered}
+use Rattle.mls_sessions.proofs.calling.enter_run.Goals as goal
+
+pub returns-clause-done : goal.returns-clause-done
+returns-clause-done g c = λ clean.
+    let es = map (release_entry (site_of c.args.rules.now) c.args.event.now c.args.user) c.args.released.now in
+    let call = Called c.args.event.now.level (user_name c.args.rules.now.policy.now.users c.args.user) c.args.event.now.session c.args.name.now in
+    on_ok_weaker c.enter_releases.result (λ h. h ∙ ap (λ s. with_entries s es) (c.in_ok-enter_call.ensures.done (c.enter_releases.ensures.call.clean clean)) ∙ first_entered (g.B.Base.state c.args.base.now) call es)
+    (c.enter_releases.ensures.done clean)
+
+pub returns-clause-spelled : goal.returns-clause-spelled
+returns-clause-spelled g c = on_ok_weaker c.enter_releases.result (λ h. (c.in_ok-enter_call.ensures.spelled, h)) c.enter_releases.ensures.spelled

@@ -1,0 +1,244 @@
+//! Calls of stored transactions, inside a change: they are run, and entered with what they release.
+ghost use Rattle.std.specs.Prelude.{◌≡◌, ◌<◌, true, length, map, IfOk, IfErr, OnOk};
+ghost use Rattle.std.specs.List.{AllByRecursion};
+ghost use Rattle.mls_lattice.specs.Name.{is_name};
+ghost use Rattle.mls_lattice.specs.Canon.{user_name};
+ghost use Rattle.mls_lattice.specs.Policy.{labels_of};
+ghost use Rattle.mls_scheme.specs.Scheme.{AreUnder};
+ghost use Rattle.mls_filterview.specs.Calls.{IsCall, IsServed};
+ghost use Rattle.mls_filterview.specs.Content.{with_entry};
+ghost use Rattle.mls_filterview.specs.Stored.{AreContent};
+ghost use Rattle.mls_audit.specs.declared.entry.Entry.TheVariants.{Called};
+ghost use Rattle.mls_audit.specs.Spelling.{HasSpelling, entry_spelling};
+ghost use Rattle.mls_translang.specs.Fits.{IsReadUnder};
+ghost use Rattle.mls_meaning.specs.Meaning.{run_tx};
+ghost use Rattle.mls_meaning.specs.Laws.{IsItem};
+ghost use Rattle.mls_script.specs.Event.{EventFits};
+ghost use Rattle.mls_machine.specs.Denying.{fitted};
+ghost use Rattle.mls_machine.specs.Machine.{release_entry, call_entries};
+ghost use Rattle.mls_machine.specs.Observation.{AreRead};
+ghost use Rattle.mls_trusted.specs.Runs.{with_database, IsEvaluated, HasItems};
+ghost use Rattle.mls_sessions.specs.World.{site_of, IsSound};
+ghost use Rattle.mls_sessions.specs.Calling.{with_entries};
+ghost use Rattle.mls_sessions.specs.Turns.{IsDeedOf, IsDoneOf, HasKnownNumbers};
+
+use crate::arguments::fitted;
+use crate::change::Deed;
+use crate::finding::certified_named;
+use crate::naming::user_name;
+use crate::rules::Rules;
+use mls_audit::{Entry, entry_bytes};
+use mls_certcheck::Certified;
+use mls_filterview::{Base, BaseFault, made};
+use mls_lattice::{LabelNo, Str, UserNo};
+use mls_machine::Reply;
+use mls_meaning::Run;
+use mls_scheme::Value;
+use mls_script::{Command, Event};
+use mls_trusted::evaluate_in;
+use mls_updates::copy_value;
+use std::alloc::AllocError;
+
+/// The bytes of the entry of a call.
+fn called_bytes(
+    rules: &Rules,
+    event: &Event,
+    user: UserNo,
+    name: &str,
+) -> Result<Vec<u8>, AllocError>
+    requires user { user < length rules.now.policy.now.users }
+    requires session { is_name event.now.session ≡ true }
+    requires name { is_name name.now ≡ true }
+    ensures bytes { IfOk result (λ v. v.items ≡ entry_spelling (Called event.now.level (user_name rules.now.policy.now.users user) event.now.session name.now)) }
+    ensures spelled { OnOk result (HasSpelling (Called event.now.level (user_name rules.now.policy.now.users user) event.now.session name.now)) }
+{
+    let user = Str::copy_of(rules.alloc, user_name(rules.policy, user))?;
+    let session = Str::copy_of(rules.alloc, &event.session)?;
+    let transaction = Str::copy_of(rules.alloc, name)?;
+    let entry = Entry::Called {
+        label: event.level,
+        user,
+        session,
+        transaction,
+    };
+    entry_bytes(rules.alloc, &entry)
+}
+
+/// The bytes of the entry of a release.
+fn released_bytes(
+    rules: &Rules,
+    event: &Event,
+    user: UserNo,
+    item: &(LabelNo, Option<Value>),
+) -> Result<Vec<u8>, AllocError>
+    requires user { user < length rules.now.policy.now.users }
+    requires session { is_name event.now.session ≡ true }
+    requires item { IsItem rules.now.policy.now item.now }
+    ensures bytes { IfOk result (λ v. v.items ≡ entry_spelling (release_entry (site_of rules.now) event.now user item.now)) }
+    ensures spelled { OnOk result (HasSpelling (release_entry (site_of rules.now) event.now user item.now)) }
+{
+    let user = Str::copy_of(rules.alloc, user_name(rules.policy, user))?;
+    let session = Str::copy_of(rules.alloc, &event.session)?;
+    let value = copy_value(&item.1)?;
+    let entry = Entry::Released {
+        label: item.0,
+        user,
+        session,
+        value,
+    };
+    entry_bytes(rules.alloc, &entry)
+}
+
+/// Enters a call in the audit list, inside a change.
+fn enter_call<B: Base>(
+    rules: &Rules,
+    base: &mut B,
+    event: &Event,
+    user: UserNo,
+    name: &str,
+) -> Result<(), BaseFault>
+    requires begun { (B.state base.old).begun ≡ true }
+    requires user { user < length rules.now.policy.now.users }
+    requires session { is_name event.now.session ≡ true }
+    requires name { is_name name.now ≡ true }
+    ensures call { IsCall B.is_clean B.failures B.state base.old base.new result }
+    ensures served { IfErr result IsServed }
+    ensures mode { OnOk result ((B.state base.new).begun ≡ true) }
+    ensures done { B.is_clean base.new → OnOk result (B.state base.new
+        ≡ with_entry (B.state base.old) (entry_spelling (Called event.now.level (user_name rules.now.policy.now.users user) event.now.session name.now))) }
+    ensures spelled { OnOk result (HasSpelling (Called event.now.level (user_name rules.now.policy.now.users user) event.now.session name.now)) }
+{
+    let bytes = made(base, called_bytes(rules, event, user, name))?;
+    base.audit_add(&bytes)
+}
+
+/// Enters a release in the audit list, inside a change.
+fn enter_release<B: Base>(
+    rules: &Rules,
+    base: &mut B,
+    event: &Event,
+    user: UserNo,
+    item: &(LabelNo, Option<Value>),
+) -> Result<(), BaseFault>
+    requires begun { (B.state base.old).begun ≡ true }
+    requires user { user < length rules.now.policy.now.users }
+    requires session { is_name event.now.session ≡ true }
+    requires item { IsItem rules.now.policy.now item.now }
+    ensures call { IsCall B.is_clean B.failures B.state base.old base.new result }
+    ensures served { IfErr result IsServed }
+    ensures mode { OnOk result ((B.state base.new).begun ≡ true) }
+    ensures done { B.is_clean base.new → OnOk result (B.state base.new
+        ≡ with_entry (B.state base.old) (entry_spelling (release_entry (site_of rules.now) event.now user item.now))) }
+    ensures spelled { OnOk result (HasSpelling (release_entry (site_of rules.now) event.now user item.now)) }
+{
+    let bytes = made(base, released_bytes(rules, event, user, item))?;
+    base.audit_add(&bytes)
+}
+
+/// Enters releases in the audit list, inside a change.
+fn enter_releases<B: Base>(
+    rules: &Rules,
+    base: &mut B,
+    event: &Event,
+    user: UserNo,
+    released: &[(LabelNo, Option<Value>)],
+) -> Result<(), BaseFault>
+    requires begun { (B.state base.old).begun ≡ true }
+    requires user { user < length rules.now.policy.now.users }
+    requires session { is_name event.now.session ≡ true }
+    requires items { AllByRecursion (IsItem rules.now.policy.now) released.now }
+    ensures call { IsCall B.is_clean B.failures B.state base.old base.new result }
+    ensures served { IfErr result IsServed }
+    ensures mode { OnOk result ((B.state base.new).begun ≡ true) }
+    ensures done { B.is_clean base.new → OnOk result (B.state base.new ≡ with_entries (B.state base.old) (map (release_entry (site_of rules.now) event.now user) released.now)) }
+    ensures spelled { OnOk result (AllByRecursion HasSpelling (map (release_entry (site_of rules.now) event.now user) released.now)) }
+{
+    for item in released {
+        enter_release(rules, base, event, user, item)?;
+    }
+    Ok(())
+}
+
+/// Enters a call and its releases in the audit list, inside a change.
+fn enter_run<B: Base>(
+    rules: &Rules,
+    base: &mut B,
+    event: &Event,
+    user: UserNo,
+    name: &str,
+    released: &[(LabelNo, Option<Value>)],
+) -> Result<(), BaseFault>
+    requires begun { (B.state base.old).begun ≡ true }
+    requires user { user < length rules.now.policy.now.users }
+    requires session { is_name event.now.session ≡ true }
+    requires name { is_name name.now ≡ true }
+    requires items { AllByRecursion (IsItem rules.now.policy.now) released.now }
+    ensures call { IsCall B.is_clean B.failures B.state base.old base.new result }
+    ensures served { IfErr result IsServed }
+    ensures mode { OnOk result ((B.state base.new).begun ≡ true) }
+    ensures done { B.is_clean base.new → OnOk result (B.state base.new ≡ with_entries (B.state base.old) (call_entries (site_of rules.now) event.now user name.now released.now)) }
+    ensures spelled { OnOk result (AllByRecursion HasSpelling (call_entries (site_of rules.now) event.now user name.now released.now)) }
+{
+    enter_call(rules, base, event, user, name)?;
+    enter_releases(rules, base, event, user, released)
+}
+
+/// Runs a transaction on arguments, inside a change: those of the wrong kind are taken as null.
+fn run_certified<B: Base>(
+    rules: &Rules,
+    base: &mut B,
+    certified: &Certified,
+    args: &[Option<Value>],
+) -> Result<Run, BaseFault>
+    requires begun { (B.state base.old).begun ≡ true }
+    requires under { AreUnder (length rules.now.policy.now.labels) rules.now.schemes.now }
+    requires read { IsReadUnder rules.now.policy.now rules.now.schemes.now certified.now.tx }
+    requires count { length args.now ≡ length certified.now.tx.params }
+    requires content { B.is_clean base.old → AreContent (labels_of rules.now.policy.now) rules.now.schemes.now (B.state base.old).now.db }
+    ensures call { IsCall B.is_clean B.failures B.state base.old base.new result }
+    ensures served { IfErr result IsServed }
+    ensures mode { OnOk result ((B.state base.new).begun ≡ true) }
+    ensures items { IfOk result (HasItems rules.now.policy.now) }
+    ensures done { B.is_clean base.new
+        → let run = run_tx (labels_of rules.now.policy.now) rules.now.schemes.now certified.now.tx (fitted certified.now.tx.params args.now) (B.state base.old).now.db in
+        IfOk result (IsEvaluated run (with_database (B.state base.old) run.db) (B.state base.new)) }
+{
+    let args = made(base, fitted(rules.alloc, certified.tx(), args))?;
+    evaluate_in(
+        rules.alloc,
+        base,
+        rules.policy,
+        rules.schemes,
+        certified,
+        &args,
+    )
+}
+
+/// Runs the transaction that an event calls, and enters the call and what it released, inside a change.
+pub(crate) fn call<B: Base>(
+    rules: &Rules,
+    base: &mut B,
+    event: &Event,
+    user: UserNo,
+) -> Result<Reply, BaseFault>
+    requires begun { (B.state base.old).begun ≡ true }
+    requires under { AreUnder (length rules.now.policy.now.labels) rules.now.schemes.now }
+    requires read { AreRead (site_of rules.now) }
+    requires sound { B.is_clean base.old → IsSound (site_of rules.now) (B.state base.old).now }
+    requires fits { EventFits rules.now.policy.now rules.now.schemes.now event.now }
+    requires deed { IsDeedOf (site_of rules.now) event.now (Deed.Call user) }
+    ensures call { IsCall B.is_clean B.failures B.state base.old base.new result }
+    ensures served { IfErr result IsServed }
+    ensures mode { OnOk result ((B.state base.new).begun ≡ true) }
+    ensures kept { B.is_clean base.new → OnOk result ((B.state base.new).kept ≡ (B.state base.old).kept) }
+    ensures done { B.is_clean base.new → IfOk result (IsDoneOf (site_of rules.now) event.now (Deed.Call user) (B.state base.old).now (B.state base.new).now) }
+    ensures known { IfOk result (HasKnownNumbers rules.now.policy.now) }
+{
+    let Command::Call { tx, args } = &event.command else {
+        unreachable!()
+    };
+    let certified = certified_named(&rules.stored, tx);
+    let run = run_certified(rules, base, certified, args)?;
+    enter_run(rules, base, event, user, tx, &run.released)?;
+    Ok(Reply::Ran(run))
+}

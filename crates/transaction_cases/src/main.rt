@@ -1,0 +1,45 @@
+//! Cases of transactions: what the public calls answer for the tables in `data/`. Adding a case is adding a line there, and its answer to
+//! `stdout`.
+#![tactic(auto)]
+
+ghost use Rattle.std.specs.Prelude.{length};
+ghost use Rattle.mls_scheme.specs.Scheme.{AreUnder};
+
+mod checks;
+mod evaluations;
+mod limits;
+mod prints;
+mod table;
+mod texts;
+
+use crate::table::{TABLES, tell};
+use mls_lattice::Policy;
+use mls_scheme::Schemes;
+use std::fs;
+use std::io::{self, Error, ErrorKind, Write};
+
+fn tell_tables(rt: &HostRuntime, policy: &Policy, schemes: &Schemes) -> io::Result<()>
+    requires { AreUnder (length policy.now.labels) schemes.now }
+{
+    for table in TABLES {
+        let text = tell(rt, policy, schemes, table)?;
+        rt.stdout().write_all(text.as_bytes())?;
+    }
+    Ok(())
+}
+
+fn tell_under(rt: &HostRuntime, policy: &Policy) -> io::Result<()> {
+    let text = fs::read_to_string(rt, "schemes.toml")?;
+    match Schemes::read(rt.alloc(), policy, text.as_bytes()) {
+        Ok(schemes) => tell_tables(rt, policy, &schemes),
+        Err(_) => Err(Error::from(ErrorKind::InvalidData)),
+    }
+}
+
+fn main(rt: HostRuntime) -> io::Result<()> {
+    let text = fs::read_to_string(&rt, "policy.toml")?;
+    match Policy::read(rt.alloc(), text.as_bytes()) {
+        Ok(policy) => tell_under(&rt, &policy),
+        Err(_) => Err(Error::from(ErrorKind::InvalidData)),
+    }
+}

@@ -11,13 +11,13 @@ abbrev pub ◌>>=◌ : {A B E : Type 0} → Result A E → (A → Result B E) �
 (Ok x) >>= f = f x
 (Err e) >>= f = Err e
 
--- What a function returned, seen by view, is what reading gives, unless memory ran out, as one fault says.
-abbrev pub GivesUnless : {E X Y : Type 0} → E → (X → Y) → Result X E → Result Y E → Type 0
-GivesUnless memory view (Ok x) read = read ≡ Ok (view x)
-GivesUnless memory view (Err e) read = (e ≡ memory → ⊥) → read ≡ Err e
+-- What a function returned, seen by view, is what reading gives, unless the fault is one of these, as want of memory is.
+abbrev pub GivesUnless : {E X Y : Type 0} → (E → Type 0) → (X → Y) → Result X E → Result Y E → Type 0
+GivesUnless OutOfMemory view (Ok x) read = read ≡ Ok (view x)
+GivesUnless OutOfMemory view (Err e) read = (OutOfMemory e → ⊥) → read ≡ Err e
 
 abbrev pub Gives : {X Y : Type 0} → (X → Y) → Result X PolicyFault → Result Y PolicyFault → Type 0
-Gives = GivesUnless Memory
+Gives = GivesUnless (λ e. e ≡ Memory)
 
 -- the value at a key
 abbrev pub wanted : List ℕ → Members → Result Data PolicyFault

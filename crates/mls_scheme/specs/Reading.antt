@@ -18,7 +18,7 @@ use Rattle.mls_scheme.specs.Scheme.{Attribute, Scheme, Schemes, column_of}
 
 -- What a function returned, seen by view, is what reading gives, unless memory ran out.
 abbrev pub Gives : {X Y : Type 0} → (X → Y) → Result X SchemeFault → Result Y SchemeFault → Type 0
-Gives = GivesUnless Memory
+Gives = GivesUnless (λ e. e ≡ Memory)
 
 -- the same answer, with the fault of the same number
 abbrev pub lift : {X : Type 0} → Result X PolicyFault → Result X SchemeFault

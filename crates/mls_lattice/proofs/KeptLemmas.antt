@@ -21,7 +21,8 @@ use Rattle.mls_lattice.specs.Labels.{label_of, AreDistinct, below}
 use Rattle.mls_lattice.specs.Name.{is_name}
 use Rattle.mls_lattice.specs.Policy.{Name, Named, Tables, labels_of, HasLevel, IsCleared, IsTrusted, HasUser, HasKnownModes, same_entry, AreNames, IsPolicy}
 use Rattle.mls_lattice.specs.Says.{Rows, SaysName, SaysLabel, SaysUser, SaysTrusted, SaysMode, SaysRight, Says}
-use Rattle.mls_lattice.specs.PolicyReading.{version_at, levels_at, categories_at, labels_at, users_at, matrix_at, policy_at}
+use Rattle.mls_lattice.specs.Reading.{version_at}
+use Rattle.mls_lattice.specs.PolicyReading.{levels_at, categories_at, labels_at, users_at, matrix_at, policy_at}
 use Rattle.mls_lattice.proofs.ReadsPolicyLemmas.{says_found}
 use Rattle.mls_lattice.proofs.LatticeLemmas.{same_pair-refl}
 use Rattle.mls_lattice.proofs.SaysLemmas.{ok_same}

@@ -5,8 +5,8 @@ use Rattle.toml.specs.Data.{Members, as_str, as_table}
 use Rattle.mls_lattice.specs.declared.fault.PolicyFault.{PolicyFault}
 use Rattle.mls_lattice.specs.declared.fault.PolicyFault.TheVariants.{NotToml, Memory}
 use Rattle.mls_lattice.specs.Policy.{Tables}
-use Rattle.mls_lattice.specs.Reading.{Gives}
-use Rattle.mls_lattice.specs.PolicyReading.{version_at, new_name_at, levels_at, categories_at, label_at, labels_at, user_at, users_at, right_at, matrix_at, policy_at}
+use Rattle.mls_lattice.specs.Reading.{Gives, version_at}
+use Rattle.mls_lattice.specs.PolicyReading.{new_name_at, levels_at, categories_at, label_at, labels_at, user_at, users_at, right_at, matrix_at, policy_at}
 use Rattle.mls_lattice.specs.Says.{SaysName, SaysLabel, SaysUser, SaysRight, Says}
 use Rattle.mls_lattice.specs.ReadsPolicy.{IsDocument, ReadsPolicy, HasFault, SaysOne, ReadingIsExact}
 use Rattle.mls_lattice.proofs.ReadingLemmas.{bind_ok}
@@ -78,7 +78,7 @@ one document p q a b = ok_same p q (policy_at document) (says_again document p a
 
 -- ---- the clauses of the reader
 
-one_document : (bytes : List ℕ) (d e : Members) → IsDocument bytes d → IsDocument bytes e → d ≡ e
+pub one_document : (bytes : List ℕ) (d e : Members) → IsDocument bytes d → IsDocument bytes e → d ≡ e
 one_document bytes d e a b = let h : Some d ≡ Some e = sym a.1 ∙ b.1 in cc
 
 pub read_found : (bytes : List ℕ) (document : Members) (r : Result Tables PolicyFault) → IsDocument bytes document → Gives (λ p. p) r (policy_at document) → IfOk r (ReadsPolicy bytes)

@@ -10,10 +10,10 @@ use Rattle.mls_lattice.specs.Policy.{Name}
 use Rattle.mls_lattice.specs.Reading.{◌>>=◌, wanted, text_at, array_at, name_at, name_field, items_len, all_items, optional, at_most, some_of}
 use Rattle.mls_lattice.specs.PolicyReading.{rows_at, once}
 use Rattle.mls_lattice.specs.Says.{Rows, MayHaveItems, HasName, HasRows, MayHaveRows}
-use Rattle.mls_lattice.proofs.ReadingLemmas.{bind_ok, guard_ok, pass_ok, found_ok, string_from_as_str, array_from_as_array}
+use Rattle.mls_lattice.proofs.ReadingLemmas.{ok_is, bind_ok, guard_ok, pass_ok, found_ok, string_from_as_str, array_from_as_array}
 
 pub ok_same : {A E : Type 0} (x y : A) (e : Result A E) → e ≡ Ok x → e ≡ Ok y → x ≡ y
-ok_same x y e a b = let h : Result.Ok x ≡ Ok y = sym a ∙ b in cc
+ok_same x y e a b = ok_is x y (sym a ∙ b)
 
 pub once_ok : (b : Bool) (u : Unit {0}) → once b ≡ Ok u → b ≡ false
 once_ok true u e = absurd cc
@@ -91,13 +91,13 @@ pub optional_again : (p : Data → Bool) (key : List ℕ) (fields : Members) (ds
 optional_again p key fields ds (inl h) all = rw (h, all) refl
 optional_again p key fields ds (inr h) all = rw h.0 (ap (λ (x : Items). Ok x) (sym h.1))
 
-most_found : (most : ℕ) (all ds : Items) → at_most most all ≡ Ok ds → (all ≡ ds) × (items_len ds ≤ most)
+pub most_found : (most : ℕ) (all ds : Items) → at_most most all ≡ Ok ds → (all ≡ ds) × (items_len ds ≤ most)
 most_found most all ds e =
     let a = guard_ok (nat_lt most (items_len all)) TooMany (Ok all) ds e in
     let same : all ≡ ds = ok_same all ds (Ok all) refl a.1 in
     (same, rw (← same) (ltb-false most (items_len all) a.0))
 
-most_again : (most : ℕ) (ds : Items) → items_len ds ≤ most → at_most most ds ≡ Ok ds
+pub most_again : (most : ℕ) (ds : Items) → items_len ds ≤ most → at_most most ds ≡ Ok ds
 most_again most ds few = rw (le-ltb most (items_len ds) few) refl
 
 some_found : (most : ℕ) (all ds : Items) → some_of most all ≡ Ok ds → (all ≡ ds) × (0 < items_len ds) × (items_len ds ≤ most)

@@ -18,8 +18,8 @@ use Rattle.mls_lattice.specs.declared.tables.Right.{Right}
 use Rattle.mls_lattice.specs.Lattice.{Categories, Pair, same_pair}
 use Rattle.mls_lattice.specs.Labels.{below}
 use Rattle.mls_lattice.specs.Policy.{Name, Named, is_entry}
-use Rattle.mls_lattice.specs.Reading.{wanted, text_at, integer_at, table_at, name_at, name_field, texts_at, optional}
-use Rattle.mls_lattice.specs.PolicyReading.{once, place_in, label_place, user_place, version_at, new_name_at, more_categories, value_at, label_at, label_name_at, interval_at, trusted_at, user_at, mode_of, more_modes, right_at}
+use Rattle.mls_lattice.specs.Reading.{wanted, text_at, integer_at, table_at, name_at, name_field, texts_at, optional, version_at}
+use Rattle.mls_lattice.specs.PolicyReading.{once, place_in, label_place, user_place, new_name_at, more_categories, value_at, label_at, label_name_at, interval_at, trusted_at, user_at, mode_of, more_modes, right_at}
 use Rattle.mls_lattice.specs.Says.{Rows, SaysName, SaysCategory, SaysValue, SaysLabel, SaysPlace, SaysTrusted, SaysUser, SaysMode, together, SaysRight}
 use Rattle.mls_lattice.proofs.ReadingLemmas.{bind_ok, guard_ok, pass_ok, found_ok, string_from_as_str, integer_from_as_integer, table_from_as_table}
 use Rattle.mls_lattice.proofs.SaysLemmas.{rows_all, ok_same, once_ok, name_found, field_found, field_again, kind_found, optional_found, optional_again}
@@ -27,7 +27,7 @@ use Rattle.mls_lattice.proofs.SaysLemmas.{rows_all, ok_same, once_ok, name_found
 is_text : Data → Bool
 is_text d = is_some (as_str d)
 
-table_found : (d : Data) (fields : Members) → table_at d ≡ Ok fields → d ≡ table fields
+pub table_found : (d : Data) (fields : Members) → table_at d ≡ Ok fields → d ≡ table fields
 table_found d fields e = table_from_as_table d fields (found_ok (as_table d) WrongKind fields e)
 
 -- ---- names

@@ -1,5 +1,6 @@
 -- What a field of a document says, or its fault.
-use Rattle.std.specs.Prelude.{◌≡◌, ℕ, suc, ℤ, List, Bool, true, nat_lt, ◌==◌, ◌&&◌, if◌then◌else◌, Option, Some, None, is_some, Result, Ok, Err, ok_or}
+use Rattle.std.specs.Prelude.{◌≡◌, ℕ, suc, ℤ, pos, codes, List, Bool, true, nat_lt, ◌==◌, ◌&&◌, if◌then◌else◌, Option, Some, None, is_some, Result, Ok, Err, ok_or}
+use Rattle.std.specs.Ordering.{int_eq}
 use Rattle.toml.specs.Data.{Data, Items, no_items, item, Members, get_member, as_str, as_integer, as_array, as_table}
 use Rattle.mls_lattice.specs.declared.fault.PolicyFault.{PolicyFault}
 use Rattle.mls_lattice.specs.declared.fault.PolicyFault.TheVariants.{MissingField, WrongKind, TooMany, BadName, Memory}
@@ -38,6 +39,13 @@ table_at d = ok_or (as_table d) WrongKind
 -- a text that is a name
 abbrev pub name_at : Data → Result (List ℕ) PolicyFault
 name_at d = text_at d >>= λ text. if is_name text then Ok text else Err BadName
+
+-- the version is 1
+unfoldable pub version_at : Members → Result (Unit {0}) PolicyFault
+version_at document = do
+  d ← wanted (codes "version") document
+  n ← integer_at d
+  if int_eq n (pos 1) then Ok tt else Err WrongKind
 
 -- the name at a key
 abbrev pub name_field : List ℕ → Members → Result (List ℕ) PolicyFault

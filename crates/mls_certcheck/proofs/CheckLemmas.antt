@@ -1,21 +1,31 @@
 -- What the checker's answer says.
 use Rattle.std.proofs.Common.{◌≡◌, ℕ, zero, suc, ◌+◌, Bool, true, false, ◌&&◌, List, [], ◌∷◌, drop, Some, Result, Ok, Err, refl, sym, ap, ◌∙◌, arith}
-use Rattle.std.specs.Prelude.{◌↔◌, option_map, slice_get}
+use Rattle.std.specs.Prelude.{◌↔◌, IfOk, option_map, slice_get}
 use Rattle.std.specs.List.{flat_map, list_all}
-use Rattle.mls_lattice.specs.Policy.{Name}
+use Rattle.mls_lattice.specs.Labels.{AreDistinct}
+use Rattle.mls_lattice.specs.Policy.{Name, Tables, labels_of}
 use Rattle.mls_translang.specs.declared.tx.Parameter.{Parameter}
 use Rattle.mls_translang.specs.Tree.{Block}
-use Rattle.mls_certcheck.specs.Rules.{Claim, Rules, all_places}
+use Rattle.mls_translang.specs.Tx.{Tx}
+use Rattle.mls_meaning.specs.Secure.{Secure}
+use Rattle.mls_certificate.specs.declared.cert.Cert.{Cert}
+use Rattle.mls_certcheck.specs.Rules.{Claim, Rules, all_places, claim}
 use Rattle.mls_certcheck.specs.Checks.{verdict, tests_at, First}
 use Rattle.mls_certcheck.specs.Walk.{Says, walked}
 use Rattle.mls_certcheck.specs.declared.refusal.Refusal.{Refusal}
 use Rattle.mls_certcheck.proofs.RulesLemmas.{rules_from_first, first_from_rules}
 use Rattle.mls_certcheck.proofs.WalkLemmas.{walk_is_err, walk_is_ok}
+use Rattle.mls_certcheck.proofs.LawLemmas.{secure_rules}
 
 -- Ok exactly where the rules hold
 pub says_rules : (c : Claim) (r : Result (Unit {0}) Refusal) → Says r (First c) → r ≡ Ok tt ↔ Rules c
 says_rules c (Ok u) h = (λ k. rules_from_first c h, λ rules. refl)
 says_rules c (Err e) h = (λ k. absurd cc, λ rules. absurd (let holds = first_from_rules c rules in cc))
+
+-- what is accepted is secure
+pub says_secure : (policy : Tables) → AreDistinct (labels_of policy) → (tx : Tx) (cert : Cert) (r : Result (Unit {0}) Refusal) → Says r (First (claim policy tx cert)) → IfOk r (λ _. Secure policy tx)
+says_secure policy distinct tx cert (Ok u) h = secure_rules policy distinct tx cert (rules_from_first (claim policy tx cert) h)
+says_secure policy distinct tx cert (Err e) h = tt
 
 pub body_err : (c : Claim) (rows : List ℕ) (b : Block) (e : Refusal) → rows ≡ [] → b ≡ c.tx.body → walked c 1 0 rows b ≡ Err e → verdict (flat_map (tests_at c) (all_places c)) ≡ Err e
 body_err c rows b e none whole h = walk_is_err c 1 0 [] c.tx.body e ((λ i. walked c 1 0 (sym none i) (sym whole i)) ∙ h)

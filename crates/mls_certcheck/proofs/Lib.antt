@@ -3,3 +3,8 @@ pub mod LabelLemmas
 pub mod WalkLemmas
 pub mod RulesLemmas
 pub mod CheckLemmas
+pub mod PlaceLemmas
+pub mod QuietLemmas
+pub mod ScopeLemmas
+pub mod FlowLemmas
+pub mod LawLemmas

@@ -1,12 +1,10 @@
 -- That the rules hold has one proof at most, so that a certified transaction can keep it.
-use Rattle.std.specs.Prelude.{ℕ, List, [], ◌∷◌, ◌++◌, map, Option}
-use Rattle.std.specs.Option.{IfSome}
-use Rattle.std.specs.List.{AllByRecursion}
+use Rattle.std.specs.Prelude.{ℕ, List}
 use Rattle.std.proofs.Props.{props}
 use Rattle.mls_lattice.specs.Lattice.{Pair, Dominates}
-use Rattle.mls_translang.specs.Tree.{Expr, Stmt, Writing, Inserting, Updating, Deleting, Assign, Write_at, Release, Emit}
-use Rattle.mls_certcheck.specs.Place.{Node, Plain, Branching, Looping, Place}
-use Rattle.mls_certcheck.specs.Rules.{Claim, Rules, Everywhere, AssignmentAt, BranchAt, LoopAt, LoopObeys, WriteAt, WriteObeys, OrderOf, OrderAt, ReleaseAt, ReleaseObeys, EmitAt, EmitObeys}
+use Rattle.mls_translang.specs.Tree.{Writing, Inserting, Updating, Deleting, Assign, Write_at, Release, Emit}
+use Rattle.mls_certcheck.specs.Place.{Node, Plain, Branching, Looping}
+use Rattle.mls_certcheck.specs.Rules.{Claim, Rules, AssignmentAt, BranchAt, LoopAt, WriteAt, OrderOf, OrderAt, ReleaseAt, EmitAt}
 
 Dominates-prop : (p q : Pair) → IsProp (Dominates p q)
 Dominates-prop p q = hlevel props

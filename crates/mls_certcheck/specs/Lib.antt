@@ -5,3 +5,4 @@ pub mod Checks
 pub mod Rows
 pub mod Walk
 pub mod Certified
+pub mod Laws

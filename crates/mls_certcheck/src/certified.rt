@@ -1,4 +1,5 @@
 ghost use Rattle.std.specs.Prelude.{◌≡◌, Err, IfOk, IfErr};
+ghost use Rattle.mls_meaning.specs.Secure.{Secure};
 ghost use Rattle.mls_certcheck.specs.Rules.{Rules, claim};
 ghost use Rattle.mls_certcheck.specs.Checks.{First};
 ghost use Rattle.mls_certcheck.specs.Certified.{Rules-prop};
@@ -25,6 +26,7 @@ impl Certified {
     pub fn new(policy: &Policy, tx: Tx, cert: Cert) -> Result<Certified, (Tx, Cert, Refusal)>
         ensures kept { IfOk result (λ k. (k.tx ≡ tx) × (k.cert ≡ cert)) }
         ensures rules { IfOk result (λ k. Rules (claim policy.now tx cert)) }
+        ensures secure { IfOk result (λ k. Secure policy.now k.tx) }
         ensures policy { IfOk result (λ k. k.policy.value ≡ policy.now) }
         ensures back { IfErr result (λ e. (e.0 ≡ tx) × (e.1 ≡ cert)) }
         ensures first { IfErr result (λ e. First (claim policy.now tx cert) ≡ Err e.2) }

@@ -1,7 +1,8 @@
 //! The checker: it walks over the statements once.
-ghost use Rattle.std.specs.Prelude.{◌≡◌, ◌↔◌, Ok};
+ghost use Rattle.std.specs.Prelude.{◌≡◌, ◌↔◌, Ok, IfOk};
 ghost use Rattle.std.specs.List.{flat_map, list_all};
 ghost use Rattle.mls_lattice.specs.Lattice.{pair_of, ◌⊑◌};
+ghost use Rattle.mls_meaning.specs.Secure.{Secure};
 ghost use Rattle.mls_certcheck.specs.Rules.{Rules, all_places, claim, hi};
 ghost use Rattle.mls_certcheck.specs.Checks.{First, param_holds, tests_at, tx_tests, verdict};
 ghost use Rattle.mls_certcheck.specs.Walk.{claim_of, Says};
@@ -76,7 +77,11 @@ pub fn check(policy: &Policy, tx: &Tx, cert: &Cert) -> Result<(), Refusal>
     ensures rules { result ≡ Ok tt ↔ Rules (claim policy.now tx.now cert.now) }
     // Which rule it is else.
     ensures first { Says result (First (claim policy.now tx.now cert.now)) }
+    // So the transaction tells no level more than it may see, but for what it releases to it.
+    ensures secure { IfOk result (λ _. Secure policy.now tx.now) }
 {
+    // That the labels of a policy are distinct.
+    let _count = policy.label_count();
     let checker = Checker { policy, tx, cert };
     checker.verdict()
 }

@@ -8,8 +8,8 @@ use Rattle.mls_lattice.specs.Labels.{below, AreDistinct}
 use Rattle.mls_meaning.specs.Meaning.{Item}
 use Rattle.mls_meaning.specs.Secure.{seen_items, Split, Secure}
 use Rattle.mls_certcheck.specs.Rules.{Rules, claim}
-use Rattle.mls_security.proofs.FlowLemmas.{split_more}
-use Rattle.mls_security.proofs.LawLemmas.{secure_rules}
+use Rattle.mls_certcheck.proofs.FlowLemmas.{split_more}
+use Rattle.mls_certcheck.proofs.LawLemmas.{secure_rules}
 use Rattle.mls_script.specs.declared.event.Event.{Event}
 use Rattle.mls_script.specs.declared.event.Command.{Command}
 use Rattle.mls_script.specs.declared.event.Command.TheVariants as commands

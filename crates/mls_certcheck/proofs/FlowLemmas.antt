@@ -31,9 +31,9 @@ use Rattle.mls_meaning.proofs.KeepingLemmas.{Extends, cond_kept, for_each_kept, 
 use Rattle.mls_certificate.specs.declared.cert.Cert.{Cert}
 use Rattle.mls_certcheck.specs.Place.{Plain, directs, places}
 use Rattle.mls_certcheck.specs.Rules.{Claim, claim, hi, pc, lab, var_label, param_label}
-use Rattle.mls_security.proofs.PlaceLemmas.{unseen_above, seen_under, below-⊑, Obeys, BlockObeys}
-use Rattle.mls_security.proofs.QuietLemmas.{Agrees, agrees_trans, agrees_sym, agrees_same, seen_not, quiet_write, quiet_block}
-use Rattle.mls_security.proofs.ScopeLemmas.{EnvironmentsAgree, eval_same, value_same, write_same}
+use Rattle.mls_certcheck.proofs.PlaceLemmas.{unseen_above, seen_under, below-⊑, Obeys, BlockObeys}
+use Rattle.mls_certcheck.proofs.QuietLemmas.{Agrees, agrees_trans, agrees_sym, agrees_same, seen_not, quiet_write, quiet_block}
+use Rattle.mls_certcheck.proofs.ScopeLemmas.{EnvironmentsAgree, eval_same, value_same, write_same}
 
 -- ---- lists of items that split
 

@@ -12,7 +12,7 @@ use Rattle.mls_translang.specs.Tree.{Expr, Known, Null, Var, Param, Field, No, O
 use Rattle.mls_meaning.specs.Expressions.{Plain, Truth, is_true, value_of, cell_of, apply, Environment, eval, value_in}
 use Rattle.mls_meaning.specs.Meaning.{values_set, write_in}
 use Rattle.mls_certcheck.specs.Rules.{Claim, var_label, param_label, lab, operands}
-use Rattle.mls_security.proofs.PlaceLemmas.{seen_under}
+use Rattle.mls_certcheck.proofs.PlaceLemmas.{seen_under}
 
 -- two environments agree at the names that c sees
 pub record EnvironmentsAgree (k : Claim) (c : ℕ) (loops : List ℕ) (a b : Environment) : Type 0 where

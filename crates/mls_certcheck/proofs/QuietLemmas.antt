@@ -28,7 +28,7 @@ use Rattle.mls_meaning.proofs.KeepingLemmas.{cond_kept, for_each_kept, perform_s
 use Rattle.mls_certificate.specs.declared.cert.Cert.{Cert}
 use Rattle.mls_certcheck.specs.Place.{Plain, directs, places}
 use Rattle.mls_certcheck.specs.Rules.{Claim, claim, pc, lab, var_label}
-use Rattle.mls_security.proofs.PlaceLemmas.{unseen_above, below-⊑, Obeys, BlockObeys, AreAbove}
+use Rattle.mls_certcheck.proofs.PlaceLemmas.{unseen_above, below-⊑, Obeys, BlockObeys, AreAbove}
 
 -- two runs look alike to c so far: the low tuples, the variables of labels that it dominates, and the items
 pub record Agrees (k : Claim) (c : ℕ) (s t : Progress) : Type 0 where

@@ -13,10 +13,10 @@ use Rattle.mls_meaning.specs.Meaning.{start}
 use Rattle.mls_meaning.specs.Secure.{SameArgs, param_labels}
 use Rattle.mls_meaning.proofs.KeepingLemmas.{block_stored}
 use Rattle.mls_certcheck.specs.Rules.{claim, pc}
-use Rattle.mls_security.specs.Laws.{RulesMakeSecure}
-use Rattle.mls_security.proofs.PlaceLemmas.{below-⊑, ⊑-below, body_obeys, around_above}
-use Rattle.mls_security.proofs.QuietLemmas.{Agrees, quiet_block}
-use Rattle.mls_security.proofs.FlowLemmas.{Around, related_block}
+use Rattle.mls_certcheck.specs.Laws.{RulesMakeSecure}
+use Rattle.mls_certcheck.proofs.PlaceLemmas.{below-⊑, ⊑-below, body_obeys, around_above}
+use Rattle.mls_certcheck.proofs.QuietLemmas.{Agrees, quiet_block}
+use Rattle.mls_certcheck.proofs.FlowLemmas.{Around, related_block}
 
 -- the same arguments at the parameters whose labels c dominates, and none past the last
 args_same : (policy : Tables) (tx : Tx) (c : ℕ) (args brgs : List (Option Value)) → SameArgs (labels_of policy) c (param_labels tx) args brgs

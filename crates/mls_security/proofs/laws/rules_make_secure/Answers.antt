@@ -1,5 +1,0 @@
-use Rattle.mls_security.proofs.LawLemmas.{secure_rules}
-use Rattle.mls_security.proofs.laws.rules_make_secure.Goals as goal
-
-pub returns : goal.returns
-returns c = secure_rules

@@ -4,7 +4,8 @@ ghost use Rattle.std.specs.List.{AllByRecursion};
 ghost use Rattle.mls_scheme.specs.Scheme.{AreUnder};
 ghost use Rattle.mls_script.specs.Event.{EventFits};
 ghost use Rattle.mls_filterview.specs.Content.{no_content};
-ghost use Rattle.mls_sessions.specs.World.{site_under, IsSound};
+ghost use Rattle.mls_replies.specs.Under.{site_under};
+ghost use Rattle.mls_sessions.specs.World.{IsSound};
 
 use crate::faulty::Faulty;
 use crate::narrow::Narrow;

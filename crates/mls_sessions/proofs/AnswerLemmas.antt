@@ -21,7 +21,7 @@ use Rattle.mls_sessions.specs.declared.cause.RunCause.{RunCause}
 use Rattle.mls_sessions.specs.declared.cause.RunCause.TheVariants.{Store, Memory, Write}
 use Rattle.mls_sessions.specs.declared.engine.Engine.{Engine}
 use Rattle.mls_sessions.specs.Cause.{cause_of}
-use Rattle.mls_sessions.specs.World.{site_of}
+use Rattle.mls_monitor.specs.Sessions.{site_of}
 use Rattle.mls_sessions.specs.Engine.{site, world_of, IsReady, IsStep, IsKept}
 use Rattle.mls_sessions.specs.Run.{printed_to, world_after, IsWhole, IsStopped, IsPart, answer_text, IsAnswered, IsHalted}
 use Rattle.mls_sessions.proofs.StepLemmas.{entries_known}

@@ -1,11 +1,9 @@
 -- Calls: what they find stored, and what they leave.
 use Rattle.std.proofs.Common.{◌≡◌, ℕ, ◌<◌, true, List, [], ◌∷◌, ◌++◌, length, map, Option, Some, None, refl, sym, ap, ◌∙◌, subst}
-use Rattle.std.specs.Prelude.{option_map, slice_get}
 use Rattle.std.specs.Option.{IfSome}
 use Rattle.std.specs.List.{AllByRecursion, cons_option}
 use Rattle.std.proofs.lemmas.List.Elements.{filter_map-append}
-use Rattle.std.proofs.lemmas.Option.{slice_get-get_or, none-some}
-use Rattle.mls_lattice.specs.declared.tables.User.{User}
+use Rattle.std.proofs.lemmas.Option.{none-some}
 use Rattle.mls_lattice.specs.Policy.{Name, Tables}
 use Rattle.mls_scheme.specs.declared.value.Kind.{Kind}
 use Rattle.mls_scheme.specs.declared.value.Value.{Value}
@@ -16,7 +14,6 @@ use Rattle.mls_filterview.specs.Content.{State}
 use Rattle.mls_audit.specs.declared.entry.Entry.{Entry}
 use Rattle.mls_audit.specs.Entry.{label_of}
 use Rattle.mls_audit.specs.Spelling.{HasSpelling, entry_spelling}
-use Rattle.mls_translang.specs.Fits.{IsReadUnder}
 use Rattle.mls_certcheck.specs.declared.certified.Certified.{Certified as Checked}
 use Rattle.mls_meaning.specs.declared.run.Run.{Run}
 use Rattle.mls_meaning.specs.Meaning.{Item, run_tx}
@@ -27,30 +24,17 @@ use Rattle.mls_machine.specs.declared.reply.Denial.TheVariants.{UnknownTransacti
 use Rattle.mls_machine.specs.declared.reply.Reply.TheVariants.{Ran}
 use Rattle.mls_machine.specs.declared.stored.Stored.{Stored}
 use Rattle.mls_machine.specs.declared.stored.Stored.TheVariants.{Certified, Plain}
-use Rattle.mls_machine.specs.Stored.{tx_of}
 use Rattle.mls_machine.specs.Site.{Site, site_labels}
-use Rattle.mls_machine.specs.Denying.{first_denial, no_user, trusted_of, stored_named, fitted, call_denials, call_denial}
+use Rattle.mls_machine.specs.Denying.{first_denial, stored_named, fitted, call_denials, call_denial}
 use Rattle.mls_machine.specs.Machine.{unless, release_entry, call_entries, called, call_step, step_inside}
 use Rattle.mls_machine.specs.Output.{ItemsAreKnown}
-use Rattle.mls_machine.specs.Observation.{AreRead}
 use Rattle.mls_machine.proofs.DenyingLemmas.{may_run}
-use Rattle.mls_machine.proofs.CalledLemmas.{found_holds}
 use Rattle.mls_trusted.specs.Runs.{with_database, IsEvaluated}
-use Rattle.mls_sessions.specs.Denying.{denial_in}
+use Rattle.mls_monitor.specs.Denying.{denial_in}
 use Rattle.mls_sessions.specs.World.{entries_in, IsEntryOf, world_at}
 use Rattle.mls_sessions.specs.Calling.{with_entries}
 use Rattle.mls_sessions.specs.Turns.{IsStepOver}
 use Rattle.mls_sessions.proofs.StepLemmas.{read, spelled_read}
-
--- ---- users
-
-trusted_is : (a b : Option (ℕ × ℕ)) → Some a ≡ Some b → a ≡ b
-trusted_is a b e = cc
-
-pub trusted_found : (policy : Tables) (user : ℕ) (interval : Option (ℕ × ℕ)) → user < length policy.users → option_map (λ u. u.trusted) (slice_get policy.users user) ≡ Some interval
-    → interval ≡ trusted_of policy user
-trusted_found policy user interval within row =
-    trusted_is interval (trusted_of policy user) (sym row ∙ ap (option_map (λ (u : User). u.trusted)) (slice_get-get_or policy.users user no_user within))
 
 -- ---- values
 
@@ -63,9 +47,6 @@ value_is_short copy value same h = subst (λ v. IfSome v IsShortValue) (sym same
     some_short (Some v) k = k.1
 
 -- ---- what is stored
-
-pub found_read : (site : Site) (name : Name) (s : Stored) → AreRead site → stored_named site.stored name ≡ Some s → IsReadUnder site.policy site.schemes (tx_of s)
-found_read site name s read is = subst (λ o. IfSome o (λ x. IsReadUnder site.policy site.schemes (tx_of x))) is (found_holds _ _ site.stored read)
 
 module _ (site : Site) (level user : ℕ) (name : Name) (args : List (Option Value)) where
   -- where a call is not denied, there is one

@@ -1,10 +1,6 @@
 pub mod WritingSteps
-pub mod KnownLemmas
-pub mod PrintingSteps
-pub mod SessionLemmas
 pub mod TurnLemmas
 pub mod StepLemmas
-pub mod ArgumentLemmas
 pub mod CallLemmas
 pub mod EnteringLemmas
 pub mod EngineLemmas

@@ -9,7 +9,8 @@ use Rattle.mls_machine.specs.Site.{Site, site_labels}
 use Rattle.mls_machine.specs.Observation.{AreRead, AreCertified}
 use Rattle.mls_machine.specs.Machine.{World, Step}
 use Rattle.mls_sessions.specs.declared.engine.Engine.{Engine}
-use Rattle.mls_sessions.specs.World.{site_of, sessions_of, AreForUsers, world_at, IsSound}
+use Rattle.mls_monitor.specs.Sessions.{site_of, sessions_of, AreForUsers}
+use Rattle.mls_sessions.specs.World.{world_at, IsSound}
 use Rattle.mls_sessions.specs.Turns.{IsTurn}
 
 abbrev pub site : {B : Type 0} → Engine B → Site

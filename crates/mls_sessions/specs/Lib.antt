@@ -1,8 +1,6 @@
-pub mod Denying
 pub mod World
 pub mod Turns
 pub mod Engine
 pub mod Calling
 pub mod Cause
-pub mod Known
 pub mod Run

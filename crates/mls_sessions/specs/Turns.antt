@@ -1,26 +1,20 @@
 -- What the calls of one event promise.
-use Rattle.std.specs.Prelude.{◌≡◌, ℕ, ◌<◌, ◌≤◌, true, false, Bool, IfErr, List, length, None, Result, ⊤}
+use Rattle.std.specs.Prelude.{◌≡◌, ℕ, ◌<◌, ◌≤◌, true, false, Bool, IfErr, length, None, Result}
 use Rattle.std.specs.List.{AllByRecursion}
-use Rattle.mls_lattice.specs.Policy.{Tables}
-use Rattle.mls_scheme.specs.Table.{Database}
 use Rattle.mls_filterview.specs.declared.base.BaseFault.{BaseFault}
 use Rattle.mls_filterview.specs.declared.base.BaseFault.TheVariants as faults
 use Rattle.mls_filterview.specs.Calls.{IsServed}
 use Rattle.mls_filterview.specs.Content.{Content}
-use Rattle.mls_audit.specs.declared.entry.Entry.{Entry}
 use Rattle.mls_script.specs.declared.event.Event.{Event}
 use Rattle.mls_script.specs.declared.event.Command.{Command}
 use Rattle.mls_script.specs.declared.event.Command.TheVariants as commands
 use Rattle.mls_machine.specs.declared.reply.Reply.{Reply}
-use Rattle.mls_machine.specs.declared.reply.Reply.TheVariants.{Opened, Closed, Rows, Wrote, Ran, Entries, Denied}
 use Rattle.mls_machine.specs.Site.{Site}
 use Rattle.mls_machine.specs.Machine.{Sessions, World, Step, denied, step_inside}
-use Rattle.mls_machine.specs.Output.{EntriesAreKnown, ItemsAreKnown}
 use Rattle.mls_sessions.specs.declared.change.Deed.{Deed}
 use Rattle.mls_sessions.specs.declared.change.Deed.TheVariants.{Deny, Write, Call}
-use Rattle.mls_sessions.specs.declared.session.Session.{Session}
-use Rattle.mls_sessions.specs.Denying.{denial_in}
-use Rattle.mls_sessions.specs.World.{sessions_of, world_at, IsEntryOf}
+use Rattle.mls_monitor.specs.Denying.{denial_in}
+use Rattle.mls_sessions.specs.World.{world_at, IsEntryOf}
 
 -- ---- faults
 
@@ -45,12 +39,6 @@ pub record IsStepOver (site : Site) (step : World → Step) (s t : Content) (r :
   pub reply : (sessions : Sessions) → r ≡ (step (world_at site sessions s)).reply
   pub world : (sessions : Sessions) → world_at site sessions t ≡ (step (world_at site sessions s)).world
   pub entries : AllByRecursion (IsEntryOf (length site.policy.labels)) s.audit → AllByRecursion (IsEntryOf (length site.policy.labels)) t.audit
-
--- sessions changed, and a reply given, as by a step of the machine that looks at nothing else
-pub record IsSessionStep (step : World → Step) (old new : List Session) (r : Reply) : Type 0 where
-  pub reply : (db : Database) (audit : List Entry) → r ≡ (step (record { db = db; sessions = sessions_of old; audit = audit })).reply
-  pub world : (db : Database) (audit : List Entry)
-      → record { db = db; sessions = sessions_of new; audit = audit } ≡ (step (record { db = db; sessions = sessions_of old; audit = audit })).world
 
 -- ---- deeds
 
@@ -80,15 +68,3 @@ IsDoneOf site event (Deny user denial) s t r = IsStepOver site (λ w. denied sit
 IsDoneOf site event Write s t r =
     (user : ℕ) → denial_in site event.level user event.command ≡ None → IsStepOver site (λ w. step_inside site w event event.command user) s t r
 IsDoneOf site event (Call user) s t r = IsStepOver site (λ w. step_inside site w event event.command user) s t r
-
--- ---- replies over any store
-
--- the user that a session is opened for is one of the policy, and the labels of items and of entries are declared
-abbrev pub HasKnownNumbers : Tables → Reply → Type 0
-HasKnownNumbers policy (Opened user) = user < length policy.users
-HasKnownNumbers policy Closed = ⊤
-HasKnownNumbers policy (Rows tuples) = ⊤
-HasKnownNumbers policy (Wrote o) = ⊤
-HasKnownNumbers policy (Ran run) = ItemsAreKnown policy run.emitted × ItemsAreKnown policy run.released
-HasKnownNumbers policy (Entries es) = EntriesAreKnown policy es
-HasKnownNumbers policy (Denied d) = ⊤

@@ -1,9 +1,6 @@
 -- The world that content and open sessions are.
-use Rattle.std.specs.Prelude.{◌≡◌, ℕ, Bool, ◌&&◌, if◌then◌else◌, nat_eq, nat_lt, ◌<◌, List, [], ◌∷◌, length, Option, Some, None, Result, Ok, Err}
+use Rattle.std.specs.Prelude.{◌≡◌, ℕ, if◌then◌else◌, nat_lt, ◌<◌, List, length, Option, Some, None, Result, Ok, Err}
 use Rattle.std.specs.List.{AllByRecursion, filter_map}
-use Rattle.std.specs.Str.{bytes_eq}
-use Rattle.mls_lattice.specs.Policy.{Name, Tables}
-use Rattle.mls_scheme.specs.Scheme.{Schemes}
 use Rattle.mls_filterview.specs.Content.{Content}
 use Rattle.mls_filterview.specs.Stored.{AreContent}
 use Rattle.mls_audit.specs.declared.entry.Entry.{Entry}
@@ -13,30 +10,6 @@ use Rattle.mls_audit.specs.Reading.{entry_at}
 use Rattle.mls_audit.specs.Spelling.{HasSpelling, entry_spelling}
 use Rattle.mls_machine.specs.Site.{Site, site_labels}
 use Rattle.mls_machine.specs.Machine.{Sessions, World}
-use Rattle.mls_sessions.specs.declared.rules.Rules.{Rules}
-use Rattle.mls_sessions.specs.declared.session.Session.{Session}
-
--- what replies are printed under: no stored transaction plays a part
-abbrev pub site_under : Tables → Schemes → Site
-site_under policy schemes = record { policy = policy; schemes = schemes; stored = [] }
-
--- what a run is under
-abbrev pub site_of : Rules → Site
-site_of rules = record { policy = rules.policy.now; schemes = rules.schemes.now; stored = rules.stored }
-
--- ---- sessions
-
-abbrev pub is_named : ℕ → Name → Session → Bool
-is_named level name s = nat_eq level s.level && bytes_eq name s.name
-
--- the user of the first session of a level and a name
-abbrev pub sessions_of : List Session → Sessions
-sessions_of [] level name = None
-sessions_of (s ∷ ss) level name = if is_named level name s then Some s.user else sessions_of ss level name
-
--- the users of sessions are numbers of count users
-abbrev pub AreForUsers : ℕ → List Session → Type 0
-AreForUsers count = AllByRecursion (λ s. s.user < count)
 
 -- ---- the audit list
 

@@ -5,14 +5,16 @@ ghost use Rattle.mls_audit.specs.Entry.{visible};
 ghost use Rattle.mls_audit.specs.Reading.{entry_at};
 ghost use Rattle.mls_machine.specs.Machine.{viewed, listed};
 ghost use Rattle.mls_machine.specs.Output.{EntriesAreKnown};
-ghost use Rattle.mls_sessions.specs.World.{site_of, declared, entries_in, IsSound};
-ghost use Rattle.mls_sessions.specs.Turns.{IsTurn, IsStepOver, HasKnownNumbers};
+ghost use Rattle.mls_monitor.specs.Sessions.{site_of};
+ghost use Rattle.mls_sessions.specs.World.{declared, entries_in, IsSound};
+ghost use Rattle.mls_replies.specs.Known.{HasKnownNumbers};
+ghost use Rattle.mls_sessions.specs.Turns.{IsTurn, IsStepOver};
 
-use crate::rules::Rules;
 use mls_audit::{Entry, EntryFault, entry_of, visible};
 use mls_filterview::{Base, BaseFault, made, view};
 use mls_lattice::{Items, LabelNo};
 use mls_machine::Reply;
+use mls_monitor::Rules;
 use mls_scheme::RelNo;
 use std::alloc::AllocError;
 

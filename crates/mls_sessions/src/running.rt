@@ -4,19 +4,18 @@ ghost use Rattle.mls_script.specs.Event.{EventFits};
 ghost use Rattle.mls_machine.specs.Output.{reply_lines, printed, ReplyIsKnown};
 ghost use Rattle.mls_machine.specs.Observation.{EventsFit, PassesOnlyReleasesDown};
 ghost use Rattle.mls_machine.specs.Laws.{KeepsIntegrity};
-ghost use Rattle.mls_sessions.specs.World.{site_of};
-ghost use Rattle.mls_sessions.specs.Turns.{HasKnownNumbers};
+ghost use Rattle.mls_monitor.specs.Sessions.{site_of};
+ghost use Rattle.mls_replies.specs.Known.{HasKnownNumbers};
 ghost use Rattle.mls_sessions.specs.Engine.{site, world_of, IsReady, IsKept};
 ghost use Rattle.mls_sessions.specs.Run.{IsWhole, IsStopped, IsFaultOf, IsAnswered, IsHalted};
 
 use crate::cause::{RunCause, RunFault, cause_of};
 use crate::engine::Engine;
-use crate::known::is_known;
-use crate::replies::reply_bytes;
-use crate::rules::Rules;
 use crate::writing::write_whole;
 use mls_filterview::Base;
 use mls_machine::Reply;
+use mls_monitor::Rules;
+use mls_replies::{is_known, reply_bytes};
 use mls_script::Event;
 use std::io::Write;
 

@@ -8,9 +8,10 @@ use Rattle.mls_machine.specs.Site.{site_labels}
 use Rattle.mls_machine.specs.Denying.{stored_named, fitted}
 use Rattle.mls_machine.specs.Machine.{call_entries}
 use Rattle.mls_trusted.specs.Runs.{with_database, IsEvaluated}
-use Rattle.mls_sessions.specs.World.{site_of}
+use Rattle.mls_monitor.specs.Sessions.{site_of}
 use Rattle.mls_sessions.specs.Calling.{with_entries}
-use Rattle.mls_sessions.proofs.CallLemmas.{found_read, certified_found, counted, items_known, call_allowed, call_over}
+use Rattle.mls_monitor.proofs.StoredLemmas.{found_read}
+use Rattle.mls_sessions.proofs.CallLemmas.{certified_found, counted, items_known, call_allowed, call_over}
 use Rattle.mls_sessions.proofs.calling.call.Goals as goal
 
 pub certified_named-certified-requires : goal.certified_named-certified-requires

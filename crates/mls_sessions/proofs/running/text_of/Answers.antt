@@ -1,7 +1,7 @@
 use Rattle.std.proofs.Common.{ap, ◌∙◌}
 use Rattle.mls_machine.specs.Output.{printed}
-use Rattle.mls_sessions.specs.World.{site_of}
-use Rattle.mls_sessions.proofs.PrintingSteps.{lines_under}
+use Rattle.mls_monitor.specs.Sessions.{site_of}
+use Rattle.mls_replies.proofs.PrintingSteps.{lines_under}
 use Rattle.mls_sessions.proofs.running.text_of.Goals as goal
 
 pub returns-in-Ok-clause-done : goal.returns-in-Ok-clause-done

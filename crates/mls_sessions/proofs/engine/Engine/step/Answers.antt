@@ -1,4 +1,6 @@
 use Rattle.std.proofs.Common.{rules}
+use Rattle.std.proofs.lemmas.Result.{IfOk-weaker}
+use Rattle.mls_replies.proofs.KnownLemmas.{numbers_known}
 use Rattle.mls_sessions.specs.Engine.{site, world_of}
 use Rattle.mls_sessions.proofs.EngineLemmas.{outside_is, answers_opened}
 use Rattle.mls_sessions.proofs.engine.Engine.step.Goals as goal
@@ -7,3 +9,6 @@ pub returns-in-None-clause-done : goal.returns-in-None-clause-done
 returns-in-None-clause-done g c =
     (answers_opened g.B.Base.state g.B.Base.is_clean g.B.Base.failures c.args.self.now c.requires.ready c.args.event.now c.requires.fits c.open.new.sessions (c.open.ensures.users c.requires.ready.users)
     c.open.result (outside_is (site c.args.self.now) (world_of g.B.Base.state c.args.self.now) c.args.event.now (search rules)) c.open.ensures.done c.open.ensures.memory c.open.ensures.failed).done
+
+pub returns-in-None-clause-known : goal.returns-in-None-clause-known
+returns-in-None-clause-known g c = IfOk-weaker c.open.result _ _ (numbers_known (site c.args.self.now).policy) c.open.ensures.known

@@ -1,0 +1,3 @@
+pub mod ArgumentLemmas
+pub mod SessionLemmas
+pub mod StoredLemmas

@@ -1,0 +1,2 @@
+pub mod Denying
+pub mod Sessions

@@ -1,0 +1,14 @@
+//! What sessions run under.
+use mls_lattice::{Items, Policy};
+use mls_machine::Stored;
+use mls_scheme::Schemes;
+use std::alloc::Global;
+
+/// A policy, the schemes of its relations, the stored transactions, and where memory comes from.
+#[derive(Drop)]
+pub struct Rules<'a> {
+    pub alloc: Global,
+    pub policy: &'a Policy,
+    pub schemes: &'a Schemes,
+    pub stored: Items<Stored>,
+}

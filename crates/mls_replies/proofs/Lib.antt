@@ -1,0 +1,3 @@
+pub mod KnownLemmas
+pub mod NamingLemmas
+pub mod PrintingSteps

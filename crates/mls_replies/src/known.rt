@@ -1,0 +1,46 @@
+//! Whether what a store gave can be printed.
+ghost use Rattle.std.specs.Prelude.{◌≡◌, length, IsTrue};
+ghost use Rattle.mls_machine.specs.Output.{ReplyIsKnown};
+ghost use Rattle.mls_replies.specs.Known.{elements_known, tuples_known, HasKnownNumbers};
+
+use mls_lattice::Policy;
+use mls_machine::Reply;
+use mls_scheme::{Element, Tuple};
+
+fn are_elements_known(count: usize, elements: &[Element]) -> bool
+    ensures { result ≡ elements_known count elements.now }
+{
+    for element in elements {
+        if element.class.index() >= count {
+            return false;
+        }
+    }
+    true
+}
+
+fn are_tuples_known(count: usize, tuples: &[Tuple]) -> bool
+    ensures { result ≡ tuples_known count tuples.now }
+{
+    for tuple in tuples {
+        if tuple.key_class.index() >= count {
+            return false;
+        }
+        if !are_elements_known(count, &tuple.elements) {
+            return false;
+        }
+    }
+    true
+}
+
+/// Whether the classes in a reply are declared, as they are over a clean store.
+#[tactic(auto, using(crate::proofs::KnownLemmas::known_steps))]
+pub fn is_known(policy: &Policy, reply: &Reply) -> bool
+    requires { HasKnownNumbers policy.now reply.now }
+    ensures known { IsTrue result → ReplyIsKnown policy.now reply.now }
+    ensures clean { ReplyIsKnown policy.now reply.now → IsTrue result }
+{
+    match reply {
+        Reply::Rows(tuples) => are_tuples_known(policy.label_count(), tuples),
+        _ => true,
+    }
+}

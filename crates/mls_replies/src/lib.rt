@@ -1,0 +1,13 @@
+//! Replies as bytes: the lines that a session is answered, and whether a reply can be printed.
+#![tactic(auto)]
+
+mod known;
+mod naming;
+mod printing;
+mod printing_items;
+mod printing_rows;
+mod replies;
+
+pub use known::is_known;
+pub use naming::user_name;
+pub use replies::reply_bytes;

@@ -77,16 +77,13 @@ pub fn tell_script<R: Files + AllocGlobal>(
     )
 }
 
-/// Tells what a script prints that calls transactions: a case is `POLICY TRANSACTIONS CERTIFICATES: title`, and its script below.
-pub fn tell_call<R: Files + AllocGlobal>(
-    rt: &R,
-    case: &Case<'_>,
-    out: &mut String,
-) -> Result<(), AllocError> {
-    let (files, _) = case.head.split_once(':').unwrap_or((case.head, ""));
+/// The words of a run of the script under the policy and with the stored transactions that a head names, as in
+/// `POLICY TRANSACTIONS CERTIFICATES: title`.
+pub fn call_words_of<'a>(head: &'a str) -> [&'a str; 9] {
+    let files = head.split_once(':').map_or(head, |parts| parts.0);
     let (policy, stored) = files.split_once(' ').unwrap_or((files, ""));
     let (transactions, certificates) = stored.split_once(' ').unwrap_or((stored, ""));
-    let words = [
+    [
         "mldb",
         "run",
         "--transactions",
@@ -96,8 +93,22 @@ pub fn tell_call<R: Files + AllocGlobal>(
         policy,
         "schemes.toml",
         "script",
-    ];
-    tell_words(rt, &words, case, Narrow::wide(rt.alloc()), out)
+    ]
+}
+
+/// Tells what a script prints that calls transactions: a case is `POLICY TRANSACTIONS CERTIFICATES: title`, and its script below.
+pub fn tell_call<R: Files + AllocGlobal>(
+    rt: &R,
+    case: &Case<'_>,
+    out: &mut String,
+) -> Result<(), AllocError> {
+    tell_words(
+        rt,
+        &call_words_of(case.head),
+        case,
+        Narrow::wide(rt.alloc()),
+        out,
+    )
 }
 
 /// Tells the status and what a command line writes, with the script below it on standard input.

@@ -1,23 +1,35 @@
 //! Two worlds, and what a level sees of them: the real engine runs two scripts event by event.
 ghost use Rattle.std.specs.Prelude.{◌≤◌, length};
 
-use crate::commands::{words_of, written_by};
+use crate::commands::{call_words_of, written_by};
 use crate::narrow::Narrow;
 use case_tables::{Case, indent, inner, push_line, text_of};
 use std::alloc::AllocError;
 use std::rt::Files;
+
+/// The files that both worlds run under.
+const FILES: &str = "policy.toml transactions.txt certificates.txt";
 
 /// The worlds that a line is for: `=` both, `1` and `2` one of them; `?` asks either, after all events.
 fn is_for(line: &str, world: &str) -> bool {
     line.starts_with('=') || line.starts_with('?') || line.starts_with(world)
 }
 
-/// Writes the lines for a world, without their marks.
+/// The event of a line, without its mark: of two with a bar between, that of the world.
+fn event_of<'a>(line: &'a str, world: &str) -> &'a str {
+    let event = line.split_once(' ').map_or("", |parts| parts.1);
+    match event.split_once(" | ") {
+        Some((first, second)) => { if world == "1" { first } else { second } }
+        None => event,
+    }
+}
+
+/// Writes the events of the lines for a world.
 fn push_lines(script: &mut String, lines: &[&str], world: &str) -> Result<(), AllocError> {
     for line in lines {
         let line = inner(line);
         if is_for(line, world) {
-            push_line(script, line.split_once(' ').map_or("", |parts| parts.1))?;
+            push_line(script, event_of(line, world))?;
         }
     }
     Ok(())
@@ -55,7 +67,7 @@ fn seen_by<R: Files + AllocGlobal>(
     script: &str,
 ) -> Result<String, AllocError> {
     let to = Narrow::wide(rt.alloc());
-    let written = written_by(rt, &words_of(""), script.as_bytes(), to);
+    let written = written_by(rt, &call_words_of(FILES), script.as_bytes(), to);
     let mut seen = String::new(rt.alloc());
     push_seen(&mut seen, labels, text_of(&written.err))?;
     push_seen(&mut seen, labels, text_of(&written.out))?;
@@ -85,7 +97,8 @@ fn first_question(lines: &[&str]) -> usize
     lines.len()
 }
 
-/// Tells whether the worlds look alike to the labels after each event, or after which they don't.
+/// Tells whether the worlds look alike to the labels after each event, or after which they don't, and then what is seen of
+/// the second.
 fn tell_likeness<R: Files + AllocGlobal>(
     rt: &R,
     labels: &str,
@@ -95,7 +108,8 @@ fn tell_likeness<R: Files + AllocGlobal>(
 ) -> Result<(), AllocError> {
     for at in 0..events.len() {
         if !look_alike(rt, labels, &events[..at + 1], questions)? {
-            return writeln!(out, "  differ after {}", inner(events[at]));
+            writeln!(out, "  differ after {}", inner(events[at]))?;
+            return indent(out, &seen_of(rt, labels, "2", events, questions)?);
         }
     }
     out.push_str("  alike\n")

@@ -264,6 +264,16 @@ blocks_again front (b ∷ more) line is certs apart =
 pub file_again : (bs : List Block) → IsFile bs → file_in (file_text bs) ≡ Ok bs
 file_again bs is = blocks_again [] bs 1 is.names is.certs is.distinct
 
+one_apart : (name : List ℕ) → IsDistinct bytes_eq (name ∷ [])
+unfolding IsDistinct
+one_apart name = (tt, tt)
+
+-- the text of one is read as that one
+pub block_read : (text : List ℕ) (b : Block) → text ≡ block_text b → is_name b.0 ≡ true → IsCert b.1 → file_in text ≡ Ok (b ∷ [])
+block_read text b same is cert =
+    ap file_in (same ∙ sym (append-nil (block_text b)))
+    ∙ file_again (b ∷ []) (record { names = (is, tt); distinct = one_apart b.0; certs = (cert, tt) })
+
 -- no two lists have one text
 pub files_unambiguous : FilesAreUnambiguous
 files_unambiguous bs cs p q same = ok_is bs cs (sym (file_again bs p) ∙ ap file_in same ∙ file_again cs q)

@@ -8,6 +8,7 @@ use Rattle.std.specs.Int.{w32, from_be_bytes}
 use Rattle.mls_lattice.specs.declared.label.Label.{Label}
 use Rattle.mls_lattice.specs.Name.{is_name}
 use Rattle.mls_lattice.specs.Reading.{◌>>=◌, GivesUnless}
+use Rattle.mls_certificate.specs.Spelling.{IsFile, file_text}
 use Rattle.mls_certificate.specs.declared.cert.Cert.{Cert}
 use Rattle.mls_certificate.specs.declared.fault.CertFault.{CertFault}
 use Rattle.mls_certificate.specs.declared.fault.CertCause.{CertCause}
@@ -168,3 +169,7 @@ file_in bytes = blocks_in [] 1 (pieces 10 bytes)
 
 abbrev pub text_in : List ℕ → Result Cert CertFault
 text_in bytes = cert_at (pieces 10 bytes)
+
+-- the texts of blocks one after another are read as these blocks
+abbrev pub FilesAreReadAgain : Type 0
+FilesAreReadAgain = (blocks : List Block) → IsFile blocks → file_in (file_text blocks) ≡ Ok blocks

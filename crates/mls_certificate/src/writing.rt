@@ -1,8 +1,10 @@
 //! The text of a certificate.
-ghost use Rattle.std.specs.Prelude.{◌≡◌, ◌++◌, codes, string_bytes, OnOk, IfOk};
-ghost use Rattle.std.specs.List.{flat_map};
+ghost use Rattle.std.specs.Prelude.{◌≡◌, ◌∷◌, [], ◌++◌, true, codes, string_bytes, Ok, OnOk, IfOk};
+ghost use Rattle.std.specs.List.{flat_map, AllByRecursion};
 ghost use Rattle.std.specs.Int.{w32, to_be_bytes};
-ghost use Rattle.mls_certificate.specs.Spelling.{byte_text, label_text, spaced_label, labels_line, cert_text};
+ghost use Rattle.mls_lattice.specs.Name.{is_name};
+ghost use Rattle.mls_certificate.specs.Reading.{file_in};
+ghost use Rattle.mls_certificate.specs.Spelling.{byte_text, label_text, spaced_label, labels_line, cert_text, block_text, IsLabel, IsCert};
 
 use crate::cert::Cert;
 use mls_lattice::Label;
@@ -26,7 +28,8 @@ fn cats_to(text: &mut String, cats: u32) -> Result<(), AllocError>
 }
 
 fn label_to(text: &mut String, label: Label) -> Result<(), AllocError>
-    ensures { OnOk result (string_bytes text.new ≡ string_bytes text.old ++ spaced_label label) }
+    ensures text { OnOk result (string_bytes text.new ≡ string_bytes text.old ++ spaced_label label) }
+    ensures fits { OnOk result (IsLabel label) }
 {
     let rank = label.rank;
     write!(text, " {rank}:")?;
@@ -35,7 +38,8 @@ fn label_to(text: &mut String, label: Label) -> Result<(), AllocError>
 }
 
 fn labels_to(text: &mut String, word: &str, labels: &[Label]) -> Result<(), AllocError>
-    ensures { OnOk result (string_bytes text.new ≡ string_bytes text.old ++ labels_line word.now labels.now) }
+    ensures text { OnOk result (string_bytes text.new ≡ string_bytes text.old ++ labels_line word.now labels.now) }
+    ensures fits { OnOk result (AllByRecursion IsLabel labels.now) }
 {
     text.push_str(word)?;
     for label in labels {
@@ -45,14 +49,35 @@ fn labels_to(text: &mut String, word: &str, labels: &[Label]) -> Result<(), Allo
     Ok(())
 }
 
+fn cert_to(text: &mut String, cert: &Cert) -> Result<(), AllocError>
+    ensures text { OnOk result (string_bytes text.new ≡ string_bytes text.old ++ cert_text cert.now) }
+    ensures fits { OnOk result (IsCert cert.now) }
+{
+    labels_to(text, "vars", &cert.var_labels)?;
+    labels_to(text, "pcs", &cert.pc_labels)?;
+    Ok(())
+}
+
 impl Cert {
     /// Its one text: a line of labels for the variables, and one for the statements.
     pub fn print(&self, alloc: Global) -> Result<String, AllocError>
         ensures { IfOk result (λ s. string_bytes s ≡ cert_text self.now) }
     {
         let mut text = String::new(alloc);
-        labels_to(&mut text, "vars", &self.var_labels)?;
-        labels_to(&mut text, "pcs", &self.pc_labels)?;
+        cert_to(&mut text, self)?;
         Ok(text)
     }
+}
+
+/// The three lines of a certificate in a file: the version and the name of its transaction, and its text.
+pub fn block_print(alloc: Global, name: &str, cert: &Cert) -> Result<String, AllocError>
+    requires { is_name name.now ≡ true }
+    ensures text { IfOk result (λ s. string_bytes s ≡ block_text (name.now, cert.now)) }
+    // A file of nothing else is read as that name and that certificate.
+    ensures again { IfOk result (λ s. file_in (string_bytes s) ≡ Ok ((name.now, cert.now) ∷ [])) }
+{
+    let mut text = String::new(alloc);
+    writeln!(text, "certificate 1 {name}")?;
+    cert_to(&mut text, cert)?;
+    Ok(text)
 }

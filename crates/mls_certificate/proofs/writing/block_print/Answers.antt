@@ -1,0 +1,6 @@
+use Rattle.std.proofs.Common.{rules, string_bytes}
+use Rattle.mls_certificate.proofs.FileLemmas.{block_read}
+use Rattle.mls_certificate.proofs.writing.block_print.Goals as goal
+
+pub returns-clause-again : goal.returns-clause-again
+returns-clause-again c = block_read (string_bytes c.cert_to.new.text) (c.args.name.now, c.args.cert.now) (search rules) c.requires c.in_ok-cert_to.ensures.fits

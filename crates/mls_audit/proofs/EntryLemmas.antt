@@ -11,9 +11,9 @@ use Rattle.mls_scheme.specs.declared.value.Value.TheVariants.{Int, Text}
 use Rattle.mls_scheme.specs.declared.key_fault.KeyFault.{KeyFault}
 use Rattle.mls_scheme.specs.Spelling as values
 use Rattle.mls_lattice.specs.Reading.{◌>>=◌}
-use Rattle.mls_lattice.proofs.ReadingLemmas.{bind_ok, guard_ok, pass_ok}
+use Rattle.mls_lattice.proofs.ReadingLemmas.{ok_is, bind_ok, guard_ok, pass_ok}
 use Rattle.mls_scheme.specs.KeyReading.{Gives, utf8_at, value_at}
-use Rattle.mls_scheme.proofs.KeyLemmas.{IsBytes, Takes, value_takes, value_again}
+use Rattle.mls_scheme.proofs.KeyLemmas.{IsBytes, Takes, Takes-then, value_takes, value_again}
 use Rattle.mls_audit.specs.declared.entry.Entry.{Entry}
 use Rattle.mls_audit.specs.declared.entry.Entry.TheVariants.{Called, Denied, Released}
 use Rattle.mls_audit.specs.declared.reading.Head.{Head}
@@ -21,15 +21,6 @@ use Rattle.mls_scheme.specs.declared.key_fault.KeyFault.TheVariants.{Short, BadT
 use Rattle.mls_audit.specs.Spelling.{name_spelling, nullable_spelling, head_spelling, entry_spelling, IsHead, IsShortName, HasSpelling, AreUnambiguous}
 use Rattle.mls_audit.specs.Reading.{byte_at, name_at, nullable_at, head_at, called_at, denied_at, released_at, front_at, entry_at}
 use Rattle.mls_scheme.proofs.KeySteps.{utf8_at-ok}
-
-abbrev done : {A : Type 0} → A → Result A KeyFault
-done x = Ok x
-
-ok_is : {A : Type 0} (x y : A) → done x ≡ done y → x ≡ y
-ok_is x y e = cc
-
-Takes-then : (a x b y c : List ℕ) → Takes a x b → Takes b y c → Takes a (x ++ y) c
-Takes-then a x b y c p q = record { parts = p.parts ∙ ap (λ (t : List ℕ). x ++ t) q.parts ∙ sym (append_assoc x y c); rest_fits = q.rest_fits }
 
 Takes-more : (n : ℕ) (bytes text rest : List ℕ) → Takes bytes text rest → Takes (n ∷ bytes) (n ∷ text) rest
 Takes-more n bytes text rest t = record { parts = ap (λ (bs : List ℕ). n ∷ bs) t.parts; rest_fits = t.rest_fits }

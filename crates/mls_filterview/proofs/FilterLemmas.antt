@@ -22,7 +22,7 @@ use Rattle.mls_scheme.specs.declared.tuple.Tuple.{Tuple}
 use Rattle.mls_scheme.specs.Value.{value_cmp}
 use Rattle.mls_scheme.specs.Tuple.{HasClassesBelow}
 use Rattle.mls_scheme.specs.Table.{place_cmp, Table, Has, IsIn, tuple_at, place_of}
-use Rattle.mls_scheme.proofs.OrderLemmas.{value_exact, place_exact}
+use Rattle.mls_scheme.proofs.OrderLemmas.{value_exact, then_ties, place_exact}
 use Rattle.mls_filterview.specs.Subsumption.{Subsumes, IsMax, is_max_among, entity_cmp, AreByEntity}
 use Rattle.mls_filterview.specs.View.{hide, filtered, Filter, View, low, rows, IsAmong}
 use Rattle.mls_filterview.specs.Stored.{IsStored}
@@ -36,11 +36,6 @@ use Rattle.mls_filterview.proofs.RowLemmas.{max_among, among_max, on_top, in_tab
 use Rattle.mls_filterview.proofs.EntityLemmas.{by_entity, maximal, tuples_of}
 
 -- ---- the order of rows
-
-then_ties : (o q : Ordering) → ordering_then o q ≡ Equal → (o ≡ Equal) × (q ≡ Equal)
-then_ties Less q e = absurd (cc)
-then_ties Equal q e = (refl, e)
-then_ties Greater q e = absurd (cc)
 
 same_value : (v w : Option Value) → option_cmp value_cmp v w ≡ Equal → v ≡ w
 same_value None None e = refl

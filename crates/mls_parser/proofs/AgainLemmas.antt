@@ -1,6 +1,6 @@
 -- The syntax tree that is written for a statement has no fault and stands for it.
-use Rattle.std.proofs.Common.{◌≡◌, ℕ, ◌+◌, ◌<◌, ◌≤◌, Bool, true, false, not, ◌&&◌, ◌||◌, ◌==◌, nat_eq, List, [], ◌∷◌, ◌++◌, length, map, Option, Some, None, option_map, refl, sym, ap, subst, ◌∙◌, append_assoc, arith}
-use Rattle.std.specs.Prelude.{is_some, option_to_list}
+use Rattle.std.proofs.Common.{◌≡◌, ℕ, ◌<◌, Bool, true, false, not, ◌||◌, ◌==◌, nat_eq, List, [], ◌∷◌, ◌++◌, length, map, Option, Some, None, option_map, refl, sym, ap, subst, ◌∙◌, append_assoc}
+use Rattle.std.specs.Prelude.{option_to_list}
 use Rattle.std.specs.Option.{IfSome}
 use Rattle.std.specs.List.{AllByRecursion, IsDistinct, list_any}
 use Rattle.std.specs.Cmp.{nat_eq_equiv}
@@ -14,6 +14,7 @@ use Rattle.mls_scheme.specs.declared.value.Value.{Value}
 use Rattle.mls_scheme.specs.declared.value.Value.TheVariants as values
 use Rattle.mls_scheme.specs.Value.{kind_of, is_kind}
 use Rattle.mls_scheme.specs.Scheme.{Attribute, Scheme, IsScheme, scheme_of, other_of}
+use Rattle.mls_scheme.proofs.SchemeNameLemmas.{scheme_is}
 use Rattle.mls_translang.specs.declared.operator.Operator.{Operator}
 use Rattle.mls_translang.specs.declared.operator.Operator.TheVariants as operators
 use Rattle.mls_translang.specs.Tree.{Expr, Known, Null, Var, Param, Field, No, Op, Writing, Inserting, Updating, Deleting, Stmt, Assign, Write_at, Release, Emit, Block, End, Do, If, For}
@@ -38,7 +39,7 @@ use Rattle.mls_parser.specs.Faults.{known, field_faults, expr_faults, tested, pl
 use Rattle.mls_parser.specs.Elaboration.{refer, field, expr, label, variable, set, writing, stmt, block}
 use Rattle.mls_parser.proofs.WholeLemmas.{all_taken}
 use Rattle.mls_parser.proofs.Written.{named, written, written_label, written_relation, written_variable, written_list, written_set, written_writing, written_stmt, written_block}
-use Rattle.mls_parser.proofs.FoundLemmas.{HasNames, label_again, relation_again, scheme_valid, other_again, attribute_again, variable_again, parameter_again, no_variable, row_again, row_valid, new_behind}
+use Rattle.mls_parser.proofs.FoundLemmas.{HasNames, label_again, relation_again, other_again, attribute_again, variable_again, parameter_again, no_variable, row_again, row_valid, new_behind}
 use Rattle.mls_parser.proofs.WrittenLemmas.{names_more}
 
 -- ---- no fault
@@ -297,7 +298,7 @@ module _ (p : Place) (n : HasNames p) where
   stmt_again (Write_at rel w body outcome) o f h =
       let scheme = scheme_of p.schemes rel in
       let found = relation_is rel f.0 in
-      let r = writing_again scheme (scheme_valid p.schemes n.schemes rel f.0) body o.0 f.2 h.0 in
+      let r = writing_again scheme (scheme_is p.schemes n.schemes rel f.0) body o.0 f.2 h.0 in
       let F : ℕ → core.Writing = λ k. writing p (scheme_of p.schemes k) (written_writing p scheme body) in
       let G : ℕ → List PlacedFault = λ k. writing_faults p (scheme_of p.schemes k) (written_writing p scheme body) in
       record {

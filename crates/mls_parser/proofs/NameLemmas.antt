@@ -4,40 +4,27 @@ use Rattle.std.specs.Option.{IfSome}
 use Rattle.std.specs.List.{position, AllByRecursion}
 use Rattle.std.specs.Str.{bytes_eq}
 use Rattle.std.proofs.lemmas.Bool.Decides.{nat_tests}
-use Rattle.std.proofs.lemmas.List.Quantifiers.{position-Some}
-use Rattle.std.proofs.lemmas.Option.{slice_get-get_or}
-use Rattle.mls_lattice.specs.Lattice.{bottom}
-use Rattle.mls_lattice.specs.Policy.{Name, Named, Tables}
+use Rattle.mls_lattice.specs.Policy.{Name, Tables}
 use Rattle.mls_scheme.specs.declared.attributes.Column.{Column}
 use Rattle.mls_scheme.specs.Scheme.{Attribute, Scheme, no_attribute, column_of, other_of}
+use Rattle.mls_lattice.proofs.NamedLemmas.{label_found}
+use Rattle.mls_scheme.proofs.SchemeNameLemmas.{column_there}
 use Rattle.mls_translang.specs.declared.row.Row.{Row}
 use Rattle.mls_translang.specs.Kinds.{field_of}
-
-pub no_label : Named
-no_label = record { name = []; value = bottom }
 
 -- ---- labels
 
 pub label_place : (policy : Tables) (name : Name) (o : Option ℕ) → o ≡ position (λ l. bytes_eq l.name name) policy.labels → IfSome o (λ n. n < length policy.labels)
 label_place policy name None e = tt
-label_place policy name (Some i) e = (position-Some _ policy.labels i no_label (sym e)).0
+label_place policy name (Some i) e = (label_found policy.labels name i (sym e)).0
 
 pub ruleset place_steps = (label_place)
 
 -- ---- kinds of attributes
 
-column_at : (attributes : List Attribute) (i : ℕ) (c : Column) → i < length attributes → option_map column_of (slice_get attributes i) ≡ Some c → column_of (get_or attributes i no_attribute) ≡ c
-column_at attributes i c within column = same _ _ (sym (ap (option_map column_of) (slice_get-get_or attributes i no_attribute within)) ∙ column)
-  where
-    some : Column → Option Column
-    some d = Some d
-
-    same : (a b : Column) → some a ≡ some b → a ≡ b
-    same a b e = cc
-
 pub attribute_kind_at : (attributes : List Attribute) (i : ℕ) (c : Column) → i < length attributes → option_map column_of (slice_get attributes i) ≡ Some c
     → (get_or attributes i no_attribute).kind ≡ c.kind
-attribute_kind_at attributes i c within column = ap (λ (d : Column). d.kind) (column_at attributes i c within column)
+attribute_kind_at attributes i c within column = ap (λ (d : Column). d.kind) (column_there attributes i c within column)
 
 pub key_kind : (scheme : Scheme) (ks : List Attribute) (i : ℕ) (c : Column) → ks ≡ scheme.keys → i < length ks → option_map column_of (slice_get ks i) ≡ Some c
     → c.kind ≡ (field_of scheme i).kind

@@ -1,42 +1,36 @@
 -- The name of the number that a name stands for.
-use Rattle.std.proofs.Common.{◌≡◌, ℕ, ◌+◌, ◌-◌, ◌<◌, nat_lt, true, false, List, [], ◌∷◌, length, get_or, Option, Some, None, option_map, slice_get, refl, sym, ap, subst, ◌∙◌, arith}
+use Rattle.std.proofs.Common.{◌≡◌, ℕ, ◌+◌, ◌-◌, nat_lt, true, false, List, [], ◌∷◌, length, get_or, Option, Some, None, option_map, slice_get, refl, sym, subst, ◌∙◌, arith}
 use Rattle.std.specs.Option.{unwrap_or}
 use Rattle.std.specs.List.{position}
 use Rattle.std.specs.Str.{bytes_eq}
-use Rattle.std.proofs.lemmas.Slice.Eq.{bytes_eq-Decides}
 use Rattle.std.proofs.lemmas.Bool.Decides.{nat_tests}
-use Rattle.std.proofs.lemmas.List.Quantifiers.{position-Some}
-use Rattle.std.proofs.lemmas.Option.{slice_get-get_or}
 use Rattle.mls_lattice.specs.Canon.{label_name}
 use Rattle.mls_lattice.specs.Policy.{Name, Tables}
-use Rattle.mls_scheme.specs.Scheme.{Scheme, Schemes, scheme_of, other_of, no_scheme, no_attribute}
+use Rattle.mls_scheme.specs.Scheme.{Scheme, Schemes, scheme_of, other_of, no_attribute}
+use Rattle.mls_lattice.proofs.NamedLemmas.{name_there, named_there, label_found}
+use Rattle.mls_scheme.proofs.SchemeNameLemmas.{relation_found}
 use Rattle.mls_translang.specs.Kinds.{field_of}
 use Rattle.mls_translang.specs.Scope.{row_at, no_row}
 use Rattle.mls_translang.specs.Tokens.{Place, name_at}
 use Rattle.mls_parser.specs.Names.{label_named, relation_named, variable_named, parameter_named, row_named, or_behind, attribute_named, other_named, numbered}
 use Rattle.mls_parser.specs.Faults.{known}
 use Rattle.mls_parser.proofs.FaultLemmas.{is_known}
-use Rattle.mls_parser.proofs.NameLemmas.{no_label}
 
-module _ {X : Type 0} (name_of : X → Name) (xs : List X) (n : Name) where
-  -- what is found has the name
-  pub named_there : (i : ℕ) (d : X) → position (λ x. bytes_eq (name_of x) n) xs ≡ Some i → (i < length xs) × (name_of (get_or xs i d) ≡ n)
-  named_there i d e = let t = position-Some (λ x. bytes_eq (name_of x) n) xs i d e in (t.0, (bytes_eq-Decides (name_of (get_or xs i d)) n).0 t.1)
-
-  pub got_there : (i : ℕ) (d : X) → position (λ x. bytes_eq (name_of x) n) xs ≡ Some i → unwrap_or (option_map name_of (slice_get xs i)) [] ≡ n
-  got_there i d e = let t = named_there i d e in ap (λ o. unwrap_or (option_map name_of o) []) (slice_get-get_or xs i d t.0) ∙ t.1
+-- what is found has the name
+got_there : {X : Type 0} (name_of : X → Name) (xs : List X) (n : Name) (i : ℕ) (d : X) → position (λ x. bytes_eq (name_of x) n) xs ≡ Some i → unwrap_or (option_map name_of (slice_get xs i)) [] ≡ n
+got_there name_of xs n i d e = let there = named_there name_of xs d n i e in name_there name_of xs d i there.0 ∙ there.1
 
 pub label_there : (policy : Tables) (n : Name) (i : ℕ) → label_named policy n ≡ Some i → label_name policy.labels i ≡ n
 unfolding label_named
-label_there policy n i e = got_there (λ l. l.name) policy.labels n i no_label e
+label_there policy n i e = (label_found policy.labels n i e).1
 
 pub relation_there : (schemes : Schemes) (n : Name) (i : ℕ) → relation_named schemes n ≡ Some i → (scheme_of schemes i).name ≡ n
 unfolding relation_named
-relation_there schemes n i e = (named_there (λ s. s.name) schemes n i no_scheme e).1
+relation_there schemes n i e = (relation_found schemes n i e).1
 
 pub other_there : (scheme : Scheme) (n : Name) (i : ℕ) → other_named scheme n ≡ Some i → (other_of scheme i).name ≡ n
 unfolding other_named
-other_there scheme n i e = (named_there (λ a. a.name) scheme.others n i no_attribute e).1
+other_there scheme n i e = (named_there (λ a. a.name) scheme.others no_attribute n i e).1
 
 module _ (p : Place) (n : Name) where
   pub variable_there : (i : ℕ) → variable_named p n ≡ Some i → name_at p.scope.vars i ≡ n
@@ -57,7 +51,7 @@ module _ (p : Place) (n : Name) where
 
   pub row_there : (i : ℕ) → row_named p n ≡ Some i → (row_at p.scope i).name ≡ n
   unfolding row_named
-  row_there i e = (named_there (λ r. r.name) p.scope.rows n i no_row e).1
+  row_there i e = (named_there (λ r. r.name) p.scope.rows no_row n i e).1
 
 -- ---- attributes of rows
 
@@ -65,12 +59,12 @@ behind_there : (scheme : Scheme) (n : Name) (a b : Option ℕ) (i : ℕ) → pos
     → or_behind a (length scheme.keys) b ≡ Some i → (field_of scheme i).name ≡ n
 behind_there scheme n (Some j) b i is other e =
     let same : j ≡ i = cc in
-    let t = named_there (λ x. x.name) scheme.keys n j no_attribute is in
+    let t = named_there (λ x. x.name) scheme.keys no_attribute n j is in
     let here : nat_lt i (length scheme.keys) ≡ true = grind (arith, nat_tests, t.0, same) in
     rw here (subst (λ k. (get_or scheme.keys k no_attribute).name ≡ n) same t.1)
 behind_there scheme n None (Some j) i is other e =
     let same : length scheme.keys + j ≡ i = cc in
-    let t = named_there (λ x. x.name) scheme.others n j no_attribute other in
+    let t = named_there (λ x. x.name) scheme.others no_attribute n j other in
     let there : nat_lt i (length scheme.keys) ≡ false = grind (arith, nat_tests, same) in
     let back : j ≡ i - length scheme.keys = omega (arith, same) in
     rw there (subst (λ k. (get_or scheme.others k no_attribute).name ≡ n) back t.1)

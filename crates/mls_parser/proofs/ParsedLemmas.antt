@@ -11,6 +11,7 @@ use Rattle.mls_lattice.specs.Labels.{below}
 use Rattle.mls_lattice.specs.Policy.{Name, Tables, IsPolicy, labels_of}
 use Rattle.mls_scheme.specs.declared.value.Kind.{Kind}
 use Rattle.mls_scheme.specs.Scheme.{Schemes, AreSchemes}
+use Rattle.mls_scheme.proofs.AttributeLemmas.{is_some-position}
 use Rattle.mls_translang.specs.declared.tx.Parameter.{Parameter}
 use Rattle.mls_translang.specs.Fits.{IsLabel, IsReadUnder}
 use Rattle.mls_translang.specs.Named.{has_name}
@@ -34,7 +35,7 @@ use Rattle.mls_parser.specs.Elaboration.{block, transaction}
 use Rattle.mls_parser.specs.Parsing.{answer, elaborated, behind, parsed, placed_in, parse_at}
 use Rattle.mls_parser.specs.Laws.{TellsNone, TextsAreReadAsTold, TransactionsAreReadOnce, PrintsAreRead, Under}
 use Rattle.mls_parser.proofs.FaultLemmas.{least-none}
-use Rattle.mls_parser.proofs.WholeLemmas.{kept_new, named_any, some_position}
+use Rattle.mls_parser.proofs.WholeLemmas.{kept_new, named_any}
 use Rattle.mls_parser.proofs.FoundLemmas.{HasNames, distinct_front, label_again, new_behind}
 use Rattle.mls_parser.proofs.Written.{written_param, written_var, written_tx}
 use Rattle.mls_parser.proofs.WrittenLemmas.{each_spelled, all_writable, names_outside}
@@ -106,7 +107,7 @@ module _ (policy : Tables) (schemes : Schemes) (of_policy : IsPolicy policy) (of
 
   no_relation : (name : Name) → list_any (λ s. bytes_eq s.name name) schemes ≡ false → is_some (relation_named schemes name) ≡ false
   unfolding relation_named
-  no_relation name h = some_position (λ s. bytes_eq s.name name) schemes ∙ h
+  no_relation name h = is_some-position (λ s. bytes_eq s.name name) schemes ∙ h
 
   tx_again : (earlier : List Name) (tx : Tx) → IsTx tx → IsReadUnder policy schemes tx → list_any (bytes_eq tx.name) earlier ≡ false → TxAgain earlier tx
   tx_again earlier tx is read new =

@@ -10,12 +10,13 @@ use Rattle.std.proofs.lemmas.List.{append-nil, length-map}
 use Rattle.std.proofs.lemmas.List.Quantifiers.{position-Some}
 use Rattle.std.proofs.lemmas.Map.Keys.{IsDistinct-push}
 use Rattle.mls_lattice.specs.Labels.{below}
-use Rattle.mls_lattice.specs.Lattice.{bottom}
-use Rattle.mls_lattice.specs.Policy.{Name, Named, Tables, labels_of}
+use Rattle.mls_lattice.specs.Policy.{Name, Tables, labels_of}
 use Rattle.mls_scheme.specs.declared.value.Kind.{Kind}
 use Rattle.mls_scheme.specs.declared.value.Kind.TheVariants as kinds
-use Rattle.mls_scheme.specs.Scheme.{Attribute, Scheme, Schemes, other_of, no_attribute, no_scheme}
+use Rattle.mls_scheme.specs.Scheme.{Attribute, Scheme, Schemes, other_of, no_attribute}
 use Rattle.mls_tokens.specs.Passing.{PlacedName}
+use Rattle.mls_lattice.proofs.NamedLemmas.{label_found}
+use Rattle.mls_scheme.proofs.SchemeNameLemmas.{relation_found}
 use Rattle.mls_translang.specs.Tree as core
 use Rattle.mls_translang.specs.Scope.{kind_of_var}
 use Rattle.mls_translang.specs.Tx.{IsOwn, WritingIsOwn, StmtIsOwn}
@@ -37,16 +38,13 @@ use Rattle.mls_parser.proofs.SortLemmas.{Gives, as_kind, as_value, variable_with
 
 -- ---- numbers of names
 
-no_label : Named
-no_label = record { name = []; value = bottom }
-
 pub label_within : (policy : Tables) (name : Name) (i : ℕ) → label_named policy name ≡ Some i → i < length policy.labels
 unfolding label_named
-label_within policy name i e = (position-Some _ policy.labels i no_label e).0
+label_within policy name i e = (label_found policy.labels name i e).0
 
 pub relation_within : (schemes : Schemes) (name : Name) (i : ℕ) → relation_named schemes name ≡ Some i → i < length schemes
 unfolding relation_named
-relation_within schemes name i e = (position-Some _ schemes i no_scheme e).0
+relation_within schemes name i e = (relation_found schemes name i e).0
 
 pub other_within : (scheme : Scheme) (name : Name) (i : ℕ) → other_named scheme name ≡ Some i → i < length scheme.others
 unfolding other_named

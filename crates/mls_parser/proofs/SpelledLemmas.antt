@@ -10,7 +10,8 @@ use Rattle.mls_tokens.specs.declared.sign.Sign.TheVariants as sign
 use Rattle.mls_tokens.specs.Passing.{PlacedName}
 use Rattle.mls_translang.specs.Kinds.{field_of}
 use Rattle.mls_translang.specs.Tokens as core
-use Rattle.mls_translang.specs.Tokens.{Place, name_at, comma_tokens, separated, operator_token}
+use Rattle.mls_tokens.specs.Text.{comma_tokens, separated}
+use Rattle.mls_translang.specs.Tokens.{Place, name_at, operator_token}
 use Rattle.mls_syntax.specs.declared.list.ExprList.{ExprList}
 use Rattle.mls_syntax.specs.ExprTree.{Expr, Literal, Null, Name as Named, Field, No, Op}
 use Rattle.mls_syntax.specs.Tree.{Writing, Inserting, Updating, Deleting, Stmt, Assign, Write_at, Release, Emit}

@@ -16,7 +16,8 @@ use Rattle.mls_translang.specs.Named.{has_name}
 use Rattle.mls_translang.specs.Tx.{Tx}
 use Rattle.mls_translang.specs.Tree.{is_end}
 use Rattle.mls_translang.specs.Tokens as core
-use Rattle.mls_translang.specs.Tokens.{Place, braced, separated, kind_token}
+use Rattle.mls_tokens.specs.Text.{separated}
+use Rattle.mls_translang.specs.Tokens.{Place, braced, kind_token}
 use Rattle.mls_translang.specs.Tells.{TellsOther, TellsBlock, TellsTx, TellsEach, Tells}
 use Rattle.mls_syntax.specs.declared.transaction.Parameter.{Parameter as Param}
 use Rattle.mls_syntax.specs.declared.transaction.Variable.{Variable as Var}

@@ -1,12 +1,11 @@
 -- What blocks and transactions without faults are.
-use Rattle.std.proofs.Common.{◌≡◌, ℕ, suc, ◌+◌, ◌≤◌, max, cond, Bool, true, false, not, ◌||◌, nat_lt, List, [], ◌∷◌, ◌++◌, length, map, Some, None, refl, sym, ap, subst, ◌∙◌, arith, append_assoc}
+use Rattle.std.proofs.Common.{◌≡◌, ◌+◌, ◌≤◌, max, cond, Bool, true, false, not, ◌||◌, List, [], ◌∷◌, ◌++◌, length, map, None, refl, sym, ap, subst, ◌∙◌, arith, append_assoc}
 use Rattle.std.proofs.SliceLists.{all_by_recursion_push}
 use Rattle.std.specs.Prelude.{is_some}
-use Rattle.std.specs.List.{AllByRecursion, IsDistinct, list_any, position, prefix_len}
+use Rattle.std.specs.List.{AllByRecursion, IsDistinct, list_any}
 use Rattle.std.specs.Str.{bytes_eq}
 use Rattle.std.specs.Cmp.Lexicographic.{nat_list_eq_equiv}
 use Rattle.std.proofs.lemmas.Bool.{or_parts, not-true}
-use Rattle.std.proofs.lemmas.Bool.Decides.{nat_tests}
 use Rattle.std.proofs.lemmas.List.{append-nil, length-append, length-map, map_push}
 use Rattle.std.proofs.lemmas.List.Folds.{list_any-append}
 use Rattle.std.proofs.lemmas.Map.Keys.{IsDistinct-push}
@@ -15,6 +14,7 @@ use Rattle.mls_lattice.specs.Name.{is_name}
 use Rattle.mls_lattice.specs.Policy.{Name, Tables, labels_of}
 use Rattle.mls_scheme.specs.declared.value.Kind.{Kind}
 use Rattle.mls_scheme.specs.Scheme.{Schemes}
+use Rattle.mls_scheme.proofs.AttributeLemmas.{is_some-position}
 use Rattle.mls_translang.specs.declared.tx.Parameter.{Parameter}
 use Rattle.mls_translang.specs.Named.{has_name}
 use Rattle.mls_translang.specs.Tree as core
@@ -39,29 +39,6 @@ use Rattle.mls_parser.proofs.SoundLemmas.{known_label, known_relation, stmt_righ
 
 -- ---- names that none has
 
-shifted : (k n : ℕ) → nat_lt (1 + k) (suc n) ≡ nat_lt k n
-shifted k n = grind (arith, nat_tests)
-
-none_below : (n : ℕ) → nat_lt 0 (suc n) ≡ true
-none_below n = grind (arith, nat_tests)
-
-module _ {X : Type 0} (test : X → Bool) where
-  is_some-cond : (b : Bool) (k : ℕ) → is_some (cond b (Some k) None) ≡ b
-  is_some-cond true k = refl
-  is_some-cond false k = refl
-
-  any_within : (xs : List X) → nat_lt (prefix_len (λ x. not (test x)) xs) (length xs) ≡ list_any test xs
-  any_within [] = refl
-  any_within (x ∷ xs) = go (test x) (any_within xs)
-    where
-      go : (b : Bool) → nat_lt (prefix_len (λ x. not (test x)) xs) (length xs) ≡ list_any test xs
-          → nat_lt (cond (not b) (1 + prefix_len (λ x. not (test x)) xs) 0) (suc (length xs)) ≡ (b || list_any test xs)
-      go true e = none_below (length xs)
-      go false e = shifted (prefix_len (λ x. not (test x)) xs) (length xs) ∙ e
-
-  pub some_position : (xs : List X) → is_some (position test xs) ≡ list_any test xs
-  some_position xs = is_some-cond (nat_lt (prefix_len (λ x. not (test x)) xs) (length xs)) (prefix_len (λ x. not (test x)) xs) ∙ any_within xs
-
 module _ {X : Type 0} (name_of : X → Name) where
   -- a name is in a list where a thing in it has the name
   pub named_any : (xs : List X) (name : Name) → list_any (bytes_eq name) (map name_of xs) ≡ list_any (λ x. bytes_eq (name_of x) name) xs
@@ -71,15 +48,15 @@ module _ {X : Type 0} (name_of : X → Name) where
 module _ (p : Place) (name : Name) where
   row_taken : list_any (bytes_eq name) (map (λ r. r.name) p.scope.rows) ≡ is_some (row_named p name)
   unfolding row_named
-  row_taken = named_any (λ r. r.name) p.scope.rows name ∙ sym (some_position (λ r. bytes_eq r.name name) p.scope.rows)
+  row_taken = named_any (λ r. r.name) p.scope.rows name ∙ sym (is_some-position (λ r. bytes_eq r.name name) p.scope.rows)
 
   parameter_taken : list_any (bytes_eq name) (map (λ x. x.0) p.scope.params) ≡ is_some (parameter_named p name)
   unfolding parameter_named
-  parameter_taken = named_any (λ x. x.0) p.scope.params name ∙ sym (some_position (λ x. bytes_eq x.0 name) p.scope.params)
+  parameter_taken = named_any (λ x. x.0) p.scope.params name ∙ sym (is_some-position (λ x. bytes_eq x.0 name) p.scope.params)
 
   variable_taken : list_any (bytes_eq name) (map (λ v. v.0) p.scope.vars) ≡ is_some (variable_named p name)
   unfolding variable_named
-  variable_taken = named_any (λ v. v.0) p.scope.vars name ∙ sym (some_position (λ v. bytes_eq v.0 name) p.scope.vars)
+  variable_taken = named_any (λ v. v.0) p.scope.vars name ∙ sym (is_some-position (λ v. bytes_eq v.0 name) p.scope.vars)
 
   pub all_taken : list_any (bytes_eq name) (names_in p.scope) ≡ is_taken p name
   all_taken =
@@ -243,7 +220,7 @@ module _ (policy : Tables) (schemes : Schemes) where
 
   relation_free : (name : Name) → is_some (relation_named schemes name) ≡ false → list_any (λ s. bytes_eq s.name name) schemes ≡ false
   unfolding relation_named
-  relation_free name h = sym (some_position (λ s. bytes_eq s.name name) schemes) ∙ h
+  relation_free name h = sym (is_some-position (λ s. bytes_eq s.name name) schemes) ∙ h
 
   pub tx_right : (earlier : List Name) (tx : Transaction) → IsLimited tx → tx_faults policy schemes earlier tx ≡ [] → IsRightTx earlier tx
   tx_right earlier tx l h =

@@ -1,5 +1,5 @@
 -- The tokens and the limits of the syntax tree that is written for a transaction.
-use Rattle.std.proofs.Common.{◌≡◌, ℕ, ◌+◌, ◌<◌, ◌≤◌, max, Bool, true, false, List, [], ◌∷◌, ◌++◌, length, map, Option, Some, None, option_map, inl, inr, refl, sym, ap, subst, ◌∙◌, arith}
+use Rattle.std.proofs.Common.{◌≡◌, ℕ, ◌+◌, ◌<◌, max, true, false, List, [], ◌∷◌, ◌++◌, length, map, Option, Some, None, option_map, inl, inr, refl, sym, ap, ◌∙◌, arith}
 use Rattle.std.proofs.Recursive.{every_front, every_back}
 use Rattle.std.specs.Prelude.{codes}
 use Rattle.std.specs.Option.{IfSome}
@@ -16,6 +16,9 @@ use Rattle.mls_scheme.specs.Scheme.{Scheme, Schemes, IsScheme, AreSchemes, schem
 use Rattle.mls_tokens.specs.declared.token.Token.{Token}
 use Rattle.mls_tokens.specs.declared.token.Token.TheVariants.{Word, Sign}
 use Rattle.mls_tokens.specs.declared.sign.Sign.TheVariants as sign
+use Rattle.mls_lattice.proofs.NamedLemmas.{label_is_name}
+use Rattle.mls_scheme.proofs.SchemeNameLemmas.{scheme_is, other_is_name}
+use Rattle.mls_translang.proofs.FieldLemmas.{attribute_is_name}
 use Rattle.mls_translang.specs.declared.tx.Parameter.{Parameter}
 use Rattle.mls_translang.specs.Tree.{Expr, Known, Null, Var, Param, Field, No, Op, Writing, Inserting, Updating, Deleting, Stmt, Assign, Write_at, Release, Emit, Block, End, Do, If, For, statements, is_end}
 use Rattle.mls_translang.specs.Fits.{IsLabel, ExprFits, WritingFits, StmtFits, BlockFits, IsReadUnder}
@@ -31,7 +34,7 @@ use Rattle.mls_syntax.specs.Places.{IsNamed, ExprIsNamed, SetIsNamed, WritingIsN
 use Rattle.mls_syntax.specs.Spelling.{expr_tokens, list_tokens, set_tokens, outcome_tokens, write_tokens, stmt_tokens, param_tokens, var_tokens, SpellsOther, SpellsBlock, SpellsTransaction, SpellsEach}
 use Rattle.mls_parser.proofs.Written.{written, written_label, written_relation, written_variable, written_list, written_set, written_writing, written_stmt, written_block, written_param, written_var, written_tx}
 use Rattle.mls_parser.proofs.SpelledLemmas.{flat_same, separated_same}
-use Rattle.mls_parser.proofs.FoundLemmas.{HasNames, label_is_name, scheme_valid, attribute_is_name, other_is_name, variable_is_name, parameter_is_name, row_is_name, row_valid}
+use Rattle.mls_parser.proofs.FoundLemmas.{HasNames, variable_is_name, parameter_is_name, row_is_name, row_valid}
 
 -- ---- tokens
 
@@ -246,7 +249,7 @@ module _ (p : Place) (n : HasNames p) where
   stmt_named : (s : Stmt) → StmtIsOwn p.scope s → StmtFits p.policy p.schemes p.hi p.scope s → StmtIsNamed (written_stmt p s)
   stmt_named (Assign x e) h f = (variable_is_name p n x h.0, written_named e h.1.numbers f)
   stmt_named (Write_at rel w writing outcome) h f =
-      let valid = scheme_valid p.schemes n.schemes rel f.0 in
+      let valid = scheme_is p.schemes n.schemes rel f.0 in
       (valid.named, label_named w f.1, writing_named (scheme_of p.schemes rel) valid writing h.0 f.2, outcome_named outcome h.1)
   stmt_named (Release e to into) h f = (written_named e h.0.numbers f.0, label_named to f.1, variable_is_name p n into h.1)
   stmt_named (Emit e label) h f = (written_named e h.numbers f.0, label_named label f.1)
@@ -257,7 +260,7 @@ block_named (Do stmt rest) p n h f = (stmt_named p n stmt h.0 f.0, block_named r
 block_named (If guard one other rest) p n h f = (written_named p n guard h.0.numbers f.0, block_named one p n h.1 f.1, block_named other p n h.2 f.2, block_named rest p n h.3 f.3)
 block_named (For row rel label body rest) p n h f = (
   h.0.0,
-  (scheme_valid p.schemes n.schemes rel f.0).named,
+  (scheme_is p.schemes n.schemes rel f.0).named,
   label_named p n label f.1,
   block_named body (at_row p row rel) (names_more p row rel n h.0 f.0) h.1 f.2,
   block_named rest p n h.2 f.3,

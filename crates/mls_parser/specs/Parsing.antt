@@ -1,6 +1,7 @@
 -- What a text of transactions says, or its fault: first its form, then its names, kinds and labels.
 use Rattle.std.specs.Prelude.{◌≡◌, ℕ, List, [], map, Option, Some, None, Result, Ok, Err}
 use Rattle.mls_lattice.specs.Policy.{Tables}
+use Rattle.mls_lattice.specs.Reading.{GivesUnless}
 use Rattle.mls_scheme.specs.Scheme.{Schemes}
 use Rattle.mls_translang.specs.Tx.{Tx}
 use Rattle.mls_syntax.specs.declared.fault.SyntaxFault.{SyntaxFault}
@@ -34,8 +35,7 @@ parsed policy schemes bytes = behind policy schemes (syntax_at bytes)
 
 -- What a function returned is what reading gives, unless memory ran out.
 abbrev pub Gives : Result (List Tx) PlacedFault → Result (List Tx) PlacedFault → Type 0
-Gives (Ok txs) read = read ≡ Ok txs
-Gives (Err f) read = (f.cause ≡ Memory → ⊥) → read ≡ Err f
+Gives = GivesUnless (λ f. f.cause ≡ Memory) (λ txs. txs)
 
 abbrev pub placed_in : List ℕ → Result (List Tx) PlacedFault → Result (List Tx) TextFault
 placed_in bytes (Ok txs) = Ok txs
@@ -47,8 +47,7 @@ parse_at policy schemes bytes = placed_in bytes (parsed policy schemes bytes)
 
 -- What parse returned is what reading gives, unless memory ran out.
 abbrev pub IsParsed : Result (List Tx) TextFault → Result (List Tx) TextFault → Type 0
-IsParsed (Ok txs) read = read ≡ Ok txs
-IsParsed (Err e) read = (e.cause ≡ Memory → ⊥) → read ≡ Err e
+IsParsed = GivesUnless (λ e. e.cause ≡ Memory) (λ txs. txs)
 
 -- What is read has no fault. The fault of a text whose form is right is one of the faults of its syntax trees, and none of them stands
 -- before it.

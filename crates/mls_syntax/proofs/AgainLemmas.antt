@@ -22,7 +22,8 @@ use Rattle.mls_tokens.specs.Passing.{left, is_sign, taken, PlacedName, pass_name
 use Rattle.mls_tokens.proofs.NextLemmas.{Gets, gets_more, done, gets_done, gets_is, next_is, NotNext, not_taken, took_sign, word_gets as word_passes, sign_gets as sign_passes, name_gets as name_passes}
 use Rattle.mls_translang.specs.declared.operator.Operator.{Operator}
 use Rattle.mls_translang.specs.declared.operator.Operator.TheVariants as operators
-use Rattle.mls_translang.specs.Tokens.{value_token, operator_token, separated, comma_tokens}
+use Rattle.mls_tokens.specs.Text.{separated, comma_tokens}
+use Rattle.mls_translang.specs.Tokens.{value_token, operator_token}
 use Rattle.mls_syntax.specs.declared.list.ExprList.{ExprList}
 use Rattle.mls_syntax.specs.declared.words.Head.{Head}
 use Rattle.mls_syntax.specs.declared.words.Head.TheVariants as heads

@@ -15,7 +15,8 @@ use Rattle.mls_tokens.specs.declared.sign.Sign.TheVariants as sign
 use Rattle.mls_tokens.specs.Scanning.{Left, tokens_in}
 use Rattle.mls_tokens.specs.Passing.{is_word, is_sign, taken, PlacedName}
 use Rattle.mls_tokens.proofs.NextLemmas.{Gets, gets_more, done, gets_done, gets_is, NotNext, not_taken, took_word, took_sign}
-use Rattle.mls_translang.specs.Tokens.{separated, braced as braced_tokens}
+use Rattle.mls_tokens.specs.Text.{separated}
+use Rattle.mls_translang.specs.Tokens.{braced as braced_tokens}
 use Rattle.mls_syntax.specs.declared.fault.SyntaxCause.TheVariants.{TooLong}
 use Rattle.mls_syntax.specs.declared.list.ExprList.{ExprList}
 use Rattle.mls_syntax.specs.declared.block.Stmt.{Stmt as Form}

@@ -5,16 +5,17 @@ use Rattle.std.specs.Str.{bytes_eq}
 use Rattle.std.proofs.lemmas.Bool.{ltb-true}
 use Rattle.std.proofs.lemmas.List.{append-nil}
 use Rattle.std.proofs.lemmas.Slice.Eq.{bytes_eq-Decides}
+use Rattle.std.proofs.lemmas.Option.{same_Some}
 use Rattle.mls_lattice.specs.Name.{is_name}
 use Rattle.mls_lattice.specs.Policy.{Name as Bytes}
 use Rattle.mls_lattice.specs.Reading.{◌>>=◌}
-use Rattle.mls_lattice.proofs.ReadingLemmas.{bind_ok}
+use Rattle.mls_lattice.proofs.ReadingLemmas.{bind_ok, same_ok}
 use Rattle.mls_tokens.specs.declared.token.Token.{Token}
 use Rattle.mls_tokens.specs.declared.token.Token.TheVariants.{Word, Int, Text, Sign}
 use Rattle.mls_tokens.specs.declared.sign.Sign.TheVariants as sign
 use Rattle.mls_tokens.specs.Scanning.{Left}
 use Rattle.mls_tokens.specs.Passing.{is_word, is_sign, taken, PlacedName}
-use Rattle.mls_tokens.proofs.PassedLemmas.{same_ok, Passed, passed_none, passed_more, sign_taken, word_taken}
+use Rattle.mls_tokens.proofs.PassedLemmas.{Passed, passed_none, passed_more, sign_taken, word_taken}
 use Rattle.mls_translang.specs.Tokens.{braced as braced_tokens}
 use Rattle.mls_syntax.specs.declared.fault.SyntaxFault.{SyntaxFault}
 use Rattle.mls_syntax.specs.declared.fault.SyntaxCause.TheVariants.{Depth, TooLong}
@@ -34,7 +35,7 @@ use Rattle.mls_syntax.specs.ReadExpr.{sign_at, whole_at}
 use Rattle.mls_syntax.specs.ReadBlock.{name_at, name_behind, plain_at, Counted, with_count, braced, other_of, other_at, if_at, for_at, content_at, opened, stmt_with, deep_stmt, end_or, stmts_from, stmts_with, stmts_at, body_at}
 use Rattle.mls_syntax.specs.Spelling.{name_token, behind_tokens, expr_tokens, stmt_tokens, for_tokens, SpellsOther, SpellsBlock}
 use Rattle.mls_syntax.proofs.PassedLemmas.{syntax_ok, sign_found, known_found}
-use Rattle.mls_syntax.proofs.ExprLemmas.{chosen, some_is, IsNested, whole_found}
+use Rattle.mls_syntax.proofs.ExprLemmas.{chosen, IsNested, whole_found}
 use Rattle.mls_syntax.proofs.StmtLemmas.{named, behind, PlainFound, PlainIs, plain_found}
 
 -- ---- blocks put together
@@ -117,7 +118,7 @@ pub test_word : {X : Type 0} (w k : Bytes) (x y : X) (more : Option X) → (if b
 test_word w k x y more e = go (chosen (bytes_eq w k) (Some x) more (Some y) e)
   where
     go : ((bytes_eq w k ≡ true) × (Some x ≡ Some y)) ⊎ ((bytes_eq w k ≡ false) × (more ≡ Some y)) → ((Word w ≡ Word k) × (x ≡ y)) ⊎ (more ≡ Some y)
-    go (inl h) = inl (ap (λ (s : Bytes). Word s) ((bytes_eq-Decides w k).0 h.0), some_is x y h.1)
+    go (inl h) = inl (ap (λ (s : Bytes). Word s) ((bytes_eq-Decides w k).0 h.0), same_Some x y h.1)
     go (inr h) = inr h.1
 
 abbrev PlainOf : Bytes → Plain → Type 0
@@ -142,7 +143,7 @@ plain_word : (w : Bytes) (p : Plain) → plain_of_word w ≡ Some p → PlainOf 
 plain_word w p e = first (test_word w (codes "insert") plains.Insert p (or_update w) e)
   where
     sixth : ((is_name w ≡ true) × (Some (plains.Assign w) ≡ Some p)) ⊎ ((is_name w ≡ false) × (None ≡ Some p)) → PlainOf w p
-    sixth (inl h) = subst (PlainOf w) (some_is (plains.Assign w) p h.1) refl
+    sixth (inl h) = subst (PlainOf w) (same_Some (plains.Assign w) p h.1) refl
     sixth (inr h) = absurd (let bad = h.1 in cc)
 
     fifth : ((Word w ≡ Word (codes "emit")) × (plains.Emit ≡ p)) ⊎ (or_assign w ≡ Some p) → PlainOf w p
@@ -172,7 +173,7 @@ OpeningIs t (openings.Plain p) = PlainIs t p
 
 mapped : (w : Bytes) (m : Option Plain) (o : Opening) → plain_of_word w ≡ m → option_map openings.Plain m ≡ Some o → OpeningIs (Word w) o
 mapped w None o is e = absurd cc
-mapped w (Some p) o is e = subst (OpeningIs (Word w)) (some_is (openings.Plain p) o e) (plain_word w p is)
+mapped w (Some p) o is e = subst (OpeningIs (Word w)) (same_Some (openings.Plain p) o e) (plain_word w p is)
 
 abbrev or_plain : Bytes → Option Opening
 or_plain w = option_map openings.Plain (plain_of_word w)

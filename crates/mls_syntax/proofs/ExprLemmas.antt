@@ -5,10 +5,11 @@ use Rattle.std.specs.List.{AllByRecursion}
 use Rattle.std.specs.Str.{bytes_eq}
 use Rattle.std.proofs.lemmas.List.{append-nil}
 use Rattle.std.proofs.lemmas.Slice.Eq.{bytes_eq-Decides}
+use Rattle.std.proofs.lemmas.Option.{same_Some}
 use Rattle.mls_lattice.specs.Name.{is_name}
 use Rattle.mls_lattice.specs.Policy.{Name as Bytes}
 use Rattle.mls_lattice.specs.Reading.{◌>>=◌}
-use Rattle.mls_lattice.proofs.ReadingLemmas.{bind_ok}
+use Rattle.mls_lattice.proofs.ReadingLemmas.{bind_ok, same_ok}
 use Rattle.mls_tokens.specs.declared.fault.TokenFault.{TokenFault}
 use Rattle.mls_tokens.specs.declared.token.Token.{Token}
 use Rattle.mls_tokens.specs.declared.token.Token.TheVariants.{Word, Int, Text, Sign}
@@ -16,10 +17,11 @@ use Rattle.mls_tokens.specs.declared.sign.Sign.{Sign as Mark}
 use Rattle.mls_tokens.specs.declared.sign.Sign.TheVariants as sign
 use Rattle.mls_tokens.specs.Scanning.{Left}
 use Rattle.mls_tokens.specs.Passing.{is_sign, taken, PlacedName, pass_name}
-use Rattle.mls_tokens.proofs.PassedLemmas.{same_ok, Passed, passed_none, passed_more, passed_shorter, sign_taken, name_found}
+use Rattle.mls_tokens.proofs.PassedLemmas.{Passed, passed_none, passed_more, passed_shorter, sign_taken, name_found}
 use Rattle.mls_translang.specs.declared.operator.Operator.{Operator}
 use Rattle.mls_translang.specs.declared.operator.Operator.TheVariants as operators
-use Rattle.mls_translang.specs.Tokens.{value_token, operator_token, separated}
+use Rattle.mls_tokens.specs.Text.{separated}
+use Rattle.mls_translang.specs.Tokens.{value_token, operator_token}
 use Rattle.mls_syntax.specs.declared.fault.SyntaxFault.{SyntaxFault}
 use Rattle.mls_syntax.specs.declared.list.ExprList.{ExprList}
 use Rattle.mls_syntax.specs.declared.words.Head.{Head}
@@ -38,9 +40,6 @@ pub chosen : {X : Type 0} (b : Bool) (x y z : X) → (if b then x else y) ≡ z 
 chosen true x y z e = inl (refl, e)
 chosen false x y z e = inr (refl, e)
 
-pub some_is : {X : Type 0} (x y : X) → Some x ≡ Some y → x ≡ y
-some_is x y e = cc
-
 abbrev HeadIs : Token → Head → Type 0
 HeadIs t (heads.Literal v) = t ≡ value_token v
 HeadIs t heads.Null = t ≡ Word (codes "null")
@@ -55,20 +54,20 @@ head_word : (w : Bytes) (h : Head) → head_of_word w ≡ Some h → HeadIs (Wor
 head_word w h e = first (chosen (bytes_eq w (codes "null")) (Some heads.Null) (if bytes_eq w (codes "not") then Some heads.Not else (if is_name w then Some (heads.Name w) else None)) (Some h) e)
   where
     third : ((is_name w ≡ true) × (Some (heads.Name w) ≡ Some h)) ⊎ ((is_name w ≡ false) × (None ≡ Some h)) → HeadIs (Word w) h
-    third (inl y) = subst (HeadIs (Word w)) (some_is (heads.Name w) h y.1) (refl, y.0)
+    third (inl y) = subst (HeadIs (Word w)) (same_Some (heads.Name w) h y.1) (refl, y.0)
     third (inr n) = absurd (let bad = n.1 in cc)
 
     second : ((bytes_eq w (codes "not") ≡ true) × (Some heads.Not ≡ Some h)) ⊎ ((bytes_eq w (codes "not") ≡ false) × ((if is_name w then Some (heads.Name w) else None) ≡ Some h)) → HeadIs (Word w) h
-    second (inl y) = subst (HeadIs (Word w)) (some_is heads.Not h y.1) (word_is w (codes "not") y.0)
+    second (inl y) = subst (HeadIs (Word w)) (same_Some heads.Not h y.1) (word_is w (codes "not") y.0)
     second (inr n) = third (chosen (is_name w) (Some (heads.Name w)) None (Some h) n.1)
 
     first : ((bytes_eq w (codes "null") ≡ true) × (Some heads.Null ≡ Some h))
         ⊎ ((bytes_eq w (codes "null") ≡ false) × ((if bytes_eq w (codes "not") then Some heads.Not else (if is_name w then Some (heads.Name w) else None)) ≡ Some h)) → HeadIs (Word w) h
-    first (inl y) = subst (HeadIs (Word w)) (some_is heads.Null h y.1) (word_is w (codes "null") y.0)
+    first (inl y) = subst (HeadIs (Word w)) (same_Some heads.Null h y.1) (word_is w (codes "null") y.0)
     first (inr n) = second (chosen (bytes_eq w (codes "not")) (Some heads.Not) (if is_name w then Some (heads.Name w) else None) (Some h) n.1)
 
 head_sign : (s : Mark) (h : Head) → head_of_sign s ≡ Some h → HeadIs (Sign s) h
-head_sign sign.LeftParen h e = subst (HeadIs (Sign sign.LeftParen)) (some_is heads.Paren h e) refl
+head_sign sign.LeftParen h e = subst (HeadIs (Sign sign.LeftParen)) (same_Some heads.Paren h e) refl
 head_sign sign.Becomes h e = absurd cc
 head_sign sign.Differs h e = absurd cc
 head_sign sign.AtMost h e = absurd cc
@@ -89,32 +88,32 @@ head_sign sign.Times h e = absurd cc
 
 head_is : (t : Token) (h : Head) → head_of t ≡ Some h → HeadIs t h
 head_is (Word w) h e = head_word w h e
-head_is (Int n) h e = subst (HeadIs (Int n)) (some_is _ h e) refl
-head_is (Text s) h e = subst (HeadIs (Text s)) (some_is _ h e) refl
+head_is (Int n) h e = subst (HeadIs (Int n)) (same_Some _ h e) refl
+head_is (Text s) h e = subst (HeadIs (Text s)) (same_Some _ h e) refl
 head_is (Sign s) h e = head_sign s h e
 
 operator_word : (w : Bytes) (op : Operator) → operator_of_word w ≡ Some op → Word w ≡ operator_token op
 operator_word w op e = first (chosen (bytes_eq w (codes "and")) (Some operators.And) (if bytes_eq w (codes "or") then Some operators.Or else None) (Some op) e)
   where
     second : ((bytes_eq w (codes "or") ≡ true) × (Some operators.Or ≡ Some op)) ⊎ ((bytes_eq w (codes "or") ≡ false) × (None ≡ Some op)) → Word w ≡ operator_token op
-    second (inl y) = word_is w (codes "or") y.0 ∙ ap operator_token (some_is operators.Or op y.1)
+    second (inl y) = word_is w (codes "or") y.0 ∙ ap operator_token (same_Some operators.Or op y.1)
     second (inr n) = absurd (let bad = n.1 in cc)
 
     first : ((bytes_eq w (codes "and") ≡ true) × (Some operators.And ≡ Some op))
         ⊎ ((bytes_eq w (codes "and") ≡ false) × ((if bytes_eq w (codes "or") then Some operators.Or else None) ≡ Some op)) → Word w ≡ operator_token op
-    first (inl y) = word_is w (codes "and") y.0 ∙ ap operator_token (some_is operators.And op y.1)
+    first (inl y) = word_is w (codes "and") y.0 ∙ ap operator_token (same_Some operators.And op y.1)
     first (inr n) = second (chosen (bytes_eq w (codes "or")) (Some operators.Or) None (Some op) n.1)
 
 operator_sign : (s : Mark) (op : Operator) → operator_of_sign s ≡ Some op → Sign s ≡ operator_token op
-operator_sign sign.Plus op e = ap operator_token (some_is operators.Plus op e)
-operator_sign sign.Minus op e = ap operator_token (some_is operators.Minus op e)
-operator_sign sign.Times op e = ap operator_token (some_is operators.Times op e)
-operator_sign sign.Equals op e = ap operator_token (some_is operators.Equal op e)
-operator_sign sign.Differs op e = ap operator_token (some_is operators.Unequal op e)
-operator_sign sign.Less op e = ap operator_token (some_is operators.Less op e)
-operator_sign sign.AtMost op e = ap operator_token (some_is operators.AtMost op e)
-operator_sign sign.Greater op e = ap operator_token (some_is operators.Greater op e)
-operator_sign sign.AtLeast op e = ap operator_token (some_is operators.AtLeast op e)
+operator_sign sign.Plus op e = ap operator_token (same_Some operators.Plus op e)
+operator_sign sign.Minus op e = ap operator_token (same_Some operators.Minus op e)
+operator_sign sign.Times op e = ap operator_token (same_Some operators.Times op e)
+operator_sign sign.Equals op e = ap operator_token (same_Some operators.Equal op e)
+operator_sign sign.Differs op e = ap operator_token (same_Some operators.Unequal op e)
+operator_sign sign.Less op e = ap operator_token (same_Some operators.Less op e)
+operator_sign sign.AtMost op e = ap operator_token (same_Some operators.AtMost op e)
+operator_sign sign.Greater op e = ap operator_token (same_Some operators.Greater op e)
+operator_sign sign.AtLeast op e = ap operator_token (same_Some operators.AtLeast op e)
 operator_sign sign.Becomes op e = absurd cc
 operator_sign sign.LeftParen op e = absurd cc
 operator_sign sign.RightParen op e = absurd cc

@@ -8,10 +8,10 @@ use Rattle.mls_tokens.specs.declared.token.Token.{Token}
 use Rattle.mls_tokens.specs.declared.token.Token.TheVariants.{Word, Sign}
 use Rattle.mls_tokens.specs.declared.sign.Sign.TheVariants as sign
 use Rattle.mls_tokens.specs.Scanning.{tokens_at, tokens_in}
-use Rattle.mls_tokens.specs.Text.{Spells, AreTokens}
+use Rattle.mls_tokens.specs.Text.{Spells, AreTokens, comma_tokens, separated}
 use Rattle.mls_tokens.proofs.TokensLemmas.{tokens_exact}
 use Rattle.mls_tokens.specs.Passing.{PlacedName}
-use Rattle.mls_translang.specs.Tokens.{value_token, operator_token, comma_tokens, separated, braced}
+use Rattle.mls_translang.specs.Tokens.{value_token, operator_token, braced}
 use Rattle.mls_translang.specs.Tx.{IsLiteral}
 use Rattle.mls_syntax.specs.declared.fault.SyntaxFault.{SyntaxFault}
 use Rattle.mls_syntax.specs.declared.list.ExprList.{ExprList}

@@ -6,7 +6,7 @@ use Rattle.mls_lattice.specs.Reading.{◌>>=◌}
 use Rattle.mls_tokens.specs.declared.sign.Sign.TheVariants.{Comma}
 use Rattle.mls_tokens.specs.Scanning.{Left}
 use Rattle.mls_tokens.specs.Passing.{is_word, is_sign, taken, PlacedName, is_over}
-use Rattle.mls_tokens.proofs.PassedLemmas.{same_ok}
+use Rattle.mls_lattice.proofs.ReadingLemmas.{same_ok}
 use Rattle.mls_syntax.specs.declared.fault.SyntaxFault.{SyntaxFault}
 use Rattle.mls_syntax.specs.declared.transaction.Parameter.{Parameter}
 use Rattle.mls_syntax.specs.declared.transaction.Variable.{Variable}

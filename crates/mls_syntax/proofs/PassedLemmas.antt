@@ -1,7 +1,7 @@
 -- The tokens that the first pass passed.
 use Rattle.std.proofs.Common.{◌≡◌, ℕ, List, [], ◌∷◌, Option, Some, None, Result, Ok, Err, refl, ap, subst}
 use Rattle.mls_lattice.specs.Policy.{Name}
-use Rattle.mls_lattice.proofs.ReadingLemmas.{bind_ok}
+use Rattle.mls_lattice.proofs.ReadingLemmas.{bind_ok, same_ok}
 use Rattle.mls_tokens.specs.declared.fault.TokenFault.{TokenFault}
 use Rattle.mls_tokens.specs.declared.token.Token.{Token}
 use Rattle.mls_tokens.specs.declared.token.Token.TheVariants.{Word, Sign}
@@ -9,7 +9,7 @@ use Rattle.mls_tokens.specs.declared.token.Placed.{Placed}
 use Rattle.mls_tokens.specs.declared.sign.Sign.{Sign as Mark}
 use Rattle.mls_tokens.specs.Scanning.{Left}
 use Rattle.mls_tokens.specs.Passing.{left, is_word, is_sign, pass, PlacedName, pass_name}
-use Rattle.mls_tokens.proofs.PassedLemmas.{same_ok, Passed, passed_more, word_found, sign_found as sign_passed, NameFound, name_found}
+use Rattle.mls_tokens.proofs.PassedLemmas.{Passed, passed_more, word_found, sign_found as sign_passed, NameFound, name_found}
 use Rattle.mls_syntax.specs.Fault.{in_syntax}
 use Rattle.mls_syntax.specs.Words.{known, pass_known_of, pass_known, pass_head_of, pass_head, head_of, pass_name_behind}
 use Rattle.mls_syntax.specs.declared.words.Head.{Head}

@@ -16,7 +16,8 @@ use Rattle.mls_tokens.specs.Scanning.{Left, tokens_at, tokens_in}
 use Rattle.mls_tokens.specs.Passing.{is_word, is_sign, taken, PlacedName, is_over}
 use Rattle.mls_tokens.proofs.TokensLemmas.{tokens_exact}
 use Rattle.mls_tokens.proofs.NextLemmas.{Gets, gets_more, done, gets_done, gets_is, NotNext, not_taken, took_word, took_sign, over_again, not_over}
-use Rattle.mls_translang.specs.Tokens.{separated, braced as braced_tokens, kind_token}
+use Rattle.mls_tokens.specs.Text.{separated}
+use Rattle.mls_translang.specs.Tokens.{braced as braced_tokens, kind_token}
 use Rattle.mls_syntax.specs.declared.fault.SyntaxFault.{SyntaxFault}
 use Rattle.mls_syntax.specs.declared.transaction.Parameter.{Parameter}
 use Rattle.mls_syntax.specs.declared.transaction.Variable.{Variable}

@@ -7,7 +7,7 @@ use Rattle.std.proofs.lemmas.List.{append-nil}
 use Rattle.mls_lattice.specs.Name.{is_name}
 use Rattle.mls_lattice.specs.Policy.{Name as Bytes}
 use Rattle.mls_lattice.specs.Reading.{◌>>=◌}
-use Rattle.mls_lattice.proofs.ReadingLemmas.{bind_ok}
+use Rattle.mls_lattice.proofs.ReadingLemmas.{bind_ok, same_ok}
 use Rattle.mls_scheme.specs.declared.value.Kind.{Kind}
 use Rattle.mls_scheme.specs.declared.value.Kind.TheVariants as kinds
 use Rattle.mls_tokens.specs.declared.fault.TokenCause.TheVariants as causes
@@ -17,8 +17,9 @@ use Rattle.mls_tokens.specs.declared.token.Token.TheVariants.{Word, Int, Text, S
 use Rattle.mls_tokens.specs.declared.sign.Sign.TheVariants as sign
 use Rattle.mls_tokens.specs.Scanning.{Left, tokens_in}
 use Rattle.mls_tokens.specs.Passing.{is_word, is_sign, taken, PlacedName, is_over}
-use Rattle.mls_tokens.proofs.PassedLemmas.{same_ok, Passed, passed_none, passed_more, sign_taken, word_taken, over_is}
-use Rattle.mls_translang.specs.Tokens.{separated, kind_token}
+use Rattle.mls_tokens.proofs.PassedLemmas.{Passed, passed_none, passed_more, sign_taken, word_taken, over_is}
+use Rattle.mls_tokens.specs.Text.{separated}
+use Rattle.mls_translang.specs.Tokens.{kind_token}
 use Rattle.mls_syntax.specs.declared.fault.SyntaxFault.{SyntaxFault}
 use Rattle.mls_syntax.specs.declared.transaction.Parameter.{Parameter}
 use Rattle.mls_syntax.specs.declared.transaction.Variable.{Variable}

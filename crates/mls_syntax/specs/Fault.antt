@@ -1,5 +1,6 @@
 -- Faults of the first pass.
 use Rattle.std.specs.Prelude.{◌≡◌, ℕ, Result, Ok, Err}
+use Rattle.mls_lattice.specs.Reading.{GivesUnless}
 use Rattle.mls_tokens.specs.declared.fault.TokenCause.{TokenCause}
 use Rattle.mls_tokens.specs.declared.fault.TokenCause.TheVariants as tokens
 use Rattle.mls_tokens.specs.declared.fault.TokenFault.{TokenFault}
@@ -26,5 +27,4 @@ in_syntax (Err e) = Err (lifted e)
 
 -- What a function returned, seen by view, is what reading gives, unless memory ran out.
 abbrev pub Gives : {X Y : Type 0} → (X → Y) → Result X SyntaxFault → Result Y SyntaxFault → Type 0
-Gives view (Ok x) read = read ≡ Ok (view x)
-Gives view (Err e) read = (e.cause ≡ Memory → ⊥) → read ≡ Err e
+Gives = GivesUnless (λ e. e.cause ≡ Memory)

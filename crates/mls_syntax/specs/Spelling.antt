@@ -5,9 +5,9 @@ use Rattle.mls_lattice.specs.Policy.{Name as Bytes}
 use Rattle.mls_tokens.specs.declared.token.Token.{Token}
 use Rattle.mls_tokens.specs.declared.token.Token.TheVariants.{Word, Sign}
 use Rattle.mls_tokens.specs.declared.sign.Sign.TheVariants as sign
-use Rattle.mls_tokens.specs.Text.{AreTokens}
+use Rattle.mls_tokens.specs.Text.{AreTokens, separated}
 use Rattle.mls_tokens.specs.Passing.{PlacedName}
-use Rattle.mls_translang.specs.Tokens.{value_token, operator_token, separated, braced, kind_token}
+use Rattle.mls_translang.specs.Tokens.{value_token, operator_token, braced, kind_token}
 use Rattle.mls_syntax.specs.declared.list.ExprList.{ExprList}
 use Rattle.mls_syntax.specs.declared.transaction.Parameter.{Parameter}
 use Rattle.mls_syntax.specs.declared.transaction.Variable.{Variable}

@@ -31,7 +31,8 @@ use Rattle.mls_meaning.proofs.KeepingLemmas.{Extends, cond_kept, for_each_kept, 
 use Rattle.mls_certificate.specs.declared.cert.Cert.{Cert}
 use Rattle.mls_certcheck.specs.Place.{Plain, directs, places}
 use Rattle.mls_certcheck.specs.Rules.{Claim, claim, hi, pc, lab, var_label, param_label}
-use Rattle.mls_certcheck.proofs.PlaceLemmas.{unseen_above, seen_under, below-⊑, Obeys, BlockObeys}
+use Rattle.mls_certcheck.proofs.RulesLemmas.{PlaceRules}
+use Rattle.mls_certcheck.proofs.PlaceLemmas.{unseen_above, seen_under, below-⊑, BlockObeys}
 use Rattle.mls_certcheck.proofs.QuietLemmas.{Agrees, agrees_trans, agrees_sym, agrees_same, seen_not, quiet_write, quiet_block}
 use Rattle.mls_certcheck.proofs.ScopeLemmas.{EnvironmentsAgree, eval_same, value_same, write_same}
 
@@ -136,7 +137,7 @@ module _ (policy : Tables) (distinct : AreDistinct (labels_of policy)) (tx : Tx)
   -- ---- releases
 
   module _ (n a : ℕ) (loops : List ℕ) (rs qs : List Tuple) (e : Expr) (to into : ℕ) (s t : Progress)
-      (h : Obeys (claim policy tx cert) (record { number = n; around = a; rows = loops; node = Plain (Release e to into) }))
+      (h : PlaceRules (claim policy tx cert) (record { number = n; around = a; rows = loops; node = Plain (Release e to into) }))
       (envs : EnvironmentsAgree (claim policy tx cert) c loops (environment args rs s) (environment brgs qs t)) (g : Agrees (claim policy tx cert) c s t) where
     abbrev v : Option Value
     v = value_in (environment args rs s) e
@@ -172,12 +173,12 @@ module _ (policy : Tables) (distinct : AreDistinct (labels_of policy)) (tx : Tx)
         elim (cases_Bool (label_of ls to ⊑ level)) [
           | inr out ↦ inr (record {
             tables = g.tables;
-            values = set_same k c into v w s.vars t.vars g.values (λ l. absurd (true≢false (sym l ∙ unseen_above level (label_of ls to) (var_label k into) h.release.target out)));
+            values = set_same k c into v w s.vars t.vars g.values (λ l. absurd (true≢false (sym l ∙ unseen_above level (label_of ls to) (var_label k into) h.own.release.target out)));
             emitted = g.emitted;
             released = seen_not ls c s.released (to, v) out ∙ g.released ∙ sym (seen_not ls c t.released (to, w) out);
           })
           | inl seen ↦ elim (cases_Bool (hi k ⊑ level)) [
-            | inl under ↦ equal (value_same k c loops (environment args rs s) (environment brgs qs t) envs e (seen_under level (lab k loops e) (hi k) h.release.value under))
+            | inl under ↦ equal (value_same k c loops (environment args rs s) (environment brgs qs t) envs e (seen_under level (lab k loops e) (hi k) h.own.release.value under))
             | inr above ↦ elim (cases_Bool (same v w)) [
               | inl eq ↦ equal (same_value-true v w eq)
               | inr ne ↦ inl (above, apart seen ne)
@@ -187,7 +188,7 @@ module _ (policy : Tables) (distinct : AreDistinct (labels_of policy)) (tx : Tx)
 
   -- ---- statements
 
-  related_stmt : (n a : ℕ) (loops : List ℕ) (rs qs : List Tuple) (stmt : Stmt) (s t : Progress) → Obeys k (record { number = n; around = a; rows = loops; node = Plain stmt })
+  related_stmt : (n a : ℕ) (loops : List ℕ) (rs qs : List Tuple) (stmt : Stmt) (s t : Progress) → PlaceRules k (record { number = n; around = a; rows = loops; node = Plain stmt })
       → EnvironmentsAgree k c loops (environment args rs s) (environment brgs qs t) → AreStored ls schemes s.db → AreStored ls schemes t.db → Agrees k c s t
       → Related k c (perform ls schemes args rs stmt s) (perform ls schemes brgs qs stmt t)
   unfolding perform
@@ -195,15 +196,15 @@ module _ (policy : Tables) (distinct : AreDistinct (labels_of policy)) (tx : Tx)
     tables = g.tables;
     values = set_same k c x (value_in (environment args rs s) e) (value_in (environment brgs qs t) e) s.vars t.vars g.values
         (λ l. value_same k c loops (environment args rs s) (environment brgs qs t) envs e
-        (seen_under level (lab k loops e) (var_label k x) (Dominates-trans _ _ _ h.assignment (join-right (pc k n) (lab k loops e))) l));
+        (seen_under level (lab k loops e) (var_label k x) (Dominates-trans _ _ _ h.own.assignment (join-right (pc k n) (lab k loops e))) l));
     emitted = g.emitted;
     released = g.released;
   })
   related_stmt n a loops rs qs (Write_at rel w writing outcome) s t h envs p q g =
       elim (cases_Bool (label_of ls w ⊑ level)) [
-        | inl seen ↦ inr (seen_write rel w _ _ outcome s t (write_same k c loops (environment args rs s) (environment brgs qs t) envs (label_of ls w) seen writing h.write.operands) seen g)
-        | inr out ↦ inr (agrees_trans (agrees_sym (quiet_write policy distinct tx cert schemes args c rel w _ outcome s h.write.into out p))
-            (agrees_trans g (quiet_write policy distinct tx cert schemes brgs c rel w _ outcome t h.write.into out q)))
+        | inl seen ↦ inr (seen_write rel w _ _ outcome s t (write_same k c loops (environment args rs s) (environment brgs qs t) envs (label_of ls w) seen writing h.own.write.operands) seen g)
+        | inr out ↦ inr (agrees_trans (agrees_sym (quiet_write policy distinct tx cert schemes args c rel w _ outcome s h.own.write.into out p))
+            (agrees_trans g (quiet_write policy distinct tx cert schemes brgs c rel w _ outcome t h.own.write.into out q)))
       ]
   related_stmt n a loops rs qs (Release e to into) s t h envs p q g = related_release n a loops rs qs e to into s t h envs g
   related_stmt n a loops rs qs (Emit e label) s t h envs p q g =
@@ -212,7 +213,7 @@ module _ (policy : Tables) (distinct : AreDistinct (labels_of policy)) (tx : Tx)
         values = g.values;
         emitted = elim (cases_Bool (label_of ls label ⊑ level)) [
           | inl seen ↦
-              (let eq = value_same k c loops (environment args rs s) (environment brgs qs t) envs e (seen_under level (lab k loops e) (label_of ls label) h.emit.value seen) in
+              (let eq = value_same k c loops (environment args rs s) (environment brgs qs t) envs e (seen_under level (lab k loops e) (label_of ls label) h.own.emit.value seen) in
               seen_item s.emitted t.emitted _ _ g.emitted (λ i. (label, eq i)))
           | inr out ↦ seen_not ls c s.emitted _ out ∙ g.emitted ∙ sym (seen_not ls c t.emitted _ out)
         ];
@@ -248,12 +249,12 @@ module _ (policy : Tables) (distinct : AreDistinct (labels_of policy)) (tx : Tx)
   related_block scope (If guard one other rest) n a loops h f rs qs ar s t p q g =
       let l = lab k loops guard in
       let m : Pair = join (pc k n) l in
-      let later = every_back (Obeys k) _ (places (n + 1) n loops one) _ h.1 refl in
-      let obeys_1 = every_front (Obeys k) _ (places (n + 1) n loops one) _ h.1 refl in
-      let obeys_2 = every_front (Obeys k) _ (places (n + 1 + statements one) n loops other) _ later refl in
-      let obeys_3 = every_back (Obeys k) _ (places (n + 1 + statements one) n loops other) _ later refl in
-      let above_1 = every_front (λ j. Dominates (pc k j) m) _ (directs (n + 1) one) _ h.0.branch refl in
-      let above_2 = every_back (λ j. Dominates (pc k j) m) _ (directs (n + 1) one) _ h.0.branch refl in
+      let later = every_back (PlaceRules k) _ (places (n + 1) n loops one) _ h.1 refl in
+      let obeys_1 = every_front (PlaceRules k) _ (places (n + 1) n loops one) _ h.1 refl in
+      let obeys_2 = every_front (PlaceRules k) _ (places (n + 1 + statements one) n loops other) _ later refl in
+      let obeys_3 = every_back (PlaceRules k) _ (places (n + 1 + statements one) n loops other) _ later refl in
+      let above_1 = every_front (λ j. Dominates (pc k j) m) _ (directs (n + 1) one) _ h.0.own.branch refl in
+      let above_2 = every_back (λ j. Dominates (pc k j) m) _ (directs (n + 1) one) _ h.0.own.branch refl in
       let b = holds_in (environment args rs s) guard in
       let d = holds_in (environment brgs qs t) guard in
       let s' = cond b (run_1 one rs s) (run_1 other rs s) in
@@ -278,8 +279,8 @@ module _ (policy : Tables) (distinct : AreDistinct (labels_of policy)) (tx : Tx)
       (related_block scope rest (n + (1 + statements one + statements other)) a loops obeys_3 f.3 rs qs ar s' t' p' q') middle
   related_block scope (For name rel label body rest) n a loops h f rs qs ar s t p q g =
       let m : Pair = join (pc k n) (label_of ls label) in
-      let obeys_1 = every_front (Obeys k) _ (places (n + 1) n (label ∷ loops) body) _ h.1 refl in
-      let obeys_2 = every_back (Obeys k) _ (places (n + 1) n (label ∷ loops) body) _ h.1 refl in
+      let obeys_1 = every_front (PlaceRules k) _ (places (n + 1) n (label ∷ loops) body) _ h.1 refl in
+      let obeys_2 = every_back (PlaceRules k) _ (places (n + 1) n (label ∷ loops) body) _ h.1 refl in
       let rows_1 = rows ls label (s.db rel) in
       let rows_2 = rows ls label (t.db rel) in
       let inside = in_loop scope name rel in
@@ -301,9 +302,9 @@ module _ (policy : Tables) (distinct : AreDistinct (labels_of policy)) (tx : Tx)
         | inr out ↦
             let inner : m ⊑ level ≡ false = unseen_above level (label_of ls label) m (join-right (pc k n) (label_of ls label)) out in
             let x = for_each_kept (λ u. Agrees k c s u × AreStored ls schemes u.db) f1
-            (λ row u z. (agrees_trans z.0 (quiet_block policy distinct tx cert schemes args c inside body (n + 1) n (label ∷ loops) m obeys_1 h.0.row_loop.body f.2 inner (row ∷ rs) u z.1), k1 row u z.1)) rows_1 s (agrees_same k c s, p) in
+            (λ row u z. (agrees_trans z.0 (quiet_block policy distinct tx cert schemes args c inside body (n + 1) n (label ∷ loops) m obeys_1 h.0.own.row_loop.body f.2 inner (row ∷ rs) u z.1), k1 row u z.1)) rows_1 s (agrees_same k c s, p) in
             let y = for_each_kept (λ u. Agrees k c t u × AreStored ls schemes u.db) f2
-            (λ row u z. (agrees_trans z.0 (quiet_block policy distinct tx cert schemes brgs c inside body (n + 1) n (label ∷ loops) m obeys_1 h.0.row_loop.body f.2 inner (row ∷ qs) u z.1), k2 row u z.1)) rows_2 t (agrees_same k c t, q) in
+            (λ row u z. (agrees_trans z.0 (quiet_block policy distinct tx cert schemes brgs c inside body (n + 1) n (label ∷ loops) m obeys_1 h.0.own.row_loop.body f.2 inner (row ∷ qs) u z.1), k2 row u z.1)) rows_2 t (agrees_same k c t, q) in
             inr (agrees_trans (agrees_sym x.0) (agrees_trans g y.0))
       ] in
       related_on k c s' t' _ _ (block_extends ls schemes args rest rs s') (block_extends ls schemes brgs rest qs t')

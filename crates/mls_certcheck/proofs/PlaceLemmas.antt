@@ -1,5 +1,5 @@
 -- What the rules say of a block, statement by statement.
-use Rattle.std.proofs.Common.{◌≡◌, ℕ, ◌+◌, Bool, true, false, List, [], ◌∷◌, refl, sym, ◌∙◌}
+use Rattle.std.proofs.Common.{◌≡◌, ℕ, ◌+◌, Bool, true, false, List, ◌∷◌, refl, sym, ◌∙◌}
 use Rattle.std.proofs.Recursive.{every_back}
 use Rattle.std.specs.List.{AllByRecursion}
 use Rattle.std.proofs.lemmas.Bool.{true≢false, false_from_ne_true}
@@ -7,8 +7,9 @@ use Rattle.mls_lattice.specs.Lattice.{Pair, Dominates, ◌⊑◌}
 use Rattle.mls_lattice.specs.Labels.{Labels, label_of, below}
 use Rattle.mls_lattice.proofs.LatticeLemmas.{⊑-Dominates, Dominates-⊑, Dominates-trans}
 use Rattle.mls_translang.specs.Tree.{Block, End, Do, If, For, statements}
-use Rattle.mls_certcheck.specs.Place.{Place, directs, places}
-use Rattle.mls_certcheck.specs.Rules.{Claim, pc, Context, AssignmentAt, BranchAt, LoopAt, WriteAt, ReleaseAt, EmitAt, Rules, all_places}
+use Rattle.mls_certcheck.specs.Place.{directs, places}
+use Rattle.mls_certcheck.specs.Rules.{Claim, pc}
+use Rattle.mls_certcheck.proofs.RulesLemmas.{PlaceRules}
 
 -- ---- labels that c does not dominate
 
@@ -28,38 +29,14 @@ unfolding below
 
 -- ---- statements
 
--- what the rules say of one statement
-pub record Obeys (k : Claim) (p : Place) : Type 0 where
-  pub context : Context k p
-  pub assignment : AssignmentAt k p.number p.rows p.node
-  pub branch : BranchAt k p.number p.rows p.node
-  pub row_loop : LoopAt k p.number p.rows p.node
-  pub write : WriteAt k p.number p.rows p.node
-  pub release : ReleaseAt k p.number p.rows p.node
-  pub emit : EmitAt k p.number p.rows p.node
-
 module _ (k : Claim) where
-  -- so of each statement of a block, the first of which is n, in the statement a and in these loops
+  -- the rules hold at each statement of a block, the first of which is n, in the statement a and in these loops
   abbrev pub BlockObeys : ℕ → ℕ → List ℕ → Block → Type 0
-  BlockObeys n a rows block = AllByRecursion (Obeys k) (places n a rows block)
+  BlockObeys n a rows block = AllByRecursion (PlaceRules k) (places n a rows block)
 
   -- the label of each of its own statements dominates l
   abbrev pub AreAbove : Pair → ℕ → Block → Type 0
   AreAbove l n block = AllByRecursion (λ m. Dominates (pc k m) l) (directs n block)
-
-  all_obey : (ps : List Place) → AllByRecursion (Context k) ps
-      → AllByRecursion (λ p. AssignmentAt k p.number p.rows p.node) ps → AllByRecursion (λ p. BranchAt k p.number p.rows p.node) ps
-      → AllByRecursion (λ p. LoopAt k p.number p.rows p.node) ps → AllByRecursion (λ p. WriteAt k p.number p.rows p.node) ps
-      → AllByRecursion (λ p. ReleaseAt k p.number p.rows p.node) ps → AllByRecursion (λ p. EmitAt k p.number p.rows p.node) ps
-      → AllByRecursion (Obeys k) ps
-  all_obey [] a b c d e f g = tt
-  all_obey (p ∷ ps) a b c d e f g = (
-    record { context = a.0; assignment = b.0; branch = c.0; row_loop = d.0; write = e.0; release = f.0; emit = g.0 },
-    all_obey ps a.1 b.1 c.1 d.1 e.1 f.1 g.1,
-  )
-
-  pub body_obeys : Rules k → BlockObeys 1 0 [] k.tx.body
-  body_obeys r = all_obey (all_places k) r.context r.assignment r.branch r.row_loop r.write r.release r.emit
 
   -- its own statements run only where what is around it runs
   pub around_above : (block : Block) (n a : ℕ) (rows : List ℕ) → BlockObeys n a rows block → AreAbove (pc k a) n block
@@ -68,7 +45,7 @@ module _ (k : Claim) where
   around_above (If guard one other rest) n a rows h = (
     h.0.context,
     around_above rest (n + (1 + statements one + statements other)) a rows
-        (every_back (Obeys k) _ (places (n + 1 + statements one) n rows other) _ (every_back (Obeys k) _ (places (n + 1) n rows one) _ h.1 refl) refl),
+        (every_back (PlaceRules k) _ (places (n + 1 + statements one) n rows other) _ (every_back (PlaceRules k) _ (places (n + 1) n rows one) _ h.1 refl) refl),
   )
   around_above (For row rel label body rest) n a rows h =
-      (h.0.context, around_above rest (n + (1 + statements body)) a rows (every_back (Obeys k) _ (places (n + 1) n (label ∷ rows) body) _ h.1 refl))
+      (h.0.context, around_above rest (n + (1 + statements body)) a rows (every_back (PlaceRules k) _ (places (n + 1) n (label ∷ rows) body) _ h.1 refl))

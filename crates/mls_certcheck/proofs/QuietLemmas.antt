@@ -28,7 +28,8 @@ use Rattle.mls_meaning.proofs.KeepingLemmas.{cond_kept, for_each_kept, perform_s
 use Rattle.mls_certificate.specs.declared.cert.Cert.{Cert}
 use Rattle.mls_certcheck.specs.Place.{Plain, directs, places}
 use Rattle.mls_certcheck.specs.Rules.{Claim, claim, pc, lab, var_label}
-use Rattle.mls_certcheck.proofs.PlaceLemmas.{unseen_above, below-⊑, Obeys, BlockObeys, AreAbove}
+use Rattle.mls_certcheck.proofs.RulesLemmas.{PlaceRules}
+use Rattle.mls_certcheck.proofs.PlaceLemmas.{unseen_above, below-⊑, BlockObeys, AreAbove}
 
 -- two runs look alike to c so far: the low tuples, the variables of labels that it dominates, and the items
 pub record Agrees (k : Claim) (c : ℕ) (s t : Progress) : Type 0 where
@@ -91,29 +92,29 @@ module _ (policy : Tables) (distinct : AreDistinct (labels_of policy)) (tx : Tx)
       }
 
   -- a statement whose label c does not dominate
-  quiet_stmt : (n a : ℕ) (loops : List ℕ) (around : List Tuple) (stmt : Stmt) (s : Progress) → Obeys k (record { number = n; around = a; rows = loops; node = Plain stmt }) → pc k n ⊑ level ≡ false → AreStored ls schemes s.db
+  quiet_stmt : (n a : ℕ) (loops : List ℕ) (around : List Tuple) (stmt : Stmt) (s : Progress) → PlaceRules k (record { number = n; around = a; rows = loops; node = Plain stmt }) → pc k n ⊑ level ≡ false → AreStored ls schemes s.db
       → Agrees k c s (perform ls schemes args around stmt s)
   unfolding perform
   quiet_stmt n a loops around (Assign x e) s h out stored = record {
     tables = λ r. refl;
-    values = λ i v. sym (set_not k c x _ s.vars (unseen_above level (pc k n) (var_label k x) (Dominates-trans _ _ _ h.assignment (join-left (pc k n) (lab k loops e))) out) i v);
+    values = λ i v. sym (set_not k c x _ s.vars (unseen_above level (pc k n) (var_label k x) (Dominates-trans _ _ _ h.own.assignment (join-left (pc k n) (lab k loops e))) out) i v);
     emitted = refl;
     released = refl;
   }
   quiet_stmt n a loops around (Write_at rel w writing outcome) s h out stored =
-      quiet_write rel w (write_in (environment args around s) writing) outcome s h.write.into (unseen_above level (pc k n) (label_of ls w) h.write.context out) stored
+      quiet_write rel w (write_in (environment args around s) writing) outcome s h.own.write.into (unseen_above level (pc k n) (label_of ls w) h.own.write.context out) stored
   quiet_stmt n a loops around (Release e to into) s h out stored =
-      let hidden : label_of ls to ⊑ level ≡ false = unseen_above level (pc k n) (label_of ls to) h.release.context out in
+      let hidden : label_of ls to ⊑ level ≡ false = unseen_above level (pc k n) (label_of ls to) h.own.release.context out in
       record {
         tables = λ r. refl;
-        values = λ i v. sym (set_not k c into _ s.vars (unseen_above level (label_of ls to) (var_label k into) h.release.target hidden) i v);
+        values = λ i v. sym (set_not k c into _ s.vars (unseen_above level (label_of ls to) (var_label k into) h.own.release.target hidden) i v);
         emitted = refl;
         released = sym (seen_not ls c s.released _ hidden);
       }
   quiet_stmt n a loops around (Emit e label) s h out stored = record {
     tables = λ r. refl;
     values = λ i v. refl;
-    emitted = sym (seen_not ls c s.emitted _ (unseen_above level (pc k n) (label_of ls label) h.emit.context out));
+    emitted = sym (seen_not ls c s.emitted _ (unseen_above level (pc k n) (label_of ls label) h.own.emit.context out));
     released = refl;
   }
 
@@ -128,12 +129,12 @@ module _ (policy : Tables) (distinct : AreDistinct (labels_of policy)) (tx : Tx)
   quiet_block scope (If guard one other rest) n a loops l h above f out around s stored =
       let m : Pair = join (pc k n) (lab k loops guard) in
       let inner : m ⊑ level ≡ false = unseen_above level (pc k n) m (join-left (pc k n) (lab k loops guard)) (unseen_above level l (pc k n) above.0 out) in
-      let later = every_back (Obeys k) _ (places (n + 1) n loops one) _ h.1 refl in
-      let obeys_1 = every_front (Obeys k) _ (places (n + 1) n loops one) _ h.1 refl in
-      let obeys_2 = every_front (Obeys k) _ (places (n + 1 + statements one) n loops other) _ later refl in
-      let obeys_3 = every_back (Obeys k) _ (places (n + 1 + statements one) n loops other) _ later refl in
-      let above_1 = every_front (λ j. Dominates (pc k j) m) _ (directs (n + 1) one) _ h.0.branch refl in
-      let above_2 = every_back (λ j. Dominates (pc k j) m) _ (directs (n + 1) one) _ h.0.branch refl in
+      let later = every_back (PlaceRules k) _ (places (n + 1) n loops one) _ h.1 refl in
+      let obeys_1 = every_front (PlaceRules k) _ (places (n + 1) n loops one) _ h.1 refl in
+      let obeys_2 = every_front (PlaceRules k) _ (places (n + 1 + statements one) n loops other) _ later refl in
+      let obeys_3 = every_back (PlaceRules k) _ (places (n + 1 + statements one) n loops other) _ later refl in
+      let above_1 = every_front (λ j. Dominates (pc k j) m) _ (directs (n + 1) one) _ h.0.own.branch refl in
+      let above_2 = every_back (λ j. Dominates (pc k j) m) _ (directs (n + 1) one) _ h.0.own.branch refl in
       let b = holds_in (environment args around s) guard in
       agrees_trans
       (cond_kept (Agrees k c s) b _ _ (quiet_block scope one (n + 1) n loops m obeys_1 above_1 f.1 inner around s stored) (quiet_block scope other (n + 1 + statements one) n loops m obeys_2 above_2 f.2 inner around s stored))
@@ -142,11 +143,11 @@ module _ (policy : Tables) (distinct : AreDistinct (labels_of policy)) (tx : Tx)
   quiet_block scope (For name rel label body rest) n a loops l h above f out around s stored =
       let m : Pair = join (pc k n) (label_of ls label) in
       let inner : m ⊑ level ≡ false = unseen_above level (pc k n) m (join-left (pc k n) (label_of ls label)) (unseen_above level l (pc k n) above.0 out) in
-      let obeys_1 = every_front (Obeys k) _ (places (n + 1) n (label ∷ loops) body) _ h.1 refl in
-      let obeys_2 = every_back (Obeys k) _ (places (n + 1) n (label ∷ loops) body) _ h.1 refl in
+      let obeys_1 = every_front (PlaceRules k) _ (places (n + 1) n (label ∷ loops) body) _ h.1 refl in
+      let obeys_2 = every_back (PlaceRules k) _ (places (n + 1) n (label ∷ loops) body) _ h.1 refl in
       let looped = for_each_kept (λ t. Agrees k c s t × AreStored ls schemes t.db) (λ row t. run_block ls schemes args body (row ∷ around) t)
       (λ row t p. (
-        agrees_trans p.0 (quiet_block (in_loop scope name rel) body (n + 1) n (label ∷ loops) m obeys_1 h.0.row_loop.body f.2 inner (row ∷ around) t p.1),
+        agrees_trans p.0 (quiet_block (in_loop scope name rel) body (n + 1) n (label ∷ loops) m obeys_1 h.0.own.row_loop.body f.2 inner (row ∷ around) t p.1),
         block_stored policy schemes tx.hi distinct args (in_loop scope name rel) body f.2 (row ∷ around) t p.1,
       ))
       (rows ls label (s.db rel)) s (agrees_same k c s, stored) in

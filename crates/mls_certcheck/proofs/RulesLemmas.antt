@@ -97,14 +97,14 @@ module _ (c : Claim) where
   to_order w (Deleting key kc) h = Dominates-⊑ (l_of kc) (l_of w) h
 
   -- the seven rules that ask what a statement is
-  record OwnRules (n : ℕ) (rows : List ℕ) (node : Node) : Type 0 where
-    assignment : AssignmentAt c n rows node
-    branch : BranchAt c n rows node
-    row_loop : LoopAt c n rows node
-    write : WriteAt c n rows node
-    order : OrderAt c n rows node
-    release : ReleaseAt c n rows node
-    emit : EmitAt c n rows node
+  pub record OwnRules (n : ℕ) (rows : List ℕ) (node : Node) : Type 0 where
+    pub assignment : AssignmentAt c n rows node
+    pub branch : BranchAt c n rows node
+    pub row_loop : LoopAt c n rows node
+    pub write : WriteAt c n rows node
+    pub order : OrderAt c n rows node
+    pub release : ReleaseAt c n rows node
+    pub emit : EmitAt c n rows node
 
   own_to : (n : ℕ) (rows : List ℕ) (node : Node) → AllHold (own_tests c n rows node) → OwnRules n rows node
   own_to n rows (Plain (Assign x e)) h = record { assignment = ⊑-Dominates _ _ h.0; branch = tt; row_loop = tt; write = tt; order = tt; release = tt; emit = tt }
@@ -135,10 +135,11 @@ module _ (c : Claim) where
   to_own n rows (Plain (Release e to into)) r = (and_from _ _ (and_from _ _ (Dominates-⊑ _ _ r.release.context) (Dominates-⊑ _ _ r.release.value)) (Dominates-⊑ _ _ r.release.target), tt)
   to_own n rows (Plain (Emit e label)) r = (and_from _ _ (and_from _ _ (Dominates-⊑ _ _ r.emit.context) (Dominates-⊑ _ _ r.emit.value)) (Dominates-⊑ _ _ r.emit.ceiling), tt)
 
-  record PlaceRules (p : Place) : Type 0 where
-    ceiling : Ceiling c p
-    context : Context c p
-    own : OwnRules p.number p.rows p.node
+  -- all rules of a statement
+  pub record PlaceRules (p : Place) : Type 0 where
+    pub ceiling : Ceiling c p
+    pub context : Context c p
+    pub own : OwnRules p.number p.rows p.node
 
   place_to : (p : Place) → AllHold (tests_at c p) → PlaceRules p
   place_to p h = record { ceiling = ⊑-Dominates _ _ h.0; context = ⊑-Dominates _ _ h.1.0; own = own_to p.number p.rows p.node h.1.1 }
@@ -174,9 +175,12 @@ module _ (c : Claim) where
   gather (p ∷ ps) a b d e f g h i j =
       (record { ceiling = a.0; context = b.0; own = record { assignment = d.0; branch = e.0; row_loop = f.0; write = g.0; order = h.0; release = i.0; emit = j.0 } }, gather ps a.1 b.1 d.1 e.1 f.1 g.1 h.1 i.1 j.1)
 
+  -- the rules hold at each place
+  pub rules_everywhere : Rules c → AllByRecursion PlaceRules (all_places c)
+  rules_everywhere r = gather (all_places c) r.ceiling r.context r.assignment r.branch r.row_loop r.write r.order r.release r.emit
+
   -- the rules hold: no test fails
   pub first_from_rules : Rules c → First c ≡ Ok tt
   first_from_rules r =
-      let ps = gather (all_places c) r.ceiling r.context r.assignment r.branch r.row_loop r.write r.order r.release r.emit in
       let heads : AllHold (tx_tests c) = (eq-eqb _ _ r.var_count, (eq-eqb _ _ r.stmt_count, (true_each _ (λ l. Dominates (hi c) (pair_of l)) (λ l. Dominates-⊑ (pair_of l) (hi c)) c.cert.var_labels r.var_ceiling, (true_each _ (λ p. ParamWithin c p.1.label) (λ p k. and_from _ _ (Dominates-⊑ _ _ k.0) (Dominates-⊑ _ _ k.1)) c.tx.params r.params, tt)))) in
-      hold_all (tests c) (hold_both (tx_tests c) (flat_map (tests_at c) (all_places c)) heads (place_each (tests_at c) (all_places c) (all_map PlaceRules (λ p. AllHold (tests_at c p)) to_place (all_places c) ps)))
+      hold_all (tests c) (hold_both (tx_tests c) (flat_map (tests_at c) (all_places c)) heads (place_each (tests_at c) (all_places c) (all_map PlaceRules (λ p. AllHold (tests_at c p)) to_place (all_places c) (rules_everywhere r))))

@@ -1,5 +1,6 @@
 //! What runs leave where a call of the base, or a write, fails: the replies before the fault are whole, and content and audit list are those
-//! before or after its event. `data/` has the scripts, `stdout` what they have to leave.
+//! before or after its event; and what single steps leave where a call fails: content, audit list and sessions are those before it, and the
+//! event is answered where it is tried again. `data/` has the scripts, `stdout` what they have to leave.
 #![tactic(auto)]
 
 ghost use Rattle.std.specs.Prelude.{length};
@@ -9,9 +10,12 @@ ghost use Rattle.mls_script.specs.Event.{EventFits};
 
 mod faulty;
 mod narrow;
+mod outcomes;
 mod runs;
+mod steps;
 
-use crate::runs::{Scripts, What, push_outcomes};
+use crate::outcomes::{Way, push_outcomes};
+use crate::runs::{Scripts, What};
 use mls_lattice::Policy;
 use mls_scheme::Schemes;
 use mls_script::{Event, script};
@@ -21,6 +25,15 @@ use std::io::{self, Error, ErrorKind, Write};
 
 /// The scripts, in the order in which they are told.
 const FILES: [&str; 2] = ["audit.script", "writes.script"];
+
+/// What is tried of each script.
+const TRIALS: [(Way, What); 5] = [
+    (Way::Run, What::Store),
+    (Way::Run, What::Memory),
+    (Way::Run, What::Write),
+    (Way::Steps, What::Store),
+    (Way::Steps, What::Memory),
+];
 
 fn push_all(
     alloc: Global,
@@ -33,8 +46,8 @@ fn push_all(
     requires events { AllByRecursion (EventFits policy.now schemes.now) scripts.events.now }
     requires questions { AllByRecursion (EventFits policy.now schemes.now) scripts.questions.now }
 {
-    for what in [What::Store, What::Memory, What::Write] {
-        push_outcomes(alloc, policy, schemes, scripts, what, out)?;
+    for (way, what) in TRIALS {
+        push_outcomes(alloc, policy, schemes, scripts, way, what, out)?;
     }
     Ok(())
 }

@@ -34,7 +34,7 @@ pub enum What {
 
 impl Failure {
     /// An empty base of which a call fails, or none where a write does.
-    fn base(self, alloc: Global) -> Faulty<ListBase>
+    pub fn base(self, alloc: Global) -> Faulty<ListBase>
         ensures { ⟦<ListBase as Base>⟧.state result.base ≡ record { now = no_content; kept = no_content; begun = false } }
     {
         let lists = ListBase::new(alloc);
@@ -60,7 +60,8 @@ pub struct Scripts<'a> {
     pub questions: &'a [Event],
 }
 
-fn none_stored(alloc: Global) -> Items<Stored>
+/// No stored transactions.
+pub fn none_stored(alloc: Global) -> Items<Stored>
     ensures { result ≡ [] }
 {
     Items::from(Vec::new(alloc))
@@ -98,7 +99,7 @@ fn push_end(out: &mut String, end: Result<(), RunFault>) -> Result<(), AllocErro
 }
 
 /// Writes the lines of replies, each after two blanks.
-fn push_lines(out: &mut String, bytes: &[u8]) -> Result<(), AllocError> {
+pub fn push_lines(out: &mut String, bytes: &[u8]) -> Result<(), AllocError> {
     for line in std::str::from_utf8(bytes).unwrap_or("").lines() {
         out.push_str("  ")?;
         out.push_str(line)?;
@@ -127,7 +128,7 @@ fn push_answers(
 }
 
 /// Writes how the run of a script ends, the replies before its end, and what the base then holds.
-fn push_outcome(
+pub fn push_outcome(
     alloc: Global,
     policy: &Policy,
     schemes: &Schemes,
@@ -154,37 +155,4 @@ fn push_outcome(
         out,
     )?;
     Ok(end.is_ok())
-}
-
-/// The most calls after which one fails.
-const MOST: u64 = 200;
-
-/// Writes the outcomes of a script where a call fails after none, one, two and so on, up to the run in which all is well. Of outcomes that
-/// follow each other and are equal one is written.
-pub fn push_outcomes(
-    alloc: Global,
-    policy: &Policy,
-    schemes: &Schemes,
-    scripts: Scripts<'_>,
-    what: What,
-    out: &mut String,
-) -> Result<(), AllocError>
-    requires under { AreUnder (length policy.now.labels) schemes.now }
-    requires events { AllByRecursion (EventFits policy.now schemes.now) scripts.events.now }
-    requires questions { AllByRecursion (EventFits policy.now schemes.now) scripts.questions.now }
-{
-    let mut last = String::new(alloc);
-    for after in 0..MOST {
-        let mut next = String::new(alloc);
-        let failure = Failure { what, after };
-        let is_well = push_outcome(alloc, policy, schemes, scripts, failure, &mut next)?;
-        if next.as_str() != last.as_str() {
-            out.push_str(next.as_str())?;
-        }
-        if is_well {
-            return Ok(());
-        }
-        last = next;
-    }
-    Ok(())
 }

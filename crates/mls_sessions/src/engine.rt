@@ -1,5 +1,5 @@
 //! The machine of sessions over a base.
-ghost use Rattle.std.specs.Prelude.{◌≡◌, false, length, Some, IfOk};
+ghost use Rattle.std.specs.Prelude.{◌≡◌, false, length, Some, None, IfOk};
 ghost use Rattle.mls_scheme.specs.Scheme.{AreUnder};
 ghost use Rattle.mls_script.specs.Event.{EventFits};
 ghost use Rattle.mls_machine.specs.Machine.{no_sessions, step};
@@ -74,6 +74,19 @@ impl<'a, B: Base> Engine<'a, B> {
         base
     }
 
+    /// Answers an event whose session is not open. It asks nothing of the base.
+    fn outside(&mut self, event: &Event) -> Result<Reply, BaseFault>
+        requires ready { IsReady B.state B.is_clean self.old }
+        requires fits { EventFits (site self.old).policy (site self.old).schemes event.now }
+        requires closed { sessions_of self.old.sessions.items event.now.level event.now.session ≡ None }
+        ensures turn { IsEngineTurn B.state B.is_clean B.failures self.old self.new result }
+        ensures kept { IsKept B.state B.is_clean self.old self.new }
+        ensures done { B.is_clean self.new.base → IfOk result (IsStep B.state self.old (step (site self.old) (world_of B.state self.old) event.now) self.new) }
+        ensures known { IfOk result (HasKnownNumbers (site self.old).policy) }
+    {
+        open(&self.rules, &mut self.sessions, event)
+    }
+
     /// Answers an event of the open session of a user.
     fn inside(&mut self, event: &Event, user: UserNo) -> Result<Reply, BaseFault>
         requires ready { IsReady B.state B.is_clean self.old }
@@ -118,7 +131,7 @@ impl<'a, B: Base> Engine<'a, B> {
         ensures known { IfOk result (HasKnownNumbers (site self.old).policy) }
     {
         match user_of(&self.sessions, event.level, &event.session) {
-            None => open(&self.rules, &mut self.sessions, event),
+            None => self.outside(event),
             Some(user) => self.inside(event, user),
         }
     }

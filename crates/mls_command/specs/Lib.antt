@@ -1,2 +1,4 @@
 pub mod Running
 pub mod Storing
+pub mod Certifying
+pub mod Checking

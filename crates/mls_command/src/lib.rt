@@ -2,9 +2,15 @@
 #![tactic(auto)]
 
 mod acting;
+mod certifying;
+mod checking;
+mod ending;
 mod host;
+mod inputs;
 mod refusal;
+mod running;
 mod samples;
+mod showing;
 mod storing;
 mod words;
 

@@ -10,7 +10,7 @@ use mls_translang::Tx;
 use std::alloc::{AllocError, Global};
 
 /// The first certificate of a name.
-fn cert_named<'a>(blocks: &'a [(Str, Cert)], name: &str) -> Option<&'a Cert>
+pub(crate) fn cert_named<'a>(blocks: &'a [(Str, Cert)], name: &str) -> Option<&'a Cert>
     ensures { option_map (λ c. c.now) result ≡ cert_named blocks.now name.now }
 {
     for block in blocks {

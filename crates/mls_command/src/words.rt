@@ -23,6 +23,14 @@ pub struct RunFiles<'a> {
     pub script: &'a str,
 }
 
+/// The files of transactions that are looked at, each named by a path.
+#[derive(Clone, Copy)]
+pub struct TxFiles<'a> {
+    pub policy: &'a str,
+    pub schemes: &'a str,
+    pub transactions: &'a str,
+}
+
 /// What the words ask for.
 #[derive(Clone, Copy)]
 pub enum Job<'a> {
@@ -32,6 +40,10 @@ pub enum Job<'a> {
     Run(RunFiles<'a>),
     /// The canonical texts of a policy and schemes, each named by a path.
     ShowPolicy { policy: &'a str, schemes: &'a str },
+    /// The certificates of transactions.
+    Certify(TxFiles<'a>),
+    /// Whether certificates, named by a path, hold for transactions.
+    Check(TxFiles<'a>, &'a str),
 }
 
 fn policy_argument<'a>(alloc: Global) -> Arg<'a> {
@@ -46,11 +58,40 @@ fn schemes_argument<'a>(alloc: Global) -> Arg<'a> {
         .help("The relations (TOML)")
 }
 
+fn transactions_argument<'a>(alloc: Global) -> Arg<'a> {
+    Arg::new(alloc, "TRANSACTIONS")
+        .required(true)
+        .help("The transactions")
+}
+
+fn certificates_argument<'a>(alloc: Global) -> Arg<'a> {
+    Arg::new(alloc, "CERTIFICATES")
+        .required(true)
+        .help("Their certificates")
+}
+
 fn show_policy_command<'a>(alloc: Global) -> Result<Command<'a>, AllocError> {
     Command::new(alloc, "show-policy")
         .about("Prints the canonical texts of a policy and its schemes")
         .arg(policy_argument(alloc))?
         .arg(schemes_argument(alloc))
+}
+
+fn certify_command<'a>(alloc: Global) -> Result<Command<'a>, AllocError> {
+    Command::new(alloc, "certify")
+        .about("Prints the least certificate of each transaction that has one")
+        .arg(policy_argument(alloc))?
+        .arg(schemes_argument(alloc))?
+        .arg(transactions_argument(alloc))
+}
+
+fn check_command<'a>(alloc: Global) -> Result<Command<'a>, AllocError> {
+    Command::new(alloc, "check")
+        .about("Says of each transaction whether its certificate holds")
+        .arg(policy_argument(alloc))?
+        .arg(schemes_argument(alloc))?
+        .arg(transactions_argument(alloc))?
+        .arg(certificates_argument(alloc))
 }
 
 fn transactions_option<'a>(alloc: Global) -> Arg<'a> {
@@ -86,7 +127,9 @@ fn command<'a>(alloc: Global) -> Result<Command<'a>, AllocError> {
         .after_help(EXAMPLE)
         .subcommand_required(true)
         .subcommand(run_command(alloc)?)?
-        .subcommand(show_policy_command(alloc)?)
+        .subcommand(show_policy_command(alloc)?)?
+        .subcommand(certify_command(alloc)?)?
+        .subcommand(check_command(alloc)?)
 }
 
 fn usage(alloc: Global, error: &Error) -> Refusal {
@@ -101,10 +144,7 @@ fn usage(alloc: Global, error: &Error) -> Refusal {
 
 /// The refusal of words that name no command with its paths, all of which the parser has refused before.
 fn no_command(alloc: Global) -> Refusal {
-    match String::from_str(
-        alloc,
-        "mldb: run [--transactions FILE] [--certificates FILE] POLICY SCHEMES SCRIPT | show-policy POLICY SCHEMES\n",
-    ) {
+    match String::from_str(alloc, "mldb: run | show-policy | certify | check\n") {
         Ok(text) => Refusal::Usage(text),
         Err(_) => Refusal::Memory,
     }
@@ -127,6 +167,22 @@ fn show_policy_job<'a>(show: &ArgMatches<'a>) -> Option<Job<'a>> {
     })
 }
 
+fn tx_files<'a>(matches: &ArgMatches<'a>) -> Option<TxFiles<'a>> {
+    Some(TxFiles {
+        policy: matches.get_str("POLICY")?,
+        schemes: matches.get_str("SCHEMES")?,
+        transactions: matches.get_str("TRANSACTIONS")?,
+    })
+}
+
+fn certify_job<'a>(certify: &ArgMatches<'a>) -> Option<Job<'a>> {
+    Some(Job::Certify(tx_files(certify)?))
+}
+
+fn check_job<'a>(check: &ArgMatches<'a>) -> Option<Job<'a>> {
+    Some(Job::Check(tx_files(check)?, check.get_str("CERTIFICATES")?))
+}
+
 /// What the words ask for; the first of them is the name that the program was called by.
 pub fn job_of<'a>(alloc: Global, words: &'a [&'a str]) -> Result<Job<'a>, Refusal> {
     if words.len() < 2 {
@@ -139,6 +195,8 @@ pub fn job_of<'a>(alloc: Global, words: &'a [&'a str]) -> Result<Job<'a>, Refusa
     let job = match matches.subcommand() {
         Some(("run", run)) => run_job(run),
         Some(("show-policy", show)) => show_policy_job(show),
+        Some(("certify", certify)) => certify_job(certify),
+        Some(("check", check)) => check_job(check),
         _ => None,
     };
     match job {

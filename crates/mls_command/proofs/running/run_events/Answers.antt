@@ -5,7 +5,7 @@ use Rattle.mls_machine.specs.Observation.{EventsFit}
 use Rattle.mls_sessions.specs.World.{IsSound}
 use Rattle.mls_sessions.proofs.StartLemmas.{no_content_sound}
 use Rattle.mls_command.proofs.RunningLemmas.{run_output}
-use Rattle.mls_command.proofs.acting.run_events.Goals as goal
+use Rattle.mls_command.proofs.running.run_events.Goals as goal
 
 pub new-engine-requires-clause-idle : goal.new-engine-requires-clause-idle
 new-engine-requires-clause-idle g c = ap (λ (s : State). s.begun) c.new-base.ensures

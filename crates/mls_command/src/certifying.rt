@@ -1,0 +1,232 @@
+//! Transactions get the least certificates that hold for them.
+ghost use Rattle.std.specs.Prelude.{◌≡◌, ◌++◌, length, string_bytes, IfOk, OnOk};
+ghost use Rattle.std.specs.List.{flat_map, list_any};
+ghost use Rattle.mls_scheme.specs.Scheme.{AreUnder};
+ghost use Rattle.mls_command.specs.Certifying.{AreLabels, IsAnswer, AreAnswers, block_of, none_front, none_text, refusal_of, has_none, ending_of, IsListing, IsCertified, IsCertifying};
+
+use crate::ending::Ending;
+use crate::host::Host;
+use crate::inputs::{input_of, policy_of, schemes_of};
+use crate::refusal::{Refusal, Role};
+use crate::showing::print;
+use crate::words::TxFiles;
+use mls_certcheck::Rule;
+use mls_certificate::{Cert, block_print};
+use mls_labeller::{LabelFault, label_tx};
+use mls_lattice::Policy;
+use mls_parser::parse;
+use mls_scheme::Schemes;
+use mls_translang::Tx;
+use std::alloc::{AllocError, Global};
+use std::io::Write;
+
+/// The labels of a transaction.
+#[derive(Drop)]
+pub(crate) enum Labels {
+    Least(Cert),
+    /// There are none: the first rule that the least labels break which meet the lower bounds, and the number of its statement.
+    Missing { stmt: usize, rule: Rule },
+}
+
+/// A transaction with its labels.
+#[derive(Drop)]
+pub(crate) struct Answer<'a> {
+    pub tx: &'a Tx,
+    pub labels: Labels,
+}
+
+/// What a command tells on standard output and on standard error.
+#[derive(Drop)]
+pub(crate) struct Listing {
+    pub blocks: String,
+    pub refusals: String,
+    pub ending: Ending,
+}
+
+fn labels_of(alloc: Global, policy: &Policy, tx: &Tx) -> Result<Labels, AllocError>
+    ensures { IfOk result (AreLabels policy.now tx.now) }
+{
+    match label_tx(alloc, policy, tx) {
+        Ok(cert) => Ok(Labels::Least(cert)),
+        Err(LabelFault::NoLabels { stmt, rule }) => Ok(Labels::Missing { stmt, rule }),
+        Err(LabelFault::Memory) => Err(AllocError),
+    }
+}
+
+fn answer_of<'a>(alloc: Global, policy: &Policy, tx: &'a Tx) -> Result<Answer<'a>, AllocError>
+    ensures { IfOk result (IsAnswer policy.now tx.now) }
+{
+    let labels = labels_of(alloc, policy, tx)?;
+    Ok(Answer { tx, labels })
+}
+
+/// The transactions in order, each with its labels.
+fn answers_of<'a>(
+    alloc: Global,
+    policy: &Policy,
+    txs: &'a [Tx],
+) -> Result<Vec<Answer<'a>>, AllocError>
+    ensures { IfOk result (λ v. AreAnswers policy.now txs.now v.items) }
+{
+    let mut answers = Vec::new(alloc);
+    for tx in txs {
+        let answer = answer_of(alloc, policy, tx)?;
+        answers.push(answer)?;
+    }
+    Ok(answers)
+}
+
+fn block_to(alloc: Global, text: &mut String, answer: &Answer<'_>) -> Result<(), AllocError>
+    ensures { OnOk result (string_bytes text.new ≡ string_bytes text.old ++ block_of answer.now) }
+{
+    match &answer.labels {
+        Labels::Least(cert) => {
+            let block = block_print(alloc, answer.tx.name(), cert)?;
+            text.push_str(&block)
+        }
+        Labels::Missing { .. } => Ok(()),
+    }
+}
+
+/// The blocks of the transactions that have labels.
+fn blocks_of(alloc: Global, answers: &[Answer<'_>]) -> Result<String, AllocError>
+    ensures { IfOk result (λ s. string_bytes s ≡ flat_map block_of answers.now) }
+{
+    let mut text = String::new(alloc);
+    for answer in answers {
+        block_to(alloc, &mut text, answer)?;
+    }
+    Ok(text)
+}
+
+#[tactic(auto, unfolding(crate::specs::Certifying::none_front))]
+fn none_front_to(text: &mut String, name: &str) -> Result<(), AllocError>
+    ensures { OnOk result (string_bytes text.new ≡ string_bytes text.old ++ none_front name.now) }
+{
+    write!(text, "mldb: {name}: no labels: ")
+}
+
+fn none_to(text: &mut String, name: &str, stmt: usize, rule: Rule) -> Result<(), AllocError>
+    ensures { OnOk result (string_bytes text.new ≡ string_bytes text.old ++ none_text name.now stmt rule) }
+{
+    none_front_to(text, name)?;
+    let rule = rule.text();
+    writeln!(text, "{stmt} {rule}")
+}
+
+fn refusal_to(text: &mut String, answer: &Answer<'_>) -> Result<(), AllocError>
+    ensures { OnOk result (string_bytes text.new ≡ string_bytes text.old ++ refusal_of answer.now) }
+{
+    match answer.labels {
+        Labels::Least(_) => Ok(()),
+        Labels::Missing { stmt, rule } => none_to(text, answer.tx.name(), stmt, rule),
+    }
+}
+
+/// A line for each transaction that has none.
+fn refusals_of(alloc: Global, answers: &[Answer<'_>]) -> Result<String, AllocError>
+    ensures { IfOk result (λ s. string_bytes s ≡ flat_map refusal_of answers.now) }
+{
+    let mut text = String::new(alloc);
+    for answer in answers {
+        refusal_to(&mut text, answer)?;
+    }
+    Ok(text)
+}
+
+fn has_none(answer: &Answer<'_>) -> bool
+    ensures { result ≡ has_none answer.now }
+{
+    match answer.labels {
+        Labels::Least(_) => false,
+        Labels::Missing { .. } => true,
+    }
+}
+
+fn lacks_some(answers: &[Answer<'_>]) -> bool
+    ensures { result ≡ list_any has_none answers.now }
+{
+    answers.iter().any(|answer| has_none(answer))
+}
+
+fn ending_of(answers: &[Answer<'_>]) -> Ending
+    ensures { result ≡ ending_of answers.now }
+{
+    if lacks_some(answers) {
+        Ending::Refused
+    } else {
+        Ending::Well
+    }
+}
+
+/// All that is told of transactions.
+fn listing_of(alloc: Global, policy: &Policy, txs: &[Tx]) -> Result<Listing, AllocError>
+    ensures { IfOk result (IsListing policy.now txs.now) }
+{
+    let answers = answers_of(alloc, policy, txs)?;
+    let blocks = blocks_of(alloc, &answers)?;
+    let refusals = refusals_of(alloc, &answers)?;
+    Ok(Listing {
+        blocks,
+        refusals,
+        ending: ending_of(&answers),
+    })
+}
+
+/// Prints the blocks, and tells which transactions have none.
+fn certify<W: Write, E: Write>(
+    alloc: Global,
+    policy: &Policy,
+    txs: &[Tx],
+    out: &mut W,
+    err: &mut E,
+) -> Result<Ending, Refusal>
+    ensures { IfOk result (IsCertified policy.now txs.now (W.contents out.old) (W.contents out.new)) }
+{
+    let listing = listing_of(alloc, policy, txs)?;
+    print(out, listing.blocks.as_bytes())?;
+    // A failure of standard error changes nothing.
+    let _ = err.write_all(listing.refusals.as_bytes());
+    Ok(listing.ending)
+}
+
+/// Certifies the transactions that a text tells.
+fn certify_text<W: Write, E: Write>(
+    alloc: Global,
+    policy: &Policy,
+    schemes: &Schemes,
+    bytes: &[u8],
+    out: &mut W,
+    err: &mut E,
+) -> Result<Ending, Refusal>
+    requires { AreUnder (length policy.now.labels) schemes.now }
+    ensures { IfOk result (IsCertifying policy.now schemes.now bytes.now (W.contents out.old) (W.contents out.new)) }
+{
+    let txs = parse(alloc, policy, schemes, bytes)?;
+    certify(alloc, policy, &txs, out, err)
+}
+
+fn certify_under<H: Host, W: Write, E: Write>(
+    alloc: Global,
+    host: &mut H,
+    policy: &Policy,
+    files: TxFiles,
+    out: &mut W,
+    err: &mut E,
+) -> Result<Ending, Refusal> {
+    let schemes = schemes_of(alloc, host, policy, files.schemes)?;
+    let bytes = input_of(alloc, host, Role::Transactions, files.transactions)?;
+    certify_text(alloc, policy, &schemes, &bytes, out, err)
+}
+
+/// Prints the least certificate of each transaction of a file, and tells which transactions have none.
+pub(crate) fn certify_files<H: Host, W: Write, E: Write>(
+    alloc: Global,
+    host: &mut H,
+    files: TxFiles,
+    out: &mut W,
+    err: &mut E,
+) -> Result<Ending, Refusal> {
+    let policy = policy_of(alloc, host, files.policy)?;
+    certify_under(alloc, host, &policy, files, out, err)
+}

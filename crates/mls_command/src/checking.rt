@@ -1,0 +1,154 @@
+//! Certificates are checked against the transactions of their names.
+ghost use Rattle.std.specs.Prelude.{◌≡◌, ◌↔◌, ◌++◌, Some, length, string_bytes, IfOk, OnOk};
+ghost use Rattle.std.specs.List.{flat_map, list_any};
+ghost use Rattle.mls_certcheck.specs.Rules.{Rules, claim};
+ghost use Rattle.mls_certificate.specs.declared.cert.Cert.{Cert as SpecCert};
+ghost use Rattle.mls_command.specs.Storing.{cert_named};
+ghost use Rattle.mls_command.specs.declared.checking.Verdict.TheVariants.{Yes};
+ghost use Rattle.mls_command.specs.Checking.{verdict_of, verdict_text, line_of, is_refused, IsChecked, IsChecking};
+
+use crate::ending::Ending;
+use crate::host::Host;
+use crate::inputs::{input_of, policy_of, schemes_of, transactions_of};
+use crate::refusal::{Refusal as Stop, Role};
+use crate::showing::print;
+use crate::storing::cert_named;
+use crate::words::TxFiles;
+use mls_certcheck::{Refusal, check};
+use mls_certificate::{Cert, certs_read};
+use mls_lattice::{Policy, Str};
+use mls_translang::Tx;
+use std::alloc::{AllocError, Global};
+use std::io::Write;
+
+/// What is said of a transaction and the first certificate of its name.
+#[derive(Clone, Copy, PartialEq, Eq)]
+pub(crate) enum Verdict {
+    Yes,
+    /// The first rule that is broken.
+    No(Refusal),
+    /// There is no certificate of that name.
+    Missing,
+}
+
+fn verdict_of(policy: &Policy, blocks: &[(Str, Cert)], tx: &Tx) -> Verdict
+    ensures exact { result ≡ verdict_of policy.now blocks.now tx.now }
+    // Yes exactly where the rules hold under the first certificate of the name.
+    ensures yes { (cert : SpecCert) → cert_named blocks.now tx.now.name ≡ Some cert → (result ≡ Yes ↔ Rules (claim policy.now tx.now cert)) }
+{
+    match cert_named(blocks, tx.name()) {
+        None => Verdict::Missing,
+        Some(cert) => match check(policy, tx, cert) {
+            Ok(()) => Verdict::Yes,
+            Err(refusal) => Verdict::No(refusal),
+        },
+    }
+}
+
+fn verdict_to(text: &mut String, name: &str, verdict: Verdict) -> Result<(), AllocError>
+    ensures { OnOk result (string_bytes text.new ≡ string_bytes text.old ++ verdict_text name.now verdict) }
+{
+    match verdict {
+        Verdict::Yes => writeln!(text, "{name} yes"),
+        Verdict::No(Refusal { stmt, rule }) => {
+            let rule = rule.text();
+            writeln!(text, "{name} no {stmt} {rule}")
+        }
+        Verdict::Missing => writeln!(text, "{name} no certificate"),
+    }
+}
+
+fn is_refused(verdict: Verdict) -> bool
+    ensures { result ≡ is_refused verdict }
+{
+    match verdict {
+        Verdict::Yes => false,
+        Verdict::No(_) | Verdict::Missing => true,
+    }
+}
+
+/// What is told of transactions.
+#[derive(Drop)]
+pub(crate) struct Verdicts {
+    pub text: String,
+    pub refused: bool,
+}
+
+/// A line for each transaction, and whether one is refused.
+fn verdicts_of(
+    alloc: Global,
+    policy: &Policy,
+    blocks: &[(Str, Cert)],
+    txs: &[Tx],
+) -> Result<Verdicts, AllocError>
+    ensures text { IfOk result (λ v. string_bytes v.text ≡ flat_map (line_of policy.now blocks.now) txs.now) }
+    ensures refused { IfOk result (λ v. v.refused ≡ list_any (λ tx. is_refused (verdict_of policy.now blocks.now tx)) txs.now) }
+{
+    let mut text = String::new(alloc);
+    let mut refused = false;
+    for tx in txs {
+        let verdict = verdict_of(policy, blocks, tx);
+        verdict_to(&mut text, tx.name(), verdict)?;
+        refused = refused | is_refused(verdict);
+    }
+    Ok(Verdicts { text, refused })
+}
+
+/// Prints the verdicts.
+fn check_all<W: Write>(
+    alloc: Global,
+    policy: &Policy,
+    blocks: &[(Str, Cert)],
+    txs: &[Tx],
+    out: &mut W,
+) -> Result<Ending, Stop>
+    ensures { IfOk result (IsChecked policy.now blocks.now txs.now (W.contents out.old) (W.contents out.new)) }
+{
+    let verdicts = verdicts_of(alloc, policy, blocks, txs)?;
+    print(out, verdicts.text.as_bytes())?;
+    if verdicts.refused {
+        Ok(Ending::Refused)
+    } else {
+        Ok(Ending::Well)
+    }
+}
+
+/// Checks the certificates that a text tells.
+fn check_text<W: Write>(
+    alloc: Global,
+    policy: &Policy,
+    txs: &[Tx],
+    bytes: &[u8],
+    out: &mut W,
+) -> Result<Ending, Stop>
+    ensures { IfOk result (IsChecking policy.now txs.now bytes.now (W.contents out.old) (W.contents out.new)) }
+{
+    let blocks = certs_read(alloc, bytes)?;
+    check_all(alloc, policy, &blocks, txs, out)
+}
+
+fn check_under<H: Host, W: Write>(
+    alloc: Global,
+    host: &mut H,
+    policy: &Policy,
+    files: TxFiles,
+    certificates: &str,
+    out: &mut W,
+) -> Result<Ending, Stop> {
+    let schemes = schemes_of(alloc, host, policy, files.schemes)?;
+    let txs = transactions_of(alloc, host, policy, &schemes, Some(files.transactions))?;
+    let bytes = input_of(alloc, host, Role::Certificates, certificates)?;
+    check_text(alloc, policy, &txs, &bytes, out)
+}
+
+/// Says of each transaction of a file whether the first certificate of its name in another file holds for it.
+pub(crate) fn check_files<H: Host, W: Write>(
+    alloc: Global,
+    host: &mut H,
+    files: TxFiles,
+    certificates: &str,
+    out: &mut W,
+) -> Result<Ending, Stop> {
+    let policy = policy_of(alloc, host, files.policy)?;
+    check_under(alloc, host, &policy, files, certificates, out)
+}

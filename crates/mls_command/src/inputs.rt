@@ -1,0 +1,81 @@
+//! Files, read as what a command takes them for.
+ghost use Rattle.std.specs.Prelude.{length, IfOk};
+ghost use Rattle.std.specs.List.{AllByRecursion};
+ghost use Rattle.mls_scheme.specs.Scheme.{AreUnder};
+ghost use Rattle.mls_translang.specs.Fits.{IsReadUnder};
+
+use crate::host::Host;
+use crate::refusal::{Refusal, Role};
+use mls_certificate::{Cert, certs_read};
+use mls_lattice::{Items, Policy, Str};
+use mls_parser::parse;
+use mls_scheme::Schemes;
+use mls_translang::Tx;
+use std::alloc::Global;
+
+pub(crate) fn input_of<H: Host>(
+    alloc: Global,
+    host: &mut H,
+    role: Role,
+    path: &str,
+) -> Result<Vec<u8>, Refusal> {
+    match host.file(alloc, path) {
+        Ok(bytes) => Ok(bytes),
+        Err(fault) => Err(Refusal::of_input(role, fault)),
+    }
+}
+
+pub(crate) fn policy_of<H: Host>(
+    alloc: Global,
+    host: &mut H,
+    path: &str,
+) -> Result<Policy, Refusal> {
+    let bytes = input_of(alloc, host, Role::Policy, path)?;
+    Ok(Policy::read(alloc, &bytes)?)
+}
+
+pub(crate) fn schemes_of<H: Host>(
+    alloc: Global,
+    host: &mut H,
+    policy: &Policy,
+    path: &str,
+) -> Result<Schemes, Refusal>
+    ensures { IfOk result (AreUnder (length policy.now.labels)) }
+{
+    let bytes = input_of(alloc, host, Role::Schemes, path)?;
+    Ok(Schemes::read(alloc, policy, &bytes)?)
+}
+
+/// The transactions of a file, if one is named.
+pub(crate) fn transactions_of<H: Host>(
+    alloc: Global,
+    host: &mut H,
+    policy: &Policy,
+    schemes: &Schemes,
+    path: Option<&str>,
+) -> Result<Items<Tx>, Refusal>
+    ensures { IfOk result (AllByRecursion (IsReadUnder policy.now schemes.now)) }
+{
+    match path {
+        None => Ok(Items::from(Vec::new(alloc))),
+        Some(path) => {
+            let bytes = input_of(alloc, host, Role::Transactions, path)?;
+            Ok(parse(alloc, policy, schemes, &bytes)?)
+        }
+    }
+}
+
+/// The certificates of a file, if one is named.
+pub(crate) fn certificates_of<H: Host>(
+    alloc: Global,
+    host: &mut H,
+    path: Option<&str>,
+) -> Result<Vec<(Str, Cert)>, Refusal> {
+    match path {
+        None => Ok(Vec::new(alloc)),
+        Some(path) => {
+            let bytes = input_of(alloc, host, Role::Certificates, path)?;
+            Ok(certs_read(alloc, &bytes)?)
+        }
+    }
+}

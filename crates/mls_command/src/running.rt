@@ -1,0 +1,128 @@
+//! Scripts that are run over an empty database.
+ghost use Rattle.std.specs.Prelude.{length, IfOk, OnOk};
+ghost use Rattle.std.specs.List.{AllByRecursion};
+ghost use Rattle.std.specs.Io.KnownBytes.{Appends};
+ghost use Rattle.mls_scheme.specs.Scheme.{AreUnder};
+ghost use Rattle.mls_script.specs.Event.{EventFits};
+ghost use Rattle.mls_machine.specs.Observation.{AreRead, AreCertified};
+ghost use Rattle.mls_command.specs.Running.{output, IsScriptRun};
+
+use crate::host::Host;
+use crate::inputs::{certificates_of, input_of, policy_of, schemes_of, transactions_of};
+use crate::refusal::{Refusal, Role};
+use crate::samples;
+use crate::storing::stored_of;
+use crate::words::RunFiles;
+use mls_lattice::{Items, Policy};
+use mls_scheme::Schemes;
+use mls_script::{Event, script};
+use mls_sessions::{Engine, RunFault, Stored, run};
+use mls_updates::ListBase;
+use std::alloc::Global;
+use std::io::Write;
+
+/// What a run stores.
+#[tactic(auto, using(crate::proofs::StoringLemmas::stored_read))]
+fn stored_files<H: Host>(
+    alloc: Global,
+    host: &mut H,
+    policy: &Policy,
+    schemes: &Schemes,
+    files: RunFiles,
+) -> Result<Items<Stored>, Refusal>
+    ensures read { IfOk result (λ ss. AreRead (record { policy = policy.now; schemes = schemes.now; stored = ss })) }
+    ensures certified { IfOk result (λ ss. AreCertified (record { policy = policy.now; schemes = schemes.now; stored = ss })) }
+{
+    let txs = transactions_of(alloc, host, policy, schemes, files.transactions)?;
+    let blocks = certificates_of(alloc, host, files.certificates)?;
+    Ok(stored_of(alloc, policy, txs, &blocks)?)
+}
+
+/// Runs a script over an empty database.
+fn run_script<W: Write>(
+    alloc: Global,
+    policy: &Policy,
+    schemes: &Schemes,
+    stored: Items<Stored>,
+    bytes: &[u8],
+    out: &mut W,
+) -> Result<(), Refusal>
+    requires under { AreUnder (length policy.now.labels) schemes.now }
+    requires read { AreRead (record { policy = policy.now; schemes = schemes.now; stored = stored }) }
+    requires certified { AreCertified (record { policy = policy.now; schemes = schemes.now; stored = stored }) }
+    ensures { OnOk result (IsScriptRun (record { policy = policy.now; schemes = schemes.now; stored = stored }) bytes.now (W.contents out.old) (W.contents out.new)) }
+{
+    let events = script(alloc, policy, schemes, bytes)?;
+    Ok(run_events(alloc, policy, schemes, stored, &events, out)?)
+}
+
+/// Answers events over an empty database.
+fn run_events<W: Write>(
+    alloc: Global,
+    policy: &Policy,
+    schemes: &Schemes,
+    stored: Items<Stored>,
+    events: &[Event],
+    out: &mut W,
+) -> Result<(), RunFault>
+    requires under { AreUnder (length policy.now.labels) schemes.now }
+    requires read { AreRead (record { policy = policy.now; schemes = schemes.now; stored = stored }) }
+    requires certified { AreCertified (record { policy = policy.now; schemes = schemes.now; stored = stored }) }
+    requires fits { AllByRecursion (EventFits policy.now schemes.now) events.now }
+    ensures { OnOk result (Appends (W.contents out.old) (W.contents out.new) (output (record { policy = policy.now; schemes = schemes.now; stored = stored }) events.now)) }
+{
+    let base = ListBase::new(alloc);
+    let mut engine = Engine::new(alloc, base, policy, schemes, stored);
+    let outcome = run(&mut engine, events, out);
+    let _base = engine.finish();
+    outcome
+}
+
+/// Runs the script on standard input under schemes, and these under the policy that is handed in.
+fn run_sample_schemes<H: Host, W: Write>(
+    alloc: Global,
+    host: &mut H,
+    policy: &Policy,
+    out: &mut W,
+) -> Result<(), Refusal> {
+    let schemes = Schemes::read(alloc, policy, samples::SCHEMES.as_bytes())?;
+    match host.input(alloc) {
+        Ok(bytes) => {
+            let none = Items::from(Vec::new(alloc));
+            run_script(alloc, policy, &schemes, none, &bytes, out)
+        }
+        Err(fault) => Err(Refusal::of_input(Role::Script, fault)),
+    }
+}
+
+pub(crate) fn run_samples<H: Host, W: Write>(
+    alloc: Global,
+    host: &mut H,
+    out: &mut W,
+) -> Result<(), Refusal> {
+    let policy = Policy::read(alloc, samples::POLICY.as_bytes())?;
+    run_sample_schemes(alloc, host, &policy, out)
+}
+
+fn run_schemes<H: Host, W: Write>(
+    alloc: Global,
+    host: &mut H,
+    policy: &Policy,
+    files: RunFiles,
+    out: &mut W,
+) -> Result<(), Refusal> {
+    let schemes = schemes_of(alloc, host, policy, files.schemes)?;
+    let stored = stored_files(alloc, host, policy, &schemes, files)?;
+    let bytes = input_of(alloc, host, Role::Script, files.script)?;
+    run_script(alloc, policy, &schemes, stored, &bytes, out)
+}
+
+pub(crate) fn run_files<H: Host, W: Write>(
+    alloc: Global,
+    host: &mut H,
+    files: RunFiles,
+    out: &mut W,
+) -> Result<(), Refusal> {
+    let policy = policy_of(alloc, host, files.policy)?;
+    run_schemes(alloc, host, &policy, files, out)
+}

@@ -1,0 +1,55 @@
+//! The canonical texts of a policy and its schemes.
+ghost use Rattle.std.specs.Prelude.{length, OnOk};
+ghost use Rattle.std.specs.Io.KnownBytes.{Appends};
+ghost use Rattle.mls_scheme.specs.Scheme.{AreUnder};
+
+use crate::host::Host;
+use crate::inputs::{policy_of, schemes_of};
+use crate::refusal::Refusal;
+use mls_lattice::Policy;
+use mls_scheme::Schemes;
+use std::alloc::{AllocError, Global};
+use std::io::Write;
+
+/// Writes what a command other than a run prints.
+pub(crate) fn print<W: Write>(out: &mut W, text: &[u8]) -> Result<(), Refusal>
+    ensures ok { OnOk result (Appends (W.contents out.old) (W.contents out.new) text.now) }
+{
+    match out.write_all(text) {
+        Ok(()) => Ok(()),
+        Err(_) => Err(Refusal::Output),
+    }
+}
+
+/// The canonical texts of a policy and its schemes.
+fn texts_of(alloc: Global, policy: &Policy, schemes: &Schemes) -> Result<Vec<u8>, AllocError>
+    requires { AreUnder (length policy.now.labels) schemes.now }
+{
+    let mut text = policy.canon(alloc)?;
+    text.append(&mut schemes.canon(alloc, policy)?)?;
+    Ok(text)
+}
+
+fn show_schemes<H: Host, W: Write>(
+    alloc: Global,
+    host: &mut H,
+    policy: &Policy,
+    schemes: &str,
+    out: &mut W,
+) -> Result<(), Refusal> {
+    let schemes = schemes_of(alloc, host, policy, schemes)?;
+    let text = texts_of(alloc, policy, &schemes)?;
+    print(out, &text)
+}
+
+/// Prints the canonical texts.
+pub(crate) fn show_policy<H: Host, W: Write>(
+    alloc: Global,
+    host: &mut H,
+    policy: &str,
+    schemes: &str,
+    out: &mut W,
+) -> Result<(), Refusal> {
+    let policy = policy_of(alloc, host, policy)?;
+    show_schemes(alloc, host, &policy, schemes, out)
+}

@@ -35,7 +35,8 @@ use Rattle.mls_syntax.specs.ReadExpr.{sign_at, whole_at}
 use Rattle.mls_syntax.specs.ReadBlock.{name_at, name_behind, plain_at, Counted, with_count, braced, other_of, other_at, if_at, for_at, content_at, opened, stmt_with, deep_stmt, end_or, stmts_from, stmts_with, stmts_at, body_at}
 use Rattle.mls_syntax.specs.Spelling.{name_token, behind_tokens, expr_tokens, stmt_tokens, for_tokens, SpellsOther, SpellsBlock}
 use Rattle.mls_syntax.proofs.PassedLemmas.{syntax_ok, sign_found, known_found}
-use Rattle.mls_syntax.proofs.ExprLemmas.{chosen, IsNested, whole_found}
+use Rattle.mls_tokens.proofs.TokenLemmas.{chosen}
+use Rattle.mls_syntax.proofs.ExprLemmas.{IsNested, whole_found}
 use Rattle.mls_syntax.proofs.StmtLemmas.{named, behind, PlainFound, PlainIs, plain_found}
 
 -- ---- blocks put together

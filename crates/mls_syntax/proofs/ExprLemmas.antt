@@ -1,5 +1,5 @@
 -- Expressions are read as what stands there.
-use Rattle.std.proofs.Common.{◌≡◌, ℕ, zero, suc, ◌<◌, ◌≤◌, Bool, true, false, List, [], ◌∷◌, ◌++◌, length, Option, Some, None, Result, Ok, inl, inr, refl, sym, ap, ◌∙◌, subst, arith, append_assoc}
+use Rattle.std.proofs.Common.{◌≡◌, ℕ, zero, suc, ◌<◌, ◌≤◌, true, false, List, [], ◌∷◌, ◌++◌, length, Option, Some, None, Result, Ok, inl, inr, refl, sym, ap, ◌∙◌, subst, arith, append_assoc}
 use Rattle.std.specs.Prelude.{codes, ◌⊎◌, if◌then◌else◌}
 use Rattle.std.specs.List.{AllByRecursion}
 use Rattle.std.specs.Str.{bytes_eq}
@@ -17,6 +17,7 @@ use Rattle.mls_tokens.specs.declared.sign.Sign.{Sign as Mark}
 use Rattle.mls_tokens.specs.declared.sign.Sign.TheVariants as sign
 use Rattle.mls_tokens.specs.Scanning.{Left}
 use Rattle.mls_tokens.specs.Passing.{is_sign, taken, PlacedName, pass_name}
+use Rattle.mls_tokens.proofs.TokenLemmas.{chosen}
 use Rattle.mls_tokens.proofs.PassedLemmas.{Passed, passed_none, passed_more, passed_shorter, sign_taken, name_found}
 use Rattle.mls_translang.specs.declared.operator.Operator.{Operator}
 use Rattle.mls_translang.specs.declared.operator.Operator.TheVariants as operators
@@ -35,10 +36,6 @@ use Rattle.mls_syntax.specs.Spelling.{name_token, expr_tokens, list_tokens, set_
 use Rattle.mls_syntax.proofs.PassedLemmas.{syntax_ok, sign_found, known_found, head_found}
 
 -- ---- which token it was
-
-pub chosen : {X : Type 0} (b : Bool) (x y z : X) → (if b then x else y) ≡ z → ((b ≡ true) × (x ≡ z)) ⊎ ((b ≡ false) × (y ≡ z))
-chosen true x y z e = inl (refl, e)
-chosen false x y z e = inr (refl, e)
 
 abbrev HeadIs : Token → Head → Type 0
 HeadIs t (heads.Literal v) = t ≡ value_token v

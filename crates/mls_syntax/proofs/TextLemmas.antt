@@ -33,7 +33,8 @@ use Rattle.mls_syntax.specs.ReadBlock.{word_at, name_at, name_behind, body_at}
 use Rattle.mls_syntax.specs.Reading.{too_many, param_at, params_from, params_behind, params_at, var_at, or_var, vars_from, vars_at, interval_at, transaction_at, transactions_from}
 use Rattle.mls_syntax.specs.Spelling.{name_token, behind_tokens, param_tokens, params_tokens, var_tokens, SpellsTransaction, SpellsEach}
 use Rattle.mls_syntax.proofs.PassedLemmas.{syntax_ok, sign_found, known_found}
-use Rattle.mls_syntax.proofs.ExprLemmas.{chosen, IsNested}
+use Rattle.mls_tokens.proofs.TokenLemmas.{chosen}
+use Rattle.mls_syntax.proofs.ExprLemmas.{IsNested}
 use Rattle.mls_syntax.proofs.StmtLemmas.{named, behind, worded}
 use Rattle.mls_syntax.proofs.BlockLemmas.{test_word, closed, body_found}
 

@@ -16,6 +16,7 @@ use Rattle.std.proofs.lemmas.Nat.{from_be_bytes-to_be_bytes_4}
 use Rattle.std.proofs.lemmas.Str.Parse.{digit_from_value}
 use Rattle.mls_lattice.specs.declared.label.Label.{Label}
 use Rattle.mls_lattice.specs.Reading.{◌>>=◌}
+use Rattle.mls_lattice.proofs.ReadingLemmas.{ok_is}
 use Rattle.mls_certificate.proofs.LabelLemmas.{own}
 use Rattle.mls_certificate.specs.declared.cert.Cert.{Cert}
 use Rattle.mls_certificate.specs.declared.fault.CertFault.{CertFault}
@@ -24,9 +25,6 @@ use Rattle.mls_certificate.specs.Spelling.{byte_text, label_text, spaced_label, 
 
 abbrev pub done : {A : Type 0} → A → Result A CertFault
 done x = Ok x
-
-pub ok_is : {A : Type 0} (x y : A) → done x ≡ done y → x ≡ y
-ok_is x y e = cc
 
 -- ---- bytes above a mark are cut nowhere
 

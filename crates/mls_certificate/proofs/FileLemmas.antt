@@ -13,8 +13,8 @@ use Rattle.std.proofs.lemmas.List.Splits.{join_with_byte-slice_split, length-sli
 use Rattle.std.proofs.lemmas.Map.Keys.{IsDistinct-push, IsDistinct-head, IsDistinct-tail}
 use Rattle.mls_lattice.specs.Name.{is_name, is_name_byte}
 use Rattle.mls_lattice.specs.Reading.{◌>>=◌}
-use Rattle.mls_lattice.proofs.ReadingLemmas.{bind_ok, guard_ok, pass_ok}
-use Rattle.mls_certificate.proofs.AgainLemmas.{done, ok_is, Above, Above-append, labels_above, no_mark, vars_again, pcs_again}
+use Rattle.mls_lattice.proofs.ReadingLemmas.{bind_ok, guard_ok, pass_ok, ok_is}
+use Rattle.mls_certificate.proofs.AgainLemmas.{done, Above, Above-append, labels_above, no_mark, vars_again, pcs_again}
 use Rattle.mls_certificate.proofs.FoundLemmas.{CertFound, at_place, lines_found}
 use Rattle.mls_certificate.proofs.NameLemmas.{name_bytes}
 use Rattle.mls_certificate.specs.declared.cert.Cert.{Cert}

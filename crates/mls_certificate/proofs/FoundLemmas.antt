@@ -16,9 +16,8 @@ use Rattle.std.proofs.lemmas.List.Splits.{join_with_byte-slice_split}
 use Rattle.std.proofs.lemmas.Nat.{be_bytes_4}
 use Rattle.mls_lattice.specs.declared.label.Label.{Label}
 use Rattle.mls_lattice.specs.Reading.{◌>>=◌}
-use Rattle.mls_lattice.proofs.ReadingLemmas.{bind_ok, guard_ok, pass_ok}
+use Rattle.mls_lattice.proofs.ReadingLemmas.{bind_ok, guard_ok, pass_ok, ok_is}
 use Rattle.mls_certificate.proofs.LabelLemmas.{own, some_digits}
-use Rattle.mls_certificate.proofs.AgainLemmas.{ok_is}
 use Rattle.mls_certificate.specs.declared.cert.Cert.{Cert}
 use Rattle.mls_certificate.specs.declared.fault.CertFault.{CertFault}
 use Rattle.mls_certificate.specs.declared.fault.CertCause.TheVariants.{Label as BadLabel}

@@ -1,14 +1,12 @@
 -- The numbers in a label.
 use Rattle.std.proofs.Common.{◌≡◌, ℕ, ◌<◌, true, not, ◌==◌, nat_lt, List, [], ◌∷◌, length, Result, Ok, Err, refl, sym, ap, rules, arith}
-use Rattle.std.specs.Prelude.{MatchResult, IsOk, IsUtf8}
+use Rattle.std.specs.Prelude.{MatchResult}
 use Rattle.std.specs.Str.{IsAscii}
 use Rattle.std.specs.Str.Parse.{digits_value, ParsesUnsigned}
 use Rattle.std.specs.Char.{is_ascii_digit}
 use Rattle.std.proofs.lemmas.Bool.{and_parts, lt-ltb, ltb-true, false_from_ne_true}
-use Rattle.std.proofs.lemmas.Bool.Decides.{nat_tests}
-use Rattle.std.proofs.lemmas.Str.Ascii.{IsAscii-cons}
 use Rattle.std.proofs.lemmas.Str.Parse.{IsNumeralModel, IsDigitsTest, numerals_by_value, parse_digits}
-use Rattle.std.proofs.lemmas.Str.{IsUtf8-from_ascii}
+use Rattle.mls_lattice.proofs.AsciiLemmas.{digit_small, all_ascii}
 use Rattle.mls_certificate.specs.declared.fault.CertCause.TheVariants.{Label as BadLabel}
 use Rattle.mls_certificate.specs.Reading.{are_digits, is_decimal, number_in, refused}
 
@@ -18,20 +16,9 @@ digits_test = search rules
 pub own : IsNumeralModel (λ ds. are_digits ds ≡ true) (digits_value 10)
 own = numerals_by_value (λ ds. are_digits ds ≡ true) digits_test
 
-digit_small : (b : ℕ) → is_ascii_digit b ≡ true → b < 128
-digit_small b h = grind (arith, nat_tests)
-
-pub digits_ascii : (ds : List ℕ) → are_digits ds ≡ true → IsAscii ds
-digits_ascii [] h = λ i. omega arith
-digits_ascii (d ∷ ds) h = let p = and_parts _ _ h in IsAscii-cons d ds (digit_small d p.0) (digits_ascii ds p.1)
-
 pub decimal_ascii : (text : List ℕ) → is_decimal text ≡ true → IsAscii text
 unfolding is_decimal
-decimal_ascii text h = digits_ascii text (and_parts _ _ (and_parts _ _ h).0).1
-
-pub ok_from_utf8 : {A E : Type 0} (bytes : List ℕ) (P : A → Type 0) (Q : E → Type 0) (r : Result A E) → MatchResult r P (λ e. (IsUtf8 bytes → ⊥) × Q e) → IsAscii bytes → IsOk r
-ok_from_utf8 bytes P Q (Ok x) h ascii = refl
-ok_from_utf8 bytes P Q (Err e) h ascii = absurd (h.0 (IsUtf8-from_ascii bytes ascii))
+decimal_ascii text h = all_ascii is_ascii_digit digit_small text (and_parts _ _ (and_parts _ _ h).0).1
 
 -- digits are there
 pub some_digits : (text : List ℕ) → is_decimal text ≡ true → (0 < length text) × (are_digits text ≡ true)

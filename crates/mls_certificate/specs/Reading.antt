@@ -7,7 +7,7 @@ use Rattle.std.specs.Str.Parse.{digits_value}
 use Rattle.std.specs.Int.{w32, from_be_bytes}
 use Rattle.mls_lattice.specs.declared.label.Label.{Label}
 use Rattle.mls_lattice.specs.Name.{is_name}
-use Rattle.mls_lattice.specs.Reading.{◌>>=◌}
+use Rattle.mls_lattice.specs.Reading.{◌>>=◌, GivesUnless}
 use Rattle.mls_certificate.specs.declared.cert.Cert.{Cert}
 use Rattle.mls_certificate.specs.declared.fault.CertFault.{CertFault}
 use Rattle.mls_certificate.specs.declared.fault.CertCause.{CertCause}
@@ -15,8 +15,7 @@ use Rattle.mls_certificate.specs.declared.fault.CertCause.TheVariants.{Line, Lab
 
 -- What a function returned, seen by view, is what reading gives, unless memory ran out.
 abbrev pub Gives : {X Y : Type 0} → (X → Y) → Result X CertFault → Result Y CertFault → Type 0
-Gives view (Ok x) read = read ≡ Ok (view x)
-Gives view (Err e) read = (e.cause ≡ Memory → ⊥) → read ≡ Err e
+Gives = GivesUnless (λ e. e.cause ≡ Memory)
 
 abbrev pub refused : {A : Type 0} → ℕ → CertCause → Result A CertFault
 refused line cause = Err (record { line = line; cause = cause })

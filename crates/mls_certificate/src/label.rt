@@ -1,11 +1,10 @@
 //! A label: the rank in decimal, a colon, and the categories as eight hexadecimal digits.
 ghost use Rattle.std.specs.Prelude.{◌≡◌, ◌<◌, length, true, IfOk};
-ghost use Rattle.std.specs.Str.{IsAscii};
 ghost use Rattle.mls_certificate.specs.declared.fault.CertCause.TheVariants.{Label as BadLabel};
 ghost use Rattle.mls_certificate.specs.Reading.{Gives, are_digits, is_decimal, number_in, rank_in, digit_in, byte_in, bytes_in, cats_in, label_in};
 
 use crate::fault::{CertCause, CertFault};
-use mls_lattice::Label;
+use mls_lattice::{Label, ascii_text};
 
 fn are_digits(text: &[u8]) -> bool
     ensures { result ≡ are_digits text.now }
@@ -24,14 +23,6 @@ fn is_decimal(text: &[u8]) -> bool
         return false;
     }
     text.len() == 1 || text[0] != b'0'
-}
-
-/// Bytes below 128 as a text.
-fn ascii_text(bytes: &[u8]) -> &str
-    requires { IsAscii bytes.now }
-    ensures { result.now ≡ bytes.now }
-{
-    std::str::from_utf8(bytes).unwrap()
 }
 
 fn bad_label(line: usize) -> CertFault

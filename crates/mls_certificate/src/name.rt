@@ -7,17 +7,7 @@ ghost use Rattle.mls_certificate.specs.Reading.{Gives, fresh_in, proper_in, vers
 
 use crate::cert::Cert;
 use crate::fault::{CertCause, CertFault};
-use mls_lattice::{Str, is_name};
-
-fn digits_len(bytes: &[u8]) -> usize
-    ensures run { result ≡ prefix_len is_ascii_digit bytes.now }
-    ensures within { result ≤ length bytes.now }
-{
-    bytes
-        .iter()
-        .take_while(|byte| byte.is_ascii_digit())
-        .count()
-}
+use mls_lattice::{Str, digits_len, is_name};
 
 fn contains(blocks: &[(Str, Cert)], name: &str) -> bool
     ensures { result ≡ list_any (λ b. bytes_eq b.0 name.now) blocks.now }

@@ -21,10 +21,11 @@ use Rattle.mls_lattice.specs.Labels.{label_of, AreDistinct, below}
 use Rattle.mls_lattice.specs.Name.{is_name}
 use Rattle.mls_lattice.specs.Policy.{Name, Named, Tables, labels_of, HasLevel, IsCleared, IsTrusted, HasUser, HasKnownModes, same_entry, AreNames, IsPolicy}
 use Rattle.mls_lattice.specs.Says.{Rows, SaysName, SaysLabel, SaysUser, SaysTrusted, SaysMode, SaysRight, Says}
-use Rattle.mls_lattice.specs.PolicyReading.{version_at, levels_at, categories_at, labels_at, users_at, matrix_at, policy_at}
+use Rattle.mls_lattice.specs.Reading.{version_at}
+use Rattle.mls_lattice.specs.PolicyReading.{levels_at, categories_at, labels_at, users_at, matrix_at, policy_at}
 use Rattle.mls_lattice.proofs.ReadsPolicyLemmas.{says_found}
 use Rattle.mls_lattice.proofs.LatticeLemmas.{same_pair-refl}
-use Rattle.mls_lattice.proofs.SaysLemmas.{ok_same}
+use Rattle.mls_lattice.proofs.ReadingLemmas.{ok_is}
 use Rattle.mls_lattice.proofs.TablesLemmas.{distinct_more, distinct-none}
 
 -- ---- of all rows
@@ -188,10 +189,10 @@ kept-entries_distinct document p says =
     all-rows (SaysRight p.users) (IsDistinct same_entry) (λ before d r h apart. IsDistinct-push entry-equiv before r apart h.new) [] says.matrix.0 p.matrix says.matrix.2 (none-distinct same_entry)
 
 mode-small : (b c d e : Bool) (m : ℕ) → cond b (Ok 1) (cond c (Ok 2) (cond d (Ok 4) (cond e (Ok 8) (Err UnknownName)))) ≡ Ok m → m < 2 ^ 4
-mode-small true c d e m h = let same = ok_same 1 m (Ok 1) refl h in omega (arith, same)
-mode-small false true d e m h = let same = ok_same 2 m (Ok 2) refl h in omega (arith, same)
-mode-small false false true e m h = let same = ok_same 4 m (Ok 4) refl h in omega (arith, same)
-mode-small false false false true m h = let same = ok_same 8 m (Ok 8) refl h in omega (arith, same)
+mode-small true c d e m h = let same = ok_is 1 m h in omega (arith, same)
+mode-small false true d e m h = let same = ok_is 2 m h in omega (arith, same)
+mode-small false false true e m h = let same = ok_is 4 m h in omega (arith, same)
+mode-small false false false true m h = let same = ok_is 8 m h in omega (arith, same)
 mode-small false false false false m h = absurd cc
 
 together-small : (n : ℕ) (modes : List ℕ) → n < 2 ^ 4 → AllByRecursion (λ m. m < 2 ^ 4) modes → fold bit_or n modes < 2 ^ 4

@@ -9,4 +9,6 @@ pub mod LatticeLemmas
 pub mod PolicyLemmas
 pub mod PolicyReadingLemmas
 pub mod KeptLemmas
+pub mod AsciiLemmas
 pub mod NameLemmas
+pub mod NamedLemmas

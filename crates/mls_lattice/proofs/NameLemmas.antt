@@ -1,13 +1,12 @@
 -- A NAME is a short text of ASCII.
-use Rattle.std.proofs.Common.{◌≡◌, ℕ, zero, suc, ◌<◌, ◌≤◌, true, List, [], ◌∷◌, length, arith}
+use Rattle.std.proofs.Common.{◌≡◌, ◌<◌, ◌≤◌, true, length, arith}
 use Rattle.std.specs.Prelude.{IsUtf8}
-use Rattle.std.specs.Str.{IsAscii}
 use Rattle.std.specs.List.{list_all}
 use Rattle.std.proofs.lemmas.Bool.{and_parts, eqb-false, leb-true, not-true}
-use Rattle.std.proofs.lemmas.Bool.Decides.{nat_tests}
 use Rattle.std.proofs.lemmas.Str.{IsUtf8-from_ascii}
 use Rattle.mls_lattice.specs.Name.{is_name, is_name_byte}
 use Rattle.mls_lattice.specs.Policy.{Name}
+use Rattle.mls_lattice.proofs.AsciiLemmas.{name_byte_small, all_ascii}
 
 record HasForm (name : Name) : Type 0 where
   some : 0 < length name
@@ -34,13 +33,5 @@ name-few name h = (form name h).few
 pub name-short : (name : Name) → is_name name ≡ true → length name < 256
 name-short name h = let few = (form name h).few in omega (arith, few)
 
-byte-ascii : (b : ℕ) → is_name_byte b ≡ true → b < 128
-byte-ascii b h = grind (arith, nat_tests)
-
-bytes-ascii : (bytes : List ℕ) → list_all is_name_byte bytes ≡ true → IsAscii bytes
-bytes-ascii [] h i = omega arith
-bytes-ascii (b ∷ bytes) h zero = byte-ascii b (and_parts _ _ h).0
-bytes-ascii (b ∷ bytes) h (suc i) = bytes-ascii bytes (and_parts _ _ h).1 i
-
 pub name-utf8 : (name : Name) → is_name name ≡ true → IsUtf8 name
-name-utf8 name h = IsUtf8-from_ascii name (bytes-ascii name (form name h).bytes)
+name-utf8 name h = IsUtf8-from_ascii name (all_ascii is_name_byte name_byte_small name (form name h).bytes)

@@ -31,6 +31,13 @@ pub ruleset counts = (items_len-view, all_items-view)
 
 -- ---- what follows from an answer without a fault
 
+-- two answers that are one hold one value
+pub ok_is : {A E : Type 0} (x y : A) → Path (Result A E) (Ok x) (Ok y) → x ≡ y
+ok_is x y e = cc
+
+pub same_ok : {A E : Type 0} (r : Result A E) (x y : A) → r ≡ Ok x → r ≡ Ok y → x ≡ y
+same_ok r x y p q = ok_is x y (sym p ∙ q)
+
 -- the value of a step that did not fail
 pub bind_ok : {A B E : Type 0} (r : Result A E) (f : A → Result B E) (y : B) → (r >>= f) ≡ Ok y → (x : A) × (r ≡ Ok x) × (f x ≡ Ok y)
 bind_ok (Ok x) f y e = (x, refl, e)

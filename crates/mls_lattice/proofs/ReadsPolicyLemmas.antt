@@ -5,12 +5,12 @@ use Rattle.toml.specs.Data.{Members, as_str, as_table}
 use Rattle.mls_lattice.specs.declared.fault.PolicyFault.{PolicyFault}
 use Rattle.mls_lattice.specs.declared.fault.PolicyFault.TheVariants.{NotToml, Memory}
 use Rattle.mls_lattice.specs.Policy.{Tables}
-use Rattle.mls_lattice.specs.Reading.{Gives}
-use Rattle.mls_lattice.specs.PolicyReading.{version_at, new_name_at, levels_at, categories_at, label_at, labels_at, user_at, users_at, right_at, matrix_at, policy_at}
+use Rattle.mls_lattice.specs.Reading.{Gives, version_at}
+use Rattle.mls_lattice.specs.PolicyReading.{new_name_at, levels_at, categories_at, label_at, labels_at, user_at, users_at, right_at, matrix_at, policy_at}
 use Rattle.mls_lattice.specs.Says.{SaysName, SaysLabel, SaysUser, SaysRight, Says}
 use Rattle.mls_lattice.specs.ReadsPolicy.{IsDocument, ReadsPolicy, HasFault, SaysOne, ReadingIsExact}
-use Rattle.mls_lattice.proofs.ReadingLemmas.{bind_ok}
-use Rattle.mls_lattice.proofs.SaysLemmas.{ok_same, required_found, required_again, optional_rows_found, optional_rows_again}
+use Rattle.mls_lattice.proofs.ReadingLemmas.{ok_is, same_ok, bind_ok}
+use Rattle.mls_lattice.proofs.SaysLemmas.{required_found, required_again, optional_rows_found, optional_rows_again}
 use Rattle.mls_lattice.proofs.SaysTablesLemmas.{new_name_found, new_name_again, name_kind, label_found, label_again, label_kind, user_found, user_again, user_kind, right_found, right_again, right_kind, version_found, version_again}
 
 pub says_found : (document : Members) (p : Tables) → policy_at document ≡ Ok p → Says document p
@@ -28,7 +28,7 @@ says_found document p e =
     let labels = required_found (label_at l.0 c.0) (SaysLabel l.0 c.0) (λ x. is_some (as_table x)) (codes "label") document 64 (label_found l.0 c.0) b.0 b.1 in
     let users = optional_rows_found (user_at b.0) (SaysUser b.0) (λ x. is_some (as_table x)) (codes "user") document 64 (user_found b.0) u.0 u.1 in
     let matrix = optional_rows_found (right_at u.0) (SaysRight u.0) (λ x. is_some (as_table x)) (codes "matrix") document 1024 (right_found u.0) m.0 m.1 in
-    subst (λ (x : Tables). Says document x) (ok_same made p (Ok made) refl m.2)
+    subst (λ (x : Tables). Says document x) (ok_is made p m.2)
     (record {
       version = version_found document v.0 v.1;
       levels = levels.has;
@@ -74,11 +74,11 @@ pub exact : ReadingIsExact
 exact document p = (says_found document p, says_again document p)
 
 pub one : SaysOne
-one document p q a b = ok_same p q (policy_at document) (says_again document p a) (says_again document q b)
+one document p q a b = same_ok (policy_at document) p q (says_again document p a) (says_again document q b)
 
 -- ---- the clauses of the reader
 
-one_document : (bytes : List ℕ) (d e : Members) → IsDocument bytes d → IsDocument bytes e → d ≡ e
+pub one_document : (bytes : List ℕ) (d e : Members) → IsDocument bytes d → IsDocument bytes e → d ≡ e
 one_document bytes d e a b = let h : Some d ≡ Some e = sym a.1 ∙ b.1 in cc
 
 pub read_found : (bytes : List ℕ) (document : Members) (r : Result Tables PolicyFault) → IsDocument bytes document → Gives (λ p. p) r (policy_at document) → IfOk r (ReadsPolicy bytes)

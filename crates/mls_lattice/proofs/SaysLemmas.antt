@@ -10,10 +10,7 @@ use Rattle.mls_lattice.specs.Policy.{Name}
 use Rattle.mls_lattice.specs.Reading.{◌>>=◌, wanted, text_at, array_at, name_at, name_field, items_len, all_items, optional, at_most, some_of}
 use Rattle.mls_lattice.specs.PolicyReading.{rows_at, once}
 use Rattle.mls_lattice.specs.Says.{Rows, MayHaveItems, HasName, HasRows, MayHaveRows}
-use Rattle.mls_lattice.proofs.ReadingLemmas.{bind_ok, guard_ok, pass_ok, found_ok, string_from_as_str, array_from_as_array}
-
-pub ok_same : {A E : Type 0} (x y : A) (e : Result A E) → e ≡ Ok x → e ≡ Ok y → x ≡ y
-ok_same x y e a b = let h : Result.Ok x ≡ Ok y = sym a ∙ b in cc
+use Rattle.mls_lattice.proofs.ReadingLemmas.{ok_is, bind_ok, guard_ok, pass_ok, found_ok, string_from_as_str, array_from_as_array}
 
 pub once_ok : (b : Bool) (u : Unit {0}) → once b ≡ Ok u → b ≡ false
 once_ok true u e = absurd cc
@@ -25,7 +22,7 @@ pub name_found : (d : Data) (name : Name) → name_at d ≡ Ok name → (d ≡ s
 name_found d name e =
     let a = bind_ok (text_at d) _ name e in
     let b = pass_ok (is_name a.0) BadName (Ok a.0) name a.2 in
-    let same : a.0 ≡ name = ok_same a.0 name (Ok a.0) refl b.1 in
+    let same : a.0 ≡ name = ok_is a.0 name b.1 in
     let P : Name → Type 0 = λ n. (d ≡ string n) × (is_name n ≡ true) in
     subst P same (string_from_as_str d a.0 (found_ok (as_str d) WrongKind a.0 a.1), b.0)
 
@@ -42,7 +39,7 @@ field_again key fields name h = rw (h.text, h.is_name) refl
 
 rows_found : {B : Type 0} (read : List B → Data → Result B PolicyFault) (R : List B → Data → B → Type 0) → ((before : List B) (d : Data) (row : B) → read before d ≡ Ok row → R before d row)
     → (front : List B) (ds : Items) (all : List B) → rows_at read front ds ≡ Ok all → (rows : List B) × (all ≡ front ++ rows) × Rows R front ds rows
-rows_found read R found front no_items all e = ([], sym (ok_same front all (Ok front) refl e) ∙ sym (append-nil front), tt)
+rows_found read R found front no_items all e = ([], sym (ok_is front all e) ∙ sym (append-nil front), tt)
 rows_found read R found front (item d ds) all e =
     let a = bind_ok (read front d) _ all e in
     let more = rows_found read R found (front ++ a.0 ∷ []) ds all a.2 in
@@ -77,27 +74,27 @@ pub kind_found : (p : Data → Bool) (d : Data) (ds : Items) → kind_at p d ≡
 kind_found p d ds e =
     let a = bind_ok (array_at d) _ ds e in
     let b = pass_ok (all_items p a.0) WrongKind (Ok a.0) ds a.2 in
-    let same : a.0 ≡ ds = ok_same a.0 ds (Ok a.0) refl b.1 in
+    let same : a.0 ≡ ds = ok_is a.0 ds b.1 in
     array_from_as_array d a.0 (found_ok (as_array d) WrongKind a.0 a.1) ∙ ap array same
 
 pub optional_found : (p : Data → Bool) (key : List ℕ) (fields : Members) (ds : Items) → optional (kind_at p) (get_member key fields) ≡ Ok ds → MayHaveItems key fields ds
 optional_found p key fields ds e = go (get_member key fields) refl e
   where
     go : (o : Option Data) → get_member key fields ≡ o → optional (kind_at p) o ≡ Ok ds → MayHaveItems key fields ds
-    go None is e = inr (is, sym (ok_same no_items ds (Ok no_items) refl e))
+    go None is e = inr (is, sym (ok_is no_items ds e))
     go (Some d) is e = inl (is ∙ ap (λ (x : Data). Some x) (kind_found p d ds e))
 
 pub optional_again : (p : Data → Bool) (key : List ℕ) (fields : Members) (ds : Items) → MayHaveItems key fields ds → all_items p ds ≡ true → optional (kind_at p) (get_member key fields) ≡ Ok ds
 optional_again p key fields ds (inl h) all = rw (h, all) refl
 optional_again p key fields ds (inr h) all = rw h.0 (ap (λ (x : Items). Ok x) (sym h.1))
 
-most_found : (most : ℕ) (all ds : Items) → at_most most all ≡ Ok ds → (all ≡ ds) × (items_len ds ≤ most)
+pub most_found : (most : ℕ) (all ds : Items) → at_most most all ≡ Ok ds → (all ≡ ds) × (items_len ds ≤ most)
 most_found most all ds e =
     let a = guard_ok (nat_lt most (items_len all)) TooMany (Ok all) ds e in
-    let same : all ≡ ds = ok_same all ds (Ok all) refl a.1 in
+    let same : all ≡ ds = ok_is all ds a.1 in
     (same, rw (← same) (ltb-false most (items_len all) a.0))
 
-most_again : (most : ℕ) (ds : Items) → items_len ds ≤ most → at_most most ds ≡ Ok ds
+pub most_again : (most : ℕ) (ds : Items) → items_len ds ≤ most → at_most most ds ≡ Ok ds
 most_again most ds few = rw (le-ltb most (items_len ds) few) refl
 
 some_found : (most : ℕ) (all ds : Items) → some_of most all ≡ Ok ds → (all ≡ ds) × (0 < items_len ds) × (items_len ds ≤ most)

@@ -18,16 +18,16 @@ use Rattle.mls_lattice.specs.declared.tables.Right.{Right}
 use Rattle.mls_lattice.specs.Lattice.{Categories, Pair, same_pair}
 use Rattle.mls_lattice.specs.Labels.{below}
 use Rattle.mls_lattice.specs.Policy.{Name, Named, is_entry}
-use Rattle.mls_lattice.specs.Reading.{wanted, text_at, integer_at, table_at, name_at, name_field, texts_at, optional}
-use Rattle.mls_lattice.specs.PolicyReading.{once, place_in, label_place, user_place, version_at, new_name_at, more_categories, value_at, label_at, label_name_at, interval_at, trusted_at, user_at, mode_of, more_modes, right_at}
+use Rattle.mls_lattice.specs.Reading.{wanted, text_at, integer_at, table_at, name_at, name_field, texts_at, optional, version_at}
+use Rattle.mls_lattice.specs.PolicyReading.{once, place_in, label_place, user_place, new_name_at, more_categories, value_at, label_at, label_name_at, interval_at, trusted_at, user_at, mode_of, more_modes, right_at}
 use Rattle.mls_lattice.specs.Says.{Rows, SaysName, SaysCategory, SaysValue, SaysLabel, SaysPlace, SaysTrusted, SaysUser, SaysMode, together, SaysRight}
-use Rattle.mls_lattice.proofs.ReadingLemmas.{bind_ok, guard_ok, pass_ok, found_ok, string_from_as_str, integer_from_as_integer, table_from_as_table}
-use Rattle.mls_lattice.proofs.SaysLemmas.{rows_all, ok_same, once_ok, name_found, field_found, field_again, kind_found, optional_found, optional_again}
+use Rattle.mls_lattice.proofs.ReadingLemmas.{ok_is, bind_ok, guard_ok, pass_ok, found_ok, string_from_as_str, integer_from_as_integer, table_from_as_table}
+use Rattle.mls_lattice.proofs.SaysLemmas.{rows_all, once_ok, name_found, field_found, field_again, kind_found, optional_found, optional_again}
 
 is_text : Data → Bool
 is_text d = is_some (as_str d)
 
-table_found : (d : Data) (fields : Members) → table_at d ≡ Ok fields → d ≡ table fields
+pub table_found : (d : Data) (fields : Members) → table_at d ≡ Ok fields → d ≡ table fields
 table_found d fields e = table_from_as_table d fields (found_ok (as_table d) WrongKind fields e)
 
 -- ---- names
@@ -38,7 +38,7 @@ new_name_found before d name e =
     let a = bind_ok (name_at d) _ name e in
     let b = bind_ok (once (list_any (bytes_eq a.0) before)) _ name a.2 in
     let n = name_found d a.0 a.1 in
-    subst (λ (x : Name). SaysName before d x) (ok_same a.0 name (Ok a.0) refl b.2) (record { text = n.0; is_name = n.1; new = once_ok _ b.0 b.1 })
+    subst (λ (x : Name). SaysName before d x) (ok_is a.0 name b.2) (record { text = n.0; is_name = n.1; new = once_ok _ b.0 b.1 })
 
 pub new_name_again : (before : List Name) (d : Data) (name : Name) → SaysName before d name → new_name_at before d ≡ Ok name
 unfolding new_name_at
@@ -52,7 +52,7 @@ name_kind before d name h = rw h.text refl
 categories_found : (categories : List Name) (before : List ℕ) (ds : Items) (all : Categories) → more_categories categories (set.from_list before) ds ≡ Ok all
     → (places : List ℕ) × Rows (SaysCategory categories) before ds places × (all ≡ set.from_list (before ++ places))
 categories_found categories before no_items all e =
-    ([], tt, sym (ok_same (set.from_list before) all (Ok (set.from_list before)) refl e) ∙ ap (λ (ks : List ℕ). set.from_list ks) (sym (append-nil before)))
+    ([], tt, sym (ok_is (set.from_list before) all e) ∙ ap (λ (ks : List ℕ). set.from_list ks) (sym (append-nil before)))
 categories_found categories before (item d ds) all e =
     let a = bind_ok (name_at d) _ all e in
     let b = bind_ok (place_in categories a.0) _ all a.2 in
@@ -93,7 +93,7 @@ value_found levels categories fields value e =
     let d = bind_ok (more_categories categories set.empty c.0) _ value c.2 in
     let made : Pair = record { rank = b.0; cats = d.0 } in
     let cats = categories_found categories [] c.0 d.0 d.1 in
-    subst (λ (x : Pair). SaysValue levels categories fields x) (ok_same made value (Ok made) refl d.2)
+    subst (λ (x : Pair). SaysValue levels categories fields x) (ok_is made value d.2)
     (record {
       level = a.0;
       has_level = field_found (codes "level") fields a.0 a.1;
@@ -121,7 +121,7 @@ label_found levels categories before d l e =
     let c = bind_ok (value_at levels categories t.0) _ l b.2 in
     let f = bind_ok (once (list_any (λ other. same_pair other.value c.0) before)) _ l c.2 in
     let made : Named = record { name = a.0; value = c.0 } in
-    subst (λ (x : Named). SaysLabel levels categories before d x) (ok_same made l (Ok made) refl f.2)
+    subst (λ (x : Named). SaysLabel levels categories before d x) (ok_is made l f.2)
     (record {
       fields = t.0;
       is_table = table_found d t.0 t.1;
@@ -148,7 +148,7 @@ place_found labels d k e =
     record { name = a.0; text = n.0; is_name = n.1; place = found_ok (position (λ l. bytes_eq l.name a.0) labels) UnknownName k a.2 }
 
 trusted_found : (labels : List Named) (field : Option Data) (o : Option (ℕ × ℕ)) → trusted_at labels field ≡ Ok o → SaysTrusted labels field o
-trusted_found labels None o e = subst (λ (x : Option (ℕ × ℕ)). SaysTrusted labels None x) (ok_same None o (Ok None) refl e) refl
+trusted_found labels None o e = subst (λ (x : Option (ℕ × ℕ)). SaysTrusted labels None x) (ok_is None o e) refl
 trusted_found labels (Some d) o e =
     let a = bind_ok (texts_at d) (interval_at labels) o e in
     let is : d ≡ array a.0 = kind_found (λ x. is_some (as_str x)) d a.0 a.1 in
@@ -161,7 +161,7 @@ trusted_found labels (Some d) o e =
         let l = bind_ok (label_name_at labels low) _ o e in
         let h = bind_ok (label_name_at labels high) _ o l.2 in
         let t = pass_ok (below (map (λ x. x.value) labels) l.0 h.0) EmptyInterval (Ok (Some (l.0, h.0))) o h.2 in
-        subst (λ (x : Option (ℕ × ℕ)). SaysTrusted labels (Some (array (item low (item high no_items)))) x) (ok_same (Some (l.0, h.0)) o (Ok (Some (l.0, h.0))) refl t.1)
+        subst (λ (x : Option (ℕ × ℕ)). SaysTrusted labels (Some (array (item low (item high no_items)))) x) (ok_is (Some (l.0, h.0)) o t.1)
         (low, high, refl, place_found labels low l.0 l.1, place_found labels high h.0 h.1, t.0)
     go (item low (item high (item more ds))) e = absurd cc
 
@@ -180,7 +180,7 @@ user_found labels before d u e =
     let f = bind_ok (label_place labels c.0) _ u c.2 in
     let g = bind_ok (trusted_at labels (get_member (codes "trusted") t.0)) _ u f.2 in
     let made : User = record { name = a.0; clearance = f.0; trusted = g.0 } in
-    subst (λ (x : User). SaysUser labels before d x) (ok_same made u (Ok made) refl g.2)
+    subst (λ (x : User). SaysUser labels before d x) (ok_is made u g.2)
     (record {
       fields = t.0;
       is_table = table_found d t.0 t.1;
@@ -204,7 +204,7 @@ user_kind labels before d u h = rw h.is_table refl
 
 modes_found : (before : List ℕ) (ds : Items) (all : ℕ) → more_modes (together before) ds ≡ Ok all → (modes : List ℕ) × Rows SaysMode before ds modes × (all ≡ together (before ++ modes))
 modes_found before no_items all e =
-    ([], tt, sym (ok_same (together before) all (Ok (together before)) refl e) ∙ ap together (sym (append-nil before)))
+    ([], tt, sym (ok_is (together before) all e) ∙ ap together (sym (append-nil before)))
 modes_found before (item d ds) all e =
     let a = bind_ok (text_at d) _ all e in
     let b = bind_ok (mode_of a.0) _ all a.2 in
@@ -243,7 +243,7 @@ right_found users before d r e =
     let o = bind_ok (once (list_any (is_entry b.0 c.0) before)) _ r m.2 in
     let modes = modes_found [] g.0 m.0 m.1 in
     let made : Right = record { user = b.0; object = c.0; modes = record { 0 = m.0 } } in
-    subst (λ (x : Right). SaysRight users before d x) (ok_same made r (Ok made) refl o.2)
+    subst (λ (x : Right). SaysRight users before d x) (ok_is made r o.2)
     (record {
       fields = t.0;
       is_table = table_found d t.0 t.1;

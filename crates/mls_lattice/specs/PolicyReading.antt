@@ -1,7 +1,7 @@
 -- The policy that a document says, or its first fault.
-use Rattle.std.specs.Prelude.{ℕ, pos, Bool, ◌==◌, bit_and, List, [], ◌∷◌, ◌++◌, map, codes, if◌then◌else◌, Option, Some, None, Result, Ok, Err, ok_or, position}
+use Rattle.std.specs.Prelude.{ℕ, Bool, ◌==◌, bit_and, List, [], ◌∷◌, ◌++◌, map, codes, if◌then◌else◌, Option, Some, None, Result, Ok, Err, ok_or, position}
 use Rattle.std.specs.Int.RustNames.{bit_or}
-use Rattle.std.specs.Ordering.{int_eq, nat_cmp}
+use Rattle.std.specs.Ordering.{nat_cmp}
 use Rattle.std.specs.List.{list_any}
 use Rattle.std.specs.Str.{bytes_eq}
 use Rattle.std.specs.FinSet as set
@@ -13,7 +13,7 @@ use Rattle.mls_lattice.specs.declared.tables.Right.{Right}
 use Rattle.mls_lattice.specs.Lattice.{Pair, same_pair}
 use Rattle.mls_lattice.specs.Labels.{below}
 use Rattle.mls_lattice.specs.Policy.{Name, Named, Tables, is_entry}
-use Rattle.mls_lattice.specs.Reading.{◌>>=◌, wanted, text_at, integer_at, table_at, name_at, name_field, texts_at, tables_at, optional, at_most, some_of}
+use Rattle.mls_lattice.specs.Reading.{◌>>=◌, wanted, text_at, table_at, version_at, name_at, name_field, texts_at, tables_at, optional, at_most, some_of}
 
 -- the rows of the items, after those in front, which each row may depend on
 abbrev pub rows_at : {B : Type 0} → (List B → Data → Result B PolicyFault) → List B → Items → Result (List B) PolicyFault
@@ -34,13 +34,7 @@ label_place labels name = ok_or (position (λ l. bytes_eq l.name name) labels) U
 abbrev pub user_place : List User → Name → Result ℕ PolicyFault
 user_place users name = ok_or (position (λ u. bytes_eq u.name name) users) UnknownName
 
--- ---- version, levels, categories
-
-unfoldable pub version_at : Members → Result (Unit {0}) PolicyFault
-version_at document = do
-  d ← wanted (codes "version") document
-  n ← integer_at d
-  if int_eq n (pos 1) then Ok tt else Err WrongKind
+-- ---- levels, categories
 
 -- a name that is none of those in front
 unfoldable pub new_name_at : List Name → Data → Result Name PolicyFault

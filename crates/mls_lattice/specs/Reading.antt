@@ -1,5 +1,6 @@
 -- What a field of a document says, or its fault.
-use Rattle.std.specs.Prelude.{◌≡◌, ℕ, suc, ℤ, List, Bool, true, nat_lt, ◌==◌, ◌&&◌, if◌then◌else◌, Option, Some, None, is_some, Result, Ok, Err, ok_or}
+use Rattle.std.specs.Prelude.{◌≡◌, ℕ, suc, ℤ, pos, codes, List, Bool, true, nat_lt, ◌==◌, ◌&&◌, if◌then◌else◌, Option, Some, None, is_some, Result, Ok, Err, ok_or}
+use Rattle.std.specs.Ordering.{int_eq}
 use Rattle.toml.specs.Data.{Data, Items, no_items, item, Members, get_member, as_str, as_integer, as_array, as_table}
 use Rattle.mls_lattice.specs.declared.fault.PolicyFault.{PolicyFault}
 use Rattle.mls_lattice.specs.declared.fault.PolicyFault.TheVariants.{MissingField, WrongKind, TooMany, BadName, Memory}
@@ -11,13 +12,13 @@ abbrev pub ◌>>=◌ : {A B E : Type 0} → Result A E → (A → Result B E) �
 (Ok x) >>= f = f x
 (Err e) >>= f = Err e
 
--- What a function returned, seen by view, is what reading gives, unless memory ran out, as one fault says.
-abbrev pub GivesUnless : {E X Y : Type 0} → E → (X → Y) → Result X E → Result Y E → Type 0
-GivesUnless memory view (Ok x) read = read ≡ Ok (view x)
-GivesUnless memory view (Err e) read = (e ≡ memory → ⊥) → read ≡ Err e
+-- What a function returned, seen by view, is what reading gives, unless the fault is one of these, as want of memory is.
+abbrev pub GivesUnless : {E X Y : Type 0} → (E → Type 0) → (X → Y) → Result X E → Result Y E → Type 0
+GivesUnless OutOfMemory view (Ok x) read = read ≡ Ok (view x)
+GivesUnless OutOfMemory view (Err e) read = (OutOfMemory e → ⊥) → read ≡ Err e
 
 abbrev pub Gives : {X Y : Type 0} → (X → Y) → Result X PolicyFault → Result Y PolicyFault → Type 0
-Gives = GivesUnless Memory
+Gives = GivesUnless (λ e. e ≡ Memory)
 
 -- the value at a key
 abbrev pub wanted : List ℕ → Members → Result Data PolicyFault
@@ -38,6 +39,13 @@ table_at d = ok_or (as_table d) WrongKind
 -- a text that is a name
 abbrev pub name_at : Data → Result (List ℕ) PolicyFault
 name_at d = text_at d >>= λ text. if is_name text then Ok text else Err BadName
+
+-- the version is 1
+unfoldable pub version_at : Members → Result (Unit {0}) PolicyFault
+version_at document = do
+  d ← wanted (codes "version") document
+  n ← integer_at d
+  if int_eq n (pos 1) then Ok tt else Err WrongKind
 
 -- the name at a key
 abbrev pub name_field : List ℕ → Members → Result (List ℕ) PolicyFault

@@ -13,15 +13,17 @@ use crate::text::Str;
 use bitflags::Flags;
 use std::alloc::AllocError;
 
+/// The name of a label.
 #[tactic(auto, using(crate::proofs::CanonLemmas::names))]
-fn label_name(labels: &[NamedLabel], label: LabelNo) -> &str
+pub(crate) fn label_name(labels: &[NamedLabel], label: LabelNo) -> &str
     requires { label < length labels.now }
     ensures { result.now ≡ label_name (map named labels.now) label }
 {
     labels[label.index()].name.as_str()
 }
 
-fn user_name(users: &[User], user: UserNo) -> &str
+/// The name of a user.
+pub(crate) fn user_name(users: &[User], user: UserNo) -> &str
     requires { user < length users.now }
     ensures { result.now ≡ user_name users.now user }
 {

@@ -3,7 +3,7 @@ ghost use Rattle.std.specs.Prelude.{◌≡◌, ◌≢◌, IfErr, option_map, is_
 ghost use Rattle.std.specs.List.{list_all};
 ghost use Rattle.toml.specs.Data.{get_member, as_str, as_table};
 ghost use Rattle.toml.specs.View.{view, items_view, table_view};
-ghost use Rattle.mls_lattice.specs.Reading.{Gives, wanted, text_at, integer_at, array_at, table_at, name_at, name_field, texts_at, tables_at, optional, at_most, some_of};
+ghost use Rattle.mls_lattice.specs.Reading.{Gives, wanted, text_at, integer_at, version_at, array_at, table_at, name_at, name_field, texts_at, tables_at, optional, at_most, some_of};
 
 use crate::fault::PolicyFault;
 use crate::name::is_name;
@@ -38,6 +38,19 @@ pub fn integer_of(value: &Value) -> Result<i64, PolicyFault>
     ensures toml { IfErr result (λ e. e ≢ PolicyFault.NotToml) }
 {
     value.as_integer().ok_or(PolicyFault::WrongKind)
+}
+
+/// The version, which is 1.
+#[tactic(auto, unfolding(crate::specs::Reading::version_at))]
+pub fn version_of(document: &Table) -> Result<(), PolicyFault>
+    ensures reads { Gives (λ v. v) result (version_at (table_view document.now)) }
+    ensures toml { IfErr result (λ e. e ≢ PolicyFault.NotToml) }
+{
+    if integer_of(wanted(document, "version")?)? == 1 {
+        Ok(())
+    } else {
+        Err(PolicyFault::WrongKind)
+    }
 }
 
 /// The items of an array, of any kind.

@@ -29,7 +29,7 @@ pub use modes::Modes;
 pub use name::{is_name, is_name_byte, is_reserved};
 pub use number::{LabelNo, UserNo};
 pub use policy::Policy;
-pub use text::Str;
+pub use text::{Str, ascii_text, digits_len};
 
 /// Dominance is an order.
 pub fn dominance_is_an_order()

@@ -3,16 +3,19 @@ ghost use Rattle.std.specs.List.{IsDistinct};
 ghost use Rattle.std.specs.Str.{bytes_eq};
 ghost use Rattle.mls_lattice.specs.Lattice.{pair_of};
 ghost use Rattle.mls_lattice.specs.Labels.{label_of, below, AreDistinct};
+ghost use Rattle.mls_lattice.specs.Name.{is_name};
 ghost use Rattle.mls_lattice.specs.Policy.{Tables, labels_of, modes_in, IsPolicy};
-ghost use Rattle.mls_lattice.specs.Canon.{canon_of, lattice_of};
+ghost use Rattle.mls_lattice.specs.Canon.{label_name, user_name, canon_of, lattice_of};
 ghost use Rattle.mls_lattice.specs.Reading.{Gives};
-ghost use Rattle.mls_lattice.specs.PolicyReading.{version_at, levels_at, categories_at, policy_at};
+ghost use Rattle.mls_lattice.specs.PolicyReading.{levels_at, categories_at, policy_at};
 ghost use Rattle.mls_lattice.specs.ReadsPolicy.{IsDocument, ReadsPolicy, HasFault};
 ghost use Rattle.toml.specs.Data.{Members};
 ghost use Rattle.toml.specs.View.{table_view};
 
-use crate::canon::{categories_to, labels_to, levels_to, matrix_to, users_to};
-use crate::document::{at_most, integer_of, optional_texts, some_of, texts_of, wanted};
+use crate::canon::{
+    categories_to, label_name, labels_to, levels_to, matrix_to, user_name, users_to,
+};
+use crate::document::{at_most, optional_texts, some_of, texts_of, version_of, wanted};
 use crate::fault::PolicyFault;
 use crate::items::Items;
 use crate::label::Label;
@@ -122,9 +125,9 @@ impl Policy {
     /// The name of a label.
     pub fn name(&self, label: LabelNo) -> &str
         requires { label < length self.now.labels }
-        ensures { option_map (λ l. l.name) (slice_get self.now.labels label) ≡ Some result.now }
+        ensures { result.now ≡ label_name self.now.labels label }
     {
-        self.labels[label.index()].name.as_str()
+        label_name(&self.labels, label)
     }
 
     /// The rank and the categories that a number stands for.
@@ -160,9 +163,10 @@ impl Policy {
     /// The name of a user.
     pub fn user_name(&self, user: UserNo) -> &str
         requires { user < length self.now.users }
-        ensures { option_map (λ u. u.name) (slice_get self.now.users user) ≡ Some result.now }
+        ensures same { result.now ≡ user_name self.now.users user }
+        ensures name { is_name result.now ≡ true }
     {
-        self.users[user.index()].name.as_str()
+        user_name(&self.users, user)
     }
 
     /// The label up to which a user may open sessions and look.
@@ -197,18 +201,6 @@ const MAX_LEVELS: usize = 16;
 
 /// The most categories of a policy: `Label` has a bit for each.
 const MAX_CATEGORIES: usize = 32;
-
-#[tactic(auto, unfolding(crate::specs::PolicyReading::version_at))]
-fn version_of(document: &Table) -> Result<(), PolicyFault>
-    ensures reads { Gives (λ v. v) result (version_at (table_view document.now)) }
-    ensures toml { IfErr result (λ e. e ≢ PolicyFault.NotToml) }
-{
-    if integer_of(wanted(document, "version")?)? == 1 {
-        Ok(())
-    } else {
-        Err(PolicyFault::WrongKind)
-    }
-}
 
 #[tactic(auto, using(crate::proofs::ReadingLemmas::counts), unfolding(crate::specs::PolicyReading::levels_at))]
 fn levels_of(alloc: Global, document: &Table) -> Result<Vec<Str>, PolicyFault>

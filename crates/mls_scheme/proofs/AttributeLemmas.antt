@@ -6,17 +6,13 @@ use Rattle.std.specs.String.{string_eq}
 use Rattle.std.specs.Map.{keys_of}
 use Rattle.std.specs.Cmp.Lexicographic.{nat_list_eq_equiv}
 use Rattle.std.proofs.lemmas.List.{length-map}
-use Rattle.std.proofs.lemmas.Bool.{cases_Bool, lt-ltb}
+use Rattle.std.proofs.lemmas.Bool.{or_parts, cases_Bool, lt-ltb}
 use Rattle.std.proofs.lemmas.Bool.Decides.{nat_tests}
 use Rattle.indexmap.specs.IndexMap.{insert_entry}
 use Rattle.mls_lattice.specs.Policy.{Name}
 use Rattle.mls_scheme.specs.declared.attributes.Column.{Column}
 use Rattle.mls_scheme.specs.Scheme.{Attribute, attribute_of}
 use Rattle.mls_scheme.specs.Reading.{has_attribute}
-
-either : (a b : Bool) → (a || b) ≡ false → (a ≡ false) × (b ≡ false)
-either true b h = absurd cc
-either false b h = (refl, h)
 
 module _ {Z : Type 0} where
   before : (es : List (String Z × Column)) (name : Name) → prefix_len (λ k. not (bytes_eq name (string_bytes k))) (keys_of es) ≡ prefix_len (λ a. not (bytes_eq a.name name)) (map attribute_of es)
@@ -35,7 +31,7 @@ module _ {Z : Type 0} where
       → map attribute_of (insert_entry string_eq es name c) ≡ map attribute_of es ++ attribute_of (name, c) ∷ []
   pushed [] name c new = refl
   pushed (e ∷ es) name c new =
-      let apart = either (bytes_eq (string_bytes e.0) (string_bytes name)) (has_attribute (map attribute_of es) (string_bytes name)) new in
+      let apart = or_parts (bytes_eq (string_bytes e.0) (string_bytes name)) (has_attribute (map attribute_of es) (string_bytes name)) new in
       let other : string_eq name e.0 ≡ false = nat_list_eq_equiv.symm (string_bytes name) (string_bytes e.0) ∙ apart.0 in
       rw other (ap (λ xs. attribute_of e ∷ xs) (pushed es name c apart.1))
 

@@ -1,22 +1,22 @@
 -- What the fields say that were read without a fault.
-use Rattle.std.proofs.Common.{◌≡◌, ℕ, ◌<◌, ◌≤◌, Bool, true, false, cond, List, [], ◌∷◌, codes, pos, Option, None, Some, is_some, Result, Ok, Err, refl, sym, ap, ◌∙◌, inl, inr, arith, nat_lt, ◌==◌}
+use Rattle.std.proofs.Common.{◌≡◌, ℕ, ◌<◌, ◌≤◌, Bool, true, false, cond, List, [], ◌∷◌, codes, pos, Option, None, Some, is_some, Result, Ok, Err, refl, ap, ◌∙◌, inl, inr, arith, ◌==◌}
 use Rattle.std.specs.Prelude.{◌⊎◌, position}
 use Rattle.std.specs.Str.{bytes_eq}
-use Rattle.std.specs.Ordering.{int_eq}
 use Rattle.std.specs.Cmp.Lexicographic.{bytes_decides}
-use Rattle.std.proofs.lemmas.Bool.{ne_eqb, le-ltb, ltb-false, eqb-false}
-use Rattle.std.proofs.lemmas.Bool.Decides.{Decides-int_eq}
-use Rattle.toml.specs.Data.{Data, string, integer, array, table, Items, no_items, Members, get_member, as_str, as_integer, as_array, as_table}
+use Rattle.std.proofs.lemmas.Bool.{ne_eqb, eqb-false}
+use Rattle.toml.specs.Data.{Data, string, integer, array, table, Items, no_items, Members, get_member, as_str, as_table}
 use Rattle.mls_lattice.specs.declared.fault.PolicyFault.{PolicyFault}
 use Rattle.mls_lattice.specs.declared.fault.PolicyFault.TheVariants as policy
 use Rattle.mls_lattice.specs.Name.{is_name}
 use Rattle.mls_lattice.specs.Policy.{Name, Tables}
-use Rattle.mls_lattice.specs.Reading.{◌>>=◌, wanted, text_at, integer_at, array_at, table_at, name_at, tables_at, optional, items_len, all_items, at_most, some_of}
-use Rattle.mls_lattice.proofs.ReadingLemmas.{bind_ok, guard_ok, pass_ok, found_ok, string_from_as_str, integer_from_as_integer, array_from_as_array, table_from_as_table}
-use Rattle.mls_scheme.specs.declared.fault.SchemeFault.TheVariants.{WrongKind, UnknownName, NoKey}
+use Rattle.mls_lattice.specs.Reading.{◌>>=◌, wanted, text_at, version_at, table_at, name_at, tables_at, optional, items_len, all_items, at_most, some_of}
+use Rattle.mls_lattice.proofs.ReadingLemmas.{bind_ok, guard_ok, found_ok, string_from_as_str}
+use Rattle.mls_lattice.proofs.SaysLemmas.{field_found, field_again, kind_found as array_of_kind_found, most_found, most_again}
+use Rattle.mls_lattice.proofs.SaysTablesLemmas.{table_found as table_at_found, version_found as policy_version_found, version_again as policy_version_again}
+use Rattle.mls_scheme.specs.declared.fault.SchemeFault.TheVariants.{UnknownName, NoKey}
 use Rattle.mls_scheme.specs.declared.value.Kind.{Kind}
 use Rattle.mls_scheme.specs.declared.value.Kind.TheVariants.{Int, Text}
-use Rattle.mls_scheme.specs.Reading.{lift, name_field, text_field, kind_in, label_in, label_field, version_at, key_items, other_items, relation_items}
+use Rattle.mls_scheme.specs.Reading.{lift, name_field, text_field, kind_in, label_in, label_field, key_items, other_items, relation_items}
 use Rattle.mls_scheme.specs.Document.{tables_of, HoldsTables, kind_word, NamesLabel}
 
 pub lift_ok : {X : Type 0} (r : Result X PolicyFault) (x : X) → lift r ≡ Ok x → r ≡ Ok x
@@ -24,7 +24,7 @@ lift_ok (Ok y) x e = cc
 lift_ok (Err f) x e = absurd cc
 
 pub table_found : (d : Data) (t : Members) → lift (table_at d) ≡ Ok t → d ≡ table t
-table_found d t e = table_from_as_table d t (found_ok (as_table d) policy.WrongKind t (lift_ok (table_at d) t e))
+table_found d t e = table_at_found d t (lift_ok (table_at d) t e)
 
 text_found : (d : Data) (text : Name) → text_at d ≡ Ok text → d ≡ string text
 text_found d text e = string_from_as_str d text (found_ok (as_str d) policy.WrongKind text e)
@@ -33,15 +33,10 @@ wanted_found : (key : Name) (fields : Members) (d : Data) → wanted key fields 
 wanted_found key fields d e = found_ok (get_member key fields) policy.MissingField d e
 
 pub name_found : (key : Name) (fields : Members) (n : Name) → name_field key fields ≡ Ok n → (get_member key fields ≡ Some (string n)) × (is_name n ≡ true)
-name_found key fields n e =
-    let a = bind_ok (wanted key fields) name_at n (lift_ok (wanted key fields >>= name_at) n e) in
-    let b = bind_ok (text_at a.0) _ n a.2 in
-    let c = pass_ok (is_name b.0) policy.BadName (Ok b.0) n b.2 in
-    let same : b.0 ≡ n = let h = c.1 in cc in
-    (wanted_found key fields a.0 a.1 ∙ ap (λ (d : Data). Some d) (text_found a.0 b.0 b.1 ∙ ap string same), ap is_name (sym same) ∙ c.0)
+name_found key fields n e = let found = field_found key fields n (lift_ok (wanted key fields >>= name_at) n e) in (found.text, found.is_name)
 
 pub name_again : (key : Name) (fields : Members) (n : Name) → get_member key fields ≡ Some (string n) → is_name n ≡ true → name_field key fields ≡ Ok n
-name_again key fields n h name = rw (h, name) refl
+name_again key fields n h name = ap lift (field_again key fields n (record { text = h; is_name = name }))
 
 pub text_field_found : (key : Name) (fields : Members) (n : Name) → text_field key fields ≡ Ok n → get_member key fields ≡ Some (string n)
 text_field_found key fields n e =
@@ -75,18 +70,11 @@ label_found p key fields label e =
 pub label_again : (p : Tables) (key : Name) (fields : Members) (label : ℕ) → NamesLabel p (get_member key fields) label → label_field p.labels key fields ≡ Ok label
 label_again p key fields label h = rw (name_again key fields h.name h.field_is h.named, h.declared) refl
 
-pub version_found : (document : Members) → version_at document ≡ Ok tt → get_member (codes "version") document ≡ Some (integer (pos 1))
-unfolding version_at
-version_found document e =
-    let a = bind_ok (lift (wanted (codes "version") document >>= integer_at)) _ tt e in
-    let b = bind_ok (wanted (codes "version") document) integer_at a.0 (lift_ok (wanted (codes "version") document >>= integer_at) a.0 a.1) in
-    let c = pass_ok (int_eq a.0 (pos 1)) WrongKind (Ok tt) tt a.2 in
-    wanted_found (codes "version") document b.0 b.1
-    ∙ ap (λ (d : Data). Some d) (integer_from_as_integer b.0 a.0 (found_ok (as_integer b.0) policy.WrongKind a.0 b.2) ∙ ap integer ((Decides-int_eq a.0 (pos 1)).0 c.0))
+pub version_found : (document : Members) → lift (version_at document) ≡ Ok tt → get_member (codes "version") document ≡ Some (integer (pos 1))
+version_found document e = policy_version_found document tt (lift_ok (version_at document) tt e)
 
-pub version_again : (document : Members) → get_member (codes "version") document ≡ Some (integer (pos 1)) → version_at document ≡ Ok tt
-unfolding version_at
-version_again document e = rw e refl
+pub version_again : (document : Members) → get_member (codes "version") document ≡ Some (integer (pos 1)) → lift (version_at document) ≡ Ok tt
+version_again document e = ap lift (policy_version_again document e)
 
 -- ---- lists of tables
 
@@ -95,19 +83,7 @@ are_tables [] = refl
 are_tables (t ∷ ts) = are_tables ts
 
 tables_at_found : (d : Data) (ds : Items) → tables_at d ≡ Ok ds → d ≡ array ds
-tables_at_found d ds e =
-    let a = bind_ok (array_at d) _ ds e in
-    let b = pass_ok (all_items (λ x. is_some (as_table x)) a.0) policy.WrongKind (Ok a.0) ds a.2 in
-    let same : a.0 ≡ ds = let h = b.1 in cc in
-    array_from_as_array d a.0 (found_ok (as_array d) policy.WrongKind a.0 a.1) ∙ ap array same
-
-at_most_found : (most : ℕ) (ds es : Items) → at_most most ds ≡ Ok es → (ds ≡ es) × (items_len ds ≤ most)
-at_most_found most ds es e =
-    let a = guard_ok (nat_lt most (items_len ds)) policy.TooMany (Ok ds) es e in
-    (let h = a.1 in cc, ltb-false most (items_len ds) a.0)
-
-at_most_again : (most : ℕ) (ds : Items) → items_len ds ≤ most → at_most most ds ≡ Ok ds
-at_most_again most ds h = rw (le-ltb most (items_len ds) h) refl
+tables_at_found = array_of_kind_found (λ x. is_some (as_table x))
 
 pub record KeyTables (fields : Members) (ds : Items) : Type 0 where
   pub field_is : get_member (codes "key") fields ≡ Some (array ds)
@@ -123,7 +99,7 @@ unfolding key_items
 key_found fields ds e =
     let a = bind_ok (lift (optional tables_at (get_member (codes "key") fields))) _ ds e in
     let b = guard_ok (items_len a.0 == 0) NoKey (lift (at_most 4 a.0)) ds a.2 in
-    let c = at_most_found 4 a.0 ds (lift_ok (at_most 4 a.0) ds b.1) in
+    let c = most_found 4 a.0 ds (lift_ok (at_most 4 a.0) ds b.1) in
     let not_none : items_len a.0 ≡ 0 → ⊥ = eqb-false (items_len a.0) 0 b.0 in
     let len : items_len a.0 ≡ items_len ds = ap items_len c.0 in
     let few = c.1 in
@@ -135,7 +111,7 @@ key_found fields ds e =
 pub key_again : (fields : Members) (ts : List Members) → HoldsTables (get_member (codes "key") fields) ts → 0 < items_len (tables_of ts) → items_len (tables_of ts) ≤ 4 → key_items fields ≡ Ok (tables_of ts)
 unfolding key_items
 key_again fields ts h some few =
-    rw (h, are_tables ts, ne_eqb (items_len (tables_of ts)) 0 (λ e. omega arith), at_most_again 4 (tables_of ts) few) refl
+    rw (h, are_tables ts, ne_eqb (items_len (tables_of ts)) 0 (λ e. omega arith), most_again 4 (tables_of ts) few) refl
 
 pub record OtherTables (fields : Members) (ds : Items) : Type 0 where
   pub field_is : (get_member (codes "attribute") fields ≡ Some (array ds)) ⊎ ((get_member (codes "attribute") fields ≡ None) × (ds ≡ no_items))
@@ -145,14 +121,14 @@ pub other_found : (fields : Members) (ds : Items) → other_items fields ≡ Ok 
 unfolding other_items
 other_found fields ds e =
     let a = bind_ok (optional tables_at (get_member (codes "attribute") fields)) (at_most 15) ds (lift_ok (optional tables_at (get_member (codes "attribute") fields) >>= at_most 15) ds e) in
-    let c = at_most_found 15 a.0 ds a.2 in
+    let c = most_found 15 a.0 ds a.2 in
     let field : optional tables_at (get_member (codes "attribute") fields) ≡ Ok ds = a.1 ∙ ap (λ (x : Items). Ok x) c.0 in
-    record { field_is = optional_found (get_member (codes "attribute") fields) ds field; few = rw (← c.0) c.1 }
+    record { field_is = optional_found (get_member (codes "attribute") fields) ds field; few = c.1 }
 
 pub other_again : (fields : Members) (ts : List Members) → (HoldsTables (get_member (codes "attribute") fields) ts ⊎ ((get_member (codes "attribute") fields ≡ None) × (ts ≡ []))) → items_len (tables_of ts) ≤ 15
     → other_items fields ≡ Ok (tables_of ts)
 unfolding other_items
-other_again fields ts (inl there) few = rw (there, are_tables ts, at_most_again 15 (tables_of ts) few) refl
+other_again fields ts (inl there) few = rw (there, are_tables ts, most_again 15 (tables_of ts) few) refl
 other_again fields ts (inr missing) few = rw (missing.0, missing.1) refl
 
 pub record RelationTables (document : Members) (ds : Items) : Type 0 where
@@ -166,7 +142,7 @@ relation_found document ds e =
     let a = bind_ok (wanted (codes "relation") document >>= tables_at) (some_of 16) ds (lift_ok (wanted (codes "relation") document >>= tables_at >>= some_of 16) ds e) in
     let b = bind_ok (wanted (codes "relation") document) tables_at a.0 a.1 in
     let c = guard_ok (items_len a.0 == 0) policy.MissingField (at_most 16 a.0) ds a.2 in
-    let d = at_most_found 16 a.0 ds c.1 in
+    let d = most_found 16 a.0 ds c.1 in
     let not_none : items_len a.0 ≡ 0 → ⊥ = eqb-false (items_len a.0) 0 c.0 in
     let len : items_len a.0 ≡ items_len ds = ap items_len d.0 in
     let few = d.1 in
@@ -179,4 +155,4 @@ relation_found document ds e =
 pub relation_again : (document : Members) (ts : List Members) → HoldsTables (get_member (codes "relation") document) ts → 0 < items_len (tables_of ts) → items_len (tables_of ts) ≤ 16 → relation_items document ≡ Ok (tables_of ts)
 unfolding relation_items
 relation_again document ts h some few =
-    rw (h, are_tables ts, ne_eqb (items_len (tables_of ts)) 0 (λ e. omega arith), at_most_again 16 (tables_of ts) few) refl
+    rw (h, are_tables ts, ne_eqb (items_len (tables_of ts)) 0 (λ e. omega arith), most_again 16 (tables_of ts) few) refl

@@ -8,4 +8,5 @@ pub mod SchemeSteps
 pub mod GatherLemmas
 pub mod FieldLemmas
 pub mod SchemeLemmas
+pub mod SchemeNameLemmas
 pub mod CanonLemmas

@@ -22,7 +22,7 @@ value_exact (Text s) (Int n) e = absurd (cc)
 value_exact (Text s) (Text t) e = ap Text (slice_cmp-IsAntisymmetric nat_cmp-IsAntisymmetric s t e)
 
 -- where both comparisons tie
-then_ties : (o q : Ordering) → ordering_then o q ≡ Equal → (o ≡ Equal) × (q ≡ Equal)
+pub then_ties : (o q : Ordering) → ordering_then o q ≡ Equal → (o ≡ Equal) × (q ≡ Equal)
 then_ties Less q e = absurd (cc)
 then_ties Equal q e = (refl, e)
 then_ties Greater q e = absurd (cc)

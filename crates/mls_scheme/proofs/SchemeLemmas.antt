@@ -9,13 +9,14 @@ use Rattle.toml.specs.Data.{Data, array, table, Items, no_items, Members, get_me
 use Rattle.mls_lattice.specs.Labels.{below}
 use Rattle.mls_lattice.specs.Policy.{Name, Tables, AreNames, labels_of}
 use Rattle.mls_lattice.specs.ReadsPolicy.{IsDocument}
-use Rattle.mls_lattice.specs.Reading.{◌>>=◌, table_at, items_len}
+use Rattle.mls_lattice.specs.Reading.{◌>>=◌, version_at, table_at, items_len}
 use Rattle.mls_lattice.proofs.ReadingLemmas.{bind_ok, pass_ok}
+use Rattle.mls_lattice.proofs.ReadsPolicyLemmas.{one_document}
 use Rattle.mls_scheme.specs.declared.fault.SchemeFault.{SchemeFault}
 use Rattle.mls_scheme.specs.declared.fault.SchemeFault.TheVariants.{NotToml, Memory, EmptyInterval, KeyIntervals}
 use Rattle.mls_scheme.specs.declared.attributes.Column.{Column}
 use Rattle.mls_scheme.specs.Scheme.{Attribute, Scheme, Schemes, attribute_named, column_of, no_attribute, first_key, HasInterval, IsScheme, AreSchemes, IsAmongLabels, AreUnder, HaveIntervals}
-use Rattle.mls_scheme.specs.Reading.{Gives, lift, gather, name_field, text_field, kind_in, label_field, version_at, column_at, has_attribute, new_name, attribute_at, has_key_interval, key_at, other_at, key_items, other_items, has_relation, scheme_at, relation_items, schemes_at}
+use Rattle.mls_scheme.specs.Reading.{Gives, lift, gather, name_field, text_field, kind_in, label_field, column_at, has_attribute, new_name, attribute_at, has_key_interval, key_at, other_at, key_items, other_items, has_relation, scheme_at, relation_items, schemes_at}
 use Rattle.mls_scheme.specs.Document.{tables_of, HoldsTables, kind_word, SaysAttribute, SaysRelation, Says, ReadsSchemes, SaysOnce}
 use Rattle.mls_scheme.proofs.GatherLemmas.{Each, Step, gather_found, gather_again, items_len-tables_of, Each-left, Each-right, Each-both, distinct_found, distinct_again}
 use Rattle.mls_scheme.proofs.FieldLemmas.{table_found, name_found, name_again, text_field_found, text_field_again, kind_found, kind_again, label_found, label_again, version_found, version_again, key_found, key_again, other_found, other_again, relation_found, relation_again}
@@ -280,7 +281,7 @@ each_valid p [] (s ∷ schemes) h = absurd h
 each_valid p (t ∷ ts) [] h = absurd h
 each_valid p (t ∷ ts) (s ∷ schemes) h = (h.0.valid, each_valid p ts schemes h.1)
 
-relations_says : (p : Tables) (document : Members) (ds : Items) (schemes : Schemes) → version_at document ≡ Ok tt → relation_items document ≡ Ok ds → gather (scheme_at p) [] ds ≡ Ok schemes → Says p document schemes
+relations_says : (p : Tables) (document : Members) (ds : Items) (schemes : Schemes) → lift (version_at document) ≡ Ok tt → relation_items document ≡ Ok ds → gather (scheme_at p) [] ds ≡ Ok schemes → Says p document schemes
 unfolding IsDistinct
 relations_says p document ds schemes version text e =
     let r = relation_found document ds text in
@@ -306,7 +307,7 @@ relations_says p document ds schemes version text e =
 pub says_found : (p : Tables) (document : Members) (schemes : Schemes) → schemes_at p document ≡ Ok schemes → Says p document schemes
 unfolding schemes_at
 says_found p document schemes e =
-    let v = bind_ok (version_at document) _ schemes e in
+    let v = bind_ok (lift (version_at document)) _ schemes e in
     let r = bind_ok (relation_items document) _ schemes v.2 in
     relations_says p document r.0 schemes v.1 r.1 r.2
 
@@ -326,7 +327,7 @@ pub scheme_valid : (p : Tables) (fields : Members) (s : Scheme) (kd od : Items) 
 scheme_valid p fields s kd od name key keys other others =
     (parts_says p fields s name (record { key_ds = kd; key_text = key; keys = keys; other_ds = od; other_text = other; others = others })).valid
 
-pub schemes_valid : (p : Tables) (document : Members) (ds : Items) (schemes : Schemes) → version_at document ≡ Ok tt → relation_items document ≡ Ok ds → gather (scheme_at p) [] ds ≡ Ok schemes → AreSchemes schemes
+pub schemes_valid : (p : Tables) (document : Members) (ds : Items) (schemes : Schemes) → lift (version_at document) ≡ Ok tt → relation_items document ≡ Ok ds → gather (scheme_at p) [] ds ≡ Ok schemes → AreSchemes schemes
 schemes_valid p document ds schemes version text e = (relations_says p document ds schemes version text e).valid
 
 among : (p : Tables) (fields : Members) (a : Attribute) → SaysAttribute p fields a → IsAmongLabels (length p.labels) a
@@ -360,9 +361,6 @@ all_have_intervals p (t ∷ ts) (s ∷ schemes) h =
 
 -- ---- the clauses of the reader
 
-same_document : (bytes : List ℕ) (d e : Members) → IsDocument bytes d → IsDocument bytes e → d ≡ e
-same_document bytes d e is other = let a : Some d ≡ Some e = sym is.1 ∙ other.1 in cc
-
 pub read_found : (p : Tables) (bytes : List ℕ) (document : Members) (r : Result Schemes SchemeFault) → IsDocument bytes document → Gives (λ s. s) r (schemes_at p document) → IfOk r (ReadsSchemes p bytes)
 read_found p bytes document (Ok s) is given = (document, is, says_found p document s given)
 read_found p bytes document (Err e) is given = tt
@@ -379,14 +377,14 @@ pub read_refused : (p : Tables) (bytes : List ℕ) (document : Members) (r : Res
     → IfErr r (λ e. e ≢ Memory → (s : Schemes) → ReadsSchemes p bytes s → ⊥)
 read_refused p bytes document (Ok s) is given = tt
 read_refused p bytes document (Err e) is given = λ other s (read, is_read, says).
-    let ok : schemes_at p document ≡ Ok s = ap (schemes_at p) (same_document bytes document read is is_read) ∙ says_again p read s says in
+    let ok : schemes_at p document ≡ Ok s = ap (schemes_at p) (one_document bytes document read is is_read) ∙ says_again p read s says in
     let err : schemes_at p document ≡ Err e = given other in
     absurd cc
 
 pub read_first : (p : Tables) (bytes : List ℕ) (document : Members) (r : Result Schemes SchemeFault) → IsDocument bytes document → Gives (λ s. s) r (schemes_at p document)
     → IfErr r (λ e. e ≢ Memory → (d : Members) → IsDocument bytes d → schemes_at p d ≡ Err e)
 read_first p bytes document (Ok s) is given = tt
-read_first p bytes document (Err e) is given = λ other d is_read. ap (schemes_at p) (same_document bytes d document is_read is) ∙ given other
+read_first p bytes document (Err e) is given = λ other d is_read. ap (schemes_at p) (one_document bytes d document is_read is) ∙ given other
 
 pub read_not_toml : (bytes : List ℕ) (document : Members) (r : Result Schemes SchemeFault) → IsDocument bytes document → IfErr r (λ e. e ≢ NotToml)
     → IfErr r (λ e. e ≢ Memory → (e ≡ NotToml) ↔ ((d : Members) → IsDocument bytes d → ⊥))
@@ -396,7 +394,7 @@ read_not_toml bytes document (Err e) is other = λ _. (λ same. absurd (other sa
 pub says_once : SaysOnce
 says_once p bytes s t (d, is, says) (e, is_too, says_too) =
     let a : schemes_at p d ≡ Ok s = says_again p d s says in
-    let b : schemes_at p d ≡ Ok t = ap (schemes_at p) (same_document bytes d e is is_too) ∙ says_again p e t says_too in
+    let b : schemes_at p d ≡ Ok t = ap (schemes_at p) (one_document bytes d e is is_too) ∙ says_again p e t says_too in
     let both : Ok s ≡ Ok t = sym a ∙ b in
     ap (λ (r : Result Schemes SchemeFault). or_none r) both
   where

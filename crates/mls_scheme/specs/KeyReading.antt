@@ -1,5 +1,5 @@
 -- Reading from left to right, with the first fault that is met.
-use Rattle.std.specs.Prelude.{ℕ, zero, suc, ℤ, List, [], ◌∷◌, ◌++◌, length, take, drop, Result, Ok, Err, nat_lt, nat_le, ◌==◌, ◌&&◌, if◌then◌else◌}
+use Rattle.std.specs.Prelude.{◌≡◌, ℕ, zero, suc, ℤ, List, [], ◌∷◌, ◌++◌, length, take, drop, Result, Ok, Err, nat_lt, nat_le, ◌==◌, ◌&&◌, if◌then◌else◌}
 use Rattle.std.specs.Str.{is_utf8}
 use Rattle.std.specs.Int.{Width, w32, w64, byte_len, from_be_bytes, cast_signed}
 use Rattle.mls_lattice.specs.Reading.{◌>>=◌, GivesUnless}
@@ -10,7 +10,7 @@ use Rattle.mls_scheme.specs.declared.key_fault.KeyFault.TheVariants.{Short, BadT
 
 -- What a function returned, seen by view, is what reading gives, unless memory ran out.
 abbrev pub Gives : {X Y : Type 0} → (X → Y) → Result X KeyFault → Result Y KeyFault → Type 0
-Gives = GivesUnless Memory
+Gives = GivesUnless (λ e. e ≡ Memory)
 
 -- A field is a value and the bytes after it.
 abbrev pub number_at : Width → List ℕ → Result (ℕ × List ℕ) KeyFault

@@ -1,15 +1,14 @@
 -- What the fields of schemes say, or the first fault.
-use Rattle.std.specs.Prelude.{ℕ, pos, Bool, true, ◌&&◌, nat_eq, List, [], ◌∷◌, ◌++◌, codes, if◌then◌else◌, ◌==◌, Result, Ok, Err, ok_or, position}
-use Rattle.std.specs.Ordering.{int_eq}
+use Rattle.std.specs.Prelude.{◌≡◌, ℕ, Bool, true, ◌&&◌, nat_eq, List, [], ◌∷◌, ◌++◌, codes, if◌then◌else◌, ◌==◌, Result, Ok, Err, ok_or, position}
 use Rattle.std.specs.List.{list_any}
 use Rattle.std.specs.Str.{bytes_eq}
 use Rattle.toml.specs.Data.{Data, Items, no_items, item, Members, get_member}
 use Rattle.mls_lattice.specs.declared.fault.PolicyFault.{PolicyFault}
 use Rattle.mls_lattice.specs.Labels.{below}
 use Rattle.mls_lattice.specs.Policy.{Name, Tables, Named, labels_of}
-use Rattle.mls_lattice.specs.Reading.{◌>>=◌, GivesUnless, wanted, text_at, integer_at, table_at, name_at, tables_at, optional, items_len, at_most, some_of}
+use Rattle.mls_lattice.specs.Reading.{◌>>=◌, GivesUnless, wanted, text_at, version_at, table_at, name_at, tables_at, optional, items_len, at_most, some_of}
 use Rattle.mls_scheme.specs.declared.fault.SchemeFault.{SchemeFault}
-use Rattle.mls_scheme.specs.declared.fault.SchemeFault.TheVariants.{WrongKind, Repeated, UnknownName, EmptyInterval, Memory, NoKey, KeyIntervals}
+use Rattle.mls_scheme.specs.declared.fault.SchemeFault.TheVariants.{Repeated, UnknownName, EmptyInterval, Memory, NoKey, KeyIntervals}
 use Rattle.mls_scheme.specs.declared.value.Kind.{Kind}
 use Rattle.mls_scheme.specs.declared.value.Kind.TheVariants.{Int, Text}
 use Rattle.mls_scheme.specs.declared.attributes.Column.{Column}
@@ -18,7 +17,7 @@ use Rattle.mls_scheme.specs.Scheme.{Attribute, Scheme, Schemes, column_of}
 
 -- What a function returned, seen by view, is what reading gives, unless memory ran out.
 abbrev pub Gives : {X Y : Type 0} → (X → Y) → Result X SchemeFault → Result Y SchemeFault → Type 0
-Gives = GivesUnless Memory
+Gives = GivesUnless (λ e. e ≡ Memory)
 
 -- the same answer, with the fault of the same number
 abbrev pub lift : {X : Type 0} → Result X PolicyFault → Result X SchemeFault
@@ -47,12 +46,6 @@ label_in labels name = ok_or (position (λ l. bytes_eq l.name name) labels) Unkn
 
 abbrev pub label_field : List Named → Name → Members → Result ℕ SchemeFault
 label_field labels key fields = name_field key fields >>= label_in labels
-
--- the version is 1
-unfoldable pub version_at : Members → Result (Unit {0}) SchemeFault
-version_at document = do
-  n ← lift (wanted (codes "version") document >>= integer_at)
-  if int_eq n (pos 1) then Ok tt else Err WrongKind
 
 -- ---- attributes
 
@@ -127,6 +120,6 @@ relation_items document = lift (wanted (codes "relation") document >>= tables_at
 -- all that a document says
 unfoldable pub schemes_at : Tables → Members → Result Schemes SchemeFault
 schemes_at p document = do
-  version ← version_at document
+  version ← lift (version_at document)
   tables ← relation_items document
   gather (scheme_at p) [] tables

@@ -3,19 +3,11 @@ ghost use Rattle.std.specs.Prelude.{◌≡◌, ◌<◌, ◌++◌, length, string
 ghost use Rattle.std.specs.List.{AllByRecursion, flat_map};
 ghost use Rattle.mls_scheme.specs.Scheme.{IsAmongLabels, IsUnder, AreUnder, attribute_named};
 ghost use Rattle.mls_scheme.specs.Canon.{attribute_line, relation_lines};
-ghost use Rattle.mls_lattice.specs.Canon.{label_name};
 
 use crate::attributes::{Attributes, Column};
 use crate::scheme::Scheme;
-use mls_lattice::{LabelNo, Policy};
+use mls_lattice::Policy;
 use std::alloc::AllocError;
-
-fn label_name(policy: &Policy, label: LabelNo) -> &str
-    requires { label < length policy.now.labels }
-    ensures { result.now ≡ label_name policy.now.labels label }
-{
-    policy.name(label)
-}
 
 /// Writes the line of an attribute.
 fn attribute_to(
@@ -30,8 +22,8 @@ fn attribute_to(
     ensures { OnOk result (string_bytes text.new ≡ string_bytes text.old ++ attribute_line policy.now word.now (attribute_named name.now column)) }
 {
     let kind = column.kind.word();
-    let low = label_name(policy, column.low);
-    let high = label_name(policy, column.high);
+    let low = policy.name(column.low);
+    let high = policy.name(column.high);
     writeln!(text, "{word} {name} {kind} {low} {high}")?;
     Ok(())
 }

@@ -2,12 +2,12 @@
 ghost use Rattle.std.specs.Prelude.{◌≡◌, ◌≢◌, ◌≤◌, ◌<◌, IfOk, IfErr, length, codes};
 ghost use Rattle.toml.specs.View.{view, items_view, table_view};
 ghost use Rattle.mls_lattice.specs.Reading.{table_at};
-ghost use Rattle.mls_scheme.specs.Reading.{Gives, lift, name_field, text_field, kind_in, label_in, label_field, version_at, key_items, other_items, relation_items};
+ghost use Rattle.mls_scheme.specs.Reading.{Gives, lift, name_field, text_field, kind_in, label_in, label_field, key_items, other_items, relation_items};
 
 use crate::fault::SchemeFault;
 use crate::value::Kind;
 use mls_lattice::document::{
-    at_most, integer_of, name_of, optional_tables, some_of, table_of, tables_of, text_of, wanted,
+    at_most, name_of, optional_tables, some_of, table_of, tables_of, text_of, wanted,
 };
 use mls_lattice::{LabelNo, Policy};
 use toml::{Table, Value};
@@ -73,20 +73,6 @@ pub(crate) fn label_field(
     ensures within { IfOk result (λ n. n < length policy.now.labels) }
 {
     label_in(policy, name_field(fields, key)?)
-}
-
-/// The version, which is 1.
-#[tactic(auto, unfolding(crate::specs::Reading::version_at))]
-pub(crate) fn version_of(document: &Table) -> Result<(), SchemeFault>
-    ensures reads { Gives (λ v. v) result (version_at (table_view document.now)) }
-    ensures toml { IfErr result (λ e. e ≢ SchemeFault.NotToml) }
-{
-    let value = wanted(document, "version")?;
-    if integer_of(value)? == 1 {
-        Ok(())
-    } else {
-        Err(SchemeFault::WrongKind)
-    }
 }
 
 const MAX_KEYS: usize = 4;

@@ -7,10 +7,10 @@ ghost use Rattle.mls_scheme.specs.Reading.{Gives, column_at, attribute_at, has_a
 use crate::attributes::{Attributes, Column};
 use crate::fault::SchemeFault;
 use crate::fields::{
-    fields_of, key_items, kind_in, label_field, name_field, other_items, relation_items,
-    text_field, version_of,
+    fields_of, key_items, kind_in, label_field, name_field, other_items, relation_items, text_field,
 };
 use crate::scheme::{Scheme, Schemes};
+use mls_lattice::document::version_of;
 use mls_lattice::{Policy, Str};
 use std::alloc::Global;
 use toml::{Table, Value};

@@ -1,24 +1,22 @@
 -- What a line tells is what is read: so a text that tells events is never refused, and tells one list of them.
-use Rattle.std.proofs.Common.{◌≡◌, ℕ, zero, suc, ◌<◌, ◌≤◌, true, false, List, [], ◌∷◌, ◌++◌, length, map, get_or, drop, Option, Some, None, Result, Ok, refl, sym, ap, ◌∙◌, subst, arith, append_assoc, length-append}
+use Rattle.std.proofs.Common.{◌≡◌, ℕ, zero, suc, ◌<◌, ◌≤◌, true, false, List, [], ◌∷◌, ◌++◌, length, map, drop, Option, Some, None, Result, Ok, refl, sym, ap, ◌∙◌, subst, arith, append_assoc, length-append}
 use Rattle.std.specs.Prelude.{nat_eq, ⊤}
 use Rattle.std.specs.Cmp.{nat_eq_equiv}
-use Rattle.std.specs.List.{flat_map, AllByRecursion, AllZip, IsDistinct, list_any, position, position_or_len}
+use Rattle.std.specs.List.{flat_map, AllByRecursion, AllZip, IsDistinct, list_any, position}
 use Rattle.std.specs.Str.{bytes_eq}
-use Rattle.std.proofs.lemmas.Bool.{lt-ltb}
-use Rattle.std.proofs.lemmas.List.{append-nil, map-append, get_or-map, length-map}
+use Rattle.std.proofs.lemmas.List.{append-nil, map-append, length-map}
 use Rattle.std.proofs.Recursive.{every_back}
-use Rattle.std.proofs.lemmas.List.Elements.{All-from_recursion}
-use Rattle.std.proofs.lemmas.List.Sums.{position_or_len_is}
-use Rattle.std.proofs.lemmas.Map.Keys.{apart_from_distinct, IsDistinct-head, IsDistinct-tail}
-use Rattle.std.proofs.lemmas.Slice.Eq.{bytes_eq-Decides}
+use Rattle.std.proofs.lemmas.Map.Keys.{IsDistinct-head, IsDistinct-tail}
 use Rattle.mls_lattice.specs.Name.{is_name}
-use Rattle.mls_lattice.specs.Policy.{Name, Named, Tables, IsPolicy, AreNames}
+use Rattle.mls_lattice.specs.Policy.{Name, Tables, IsPolicy}
 use Rattle.mls_lattice.specs.Reading.{◌>>=◌}
+use Rattle.mls_lattice.proofs.NamedLemmas.{label_again as label_place}
 use Rattle.mls_scheme.specs.declared.value.Value.{Value}
 use Rattle.mls_scheme.specs.declared.value.Value.TheVariants as values
 use Rattle.mls_scheme.specs.Value.{fits_kind}
-use Rattle.mls_scheme.specs.Scheme.{Attribute, Scheme, Schemes, IsScheme, AreSchemes, scheme_of, no_scheme, no_attribute, other_of}
+use Rattle.mls_scheme.specs.Scheme.{Attribute, Scheme, Schemes, IsScheme, AreSchemes, other_of}
 use Rattle.mls_scheme.specs.Fits.{HaveKinds}
+use Rattle.mls_scheme.proofs.SchemeNameLemmas.{relation_again as relation_place, other_again, other_is_name}
 use Rattle.mls_tokens.specs.declared.fault.TokenFault.{TokenFault}
 use Rattle.mls_tokens.specs.declared.token.Token.{Token}
 use Rattle.mls_tokens.specs.declared.token.Token.TheVariants.{Sign}
@@ -30,57 +28,19 @@ use Rattle.mls_tokens.proofs.NextLemmas.{Gets, gets_more, done, gets_done, next_
 use Rattle.mls_script.specs.declared.lists.Listed.{Listed}
 use Rattle.mls_script.specs.declared.lists.Setting.{Setting}
 use Rattle.mls_script.specs.Event.{Sets, SetsFit}
-use Rattle.mls_script.specs.Tokens.{no_label, label_name, relation_name, value_token, separated, list_tokens, set_tokens}
+use Rattle.mls_tokens.specs.Text.{separated}
+use Rattle.mls_lattice.specs.Canon.{label_name}
+use Rattle.mls_script.specs.Tokens.{relation_name, value_token, list_tokens, set_tokens}
 use Rattle.mls_script.specs.Reading.{known_or, label_named, relation_named, value_in, valued, PlacedValue, pass_value, after_item, items_from, none_listed, push_value, list_behind, pass_list, misfit, place_at, set_at, push_set, pass_setting, pass_sets}
 use Rattle.mls_script.proofs.FoundLemmas.{pushed}
 
 -- ---- one name, one number
 
-module _ {X : Type 0} (name : X → Name) (xs : List X) (d : X) (apart : IsDistinct bytes_eq (map name xs)) where
-  name_apart : (k n : ℕ) → k < n → n < length xs → bytes_eq (name (get_or xs k d)) (name (get_or xs n d)) ≡ false
-  name_apart k n less within =
-      let far = apart_from_distinct bytes_eq (map name xs) k n (name d) apart less (omega (arith, length-map xs name)) in
-      subst (λ (x : Name). bytes_eq (name (get_or xs k d)) x ≡ false) (get_or-map name xs n d (name d) within)
-      (subst (λ (x : Name). bytes_eq x (get_or (map name xs) n (name d)) ≡ false) (get_or-map name xs k d (name d) (omega arith)) far)
-
-  position_again : (n : ℕ) → n < length xs → position (λ x. bytes_eq (name x) (name (get_or xs n d))) xs ≡ Some n
-  position_again n within =
-      let here : position_or_len (λ x. bytes_eq (name x) (name (get_or xs n d))) xs ≡ n =
-      position_or_len_is (λ x. bytes_eq (name x) (name (get_or xs n d))) xs n d (omega arith) (λ k less. name_apart k n less within)
-      (λ _. (bytes_eq-Decides (name (get_or xs n d)) (name (get_or xs n d))).1 refl) in
-      rw (here, lt-ltb n (length xs) within) refl
-
-distinct_behind : (xs ys : List Name) → IsDistinct bytes_eq (xs ++ ys) → IsDistinct bytes_eq ys
-distinct_behind [] ys h = h
-distinct_behind (x ∷ xs) ys h = distinct_behind xs ys (IsDistinct-tail bytes_eq x (xs ++ ys) h)
-
-pub label_again : (policy : Tables) → IsPolicy policy → (n at : ℕ) → n < length policy.labels → label_named policy (label_name policy n, at) ≡ Ok n
-label_again policy valid n at within = ap (known_or at) (position_again (λ (l : Named). l.name) policy.labels no_label valid.names n within)
+pub label_again : (policy : Tables) → IsPolicy policy → (n at : ℕ) → n < length policy.labels → label_named policy (label_name policy.labels n, at) ≡ Ok n
+label_again policy valid n at within = ap (known_or at) (label_place policy valid n within)
 
 pub relation_again : (schemes : Schemes) → AreSchemes schemes → (n at : ℕ) → n < length schemes → relation_named schemes (relation_name schemes n, at) ≡ Ok n
-relation_again schemes valid n at within = ap (known_or at) (position_again (λ (s : Scheme). s.name) schemes no_scheme valid.distinct n within)
-
-other_again : (scheme : Scheme) → IsScheme scheme → (n : ℕ) → n < length scheme.others → position (λ a. bytes_eq a.name (other_of scheme n).name) scheme.others ≡ Some n
-other_again scheme valid n within =
-    position_again (λ (a : Attribute). a.name) scheme.others no_attribute
-    (distinct_behind (map (λ a. a.name) scheme.keys) (map (λ a. a.name) scheme.others) (subst (IsDistinct bytes_eq) (map-append (λ a. a.name) scheme.keys scheme.others) valid.distinct)) n within
-
-pub label_is_name : (policy : Tables) → IsPolicy policy → (n : ℕ) → n < length policy.labels → is_name (label_name policy n) ≡ true
-label_is_name policy valid n within =
-    subst (λ (x : Name). is_name x ≡ true) (get_or-map (λ (l : Named). l.name) policy.labels n no_label [] within)
-    (All-from_recursion (λ (x : Name). is_name x ≡ true) (map (λ l. l.name) policy.labels) valid.label_names n [] (omega (arith, length-map policy.labels (λ (l : Named). l.name))))
-
-pub scheme_valid : (schemes : Schemes) → AreSchemes schemes → (n : ℕ) → n < length schemes → IsScheme (scheme_of schemes n)
-scheme_valid schemes valid n within = All-from_recursion IsScheme schemes valid.each n no_scheme within
-
-pub relation_is_name : (schemes : Schemes) → AreSchemes schemes → (n : ℕ) → n < length schemes → is_name (relation_name schemes n) ≡ true
-relation_is_name schemes valid n within = (scheme_valid schemes valid n within).named
-
-other_is_name : (scheme : Scheme) → IsScheme scheme → (n : ℕ) → n < length scheme.others → is_name (other_of scheme n).name ≡ true
-other_is_name scheme valid n within =
-    let names = every_back (λ (x : Name). is_name x ≡ true) _ (map (λ a. a.name) scheme.keys) (map (λ a. a.name) scheme.others) (subst AreNames (map-append (λ a. a.name) scheme.keys scheme.others) valid.names) refl in
-    subst (λ (x : Name). is_name x ≡ true) (get_or-map (λ (a : Attribute). a.name) scheme.others n no_attribute [] within)
-    (All-from_recursion (λ (x : Name). is_name x ≡ true) (map (λ a. a.name) scheme.others) names n [] (omega (arith, length-map scheme.others (λ (a : Attribute). a.name))))
+relation_again schemes valid n at within = ap (known_or at) (relation_place schemes valid n within)
 
 -- ---- values
 

@@ -2,22 +2,13 @@
 use Rattle.std.proofs.Common.{◌≡◌, ℕ, min, ◌<◌, ◌+◌, true, false, List, [], ◌∷◌, length, get_or, drop, Option, Some, None, refl, sym, ap, ◌∙◌, arith}
 use Rattle.std.specs.Prelude.{option_map}
 use Rattle.std.specs.List.{slice_get}
-use Rattle.std.proofs.lemmas.Option.{slice_get-get_or}
 use Rattle.std.proofs.lemmas.List.{drop_more, drop-drop, length-drop, get_or_default, get_or-drop}
 use Rattle.mls_scheme.specs.declared.value.Value.{Value}
 use Rattle.mls_scheme.specs.declared.attributes.Column.{Column}
 use Rattle.mls_scheme.specs.Value.{fits_kind}
 use Rattle.mls_scheme.specs.Scheme.{Attribute, Scheme, no_attribute, other_of, column_of}
+use Rattle.mls_scheme.proofs.SchemeNameLemmas.{column_there}
 use Rattle.mls_script.specs.Reading.{misfit}
-
-abbrev some_column : Column → Option Column
-some_column c = Some c
-
-column_is : (c d : Column) → some_column c ≡ some_column d → c ≡ d
-column_is c d e = cc
-
-column_at : (attributes : List Attribute) (i : ℕ) (c : Column) → i < length attributes → option_map column_of (slice_get attributes i) ≡ Some c → column_of (get_or attributes i no_attribute) ≡ c
-column_at attributes i c within column = column_is _ _ (sym (ap (option_map column_of) (slice_get-get_or attributes i no_attribute within)) ∙ column)
 
 -- what is not yet held against attributes
 abbrev pub misfit_from : List Attribute → List (Option Value) → List ℕ → ℕ → ℕ → Option ℕ
@@ -25,7 +16,7 @@ misfit_from attributes values places end i = misfit (drop i attributes) (drop i 
 
 module _ (attributes : List Attribute) (values : List (Option Value)) (places : List ℕ) (end i : ℕ) (v : Option Value) (c : Column) (here : i < length attributes) (lt : i < length values) (is : v ≡ get_or values i v) (column : option_map column_of (slice_get attributes i) ≡ Some c) where
   fits_here : fits_kind (get_or values i None) (get_or attributes i no_attribute).kind ≡ fits_kind v c.kind
-  fits_here = ap (λ (x : Option Value). fits_kind x (get_or attributes i no_attribute).kind) (get_or_default values i None v lt ∙ sym is) ∙ ap (λ (x : Column). fits_kind v x.kind) (column_at attributes i c here column)
+  fits_here = ap (λ (x : Option Value). fits_kind x (get_or attributes i no_attribute).kind) (get_or_default values i None v lt ∙ sym is) ∙ ap (λ (x : Column). fits_kind v x.kind) (column_there attributes i c here column)
 
   opened : misfit_from attributes values places end i ≡ misfit (get_or attributes i no_attribute ∷ drop (i + 1) attributes) (get_or values i None ∷ drop (i + 1) values) (drop i places) end
   opened = ap (λ x. misfit x (drop i values) (drop i places) end) (drop_more attributes i no_attribute here) ∙ ap (λ x. misfit (get_or attributes i no_attribute ∷ drop (i + 1) attributes) x (drop i places) end) (drop_more values i None lt)
@@ -58,6 +49,6 @@ module _ (attributes : List Attribute) (values : List (Option Value)) (places : 
 pub ruleset fit_steps = (fit_more, fit_here, fit_all, fit_not)
 
 pub kind_found : (scheme : Scheme) (n : ℕ) (v : Option Value) (c : Column) → n < length scheme.others → option_map column_of (slice_get scheme.others n) ≡ Some c → fits_kind v (other_of scheme n).kind ≡ fits_kind v c.kind
-kind_found scheme n v c within column = ap (λ (x : Column). fits_kind v x.kind) (column_at scheme.others n c within column)
+kind_found scheme n v c within column = ap (λ (x : Column). fits_kind v x.kind) (column_there scheme.others n c within column)
 
 pub ruleset kind_steps = (kind_found)

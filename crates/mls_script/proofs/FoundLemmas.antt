@@ -8,7 +8,7 @@ use Rattle.std.proofs.lemmas.List.{append-nil}
 use Rattle.std.proofs.lemmas.Slice.Eq.{bytes_eq-Decides}
 use Rattle.mls_lattice.specs.Policy.{Name}
 use Rattle.mls_lattice.specs.Reading.{◌>>=◌}
-use Rattle.mls_lattice.proofs.ReadingLemmas.{bind_ok}
+use Rattle.mls_lattice.proofs.ReadingLemmas.{bind_ok, same_ok}
 use Rattle.mls_scheme.specs.declared.value.Value.{Value}
 use Rattle.mls_scheme.specs.declared.value.Value.TheVariants as values
 use Rattle.mls_tokens.specs.declared.fault.TokenFault.{TokenFault}
@@ -18,10 +18,11 @@ use Rattle.mls_tokens.specs.declared.token.Placed.{Placed}
 use Rattle.mls_tokens.specs.declared.sign.Sign.TheVariants.{LeftParen, RightParen, Comma, Equals}
 use Rattle.mls_tokens.specs.Scanning.{Left, tokens_in}
 use Rattle.mls_tokens.specs.Passing.{left, is_sign, taken, pass, pass_name}
-use Rattle.mls_tokens.proofs.PassedLemmas.{same_ok, Passed, passed_more, sign_taken, sign_found, name_found}
+use Rattle.mls_tokens.proofs.PassedLemmas.{Passed, passed_more, sign_taken, sign_found, name_found}
 use Rattle.mls_script.specs.declared.lists.Listed.{Listed}
 use Rattle.mls_script.specs.declared.lists.Setting.{Setting}
-use Rattle.mls_script.specs.Tokens.{value_token, separated, list_tokens}
+use Rattle.mls_tokens.specs.Text.{separated}
+use Rattle.mls_script.specs.Tokens.{value_token, list_tokens}
 use Rattle.mls_script.specs.Reading.{value_in, valued, PlacedValue, pass_value_of, pass_value, after_item, items_from, items_at, none_listed, push_value, values_at, list_behind, pass_list, pass_setting}
 
 -- ---- values

@@ -10,9 +10,9 @@ use Rattle.mls_scheme.proofs.KindLemmas.{signed-from, text-from}
 use Rattle.mls_tokens.specs.declared.token.Token.{Token}
 use Rattle.mls_tokens.specs.declared.token.Token.TheVariants.{Sign}
 use Rattle.mls_tokens.specs.declared.sign.Sign.TheVariants.{RightParen, Comma}
-use Rattle.mls_tokens.specs.Text.{IsText, Spells, AreTokens}
+use Rattle.mls_tokens.specs.Text.{IsText, Spells, AreTokens, separated}
 use Rattle.mls_script.specs.Event.{HasSomeKind}
-use Rattle.mls_script.specs.Tokens.{value_token, separated, list_tokens}
+use Rattle.mls_script.specs.Tokens.{value_token, list_tokens}
 
 -- the token of some text
 abbrev pub IsToken : Token → Type 0

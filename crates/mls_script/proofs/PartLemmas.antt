@@ -14,18 +14,20 @@ use Rattle.std.proofs.lemmas.Slice.Eq.{bytes_eq-Decides}
 use Rattle.mls_lattice.specs.Name.{is_name}
 use Rattle.mls_lattice.specs.Policy.{Name, Tables}
 use Rattle.mls_lattice.specs.Reading.{◌>>=◌}
-use Rattle.mls_lattice.proofs.ReadingLemmas.{bind_ok}
+use Rattle.mls_lattice.proofs.NamedLemmas.{label_found}
+use Rattle.mls_lattice.proofs.ReadingLemmas.{bind_ok, same_ok}
 use Rattle.mls_scheme.specs.declared.value.Value.{Value}
 use Rattle.mls_scheme.specs.Value.{fits_kind}
-use Rattle.mls_scheme.specs.Scheme.{Attribute, Scheme, Schemes, scheme_of, no_scheme, no_attribute, other_of}
+use Rattle.mls_scheme.specs.Scheme.{Attribute, Scheme, Schemes, scheme_of, no_attribute, other_of}
 use Rattle.mls_scheme.specs.Fits.{HaveKinds}
+use Rattle.mls_scheme.proofs.SchemeNameLemmas.{relation_found}
 use Rattle.mls_tokens.specs.declared.fault.TokenFault.{TokenFault}
 use Rattle.mls_tokens.specs.declared.token.Token.{Token}
 use Rattle.mls_tokens.specs.declared.token.Token.TheVariants.{Word, Sign}
 use Rattle.mls_tokens.specs.declared.sign.Sign.TheVariants.{Comma, Equals}
 use Rattle.mls_tokens.specs.Scanning.{Left}
-use Rattle.mls_tokens.specs.Passing.{is_word, pass, PlacedName, pass_name}
-use Rattle.mls_tokens.proofs.PassedLemmas.{same_ok, Passed, passed_none, passed_more, word_found, name_found}
+use Rattle.mls_tokens.specs.Passing.{is_word, pass, pass_name}
+use Rattle.mls_tokens.proofs.PassedLemmas.{Passed, passed_none, passed_more, word_found, name_found}
 use Rattle.mls_script.specs.declared.fault.LineFault.{LineFault}
 use Rattle.mls_script.specs.declared.draft.Draft.{Draft}
 use Rattle.mls_script.specs.declared.grammar.Part.{Part}
@@ -34,7 +36,9 @@ use Rattle.mls_script.specs.declared.lists.Listed.{Listed}
 use Rattle.mls_script.specs.declared.lists.Setting.{Setting}
 use Rattle.mls_script.specs.Event.{Sets, SetsFit}
 use Rattle.mls_script.specs.Grammar.{part_word}
-use Rattle.mls_script.specs.Tokens.{no_label, label_name, relation_name, value_token, separated, list_tokens, set_tokens, word_tokens, said, part_tokens, parts_tokens}
+use Rattle.mls_tokens.specs.Text.{separated}
+use Rattle.mls_lattice.specs.Canon.{label_name}
+use Rattle.mls_script.specs.Tokens.{relation_name, value_token, list_tokens, set_tokens, word_tokens, said, part_tokens, parts_tokens}
 use Rattle.mls_script.specs.Reading.{Looked, known_or, label_named, relation_named, misfit, fit_or, held, place_at, new_or, kind_or, set_at, push_set, pass_setting, pass_sets, pass_list, put_label, put_name, put_values, attributes_of, with_label, with_name, with_relation, with_sets, with_values, with_arguments, label_at, name_at, relation_at, list_at, arguments_at, sets_at, content_at, pass_word, part_at, parts_at}
 use Rattle.mls_script.proofs.FoundLemmas.{pushed, all_found, list_found, setting_tokens, setting_found}
 
@@ -43,16 +47,6 @@ use Rattle.mls_script.proofs.FoundLemmas.{pushed, all_found, list_found, setting
 known_found : (at : ℕ) (o : Option ℕ) (n : ℕ) → known_or at o ≡ Ok n → o ≡ Some n
 known_found at None n e = absurd cc
 known_found at (Some m) n e = ap (λ (x : ℕ). Some x) (same_ok (known_or at (Some m)) m n refl e)
-
-label_found : (policy : Tables) (name : PlacedName) (n : ℕ) → label_named policy name ≡ Ok n → (n < length policy.labels) × (label_name policy n ≡ name.0)
-label_found policy name n e =
-    let p = position-Some (λ l. bytes_eq l.name name.0) policy.labels n no_label (known_found name.1 _ n e) in
-    (p.0, (bytes_eq-Decides (label_name policy n) name.0).0 p.1)
-
-relation_found : (schemes : Schemes) (name : PlacedName) (n : ℕ) → relation_named schemes name ≡ Ok n → (n < length schemes) × (relation_name schemes n ≡ name.0)
-relation_found schemes name n e =
-    let p = position-Some (λ s. bytes_eq s.name name.0) schemes n no_scheme (known_found name.1 _ n e) in
-    (p.0, (bytes_eq-Decides (relation_name schemes n) name.0).0 p.1)
 
 -- ---- values
 
@@ -320,7 +314,7 @@ module _ (policy : Tables) (schemes : Schemes) where
 
   found_label : (p : Part) (looked : Looked) (l : Left) (y : Looked × Left) (d : Draft)
       → ((e : Draft) (n : ℕ) → upto (rank p) e ≡ upto (rank p) (put_label p e n))
-      → ((e : Draft) (n : ℕ) (r : Left) → n < length policy.labels → Passed (Word (label_name policy n) ∷ []) l r → Says p (put_label p e n) l r)
+      → ((e : Draft) (n : ℕ) (r : Left) → n < length policy.labels → Passed (Word (label_name policy.labels n) ∷ []) l r → Says p (put_label p e n) l r)
       → label_at policy p looked l ≡ Ok y → y.0 ≡ Ok d → ContentFound p looked d l y.1
   found_label p looked l y d kept says e was =
       let n = bind_ok (pass_name l) (λ n. Ok (with_label p looked (label_named policy n.0), n.1)) y e in
@@ -329,8 +323,8 @@ module _ (policy : Tables) (schemes : Schemes) where
       let m = bind_ok (label_named policy n.0.0) (λ m. Ok (put_label p front.0 m)) d front.2 in
       let done : Looked = Ok (put_label p front.0 m.0) in
       let same : put_label p front.0 m.0 ≡ d = same_ok done (put_label p front.0 m.0) d refl m.2 in
-      let label = label_found policy n.0.0 m.0 m.1 in
-      let passed : Passed (Word (label_name policy m.0) ∷ []) l y.1 = subst (λ (s : Name). Passed (Word s ∷ []) l y.1) (sym label.1) (subst (λ (z : Looked × Left). Passed (Word n.0.0.0 ∷ []) l z.1) pair (name_found l n.0 n.1).passed) in
+      let label = label_found policy.labels n.0.0.0 m.0 (known_found n.0.0.1 _ m.0 m.1) in
+      let passed : Passed (Word (label_name policy.labels m.0) ∷ []) l y.1 = subst (λ (s : Name). Passed (Word s ∷ []) l y.1) (sym label.1) (subst (λ (z : Looked × Left). Passed (Word n.0.0.0 ∷ []) l z.1) pair (name_found l n.0 n.1).passed) in
       record {
         front = front.0;
         was = front.1;
@@ -364,7 +358,7 @@ module _ (policy : Tables) (schemes : Schemes) where
       let m = bind_ok (relation_named schemes n.0.0) (λ m. Ok (record front.0 { rel = m })) d front.2 in
       let done : Looked = Ok (record front.0 { rel = m.0 }) in
       let same : record front.0 { rel = m.0 } ≡ d = same_ok done (record front.0 { rel = m.0 }) d refl m.2 in
-      let rel = relation_found schemes n.0.0 m.0 m.1 in
+      let rel = relation_found schemes n.0.0.0 m.0 (known_found n.0.0.1 _ m.0 m.1) in
       let passed : Passed (Word (relation_name schemes m.0) ∷ []) l y.1 = subst (λ (s : Name). Passed (Word s ∷ []) l y.1) (sym rel.1) (subst (λ (z : Looked × Left). Passed (Word n.0.0.0 ∷ []) l z.1) pair (name_found l n.0 n.1).passed) in
       record { front = front.0; was = front.1; kept = ap (upto 3) same; says = subst (λ x. Says Relation x l y.1) same (rel.0, passed) }
 

@@ -13,6 +13,8 @@ use Rattle.mls_lattice.specs.Reading.{◌>>=◌}
 use Rattle.mls_scheme.specs.declared.value.Value.{Value}
 use Rattle.mls_scheme.specs.Scheme.{Schemes, AreSchemes, scheme_of, no_scheme}
 use Rattle.mls_scheme.specs.Fits.{HaveKinds}
+use Rattle.mls_lattice.proofs.NamedLemmas.{label_is_name}
+use Rattle.mls_scheme.proofs.SchemeNameLemmas.{scheme_is}
 use Rattle.mls_tokens.specs.declared.fault.TokenCause.TheVariants as causes
 use Rattle.mls_tokens.specs.declared.fault.TokenFault.{TokenFault}
 use Rattle.mls_tokens.specs.declared.token.Token.{Token}
@@ -36,13 +38,15 @@ use Rattle.mls_script.specs.declared.grammar.Part.TheVariants.{Level, Session, N
 use Rattle.mls_script.specs.declared.lists.Listed.{Listed}
 use Rattle.mls_script.specs.Event.{Sets, SetsFit, CommandFits, EventFits}
 use Rattle.mls_script.specs.Grammar.{verbs, verb_word, parts_of, part_word, blank, event_of, verb_of, draft_of, drafted}
-use Rattle.mls_script.specs.Tokens.{label_name, relation_name, separated, list_tokens, set_tokens, word_tokens, said, part_tokens, parts_tokens, event_tokens}
+use Rattle.mls_tokens.specs.Text.{separated}
+use Rattle.mls_lattice.specs.Canon.{label_name}
+use Rattle.mls_script.specs.Tokens.{relation_name, list_tokens, set_tokens, word_tokens, said, part_tokens, parts_tokens, event_tokens}
 use Rattle.mls_script.specs.Reading.{Looked, label_named, relation_named, pass_sets, fit_or, held, put_label, put_values, attributes_of, with_label, with_name, with_relation, with_sets, with_values, with_arguments, label_at, name_at, relation_at, list_at, arguments_at, sets_at, content_at, pass_word, part_at, parts_at, verb_or, verb_among, command_at, sentence_at, told_at, form_of, event_in, line_at, in_script, lines_at, split_lines, script_at, IsRead}
 use Rattle.mls_script.specs.Script.{Line, Tells, IsLineOf, ReadsScript, ScriptsAreOnce}
 use Rattle.mls_script.proofs.ScriptSteps.{split_ended}
 use Rattle.mls_script.proofs.PartLemmas.{PartFits}
 use Rattle.mls_script.proofs.LawLemmas.{listed}
-use Rattle.mls_script.proofs.AgainLemmas.{label_again, relation_again, scheme_valid, label_is_name, relation_is_name, list_read, kinds_again, sets_read}
+use Rattle.mls_script.proofs.AgainLemmas.{label_again, relation_again, list_read, kinds_again, sets_read}
 
 -- ---- what a part puts into a draft
 
@@ -67,9 +71,9 @@ module _ (policy : Tables) (schemes : Schemes) (is_policy : IsPolicy policy) (ar
   abbrev Reads : (Left → Result (Looked × Left) TokenFault) → Left → Draft → List Token → Type 0
   Reads f l d us = Gets (f l) l (λ looked. looked ≡ Ok d) us
 
-  label_read : (p : Part) (n : ℕ) (f : Draft) (us : List Token) (l : Left) → n < length policy.labels → tokens_in l.placed ≡ Word (label_name policy n) ∷ us → Reads (label_at policy p (Ok f)) l (put_label p f n) us
+  label_read : (p : Part) (n : ℕ) (f : Draft) (us : List Token) (l : Left) → n < length policy.labels → tokens_in l.placed ≡ Word (label_name policy.labels n) ∷ us → Reads (label_at policy p (Ok f)) l (put_label p f n) us
   label_read p n f us l within e =
-      gets_more (λ x. done (with_label p (Ok f) (label_named policy x.0)) x.1) (name_gets (label_name policy n) us l (label_is_name policy is_policy n within) e)
+      gets_more (λ x. done (with_label p (Ok f) (label_named policy x.0)) x.1) (name_gets (label_name policy.labels n) us l (label_is_name policy is_policy n within) e)
       (λ x m same t. gets_done (with_label p (Ok f) (label_named policy x)) m (λ looked. looked ≡ Ok (put_label p f n)) us
       (ap (with_label p (Ok f)) (ap (λ (s : Name). label_named policy (s, x.1)) same ∙ label_again policy is_policy n x.1 within)) t)
 
@@ -80,7 +84,7 @@ module _ (policy : Tables) (schemes : Schemes) (is_policy : IsPolicy policy) (ar
 
   relation_read : (n : ℕ) (f : Draft) (us : List Token) (l : Left) → n < length schemes → tokens_in l.placed ≡ Word (relation_name schemes n) ∷ us → Reads (relation_at schemes (Ok f)) l (record f { rel = n }) us
   relation_read n f us l within e =
-      gets_more (λ x. done (with_relation (Ok f) (relation_named schemes x.0)) x.1) (name_gets (relation_name schemes n) us l (relation_is_name schemes are_schemes n within) e)
+      gets_more (λ x. done (with_relation (Ok f) (relation_named schemes x.0)) x.1) (name_gets (relation_name schemes n) us l ((scheme_is schemes are_schemes n within).named) e)
       (λ x m same t. gets_done (with_relation (Ok f) (relation_named schemes x)) m (λ looked. looked ≡ Ok (record f { rel = n })) us
       (ap (with_relation (Ok f)) (ap (λ (s : Name). relation_named schemes (s, x.1)) same ∙ relation_again schemes are_schemes n x.1 within)) t)
 
@@ -107,7 +111,7 @@ module _ (policy : Tables) (schemes : Schemes) (is_policy : IsPolicy policy) (ar
   sets_part_read sets f us l within fit end e =
       gets_is (sets_at schemes (Ok f) l) (pass_sets (Some (scheme_of schemes f.rel)) l >>= λ x. done (with_sets (Ok f) x.0) x.1) l (λ looked. looked ≡ Ok (record f { sets = sets })) us
       (ap (λ o. pass_sets o l >>= λ x. Ok (with_sets (Ok f) x.0, x.1)) (slice_get-get_or schemes f.rel no_scheme within))
-      (gets_more (λ x. done (with_sets (Ok f) x.0) x.1) (sets_read (scheme_of schemes f.rel) (scheme_valid schemes are_schemes f.rel within) sets us l fit end e)
+      (gets_more (λ x. done (with_sets (Ok f) x.0) x.1) (sets_read (scheme_of schemes f.rel) (scheme_is schemes are_schemes f.rel within) sets us l fit end e)
       (λ x m same t. gets_done (with_sets (Ok f) x) m (λ looked. looked ≡ Ok (record f { sets = sets })) us (ap (with_sets (Ok f)) same) t))
 
   -- a key, other values and new values stand behind their relation
@@ -254,7 +258,7 @@ event_again level session (commands.Delete rel key key_class) = refl
 event_again level session (commands.Call tx args) = refl
 
 module _ (policy : Tables) (schemes : Schemes) where
-  front_same : (level : ℕ) (session : Name) (c : Command) → parts_tokens policy schemes (draft_of (begun level session) c) (Level ∷ Session ∷ []) ≡ Word (label_name policy level) ∷ Word session ∷ []
+  front_same : (level : ℕ) (session : Name) (c : Command) → parts_tokens policy schemes (draft_of (begun level session) c) (Level ∷ Session ∷ []) ≡ Word (label_name policy.labels level) ∷ Word session ∷ []
   front_same level session (commands.Open user) = refl
   front_same level session commands.Close = refl
   front_same level session commands.Audit = refl

@@ -3,7 +3,7 @@ use Rattle.std.specs.Prelude.{◌≡◌, ℕ, zero, suc, ◌+◌, Bool, true, fa
 use Rattle.std.specs.List.{position, slice_get, list_any}
 use Rattle.std.specs.Str.{bytes_eq}
 use Rattle.mls_lattice.specs.Policy.{Name, Tables}
-use Rattle.mls_lattice.specs.Reading.{◌>>=◌}
+use Rattle.mls_lattice.specs.Reading.{◌>>=◌, GivesUnless}
 use Rattle.mls_scheme.specs.declared.value.Value.{Value}
 use Rattle.mls_scheme.specs.declared.value.Value.TheVariants as values
 use Rattle.mls_scheme.specs.Value.{fits_kind}
@@ -32,8 +32,7 @@ use Rattle.mls_script.specs.Grammar.{verbs, verb_word, parts_of, part_word, blan
 
 -- What a function returned, seen by view, is what reading gives, unless memory ran out.
 abbrev pub Gives : {X Y : Type 0} → (X → Y) → Result X LineFault → Result Y LineFault → Type 0
-Gives view (Ok x) read = read ≡ Ok (view x)
-Gives view (Err e) read = (e.cause ≡ Memory → ⊥) → read ≡ Err e
+Gives = GivesUnless (λ e. e.cause ≡ Memory)
 
 -- ---- values
 
@@ -306,5 +305,4 @@ script_at policy schemes bytes = lines_at policy schemes 1 [] (split_lines [] by
 
 -- What script returned is what reading gives, unless memory ran out.
 abbrev pub IsRead : {X : Type 0} → (X → List Event) → Result X ScriptFault → Result (List Event) ScriptFault → Type 0
-IsRead view (Ok x) read = read ≡ Ok (view x)
-IsRead view (Err e) read = (e.cause ≡ Memory → ⊥) → read ≡ Err e
+IsRead = GivesUnless (λ e. e.cause ≡ Memory)

@@ -1,14 +1,15 @@
 -- The tokens that tell an event.
-use Rattle.std.specs.Prelude.{ℕ, List, [], ◌∷◌, ◌++◌, Option, Some, None, slice_index_or, codes}
+use Rattle.std.specs.Prelude.{ℕ, List, [], ◌∷◌, ◌++◌, Option, Some, None, codes}
 use Rattle.std.specs.List.{flat_map}
-use Rattle.mls_lattice.specs.Lattice.{bottom}
-use Rattle.mls_lattice.specs.Policy.{Name, Named, Tables}
+use Rattle.mls_lattice.specs.Canon.{label_name}
+use Rattle.mls_lattice.specs.Policy.{Name, Tables}
 use Rattle.mls_scheme.specs.declared.value.Value.{Value}
 use Rattle.mls_scheme.specs.declared.value.Value.TheVariants as values
 use Rattle.mls_scheme.specs.Scheme.{Scheme, Schemes, scheme_of, other_of}
 use Rattle.mls_tokens.specs.declared.token.Token.{Token}
 use Rattle.mls_tokens.specs.declared.token.Token.TheVariants.{Word, Int, Text, Sign}
-use Rattle.mls_tokens.specs.declared.sign.Sign.TheVariants.{LeftParen, RightParen, Comma, Equals}
+use Rattle.mls_tokens.specs.Text.{separated}
+use Rattle.mls_tokens.specs.declared.sign.Sign.TheVariants.{LeftParen, RightParen, Equals}
 use Rattle.mls_script.specs.declared.event.Event.{Event}
 use Rattle.mls_script.specs.declared.draft.Draft.{Draft}
 use Rattle.mls_script.specs.declared.grammar.Part.{Part}
@@ -16,12 +17,6 @@ use Rattle.mls_script.specs.declared.grammar.Part.TheVariants as parts
 use Rattle.mls_script.specs.Grammar.{part_word, parts_of, verb_word, verb_of, drafted}
 
 -- ---- names by number
-
-abbrev pub no_label : Named
-no_label = record { name = []; value = bottom }
-
-abbrev pub label_name : Tables → ℕ → Name
-label_name policy label = (slice_index_or policy.labels label no_label).name
 
 abbrev pub relation_name : Schemes → ℕ → Name
 relation_name schemes rel = (scheme_of schemes rel).name
@@ -32,11 +27,6 @@ abbrev pub value_token : Option Value → Token
 value_token None = Word (codes "null")
 value_token (Some (values.Int n)) = Int n
 value_token (Some (values.Text s)) = Text s
-
--- with a comma between each two
-abbrev pub separated : {A : Type 0} → (A → List Token) → List A → List Token
-separated tokens [] = []
-separated tokens (x ∷ xs) = tokens x ++ flat_map (λ y. Sign Comma ∷ tokens y) xs
 
 abbrev pub list_tokens : List (Option Value) → List Token
 list_tokens vs = Sign LeftParen ∷ (separated (λ v. value_token v ∷ []) vs ++ Sign RightParen ∷ [])
@@ -54,16 +44,16 @@ word_tokens (Some w) = Word w ∷ []
 module _ (policy : Tables) (schemes : Schemes) where
   -- what a part says
   abbrev pub said : Draft → Part → List Token
-  said d parts.Level = Word (label_name policy d.level) ∷ []
+  said d parts.Level = Word (label_name policy.labels d.level) ∷ []
   said d parts.Session = Word d.session ∷ []
   said d parts.Name = Word d.name ∷ []
   said d parts.Relation = Word (relation_name schemes d.rel) ∷ []
   said d parts.Key = list_tokens d.key
   said d parts.Values = list_tokens d.values
   said d parts.Arguments = list_tokens d.values
-  said d parts.At = Word (label_name policy d.label) ∷ []
-  said d parts.Class = Word (label_name policy d.label) ∷ []
-  said d parts.From = Word (label_name policy d.from) ∷ []
+  said d parts.At = Word (label_name policy.labels d.label) ∷ []
+  said d parts.Class = Word (label_name policy.labels d.label) ∷ []
+  said d parts.From = Word (label_name policy.labels d.from) ∷ []
   said d parts.Sets = separated (set_tokens (scheme_of schemes d.rel)) d.sets
 
   abbrev pub part_tokens : Draft → Part → List Token

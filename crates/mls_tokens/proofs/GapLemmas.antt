@@ -8,6 +8,7 @@ use Rattle.std.proofs.lemmas.Bool.{cases_Bool, false_from_ne_true, eqb-true, or_
 use Rattle.std.proofs.lemmas.Bool.Decides.{nat_tests}
 use Rattle.std.proofs.lemmas.List.{take_at}
 use Rattle.std.proofs.lemmas.Str.{is_utf8-from_IsUtf8, IsUtf8-from_is_utf8}
+use Rattle.mls_lattice.proofs.ReadingLemmas.{ok_is}
 use Rattle.mls_tokens.proofs.RunLemmas.{AllAre, run_all, run_len}
 use Rattle.mls_tokens.specs.Text.{is_blank, is_no_feed, IsComment, IsPiece, IsGap, IsLast, IsOver}
 use Rattle.mls_tokens.specs.Scanning.{unless, comment_in, comment_fault, front_at}
@@ -23,12 +24,6 @@ some_fault bytes h = rw (false_from_ne_true (is_utf8 (comment_in bytes)) (λ e. 
 pub ruleset comment_steps = (no_fault, some_fault)
 
 -- ---- what is passed is a gap
-
-abbrev passed : List ℕ → Result (List ℕ) ℕ
-passed rest = Ok rest
-
-passed_is : (a b : List ℕ) → passed a ≡ passed b → a ≡ b
-passed_is a b e = cc
 
 -- a gap, and what follows it
 record Reaches (bytes rest : List ℕ) : Type 0 where
@@ -90,8 +85,8 @@ utf8_comment bytes h =
     ]
 
 front_found : (inside : Bool) (bytes rest : List ℕ) → front_at inside bytes ≡ Ok rest → PassesFrom inside bytes rest
-front_found true [] rest e = inr (sym (passed_is [] rest e), refl)
-front_found false [] rest e = inl (record { gap = []; parts = passed_is [] rest e; is_gap = gap_none })
+front_found true [] rest e = inr (sym (ok_is [] rest e), refl)
+front_found false [] rest e = inl (record { gap = []; parts = ok_is [] rest e; is_gap = gap_none })
 front_found true (b ∷ bs) rest e =
     elim (cases_Bool (b == 10)) [
       | inl feed ↦
@@ -108,7 +103,7 @@ front_found false (b ∷ bs) rest e =
           comment_whole b bs rest mark (utf8_comment bs h.0) (front_found true bs rest h.1)
       | inr other ↦ elim (cases_Bool (is_blank b)) [
         | inl blank ↦ passes_more (b ∷ []) bs rest (inl (b, refl, blank)) (front_found false bs rest (rw (other, blank) at e))
-        | inr token ↦ inl (record { gap = []; parts = passed_is (b ∷ bs) rest (rw (other, token) at e); is_gap = gap_none })
+        | inr token ↦ inl (record { gap = []; parts = ok_is (b ∷ bs) rest (rw (other, token) at e); is_gap = gap_none })
       ]
     ]
 

@@ -1,5 +1,5 @@
 -- Numbers in a text.
-use Rattle.std.proofs.Common.{◌≡◌, ◌≢◌, ℕ, zero, suc, ◌<◌, ◌^◌, ℤ, Bool, true, false, ◌||◌, ◌==◌, List, [], ◌∷◌, length, get_or, slice_index, take, drop, arith, refl, sym, ap, ◌∙◌, inl, inr, IsTrue, nat_lt, nat_le, one-add}
+use Rattle.std.proofs.Common.{◌≡◌, ◌≢◌, ℕ, ◌<◌, ◌^◌, ℤ, Bool, true, false, ◌||◌, ◌==◌, List, [], ◌∷◌, length, get_or, slice_index, take, drop, arith, refl, sym, ap, ◌∙◌, inl, inr, IsTrue, nat_lt, nat_le, one-add}
 use Rattle.std.specs.Prelude.{Result, Ok, Err, MatchResult}
 use Rattle.std.specs.Str.{IsAscii, all_ascii_digits}
 use Rattle.std.specs.Str.Parse.{digits_value, ParsesSigned}
@@ -11,6 +11,7 @@ use Rattle.std.proofs.lemmas.Bool.Decides.{nat_tests}
 use Rattle.std.proofs.lemmas.Str.Parse.{IsNumeralModel, numerals_by_value, tells_all_ascii_digits, parse_signed_minus, parse_signed_plain, not_in_digits}
 use Rattle.mls_tokens.specs.declared.fault.TokenCause.TheVariants.{Token as BadToken}
 use Rattle.mls_tokens.specs.Scanning.{int_in, IsIntText, starts_int, int_len}
+use Rattle.std.proofs.lemmas.Str.Ascii.{IsAscii-cons}
 use Rattle.mls_tokens.proofs.RunLemmas.{digits_ascii}
 
 own : IsNumeralModel (λ ds. all_ascii_digits ds ≡ true) (digits_value 10)
@@ -57,10 +58,6 @@ digits_run (b ∷ bs) =
       | inl digit ↦ rw (digit, one-add (prefix_len is_ascii_digit bs)) (rw (digit, digits_run bs) refl)
       | inr other ↦ rw other refl
     ]
-
-IsAscii-cons : (b : ℕ) (bs : List ℕ) → b < 128 → IsAscii bs → IsAscii (b ∷ bs)
-IsAscii-cons b bs small h zero = small
-IsAscii-cons b bs small h (suc i) = h i
 
 pub int_ascii : (bytes : List ℕ) → IsAscii (take (int_len bytes) bytes)
 unfolding int_len

@@ -1,9 +1,10 @@
 -- The tokens that were passed.
-use Rattle.std.proofs.Common.{◌≡◌, ℕ, ◌<◌, ◌+◌, Bool, true, false, List, [], ◌∷◌, ◌++◌, length, Option, Some, None, Result, Ok, inl, inr, refl, sym, ap, ◌∙◌, subst, append_assoc, arith, length-append}
+use Rattle.std.proofs.Common.{◌≡◌, ℕ, ◌<◌, ◌+◌, Bool, true, false, List, [], ◌∷◌, ◌++◌, length, Option, Some, None, Ok, inl, inr, refl, sym, ap, ◌∙◌, subst, append_assoc, arith, length-append}
 use Rattle.std.proofs.lemmas.Bool.{cases_Bool}
 use Rattle.std.proofs.lemmas.List.{length-map}
 use Rattle.std.proofs.lemmas.Slice.Eq.{bytes_eq-Decides}
 use Rattle.mls_lattice.specs.Name.{is_name}
+use Rattle.mls_lattice.proofs.ReadingLemmas.{ok_is}
 use Rattle.mls_tokens.specs.declared.fault.TokenCause.{TokenCause}
 use Rattle.mls_tokens.specs.declared.fault.TokenCause.TheVariants as causes
 use Rattle.mls_tokens.specs.declared.fault.TokenFault.{TokenFault}
@@ -16,10 +17,6 @@ use Rattle.mls_tokens.specs.Sign.{sign_text, sign_goes_on, sign_at}
 use Rattle.mls_tokens.specs.Scanning.{Left, tokens_in}
 use Rattle.mls_tokens.specs.Passing.{left, is_word, is_sign, take_first, taken, or_refused, pass, PlacedName, name_in, named_first, pass_name_of, pass_name, is_expected, over_with}
 use Rattle.mls_tokens.proofs.SignLemmas.{sign_again}
-
--- one answer is one value
-pub same_ok : {A E : Type 0} (r : Result A E) (x y : A) → r ≡ Ok x → r ≡ Ok y → x ≡ y
-same_ok r x y p q = cc
 
 -- ---- tokens
 
@@ -97,7 +94,7 @@ taken_shorter test l at r e = let h = taken_found test l at r e in omega (arith,
 
 or_found : {X : Type 0} (o : Option X) (l : Left) (x : X) → or_refused o l ≡ Ok x → o ≡ Some x
 or_found None l x e = absurd cc
-or_found (Some y) l x e = ap (λ z. Some z) (same_ok (or_refused (Some y) l) y x refl e)
+or_found (Some y) l x e = ap (λ z. Some z) (ok_is y x e)
 
 word_is : (w : List ℕ) (t : Token) → is_word w t ≡ true → t ≡ Word w
 word_is w (Word s) h = ap (λ (x : List ℕ). Word x) ((bytes_eq-Decides s w).0 h)
@@ -147,7 +144,7 @@ name_first : (t : Token) (ps : List Placed) (stop : TokenFault) (at : ℕ) (o : 
 name_first t ps stop at None x is e = absurd cc
 name_first t ps stop at (Some s) x is e =
     let h = named_is t s is in
-    subst (λ y. NameFound alone (left (record { token = t; at = at } ∷ ps) stop) y) (same_ok (named_first at (left ps stop) (Some s)) ((s, at), left ps stop) x refl e)
+    subst (λ y. NameFound alone (left (record { token = t; at = at } ∷ ps) stop) y) (ok_is ((s, at), left ps stop) x e)
     (record { name = h.1; passed = record { tokens = ap (λ y. y ∷ tokens_in ps) h.0; stop = refl } })
 
 name_of_found : (ps : List Placed) (stop : TokenFault) (x : PlacedName × Left) → pass_name_of ps stop ≡ Ok x → NameFound alone (left ps stop) x

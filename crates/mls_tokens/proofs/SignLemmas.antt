@@ -1,9 +1,10 @@
 -- Signs: what is found at the front is the sign that stands there.
-use Rattle.std.proofs.Common.{◌≡◌, ℕ, Bool, true, false, ◌&&◌, ◌||◌, ◌==◌, not, List, [], ◌∷◌, ◌++◌, length, slice_index, take, drop, Option, Some, inl, inr, refl, sym, ap, ◌∙◌, subst, arith, ◌<◌}
+use Rattle.std.proofs.Common.{◌≡◌, ℕ, Bool, true, false, ◌&&◌, ◌||◌, ◌==◌, not, List, [], ◌∷◌, ◌++◌, length, slice_index, take, drop, Some, inl, inr, refl, sym, ap, ◌∙◌, subst, arith, ◌<◌}
 use Rattle.std.specs.Prelude.{nat_eq}
 use Rattle.std.specs.List.{starts_with}
 use Rattle.std.specs.Char.{is_ascii_alphabetic, is_ascii_digit}
 use Rattle.std.proofs.lemmas.Bool.{cases_Bool, or_parts}
+use Rattle.std.proofs.lemmas.Option.{same_Some}
 use Rattle.std.proofs.lemmas.Slice.Eq.{bytes_eq-Decides}
 use Rattle.std.proofs.lemmas.List.{take-append-drop}
 use Rattle.mls_tokens.specs.declared.sign.Sign.{Sign}
@@ -11,12 +12,6 @@ use Rattle.mls_tokens.specs.declared.sign.Sign.TheVariants.{Becomes, Differs, At
 use Rattle.mls_tokens.specs.Text.{is_blank}
 use Rattle.mls_tokens.specs.Scanning.{starts_int}
 use Rattle.mls_tokens.specs.Sign.{sign_text, sign_goes_on, signs, first_sign, sign_at}
-
-abbrev some_sign : Sign × List ℕ → Option (Sign × List ℕ)
-some_sign x = Some x
-
-some_is : (x y : Sign × List ℕ) → some_sign x ≡ some_sign y → x ≡ y
-some_is x y e = cc
 
 -- ---- what is found
 
@@ -28,7 +23,7 @@ first_parts [] bytes s rest e = absurd cc
 first_parts (t ∷ ss) bytes s rest e =
     elim (cases_Bool (starts_with nat_eq bytes (sign_text t))) [
       | inl here ↦
-          let same = some_is (t, drop (length (sign_text t)) bytes) (s, rest) (rw here at e) in
+          let same = same_Some (t, drop (length (sign_text t)) bytes) (s, rest) (rw here at e) in
           subst (λ (x : Sign × List ℕ). bytes ≡ sign_text x.0 ++ x.1) same (text_front bytes (sign_text t) here)
       | inr other ↦ first_parts ss bytes s rest (rw other at e)
     ]
@@ -42,7 +37,7 @@ not_before : (t : Sign) (ss : List Sign) (bytes : List ℕ) (s : Sign) (rest : L
 not_before t ss bytes s rest other e =
     elim (cases_Bool (starts_with nat_eq bytes (sign_text t))) [
       | inl here ↦
-          let same = some_is (t, drop (length (sign_text t)) bytes) (s, rest) (rw here at e) in
+          let same = same_Some (t, drop (length (sign_text t)) bytes) (s, rest) (rw here at e) in
           absurd (other (ap (λ (x : Sign × List ℕ). x.0) same))
       | inr away ↦ (away, rw away at e)
     ]

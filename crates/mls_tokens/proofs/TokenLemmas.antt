@@ -21,35 +21,17 @@ use Rattle.mls_tokens.specs.Sign.{sign_text, sign_at}
 use Rattle.mls_tokens.specs.Writing.{is_control, is_escaped, quoted_byte, quoted}
 use Rattle.mls_tokens.specs.Text.{IsWord, IsInt, Spells, goes_on}
 use Rattle.mls_tokens.specs.Scanning.{Gives, Found, found, IsIntText, word_at, int_in, int_len, int_at, starts_int, text_at, utf8_of, quoted_at, sign_found, token_at}
+use Rattle.mls_lattice.proofs.ReadingLemmas.{ok_is, bind_ok, guard_ok, pass_ok}
 use Rattle.mls_tokens.proofs.RunLemmas.{run_all, run_stops}
 use Rattle.mls_tokens.proofs.IntLemmas.{int_text}
 use Rattle.mls_tokens.proofs.SignLemmas.{sign_parts, sign_ends, sign_some}
 
 -- ---- steps
 
-bind_ok : {A B : Type 0} (r : Result A TokenCause) (f : A → Result B TokenCause) (y : B) → (r >>= f) ≡ Ok y → (x : A) × (r ≡ Ok x) × (f x ≡ Ok y)
-bind_ok (Ok x) f y e = (x, refl, e)
-bind_ok (Err d) f y e = absurd cc
-
 -- which way a test went
 chosen : {X : Type 0} (b : Bool) (x y z : X) → cond b x y ≡ z → ((b ≡ true) × (x ≡ z)) ⊎ ((b ≡ false) × (y ≡ z))
 chosen true x y z e = inl (refl, e)
 chosen false x y z e = inr (refl, e)
-
-abbrev done : {A : Type 0} → A → Result A TokenCause
-done x = Ok x
-
-ok_is : {A : Type 0} (x y : A) → done x ≡ done y → x ≡ y
-ok_is x y e = cc
-
--- a test that had to be passed
-passed : {A : Type 0} (b : Bool) (r : Result A TokenCause) (e : TokenCause) (x : A) → cond b (Err e) r ≡ Ok x → (b ≡ false) × (r ≡ Ok x)
-passed true r e x h = absurd cc
-passed false r e x h = (refl, h)
-
-met : {A : Type 0} (b : Bool) (r : Result A TokenCause) (e : TokenCause) (x : A) → cond b r (Err e) ≡ Ok x → (b ≡ true) × (r ≡ Ok x)
-met true r e x h = (refl, h)
-met false r e x h = absurd cc
 
 -- ---- the token at the front of bytes
 
@@ -69,7 +51,7 @@ first_of_run (b ∷ bs) h = rw (letter_is_name b h, one-add (prefix_len is_name_
 word_found : (bs s rest : List ℕ) → is_ascii_alphabetic (slice_index bs 0) ≡ true → word_at bs ≡ Ok (s, rest) → First bs (Word s) rest
 unfolding word_at
 word_found bs s rest letter e =
-    let short = passed (nat_lt 32 (prefix_len is_name_byte bs)) _ _ (s, rest) e in
+    let short = guard_ok (nat_lt 32 (prefix_len is_name_byte bs)) _ _ (s, rest) e in
     let n = prefix_len is_name_byte bs in
     let few : n ≤ 32 = ltb-false _ _ short.0 in
     let len : length (take n bs) ≤ 32 = omega (arith, length-take n bs) in
@@ -102,14 +84,14 @@ int_in_found text z is e =
           let digits : all_ascii_digits (drop 1 text) ≡ true = rw minus at is.digits in
           let some : 0 < length (drop 1 text) = rw minus at is.some in
           let n = digits_value 10 (drop 1 text) in
-          let fits = met (nat_le n (2 ^ 63)) (Ok (neg_ℤ (pos n))) BadToken z (rw minus at e) in
+          let fits = pass_ok (nat_le n (2 ^ 63)) BadToken (Ok (neg_ℤ (pos n))) z (rw minus at e) in
           let same : neg_ℤ (pos n) ≡ z = ok_is _ _ fits.1 in
           (rw (← same) (fits_neg n (leb-true _ _ fits.0)), inr (drop 1 text, minus_front text (eqb-true _ 45 minus), record { some = some; digits = digits }, sym same))
       | inr plain ↦
           let digits : all_ascii_digits text ≡ true = rw plain at is.digits in
           let some : 0 < length text = rw plain at is.some in
           let n = digits_value 10 text in
-          let fits = met (nat_lt n (2 ^ 63)) (Ok (pos n)) BadToken z (rw plain at e) in
+          let fits = pass_ok (nat_lt n (2 ^ 63)) BadToken (Ok (pos n)) z (rw plain at e) in
           let same : pos n ≡ z = ok_is _ _ fits.1 in
           (rw (← same) (fits_pos n (ltb-true _ _ fits.0)), inl (record { some = some; digits = digits }, sym same))
     ]
@@ -175,7 +157,7 @@ left false bs = bs
 text_found : (escaped : Bool) (bs front s rest : List ℕ) → text_at escaped front bs ≡ Ok (s, rest) → Unquoted (left escaped bs) front s rest
 text_found escaped [] front s rest e = absurd cc
 text_found true (b ∷ bs) front s rest e =
-    let h = met (is_escaped b) (text_at false (front ++ b ∷ []) bs) BadToken (s, rest) e in
+    let h = pass_ok (is_escaped b) BadToken (text_at false (front ++ b ∷ []) bs) (s, rest) e in
     unquoted_more (92 ∷ b ∷ bs) bs front s rest b (rw h.0 refl) (escaped_plain b h.0) (text_found false bs (front ++ b ∷ []) s rest h.1)
 text_found false (b ∷ bs) front s rest e =
     elim (chosen (b == 34) _ _ _ e) [
@@ -185,7 +167,7 @@ text_found false (b ∷ bs) front s rest e =
       | inr more ↦ elim (chosen (b == 92) _ _ _ more.1) [
         | inl slash ↦ subst (λ (x : ℕ). Unquoted (x ∷ bs) front s rest) (sym (eqb-true b 92 slash.0)) (text_found true bs front s rest slash.1)
         | inr plain ↦
-            let h = passed (is_control b) (text_at false (front ++ b ∷ []) bs) BadToken (s, rest) plain.1 in
+            let h = guard_ok (is_control b) BadToken (text_at false (front ++ b ∷ []) bs) (s, rest) plain.1 in
             unquoted_more (b ∷ bs) bs front s rest b (ap (λ (x : List ℕ). x ++ bs) (sym (plain_byte b more.0 plain.0 h.0))) h.0 (text_found false bs (front ++ b ∷ []) s rest h.1)
       ]
     ]
@@ -203,8 +185,8 @@ unfolding quoted_at utf8_of
 quoted_found bs s rest e =
     let read = bind_ok (text_at false [] bs) (λ x. utf8_of x.0 >>= λ text. cond (nat_lt 1024 (length text)) (Err TooLong) (Ok (text, x.1))) (s, rest) e in
     let text = bind_ok (utf8_of read.0.0) (λ text. cond (nat_lt 1024 (length text)) (Err TooLong) (Ok (text, read.0.1))) (s, rest) read.2 in
-    let utf8 = met (is_utf8 read.0.0) (Ok read.0.0) BadToken text.0 text.1 in
-    let short = passed (nat_lt 1024 (length text.0)) (Ok (text.0, read.0.1)) TooLong (s, rest) text.2 in
+    let utf8 = pass_ok (is_utf8 read.0.0) BadToken (Ok read.0.0) text.0 text.1 in
+    let short = guard_ok (nat_lt 1024 (length text.0)) TooLong (Ok (text.0, read.0.1)) (s, rest) text.2 in
     let few : length text.0 ≤ 1024 = ltb-false _ _ short.0 in
     let same : read.0.0 ≡ text.0 = ok_is _ _ utf8.1 in
     let pair : (text.0, read.0.1) ≡ (s, rest) = ok_is _ _ short.1 in

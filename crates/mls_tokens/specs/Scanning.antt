@@ -6,7 +6,7 @@ use Rattle.std.specs.Str.{all_ascii_digits, is_utf8}
 use Rattle.std.specs.Str.Lossy.{utf8_valid_len}
 use Rattle.std.specs.Str.Parse.{digits_value}
 use Rattle.mls_lattice.specs.Name.{is_name_byte}
-use Rattle.mls_lattice.specs.Reading.{◌>>=◌}
+use Rattle.mls_lattice.specs.Reading.{◌>>=◌, GivesUnless}
 use Rattle.mls_tokens.specs.declared.fault.TokenCause.{TokenCause}
 use Rattle.mls_tokens.specs.declared.fault.TokenCause.TheVariants.{Token as BadToken, Expected, TooLong, Memory}
 use Rattle.mls_tokens.specs.declared.fault.TokenFault.{TokenFault}
@@ -20,13 +20,11 @@ use Rattle.mls_tokens.specs.Text.{is_blank, is_no_feed, AreTokens}
 
 -- What a function returned, seen by view, is what scanning gives, unless memory ran out.
 abbrev pub Gives : {X Y : Type 0} → (X → Y) → Result X TokenCause → Result Y TokenCause → Type 0
-Gives view (Ok x) scan = scan ≡ Ok (view x)
-Gives view (Err e) scan = (e ≡ Memory → ⊥) → scan ≡ Err e
+Gives = GivesUnless (λ e. e ≡ Memory)
 
 -- The same, where the place of a fault is told.
 abbrev pub Reads : {X Y : Type 0} → (X → Y) → Result X TokenFault → Result Y TokenFault → Type 0
-Reads view (Ok x) scan = scan ≡ Ok (view x)
-Reads view (Err e) scan = (e.cause ≡ Memory → ⊥) → scan ≡ Err e
+Reads = GivesUnless (λ e. e.cause ≡ Memory)
 
 -- What a function that takes no memory returned, seen by view, is what scanning gives.
 abbrev pub Shows : {X Y E : Type 0} → (X → Y) → Result X E → Result Y E → Type 0

@@ -8,6 +8,7 @@ use Rattle.std.specs.Str.Parse.{digits_value}
 use Rattle.mls_lattice.specs.Name.{is_name_byte}
 use Rattle.mls_tokens.specs.declared.token.Token.{Token}
 use Rattle.mls_tokens.specs.declared.token.Token.TheVariants.{Word, Int, Text, Sign as Sign_token}
+use Rattle.mls_tokens.specs.declared.sign.Sign.TheVariants.{Comma}
 use Rattle.mls_tokens.specs.Sign.{sign_text, sign_goes_on}
 use Rattle.mls_tokens.specs.Writing.{is_control, quoted}
 
@@ -55,6 +56,16 @@ goes_on (Word s) b = is_name_byte b
 goes_on (Int n) b = is_ascii_digit b
 goes_on (Text s) b = false
 goes_on (Sign_token s) b = sign_goes_on s b
+
+-- ---- lists
+
+abbrev pub comma_tokens : {X : Type 0} → (X → List Token) → X → List Token
+comma_tokens tokens x = Sign_token Comma ∷ tokens x
+
+-- with a comma between each two
+abbrev pub separated : {X : Type 0} → (X → List Token) → List X → List Token
+separated tokens [] = []
+separated tokens (x ∷ xs) = tokens x ++ flat_map (comma_tokens tokens) xs
 
 -- ---- what stands between tokens
 

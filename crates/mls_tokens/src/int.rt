@@ -3,7 +3,7 @@ ghost use Rattle.std.specs.Prelude.{◌≡◌, ◌≤◌, length, IsTrue};
 ghost use Rattle.mls_tokens.specs.Scanning.{Gives, int_in, IsIntText, int_len, starts_int, int_at};
 
 use crate::fault::TokenCause;
-use crate::runs::{ascii_text, digits_len};
+use mls_lattice::{ascii_text, digits_len};
 
 fn int_in(text: &str) -> Result<i64, TokenCause>
     requires { IsIntText text.now }

@@ -20,7 +20,7 @@ pub use fault::{TokenCause, TokenFault};
 pub use sign::Sign;
 pub use token::{Placed, Token};
 pub use tokens::Tokens;
-pub use writing::{push_printable, push_quoted};
+pub use writing::{push_int, push_printable, push_quoted, push_str};
 
 /// A text is scanned as these tokens, to its end, exactly where it is these tokens.
 pub fn tokens_are_exact()

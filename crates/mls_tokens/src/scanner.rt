@@ -5,10 +5,10 @@ ghost use Rattle.mls_tokens.specs.Scanning.{Gives, word_at, token_at};
 use crate::fault::TokenCause;
 use crate::int::{int_of, starts_int};
 use crate::quoted::quoted_of;
-use crate::runs::{ascii_text, word_len};
+use crate::runs::word_len;
 use crate::sign::sign_of;
 use crate::token::Token;
-use mls_lattice::Str;
+use mls_lattice::{Str, ascii_text};
 use std::alloc::Global;
 
 /// The most bytes of a name.

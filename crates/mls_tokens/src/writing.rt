@@ -1,9 +1,10 @@
-//! Names and texts, as they are written.
+//! Names, numbers and texts, as they are written.
 ghost use Rattle.std.specs.Prelude.{◌≡◌, ◌<◌, ◌++◌, OnOk};
+ghost use Rattle.std.specs.Fmt.{signed_decimal};
 ghost use Rattle.std.specs.List.{flat_map};
 ghost use Rattle.mls_tokens.specs.Writing.{is_control, is_escaped, hex_digit, printable_byte, printable, quoted_byte, quoted};
 
-use std::alloc::AllocError;
+use std::alloc::{AllocError, Global};
 
 /// Whether a byte is a control character, which stands in no text between quotes.
 pub(crate) fn is_control(byte: u8) -> bool
@@ -39,6 +40,21 @@ fn push_byte(text: &mut Vec<u8>, byte: u8) -> Result<(), AllocError>
         text.push(byte)?;
     }
     Ok(())
+}
+
+/// Appends a text as it is.
+pub fn push_str(text: &mut Vec<u8>, words: &str) -> Result<(), AllocError>
+    ensures { OnOk result (text.new.items ≡ text.old.items ++ words.now) }
+{
+    text.extend_from_slice(words.as_bytes())
+}
+
+/// Appends a number in decimal, with a minus below 0.
+pub fn push_int(alloc: Global, text: &mut Vec<u8>, number: i64) -> Result<(), AllocError>
+    ensures { OnOk result (text.new.items ≡ text.old.items ++ signed_decimal number) }
+{
+    let digits = format!(in alloc; "{number}")?;
+    push_str(text, &digits)
 }
 
 /// Appends a name, whose control characters are written as `\x` and two digits.

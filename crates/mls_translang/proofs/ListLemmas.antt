@@ -6,7 +6,7 @@ use Rattle.std.proofs.lemmas.Option.{slice_get_within, get_or_from_slice_get}
 use Rattle.mls_lattice.specs.Policy.{Name}
 use Rattle.mls_tokens.specs.declared.token.Token.{Token}
 use Rattle.mls_translang.specs.Layout.{Laid, puts}
-use Rattle.mls_translang.specs.Tokens.{comma_tokens, separated}
+use Rattle.mls_tokens.specs.Text.{comma_tokens, separated}
 use Rattle.mls_translang.proofs.LayoutLemmas.{puts-append}
 
 module _ {X : Type 0} (f : X → List Token) (xs : List X) (x : X) where

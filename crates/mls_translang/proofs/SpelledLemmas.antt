@@ -20,7 +20,8 @@ use Rattle.mls_translang.specs.Scope.{row_at}
 use Rattle.mls_translang.specs.Kinds.{field_of}
 use Rattle.mls_translang.specs.Tx.{HasOwn, IsOwn, IsLiteral, StmtIsOwn, BlockIsOwn}
 use Rattle.mls_translang.specs.Fits.{IsLabel, width, ExprFits, StmtFits, BlockFits}
-use Rattle.mls_translang.specs.Tokens.{Place, at_row, name_at, value_token, operator_token, expr_tokens, comma_tokens, separated, list_tokens, set_tokens, stmt_end, head_tokens, write_end, stmt_tokens, else_tokens, braced, block_tokens}
+use Rattle.mls_tokens.specs.Text.{comma_tokens, separated}
+use Rattle.mls_translang.specs.Tokens.{Place, at_row, name_at, value_token, operator_token, expr_tokens, list_tokens, set_tokens, stmt_end, head_tokens, write_end, stmt_tokens, else_tokens, braced, block_tokens}
 use Rattle.mls_translang.specs.ReadsBack.{IsSpelled}
 use Rattle.mls_translang.proofs.NumberLemmas.{int_spelled}
 

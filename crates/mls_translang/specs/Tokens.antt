@@ -10,6 +10,7 @@ use Rattle.mls_scheme.specs.declared.value.Kind.{Kind}
 use Rattle.mls_scheme.specs.Scheme.{Scheme, Schemes, scheme_of, other_of}
 use Rattle.mls_scheme.specs.Document.{kind_word}
 use Rattle.mls_tokens.specs.declared.token.Token.{Token}
+use Rattle.mls_tokens.specs.Text.{separated}
 use Rattle.mls_tokens.specs.declared.token.Token.TheVariants.{Word, Int, Text, Sign}
 use Rattle.mls_tokens.specs.declared.sign.Sign.TheVariants as sign
 use Rattle.mls_translang.specs.declared.operator.Operator.{Operator}
@@ -83,14 +84,6 @@ expr_tokens p (Field d i) = field_tokens p d i
 expr_tokens p (No e) = Word (codes "not") ∷ expr_tokens p e
 expr_tokens p (Op op left right) =
     Sign sign.LeftParen ∷ (expr_tokens p left ++ (operator_token op ∷ (expr_tokens p right ++ Sign sign.RightParen ∷ [])))
-
-abbrev pub comma_tokens : {X : Type 0} → (X → List Token) → X → List Token
-comma_tokens tokens x = Sign sign.Comma ∷ tokens x
-
--- with commas between
-abbrev pub separated : {X : Type 0} → (X → List Token) → List X → List Token
-separated tokens [] = []
-separated tokens (x ∷ xs) = tokens x ++ flat_map (comma_tokens tokens) xs
 
 abbrev pub list_tokens : Place → List Expr → List Token
 list_tokens p es = Sign sign.LeftParen ∷ (separated (expr_tokens p) es ++ Sign sign.RightParen ∷ [])

@@ -1,10 +1,9 @@
 //! Tokens, laid out as a text.
 ghost use Rattle.std.specs.Prelude.{◌≡◌, ◌++◌, OnOk, IfOk, codes};
-ghost use Rattle.std.specs.Fmt.{signed_decimal};
 ghost use Rattle.mls_tokens.specs.declared.token.Token.TheVariants as token;
 ghost use Rattle.mls_translang.specs.Layout.{sign_side, word_side, sign_before, sign_depth, indent, new_line, gap, put, start};
 
-use mls_tokens::{Sign, push_quoted};
+use mls_tokens::{Sign, push_int, push_quoted, push_str};
 use std::alloc::{AllocError, Global};
 use std::marker::Model;
 
@@ -78,12 +77,6 @@ fn sign_depth(depth: usize, sign: Sign) -> Result<usize, AllocError>
     }
 }
 
-fn push_str(text: &mut Vec<u8>, words: &str) -> Result<(), AllocError>
-    ensures { OnOk result (text.new.items ≡ text.old.items ++ words.now) }
-{
-    text.extend_from_slice(words.as_bytes())
-}
-
 fn push_indent(text: &mut Vec<u8>, depth: usize) -> Result<(), AllocError>
     ensures { OnOk result (text.new.items ≡ text.old.items ++ indent depth) }
 {
@@ -115,13 +108,6 @@ fn push_gap(text: &mut Vec<u8>, depth: usize, before: Before, side: Side) -> Res
         (Before::Other, Side::Tight) => Ok(()),
         (Before::Other, _) => push_str(text, " "),
     }
-}
-
-fn push_int(alloc: Global, text: &mut Vec<u8>, number: i64) -> Result<(), AllocError>
-    ensures { OnOk result (text.new.items ≡ text.old.items ++ signed_decimal number) }
-{
-    let digits = format!(in alloc; "{number}")?;
-    push_str(text, &digits)
 }
 
 /// A text while it is written: how many braces are open, and what was written last.

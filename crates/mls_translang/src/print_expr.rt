@@ -8,7 +8,8 @@ ghost use Rattle.mls_translang.specs.Scope.{row_at};
 ghost use Rattle.mls_translang.specs.Tx.{HasOwn, IsOwn};
 ghost use Rattle.mls_translang.specs.Fits.{ExprFits, width};
 ghost use Rattle.mls_translang.specs.Kinds.{field_of};
-ghost use Rattle.mls_translang.specs.Tokens.{value_token, operator_token, field_tokens, expr_tokens, comma_tokens, separated, list_tokens};
+ghost use Rattle.mls_tokens.specs.Text.{comma_tokens, separated};
+ghost use Rattle.mls_translang.specs.Tokens.{value_token, operator_token, field_tokens, expr_tokens, list_tokens};
 
 use crate::expr::{Expr, Term};
 use crate::layout::Printer;

@@ -3,7 +3,8 @@ ghost use Rattle.std.specs.Prelude.{◌≡◌, ◌<◌, ◌++◌, length, drop, 
 ghost use Rattle.std.specs.List.{AllByRecursion, flat_map};
 ghost use Rattle.mls_translang.specs.Layout.{puts};
 ghost use Rattle.mls_translang.specs.Fits.{IsLabel, IsReadUnder};
-ghost use Rattle.mls_translang.specs.Tokens.{comma_tokens, separated, param_tokens, params_tokens, var_tokens, heading_tokens, braced, block_tokens, outermost, tx_tokens, printed};
+ghost use Rattle.mls_tokens.specs.Text.{comma_tokens, separated};
+ghost use Rattle.mls_translang.specs.Tokens.{param_tokens, params_tokens, var_tokens, heading_tokens, braced, block_tokens, outermost, tx_tokens, printed};
 
 use crate::layout::Printer;
 use crate::named::Named;

@@ -8,7 +8,8 @@ ghost use Rattle.mls_translang.specs.Layout.{puts};
 ghost use Rattle.mls_translang.specs.Tx.{IsOwn};
 ghost use Rattle.mls_translang.specs.Fits.{IsLabel, ExprFits};
 ghost use Rattle.mls_translang.specs.Tree.{Inserting, Updating, Deleting};
-ghost use Rattle.mls_translang.specs.Tokens.{head_tokens, class_tokens, set_tokens, comma_tokens, separated, stmt_end, write_end, update_end, write_tokens};
+ghost use Rattle.mls_tokens.specs.Text.{comma_tokens, separated};
+ghost use Rattle.mls_translang.specs.Tokens.{head_tokens, class_tokens, set_tokens, stmt_end, write_end, update_end, write_tokens};
 
 use crate::expr::Expr;
 use crate::layout::Printer;

@@ -1,7 +1,8 @@
 use Rattle.std.proofs.Common.{ap, ◌-◌, length, take, drop, ◌∙◌}
 use Rattle.std.specs.List.{flat_map}
 use Rattle.mls_translang.specs.Layout.{puts}
-use Rattle.mls_translang.specs.Tokens.{expr_tokens, comma_tokens}
+use Rattle.mls_tokens.specs.Text.{comma_tokens}
+use Rattle.mls_translang.specs.Tokens.{expr_tokens}
 use Rattle.mls_translang.proofs.ListLemmas.{separated_more}
 use Rattle.mls_translang.proofs.print_expr.exprs_to.Goals as goal
 

@@ -1,7 +1,8 @@
 use Rattle.std.proofs.Common.{ap, drop, ◌∙◌}
 use Rattle.std.specs.List.{flat_map}
 use Rattle.mls_translang.specs.Layout.{puts}
-use Rattle.mls_translang.specs.Tokens.{param_tokens, comma_tokens}
+use Rattle.mls_tokens.specs.Text.{comma_tokens}
+use Rattle.mls_translang.specs.Tokens.{param_tokens}
 use Rattle.mls_translang.proofs.ListLemmas.{first_more}
 use Rattle.mls_translang.proofs.print_tx.params_to.Goals as goal
 

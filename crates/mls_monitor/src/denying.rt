@@ -93,12 +93,7 @@ fn access_denial(
 }
 
 /// Why a command is denied in an open session of a level and a user, if it is.
-pub fn denial_of(
-    rules: &Rules,
-    level: LabelNo,
-    user: UserNo,
-    command: &Command,
-) -> Option<Denial>
+pub fn denial_of(rules: &Rules, level: LabelNo, user: UserNo, command: &Command) -> Option<Denial>
     requires level { level < length rules.now.policy.now.labels }
     requires user { user < length rules.now.policy.now.users }
     requires read { AreRead (site_of rules.now) }

@@ -1,3 +1,2 @@
 pub mod KnownLemmas
-pub mod NamingLemmas
 pub mod PrintingSteps

@@ -2,12 +2,10 @@
 #![tactic(auto)]
 
 mod known;
-mod naming;
 mod printing;
 mod printing_items;
 mod printing_rows;
 mod replies;
 
 pub use known::is_known;
-pub use naming::user_name;
 pub use replies::reply_bytes;

@@ -1,29 +1,15 @@
 //! Names and values, as replies print them, and what each line begins with.
 ghost use Rattle.std.specs.Prelude.{◌≡◌, ◌<◌, ◌++◌, length, codes, OnOk};
-ghost use Rattle.std.specs.Fmt.{decimal, signed_decimal};
+ghost use Rattle.std.specs.Fmt.{decimal};
 ghost use Rattle.mls_audit.specs.Entry.{label_of};
 ghost use Rattle.mls_machine.specs.Output.{value_text, cell_text, front, entry_front, entry_text};
 
-use crate::naming::label_name;
 use mls_audit::Entry;
 use mls_lattice::{LabelNo, Policy};
 use mls_scheme::Value;
 use mls_script::Event;
-use mls_tokens::{push_printable, push_quoted};
+use mls_tokens::{push_int, push_printable, push_quoted, push_str};
 use std::alloc::{AllocError, Global};
-
-pub(crate) fn push_str(text: &mut Vec<u8>, words: &str) -> Result<(), AllocError>
-    ensures { OnOk result (text.new.items ≡ text.old.items ++ words.now) }
-{
-    text.extend_from_slice(words.as_bytes())
-}
-
-fn push_int(alloc: Global, text: &mut Vec<u8>, number: i64) -> Result<(), AllocError>
-    ensures { OnOk result (text.new.items ≡ text.old.items ++ signed_decimal number) }
-{
-    let digits = format!(in alloc; "{number}")?;
-    push_str(text, &digits)
-}
 
 /// Appends what stands before the text of a line that a label may see.
 pub(crate) fn push_front(
@@ -36,9 +22,9 @@ pub(crate) fn push_front(
     requires label { label < length policy.now.labels }
     ensures { OnOk result (text.new.items ≡ text.old.items ++ front policy.now event.now label) }
 {
-    push_str(text, label_name(policy, label))?;
+    push_str(text, policy.name(label))?;
     push_str(text, " ")?;
-    push_str(text, label_name(policy, event.level))?;
+    push_str(text, policy.name(event.level))?;
     push_str(text, "/")?;
     push_printable(text, &event.session)?;
     push_str(text, " ")
@@ -87,7 +73,7 @@ fn push_entry_front(
     ensures { OnOk result (text.new.items ≡ text.old.items ++ entry_front policy.now label deed.now user.now session.now) }
 {
     push_str(text, "entry ")?;
-    push_str(text, label_name(policy, label))?;
+    push_str(text, policy.name(label))?;
     push_str(text, deed)?;
     push_printable(text, user)?;
     push_str(text, " ")?;

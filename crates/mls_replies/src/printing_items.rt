@@ -4,12 +4,12 @@ ghost use Rattle.std.specs.List.{flat_map};
 ghost use Rattle.mls_tokens.specs.Writing.{printable};
 ghost use Rattle.mls_machine.specs.Output.{cell_text, front, call_texts, ItemsAreKnown};
 
-use crate::printing::{push_cell, push_front, push_str};
+use crate::printing::{push_cell, push_front};
 use mls_lattice::{LabelNo, Policy};
 use mls_meaning::Run;
 use mls_scheme::Value;
 use mls_script::{Command, Event};
-use mls_tokens::push_printable;
+use mls_tokens::{push_printable, push_str};
 use std::alloc::{AllocError, Global};
 
 /// Appends the line of an item, which its label may see.

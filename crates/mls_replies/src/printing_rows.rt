@@ -7,11 +7,11 @@ ghost use Rattle.mls_lattice.specs.Policy.{labels_of};
 ghost use Rattle.mls_scheme.specs.Tuple.{tuple_class, HasClassesBelow};
 ghost use Rattle.mls_machine.specs.Output.{cell_entry, name_of, row_text};
 
-use crate::naming::label_name;
-use crate::printing::{push_cell, push_str, push_value};
+use crate::printing::{push_cell, push_value};
 use mls_filterview::is_same_label;
 use mls_lattice::{Label, LabelNo, Policy};
 use mls_scheme::{Element, Tuple, Value, tuple_class};
+use mls_tokens::push_str;
 use std::alloc::{AllocError, Global};
 
 fn push_class(text: &mut Vec<u8>, policy: &Policy, class: LabelNo) -> Result<(), AllocError>
@@ -19,7 +19,7 @@ fn push_class(text: &mut Vec<u8>, policy: &Policy, class: LabelNo) -> Result<(),
     ensures { OnOk result (text.new.items ≡ text.old.items ++ codes " " ++ label_name policy.now.labels class ++ codes " | ") }
 {
     push_str(text, " ")?;
-    push_str(text, label_name(policy, class))?;
+    push_str(text, policy.name(class))?;
     push_str(text, " | ")
 }
 
@@ -64,7 +64,7 @@ fn name_of(policy: &Policy, class: Label) -> &str
     for number in 0..policy.label_count() {
         let label = LabelNo::new(number as u8);
         if is_same_label(policy.value(label), class) {
-            return label_name(policy, label);
+            return policy.name(label);
         }
     }
     ""

@@ -8,8 +8,7 @@ ghost use Rattle.mls_updates.specs.Outcome.{is_done};
 ghost use Rattle.mls_replies.specs.Under.{site_under};
 ghost use Rattle.mls_machine.specs.Output.{front, heading, outcome_text, denial_text, row_text, entry_text, view_texts, reply_lines, printed, CommandIsKnown, EntriesAreKnown, CanBePrinted};
 
-use crate::naming::{label_name, user_name};
-use crate::printing::{push_entry, push_front, push_str};
+use crate::printing::{push_entry, push_front};
 use crate::printing_items::ran_bytes;
 use crate::printing_rows::push_row;
 use mls_audit::Entry;
@@ -17,6 +16,7 @@ use mls_lattice::{LabelNo, Policy, UserNo};
 use mls_machine::{Denial, Reply};
 use mls_scheme::{Attributes, Scheme, Schemes, Tuple};
 use mls_script::{Command, Event};
+use mls_tokens::push_str;
 use mls_updates::Outcome;
 use std::alloc::{AllocError, Global};
 
@@ -78,7 +78,7 @@ fn push_heading(
     push_str(text, "view ")?;
     push_str(text, scheme.name())?;
     push_str(text, " at ")?;
-    push_str(text, label_name(policy, label))?;
+    push_str(text, policy.name(label))?;
     push_str(text, ":")?;
     push_attributes(text, scheme.keys())?;
     push_attributes(text, scheme.others())
@@ -233,7 +233,7 @@ fn opened_bytes(
     requires user { user < length policy.now.users }
     ensures { IfOk result (λ text. text.items ≡ front policy.now event.now event.now.level ++ (codes "opened " ++ user_name policy.now.users user) ++ codes "\n") }
 {
-    let name = user_name(policy, user);
+    let name = policy.user_name(user);
     let line = format!(in alloc; "opened {name}")?;
     line_bytes(alloc, policy, event, &line)
 }

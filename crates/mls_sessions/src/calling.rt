@@ -32,7 +32,6 @@ use mls_lattice::{LabelNo, Str, UserNo};
 use mls_machine::Reply;
 use mls_meaning::Run;
 use mls_monitor::{Rules, certified_named, fitted};
-use mls_replies::user_name;
 use mls_scheme::Value;
 use mls_script::{Command, Event};
 use mls_trusted::evaluate_in;
@@ -52,7 +51,7 @@ fn called_bytes(
     ensures bytes { IfOk result (λ v. v.items ≡ entry_spelling (Called event.now.level (user_name rules.now.policy.now.users user) event.now.session name.now)) }
     ensures spelled { OnOk result (HasSpelling (Called event.now.level (user_name rules.now.policy.now.users user) event.now.session name.now)) }
 {
-    let user = Str::copy_of(rules.alloc, user_name(rules.policy, user))?;
+    let user = Str::copy_of(rules.alloc, rules.policy.user_name(user))?;
     let session = Str::copy_of(rules.alloc, &event.session)?;
     let transaction = Str::copy_of(rules.alloc, name)?;
     let entry = Entry::Called {
@@ -77,7 +76,7 @@ fn released_bytes(
     ensures bytes { IfOk result (λ v. v.items ≡ entry_spelling (release_entry (site_of rules.now) event.now user item.now)) }
     ensures spelled { OnOk result (HasSpelling (release_entry (site_of rules.now) event.now user item.now)) }
 {
-    let user = Str::copy_of(rules.alloc, user_name(rules.policy, user))?;
+    let user = Str::copy_of(rules.alloc, rules.policy.user_name(user))?;
     let session = Str::copy_of(rules.alloc, &event.session)?;
     let value = copy_value(&item.1)?;
     let entry = Entry::Released {

@@ -18,7 +18,6 @@ use mls_filterview::{Base, BaseFault, made};
 use mls_lattice::{Str, UserNo};
 use mls_machine::{Denial, Reply};
 use mls_monitor::Rules;
-use mls_replies::user_name;
 use mls_script::{Command, Event};
 use mls_updates::{delete, insert, update};
 use std::alloc::AllocError;
@@ -46,7 +45,7 @@ fn denial_bytes(
     ensures bytes { IfOk result (λ v. v.items ≡ entry_spelling (denial_entry (site_of rules.now) event.now user denial)) }
     ensures spelled { OnOk result (HasSpelling (denial_entry (site_of rules.now) event.now user denial)) }
 {
-    let user = Str::copy_of(rules.alloc, user_name(rules.policy, user))?;
+    let user = Str::copy_of(rules.alloc, rules.policy.user_name(user))?;
     let session = Str::copy_of(rules.alloc, &event.session)?;
     let entry = Entry::Denied {
         label: event.level,

@@ -1,5 +1,7 @@
 //! Why a command ends without success, and how that is told.
-ghost use Rattle.std.specs.Prelude.{◌≡◌, ◌⊎◌};
+ghost use Rattle.std.specs.Prelude.{◌≡◌, ◌⊎◌, OnOk};
+ghost use Rattle.std.specs.Io.KnownBytes.{Appends};
+ghost use Rattle.mls_command.specs.Refusal.{role_word, input_refusal, input_text, fault_text, line_text, front_text, spot_text, place_text, text_fault_text, cert_fault_text, script_fault_text, run_text, refusal_text};
 
 use crate::host::HostFault;
 use mls_certificate::{CertCause, CertFault};
@@ -22,7 +24,9 @@ pub enum Role {
 }
 
 impl Role {
-    fn word(self) -> &'static str {
+    fn word(self) -> &'static str
+        ensures { result.now ≡ role_word self }
+    {
         match self {
             Role::Policy => "policy",
             Role::Schemes => "schemes",
@@ -51,38 +55,89 @@ pub enum Refusal {
     Memory,
 }
 
-fn tell_input<W: Write>(err: &mut W, role: Role, word: &str) -> io::Result<()> {
+fn tell_input<W: Write>(err: &mut W, role: Role, word: &str) -> io::Result<()>
+    ensures { OnOk result (Appends (W.contents err.old) (W.contents err.new) (input_text role word.now)) }
+{
     writeln!(err, "mldb: {}: {word}", role.word())
 }
 
-fn tell_fault<W: Write>(err: &mut W, role: Role, code: u8, word: &str) -> io::Result<()> {
+fn tell_fault<W: Write>(err: &mut W, role: Role, code: u8, word: &str) -> io::Result<()>
+    ensures { OnOk result (Appends (W.contents err.old) (W.contents err.new) (fault_text role code word.now)) }
+{
     writeln!(err, "mldb: {}: {code} {word}", role.word())
 }
 
-fn tell_transactions<W: Write>(err: &mut W, fault: &TextFault) -> io::Result<()> {
-    let (code, word) = (fault.cause.code(), fault.cause.word());
-    let (line, column) = (fault.line, fault.column);
-    writeln!(err, "mldb: transactions: {code} {word} at {line}:{column}")
+fn tell_line<W: Write>(err: &mut W, role: Role, code: u8, word: &str, line: usize) -> io::Result<()>
+    ensures { OnOk result (Appends (W.contents err.old) (W.contents err.new) (line_text role code word.now line)) }
+{
+    writeln!(err, "mldb: {}: {code} {word} at {line}", role.word())
 }
 
-fn tell_certificates<W: Write>(err: &mut W, fault: &CertFault) -> io::Result<()> {
-    let (code, word) = (fault.cause.code(), fault.cause.word());
-    writeln!(err, "mldb: certificates: {code} {word} at {}", fault.line)
+fn tell_front<W: Write>(err: &mut W, role: Role, code: u8, word: &str) -> io::Result<()>
+    ensures { OnOk result (Appends (W.contents err.old) (W.contents err.new) (front_text role code word.now)) }
+{
+    write!(err, "mldb: {}: {code} {word} at ", role.word())
 }
 
-fn tell_script<W: Write>(err: &mut W, fault: &ScriptFault) -> io::Result<()> {
-    let (code, word) = (fault.cause.code(), fault.cause.word());
-    let (line, column) = (fault.line, fault.column);
-    writeln!(err, "mldb: script: {code} {word} at {line}:{column}")
+fn tell_spot<W: Write>(err: &mut W, line: usize, column: usize) -> io::Result<()>
+    ensures { OnOk result (Appends (W.contents err.old) (W.contents err.new) (spot_text line column)) }
+{
+    writeln!(err, "{line}:{column}")
 }
 
-fn tell_run<W: Write>(err: &mut W, fault: &RunFault) -> io::Result<()> {
+fn tell_place<W: Write>(
+    err: &mut W,
+    role: Role,
+    code: u8,
+    word: &str,
+    line: usize,
+    column: usize,
+) -> io::Result<()>
+    ensures { OnOk result (Appends (W.contents err.old) (W.contents err.new) (place_text role code word.now line column)) }
+{
+    tell_front(err, role, code, word)?;
+    tell_spot(err, line, column)
+}
+
+fn tell_text<W: Write>(err: &mut W, fault: &TextFault) -> io::Result<()>
+    ensures { OnOk result (Appends (W.contents err.old) (W.contents err.new) (text_fault_text fault.now)) }
+{
+    let (code, word) = (fault.cause.code(), fault.cause.word());
+    tell_place(
+        err,
+        Role::Transactions,
+        code,
+        word,
+        fault.line,
+        fault.column,
+    )
+}
+
+fn tell_cert<W: Write>(err: &mut W, fault: &CertFault) -> io::Result<()>
+    ensures { OnOk result (Appends (W.contents err.old) (W.contents err.new) (cert_fault_text fault.now)) }
+{
+    let (code, word) = (fault.cause.code(), fault.cause.word());
+    tell_line(err, Role::Certificates, code, word, fault.line)
+}
+
+fn tell_script<W: Write>(err: &mut W, fault: &ScriptFault) -> io::Result<()>
+    ensures { OnOk result (Appends (W.contents err.old) (W.contents err.new) (script_fault_text fault.now)) }
+{
+    let (code, word) = (fault.cause.code(), fault.cause.word());
+    tell_place(err, Role::Script, code, word, fault.line, fault.column)
+}
+
+fn tell_run<W: Write>(err: &mut W, fault: &RunFault) -> io::Result<()>
+    ensures { OnOk result (Appends (W.contents err.old) (W.contents err.new) (run_text fault.now)) }
+{
     writeln!(err, "mldb: run: {} at {}", fault.cause.word(), fault.event)
 }
 
 impl Refusal {
     /// The refusal of an input that the host did not give.
-    pub fn of_input(role: Role, fault: HostFault) -> Refusal {
+    pub fn of_input(role: Role, fault: HostFault) -> Refusal
+        ensures { result ≡ input_refusal role fault }
+    {
         match (fault, role) {
             (HostFault::Unreadable, _) => Refusal::Unreadable(role),
             (HostFault::TooLong, _) => Refusal::TooLong(role),
@@ -123,15 +178,17 @@ impl Refusal {
     }
 
     /// Writes the line that tells the refusal.
-    pub fn tell<W: Write>(&self, err: &mut W) -> io::Result<()> {
+    pub fn tell<W: Write>(&self, err: &mut W) -> io::Result<()>
+        ensures { OnOk result (Appends (W.contents err.old) (W.contents err.new) (refusal_text self.now)) }
+    {
         match self {
             Refusal::Usage(text) => err.write_all(text.as_bytes()),
             Refusal::Unreadable(role) => tell_input(err, *role, "unreadable"),
             Refusal::TooLong(role) => tell_input(err, *role, "too long"),
             Refusal::Policy(fault) => tell_fault(err, Role::Policy, fault.code(), fault.word()),
             Refusal::Schemes(fault) => tell_fault(err, Role::Schemes, fault.code(), fault.word()),
-            Refusal::Transactions(fault) => tell_transactions(err, fault),
-            Refusal::Certificates(fault) => tell_certificates(err, fault),
+            Refusal::Transactions(fault) => tell_text(err, fault),
+            Refusal::Certificates(fault) => tell_cert(err, fault),
             Refusal::Script(fault) => tell_script(err, fault),
             Refusal::Run(fault) => tell_run(err, fault),
             Refusal::Output => err.write_all(b"mldb: output: Write\n"),
@@ -141,6 +198,11 @@ impl Refusal {
 }
 
 impl From<AllocError> for Refusal {
+    ghost use Rattle.std.specs.Prelude.{◌≡◌};
+    ghost use Rattle.mls_command.specs.declared.refusal.Refusal.TheVariants.{Memory};
+
+    ghost from_gives = { λ _ e. e ≡ Memory };
+
     fn from(_error: AllocError) -> Refusal {
         Refusal::Memory
     }

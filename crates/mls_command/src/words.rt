@@ -1,4 +1,9 @@
 //! The command line.
+ghost use Rattle.std.specs.Prelude.{◌≡◌, ◌≢◌, ◌<◌, ◌≤◌, length, Ok, IfOk, IfErr};
+ghost use Rattle.std.specs.Option.{IfSome};
+ghost use Rattle.mls_command.specs.Words.{IsOfWords};
+ghost use Rattle.mls_command.specs.declared.words.Job.TheVariants.{Samples};
+
 use crate::refusal::Refusal;
 use clap::error::ErrorKind;
 use clap::{Arg, ArgMatches, Command, Error};
@@ -132,7 +137,9 @@ fn command<'a>(alloc: Global) -> Result<Command<'a>, AllocError> {
         .subcommand(check_command(alloc)?)
 }
 
-fn usage(alloc: Global, error: &Error) -> Refusal {
+fn usage(alloc: Global, error: &Error) -> Refusal
+    ensures { IsOfWords result }
+{
     if error.kind() == ErrorKind::OutOfMemory {
         return Refusal::Memory;
     }
@@ -143,14 +150,18 @@ fn usage(alloc: Global, error: &Error) -> Refusal {
 }
 
 /// The refusal of words that name no command with its paths, all of which the parser has refused before.
-fn no_command(alloc: Global) -> Refusal {
+fn no_command(alloc: Global) -> Refusal
+    ensures { IsOfWords result }
+{
     match String::from_str(alloc, "mldb: run | show-policy | certify | check\n") {
         Ok(text) => Refusal::Usage(text),
         Err(_) => Refusal::Memory,
     }
 }
 
-fn run_job<'a>(run: &ArgMatches<'a>) -> Option<Job<'a>> {
+fn run_job<'a>(run: &ArgMatches<'a>) -> Option<Job<'a>>
+    ensures { IfSome result (λ j. j ≢ Samples) }
+{
     Some(Job::Run(RunFiles {
         policy: run.get_str("POLICY")?,
         schemes: run.get_str("SCHEMES")?,
@@ -160,7 +171,9 @@ fn run_job<'a>(run: &ArgMatches<'a>) -> Option<Job<'a>> {
     }))
 }
 
-fn show_policy_job<'a>(show: &ArgMatches<'a>) -> Option<Job<'a>> {
+fn show_policy_job<'a>(show: &ArgMatches<'a>) -> Option<Job<'a>>
+    ensures { IfSome result (λ j. j ≢ Samples) }
+{
     Some(Job::ShowPolicy {
         policy: show.get_str("POLICY")?,
         schemes: show.get_str("SCHEMES")?,
@@ -175,16 +188,26 @@ fn tx_files<'a>(matches: &ArgMatches<'a>) -> Option<TxFiles<'a>> {
     })
 }
 
-fn certify_job<'a>(certify: &ArgMatches<'a>) -> Option<Job<'a>> {
+fn certify_job<'a>(certify: &ArgMatches<'a>) -> Option<Job<'a>>
+    ensures { IfSome result (λ j. j ≢ Samples) }
+{
     Some(Job::Certify(tx_files(certify)?))
 }
 
-fn check_job<'a>(check: &ArgMatches<'a>) -> Option<Job<'a>> {
+fn check_job<'a>(check: &ArgMatches<'a>) -> Option<Job<'a>>
+    ensures { IfSome result (λ j. j ≢ Samples) }
+{
     Some(Job::Check(tx_files(check)?, check.get_str("CERTIFICATES")?))
 }
 
 /// What the words ask for; the first of them is the name that the program was called by.
-pub fn job_of<'a>(alloc: Global, words: &'a [&'a str]) -> Result<Job<'a>, Refusal> {
+pub fn job_of<'a>(alloc: Global, words: &'a [&'a str]) -> Result<Job<'a>, Refusal>
+    // Without any words it is a run of the samples, and only then.
+    ensures samples { length words.now < 2 → result ≡ Ok Samples }
+    ensures words { 2 ≤ length words.now → IfOk result (λ j. j ≢ Samples) }
+    // The parser's text, or want of memory.
+    ensures refused { IfErr result IsOfWords }
+{
     if words.len() < 2 {
         return Ok(Job::Samples);
     }

@@ -7,7 +7,7 @@ use Rattle.mls_lattice.specs.declared.label.Label.{Label}
 use Rattle.mls_lattice.specs.Lattice.{Pair, Dominates, join, bottom, pair_of}
 use Rattle.mls_lattice.proofs.LatticeLemmas.{Dominates-refl, Dominates-trans, join-left, join-right, join-least}
 use Rattle.mls_certificate.specs.declared.cert.Cert.{Cert}
-use Rattle.mls_certcheck.proofs.LabelLemmas.{bottom_pair, label_here}
+use Rattle.mls_certcheck.proofs.LabelLemmas.{label_here}
 use Rattle.mls_certcheck.specs.Rules.{Claim, claim, var_label, pc}
 use Rattle.mls_labeller.specs.Least.{slot_label, source_label, Holds, Below}
 use Rattle.mls_labeller.specs.Rising.{HasSlot, IsLowest, put, room_of, room, IsJoin, Over, Rises}
@@ -70,19 +70,19 @@ list_less ls i new p lt rank cats is above =
 
 -- ---- the lowest labels
 
-lowest_times : (n : ℕ) → AllByRecursion (λ l. pair_of l ≡ bottom) (replicate n no_label)
-lowest_times zero = tt
-lowest_times (suc n) = (bottom_pair, lowest_times n)
+lowest_times : (l : Label) → pair_of l ≡ bottom → (n : ℕ) → AllByRecursion (λ x. pair_of x ≡ bottom) (replicate n l)
+lowest_times l is zero = tt
+lowest_times l is (suc n) = (is, lowest_times l is n)
 
-all_lowest : (ls : List Label) (n : ℕ) → ls ≡ replicate n no_label → AllByRecursion (λ l. pair_of l ≡ bottom) ls
-all_lowest ls n e = subst (AllByRecursion (λ l. pair_of l ≡ bottom)) (sym e) (lowest_times n)
+all_lowest : (l : Label) → pair_of l ≡ bottom → (ls : List Label) (n : ℕ) → ls ≡ replicate n l → AllByRecursion (λ x. pair_of x ≡ bottom) ls
+all_lowest l is ls n e = subst (AllByRecursion (λ x. pair_of x ≡ bottom)) (sym e) (lowest_times l is n)
 
-pub lowest_labels : (v s : ℕ) (vars stmts : List Label) → vars ≡ replicate v no_label → stmts ≡ replicate s no_label → IsLowest v s (record { var_labels = vars; pc_labels = stmts })
-lowest_labels v s vars stmts e f = record {
-  var_count = ap length e ∙ length-replicate v no_label;
-  stmt_count = ap length f ∙ length-replicate s no_label;
-  vars = all_lowest vars v e;
-  stmts = all_lowest stmts s f;
+pub lowest_labels : (l : Label) → pair_of l ≡ bottom → (v s : ℕ) (vars stmts : List Label) → vars ≡ replicate v l → stmts ≡ replicate s l → IsLowest v s (record { var_labels = vars; pc_labels = stmts })
+lowest_labels l is v s vars stmts e f = record {
+  var_count = ap length e ∙ length-replicate v l;
+  stmt_count = ap length f ∙ length-replicate s l;
+  vars = all_lowest l is vars v e;
+  stmts = all_lowest l is stmts s f;
 }
 
 -- ---- no bound, and one more

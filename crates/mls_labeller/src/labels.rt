@@ -1,6 +1,6 @@
 //! Labels that rise.
 ghost use Rattle.std.specs.Prelude.{◌≡◌, ◌<◌, IfOk, length};
-ghost use Rattle.mls_lattice.specs.Lattice.{pair_of};
+ghost use Rattle.mls_lattice.specs.Lattice.{pair_of, bottom};
 ghost use Rattle.mls_labeller.specs.Rising.{cert_of, HasSlot, IsLowest, put};
 
 use crate::flow::Slot;
@@ -17,10 +17,15 @@ pub(crate) struct Labels {
 
 impl Labels {
     /// The label that every other dominates, so many times.
-    pub(crate) fn lowest(alloc: Global, vars: usize, stmts: usize) -> Result<Labels, AllocError>
+    pub(crate) fn all_of(
+        alloc: Global,
+        lowest: Label,
+        vars: usize,
+        stmts: usize,
+    ) -> Result<Labels, AllocError>
+        requires { pair_of lowest ≡ bottom }
         ensures { IfOk result (λ l. IsLowest vars stmts (cert_of l)) }
     {
-        let lowest = Label { rank: 0, cats: 0 };
         let vars = vec![in alloc; lowest; vars]?;
         let stmts = vec![in alloc; lowest; stmts]?;
         Ok(Labels { vars, stmts })

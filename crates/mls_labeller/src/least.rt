@@ -152,7 +152,8 @@ impl Labeller<'_> {
         requires { flows.now ≡ flows_in self.now.tx.now }
         ensures { IfOk result (λ l. IsLeast self.now.policy.now self.now.tx.now (cert_of l)) }
     {
-        let mut labels = Labels::lowest(alloc, self.tx.vars().len(), statements(self.tx))?;
+        let lowest = lowest();
+        let mut labels = Labels::all_of(alloc, lowest, self.tx.vars().len(), statements(self.tx))?;
         loop {
             if !self.round(&mut labels, flows) {
                 return Ok(labels);

@@ -16,9 +16,10 @@ pub enum Table {
     Worlds,
     Calls,
     Options,
+    Certifying,
 }
 
-pub const TABLES: [Table; 8] = [
+pub const TABLES: [Table; 9] = [
     Table::Faults,
     Table::Prefixes,
     Table::Scripts,
@@ -27,6 +28,7 @@ pub const TABLES: [Table; 8] = [
     Table::Worlds,
     Table::Calls,
     Table::Options,
+    Table::Certifying,
 ];
 
 impl Table {
@@ -40,6 +42,7 @@ impl Table {
             Table::Worlds => "worlds.txt",
             Table::Calls => "calls.txt",
             Table::Options => "options.txt",
+            Table::Certifying => "certifying.txt",
         }
     }
 }
@@ -78,7 +81,9 @@ fn tell_case<R: Files + AllocGlobal>(
         Table::Faults => commands::tell_fault(rt, case.head, out),
         Table::Prefixes => commands::tell_prefixes(rt, case.head, out),
         Table::Scripts => commands::tell_script(rt, case, out),
-        Table::Commands | Table::Options => commands::tell_command(rt, case, out),
+        Table::Commands | Table::Options | Table::Certifying => {
+            commands::tell_command(rt, case, out)
+        }
         Table::Writers => commands::tell_writer(rt, case, out),
         Table::Worlds => worlds::tell(rt, case, out),
         Table::Calls => commands::tell_call(rt, case, out),

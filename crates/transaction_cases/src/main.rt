@@ -7,6 +7,7 @@ ghost use Rattle.mls_scheme.specs.Scheme.{AreUnder};
 
 mod checks;
 mod evaluations;
+mod labels;
 mod limits;
 mod prints;
 mod table;

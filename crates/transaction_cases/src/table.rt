@@ -2,7 +2,7 @@
 ghost use Rattle.std.specs.Prelude.{length};
 ghost use Rattle.mls_scheme.specs.Scheme.{AreUnder};
 
-use crate::{checks, evaluations, limits, prints, texts};
+use crate::{checks, evaluations, labels, limits, prints, texts};
 use case_tables::{Case, case_at};
 use mls_lattice::Policy;
 use mls_scheme::Schemes;
@@ -18,14 +18,16 @@ pub enum Table {
     Prints,
     Checks,
     Evaluations,
+    Labels,
 }
 
-pub const TABLES: [Table; 5] = [
+pub const TABLES: [Table; 6] = [
     Table::Texts,
     Table::Limits,
     Table::Prints,
     Table::Checks,
     Table::Evaluations,
+    Table::Labels,
 ];
 
 impl Table {
@@ -36,6 +38,7 @@ impl Table {
             Table::Prints => "prints.txt",
             Table::Checks => "checks.txt",
             Table::Evaluations => "evaluations.txt",
+            Table::Labels => "labels.txt",
         }
     }
 }
@@ -102,6 +105,7 @@ fn tell_case(
         Table::Texts => texts::tell(alloc, policy, schemes, case.head, out),
         Table::Limits => limits::tell(alloc, policy, schemes, case.head, out),
         Table::Prints => prints::tell(alloc, policy, schemes, case, out),
+        Table::Labels => labels::tell(alloc, policy, schemes, case, out),
         Table::Checks | Table::Evaluations => Ok(()),
     }
 }

@@ -1,0 +1,353 @@
+ghost use Rattle.std.specs.Prelude.{◌≡◌, ◌≢◌, ◌⊎◌, ◌+◌, ◌<◌, ◌≤◌, true, false, filter, IsTrue, IfOk, OnOk, IsPermutation};
+ghost use Rattle.sqlite.specs.State.{HasCleanDisk};
+ghost use Rattle.sqlite.specs.Held.{state};
+ghost use Rattle.mls_statements.specs.declared.rows.CellRow.{CellRow as SpecCell};
+ghost use Rattle.mls_statements.specs.Rows.{Tables, is_node_at, is_node_of, is_cell_at, is_cell_of, is_entry_at};
+ghost use Rattle.mls_statements.specs.Statements.{AddsNode, DropsNode, AddsCell, SetsCell, DropsCells, AddsEntry, IsOne, has_key_of};
+ghost use Rattle.mls_statements.specs.Store.{IsClean, IsCall, Writes, IsSame, HasEnded};
+
+use crate::failures::Failures;
+use crate::remembered::Remembered;
+use crate::rows::{AuditRow, CellRow, NodeRow};
+use crate::statements::{audit, cell, change, node};
+use sqlite::{Alter, Connection, Error, ErrorCode};
+use std::alloc::Global;
+use std::marker::Model;
+
+/// Why a call over the tables gives no answer.
+#[derive(Clone, Copy, PartialEq, Eq, Debug)]
+pub enum StoreFault {
+    /// The store failed in this call.
+    Store,
+    /// A growth was refused.
+    Memory,
+}
+
+/// The four tables over a connection.
+///
+/// Contracts see the rows now and as of the last commit, whether a change is begun, whether the disk is clean, and how
+/// many calls of the store have failed. A fault ends the change, and leaves the rows of the last commit.
+#[derive(Drop)]
+pub struct TableStore<S: Alter> {
+    conn: Connection<S>,
+    alloc: Global,
+    begun: bool,
+    failures: Failures,
+    last: Remembered,
+}
+
+impl<S: Alter> Model for TableStore<S> {
+    ghost use Rattle.sqlite.specs.Held.{state};
+    ghost use Rattle.mls_statements.specs.Store.{TableState, table_state, IsSound};
+
+    ghost Value = { TableState };
+
+    ghost view = { λ t. table_state (state S.Store t.conn) t.begun t.failures.count t.last.rows };
+
+    ghost invariant = { λ t. IsSound (state S.Store t.conn) t.begun t.last.rows };
+}
+
+/// Notes the rows that the connection committed, which only clauses read.
+fn remember<S: Alter>(last: &mut Remembered, _conn: &Connection<S>)
+    ghost rows: { Tables }
+    ensures { last.new.rows ≡ rows }
+{
+    last.keep();
+}
+
+/// Notes why a call failed.
+fn blame(failures: &mut Failures, error: Error) -> StoreFault
+    ensures store { result ≡ StoreFault.Store → failures.new.count ≡ failures.old.count + 1 }
+    ensures memory { result ≢ StoreFault.Store → failures.new.count ≡ failures.old.count }
+{
+    match error {
+        Error::SqliteFailure(ErrorCode::OutOfMemory) => StoreFault::Memory,
+        _ => {
+            failures.rise();
+            StoreFault::Store
+        }
+    }
+}
+
+/// Ends the change after a failed call, if it has not ended, and says why the call failed.
+fn fall<S: Alter>(conn: &mut Connection<S>, failures: &mut Failures, error: Error) -> StoreFault
+    ensures clean { HasCleanDisk (state S.Store conn.new) → HasCleanDisk (state S.Store conn.old) }
+    ensures ended { HasCleanDisk (state S.Store conn.new) → HasEnded (state S.Store conn.old) (state S.Store conn.new) }
+    ensures count { failures.old.count ≤ failures.new.count }
+    ensures store { result ≡ StoreFault.Store → failures.old.count < failures.new.count }
+{
+    let fault = blame(failures, error);
+    if conn.is_autocommit() {
+        return fault;
+    }
+    if let Err(other) = change::undo(conn) {
+        blame(failures, other);
+    }
+    fault
+}
+
+impl<S: Alter> TableStore<S> {
+    /// Whether a change is begun.
+    pub fn is_begun(&self) -> bool
+        ensures { result ≡ self.now.begun }
+    {
+        self.begun
+    }
+
+    /// Begins a change.
+    pub fn begin(&mut self) -> Result<(), StoreFault>
+        requires begun { self.old.begun ≡ false }
+        ensures call { IsCall self.old self.new result }
+        ensures mode { OnOk result (self.new.begun ≡ true) }
+        ensures done { IsClean self.new → OnOk result ((self.new.now ≡ self.old.now) × (self.new.kept ≡ self.old.now)) }
+    {
+        match change::begin(&mut self.conn) {
+            Ok(_) => {
+                self.begun = true;
+                Ok(())
+            }
+            Err(error) => {
+                self.begun = false;
+                Err(fall(&mut self.conn, &mut self.failures, error))
+            }
+        }
+    }
+
+    /// Keeps what the change did, and ends it.
+    pub fn commit(&mut self) -> Result<(), StoreFault>
+        requires begun { self.old.begun ≡ true }
+        ensures call { IsCall self.old self.new result }
+        ensures mode { OnOk result (self.new.begun ≡ false) }
+        ensures done { IsClean self.new → OnOk result ((self.new.now ≡ self.old.now) × (self.new.kept ≡ self.old.now)) }
+    {
+        match change::commit(&mut self.conn) {
+            Ok(_) => {
+                self.begun = false;
+                remember(&mut self.last, &self.conn);
+                Ok(())
+            }
+            Err(error) => {
+                self.begun = false;
+                Err(fall(&mut self.conn, &mut self.failures, error))
+            }
+        }
+    }
+
+    /// Goes back to the last commit, and ends the change.
+    pub fn rollback(&mut self) -> Result<(), StoreFault>
+        requires begun { self.old.begun ≡ true }
+        ensures call { IsCall self.old self.new result }
+        ensures mode { OnOk result (self.new.begun ≡ false) }
+        ensures done { IsClean self.new → OnOk result ((self.new.now ≡ self.old.kept) × (self.new.kept ≡ self.old.kept)) }
+    {
+        match change::undo(&mut self.conn) {
+            Ok(_) => {
+                self.begun = false;
+                Ok(())
+            }
+            Err(error) => {
+                self.begun = false;
+                Err(fall(&mut self.conn, &mut self.failures, error))
+            }
+        }
+    }
+
+    /// Adds a node.
+    pub fn add_node(&mut self, node: &NodeRow) -> Result<(), StoreFault>
+        requires begun { self.old.begun ≡ true }
+        ensures call { IsCall self.old self.new result }
+        ensures mode { OnOk result (self.new.begun ≡ true) }
+        ensures done { IsClean self.new → OnOk result (Writes (AddsNode node.now) self.old self.new) }
+    {
+        match node::add_node(&mut self.conn, node) {
+            Ok(_) => Ok(()),
+            Err(error) => {
+                self.begun = false;
+                Err(fall(&mut self.conn, &mut self.failures, error))
+            }
+        }
+    }
+
+    /// Drops the node at a key.
+    pub fn drop_node(
+        &mut self,
+        rel: u32,
+        ent: &[u8],
+        kclass: u32,
+        label: u32,
+    ) -> Result<(), StoreFault>
+        requires begun { self.old.begun ≡ true }
+        ensures call { IsCall self.old self.new result }
+        ensures mode { OnOk result (self.new.begun ≡ true) }
+        ensures done { IsClean self.new → OnOk result (Writes (DropsNode rel ent.now kclass label) self.old self.new) }
+    {
+        match node::drop_node(&mut self.conn, rel, ent, kclass, label) {
+            Ok(_) => Ok(()),
+            Err(error) => {
+                self.begun = false;
+                Err(fall(&mut self.conn, &mut self.failures, error))
+            }
+        }
+    }
+
+    /// The nodes of one class.
+    pub fn nodes_at(&mut self, rel: u32, label: u32) -> Result<Vec<NodeRow>, StoreFault>
+        ensures call { IsCall self.old self.new result }
+        ensures mode { OnOk result (self.new.begun ≡ self.old.begun) }
+        ensures found { IsClean self.new → IfOk result (λ rows. IsPermutation (filter (is_node_at rel label) self.old.now.nodes) rows.items) }
+        ensures same { IsClean self.new → OnOk result (IsSame self.old self.new) }
+    {
+        match node::read_nodes_at(&mut self.conn, self.alloc, rel, label) {
+            Ok(rows) => Ok(rows),
+            Err(error) => {
+                self.begun = false;
+                Err(fall(&mut self.conn, &mut self.failures, error))
+            }
+        }
+    }
+
+    /// The nodes of one entity.
+    pub fn nodes_of(
+        &mut self,
+        rel: u32,
+        ent: &[u8],
+        kclass: u32,
+    ) -> Result<Vec<NodeRow>, StoreFault>
+        ensures call { IsCall self.old self.new result }
+        ensures mode { OnOk result (self.new.begun ≡ self.old.begun) }
+        ensures found { IsClean self.new → IfOk result (λ rows. IsPermutation (filter (is_node_of rel ent.now kclass) self.old.now.nodes) rows.items) }
+        ensures same { IsClean self.new → OnOk result (IsSame self.old self.new) }
+    {
+        match node::read_nodes_of(&mut self.conn, self.alloc, rel, ent, kclass) {
+            Ok(rows) => Ok(rows),
+            Err(error) => {
+                self.begun = false;
+                Err(fall(&mut self.conn, &mut self.failures, error))
+            }
+        }
+    }
+
+    /// Adds a cell.
+    pub fn add_cell(&mut self, cell: &CellRow) -> Result<(), StoreFault>
+        requires begun { self.old.begun ≡ true }
+        ensures call { IsCall self.old self.new result }
+        ensures mode { OnOk result (self.new.begun ≡ true) }
+        ensures done { IsClean self.new → OnOk result (Writes (AddsCell cell.now) self.old self.new) }
+    {
+        match cell::add_cell(&mut self.conn, cell) {
+            Ok(_) => Ok(()),
+            Err(error) => {
+                self.begun = false;
+                Err(fall(&mut self.conn, &mut self.failures, error))
+            }
+        }
+    }
+
+    /// Gives the one cell with the key of `cell` its value.
+    pub fn set_cell(&mut self, cell: &CellRow) -> Result<(), StoreFault>
+        requires begun { self.old.begun ≡ true }
+        requires there { IsClean self.old → (was : SpecCell) × IsOne (has_key_of cell.now) self.old.now.cells was }
+        ensures call { IsCall self.old self.new result }
+        ensures mode { OnOk result (self.new.begun ≡ true) }
+        ensures done { IsClean self.new → OnOk result (Writes (SetsCell cell.now) self.old self.new) }
+    {
+        match cell::set_cell(&mut self.conn, cell) {
+            Ok(_) => Ok(()),
+            Err(error) => {
+                self.begun = false;
+                Err(fall(&mut self.conn, &mut self.failures, error))
+            }
+        }
+    }
+
+    /// Drops the cells of one tuple's own class.
+    pub fn drop_cells(
+        &mut self,
+        rel: u32,
+        ent: &[u8],
+        kclass: u32,
+        label: u32,
+    ) -> Result<(), StoreFault>
+        requires begun { self.old.begun ≡ true }
+        ensures call { IsCall self.old self.new result }
+        ensures mode { OnOk result (self.new.begun ≡ true) }
+        ensures done { IsClean self.new → OnOk result (Writes (DropsCells rel ent.now kclass label) self.old self.new) }
+    {
+        match cell::drop_cells(&mut self.conn, rel, ent, kclass, label) {
+            Ok(_) => Ok(()),
+            Err(error) => {
+                self.begun = false;
+                Err(fall(&mut self.conn, &mut self.failures, error))
+            }
+        }
+    }
+
+    /// The cells of one class.
+    pub fn cells_at(&mut self, rel: u32, label: u32) -> Result<Vec<CellRow>, StoreFault>
+        ensures call { IsCall self.old self.new result }
+        ensures mode { OnOk result (self.new.begun ≡ self.old.begun) }
+        ensures found { IsClean self.new → IfOk result (λ rows. IsPermutation (filter (is_cell_at rel label) self.old.now.cells) rows.items) }
+        ensures same { IsClean self.new → OnOk result (IsSame self.old self.new) }
+    {
+        match cell::read_cells_at(&mut self.conn, self.alloc, rel, label) {
+            Ok(rows) => Ok(rows),
+            Err(error) => {
+                self.begun = false;
+                Err(fall(&mut self.conn, &mut self.failures, error))
+            }
+        }
+    }
+
+    /// The cells of one entity.
+    pub fn cells_of(
+        &mut self,
+        rel: u32,
+        ent: &[u8],
+        kclass: u32,
+    ) -> Result<Vec<CellRow>, StoreFault>
+        ensures call { IsCall self.old self.new result }
+        ensures mode { OnOk result (self.new.begun ≡ self.old.begun) }
+        ensures found { IsClean self.new → IfOk result (λ rows. IsPermutation (filter (is_cell_of rel ent.now kclass) self.old.now.cells) rows.items) }
+        ensures same { IsClean self.new → OnOk result (IsSame self.old self.new) }
+    {
+        match cell::read_cells_of(&mut self.conn, self.alloc, rel, ent, kclass) {
+            Ok(rows) => Ok(rows),
+            Err(error) => {
+                self.begun = false;
+                Err(fall(&mut self.conn, &mut self.failures, error))
+            }
+        }
+    }
+
+    /// Adds an entry under its number.
+    pub fn add_entry(&mut self, entry: &AuditRow) -> Result<(), StoreFault>
+        requires begun { self.old.begun ≡ true }
+        ensures call { IsCall self.old self.new result }
+        ensures mode { OnOk result (self.new.begun ≡ true) }
+        ensures done { IsClean self.new → OnOk result (Writes (AddsEntry entry.now) self.old self.new) }
+    {
+        match audit::add_entry(&mut self.conn, entry) {
+            Ok(_) => Ok(()),
+            Err(error) => {
+                self.begun = false;
+                Err(fall(&mut self.conn, &mut self.failures, error))
+            }
+        }
+    }
+
+    /// The entries of one number.
+    pub fn entry_at(&mut self, number: i64) -> Result<Vec<AuditRow>, StoreFault>
+        ensures call { IsCall self.old self.new result }
+        ensures mode { OnOk result (self.new.begun ≡ self.old.begun) }
+        ensures found { IsClean self.new → IfOk result (λ rows. IsPermutation (filter (is_entry_at number) self.old.now.audit) rows.items) }
+        ensures same { IsClean self.new → OnOk result (IsSame self.old self.new) }
+    {
+        match audit::read_entry_at(&mut self.conn, self.alloc, number) {
+            Ok(rows) => Ok(rows),
+            Err(error) => {
+                self.begun = false;
+                Err(fall(&mut self.conn, &mut self.failures, error))
+            }
+        }
+    }
+}

@@ -1,0 +1,13 @@
+pub mod Adds
+pub mod ApartRows
+pub mod Creates
+pub mod Drops
+pub mod EditParts
+pub mod EndLemmas
+pub mod Finds
+pub mod QueryAnswers
+pub mod ReadyLemmas
+pub mod RowLists
+pub mod TableRows
+pub mod Texts
+pub mod ValueTests

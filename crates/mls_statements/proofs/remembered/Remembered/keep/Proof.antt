@@ -12,7 +12,7 @@ use denote.Ref.{MutRef, mut_vals, mut_Tells}
 use denote.Signature.{plain}
 use denote.Steps.{nothing, opens, closes}
 use denote.Triple.Walked.{says, Stays, stay_ref, Goes-ref, ends_at}
-use Rattle.sqlite_value.specs.declared.value.Value.{Value}
+use Rattle.mls_statements.specs.Rows.{Tables}
 use Rattle.mls_statements.specs.declared.remembered.Remembered.{Remembered}
 use Rattle.mls_statements.specs.contracts.remembered.Remembered as T
 use Rattle.mls_statements.specs.contracts.remembered.Remembered.keep as f
@@ -22,7 +22,7 @@ use Rattle.mls_statements.proofs.remembered.Remembered.keep.Code as code
 abbrev stayed : Stays f.ended.signature.params f.ended.kept
 stayed = (stay_ref (0 ∷ []) tt (plain (λ _. T.the_row)), tt)
 
-abbrev kept : Remembered → List (List Value) → Remembered
+abbrev kept : Remembered → Tables → Remembered
 kept h rows = record { marker = h.marker; rows = rows }
 
 pub keep_spec : {M : Type 1} → statement M

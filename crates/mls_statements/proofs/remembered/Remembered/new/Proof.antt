@@ -1,4 +1,4 @@
--- `new` makes a value of no bytes, at the empty list.
+-- `new` makes a value of no bytes, at no rows.
 use mathlib.Core.Path.{refl}
 use mathlib.Core.List.{[], ◌∷◌}
 use seplogic.Ra.Ura.{Ura}
@@ -21,6 +21,7 @@ use denote.Triple.Entry.{on_entry}
 use denote.Triple.Spec.{Meets, triple_of}
 use denote.Triple.Table.{entered}
 use denote.Triple.Walked.{says, ends_at, walked, walk_Meets}
+use Rattle.mls_statements.specs.Rows.{no_rows}
 use Rattle.mls_statements.specs.declared.remembered.Remembered.{Remembered}
 use Rattle.mls_statements.specs.contracts.remembered.Remembered as T
 use Rattle.mls_statements.specs.contracts.remembered.Remembered.new.Key.{name as #it}
@@ -32,7 +33,7 @@ abbrev v : Val
 v = vstruct (vcons (vstruct vnil) vnil)
 
 abbrev r : Remembered
-r = record { marker = record {}; rows = [] }
+r = record { marker = record {}; rows = no_rows }
 
 meets : {M : Type 1} {𝓤 : Ura M} (𝓛 : Logic 𝓤) → (at_mem : Memory → SProp 𝓤) (run : Routine → Fun 𝓤) (𝓣 : Tables 𝓤 𝓛.H)
     → Meets 𝓛 it.signature (WpFn 𝓤 𝓛.H 𝓣.C 𝓣.Λ code.function) (it.spec 𝓛 at_mem run)

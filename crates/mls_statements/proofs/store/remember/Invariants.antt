@@ -1,0 +1,6 @@
+use Rattle.sqlite.specs.Held.{state}
+use Rattle.mls_statements.specs.Rows.{tables_of}
+use Rattle.mls_statements.proofs.store.remember.Given as goal
+
+abbrev pub ghost-keep : goal.ghost-keep
+ghost-keep g a = g.rows

@@ -98,7 +98,7 @@ module _ (old new : State) (ready : IsReady old.now) where
       let did = inserted schema 2 audit refl (λ olds news. refl) old.step_limit params old.now.trees text w.tally new.now audit_terms 3
       (subst (λ s. Does old.step_limit (mode_of old) params (record old.now { schema = s }) text None command (Ok (w.tally, new.now))) ready.0 w.changed) in
       let edit : edited old.now.trees (edit_of old.now.trees audit [] Chosen 0 (row ∷ [])) ≡ put_row row rows = rw (cast_int x.number, cast_null) in
-      let fresh : (not (is_taken rows row) && true) ≡ true = rw cast_int x.number at did.1.fresh in
+      let fresh : (not (is_taken rows row) && true) ≡ true = rw (cast_int x.number) at did.1.fresh in
       let put = puts is_audit_row audit_of rows row (fresh_one rows row fresh) refl ready.1.1.1.0 in
       let is : new.now.trees 4 ≡ put_row row rows = did.1.rows ∙ edit in
       let all = audit_changed old.now new.now did.0 ready (did.1.tables.0 (λ e. cc)) (did.1.tables.1.0 (λ e. cc)) (rw is put.0) (did.1.tables.1.1.1.0 (λ e. cc)) in
@@ -116,7 +116,7 @@ module _ (old new : State) (ready : IsReady old.now) where
       let did = inserted schema 3 meta refl (λ olds news. refl) old.step_limit params old.now.trees text w.tally new.now meta_terms 5
       (subst (λ s. Does old.step_limit (mode_of old) params (record old.now { schema = s }) text None command (Ok (w.tally, new.now))) ready.0 w.changed) in
       let edit : edited old.now.trees (edit_of old.now.trees meta [] Chosen 0 (row ∷ [])) ≡ put_row row rows = rw (cast_int (pos 1), cast_null) in
-      let fresh : (not (is_taken rows row) && true) ≡ true = rw cast_int (pos 1) at did.1.fresh in
+      let fresh : (not (is_taken rows row) && true) ≡ true = rw (cast_int (pos 1)) at did.1.fresh in
       let put = puts is_meta_row meta_of rows row (fresh_one rows row fresh) refl ready.1.1.1.1 in
       let is : new.now.trees 5 ≡ put_row row rows = did.1.rows ∙ edit in
       let all = meta_changed old.now new.now did.0 ready (did.1.tables.0 (λ e. cc)) (did.1.tables.1.0 (λ e. cc)) (did.1.tables.1.1.0 (λ e. cc)) (rw is put.0) in

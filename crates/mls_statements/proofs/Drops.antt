@@ -69,7 +69,7 @@ module _ (old new : State) (ready : IsReady old.now) where
       let did = deleted schema 0 node refl (λ olds news. refl) old.step_limit params old.now.trees text w.tally new.now q
       (subst (λ s. Does old.step_limit (mode_of old) params (record old.now { schema = s }) text None command (Ok (w.tally, new.now))) ready.0 w.changed) in
       let p = passes by_class params in
-      let answer : IsPermutation (map (λ r. column r 0 ∷ []) (filter p rows)) did.1 = answered 0 by_class (col 1 0 ∷ []) old.now.trees params did.1 refl did.2 in
+      let answer : IsPermutation (map (λ r. column r 0 ∷ []) (filter p rows)) did.1 = answered 0 by_class (col 1 0 ∷ []) [] old.now.trees params did.1 refl did.2 in
       let is : new.now.trees 0 ≡ filter (λ r. not (p r)) rows = did.3.rows ∙ left_others p rows did.1 are.0 (keyed is_node_row node_of node_id rows are.1) answer in
       let fits : AreRows is_node_row (new.now.trees 0) = rw is (keeps is_node_row node_of (λ r. not (p r)) rows are) in
       let all = nodes_changed old.now new.now did.0 ready fits (did.3.tables.1.0 (λ e. cc)) (did.3.tables.1.1.0 (λ e. cc)) (did.3.tables.1.1.1.0 (λ e. cc)) in
@@ -91,7 +91,7 @@ module _ (old new : State) (ready : IsReady old.now) where
       let did = deleted schema 1 cell refl (λ olds news. refl) old.step_limit params old.now.trees text w.tally new.now q
       (subst (λ s. Does old.step_limit (mode_of old) params (record old.now { schema = s }) text None command (Ok (w.tally, new.now))) ready.0 w.changed) in
       let p = passes by_class params in
-      let answer : IsPermutation (map (λ r. column r 0 ∷ []) (filter p rows)) did.1 = answered 2 by_class (col 1 0 ∷ []) old.now.trees params did.1 refl did.2 in
+      let answer : IsPermutation (map (λ r. column r 0 ∷ []) (filter p rows)) did.1 = answered 2 by_class (col 1 0 ∷ []) [] old.now.trees params did.1 refl did.2 in
       let is : new.now.trees 2 ≡ filter (λ r. not (p r)) rows = did.3.rows ∙ left_others p rows did.1 are.0 (keyed is_cell_row cell_of cell_id rows are.1) answer in
       let fits : AreRows is_cell_row (new.now.trees 2) = rw is (keeps is_cell_row cell_of (λ r. not (p r)) rows are) in
       let all = cells_changed old.now new.now did.0 ready (did.3.tables.0 (λ e. cc)) fits (did.3.tables.1.1.0 (λ e. cc)) (did.3.tables.1.1.1.0 (λ e. cc)) in
@@ -154,7 +154,7 @@ module _ (old new : State) (ready : IsReady old.now) where
       let hits : has_key_of x (cell_of r) ≡ true = sym (cell_at_key x r fits) ∙ (subst (AllByRecursion (λ r. p r ≡ true)) found.1 (passed p rows)).0 in
       let id = id_in (rowid r) in
       let row = Int id ∷ params in
-      let answer = answered 2 by_cell set_terms old.now.trees params did.1 refl did.2 in
+      let answer = answered 2 by_cell set_terms [] old.now.trees params did.1 refl did.2 in
       let hit : did.1 ≡ (Int id ∷ Int id ∷ params) ∷ [] =
       one_permutation (Int id ∷ Int id ∷ params) did.1 (subst (λ some. IsPermutation some did.1) (ap (map (λ r. eval_all set_terms (params ∷ r ∷ []))) found.1 ∙ ap (λ a. a ∷ []) (new_row x r fits hits)) answer) in
       let P = λ (some : List Row). Applies schema Enforced old.now.trees (edit_of old.now.trees cell (ids_of some) Given 1 some) new.now.trees in

@@ -55,6 +55,16 @@ pub unchanged : (old new : State) (schema : Schema) (sql : List ℕ) (params : R
 unchanged old new schema sql params (Err e) has plain h = tt
 unchanged old new schema sql params (Ok rows) has plain h = shown_unchanged sql params old new rows.items (subst (λ s. IsPlain (understood s sql)) (sym has) plain) h
 
+shows_open : (old new : State) (sql : List ℕ) (c : Compiled) (params : Row) (rows : List Row) (r : Option Returning) → ShowsRows old new sql c params rows r → IsTrue old.is_open
+shows_open old new sql c params rows None h = h.3.0.was_open
+shows_open old new sql c params rows (Some what) h = h.1.shown.was_open
+
+-- only an open connection shows rows
+pub was_open : (old new : State) (sql : List ℕ) (params : Row) (r : Result (Vec Row Global) Error) → IfOk r (λ rows. Shown sql params old new rows.items) → OnOk r (IsTrue old.is_open)
+unfolding Shown
+was_open old new sql params (Err e) h = tt
+was_open old new sql params (Ok rows) h = shows_open old new sql h.0 _ rows.items h.0.returning h.2
+
 pub next : (old new : State) (command : Command) (text : List ℕ) (params : Row) (count : ℕ) → Writes old new None command text params count → IsNext old new
 next old new command text params count w = record { was_open = w.shown.was_open; is_open = w.shown.is_open; mode = w.shown.mode; committed = w.shown.committed_is }
 

@@ -1,5 +1,5 @@
 -- What the texts of the statements mean over the four tables.
-use Rattle.std.proofs.Common.{◌≡◌, ℕ, pos, List, [], ◌∷◌, codes, false, Ok, Err, Result, length, ◌≤◌, lit≤, refl}
+use Rattle.std.proofs.Common.{◌≡◌, ℕ, pos, List, [], ◌∷◌, ◌++◌, codes, false, Ok, Err, Result, length, ◌≤◌, lit≤, refl}
 use Rattle.sqlite.specs.Compile.{table_defined_by}
 use Rattle.sqlite_tied.specs.Compute.{everything}
 use Rattle.sqlite.specs.Schema.{Schema}
@@ -8,6 +8,7 @@ use Rattle.sqlite.specs.Term.{Term, lit, col, op2}
 use Rattle.sqlite_sql.specs.declared.ops.BinaryOp.TheVariants.{Compare}
 use Rattle.sqlite_sql.specs.declared.ops.CompareOp.TheVariants.{Eq}
 use Rattle.sqlite.specs.Collation.TheVariants.{Binary}
+use Rattle.sqlite_value.specs.Keys.{ascending}
 use Rattle.sqlite.specs.declared.types.Value.TheVariants.{Null, Int}
 use Rattle.sqlite.specs.Source.TheVariants.{Values}
 use Rattle.sqlite.specs.Command.{Command}
@@ -18,7 +19,7 @@ use Rattle.sqlite_resolve.specs.declared.compiled.Compiled.{Compiled}
 use Rattle.sqlite_resolve.specs.declared.error.CompileError.{CompileError}
 use Rattle.mls_statements.specs.Schema.{no_schema, with_node, with_cell, with_audit, schema, node, cell, audit, meta}
 use Rattle.mls_statements.proofs.EditParts.{alone}
-use Rattle.mls_statements.proofs.QueryAnswers.{rows_by}
+use Rattle.mls_statements.proofs.QueryAnswers.{rows_by, rows_sorted}
 
 -- the text is this command, and shows nothing and reads no time beside
 abbrev pub Means : Schema → List ℕ → Command → Type 0
@@ -204,6 +205,27 @@ entry_at_is = (refl, (refl, refl), refl)
 
 abbrev pub meta_names : List (List ℕ)
 meta_names = codes "id" ∷ codes "version" ∷ codes "lattice" ∷ codes "schemes" ∷ []
+
+abbrev pub all_nodes : List ℕ
+all_nodes = codes "SELECT rel, ent, kclass, label, pattern, rowid FROM node ORDER BY rowid"
+
+pub all_nodes_is : Asks schema all_nodes (Select (alone (rows_sorted 0 [] (node_shown ++ col 1 0 ∷ []) ((col 1 0, ascending Binary) ∷ []))) (node_names ++ codes "rowid" ∷ []))
+unfolding understood everything
+all_nodes_is = (refl, (refl, refl), refl)
+
+abbrev pub all_cells : List ℕ
+all_cells = codes "SELECT rel, ent, kclass, label, attr, value, rowid FROM cell ORDER BY rowid"
+
+pub all_cells_is : Asks schema all_cells (Select (alone (rows_sorted 2 [] (cell_shown ++ col 1 0 ∷ []) ((col 1 0, ascending Binary) ∷ []))) (cell_names ++ codes "rowid" ∷ []))
+unfolding understood everything
+all_cells_is = (refl, (refl, refl), refl)
+
+abbrev pub all_entries : List ℕ
+all_entries = codes "SELECT number, bytes FROM audit ORDER BY number"
+
+pub all_entries_is : Asks schema all_entries (Select (alone (rows_sorted 4 [] audit_shown ((col 1 0, ascending Binary) ∷ []))) audit_names)
+unfolding understood everything
+all_entries_is = (refl, (refl, refl), refl)
 
 abbrev pub all_meta : List ℕ
 all_meta = codes "SELECT id, version, lattice, schemes FROM meta"

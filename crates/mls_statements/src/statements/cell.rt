@@ -1,4 +1,4 @@
-ghost use Rattle.std.specs.Prelude.{◌≡◌, map, filter, IfOk, OnOk, OnErr, IsPermutation};
+ghost use Rattle.std.specs.Prelude.{◌≡◌, map, filter, IsTrue, IfOk, OnOk, OnErr, IsPermutation};
 ghost use Rattle.sqlite.specs.State.{HasCleanDisk, IsUnchanged};
 ghost use Rattle.sqlite.specs.Held.{state};
 ghost use Rattle.mls_statements.specs.declared.rows.CellRow.{CellRow as SpecCell};
@@ -70,6 +70,7 @@ pub fn drop_cells<S: Alter>(
 /// The cells of one class, as rows of their six columns.
 pub fn cells_at<S: Alter>(conn: &mut Connection<S>, rel: u32, label: u32) -> Result<Vec<Row>, Error>
     ensures found { HasCleanDisk (state S.Store conn.new) → IsReady (state S.Store conn.old).now → IfOk result (λ rows. IsPermutation (map cell_values (filter (is_cell_at rel label) (tables_of (state S.Store conn.old).now.trees).cells)) rows.items) }
+    ensures open { HasCleanDisk (state S.Store conn.new) → OnOk result (IsTrue (state S.Store conn.old).is_open) }
     ensures same { HasCleanDisk (state S.Store conn.new) → IsReady (state S.Store conn.old).now → OnOk result (IsUnchanged (state S.Store conn.old) (state S.Store conn.new)) }
     ensures err { HasCleanDisk (state S.Store conn.new) → OnErr result (IsEnded (state S.Store conn.old) (state S.Store conn.new)) }
     ensures clean { HasCleanDisk (state S.Store conn.new) → HasCleanDisk (state S.Store conn.old) }
@@ -88,6 +89,7 @@ pub fn cells_of<S: Alter>(
     kclass: u32,
 ) -> Result<Vec<Row>, Error>
     ensures found { HasCleanDisk (state S.Store conn.new) → IsReady (state S.Store conn.old).now → IfOk result (λ rows. IsPermutation (map cell_values (filter (is_cell_of rel ent.now kclass) (tables_of (state S.Store conn.old).now.trees).cells)) rows.items) }
+    ensures open { HasCleanDisk (state S.Store conn.new) → OnOk result (IsTrue (state S.Store conn.old).is_open) }
     ensures same { HasCleanDisk (state S.Store conn.new) → IsReady (state S.Store conn.old).now → OnOk result (IsUnchanged (state S.Store conn.old) (state S.Store conn.new)) }
     ensures err { HasCleanDisk (state S.Store conn.new) → OnErr result (IsEnded (state S.Store conn.old) (state S.Store conn.new)) }
     ensures clean { HasCleanDisk (state S.Store conn.new) → HasCleanDisk (state S.Store conn.old) }
@@ -101,6 +103,7 @@ pub fn cells_of<S: Alter>(
 /// Every row of the table of cells, with its rowid last, in a database of the four tables.
 pub fn all_cells<S: Alter>(conn: &mut Connection<S>) -> Result<Vec<Row>, Error>
     ensures found { HasCleanDisk (state S.Store conn.new) → (state S.Store conn.old).now.schema ≡ schema → IfOk result (λ rows. IsPermutation (map cell_columns ((state S.Store conn.old).now.trees 2)) rows.items) }
+    ensures open { HasCleanDisk (state S.Store conn.new) → OnOk result (IsTrue (state S.Store conn.old).is_open) }
     ensures same { HasCleanDisk (state S.Store conn.new) → (state S.Store conn.old).now.schema ≡ schema → OnOk result (IsUnchanged (state S.Store conn.old) (state S.Store conn.new)) }
     ensures err { HasCleanDisk (state S.Store conn.new) → OnErr result (IsEnded (state S.Store conn.old) (state S.Store conn.new)) }
     ensures clean { HasCleanDisk (state S.Store conn.new) → HasCleanDisk (state S.Store conn.old) }
@@ -119,6 +122,7 @@ pub fn read_cells_at<S: Alter>(
     label: u32,
 ) -> Result<Vec<CellRow>, Error>
     ensures found { HasCleanDisk (state S.Store conn.new) → IsReady (state S.Store conn.old).now → IfOk result (λ found. IsPermutation (filter (is_cell_at rel label) (tables_of (state S.Store conn.old).now.trees).cells) found.items) }
+    ensures open { HasCleanDisk (state S.Store conn.new) → OnOk result (IsTrue (state S.Store conn.old).is_open) }
     ensures same { HasCleanDisk (state S.Store conn.new) → IsReady (state S.Store conn.old).now → OnOk result (IsUnchanged (state S.Store conn.old) (state S.Store conn.new)) }
     ensures err { HasCleanDisk (state S.Store conn.new) → IsReady (state S.Store conn.old).now → OnErr result (IsEnded (state S.Store conn.old) (state S.Store conn.new)) }
     ensures clean { HasCleanDisk (state S.Store conn.new) → HasCleanDisk (state S.Store conn.old) }
@@ -135,6 +139,7 @@ pub fn read_cells_of<S: Alter>(
     kclass: u32,
 ) -> Result<Vec<CellRow>, Error>
     ensures found { HasCleanDisk (state S.Store conn.new) → IsReady (state S.Store conn.old).now → IfOk result (λ found. IsPermutation (filter (is_cell_of rel ent.now kclass) (tables_of (state S.Store conn.old).now.trees).cells) found.items) }
+    ensures open { HasCleanDisk (state S.Store conn.new) → OnOk result (IsTrue (state S.Store conn.old).is_open) }
     ensures same { HasCleanDisk (state S.Store conn.new) → IsReady (state S.Store conn.old).now → OnOk result (IsUnchanged (state S.Store conn.old) (state S.Store conn.new)) }
     ensures err { HasCleanDisk (state S.Store conn.new) → IsReady (state S.Store conn.old).now → OnErr result (IsEnded (state S.Store conn.old) (state S.Store conn.new)) }
     ensures clean { HasCleanDisk (state S.Store conn.new) → HasCleanDisk (state S.Store conn.old) }

@@ -2,7 +2,7 @@ use Rattle.sqlite.specs.Held.{state}
 use Rattle.mls_statements.specs.Schema.{schema}
 use Rattle.mls_statements.proofs.Texts.{nodes_at, nodes_at_is}
 use Rattle.mls_statements.proofs.Finds.{finds_nodes_at}
-use Rattle.mls_statements.proofs.EndLemmas.{query_ended, unchanged}
+use Rattle.mls_statements.proofs.EndLemmas.{query_ended, unchanged, was_open}
 use Rattle.mls_statements.proofs.statements.node.nodes_at.Goals as goal
 
 pub returns-clause-found : goal.returns-clause-found
@@ -15,3 +15,6 @@ returns-clause-same g c clean ready = unchanged (state g.S.Store c.args.conn.now
 
 pub returns-clause-err : goal.returns-clause-err
 returns-clause-err g c clean = query_ended (state g.S.Store c.args.conn.now) (state g.S.Store c.query_all.new.self) _ _ c.query_all.result (c.query_all.ensures.err clean)
+
+pub returns-clause-open : goal.returns-clause-open
+returns-clause-open g c clean = was_open (state g.S.Store c.args.conn.now) (state g.S.Store c.query_all.new.self) _ _ c.query_all.result (c.query_all.ensures.ok clean)

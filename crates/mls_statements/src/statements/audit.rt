@@ -18,7 +18,7 @@ pub fn add_entry<S: Alter>(conn: &mut Connection<S>, entry: &AuditRow) -> Result
 {
     conn.execute(
         "INSERT INTO audit (number, bytes) VALUES (?1, ?2)",
-        params![entry.number, entry.bytes.as_slice()],
+        params![&entry.number, entry.bytes.as_slice()],
     )
 }
 

@@ -1,6 +1,8 @@
 -- The rows of a table as plain data, where rows are added, taken out and shown.
-use Rattle.std.proofs.Common.{◌≡◌, inl, inr, List, [], ◌∷◌, map, filter, not, Bool, true, false, refl, sym, ap, subst, subst₂, ◌∙◌, IsTrue, IsPermutation}
+use Rattle.std.proofs.Common.{◌≡◌, inl, inr, List, [], ◌∷◌, map, filter, not, Bool, true, false, refl, sym, ap, subst, subst₂, ◌∙◌, IsTrue, IfOk, Ok, Err, Result, Vec, IsPermutation}
 use Rattle.std.specs.List.{AllByRecursion}
+use Rattle.std.specs.declared.alloc.Global.{Global}
+use Rattle.sqlite.specs.declared.error.Error.{Error}
 use Rattle.std.proofs.lemmas.Bool.{cases_Bool}
 use Rattle.std.proofs.lemmas.List.Sorted.{IsPermutation-map}
 use Rattle.sqlite_value.specs.Order.{Row}
@@ -47,3 +49,14 @@ module _ {X : Type 0} (is_row : Row → Bool) (read : Row → X) where
   pub keyed : ((r : Row) → is_row r ≡ true → is_int (rowid r) ≡ true) → (rows : List Row) → All rows → AreKeyed rows
   keyed each [] all = tt
   keyed each (r ∷ rows) all = (each r all.0, keyed each rows all.1)
+
+undone : {X : Type 0} (values : X → Row) (show : Row → X) → ((x : X) → show (values x) ≡ x) → (xs : List X) → map show (map values xs) ≡ xs
+undone values show back [] = refl
+undone values show back (x ∷ xs) = rw (back x) (ap (λ l. x ∷ l) (undone values show back xs))
+
+-- from the rows that a query showed to the items that they show
+pub read_back : {X : Type 0} (values : X → Row) (show : Row → X) → ((x : X) → show (values x) ≡ x) → (xs : List X) (rows : List Row) (r : Result (Vec X Global) Error)
+    → IsPermutation (map values xs) rows → IfOk r (λ found. found.items ≡ map show rows) → IfOk r (λ found. IsPermutation xs found.items)
+read_back values show back xs rows (Err e) same is = tt
+read_back {X} values show back xs rows (Ok found) same is =
+    subst₂ (λ (l m : List X). IsPermutation l m) (undone values show back xs) (sym is) (IsPermutation-map show (map values xs) rows same)

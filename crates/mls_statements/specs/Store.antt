@@ -50,11 +50,15 @@ table_state s begun failures last = record {
   failures = failures;
 }
 
--- An open connection shows the four tables, and `last` is what it committed last, which is remembered for when it is shut.
-abbrev pub IsSound : State → Bool → Tables → Type 0
-IsSound s begun last =
-    HasCleanDisk s → IsTrue s.is_open
-    → (s.in_transaction ≡ begun) × (IsReady s.now × (IsReady s.committed × ((last ≡ tables_of s.committed.trees) × (begun ≡ false → s.now ≡ s.committed))))
+-- Inside a change the connection is open. An open one shows the four tables, and `last` is what it committed last, which is
+-- remembered for when it is shut.
+pub record IsSound (s : State) (begun : Bool) (last : Tables) : Type 0 where
+  pub is_open : HasCleanDisk s → IsTrue begun → IsTrue s.is_open
+  pub mode : HasCleanDisk s → IsTrue s.is_open → s.in_transaction ≡ begun
+  pub now : HasCleanDisk s → IsTrue s.is_open → IsReady s.now
+  pub committed : HasCleanDisk s → IsTrue s.is_open → IsReady s.committed
+  pub last_is : HasCleanDisk s → IsTrue s.is_open → last ≡ tables_of s.committed.trees
+  pub settled : HasCleanDisk s → IsTrue s.is_open → begun ≡ false → s.now ≡ s.committed
 
 -- no change is begun, and where the connection is open it shows what was committed before
 pub record HasEnded (old new : State) : Type 0 where

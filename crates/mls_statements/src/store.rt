@@ -140,15 +140,13 @@ impl<S: Alter> TableStore<S> {
         ensures mode { OnOk result (self.new.begun ≡ false) }
         ensures done { IsClean self.new → OnOk result ((self.new.now ≡ self.old.kept) × (self.new.kept ≡ self.old.kept)) }
     {
+        self.begun = false;
+        if self.conn.is_autocommit() {
+            return Ok(());
+        }
         match change::undo(&mut self.conn) {
-            Ok(_) => {
-                self.begun = false;
-                Ok(())
-            }
-            Err(error) => {
-                self.begun = false;
-                Err(fall(&mut self.conn, &mut self.failures, error))
-            }
+            Ok(_) => Ok(()),
+            Err(error) => Err(fall(&mut self.conn, &mut self.failures, error)),
         }
     }
 

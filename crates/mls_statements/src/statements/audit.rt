@@ -56,7 +56,7 @@ pub fn read_entry_at<S: Alter>(
     ensures found { HasCleanDisk (state S.Store conn.new) → IsReady (state S.Store conn.old).now → IfOk result (λ found. IsPermutation (filter (is_entry_at number) (tables_of (state S.Store conn.old).now.trees).audit) found.items) }
     ensures open { HasCleanDisk (state S.Store conn.new) → OnOk result (IsTrue (state S.Store conn.old).is_open) }
     ensures same { HasCleanDisk (state S.Store conn.new) → IsReady (state S.Store conn.old).now → OnOk result (IsUnchanged (state S.Store conn.old) (state S.Store conn.new)) }
-    ensures err { HasCleanDisk (state S.Store conn.new) → IsReady (state S.Store conn.old).now → OnErr result (IsEnded (state S.Store conn.old) (state S.Store conn.new)) }
+    ensures err { HasCleanDisk (state S.Store conn.new) → (IsTrue (state S.Store conn.old).is_open → IsReady (state S.Store conn.old).now) → OnErr result (IsEnded (state S.Store conn.old) (state S.Store conn.new)) }
     ensures clean { HasCleanDisk (state S.Store conn.new) → HasCleanDisk (state S.Store conn.old) }
 {
     entries_from(alloc, &entry_at(conn, number)?)

@@ -1,5 +1,3 @@
-use Rattle.sqlite.specs.Held.{state}
-use Rattle.mls_statements.specs.Rows.{tables_of}
 use Rattle.mls_statements.proofs.store.remember.Given as goal
 
 abbrev pub ghost-keep : goal.ghost-keep

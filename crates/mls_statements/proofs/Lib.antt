@@ -1,6 +1,7 @@
 pub mod Adds
 pub mod ApartRows
 pub mod Creates
+pub mod CreationLemmas
 pub mod Drops
 pub mod EditParts
 pub mod EndLemmas

@@ -54,6 +54,10 @@ is_entry_at number a = int_eq a.number number
 abbrev pub first_meta : List ℕ → List ℕ → MetaRow
 first_meta lattice schemes = record { id = pos 1; version = pos 1; lattice = lattice; schemes = schemes }
 
+-- a new store: one row that describes it
+abbrev pub described : List ℕ → List ℕ → Tables
+described lattice schemes = record no_rows { meta = first_meta lattice schemes ∷ [] }
+
 -- ---- rows as SQL has them: the rowid, and then the columns
 
 abbrev pub nat_in : Value → ℕ

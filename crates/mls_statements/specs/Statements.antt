@@ -10,7 +10,7 @@ use Rattle.mls_statements.specs.declared.rows.NodeRow.{NodeRow}
 use Rattle.mls_statements.specs.declared.rows.CellRow.{CellRow}
 use Rattle.mls_statements.specs.declared.rows.AuditRow.{AuditRow}
 use Rattle.mls_statements.specs.declared.rows.MetaRow.{MetaRow}
-use Rattle.mls_statements.specs.Rows.{Tables, tables_of, is_node, is_cell, is_cell_in, is_node_row, is_cell_row, is_audit_row, is_meta_row}
+use Rattle.mls_statements.specs.Rows.{Tables, tables_of, described, is_node, is_cell, is_cell_in, is_node_row, is_cell_row, is_audit_row, is_meta_row}
 use Rattle.mls_statements.specs.Schema.{schema}
 
 -- no two rows have one rowid
@@ -77,6 +77,14 @@ pub record Begins (old new : State) : Type 0 where
   pub now : new.now ≡ old.now
   pub committed : new.committed ≡ old.committed
   pub mode : new.in_transaction ≡ true
+
+-- a store that was made, and is committed
+pub record IsNewStore (lattice schemes : List ℕ) (s : State) : Type 0 where
+  pub is_open : IsTrue s.is_open
+  pub mode : s.in_transaction ≡ false
+  pub ready : IsReady s.now
+  pub rows : tables_of s.now.trees ≡ described lattice schemes
+  pub settled : s.now ≡ s.committed
 
 -- nothing was done, or the transaction was undone
 abbrev pub IsEnded : State → State → Type 0

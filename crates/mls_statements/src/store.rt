@@ -1,15 +1,16 @@
-ghost use Rattle.std.specs.Prelude.{◌≡◌, ◌≢◌, ◌⊎◌, ◌+◌, ◌<◌, ◌≤◌, true, false, filter, IsTrue, IfOk, OnOk, IsPermutation};
+ghost use Rattle.std.specs.Prelude.{◌≡◌, ◌≢◌, ◌⊎◌, ◌+◌, ◌<◌, ◌≤◌, true, false, filter, IsTrue, IfOk, IfErr, OnOk, IsPermutation};
 ghost use Rattle.sqlite.specs.State.{HasCleanDisk};
 ghost use Rattle.sqlite.specs.Held.{state};
 ghost use Rattle.mls_statements.specs.declared.rows.CellRow.{CellRow as SpecCell};
-ghost use Rattle.mls_statements.specs.Rows.{Tables, is_node_at, is_node_of, is_cell_at, is_cell_of, is_entry_at};
-ghost use Rattle.mls_statements.specs.Statements.{AddsNode, DropsNode, AddsCell, SetsCell, DropsCells, AddsEntry, IsOne, has_key_of};
-ghost use Rattle.mls_statements.specs.Store.{IsClean, IsCall, Writes, IsSame, HasEnded};
+ghost use Rattle.mls_statements.specs.Rows.{Tables, tables_of, described, is_node_at, is_node_of, is_cell_at, is_cell_of, is_entry_at};
+ghost use Rattle.mls_statements.specs.Schema.{no_schema};
+ghost use Rattle.mls_statements.specs.Statements.{IsReady, AddsNode, DropsNode, AddsCell, SetsCell, DropsCells, AddsEntry, IsOne, has_key_of};
+ghost use Rattle.mls_statements.specs.Store.{IsClean, IsFault, IsCall, Writes, IsSame, HasEnded};
 
 use crate::failures::Failures;
 use crate::remembered::Remembered;
 use crate::rows::{AuditRow, CellRow, NodeRow};
-use crate::statements::{audit, cell, change, node};
+use crate::statements::{audit, cell, change, creation, node};
 use sqlite::{Alter, Connection, Error, ErrorCode};
 use std::alloc::Global;
 use std::marker::Model;
@@ -87,6 +88,68 @@ fn fall<S: Alter>(conn: &mut Connection<S>, failures: &mut Failures, error: Erro
 }
 
 impl<S: Alter> TableStore<S> {
+    /// Makes a new store in a database that has nothing, described by two texts. An `Err` hands the connection back, with
+    /// what it had.
+    pub fn create(
+        alloc: Global,
+        mut conn: Connection<S>,
+        lattice: &str,
+        schemes: &str,
+    ) -> Result<TableStore<S>, (StoreFault, Connection<S>)>
+        requires nothing { HasCleanDisk (state S.Store conn) → (state S.Store conn).now.schema ≡ no_schema }
+        ensures made { IfOk result (λ t. IsClean t → (t.now ≡ described lattice.now schemes.now) × (t.kept ≡ t.now)) }
+        ensures mode { IfOk result (λ t. t.begun ≡ false) }
+        ensures clean { IfOk result (λ t. IsClean t → HasCleanDisk (state S.Store conn)) }
+        ensures refused { IfErr result (λ e. HasCleanDisk (state S.Store e.1) → HasCleanDisk (state S.Store conn) × HasEnded (state S.Store conn) (state S.Store e.1)) }
+    {
+        let mut failures = Failures::new();
+        match creation::create_store(&mut conn, lattice, schemes) {
+            Ok(_) => {
+                let mut last = Remembered::new();
+                remember(&mut last, &conn);
+                Ok(TableStore {
+                    conn,
+                    alloc,
+                    begun: false,
+                    failures,
+                    last,
+                })
+            }
+            Err(error) => Err((fall(&mut conn, &mut failures, error), conn)),
+        }
+    }
+
+    /// The connection, with no change begun: where it is open, its tables have the rows of the store.
+    pub fn into_connection(self) -> Connection<S>
+        requires begun { self.begun ≡ false }
+        ensures clean { HasCleanDisk (state S.Store result) → IsClean self }
+        ensures rows { HasCleanDisk (state S.Store result) → IsTrue (state S.Store result).is_open → IsReady (state S.Store result).now × (tables_of (state S.Store result).now.trees ≡ self.now) }
+    {
+        let TableStore {
+            conn,
+            alloc: _,
+            begun: _,
+            failures: _,
+            last: _,
+        } = self;
+        conn
+    }
+
+    /// Counts a failure of the store that shows in what it has answered, and ends the change, if one is begun.
+    pub fn condemn(&mut self)
+        ensures clean { IsClean self.new → IsClean self.old }
+        ensures fault { IsFault StoreFault.Store self.old self.new }
+    {
+        self.begun = false;
+        self.failures.rise();
+        if self.conn.is_autocommit() {
+            return;
+        }
+        if let Err(other) = change::undo(&mut self.conn) {
+            blame(&mut self.failures, other);
+        }
+    }
+
     /// Whether a change is begun.
     pub fn is_begun(&self) -> bool
         ensures { result ≡ self.now.begun }

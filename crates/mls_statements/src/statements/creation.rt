@@ -1,9 +1,11 @@
-ghost use Rattle.std.specs.Prelude.{OnOk, OnErr};
-ghost use Rattle.sqlite.specs.State.{HasCleanDisk};
+ghost use Rattle.std.specs.Prelude.{◌≡◌, false, IsTrue, OnOk, OnErr};
+ghost use Rattle.sqlite.specs.State.{HasCleanDisk, KeepsCommit};
 ghost use Rattle.sqlite.specs.Held.{state};
 ghost use Rattle.mls_statements.specs.Schema.{IsMade, no_schema, with_node, with_cell, with_audit, schema};
-ghost use Rattle.mls_statements.specs.Statements.{IsNext, IsEnded};
+ghost use Rattle.mls_statements.specs.Rows.{tables_of, described};
+ghost use Rattle.mls_statements.specs.Statements.{IsReady, IsNext, IsEnded, IsNewStore};
 
+use crate::statements::{change, meta};
 use sqlite::{Alter, Connection, Error};
 
 /// Makes the table of nodes in a database that has nothing.
@@ -52,4 +54,32 @@ pub fn create_meta<S: Alter>(conn: &mut Connection<S>) -> Result<usize, Error>
         "CREATE TABLE meta (id INTEGER PRIMARY KEY NOT NULL, version INTEGER NOT NULL, lattice TEXT NOT NULL, schemes TEXT NOT NULL) STRICT",
         &[],
     )
+}
+
+/// Makes the four tables in a database that has nothing, in a transaction.
+fn create_tables<S: Alter>(conn: &mut Connection<S>) -> Result<usize, Error>
+    ensures made { HasCleanDisk (state S.Store conn.new) → IsMade no_schema (state S.Store conn.old).now → OnOk result (IsMade schema (state S.Store conn.new).now × IsNext (state S.Store conn.old) (state S.Store conn.new)) }
+    ensures err { HasCleanDisk (state S.Store conn.new) → IsMade no_schema (state S.Store conn.old).now → IsTrue (state S.Store conn.old).in_transaction → OnErr result (KeepsCommit (state S.Store conn.old) (state S.Store conn.new)) }
+    ensures clean { HasCleanDisk (state S.Store conn.new) → HasCleanDisk (state S.Store conn.old) }
+{
+    create_node(conn)?;
+    create_cell(conn)?;
+    create_audit(conn)?;
+    create_meta(conn)
+}
+
+/// Makes the four tables and the row that describes the store, in one transaction, in a database that has nothing.
+pub fn create_store<S: Alter>(
+    conn: &mut Connection<S>,
+    lattice: &str,
+    schemes: &str,
+) -> Result<usize, Error>
+    ensures made { HasCleanDisk (state S.Store conn.new) → (state S.Store conn.old).now.schema ≡ no_schema → OnOk result (IsNewStore lattice.now schemes.now (state S.Store conn.new)) }
+    ensures err { HasCleanDisk (state S.Store conn.new) → (state S.Store conn.old).now.schema ≡ no_schema → OnErr result (KeepsCommit (state S.Store conn.old) (state S.Store conn.new)) }
+    ensures clean { HasCleanDisk (state S.Store conn.new) → HasCleanDisk (state S.Store conn.old) }
+{
+    change::begin(conn)?;
+    create_tables(conn)?;
+    meta::add_meta(conn, lattice, schemes)?;
+    change::commit(conn)
 }

@@ -6,6 +6,7 @@ pub mod Drops
 pub mod EditParts
 pub mod EndLemmas
 pub mod Finds
+pub mod NumberedLemmas
 pub mod QueryAnswers
 pub mod ReadyLemmas
 pub mod RowLists

@@ -1,5 +1,5 @@
 -- What the rows of the four tables are, as plain data.
-use Rattle.std.specs.Prelude.{◌≡◌, ℕ, ℤ, pos, negsuc, Bool, true, false, ◌&&◌, nat_eq, bytes_eq, List, [], ◌∷◌, map}
+use Rattle.std.specs.Prelude.{◌≡◌, ℕ, ◌+◌, ℤ, ◌+ℤ◌, pos, negsuc, Bool, true, false, ◌&&◌, nat_eq, bytes_eq, List, [], ◌∷◌, map}
 use Rattle.std.specs.Ordering.{int_eq}
 use Rattle.sqlite_value.specs.declared.value.Value.{Value}
 use Rattle.sqlite_value.specs.declared.value.Value.TheVariants.{Null, Int, Real, Text, Blob}
@@ -49,6 +49,16 @@ is_cell rel ent kclass label attr c =
 
 abbrev pub is_entry_at : ℤ → AuditRow → Bool
 is_entry_at number a = int_eq a.number number
+
+-- the entries of a list, numbered from k
+abbrev pub numbered : ℕ → List (List ℕ) → List AuditRow
+numbered k [] = []
+numbered k (b ∷ bs) = record { number = pos k; bytes = b } ∷ numbered (k + 1) bs
+
+-- the numbers rise by one from n
+abbrev pub are_numbered : ℤ → List AuditRow → Bool
+are_numbered n [] = true
+are_numbered n (a ∷ more) = int_eq a.number n && are_numbered (n +ℤ pos 1) more
 
 -- the row of a new store
 abbrev pub first_meta : List ℕ → List ℕ → MetaRow

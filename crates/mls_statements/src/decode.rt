@@ -1,10 +1,10 @@
 //! Rows of tables from rows that queries show.
-ghost use Rattle.std.specs.Prelude.{◌≡◌, true, map, IfOk};
+ghost use Rattle.std.specs.Prelude.{◌≡◌, pos, true, map, IsTrue, IfOk};
 ghost use Rattle.std.specs.List.{AllByRecursion};
 ghost use Rattle.sqlite_value.specs.Order.{column};
 ghost use Rattle.sqlite_trees.specs.View.{is_int};
 ghost use Rattle.sqlite_rules.specs.Edit.{id_in};
-ghost use Rattle.mls_statements.specs.Rows.{nat_in, blob_in, text_in, is_nat, is_blob, is_text, shown_node, shows_node, shown_cell, shows_cell, shown_entry, shows_entry, shown_meta, shows_meta};
+ghost use Rattle.mls_statements.specs.Rows.{nat_in, blob_in, text_in, is_nat, is_blob, is_text, shown_node, shows_node, shown_cell, shows_cell, shown_entry, shows_entry, shown_meta, shows_meta, are_numbered};
 
 use crate::rows::{AuditRow, CellRow, MetaRow, NodeRow};
 use mls_lattice::{Items, Str};
@@ -142,4 +142,21 @@ pub fn meta_from(alloc: Global, rows: &[Row]) -> Result<Vec<MetaRow>, Error>
         found.push(description_from(row)?)?;
     }
     Ok(found)
+}
+
+/// Whether the entries have the numbers 1, 2, .. in order.
+pub fn are_numbered(entries: &[AuditRow]) -> bool
+    ensures { IsTrue result → IsTrue (are_numbered (pos 1) entries.now) }
+{
+    let mut last: i64 = 0;
+    for entry in entries {
+        let Some(next) = last.checked_add(1) else {
+            return false;
+        };
+        if entry.number != next {
+            return false;
+        }
+        last = next;
+    }
+    true
 }

@@ -1,12 +1,13 @@
-ghost use Rattle.std.specs.Prelude.{◌≡◌, ◌≢◌, ◌⊎◌, ◌+◌, ◌<◌, ◌≤◌, true, false, filter, IsTrue, IfOk, IfErr, OnOk, IsPermutation};
+ghost use Rattle.std.specs.Prelude.{◌≡◌, ◌≢◌, ◌⊎◌, ◌+◌, ◌<◌, ◌≤◌, true, false, filter, ℕ, List, IsTrue, IfOk, IfErr, OnOk, IsPermutation};
 ghost use Rattle.sqlite.specs.State.{HasCleanDisk};
 ghost use Rattle.sqlite.specs.Held.{state};
 ghost use Rattle.mls_statements.specs.declared.rows.CellRow.{CellRow as SpecCell};
-ghost use Rattle.mls_statements.specs.Rows.{Tables, tables_of, described, is_node_at, is_node_of, is_cell_at, is_cell_of, is_entry_at};
+ghost use Rattle.mls_statements.specs.Rows.{Tables, tables_of, described, is_node_at, is_node_of, is_cell_at, is_cell_of, is_entry_at, numbered};
 ghost use Rattle.mls_statements.specs.Schema.{no_schema};
 ghost use Rattle.mls_statements.specs.Statements.{IsReady, AddsNode, DropsNode, AddsCell, SetsCell, DropsCells, AddsEntry, IsOne, has_key_of};
 ghost use Rattle.mls_statements.specs.Store.{IsClean, IsFault, IsCall, Writes, IsSame, HasEnded};
 
+use crate::decode::are_numbered;
 use crate::failures::Failures;
 use crate::remembered::Remembered;
 use crate::rows::{AuditRow, CellRow, NodeRow};
@@ -404,6 +405,37 @@ impl<S: Alter> TableStore<S> {
         ensures same { IsClean self.new → OnOk result (IsSame self.old self.new) }
     {
         match audit::read_entry_at(&mut self.conn, self.alloc, number) {
+            Ok(rows) => Ok(rows),
+            Err(error) => {
+                self.begun = false;
+                Err(fall(&mut self.conn, &mut self.failures, error))
+            }
+        }
+    }
+
+    /// Every entry, in the order of the numbers, which are 1, 2, .. up to their count.
+    pub fn entries(&mut self) -> Result<Vec<AuditRow>, StoreFault>
+        ensures call { IsCall self.old self.new result }
+        ensures mode { OnOk result (self.new.begun ≡ self.old.begun) }
+        ensures found { IsClean self.new → (list : List (List ℕ)) → IsPermutation (numbered 1 list) self.old.now.audit → IfOk result (λ entries. entries.items ≡ numbered 1 list) }
+        ensures same { IsClean self.new → OnOk result (IsSame self.old self.new) }
+    {
+        let rows = self.read_entries()?;
+        if are_numbered(&rows) {
+            return Ok(rows);
+        }
+        self.condemn();
+        Err(StoreFault::Store)
+    }
+
+    fn read_entries(&mut self) -> Result<Vec<AuditRow>, StoreFault>
+        ensures call { IsCall self.old self.new result }
+        ensures mode { OnOk result (self.new.begun ≡ self.old.begun) }
+        ensures found { IsClean self.new → IfOk result (λ rows. IsPermutation self.old.now.audit rows.items) }
+        ensures same { IsClean self.new → OnOk result (IsSame self.old self.new) }
+        ensures count { OnOk result (self.old.failures ≡ self.new.failures) }
+    {
+        match audit::read_entries(&mut self.conn, self.alloc) {
             Ok(rows) => Ok(rows),
             Err(error) => {
                 self.begun = false;

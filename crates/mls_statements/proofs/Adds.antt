@@ -1,5 +1,5 @@
 -- What adding a row comes to, in each table.
-use Rattle.std.proofs.Common.{◌≡◌, ℕ, ℤ, pos, List, [], ◌∷◌, map, not, ◌&&◌, Bool, true, false, cond, None, Ok, Err, Result, OnOk, refl, sym, ap, subst, subst₂, ◌∙◌, IsPermutation}
+use Rattle.std.proofs.Common.{◌≡◌, ℕ, ℤ, pos, List, [], ◌∷◌, not, ◌&&◌, Bool, true, false, cond, None, Ok, Err, Result, OnOk, refl, sym, subst, ◌∙◌}
 use Rattle.std.proofs.lemmas.Bool.{not-true}
 use Rattle.sqlite_value.specs.Order.{Row}
 use Rattle.sqlite.specs.declared.types.Value.{Value}
@@ -22,7 +22,7 @@ use Rattle.mls_statements.specs.declared.rows.NodeRow.{NodeRow}
 use Rattle.mls_statements.specs.declared.rows.CellRow.{CellRow}
 use Rattle.mls_statements.specs.declared.rows.AuditRow.{AuditRow}
 use Rattle.mls_statements.specs.Schema.{schema, node, cell, audit, meta}
-use Rattle.mls_statements.specs.Rows.{node_of, is_node_row, node_values, cell_of, is_cell_row, cell_values, audit_of, is_audit_row, audit_values, meta_of, is_meta_row, first_meta, tables_of}
+use Rattle.mls_statements.specs.Rows.{node_of, is_node_row, node_values, cell_of, is_cell_row, cell_values, audit_of, is_audit_row, audit_values, meta_of, is_meta_row, first_meta}
 use Rattle.mls_statements.specs.Statements.{IsReady, Changes, AddsNode, AddsCell, AddsEntry, AddsMeta}
 use Rattle.mls_statements.proofs.Texts.{add_node, add_node_is, node_terms, add_cell, add_cell_is, cell_terms, add_entry, add_entry_is, audit_terms, add_meta, add_meta_is, meta_terms}
 use Rattle.mls_statements.proofs.EditParts.{inserted}

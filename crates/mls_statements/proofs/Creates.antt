@@ -1,18 +1,16 @@
 -- What CREATE TABLE comes to.
-use Rattle.std.proofs.Common.{◌≡◌, ℕ, List, [], ◌∷◌, ◌++◌, false, Ok, Err, Result, OnOk, None, refl, sym, ap, subst, ◌∙◌}
+use Rattle.std.proofs.Common.{◌≡◌, ℕ, List, [], ◌∷◌, false, Ok, Err, Result, OnOk, None, refl, sym, ap, subst, ◌∙◌}
 use Rattle.std.specs.List.{AllByRecursion}
 use Rattle.sqlite.specs.Table.{Table}
 use Rattle.sqlite.specs.Tree.{Trees}
 use Rattle.sqlite.specs.Schema.{Schema}
-use Rattle.sqlite.specs.Compile.{table_defined_by}
 use Rattle.sqlite.specs.Change.{created, next_tree, KeepsRows}
 use Rattle.sqlite.specs.Command.TheVariants.{CreateTable}
 use Rattle.sqlite.specs.declared.error.Error.{Error}
 use Rattle.sqlite.specs.Does.{Tally, lacks_sequence}
 use Rattle.sqlite.specs.Effect.{Database}
-use Rattle.sqlite.specs.Listing.{understood}
 use Rattle.sqlite.specs.State.{State, Writes, Executes}
-use Rattle.sqlite.proofs.Callers.{command_of, statement_of, runs_as}
+use Rattle.sqlite.proofs.Callers.{runs_as}
 use Rattle.mls_statements.specs.Schema.{IsMade, no_schema, with_node, with_cell, with_audit, schema, node, cell, audit, meta}
 use Rattle.mls_statements.specs.Statements.{IsNext}
 use Rattle.mls_statements.proofs.Texts.{MakesTable, create_node, create_node_is, create_cell, create_cell_is, create_audit, create_audit_is, create_meta, create_meta_is}

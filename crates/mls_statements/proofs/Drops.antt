@@ -1,16 +1,15 @@
 -- What dropping rows comes to, and what setting a cell does.
-use Rattle.std.proofs.Common.{◌≡◌, inl, inr, ℕ, ℤ, pos, List, [], ◌∷◌, map, filter, not, ◌&&◌, Bool, true, false, nat_eq, None, Ok, Err, Result, OnOk, refl, sym, ap, subst, subst₂, ◌∙◌, IsPermutation, arith}
+use Rattle.std.proofs.Common.{◌≡◌, inl, inr, ℕ, pos, List, [], ◌∷◌, map, filter, not, ◌&&◌, Bool, true, nat_eq, None, Ok, Err, Result, OnOk, refl, sym, ap, subst, subst₂, ◌∙◌, IsPermutation, arith}
 use Rattle.std.specs.List.{AllByRecursion}
-use Rattle.std.specs.Str.{bytes_eq}
 use Rattle.std.proofs.lemmas.Bool.{and_parts, cases_Bool}
 use Rattle.std.proofs.lemmas.Bool.Decides.{nat_tests}
 use Rattle.std.proofs.lemmas.Slice.Eq.{bytes_eq-Decides}
 use Rattle.std.proofs.lemmas.List.Sorted.{IsPermutation-map, IsPermutation-refl}
 use Rattle.sqlite_value.specs.Order.{Row, column}
-use Rattle.sqlite.specs.declared.types.Value.TheVariants.{Null, Int, Blob}
+use Rattle.sqlite.specs.declared.types.Value.TheVariants.{Int, Blob}
 use Rattle.sqlite.specs.declared.error.Error.{Error}
 use Rattle.sqlite.specs.Tree.{rowid, put_row}
-use Rattle.sqlite.specs.Term.{Term, col, eval_all}
+use Rattle.sqlite.specs.Term.{col, eval_all}
 use Rattle.sqlite.specs.Command.TheVariants.{Delete, Update}
 use Rattle.sqlite.specs.Rowids.TheVariants.{Given}
 use Rattle.sqlite.specs.Does.{Does}
@@ -25,7 +24,7 @@ use Rattle.sqlite_rules.specs.Calls.{ids_of}
 use Rattle.sqlite_rules.proofs.TableLemmas.{int_is}
 use Rattle.mls_statements.specs.declared.rows.CellRow.{CellRow}
 use Rattle.mls_statements.specs.Schema.{schema, node, cell}
-use Rattle.mls_statements.specs.Rows.{node_of, is_node_row, is_node, cell_of, is_cell_row, is_cell, is_cell_in, cell_values, tables_of, nat_in, blob_in}
+use Rattle.mls_statements.specs.Rows.{node_of, is_node_row, is_node, cell_of, is_cell_row, is_cell_in, cell_values, tables_of, blob_in}
 use Rattle.mls_statements.specs.Statements.{IsReady, IsApart, AreRows, Changes, DropsNode, DropsCells, SetsCell, IsOne, has_key_of}
 use Rattle.mls_statements.proofs.Texts.{by_class, by_cell, set_terms, drop_node, drop_node_is, drop_cells, drop_cells_is, set_cell, set_cell_is}
 use Rattle.mls_statements.proofs.EditParts.{deleted, updated, alone}

@@ -1,5 +1,5 @@
 -- What calls leave of a connection, whatever their texts, and where changes begin and end.
-use Rattle.std.proofs.Common.{◌≡◌, inl, inr, ℕ, List, [], ◌∷◌, false, Option, Some, None, Ok, Err, Result, IsTrue, OnOk, OnErr, IfOk, IfErr, Vec, codes, length, refl, sym, ap, subst, subst₂, true≢false, ◌∙◌}
+use Rattle.std.proofs.Common.{◌≡◌, inl, inr, ℕ, List, [], false, Option, Some, None, Ok, Err, Result, IsTrue, OnOk, OnErr, IfOk, IfErr, Vec, codes, length, refl, sym, ap, subst, subst₂, true≢false, ◌∙◌}
 use Rattle.std.specs.declared.alloc.Global.{Global}
 use Rattle.std.proofs.lemmas.Bool.{cases_Bool}
 use Rattle.sqlite.specs.Order.{Row}

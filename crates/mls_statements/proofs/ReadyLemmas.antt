@@ -1,9 +1,8 @@
 -- The four tables after one of them has changed.
-use Rattle.std.proofs.Common.{◌≡◌, ℕ, List, map, refl, sym, ap, subst}
-use Rattle.sqlite_value.specs.Order.{Row}
+use Rattle.std.proofs.Common.{◌≡◌, map, refl, sym, subst}
 use Rattle.sqlite.specs.Effect.{Database}
 use Rattle.mls_statements.specs.Schema.{schema}
-use Rattle.mls_statements.specs.Rows.{Tables, tables_of, node_of, cell_of, audit_of, meta_of, is_node_row, is_cell_row, is_audit_row, is_meta_row}
+use Rattle.mls_statements.specs.Rows.{tables_of, node_of, cell_of, audit_of, meta_of, is_node_row, is_cell_row, is_audit_row, is_meta_row}
 use Rattle.mls_statements.specs.Statements.{IsReady, AreRows}
 
 module _ (old new : Database) (is : new.schema ≡ schema) (ready : IsReady old) where

@@ -1,5 +1,5 @@
 -- The rows of a table as plain data, where rows are added, taken out and shown.
-use Rattle.std.proofs.Common.{◌≡◌, inl, inr, List, [], ◌∷◌, map, filter, not, Bool, true, false, refl, sym, ap, subst, subst₂, ◌∙◌, IsTrue, IfOk, Ok, Err, Result, Vec, IsPermutation}
+use Rattle.std.proofs.Common.{◌≡◌, inl, inr, List, [], ◌∷◌, map, filter, Bool, true, false, refl, sym, ap, subst, subst₂, ◌∙◌, IfOk, Ok, Err, Result, Vec, IsPermutation}
 use Rattle.std.specs.List.{AllByRecursion}
 use Rattle.std.specs.declared.alloc.Global.{Global}
 use Rattle.sqlite.specs.declared.error.Error.{Error}

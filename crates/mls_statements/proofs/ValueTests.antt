@@ -19,7 +19,7 @@ use Rattle.sqlite.specs.Ops.{binary, is_true}
 use Rattle.sqlite_sql.specs.declared.ops.BinaryOp.TheVariants.{Compare}
 use Rattle.sqlite_sql.specs.declared.ops.CompareOp.TheVariants.{Eq}
 use Rattle.sqlite.specs.Collation.TheVariants.{Binary}
-use Rattle.mls_statements.specs.Rows.{nat_in, blob_in, text_in, is_nat, is_blob, is_text, node_of, is_node_row, cell_of, is_cell_row, audit_of, is_audit_row, node_values, cell_values, audit_values, is_node_at, is_node_of, is_node, is_cell_at, is_cell_of, is_cell_in, is_cell, is_entry_at}
+use Rattle.mls_statements.specs.Rows.{nat_in, blob_in, is_nat, is_blob, node_of, is_node_row, cell_of, is_cell_row, audit_of, is_audit_row, node_values, cell_values, audit_values, is_node_at, is_node_of, is_node, is_cell_at, is_cell_of, is_cell_in, is_cell, is_entry_at}
 use Rattle.mls_statements.specs.declared.rows.CellRow.{CellRow}
 use Rattle.mls_statements.proofs.QueryAnswers.{passes, equals_int, equals_blob}
 use Rattle.mls_statements.proofs.Texts.{same, by_class, by_cell, by_label, by_entity, node_shown, cell_shown, audit_shown}

@@ -1,9 +1,9 @@
 -- What a store of the four tables shows, and what its calls do to it.
-use Rattle.std.specs.Prelude.{◌≡◌, ℕ, ◌<◌, ◌≤◌, Bool, true, false, if◌then◌else◌, IsTrue, IfErr, Result}
+use Rattle.std.specs.Prelude.{◌≡◌, ℕ, ◌<◌, ◌≤◌, Bool, false, if◌then◌else◌, IsTrue, IfErr, Result}
 use Rattle.sqlite_trees.specs.View.{doubt}
 use Rattle.sqlite.specs.State.{State, HasCleanDisk}
 use Rattle.mls_statements.specs.declared.store.StoreFault.{StoreFault}
-use Rattle.mls_statements.specs.declared.store.StoreFault.TheVariants.{Store, Memory}
+use Rattle.mls_statements.specs.declared.store.StoreFault.TheVariants.{Store}
 use Rattle.mls_statements.specs.Rows.{Tables, tables_of}
 use Rattle.mls_statements.specs.Statements.{IsReady}
 

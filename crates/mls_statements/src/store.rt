@@ -58,14 +58,14 @@ fn remember<S: Alter>(last: &mut Remembered, _conn: &Connection<S>)
 }
 
 /// Notes why a call failed.
-fn blame(failures: &mut Failures, error: Error) -> StoreFault
-    ensures store { result ≡ StoreFault.Store → failures.new.count ≡ failures.old.count + 1 }
-    ensures memory { result ≢ StoreFault.Store → failures.new.count ≡ failures.old.count }
+fn blame(count: &mut Failures, error: Error) -> StoreFault
+    ensures store { result ≡ StoreFault.Store → count.new.count ≡ count.old.count + 1 }
+    ensures memory { result ≢ StoreFault.Store → count.new.count ≡ count.old.count }
 {
     match error {
         Error::SqliteFailure(ErrorCode::OutOfMemory) => StoreFault::Memory,
         _ => {
-            failures.rise();
+            count.rise();
             StoreFault::Store
         }
     }

@@ -1,4 +1,4 @@
-use Rattle.std.proofs.Common.{[], map, refl, subst, IsPermutation}
+use Rattle.std.proofs.Common.{[], refl, subst, IsPermutation}
 use Rattle.sqlite.specs.Held.{state}
 use Rattle.mls_statements.specs.Rows.{tables_of, audit_of, is_audit_row, audit_columns, audit_values, shown_entry}
 use Rattle.mls_statements.proofs.TableRows.{shown, read_back}

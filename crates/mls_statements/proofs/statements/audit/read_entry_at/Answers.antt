@@ -1,4 +1,4 @@
-use Rattle.std.proofs.Common.{◌≡◌, map, filter, refl, rules, w64}
+use Rattle.std.proofs.Common.{◌≡◌, filter, refl, rules, w64}
 use mir.Val.{to_z, of_z}
 use Rattle.sqlite.specs.Held.{state}
 use Rattle.mls_statements.specs.Rows.{tables_of, is_entry_at, audit_values, shown_entry}

@@ -1,4 +1,4 @@
-use Rattle.std.proofs.Common.{map, filter, refl}
+use Rattle.std.proofs.Common.{filter, refl}
 use Rattle.sqlite.specs.Held.{state}
 use Rattle.mls_statements.specs.Rows.{tables_of, is_node_at, node_values, shown_node}
 use Rattle.mls_statements.proofs.TableRows.{read_back}

@@ -12,7 +12,7 @@ use crate::failures::Failures;
 use crate::remembered::Remembered;
 use crate::rows::{AuditRow, CellRow, NodeRow};
 use crate::statements::{audit, cell, change, creation, node};
-use sqlite::{Alter, Connection, Error, ErrorCode};
+use sqlite::{Alter, Connection, Error, ErrorCode, MemStore};
 use std::alloc::Global;
 use std::marker::Model;
 
@@ -86,6 +86,26 @@ fn fall<S: Alter>(conn: &mut Connection<S>, failures: &mut Failures, error: Erro
         blame(failures, other);
     }
     fault
+}
+
+impl TableStore<MemStore> {
+    /// A new store in memory, described by two texts.
+    pub fn in_memory(
+        alloc: Global,
+        lattice: &str,
+        schemes: &str,
+    ) -> Result<TableStore<MemStore>, StoreFault>
+        ensures made { IfOk result (λ t. IsClean t → (t.now ≡ described lattice.now schemes.now) × (t.kept ≡ t.now)) }
+        ensures mode { IfOk result (λ t. t.begun ≡ false) }
+    {
+        match Connection::open_in_memory(alloc) {
+            Ok(conn) => match TableStore::create(alloc, conn, lattice, schemes) {
+                Ok(store) => Ok(store),
+                Err((fault, _)) => Err(fault),
+            },
+            Err(_) => Err(StoreFault::Memory),
+        }
+    }
 }
 
 impl<S: Alter> TableStore<S> {

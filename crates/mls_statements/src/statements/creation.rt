@@ -1,4 +1,4 @@
-ghost use Rattle.std.specs.Prelude.{◌≡◌, false, IsTrue, OnOk, OnErr};
+ghost use Rattle.std.specs.Prelude.{◌≡◌, ◌↔◌, false, IsTrue, OnOk, OnErr};
 ghost use Rattle.sqlite.specs.State.{HasCleanDisk, KeepsCommit};
 ghost use Rattle.sqlite.specs.Held.{state};
 ghost use Rattle.mls_statements.specs.Schema.{IsMade, no_schema, with_node, with_cell, with_audit, schema};
@@ -7,6 +7,14 @@ ghost use Rattle.mls_statements.specs.Statements.{IsReady, IsNext, IsEnded, IsNe
 
 use crate::statements::{change, meta};
 use sqlite::{Alter, Connection, Error};
+
+/// Whether the database has no table, index or view.
+pub fn has_nothing<S: Alter>(conn: &Connection<S>) -> bool
+    ensures { IsTrue result ↔ ((state S.Store conn.now).now.schema ≡ no_schema) }
+{
+    let schema = conn.schema();
+    schema.tables.is_empty() && schema.indexes.is_empty() && schema.views.is_empty()
+}
 
 /// Makes the table of nodes in a database that has nothing.
 pub fn create_node<S: Alter>(conn: &mut Connection<S>) -> Result<usize, Error>

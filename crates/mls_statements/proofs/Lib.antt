@@ -1,0 +1,15 @@
+pub mod Adds
+pub mod ApartRows
+pub mod Creates
+pub mod CreationLemmas
+pub mod Drops
+pub mod EditParts
+pub mod EndLemmas
+pub mod Finds
+pub mod NumberedLemmas
+pub mod QueryAnswers
+pub mod ReadyLemmas
+pub mod RowLists
+pub mod TableRows
+pub mod Texts
+pub mod ValueTests

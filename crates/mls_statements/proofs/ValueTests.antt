@@ -1,0 +1,159 @@
+-- What SQL's tests on the columns of a row say of the row as plain data.
+use Rattle.std.proofs.Common.{◌≡◌, ℕ, ℤ, pos, negsuc, List, [], ◌∷◌, Bool, true, false, ◌&&◌, nat_eq, refl, sym, ap, ◌∙◌, true≢false, arith}
+use Rattle.std.specs.Str.{bytes_eq}
+use Rattle.std.specs.Ordering.{is_eq, int_cmp, int_eq}
+use Rattle.std.proofs.lemmas.Bool.{and_parts}
+use Rattle.std.proofs.lemmas.Bool.Decides.{nat_tests}
+use Rattle.std.proofs.lemmas.Int.{ints}
+use Rattle.std.proofs.lemmas.Map.Text.{is_eq-slice_cmp}
+use Rattle.sqlite_value.specs.declared.value.Value.{Value}
+use Rattle.sqlite_value.specs.declared.value.Value.TheVariants.{Null, Int, Real, Text, Blob}
+use Rattle.sqlite_value.specs.Order.{Row, column, value_cmp}
+use Rattle.sqlite_value.proofs.OrderLemmas.{value_cmp-Int, value_cmp-Blob}
+use Rattle.sqlite_trees.specs.Tree.{rowid}
+use Rattle.sqlite_trees.specs.View.{is_int}
+use Rattle.sqlite_rules.specs.Edit.{id_in}
+use Rattle.sqlite_rules.proofs.TableLemmas.{int_is}
+use Rattle.sqlite.specs.Term.{eval_all}
+use Rattle.sqlite.specs.Ops.{binary, is_true}
+use Rattle.sqlite_sql.specs.declared.ops.BinaryOp.TheVariants.{Compare}
+use Rattle.sqlite_sql.specs.declared.ops.CompareOp.TheVariants.{Eq}
+use Rattle.sqlite.specs.Collation.TheVariants.{Binary}
+use Rattle.mls_statements.specs.Rows.{nat_in, blob_in, is_nat, is_blob, node_of, is_node_row, cell_of, is_cell_row, audit_of, is_audit_row, node_values, cell_values, audit_values, is_node_at, is_node_of, is_node, is_cell_at, is_cell_of, is_cell_in, is_cell, is_entry_at}
+use Rattle.mls_statements.specs.declared.rows.CellRow.{CellRow}
+use Rattle.mls_statements.proofs.QueryAnswers.{passes, equals_int, equals_blob}
+use Rattle.mls_statements.proofs.Texts.{same, by_class, by_cell, by_label, by_entity, node_shown, cell_shown, audit_shown}
+
+pub nat_is : (v : Value) → is_nat v ≡ true → v ≡ Int (pos (nat_in v))
+nat_is Null h = absurd (true≢false (sym h))
+nat_is (Int (pos n)) h = refl
+nat_is (Int (negsuc n)) h = absurd (true≢false (sym h))
+nat_is (Real x) h = absurd (true≢false (sym h))
+nat_is (Text t) h = absurd (true≢false (sym h))
+nat_is (Blob b) h = absurd (true≢false (sym h))
+
+pub blob_is : (v : Value) → is_blob v ≡ true → v ≡ Blob (blob_in v)
+blob_is Null h = absurd (true≢false (sym h))
+blob_is (Int n) h = absurd (true≢false (sym h))
+blob_is (Real x) h = absurd (true≢false (sym h))
+blob_is (Text t) h = absurd (true≢false (sym h))
+blob_is (Blob b) h = refl
+
+equal_numbers : (m n : ℕ) → is_eq (int_cmp (pos m) (pos n)) ≡ nat_eq m n
+equal_numbers m n = grind (arith, ints, nat_tests)
+
+equal_integers : (m n : ℤ) → is_eq (int_cmp m n) ≡ int_eq m n
+equal_integers m n = grind (arith, ints, nat_tests)
+
+same_nat : (v : Value) (n : ℕ) → is_nat v ≡ true → is_true (binary (Compare Eq Binary) v (Int (pos n))) ≡ nat_eq (nat_in v) n
+same_nat v n h =
+    equals_int v (pos n) ∙ (ap (λ w. is_eq (value_cmp w (Int (pos n)))) (nat_is v h) ∙ (ap is_eq (value_cmp-Int (pos (nat_in v)) (pos n)) ∙ equal_numbers (nat_in v) n))
+
+same_int : (v : Value) (n : ℤ) → is_int v ≡ true → is_true (binary (Compare Eq Binary) v (Int n)) ≡ int_eq (id_in v) n
+same_int v n h =
+    equals_int v n ∙ (ap (λ w. is_eq (value_cmp w (Int n))) (int_is v h) ∙ (ap is_eq (value_cmp-Int (id_in v) n) ∙ equal_integers (id_in v) n))
+
+same_blob : (v : Value) (b : List ℕ) → is_blob v ≡ true → is_true (binary (Compare Eq Binary) v (Blob b)) ≡ bytes_eq (blob_in v) b
+same_blob v b h =
+    equals_blob v b ∙ (ap (λ w. is_eq (value_cmp w (Blob b))) (blob_is v h) ∙ (ap is_eq (value_cmp-Blob (blob_in v) b) ∙ is_eq-slice_cmp (blob_in v) b))
+
+and_true : (b : Bool) → (b && true) ≡ b
+and_true true = refl
+and_true false = refl
+
+-- ---- the columns of the tables' rows
+
+pub record NodeColumns (r : Row) : Type 0 where
+  pub id : is_int (rowid r) ≡ true
+  pub rel : is_nat (column r 1) ≡ true
+  pub ent : is_blob (column r 2) ≡ true
+  pub kclass : is_nat (column r 3) ≡ true
+  pub label : is_nat (column r 4) ≡ true
+  pub pattern : is_blob (column r 5) ≡ true
+
+pub node_parts : (r : Row) → is_node_row r ≡ true → NodeColumns r
+node_parts r h =
+    let a = and_parts _ _ h in
+    let b = and_parts _ _ a.1 in
+    let c = and_parts _ _ b.1 in
+    let d = and_parts _ _ c.1 in
+    let e = and_parts _ _ d.1 in
+    record { id = a.0; rel = b.0; ent = c.0; kclass = d.0; label = e.0; pattern = e.1 }
+
+pub record CellColumns (r : Row) : Type 0 where
+  pub id : is_int (rowid r) ≡ true
+  pub rel : is_nat (column r 1) ≡ true
+  pub ent : is_blob (column r 2) ≡ true
+  pub kclass : is_nat (column r 3) ≡ true
+  pub label : is_nat (column r 4) ≡ true
+  pub attr : is_nat (column r 5) ≡ true
+  pub value : is_blob (column r 6) ≡ true
+
+pub cell_parts : (r : Row) → is_cell_row r ≡ true → CellColumns r
+cell_parts r h =
+    let a = and_parts _ _ h in
+    let b = and_parts _ _ a.1 in
+    let c = and_parts _ _ b.1 in
+    let d = and_parts _ _ c.1 in
+    let e = and_parts _ _ d.1 in
+    let f = and_parts _ _ e.1 in
+    record { id = a.0; rel = b.0; ent = c.0; kclass = d.0; label = e.0; attr = f.0; value = f.1 }
+
+-- ---- the tests of the statements
+
+pub node_in_class : (rel : ℕ) (ent : List ℕ) (kclass label : ℕ) (r : Row) → is_node_row r ≡ true
+    → passes by_class (Int (pos rel) ∷ Blob ent ∷ Int (pos kclass) ∷ Int (pos label) ∷ []) r ≡ is_node rel ent kclass label (node_of r)
+node_in_class rel ent kclass label r h =
+    let c = node_parts r h in
+    rw (same_nat (column r 1) rel c.rel, same_blob (column r 2) ent c.ent, same_nat (column r 3) kclass c.kclass, same_nat (column r 4) label c.label, and_true (nat_eq (nat_in (column r 4)) label))
+
+pub cell_in_class : (rel : ℕ) (ent : List ℕ) (kclass label : ℕ) (r : Row) → is_cell_row r ≡ true
+    → passes by_class (Int (pos rel) ∷ Blob ent ∷ Int (pos kclass) ∷ Int (pos label) ∷ []) r ≡ is_cell_in rel ent kclass label (cell_of r)
+cell_in_class rel ent kclass label r h =
+    let c = cell_parts r h in
+    rw (same_nat (column r 1) rel c.rel, same_blob (column r 2) ent c.ent, same_nat (column r 3) kclass c.kclass, same_nat (column r 4) label c.label, and_true (nat_eq (nat_in (column r 4)) label))
+
+pub cell_at_key : (cell : CellRow) (r : Row) → is_cell_row r ≡ true → passes by_cell (cell_values cell) r ≡ is_cell cell.rel cell.ent cell.kclass cell.label cell.attr (cell_of r)
+cell_at_key cell r h =
+    let c = cell_parts r h in
+    rw (same_nat (column r 1) cell.rel c.rel, same_blob (column r 2) cell.ent c.ent, same_nat (column r 3) cell.kclass c.kclass, same_nat (column r 4) cell.label c.label, same_nat (column r 5) cell.attr c.attr, and_true (nat_eq (nat_in (column r 5)) cell.attr))
+
+-- ---- what the queries show, of the rows that they show it of
+
+pub node_at_label : (rel label : ℕ) (r : Row) → is_node_row r ≡ true
+    → (passes by_label (Int (pos rel) ∷ Int (pos label) ∷ []) r ≡ is_node_at rel label (node_of r))
+node_at_label rel label r h =
+    let c = node_parts r h in rw (same_nat (column r 1) rel c.rel, same_nat (column r 4) label c.label, and_true (nat_eq (nat_in (column r 4)) label))
+
+pub node_of_entity : (rel : ℕ) (ent : List ℕ) (kclass : ℕ) (r : Row) → is_node_row r ≡ true
+    → passes by_entity (Int (pos rel) ∷ Blob ent ∷ Int (pos kclass) ∷ []) r ≡ is_node_of rel ent kclass (node_of r)
+node_of_entity rel ent kclass r h =
+    let c = node_parts r h in
+    rw (same_nat (column r 1) rel c.rel, same_blob (column r 2) ent c.ent, same_nat (column r 3) kclass c.kclass, and_true (nat_eq (nat_in (column r 3)) kclass))
+
+pub node_shows : (params r : Row) → is_node_row r ≡ true → eval_all node_shown (params ∷ r ∷ []) ≡ node_values (node_of r)
+node_shows params r h =
+    let c = node_parts r h in
+    rw (← nat_is (column r 1) c.rel, ← blob_is (column r 2) c.ent, ← nat_is (column r 3) c.kclass, ← nat_is (column r 4) c.label, ← blob_is (column r 5) c.pattern)
+
+pub cell_at_label : (rel label : ℕ) (r : Row) → is_cell_row r ≡ true
+    → (passes by_label (Int (pos rel) ∷ Int (pos label) ∷ []) r ≡ is_cell_at rel label (cell_of r))
+cell_at_label rel label r h =
+    let c = cell_parts r h in rw (same_nat (column r 1) rel c.rel, same_nat (column r 4) label c.label, and_true (nat_eq (nat_in (column r 4)) label))
+
+pub cell_of_entity : (rel : ℕ) (ent : List ℕ) (kclass : ℕ) (r : Row) → is_cell_row r ≡ true
+    → passes by_entity (Int (pos rel) ∷ Blob ent ∷ Int (pos kclass) ∷ []) r ≡ is_cell_of rel ent kclass (cell_of r)
+cell_of_entity rel ent kclass r h =
+    let c = cell_parts r h in
+    rw (same_nat (column r 1) rel c.rel, same_blob (column r 2) ent c.ent, same_nat (column r 3) kclass c.kclass, and_true (nat_eq (nat_in (column r 3)) kclass))
+
+pub cell_shows : (params r : Row) → is_cell_row r ≡ true → eval_all cell_shown (params ∷ r ∷ []) ≡ cell_values (cell_of r)
+cell_shows params r h =
+    let c = cell_parts r h in
+    rw (← nat_is (column r 1) c.rel, ← blob_is (column r 2) c.ent, ← nat_is (column r 3) c.kclass, ← nat_is (column r 4) c.label, ← nat_is (column r 5) c.attr, ← blob_is (column r 6) c.value)
+
+pub entry_at_number : (number : ℤ) (r : Row) → is_audit_row r ≡ true → passes (same 0 0 ∷ []) (Int number ∷ []) r ≡ is_entry_at number (audit_of r)
+entry_at_number number r h = let c = and_parts _ _ h in rw (same_int (rowid r) number c.0, and_true (int_eq (id_in (rowid r)) number))
+
+pub entry_shows : (params r : Row) → is_audit_row r ≡ true → eval_all audit_shown (params ∷ r ∷ []) ≡ audit_values (audit_of r)
+entry_shows params r h = let c = and_parts _ _ h in rw (← int_is (rowid r) c.0, ← blob_is (column r 2) c.1)

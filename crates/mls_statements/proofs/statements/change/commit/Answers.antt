@@ -1,0 +1,9 @@
+use Rattle.sqlite.specs.Held.{state}
+use Rattle.mls_statements.proofs.EndLemmas.{ended, committed}
+use Rattle.mls_statements.proofs.statements.change.commit.Goals as goal
+
+pub returns-clause-committed : goal.returns-clause-committed
+returns-clause-committed g c clean = committed (state g.S.Store c.args.conn.now) (state g.S.Store c.execute.new.self) c.execute.result (c.execute.ensures.runs clean)
+
+pub returns-clause-err : goal.returns-clause-err
+returns-clause-err g c clean = ended (state g.S.Store c.args.conn.now) (state g.S.Store c.execute.new.self) _ _ c.execute.result (c.execute.ensures.runs clean)

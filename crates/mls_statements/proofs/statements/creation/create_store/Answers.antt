@@ -1,0 +1,14 @@
+use Rattle.std.proofs.Common.{ap, ◌∙◌}
+use Rattle.sqlite.specs.Effect.{Database}
+use Rattle.sqlite.specs.Held.{state}
+use Rattle.mls_statements.proofs.CreationLemmas.{made_ready, stored}
+use Rattle.mls_statements.proofs.statements.creation.create_store.Goals as goal
+
+pub returns-clause-made : goal.returns-clause-made
+returns-clause-made g c clean none =
+    let added = c.commit.ensures.clean clean in
+    let made = c.in_ok-add_meta.ensures.clean added in
+    let begun = c.in_ok-begin.ensures.begun (c.in_ok-create_tables.ensures.clean made) in
+    let tables = c.in_ok-create_tables.ensures.made made (ap (λ (db : Database). db.schema) begun.now ∙ none, tt) in
+    let adds = c.in_ok-add_meta.ensures.added added (made_ready (state g.S.Store c.create_tables.new.conn).now tables.0).0 in
+    stored (state g.S.Store c.create_tables.new.conn) (state g.S.Store c.add_meta.new.conn) (state g.S.Store c.commit.new.conn) c.args.lattice.now c.args.schemes.now tables.0 adds c.commit.result (c.commit.ensures.committed clean)

@@ -1,0 +1,12 @@
+use Rattle.sqlite.specs.Held.{state}
+use Rattle.mls_statements.proofs.Adds.{adds_node}
+use Rattle.mls_statements.proofs.EndLemmas.{ended}
+use Rattle.mls_statements.proofs.statements.node.add_node.Goals as goal
+
+pub returns-clause-added : goal.returns-clause-added
+returns-clause-added g c clean ready =
+    adds_node (state g.S.Store c.args.conn.now) (state g.S.Store c.execute.new.self) ready c.args.node.now c.execute.result
+    (rw (c.params-to_sql.ensures, c.params-to_sql-2.ensures, c.params-to_sql-3.ensures, c.params-to_sql-4.ensures, c.params-to_sql-5.ensures, c.as_slice.ensures, c.as_slice-2.ensures) at (c.execute.ensures.runs clean))
+
+pub returns-clause-err : goal.returns-clause-err
+returns-clause-err g c clean = ended (state g.S.Store c.args.conn.now) (state g.S.Store c.execute.new.self) _ _ c.execute.result (c.execute.ensures.runs clean)

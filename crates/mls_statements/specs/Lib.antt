@@ -1,0 +1,4 @@
+pub mod Rows
+pub mod Schema
+pub mod Statements
+pub mod Store

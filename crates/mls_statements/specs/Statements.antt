@@ -1,0 +1,95 @@
+-- What the statements do to the four tables.
+use Rattle.std.specs.Prelude.{◌≡◌, ◌⊎◌, ℕ, Bool, true, false, not, if◌then◌else◌, List, [], ◌∷◌, filter, IsTrue, IsPermutation}
+use Rattle.std.specs.List.{AllByRecursion}
+use Rattle.std.specs.Ordering.{is_eq}
+use Rattle.sqlite_value.specs.Order.{Row, value_cmp}
+use Rattle.sqlite_trees.specs.Tree.{rowid, IsAscending}
+use Rattle.sqlite.specs.Effect.{Database}
+use Rattle.sqlite.specs.State.{State, IsUnchanged, IsRolledBack}
+use Rattle.mls_statements.specs.declared.rows.NodeRow.{NodeRow}
+use Rattle.mls_statements.specs.declared.rows.CellRow.{CellRow}
+use Rattle.mls_statements.specs.declared.rows.AuditRow.{AuditRow}
+use Rattle.mls_statements.specs.declared.rows.MetaRow.{MetaRow}
+use Rattle.mls_statements.specs.Rows.{Tables, tables_of, described, is_node, is_cell, is_cell_in, is_node_row, is_cell_row, is_audit_row, is_meta_row}
+use Rattle.mls_statements.specs.Schema.{schema}
+
+-- no two rows have one rowid
+abbrev pub IsApart : List Row → Type 0
+IsApart = IsAscending (λ a b. is_eq (value_cmp (rowid a) (rowid b)) ≡ false)
+
+-- rows of different rowids, each of the table's form
+abbrev pub AreRows : (Row → Bool) → List Row → Type 0
+AreRows is_row rows = IsApart rows × AllByRecursion (λ r. is_row r ≡ true) rows
+
+-- the database is the four tables, and their rows are what they should be
+abbrev pub IsReady : Database → Type 0
+IsReady db =
+    (db.schema ≡ schema)
+    × (AreRows is_node_row (db.trees 0) × (AreRows is_cell_row (db.trees 2) × (AreRows is_audit_row (db.trees 4) × AreRows is_meta_row (db.trees 5))))
+
+-- ---- what becomes of the rows
+
+abbrev pub AddsNode : NodeRow → Tables → Tables → Type 0
+AddsNode n old new = (new ≡ record old { nodes = new.nodes }) × IsPermutation (n ∷ old.nodes) new.nodes
+
+abbrev pub DropsNode : ℕ → List ℕ → ℕ → ℕ → Tables → Tables → Type 0
+DropsNode rel ent kclass label old new = new ≡ record old { nodes = filter (λ n. not (is_node rel ent kclass label n)) old.nodes }
+
+abbrev pub AddsCell : CellRow → Tables → Tables → Type 0
+AddsCell c old new = (new ≡ record old { cells = new.cells }) × IsPermutation (c ∷ old.cells) new.cells
+
+abbrev pub has_key_of : CellRow → CellRow → Bool
+has_key_of c = is_cell c.rel c.ent c.kclass c.label c.attr
+
+-- the cell stands in the place of the one with its key
+abbrev pub SetsCell : CellRow → Tables → Tables → Type 0
+SetsCell c old new = (new ≡ record old { cells = new.cells }) × IsPermutation (c ∷ filter (λ d. not (has_key_of c d)) old.cells) new.cells
+
+abbrev pub DropsCells : ℕ → List ℕ → ℕ → ℕ → Tables → Tables → Type 0
+DropsCells rel ent kclass label old new = new ≡ record old { cells = filter (λ c. not (is_cell_in rel ent kclass label c)) old.cells }
+
+abbrev pub AddsEntry : AuditRow → Tables → Tables → Type 0
+AddsEntry a old new = (new ≡ record old { audit = new.audit }) × IsPermutation (a ∷ old.audit) new.audit
+
+abbrev pub AddsMeta : MetaRow → Tables → Tables → Type 0
+AddsMeta m old new = (new ≡ record old { meta = new.meta }) × IsPermutation (m ∷ old.meta) new.meta
+
+-- ---- what becomes of the connection
+
+-- the change goes on, or was made and committed at once
+pub record IsNext (old new : State) : Type 0 where
+  pub was_open : IsTrue old.is_open
+  pub is_open : IsTrue new.is_open
+  pub mode : new.in_transaction ≡ old.in_transaction
+  pub committed : new.committed ≡ (if old.in_transaction then old.committed else new.now)
+
+-- a statement that is done on the four tables
+pub record Changes (Rows : Tables → Tables → Type 0) (old new : State) : Type 0 where
+  pub ready : IsReady new.now
+  pub rows : Rows (tables_of old.now.trees) (tables_of new.now.trees)
+  pub next : IsNext old new
+
+-- a transaction is begun, and nothing else
+pub record Begins (old new : State) : Type 0 where
+  pub was : old.in_transaction ≡ false
+  pub was_open : IsTrue old.is_open
+  pub is_open : IsTrue new.is_open
+  pub now : new.now ≡ old.now
+  pub committed : new.committed ≡ old.committed
+  pub mode : new.in_transaction ≡ true
+
+-- a store that was made, and is committed
+pub record IsNewStore (lattice schemes : List ℕ) (s : State) : Type 0 where
+  pub is_open : IsTrue s.is_open
+  pub mode : s.in_transaction ≡ false
+  pub ready : IsReady s.now
+  pub rows : tables_of s.now.trees ≡ described lattice schemes
+  pub settled : s.now ≡ s.committed
+
+-- nothing was done, or the transaction was undone
+abbrev pub IsEnded : State → State → Type 0
+IsEnded old new = IsUnchanged old new ⊎ IsRolledBack old new
+
+-- exactly one item passes the test
+abbrev pub IsOne : {X : Type 0} → (X → Bool) → List X → X → Type 0
+IsOne p xs x = filter p xs ≡ x ∷ []

@@ -1,0 +1,68 @@
+-- What a store of the four tables shows, and what its calls do to it.
+use Rattle.std.specs.Prelude.{◌≡◌, ℕ, ◌<◌, ◌≤◌, Bool, false, if◌then◌else◌, IsTrue, IfErr, Result}
+use Rattle.sqlite_trees.specs.View.{doubt}
+use Rattle.sqlite.specs.State.{State, HasCleanDisk}
+use Rattle.mls_statements.specs.declared.store.StoreFault.{StoreFault}
+use Rattle.mls_statements.specs.declared.store.StoreFault.TheVariants.{Store}
+use Rattle.mls_statements.specs.Rows.{Tables, tables_of}
+use Rattle.mls_statements.specs.Statements.{IsReady}
+
+-- the rows now and as of the last commit, whether a change is begun, whether the disk has so far given back what was
+-- written to it, and how many calls of the store have failed
+pub record TableState : Type 0 where
+  pub now : Tables
+  pub kept : Tables
+  pub begun : Bool
+  pub is_clean : Bool
+  pub failures : ℕ
+
+abbrev pub IsClean : TableState → Type 0
+IsClean s = doubt s.is_clean ≡ 0
+
+-- what a fault leaves: no change is begun, and the rows are those of the last commit
+pub record IsFault (fault : StoreFault) (old new : TableState) : Type 0 where
+  pub store : fault ≡ Store → old.failures < new.failures
+  pub mode : new.begun ≡ false
+  pub rows : IsClean new → (new.now ≡ old.kept) × (new.kept ≡ old.kept)
+
+-- what every call keeps
+pub record IsCall {A : Type 0} (old new : TableState) (result : Result A StoreFault) : Type 0 where
+  pub clean : IsClean new → IsClean old
+  pub count : old.failures ≤ new.failures
+  pub fault : IfErr result (λ e. IsFault e old new)
+
+-- the rows are changed, and those of the last commit are not
+abbrev pub Writes : (Tables → Tables → Type 0) → TableState → TableState → Type 0
+Writes Rows old new = Rows old.now new.now × (new.kept ≡ old.kept)
+
+-- no row is changed
+abbrev pub IsSame : TableState → TableState → Type 0
+IsSame old new = (new.now ≡ old.now) × (new.kept ≡ old.kept)
+
+-- ---- what a connection shows of that
+
+abbrev pub table_state : State → Bool → ℕ → Tables → TableState
+table_state s begun failures last = record {
+  now = if s.is_open then tables_of s.now.trees else last;
+  kept = if s.is_open then tables_of s.committed.trees else last;
+  begun = begun;
+  is_clean = s.is_clean;
+  failures = failures;
+}
+
+-- Inside a change the connection is open. An open one shows the four tables, and `last` is what it committed last, which is
+-- remembered for when it is shut.
+pub record IsSound (s : State) (begun : Bool) (last : Tables) : Type 0 where
+  pub is_open : HasCleanDisk s → IsTrue begun → IsTrue s.is_open
+  pub mode : HasCleanDisk s → IsTrue s.is_open → s.in_transaction ≡ begun
+  pub now : HasCleanDisk s → IsTrue s.is_open → IsReady s.now
+  pub committed : HasCleanDisk s → IsTrue s.is_open → IsReady s.committed
+  pub last_is : HasCleanDisk s → IsTrue s.is_open → last ≡ tables_of s.committed.trees
+  pub settled : HasCleanDisk s → IsTrue s.is_open → begun ≡ false → s.now ≡ s.committed
+
+-- no change is begun, and where the connection is open it shows what was committed before
+pub record HasEnded (old new : State) : Type 0 where
+  pub mode : new.in_transaction ≡ false
+  pub was_open : IsTrue new.is_open → IsTrue old.is_open
+  pub now : IsTrue new.is_open → new.now ≡ old.committed
+  pub committed : IsTrue new.is_open → new.committed ≡ old.committed

@@ -1,0 +1,162 @@
+//! Rows of tables from rows that queries show.
+ghost use Rattle.std.specs.Prelude.{◌≡◌, pos, true, map, IsTrue, IfOk};
+ghost use Rattle.std.specs.List.{AllByRecursion};
+ghost use Rattle.sqlite_value.specs.Order.{column};
+ghost use Rattle.sqlite_trees.specs.View.{is_int};
+ghost use Rattle.sqlite_rules.specs.Edit.{id_in};
+ghost use Rattle.mls_statements.specs.Rows.{nat_in, blob_in, text_in, is_nat, is_blob, is_text, shown_node, shows_node, shown_cell, shows_cell, shown_entry, shows_entry, shown_meta, shows_meta, are_numbered};
+
+use crate::rows::{AuditRow, CellRow, MetaRow, NodeRow};
+use mls_lattice::{Items, Str};
+use sqlite::{Error, Row};
+use std::alloc::Global;
+
+fn bytes_at(row: &Row, at: usize) -> Result<Items<u8>, Error>
+    ensures { IfOk result (λ bytes. (bytes ≡ blob_in (column row.now at)) × (is_blob (column row.now at) ≡ true)) }
+{
+    let bytes: Vec<u8> = row.get(at)?;
+    Ok(Items::from(bytes))
+}
+
+fn text_at(row: &Row, at: usize) -> Result<Str, Error>
+    ensures { IfOk result (λ text. (text ≡ text_in (column row.now at)) × (is_text (column row.now at) ≡ true)) }
+{
+    let text: String = row.get(at)?;
+    Ok(Str::from(text))
+}
+
+fn number_at(row: &Row, at: usize) -> Result<u32, Error>
+    ensures { IfOk result (λ n. (n ≡ nat_in (column row.now at)) × (is_nat (column row.now at) ≡ true)) }
+{
+    row.get(at)
+}
+
+fn integer_at(row: &Row, at: usize) -> Result<i64, Error>
+    ensures { IfOk result (λ n. (n ≡ id_in (column row.now at)) × (is_int (column row.now at) ≡ true)) }
+{
+    row.get(at)
+}
+
+fn node_from(row: &Row) -> Result<NodeRow, Error>
+    ensures { IfOk result (λ x. (x ≡ shown_node row.now) × (shows_node row.now ≡ true)) }
+{
+    let rel = number_at(row, 0)?;
+    let ent = bytes_at(row, 1)?;
+    let kclass = number_at(row, 2)?;
+    let label = number_at(row, 3)?;
+    let pattern = bytes_at(row, 4)?;
+    Ok(NodeRow {
+        rel,
+        ent,
+        kclass,
+        label,
+        pattern,
+    })
+}
+
+/// What the rows show.
+pub fn nodes_from(alloc: Global, rows: &[Row]) -> Result<Vec<NodeRow>, Error>
+    ensures shown { IfOk result (λ xs. xs.items ≡ map shown_node rows.now) }
+    ensures whole { IfOk result (λ _. AllByRecursion (λ r. shows_node r ≡ true) rows.now) }
+{
+    let mut found = Vec::new(alloc);
+    for row in rows {
+        found.push(node_from(row)?)?;
+    }
+    Ok(found)
+}
+
+fn cell_from(row: &Row) -> Result<CellRow, Error>
+    ensures { IfOk result (λ x. (x ≡ shown_cell row.now) × (shows_cell row.now ≡ true)) }
+{
+    let rel = number_at(row, 0)?;
+    let ent = bytes_at(row, 1)?;
+    let kclass = number_at(row, 2)?;
+    let label = number_at(row, 3)?;
+    let attr = number_at(row, 4)?;
+    let value = bytes_at(row, 5)?;
+    Ok(CellRow {
+        rel,
+        ent,
+        kclass,
+        label,
+        attr,
+        value,
+    })
+}
+
+/// What the rows show.
+pub fn cells_from(alloc: Global, rows: &[Row]) -> Result<Vec<CellRow>, Error>
+    ensures shown { IfOk result (λ xs. xs.items ≡ map shown_cell rows.now) }
+    ensures whole { IfOk result (λ _. AllByRecursion (λ r. shows_cell r ≡ true) rows.now) }
+{
+    let mut found = Vec::new(alloc);
+    for row in rows {
+        found.push(cell_from(row)?)?;
+    }
+    Ok(found)
+}
+
+fn entry_from(row: &Row) -> Result<AuditRow, Error>
+    ensures { IfOk result (λ x. (x ≡ shown_entry row.now) × (shows_entry row.now ≡ true)) }
+{
+    let number = integer_at(row, 0)?;
+    let bytes = bytes_at(row, 1)?;
+    Ok(AuditRow { number, bytes })
+}
+
+/// What the rows show.
+pub fn entries_from(alloc: Global, rows: &[Row]) -> Result<Vec<AuditRow>, Error>
+    ensures shown { IfOk result (λ xs. xs.items ≡ map shown_entry rows.now) }
+    ensures whole { IfOk result (λ _. AllByRecursion (λ r. shows_entry r ≡ true) rows.now) }
+{
+    let mut found = Vec::new(alloc);
+    for row in rows {
+        found.push(entry_from(row)?)?;
+    }
+    Ok(found)
+}
+
+fn description_from(row: &Row) -> Result<MetaRow, Error>
+    ensures { IfOk result (λ x. (x ≡ shown_meta row.now) × (shows_meta row.now ≡ true)) }
+{
+    let id = integer_at(row, 0)?;
+    let version = integer_at(row, 1)?;
+    let lattice = text_at(row, 2)?;
+    let schemes = text_at(row, 3)?;
+    Ok(MetaRow {
+        id,
+        version,
+        lattice,
+        schemes,
+    })
+}
+
+/// What the rows show.
+pub fn meta_from(alloc: Global, rows: &[Row]) -> Result<Vec<MetaRow>, Error>
+    ensures shown { IfOk result (λ xs. xs.items ≡ map shown_meta rows.now) }
+    ensures whole { IfOk result (λ _. AllByRecursion (λ r. shows_meta r ≡ true) rows.now) }
+{
+    let mut found = Vec::new(alloc);
+    for row in rows {
+        found.push(description_from(row)?)?;
+    }
+    Ok(found)
+}
+
+/// Whether the entries have the numbers 1, 2, .. in order.
+pub fn are_numbered(entries: &[AuditRow]) -> bool
+    ensures { IsTrue result → IsTrue (are_numbered (pos 1) entries.now) }
+{
+    let mut last: i64 = 0;
+    for entry in entries {
+        let Some(next) = last.checked_add(1) else {
+            return false;
+        };
+        if entry.number != next {
+            return false;
+        }
+        last = next;
+    }
+    true
+}

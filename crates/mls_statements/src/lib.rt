@@ -1,0 +1,14 @@
+//! The four tables of a store, the statements on them, and a store that keeps its rows, its last commit and its failures.
+#![tactic(auto)]
+
+mod decode;
+mod failures;
+mod remembered;
+mod rows;
+/// The statements, each over any connection.
+pub mod statements;
+mod store;
+
+pub use decode::{are_numbered, cells_from, entries_from, meta_from, nodes_from};
+pub use rows::{AuditRow, CellRow, MetaRow, NodeRow};
+pub use store::{StoreFault, TableStore};

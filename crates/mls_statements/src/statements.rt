@@ -1,0 +1,12 @@
+/// The audit list.
+pub mod audit;
+/// The table of cells.
+pub mod cell;
+/// Changes: their begin and their end.
+pub mod change;
+/// The tables of a new store.
+pub mod creation;
+/// The row that describes a store.
+pub mod meta;
+/// The table of nodes.
+pub mod node;

@@ -1,0 +1,148 @@
+ghost use Rattle.std.specs.Prelude.{◌≡◌, map, filter, IsTrue, IfOk, OnOk, OnErr, IsPermutation};
+ghost use Rattle.sqlite.specs.State.{HasCleanDisk, IsUnchanged};
+ghost use Rattle.sqlite.specs.Held.{state};
+ghost use Rattle.mls_statements.specs.declared.rows.CellRow.{CellRow as SpecCell};
+ghost use Rattle.mls_statements.specs.Rows.{tables_of, is_cell_at, is_cell_of, cell_values, cell_columns};
+ghost use Rattle.mls_statements.specs.Schema.{schema};
+ghost use Rattle.mls_statements.specs.Statements.{IsReady, Changes, AddsCell, SetsCell, DropsCells, IsOne, has_key_of, IsEnded};
+
+use crate::decode::cells_from;
+use crate::rows::CellRow;
+use sqlite::{Alter, Connection, Error, Row, params};
+use std::alloc::Global;
+
+/// Adds a cell.
+pub fn add_cell<S: Alter>(conn: &mut Connection<S>, cell: &CellRow) -> Result<usize, Error>
+    ensures added { HasCleanDisk (state S.Store conn.new) → IsReady (state S.Store conn.old).now → OnOk result (Changes (AddsCell cell.now) (state S.Store conn.old) (state S.Store conn.new)) }
+    ensures err { HasCleanDisk (state S.Store conn.new) → OnErr result (IsEnded (state S.Store conn.old) (state S.Store conn.new)) }
+    ensures clean { HasCleanDisk (state S.Store conn.new) → HasCleanDisk (state S.Store conn.old) }
+{
+    conn.execute(
+        "INSERT INTO cell (rel, ent, kclass, label, attr, value) VALUES (?1, ?2, ?3, ?4, ?5, ?6)",
+        params![
+            cell.rel,
+            cell.ent.as_slice(),
+            cell.kclass,
+            cell.label,
+            cell.attr,
+            cell.value.as_slice()
+        ],
+    )
+}
+
+/// Gives the one cell with the key of `cell` its value.
+pub fn set_cell<S: Alter>(conn: &mut Connection<S>, cell: &CellRow) -> Result<usize, Error>
+    ensures set { HasCleanDisk (state S.Store conn.new) → IsReady (state S.Store conn.old).now → (was : SpecCell) → IsOne (has_key_of cell.now) (tables_of (state S.Store conn.old).now.trees).cells was → OnOk result (Changes (SetsCell cell.now) (state S.Store conn.old) (state S.Store conn.new)) }
+    ensures err { HasCleanDisk (state S.Store conn.new) → OnErr result (IsEnded (state S.Store conn.old) (state S.Store conn.new)) }
+    ensures clean { HasCleanDisk (state S.Store conn.new) → HasCleanDisk (state S.Store conn.old) }
+{
+    conn.execute(
+        "UPDATE cell SET value = ?6 WHERE rel = ?1 AND ent = ?2 AND kclass = ?3 AND label = ?4 AND attr = ?5",
+        params![
+            cell.rel,
+            cell.ent.as_slice(),
+            cell.kclass,
+            cell.label,
+            cell.attr,
+            cell.value.as_slice()
+        ],
+    )
+}
+
+/// Drops the cells of one tuple's own class.
+pub fn drop_cells<S: Alter>(
+    conn: &mut Connection<S>,
+    rel: u32,
+    ent: &[u8],
+    kclass: u32,
+    label: u32,
+) -> Result<usize, Error>
+    ensures dropped { HasCleanDisk (state S.Store conn.new) → IsReady (state S.Store conn.old).now → OnOk result (Changes (DropsCells rel ent.now kclass label) (state S.Store conn.old) (state S.Store conn.new)) }
+    ensures err { HasCleanDisk (state S.Store conn.new) → OnErr result (IsEnded (state S.Store conn.old) (state S.Store conn.new)) }
+    ensures clean { HasCleanDisk (state S.Store conn.new) → HasCleanDisk (state S.Store conn.old) }
+{
+    conn.execute(
+        "DELETE FROM cell WHERE rel = ?1 AND ent = ?2 AND kclass = ?3 AND label = ?4",
+        params![rel, ent, kclass, label],
+    )
+}
+
+/// The cells of one class, as rows of their six columns.
+pub fn cells_at<S: Alter>(conn: &mut Connection<S>, rel: u32, label: u32) -> Result<Vec<Row>, Error>
+    ensures found { HasCleanDisk (state S.Store conn.new) → IsReady (state S.Store conn.old).now → IfOk result (λ rows. IsPermutation (map cell_values (filter (is_cell_at rel label) (tables_of (state S.Store conn.old).now.trees).cells)) rows.items) }
+    ensures open { HasCleanDisk (state S.Store conn.new) → OnOk result (IsTrue (state S.Store conn.old).is_open) }
+    ensures same { HasCleanDisk (state S.Store conn.new) → IsReady (state S.Store conn.old).now → OnOk result (IsUnchanged (state S.Store conn.old) (state S.Store conn.new)) }
+    ensures err { HasCleanDisk (state S.Store conn.new) → OnErr result (IsEnded (state S.Store conn.old) (state S.Store conn.new)) }
+    ensures clean { HasCleanDisk (state S.Store conn.new) → HasCleanDisk (state S.Store conn.old) }
+{
+    conn.query_all(
+        "SELECT rel, ent, kclass, label, attr, value FROM cell WHERE rel = ?1 AND label = ?2",
+        params![rel, label],
+    )
+}
+
+/// The cells of one entity, as rows of their six columns.
+pub fn cells_of<S: Alter>(
+    conn: &mut Connection<S>,
+    rel: u32,
+    ent: &[u8],
+    kclass: u32,
+) -> Result<Vec<Row>, Error>
+    ensures found { HasCleanDisk (state S.Store conn.new) → IsReady (state S.Store conn.old).now → IfOk result (λ rows. IsPermutation (map cell_values (filter (is_cell_of rel ent.now kclass) (tables_of (state S.Store conn.old).now.trees).cells)) rows.items) }
+    ensures open { HasCleanDisk (state S.Store conn.new) → OnOk result (IsTrue (state S.Store conn.old).is_open) }
+    ensures same { HasCleanDisk (state S.Store conn.new) → IsReady (state S.Store conn.old).now → OnOk result (IsUnchanged (state S.Store conn.old) (state S.Store conn.new)) }
+    ensures err { HasCleanDisk (state S.Store conn.new) → OnErr result (IsEnded (state S.Store conn.old) (state S.Store conn.new)) }
+    ensures clean { HasCleanDisk (state S.Store conn.new) → HasCleanDisk (state S.Store conn.old) }
+{
+    conn.query_all(
+        "SELECT rel, ent, kclass, label, attr, value FROM cell WHERE rel = ?1 AND ent = ?2 AND kclass = ?3",
+        params![rel, ent, kclass],
+    )
+}
+
+/// Every row of the table of cells, with its rowid last, in a database of the four tables.
+pub fn all_cells<S: Alter>(conn: &mut Connection<S>) -> Result<Vec<Row>, Error>
+    ensures found { HasCleanDisk (state S.Store conn.new) → (state S.Store conn.old).now.schema ≡ schema → IfOk result (λ rows. IsPermutation (map cell_columns ((state S.Store conn.old).now.trees 2)) rows.items) }
+    ensures open { HasCleanDisk (state S.Store conn.new) → OnOk result (IsTrue (state S.Store conn.old).is_open) }
+    ensures same { HasCleanDisk (state S.Store conn.new) → (state S.Store conn.old).now.schema ≡ schema → OnOk result (IsUnchanged (state S.Store conn.old) (state S.Store conn.new)) }
+    ensures err { HasCleanDisk (state S.Store conn.new) → OnErr result (IsEnded (state S.Store conn.old) (state S.Store conn.new)) }
+    ensures clean { HasCleanDisk (state S.Store conn.new) → HasCleanDisk (state S.Store conn.old) }
+{
+    conn.query_all(
+        "SELECT rel, ent, kclass, label, attr, value, rowid FROM cell ORDER BY rowid",
+        &[],
+    )
+}
+
+/// The cells of one class.
+pub fn read_cells_at<S: Alter>(
+    conn: &mut Connection<S>,
+    alloc: Global,
+    rel: u32,
+    label: u32,
+) -> Result<Vec<CellRow>, Error>
+    ensures found { HasCleanDisk (state S.Store conn.new) → IsReady (state S.Store conn.old).now → IfOk result (λ found. IsPermutation (filter (is_cell_at rel label) (tables_of (state S.Store conn.old).now.trees).cells) found.items) }
+    ensures open { HasCleanDisk (state S.Store conn.new) → OnOk result (IsTrue (state S.Store conn.old).is_open) }
+    ensures same { HasCleanDisk (state S.Store conn.new) → IsReady (state S.Store conn.old).now → OnOk result (IsUnchanged (state S.Store conn.old) (state S.Store conn.new)) }
+    ensures err { HasCleanDisk (state S.Store conn.new) → (IsTrue (state S.Store conn.old).is_open → IsReady (state S.Store conn.old).now) → OnErr result (IsEnded (state S.Store conn.old) (state S.Store conn.new)) }
+    ensures clean { HasCleanDisk (state S.Store conn.new) → HasCleanDisk (state S.Store conn.old) }
+{
+    cells_from(alloc, &cells_at(conn, rel, label)?)
+}
+
+/// The cells of one entity.
+pub fn read_cells_of<S: Alter>(
+    conn: &mut Connection<S>,
+    alloc: Global,
+    rel: u32,
+    ent: &[u8],
+    kclass: u32,
+) -> Result<Vec<CellRow>, Error>
+    ensures found { HasCleanDisk (state S.Store conn.new) → IsReady (state S.Store conn.old).now → IfOk result (λ found. IsPermutation (filter (is_cell_of rel ent.now kclass) (tables_of (state S.Store conn.old).now.trees).cells) found.items) }
+    ensures open { HasCleanDisk (state S.Store conn.new) → OnOk result (IsTrue (state S.Store conn.old).is_open) }
+    ensures same { HasCleanDisk (state S.Store conn.new) → IsReady (state S.Store conn.old).now → OnOk result (IsUnchanged (state S.Store conn.old) (state S.Store conn.new)) }
+    ensures err { HasCleanDisk (state S.Store conn.new) → (IsTrue (state S.Store conn.old).is_open → IsReady (state S.Store conn.old).now) → OnErr result (IsEnded (state S.Store conn.old) (state S.Store conn.new)) }
+    ensures clean { HasCleanDisk (state S.Store conn.new) → HasCleanDisk (state S.Store conn.old) }
+{
+    cells_from(alloc, &cells_of(conn, rel, ent, kclass)?)
+}

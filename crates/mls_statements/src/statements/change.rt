@@ -1,0 +1,33 @@
+ghost use Rattle.std.specs.Prelude.{IsTrue, OnOk, OnErr};
+ghost use Rattle.sqlite.specs.State.{HasCleanDisk, IsRolledBack, Commits};
+ghost use Rattle.sqlite.specs.Held.{state};
+ghost use Rattle.mls_statements.specs.Statements.{Begins, IsEnded};
+
+use sqlite::{Alter, Connection, Error};
+
+/// Begins a change.
+pub fn begin<S: Alter>(conn: &mut Connection<S>) -> Result<usize, Error>
+    ensures begun { HasCleanDisk (state S.Store conn.new) → OnOk result (Begins (state S.Store conn.old) (state S.Store conn.new)) }
+    ensures err { HasCleanDisk (state S.Store conn.new) → OnErr result (IsEnded (state S.Store conn.old) (state S.Store conn.new)) }
+    ensures clean { HasCleanDisk (state S.Store conn.new) → HasCleanDisk (state S.Store conn.old) }
+{
+    conn.execute("BEGIN", &[])
+}
+
+/// Commits the change.
+pub fn commit<S: Alter>(conn: &mut Connection<S>) -> Result<usize, Error>
+    ensures committed { HasCleanDisk (state S.Store conn.new) → OnOk result (Commits (state S.Store conn.old) (state S.Store conn.new)) }
+    ensures err { HasCleanDisk (state S.Store conn.new) → OnErr result (IsEnded (state S.Store conn.old) (state S.Store conn.new)) }
+    ensures clean { HasCleanDisk (state S.Store conn.new) → HasCleanDisk (state S.Store conn.old) }
+{
+    conn.execute("COMMIT", &[])
+}
+
+/// Undoes the change, also where it answers an error.
+pub fn undo<S: Alter>(conn: &mut Connection<S>) -> Result<usize, Error>
+    requires { IsTrue (state S.Store conn.old).in_transaction }
+    ensures undone { HasCleanDisk (state S.Store conn.new) → IsRolledBack (state S.Store conn.old) (state S.Store conn.new) }
+    ensures clean { HasCleanDisk (state S.Store conn.new) → HasCleanDisk (state S.Store conn.old) }
+{
+    conn.execute("ROLLBACK", &[])
+}

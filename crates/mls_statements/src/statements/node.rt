@@ -1,0 +1,127 @@
+ghost use Rattle.std.specs.Prelude.{◌≡◌, map, filter, IsTrue, IfOk, OnOk, OnErr, IsPermutation};
+ghost use Rattle.sqlite.specs.State.{HasCleanDisk, IsUnchanged};
+ghost use Rattle.sqlite.specs.Held.{state};
+ghost use Rattle.mls_statements.specs.Rows.{tables_of, is_node_at, is_node_of, node_values, node_columns};
+ghost use Rattle.mls_statements.specs.Schema.{schema};
+ghost use Rattle.mls_statements.specs.Statements.{IsReady, Changes, AddsNode, DropsNode, IsEnded};
+
+use crate::decode::nodes_from;
+use crate::rows::NodeRow;
+use sqlite::{Alter, Connection, Error, Row, params};
+use std::alloc::Global;
+
+/// Adds a node.
+pub fn add_node<S: Alter>(conn: &mut Connection<S>, node: &NodeRow) -> Result<usize, Error>
+    ensures added { HasCleanDisk (state S.Store conn.new) → IsReady (state S.Store conn.old).now → OnOk result (Changes (AddsNode node.now) (state S.Store conn.old) (state S.Store conn.new)) }
+    ensures err { HasCleanDisk (state S.Store conn.new) → OnErr result (IsEnded (state S.Store conn.old) (state S.Store conn.new)) }
+    ensures clean { HasCleanDisk (state S.Store conn.new) → HasCleanDisk (state S.Store conn.old) }
+{
+    conn.execute(
+        "INSERT INTO node (rel, ent, kclass, label, pattern) VALUES (?1, ?2, ?3, ?4, ?5)",
+        params![
+            node.rel,
+            node.ent.as_slice(),
+            node.kclass,
+            node.label,
+            node.pattern.as_slice()
+        ],
+    )
+}
+
+/// Drops the node at a key.
+pub fn drop_node<S: Alter>(
+    conn: &mut Connection<S>,
+    rel: u32,
+    ent: &[u8],
+    kclass: u32,
+    label: u32,
+) -> Result<usize, Error>
+    ensures dropped { HasCleanDisk (state S.Store conn.new) → IsReady (state S.Store conn.old).now → OnOk result (Changes (DropsNode rel ent.now kclass label) (state S.Store conn.old) (state S.Store conn.new)) }
+    ensures err { HasCleanDisk (state S.Store conn.new) → OnErr result (IsEnded (state S.Store conn.old) (state S.Store conn.new)) }
+    ensures clean { HasCleanDisk (state S.Store conn.new) → HasCleanDisk (state S.Store conn.old) }
+{
+    conn.execute(
+        "DELETE FROM node WHERE rel = ?1 AND ent = ?2 AND kclass = ?3 AND label = ?4",
+        params![rel, ent, kclass, label],
+    )
+}
+
+/// The nodes of one class, as rows of their five columns.
+pub fn nodes_at<S: Alter>(conn: &mut Connection<S>, rel: u32, label: u32) -> Result<Vec<Row>, Error>
+    ensures found { HasCleanDisk (state S.Store conn.new) → IsReady (state S.Store conn.old).now → IfOk result (λ rows. IsPermutation (map node_values (filter (is_node_at rel label) (tables_of (state S.Store conn.old).now.trees).nodes)) rows.items) }
+    ensures open { HasCleanDisk (state S.Store conn.new) → OnOk result (IsTrue (state S.Store conn.old).is_open) }
+    ensures same { HasCleanDisk (state S.Store conn.new) → IsReady (state S.Store conn.old).now → OnOk result (IsUnchanged (state S.Store conn.old) (state S.Store conn.new)) }
+    ensures err { HasCleanDisk (state S.Store conn.new) → OnErr result (IsEnded (state S.Store conn.old) (state S.Store conn.new)) }
+    ensures clean { HasCleanDisk (state S.Store conn.new) → HasCleanDisk (state S.Store conn.old) }
+{
+    conn.query_all(
+        "SELECT rel, ent, kclass, label, pattern FROM node WHERE rel = ?1 AND label = ?2",
+        params![rel, label],
+    )
+}
+
+/// The nodes of one entity, as rows of their five columns.
+pub fn nodes_of<S: Alter>(
+    conn: &mut Connection<S>,
+    rel: u32,
+    ent: &[u8],
+    kclass: u32,
+) -> Result<Vec<Row>, Error>
+    ensures found { HasCleanDisk (state S.Store conn.new) → IsReady (state S.Store conn.old).now → IfOk result (λ rows. IsPermutation (map node_values (filter (is_node_of rel ent.now kclass) (tables_of (state S.Store conn.old).now.trees).nodes)) rows.items) }
+    ensures open { HasCleanDisk (state S.Store conn.new) → OnOk result (IsTrue (state S.Store conn.old).is_open) }
+    ensures same { HasCleanDisk (state S.Store conn.new) → IsReady (state S.Store conn.old).now → OnOk result (IsUnchanged (state S.Store conn.old) (state S.Store conn.new)) }
+    ensures err { HasCleanDisk (state S.Store conn.new) → OnErr result (IsEnded (state S.Store conn.old) (state S.Store conn.new)) }
+    ensures clean { HasCleanDisk (state S.Store conn.new) → HasCleanDisk (state S.Store conn.old) }
+{
+    conn.query_all(
+        "SELECT rel, ent, kclass, label, pattern FROM node WHERE rel = ?1 AND ent = ?2 AND kclass = ?3",
+        params![rel, ent, kclass],
+    )
+}
+
+/// Every row of the table of nodes, with its rowid last, in a database of the four tables.
+pub fn all_nodes<S: Alter>(conn: &mut Connection<S>) -> Result<Vec<Row>, Error>
+    ensures found { HasCleanDisk (state S.Store conn.new) → (state S.Store conn.old).now.schema ≡ schema → IfOk result (λ rows. IsPermutation (map node_columns ((state S.Store conn.old).now.trees 0)) rows.items) }
+    ensures open { HasCleanDisk (state S.Store conn.new) → OnOk result (IsTrue (state S.Store conn.old).is_open) }
+    ensures same { HasCleanDisk (state S.Store conn.new) → (state S.Store conn.old).now.schema ≡ schema → OnOk result (IsUnchanged (state S.Store conn.old) (state S.Store conn.new)) }
+    ensures err { HasCleanDisk (state S.Store conn.new) → OnErr result (IsEnded (state S.Store conn.old) (state S.Store conn.new)) }
+    ensures clean { HasCleanDisk (state S.Store conn.new) → HasCleanDisk (state S.Store conn.old) }
+{
+    conn.query_all(
+        "SELECT rel, ent, kclass, label, pattern, rowid FROM node ORDER BY rowid",
+        &[],
+    )
+}
+
+/// The nodes of one class.
+pub fn read_nodes_at<S: Alter>(
+    conn: &mut Connection<S>,
+    alloc: Global,
+    rel: u32,
+    label: u32,
+) -> Result<Vec<NodeRow>, Error>
+    ensures found { HasCleanDisk (state S.Store conn.new) → IsReady (state S.Store conn.old).now → IfOk result (λ found. IsPermutation (filter (is_node_at rel label) (tables_of (state S.Store conn.old).now.trees).nodes) found.items) }
+    ensures open { HasCleanDisk (state S.Store conn.new) → OnOk result (IsTrue (state S.Store conn.old).is_open) }
+    ensures same { HasCleanDisk (state S.Store conn.new) → IsReady (state S.Store conn.old).now → OnOk result (IsUnchanged (state S.Store conn.old) (state S.Store conn.new)) }
+    ensures err { HasCleanDisk (state S.Store conn.new) → (IsTrue (state S.Store conn.old).is_open → IsReady (state S.Store conn.old).now) → OnErr result (IsEnded (state S.Store conn.old) (state S.Store conn.new)) }
+    ensures clean { HasCleanDisk (state S.Store conn.new) → HasCleanDisk (state S.Store conn.old) }
+{
+    nodes_from(alloc, &nodes_at(conn, rel, label)?)
+}
+
+/// The nodes of one entity.
+pub fn read_nodes_of<S: Alter>(
+    conn: &mut Connection<S>,
+    alloc: Global,
+    rel: u32,
+    ent: &[u8],
+    kclass: u32,
+) -> Result<Vec<NodeRow>, Error>
+    ensures found { HasCleanDisk (state S.Store conn.new) → IsReady (state S.Store conn.old).now → IfOk result (λ found. IsPermutation (filter (is_node_of rel ent.now kclass) (tables_of (state S.Store conn.old).now.trees).nodes) found.items) }
+    ensures open { HasCleanDisk (state S.Store conn.new) → OnOk result (IsTrue (state S.Store conn.old).is_open) }
+    ensures same { HasCleanDisk (state S.Store conn.new) → IsReady (state S.Store conn.old).now → OnOk result (IsUnchanged (state S.Store conn.old) (state S.Store conn.new)) }
+    ensures err { HasCleanDisk (state S.Store conn.new) → (IsTrue (state S.Store conn.old).is_open → IsReady (state S.Store conn.old).now) → OnErr result (IsEnded (state S.Store conn.old) (state S.Store conn.new)) }
+    ensures clean { HasCleanDisk (state S.Store conn.new) → HasCleanDisk (state S.Store conn.old) }
+{
+    nodes_from(alloc, &nodes_of(conn, rel, ent, kclass)?)
+}

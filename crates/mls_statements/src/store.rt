@@ -1,0 +1,466 @@
+ghost use Rattle.std.specs.Prelude.{◌≡◌, ◌≢◌, ◌⊎◌, ◌+◌, ◌<◌, ◌≤◌, true, false, filter, ℕ, List, IsTrue, IfOk, IfErr, OnOk, IsPermutation};
+ghost use Rattle.sqlite.specs.State.{HasCleanDisk};
+ghost use Rattle.sqlite.specs.Held.{state};
+ghost use Rattle.mls_statements.specs.declared.rows.CellRow.{CellRow as SpecCell};
+ghost use Rattle.mls_statements.specs.Rows.{Tables, tables_of, described, is_node_at, is_node_of, is_cell_at, is_cell_of, is_entry_at, numbered};
+ghost use Rattle.mls_statements.specs.Schema.{no_schema};
+ghost use Rattle.mls_statements.specs.Statements.{IsReady, AddsNode, DropsNode, AddsCell, SetsCell, DropsCells, AddsEntry, IsOne, has_key_of};
+ghost use Rattle.mls_statements.specs.Store.{IsClean, IsFault, IsCall, Writes, IsSame, HasEnded};
+
+use crate::decode::are_numbered;
+use crate::failures::Failures;
+use crate::remembered::Remembered;
+use crate::rows::{AuditRow, CellRow, NodeRow};
+use crate::statements::{audit, cell, change, creation, node};
+use sqlite::{Alter, Connection, Error, ErrorCode, MemStore};
+use std::alloc::Global;
+use std::marker::Model;
+
+/// Why a call over the tables gives no answer.
+#[derive(Clone, Copy, PartialEq, Eq, Debug)]
+pub enum StoreFault {
+    /// The store failed in this call.
+    Store,
+    /// A growth was refused.
+    Memory,
+}
+
+/// The four tables over a connection.
+///
+/// Contracts see the rows now and as of the last commit, whether a change is begun, whether the disk is clean, and how
+/// many calls of the store have failed. A fault ends the change, and leaves the rows of the last commit.
+#[derive(Drop)]
+pub struct TableStore<S: Alter> {
+    conn: Connection<S>,
+    alloc: Global,
+    begun: bool,
+    failures: Failures,
+    last: Remembered,
+}
+
+impl<S: Alter> Model for TableStore<S> {
+    ghost use Rattle.sqlite.specs.Held.{state};
+    ghost use Rattle.mls_statements.specs.Store.{TableState, table_state, IsSound};
+
+    ghost Value = { TableState };
+
+    ghost view = { λ t. table_state (state S.Store t.conn) t.begun t.failures.count t.last.rows };
+
+    ghost invariant = { λ t. IsSound (state S.Store t.conn) t.begun t.last.rows };
+}
+
+/// Notes the rows that the connection committed, which only clauses read.
+fn remember<S: Alter>(last: &mut Remembered, _conn: &Connection<S>)
+    ghost rows: { Tables }
+    ensures { last.new.rows ≡ rows }
+{
+    last.keep();
+}
+
+/// Notes why a call failed.
+fn blame(count: &mut Failures, error: Error) -> StoreFault
+    ensures store { result ≡ StoreFault.Store → count.new.count ≡ count.old.count + 1 }
+    ensures memory { result ≢ StoreFault.Store → count.new.count ≡ count.old.count }
+{
+    match error {
+        Error::SqliteFailure(ErrorCode::OutOfMemory) => StoreFault::Memory,
+        _ => {
+            count.rise();
+            StoreFault::Store
+        }
+    }
+}
+
+/// Ends the change after a failed call, if it has not ended, and says why the call failed.
+fn fall<S: Alter>(conn: &mut Connection<S>, failures: &mut Failures, error: Error) -> StoreFault
+    ensures clean { HasCleanDisk (state S.Store conn.new) → HasCleanDisk (state S.Store conn.old) }
+    ensures ended { HasCleanDisk (state S.Store conn.new) → HasEnded (state S.Store conn.old) (state S.Store conn.new) }
+    ensures count { failures.old.count ≤ failures.new.count }
+    ensures store { result ≡ StoreFault.Store → failures.old.count < failures.new.count }
+{
+    let fault = blame(failures, error);
+    if conn.is_autocommit() {
+        return fault;
+    }
+    if let Err(other) = change::undo(conn) {
+        blame(failures, other);
+    }
+    fault
+}
+
+impl TableStore<MemStore> {
+    /// A new store in memory, described by two texts.
+    pub fn in_memory(
+        alloc: Global,
+        lattice: &str,
+        schemes: &str,
+    ) -> Result<TableStore<MemStore>, StoreFault>
+        ensures made { IfOk result (λ t. IsClean t → (t.now ≡ described lattice.now schemes.now) × (t.kept ≡ t.now)) }
+        ensures mode { IfOk result (λ t. t.begun ≡ false) }
+    {
+        match Connection::open_in_memory(alloc) {
+            Ok(conn) => match TableStore::create(alloc, conn, lattice, schemes) {
+                Ok(store) => Ok(store),
+                Err((fault, _)) => Err(fault),
+            },
+            Err(_) => Err(StoreFault::Memory),
+        }
+    }
+}
+
+impl<S: Alter> TableStore<S> {
+    /// Makes a new store in a database that has nothing, described by two texts. An `Err` hands the connection back, with
+    /// what it had.
+    pub fn create(
+        alloc: Global,
+        mut conn: Connection<S>,
+        lattice: &str,
+        schemes: &str,
+    ) -> Result<TableStore<S>, (StoreFault, Connection<S>)>
+        requires nothing { HasCleanDisk (state S.Store conn) → (state S.Store conn).now.schema ≡ no_schema }
+        ensures made { IfOk result (λ t. IsClean t → (t.now ≡ described lattice.now schemes.now) × (t.kept ≡ t.now)) }
+        ensures mode { IfOk result (λ t. t.begun ≡ false) }
+        ensures clean { IfOk result (λ t. IsClean t → HasCleanDisk (state S.Store conn)) }
+        ensures refused { IfErr result (λ e. HasCleanDisk (state S.Store e.1) → HasCleanDisk (state S.Store conn) × HasEnded (state S.Store conn) (state S.Store e.1)) }
+    {
+        let mut failures = Failures::new();
+        match creation::create_store(&mut conn, lattice, schemes) {
+            Ok(_) => {
+                let mut last = Remembered::new();
+                remember(&mut last, &conn);
+                Ok(TableStore {
+                    conn,
+                    alloc,
+                    begun: false,
+                    failures,
+                    last,
+                })
+            }
+            Err(error) => Err((fall(&mut conn, &mut failures, error), conn)),
+        }
+    }
+
+    /// The connection, with no change begun: where it is open, its tables have the rows of the store.
+    pub fn into_connection(self) -> Connection<S>
+        requires begun { self.begun ≡ false }
+        ensures clean { HasCleanDisk (state S.Store result) → IsClean self }
+        ensures rows { HasCleanDisk (state S.Store result) → IsTrue (state S.Store result).is_open → IsReady (state S.Store result).now × (tables_of (state S.Store result).now.trees ≡ self.now) }
+    {
+        let TableStore {
+            conn,
+            alloc: _,
+            begun: _,
+            failures: _,
+            last: _,
+        } = self;
+        conn
+    }
+
+    /// Counts a failure of the store that shows in what it has answered, and ends the change, if one is begun.
+    pub fn condemn(&mut self)
+        ensures clean { IsClean self.new → IsClean self.old }
+        ensures fault { IsFault StoreFault.Store self.old self.new }
+    {
+        self.begun = false;
+        self.failures.rise();
+        if self.conn.is_autocommit() {
+            return;
+        }
+        if let Err(other) = change::undo(&mut self.conn) {
+            blame(&mut self.failures, other);
+        }
+    }
+
+    /// Whether a change is begun.
+    pub fn is_begun(&self) -> bool
+        ensures { result ≡ self.now.begun }
+    {
+        self.begun
+    }
+
+    /// Begins a change.
+    pub fn begin(&mut self) -> Result<(), StoreFault>
+        requires begun { self.old.begun ≡ false }
+        ensures call { IsCall self.old self.new result }
+        ensures mode { OnOk result (self.new.begun ≡ true) }
+        ensures done { IsClean self.new → OnOk result ((self.new.now ≡ self.old.now) × (self.new.kept ≡ self.old.now)) }
+    {
+        match change::begin(&mut self.conn) {
+            Ok(_) => {
+                self.begun = true;
+                Ok(())
+            }
+            Err(error) => {
+                self.begun = false;
+                Err(fall(&mut self.conn, &mut self.failures, error))
+            }
+        }
+    }
+
+    /// Keeps what the change did, and ends it.
+    pub fn commit(&mut self) -> Result<(), StoreFault>
+        requires begun { self.old.begun ≡ true }
+        ensures call { IsCall self.old self.new result }
+        ensures mode { OnOk result (self.new.begun ≡ false) }
+        ensures done { IsClean self.new → OnOk result ((self.new.now ≡ self.old.now) × (self.new.kept ≡ self.old.now)) }
+    {
+        match change::commit(&mut self.conn) {
+            Ok(_) => {
+                self.begun = false;
+                remember(&mut self.last, &self.conn);
+                Ok(())
+            }
+            Err(error) => {
+                self.begun = false;
+                Err(fall(&mut self.conn, &mut self.failures, error))
+            }
+        }
+    }
+
+    /// Goes back to the last commit, and ends the change.
+    pub fn rollback(&mut self) -> Result<(), StoreFault>
+        requires begun { self.old.begun ≡ true }
+        ensures call { IsCall self.old self.new result }
+        ensures mode { OnOk result (self.new.begun ≡ false) }
+        ensures done { IsClean self.new → OnOk result ((self.new.now ≡ self.old.kept) × (self.new.kept ≡ self.old.kept)) }
+    {
+        self.begun = false;
+        if self.conn.is_autocommit() {
+            return Ok(());
+        }
+        match change::undo(&mut self.conn) {
+            Ok(_) => Ok(()),
+            Err(error) => Err(fall(&mut self.conn, &mut self.failures, error)),
+        }
+    }
+
+    /// Adds a node.
+    pub fn add_node(&mut self, node: &NodeRow) -> Result<(), StoreFault>
+        requires begun { self.old.begun ≡ true }
+        ensures call { IsCall self.old self.new result }
+        ensures mode { OnOk result (self.new.begun ≡ true) }
+        ensures done { IsClean self.new → OnOk result (Writes (AddsNode node.now) self.old self.new) }
+    {
+        match node::add_node(&mut self.conn, node) {
+            Ok(_) => Ok(()),
+            Err(error) => {
+                self.begun = false;
+                Err(fall(&mut self.conn, &mut self.failures, error))
+            }
+        }
+    }
+
+    /// Drops the node at a key.
+    pub fn drop_node(
+        &mut self,
+        rel: u32,
+        ent: &[u8],
+        kclass: u32,
+        label: u32,
+    ) -> Result<(), StoreFault>
+        requires begun { self.old.begun ≡ true }
+        ensures call { IsCall self.old self.new result }
+        ensures mode { OnOk result (self.new.begun ≡ true) }
+        ensures done { IsClean self.new → OnOk result (Writes (DropsNode rel ent.now kclass label) self.old self.new) }
+    {
+        match node::drop_node(&mut self.conn, rel, ent, kclass, label) {
+            Ok(_) => Ok(()),
+            Err(error) => {
+                self.begun = false;
+                Err(fall(&mut self.conn, &mut self.failures, error))
+            }
+        }
+    }
+
+    /// The nodes of one class.
+    pub fn nodes_at(&mut self, rel: u32, label: u32) -> Result<Vec<NodeRow>, StoreFault>
+        ensures call { IsCall self.old self.new result }
+        ensures mode { OnOk result (self.new.begun ≡ self.old.begun) }
+        ensures found { IsClean self.new → IfOk result (λ rows. IsPermutation (filter (is_node_at rel label) self.old.now.nodes) rows.items) }
+        ensures same { IsClean self.new → OnOk result (IsSame self.old self.new) }
+    {
+        match node::read_nodes_at(&mut self.conn, self.alloc, rel, label) {
+            Ok(rows) => Ok(rows),
+            Err(error) => {
+                self.begun = false;
+                Err(fall(&mut self.conn, &mut self.failures, error))
+            }
+        }
+    }
+
+    /// The nodes of one entity.
+    pub fn nodes_of(
+        &mut self,
+        rel: u32,
+        ent: &[u8],
+        kclass: u32,
+    ) -> Result<Vec<NodeRow>, StoreFault>
+        ensures call { IsCall self.old self.new result }
+        ensures mode { OnOk result (self.new.begun ≡ self.old.begun) }
+        ensures found { IsClean self.new → IfOk result (λ rows. IsPermutation (filter (is_node_of rel ent.now kclass) self.old.now.nodes) rows.items) }
+        ensures same { IsClean self.new → OnOk result (IsSame self.old self.new) }
+    {
+        match node::read_nodes_of(&mut self.conn, self.alloc, rel, ent, kclass) {
+            Ok(rows) => Ok(rows),
+            Err(error) => {
+                self.begun = false;
+                Err(fall(&mut self.conn, &mut self.failures, error))
+            }
+        }
+    }
+
+    /// Adds a cell.
+    pub fn add_cell(&mut self, cell: &CellRow) -> Result<(), StoreFault>
+        requires begun { self.old.begun ≡ true }
+        ensures call { IsCall self.old self.new result }
+        ensures mode { OnOk result (self.new.begun ≡ true) }
+        ensures done { IsClean self.new → OnOk result (Writes (AddsCell cell.now) self.old self.new) }
+    {
+        match cell::add_cell(&mut self.conn, cell) {
+            Ok(_) => Ok(()),
+            Err(error) => {
+                self.begun = false;
+                Err(fall(&mut self.conn, &mut self.failures, error))
+            }
+        }
+    }
+
+    /// Gives the one cell with the key of `cell` its value.
+    pub fn set_cell(&mut self, cell: &CellRow) -> Result<(), StoreFault>
+        requires begun { self.old.begun ≡ true }
+        requires there { IsClean self.old → (was : SpecCell) × IsOne (has_key_of cell.now) self.old.now.cells was }
+        ensures call { IsCall self.old self.new result }
+        ensures mode { OnOk result (self.new.begun ≡ true) }
+        ensures done { IsClean self.new → OnOk result (Writes (SetsCell cell.now) self.old self.new) }
+    {
+        match cell::set_cell(&mut self.conn, cell) {
+            Ok(_) => Ok(()),
+            Err(error) => {
+                self.begun = false;
+                Err(fall(&mut self.conn, &mut self.failures, error))
+            }
+        }
+    }
+
+    /// Drops the cells of one tuple's own class.
+    pub fn drop_cells(
+        &mut self,
+        rel: u32,
+        ent: &[u8],
+        kclass: u32,
+        label: u32,
+    ) -> Result<(), StoreFault>
+        requires begun { self.old.begun ≡ true }
+        ensures call { IsCall self.old self.new result }
+        ensures mode { OnOk result (self.new.begun ≡ true) }
+        ensures done { IsClean self.new → OnOk result (Writes (DropsCells rel ent.now kclass label) self.old self.new) }
+    {
+        match cell::drop_cells(&mut self.conn, rel, ent, kclass, label) {
+            Ok(_) => Ok(()),
+            Err(error) => {
+                self.begun = false;
+                Err(fall(&mut self.conn, &mut self.failures, error))
+            }
+        }
+    }
+
+    /// The cells of one class.
+    pub fn cells_at(&mut self, rel: u32, label: u32) -> Result<Vec<CellRow>, StoreFault>
+        ensures call { IsCall self.old self.new result }
+        ensures mode { OnOk result (self.new.begun ≡ self.old.begun) }
+        ensures found { IsClean self.new → IfOk result (λ rows. IsPermutation (filter (is_cell_at rel label) self.old.now.cells) rows.items) }
+        ensures same { IsClean self.new → OnOk result (IsSame self.old self.new) }
+    {
+        match cell::read_cells_at(&mut self.conn, self.alloc, rel, label) {
+            Ok(rows) => Ok(rows),
+            Err(error) => {
+                self.begun = false;
+                Err(fall(&mut self.conn, &mut self.failures, error))
+            }
+        }
+    }
+
+    /// The cells of one entity.
+    pub fn cells_of(
+        &mut self,
+        rel: u32,
+        ent: &[u8],
+        kclass: u32,
+    ) -> Result<Vec<CellRow>, StoreFault>
+        ensures call { IsCall self.old self.new result }
+        ensures mode { OnOk result (self.new.begun ≡ self.old.begun) }
+        ensures found { IsClean self.new → IfOk result (λ rows. IsPermutation (filter (is_cell_of rel ent.now kclass) self.old.now.cells) rows.items) }
+        ensures same { IsClean self.new → OnOk result (IsSame self.old self.new) }
+    {
+        match cell::read_cells_of(&mut self.conn, self.alloc, rel, ent, kclass) {
+            Ok(rows) => Ok(rows),
+            Err(error) => {
+                self.begun = false;
+                Err(fall(&mut self.conn, &mut self.failures, error))
+            }
+        }
+    }
+
+    /// Adds an entry under its number.
+    pub fn add_entry(&mut self, entry: &AuditRow) -> Result<(), StoreFault>
+        requires begun { self.old.begun ≡ true }
+        ensures call { IsCall self.old self.new result }
+        ensures mode { OnOk result (self.new.begun ≡ true) }
+        ensures done { IsClean self.new → OnOk result (Writes (AddsEntry entry.now) self.old self.new) }
+    {
+        match audit::add_entry(&mut self.conn, entry) {
+            Ok(_) => Ok(()),
+            Err(error) => {
+                self.begun = false;
+                Err(fall(&mut self.conn, &mut self.failures, error))
+            }
+        }
+    }
+
+    /// The entries of one number.
+    pub fn entry_at(&mut self, number: i64) -> Result<Vec<AuditRow>, StoreFault>
+        ensures call { IsCall self.old self.new result }
+        ensures mode { OnOk result (self.new.begun ≡ self.old.begun) }
+        ensures found { IsClean self.new → IfOk result (λ rows. IsPermutation (filter (is_entry_at number) self.old.now.audit) rows.items) }
+        ensures same { IsClean self.new → OnOk result (IsSame self.old self.new) }
+    {
+        match audit::read_entry_at(&mut self.conn, self.alloc, number) {
+            Ok(rows) => Ok(rows),
+            Err(error) => {
+                self.begun = false;
+                Err(fall(&mut self.conn, &mut self.failures, error))
+            }
+        }
+    }
+
+    /// Every entry, in the order of the numbers, which are 1, 2, .. up to their count.
+    pub fn entries(&mut self) -> Result<Vec<AuditRow>, StoreFault>
+        ensures call { IsCall self.old self.new result }
+        ensures mode { OnOk result (self.new.begun ≡ self.old.begun) }
+        ensures found { IsClean self.new → (list : List (List ℕ)) → IsPermutation (numbered 1 list) self.old.now.audit → IfOk result (λ entries. entries.items ≡ numbered 1 list) }
+        ensures same { IsClean self.new → OnOk result (IsSame self.old self.new) }
+    {
+        let rows = self.read_entries()?;
+        if are_numbered(&rows) {
+            return Ok(rows);
+        }
+        self.condemn();
+        Err(StoreFault::Store)
+    }
+
+    fn read_entries(&mut self) -> Result<Vec<AuditRow>, StoreFault>
+        ensures call { IsCall self.old self.new result }
+        ensures mode { OnOk result (self.new.begun ≡ self.old.begun) }
+        ensures found { IsClean self.new → IfOk result (λ rows. IsPermutation self.old.now.audit rows.items) }
+        ensures same { IsClean self.new → OnOk result (IsSame self.old self.new) }
+        ensures count { OnOk result (self.old.failures ≡ self.new.failures) }
+    {
+        match audit::read_entries(&mut self.conn, self.alloc) {
+            Ok(rows) => Ok(rows),
+            Err(error) => {
+                self.begun = false;
+                Err(fall(&mut self.conn, &mut self.failures, error))
+            }
+        }
+    }
+}

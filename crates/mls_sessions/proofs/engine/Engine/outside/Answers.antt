@@ -1,4 +1,3 @@
-use Rattle.std.proofs.Common.{rules}
 use Rattle.std.proofs.lemmas.Result.{IfOk-weaker}
 use Rattle.mls_replies.proofs.KnownLemmas.{numbers_known}
 use Rattle.mls_sessions.specs.Engine.{site, world_of}

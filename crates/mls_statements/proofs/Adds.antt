@@ -27,6 +27,7 @@ use Rattle.mls_statements.specs.Statements.{IsReady, Changes, AddsNode, AddsCell
 use Rattle.mls_statements.proofs.Texts.{add_node, add_node_is, node_terms, add_cell, add_cell_is, cell_terms, add_entry, add_entry_is, audit_terms, add_meta, add_meta_is, meta_terms}
 use Rattle.mls_statements.proofs.EditParts.{inserted}
 use Rattle.mls_statements.proofs.TableRows.{puts}
+use Rattle.mls_statements.proofs.ValueTests.{and_true}
 use Rattle.mls_statements.proofs.ReadyLemmas.{nodes_changed, cells_changed, audit_changed, meta_changed}
 use Rattle.mls_statements.proofs.EndLemmas.{next}
 
@@ -41,10 +42,6 @@ cast_null = either _ Null
 pub cast_int : (n : ℤ) → cast Integer (Int n) ≡ Int n
 unfolding unary
 cast_int n = either _ (Int n)
-
-pub and_true : (b : Bool) → (b && true) ≡ b
-and_true true = refl
-and_true false = refl
 
 pub fresh_one : (rows : List Row) (row : Row) → (not (is_taken rows row) && true) ≡ true → is_taken rows row ≡ false
 fresh_one rows row h = not-true _ (sym (and_true _) ∙ h)

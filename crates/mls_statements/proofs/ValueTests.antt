@@ -57,7 +57,7 @@ same_blob : (v : Value) (b : List ℕ) → is_blob v ≡ true → is_true (binar
 same_blob v b h =
     equals_blob v b ∙ (ap (λ w. is_eq (value_cmp w (Blob b))) (blob_is v h) ∙ (ap is_eq (value_cmp-Blob (blob_in v) b) ∙ is_eq-slice_cmp (blob_in v) b))
 
-and_true : (b : Bool) → (b && true) ≡ b
+pub and_true : (b : Bool) → (b && true) ≡ b
 and_true true = refl
 and_true false = refl
 

@@ -1,5 +1,5 @@
 //! What a step leaves where a call of the base fails.
-ghost use Rattle.std.specs.Prelude.{◌≡◌, ◌<◌, false, length, IfSome};
+ghost use Rattle.std.specs.Prelude.{◌≡◌, ◌<◌, ◌≤◌, false, length, IfSome};
 ghost use Rattle.std.specs.List.{AllByRecursion};
 ghost use Rattle.mls_scheme.specs.Scheme.{AreUnder};
 ghost use Rattle.mls_script.specs.Event.{EventFits};
@@ -17,16 +17,16 @@ use mls_script::Event;
 use mls_sessions::{Engine, run};
 use std::alloc::{AllocError, Global};
 
-/// Answers events in order, up to the first that fails: its place, and why.
+/// Answers events in order, up to the first that fails: its number, from 1, and why.
 fn step_to_fault<B: Base>(engine: &mut Engine<B>, events: &[Event]) -> Option<(usize, BaseFault)>
     requires ready { IsReady B.state B.is_clean engine.old }
     requires fits { EventsFit (site engine.old) events.now }
     ensures kept { IsKept B.state B.is_clean engine.old engine.new }
-    ensures place { IfSome result (λ r. r.0 < length events.now) }
+    ensures number { IfSome result (λ r. (0 < r.0) × (r.0 ≤ length events.now)) }
 {
     for (place, event) in events.iter().enumerate() {
         if let Err(fault) = engine.step(event) {
-            return Some((place, fault));
+            return Some((place + 1, fault));
         }
     }
     None
@@ -50,9 +50,9 @@ fn step_over<B: Base>(
 {
     let mut engine = Engine::new(alloc, base, policy, schemes, none_stored(alloc));
     let stop = step_to_fault(&mut engine, scripts.events);
-    if let Some((place, _)) = stop {
+    if let Some((number, _)) = stop {
         let _ = run(&mut engine, scripts.questions, replies);
-        let _ = run(&mut engine, &scripts.events[place..], replies);
+        let _ = run(&mut engine, &scripts.events[number - 1..], replies);
     }
     (stop, engine.finish())
 }
@@ -82,11 +82,11 @@ pub fn push_steps(
     let mut replies = Narrow::new(alloc, u64::MAX);
     let base = failure.base(alloc);
     let (stop, _base) = step_over(alloc, policy, schemes, base, scripts, &mut replies);
-    let Some((place, fault)) = stop else {
+    let Some((number, fault)) = stop else {
         out.push_str("all steps well\n")?;
         return Ok(true);
     };
-    writeln!(out, "{} at step {}", fault_word(fault), place + 1)?;
+    writeln!(out, "{} at step {number}", fault_word(fault))?;
     push_lines(out, &replies.bytes)?;
     Ok(false)
 }

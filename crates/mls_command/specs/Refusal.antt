@@ -44,6 +44,11 @@ input_refusal r host.Unreadable = Unreadable r
 input_refusal r host.TooLong = TooLong r
 input_refusal r host.Memory = memory_refusal r
 
+-- the command line is not refused
+abbrev pub IsNoUsage : Refusal → Type 0
+IsNoUsage (Usage text) = ⊥
+IsNoUsage _ = Unit {0}
+
 -- ---- lines
 
 abbrev pub input_text : Role → List ℕ → List ℕ

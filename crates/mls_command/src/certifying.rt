@@ -1,8 +1,9 @@
 //! Transactions get the least certificates that hold for them.
-ghost use Rattle.std.specs.Prelude.{◌≡◌, ◌++◌, length, string_bytes, IfOk, OnOk};
+ghost use Rattle.std.specs.Prelude.{◌≡◌, ◌++◌, length, string_bytes, IfOk, OnOk, IfErr};
 ghost use Rattle.std.specs.List.{flat_map, list_any};
 ghost use Rattle.mls_scheme.specs.Scheme.{AreUnder};
 ghost use Rattle.mls_command.specs.Certifying.{AreLabels, IsAnswer, AreAnswers, block_of, none_front, none_text, refusal_of, has_none, ending_of, IsListing, IsCertified, IsCertifying};
+ghost use Rattle.mls_command.specs.Refusal.{IsNoUsage};
 
 use crate::ending::Ending;
 use crate::host::Host;
@@ -181,7 +182,8 @@ fn certify<W: Write, E: Write>(
     out: &mut W,
     err: &mut E,
 ) -> Result<Ending, Refusal>
-    ensures { IfOk result (IsCertified policy.now txs.now (W.contents out.old) (W.contents out.new)) }
+    ensures ok { IfOk result (IsCertified policy.now txs.now (W.contents out.old) (W.contents out.new)) }
+    ensures refused { IfErr result IsNoUsage }
 {
     let listing = listing_of(alloc, policy, txs)?;
     print(out, listing.blocks.as_bytes())?;
@@ -200,7 +202,8 @@ fn certify_text<W: Write, E: Write>(
     err: &mut E,
 ) -> Result<Ending, Refusal>
     requires { AreUnder (length policy.now.labels) schemes.now }
-    ensures { IfOk result (IsCertifying policy.now schemes.now bytes.now (W.contents out.old) (W.contents out.new)) }
+    ensures ok { IfOk result (IsCertifying policy.now schemes.now bytes.now (W.contents out.old) (W.contents out.new)) }
+    ensures refused { IfErr result IsNoUsage }
 {
     let txs = parse(alloc, policy, schemes, bytes)?;
     certify(alloc, policy, &txs, out, err)
@@ -213,7 +216,9 @@ fn certify_under<H: Host, W: Write, E: Write>(
     files: TxFiles,
     out: &mut W,
     err: &mut E,
-) -> Result<Ending, Refusal> {
+) -> Result<Ending, Refusal>
+    ensures refused { IfErr result IsNoUsage }
+{
     let schemes = schemes_of(alloc, host, policy, files.schemes)?;
     let bytes = input_of(alloc, host, Role::Transactions, files.transactions)?;
     certify_text(alloc, policy, &schemes, &bytes, out, err)
@@ -226,7 +231,9 @@ pub(crate) fn certify_files<H: Host, W: Write, E: Write>(
     files: TxFiles,
     out: &mut W,
     err: &mut E,
-) -> Result<Ending, Refusal> {
+) -> Result<Ending, Refusal>
+    ensures refused { IfErr result IsNoUsage }
+{
     let policy = policy_of(alloc, host, files.policy)?;
     certify_under(alloc, host, &policy, files, out, err)
 }

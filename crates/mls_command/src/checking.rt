@@ -1,11 +1,12 @@
 //! Certificates are checked against the transactions of their names.
-ghost use Rattle.std.specs.Prelude.{◌≡◌, ◌↔◌, ◌++◌, Some, length, string_bytes, IfOk, OnOk};
+ghost use Rattle.std.specs.Prelude.{◌≡◌, ◌↔◌, ◌++◌, Some, length, string_bytes, IfOk, OnOk, IfErr};
 ghost use Rattle.std.specs.List.{flat_map, list_any};
 ghost use Rattle.mls_certcheck.specs.Rules.{Rules, claim};
 ghost use Rattle.mls_certificate.specs.declared.cert.Cert.{Cert as SpecCert};
 ghost use Rattle.mls_command.specs.Storing.{cert_named};
 ghost use Rattle.mls_command.specs.declared.checking.Verdict.TheVariants.{Yes};
 ghost use Rattle.mls_command.specs.Checking.{verdict_of, verdict_text, line_of, is_refused, IsChecked, IsChecking};
+ghost use Rattle.mls_command.specs.Refusal.{IsNoUsage};
 
 use crate::ending::Ending;
 use crate::host::Host;
@@ -102,7 +103,8 @@ fn check_all<W: Write>(
     txs: &[Tx],
     out: &mut W,
 ) -> Result<Ending, Stop>
-    ensures { IfOk result (IsChecked policy.now blocks.now txs.now (W.contents out.old) (W.contents out.new)) }
+    ensures ok { IfOk result (IsChecked policy.now blocks.now txs.now (W.contents out.old) (W.contents out.new)) }
+    ensures refused { IfErr result IsNoUsage }
 {
     let verdicts = verdicts_of(alloc, policy, blocks, txs)?;
     print(out, verdicts.text.as_bytes())?;
@@ -121,7 +123,8 @@ fn check_text<W: Write>(
     bytes: &[u8],
     out: &mut W,
 ) -> Result<Ending, Stop>
-    ensures { IfOk result (IsChecking policy.now txs.now bytes.now (W.contents out.old) (W.contents out.new)) }
+    ensures ok { IfOk result (IsChecking policy.now txs.now bytes.now (W.contents out.old) (W.contents out.new)) }
+    ensures refused { IfErr result IsNoUsage }
 {
     let blocks = certs_read(alloc, bytes)?;
     check_all(alloc, policy, &blocks, txs, out)
@@ -134,7 +137,9 @@ fn check_under<H: Host, W: Write>(
     files: TxFiles,
     certificates: &str,
     out: &mut W,
-) -> Result<Ending, Stop> {
+) -> Result<Ending, Stop>
+    ensures refused { IfErr result IsNoUsage }
+{
     let schemes = schemes_of(alloc, host, policy, files.schemes)?;
     let txs = transactions_of(alloc, host, policy, &schemes, Some(files.transactions))?;
     let bytes = input_of(alloc, host, Role::Certificates, certificates)?;
@@ -148,7 +153,9 @@ pub(crate) fn check_files<H: Host, W: Write>(
     files: TxFiles,
     certificates: &str,
     out: &mut W,
-) -> Result<Ending, Stop> {
+) -> Result<Ending, Stop>
+    ensures refused { IfErr result IsNoUsage }
+{
     let policy = policy_of(alloc, host, files.policy)?;
     check_under(alloc, host, &policy, files, certificates, out)
 }

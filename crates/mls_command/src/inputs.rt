@@ -1,8 +1,9 @@
 //! Files, read as what a command takes them for.
-ghost use Rattle.std.specs.Prelude.{length, IfOk};
+ghost use Rattle.std.specs.Prelude.{length, IfOk, IfErr};
 ghost use Rattle.std.specs.List.{AllByRecursion};
 ghost use Rattle.mls_scheme.specs.Scheme.{AreUnder};
 ghost use Rattle.mls_translang.specs.Fits.{IsReadUnder};
+ghost use Rattle.mls_command.specs.Refusal.{IsNoUsage};
 
 use crate::host::Host;
 use crate::refusal::{Refusal, Role};
@@ -18,18 +19,18 @@ pub(crate) fn input_of<H: Host>(
     host: &mut H,
     role: Role,
     path: &str,
-) -> Result<Vec<u8>, Refusal> {
+) -> Result<Vec<u8>, Refusal>
+    ensures refused { IfErr result IsNoUsage }
+{
     match host.file(alloc, path) {
         Ok(bytes) => Ok(bytes),
         Err(fault) => Err(Refusal::of_input(role, fault)),
     }
 }
 
-pub(crate) fn policy_of<H: Host>(
-    alloc: Global,
-    host: &mut H,
-    path: &str,
-) -> Result<Policy, Refusal> {
+pub(crate) fn policy_of<H: Host>(alloc: Global, host: &mut H, path: &str) -> Result<Policy, Refusal>
+    ensures refused { IfErr result IsNoUsage }
+{
     let bytes = input_of(alloc, host, Role::Policy, path)?;
     Ok(Policy::read(alloc, &bytes)?)
 }
@@ -40,7 +41,8 @@ pub(crate) fn schemes_of<H: Host>(
     policy: &Policy,
     path: &str,
 ) -> Result<Schemes, Refusal>
-    ensures { IfOk result (AreUnder (length policy.now.labels)) }
+    ensures ok { IfOk result (AreUnder (length policy.now.labels)) }
+    ensures refused { IfErr result IsNoUsage }
 {
     let bytes = input_of(alloc, host, Role::Schemes, path)?;
     Ok(Schemes::read(alloc, policy, &bytes)?)
@@ -54,7 +56,8 @@ pub(crate) fn transactions_of<H: Host>(
     schemes: &Schemes,
     path: Option<&str>,
 ) -> Result<Items<Tx>, Refusal>
-    ensures { IfOk result (AllByRecursion (IsReadUnder policy.now schemes.now)) }
+    ensures ok { IfOk result (AllByRecursion (IsReadUnder policy.now schemes.now)) }
+    ensures refused { IfErr result IsNoUsage }
 {
     match path {
         None => Ok(Items::from(Vec::new(alloc))),
@@ -70,7 +73,9 @@ pub(crate) fn certificates_of<H: Host>(
     alloc: Global,
     host: &mut H,
     path: Option<&str>,
-) -> Result<Vec<(Str, Cert)>, Refusal> {
+) -> Result<Vec<(Str, Cert)>, Refusal>
+    ensures refused { IfErr result IsNoUsage }
+{
     match path {
         None => Ok(Vec::new(alloc)),
         Some(path) => {

@@ -1,7 +1,7 @@
 //! Why a command ends without success, and how that is told.
 ghost use Rattle.std.specs.Prelude.{◌≡◌, ◌⊎◌, OnOk};
 ghost use Rattle.std.specs.Io.KnownBytes.{Appends};
-ghost use Rattle.mls_command.specs.Refusal.{role_word, input_refusal, input_text, fault_text, line_text, front_text, spot_text, place_text, text_fault_text, cert_fault_text, script_fault_text, run_text, refusal_text};
+ghost use Rattle.mls_command.specs.Refusal.{IsNoUsage, role_word, input_refusal, input_text, fault_text, line_text, front_text, spot_text, place_text, text_fault_text, cert_fault_text, script_fault_text, run_text, refusal_text};
 
 use crate::host::HostFault;
 use mls_certificate::{CertCause, CertFault};
@@ -136,7 +136,8 @@ fn tell_run<W: Write>(err: &mut W, fault: &RunFault) -> io::Result<()>
 impl Refusal {
     /// The refusal of an input that the host did not give.
     pub fn of_input(role: Role, fault: HostFault) -> Refusal
-        ensures { result ≡ input_refusal role fault }
+        ensures exact { result ≡ input_refusal role fault }
+        ensures input { IsNoUsage result }
     {
         match (fault, role) {
             (HostFault::Unreadable, _) => Refusal::Unreadable(role),
@@ -209,36 +210,66 @@ impl From<AllocError> for Refusal {
 }
 
 impl From<PolicyFault> for Refusal {
+    ghost use Rattle.std.specs.Prelude.{◌≡◌};
+    ghost use Rattle.mls_command.specs.declared.refusal.Refusal.TheVariants.{Policy};
+
+    ghost from_gives = { λ f e. e ≡ Policy f };
+
     fn from(fault: PolicyFault) -> Refusal {
         Refusal::Policy(fault)
     }
 }
 
 impl From<SchemeFault> for Refusal {
+    ghost use Rattle.std.specs.Prelude.{◌≡◌};
+    ghost use Rattle.mls_command.specs.declared.refusal.Refusal.TheVariants.{Schemes};
+
+    ghost from_gives = { λ f e. e ≡ Schemes f };
+
     fn from(fault: SchemeFault) -> Refusal {
         Refusal::Schemes(fault)
     }
 }
 
 impl From<TextFault> for Refusal {
+    ghost use Rattle.std.specs.Prelude.{◌≡◌};
+    ghost use Rattle.mls_command.specs.declared.refusal.Refusal.TheVariants.{Transactions};
+
+    ghost from_gives = { λ f e. e ≡ Transactions f };
+
     fn from(fault: TextFault) -> Refusal {
         Refusal::Transactions(fault)
     }
 }
 
 impl From<CertFault> for Refusal {
+    ghost use Rattle.std.specs.Prelude.{◌≡◌};
+    ghost use Rattle.mls_command.specs.declared.refusal.Refusal.TheVariants.{Certificates};
+
+    ghost from_gives = { λ f e. e ≡ Certificates f };
+
     fn from(fault: CertFault) -> Refusal {
         Refusal::Certificates(fault)
     }
 }
 
 impl From<ScriptFault> for Refusal {
+    ghost use Rattle.std.specs.Prelude.{◌≡◌};
+    ghost use Rattle.mls_command.specs.declared.refusal.Refusal.TheVariants.{Script};
+
+    ghost from_gives = { λ f e. e ≡ Script f };
+
     fn from(fault: ScriptFault) -> Refusal {
         Refusal::Script(fault)
     }
 }
 
 impl From<RunFault> for Refusal {
+    ghost use Rattle.std.specs.Prelude.{◌≡◌};
+    ghost use Rattle.mls_command.specs.declared.refusal.Refusal.TheVariants.{Run};
+
+    ghost from_gives = { λ f e. e ≡ Run f };
+
     fn from(fault: RunFault) -> Refusal {
         Refusal::Run(fault)
     }

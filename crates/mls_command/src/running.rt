@@ -1,11 +1,12 @@
 //! Scripts that are run over an empty database.
-ghost use Rattle.std.specs.Prelude.{length, IfOk, OnOk};
+ghost use Rattle.std.specs.Prelude.{length, IfOk, OnOk, IfErr};
 ghost use Rattle.std.specs.List.{AllByRecursion};
 ghost use Rattle.std.specs.Io.KnownBytes.{Appends};
 ghost use Rattle.mls_scheme.specs.Scheme.{AreUnder};
 ghost use Rattle.mls_script.specs.Event.{EventFits};
 ghost use Rattle.mls_machine.specs.Observation.{AreRead, AreCertified};
 ghost use Rattle.mls_command.specs.Running.{output, IsScriptRun};
+ghost use Rattle.mls_command.specs.Refusal.{IsNoUsage};
 
 use crate::host::Host;
 use crate::inputs::{certificates_of, input_of, policy_of, schemes_of, transactions_of};
@@ -32,6 +33,7 @@ fn stored_files<H: Host>(
 ) -> Result<Items<Stored>, Refusal>
     ensures read { IfOk result (λ ss. AreRead (record { policy = policy.now; schemes = schemes.now; stored = ss })) }
     ensures certified { IfOk result (λ ss. AreCertified (record { policy = policy.now; schemes = schemes.now; stored = ss })) }
+    ensures refused { IfErr result IsNoUsage }
 {
     let txs = transactions_of(alloc, host, policy, schemes, files.transactions)?;
     let blocks = certificates_of(alloc, host, files.certificates)?;
@@ -50,7 +52,8 @@ fn run_script<W: Write>(
     requires under { AreUnder (length policy.now.labels) schemes.now }
     requires read { AreRead (record { policy = policy.now; schemes = schemes.now; stored = stored }) }
     requires certified { AreCertified (record { policy = policy.now; schemes = schemes.now; stored = stored }) }
-    ensures { OnOk result (IsScriptRun (record { policy = policy.now; schemes = schemes.now; stored = stored }) bytes.now (W.contents out.old) (W.contents out.new)) }
+    ensures ok { OnOk result (IsScriptRun (record { policy = policy.now; schemes = schemes.now; stored = stored }) bytes.now (W.contents out.old) (W.contents out.new)) }
+    ensures refused { IfErr result IsNoUsage }
 {
     let events = script(alloc, policy, schemes, bytes)?;
     Ok(run_events(alloc, policy, schemes, stored, &events, out)?)
@@ -84,7 +87,9 @@ fn run_sample_schemes<H: Host, W: Write>(
     host: &mut H,
     policy: &Policy,
     out: &mut W,
-) -> Result<(), Refusal> {
+) -> Result<(), Refusal>
+    ensures refused { IfErr result IsNoUsage }
+{
     let schemes = Schemes::read(alloc, policy, samples::SCHEMES.as_bytes())?;
     match host.input(alloc) {
         Ok(bytes) => {
@@ -99,7 +104,9 @@ pub(crate) fn run_samples<H: Host, W: Write>(
     alloc: Global,
     host: &mut H,
     out: &mut W,
-) -> Result<(), Refusal> {
+) -> Result<(), Refusal>
+    ensures refused { IfErr result IsNoUsage }
+{
     let policy = Policy::read(alloc, samples::POLICY.as_bytes())?;
     run_sample_schemes(alloc, host, &policy, out)
 }
@@ -110,7 +117,9 @@ fn run_schemes<H: Host, W: Write>(
     policy: &Policy,
     files: RunFiles,
     out: &mut W,
-) -> Result<(), Refusal> {
+) -> Result<(), Refusal>
+    ensures refused { IfErr result IsNoUsage }
+{
     let schemes = schemes_of(alloc, host, policy, files.schemes)?;
     let stored = stored_files(alloc, host, policy, &schemes, files)?;
     let bytes = input_of(alloc, host, Role::Script, files.script)?;
@@ -122,7 +131,9 @@ pub(crate) fn run_files<H: Host, W: Write>(
     host: &mut H,
     files: RunFiles,
     out: &mut W,
-) -> Result<(), Refusal> {
+) -> Result<(), Refusal>
+    ensures refused { IfErr result IsNoUsage }
+{
     let policy = policy_of(alloc, host, files.policy)?;
     run_schemes(alloc, host, &policy, files, out)
 }

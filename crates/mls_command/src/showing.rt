@@ -1,7 +1,8 @@
 //! The canonical texts of a policy and its schemes.
-ghost use Rattle.std.specs.Prelude.{length, OnOk};
+ghost use Rattle.std.specs.Prelude.{length, OnOk, IfErr};
 ghost use Rattle.std.specs.Io.KnownBytes.{Appends};
 ghost use Rattle.mls_scheme.specs.Scheme.{AreUnder};
+ghost use Rattle.mls_command.specs.Refusal.{IsNoUsage};
 
 use crate::host::Host;
 use crate::inputs::{policy_of, schemes_of};
@@ -14,6 +15,7 @@ use std::io::Write;
 /// Writes what a command other than a run prints.
 pub(crate) fn print<W: Write>(out: &mut W, text: &[u8]) -> Result<(), Refusal>
     ensures ok { OnOk result (Appends (W.contents out.old) (W.contents out.new) text.now) }
+    ensures refused { IfErr result IsNoUsage }
 {
     match out.write_all(text) {
         Ok(()) => Ok(()),
@@ -36,7 +38,9 @@ fn show_schemes<H: Host, W: Write>(
     policy: &Policy,
     schemes: &str,
     out: &mut W,
-) -> Result<(), Refusal> {
+) -> Result<(), Refusal>
+    ensures refused { IfErr result IsNoUsage }
+{
     let schemes = schemes_of(alloc, host, policy, schemes)?;
     let text = texts_of(alloc, policy, &schemes)?;
     print(out, &text)
@@ -49,7 +53,9 @@ pub(crate) fn show_policy<H: Host, W: Write>(
     policy: &str,
     schemes: &str,
     out: &mut W,
-) -> Result<(), Refusal> {
+) -> Result<(), Refusal>
+    ensures refused { IfErr result IsNoUsage }
+{
     let policy = policy_of(alloc, host, policy)?;
     show_schemes(alloc, host, &policy, schemes, out)
 }

@@ -1,6 +1,6 @@
 //! The least certificates of transactions.
 use crate::texts::push_fault;
-use case_tables::{Case, indent, joined, push_line, text_of};
+use case_tables::{Case, indent, joined, push_line};
 use mls_labeller::{LabelFault, label_tx};
 use mls_lattice::Policy;
 use mls_parser::parse;
@@ -18,13 +18,25 @@ fn push_labels(
     match label_tx(alloc, policy, tx) {
         Ok(cert) => {
             let text = cert.print(alloc)?;
-            indent(out, text_of(&text))
+            indent(out, &text)
         }
         Err(LabelFault::NoLabels { stmt, rule }) => {
             writeln!(out, "  no labels: {stmt} {}", rule.text())
         }
         Err(LabelFault::Memory) => out.push_str("  memory\n"),
     }
+}
+
+fn push_all(
+    alloc: Global,
+    policy: &Policy,
+    txs: &[Tx],
+    out: &mut String,
+) -> Result<(), AllocError> {
+    for tx in txs {
+        push_labels(alloc, policy, tx, out)?;
+    }
+    Ok(())
 }
 
 /// Tells the certificates of the transactions of a text, or its fault.
@@ -38,12 +50,7 @@ pub fn tell(
     let text = joined(alloc, case.body)?;
     push_line(out, case.head)?;
     match parse(alloc, policy, schemes, text.as_bytes()) {
-        Ok(txs) => {
-            for tx in &txs {
-                push_labels(alloc, policy, tx, out)?;
-            }
-            Ok(())
-        }
+        Ok(txs) => push_all(alloc, policy, &txs, out),
         Err(fault) => {
             out.push_str("  ")?;
             push_fault(out, fault)?;

@@ -45,7 +45,7 @@ place_of_node n = record { key = n.key; key_class = n.key_class; class = n.label
 pub record IsMadeOf (T : Table) (n : Node) (cells : List Cell) (es : List Element) : Type 0 where
   pub pattern : n.pattern ≡ map (λ e. e.class) es
   pub own : cells ≡ cells_from 0 (place_of_node n) es
-  pub others : (i : ℕ) → i < length es → (at es i).class ≢ n.label → (fs : List Element) × (get T (with_class (place_of_node n) (at es i).class) ≡ Some fs) × (at fs i ≡ at es i)
+  pub others : (i : ℕ) → i < length es → (at es i).class ≢ n.label → (fs : List Element) × (get T (with_class (place_of_node n) (at es i).class) ≡ Some fs) × (at fs i ≡ at es i) × (i < length fs)
 
 -- an element of the node's tuple, of its class, whose value has a spelling
 pub record IsCellOf (n : Node) (c : Cell) : Type 0 where

@@ -94,13 +94,14 @@ module _ (ls : Labels) (distinct : AreDistinct ls) (n : ℕ) (T : Table) (stored
     others = λ i l other. by_case i (subst (λ k. i < k) (length-derived w sets fs) l) other (derived_cases w sets fs i (subst (λ k. i < k) (length-derived w sets fs) l));
   }
     where
-      by_case : (i : ℕ) → i < length fs → (at (derived w sets fs) i).class ≢ w → (at (derived w sets fs) i ≡ at fs i) ⊎ IsSet w sets i (at (derived w sets fs) i) → (gs : List Element) × (get T (with_class (with_class q w) (at (derived w sets fs) i).class) ≡ Some gs) × (at gs i ≡ at (derived w sets fs) i)
+      by_case : (i : ℕ) → i < length fs → (at (derived w sets fs) i).class ≢ w → (at (derived w sets fs) i ≡ at fs i) ⊎ IsSet w sets i (at (derived w sets fs) i) → (gs : List Element) × (get T (with_class (with_class q w) (at (derived w sets fs) i).class) ≡ Some gs) × (at gs i ≡ at (derived w sets fs) i) × (i < length gs)
       by_case i l other (inl e) =
           let m = (at fs i).class in
           let c = st.closed m (inr (i, l, refl)) in (
             c.0,
             ap (λ x. get T (with_class q x.class)) e ∙ c.1,
             c.2 i l (below-refl ls m) ∙ sym e,
+            subst (λ k. i < k) (st.count ∙ sym (stored (with_class q m) c.0 c.1).count) l,
           )
       by_case i l other (inr s) = absurd (other (ap (λ x. x.class) s.2))
 

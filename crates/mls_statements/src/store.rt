@@ -156,19 +156,28 @@ impl<S: Alter> TableStore<S> {
         conn
     }
 
-    /// Counts a failure of the store that shows in what it has answered, and ends the change, if one is begun.
-    pub fn condemn(&mut self)
+    /// Ends the change, if one is begun: the rows are those of the last commit.
+    pub fn abandon(&mut self)
         ensures clean { IsClean self.new → IsClean self.old }
-        ensures fault { IsFault StoreFault.Store self.old self.new }
+        ensures fault { IsFault StoreFault.Memory self.old self.new }
+        ensures count { self.old.failures ≤ self.new.failures }
     {
         self.begun = false;
-        self.failures.rise();
         if self.conn.is_autocommit() {
             return;
         }
         if let Err(other) = change::undo(&mut self.conn) {
             blame(&mut self.failures, other);
         }
+    }
+
+    /// Counts a failure of the store that shows in what it has answered, and ends the change, if one is begun.
+    pub fn condemn(&mut self)
+        ensures clean { IsClean self.new → IsClean self.old }
+        ensures fault { IsFault StoreFault.Store self.old self.new }
+    {
+        self.failures.rise();
+        self.abandon();
     }
 
     /// Whether a change is begun.

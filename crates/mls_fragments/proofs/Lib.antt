@@ -1,0 +1,10 @@
+pub mod AddingLemmas
+pub mod CallLemmas
+pub mod DroppingLemmas
+pub mod MadeLemmas
+pub mod NotedLemmas
+pub mod ReadingLemmas
+pub mod RowLemmas
+pub mod SettingLemmas
+pub mod ShownLemmas
+pub mod WrittenLemmas

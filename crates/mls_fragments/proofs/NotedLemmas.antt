@@ -1,0 +1,93 @@
+-- What is noted of the rows stays so where they and the note change alike.
+use Rattle.std.proofs.Common.{◌≡◌, ℕ, pos, ◌+ℤ◌, ◌+◌, true, cond, List, [], ◌∷◌, map, length, Option, None, refl, sym, ap, subst, ◌∙◌, true≢false}
+use Rattle.std.specs.Prelude.{◌≢◌, IfSome}
+use Rattle.std.specs.List.{AllByRecursion}
+use Rattle.std.specs.FinMap.{get, insert}
+use Rattle.std.proofs.lemmas.List.{length-append}
+use Rattle.mls_scheme.specs.declared.value.Value.{Value}
+use Rattle.mls_scheme.specs.declared.tuple.Element.{Element}
+use Rattle.mls_scheme.specs.declared.place.Place.{Place}
+use Rattle.mls_scheme.specs.Spelling.{HasSpelling, IsSpelledKey}
+use Rattle.mls_filterview.specs.declared.fragment.Node.{Node}
+use Rattle.mls_filterview.specs.declared.fragment.Cell.{Cell}
+use Rattle.mls_filterview.specs.Content.{Content, with_table, with_relation}
+use Rattle.mls_filterview.specs.Fragment.{place_of_node, IsMadeOf, IsCellOf, HasCell, IsAlone}
+use Rattle.mls_statements.specs.Rows.{Tables, described}
+use Rattle.mls_statements.specs.Statements.{SetsCell, AddsEntry}
+use Rattle.mls_statements.specs.Store.{TableState, IsClean}
+use Rattle.mls_fragments.specs.declared.noted.Noted.{Noted}
+use Rattle.mls_fragments.specs.Changes.{Change, content_of}
+use Rattle.mls_fragments.specs.Changes.Change.{Adds, Sets, Drops, Appends}
+use Rattle.mls_fragments.specs.Based.{IsNoted, IsBased, base_state, state_with, state_of}
+use Rattle.mls_fragments.specs.Holding.{Holds, AddsTuple, DropsTuple, node_row, cell_row, value_row}
+use Rattle.mls_fragments.proofs.AddingLemmas.{holds_none, holds_tuple, holds_entry}
+use Rattle.mls_fragments.proofs.SettingLemmas.{holds_value}
+use Rattle.mls_fragments.proofs.DroppingLemmas.{holds_rest}
+use Rattle.mls_fragments.proofs.MadeLemmas.{elements_made}
+
+-- rows that are written in a change
+pub based_on : (t u : TableState) (here new last : Noted) → IsBased t here last → (IsClean u → IsClean t) → u.begun ≡ true → (IsClean u → u.kept ≡ t.kept)
+    → (IsClean u → IsNoted t.now here → IsNoted u.now new) → IsBased u new last
+based_on t u here new last based clean mode kept noted = record {
+  now = λ h. noted h (based.now (clean h));
+  kept = λ h. subst (λ rows. IsNoted rows last) (sym (kept h)) (based.kept (clean h));
+  content = λ e. absurd (true≢false (sym mode ∙ e));
+  number = λ e. absurd (true≢false (sym mode ∙ e));
+}
+
+-- the note of some changes
+noted_as : (rows : Tables) (n : Noted) (changes : List Change) → n.content.changes ≡ changes → n.last ≡ pos (length (content_of changes).audit) → Holds rows (content_of changes) → IsNoted rows n
+noted_as rows n changes is last holds = record {
+  holds = subst (λ cs. Holds rows (content_of cs)) (sym is) holds;
+  last = last ∙ ap (λ cs. pos (length (content_of cs).audit)) (sym is);
+}
+
+-- a new store holds nothing
+pub noted_none : (lattice schemes : List ℕ) (rows : Tables) (n : Noted) → rows ≡ described lattice schemes → n.content.changes ≡ [] → n.last ≡ pos 0 → IsNoted rows n
+noted_none lattice schemes rows n is changes last = noted_as rows n [] changes last (subst (λ t. Holds t (content_of [])) (sym is) (holds_none lattice schemes))
+
+-- the note with one change more
+module _ (t u : Tables) (here new : Noted) (was : IsNoted t here) where
+  abbrev c : Content
+  c = content_of here.content.changes
+
+  pub noted_tuple : (rel : ℕ) (n : Node) (cells : List Cell) → new.content.changes ≡ Adds rel n cells ∷ here.content.changes → new.last ≡ here.last
+      → IsSpelledKey n.key → AllByRecursion (IsCellOf n) cells → get (c.db rel) (place_of_node n) ≡ None → (es : List Element) × IsMadeOf (c.db rel) n cells es
+      → AddsTuple (node_row rel n) (map (cell_row rel) cells) t u → IsNoted u new
+  noted_tuple rel n cells changes last key each none made adds = noted_as u new _ changes (last ∙ was.last)
+      (subst (λ es. Holds u (record c { db = with_table c.db rel (insert (c.db rel) (place_of_node n) es) })) (sym (elements_made (c.db rel) n cells made.0 made.1))
+      (holds_tuple t u c rel n cells made.0 was.holds key each none made.1 adds))
+
+  pub noted_value : (rel : ℕ) (p : Place) (attr : ℕ) (v : Option Value) → new.content.changes ≡ Sets rel p attr v ∷ here.content.changes → new.last ≡ here.last
+      → IsSpelledKey p.key → IfSome v HasSpelling → HasCell (c.db rel) p attr → SetsCell (value_row rel p attr v) t u → IsNoted u new
+  noted_value rel p attr v changes last key value there sets = noted_as u new _ changes (last ∙ was.last) (holds_value t u c rel p attr v was.holds key value there sets)
+
+  pub noted_rest : (rel : ℕ) (p : Place) → new.content.changes ≡ Drops rel p ∷ here.content.changes → new.last ≡ here.last
+      → IsSpelledKey p.key → get (c.db rel) p ≢ None → IsAlone (c.db rel) p → DropsTuple rel p t u → IsNoted u new
+  noted_rest rel p changes last key there alone drops = noted_as u new _ changes (last ∙ was.last) (holds_rest t u c rel p was.holds key there alone _ refl drops)
+
+  pub noted_entry : (bytes : List ℕ) → new.content.changes ≡ Appends bytes ∷ here.content.changes → new.last ≡ here.last +ℤ pos 1
+      → AddsEntry (record { number = here.last +ℤ pos 1; bytes = bytes }) t u → IsNoted u new
+  noted_entry bytes changes last adds =
+      let next : here.last +ℤ pos 1 ≡ pos (length c.audit + 1) = ap (λ n. n +ℤ pos 1) was.last in
+      noted_as u new _ changes (last ∙ next ∙ ap pos (sym (length-append c.audit (bytes ∷ []))))
+      (holds_entry t u c bytes was.holds (subst (λ n. AddsEntry (record { number = n; bytes = bytes }) t u) next adds))
+
+-- the state in a change, with a tuple more
+pub state_added : (t u : TableState) (here last : Noted) (changes : List Change) (rel : ℕ) (n : Node) (cells : List Cell) (es : List Element) → t.begun ≡ true → u.begun ≡ true
+    → changes ≡ Adds rel n cells ∷ here.content.changes → IsMadeOf ((content_of here.content.changes).db rel) n cells es
+    → state_with (content_of changes) (content_of last.content.changes) u.begun
+    ≡ with_relation (state_of (base_state t here last)) rel (insert ((content_of here.content.changes).db rel) (place_of_node n) es)
+state_added t u here last changes rel n cells es was mode is made =
+    ap (λ cs. state_with (content_of cs) before u.begun) is ∙ ap (λ fs. state_with (added fs) before u.begun) (elements_made (c.db rel) n cells es made)
+    ∙ ap (state_with (added es) before) mode
+    ∙ sym (ap (λ b. record { now = added es; kept = cond b before c; begun = b }) was)
+  where
+    c : Content
+    c = content_of here.content.changes
+
+    before : Content
+    before = content_of last.content.changes
+
+    added : List Element → Content
+    added fs = record { db = with_table c.db rel (insert (c.db rel) (place_of_node n) fs); audit = c.audit }

@@ -1,0 +1,121 @@
+-- The rows of a relation and a label show its fragment.
+use Rattle.std.proofs.Common.{◌≡◌, ℕ, Bool, true, false, cond, ◌&&◌, List, [], ◌∷◌, map, filter, flat_map, Option, Some, None, refl, sym, ap, ◌∙◌, subst, append-nil, IsPermutation}
+use Rattle.std.specs.Prelude.{nat_eq, IfSome}
+use Rattle.std.specs.List.{AllByRecursion}
+use Rattle.std.specs.FinMap.{entries}
+use Rattle.std.proofs.lemmas.List.Sorted.{IsPermutation-trans}
+use Rattle.sqlite_trees.proofs.ListLemmas.{filter-map, all-map, all-permutation, pull_back, IsPermutation-filter}
+use Rattle.mls_scheme.specs.declared.value.Value.{Value}
+use Rattle.mls_scheme.specs.declared.value.Value.TheVariants.{Int, Text}
+use Rattle.mls_scheme.specs.Spelling.{value_spelling, HasSpelling, IsSpelledKey}
+use Rattle.mls_scheme.specs.Table.{Table}
+use Rattle.mls_scheme.proofs.KeyLemmas.{unambiguous}
+use Rattle.mls_filterview.specs.declared.fragment.Node.{Node}
+use Rattle.mls_filterview.specs.declared.fragment.Cell.{Cell}
+use Rattle.mls_filterview.specs.declared.fragment.Fragment.{Fragment}
+use Rattle.mls_filterview.specs.Content.{Content}
+use Rattle.mls_filterview.specs.Fragment.{IsFragment, of_class, node_of, cells_of}
+use Rattle.mls_filterview.specs.View.{IsAmong}
+use Rattle.mls_filterview.proofs.AmongLemmas.{each_among, among_filter, among_flat_map}
+use Rattle.mls_filterview.proofs.EntryLemmas.{Entry, among_entries}
+use Rattle.mls_filterview.proofs.FragmentLemmas.{cell_found}
+use Rattle.mls_statements.specs.Rows.{Tables, is_node_at, is_cell_at}
+use Rattle.mls_fragments.specs.Holding.{Holds, HoldsTable, IsSpelledNode, IsSpelledCell, value_bytes, node_row, cell_row}
+use Rattle.mls_fragments.proofs.WrittenLemmas.{filter_each, spelled_keys}
+
+-- ---- rows that are the same
+
+same_value : (v w : Option Value) → IfSome v HasSpelling → IfSome w HasSpelling → value_bytes v ≡ value_bytes w → v ≡ w
+same_value None None a b e = refl
+same_value None (Some (Int n)) a b e = absurd cc
+same_value None (Some (Text s)) a b e = absurd cc
+same_value (Some (Int n)) None a b e = absurd cc
+same_value (Some (Text s)) None a b e = absurd cc
+same_value (Some v) (Some w) a b e = ap Some (unambiguous.values v w [] [] a b (append-nil (value_spelling v) ∙ e ∙ sym (append-nil (value_spelling w)))).0
+
+same_node : (rel : ℕ) (n m : Node) → IsSpelledNode n → IsSpelledNode m → node_row rel n ≡ node_row rel m → n ≡ m
+same_node rel n m a b e =
+    let key = unambiguous.keys n.key m.key a b (ap (λ r. r.ent) e) in
+    λ i. record { key = key i; key_class = (e i).kclass; label = (e i).label; pattern = (e i).pattern }
+
+same_cell : (rel : ℕ) (c d : Cell) → IsSpelledCell c → IsSpelledCell d → cell_row rel c ≡ cell_row rel d → c ≡ d
+same_cell rel c d a b e =
+    let key = unambiguous.keys c.key d.key a.0 b.0 (ap (λ r. r.ent) e) in
+    let value = same_value c.value d.value a.1 b.1 (ap (λ r. r.value) e) in
+    λ i. record { key = key i; key_class = (e i).kclass; attr = (e i).attr; label = (e i).label; value = value i }
+
+-- ---- lists
+
+-- two tests, one after the other
+filter_both : {A : Type 0} (p q : A → Bool) (xs : List A) → filter p (filter q xs) ≡ filter (λ x. q x && p x) xs
+filter_both p q [] = refl
+filter_both p q (x ∷ xs) =
+    elim (q x) as (λ b. filter p (cond b (x ∷ filter q xs) (filter q xs)) ≡ cond (b && p x) (x ∷ filter (λ y. q y && p y) xs) (filter (λ y. q y && p y) xs)) [
+      | true ↦ ap (λ l. cond (p x) (x ∷ l) l) (filter_both p q xs)
+      | false ↦ filter_both p q xs
+    ]
+
+-- a function that tells apart what P holds of
+module _ {A B : Type 0} (P : A → Type 0) (f : A → B) (apart : (x y : A) → P x → P y → f x ≡ f y → x ≡ y) where
+  same_list : (xs ys : List A) → AllByRecursion P xs → AllByRecursion P ys → map f xs ≡ map f ys → xs ≡ ys
+  same_list [] [] a b e = refl
+  same_list [] (y ∷ ys) a b e = absurd cc
+  same_list (x ∷ xs) [] a b e = absurd cc
+  same_list (x ∷ xs) (y ∷ ys) a b e =
+      let head : f x ≡ f y = cc in
+      let rest : map f xs ≡ map f ys = cc in
+      λ i. apart x y a.0 b.0 head i ∷ same_list xs ys a.1 b.1 rest i
+
+  -- so lists whose images are permutations of one another are so too
+  reflects : (xs ys : List A) → AllByRecursion P xs → AllByRecursion P ys → IsPermutation (map f xs) (map f ys) → IsPermutation xs ys
+  reflects xs ys a b h =
+      let back = pull_back f (map f xs) (map f ys) h xs refl in
+      subst (IsPermutation xs) (same_list back.0 ys (all-permutation P xs back.0 back.1 a) b (sym back.2)) back.1
+
+-- ---- the rows of a label
+
+module _ (t : Tables) (rel label : ℕ) (T : Table) (held : HoldsTable t rel T) where
+  nodes_at : IsPermutation (map (node_row rel) (map node_of (of_class label T))) (filter (is_node_at rel label) t.nodes)
+  nodes_at =
+      subst (IsPermutation (map (node_row rel) (map node_of (of_class label T)))) (filter_both (λ n. nat_eq n.label label) (λ n. nat_eq n.rel rel) t.nodes)
+      (subst (λ l. IsPermutation l (filter (λ n. nat_eq n.label label) (filter (λ n. nat_eq n.rel rel) t.nodes)))
+      (filter-map (λ n. nat_eq n.label label) (node_row rel) (map node_of (entries T)) ∙ ap (map (node_row rel)) (filter-map (λ n. nat_eq n.label label) node_of (entries T)))
+      (IsPermutation-filter (λ n. nat_eq n.label label) _ _ held.nodes))
+
+  -- the cells of a tuple have its class
+  label_test : (e : Entry) → IsAmong e (entries T) → (d : Cell) → IsAmong d (cells_of e) → nat_eq d.label label ≡ nat_eq e.0.class label
+  label_test e i d k = let f = cell_found 0 e.0 e.1 d k in ap (λ m. nat_eq m label) (ap (λ x. x.label) f.1.1 ∙ f.1.2)
+
+  cells_at : IsPermutation (map (cell_row rel) (flat_map cells_of (of_class label T))) (filter (is_cell_at rel label) t.cells)
+  cells_at =
+      subst (IsPermutation (map (cell_row rel) (flat_map cells_of (of_class label T)))) (filter_both (λ c. nat_eq c.label label) (λ c. nat_eq c.rel rel) t.cells)
+      (subst (λ l. IsPermutation l (filter (λ c. nat_eq c.label label) (filter (λ c. nat_eq c.rel rel) t.cells)))
+      (filter-map (λ c. nat_eq c.label label) (cell_row rel) (flat_map cells_of (entries T))
+      ∙ ap (map (cell_row rel)) (filter_each cells_of (λ d. nat_eq d.label label) (λ e. nat_eq e.0.class label) (entries T) label_test))
+      (IsPermutation-filter (λ c. nat_eq c.label label) _ _ held.cells))
+
+  stored : (e : Entry) → IsAmong e (of_class label T) → IsAmong e (entries T)
+  stored e i = (among_filter (λ e. nat_eq e.0.class label) (entries T) e i).0
+
+  nodes_spelled : AllByRecursion IsSpelledNode (map node_of (of_class label T))
+  nodes_spelled = all-map IsSpelledNode node_of (of_class label T) (each_among (λ e. IsSpelledKey e.0.key) (of_class label T) (λ e i. spelled_keys t rel T held e (stored e i)))
+
+  cells_spelled : AllByRecursion IsSpelledCell (flat_map cells_of (of_class label T))
+  cells_spelled = each_among IsSpelledCell (flat_map cells_of (of_class label T)) (λ d k.
+      let r = among_flat_map cells_of (of_class label T) d k in
+      let f = cell_found 0 r.0.0 r.0.1 d r.2 in
+      let shared = held.shared r.0.0 r.0.1 (among_entries T r.0 (stored r.0 r.1)) in
+      subst IsSpelledCell (sym f.1.1) (shared.key, shared.values f.0 f.1.0))
+
+pub shows_fragment : (t : Tables) (c : Content) (rel label : ℕ) (f : Fragment) → Holds t c
+    → AllByRecursion IsSpelledNode f.nodes → AllByRecursion IsSpelledCell f.cells
+    → IsPermutation (filter (is_node_at rel label) t.nodes) (map (node_row rel) f.nodes)
+    → IsPermutation (filter (is_cell_at rel label) t.cells) (map (cell_row rel) f.cells)
+    → IsFragment (c.db rel) label f
+shows_fragment t c rel label f holds ns cs nodes cells =
+    let T = c.db rel in
+    let held = holds.tables rel in
+    record {
+      nodes = reflects IsSpelledNode (node_row rel) (same_node rel) _ f.nodes (nodes_spelled t rel label T held) ns (IsPermutation-trans _ _ _ (nodes_at t rel label T held) nodes);
+      cells = reflects IsSpelledCell (cell_row rel) (same_cell rel) _ f.cells (cells_spelled t rel label T held) cs (IsPermutation-trans _ _ _ (cells_at t rel label T held) cells);
+    }

@@ -1,0 +1,22 @@
+use Rattle.std.proofs.Common.{◌≡◌, ◌∙◌, ℕ, map, filter, subst, subst₂, ap, IsPermutation}
+use Rattle.std.specs.List.{AllByRecursion}
+use Rattle.mls_statements.specs.Rows.{is_node_at, is_cell_at}
+use Rattle.mls_fragments.specs.Holding.{node_row, cell_row}
+use Rattle.mls_fragments.proofs.ReadingLemmas.{found_fragment}
+use Rattle.mls_fragments.proofs.reading.read_fragment.Goals as goal
+
+pub returns-in-Ok-clause-found : goal.returns-in-Ok-clause-found
+returns-in-Ok-clause-found g c clean content holds =
+    let t = c.args.store.now.now in
+    let f = c.in-Ok.fragment in
+    let nodes = c.in_ok-nodes.nodes.items in
+    let cells = c.in_ok-cells.cells.items in
+    let before = c.in_ok-cells.ensures.call.clean clean in
+    let some_nodes : IsPermutation (filter (is_node_at c.args.rel c.args.label) t.nodes) nodes = subst₂ (λ r l. IsPermutation (filter (is_node_at r l) t.nodes) nodes) (c.from.ensures ∙ c.byte.ensures) (c.from-2.ensures ∙ c.byte-2.ensures) (c.in_ok-nodes.ensures.found before) in
+    let same_cells = ap (λ u. u.cells) (c.in_ok-nodes.ensures.same before).0 in
+    let read_cells : IsPermutation (filter (is_cell_at c.args.rel c.args.label) c.nodes_at.new.self.now.cells) cells = subst₂ (λ r l. IsPermutation (filter (is_cell_at r l) c.nodes_at.new.self.now.cells) cells) (c.from-3.ensures ∙ c.byte-3.ensures) (c.from-4.ensures ∙ c.byte-4.ensures) (c.in_ok-cells.ensures.found clean) in
+    let some_cells = subst (λ xs. IsPermutation (filter (is_cell_at c.args.rel c.args.label) xs) cells) same_cells read_cells in
+    found_fragment t content c.args.rel c.args.label f nodes cells holds some_nodes some_cells
+    (subst (λ xs. (r : ℕ) → AllByRecursion (λ n. n.rel ≡ r) xs → map (node_row r) f.nodes ≡ xs) c.deref.ensures.value c.in-Ok.ensures.nodes)
+    (subst (λ xs. (r : ℕ) → AllByRecursion (λ n. n.rel ≡ r) xs → map (cell_row r) f.cells ≡ xs) c.deref-2.ensures.value c.in-Ok.ensures.cells)
+    c.in-Ok.ensures.spelled.0 c.in-Ok.ensures.spelled.1

@@ -1,0 +1,50 @@
+-- A base over the tables of a store.
+use Rattle.std.proofs.Common.{ap}
+use Rattle.std.specs.Prelude.{◌≡◌, pos, Bool, List, false, if◌then◌else◌, length}
+use Rattle.mls_filterview.specs.Content.{Content, State}
+use Rattle.mls_filterview.specs.declared.base.BaseFault.{BaseFault}
+use Rattle.mls_filterview.specs.declared.base.BaseFault.TheVariants as base
+use Rattle.mls_statements.specs.declared.store.StoreFault.{StoreFault}
+use Rattle.mls_statements.specs.declared.store.StoreFault.TheVariants.{Store, Memory}
+use Rattle.mls_statements.specs.Rows.{Tables}
+use Rattle.mls_statements.specs.Store.{TableState, IsClean}
+use Rattle.mls_fragments.specs.declared.noted.Noted.{Noted}
+use Rattle.mls_fragments.specs.Changes.{Change, content_of}
+use Rattle.mls_fragments.specs.Holding.{Holds}
+
+-- what a base shows: the changes that made its content now and that of the last commit, and the tables below
+pub record BaseState : Type 0 where
+  pub now : List Change
+  pub kept : List Change
+  pub tables : TableState
+
+abbrev pub base_state : TableState → Noted → Noted → BaseState
+base_state t now kept = record { now = now.content.changes; kept = kept.content.changes; tables = t }
+
+-- a state whose content of the last commit stands for itself in a change only
+abbrev pub state_with : Content → Content → Bool → State
+state_with now kept begun = record { now = now; kept = if begun then kept else now; begun = begun }
+
+-- the state that callers of a base see
+abbrev pub state_of : BaseState → State
+state_of b = state_with (content_of b.now) (content_of b.kept) b.tables.begun
+
+-- outside a change all is as at the last commit
+pub settled : (b : BaseState) → (state_of b).begun ≡ false → (state_of b).kept ≡ (state_of b).now
+settled b e = ap (λ begun. if begun then content_of b.kept else content_of b.now) e
+
+abbrev pub fault_of : StoreFault → BaseFault
+fault_of Store = base.Store
+fault_of Memory = base.Memory
+
+-- the rows hold the content, and the last entry's number is the count of entries
+pub record IsNoted (rows : Tables) (n : Noted) : Type 0 where
+  pub holds : Holds rows (content_of n.content.changes)
+  pub last : n.last ≡ pos (length (content_of n.content.changes).audit)
+
+-- the rows now hold what is noted now, and those of the last commit what was noted then; outside a change they are one
+pub record IsBased (t : TableState) (here last : Noted) : Type 0 where
+  pub now : IsClean t → IsNoted t.now here
+  pub kept : IsClean t → IsNoted t.kept last
+  pub content : t.begun ≡ false → last.content.changes ≡ here.content.changes
+  pub number : t.begun ≡ false → last.last ≡ here.last

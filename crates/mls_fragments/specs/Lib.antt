@@ -1,0 +1,4 @@
+pub mod Holding
+pub mod Changes
+pub mod Based
+pub mod OpenFault

@@ -1,0 +1,16 @@
+-- The numbers and names of the causes for which stores are not opened.
+use Rattle.std.specs.Prelude.{ℕ, List, codes}
+use Rattle.mls_fragments.specs.declared.open_fault.OpenFault.{OpenFault}
+use Rattle.mls_fragments.specs.declared.open_fault.OpenFault.TheVariants.{Store, OtherPolicy, BadRows, Memory}
+
+abbrev pub code_of : OpenFault → ℕ
+code_of Store = 1
+code_of OtherPolicy = 2
+code_of BadRows = 3
+code_of Memory = 4
+
+abbrev pub word_of : OpenFault → List ℕ
+word_of Store = codes "Store"
+word_of OtherPolicy = codes "OtherPolicy"
+word_of BadRows = codes "BadRows"
+word_of Memory = codes "Memory"

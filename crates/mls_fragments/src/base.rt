@@ -1,0 +1,199 @@
+//! A base over the tables of a store.
+ghost use Rattle.std.specs.Prelude.{◌≡◌, List, ℕ, false, IsTrue};
+ghost use Rattle.sqlite.specs.State.{HasCleanDisk};
+ghost use Rattle.sqlite.specs.Held.{state};
+ghost use Rattle.mls_filterview.specs.Content.{no_content};
+ghost use Rattle.mls_statements.specs.Rows.{described, tables_of};
+ghost use Rattle.mls_statements.specs.Statements.{IsReady};
+ghost use Rattle.mls_statements.specs.Store.{IsClean};
+ghost use Rattle.mls_fragments.specs.Based.{state_of};
+ghost use Rattle.mls_fragments.specs.Holding.{Holds};
+
+use crate::noted::{Noted, fall};
+use crate::reading::{read_entries, read_fragment};
+use crate::writing::{add_entry, add_tuple, drop_tuple, set_value};
+use mls_filterview::{Base, BaseFault, Cell, Fragment, Node};
+use mls_lattice::{Items, LabelNo};
+use mls_scheme::{Place, RelNo, Value};
+use mls_statements::TableStore;
+use sqlite::{Alter, Connection};
+use std::alloc::Global;
+use std::marker::Model;
+
+/// A base over the tables of a store: each tuple is a node, and each element is kept once, for all tuples that have it.
+///
+/// The rows are those of the content at all times. A call that fails ends the change that is begun.
+#[derive(Drop)]
+pub struct SqlBase<S: Alter> {
+    alloc: Global,
+    store: TableStore<S>,
+    now: Noted,
+    kept: Noted,
+}
+
+impl<S: Alter> Model for SqlBase<S> {
+    ghost use Rattle.mls_fragments.specs.Based.{BaseState, base_state, IsBased};
+
+    ghost Value = { BaseState };
+
+    ghost view = { λ b. base_state b.store b.now b.kept };
+
+    ghost invariant = { λ b. IsBased b.store b.now b.kept };
+}
+
+impl<S: Alter> SqlBase<S> {
+    /// A base over a new store.
+    pub(crate) fn over_new(alloc: Global, store: TableStore<S>) -> SqlBase<S>
+        requires mode { store.begun ≡ false }
+        requires new { IsClean store → (lattice : List ℕ) × (schemes : List ℕ) × (store.now ≡ described lattice schemes) × (store.kept ≡ store.now) }
+        ensures content { state_of result ≡ record { now = no_content; kept = no_content; begun = false } }
+        ensures tables { result.tables ≡ store }
+    {
+        SqlBase {
+            alloc,
+            store,
+            now: Noted::new(),
+            kept: Noted::new(),
+        }
+    }
+
+    /// The connection: where it is open, its tables hold the content.
+    pub fn into_connection(self) -> Connection<S>
+        requires begun { (state_of self).begun ≡ false }
+        ensures clean { HasCleanDisk (state S.Store result) → IsClean self.tables }
+        ensures rows { HasCleanDisk (state S.Store result) → IsTrue (state S.Store result).is_open → IsReady (state S.Store result).now × Holds (tables_of (state S.Store result).now.trees) (state_of self).now }
+    {
+        let SqlBase {
+            alloc: _,
+            store,
+            now: _,
+            kept: _,
+        } = self;
+        store.into_connection()
+    }
+}
+
+impl<S: Alter> Base for SqlBase<S> {
+    ghost use Rattle.mls_statements.specs.Store.{IsClean};
+    ghost use Rattle.mls_fragments.specs.Based.{state_of, settled};
+
+    ghost state = { state_of };
+
+    ghost failures = { λ b. b.tables.failures };
+
+    ghost is_clean = { λ b. IsClean b.tables };
+
+    ghost settled = { λ b clean. settled b };
+
+    fn is_begun(&self) -> bool {
+        self.store.is_begun()
+    }
+
+    fn begin(&mut self) -> Result<(), BaseFault> {
+        if self.store.is_begun() {
+            return Err(BaseFault::Begun);
+        }
+        match self.store.begin() {
+            Ok(_) => Ok(()),
+            Err(fault) => Err(fall(&mut self.now, &self.kept, fault)),
+        }
+    }
+
+    fn commit(&mut self) -> Result<(), BaseFault> {
+        if !self.store.is_begun() {
+            return Err(BaseFault::NotBegun);
+        }
+        match self.store.commit() {
+            Ok(_) => {
+                self.kept.copy(&self.now);
+                Ok(())
+            }
+            Err(fault) => Err(fall(&mut self.now, &self.kept, fault)),
+        }
+    }
+
+    fn rollback(&mut self) -> Result<(), BaseFault> {
+        if !self.store.is_begun() {
+            return Err(BaseFault::NotBegun);
+        }
+        match self.store.rollback() {
+            Ok(_) => {
+                self.now.copy(&self.kept);
+                Ok(())
+            }
+            Err(fault) => Err(fall(&mut self.now, &self.kept, fault)),
+        }
+    }
+
+    fn fragment(&mut self, rel: RelNo, label: LabelNo) -> Result<Fragment, BaseFault> {
+        match read_fragment(&mut self.store, self.alloc, rel, label) {
+            Ok(fragment) => Ok(fragment),
+            Err(fault) => Err(fall(&mut self.now, &self.kept, fault)),
+        }
+    }
+
+    fn add(&mut self, rel: RelNo, node: Node, cells: &[Cell]) -> Result<(), BaseFault> {
+        if !self.store.is_begun() {
+            return Err(BaseFault::NotBegun);
+        }
+        match add_tuple(&mut self.store, self.alloc, rel, &node, cells) {
+            Ok(_) => {
+                self.now.content.add(rel, &node, cells);
+                Ok(())
+            }
+            Err(fault) => Err(fall(&mut self.now, &self.kept, fault)),
+        }
+    }
+
+    fn set(
+        &mut self,
+        rel: RelNo,
+        place: &Place,
+        attr: usize,
+        value: Option<Value>,
+    ) -> Result<(), BaseFault> {
+        if !self.store.is_begun() {
+            return Err(BaseFault::NotBegun);
+        }
+        match set_value(&mut self.store, self.alloc, rel, place, attr, &value) {
+            Ok(_) => {
+                self.now.content.set(rel, place, attr, &value);
+                Ok(())
+            }
+            Err(fault) => Err(fall(&mut self.now, &self.kept, fault)),
+        }
+    }
+
+    fn drop_at(&mut self, rel: RelNo, place: &Place) -> Result<(), BaseFault> {
+        if !self.store.is_begun() {
+            return Err(BaseFault::NotBegun);
+        }
+        match drop_tuple(&mut self.store, self.alloc, rel, place) {
+            Ok(_) => {
+                self.now.content.drop_at(rel, place);
+                Ok(())
+            }
+            Err(fault) => Err(fall(&mut self.now, &self.kept, fault)),
+        }
+    }
+
+    fn audit_add(&mut self, bytes: &[u8]) -> Result<(), BaseFault> {
+        if !self.store.is_begun() {
+            return Err(BaseFault::NotBegun);
+        }
+        match add_entry(&mut self.store, self.alloc, self.now.last, bytes) {
+            Ok(number) => {
+                self.now.append(number, bytes);
+                Ok(())
+            }
+            Err(fault) => Err(fall(&mut self.now, &self.kept, fault)),
+        }
+    }
+
+    fn audit_all(&mut self) -> Result<Items<Items<u8>>, BaseFault> {
+        match read_entries(&mut self.store, self.alloc) {
+            Ok(entries) => Ok(entries),
+            Err(fault) => Err(fall(&mut self.now, &self.kept, fault)),
+        }
+    }
+}

@@ -1,0 +1,13 @@
+//! Content as the rows of a store, and a base over them.
+#![tactic(auto)]
+
+mod base;
+mod noted;
+mod open_fault;
+mod opening;
+mod reading;
+mod recalled;
+mod writing;
+
+pub use base::SqlBase;
+pub use open_fault::OpenFault;

@@ -1,0 +1,59 @@
+//! What the rows hold: the changes that made it, which only clauses read, and the number of its last entry.
+ghost use Rattle.std.specs.Prelude.{◌≡◌, pos, [], ◌∷◌};
+ghost use Rattle.mls_fragments.specs.Based.{fault_of};
+ghost use Rattle.mls_fragments.specs.Changes.Change.{Appends};
+
+use crate::recalled::Recalled;
+use mls_filterview::BaseFault;
+use mls_statements::StoreFault;
+
+#[derive(Drop)]
+pub struct Noted {
+    pub content: Recalled,
+    /// The number of the last entry, 0 where there is none.
+    pub last: i64,
+}
+
+impl Noted {
+    /// No content.
+    pub fn new() -> Noted
+        ensures content { result.content.changes ≡ [] }
+        ensures last { result.last ≡ pos 0 }
+    {
+        Noted {
+            content: Recalled::new(),
+            last: 0,
+        }
+    }
+
+    /// What other rows hold.
+    pub fn copy(&mut self, other: &Noted)
+        ensures content { self.new.content.changes ≡ other.now.content.changes }
+        ensures last { self.new.last ≡ other.now.last }
+    {
+        self.content.copy(&other.content);
+        self.last = other.last;
+    }
+
+    /// One entry more, with its number.
+    pub fn append(&mut self, number: i64, bytes: &[u8])
+        ensures content { self.new.content.changes ≡ Appends bytes.now ∷ self.old.content.changes }
+        ensures last { self.new.last ≡ number }
+    {
+        self.content.append(bytes);
+        self.last = number;
+    }
+}
+
+/// The fault of the base where the store failed: the rows hold what they held at the last commit.
+pub fn fall(now: &mut Noted, kept: &Noted, fault: StoreFault) -> BaseFault
+    ensures fault { result ≡ fault_of fault }
+    ensures content { now.new.content.changes ≡ kept.now.content.changes }
+    ensures last { now.new.last ≡ kept.now.last }
+{
+    now.copy(kept);
+    match fault {
+        StoreFault::Store => BaseFault::Store,
+        StoreFault::Memory => BaseFault::Memory,
+    }
+}

@@ -1,0 +1,61 @@
+ghost use Rattle.std.specs.Prelude.{◌≡◌};
+ghost use Rattle.mls_fragments.specs.OpenFault.{code_of, word_of};
+ghost use Rattle.mls_fragments.specs.declared.open_fault.OpenFault.TheVariants.{Store, Memory};
+
+use mls_statements::StoreFault;
+use std::alloc::AllocError;
+use thiserror::Error;
+
+/// Why a store is not opened.
+#[derive(Clone, Copy, PartialEq, Eq, Debug, Error)]
+pub enum OpenFault {
+    #[error("the store failed")]
+    Store,
+    /// Users and the matrix of rights are not compared.
+    #[error("the store is of another policy or other schemes")]
+    OtherPolicy,
+    #[error("the rows are no content")]
+    BadRows,
+    #[error("out of memory")]
+    Memory,
+}
+
+impl OpenFault {
+    /// The number of the fault.
+    pub fn code(self) -> u8
+        ensures { result ≡ code_of self }
+    {
+        self as u8 + 1
+    }
+
+    /// The name of the fault.
+    pub fn word(self) -> &'static str
+        ensures { result.now ≡ word_of self }
+    {
+        match self {
+            OpenFault::Store => "Store",
+            OpenFault::OtherPolicy => "OtherPolicy",
+            OpenFault::BadRows => "BadRows",
+            OpenFault::Memory => "Memory",
+        }
+    }
+}
+
+impl From<AllocError> for OpenFault {
+    ghost from_gives = { λ _ e. e ≡ Memory };
+
+    fn from(_e: AllocError) -> OpenFault {
+        OpenFault::Memory
+    }
+}
+
+impl From<StoreFault> for OpenFault {
+    ghost from_gives = { λ _ _. Unit {0} };
+
+    fn from(fault: StoreFault) -> OpenFault {
+        match fault {
+            StoreFault::Store => OpenFault::Store,
+            StoreFault::Memory => OpenFault::Memory,
+        }
+    }
+}

@@ -1,0 +1,212 @@
+//! Nodes, cells and entries from rows.
+ghost use Rattle.std.specs.Prelude.{◌≡◌, ◌↔◌, ◌≤◌, ℕ, map, IfOk, IfSome, OnOk};
+ghost use Rattle.std.specs.List.{AllByRecursion};
+ghost use Rattle.mls_scheme.specs.declared.key_fault.KeyFault.TheVariants.{Memory as KeyMemory};
+ghost use Rattle.mls_scheme.specs.Spelling.{HasSpelling, IsSpelledKey, key_spelling};
+ghost use Rattle.mls_filterview.specs.Content.{Content};
+ghost use Rattle.mls_filterview.specs.Fragment.{IsFragment};
+ghost use Rattle.mls_statements.specs.Store.{IsClean, IsFault, IsCall, IsSame};
+ghost use Rattle.mls_fragments.specs.declared.reading.RowFault.TheVariants.{Memory};
+ghost use Rattle.mls_fragments.specs.Holding.{Holds, node_row, cell_row, value_bytes, IsSpelledNode, IsSpelledCell};
+
+use mls_filterview::{Cell, Fragment, Node};
+use mls_lattice::{Items, LabelNo};
+use mls_scheme::{KeyFault, RelNo, Value, key_of, value_of};
+use mls_statements::{AuditRow, CellRow, NodeRow, StoreFault, TableStore};
+use sqlite::Alter;
+use std::alloc::{AllocError, AllocFailed, Global};
+
+/// Why a row can't be read, or made.
+#[derive(Clone, Copy, PartialEq, Eq, Debug)]
+pub(crate) enum RowFault {
+    /// The row stands for nothing.
+    BadRow,
+    /// A growth was refused.
+    Memory,
+}
+
+impl From<AllocError> for RowFault {
+    ghost from_gives = { λ _ e. e ≡ Memory };
+
+    fn from(_e: AllocError) -> RowFault {
+        RowFault::Memory
+    }
+}
+
+impl<T: Drop> From<AllocFailed<T>> for RowFault {
+    ghost from_gives = { λ _ e. e ≡ Memory };
+
+    fn from(_e: AllocFailed<T>) -> RowFault {
+        RowFault::Memory
+    }
+}
+
+impl From<KeyFault> for RowFault {
+    ghost from_gives = { λ f e. (f ≡ KeyMemory) ↔ (e ≡ Memory) };
+
+    fn from(fault: KeyFault) -> RowFault {
+        match fault {
+            KeyFault::Memory => RowFault::Memory,
+            _ => RowFault::BadRow,
+        }
+    }
+}
+
+/// Ends the change, if one is begun, after a row that can't be read or made. Such a row is a failure of the store.
+pub(crate) fn give_up<S: Alter>(store: &mut TableStore<S>, fault: RowFault) -> StoreFault
+    ensures clean { IsClean store.new → IsClean store.old }
+    ensures fault { IsFault result store.old store.new }
+    ensures count { store.old.failures ≤ store.new.failures }
+{
+    match fault {
+        RowFault::BadRow => {
+            store.condemn();
+            StoreFault::Store
+        }
+        RowFault::Memory => {
+            store.abandon();
+            StoreFault::Memory
+        }
+    }
+}
+
+fn label_in(number: u32) -> Result<LabelNo, RowFault>
+    ensures { IfOk result (λ label. label ≡ number) }
+{
+    match u8::try_from(number) {
+        Ok(byte) => Ok(LabelNo::new(byte)),
+        Err(_) => Err(RowFault::BadRow),
+    }
+}
+
+fn key_in(alloc: Global, bytes: &[u8]) -> Result<Items<Value>, RowFault>
+    ensures { IfOk result (λ key. IsSpelledKey key × (key_spelling key ≡ bytes.now)) }
+{
+    Ok(Items::from(key_of(alloc, bytes)?))
+}
+
+fn pattern_in(alloc: Global, bytes: &[u8]) -> Result<Items<LabelNo>, RowFault>
+    ensures { IfOk result (λ pattern. pattern ≡ bytes.now) }
+{
+    let mut labels = Vec::new(alloc);
+    for byte in bytes {
+        labels.push(LabelNo::new(*byte))?;
+    }
+    Ok(Items::from(labels))
+}
+
+fn node_in(alloc: Global, row: &NodeRow) -> Result<Node, RowFault>
+    ensures { IfOk result (λ n. (node_row row.now.rel n ≡ row.now) × IsSpelledNode n) }
+{
+    Ok(Node {
+        key: key_in(alloc, &row.ent)?,
+        key_class: label_in(row.kclass)?,
+        label: label_in(row.label)?,
+        pattern: pattern_in(alloc, &row.pattern)?,
+    })
+}
+
+fn nodes_in(alloc: Global, rows: &[NodeRow]) -> Result<Items<Node>, RowFault>
+    ensures shown { IfOk result (λ nodes. (rel : ℕ) → AllByRecursion (λ r. r.rel ≡ rel) rows.now → map (node_row rel) nodes ≡ rows.now) }
+    ensures spelled { IfOk result (AllByRecursion IsSpelledNode) }
+{
+    let mut nodes = Vec::new(alloc);
+    for row in rows {
+        nodes.push(node_in(alloc, row)?)?;
+    }
+    Ok(Items::from(nodes))
+}
+
+fn value_in(alloc: Global, bytes: &[u8]) -> Result<Option<Value>, RowFault>
+    ensures { IfOk result (λ value. (value_bytes value ≡ bytes.now) × IfSome value HasSpelling) }
+{
+    if let [0] = bytes {
+        return Ok(None);
+    }
+    let (value, taken) = value_of(alloc, bytes)?;
+    if taken < bytes.len() {
+        return Err(RowFault::BadRow);
+    }
+    Ok(Some(value))
+}
+
+fn cell_in(alloc: Global, row: &CellRow) -> Result<Cell, RowFault>
+    ensures { IfOk result (λ c. (cell_row row.now.rel c ≡ row.now) × IsSpelledCell c) }
+{
+    Ok(Cell {
+        key: key_in(alloc, &row.ent)?,
+        key_class: label_in(row.kclass)?,
+        attr: row.attr as usize,
+        label: label_in(row.label)?,
+        value: value_in(alloc, &row.value)?,
+    })
+}
+
+fn cells_in(alloc: Global, rows: &[CellRow]) -> Result<Items<Cell>, RowFault>
+    ensures shown { IfOk result (λ cells. (rel : ℕ) → AllByRecursion (λ r. r.rel ≡ rel) rows.now → map (cell_row rel) cells ≡ rows.now) }
+    ensures spelled { IfOk result (AllByRecursion IsSpelledCell) }
+{
+    let mut cells = Vec::new(alloc);
+    for row in rows {
+        cells.push(cell_in(alloc, row)?)?;
+    }
+    Ok(Items::from(cells))
+}
+
+fn fragment_in(alloc: Global, nodes: &[NodeRow], cells: &[CellRow]) -> Result<Fragment, RowFault>
+    ensures nodes { IfOk result (λ f. (rel : ℕ) → AllByRecursion (λ r. r.rel ≡ rel) nodes.now → map (node_row rel) f.nodes ≡ nodes.now) }
+    ensures cells { IfOk result (λ f. (rel : ℕ) → AllByRecursion (λ r. r.rel ≡ rel) cells.now → map (cell_row rel) f.cells ≡ cells.now) }
+    ensures spelled { IfOk result (λ f. AllByRecursion IsSpelledNode f.nodes × AllByRecursion IsSpelledCell f.cells) }
+{
+    Ok(Fragment {
+        nodes: nodes_in(alloc, nodes)?,
+        cells: cells_in(alloc, cells)?,
+    })
+}
+
+/// What a label holds of a relation.
+pub(crate) fn read_fragment<S: Alter>(
+    store: &mut TableStore<S>,
+    alloc: Global,
+    rel: RelNo,
+    label: LabelNo,
+) -> Result<Fragment, StoreFault>
+    ensures call { IsCall store.old store.new result }
+    ensures mode { OnOk result (store.new.begun ≡ store.old.begun) }
+    ensures found { IsClean store.new → (c : Content) → Holds store.old.now c → IfOk result (IsFragment (c.db rel) label) }
+    ensures same { IsClean store.new → OnOk result (IsSame store.old store.new) }
+{
+    let nodes = store.nodes_at(u32::from(rel.byte()), u32::from(label.byte()))?;
+    let cells = store.cells_at(u32::from(rel.byte()), u32::from(label.byte()))?;
+    match fragment_in(alloc, &nodes, &cells) {
+        Ok(fragment) => Ok(fragment),
+        Err(fault) => Err(give_up(store, fault)),
+    }
+}
+
+fn entries_in(alloc: Global, rows: Vec<AuditRow>) -> Result<Items<Items<u8>>, RowFault>
+    ensures { IfOk result (λ entries. entries ≡ map (λ r. r.bytes) rows.items) }
+{
+    let mut entries = Vec::new(alloc);
+    for row in rows {
+        entries.push(row.bytes)?;
+    }
+    Ok(Items::from(entries))
+}
+
+/// The entries of the audit list.
+pub(crate) fn read_entries<S: Alter>(
+    store: &mut TableStore<S>,
+    alloc: Global,
+) -> Result<Items<Items<u8>>, StoreFault>
+    ensures call { IsCall store.old store.new result }
+    ensures mode { OnOk result (store.new.begun ≡ store.old.begun) }
+    ensures found { IsClean store.new → (c : Content) → Holds store.old.now c → IfOk result (λ entries. entries ≡ c.audit) }
+    ensures same { IsClean store.new → OnOk result (IsSame store.old store.new) }
+{
+    let rows = store.entries()?;
+    match entries_in(alloc, rows) {
+        Ok(entries) => Ok(entries),
+        Err(fault) => Err(give_up(store, fault)),
+    }
+}

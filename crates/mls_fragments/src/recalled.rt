@@ -1,0 +1,80 @@
+//! Changes that only clauses read.
+ghost use Rattle.std.specs.Prelude.{◌≡◌, List, [], ◌∷◌};
+ghost use Rattle.std.specs.Borrow.{ftrue};
+ghost use Rattle.mls_fragments.specs.Changes.{Change};
+ghost use Rattle.mls_fragments.specs.Changes.Change.{Adds, Sets, Drops, Appends};
+
+use mls_filterview::{Cell, Node};
+use mls_scheme::{Place, RelNo, Value};
+use std::marker::{Model, PhantomData};
+
+/// The changes that made some content, the last one first.
+#[derive(Drop)]
+pub struct Recalled {
+    marker: PhantomData<u8>,
+    pub ghost changes: { List Change },
+}
+
+impl Model for Recalled {
+    ghost also_owns = { λ _. ftrue };
+}
+
+impl Recalled {
+    /// No change is recalled.
+    pub fn new() -> Recalled
+        ensures { result.changes ≡ [] }
+    {
+        Recalled {
+            marker: PhantomData,
+        }
+    }
+
+    /// Other changes are recalled.
+    fn keep(&mut self)
+        ghost changes: { List Change }
+        ensures { self.new.changes ≡ changes }
+    {}
+
+    /// Other changes are recalled, made from what is seen.
+    fn note<A>(&mut self, _seen: &A)
+        ghost changes: { List Change }
+        ensures { self.new.changes ≡ changes }
+    {
+        self.keep();
+    }
+
+    /// The changes of another.
+    pub fn copy(&mut self, other: &Recalled)
+        ensures { self.new.changes ≡ other.now.changes }
+    {
+        self.note(other);
+    }
+
+    /// One tuple more.
+    pub fn add(&mut self, rel: RelNo, node: &Node, cells: &[Cell])
+        ensures { self.new.changes ≡ Adds rel node.now cells.now ∷ self.old.changes }
+    {
+        self.note(&(rel, node, cells));
+    }
+
+    /// One element has another value.
+    pub fn set(&mut self, rel: RelNo, place: &Place, attr: usize, value: &Option<Value>)
+        ensures { self.new.changes ≡ Sets rel place.now attr value.now ∷ self.old.changes }
+    {
+        self.note(&(rel, place, attr, value));
+    }
+
+    /// One tuple less.
+    pub fn drop_at(&mut self, rel: RelNo, place: &Place)
+        ensures { self.new.changes ≡ Drops rel place.now ∷ self.old.changes }
+    {
+        self.note(&(rel, place));
+    }
+
+    /// One entry more.
+    pub fn append(&mut self, bytes: &[u8])
+        ensures { self.new.changes ≡ Appends bytes.now ∷ self.old.changes }
+    {
+        self.note(&bytes);
+    }
+}

@@ -1,0 +1,238 @@
+//! The rows of a tuple, of a value and of an entry, written.
+ghost use Rattle.std.specs.Prelude.{◌≡◌, ◌+ℤ◌, pos, true, map, IfOk, IfSome, OnOk};
+ghost use Rattle.std.specs.List.{AllByRecursion};
+ghost use Rattle.mls_scheme.specs.Spelling.{HasSpelling, IsSpelledKey, key_spelling};
+ghost use Rattle.mls_filterview.specs.Fragment.{IsCellOf};
+ghost use Rattle.mls_statements.specs.declared.rows.CellRow.{CellRow as SpecCell};
+ghost use Rattle.mls_statements.specs.Statements.{SetsCell, AddsEntry, IsOne, has_key_of};
+ghost use Rattle.mls_statements.specs.Store.{IsClean, IsCall, Writes};
+ghost use Rattle.mls_fragments.specs.Holding.{node_row, cell_row, value_bytes, IsSpelledCell, value_row, AddsTuple, AddsCells, DropsTuple};
+
+use crate::reading::{RowFault, give_up};
+use mls_filterview::{Cell, Node};
+use mls_lattice::{Items, LabelNo};
+use mls_scheme::{Place, RelNo, Value, key_bytes, value_bytes};
+use mls_statements::{AuditRow, CellRow, NodeRow, StoreFault, TableStore};
+use sqlite::Alter;
+use std::alloc::Global;
+
+fn bytes_of(alloc: Global, pattern: &[LabelNo]) -> Result<Items<u8>, RowFault>
+    ensures { IfOk result (λ bytes. bytes ≡ pattern.now) }
+{
+    let mut bytes = Vec::new(alloc);
+    for label in pattern {
+        bytes.push(label.byte())?;
+    }
+    Ok(Items::from(bytes))
+}
+
+/// The bytes of a value, and 0 for null.
+fn bytes_of_value(alloc: Global, value: &Option<Value>) -> Result<Items<u8>, RowFault>
+    requires { IfSome value.now HasSpelling }
+    ensures { IfOk result (λ bytes. bytes ≡ value_bytes value.now) }
+{
+    match value {
+        Some(value) => Ok(Items::from(value_bytes(alloc, value)?)),
+        None => {
+            let mut null = Vec::new(alloc);
+            null.push(0)?;
+            Ok(Items::from(null))
+        }
+    }
+}
+
+fn ent_of(alloc: Global, key: &[Value]) -> Result<Items<u8>, RowFault>
+    requires { IsSpelledKey key.now }
+    ensures { IfOk result (λ bytes. bytes ≡ key_spelling key.now) }
+{
+    Ok(Items::from(key_bytes(alloc, key)?))
+}
+
+fn number_of(attr: usize) -> Result<u32, RowFault>
+    ensures { IfOk result (λ number. number ≡ attr) }
+{
+    match u32::try_from(attr) {
+        Ok(number) => Ok(number),
+        Err(_) => Err(RowFault::BadRow),
+    }
+}
+
+fn row_of_node(alloc: Global, rel: RelNo, node: &Node) -> Result<NodeRow, RowFault>
+    requires { IsSpelledKey node.now.key }
+    ensures { IfOk result (λ row. row ≡ node_row rel node.now) }
+{
+    Ok(NodeRow {
+        rel: u32::from(rel.byte()),
+        ent: ent_of(alloc, &node.key)?,
+        kclass: u32::from(node.key_class.byte()),
+        label: u32::from(node.label.byte()),
+        pattern: bytes_of(alloc, &node.pattern)?,
+    })
+}
+
+fn row_of_cell(alloc: Global, rel: RelNo, cell: &Cell) -> Result<CellRow, RowFault>
+    requires { IsSpelledCell cell.now }
+    ensures { IfOk result (λ row. row ≡ cell_row rel cell.now) }
+{
+    Ok(CellRow {
+        rel: u32::from(rel.byte()),
+        ent: ent_of(alloc, &cell.key)?,
+        kclass: u32::from(cell.key_class.byte()),
+        label: u32::from(cell.label.byte()),
+        attr: number_of(cell.attr)?,
+        value: bytes_of_value(alloc, &cell.value)?,
+    })
+}
+
+fn row_of_value(
+    alloc: Global,
+    rel: RelNo,
+    place: &Place,
+    attr: usize,
+    value: &Option<Value>,
+) -> Result<CellRow, RowFault>
+    requires key { IsSpelledKey place.now.key }
+    requires value { IfSome value.now HasSpelling }
+    ensures { IfOk result (λ row. row ≡ value_row rel place.now attr value.now) }
+{
+    Ok(CellRow {
+        rel: u32::from(rel.byte()),
+        ent: ent_of(alloc, &place.key)?,
+        kclass: u32::from(place.key_class.byte()),
+        label: u32::from(place.class.byte()),
+        attr: number_of(attr)?,
+        value: bytes_of_value(alloc, value)?,
+    })
+}
+
+/// Adds the cells, in a change.
+fn add_cells<S: Alter>(
+    store: &mut TableStore<S>,
+    alloc: Global,
+    rel: RelNo,
+    cells: &[Cell],
+) -> Result<(), StoreFault>
+    requires begun { store.old.begun ≡ true }
+    requires spelled { AllByRecursion IsSpelledCell cells.now }
+    ensures call { IsCall store.old store.new result }
+    ensures mode { OnOk result (store.new.begun ≡ true) }
+    ensures done { IsClean store.new → OnOk result (Writes (AddsCells (map (cell_row rel) cells.now)) store.old store.new) }
+{
+    for cell in cells {
+        match row_of_cell(alloc, rel, cell) {
+            Ok(row) => store.add_cell(&row)?,
+            Err(fault) => return Err(give_up(store, fault)),
+        }
+    }
+    Ok(())
+}
+
+/// Adds a tuple, in a change: its node and the elements of its class.
+pub(crate) fn add_tuple<S: Alter>(
+    store: &mut TableStore<S>,
+    alloc: Global,
+    rel: RelNo,
+    node: &Node,
+    cells: &[Cell],
+) -> Result<(), StoreFault>
+    requires begun { store.old.begun ≡ true }
+    requires key { IsSpelledKey node.now.key }
+    requires cells { AllByRecursion (IsCellOf node.now) cells.now }
+    ensures call { IsCall store.old store.new result }
+    ensures mode { OnOk result (store.new.begun ≡ true) }
+    ensures done { IsClean store.new → OnOk result (Writes (AddsTuple (node_row rel node.now) (map (cell_row rel) cells.now)) store.old store.new) }
+{
+    match row_of_node(alloc, rel, node) {
+        Ok(row) => store.add_node(&row)?,
+        Err(fault) => return Err(give_up(store, fault)),
+    }
+    add_cells(store, alloc, rel, cells)
+}
+
+/// Gives an element, which stands once, its value, in a change. `place` names the entity and the element's class.
+pub(crate) fn set_value<S: Alter>(
+    store: &mut TableStore<S>,
+    alloc: Global,
+    rel: RelNo,
+    place: &Place,
+    attr: usize,
+    value: &Option<Value>,
+) -> Result<(), StoreFault>
+    requires begun { store.old.begun ≡ true }
+    requires key { IsSpelledKey place.now.key }
+    requires value { IfSome value.now HasSpelling }
+    requires there { IsClean store.old → (was : SpecCell) × IsOne (has_key_of (value_row rel place.now attr value.now)) store.old.now.cells was }
+    ensures call { IsCall store.old store.new result }
+    ensures mode { OnOk result (store.new.begun ≡ true) }
+    ensures done { IsClean store.new → OnOk result (Writes (SetsCell (value_row rel place.now attr value.now)) store.old store.new) }
+{
+    match row_of_value(alloc, rel, place, attr, value) {
+        Ok(row) => store.set_cell(&row),
+        Err(fault) => Err(give_up(store, fault)),
+    }
+}
+
+/// Drops the node at a place, and the elements of its class, in a change.
+pub(crate) fn drop_tuple<S: Alter>(
+    store: &mut TableStore<S>,
+    alloc: Global,
+    rel: RelNo,
+    place: &Place,
+) -> Result<(), StoreFault>
+    requires begun { store.old.begun ≡ true }
+    requires key { IsSpelledKey place.now.key }
+    ensures call { IsCall store.old store.new result }
+    ensures mode { OnOk result (store.new.begun ≡ true) }
+    ensures done { IsClean store.new → OnOk result (Writes (DropsTuple rel place.now) store.old store.new) }
+{
+    let ent = match ent_of(alloc, &place.key) {
+        Ok(ent) => ent,
+        Err(fault) => return Err(give_up(store, fault)),
+    };
+    let rel = u32::from(rel.byte());
+    let kclass = u32::from(place.key_class.byte());
+    let label = u32::from(place.class.byte());
+    store.drop_node(rel, &ent, kclass, label)?;
+    store.drop_cells(rel, &ent, kclass, label)
+}
+
+fn entry_of(alloc: Global, bytes: &[u8]) -> Result<Items<u8>, RowFault>
+    ensures { IfOk result (λ entry. entry ≡ bytes.now) }
+{
+    let mut entry = Vec::new(alloc);
+    entry.extend_from_slice(bytes)?;
+    Ok(Items::from(entry))
+}
+
+/// The row of the entry after the last one. No memory is left for one whose number would not fit.
+fn row_of_entry(alloc: Global, last: i64, bytes: &[u8]) -> Result<AuditRow, RowFault>
+    ensures { IfOk result (λ row. row ≡ record { number = last +ℤ pos 1; bytes = bytes.now }) }
+{
+    let Some(number) = last.checked_add(1) else {
+        return Err(RowFault::Memory);
+    };
+    let bytes = entry_of(alloc, bytes)?;
+    Ok(AuditRow { number, bytes })
+}
+
+/// Adds an entry after the last one, in a change, and answers its number.
+pub(crate) fn add_entry<S: Alter>(
+    store: &mut TableStore<S>,
+    alloc: Global,
+    last: i64,
+    bytes: &[u8],
+) -> Result<i64, StoreFault>
+    requires begun { store.old.begun ≡ true }
+    ensures call { IsCall store.old store.new result }
+    ensures mode { OnOk result (store.new.begun ≡ true) }
+    ensures number { IfOk result (λ number. number ≡ last +ℤ pos 1) }
+    ensures done { IsClean store.new → OnOk result (Writes (AddsEntry (record { number = last +ℤ pos 1; bytes = bytes.now })) store.old store.new) }
+{
+    match row_of_entry(alloc, last, bytes) {
+        Ok(row) => {
+            store.add_entry(&row)?;
+            Ok(row.number)
+        }
+        Err(fault) => Err(give_up(store, fault)),
+    }
+}

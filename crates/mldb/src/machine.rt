@@ -19,7 +19,10 @@ impl<'a, R: Files + Input> Machine<'a, R> {
 }
 
 impl<'a, R: Files + Input> Host for Machine<'a, R> {
-    fn file(&mut self, alloc: Global, path: &str) -> Result<Vec<u8>, HostFault> {
+    // Any bytes: what a file has is known to nobody before it is read.
+    ghost gives = { λ _ _ _. Unit {0} };
+
+    fn file(&self, alloc: Global, path: &str) -> Result<Vec<u8>, HostFault> {
         match fs::open(self.rt, path) {
             Ok(file) => read_whole(alloc, file),
             Err(e) if e.kind() == ErrorKind::OutOfMemory => Err(HostFault::Memory),
@@ -27,7 +30,7 @@ impl<'a, R: Files + Input> Host for Machine<'a, R> {
         }
     }
 
-    fn input(&mut self, alloc: Global) -> Result<Vec<u8>, HostFault> {
+    fn input(&self, alloc: Global) -> Result<Vec<u8>, HostFault> {
         read_whole(alloc, self.rt.reader())
     }
 }

@@ -20,9 +20,9 @@ fn words_of(rt: &HostRuntime) -> Result<Vec<String>, Refusal> {
 fn run(rt: &HostRuntime) -> Result<u8, Refusal> {
     let words = words_of(rt)?;
     let words: Vec<&str> = words.iter().map(|word| word.as_str()).collect(rt.alloc())?;
-    let mut host = Machine::new(rt);
+    let host = Machine::new(rt);
     let (mut out, mut err) = (rt.stdout(), rt.stderr());
-    Ok(act(rt.alloc(), &words, &mut host, &mut out, &mut err))
+    Ok(act(rt.alloc(), &words, &host, &mut out, &mut err))
 }
 
 fn main(rt: HostRuntime) -> ExitCode {

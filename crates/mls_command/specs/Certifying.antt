@@ -4,9 +4,7 @@ use Rattle.std.specs.List.{flat_map, list_any, AllZip}
 use Rattle.std.specs.Fmt.{decimal}
 use Rattle.std.specs.Io.KnownBytes.{Appends}
 use Rattle.mls_lattice.specs.Policy.{Name, Tables}
-use Rattle.mls_scheme.specs.Scheme.{Schemes}
 use Rattle.mls_translang.specs.Tx.{Tx}
-use Rattle.mls_translang.specs.Tells.{Tells}
 use Rattle.mls_certificate.specs.declared.cert.Cert.{Cert}
 use Rattle.mls_certificate.specs.Spelling.{block_text}
 use Rattle.mls_certcheck.specs.Rules.{Rules, claim}
@@ -89,9 +87,3 @@ pub record IsCertified (policy : Tables) (txs : List Tx) (before after : Option 
   pub labels : AreAnswers policy txs answers
   pub written : Appends before after (flat_map block_of answers)
   pub outcome : ending ≡ ending_of answers
-
--- the text tells transactions, and these are certified
-pub record IsCertifying (policy : Tables) (schemes : Schemes) (text : List ℕ) (before after : Option (List ℕ)) (ending : Ending) : Type 0 where
-  pub txs : List Tx
-  pub told : Tells policy schemes text txs
-  pub certified : IsCertified policy txs before after ending

@@ -7,7 +7,6 @@ use Rattle.mls_lattice.specs.Policy.{Name, Tables}
 use Rattle.mls_translang.specs.Tx.{Tx}
 use Rattle.mls_certificate.specs.declared.cert.Cert.{Cert}
 use Rattle.mls_certificate.specs.Reading.{Block}
-use Rattle.mls_certificate.specs.Spelling.{IsFile, file_text}
 use Rattle.mls_certcheck.specs.Rules.{claim}
 use Rattle.mls_certcheck.specs.Checks.{First}
 use Rattle.mls_certcheck.specs.Refusal.{text_of}
@@ -49,10 +48,3 @@ line_of policy blocks tx = verdict_text tx.name (verdict_of policy blocks tx)
 pub record IsChecked (policy : Tables) (blocks : List Block) (txs : List Tx) (before after : Option (List ℕ)) (ending : Ending) : Type 0 where
   pub written : Appends before after (flat_map (line_of policy blocks) txs)
   pub outcome : ending ≡ (if list_any (λ tx. is_refused (verdict_of policy blocks tx)) txs then Refused else Well)
-
--- the text tells certificates, and these are checked
-pub record IsChecking (policy : Tables) (txs : List Tx) (text : List ℕ) (before after : Option (List ℕ)) (ending : Ending) : Type 0 where
-  pub blocks : List Block
-  pub file : IsFile blocks
-  pub told : text ≡ file_text blocks
-  pub checked : IsChecked policy blocks txs before after ending

@@ -1,4 +1,6 @@
 pub mod Running
+pub mod Inputs
+pub mod Acting
 pub mod Storing
 pub mod Certifying
 pub mod Checking

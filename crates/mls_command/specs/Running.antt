@@ -6,6 +6,8 @@ use Rattle.mls_script.specs.declared.event.Event.{Event}
 use Rattle.mls_script.specs.Script.{ReadsScript}
 use Rattle.mls_machine.specs.Site.{Site}
 use Rattle.mls_machine.specs.Machine.{World, no_sessions}
+use Rattle.mls_machine.specs.Observation.{PassesOnlyReleasesDown}
+use Rattle.mls_machine.specs.Laws.{KeepsIntegrity}
 use Rattle.mls_machine.specs.Output.{run_lines, printed}
 
 -- no tuple, no session and no entry
@@ -16,8 +18,11 @@ first_world = record { db = no_content.db; sessions = no_sessions; audit = [] }
 abbrev pub output : Site → List Event → List ℕ
 output site es = printed (run_lines site first_world es)
 
--- the script tells events, and what is written is the lines of their replies
+-- The script tells events, and what is written is the lines of their replies. Each database on the way has the four integrity
+-- properties, and no information flows down but what is released.
 pub record IsScriptRun (site : Site) (script : List ℕ) (before after : Option (List ℕ)) : Type 0 where
   pub events : List Event
   pub read : ReadsScript site.policy site.schemes script events
   pub written : Appends before after (output site events)
+  pub integrity : KeepsIntegrity site first_world events
+  pub secret : PassesOnlyReleasesDown site first_world events

@@ -1,5 +1,7 @@
 //! What the program does with its words.
-ghost use Rattle.std.specs.Prelude.{◌≤◌};
+ghost use Rattle.std.specs.Prelude.{◌≡◌, ◌≤◌, length, IfOk};
+ghost use Rattle.mls_command.specs.declared.ending.Ending.TheVariants.{Well, Refused};
+ghost use Rattle.mls_command.specs.Acting.{IsDone, IsAnswered};
 
 use crate::certifying::certify_files;
 use crate::checking::check_files;
@@ -12,40 +14,58 @@ use crate::words::{Job, job_of};
 use std::alloc::Global;
 use std::io::Write;
 
-fn well(outcome: Result<(), Refusal>) -> Result<Ending, Refusal> {
-    outcome?;
+/// Does a job.
+fn perform<H: Host, W: Write, E: Write>(
+    alloc: Global,
+    job: Job,
+    host: &H,
+    out: &mut W,
+    err: &mut E,
+) -> Result<Ending, Refusal>
+    ensures { IfOk result (IsDone (H.gives host.now) job.entry (W.contents out.old) (W.contents out.new)) }
+{
+    match job {
+        Job::Samples => run_samples(alloc, host, out)?,
+        Job::Run(files) => run_files(alloc, host, files, out)?,
+        Job::ShowPolicy { policy, schemes } => show_policy(alloc, host, policy, schemes, out)?,
+        Job::Certify(files) => return certify_files(alloc, host, files, out, err),
+        Job::Check(files, certificates) => {
+            return check_files(alloc, host, files, certificates, out);
+        }
+    }
     Ok(Ending::Well)
 }
 
+/// Does what the words ask for.
 fn answer<H: Host, W: Write, E: Write>(
     alloc: Global,
     words: &[&str],
-    host: &mut H,
+    host: &H,
     out: &mut W,
     err: &mut E,
-) -> Result<Ending, Refusal> {
-    match job_of(alloc, words)? {
-        Job::Samples => well(run_samples(alloc, host, out)),
-        Job::Run(files) => well(run_files(alloc, host, files, out)),
-        Job::ShowPolicy { policy, schemes } => {
-            well(show_policy(alloc, host, policy, schemes, out))
-        }
-        Job::Certify(files) => certify_files(alloc, host, files, out, err),
-        Job::Check(files, certificates) => check_files(alloc, host, files, certificates, out),
-    }
+) -> Result<Ending, Refusal>
+    ensures { IfOk result (IsAnswered (H.gives host.now) (length words.now) (W.contents out.old) (W.contents out.new)) }
+{
+    let job = job_of(alloc, words)?;
+    perform(alloc, job, host, out, err)
 }
 
 /// Does what the words ask for, and answers the exit status: 0 all well, 1 a transaction has no certificate or none that holds, 2 an
 /// input or the command line was refused, 3 store, writing or memory. Files are read in the order policy, schemes, transactions,
 /// certificates, script, and nothing runs before all were accepted.
+///
+/// A run that ends well passes no information down but what its calls release.
 pub fn act<H: Host, W: Write, E: Write>(
     alloc: Global,
     words: &[&str],
-    host: &mut H,
+    host: &H,
     out: &mut W,
     err: &mut E,
 ) -> u8
-    ensures { result ≤ 3 }
+    ensures status { result ≤ 3 }
+    // What the words ask for is done, by what the host gives.
+    ensures well { result ≡ 0 → IsAnswered (H.gives host.now) (length words.now) (W.contents out.old) (W.contents out.new) Well }
+    ensures refused { result ≡ 1 → IsAnswered (H.gives host.now) (length words.now) (W.contents out.old) (W.contents out.new) Refused }
 {
     match answer(alloc, words, host, out, err) {
         Ok(Ending::Well) => 0,

@@ -1,22 +1,20 @@
 //! Transactions get the least certificates that hold for them.
-ghost use Rattle.std.specs.Prelude.{◌≡◌, ◌++◌, length, string_bytes, IfOk, OnOk, IfErr};
+ghost use Rattle.std.specs.Prelude.{◌≡◌, ◌++◌, string_bytes, IfOk, OnOk, IfErr};
 ghost use Rattle.std.specs.List.{flat_map, list_any};
-ghost use Rattle.mls_scheme.specs.Scheme.{AreUnder};
-ghost use Rattle.mls_command.specs.Certifying.{AreLabels, IsAnswer, AreAnswers, block_of, none_front, none_text, refusal_of, has_none, ending_of, IsListing, IsCertified, IsCertifying};
+ghost use Rattle.mls_command.specs.Certifying.{AreLabels, IsAnswer, AreAnswers, block_of, none_front, none_text, refusal_of, has_none, ending_of, IsListing, IsCertified};
+ghost use Rattle.mls_command.specs.Acting.{IsCertifiedUnder, IsCertifying};
 ghost use Rattle.mls_command.specs.Refusal.{IsNoUsage};
 
 use crate::ending::Ending;
 use crate::host::Host;
-use crate::inputs::{input_of, policy_of, schemes_of};
-use crate::refusal::{Refusal, Role};
+use crate::inputs::{policy_of, schemes_of, transactions_in};
+use crate::refusal::Refusal;
 use crate::showing::print;
 use crate::words::TxFiles;
 use mls_certcheck::Rule;
 use mls_certificate::{Cert, block_print};
 use mls_labeller::{LabelFault, label_tx};
 use mls_lattice::Policy;
-use mls_parser::parse;
-use mls_scheme::Schemes;
 use mls_translang::Tx;
 use std::alloc::{AllocError, Global};
 use std::io::Write;
@@ -192,46 +190,31 @@ fn certify<W: Write, E: Write>(
     Ok(listing.ending)
 }
 
-/// Certifies the transactions that a text tells.
-fn certify_text<W: Write, E: Write>(
-    alloc: Global,
-    policy: &Policy,
-    schemes: &Schemes,
-    bytes: &[u8],
-    out: &mut W,
-    err: &mut E,
-) -> Result<Ending, Refusal>
-    requires { AreUnder (length policy.now.labels) schemes.now }
-    ensures ok { IfOk result (IsCertifying policy.now schemes.now bytes.now (W.contents out.old) (W.contents out.new)) }
-    ensures refused { IfErr result IsNoUsage }
-{
-    let txs = parse(alloc, policy, schemes, bytes)?;
-    certify(alloc, policy, &txs, out, err)
-}
-
 fn certify_under<H: Host, W: Write, E: Write>(
     alloc: Global,
-    host: &mut H,
+    host: &H,
     policy: &Policy,
     files: TxFiles,
     out: &mut W,
     err: &mut E,
 ) -> Result<Ending, Refusal>
+    ensures ok { IfOk result (IsCertifiedUnder (H.gives host.now) files.entry policy.now (W.contents out.old) (W.contents out.new)) }
     ensures refused { IfErr result IsNoUsage }
 {
     let schemes = schemes_of(alloc, host, policy, files.schemes)?;
-    let bytes = input_of(alloc, host, Role::Transactions, files.transactions)?;
-    certify_text(alloc, policy, &schemes, &bytes, out, err)
+    let txs = transactions_in(alloc, host, policy, &schemes, files.transactions)?;
+    certify(alloc, policy, &txs, out, err)
 }
 
 /// Prints the least certificate of each transaction of a file, and tells which transactions have none.
 pub(crate) fn certify_files<H: Host, W: Write, E: Write>(
     alloc: Global,
-    host: &mut H,
+    host: &H,
     files: TxFiles,
     out: &mut W,
     err: &mut E,
 ) -> Result<Ending, Refusal>
+    ensures ok { IfOk result (IsCertifying (H.gives host.now) files.entry (W.contents out.old) (W.contents out.new)) }
     ensures refused { IfErr result IsNoUsage }
 {
     let policy = policy_of(alloc, host, files.policy)?;

@@ -1,22 +1,23 @@
 //! Certificates are checked against the transactions of their names.
-ghost use Rattle.std.specs.Prelude.{◌≡◌, ◌↔◌, ◌++◌, Some, length, string_bytes, IfOk, OnOk, IfErr};
+ghost use Rattle.std.specs.Prelude.{◌≡◌, ◌↔◌, ◌++◌, Some, string_bytes, IfOk, OnOk, IfErr};
 ghost use Rattle.std.specs.List.{flat_map, list_any};
 ghost use Rattle.mls_certcheck.specs.Rules.{Rules, claim};
 ghost use Rattle.mls_certificate.specs.declared.cert.Cert.{Cert as SpecCert};
 ghost use Rattle.mls_command.specs.Storing.{cert_named};
 ghost use Rattle.mls_command.specs.declared.checking.Verdict.TheVariants.{Yes};
-ghost use Rattle.mls_command.specs.Checking.{verdict_of, verdict_text, line_of, is_refused, IsChecked, IsChecking};
+ghost use Rattle.mls_command.specs.Checking.{verdict_of, verdict_text, line_of, is_refused, IsChecked};
+ghost use Rattle.mls_command.specs.Acting.{IsCheckedUnder, IsChecking};
 ghost use Rattle.mls_command.specs.Refusal.{IsNoUsage};
 
 use crate::ending::Ending;
 use crate::host::Host;
-use crate::inputs::{input_of, policy_of, schemes_of, transactions_of};
-use crate::refusal::{Refusal as Stop, Role};
+use crate::inputs::{certificates_in, policy_of, schemes_of, transactions_in};
+use crate::refusal::Refusal as Stop;
 use crate::showing::print;
 use crate::storing::cert_named;
 use crate::words::TxFiles;
 use mls_certcheck::{Refusal, check};
-use mls_certificate::{Cert, certs_read};
+use mls_certificate::Cert;
 use mls_lattice::{Policy, Str};
 use mls_translang::Tx;
 use std::alloc::{AllocError, Global};
@@ -115,45 +116,32 @@ fn check_all<W: Write>(
     }
 }
 
-/// Checks the certificates that a text tells.
-fn check_text<W: Write>(
-    alloc: Global,
-    policy: &Policy,
-    txs: &[Tx],
-    bytes: &[u8],
-    out: &mut W,
-) -> Result<Ending, Stop>
-    ensures ok { IfOk result (IsChecking policy.now txs.now bytes.now (W.contents out.old) (W.contents out.new)) }
-    ensures refused { IfErr result IsNoUsage }
-{
-    let blocks = certs_read(alloc, bytes)?;
-    check_all(alloc, policy, &blocks, txs, out)
-}
-
 fn check_under<H: Host, W: Write>(
     alloc: Global,
-    host: &mut H,
+    host: &H,
     policy: &Policy,
     files: TxFiles,
     certificates: &str,
     out: &mut W,
 ) -> Result<Ending, Stop>
+    ensures ok { IfOk result (IsCheckedUnder (H.gives host.now) files.entry certificates.now policy.now (W.contents out.old) (W.contents out.new)) }
     ensures refused { IfErr result IsNoUsage }
 {
     let schemes = schemes_of(alloc, host, policy, files.schemes)?;
-    let txs = transactions_of(alloc, host, policy, &schemes, Some(files.transactions))?;
-    let bytes = input_of(alloc, host, Role::Certificates, certificates)?;
-    check_text(alloc, policy, &txs, &bytes, out)
+    let txs = transactions_in(alloc, host, policy, &schemes, files.transactions)?;
+    let blocks = certificates_in(alloc, host, certificates)?;
+    check_all(alloc, policy, &blocks, &txs, out)
 }
 
 /// Says of each transaction of a file whether the first certificate of its name in another file holds for it.
 pub(crate) fn check_files<H: Host, W: Write>(
     alloc: Global,
-    host: &mut H,
+    host: &H,
     files: TxFiles,
     certificates: &str,
     out: &mut W,
 ) -> Result<Ending, Stop>
+    ensures ok { IfOk result (IsChecking (H.gives host.now) files.entry certificates.now (W.contents out.old) (W.contents out.new)) }
     ensures refused { IfErr result IsNoUsage }
 {
     let policy = policy_of(alloc, host, files.policy)?;

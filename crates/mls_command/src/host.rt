@@ -1,5 +1,5 @@
 //! What a command asks of the machine that it runs on.
-ghost use Rattle.std.specs.Prelude.{◌≤◌, length, IfOk};
+ghost use Rattle.std.specs.Prelude.{◌≤◌, ℕ, List, Option, Some, None, length, IfOk};
 
 use std::alloc::Global;
 use std::io::{ErrorKind, Read};
@@ -16,12 +16,18 @@ pub enum HostFault {
 }
 
 /// Where inputs come from.
+///
+/// Contracts see which bytes a host gives for the file at a path, and, with no path, for the standard input.
 pub trait Host {
+    ghost gives: { Self → Option (List ℕ) → List ℕ → Type 0 };
+
     /// The bytes of a file, which a path names.
-    fn file(&mut self, alloc: Global, path: &str) -> Result<Vec<u8>, HostFault>;
+    fn file(&self, alloc: Global, path: &str) -> Result<Vec<u8>, HostFault>
+        ensures { IfOk result (λ bytes. gives self.now (Some path.now) bytes.items) };
 
     /// The bytes of the standard input.
-    fn input(&mut self, alloc: Global) -> Result<Vec<u8>, HostFault>;
+    fn input(&self, alloc: Global) -> Result<Vec<u8>, HostFault>
+        ensures { IfOk result (λ bytes. gives self.now None bytes.items) };
 }
 
 /// All bytes of a reader, where they are at most `MOST_BYTES`.

@@ -1,8 +1,9 @@
 //! Files, read as what a command takes them for.
-ghost use Rattle.std.specs.Prelude.{length, IfOk, IfErr};
+ghost use Rattle.std.specs.Prelude.{length, Some, option_map, IfOk, IfErr};
 ghost use Rattle.std.specs.List.{AllByRecursion};
 ghost use Rattle.mls_scheme.specs.Scheme.{AreUnder};
 ghost use Rattle.mls_translang.specs.Fits.{IsReadUnder};
+ghost use Rattle.mls_command.specs.Inputs.{IsPolicyFrom, AreSchemesFrom, AreToldIn, AreBlocksIn, AreTransactionsFrom, AreCertificatesFrom};
 ghost use Rattle.mls_command.specs.Refusal.{IsNoUsage};
 
 use crate::host::Host;
@@ -16,10 +17,11 @@ use std::alloc::Global;
 
 pub(crate) fn input_of<H: Host>(
     alloc: Global,
-    host: &mut H,
+    host: &H,
     role: Role,
     path: &str,
 ) -> Result<Vec<u8>, Refusal>
+    ensures given { IfOk result (λ bytes. H.gives host.now (Some path.now) bytes.items) }
     ensures refused { IfErr result IsNoUsage }
 {
     match host.file(alloc, path) {
@@ -28,7 +30,8 @@ pub(crate) fn input_of<H: Host>(
     }
 }
 
-pub(crate) fn policy_of<H: Host>(alloc: Global, host: &mut H, path: &str) -> Result<Policy, Refusal>
+pub(crate) fn policy_of<H: Host>(alloc: Global, host: &H, path: &str) -> Result<Policy, Refusal>
+    ensures read { IfOk result (IsPolicyFrom (H.gives host.now) path.now) }
     ensures refused { IfErr result IsNoUsage }
 {
     let bytes = input_of(alloc, host, Role::Policy, path)?;
@@ -37,10 +40,11 @@ pub(crate) fn policy_of<H: Host>(alloc: Global, host: &mut H, path: &str) -> Res
 
 pub(crate) fn schemes_of<H: Host>(
     alloc: Global,
-    host: &mut H,
+    host: &H,
     policy: &Policy,
     path: &str,
 ) -> Result<Schemes, Refusal>
+    ensures read { IfOk result (AreSchemesFrom (H.gives host.now) path.now policy.now) }
     ensures ok { IfOk result (AreUnder (length policy.now.labels)) }
     ensures refused { IfErr result IsNoUsage }
 {
@@ -48,39 +52,64 @@ pub(crate) fn schemes_of<H: Host>(
     Ok(Schemes::read(alloc, policy, &bytes)?)
 }
 
+/// The transactions of a file.
+pub(crate) fn transactions_in<H: Host>(
+    alloc: Global,
+    host: &H,
+    policy: &Policy,
+    schemes: &Schemes,
+    path: &str,
+) -> Result<Items<Tx>, Refusal>
+    ensures told { IfOk result (AreToldIn (H.gives host.now) path.now policy.now schemes.now) }
+    ensures ok { IfOk result (AllByRecursion (IsReadUnder policy.now schemes.now)) }
+    ensures refused { IfErr result IsNoUsage }
+{
+    let bytes = input_of(alloc, host, Role::Transactions, path)?;
+    Ok(parse(alloc, policy, schemes, &bytes)?)
+}
+
 /// The transactions of a file, if one is named.
 pub(crate) fn transactions_of<H: Host>(
     alloc: Global,
-    host: &mut H,
+    host: &H,
     policy: &Policy,
     schemes: &Schemes,
     path: Option<&str>,
 ) -> Result<Items<Tx>, Refusal>
+    ensures told { IfOk result (AreTransactionsFrom (H.gives host.now) (option_map (λ p. p.now) path.entry) policy.now schemes.now) }
     ensures ok { IfOk result (AllByRecursion (IsReadUnder policy.now schemes.now)) }
     ensures refused { IfErr result IsNoUsage }
 {
     match path {
         None => Ok(Items::from(Vec::new(alloc))),
-        Some(path) => {
-            let bytes = input_of(alloc, host, Role::Transactions, path)?;
-            Ok(parse(alloc, policy, schemes, &bytes)?)
-        }
+        Some(path) => transactions_in(alloc, host, policy, schemes, path),
     }
+}
+
+/// The certificates of a file, with the names of their transactions.
+pub(crate) fn certificates_in<H: Host>(
+    alloc: Global,
+    host: &H,
+    path: &str,
+) -> Result<Vec<(Str, Cert)>, Refusal>
+    ensures read { IfOk result (λ blocks. AreBlocksIn (H.gives host.now) path.now blocks.items) }
+    ensures refused { IfErr result IsNoUsage }
+{
+    let bytes = input_of(alloc, host, Role::Certificates, path)?;
+    Ok(certs_read(alloc, &bytes)?)
 }
 
 /// The certificates of a file, if one is named.
 pub(crate) fn certificates_of<H: Host>(
     alloc: Global,
-    host: &mut H,
+    host: &H,
     path: Option<&str>,
 ) -> Result<Vec<(Str, Cert)>, Refusal>
+    ensures read { IfOk result (λ blocks. AreCertificatesFrom (H.gives host.now) (option_map (λ p. p.now) path.entry) blocks.items) }
     ensures refused { IfErr result IsNoUsage }
 {
     match path {
         None => Ok(Vec::new(alloc)),
-        Some(path) => {
-            let bytes = input_of(alloc, host, Role::Certificates, path)?;
-            Ok(certs_read(alloc, &bytes)?)
-        }
+        Some(path) => certificates_in(alloc, host, path),
     }
 }

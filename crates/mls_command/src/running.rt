@@ -1,11 +1,14 @@
 //! Scripts that are run over an empty database.
-ghost use Rattle.std.specs.Prelude.{length, IfOk, OnOk, IfErr};
+ghost use Rattle.std.specs.Prelude.{length, option_map, IfOk, OnOk, IfErr};
 ghost use Rattle.std.specs.List.{AllByRecursion};
 ghost use Rattle.std.specs.Io.KnownBytes.{Appends};
 ghost use Rattle.mls_scheme.specs.Scheme.{AreUnder};
 ghost use Rattle.mls_script.specs.Event.{EventFits};
-ghost use Rattle.mls_machine.specs.Observation.{AreRead, AreCertified};
-ghost use Rattle.mls_command.specs.Running.{output, IsScriptRun};
+ghost use Rattle.mls_machine.specs.Observation.{AreRead, AreCertified, PassesOnlyReleasesDown};
+ghost use Rattle.mls_machine.specs.Laws.{KeepsIntegrity};
+ghost use Rattle.mls_command.specs.Running.{first_world, output, IsScriptRun};
+ghost use Rattle.mls_command.specs.Inputs.{AreStoredFrom};
+ghost use Rattle.mls_command.specs.Acting.{IsSampleRun, IsRunUnder, IsFilesRun};
 ghost use Rattle.mls_command.specs.Refusal.{IsNoUsage};
 
 use crate::host::Host;
@@ -26,11 +29,12 @@ use std::io::Write;
 #[tactic(auto, using(crate::proofs::StoringLemmas::stored_read))]
 fn stored_files<H: Host>(
     alloc: Global,
-    host: &mut H,
+    host: &H,
     policy: &Policy,
     schemes: &Schemes,
     files: RunFiles,
 ) -> Result<Items<Stored>, Refusal>
+    ensures from { IfOk result (AreStoredFrom (H.gives host.now) (option_map (λ p. p.now) files.entry.transactions) (option_map (λ p. p.now) files.entry.certificates) policy.now schemes.now) }
     ensures read { IfOk result (λ ss. AreRead (record { policy = policy.now; schemes = schemes.now; stored = ss })) }
     ensures certified { IfOk result (λ ss. AreCertified (record { policy = policy.now; schemes = schemes.now; stored = ss })) }
     ensures refused { IfErr result IsNoUsage }
@@ -72,7 +76,9 @@ fn run_events<W: Write>(
     requires read { AreRead (record { policy = policy.now; schemes = schemes.now; stored = stored }) }
     requires certified { AreCertified (record { policy = policy.now; schemes = schemes.now; stored = stored }) }
     requires fits { AllByRecursion (EventFits policy.now schemes.now) events.now }
-    ensures { OnOk result (Appends (W.contents out.old) (W.contents out.new) (output (record { policy = policy.now; schemes = schemes.now; stored = stored }) events.now)) }
+    ensures written { OnOk result (Appends (W.contents out.old) (W.contents out.new) (output (record { policy = policy.now; schemes = schemes.now; stored = stored }) events.now)) }
+    ensures integrity { KeepsIntegrity (record { policy = policy.now; schemes = schemes.now; stored = stored }) first_world events.now }
+    ensures secret { OnOk result (PassesOnlyReleasesDown (record { policy = policy.now; schemes = schemes.now; stored = stored }) first_world events.now) }
 {
     let base = ListBase::new(alloc);
     let mut engine = Engine::new(alloc, base, policy, schemes, stored);
@@ -84,10 +90,11 @@ fn run_events<W: Write>(
 /// Runs the script on standard input under schemes, and these under the policy that is handed in.
 fn run_sample_schemes<H: Host, W: Write>(
     alloc: Global,
-    host: &mut H,
+    host: &H,
     policy: &Policy,
     out: &mut W,
 ) -> Result<(), Refusal>
+    ensures ok { OnOk result (IsSampleRun (H.gives host.now) (W.contents out.old) (W.contents out.new)) }
     ensures refused { IfErr result IsNoUsage }
 {
     let schemes = Schemes::read(alloc, policy, samples::SCHEMES.as_bytes())?;
@@ -102,9 +109,10 @@ fn run_sample_schemes<H: Host, W: Write>(
 
 pub(crate) fn run_samples<H: Host, W: Write>(
     alloc: Global,
-    host: &mut H,
+    host: &H,
     out: &mut W,
 ) -> Result<(), Refusal>
+    ensures ok { OnOk result (IsSampleRun (H.gives host.now) (W.contents out.old) (W.contents out.new)) }
     ensures refused { IfErr result IsNoUsage }
 {
     let policy = Policy::read(alloc, samples::POLICY.as_bytes())?;
@@ -113,11 +121,12 @@ pub(crate) fn run_samples<H: Host, W: Write>(
 
 fn run_schemes<H: Host, W: Write>(
     alloc: Global,
-    host: &mut H,
+    host: &H,
     policy: &Policy,
     files: RunFiles,
     out: &mut W,
 ) -> Result<(), Refusal>
+    ensures ok { OnOk result (IsRunUnder (H.gives host.now) policy.now files.entry (W.contents out.old) (W.contents out.new)) }
     ensures refused { IfErr result IsNoUsage }
 {
     let schemes = schemes_of(alloc, host, policy, files.schemes)?;
@@ -128,10 +137,11 @@ fn run_schemes<H: Host, W: Write>(
 
 pub(crate) fn run_files<H: Host, W: Write>(
     alloc: Global,
-    host: &mut H,
+    host: &H,
     files: RunFiles,
     out: &mut W,
 ) -> Result<(), Refusal>
+    ensures ok { OnOk result (IsFilesRun (H.gives host.now) files.entry (W.contents out.old) (W.contents out.new)) }
     ensures refused { IfErr result IsNoUsage }
 {
     let policy = policy_of(alloc, host, files.policy)?;

@@ -1,7 +1,10 @@
 //! The canonical texts of a policy and its schemes.
-ghost use Rattle.std.specs.Prelude.{length, OnOk, IfErr};
+ghost use Rattle.std.specs.Prelude.{◌≡◌, ◌++◌, length, IfOk, OnOk, IfErr};
 ghost use Rattle.std.specs.Io.KnownBytes.{Appends};
 ghost use Rattle.mls_scheme.specs.Scheme.{AreUnder};
+ghost use Rattle.mls_lattice.specs.Canon as lattice;
+ghost use Rattle.mls_scheme.specs.Canon as scheme;
+ghost use Rattle.mls_command.specs.Acting.{AreSchemesShown, IsShown};
 ghost use Rattle.mls_command.specs.Refusal.{IsNoUsage};
 
 use crate::host::Host;
@@ -26,6 +29,7 @@ pub(crate) fn print<W: Write>(out: &mut W, text: &[u8]) -> Result<(), Refusal>
 /// The canonical texts of a policy and its schemes.
 fn texts_of(alloc: Global, policy: &Policy, schemes: &Schemes) -> Result<Vec<u8>, AllocError>
     requires { AreUnder (length policy.now.labels) schemes.now }
+    ensures { IfOk result (λ text. text.items ≡ lattice.canon_of policy.now ++ scheme.canon_of policy.now schemes.now) }
 {
     let mut text = policy.canon(alloc)?;
     text.append(&mut schemes.canon(alloc, policy)?)?;
@@ -34,11 +38,12 @@ fn texts_of(alloc: Global, policy: &Policy, schemes: &Schemes) -> Result<Vec<u8>
 
 fn show_schemes<H: Host, W: Write>(
     alloc: Global,
-    host: &mut H,
+    host: &H,
     policy: &Policy,
     schemes: &str,
     out: &mut W,
 ) -> Result<(), Refusal>
+    ensures ok { OnOk result (AreSchemesShown (H.gives host.now) policy.now schemes.now (W.contents out.old) (W.contents out.new)) }
     ensures refused { IfErr result IsNoUsage }
 {
     let schemes = schemes_of(alloc, host, policy, schemes)?;
@@ -49,11 +54,12 @@ fn show_schemes<H: Host, W: Write>(
 /// Prints the canonical texts.
 pub(crate) fn show_policy<H: Host, W: Write>(
     alloc: Global,
-    host: &mut H,
+    host: &H,
     policy: &str,
     schemes: &str,
     out: &mut W,
 ) -> Result<(), Refusal>
+    ensures ok { OnOk result (IsShown (H.gives host.now) policy.now schemes.now (W.contents out.old) (W.contents out.new)) }
     ensures refused { IfErr result IsNoUsage }
 {
     let policy = policy_of(alloc, host, policy)?;

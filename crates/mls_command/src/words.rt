@@ -1,7 +1,7 @@
 //! The command line.
-ghost use Rattle.std.specs.Prelude.{◌≡◌, ◌≢◌, ◌<◌, ◌≤◌, length, Ok, IfOk, IfErr};
+ghost use Rattle.std.specs.Prelude.{◌≡◌, ◌≢◌, ◌<◌, length, Ok, IfOk, IfErr};
 ghost use Rattle.std.specs.Option.{IfSome};
-ghost use Rattle.mls_command.specs.Words.{IsOfWords};
+ghost use Rattle.mls_command.specs.Words.{IsOfWords, Asks};
 ghost use Rattle.mls_command.specs.declared.words.Job.TheVariants.{Samples};
 
 use crate::refusal::Refusal;
@@ -202,9 +202,9 @@ fn check_job<'a>(check: &ArgMatches<'a>) -> Option<Job<'a>>
 
 /// What the words ask for; the first of them is the name that the program was called by.
 pub fn job_of<'a>(alloc: Global, words: &'a [&'a str]) -> Result<Job<'a>, Refusal>
-    // Without any words it is a run of the samples, and only then.
+    ensures asked { IfOk result (Asks (length words.now)) }
+    // Without any words nothing is refused.
     ensures samples { length words.now < 2 → result ≡ Ok Samples }
-    ensures words { 2 ≤ length words.now → IfOk result (λ j. j ≢ Samples) }
     // The parser's text, or want of memory.
     ensures refused { IfErr result IsOfWords }
 {

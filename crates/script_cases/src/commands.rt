@@ -23,8 +23,8 @@ pub fn written_by<R: Files + AllocGlobal>(
 ) -> Written {
     let mut out = out;
     let mut err = Vec::new(rt.alloc());
-    let mut desk = Desk { rt, script };
-    let status = act(rt.alloc(), words, &mut desk, &mut out, &mut err);
+    let desk = Desk { rt, script };
+    let status = act(rt.alloc(), words, &desk, &mut out, &mut err);
     Written {
         out: out.bytes,
         err,

@@ -1,5 +1,7 @@
 -- The numbers and names of the causes for which stores are not opened.
 use Rattle.std.specs.Prelude.{ℕ, List, codes}
+use Rattle.mls_statements.specs.declared.store.StoreFault.{StoreFault}
+use Rattle.mls_statements.specs.declared.store.StoreFault.TheVariants as store
 use Rattle.mls_fragments.specs.declared.open_fault.OpenFault.{OpenFault}
 use Rattle.mls_fragments.specs.declared.open_fault.OpenFault.TheVariants.{Store, OtherPolicy, BadRows, Memory}
 
@@ -14,3 +16,8 @@ word_of Store = codes "Store"
 word_of OtherPolicy = codes "OtherPolicy"
 word_of BadRows = codes "BadRows"
 word_of Memory = codes "Memory"
+
+-- a fault of the tables, at an opening
+abbrev pub opening_fault : StoreFault → OpenFault
+opening_fault store.Store = Store
+opening_fault store.Memory = Memory

@@ -1,6 +1,6 @@
 ghost use Rattle.std.specs.Prelude.{◌≡◌};
 ghost use Rattle.mls_fragments.specs.OpenFault.{code_of, word_of};
-ghost use Rattle.mls_fragments.specs.declared.open_fault.OpenFault.TheVariants.{Store, Memory};
+ghost use Rattle.mls_fragments.specs.declared.open_fault.OpenFault.TheVariants.{Memory};
 
 use mls_statements::StoreFault;
 use std::alloc::AllocError;
@@ -50,7 +50,9 @@ impl From<AllocError> for OpenFault {
 }
 
 impl From<StoreFault> for OpenFault {
-    ghost from_gives = { λ _ _. Unit {0} };
+    ghost use Rattle.mls_fragments.specs.OpenFault.{opening_fault};
+
+    ghost from_gives = { λ f e. e ≡ opening_fault f };
 
     fn from(fault: StoreFault) -> OpenFault {
         match fault {

@@ -2,13 +2,16 @@
 use Rattle.std.specs.Prelude.{◌≡◌, ℕ, List, [], ◌++◌, Option, Some, None, option_map}
 use Rattle.std.specs.Io.KnownBytes.{Appends}
 use Rattle.mls_lattice.specs.Policy.{Tables}
+use Rattle.mls_lattice.specs.ReadsPolicy.{ReadsPolicy}
 use Rattle.mls_lattice.specs.Canon as lattice
 use Rattle.mls_scheme.specs.Scheme.{Schemes}
+use Rattle.mls_scheme.specs.Document.{ReadsSchemes}
 use Rattle.mls_scheme.specs.Canon as scheme
 use Rattle.mls_translang.specs.Tx.{Tx}
 use Rattle.mls_certificate.specs.Reading.{Block}
 use Rattle.mls_machine.specs.Site.{Site}
 use Rattle.mls_machine.specs.declared.stored.Stored.{Stored}
+use Rattle.mls_command.specs.declared.samples.TheConstants.{POLICY, SCHEMES}
 use Rattle.mls_command.specs.declared.words.Job.{Job}
 use Rattle.mls_command.specs.declared.words.Job.TheVariants.{Samples, Run, ShowPolicy, Certify, Check}
 use Rattle.mls_command.specs.declared.words.RunFiles.{RunFiles}
@@ -40,11 +43,19 @@ module _ (Gives : Option (List ℕ) → List ℕ → Type 0) where
     pub policy_is : IsPolicyFrom Gives files.policy.now policy
     pub run : IsRunUnder policy files before after
 
-  -- the script on the standard input is run, with nothing stored
+  -- the script on the standard input is run under the sample schemes, with nothing stored
+  pub record IsSampleRunUnder (policy : Tables) (before after : Option (List ℕ)) : Type 0 where
+    pub schemes : Schemes
+    pub stored : List Stored
+    pub schemes_are : ReadsSchemes policy SCHEMES.now schemes
+    pub none : stored ≡ []
+    pub run : IsRunOf None (record { policy = policy; schemes = schemes; stored = stored }) before after
+
+  -- and under the sample policy
   pub record IsSampleRun (before after : Option (List ℕ)) : Type 0 where
-    pub site : Site
-    pub none : site.stored ≡ []
-    pub run : IsRunOf None site before after
+    pub policy : Tables
+    pub policy_is : ReadsPolicy POLICY.now policy
+    pub run : IsSampleRunUnder policy before after
 
   -- the canonical texts of a policy and its schemes are written
   pub record AreSchemesShown (policy : Tables) (path : List ℕ) (before after : Option (List ℕ)) : Type 0 where

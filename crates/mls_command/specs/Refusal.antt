@@ -14,6 +14,8 @@ use Rattle.mls_certificate.specs.Fault as cert_faults
 use Rattle.mls_script.specs.declared.fault.ScriptFault.{ScriptFault}
 use Rattle.mls_script.specs.declared.fault.ScriptCause.TheVariants as scripts
 use Rattle.mls_script.specs.Fault as script_faults
+use Rattle.mls_fragments.specs.declared.open_fault.OpenFault.TheVariants as stores
+use Rattle.mls_fragments.specs.OpenFault as store_faults
 use Rattle.mls_sessions.specs.declared.cause.RunFault.{RunFault}
 use Rattle.mls_sessions.specs.Cause.{cause_word}
 use Rattle.mls_command.specs.declared.host.HostFault.{HostFault}
@@ -21,7 +23,7 @@ use Rattle.mls_command.specs.declared.host.HostFault.TheVariants as host
 use Rattle.mls_command.specs.declared.refusal.Role.{Role}
 use Rattle.mls_command.specs.declared.refusal.Role.TheVariants as role
 use Rattle.mls_command.specs.declared.refusal.Refusal.{Refusal}
-use Rattle.mls_command.specs.declared.refusal.Refusal.TheVariants.{Usage, Unreadable, TooLong, Policy, Schemes, Transactions, Certificates, Script, Run, Output, Memory}
+use Rattle.mls_command.specs.declared.refusal.Refusal.TheVariants.{Usage, Unreadable, TooLong, Policy, Schemes, Transactions, Certificates, Script, Store, Run, Output, Memory}
 
 abbrev pub role_word : Role → List ℕ
 role_word role.Policy = codes "policy"
@@ -29,6 +31,7 @@ role_word role.Schemes = codes "schemes"
 role_word role.Transactions = codes "transactions"
 role_word role.Certificates = codes "certificates"
 role_word role.Script = codes "script"
+role_word role.Store = codes "store"
 
 -- want of memory for an input, as the fault of its reader at its first place
 abbrev pub memory_refusal : Role → Refusal
@@ -37,6 +40,7 @@ memory_refusal role.Schemes = Schemes schemes.Memory
 memory_refusal role.Transactions = Transactions (record { line = 1; column = 1; cause = texts.Memory })
 memory_refusal role.Certificates = Certificates (record { line = 1; cause = certs.Memory })
 memory_refusal role.Script = Script (record { line = 1; column = 1; cause = scripts.Memory })
+memory_refusal role.Store = Store stores.Memory
 
 -- the refusal of an input that the host did not give
 abbrev pub input_refusal : Role → HostFault → Refusal
@@ -93,6 +97,7 @@ refusal_text (Schemes f) = fault_text role.Schemes (scheme_faults.code_of f) (sc
 refusal_text (Transactions f) = text_fault_text f
 refusal_text (Certificates f) = cert_fault_text f
 refusal_text (Script f) = script_fault_text f
+refusal_text (Store f) = fault_text role.Store (store_faults.code_of f) (store_faults.word_of f)
 refusal_text (Run f) = run_text f
 refusal_text Output = codes "mldb: output: Write\n"
 refusal_text Memory = codes "mldb: memory\n"

@@ -5,6 +5,7 @@ ghost use Rattle.mls_command.specs.Refusal.{IsNoUsage, role_word, input_refusal,
 
 use crate::host::HostFault;
 use mls_certificate::{CertCause, CertFault};
+use mls_fragments::OpenFault;
 use mls_lattice::PolicyFault;
 use mls_parser::{TextCause, TextFault};
 use mls_scheme::SchemeFault;
@@ -21,6 +22,7 @@ pub enum Role {
     Transactions,
     Certificates,
     Script,
+    Store,
 }
 
 impl Role {
@@ -33,6 +35,7 @@ impl Role {
             Role::Transactions => "transactions",
             Role::Certificates => "certificates",
             Role::Script => "script",
+            Role::Store => "store",
         }
     }
 }
@@ -49,6 +52,8 @@ pub enum Refusal {
     Transactions(TextFault),
     Certificates(CertFault),
     Script(ScriptFault),
+    /// The store was not opened.
+    Store(OpenFault),
     Run(RunFault),
     /// What a command other than a run prints was not taken.
     Output,
@@ -158,6 +163,7 @@ impl Refusal {
                 column: 1,
                 cause: ScriptCause::Memory,
             }),
+            (HostFault::Memory, Role::Store) => Refusal::Store(OpenFault::Memory),
         }
     }
 
@@ -168,6 +174,7 @@ impl Refusal {
         match self {
             Refusal::Policy(PolicyFault::Memory)
             | Refusal::Schemes(SchemeFault::Memory)
+            | Refusal::Store(_)
             | Refusal::Run(_)
             | Refusal::Output
             | Refusal::Memory => 3,
@@ -191,6 +198,7 @@ impl Refusal {
             Refusal::Transactions(fault) => tell_text(err, fault),
             Refusal::Certificates(fault) => tell_cert(err, fault),
             Refusal::Script(fault) => tell_script(err, fault),
+            Refusal::Store(fault) => tell_fault(err, Role::Store, fault.code(), fault.word()),
             Refusal::Run(fault) => tell_run(err, fault),
             Refusal::Output => err.write_all(b"mldb: output: Write\n"),
             Refusal::Memory => err.write_all(b"mldb: memory\n"),
@@ -261,6 +269,17 @@ impl From<ScriptFault> for Refusal {
 
     fn from(fault: ScriptFault) -> Refusal {
         Refusal::Script(fault)
+    }
+}
+
+impl From<OpenFault> for Refusal {
+    ghost use Rattle.std.specs.Prelude.{◌≡◌};
+    ghost use Rattle.mls_command.specs.declared.refusal.Refusal.TheVariants.{Store};
+
+    ghost from_gives = { λ f e. e ≡ Store f };
+
+    fn from(fault: OpenFault) -> Refusal {
+        Refusal::Store(fault)
     }
 }
 

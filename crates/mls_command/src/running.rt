@@ -1,14 +1,18 @@
 //! Scripts that are run over an empty database.
-ghost use Rattle.std.specs.Prelude.{length, option_map, IfOk, OnOk, IfErr};
+ghost use Rattle.std.specs.Prelude.{◌≡◌, false, length, option_map, IfOk, OnOk, IfErr};
 ghost use Rattle.std.specs.List.{AllByRecursion};
 ghost use Rattle.std.specs.Io.KnownBytes.{Appends};
+ghost use Rattle.sqlite.specs.State.{HasCleanDisk};
+ghost use Rattle.sqlite.specs.Held.{state};
 ghost use Rattle.mls_scheme.specs.Scheme.{AreUnder};
+ghost use Rattle.mls_filterview.specs.Content.{no_content};
+ghost use Rattle.mls_fragments.specs.Based.{state_of};
 ghost use Rattle.mls_script.specs.Event.{EventFits};
 ghost use Rattle.mls_machine.specs.Observation.{AreRead, AreCertified, PassesOnlyReleasesDown};
 ghost use Rattle.mls_machine.specs.Laws.{KeepsIntegrity};
 ghost use Rattle.mls_command.specs.Running.{first_world, output, IsScriptRun};
 ghost use Rattle.mls_command.specs.Inputs.{AreStoredFrom};
-ghost use Rattle.mls_command.specs.Acting.{IsSampleRun, IsRunUnder, IsFilesRun};
+ghost use Rattle.mls_command.specs.Acting.{IsSampleRunUnder, IsSampleRun, IsRunUnder, IsFilesRun};
 ghost use Rattle.mls_command.specs.Refusal.{IsNoUsage};
 
 use crate::host::Host;
@@ -17,11 +21,12 @@ use crate::refusal::{Refusal, Role};
 use crate::samples;
 use crate::storing::stored_of;
 use crate::words::RunFiles;
+use mls_fragments::SqlBase;
 use mls_lattice::{Items, Policy};
 use mls_scheme::Schemes;
 use mls_script::{Event, script};
 use mls_sessions::{Engine, RunFault, Stored, run};
-use mls_updates::ListBase;
+use sqlite::{Alter, Connection};
 use std::alloc::Global;
 use std::io::Write;
 
@@ -60,10 +65,35 @@ fn run_script<W: Write>(
     ensures refused { IfErr result IsNoUsage }
 {
     let events = script(alloc, policy, schemes, bytes)?;
-    Ok(run_events(alloc, policy, schemes, stored, &events, out)?)
+    run_events(alloc, policy, schemes, stored, &events, out)?;
+    Ok(())
 }
 
-/// Answers events over an empty database.
+/// Answers events over an empty base in a store, and gives the store's connection back.
+fn run_over<S: Alter, W: Write>(
+    alloc: Global,
+    policy: &Policy,
+    schemes: &Schemes,
+    stored: Items<Stored>,
+    base: SqlBase<S>,
+    events: &[Event],
+    out: &mut W,
+) -> (Result<(), RunFault>, Connection<S>)
+    requires under { AreUnder (length policy.now.labels) schemes.now }
+    requires read { AreRead (record { policy = policy.now; schemes = schemes.now; stored = stored }) }
+    requires certified { AreCertified (record { policy = policy.now; schemes = schemes.now; stored = stored }) }
+    requires fits { AllByRecursion (EventFits policy.now schemes.now) events.now }
+    requires empty { state_of base ≡ record { now = no_content; kept = no_content; begun = false } }
+    ensures written { HasCleanDisk (state S.Store result.1) → OnOk result.0 (Appends (W.contents out.old) (W.contents out.new) (output (record { policy = policy.now; schemes = schemes.now; stored = stored }) events.now)) }
+    ensures integrity { HasCleanDisk (state S.Store result.1) → KeepsIntegrity (record { policy = policy.now; schemes = schemes.now; stored = stored }) first_world events.now }
+    ensures secret { HasCleanDisk (state S.Store result.1) → OnOk result.0 (PassesOnlyReleasesDown (record { policy = policy.now; schemes = schemes.now; stored = stored }) first_world events.now) }
+{
+    let mut engine = Engine::new(alloc, base, policy, schemes, stored);
+    let outcome = run(&mut engine, events, out);
+    (outcome, engine.finish().into_connection())
+}
+
+/// Answers events over an empty database in memory.
 fn run_events<W: Write>(
     alloc: Global,
     policy: &Policy,
@@ -71,30 +101,29 @@ fn run_events<W: Write>(
     stored: Items<Stored>,
     events: &[Event],
     out: &mut W,
-) -> Result<(), RunFault>
+) -> Result<(), Refusal>
     requires under { AreUnder (length policy.now.labels) schemes.now }
     requires read { AreRead (record { policy = policy.now; schemes = schemes.now; stored = stored }) }
     requires certified { AreCertified (record { policy = policy.now; schemes = schemes.now; stored = stored }) }
     requires fits { AllByRecursion (EventFits policy.now schemes.now) events.now }
     ensures written { OnOk result (Appends (W.contents out.old) (W.contents out.new) (output (record { policy = policy.now; schemes = schemes.now; stored = stored }) events.now)) }
-    ensures integrity { KeepsIntegrity (record { policy = policy.now; schemes = schemes.now; stored = stored }) first_world events.now }
+    ensures integrity { OnOk result (KeepsIntegrity (record { policy = policy.now; schemes = schemes.now; stored = stored }) first_world events.now) }
     ensures secret { OnOk result (PassesOnlyReleasesDown (record { policy = policy.now; schemes = schemes.now; stored = stored }) first_world events.now) }
+    ensures refused { IfErr result IsNoUsage }
 {
-    let base = ListBase::new(alloc);
-    let mut engine = Engine::new(alloc, base, policy, schemes, stored);
-    let outcome = run(&mut engine, events, out);
-    let _base = engine.finish();
-    outcome
+    let base = SqlBase::open_memory(alloc, policy, schemes)?;
+    let (outcome, _connection) = run_over(alloc, policy, schemes, stored, base, events, out);
+    Ok(outcome?)
 }
 
-/// Runs the script on standard input under schemes, and these under the policy that is handed in.
+/// Runs the script on standard input under the sample schemes.
 fn run_sample_schemes<H: Host, W: Write>(
     alloc: Global,
     host: &H,
     policy: &Policy,
     out: &mut W,
 ) -> Result<(), Refusal>
-    ensures ok { OnOk result (IsSampleRun (H.gives host.now) (W.contents out.old) (W.contents out.new)) }
+    ensures ok { OnOk result (IsSampleRunUnder (H.gives host.now) policy.now (W.contents out.old) (W.contents out.new)) }
     ensures refused { IfErr result IsNoUsage }
 {
     let schemes = Schemes::read(alloc, policy, samples::SCHEMES.as_bytes())?;
@@ -107,6 +136,7 @@ fn run_sample_schemes<H: Host, W: Write>(
     }
 }
 
+/// Runs the script on standard input under the sample policy and schemes.
 pub(crate) fn run_samples<H: Host, W: Write>(
     alloc: Global,
     host: &H,

@@ -77,7 +77,7 @@ rows_more held ns n found found' are update = record {
 
 -- ---- the elements of a node are those of its tuple
 
-same_elements : (held : CellPlace → Option (Option Value)) (p : Place) (k : ℕ) (es : List Element)
+pub same_elements : (held : CellPlace → Option (Option Value)) (p : Place) (k : ℕ) (es : List Element)
     → ((i j : ℕ) → i < length es → j ≡ k + i → unwrap_or (held (with_class p (at es i).class, j)) None ≡ (at es i).value) → elements_from held p k (map (λ x. x.class) es) ≡ es
 same_elements held p k [] h = refl
 same_elements held p k (e ∷ es) h =

@@ -15,6 +15,7 @@ pub mod ArrangeLemmas
 pub mod FilterLemmas
 pub mod FragmentLemmas
 pub mod AssemblyLemmas
+pub mod MadeLemmas
 pub mod ListedLemmas
 pub mod EntityLemmas
 pub mod FittingSteps

@@ -1,5 +1,5 @@
 -- Tuples put together from fragments.
-use Rattle.std.specs.Prelude.{◌≡◌, ℕ, suc, ◌<◌, true, List, [], ◌∷◌, Option, Some, None, ◌↔◌}
+use Rattle.std.specs.Prelude.{◌≡◌, ℕ, suc, ◌<◌, true, if◌then◌else◌, nat_eq, List, [], ◌∷◌, Option, Some, None, ◌↔◌}
 use Rattle.std.specs.Ordering.{nat_cmp, ordering_then}
 use Rattle.std.specs.Option.{unwrap_or}
 use Rattle.std.specs.FinMap.{get}
@@ -8,6 +8,7 @@ use Rattle.mls_lattice.specs.Labels.{Labels, below}
 use Rattle.mls_scheme.specs.declared.value.Value.{Value}
 use Rattle.mls_scheme.specs.declared.tuple.Element.{Element}
 use Rattle.mls_scheme.specs.declared.place.Place.{Place}
+use Rattle.mls_scheme.specs.Tuple.{at}
 use Rattle.mls_scheme.specs.Table.{place_cmp, Table}
 use Rattle.mls_filterview.specs.declared.fragment.Node.{Node}
 use Rattle.mls_filterview.specs.declared.fragment.Cell.{Cell}
@@ -38,6 +39,19 @@ elements_from held p k (m ∷ ms) = record { value = unwrap_or (held (with_class
 
 abbrev pub elements_of : (CellPlace → Option (Option Value)) → Node → List Element
 elements_of held n = elements_from held (place_of_node n) 0 n.pattern
+
+-- the value at an attribute among the cells of one tuple, null where there is none
+abbrev pub value_in : ℕ → List Cell → Option Value
+value_in i [] = None
+value_in i (c ∷ cs) = if nat_eq c.attr i then c.value else value_in i cs
+
+-- the values of an entity of which one tuple is new: those of its class are among its cells, and all others in the tuples found
+abbrev pub value_held : (Place → Option (List Element)) → ℕ → List Cell → CellPlace → Option (Option Value)
+value_held found class cells s = Some (if nat_eq s.0.class class then value_in s.1 cells else (at (unwrap_or (found s.0) []) s.1).value)
+
+-- the elements of that tuple
+abbrev pub made_of : (Place → Option (List Element)) → Node → List Cell → List Element
+made_of found n cells = elements_of (value_held found n.label cells) n
 
 -- the tuples of nodes, found by their places
 pub record AreRows (held : CellPlace → Option (Option Value)) (nodes : List Node) (found : Place → Option (List Element)) : Type 0 where

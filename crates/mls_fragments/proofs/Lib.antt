@@ -1,7 +1,6 @@
 pub mod AddingLemmas
 pub mod CallLemmas
 pub mod DroppingLemmas
-pub mod MadeLemmas
 pub mod NotedLemmas
 pub mod ReadingLemmas
 pub mod RowLemmas

@@ -12,6 +12,7 @@ use Rattle.mls_filterview.specs.declared.fragment.Node.{Node}
 use Rattle.mls_filterview.specs.declared.fragment.Cell.{Cell}
 use Rattle.mls_filterview.specs.Content.{Content, with_table, with_relation}
 use Rattle.mls_filterview.specs.Fragment.{place_of_node, IsMadeOf, IsCellOf, HasCell, IsAlone}
+use Rattle.mls_filterview.proofs.MadeLemmas.{elements_made}
 use Rattle.mls_statements.specs.Rows.{Tables, described}
 use Rattle.mls_statements.specs.Statements.{SetsCell, AddsEntry}
 use Rattle.mls_statements.specs.Store.{TableState, IsClean}
@@ -23,7 +24,6 @@ use Rattle.mls_fragments.specs.Holding.{Holds, AddsTuple, DropsTuple, node_row, 
 use Rattle.mls_fragments.proofs.AddingLemmas.{holds_none, holds_tuple, holds_entry}
 use Rattle.mls_fragments.proofs.SettingLemmas.{holds_value}
 use Rattle.mls_fragments.proofs.DroppingLemmas.{holds_rest}
-use Rattle.mls_fragments.proofs.MadeLemmas.{elements_made}
 
 -- rows that are written in a change
 pub based_on : (t u : TableState) (here new last : Noted) → IsBased t here last → (IsClean u → IsClean t) → u.begun ≡ true → (IsClean u → u.kept ≡ t.kept)
@@ -55,7 +55,7 @@ module _ (t u : Tables) (here new : Noted) (was : IsNoted t here) where
       → IsSpelledKey n.key → AllByRecursion (IsCellOf n) cells → get (c.db rel) (place_of_node n) ≡ None → (es : List Element) × IsMadeOf (c.db rel) n cells es
       → AddsTuple (node_row rel n) (map (cell_row rel) cells) t u → IsNoted u new
   noted_tuple rel n cells changes last key each none made adds = noted_as u new _ changes (last ∙ was.last)
-      (subst (λ es. Holds u (record c { db = with_table c.db rel (insert (c.db rel) (place_of_node n) es) })) (sym (elements_made (c.db rel) n cells made.0 made.1))
+      (subst (λ es. Holds u (record c { db = with_table c.db rel (insert (c.db rel) (place_of_node n) es) })) (sym (elements_made (c.db rel) (get (c.db rel)) (λ q. refl) n cells made.0 made.1))
       (holds_tuple t u c rel n cells made.0 was.holds key each none made.1 adds))
 
   pub noted_value : (rel : ℕ) (p : Place) (attr : ℕ) (v : Option Value) → new.content.changes ≡ Sets rel p attr v ∷ here.content.changes → new.last ≡ here.last
@@ -79,7 +79,7 @@ pub state_added : (t u : TableState) (here last : Noted) (changes : List Change)
     → state_with (content_of changes) (content_of last.content.changes) u.begun
     ≡ with_relation (state_of (base_state t here last)) rel (insert ((content_of here.content.changes).db rel) (place_of_node n) es)
 state_added t u here last changes rel n cells es was mode is made =
-    ap (λ cs. state_with (content_of cs) before u.begun) is ∙ ap (λ fs. state_with (added fs) before u.begun) (elements_made (c.db rel) n cells es made)
+    ap (λ cs. state_with (content_of cs) before u.begun) is ∙ ap (λ fs. state_with (added fs) before u.begun) (elements_made (c.db rel) (get (c.db rel)) (λ q. refl) n cells es made)
     ∙ ap (state_with (added es) before) mode
     ∙ sym (ap (λ b. record { now = added es; kept = cond b before c; begun = b }) was)
   where

@@ -1,36 +1,17 @@
 -- Content, and the changes that make it.
-use Rattle.std.specs.Prelude.{ℕ, suc, if◌then◌else◌, nat_eq, List, [], ◌∷◌, ◌++◌, Option, None}
-use Rattle.std.specs.Option.{unwrap_or}
+use Rattle.std.specs.Prelude.{ℕ, List, [], ◌∷◌, ◌++◌, Option}
 use Rattle.std.specs.FinMap.{get, insert, remove}
 use Rattle.mls_scheme.specs.declared.value.Value.{Value}
-use Rattle.mls_scheme.specs.declared.tuple.Element.{Element}
 use Rattle.mls_scheme.specs.declared.place.Place.{Place}
-use Rattle.mls_scheme.specs.Tuple.{at}
-use Rattle.mls_scheme.specs.Table.{Table, change}
+use Rattle.mls_scheme.specs.Table.{change}
 use Rattle.mls_filterview.specs.declared.fragment.Node.{Node}
 use Rattle.mls_filterview.specs.declared.fragment.Cell.{Cell}
-use Rattle.mls_filterview.specs.Stored.{with_class}
 use Rattle.mls_filterview.specs.Fragment.{place_of_node, set_in}
+use Rattle.mls_filterview.specs.Assembly.{made_of}
 use Rattle.mls_filterview.specs.Content.{Content, no_content, with_table}
 
--- the value at an attribute among the cells of one tuple, null where there is none
-abbrev pub value_in : ℕ → List Cell → Option Value
-value_in i [] = None
-value_in i (c ∷ cs) = if nat_eq c.attr i then c.value else value_in i cs
-
--- the elements of a pattern, numbered from k: those of the tuple's class have the values of its cells, and the others those
--- that the entity's tuples of their classes have
-abbrev pub elements_from : ℕ → Table → Place → List Cell → List ℕ → List Element
-elements_from k T p cells [] = []
-elements_from k T p cells (m ∷ ms) =
-    record { value = if nat_eq m p.class then value_in k cells else (at (unwrap_or (get T (with_class p m)) []) k).value; class = m }
-    ∷ elements_from (suc k) T p cells ms
-
-abbrev pub elements_of : Table → Node → List Cell → List Element
-elements_of T n cells = elements_from 0 T (place_of_node n) cells n.pattern
-
 abbrev pub with_tuple : Content → ℕ → Node → List Cell → Content
-with_tuple c rel n cells = record c { db = with_table c.db rel (insert (c.db rel) (place_of_node n) (elements_of (c.db rel) n cells)) }
+with_tuple c rel n cells = record c { db = with_table c.db rel (insert (c.db rel) (place_of_node n) (made_of (get (c.db rel)) n cells)) }
 
 abbrev pub with_value : Content → ℕ → Place → ℕ → Option Value → Content
 with_value c rel p attr v = record c { db = with_table c.db rel (change (set_in p attr v) (c.db rel)) }

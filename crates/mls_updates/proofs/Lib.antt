@@ -7,7 +7,6 @@ pub mod LawLemmas
 pub mod SampleLemmas
 pub mod RowsLemmas
 pub mod FragmentLemmas
-pub mod MadeLemmas
 pub mod IntervalLemmas
 pub mod FindingLemmas
 pub mod KeyLemmas

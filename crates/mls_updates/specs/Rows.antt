@@ -1,5 +1,5 @@
 -- Plain lists of whole tuples, and the tables that they are.
-use Rattle.std.specs.Prelude.{◌≡◌, ℕ, suc, Bool, not, ◌&&◌, if◌then◌else◌, nat_eq, List, [], ◌∷◌, map, Option, Some, None}
+use Rattle.std.specs.Prelude.{◌≡◌, ℕ, Bool, not, ◌&&◌, if◌then◌else◌, nat_eq, List, [], ◌∷◌, map, Option, Some, None}
 use Rattle.std.specs.Ordering.{eq_by_cmp}
 use Rattle.std.specs.Option.{unwrap_or}
 use Rattle.std.specs.List.{filter, flat_map}
@@ -11,8 +11,8 @@ use Rattle.mls_scheme.specs.Tuple.{at}
 use Rattle.mls_scheme.specs.Table.{place_cmp, Table}
 use Rattle.mls_filterview.specs.declared.fragment.Node.{Node}
 use Rattle.mls_filterview.specs.declared.fragment.Cell.{Cell}
-use Rattle.mls_filterview.specs.Stored.{with_class}
 use Rattle.mls_filterview.specs.Fragment.{node_of, cells_of, set_in}
+use Rattle.mls_filterview.specs.Assembly.{CellPlace, value_held}
 use Rattle.mls_updates.specs.declared.row.Row.{Row}
 
 -- a place and the elements there
@@ -62,19 +62,9 @@ cells_in rel label rows = flat_map (λ r. cells_of (entry_of r)) (filter (is_of 
 abbrev pub value_at : ℕ → Place → ℕ → List Row → Option Value
 value_at rel p i rows = (at (unwrap_or (found_at rel p rows) []) i).value
 
--- the value at an attribute among the cells of one tuple, null where there is none
-abbrev pub value_in : ℕ → List Cell → Option Value
-value_in i [] = None
-value_in i (c ∷ cs) = if nat_eq c.attr i then c.value else value_in i cs
-
--- the value at an attribute of class m: one of the cells, or one of the entity's tuple of class m
-abbrev pub value_of : ℕ → Place → List Cell → List Row → ℕ → ℕ → Option Value
-value_of rel p cells rows i m = if nat_eq m p.class then value_in i cells else value_at rel (with_class p m) i rows
-
--- the elements of a pattern, numbered from k
-abbrev pub made_from : ℕ → Place → List Cell → List Row → ℕ → List ℕ → List Element
-made_from rel p cells rows k [] = []
-made_from rel p cells rows k (m ∷ ms) = record { value = value_of rel p cells rows k m; class = m } ∷ made_from rel p cells rows (suc k) ms
+-- the values of an entity of which one tuple is new, with its class and its cells
+abbrev pub held_in : ℕ → ℕ → List Cell → List Row → CellPlace → Option (Option Value)
+held_in rel class cells rows = value_held (λ q. found_at rel q rows) class cells
 
 -- ---- one cell changed
 

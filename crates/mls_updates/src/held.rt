@@ -1,7 +1,8 @@
 //! What a base over lists holds.
 ghost use Rattle.std.specs.Prelude.{◌≡◌, ◌++◌, ◌∷◌, [], IfOk, OnOk, None};
 ghost use Rattle.mls_filterview.specs.Fragment.{place_of_node};
-ghost use Rattle.mls_updates.specs.Rows.{found_at, made_from};
+ghost use Rattle.mls_filterview.specs.Assembly.{made_of};
+ghost use Rattle.mls_updates.specs.Rows.{found_at};
 
 use crate::row::Row;
 use crate::rows::Rows;
@@ -48,7 +49,7 @@ impl Held {
         cells: &[Cell],
     ) -> Result<(), AllocError>
         requires { found_at rel (place_of_node node) self.old.rows ≡ None }
-        ensures rows { OnOk result (self.new.rows ≡ self.old.rows ++ record { rel = rel; place = place_of_node node; elements = made_from rel (place_of_node node) cells.now self.old.rows 0 node.pattern } ∷ []) }
+        ensures rows { OnOk result (self.new.rows ≡ self.old.rows ++ record { rel = rel; place = place_of_node node; elements = made_of (λ q. found_at rel q self.old.rows) node cells.now } ∷ []) }
         ensures audit { OnOk result (self.new.audit ≡ self.old.audit) }
     {
         let Node {

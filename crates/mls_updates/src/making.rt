@@ -1,7 +1,10 @@
 //! A tuple put together from its node, the cells of its class, and the tuples that there are.
-ghost use Rattle.std.specs.Prelude.{◌≡◌, IfOk};
+ghost use Rattle.std.specs.Prelude.{◌≡◌, IfOk, None};
+ghost use Rattle.std.specs.Option.{unwrap_or};
 ghost use Rattle.mls_scheme.specs.Tuple.{at};
-ghost use Rattle.mls_updates.specs.Rows.{value_at, value_in, value_of, made_from};
+ghost use Rattle.mls_filterview.specs.Stored.{with_class};
+ghost use Rattle.mls_filterview.specs.Assembly.{elements_from, value_in};
+ghost use Rattle.mls_updates.specs.Rows.{value_at, held_in};
 
 use crate::row::Row;
 use mls_filterview::Cell;
@@ -18,7 +21,7 @@ pub(crate) fn elements_of(
     cells: &[Cell],
     pattern: &[LabelNo],
 ) -> Result<Vec<Element>, AllocError>
-    ensures { IfOk result (λ v. v.items ≡ made_from rel place.now cells.now rows.now 0 pattern.now) }
+    ensures { IfOk result (λ v. v.items ≡ elements_from (held_in rel place.now.class cells.now rows.now) place.now 0 pattern.now) }
 {
     let mut elements = Vec::new(alloc);
     for (attr, class) in pattern.iter().enumerate() {
@@ -40,7 +43,7 @@ fn value_of(
     attr: usize,
     class: LabelNo,
 ) -> Result<Option<Value>, AllocError>
-    ensures { IfOk result (λ v. v ≡ value_of rel place.now cells.now rows.now attr class) }
+    ensures { IfOk result (λ v. v ≡ unwrap_or (held_in rel place.now.class cells.now rows.now (with_class place.now class, attr)) None) }
 {
     if class == place.class {
         return value_in(cells, attr);

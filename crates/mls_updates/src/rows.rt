@@ -2,7 +2,8 @@
 ghost use Rattle.std.specs.Prelude.{◌≡◌, ◌++◌, ◌∷◌, [], IfOk, OnOk, OnErr, map, None};
 ghost use Rattle.std.specs.FinMap.{get};
 ghost use Rattle.mls_filterview.specs.Fragment.{IsFragment};
-ghost use Rattle.mls_updates.specs.Rows.{table_of, nodes_of, cells_in, made_from, found_at, set_row, without};
+ghost use Rattle.mls_filterview.specs.Assembly.{elements_from};
+ghost use Rattle.mls_updates.specs.Rows.{table_of, nodes_of, cells_in, held_in, found_at, set_row, without};
 
 use crate::making;
 use crate::row::Row;
@@ -74,7 +75,7 @@ impl Rows {
         cells: &[Cell],
         pattern: &[LabelNo],
     ) -> Result<Items<Element>, AllocError>
-        ensures { IfOk result (λ es. es ≡ made_from rel place.now cells.now self.now 0 pattern.now) }
+        ensures { IfOk result (λ es. es ≡ elements_from (held_in rel place.now.class cells.now self.now) place.now 0 pattern.now) }
     {
         let elements = making::elements_of(alloc, &self.vec, rel, place, cells, pattern)?;
         Ok(Items::from(elements))

@@ -1,5 +1,6 @@
 //! Whole commands: what they write, and how they end.
 use crate::desk::Desk;
+use crate::lists;
 use crate::narrow::Narrow;
 use case_tables::{Case, indent, joined, push_line, text_of, unfolded};
 use mls_command::act;
@@ -62,19 +63,21 @@ pub fn words_of<'a>(head: &'a str) -> [&'a str; 5] {
     ["mldb", "run", policy, schemes, "script"]
 }
 
-/// Tells what a script prints: a case is `POLICY SCHEMES: title`, and its script below.
+/// Tells what a script prints, and where it prints another thing over lists: a case is `POLICY SCHEMES: title`, and its script below.
 pub fn tell_script<R: Files + AllocGlobal>(
     rt: &R,
     case: &Case<'_>,
     out: &mut String,
 ) -> Result<(), AllocError> {
-    tell_words(
-        rt,
-        &words_of(case.head),
-        case,
-        Narrow::wide(rt.alloc()),
-        out,
-    )
+    let script = joined(rt.alloc(), case.body)?;
+    let words = words_of(case.head);
+    let written = written_by(rt, &words, script.as_bytes(), Narrow::wide(rt.alloc()));
+    push_line(out, case.head)?;
+    tell_written(out, &written)?;
+    match lists::printed_by(rt, words[2], words[3], script.as_bytes()) {
+        Some(printed) if printed.as_slice() == written.out.as_slice() => Ok(()),
+        _ => out.push_str("  not so over lists\n"),
+    }
 }
 
 /// The words of a run of the script under the policy and with the stored transactions that a head names, as in

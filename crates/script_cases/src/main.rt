@@ -3,6 +3,7 @@
 
 mod commands;
 mod desk;
+mod lists;
 mod narrow;
 mod table;
 mod worlds;

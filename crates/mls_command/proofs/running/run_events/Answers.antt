@@ -1,37 +1,11 @@
-use Rattle.std.proofs.Common.{sym, ap, subst}
-use Rattle.mls_filterview.specs.Content.{State}
-use Rattle.mls_machine.specs.Site.{Site}
-use Rattle.mls_machine.specs.Observation.{EventsFit}
-use Rattle.mls_machine.specs.Laws.{KeepsIntegrity}
-use Rattle.mls_sessions.specs.World.{IsSound}
-use Rattle.mls_sessions.proofs.StartLemmas.{no_content_sound}
-use Rattle.mls_command.proofs.RunningLemmas.{is_first, at_first, run_output, run_secret}
+use Rattle.sqlite.proofs.Callers.{memory_is_clean}
 use Rattle.mls_command.proofs.running.run_events.Goals as goal
 
-pub new-engine-requires-clause-idle : goal.new-engine-requires-clause-idle
-new-engine-requires-clause-idle g c = ap (λ (s : State). s.begun) c.new-base.ensures
-
-pub new-engine-requires-clause-sound : goal.new-engine-requires-clause-sound
-new-engine-requires-clause-sound g c = λ _.
-    let at : Site = record { policy = c.args.policy.now; schemes = c.args.schemes.now; stored = c.args.stored } in
-    subst (λ (s : State). IsSound at s.now) (sym c.new-base.ensures) (no_content_sound at)
-
-pub run-outcome-requires-clause-fits : goal.run-outcome-requires-clause-fits
-run-outcome-requires-clause-fits g c =
-    subst (λ at. EventsFit at c.args.events.now) (sym c.new-engine.ensures.site) c.requires.fits
-
 pub returns-clause-written : goal.returns-clause-written
-returns-clause-written g c =
-    let at : Site = record { policy = c.args.policy.now; schemes = c.args.schemes.now; stored = c.args.stored } in
-    run_output c.run-outcome.result _ at _ _ c.args.events.now (g.W.Write.contents c.args.out.now) (g.W.Write.contents c.run-outcome.new.out)
-    c.new-engine.ensures.site (is_first _ at _ c.new-engine.ensures.world c.new-base.ensures) (c.run-outcome.ensures.ok tt)
+returns-clause-written g c = rw c.in_ok-outcome.was at (c.run_over-outcome.ensures.written (memory_is_clean c.run_over-outcome.result.1))
 
 pub returns-clause-integrity : goal.returns-clause-integrity
-returns-clause-integrity g c =
-    let at : Site = record { policy = c.args.policy.now; schemes = c.args.schemes.now; stored = c.args.stored } in
-    at_first (λ x w. KeepsIntegrity x w c.args.events.now) _ at _ c.new-engine.ensures.site (is_first _ at _ c.new-engine.ensures.world c.new-base.ensures) (c.run-outcome.ensures.integrity tt)
+returns-clause-integrity g c = c.run_over-outcome.ensures.integrity (memory_is_clean c.run_over-outcome.result.1)
 
 pub returns-clause-secret : goal.returns-clause-secret
-returns-clause-secret g c =
-    let at : Site = record { policy = c.args.policy.now; schemes = c.args.schemes.now; stored = c.args.stored } in
-    run_secret c.run-outcome.result _ at _ c.args.events.now c.new-engine.ensures.site (is_first _ at _ c.new-engine.ensures.world c.new-base.ensures) (c.run-outcome.ensures.secret tt)
+returns-clause-secret g c = rw c.in_ok-outcome.was at (c.run_over-outcome.ensures.secret (memory_is_clean c.run_over-outcome.result.1))

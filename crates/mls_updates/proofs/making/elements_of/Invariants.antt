@@ -1,7 +1,9 @@
 use Rattle.std.proofs.Common.{◌≡◌, ◌++◌, drop}
-use Rattle.mls_updates.specs.Rows.{made_from}
+use Rattle.mls_filterview.specs.Assembly.{elements_from}
+use Rattle.mls_updates.specs.Rows.{held_in}
 use Rattle.mls_updates.proofs.making.elements_of.Given as goal
 
 abbrev pub invariant-loop-attr : goal.invariant-loop-attr
 invariant-loop-attr l =
-    l.elements.items ++ made_from l.rel l.place l.cells l.rows l.attr (drop l.attr l.pattern) ≡ made_from l.rel l.place l.cells l.rows 0 l.pattern
+    let held = held_in l.rel l.place.class l.cells l.rows in
+    l.elements.items ++ elements_from held l.place l.attr (drop l.attr l.pattern) ≡ elements_from held l.place 0 l.pattern

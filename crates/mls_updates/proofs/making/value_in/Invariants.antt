@@ -1,5 +1,5 @@
 use Rattle.std.proofs.Common.{◌≡◌, drop}
-use Rattle.mls_updates.specs.Rows.{value_in}
+use Rattle.mls_filterview.specs.Assembly.{value_in}
 use Rattle.mls_updates.proofs.making.value_in.Given as goal
 
 abbrev pub invariant-loop-cell : goal.invariant-loop-cell

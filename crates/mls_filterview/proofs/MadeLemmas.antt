@@ -1,5 +1,5 @@
 -- A tuple put together from its node, its own cells and the entity's tuples.
-use Rattle.std.proofs.Common.{◌≡◌, ℕ, zero, suc, ◌<◌, ◌+◌, Bool, true, false, cond, List, [], ◌∷◌, map, length, Option, refl, sym, ap, ◌∙◌, subst, arith}
+use Rattle.std.proofs.Common.{◌≡◌, ℕ, zero, suc, ◌<◌, ◌+◌, Bool, true, false, cond, List, [], ◌∷◌, length, Option, refl, sym, ap, ◌∙◌, subst, arith}
 use Rattle.std.specs.Prelude.{nat_eq}
 use Rattle.std.specs.Option.{unwrap_or}
 use Rattle.std.specs.FinMap.{get}
@@ -13,7 +13,8 @@ use Rattle.mls_filterview.specs.declared.fragment.Node.{Node}
 use Rattle.mls_filterview.specs.declared.fragment.Cell.{Cell}
 use Rattle.mls_filterview.specs.Stored.{with_class}
 use Rattle.mls_filterview.specs.Fragment.{IsMadeOf, place_of_node, cell_at, cells_from}
-use Rattle.mls_fragments.specs.Changes.{value_in, elements_from, elements_of}
+use Rattle.mls_filterview.specs.Assembly.{value_in, value_held, elements_from, made_of}
+use Rattle.mls_filterview.proofs.AssemblyLemmas.{same_elements}
 
 -- the cells of a tuple's own class have its values
 own_value : (p : Place) (k i : ℕ) (es : List Element) → i < length es → (at es i).class ≡ p.class → value_in (k + i) (cells_from k p es) ≡ (at es i).value
@@ -29,37 +30,27 @@ own_value p k (suc i) (e ∷ es) l own =
       | false ↦ rest
     ]
 
-module _ (T : Table) (p : Place) (cells : List Cell) where
-  -- the value at an attribute of class m
-  abbrev value_of : ℕ → ℕ → Option Value
-  value_of k m = cond (nat_eq m p.class) (value_in k cells) (at (unwrap_or (get T (with_class p m)) []) k).value
-
-  -- a pattern gives the elements whose classes it has, where each element is found
-  made_each : (k : ℕ) (es : List Element) → ((i : ℕ) → i < length es → value_of (k + i) (at es i).class ≡ (at es i).value) → elements_from k T p cells (map (λ e. e.class) es) ≡ es
-  made_each k [] h = refl
-  made_each k (e ∷ es) h =
-      let here : value_of k e.class ≡ e.value = subst (λ n. value_of n e.class ≡ e.value) (add_0 k) (h 0 (omega arith)) in
-      let rest : elements_from (suc k) T p cells (map (λ e. e.class) es) ≡ es = made_each (suc k) es (λ i l. subst (λ n. value_of n (at es i).class ≡ (at es i).value) (add_suc k i) (h (suc i) (omega arith))) in
-      λ i. record { value = here i; class = e.class } ∷ rest i
-    where
-      add_0 : (k : ℕ) → k + 0 ≡ k
-      add_0 k = omega arith
-
-      add_suc : (k i : ℕ) → k + suc i ≡ suc k + i
-      add_suc k i = omega arith
-
-pub elements_made : (T : Table) (n : Node) (cells : List Cell) (es : List Element) → IsMadeOf T n cells es → elements_of T n cells ≡ es
-elements_made T n cells es h =
-    ap (elements_from 0 T p cells) h.pattern
-    ∙ made_each T p cells 0 es (λ i l. subst (λ k. value_of T p cells k (at es i).class ≡ (at es i).value) (omega arith) (found i l (nat_eq (at es i).class p.class) refl))
+-- where the tuples found are those of the table
+pub elements_made : (T : Table) (found : Place → Option (List Element)) → ((q : Place) → get T q ≡ found q) → (n : Node) (cells : List Cell) (es : List Element) → IsMadeOf T n cells es
+    → made_of found n cells ≡ es
+elements_made T found is n cells es h =
+    ap (elements_from (value_held found n.label cells) p 0) h.pattern
+    ∙ same_elements (value_held found n.label cells) p 0 es (λ i j l e. subst (λ k. value i k ≡ (at es i).value) (first i j e) (each i l (nat_eq (at es i).class n.label) refl))
   where
     p : Place
     p = place_of_node n
 
-    found : (i : ℕ) → i < length es → (b : Bool) → nat_eq (at es i).class p.class ≡ b → cond b (value_in i cells) (at (unwrap_or (get T (with_class p (at es i).class)) []) i).value ≡ (at es i).value
-    found i l true e =
+    first : (i j : ℕ) → j ≡ 0 + i → i ≡ j
+    first i j e = omega arith
+
+    value : (i k : ℕ) → Option Value
+    value i k = cond (nat_eq (at es i).class n.label) (value_in k cells) (at (unwrap_or (found (with_class p (at es i).class)) []) k).value
+
+    each : (i : ℕ) → i < length es → (b : Bool) → nat_eq (at es i).class n.label ≡ b
+        → cond b (value_in i cells) (at (unwrap_or (found (with_class p (at es i).class)) []) i).value ≡ (at es i).value
+    each i l true e =
         let own : value_in (0 + i) (cells_from 0 p es) ≡ (at es i).value = own_value p 0 i es l (eqb-true _ _ e) in
         ap (value_in i) h.own ∙ subst (λ k. value_in k (cells_from 0 p es) ≡ (at es i).value) (omega arith) own
-    found i l false e =
+    each i l false e =
         let other = h.others i l (λ s. true≢false (sym (eq-eqb _ _ s) ∙ e)) in
-        ap (λ o. (at (unwrap_or o []) i).value) other.1 ∙ ap (λ e. e.value) other.2
+        ap (λ o. (at (unwrap_or o []) i).value) (sym (is (with_class p (at es i).class)) ∙ other.1) ∙ ap (λ e. e.value) other.2

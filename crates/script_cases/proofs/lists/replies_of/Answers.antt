@@ -4,21 +4,21 @@ use Rattle.mls_machine.specs.Site.{Site}
 use Rattle.mls_machine.specs.Observation.{EventsFit, AreRead, AreCertified}
 use Rattle.mls_sessions.specs.World.{IsSound}
 use Rattle.mls_sessions.proofs.StartLemmas.{no_content_sound}
-use Rattle.base_cases.proofs.run_over.Goals as goal
+use Rattle.script_cases.proofs.lists.replies_of.Goals as goal
 
 pub new-engine-requires-clause-read : goal.new-engine-requires-clause-read
-new-engine-requires-clause-read g c = subst (λ xs. AreRead (record { policy = c.args.policy.now; schemes = c.args.schemes.now; stored = xs })) (sym c.none_stored.ensures) tt
+new-engine-requires-clause-read c = subst (λ xs. AreRead (record { policy = c.args.policy.now; schemes = c.args.schemes.now; stored = xs })) (sym c.none_stored.ensures) tt
 
 pub new-engine-requires-clause-certified : goal.new-engine-requires-clause-certified
-new-engine-requires-clause-certified g c = subst (λ xs. AreCertified (record { policy = c.args.policy.now; schemes = c.args.schemes.now; stored = xs })) (sym c.none_stored.ensures) tt
+new-engine-requires-clause-certified c = subst (λ xs. AreCertified (record { policy = c.args.policy.now; schemes = c.args.schemes.now; stored = xs })) (sym c.none_stored.ensures) tt
 
 pub new-engine-requires-clause-idle : goal.new-engine-requires-clause-idle
-new-engine-requires-clause-idle g c = ap (λ (s : State). s.begun) c.requires.empty
+new-engine-requires-clause-idle c = ap (λ (s : State). s.begun) c.new-base.ensures
 
 pub new-engine-requires-clause-sound : goal.new-engine-requires-clause-sound
-new-engine-requires-clause-sound g c = λ _.
+new-engine-requires-clause-sound c = λ _.
     let at : Site = record { policy = c.args.policy.now; schemes = c.args.schemes.now; stored = c.none_stored.result } in
-    subst (λ (s : State). IsSound at s.now) (sym c.requires.empty) (no_content_sound at)
+    subst (λ (s : State). IsSound at s.now) (sym c.new-base.ensures) (no_content_sound at)
 
 pub run-outcome-requires-clause-fits : goal.run-outcome-requires-clause-fits
-run-outcome-requires-clause-fits g c = subst (λ at. EventsFit at c.args.events.now) (sym c.new-engine.ensures.site) c.requires.fits
+run-outcome-requires-clause-fits c = subst (λ at. EventsFit at c.args.events.now) (sym c.new-engine.ensures.site) c.requires.fits

@@ -2,3 +2,4 @@ pub mod Holding
 pub mod Changes
 pub mod Based
 pub mod OpenFault
+pub mod Opening

@@ -61,6 +61,7 @@ impl<S: Alter> SqlBase<S> {
     pub fn into_connection(self) -> Connection<S>
         requires begun { (state_of self).begun ≡ false }
         ensures clean { HasCleanDisk (state S.Store result) → IsClean self.tables }
+        ensures mode { HasCleanDisk (state S.Store result) → IsTrue (state S.Store result).is_open → (state S.Store result).in_transaction ≡ false }
         ensures rows { HasCleanDisk (state S.Store result) → IsTrue (state S.Store result).is_open → IsReady (state S.Store result).now × Holds (tables_of (state S.Store result).now.trees) (state_of self).now }
     {
         let SqlBase {

@@ -1,4 +1,4 @@
-ghost use Rattle.std.specs.Prelude.{◌≡◌, true, ◌≢◌, ◌↔◌, ◌<◌, ◌≤◌, length, map, position, slice_get, Some, IfSome, IfOk, IfErr, option_map};
+ghost use Rattle.std.specs.Prelude.{◌≡◌, true, ◌≢◌, ◌↔◌, ◌<◌, ◌≤◌, length, map, position, slice_get, Some, IfSome, IfOk, IfErr, option_map, IsUtf8};
 ghost use Rattle.std.specs.List.{IsDistinct};
 ghost use Rattle.std.specs.Str.{bytes_eq};
 ghost use Rattle.mls_lattice.specs.Lattice.{pair_of};
@@ -92,7 +92,8 @@ impl Policy {
 
     /// The lines of the canonical text for levels, categories and labels: a store keeps them, since its rows rest on them.
     pub fn lattice_text(&self, alloc: Global) -> Result<Vec<u8>, AllocError>
-        ensures { IfOk result (λ text. text.items ≡ lattice_of self.now) }
+        ensures text { IfOk result (λ text. text.items ≡ lattice_of self.now) }
+        ensures unicode { IfOk result (λ text. IsUtf8 text.items) }
     {
         let mut text = String::new(alloc);
         levels_to(&mut text, &self.levels)?;

@@ -1,4 +1,4 @@
-ghost use Rattle.std.specs.Prelude.{◌≡◌, ◌≢◌, ◌↔◌, ◌<◌, List, length, position, Err, IfOk, IfErr, IfSome};
+ghost use Rattle.std.specs.Prelude.{◌≡◌, ◌≢◌, ◌↔◌, ◌<◌, List, length, position, Err, IfOk, IfErr, IfSome, IsUtf8};
 ghost use Rattle.std.specs.Str.{bytes_eq};
 ghost use Rattle.toml.specs.Data.{Members};
 ghost use Rattle.mls_lattice.specs.ReadsPolicy.{IsDocument};
@@ -151,7 +151,8 @@ impl Schemes {
     /// The canonical text, whose labels are those of a policy. It is no TOML document.
     pub fn canon(&self, alloc: Global, policy: &Policy) -> Result<Vec<u8>, AllocError>
         requires { AreUnder (length policy.now.labels) self.now }
-        ensures { IfOk result (λ text. text.items ≡ canon_of policy.now self.now) }
+        ensures text { IfOk result (λ text. text.items ≡ canon_of policy.now self.now) }
+        ensures unicode { IfOk result (λ text. IsUtf8 text.items) }
     {
         let mut text = String::from_str(alloc, "schemes 1\n")?;
         relations_to(&mut text, policy, &self.relations)?;

@@ -12,7 +12,7 @@ use crate::failures::Failures;
 use crate::remembered::Remembered;
 use crate::rows::{AuditRow, CellRow, NodeRow};
 use crate::statements::{audit, cell, change, creation, node};
-use sqlite::{Alter, Connection, Error, ErrorCode, MemStore};
+use sqlite::{Alter, Connection, Error, ErrorCode};
 use std::alloc::Global;
 use std::marker::Model;
 
@@ -88,26 +88,6 @@ fn fall<S: Alter>(conn: &mut Connection<S>, failures: &mut Failures, error: Erro
     fault
 }
 
-impl TableStore<MemStore> {
-    /// A new store in memory, described by two texts.
-    pub fn in_memory(
-        alloc: Global,
-        lattice: &str,
-        schemes: &str,
-    ) -> Result<TableStore<MemStore>, StoreFault>
-        ensures made { IfOk result (λ t. IsClean t → (t.now ≡ described lattice.now schemes.now) × (t.kept ≡ t.now)) }
-        ensures mode { IfOk result (λ t. t.begun ≡ false) }
-    {
-        match Connection::open_in_memory(alloc) {
-            Ok(conn) => match TableStore::create(alloc, conn, lattice, schemes) {
-                Ok(store) => Ok(store),
-                Err((fault, _)) => Err(fault),
-            },
-            Err(_) => Err(StoreFault::Memory),
-        }
-    }
-}
-
 impl<S: Alter> TableStore<S> {
     /// Makes a new store in a database that has nothing, described by two texts. An `Err` hands the connection back, with
     /// what it had.
@@ -144,6 +124,7 @@ impl<S: Alter> TableStore<S> {
     pub fn into_connection(self) -> Connection<S>
         requires begun { self.begun ≡ false }
         ensures clean { HasCleanDisk (state S.Store result) → IsClean self }
+        ensures mode { HasCleanDisk (state S.Store result) → IsTrue (state S.Store result).is_open → (state S.Store result).in_transaction ≡ false }
         ensures rows { HasCleanDisk (state S.Store result) → IsTrue (state S.Store result).is_open → IsReady (state S.Store result).now × (tables_of (state S.Store result).now.trees ≡ self.now) }
     {
         let TableStore {

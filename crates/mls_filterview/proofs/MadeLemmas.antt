@@ -1,6 +1,6 @@
 -- A tuple put together from its node, its own cells and the entity's tuples.
-use Rattle.std.proofs.Common.{◌≡◌, ℕ, zero, suc, ◌<◌, ◌+◌, Bool, true, false, cond, List, [], ◌∷◌, length, Option, refl, sym, ap, ◌∙◌, subst, arith}
-use Rattle.std.specs.Prelude.{nat_eq}
+use Rattle.std.proofs.Common.{◌≡◌, ℕ, zero, suc, ◌<◌, ◌+◌, Bool, true, false, cond, List, [], ◌∷◌, length, Option, Some, refl, sym, ap, ◌∙◌, subst, arith}
+use Rattle.std.specs.Prelude.{nat_eq, find, option_and_then}
 use Rattle.std.specs.Option.{unwrap_or}
 use Rattle.std.specs.FinMap.{get}
 use Rattle.std.proofs.lemmas.Bool.{true≢false, eqb-true, eq-eqb, ne_eqb}
@@ -21,12 +21,12 @@ own_value : (p : Place) (k i : ℕ) (es : List Element) → i < length es → (a
 own_value p k i [] l own = absurd (omega arith)
 own_value p k zero (e ∷ es) l own =
     ap (λ b. value_in (k + 0) (cond b (cell_at p k e ∷ cells_from (suc k) p es) (cells_from (suc k) p es))) (eq-eqb e.class p.class own)
-    ∙ ap (λ b. cond b e.value (value_in (k + 0) (cells_from (suc k) p es))) (eq-eqb k (k + 0) (omega arith))
+    ∙ ap (λ b. option_and_then (λ c. c.value) (cond b (Some (cell_at p k e)) (find (λ c. nat_eq c.attr (k + 0)) (cells_from (suc k) p es)))) (eq-eqb k (k + 0) (omega arith))
 own_value p k (suc i) (e ∷ es) l own =
     let later : suc k + i ≡ k + suc i = omega arith in
     let rest : value_in (k + suc i) (cells_from (suc k) p es) ≡ (at es i).value = subst (λ n. value_in n (cells_from (suc k) p es) ≡ (at es i).value) later (own_value p (suc k) i es (omega arith) own) in
     elim (nat_eq e.class p.class) as (λ b. value_in (k + suc i) (cond b (cell_at p k e ∷ cells_from (suc k) p es) (cells_from (suc k) p es)) ≡ (at es i).value) [
-      | true ↦ ap (λ b. cond b e.value (value_in (k + suc i) (cells_from (suc k) p es))) (ne_eqb k (k + suc i) (λ e. omega arith)) ∙ rest
+      | true ↦ ap (λ b. option_and_then (λ c. c.value) (cond b (Some (cell_at p k e)) (find (λ c. nat_eq c.attr (k + suc i)) (cells_from (suc k) p es)))) (ne_eqb k (k + suc i) (λ e. omega arith)) ∙ rest
       | false ↦ rest
     ]
 

@@ -1,5 +1,5 @@
 -- Tuples put together from fragments.
-use Rattle.std.specs.Prelude.{◌≡◌, ℕ, suc, ◌<◌, true, if◌then◌else◌, nat_eq, List, [], ◌∷◌, Option, Some, None, ◌↔◌}
+use Rattle.std.specs.Prelude.{◌≡◌, ℕ, suc, ◌<◌, true, if◌then◌else◌, nat_eq, List, [], ◌∷◌, find, Option, Some, None, option_and_then, ◌↔◌}
 use Rattle.std.specs.Ordering.{nat_cmp, ordering_then}
 use Rattle.std.specs.Option.{unwrap_or}
 use Rattle.std.specs.FinMap.{get}
@@ -42,8 +42,7 @@ elements_of held n = elements_from held (place_of_node n) 0 n.pattern
 
 -- the value at an attribute among the cells of one tuple, null where there is none
 abbrev pub value_in : ℕ → List Cell → Option Value
-value_in i [] = None
-value_in i (c ∷ cs) = if nat_eq c.attr i then c.value else value_in i cs
+value_in i cells = option_and_then (λ c. c.value) (find (λ c. nat_eq c.attr i) cells)
 
 -- the values of an entity of which one tuple is new: those of its class are among its cells, and all others in the tuples found
 abbrev pub value_held : (Place → Option (List Element)) → ℕ → List Cell → CellPlace → Option (Option Value)

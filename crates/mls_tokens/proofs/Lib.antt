@@ -1,6 +1,8 @@
 pub mod RunLemmas
 pub mod IntLemmas
 pub mod TextLemmas
+pub mod QuoteSteps
+pub mod WritingSteps
 pub mod SignLemmas
 pub mod GapLemmas
 pub mod TokenLemmas

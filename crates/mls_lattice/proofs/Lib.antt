@@ -8,6 +8,7 @@ pub mod TablesLemmas
 pub mod LatticeLemmas
 pub mod PolicyLemmas
 pub mod PolicyReadingLemmas
+pub mod RowSteps
 pub mod KeptLemmas
 pub mod AsciiLemmas
 pub mod NameLemmas

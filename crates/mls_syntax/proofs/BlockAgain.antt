@@ -1,5 +1,5 @@
 -- What stands there is read: statements and blocks.
-use Rattle.std.proofs.Common.{◌≡◌, ℕ, zero, suc, ◌+◌, ◌-◌, ◌<◌, ◌≤◌, true, false, List, [], ◌∷◌, ◌++◌, length, Option, Some, None, Ok, Err, inl, inr, refl, sym, ap, ◌∙◌, subst, arith, append_assoc}
+use Rattle.std.proofs.Common.{◌≡◌, ℕ, zero, suc, ◌+◌, ◌-◌, ◌<◌, ◌≤◌, true, false, List, [], ◌∷◌, ◌++◌, length, map, Option, Some, None, Ok, Err, inl, inr, refl, sym, ap, ◌∙◌, subst, arith, append_assoc}
 use Rattle.std.specs.Prelude.{codes, option_map, if◌then◌else◌}
 use Rattle.std.specs.Option.{IfSome}
 use Rattle.std.specs.List.{AllByRecursion}
@@ -29,11 +29,11 @@ use Rattle.mls_syntax.specs.ExprTree.{Expr}
 use Rattle.mls_syntax.specs.Tree.{Writing, Inserting, Updating, Deleting, Stmt, Assign, Write_at, Release, Emit, Block, End, Do, If, For, statements}
 use Rattle.mls_syntax.specs.Blocks.{block_of}
 use Rattle.mls_syntax.specs.Limits.{depth}
-use Rattle.mls_syntax.specs.Places.{bare_name, bare, bare_stmt, bare_block, IsNamed}
+use Rattle.mls_syntax.specs.Places.{bare_name, bare, bare_set, bare_stmt, bare_block, IsNamed}
 use Rattle.mls_syntax.specs.Fault.{fault_at}
 use Rattle.mls_syntax.specs.Words.{opening_of}
 use Rattle.mls_syntax.specs.ReadExpr.{sign_at, whole_at, list_at, sets_at}
-use Rattle.mls_syntax.specs.ReadBlock.{word_at, name_behind, list_behind, outcome_of, outcome_at, keyed_at, assign_at, insert_at, classes_at, update_at, delete_at, release_at, emit_at, plain_at, Counted, with_count, braced, other_of, other_at, content_at, opened, stmt_with, deep_stmt, end_or, stmts_from, stmts_with, stmts_at, body_at}
+use Rattle.mls_syntax.specs.ReadBlock.{word_at, name_behind, list_behind, outcome_of, outcome_at, written_at, keyed_at, assign_at, insert_at, classes_at, changes_at, renewal_at, update_at, delete_at, release_at, emit_at, plain_at, Counted, with_count, braced, other_of, other_at, content_at, opened, stmt_with, deep_stmt, end_or, stmts_from, stmts_with, stmts_at, body_at}
 use Rattle.mls_syntax.specs.Spelling.{name_token, behind_tokens, expr_tokens, list_tokens, set_tokens, outcome_tokens, keyed_tokens, write_tokens, stmt_tokens, for_tokens, SpellsOther, SpellsBlock}
 use Rattle.mls_syntax.proofs.AgainLemmas.{sign_gets, word_gets, Called, name_gets, behind_gets, known_gets, differs, IsWhole, whole_again, SameList, list_again, NoDot, IsSet, sets_again}
 
@@ -62,6 +62,16 @@ unfolding outcome_at
 outcome_again o us l h k =
     gets_more (λ x. sign_at sign.Semicolon x.1 >>= λ e. done x.0 e.1) (as_gets o us l h k)
     (λ x m s t. gets_more (λ e. done x e.1) (sign_gets sign.Semicolon us m t) (λ e r s2 t2. gets_done x r (λ y. option_map bare_name y ≡ option_map bare_name o) us s t2))
+
+abbrev SameWritten : PlacedName → Option PlacedName → PlacedName × Option PlacedName → Type 0
+SameWritten w o y = Called w y.0 × (option_map bare_name y.1 ≡ option_map bare_name o)
+
+written_again : (w : PlacedName) (o : Option PlacedName) (us : List Token) (l : Left) → IsNamed w → IfSome o IsNamed → tokens_in l.placed ≡ Word (codes "at") ∷ name_token w ∷ (outcome_tokens o ++ us)
+    → Gets (written_at l) l (SameWritten w o) us
+unfolding written_at
+written_again w o us l hw ho k =
+    gets_more (λ z. outcome_at z.1 >>= λ p. done (z.0, p.0) p.1) (behind_gets (codes "at") w (outcome_tokens o ++ us) l hw k)
+    (λ z m s t. gets_more (λ p. done (z, p.0) p.1) (outcome_again o us m ho t) (λ p m2 s2 t2. gets_done (z, p) m2 (SameWritten w o) us (s, s2) t2))
 
 behind_list : (w : Bytes) (es : ExprList) (us : List Token) (l : Left) → AllByRecursion IsWhole es.items → tokens_in l.placed ≡ Word w ∷ (list_tokens es ++ us) → Gets (list_behind w l) l (SameList es) us
 unfolding list_behind
@@ -116,19 +126,44 @@ insert_again : (rel w : PlacedName) (key values : ExprList) (o : Option PlacedNa
 unfolding insert_at
 insert_again rel w key values o us l hr hw hk hv ho k =
     let last : List Token = behind_tokens (codes "at") w ++ outcome_tokens o in
-    gets_more (λ x. list_behind (codes "values") x.1 >>= λ vs. name_behind (codes "at") vs.1 >>= λ z. outcome_at z.1 >>= λ p. done (stmts.Insert x.0.0 x.0.1 vs.0 z.0 p.0) p.1)
+    gets_more (λ x. list_behind (codes "values") x.1 >>= λ vs. written_at vs.1 >>= λ z. done (stmts.Insert x.0.0 x.0.1 vs.0 z.0.0 z.0.1) z.1)
     (keyed_again rel key (Word (codes "values") ∷ (list_tokens values ++ (last ++ us))) l hr hk
     (k ∙ append_assoc (keyed_tokens rel key) (Word (codes "values") ∷ (list_tokens values ++ last)) us
     ∙ ap (λ z. keyed_tokens rel key ++ (Word (codes "values") ∷ z)) (append_assoc (list_tokens values) last us)))
-    (λ x m s t. gets_more (λ vs. name_behind (codes "at") vs.1 >>= λ z. outcome_at z.1 >>= λ p. done (stmts.Insert x.0 x.1 vs.0 z.0 p.0) p.1) (behind_list (codes "values") values (last ++ us) m hv t)
-    (λ vs m2 s2 t2. gets_more (λ z. outcome_at z.1 >>= λ p. done (stmts.Insert x.0 x.1 vs z.0 p.0) p.1) (behind_gets (codes "at") w (outcome_tokens o ++ us) m2 hw t2)
-    (λ z m3 s3 t3. gets_more (λ p. done (stmts.Insert x.0 x.1 vs z p.0) p.1) (outcome_again o us m3 ho t3)
-    (λ p m4 s4 t4. gets_done (stmts.Insert x.0 x.1 vs z p) m4 (FormOf (Write_at rel w (Inserting key values) o)) us
-    (λ rest i. Do (Write_at (s.0 i) (s3 i) (Inserting (s.1 i) (s2 i)) (s4 i)) (bare_block (block_of rest))) t4))))
+    (λ x m s t. gets_more (λ vs. written_at vs.1 >>= λ z. done (stmts.Insert x.0 x.1 vs.0 z.0.0 z.0.1) z.1) (behind_list (codes "values") values (last ++ us) m hv t)
+    (λ vs m2 s2 t2. gets_more (λ z. done (stmts.Insert x.0 x.1 vs z.0.0 z.0.1) z.1) (written_again w o us m2 hw ho t2)
+    (λ z m3 s3 t3. gets_done (stmts.Insert x.0 x.1 vs z.0 z.1) m3 (FormOf (Write_at rel w (Inserting key values) o)) us
+    (λ rest i. Do (Write_at (s.0 i) (s3.0 i) (Inserting (s.1 i) (s2 i)) (s3.1 i)) (bare_block (block_of rest))) t3)))
 
 behind_sets : (o : Option PlacedName) (us : List Token) → NoDot (outcome_tokens o ++ us) × NotNext (is_sign sign.Comma) (outcome_tokens o ++ us)
 behind_sets None us = (refl, refl)
 behind_sets (Some n) us = (refl, refl)
+
+abbrev SameChanges : List (PlacedName × Expr) → Option PlacedName → List (PlacedName × Expr) × Option PlacedName → Type 0
+SameChanges xs o y = (map bare_set y.0 ≡ map bare_set xs) × (option_map bare_name y.1 ≡ option_map bare_name o)
+
+changes_again : (x : PlacedName × Expr) (xs : List (PlacedName × Expr)) (o : Option PlacedName) (us : List Token) (l : Left) → AllByRecursion IsSet (x ∷ xs) → IfSome o IsNamed
+    → tokens_in l.placed ≡ Word (codes "set") ∷ (separated set_tokens (x ∷ xs) ++ (outcome_tokens o ++ us)) → Gets (changes_at l) l (SameChanges (x ∷ xs) o) us
+unfolding changes_at
+changes_again x xs o us l hs ho k =
+    gets_more (λ v. sets_at v.1 >>= λ q. outcome_at q.1 >>= λ p. done (q.0, p.0) p.1) (word_gets (codes "set") (separated set_tokens (x ∷ xs) ++ (outcome_tokens o ++ us)) l k)
+    (λ v m s t. gets_more (λ q. outcome_at q.1 >>= λ p. done (q.0, p.0) p.1)
+    (sets_again x xs (outcome_tokens o ++ us) m hs (behind_sets o us).0 (behind_sets o us).1 t)
+    (λ q m2 s2 t2. gets_more (λ p. done (q, p.0) p.1) (outcome_again o us m2 ho t2) (λ p m3 s3 t3. gets_done (q, p) m3 (SameChanges (x ∷ xs) o) us (s2, s3) t3)))
+
+abbrev SameRenewal : PlacedName → PlacedName → PlacedName → List (PlacedName × Expr) → Option PlacedName → (PlacedName × PlacedName × PlacedName) × (List (PlacedName × Expr) × Option PlacedName) → Type 0
+SameRenewal c f w xs o y = SameClasses c f w y.0 × SameChanges xs o y.1
+
+renewal_again : (c f w : PlacedName) (x : PlacedName × Expr) (xs : List (PlacedName × Expr)) (o : Option PlacedName) (us : List Token) (l : Left)
+    → IsNamed c → IsNamed f → IsNamed w → AllByRecursion IsSet (x ∷ xs) → IfSome o IsNamed
+    → tokens_in l.placed ≡ behind_tokens (codes "class") c ++ (behind_tokens (codes "from") f ++ (behind_tokens (codes "at") w ++ (Word (codes "set") ∷ (separated set_tokens (x ∷ xs) ++ (outcome_tokens o ++ us)))))
+    → Gets (renewal_at l) l (SameRenewal c f w (x ∷ xs) o) us
+unfolding renewal_at
+renewal_again c f w x xs o us l hc hf hw hs ho k =
+    gets_more (λ z. changes_at z.1 >>= λ n. done (z.0, n.0) n.1)
+    (classes_again c f w (Word (codes "set") ∷ (separated set_tokens (x ∷ xs) ++ (outcome_tokens o ++ us))) l hc hf hw k)
+    (λ z m s t. gets_more (λ n. done (z, n.0) n.1) (changes_again x xs o us m hs ho t)
+    (λ n m2 s2 t2. gets_done (z, n) m2 (SameRenewal c f w (x ∷ xs) o) us (s, s2) t2))
 
 update_again : (rel c f w : PlacedName) (key : ExprList) (x : PlacedName × Expr) (xs : List (PlacedName × Expr)) (o : Option PlacedName) (us : List Token) (l : Left)
     → IsNamed rel → IsNamed c → IsNamed f → IsNamed w → AllByRecursion IsWhole key.items → AllByRecursion IsSet (x ∷ xs) → IfSome o IsNamed
@@ -139,32 +174,27 @@ update_again rel c f w key x xs o us l hr hc hf hw hk hs ho k =
     let front : List Token → List Token = λ z. behind_tokens (codes "class") c ++ (behind_tokens (codes "from") f ++ (behind_tokens (codes "at") w ++ (Word (codes "set") ∷ z))) in
     let all : List Token = separated set_tokens (x ∷ xs) ++ outcome_tokens o in
     let rest : List Token = separated set_tokens (x ∷ xs) ++ (outcome_tokens o ++ us) in
-    gets_more (λ y. classes_at y.1 >>= λ z. word_at (codes "set") z.1 >>= λ v. sets_at v.1 >>= λ q. outcome_at q.1 >>= λ p. done (stmts.Update y.0.0 y.0.1 z.0.0 z.0.1 z.0.2 q.0 p.0) p.1)
+    gets_more (λ y. renewal_at y.1 >>= λ z. done (stmts.Update y.0.0 y.0.1 z.0.0.0 z.0.0.1 z.0.0.2 z.0.1.0 z.0.1.1) z.1)
     (keyed_again rel key (front rest) l hr hk
     (k ∙ append_assoc (keyed_tokens rel key) (front all) us ∙ ap (λ z. keyed_tokens rel key ++ front z) (append_assoc (separated set_tokens (x ∷ xs)) (outcome_tokens o) us)))
-    (λ y m s t. gets_more (λ z. word_at (codes "set") z.1 >>= λ v. sets_at v.1 >>= λ q. outcome_at q.1 >>= λ p. done (stmts.Update y.0 y.1 z.0.0 z.0.1 z.0.2 q.0 p.0) p.1)
-    (classes_again c f w (Word (codes "set") ∷ rest) m hc hf hw t)
-    (λ z m2 s2 t2. gets_more (λ v. sets_at v.1 >>= λ q. outcome_at q.1 >>= λ p. done (stmts.Update y.0 y.1 z.0 z.1 z.2 q.0 p.0) p.1) (word_gets (codes "set") rest m2 t2)
-    (λ v m3 s3 t3. gets_more (λ q. outcome_at q.1 >>= λ p. done (stmts.Update y.0 y.1 z.0 z.1 z.2 q.0 p.0) p.1)
-    (sets_again x xs (outcome_tokens o ++ us) m3 hs (behind_sets o us).0 (behind_sets o us).1 t3)
-    (λ q m4 s4 t4. gets_more (λ p. done (stmts.Update y.0 y.1 z.0 z.1 z.2 q p.0) p.1) (outcome_again o us m4 ho t4)
-    (λ p m5 s5 t5. gets_done (stmts.Update y.0 y.1 z.0 z.1 z.2 q p) m5 (FormOf (Write_at rel w (Updating key c f (x ∷ xs)) o)) us
-    (λ more i. Do (Write_at (s.0 i) (s2.2 i) (Updating (s.1 i) (s2.0 i) (s2.1 i) (s4 i)) (s5 i)) (bare_block (block_of more))) t5)))))
+    (λ y m s t. gets_more (λ z. done (stmts.Update y.0 y.1 z.0.0.0 z.0.0.1 z.0.0.2 z.0.1.0 z.0.1.1) z.1)
+    (renewal_again c f w x xs o us m hc hf hw hs ho t)
+    (λ z m2 s2 t2. gets_done (stmts.Update y.0 y.1 z.0.0 z.0.1 z.0.2 z.1.0 z.1.1) m2 (FormOf (Write_at rel w (Updating key c f (x ∷ xs)) o)) us
+    (λ more i. Do (Write_at (s.0 i) (s2.0.2 i) (Updating (s.1 i) (s2.0.0 i) (s2.0.1 i) (s2.1.0 i)) (s2.1.1 i)) (bare_block (block_of more))) t2))
 
 delete_again : (rel c w : PlacedName) (key : ExprList) (o : Option PlacedName) (us : List Token) (l : Left) → IsNamed rel → IsNamed c → IsNamed w → AllByRecursion IsWhole key.items → IfSome o IsNamed
     → tokens_in l.placed ≡ (keyed_tokens rel key ++ (behind_tokens (codes "class") c ++ (behind_tokens (codes "at") w ++ outcome_tokens o))) ++ us
     → Gets (delete_at l) l (FormOf (Write_at rel w (Deleting key c) o)) us
 unfolding delete_at
 delete_again rel c w key o us l hr hc hw hk ho k =
-    gets_more (λ x. name_behind (codes "class") x.1 >>= λ y. name_behind (codes "at") y.1 >>= λ z. outcome_at z.1 >>= λ p. done (stmts.Delete x.0.0 x.0.1 y.0 z.0 p.0) p.1)
+    gets_more (λ x. name_behind (codes "class") x.1 >>= λ y. written_at y.1 >>= λ z. done (stmts.Delete x.0.0 x.0.1 y.0 z.0.0 z.0.1) z.1)
     (keyed_again rel key (behind_tokens (codes "class") c ++ (behind_tokens (codes "at") w ++ (outcome_tokens o ++ us))) l hr hk
     (k ∙ append_assoc (keyed_tokens rel key) (behind_tokens (codes "class") c ++ (behind_tokens (codes "at") w ++ outcome_tokens o)) us))
-    (λ x m s t. gets_more (λ y. name_behind (codes "at") y.1 >>= λ z. outcome_at z.1 >>= λ p. done (stmts.Delete x.0 x.1 y.0 z.0 p.0) p.1)
+    (λ x m s t. gets_more (λ y. written_at y.1 >>= λ z. done (stmts.Delete x.0 x.1 y.0 z.0.0 z.0.1) z.1)
     (behind_gets (codes "class") c (behind_tokens (codes "at") w ++ (outcome_tokens o ++ us)) m hc t)
-    (λ y m2 s2 t2. gets_more (λ z. outcome_at z.1 >>= λ p. done (stmts.Delete x.0 x.1 y z.0 p.0) p.1) (behind_gets (codes "at") w (outcome_tokens o ++ us) m2 hw t2)
-    (λ z m3 s3 t3. gets_more (λ p. done (stmts.Delete x.0 x.1 y z p.0) p.1) (outcome_again o us m3 ho t3)
-    (λ p m4 s4 t4. gets_done (stmts.Delete x.0 x.1 y z p) m4 (FormOf (Write_at rel w (Deleting key c) o)) us
-    (λ rest i. Do (Write_at (s.0 i) (s3 i) (Deleting (s.1 i) (s2 i)) (s4 i)) (bare_block (block_of rest))) t4))))
+    (λ y m2 s2 t2. gets_more (λ z. done (stmts.Delete x.0 x.1 y z.0.0 z.0.1) z.1) (written_again w o us m2 hw ho t2)
+    (λ z m3 s3 t3. gets_done (stmts.Delete x.0 x.1 y z.0 z.1) m3 (FormOf (Write_at rel w (Deleting key c) o)) us
+    (λ rest i. Do (Write_at (s.0 i) (s3.0 i) (Deleting (s.1 i) (s2 i)) (s3.1 i)) (bare_block (block_of rest))) t3)))
 
 release_again : (e : Expr) (to into : PlacedName) (us : List Token) (l : Left) → IsWhole e → IsNamed to → IsNamed into
     → tokens_in l.placed ≡ (expr_tokens e ++ (behind_tokens (codes "to") to ++ (behind_tokens (codes "into") into ++ Sign sign.Semicolon ∷ []))) ++ us

@@ -1,5 +1,5 @@
 -- Statements with no statement inside are read as what stands there.
-use Rattle.std.proofs.Common.{◌≡◌, ℕ, true, List, [], ◌∷◌, ◌++◌, Option, Some, None, Result, Ok, refl, sym, subst}
+use Rattle.std.proofs.Common.{◌≡◌, ℕ, ◌<◌, true, List, [], ◌∷◌, ◌++◌, length, Option, Some, None, Result, Ok, refl, sym, subst}
 use Rattle.std.specs.Prelude.{codes}
 use Rattle.std.specs.List.{AllByRecursion}
 use Rattle.mls_lattice.specs.Name.{is_name}
@@ -19,15 +19,16 @@ use Rattle.mls_syntax.specs.declared.block.Stmt.{Stmt as Form}
 use Rattle.mls_syntax.specs.declared.block.Stmt.TheVariants as stmts
 use Rattle.mls_syntax.specs.declared.words.Plain.{Plain}
 use Rattle.mls_syntax.specs.declared.words.Plain.TheVariants as plains
+use Rattle.mls_syntax.specs.ExprTree.{Expr}
 use Rattle.mls_syntax.specs.Tree.{Inserting, Updating, Deleting, Stmt, Assign, Write_at, Release, Emit, Do}
 use Rattle.mls_syntax.specs.Blocks.{block_of}
 use Rattle.mls_syntax.specs.Limits.{StmtAll}
 use Rattle.mls_syntax.specs.Words.{pass_name_behind}
 use Rattle.mls_syntax.specs.ReadExpr.{sign_at, whole_at, list_at, sets_at}
-use Rattle.mls_syntax.specs.ReadBlock.{word_at, name_at, name_behind, list_behind, outcome_of, outcome_at, keyed_at, assign_at, insert_at, classes_at, update_at, delete_at, release_at, emit_at, plain_at}
+use Rattle.mls_syntax.specs.ReadBlock.{word_at, name_at, name_behind, list_behind, outcome_of, outcome_at, written_at, keyed_at, assign_at, insert_at, classes_at, changes_at, renewal_at, update_at, delete_at, release_at, emit_at, plain_at}
 use Rattle.mls_syntax.specs.Spelling.{name_token, behind_tokens, expr_tokens, list_tokens, set_tokens, outcome_tokens, keyed_tokens, stmt_tokens}
 use Rattle.mls_syntax.proofs.PassedLemmas.{syntax_ok, sign_found, behind_found}
-use Rattle.mls_syntax.proofs.ExprLemmas.{IsNested, whole_found, list_found, sets_found}
+use Rattle.mls_syntax.proofs.ExprLemmas.{IsNested, whole_found, list_found, SetNested, sets_found}
 
 -- ---- words, names and lists
 
@@ -75,6 +76,18 @@ outcome_found l x e =
     (subst (λ ts. Passed ts l end.0.1) (ended o.0.0)
     (passed_more (as_tokens o.0.0) (Sign sign.Semicolon ∷ []) l o.0.1 end.0.1 (as_found l (taken (is_word (codes "as")) l) o.0 refl o.1) (sign_found sign.Semicolon o.0.1 end.0 end.1)))
 
+abbrev written_tokens : PlacedName × Option PlacedName → List Token
+written_tokens w = behind_tokens (codes "at") w.0 ++ outcome_tokens w.1
+
+written_found : (l : Left) (x : (PlacedName × Option PlacedName) × Left) → written_at l ≡ Ok x → Passed (written_tokens x.0) l x.1
+unfolding written_at
+written_found l x e =
+    let w = bind_ok (name_behind (codes "at") l) (λ w. outcome_at w.1 >>= λ o. Ok ((w.0, o.0), o.1)) x e in
+    let o = bind_ok (outcome_at w.0.1) (λ o. Ok ((w.0.0, o.0), o.1)) x w.2 in
+    let done : Result ((PlacedName × Option PlacedName) × Left) SyntaxFault = Ok ((w.0.0, o.0.0), o.0.1) in
+    subst (λ (y : (PlacedName × Option PlacedName) × Left). Passed (written_tokens y.0) l y.1) (same_ok done ((w.0.0, o.0.0), o.0.1) x refl o.2)
+    (passed_more (behind_tokens (codes "at") w.0.0) (outcome_tokens o.0.0) l w.0.1 o.0.1 (behind (codes "at") l w.0 w.1) (outcome_found w.0.1 o.0 o.1))
+
 keyed_found : (l : Left) (x : (PlacedName × ExprList) × Left) → keyed_at l ≡ Ok x → Passed (keyed_tokens x.0.0 x.0.1) l x.1 × AllByRecursion IsNested x.0.1.items
 unfolding keyed_at
 keyed_found l x e =
@@ -99,6 +112,41 @@ classes_found l x e =
     subst (λ (y : (PlacedName × PlacedName × PlacedName) × Left). Passed (class_tokens y.0) l y.1) (same_ok done ((c.0.0, f.0.0, w.0.0), w.0.1) x refl w.2)
     (passed_more (behind_tokens (codes "class") c.0.0) (behind_tokens (codes "from") f.0.0 ++ behind_tokens (codes "at") w.0.0) l c.0.1 w.0.1 (behind (codes "class") l c.0 c.1)
     (passed_more (behind_tokens (codes "from") f.0.0) (behind_tokens (codes "at") w.0.0) c.0.1 f.0.1 w.0.1 (behind (codes "from") c.0.1 f.0 f.1) (behind (codes "at") f.0.1 w.0 w.1)))
+
+abbrev changes_tokens : List (PlacedName × Expr) × Option PlacedName → List Token
+changes_tokens n = Word (codes "set") ∷ (separated set_tokens n.0 ++ outcome_tokens n.1)
+
+-- what was passed of new values
+abbrev ChangesFound : (List Token → List Token) → List (PlacedName × Expr) × Option PlacedName → Left → Left → Type 0
+ChangesFound front n l r = Passed (front (changes_tokens n)) l r × (0 < length n.0) × AllByRecursion SetNested n.0
+
+changes_found : (l : Left) (x : (List (PlacedName × Expr) × Option PlacedName) × Left) → changes_at l ≡ Ok x → ChangesFound (λ ts. ts) x.0 l x.1
+unfolding changes_at
+changes_found l x e =
+    let word = bind_ok (word_at (codes "set") l) (λ word. sets_at word.1 >>= λ sets. outcome_at sets.1 >>= λ o. Ok ((sets.0, o.0), o.1)) x e in
+    let sets = bind_ok (sets_at word.0.1) (λ sets. outcome_at sets.1 >>= λ o. Ok ((sets.0, o.0), o.1)) x word.2 in
+    let o = bind_ok (outcome_at sets.0.1) (λ o. Ok ((sets.0.0, o.0), o.1)) x sets.2 in
+    let new = sets_found word.0.1 sets.0 sets.1 in
+    let done : Result ((List (PlacedName × Expr) × Option PlacedName) × Left) SyntaxFault = Ok ((sets.0.0, o.0.0), o.0.1) in
+    subst (λ (y : (List (PlacedName × Expr) × Option PlacedName) × Left). ChangesFound (λ ts. ts) y.0 l y.1) (same_ok done ((sets.0.0, o.0.0), o.0.1) x refl o.2) (
+      passed_more (Word (codes "set") ∷ []) (separated set_tokens sets.0.0 ++ outcome_tokens o.0.0) l word.0.1 o.0.1 (worded (codes "set") l word.0 word.1)
+          (passed_more (separated set_tokens sets.0.0) (outcome_tokens o.0.0) word.0.1 sets.0.1 o.0.1 new.0 (outcome_found sets.0.1 o.0 o.1)),
+      new.1,
+      new.2,
+    )
+
+abbrev Renewal : Type 0
+Renewal = (PlacedName × PlacedName × PlacedName) × (List (PlacedName × Expr) × Option PlacedName)
+
+renewal_found : (l : Left) (x : Renewal × Left) → renewal_at l ≡ Ok x → ChangesFound (λ ts. class_tokens x.0.0 ++ ts) x.0.1 l x.1
+unfolding renewal_at
+renewal_found l x e =
+    let c = bind_ok (classes_at l) (λ c. changes_at c.1 >>= λ n. Ok ((c.0, n.0), n.1)) x e in
+    let n = bind_ok (changes_at c.0.1) (λ n. Ok ((c.0.0, n.0), n.1)) x c.2 in
+    let new = changes_found c.0.1 n.0 n.1 in
+    let done : Result (Renewal × Left) SyntaxFault = Ok ((c.0.0, n.0.0), n.0.1) in
+    subst (λ (y : Renewal × Left). ChangesFound (λ ts. class_tokens y.0.0 ++ ts) y.0.1 l y.1) (same_ok done ((c.0.0, n.0.0), n.0.1) x refl n.2)
+    (passed_more (class_tokens c.0.0) (changes_tokens n.0.0) l c.0.1 n.0.1 (classes_found l c.0 c.1) new.0, new.1, new.2)
 
 -- ---- statements
 
@@ -133,71 +181,60 @@ assign_found n l x e =
 insert_found : (l : Left) (x : Form × Left) → insert_at l ≡ Ok x → PlainFound (Word (codes "insert")) l x
 unfolding insert_at
 insert_found l x e =
-    let k = bind_ok (keyed_at l) (λ k. list_behind (codes "values") k.1 >>= λ vs. name_behind (codes "at") vs.1 >>= λ w. outcome_at w.1 >>= λ o. Ok (stmts.Insert k.0.0 k.0.1 vs.0 w.0 o.0, o.1)) x e in
-    let vs = bind_ok (list_behind (codes "values") k.0.1) (λ vs. name_behind (codes "at") vs.1 >>= λ w. outcome_at w.1 >>= λ o. Ok (stmts.Insert k.0.0.0 k.0.0.1 vs.0 w.0 o.0, o.1)) x k.2 in
-    let w = bind_ok (name_behind (codes "at") vs.0.1) (λ w. outcome_at w.1 >>= λ o. Ok (stmts.Insert k.0.0.0 k.0.0.1 vs.0.0 w.0 o.0, o.1)) x vs.2 in
-    let o = bind_ok (outcome_at w.0.1) (λ o. Ok (stmts.Insert k.0.0.0 k.0.0.1 vs.0.0 w.0.0 o.0, o.1)) x w.2 in
+    let k = bind_ok (keyed_at l) (λ k. list_behind (codes "values") k.1 >>= λ vs. written_at vs.1 >>= λ w. Ok (stmts.Insert k.0.0 k.0.1 vs.0 w.0.0 w.0.1, w.1)) x e in
+    let vs = bind_ok (list_behind (codes "values") k.0.1) (λ vs. written_at vs.1 >>= λ w. Ok (stmts.Insert k.0.0.0 k.0.0.1 vs.0 w.0.0 w.0.1, w.1)) x k.2 in
+    let w = bind_ok (written_at vs.0.1) (λ w. Ok (stmts.Insert k.0.0.0 k.0.0.1 vs.0.0 w.0.0 w.0.1, w.1)) x vs.2 in
     let key = keyed_found l k.0 k.1 in
     let values = listed (codes "values") k.0.1 vs.0 vs.1 in
-    let done : Result (Form × Left) SyntaxFault = Ok (stmts.Insert k.0.0.0 k.0.0.1 vs.0.0 w.0.0 o.0.0, o.0.1) in
-    let last : List Token = behind_tokens (codes "at") w.0.0 ++ outcome_tokens o.0.0 in
-    subst (PlainFound (Word (codes "insert")) l) (same_ok done (stmts.Insert k.0.0.0 k.0.0.1 vs.0.0 w.0.0 o.0.0, o.0.1) x refl o.2)
+    let done : Result (Form × Left) SyntaxFault = Ok (stmts.Insert k.0.0.0 k.0.0.1 vs.0.0 w.0.0.0 w.0.0.1, w.0.1) in
+    let last : List Token = written_tokens w.0.0 in
+    subst (PlainFound (Word (codes "insert")) l) (same_ok done (stmts.Insert k.0.0.0 k.0.0.1 vs.0.0 w.0.0.0 w.0.0.1, w.0.1) x refl w.2)
     (record {
-      tree = Write_at k.0.0.0 w.0.0 (Inserting k.0.0.1 vs.0.0) o.0.0;
+      tree = Write_at k.0.0.0 w.0.0.0 (Inserting k.0.0.1 vs.0.0) w.0.0.1;
       is = λ rest. refl;
       more = keyed_tokens k.0.0.0 k.0.0.1 ++ (Word (codes "values") ∷ (list_tokens vs.0.0 ++ last));
       tokens = refl;
-      passed = passed_more (keyed_tokens k.0.0.0 k.0.0.1) (Word (codes "values") ∷ (list_tokens vs.0.0 ++ last)) l k.0.1 o.0.1 key.0
-          (passed_more (Word (codes "values") ∷ list_tokens vs.0.0) last k.0.1 vs.0.1 o.0.1 values.0
-          (passed_more (behind_tokens (codes "at") w.0.0) (outcome_tokens o.0.0) vs.0.1 w.0.1 o.0.1 (behind (codes "at") vs.0.1 w.0 w.1) (outcome_found w.0.1 o.0 o.1)));
+      passed = passed_more (keyed_tokens k.0.0.0 k.0.0.1) (Word (codes "values") ∷ (list_tokens vs.0.0 ++ last)) l k.0.1 w.0.1 key.0
+          (passed_more (Word (codes "values") ∷ list_tokens vs.0.0) last k.0.1 vs.0.1 w.0.1 values.0 (written_found vs.0.1 w.0 w.1));
       parts = (key.1, values.1);
     })
 
 update_found : (l : Left) (x : Form × Left) → update_at l ≡ Ok x → PlainFound (Word (codes "update")) l x
 unfolding update_at
 update_found l x e =
-    let k = bind_ok (keyed_at l) (λ k. classes_at k.1 >>= λ c. word_at (codes "set") c.1 >>= λ word. sets_at word.1 >>= λ sets. outcome_at sets.1 >>= λ o. Ok (stmts.Update k.0.0 k.0.1 c.0.0 c.0.1 c.0.2 sets.0 o.0, o.1)) x e in
-    let c = bind_ok (classes_at k.0.1) (λ c. word_at (codes "set") c.1 >>= λ word. sets_at word.1 >>= λ sets. outcome_at sets.1 >>= λ o. Ok (stmts.Update k.0.0.0 k.0.0.1 c.0.0 c.0.1 c.0.2 sets.0 o.0, o.1)) x k.2 in
-    let word = bind_ok (word_at (codes "set") c.0.1) (λ word. sets_at word.1 >>= λ sets. outcome_at sets.1 >>= λ o. Ok (stmts.Update k.0.0.0 k.0.0.1 c.0.0.0 c.0.0.1 c.0.0.2 sets.0 o.0, o.1)) x c.2 in
-    let sets = bind_ok (sets_at word.0.1) (λ sets. outcome_at sets.1 >>= λ o. Ok (stmts.Update k.0.0.0 k.0.0.1 c.0.0.0 c.0.0.1 c.0.0.2 sets.0 o.0, o.1)) x word.2 in
-    let o = bind_ok (outcome_at sets.0.1) (λ o. Ok (stmts.Update k.0.0.0 k.0.0.1 c.0.0.0 c.0.0.1 c.0.0.2 sets.0.0 o.0, o.1)) x sets.2 in
+    let k = bind_ok (keyed_at l) (λ k. renewal_at k.1 >>= λ r. Ok (stmts.Update k.0.0 k.0.1 r.0.0.0 r.0.0.1 r.0.0.2 r.0.1.0 r.0.1.1, r.1)) x e in
+    let r = bind_ok (renewal_at k.0.1) (λ r. Ok (stmts.Update k.0.0.0 k.0.0.1 r.0.0.0 r.0.0.1 r.0.0.2 r.0.1.0 r.0.1.1, r.1)) x k.2 in
     let key = keyed_found l k.0 k.1 in
-    let new = sets_found word.0.1 sets.0 sets.1 in
-    let done : Result (Form × Left) SyntaxFault = Ok (stmts.Update k.0.0.0 k.0.0.1 c.0.0.0 c.0.0.1 c.0.0.2 sets.0.0 o.0.0, o.0.1) in
-    let last : List Token = separated set_tokens sets.0.0 ++ outcome_tokens o.0.0 in
-    let classes : List Token = class_tokens c.0.0 ++ (Word (codes "set") ∷ last) in
-    subst (PlainFound (Word (codes "update")) l) (same_ok done (stmts.Update k.0.0.0 k.0.0.1 c.0.0.0 c.0.0.1 c.0.0.2 sets.0.0 o.0.0, o.0.1) x refl o.2)
+    let new = renewal_found k.0.1 r.0 r.1 in
+    let done : Result (Form × Left) SyntaxFault = Ok (stmts.Update k.0.0.0 k.0.0.1 r.0.0.0.0 r.0.0.0.1 r.0.0.0.2 r.0.0.1.0 r.0.0.1.1, r.0.1) in
+    let renewal : List Token = class_tokens r.0.0.0 ++ changes_tokens r.0.0.1 in
+    subst (PlainFound (Word (codes "update")) l) (same_ok done (stmts.Update k.0.0.0 k.0.0.1 r.0.0.0.0 r.0.0.0.1 r.0.0.0.2 r.0.0.1.0 r.0.0.1.1, r.0.1) x refl r.2)
     (record {
-      tree = Write_at k.0.0.0 c.0.0.2 (Updating k.0.0.1 c.0.0.0 c.0.0.1 sets.0.0) o.0.0;
+      tree = Write_at k.0.0.0 r.0.0.0.2 (Updating k.0.0.1 r.0.0.0.0 r.0.0.0.1 r.0.0.1.0) r.0.0.1.1;
       is = λ rest. refl;
-      more = keyed_tokens k.0.0.0 k.0.0.1 ++ classes;
+      more = keyed_tokens k.0.0.0 k.0.0.1 ++ renewal;
       tokens = refl;
-      passed = passed_more (keyed_tokens k.0.0.0 k.0.0.1) classes l k.0.1 o.0.1 key.0
-          (passed_more (class_tokens c.0.0) (Word (codes "set") ∷ last) k.0.1 c.0.1 o.0.1 (classes_found k.0.1 c.0 c.1)
-          (passed_more (Word (codes "set") ∷ []) last c.0.1 word.0.1 o.0.1 (worded (codes "set") c.0.1 word.0 word.1)
-          (passed_more (separated set_tokens sets.0.0) (outcome_tokens o.0.0) word.0.1 sets.0.1 o.0.1 new.0 (outcome_found sets.0.1 o.0 o.1))));
+      passed = passed_more (keyed_tokens k.0.0.0 k.0.0.1) renewal l k.0.1 r.0.1 key.0 new.0;
       parts = (key.1, new.1, new.2);
     })
 
 delete_found : (l : Left) (x : Form × Left) → delete_at l ≡ Ok x → PlainFound (Word (codes "delete")) l x
 unfolding delete_at
 delete_found l x e =
-    let k = bind_ok (keyed_at l) (λ k. name_behind (codes "class") k.1 >>= λ c. name_behind (codes "at") c.1 >>= λ w. outcome_at w.1 >>= λ o. Ok (stmts.Delete k.0.0 k.0.1 c.0 w.0 o.0, o.1)) x e in
-    let c = bind_ok (name_behind (codes "class") k.0.1) (λ c. name_behind (codes "at") c.1 >>= λ w. outcome_at w.1 >>= λ o. Ok (stmts.Delete k.0.0.0 k.0.0.1 c.0 w.0 o.0, o.1)) x k.2 in
-    let w = bind_ok (name_behind (codes "at") c.0.1) (λ w. outcome_at w.1 >>= λ o. Ok (stmts.Delete k.0.0.0 k.0.0.1 c.0.0 w.0 o.0, o.1)) x c.2 in
-    let o = bind_ok (outcome_at w.0.1) (λ o. Ok (stmts.Delete k.0.0.0 k.0.0.1 c.0.0 w.0.0 o.0, o.1)) x w.2 in
+    let k = bind_ok (keyed_at l) (λ k. name_behind (codes "class") k.1 >>= λ c. written_at c.1 >>= λ w. Ok (stmts.Delete k.0.0 k.0.1 c.0 w.0.0 w.0.1, w.1)) x e in
+    let c = bind_ok (name_behind (codes "class") k.0.1) (λ c. written_at c.1 >>= λ w. Ok (stmts.Delete k.0.0.0 k.0.0.1 c.0 w.0.0 w.0.1, w.1)) x k.2 in
+    let w = bind_ok (written_at c.0.1) (λ w. Ok (stmts.Delete k.0.0.0 k.0.0.1 c.0.0 w.0.0 w.0.1, w.1)) x c.2 in
     let key = keyed_found l k.0 k.1 in
-    let done : Result (Form × Left) SyntaxFault = Ok (stmts.Delete k.0.0.0 k.0.0.1 c.0.0 w.0.0 o.0.0, o.0.1) in
-    let last : List Token = behind_tokens (codes "at") w.0.0 ++ outcome_tokens o.0.0 in
-    subst (PlainFound (Word (codes "delete")) l) (same_ok done (stmts.Delete k.0.0.0 k.0.0.1 c.0.0 w.0.0 o.0.0, o.0.1) x refl o.2)
+    let done : Result (Form × Left) SyntaxFault = Ok (stmts.Delete k.0.0.0 k.0.0.1 c.0.0 w.0.0.0 w.0.0.1, w.0.1) in
+    let last : List Token = written_tokens w.0.0 in
+    subst (PlainFound (Word (codes "delete")) l) (same_ok done (stmts.Delete k.0.0.0 k.0.0.1 c.0.0 w.0.0.0 w.0.0.1, w.0.1) x refl w.2)
     (record {
-      tree = Write_at k.0.0.0 w.0.0 (Deleting k.0.0.1 c.0.0) o.0.0;
+      tree = Write_at k.0.0.0 w.0.0.0 (Deleting k.0.0.1 c.0.0) w.0.0.1;
       is = λ rest. refl;
       more = keyed_tokens k.0.0.0 k.0.0.1 ++ (behind_tokens (codes "class") c.0.0 ++ last);
       tokens = refl;
-      passed = passed_more (keyed_tokens k.0.0.0 k.0.0.1) (behind_tokens (codes "class") c.0.0 ++ last) l k.0.1 o.0.1 key.0
-          (passed_more (behind_tokens (codes "class") c.0.0) last k.0.1 c.0.1 o.0.1 (behind (codes "class") k.0.1 c.0 c.1)
-          (passed_more (behind_tokens (codes "at") w.0.0) (outcome_tokens o.0.0) c.0.1 w.0.1 o.0.1 (behind (codes "at") c.0.1 w.0 w.1) (outcome_found w.0.1 o.0 o.1)));
+      passed = passed_more (keyed_tokens k.0.0.0 k.0.0.1) (behind_tokens (codes "class") c.0.0 ++ last) l k.0.1 w.0.1 key.0
+          (passed_more (behind_tokens (codes "class") c.0.0) last k.0.1 c.0.1 w.0.1 (behind (codes "class") k.0.1 c.0 c.1) (written_found c.0.1 w.0 w.1));
       parts = key.1;
     })
 

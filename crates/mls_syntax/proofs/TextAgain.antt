@@ -25,12 +25,12 @@ use Rattle.mls_syntax.specs.declared.transaction.Transaction.{Transaction}
 use Rattle.mls_syntax.specs.ExprTree.{Expr}
 use Rattle.mls_syntax.specs.Tree.{Writing, Inserting, Updating, Deleting, Stmt, Assign, Write_at, Release, Emit, Block, End, Do, If, For, statements}
 use Rattle.mls_syntax.specs.Limits.{depth, IsShallow, WritingAll, StmtAll, BlockAll}
-use Rattle.mls_syntax.specs.Places.{bare_param, bare_var, bare_transaction, IsNamed, ExprIsNamed, SetIsNamed, WritingIsNamed, StmtIsNamed, BlockIsNamed, IsWritable, TextsAreRead}
+use Rattle.mls_syntax.specs.Places.{bare_param, bare_block, bare_var, bare_transaction, IsNamed, ExprIsNamed, SetIsNamed, WritingIsNamed, StmtIsNamed, BlockIsNamed, IsWritable, TextsAreRead}
 use Rattle.mls_syntax.specs.Fault.{in_syntax}
 use Rattle.mls_syntax.specs.Words.{kind_of, pass_known}
 use Rattle.mls_syntax.specs.ReadExpr.{sign_at, after_item}
 use Rattle.mls_syntax.specs.ReadBlock.{word_at, name_behind, body_at}
-use Rattle.mls_syntax.specs.Reading.{too_many, param_at, params_from, params_behind, params_at, var_at, or_var, vars_from, vars_at, interval_at, transaction_at, transactions_from, syntax_at}
+use Rattle.mls_syntax.specs.Reading.{too_many, param_at, params_from, params_behind, params_at, var_at, or_var, vars_from, vars_at, interval_at, parts_at, transaction_at, transactions_from, syntax_at}
 use Rattle.mls_syntax.specs.Spelling.{name_token, param_tokens, params_tokens, var_tokens, SpellsBlock, SpellsEach}
 use Rattle.mls_syntax.proofs.AgainLemmas.{sign_gets, word_gets, Called, name_gets, behind_gets, known_gets, IsWhole, IsSet}
 use Rattle.mls_syntax.proofs.BlockAgain.{WritingIsGood, StmtIsGood, BlockIsGood, Closed, IsOther, block_begins, body_again}
@@ -208,34 +208,47 @@ interval_again lo hi us l hl hh k =
 abbrev SameTransaction : Transaction → Transaction → Type 0
 SameTransaction t y = bare_transaction y ≡ bare_transaction t
 
+abbrev SameParts : Transaction → List Parameter × List Variable × Block → Type 0
+SameParts t y = SameParams t.params y.0 × (map bare_var y.1 ≡ map bare_var t.vars) × (bare_block y.2 ≡ bare_block t.body)
+
+parts_again : (t : Transaction) (b us : List Token) (l : Left) → IsGood t → SpellsBlock t.body b
+    → tokens_in l.placed ≡ (params_tokens t.params ++ braced_tokens (flat_map var_tokens t.vars ++ b)) ++ us → Gets (parts_at l) l (SameParts t) us
+unfolding parts_at
+parts_again t b us l h spelled k =
+    let v : List Token = flat_map var_tokens t.vars in
+    let block : List Token = braced_tokens (v ++ b) in
+    let close : List Token = Sign sign.RightBrace ∷ [] in
+    gets_more (λ ps. sign_at sign.LeftBrace ps.1 >>= λ c. vars_at c.1 >>= λ vs. body_at vs.1 >>= λ x. done (ps.0, vs.0, x.0) x.2)
+    (params_gets t.params (block ++ us) l h.few_params h.params (k ∙ append_assoc (params_tokens t.params) block us))
+    (λ ps m s j. gets_more (λ c. vars_at c.1 >>= λ vs. body_at vs.1 >>= λ x. done (ps, vs.0, x.0) x.2)
+    (sign_gets sign.LeftBrace (((v ++ b) ++ close) ++ us) m j)
+    (λ c m2 s2 j2. gets_more (λ vs. body_at vs.1 >>= λ x. done (ps, vs.0, x.0) x.2)
+    (vars_gets t.vars (b ++ Closed us) m2 h.few_vars h.vars (block_begins (codes "var") is_var t.body b us h.body spelled) (j2 ∙ append_assoc (v ++ b) close us ∙ append_assoc v b (Closed us)))
+    (λ vs m3 s3 j3.
+    let x = body_again t.body b us m3 h.shallow h.few_statements h.body spelled j3 in
+    record {
+      value = (ps, vs, x.value);
+      rest = x.rest;
+      is = ap (λ r. r >>= λ x. done (ps, vs, x.0) x.2) x.is;
+      holds = (s, s3, x.holds);
+      tokens = x.tokens;
+      stop = x.stop;
+    })))
+
 transaction_again : (t : Transaction) (b us : List Token) (l : Left) → IsGood t → SpellsBlock t.body b
     → tokens_in l.placed ≡ name_token t.name ∷ Word (codes "levels") ∷ name_token t.lo ∷ Word (codes "to") ∷ name_token t.hi ∷ ((params_tokens t.params ++ braced_tokens (flat_map var_tokens t.vars ++ b)) ++ us)
     → Gets (transaction_at l) l (SameTransaction t) us
 unfolding transaction_at
 transaction_again t b us l h spelled k =
-    let v : List Token = flat_map var_tokens t.vars in
-    let block : List Token = braced_tokens (v ++ b) in
-    let close : List Token = Sign sign.RightBrace ∷ [] in
-    gets_more (λ n. interval_at n.1 >>= λ i. params_at i.1 >>= λ ps. sign_at sign.LeftBrace ps.1 >>= λ c. vars_at c.1 >>= λ vs. body_at vs.1 >>= λ x. done (record { name = n.0; lo = i.0.0; hi = i.0.1; params = ps.0; vars = vs.0; body = x.0 }) x.2)
-    (name_gets t.name (Word (codes "levels") ∷ name_token t.lo ∷ Word (codes "to") ∷ name_token t.hi ∷ ((params_tokens t.params ++ block) ++ us)) l h.name k)
-    (λ n m s j. gets_more (λ i. params_at i.1 >>= λ ps. sign_at sign.LeftBrace ps.1 >>= λ c. vars_at c.1 >>= λ vs. body_at vs.1 >>= λ x. done (record { name = n; lo = i.0.0; hi = i.0.1; params = ps.0; vars = vs.0; body = x.0 }) x.2)
-    (interval_again t.lo t.hi ((params_tokens t.params ++ block) ++ us) m h.lo h.hi j)
-    (λ i m2 s2 j2. gets_more (λ ps. sign_at sign.LeftBrace ps.1 >>= λ c. vars_at c.1 >>= λ vs. body_at vs.1 >>= λ x. done (record { name = n; lo = i.0; hi = i.1; params = ps.0; vars = vs.0; body = x.0 }) x.2)
-    (params_gets t.params (block ++ us) m2 h.few_params h.params (j2 ∙ append_assoc (params_tokens t.params) block us))
-    (λ ps m3 s3 j3. gets_more (λ c. vars_at c.1 >>= λ vs. body_at vs.1 >>= λ x. done (record { name = n; lo = i.0; hi = i.1; params = ps; vars = vs.0; body = x.0 }) x.2)
-    (sign_gets sign.LeftBrace (((v ++ b) ++ close) ++ us) m3 j3)
-    (λ c m4 s4 j4. gets_more (λ vs. body_at vs.1 >>= λ x. done (record { name = n; lo = i.0; hi = i.1; params = ps; vars = vs.0; body = x.0 }) x.2)
-    (vars_gets t.vars (b ++ Closed us) m4 h.few_vars h.vars (block_begins (codes "var") is_var t.body b us h.body spelled) (j4 ∙ append_assoc (v ++ b) close us ∙ append_assoc v b (Closed us)))
-    (λ vs m5 s5 j5.
-    let x = body_again t.body b us m5 h.shallow h.few_statements h.body spelled j5 in
-    record {
-      value = record { name = n; lo = i.0; hi = i.1; params = ps; vars = vs; body = x.value };
-      rest = x.rest;
-      is = ap (λ r. r >>= λ x. done (record { name = n; lo = i.0; hi = i.1; params = ps; vars = vs; body = x.0 }) x.2) x.is;
-      holds = λ q. record { name = s q; lo = s2.0 q; hi = s2.1 q; params = s3 q; vars = s5 q; body = x.holds q };
-      tokens = x.tokens;
-      stop = x.stop;
-    })))))
+    let rest : List Token = (params_tokens t.params ++ braced_tokens (flat_map var_tokens t.vars ++ b)) ++ us in
+    gets_more (λ n. interval_at n.1 >>= λ i. parts_at i.1 >>= λ p. done (record { name = n.0; lo = i.0.0; hi = i.0.1; params = p.0.0; vars = p.0.1; body = p.0.2 }) p.1)
+    (name_gets t.name (Word (codes "levels") ∷ name_token t.lo ∷ Word (codes "to") ∷ name_token t.hi ∷ rest) l h.name k)
+    (λ n m s j. gets_more (λ i. parts_at i.1 >>= λ p. done (record { name = n; lo = i.0.0; hi = i.0.1; params = p.0.0; vars = p.0.1; body = p.0.2 }) p.1)
+    (interval_again t.lo t.hi rest m h.lo h.hi j)
+    (λ i m2 s2 j2. gets_more (λ p. done (record { name = n; lo = i.0; hi = i.1; params = p.0.0; vars = p.0.1; body = p.0.2 }) p.1)
+    (parts_again t b us m2 h spelled j2)
+    (λ p m3 s3 j3. gets_done (record { name = n; lo = i.0; hi = i.1; params = p.0; vars = p.1; body = p.2 }) m3 (SameTransaction t) us
+    (λ q. record { name = s q; lo = s2.0 q; hi = s2.1 q; params = s3.0 q; vars = s3.1 q; body = s3.2 q }) j3)))
 
 -- ---- the whole text
 

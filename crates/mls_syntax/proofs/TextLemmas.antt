@@ -24,14 +24,14 @@ use Rattle.mls_syntax.specs.declared.fault.SyntaxFault.{SyntaxFault}
 use Rattle.mls_syntax.specs.declared.transaction.Parameter.{Parameter}
 use Rattle.mls_syntax.specs.declared.transaction.Variable.{Variable}
 use Rattle.mls_syntax.specs.declared.transaction.Transaction.{Transaction}
-use Rattle.mls_syntax.specs.Tree.{statements}
+use Rattle.mls_syntax.specs.Tree.{Block, statements}
 use Rattle.mls_syntax.specs.Limits.{depth, BlockAll}
 use Rattle.mls_syntax.specs.Fault.{in_syntax}
 use Rattle.mls_syntax.specs.Words.{kind_of_word, kind_of, pass_known}
 use Rattle.mls_syntax.specs.ReadExpr.{sign_at, after_item}
 use Rattle.mls_syntax.specs.ReadBlock.{word_at, name_at, name_behind, body_at}
-use Rattle.mls_syntax.specs.Reading.{too_many, param_at, params_from, params_behind, params_at, var_at, or_var, vars_from, vars_at, interval_at, transaction_at, transactions_from}
-use Rattle.mls_syntax.specs.Spelling.{name_token, behind_tokens, param_tokens, params_tokens, var_tokens, SpellsTransaction, SpellsEach}
+use Rattle.mls_syntax.specs.Reading.{too_many, param_at, params_from, params_behind, params_at, var_at, or_var, vars_from, vars_at, interval_at, parts_at, transaction_at, transactions_from}
+use Rattle.mls_syntax.specs.Spelling.{name_token, behind_tokens, param_tokens, params_tokens, var_tokens, SpellsBlock, SpellsTransaction, SpellsEach}
 use Rattle.mls_syntax.proofs.PassedLemmas.{syntax_ok, sign_found, known_found}
 use Rattle.mls_tokens.proofs.TokenLemmas.{chosen}
 use Rattle.mls_syntax.proofs.ExprLemmas.{IsNested}
@@ -259,43 +259,76 @@ record TransactionFound (l : Left) (x : Transaction × Left) : Type 0 where
   spelled : SpellsTransaction x.0 (Word (codes "transaction") ∷ more)
   sized : IsSized x.0
 
-transaction_found : (l : Left) (x : Transaction × Left) → transaction_at l ≡ Ok x → TransactionFound l x
-unfolding transaction_at vars_at
-transaction_found l x e =
-    let n = bind_ok (name_at l) (λ n. interval_at n.1 >>= λ i. params_at i.1 >>= λ ps. sign_at sign.LeftBrace ps.1 >>= λ c. vars_at c.1 >>= λ vs. body_at vs.1 >>= λ b. Ok (record { name = n.0; lo = i.0.0; hi = i.0.1; params = ps.0; vars = vs.0; body = b.0 }, b.2)) x e in
-    let i = bind_ok (interval_at n.0.1) (λ i. params_at i.1 >>= λ ps. sign_at sign.LeftBrace ps.1 >>= λ c. vars_at c.1 >>= λ vs. body_at vs.1 >>= λ b. Ok (record { name = n.0.0; lo = i.0.0; hi = i.0.1; params = ps.0; vars = vs.0; body = b.0 }, b.2)) x n.2 in
-    let ps = bind_ok (params_at i.0.1) (λ ps. sign_at sign.LeftBrace ps.1 >>= λ c. vars_at c.1 >>= λ vs. body_at vs.1 >>= λ b. Ok (record { name = n.0.0; lo = i.0.0.0; hi = i.0.0.1; params = ps.0; vars = vs.0; body = b.0 }, b.2)) x i.2 in
-    let c = bind_ok (sign_at sign.LeftBrace ps.0.1) (λ c. vars_at c.1 >>= λ vs. body_at vs.1 >>= λ b. Ok (record { name = n.0.0; lo = i.0.0.0; hi = i.0.0.1; params = ps.0.0; vars = vs.0; body = b.0 }, b.2)) x ps.2 in
-    let vs = bind_ok (vars_at c.0.1) (λ vs. body_at vs.1 >>= λ b. Ok (record { name = n.0.0; lo = i.0.0.0; hi = i.0.0.1; params = ps.0.0; vars = vs.0; body = b.0 }, b.2)) x c.2 in
-    let b = bind_ok (body_at vs.0.1) (λ b. Ok (record { name = n.0.0; lo = i.0.0.0; hi = i.0.0.1; params = ps.0.0; vars = vs.0.0; body = b.0 }, b.2)) x vs.2 in
-    let name = named l n.0 n.1 in
-    let params = params_read i.0.1 ps.0 ps.1 in
+-- what was passed of its parts
+record PartsFound (l : Left) (x : (List Parameter × List Variable × Block) × Left) : Type 0 where
+  inside : List Token
+  passed : Passed (params_tokens x.0.0 ++ (Sign sign.LeftBrace ∷ closed (flat_map var_tokens x.0.1 ++ inside))) l x.1
+  spelled : SpellsBlock x.0.2 inside
+  params : AllByRecursion ParamNamed x.0.0
+  vars : AllByRecursion VarNamed x.0.1
+  few_params : length x.0.0 ≤ 64
+  few_vars : length x.0.1 ≤ 64
+  few_statements : statements x.0.2 ≤ 1000
+  shallow : depth x.0.2 ≤ 16
+  nested : BlockAll IsNested x.0.2
+
+parts_found : (l : Left) (x : (List Parameter × List Variable × Block) × Left) → parts_at l ≡ Ok x → PartsFound l x
+unfolding parts_at vars_at
+parts_found l x e =
+    let ps = bind_ok (params_at l) (λ ps. sign_at sign.LeftBrace ps.1 >>= λ c. vars_at c.1 >>= λ vs. body_at vs.1 >>= λ b. Ok ((ps.0, vs.0, b.0), b.2)) x e in
+    let c = bind_ok (sign_at sign.LeftBrace ps.0.1) (λ c. vars_at c.1 >>= λ vs. body_at vs.1 >>= λ b. Ok ((ps.0.0, vs.0, b.0), b.2)) x ps.2 in
+    let vs = bind_ok (vars_at c.0.1) (λ vs. body_at vs.1 >>= λ b. Ok ((ps.0.0, vs.0, b.0), b.2)) x c.2 in
+    let b = bind_ok (body_at vs.0.1) (λ b. Ok ((ps.0.0, vs.0.0, b.0), b.2)) x vs.2 in
+    let params = params_read l ps.0 ps.1 in
     let vars = vars_found 64 [] c.0.1 vs.0 vs.1 in
     let body = body_found vs.0.1 b.0 b.1 in
-    let done : Result (Transaction × Left) SyntaxFault = Ok (record { name = n.0.0; lo = i.0.0.0; hi = i.0.0.1; params = ps.0.0; vars = vs.0.0; body = b.0.0 }, b.0.2) in
+    let done : Result ((List Parameter × List Variable × Block) × Left) SyntaxFault = Ok ((ps.0.0, vs.0.0, b.0.0), b.0.2) in
     let declared : Passed (flat_map var_tokens vs.0.0) c.0.1 vs.0.1 = subst (λ (xs : List Variable). Passed (flat_map var_tokens xs) c.0.1 vs.0.1) vars.whole vars.passed in
-    let inside : List Token = flat_map var_tokens vs.0.0 ++ closed body.tokens in
-    let same : inside ≡ closed (flat_map var_tokens vs.0.0 ++ body.tokens) = sym (append_assoc (flat_map var_tokens vs.0.0) body.tokens (Sign sign.RightBrace ∷ [])) in
+    let same : flat_map var_tokens vs.0.0 ++ closed body.tokens ≡ closed (flat_map var_tokens vs.0.0 ++ body.tokens) = sym (append_assoc (flat_map var_tokens vs.0.0) body.tokens (Sign sign.RightBrace ∷ [])) in
     let block : List Token = Sign sign.LeftBrace ∷ closed (flat_map var_tokens vs.0.0 ++ body.tokens) in
     let block_read : Passed block ps.0.1 b.0.2 =
     passed_more (Sign sign.LeftBrace ∷ []) (closed (flat_map var_tokens vs.0.0 ++ body.tokens)) ps.0.1 c.0.1 b.0.2 (sign_found sign.LeftBrace ps.0.1 c.0 c.1)
     (subst (λ ts. Passed ts c.0.1 b.0.2) same (passed_more (flat_map var_tokens vs.0.0) (closed body.tokens) c.0.1 vs.0.1 b.0.2 declared body.passed)) in
-    subst (TransactionFound l) (same_ok done (record { name = n.0.0; lo = i.0.0.0; hi = i.0.0.1; params = ps.0.0; vars = vs.0.0; body = b.0.0 }, b.0.2) x refl b.2)
+    subst (PartsFound l) (same_ok done ((ps.0.0, vs.0.0, b.0.0), b.0.2) x refl b.2)
     (record {
-      more = name_token n.0.0 ∷ (interval_tokens i.0.0 ++ (params_tokens ps.0.0 ++ block));
-      passed = passed_more (name_token n.0.0 ∷ []) (interval_tokens i.0.0 ++ (params_tokens ps.0.0 ++ block)) l n.0.1 b.0.2 name.0
-          (passed_more (interval_tokens i.0.0) (params_tokens ps.0.0 ++ block) n.0.1 i.0.1 b.0.2 (interval_found n.0.1 i.0 i.1)
-          (passed_more (params_tokens ps.0.0) block i.0.1 ps.0.1 b.0.2 params.passed block_read));
-      spelled = (body.tokens, refl, body.kept.spelled);
+      inside = body.tokens;
+      passed = passed_more (params_tokens ps.0.0) block l ps.0.1 b.0.2 params.passed block_read;
+      spelled = body.kept.spelled;
+      params = params.names;
+      vars = subst (λ (xs : List Variable). AllByRecursion VarNamed xs) vars.whole vars.names;
+      few_params = params.few;
+      few_vars = subst (λ (xs : List Variable). length xs ≤ 64) vars.whole vars.few;
+      few_statements = (let a = body.counted in let f = body.few in omega (arith, a, f));
+      shallow = body.kept.depth;
+      nested = body.kept.parts;
+    })
+
+transaction_found : (l : Left) (x : Transaction × Left) → transaction_at l ≡ Ok x → TransactionFound l x
+unfolding transaction_at
+transaction_found l x e =
+    let n = bind_ok (name_at l) (λ n. interval_at n.1 >>= λ i. parts_at i.1 >>= λ p. Ok (record { name = n.0; lo = i.0.0; hi = i.0.1; params = p.0.0; vars = p.0.1; body = p.0.2 }, p.1)) x e in
+    let i = bind_ok (interval_at n.0.1) (λ i. parts_at i.1 >>= λ p. Ok (record { name = n.0.0; lo = i.0.0; hi = i.0.1; params = p.0.0; vars = p.0.1; body = p.0.2 }, p.1)) x n.2 in
+    let p = bind_ok (parts_at i.0.1) (λ p. Ok (record { name = n.0.0; lo = i.0.0.0; hi = i.0.0.1; params = p.0.0; vars = p.0.1; body = p.0.2 }, p.1)) x i.2 in
+    let name = named l n.0 n.1 in
+    let parts = parts_found i.0.1 p.0 p.1 in
+    let tx : Transaction = record { name = n.0.0; lo = i.0.0.0; hi = i.0.0.1; params = p.0.0.0; vars = p.0.0.1; body = p.0.0.2 } in
+    let done : Result (Transaction × Left) SyntaxFault = Ok (tx, p.0.1) in
+    let rest : List Token = params_tokens p.0.0.0 ++ (Sign sign.LeftBrace ∷ closed (flat_map var_tokens p.0.0.1 ++ parts.inside)) in
+    subst (TransactionFound l) (same_ok done (tx, p.0.1) x refl p.2)
+    (record {
+      more = name_token n.0.0 ∷ (interval_tokens i.0.0 ++ rest);
+      passed = passed_more (name_token n.0.0 ∷ []) (interval_tokens i.0.0 ++ rest) l n.0.1 p.0.1 name.0
+          (passed_more (interval_tokens i.0.0) rest n.0.1 i.0.1 p.0.1 (interval_found n.0.1 i.0 i.1) parts.passed);
+      spelled = (parts.inside, refl, parts.spelled);
       sized = record {
         name = name.1;
-        params = params.names;
-        vars = subst (λ (xs : List Variable). AllByRecursion VarNamed xs) vars.whole vars.names;
-        few_params = params.few;
-        few_vars = subst (λ (xs : List Variable). length xs ≤ 64) vars.whole vars.few;
-        few_statements = (let a = body.counted in let f = body.few in omega (arith, a, f));
-        shallow = body.kept.depth;
-        parts = body.kept.parts;
+        params = parts.params;
+        vars = parts.vars;
+        few_params = parts.few_params;
+        few_vars = parts.few_vars;
+        few_statements = parts.few_statements;
+        shallow = parts.shallow;
+        parts = parts.nested;
       };
     })
 

@@ -13,6 +13,7 @@ use Rattle.mls_syntax.specs.declared.words.Opening.{Opening}
 use Rattle.mls_syntax.specs.declared.words.Opening.TheVariants as openings
 use Rattle.mls_syntax.specs.declared.words.Plain.{Plain}
 use Rattle.mls_syntax.specs.declared.words.Plain.TheVariants as plains
+use Rattle.mls_syntax.specs.ExprTree.{Expr}
 use Rattle.mls_syntax.specs.Tree.{Block, End}
 use Rattle.mls_syntax.specs.Blocks.{block_of}
 use Rattle.mls_syntax.specs.Fault.{fault_at, lifted, in_syntax}
@@ -45,6 +46,13 @@ outcome_at l = do
   end ← sign_at Semicolon o.1
   Ok (o.0, end.1)
 
+-- where a tuple is written, and the outcome
+unfoldable pub written_at : Left → Read (PlacedName × Option PlacedName)
+written_at l = do
+  w ← name_behind (codes "at") l
+  o ← outcome_at w.1
+  Ok ((w.0, o.0), o.1)
+
 -- the relation and the key of a write
 unfoldable pub keyed_at : Left → Read (PlacedName × ExprList)
 keyed_at l = do
@@ -63,9 +71,8 @@ unfoldable pub insert_at : Left → Read Stmt
 insert_at l = do
   k ← keyed_at l
   values ← list_behind (codes "values") k.1
-  w ← name_behind (codes "at") values.1
-  o ← outcome_at w.1
-  Ok (stmts.Insert k.0.0 k.0.1 values.0 w.0 o.0, o.1)
+  w ← written_at values.1
+  Ok (stmts.Insert k.0.0 k.0.1 values.0 w.0.0 w.0.1, w.1)
 
 -- the tuple of an update, and where it is written
 unfoldable pub classes_at : Left → Read (PlacedName × PlacedName × PlacedName)
@@ -75,22 +82,33 @@ classes_at l = do
   w ← name_behind (codes "at") from.1
   Ok ((class.0, from.0, w.0), w.1)
 
+-- its new values, and the outcome
+unfoldable pub changes_at : Left → Read (List (PlacedName × Expr) × Option PlacedName)
+changes_at l = do
+  word ← word_at (codes "set") l
+  sets ← sets_at word.1
+  o ← outcome_at sets.1
+  Ok ((sets.0, o.0), o.1)
+
+-- behind its key
+unfoldable pub renewal_at : Left → Read ((PlacedName × PlacedName × PlacedName) × (List (PlacedName × Expr) × Option PlacedName))
+renewal_at l = do
+  c ← classes_at l
+  n ← changes_at c.1
+  Ok ((c.0, n.0), n.1)
+
 unfoldable pub update_at : Left → Read Stmt
 update_at l = do
   k ← keyed_at l
-  c ← classes_at k.1
-  word ← word_at (codes "set") c.1
-  sets ← sets_at word.1
-  o ← outcome_at sets.1
-  Ok (stmts.Update k.0.0 k.0.1 c.0.0 c.0.1 c.0.2 sets.0 o.0, o.1)
+  r ← renewal_at k.1
+  Ok (stmts.Update k.0.0 k.0.1 r.0.0.0 r.0.0.1 r.0.0.2 r.0.1.0 r.0.1.1, r.1)
 
 unfoldable pub delete_at : Left → Read Stmt
 delete_at l = do
   k ← keyed_at l
   class ← name_behind (codes "class") k.1
-  w ← name_behind (codes "at") class.1
-  o ← outcome_at w.1
-  Ok (stmts.Delete k.0.0 k.0.1 class.0 w.0 o.0, o.1)
+  w ← written_at class.1
+  Ok (stmts.Delete k.0.0 k.0.1 class.0 w.0.0 w.0.1, w.1)
 
 unfoldable pub release_at : Left → Read Stmt
 release_at l = do

@@ -9,6 +9,7 @@ use Rattle.mls_syntax.specs.declared.fault.SyntaxCause.TheVariants.{TooLong}
 use Rattle.mls_syntax.specs.declared.transaction.Parameter.{Parameter}
 use Rattle.mls_syntax.specs.declared.transaction.Variable.{Variable}
 use Rattle.mls_syntax.specs.declared.transaction.Transaction.{Transaction}
+use Rattle.mls_syntax.specs.Tree.{Block}
 use Rattle.mls_syntax.specs.Fault.{fault_at, in_syntax}
 use Rattle.mls_syntax.specs.Words.{kind_of, pass_known}
 use Rattle.mls_syntax.specs.ReadExpr.{Read, sign_at, after_item}
@@ -74,16 +75,22 @@ interval_at l = do
   hi ← name_behind (codes "to") lo.1
   Ok ((lo.0, hi.0), hi.1)
 
+-- its parameters, its variables and its statements
+unfoldable pub parts_at : Left → Read (List Parameter × List Variable × Block)
+parts_at l = do
+  params ← params_at l
+  brace ← sign_at LeftBrace params.1
+  vars ← vars_at brace.1
+  body ← body_at vars.1
+  Ok ((params.0, vars.0, body.0), body.2)
+
 -- behind its first word
 unfoldable pub transaction_at : Left → Read Transaction
 transaction_at l = do
   name ← name_at l
   interval ← interval_at name.1
-  params ← params_at interval.1
-  brace ← sign_at LeftBrace params.1
-  vars ← vars_at brace.1
-  body ← body_at vars.1
-  Ok (record { name = name.0; lo = interval.0.0; hi = interval.0.1; params = params.0; vars = vars.0; body = body.0 }, body.2)
+  parts ← parts_at interval.1
+  Ok (record { name = name.0; lo = interval.0.0; hi = interval.0.1; params = parts.0.0; vars = parts.0.1; body = parts.0.2 }, parts.1)
 
 -- up to the end, behind those before: there is room for some more
 unfoldable pub transactions_from : ℕ → List Transaction → Left → Result (List Transaction) SyntaxFault

@@ -1,9 +1,10 @@
 //! Statements with no statement inside, from the tokens that are left, each behind what it begins with.
 ghost use Rattle.std.specs.Prelude.{◌≡◌, option_map};
 ghost use Rattle.mls_syntax.specs.Fault.{Gives};
-ghost use Rattle.mls_syntax.specs.ReadBlock.{list_behind, outcome_at, keyed_at, assign_at, insert_at, classes_at, update_at, delete_at, release_at, emit_at, plain_at};
+ghost use Rattle.mls_syntax.specs.ReadBlock.{list_behind, outcome_at, written_at, keyed_at, assign_at, insert_at, classes_at, changes_at, renewal_at, update_at, delete_at, release_at, emit_at, plain_at};
 
 use crate::block::Stmt;
+use crate::expr::Expr;
 use crate::fault::SyntaxFault;
 use crate::list::ExprList;
 use crate::name::Name;
@@ -36,6 +37,16 @@ fn outcome(tokens: &mut Tokens) -> Result<Option<Name>, SyntaxFault>
     Ok(outcome)
 }
 
+/// Where a tuple is written, and the outcome.
+#[tactic(auto, unfolding(crate::specs::ReadBlock::written_at))]
+fn written(tokens: &mut Tokens) -> Result<(Name, Option<Name>), SyntaxFault>
+    ensures { Gives (λ x. ((x.0, x.1), tokens.new)) result (written_at tokens.old) }
+{
+    let at = name_behind(tokens, "at")?;
+    let outcome = outcome(tokens)?;
+    Ok((at, outcome))
+}
+
 /// The relation and the key of a write.
 #[tactic(auto, unfolding(crate::specs::ReadBlock::keyed_at))]
 fn keyed(alloc: Global, tokens: &mut Tokens) -> Result<(Name, ExprList), SyntaxFault>
@@ -62,8 +73,7 @@ fn insert(alloc: Global, tokens: &mut Tokens) -> Result<Stmt, SyntaxFault>
 {
     let (relation, key) = keyed(alloc, tokens)?;
     let values = list_behind(alloc, tokens, "values")?;
-    let at = name_behind(tokens, "at")?;
-    let outcome = outcome(tokens)?;
+    let (at, outcome) = written(tokens)?;
     Ok(Stmt::Insert {
         relation,
         key,
@@ -84,15 +94,39 @@ fn classes(tokens: &mut Tokens) -> Result<(Name, Name, Name), SyntaxFault>
     Ok((key_class, from, at))
 }
 
+/// The new values of an update, and the outcome.
+#[tactic(auto, unfolding(crate::specs::ReadBlock::changes_at))]
+fn changes(
+    alloc: Global,
+    tokens: &mut Tokens,
+) -> Result<(Items<(Name, Expr)>, Option<Name>), SyntaxFault>
+    ensures { Gives (λ x. ((x.0, x.1), tokens.new)) result (changes_at tokens.old) }
+{
+    tokens.word("set")?;
+    let sets = Items::from(sets(alloc, tokens)?);
+    let outcome = outcome(tokens)?;
+    Ok((sets, outcome))
+}
+
+/// An update behind its key: the classes, and the changes.
+#[tactic(auto, unfolding(crate::specs::ReadBlock::renewal_at))]
+fn renewal(
+    alloc: Global,
+    tokens: &mut Tokens,
+) -> Result<((Name, Name, Name), (Items<(Name, Expr)>, Option<Name>)), SyntaxFault>
+    ensures { Gives (λ x. (((x.0.0, x.0.1, x.0.2), (x.1.0, x.1.1)), tokens.new)) result (renewal_at tokens.old) }
+{
+    let classes = classes(tokens)?;
+    let changes = changes(alloc, tokens)?;
+    Ok((classes, changes))
+}
+
 #[tactic(auto, unfolding(crate::specs::ReadBlock::update_at))]
 fn update(alloc: Global, tokens: &mut Tokens) -> Result<Stmt, SyntaxFault>
     ensures { Gives (λ x. (x, tokens.new)) result (update_at tokens.old) }
 {
     let (relation, key) = keyed(alloc, tokens)?;
-    let (key_class, from, at) = classes(tokens)?;
-    tokens.word("set")?;
-    let sets = Items::from(sets(alloc, tokens)?);
-    let outcome = outcome(tokens)?;
+    let ((key_class, from, at), (sets, outcome)) = renewal(alloc, tokens)?;
     Ok(Stmt::Update {
         relation,
         key,
@@ -110,8 +144,7 @@ fn delete(alloc: Global, tokens: &mut Tokens) -> Result<Stmt, SyntaxFault>
 {
     let (relation, key) = keyed(alloc, tokens)?;
     let key_class = name_behind(tokens, "class")?;
-    let at = name_behind(tokens, "at")?;
-    let outcome = outcome(tokens)?;
+    let (at, outcome) = written(tokens)?;
     Ok(Stmt::Delete {
         relation,
         key,

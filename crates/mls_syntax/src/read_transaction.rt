@@ -2,9 +2,10 @@
 ghost use Rattle.std.specs.Prelude.{◌≡◌, ◌≤◌, length, IfOk};
 ghost use Rattle.mls_syntax.specs.Fault.{Gives, fault_at};
 ghost use Rattle.mls_syntax.specs.Next.{next_param_at, next_var_at, next_transaction_at};
-ghost use Rattle.mls_syntax.specs.Reading.{param_at, params_from, params_at, var_at, vars_at, interval_at, transaction_at, transactions_from};
+ghost use Rattle.mls_syntax.specs.Reading.{param_at, params_from, params_at, var_at, vars_at, interval_at, parts_at, transaction_at, transactions_from};
 ghost use Rattle.std.specs.Prelude.{[]};
 
+use crate::block::Block;
 use crate::fault::{SyntaxCause, SyntaxFault};
 use crate::limits::{MAX_NAMES, MAX_TRANSACTIONS};
 use crate::name::Name;
@@ -129,6 +130,21 @@ fn interval(tokens: &mut Tokens) -> Result<(Name, Name), SyntaxFault>
     Ok((lo, hi))
 }
 
+/// A transaction behind its labels: its parameters, its variables and its statements.
+#[tactic(auto, unfolding(crate::specs::Reading::parts_at))]
+fn parts(
+    alloc: Global,
+    tokens: &mut Tokens,
+) -> Result<(Items<Parameter>, Items<Variable>, Block), SyntaxFault>
+    ensures { Gives (λ x. ((x.0, x.1, x.2), tokens.new)) result (parts_at tokens.old) }
+{
+    let params = Items::from(params(alloc, tokens)?);
+    tokens.sign(Sign::LeftBrace)?;
+    let vars = Items::from(vars(alloc, tokens)?);
+    let (body, _) = body(alloc, tokens)?;
+    Ok((params, vars, body))
+}
+
 /// A transaction behind its first word.
 #[tactic(auto, unfolding(crate::specs::Reading::transaction_at))]
 fn transaction(alloc: Global, tokens: &mut Tokens) -> Result<Transaction, SyntaxFault>
@@ -136,10 +152,7 @@ fn transaction(alloc: Global, tokens: &mut Tokens) -> Result<Transaction, Syntax
 {
     let name = pass_name(tokens)?;
     let (lo, hi) = interval(tokens)?;
-    let params = Items::from(params(alloc, tokens)?);
-    tokens.sign(Sign::LeftBrace)?;
-    let vars = Items::from(vars(alloc, tokens)?);
-    let (body, _) = body(alloc, tokens)?;
+    let (params, vars, body) = parts(alloc, tokens)?;
     Ok(Transaction {
         name,
         lo,

@@ -33,7 +33,7 @@ use Rattle.mls_syntax.specs.Places.{bare_name, bare, bare_set, bare_stmt, bare_b
 use Rattle.mls_syntax.specs.Fault.{fault_at}
 use Rattle.mls_syntax.specs.Words.{opening_of}
 use Rattle.mls_syntax.specs.ReadExpr.{sign_at, whole_at, list_at, sets_at}
-use Rattle.mls_syntax.specs.ReadBlock.{word_at, name_behind, list_behind, outcome_of, outcome_at, written_at, keyed_at, assign_at, insert_at, classes_at, changes_at, renewal_at, update_at, delete_at, release_at, emit_at, plain_at, Counted, with_count, braced, other_of, other_at, content_at, opened, stmt_with, deep_stmt, end_or, stmts_from, stmts_with, stmts_at, body_at}
+use Rattle.mls_syntax.specs.ReadBlock.{word_at, name_behind, list_behind, outcome_of, outcome_at, written_at, keyed_at, assign_at, insert_at, classes_at, changes_at, renewal_at, update_at, delete_at, release_at, emit_at, plain_at, Counted, loop_head_at, with_count, braced, other_of, other_at, blocks_at, content_at, opened, stmt_with, deep_stmt, end_or, stmts_from, stmts_with, stmts_at, body_at}
 use Rattle.mls_syntax.specs.Spelling.{name_token, behind_tokens, expr_tokens, list_tokens, set_tokens, outcome_tokens, keyed_tokens, write_tokens, stmt_tokens, for_tokens, SpellsOther, SpellsBlock}
 use Rattle.mls_syntax.proofs.AgainLemmas.{sign_gets, word_gets, Called, name_gets, behind_gets, known_gets, differs, IsWhole, whole_again, SameList, list_again, NoDot, IsSet, sets_again}
 
@@ -100,6 +100,17 @@ classes_again c f w us l hc hf hw k =
     (λ x m s t. gets_more (λ y. name_behind (codes "at") y.1 >>= λ z. done (x, y.0, z.0) z.1) (behind_gets (codes "from") f (Word (codes "at") ∷ name_token w ∷ us) m hf t)
     (λ y m2 s2 t2. gets_more (λ z. done (x, y, z.0) z.1) (behind_gets (codes "at") w us m2 hw t2)
     (λ z m3 s3 t3. gets_done (x, y, z) m3 (SameClasses c f w) us (s, s2, s3) t3)))
+
+loop_head_again : (row rel label : PlacedName) (us : List Token) (l : Left) → IsNamed row → IsNamed rel → IsNamed label
+    → tokens_in l.placed ≡ name_token row ∷ Word (codes "in") ∷ name_token rel ∷ Word (codes "at") ∷ name_token label ∷ us
+    → Gets (loop_head_at l) l (SameClasses row rel label) us
+unfolding loop_head_at
+loop_head_again row rel label us l hr hn hl k =
+    gets_more (λ x. name_behind (codes "in") x.1 >>= λ y. name_behind (codes "at") y.1 >>= λ z. done (x.0, y.0, z.0) z.1)
+    (name_gets row (Word (codes "in") ∷ name_token rel ∷ Word (codes "at") ∷ name_token label ∷ us) l hr k)
+    (λ x m s t. gets_more (λ y. name_behind (codes "at") y.1 >>= λ z. done (x, y.0, z.0) z.1) (behind_gets (codes "in") rel (Word (codes "at") ∷ name_token label ∷ us) m hn t)
+    (λ y m2 s2 t2. gets_more (λ z. done (x, y, z.0) z.1) (behind_gets (codes "at") label us m2 hl t2)
+    (λ z m3 s3 t3. gets_done (x, y, z) m3 (SameClasses row rel label) us (s, s2, s3) t3)))
 
 -- ---- statements with no statement inside
 
@@ -319,6 +330,9 @@ module _ (inner : ℕ → Left → Counted Block) where
 abbrev pub Closed : List Token → List Token
 Closed us = Sign sign.RightBrace ∷ us
 
+abbrev Ended : Type 0 → Type 0
+Ended X = X × ℕ × Left
+
 abbrev SameBlock : Block → Block → Type 0
 SameBlock b y = bare_block y ≡ bare_block b
 
@@ -362,6 +376,7 @@ module _ (d : ℕ) where
       → ((inner : List Token) → SpellsBlock other inner → BlockReads d other inner) → count + 1 + statements one + statements other ≤ 1000 → NotNext (is_word (codes "else")) us
       → tokens_in l.placed ≡ Word (codes "if") ∷ (expr_tokens guard ++ (braced_tokens a ++ (b ++ us)))
       → GetsCounted (stmt_with reads count l) l (IsForm (λ r. If (bare guard) (bare_block one) (bare_block other) r)) (count + 1 + statements one + statements other) us
+  unfolding blocks_at
   if_gets guard one other a b count us l h read_one spelled read_other few off k =
       opening_gets reads openings.If (Word (codes "if")) (expr_tokens guard ++ (braced_tokens a ++ (b ++ us))) count l (IsForm (λ r. If (bare guard) (bare_block one) (bare_block other) r))
       (count + 1 + statements one + statements other) us refl (omega (arith, few)) k
@@ -369,12 +384,14 @@ module _ (d : ℕ) where
       let g = whole_again guard (braced_tokens a ++ (b ++ us)) m h refl j in
       let x = braced_gets one a (count + 1) (b ++ us) g.rest read_one (omega (arith, few)) g.tokens in
       let y = other_gets other b (count + 1 + statements one) us x.rest spelled read_other few off x.tokens in
+      let pair : Block → Ended Block → Counted (Block × Block) = λ a b. Ok ((a, b.0), b.1, b.2) in
+      let whole : Expr → Ended (Block × Block) → Counted Form = λ e c. Ok (stmts.If e c.0.0 c.0.1, c.1, c.2) in
       record {
         value = stmts.If g.value x.value y.value;
         rest = y.rest;
-        is = ap (λ r. r >>= λ g. braced reads (count + 1) g.1 >>= λ a. other_at reads a.1 a.2 >>= λ b. Ok (stmts.If g.0 a.0 b.0, b.1, b.2)) g.is
-            ∙ ap (λ r. r >>= λ a. other_at reads a.1 a.2 >>= λ b. Ok (stmts.If g.value a.0 b.0, b.1, b.2)) x.is
-            ∙ ap (λ r. r >>= λ b. Ok (stmts.If g.value x.value b.0, b.1, b.2)) y.is;
+        is = ap (λ r. r >>= λ g. blocks_at reads (count + 1) g.1 >>= whole g.0) g.is
+            ∙ ap (λ (r : Counted Block). (r >>= λ a. other_at reads a.1 a.2 >>= pair a.0) >>= whole g.value) x.is
+            ∙ ap (λ (r : Counted Block). (r >>= pair x.value) >>= whole g.value) y.is;
         holds = λ rest i. If (g.holds i) (x.holds i) (y.holds i) (bare_block (block_of rest));
         tokens = y.tokens;
         stop = y.stop ∙ x.stop ∙ g.stop;
@@ -387,20 +404,16 @@ module _ (d : ℕ) where
       opening_gets reads openings.For (Word (codes "for")) (name_token row ∷ Word (codes "in") ∷ name_token rel ∷ Word (codes "at") ∷ name_token label ∷ (braced_tokens a ++ us)) count l
       (IsForm (λ r. For (bare_name row) (bare_name rel) (bare_name label) (bare_block body) r)) (count + 1 + statements body) us refl (omega (arith, few)) k
       (λ at m j.
-      let x = name_gets row (Word (codes "in") ∷ name_token rel ∷ Word (codes "at") ∷ name_token label ∷ (braced_tokens a ++ us)) m hr j in
-      let y = behind_gets (codes "in") rel (Word (codes "at") ∷ name_token label ∷ (braced_tokens a ++ us)) x.rest hn x.tokens in
-      let z = behind_gets (codes "at") label (braced_tokens a ++ us) y.rest hl y.tokens in
-      let b = braced_gets body a (count + 1) us z.rest read few z.tokens in
+      let h = loop_head_again row rel label (braced_tokens a ++ us) m hr hn hl j in
+      let b = braced_gets body a (count + 1) us h.rest read few h.tokens in
       record {
-        value = stmts.For x.value y.value z.value b.value;
+        value = stmts.For h.value.0 h.value.1 h.value.2 b.value;
         rest = b.rest;
-        is = ap (λ r. r >>= λ x. name_behind (codes "in") x.1 >>= λ y. name_behind (codes "at") y.1 >>= λ z. braced reads (count + 1) z.1 >>= λ b. Ok (stmts.For x.0 y.0 z.0 b.0, b.1, b.2)) x.is
-            ∙ ap (λ r. r >>= λ y. name_behind (codes "at") y.1 >>= λ z. braced reads (count + 1) z.1 >>= λ b. Ok (stmts.For x.value y.0 z.0 b.0, b.1, b.2)) y.is
-            ∙ ap (λ r. r >>= λ z. braced reads (count + 1) z.1 >>= λ b. Ok (stmts.For x.value y.value z.0 b.0, b.1, b.2)) z.is
-            ∙ ap (λ r. r >>= λ b. Ok (stmts.For x.value y.value z.value b.0, b.1, b.2)) b.is;
-        holds = λ rest i. For (x.holds i) (y.holds i) (z.holds i) (b.holds i) (bare_block (block_of rest));
+        is = ap (λ r. r >>= λ h. braced reads (count + 1) h.1 >>= λ b. Ok (stmts.For h.0.0 h.0.1 h.0.2 b.0, b.1, b.2)) h.is
+            ∙ ap (λ r. r >>= λ b. Ok (stmts.For h.value.0 h.value.1 h.value.2 b.0, b.1, b.2)) b.is;
+        holds = λ rest i. For (h.holds.0 i) (h.holds.1 i) (h.holds.2 i) (b.holds i) (bare_block (block_of rest));
         tokens = b.tokens;
-        stop = b.stop ∙ z.stop ∙ y.stop ∙ x.stop;
+        stop = b.stop ∙ h.stop;
       })
 
 -- ---- what a statement begins with

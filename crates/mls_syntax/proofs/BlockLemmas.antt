@@ -32,7 +32,7 @@ use Rattle.mls_syntax.specs.Limits.{depth, BlockAll}
 use Rattle.mls_syntax.specs.Fault.{fault_at, in_syntax}
 use Rattle.mls_syntax.specs.Words.{plain_of_word, opening_of_word, opening_of, pass_known}
 use Rattle.mls_syntax.specs.ReadExpr.{sign_at, whole_at}
-use Rattle.mls_syntax.specs.ReadBlock.{name_at, name_behind, plain_at, Counted, with_count, braced, other_of, other_at, if_at, for_at, content_at, opened, stmt_with, deep_stmt, end_or, stmts_from, stmts_with, stmts_at, body_at}
+use Rattle.mls_syntax.specs.ReadBlock.{name_at, name_behind, plain_at, Counted, with_count, braced, other_of, other_at, loop_head_at, blocks_at, if_at, for_at, content_at, opened, stmt_with, deep_stmt, end_or, stmts_from, stmts_with, stmts_at, body_at}
 use Rattle.mls_syntax.specs.Spelling.{name_token, behind_tokens, expr_tokens, stmt_tokens, for_tokens, SpellsOther, SpellsBlock}
 use Rattle.mls_syntax.proofs.PassedLemmas.{syntax_ok, sign_found, known_found}
 use Rattle.mls_tokens.proofs.TokenLemmas.{chosen}
@@ -239,6 +239,23 @@ pub record StmtFound (d count : ℕ) (l : Left) (x : Ended Form) : Type 0 where
   pub few : x.1 ≤ 1000
   pub kept : Kept d (block_of (x.0 ∷ [])) tokens
 
+abbrev head_tokens : PlacedName × PlacedName × PlacedName → List Token
+head_tokens h = name_token h.0 ∷ (behind_tokens (codes "in") h.1 ++ behind_tokens (codes "at") h.2)
+
+loop_head_found : (l : Left) (x : (PlacedName × PlacedName × PlacedName) × Left) → loop_head_at l ≡ Ok x → Passed (head_tokens x.0) l x.1 × (is_name x.0.0.0 ≡ true)
+unfolding loop_head_at
+loop_head_found l x e =
+    let r = bind_ok (name_at l) (λ r. name_behind (codes "in") r.1 >>= λ n. name_behind (codes "at") n.1 >>= λ w. Ok ((r.0, n.0, w.0), w.1)) x e in
+    let n = bind_ok (name_behind (codes "in") r.0.1) (λ n. name_behind (codes "at") n.1 >>= λ w. Ok ((r.0.0, n.0, w.0), w.1)) x r.2 in
+    let w = bind_ok (name_behind (codes "at") n.0.1) (λ w. Ok ((r.0.0, n.0.0, w.0), w.1)) x n.2 in
+    let row = named l r.0 r.1 in
+    let done : Result ((PlacedName × PlacedName × PlacedName) × Left) SyntaxFault = Ok ((r.0.0, n.0.0, w.0.0), w.0.1) in
+    subst (λ (y : (PlacedName × PlacedName × PlacedName) × Left). Passed (head_tokens y.0) l y.1 × (is_name y.0.0.0 ≡ true)) (same_ok done ((r.0.0, n.0.0, w.0.0), w.0.1) x refl w.2) (
+      passed_more (name_token r.0.0 ∷ []) (behind_tokens (codes "in") n.0.0 ++ behind_tokens (codes "at") w.0.0) l r.0.1 w.0.1 row.0
+          (passed_more (behind_tokens (codes "in") n.0.0) (behind_tokens (codes "at") w.0.0) r.0.1 n.0.1 w.0.1 (behind (codes "in") r.0.1 n.0 n.1) (behind (codes "at") n.0.1 w.0 w.1)),
+      row.1,
+    )
+
 module _ (d : ℕ) (inner : ℕ → Left → Counted Block) (sound : (count : ℕ) (l : Left) (y : Ended Block) → count ≤ 1000 → inner count l ≡ Ok y → BlockFound closed d count l y) where
   braced_found : (count : ℕ) (l : Left) (y : Ended Block) → count ≤ 1000 → braced inner count l ≡ Ok y → BlockFound braced_tokens d count l y
   braced_found count l y few e =
@@ -270,16 +287,21 @@ module _ (d : ℕ) (inner : ℕ → Left → Counted Block) (sound : (count : �
       }
 
   if_found : (count : ℕ) (l : Left) (x : Ended Form) → count ≤ 1000 → if_at inner count l ≡ Ok x → ContentFound d (Word (codes "if")) count l x
+  unfolding blocks_at
   if_found count l x few e =
-      let g = bind_ok (whole_at l) (λ g. braced inner count g.1 >>= λ a. other_at inner a.1 a.2 >>= λ b. Ok (stmts.If g.0 a.0 b.0, b.1, b.2)) x e in
-      let a = bind_ok (braced inner count g.0.1) (λ a. other_at inner a.1 a.2 >>= λ b. Ok (stmts.If g.0.0 a.0 b.0, b.1, b.2)) x g.2 in
-      let b = bind_ok (other_at inner a.0.1 a.0.2) (λ b. Ok (stmts.If g.0.0 a.0.0 b.0, b.1, b.2)) x a.2 in
+      let g = bind_ok (whole_at l) (λ g. blocks_at inner count g.1 >>= λ y. Ok (stmts.If g.0 y.0.0 y.0.1, y.1, y.2)) x e in
+      let y = bind_ok (blocks_at inner count g.0.1) (λ y. Ok (stmts.If g.0.0 y.0.0 y.0.1, y.1, y.2)) x g.2 in
+      let a = bind_ok (braced inner count g.0.1) (λ a. other_at inner a.1 a.2 >>= λ b. Ok ((a.0, b.0), b.1, b.2)) y.0 y.1 in
+      let b = bind_ok (other_at inner a.0.1 a.0.2) (λ b. Ok ((a.0.0, b.0), b.1, b.2)) y.0 a.2 in
       let guard = whole_found l g.0 g.1 in
       let one = braced_found count g.0.1 a.0 few a.1 in
       let other = other_found a.0.1 a.0.2 (taken (is_word (codes "else")) a.0.2) b.0 one.few refl b.1 in
+      let whole : Ended (Block × Block) → Result (Ended Form) SyntaxFault = λ y. Ok (stmts.If g.0.0 y.0.0 y.0.1, y.1, y.2) in
+      let pair : Result (Ended (Block × Block)) SyntaxFault = Ok ((a.0.0, b.0.0), b.0.1, b.0.2) in
       let done : Result (Ended Form) SyntaxFault = Ok (stmts.If g.0.0 a.0.0 b.0.0, b.0.1, b.0.2) in
+      let is : done ≡ Ok x = ap whole (same_ok pair ((a.0.0, b.0.0), b.0.1, b.0.2) y.0 refl b.2) ∙ y.2 in
       let inside : List Token = braced_tokens one.tokens ++ (other.tokens ++ []) in
-      subst (ContentFound d (Word (codes "if")) count l) (same_ok done (stmts.If g.0.0 a.0.0 b.0.0, b.0.1, b.0.2) x refl b.2)
+      subst (ContentFound d (Word (codes "if")) count l) (same_ok done (stmts.If g.0.0 a.0.0 b.0.0, b.0.1, b.0.2) x refl is)
       (record {
         more = expr_tokens g.0.0 ++ inside;
         passed = passed_more (expr_tokens g.0.0) inside l g.0.1 b.0.2 guard.passed
@@ -295,28 +317,22 @@ module _ (d : ℕ) (inner : ℕ → Left → Counted Block) (sound : (count : �
 
   for_found : (count : ℕ) (l : Left) (x : Ended Form) → count ≤ 1000 → for_at inner count l ≡ Ok x → ContentFound d (Word (codes "for")) count l x
   for_found count l x few e =
-      let r = bind_ok (name_at l) (λ r. name_behind (codes "in") r.1 >>= λ n. name_behind (codes "at") n.1 >>= λ w. braced inner count w.1 >>= λ b. Ok (stmts.For r.0 n.0 w.0 b.0, b.1, b.2)) x e in
-      let n = bind_ok (name_behind (codes "in") r.0.1) (λ n. name_behind (codes "at") n.1 >>= λ w. braced inner count w.1 >>= λ b. Ok (stmts.For r.0.0 n.0 w.0 b.0, b.1, b.2)) x r.2 in
-      let w = bind_ok (name_behind (codes "at") n.0.1) (λ w. braced inner count w.1 >>= λ b. Ok (stmts.For r.0.0 n.0.0 w.0 b.0, b.1, b.2)) x n.2 in
-      let b = bind_ok (braced inner count w.0.1) (λ b. Ok (stmts.For r.0.0 n.0.0 w.0.0 b.0, b.1, b.2)) x w.2 in
-      let row = named l r.0 r.1 in
-      let body = braced_found count w.0.1 b.0 few b.1 in
-      let done : Result (Ended Form) SyntaxFault = Ok (stmts.For r.0.0 n.0.0 w.0.0 b.0.0, b.0.1, b.0.2) in
+      let h = bind_ok (loop_head_at l) (λ h. braced inner count h.1 >>= λ b. Ok (stmts.For h.0.0 h.0.1 h.0.2 b.0, b.1, b.2)) x e in
+      let b = bind_ok (braced inner count h.0.1) (λ b. Ok (stmts.For h.0.0.0 h.0.0.1 h.0.0.2 b.0, b.1, b.2)) x h.2 in
+      let head = loop_head_found l h.0 h.1 in
+      let body = braced_found count h.0.1 b.0 few b.1 in
+      let done : Result (Ended Form) SyntaxFault = Ok (stmts.For h.0.0.0 h.0.0.1 h.0.0.2 b.0.0, b.0.1, b.0.2) in
       let inside : List Token = braced_tokens body.tokens ++ [] in
-      let labelled : List Token = behind_tokens (codes "at") w.0.0 ++ inside in
-      subst (ContentFound d (Word (codes "for")) count l) (same_ok done (stmts.For r.0.0 n.0.0 w.0.0 b.0.0, b.0.1, b.0.2) x refl b.2)
+      subst (ContentFound d (Word (codes "for")) count l) (same_ok done (stmts.For h.0.0.0 h.0.0.1 h.0.0.2 b.0.0, b.0.1, b.0.2) x refl b.2)
       (record {
-        more = name_token r.0.0 ∷ (behind_tokens (codes "in") n.0.0 ++ labelled);
-        passed = passed_more (name_token r.0.0 ∷ []) (behind_tokens (codes "in") n.0.0 ++ labelled) l r.0.1 b.0.2 row.0
-            (passed_more (behind_tokens (codes "in") n.0.0) labelled r.0.1 n.0.1 b.0.2 (behind (codes "in") r.0.1 n.0 n.1)
-            (passed_more (behind_tokens (codes "at") w.0.0) inside n.0.1 w.0.1 b.0.2 (behind (codes "at") n.0.1 w.0 w.1)
-            (subst (λ ts. Passed ts w.0.1 b.0.2) (sym (append-nil (braced_tokens body.tokens))) body.passed)));
+        more = head_tokens h.0.0 ++ inside;
+        passed = passed_more (head_tokens h.0.0) inside l h.0.1 b.0.2 head.0 (subst (λ ts. Passed ts h.0.1 b.0.2) (sym (append-nil (braced_tokens body.tokens))) body.passed);
         counted = (let m = body.counted in omega (arith, m));
         few = body.few;
         kept = record {
           spelled = (body.tokens, [], refl, body.kept.spelled, refl);
           depth = (let m = body.kept.depth in omega (arith, m));
-          parts = (row.1, body.kept.parts, tt);
+          parts = (head.1, body.kept.parts, tt);
         };
       })
 

@@ -136,6 +136,14 @@ plain_at plains.Emit at l = emit_at l
 
 -- ---- statements with blocks inside
 
+-- the row of a loop, its relation and its label
+unfoldable pub loop_head_at : Left → Read (PlacedName × PlacedName × PlacedName)
+loop_head_at l = do
+  row ← name_at l
+  rel ← name_behind (codes "in") row.1
+  label ← name_behind (codes "at") rel.1
+  Ok ((row.0, rel.0, label.0), label.1)
+
 -- what is read, how many statements the transaction has up to there, and what is left behind it; or the first fault
 abbrev pub Counted : Type 0 → Type 0
 Counted X = Result (X × ℕ × Left) SyntaxFault
@@ -155,20 +163,23 @@ module _ (inner : ℕ → Left → Counted Block) where
   abbrev pub other_at : ℕ → Left → Counted Block
   other_at count l = other_of count l (taken (is_word (codes "else")) l)
 
+  unfoldable pub blocks_at : ℕ → Left → Counted (Block × Block)
+  blocks_at count l = do
+    one ← braced count l
+    other ← other_at one.1 one.2
+    Ok ((one.0, other.0), other.1, other.2)
+
   abbrev pub if_at : ℕ → Left → Counted Stmt
   if_at count l = do
     guard ← whole_at l
-    one ← braced count guard.1
-    other ← other_at one.1 one.2
-    Ok (stmts.If guard.0 one.0 other.0, other.1, other.2)
+    blocks ← blocks_at count guard.1
+    Ok (stmts.If guard.0 blocks.0.0 blocks.0.1, blocks.1, blocks.2)
 
   abbrev pub for_at : ℕ → Left → Counted Stmt
   for_at count l = do
-    row ← name_at l
-    rel ← name_behind (codes "in") row.1
-    label ← name_behind (codes "at") rel.1
-    body ← braced count label.1
-    Ok (stmts.For row.0 rel.0 label.0 body.0, body.1, body.2)
+    head ← loop_head_at l
+    body ← braced count head.1
+    Ok (stmts.For head.0.0 head.0.1 head.0.2 body.0, body.1, body.2)
 
   abbrev pub content_at : Opening → ℕ → ℕ → Left → Counted Stmt
   content_at openings.If at count l = if_at count l

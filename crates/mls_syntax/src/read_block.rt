@@ -1,11 +1,12 @@
 //! Blocks, from the tokens that are left. The statements of a transaction are counted, inner ones too.
 ghost use Rattle.std.specs.Prelude.{◌≡◌, ◌≤◌, ◌<◌, IfOk};
 ghost use Rattle.mls_syntax.specs.Fault.{Gives};
-ghost use Rattle.mls_syntax.specs.ReadBlock.{stmts_at, braced, other_at, if_at, for_at, content_at, stmt_at, body_at};
+ghost use Rattle.mls_syntax.specs.ReadBlock.{loop_head_at, stmts_at, braced, other_at, blocks_at, if_at, for_at, content_at, stmt_at, body_at};
 
 use crate::block::{Block, Stmt};
 use crate::fault::{SyntaxCause, SyntaxFault};
 use crate::limits::{MAX_DEPTH, MAX_STATEMENTS};
+use crate::name::Name;
 use crate::read_expr::whole;
 use crate::read_stmt::plain;
 use crate::words::{Opening, name_behind, pass_name, pass_opening};
@@ -47,6 +48,24 @@ fn other(
     braced(alloc, tokens, depth, count)
 }
 
+/// The blocks of an `if`.
+#[cycle(block)]
+#[tactic(auto, unfolding(crate::specs::ReadBlock::blocks_at))]
+fn blocks(
+    alloc: Global,
+    tokens: &mut Tokens,
+    depth: usize,
+    count: usize,
+) -> Result<((Block, Block), usize), SyntaxFault>
+    requires { count ≤ 1000 }
+    ensures exact { Gives (λ x. ((x.0.0, x.0.1), x.1, tokens.new)) result (blocks_at (stmts_at depth) count tokens.old) }
+    ensures counted { IfOk result (λ x. (count ≤ x.1) × (x.1 ≤ 1000)) }
+{
+    let (one, count) = braced(alloc, tokens, depth, count)?;
+    let (other, count) = other(alloc, tokens, depth, count)?;
+    Ok(((one, other), count))
+}
+
 /// An `if` behind its word.
 #[cycle(block)]
 fn if_stmt(
@@ -60,9 +79,19 @@ fn if_stmt(
     ensures counted { IfOk result (λ x. (count ≤ x.1) × (x.1 ≤ 1000)) }
 {
     let guard = whole(alloc, tokens)?;
-    let (one, count) = braced(alloc, tokens, depth, count)?;
-    let (other, count) = other(alloc, tokens, depth, count)?;
+    let ((one, other), count) = blocks(alloc, tokens, depth, count)?;
     Ok((Stmt::If { guard, one, other }, count))
+}
+
+/// The row of a loop, its relation and its label.
+#[tactic(auto, unfolding(crate::specs::ReadBlock::loop_head_at))]
+fn loop_head(tokens: &mut Tokens) -> Result<(Name, Name, Name), SyntaxFault>
+    ensures { Gives (λ x. ((x.0, x.1, x.2), tokens.new)) result (loop_head_at tokens.old) }
+{
+    let row = pass_name(tokens)?;
+    let relation = name_behind(tokens, "in")?;
+    let label = name_behind(tokens, "at")?;
+    Ok((row, relation, label))
 }
 
 /// A loop behind its word.
@@ -77,9 +106,7 @@ fn for_stmt(
     ensures exact { Gives (λ x. (x.0, x.1, tokens.new)) result (for_at (stmts_at depth) count tokens.old) }
     ensures counted { IfOk result (λ x. (count ≤ x.1) × (x.1 ≤ 1000)) }
 {
-    let row = pass_name(tokens)?;
-    let relation = name_behind(tokens, "in")?;
-    let label = name_behind(tokens, "at")?;
+    let (row, relation, label) = loop_head(tokens)?;
     let (body, count) = braced(alloc, tokens, depth, count)?;
     Ok((
         Stmt::For {

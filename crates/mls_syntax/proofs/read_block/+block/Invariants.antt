@@ -22,11 +22,14 @@ decreases-braced l = 8 * l.depth + 3
 abbrev pub decreases-other : goal.decreases-other
 decreases-other l = 8 * l.depth + 4
 
+abbrev pub decreases-blocks : goal.decreases-blocks
+decreases-blocks l = 8 * l.depth + 5
+
 abbrev pub decreases-if_stmt : goal.decreases-if_stmt
-decreases-if_stmt l = 8 * l.depth + 5
+decreases-if_stmt l = 8 * l.depth + 6
 
 abbrev pub decreases-for_stmt : goal.decreases-for_stmt
 decreases-for_stmt l = 8 * l.depth + 5
 
 abbrev pub decreases-content : goal.decreases-content
-decreases-content l = 8 * l.depth + 6
+decreases-content l = 8 * l.depth + 7

@@ -32,7 +32,7 @@ use Rattle.mls_syntax.specs.Limits.{nesting}
 use Rattle.mls_syntax.specs.Places.{bare_name, bare, bare_list, bare_set, IsNamed, ExprIsNamed}
 use Rattle.mls_syntax.specs.Fault.{in_syntax}
 use Rattle.mls_syntax.specs.Words.{head_of, operator_of, known, pass_known_of, pass_known, pass_head_of, pass_head}
-use Rattle.mls_syntax.specs.ReadExpr.{Read, sign_at, dotted, named_at, behind_head, term_at, negation, operation, expr_at, whole_at, too_deep, after_item, items_from, items_at, list_behind, list_at, set_at, sets_at}
+use Rattle.mls_syntax.specs.ReadExpr.{Read, sign_at, dotted, named_at, behind_head, term_at, negation, second, operation, expr_at, whole_at, too_deep, after_item, items_from, items_at, list_behind, list_at, set_at, sets_at}
 use Rattle.mls_syntax.specs.ReadBlock.{word_at, name_at, name_behind}
 use Rattle.mls_syntax.specs.Spelling.{name_token, expr_tokens, list_tokens, set_tokens}
 use Rattle.mls_syntax.proofs.ExprLemmas.{IsNested}
@@ -188,6 +188,9 @@ field_gets n a at us m named j =
       stop = h.stop ∙ dot.stop;
     }
 
+abbrev SameSecond : Operator → Expr → (Operator × ℕ) × Expr → Type 0
+SameSecond op right y = Is op y.0 × Same right y.1
+
 pub expr_again : (d : ℕ) (e : Expr) (us : List Token) (l : Left) → nesting e ≤ d → ExprIsNamed e → NotNext (is_sign sign.Dot) us → tokens_in l.placed ≡ expr_tokens e ++ us
     → Gets (expr_at d l) l (Same e) us
 unfolding expr_at
@@ -217,14 +220,16 @@ expr_again (suc d) (Op at left op op_at right) us l n h off k =
     = append_assoc a (operator_token op ∷ (b ++ close)) us ∙ ap (λ z. a ++ (operator_token op ∷ z)) (append_assoc b close us) in
     term_gets (λ at r. negation (λ s. expr_at d s) at r) (λ at r. operation (λ s. expr_at d s) at r) heads.Paren (Sign sign.LeftParen) ((a ++ (operator_token op ∷ (b ++ close))) ++ us) l (Same (Op at left op op_at right)) us refl k
     (λ x m j.
-    gets_more (λ y. in_syntax (pass_known operator_of y.1) >>= λ o. expr_at d o.1 >>= λ z. sign_at sign.RightParen z.1 >>= λ p. done (Op x y.0 o.0.0 o.0.1 z.0) p.1)
+    gets_more (λ y. second (λ s. expr_at d s) y.1 >>= λ r. done (Op x y.0 r.0.0.0 r.0.0.1 r.0.1) r.1)
     (expr_again d left (operator_token op ∷ (b ++ (Sign sign.RightParen ∷ us))) m (omega (arith, n)) h.0 (no_dot op (b ++ (Sign sign.RightParen ∷ us))) (j ∙ whole))
-    (λ y m2 s t. gets_more (λ o. expr_at d o.1 >>= λ z. sign_at sign.RightParen z.1 >>= λ p. done (Op x y o.0.0 o.0.1 z.0) p.1)
+    (λ y m2 s t. gets_more (λ r. done (Op x y r.0.0.0 r.0.0.1 r.0.1) r.1)
+    (gets_more (λ o. expr_at d o.1 >>= λ z. sign_at sign.RightParen z.1 >>= λ p. done (o.0, z.0) p.1)
     (known_gets operator_of op (operator_token op) (b ++ (Sign sign.RightParen ∷ us)) (operator_again op) m2 t)
-    (λ o m3 s2 t2. gets_more (λ z. sign_at sign.RightParen z.1 >>= λ p. done (Op x y o.0 o.1 z.0) p.1)
+    (λ o m3 s2 t2. gets_more (λ z. sign_at sign.RightParen z.1 >>= λ p. done (o, z.0) p.1)
     (expr_again d right (Sign sign.RightParen ∷ us) m3 (omega (arith, n)) h.1 refl t2)
-    (λ z m4 s3 t3. gets_more (λ p. done (Op x y o.0 o.1 z) p.1) (sign_gets sign.RightParen us m4 t3)
-    (λ p m5 s4 t4. gets_done (Op x y o.0 o.1 z) m5 (Same (Op at left op op_at right)) us (λ i. Op 0 (s i) (s2 i) 0 (s3 i)) t4)))))
+    (λ z m4 s3 t3. gets_more (λ p. done (o, z) p.1) (sign_gets sign.RightParen us m4 t3)
+    (λ p m5 s4 t4. gets_done (o, z) m5 (SameSecond op right) us (s2, s3) t4))))
+    (λ r m6 s5 t5. gets_done (Op x y r.0.0 r.0.1 r.1) m6 (Same (Op at left op op_at right)) us (λ i. Op 0 (s i) (s5.0 i) 0 (s5.1 i)) t5)))
 
 -- an expression of a statement
 abbrev pub IsWhole : Expr → Type 0

@@ -31,7 +31,7 @@ use Rattle.mls_syntax.specs.ExprTree.{Expr, Literal, Null, Name, Field, No, Op}
 use Rattle.mls_syntax.specs.Limits.{nesting}
 use Rattle.mls_syntax.specs.Fault.{in_syntax}
 use Rattle.mls_syntax.specs.Words.{head_of_sign, head_of_word, head_of, operator_of_sign, operator_of_word, operator_of, pass_known, pass_head}
-use Rattle.mls_syntax.specs.ReadExpr.{Read, sign_at, too_deep, dotted, behind_head, term_at, negation, operation, expr_at, whole_at, after_item, items_from, items_at, list_behind, list_at, set_at, sets_at}
+use Rattle.mls_syntax.specs.ReadExpr.{Read, sign_at, too_deep, dotted, behind_head, term_at, negation, second, operation, expr_at, whole_at, after_item, items_from, items_at, list_behind, list_at, set_at, sets_at}
 use Rattle.mls_syntax.specs.Spelling.{name_token, expr_tokens, list_tokens, set_tokens}
 use Rattle.mls_syntax.proofs.PassedLemmas.{syntax_ok, sign_found, known_found, head_found}
 
@@ -190,6 +190,9 @@ module _ (d : ℕ) (negated operated : ℕ → Left → Read Expr)
         nesting = rest.nesting;
       }
 
+abbrev second_tokens : (Operator × ℕ) × Expr → List Token
+second_tokens r = operator_token r.0.0 ∷ (expr_tokens r.1 ++ Sign sign.RightParen ∷ [])
+
 module _ (d : ℕ) (operand : Left → Read Expr) (sound : (l : Left) (x : Expr × Left) → operand l ≡ Ok x → ExprFound d l x) where
   negation_found : (at : ℕ) (l : Left) (x : Expr × Left) → negation operand at l ≡ Ok x → BehindFound (suc d) (Word (codes "not")) l x
   negation_found at l x e =
@@ -199,26 +202,33 @@ module _ (d : ℕ) (operand : Left → Read Expr) (sound : (l : Left) (x : Expr 
       subst (BehindFound (suc d) (Word (codes "not")) l) (same_ok done (No at o.0.0, o.0.1) x refl o.2)
       (record { more = expr_tokens o.0.0; tokens = refl; passed = found.passed; nesting = (let n = found.nesting in omega (arith, n)) })
 
+  second_found : (l : Left) (x : ((Operator × ℕ) × Expr) × Left) → second operand l ≡ Ok x → Passed (second_tokens x.0) l x.1 × (nesting x.0.1 ≤ d)
+  second_found l x e =
+      let o = bind_ok (in_syntax (pass_known operator_of l)) (λ o. operand o.1 >>= λ b. sign_at sign.RightParen b.1 >>= λ p. Ok ((o.0, b.0), p.1)) x e in
+      let b = bind_ok (operand o.0.1) (λ b. sign_at sign.RightParen b.1 >>= λ p. Ok ((o.0.0, b.0), p.1)) x o.2 in
+      let p = bind_ok (sign_at sign.RightParen b.0.1) (λ p. Ok ((o.0.0, b.0.0), p.1)) x b.2 in
+      let right = sound o.0.1 b.0 b.1 in
+      let done : Result (((Operator × ℕ) × Expr) × Left) SyntaxFault = Ok ((o.0.0, b.0.0), p.0.1) in
+      let close : List Token = Sign sign.RightParen ∷ [] in
+      subst (λ (y : ((Operator × ℕ) × Expr) × Left). Passed (second_tokens y.0) l y.1 × (nesting y.0.1 ≤ d)) (same_ok done ((o.0.0, b.0.0), p.0.1) x refl p.2) (
+        passed_more (operator_token o.0.0.0 ∷ []) (expr_tokens b.0.0 ++ close) l o.0.1 p.0.1 (operator_found l o.0 o.1)
+            (passed_more (expr_tokens b.0.0) close o.0.1 b.0.1 p.0.1 right.passed (sign_found sign.RightParen b.0.1 p.0 p.1)),
+        right.nesting,
+      )
+
   operation_found : (at : ℕ) (l : Left) (x : Expr × Left) → operation operand at l ≡ Ok x → BehindFound (suc d) (Sign sign.LeftParen) l x
   operation_found at l x e =
-      let a = bind_ok (operand l) (λ a. in_syntax (pass_known operator_of a.1) >>= λ o. operand o.1 >>= λ b. sign_at sign.RightParen b.1 >>= λ p. Ok (Op at a.0 o.0.0 o.0.1 b.0, p.1)) x e in
-      let o = bind_ok (in_syntax (pass_known operator_of a.0.1)) (λ o. operand o.1 >>= λ b. sign_at sign.RightParen b.1 >>= λ p. Ok (Op at a.0.0 o.0.0 o.0.1 b.0, p.1)) x a.2 in
-      let b = bind_ok (operand o.0.1) (λ b. sign_at sign.RightParen b.1 >>= λ p. Ok (Op at a.0.0 o.0.0.0 o.0.0.1 b.0, p.1)) x o.2 in
-      let p = bind_ok (sign_at sign.RightParen b.0.1) (λ p. Ok (Op at a.0.0 o.0.0.0 o.0.0.1 b.0.0, p.1)) x b.2 in
+      let a = bind_ok (operand l) (λ a. second operand a.1 >>= λ r. Ok (Op at a.0 r.0.0.0 r.0.0.1 r.0.1, r.1)) x e in
+      let r = bind_ok (second operand a.0.1) (λ r. Ok (Op at a.0.0 r.0.0.0 r.0.0.1 r.0.1, r.1)) x a.2 in
       let left = sound l a.0 a.1 in
-      let right = sound o.0.1 b.0 b.1 in
-      let op = operator_found a.0.1 o.0 o.1 in
-      let end = sign_found sign.RightParen b.0.1 p.0 p.1 in
-      let done : Result (Expr × Left) SyntaxFault = Ok (Op at a.0.0 o.0.0.0 o.0.0.1 b.0.0, p.0.1) in
-      let close : List Token = Sign sign.RightParen ∷ [] in
-      subst (BehindFound (suc d) (Sign sign.LeftParen) l) (same_ok done (Op at a.0.0 o.0.0.0 o.0.0.1 b.0.0, p.0.1) x refl p.2)
+      let rest = second_found a.0.1 r.0 r.1 in
+      let done : Result (Expr × Left) SyntaxFault = Ok (Op at a.0.0 r.0.0.0.0 r.0.0.0.1 r.0.0.1, r.0.1) in
+      subst (BehindFound (suc d) (Sign sign.LeftParen) l) (same_ok done (Op at a.0.0 r.0.0.0.0 r.0.0.0.1 r.0.0.1, r.0.1) x refl r.2)
       (record {
-        more = expr_tokens a.0.0 ++ (operator_token o.0.0.0 ∷ (expr_tokens b.0.0 ++ close));
+        more = expr_tokens a.0.0 ++ second_tokens r.0.0;
         tokens = refl;
-        passed = passed_more (expr_tokens a.0.0) (operator_token o.0.0.0 ∷ (expr_tokens b.0.0 ++ close)) l a.0.1 p.0.1 left.passed
-            (passed_more (operator_token o.0.0.0 ∷ []) (expr_tokens b.0.0 ++ close) a.0.1 o.0.1 p.0.1 op
-            (passed_more (expr_tokens b.0.0) close o.0.1 b.0.1 p.0.1 right.passed end));
-        nesting = (let m = left.nesting in let n = right.nesting in omega (arith, m, n));
+        passed = passed_more (expr_tokens a.0.0) (second_tokens r.0.0) l a.0.1 r.0.1 left.passed rest.0;
+        nesting = (let m = left.nesting in let n = rest.1 in omega (arith, m, n));
       })
 
 never_not : (d at : ℕ) (l : Left) (x : Expr × Left) → too_deep at l ≡ Ok x → BehindFound d (Word (codes "not")) l x

@@ -6,6 +6,7 @@ use Rattle.mls_tokens.specs.declared.sign.Sign.{Sign}
 use Rattle.mls_tokens.specs.declared.sign.Sign.TheVariants.{LeftParen, RightParen, Comma, Dot, Equals}
 use Rattle.mls_tokens.specs.Scanning.{Left}
 use Rattle.mls_tokens.specs.Passing.{refused, is_sign, taken, pass, PlacedName, pass_name}
+use Rattle.mls_translang.specs.declared.operator.Operator.{Operator}
 use Rattle.mls_syntax.specs.declared.fault.SyntaxFault.{SyntaxFault}
 use Rattle.mls_syntax.specs.declared.fault.SyntaxCause.TheVariants.{Depth}
 use Rattle.mls_syntax.specs.declared.words.Head.{Head}
@@ -51,13 +52,19 @@ module _ (operand : Left → Read Expr) where
   abbrev pub negation : ℕ → Left → Read Expr
   negation at l = operand l >>= λ e. Ok (No at e.0, e.1)
 
+  -- an operator and the operand behind it, up to the parenthesis that closes both
+  abbrev pub second : Left → Read ((Operator × ℕ) × Expr)
+  second l = do
+    op ← in_syntax (pass_known operator_of l)
+    right ← operand op.1
+    end ← sign_at RightParen right.1
+    Ok ((op.0, right.0), end.1)
+
   abbrev pub operation : ℕ → Left → Read Expr
   operation at l = do
     left ← operand l
-    op ← in_syntax (pass_known operator_of left.1)
-    right ← operand op.1
-    end ← sign_at RightParen right.1
-    Ok (Op at left.0 op.0.0 op.0.1 right.0, end.1)
+    rest ← second left.1
+    Ok (Op at left.0 rest.0.0.0 rest.0.0.1 rest.0.1, rest.1)
 
 -- an expression whose `(` and `not` stand inside no more than d others
 unfoldable pub expr_at : ℕ → Left → Read Expr

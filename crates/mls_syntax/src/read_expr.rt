@@ -3,7 +3,7 @@ ghost use Rattle.std.specs.Prelude.{◌≡◌, IfOk, IfErr};
 ghost use Rattle.mls_syntax.specs.declared.fault.SyntaxCause.TheVariants.{Memory};
 ghost use Rattle.mls_syntax.specs.ExprTree.{No, Op};
 ghost use Rattle.mls_syntax.specs.Fault.{Gives};
-ghost use Rattle.mls_syntax.specs.ReadExpr.{named_at, term_at, negation_at, operation_at, expr_at, whole_at};
+ghost use Rattle.mls_syntax.specs.ReadExpr.{named_at, second, term_at, negation_at, operation_at, expr_at, whole_at};
 
 use crate::expr::{Expr, Term};
 use crate::fault::{SyntaxCause, SyntaxFault};
@@ -76,6 +76,21 @@ fn negation(
     new_negation(alloc, at, operand)
 }
 
+/// The operator of an operation and its second operand, up to the parenthesis that closes it.
+#[cycle(expr)]
+fn second(
+    alloc: Global,
+    tokens: &mut Tokens,
+    depth: usize,
+) -> Result<((Operator, usize), Expr), SyntaxFault>
+    ensures { Gives (λ x. (((x.0.0, x.0.1), x.1), tokens.new)) result (second (expr_at depth) tokens.old) }
+{
+    let operator = pass_operator(tokens)?;
+    let right = expr(alloc, tokens, depth)?;
+    tokens.sign(Sign::RightParen)?;
+    Ok((operator, right))
+}
+
 /// What stands behind a parenthesis, which stands at `at` and may stand inside fewer than `depth` others.
 #[cycle(expr)]
 #[tactic(auto, unfolding(crate::specs::ReadExpr::operation_at))]
@@ -94,9 +109,7 @@ fn operation(
         });
     }
     let left = expr(alloc, tokens, depth - 1)?;
-    let operator = pass_operator(tokens)?;
-    let right = expr(alloc, tokens, depth - 1)?;
-    tokens.sign(Sign::RightParen)?;
+    let (operator, right) = second(alloc, tokens, depth - 1)?;
     new_operation(alloc, at, left, operator, right)
 }
 

@@ -33,7 +33,7 @@ use Rattle.mls_syntax.specs.Places.{bare_name, bare, bare_set, bare_stmt, bare_b
 use Rattle.mls_syntax.specs.Fault.{fault_at}
 use Rattle.mls_syntax.specs.Words.{opening_of}
 use Rattle.mls_syntax.specs.ReadExpr.{sign_at, whole_at, list_at, sets_at}
-use Rattle.mls_syntax.specs.ReadBlock.{word_at, name_behind, list_behind, outcome_of, outcome_at, written_at, keyed_at, assign_at, insert_at, classes_at, changes_at, renewal_at, update_at, delete_at, release_at, emit_at, plain_at, Counted, loop_head_at, with_count, braced, other_of, other_at, blocks_at, content_at, opened, stmt_with, deep_stmt, end_or, stmts_from, stmts_with, stmts_at, body_at}
+use Rattle.mls_syntax.specs.ReadBlock.{name_behind, list_behind, outcome_of, outcome_at, written_at, keyed_at, assign_at, insert_at, classes_at, changes_at, renewal_at, update_at, delete_at, last_name_at, release_at, emit_at, plain_at, Counted, loop_head_at, with_count, braced, other_of, other_at, blocks_at, content_at, opened, stmt_with, deep_stmt, end_or, stmts_from, stmts_with, stmts_at, body_at}
 use Rattle.mls_syntax.specs.Spelling.{name_token, behind_tokens, expr_tokens, list_tokens, set_tokens, outcome_tokens, keyed_tokens, write_tokens, stmt_tokens, for_tokens, SpellsOther, SpellsBlock}
 use Rattle.mls_syntax.proofs.AgainLemmas.{sign_gets, word_gets, Called, name_gets, behind_gets, known_gets, differs, IsWhole, whole_again, SameList, list_again, NoDot, IsSet, sets_again}
 
@@ -100,6 +100,12 @@ classes_again c f w us l hc hf hw k =
     (λ x m s t. gets_more (λ y. name_behind (codes "at") y.1 >>= λ z. done (x, y.0, z.0) z.1) (behind_gets (codes "from") f (Word (codes "at") ∷ name_token w ∷ us) m hf t)
     (λ y m2 s2 t2. gets_more (λ z. done (x, y, z.0) z.1) (behind_gets (codes "at") w us m2 hw t2)
     (λ z m3 s3 t3. gets_done (x, y, z) m3 (SameClasses c f w) us (s, s2, s3) t3)))
+
+last_name_again : (w : Bytes) (n : PlacedName) (us : List Token) (l : Left) → IsNamed n → tokens_in l.placed ≡ Word w ∷ name_token n ∷ Sign sign.Semicolon ∷ us → Gets (last_name_at w l) l (Called n) us
+unfolding last_name_at
+last_name_again w n us l h k =
+    gets_more (λ x. sign_at sign.Semicolon x.1 >>= λ end. done x.0 end.1) (behind_gets w n (Sign sign.Semicolon ∷ us) l h k)
+    (λ x m s t. gets_more (λ end. done x end.1) (sign_gets sign.Semicolon us m t) (λ end m2 s2 t2. gets_done x m2 (Called n) us s t2))
 
 loop_head_again : (row rel label : PlacedName) (us : List Token) (l : Left) → IsNamed row → IsNamed rel → IsNamed label
     → tokens_in l.placed ≡ name_token row ∷ Word (codes "in") ∷ name_token rel ∷ Word (codes "at") ∷ name_token label ∷ us
@@ -213,13 +219,12 @@ release_again : (e : Expr) (to into : PlacedName) (us : List Token) (l : Left) �
 unfolding release_at
 release_again e to into us l h ht hi k =
     let last : List Token = behind_tokens (codes "to") to ++ (behind_tokens (codes "into") into ++ Sign sign.Semicolon ∷ []) in
-    gets_more (λ v. name_behind (codes "to") v.1 >>= λ x. name_behind (codes "into") x.1 >>= λ y. sign_at sign.Semicolon y.1 >>= λ end. done (stmts.Release v.0 x.0 y.0) end.1)
+    gets_more (λ v. name_behind (codes "to") v.1 >>= λ x. last_name_at (codes "into") x.1 >>= λ y. done (stmts.Release v.0 x.0 y.0) y.1)
     (whole_again e (last ++ us) l h refl (k ∙ append_assoc (expr_tokens e) last us))
-    (λ v m s t. gets_more (λ x. name_behind (codes "into") x.1 >>= λ y. sign_at sign.Semicolon y.1 >>= λ end. done (stmts.Release v x.0 y.0) end.1)
+    (λ v m s t. gets_more (λ x. last_name_at (codes "into") x.1 >>= λ y. done (stmts.Release v x.0 y.0) y.1)
     (behind_gets (codes "to") to (behind_tokens (codes "into") into ++ (Sign sign.Semicolon ∷ us)) m ht t)
-    (λ x m2 s2 t2. gets_more (λ y. sign_at sign.Semicolon y.1 >>= λ end. done (stmts.Release v x y.0) end.1) (behind_gets (codes "into") into (Sign sign.Semicolon ∷ us) m2 hi t2)
-    (λ y m3 s3 t3. gets_more (λ end. done (stmts.Release v x y) end.1) (sign_gets sign.Semicolon us m3 t3)
-    (λ end m4 s4 t4. gets_done (stmts.Release v x y) m4 (FormOf (Release e to into)) us (λ rest i. Do (Release (s i) (s2 i) (s3 i)) (bare_block (block_of rest))) t4))))
+    (λ x m2 s2 t2. gets_more (λ y. done (stmts.Release v x y.0) y.1) (last_name_again (codes "into") into us m2 hi t2)
+    (λ y m3 s3 t3. gets_done (stmts.Release v x y) m3 (FormOf (Release e to into)) us (λ rest i. Do (Release (s i) (s2 i) (s3 i)) (bare_block (block_of rest))) t3)))
 
 emit_again : (e : Expr) (label : PlacedName) (us : List Token) (l : Left) → IsWhole e → IsNamed label
     → tokens_in l.placed ≡ (expr_tokens e ++ (behind_tokens (codes "at") label ++ Sign sign.Semicolon ∷ [])) ++ us
@@ -227,11 +232,10 @@ emit_again : (e : Expr) (label : PlacedName) (us : List Token) (l : Left) → Is
 unfolding emit_at
 emit_again e label us l h hl k =
     let last : List Token = behind_tokens (codes "at") label ++ Sign sign.Semicolon ∷ [] in
-    gets_more (λ v. name_behind (codes "at") v.1 >>= λ x. sign_at sign.Semicolon x.1 >>= λ end. done (stmts.Emit v.0 x.0) end.1)
+    gets_more (λ v. last_name_at (codes "at") v.1 >>= λ x. done (stmts.Emit v.0 x.0) x.1)
     (whole_again e (last ++ us) l h refl (k ∙ append_assoc (expr_tokens e) last us))
-    (λ v m s t. gets_more (λ x. sign_at sign.Semicolon x.1 >>= λ end. done (stmts.Emit v x.0) end.1) (behind_gets (codes "at") label (Sign sign.Semicolon ∷ us) m hl t)
-    (λ x m2 s2 t2. gets_more (λ end. done (stmts.Emit v x) end.1) (sign_gets sign.Semicolon us m2 t2)
-    (λ end m3 s3 t3. gets_done (stmts.Emit v x) m3 (FormOf (Emit e label)) us (λ rest i. Do (Emit (s i) (s2 i)) (bare_block (block_of rest))) t3)))
+    (λ v m s t. gets_more (λ x. done (stmts.Emit v x.0) x.1) (last_name_again (codes "at") label us m hl t)
+    (λ x m2 s2 t2. gets_done (stmts.Emit v x) m2 (FormOf (Emit e label)) us (λ rest i. Do (Emit (s i) (s2 i)) (bare_block (block_of rest))) t2))
 
 -- ---- counted readings
 

@@ -25,7 +25,7 @@ use Rattle.mls_syntax.specs.Blocks.{block_of}
 use Rattle.mls_syntax.specs.Limits.{StmtAll}
 use Rattle.mls_syntax.specs.Words.{pass_name_behind}
 use Rattle.mls_syntax.specs.ReadExpr.{sign_at, whole_at, list_at, sets_at}
-use Rattle.mls_syntax.specs.ReadBlock.{word_at, name_at, name_behind, list_behind, outcome_of, outcome_at, written_at, keyed_at, assign_at, insert_at, classes_at, changes_at, renewal_at, update_at, delete_at, release_at, emit_at, plain_at}
+use Rattle.mls_syntax.specs.ReadBlock.{word_at, name_at, name_behind, list_behind, outcome_of, outcome_at, written_at, keyed_at, assign_at, insert_at, classes_at, changes_at, renewal_at, update_at, delete_at, last_name_at, release_at, emit_at, plain_at}
 use Rattle.mls_syntax.specs.Spelling.{name_token, behind_tokens, expr_tokens, list_tokens, set_tokens, outcome_tokens, keyed_tokens, stmt_tokens}
 use Rattle.mls_syntax.proofs.PassedLemmas.{syntax_ok, sign_found, behind_found}
 use Rattle.mls_syntax.proofs.ExprLemmas.{IsNested, whole_found, list_found, SetNested, sets_found}
@@ -148,6 +148,18 @@ renewal_found l x e =
     subst (λ (y : Renewal × Left). ChangesFound (λ ts. class_tokens y.0.0 ++ ts) y.0.1 l y.1) (same_ok done ((c.0.0, n.0.0), n.0.1) x refl n.2)
     (passed_more (class_tokens c.0.0) (changes_tokens n.0.0) l c.0.1 n.0.1 (classes_found l c.0 c.1) new.0, new.1, new.2)
 
+abbrev last_tokens : Bytes → PlacedName → List Token
+last_tokens w n = behind_tokens w n ++ Sign sign.Semicolon ∷ []
+
+last_name_found : (w : Bytes) (l : Left) (x : PlacedName × Left) → last_name_at w l ≡ Ok x → Passed (last_tokens w x.0) l x.1
+unfolding last_name_at
+last_name_found w l x e =
+    let n = bind_ok (name_behind w l) (λ n. sign_at sign.Semicolon n.1 >>= λ end. Ok (n.0, end.1)) x e in
+    let end = bind_ok (sign_at sign.Semicolon n.0.1) (λ end. Ok (n.0.0, end.1)) x n.2 in
+    let done : Result (PlacedName × Left) SyntaxFault = Ok (n.0.0, end.0.1) in
+    subst (λ (y : PlacedName × Left). Passed (last_tokens w y.0) l y.1) (same_ok done (n.0.0, end.0.1) x refl end.2)
+    (passed_more (behind_tokens w n.0.0) (Sign sign.Semicolon ∷ []) l n.0.1 end.0.1 (behind w l n.0 n.1) (sign_found sign.Semicolon n.0.1 end.0 end.1))
+
 -- ---- statements
 
 -- what was passed behind the token that the statement begins with
@@ -241,42 +253,38 @@ delete_found l x e =
 release_found : (l : Left) (x : Form × Left) → release_at l ≡ Ok x → PlainFound (Word (codes "release")) l x
 unfolding release_at
 release_found l x e =
-    let v = bind_ok (whole_at l) (λ v. name_behind (codes "to") v.1 >>= λ t. name_behind (codes "into") t.1 >>= λ i. sign_at sign.Semicolon i.1 >>= λ end. Ok (stmts.Release v.0 t.0 i.0, end.1)) x e in
-    let t = bind_ok (name_behind (codes "to") v.0.1) (λ t. name_behind (codes "into") t.1 >>= λ i. sign_at sign.Semicolon i.1 >>= λ end. Ok (stmts.Release v.0.0 t.0 i.0, end.1)) x v.2 in
-    let i = bind_ok (name_behind (codes "into") t.0.1) (λ i. sign_at sign.Semicolon i.1 >>= λ end. Ok (stmts.Release v.0.0 t.0.0 i.0, end.1)) x t.2 in
-    let end = bind_ok (sign_at sign.Semicolon i.0.1) (λ end. Ok (stmts.Release v.0.0 t.0.0 i.0.0, end.1)) x i.2 in
+    let v = bind_ok (whole_at l) (λ v. name_behind (codes "to") v.1 >>= λ t. last_name_at (codes "into") t.1 >>= λ i. Ok (stmts.Release v.0 t.0 i.0, i.1)) x e in
+    let t = bind_ok (name_behind (codes "to") v.0.1) (λ t. last_name_at (codes "into") t.1 >>= λ i. Ok (stmts.Release v.0.0 t.0 i.0, i.1)) x v.2 in
+    let i = bind_ok (last_name_at (codes "into") t.0.1) (λ i. Ok (stmts.Release v.0.0 t.0.0 i.0, i.1)) x t.2 in
     let value = whole_found l v.0 v.1 in
-    let done : Result (Form × Left) SyntaxFault = Ok (stmts.Release v.0.0 t.0.0 i.0.0, end.0.1) in
-    let last : List Token = behind_tokens (codes "into") i.0.0 ++ Sign sign.Semicolon ∷ [] in
-    subst (PlainFound (Word (codes "release")) l) (same_ok done (stmts.Release v.0.0 t.0.0 i.0.0, end.0.1) x refl end.2)
+    let done : Result (Form × Left) SyntaxFault = Ok (stmts.Release v.0.0 t.0.0 i.0.0, i.0.1) in
+    let last : List Token = last_tokens (codes "into") i.0.0 in
+    subst (PlainFound (Word (codes "release")) l) (same_ok done (stmts.Release v.0.0 t.0.0 i.0.0, i.0.1) x refl i.2)
     (record {
       tree = Release v.0.0 t.0.0 i.0.0;
       is = λ rest. refl;
       more = expr_tokens v.0.0 ++ (behind_tokens (codes "to") t.0.0 ++ last);
       tokens = refl;
-      passed = passed_more (expr_tokens v.0.0) (behind_tokens (codes "to") t.0.0 ++ last) l v.0.1 end.0.1 value.passed
-          (passed_more (behind_tokens (codes "to") t.0.0) last v.0.1 t.0.1 end.0.1 (behind (codes "to") v.0.1 t.0 t.1)
-          (passed_more (behind_tokens (codes "into") i.0.0) (Sign sign.Semicolon ∷ []) t.0.1 i.0.1 end.0.1 (behind (codes "into") t.0.1 i.0 i.1) (sign_found sign.Semicolon i.0.1 end.0 end.1)));
+      passed = passed_more (expr_tokens v.0.0) (behind_tokens (codes "to") t.0.0 ++ last) l v.0.1 i.0.1 value.passed
+          (passed_more (behind_tokens (codes "to") t.0.0) last v.0.1 t.0.1 i.0.1 (behind (codes "to") v.0.1 t.0 t.1) (last_name_found (codes "into") t.0.1 i.0 i.1));
       parts = value.nesting;
     })
 
 emit_found : (l : Left) (x : Form × Left) → emit_at l ≡ Ok x → PlainFound (Word (codes "emit")) l x
 unfolding emit_at
 emit_found l x e =
-    let v = bind_ok (whole_at l) (λ v. name_behind (codes "at") v.1 >>= λ t. sign_at sign.Semicolon t.1 >>= λ end. Ok (stmts.Emit v.0 t.0, end.1)) x e in
-    let t = bind_ok (name_behind (codes "at") v.0.1) (λ t. sign_at sign.Semicolon t.1 >>= λ end. Ok (stmts.Emit v.0.0 t.0, end.1)) x v.2 in
-    let end = bind_ok (sign_at sign.Semicolon t.0.1) (λ end. Ok (stmts.Emit v.0.0 t.0.0, end.1)) x t.2 in
+    let v = bind_ok (whole_at l) (λ v. last_name_at (codes "at") v.1 >>= λ t. Ok (stmts.Emit v.0 t.0, t.1)) x e in
+    let t = bind_ok (last_name_at (codes "at") v.0.1) (λ t. Ok (stmts.Emit v.0.0 t.0, t.1)) x v.2 in
     let value = whole_found l v.0 v.1 in
-    let done : Result (Form × Left) SyntaxFault = Ok (stmts.Emit v.0.0 t.0.0, end.0.1) in
-    let last : List Token = behind_tokens (codes "at") t.0.0 ++ Sign sign.Semicolon ∷ [] in
-    subst (PlainFound (Word (codes "emit")) l) (same_ok done (stmts.Emit v.0.0 t.0.0, end.0.1) x refl end.2)
+    let done : Result (Form × Left) SyntaxFault = Ok (stmts.Emit v.0.0 t.0.0, t.0.1) in
+    let last : List Token = last_tokens (codes "at") t.0.0 in
+    subst (PlainFound (Word (codes "emit")) l) (same_ok done (stmts.Emit v.0.0 t.0.0, t.0.1) x refl t.2)
     (record {
       tree = Emit v.0.0 t.0.0;
       is = λ rest. refl;
       more = expr_tokens v.0.0 ++ last;
       tokens = refl;
-      passed = passed_more (expr_tokens v.0.0) last l v.0.1 end.0.1 value.passed
-          (passed_more (behind_tokens (codes "at") t.0.0) (Sign sign.Semicolon ∷ []) v.0.1 t.0.1 end.0.1 (behind (codes "at") v.0.1 t.0 t.1) (sign_found sign.Semicolon t.0.1 end.0 end.1));
+      passed = passed_more (expr_tokens v.0.0) last l v.0.1 t.0.1 value.passed (last_name_found (codes "at") v.0.1 t.0 t.1);
       parts = value.nesting;
     })
 

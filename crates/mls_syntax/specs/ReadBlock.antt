@@ -110,20 +110,25 @@ delete_at l = do
   w ← written_at class.1
   Ok (stmts.Delete k.0.0 k.0.1 class.0 w.0.0 w.0.1, w.1)
 
+-- a word, the name behind it, and the end
+unfoldable pub last_name_at : List ℕ → Left → Read PlacedName
+last_name_at word l = do
+  n ← name_behind word l
+  end ← sign_at Semicolon n.1
+  Ok (n.0, end.1)
+
 unfoldable pub release_at : Left → Read Stmt
 release_at l = do
   e ← whole_at l
   to ← name_behind (codes "to") e.1
-  into ← name_behind (codes "into") to.1
-  end ← sign_at Semicolon into.1
-  Ok (stmts.Release e.0 to.0 into.0, end.1)
+  into ← last_name_at (codes "into") to.1
+  Ok (stmts.Release e.0 to.0 into.0, into.1)
 
 unfoldable pub emit_at : Left → Read Stmt
 emit_at l = do
   e ← whole_at l
-  label ← name_behind (codes "at") e.1
-  end ← sign_at Semicolon label.1
-  Ok (stmts.Emit e.0 label.0, end.1)
+  label ← last_name_at (codes "at") e.1
+  Ok (stmts.Emit e.0 label.0, label.1)
 
 -- behind what it begins with
 abbrev pub plain_at : Plain → ℕ → Left → Read Stmt

@@ -1,7 +1,7 @@
 //! Statements with no statement inside, from the tokens that are left, each behind what it begins with.
 ghost use Rattle.std.specs.Prelude.{◌≡◌, option_map};
 ghost use Rattle.mls_syntax.specs.Fault.{Gives};
-ghost use Rattle.mls_syntax.specs.ReadBlock.{list_behind, outcome_at, written_at, keyed_at, assign_at, insert_at, classes_at, changes_at, renewal_at, update_at, delete_at, release_at, emit_at, plain_at};
+ghost use Rattle.mls_syntax.specs.ReadBlock.{list_behind, outcome_at, written_at, keyed_at, assign_at, insert_at, classes_at, changes_at, renewal_at, update_at, delete_at, last_name_at, release_at, emit_at, plain_at};
 
 use crate::block::Stmt;
 use crate::expr::Expr;
@@ -154,14 +154,23 @@ fn delete(alloc: Global, tokens: &mut Tokens) -> Result<Stmt, SyntaxFault>
     })
 }
 
+/// A word, the name behind it, and the end of the statement.
+#[tactic(auto, unfolding(crate::specs::ReadBlock::last_name_at))]
+fn last_name(tokens: &mut Tokens, word: &str) -> Result<Name, SyntaxFault>
+    ensures { Gives (λ x. (x, tokens.new)) result (last_name_at word.now tokens.old) }
+{
+    let name = name_behind(tokens, word)?;
+    tokens.sign(Sign::Semicolon)?;
+    Ok(name)
+}
+
 #[tactic(auto, unfolding(crate::specs::ReadBlock::release_at))]
 fn release(alloc: Global, tokens: &mut Tokens) -> Result<Stmt, SyntaxFault>
     ensures { Gives (λ x. (x, tokens.new)) result (release_at tokens.old) }
 {
     let value = whole(alloc, tokens)?;
     let to = name_behind(tokens, "to")?;
-    let into = name_behind(tokens, "into")?;
-    tokens.sign(Sign::Semicolon)?;
+    let into = last_name(tokens, "into")?;
     Ok(Stmt::Release { value, to, into })
 }
 
@@ -170,8 +179,7 @@ fn emit(alloc: Global, tokens: &mut Tokens) -> Result<Stmt, SyntaxFault>
     ensures { Gives (λ x. (x, tokens.new)) result (emit_at tokens.old) }
 {
     let value = whole(alloc, tokens)?;
-    let label = name_behind(tokens, "at")?;
-    tokens.sign(Sign::Semicolon)?;
+    let label = last_name(tokens, "at")?;
     Ok(Stmt::Emit { value, label })
 }
 

@@ -88,6 +88,23 @@ fn fall<S: Alter>(conn: &mut Connection<S>, failures: &mut Failures, error: Erro
     fault
 }
 
+/// Ends the change after a failed call, so that none is begun, and says why the call failed.
+fn fail<S: Alter>(
+    conn: &mut Connection<S>,
+    begun: &mut bool,
+    failures: &mut Failures,
+    error: Error,
+) -> StoreFault
+    ensures clean { HasCleanDisk (state S.Store conn.new) → HasCleanDisk (state S.Store conn.old) }
+    ensures ended { HasCleanDisk (state S.Store conn.new) → HasEnded (state S.Store conn.old) (state S.Store conn.new) }
+    ensures mode { begun.new ≡ false }
+    ensures count { failures.old.count ≤ failures.new.count }
+    ensures store { result ≡ StoreFault.Store → failures.old.count < failures.new.count }
+{
+    *begun = false;
+    fall(conn, failures, error)
+}
+
 impl<S: Alter> TableStore<S> {
     /// Makes a new store in a database that has nothing, described by two texts. An `Err` hands the connection back, with
     /// what it had.
@@ -180,10 +197,7 @@ impl<S: Alter> TableStore<S> {
                 self.begun = true;
                 Ok(())
             }
-            Err(error) => {
-                self.begun = false;
-                Err(fall(&mut self.conn, &mut self.failures, error))
-            }
+            Err(error) => Err(fail(&mut self.conn, &mut self.begun, &mut self.failures, error)),
         }
     }
 
@@ -200,10 +214,7 @@ impl<S: Alter> TableStore<S> {
                 remember(&mut self.last, &self.conn);
                 Ok(())
             }
-            Err(error) => {
-                self.begun = false;
-                Err(fall(&mut self.conn, &mut self.failures, error))
-            }
+            Err(error) => Err(fail(&mut self.conn, &mut self.begun, &mut self.failures, error)),
         }
     }
 
@@ -233,10 +244,7 @@ impl<S: Alter> TableStore<S> {
     {
         match node::add_node(&mut self.conn, node) {
             Ok(_) => Ok(()),
-            Err(error) => {
-                self.begun = false;
-                Err(fall(&mut self.conn, &mut self.failures, error))
-            }
+            Err(error) => Err(fail(&mut self.conn, &mut self.begun, &mut self.failures, error)),
         }
     }
 
@@ -255,10 +263,7 @@ impl<S: Alter> TableStore<S> {
     {
         match node::drop_node(&mut self.conn, rel, ent, kclass, label) {
             Ok(_) => Ok(()),
-            Err(error) => {
-                self.begun = false;
-                Err(fall(&mut self.conn, &mut self.failures, error))
-            }
+            Err(error) => Err(fail(&mut self.conn, &mut self.begun, &mut self.failures, error)),
         }
     }
 
@@ -271,10 +276,7 @@ impl<S: Alter> TableStore<S> {
     {
         match node::read_nodes_at(&mut self.conn, self.alloc, rel, label) {
             Ok(rows) => Ok(rows),
-            Err(error) => {
-                self.begun = false;
-                Err(fall(&mut self.conn, &mut self.failures, error))
-            }
+            Err(error) => Err(fail(&mut self.conn, &mut self.begun, &mut self.failures, error)),
         }
     }
 
@@ -292,10 +294,7 @@ impl<S: Alter> TableStore<S> {
     {
         match node::read_nodes_of(&mut self.conn, self.alloc, rel, ent, kclass) {
             Ok(rows) => Ok(rows),
-            Err(error) => {
-                self.begun = false;
-                Err(fall(&mut self.conn, &mut self.failures, error))
-            }
+            Err(error) => Err(fail(&mut self.conn, &mut self.begun, &mut self.failures, error)),
         }
     }
 
@@ -308,10 +307,7 @@ impl<S: Alter> TableStore<S> {
     {
         match cell::add_cell(&mut self.conn, cell) {
             Ok(_) => Ok(()),
-            Err(error) => {
-                self.begun = false;
-                Err(fall(&mut self.conn, &mut self.failures, error))
-            }
+            Err(error) => Err(fail(&mut self.conn, &mut self.begun, &mut self.failures, error)),
         }
     }
 
@@ -325,10 +321,7 @@ impl<S: Alter> TableStore<S> {
     {
         match cell::set_cell(&mut self.conn, cell) {
             Ok(_) => Ok(()),
-            Err(error) => {
-                self.begun = false;
-                Err(fall(&mut self.conn, &mut self.failures, error))
-            }
+            Err(error) => Err(fail(&mut self.conn, &mut self.begun, &mut self.failures, error)),
         }
     }
 
@@ -347,10 +340,7 @@ impl<S: Alter> TableStore<S> {
     {
         match cell::drop_cells(&mut self.conn, rel, ent, kclass, label) {
             Ok(_) => Ok(()),
-            Err(error) => {
-                self.begun = false;
-                Err(fall(&mut self.conn, &mut self.failures, error))
-            }
+            Err(error) => Err(fail(&mut self.conn, &mut self.begun, &mut self.failures, error)),
         }
     }
 
@@ -363,10 +353,7 @@ impl<S: Alter> TableStore<S> {
     {
         match cell::read_cells_at(&mut self.conn, self.alloc, rel, label) {
             Ok(rows) => Ok(rows),
-            Err(error) => {
-                self.begun = false;
-                Err(fall(&mut self.conn, &mut self.failures, error))
-            }
+            Err(error) => Err(fail(&mut self.conn, &mut self.begun, &mut self.failures, error)),
         }
     }
 
@@ -384,10 +371,7 @@ impl<S: Alter> TableStore<S> {
     {
         match cell::read_cells_of(&mut self.conn, self.alloc, rel, ent, kclass) {
             Ok(rows) => Ok(rows),
-            Err(error) => {
-                self.begun = false;
-                Err(fall(&mut self.conn, &mut self.failures, error))
-            }
+            Err(error) => Err(fail(&mut self.conn, &mut self.begun, &mut self.failures, error)),
         }
     }
 
@@ -400,10 +384,7 @@ impl<S: Alter> TableStore<S> {
     {
         match audit::add_entry(&mut self.conn, entry) {
             Ok(_) => Ok(()),
-            Err(error) => {
-                self.begun = false;
-                Err(fall(&mut self.conn, &mut self.failures, error))
-            }
+            Err(error) => Err(fail(&mut self.conn, &mut self.begun, &mut self.failures, error)),
         }
     }
 
@@ -416,10 +397,7 @@ impl<S: Alter> TableStore<S> {
     {
         match audit::read_entry_at(&mut self.conn, self.alloc, number) {
             Ok(rows) => Ok(rows),
-            Err(error) => {
-                self.begun = false;
-                Err(fall(&mut self.conn, &mut self.failures, error))
-            }
+            Err(error) => Err(fail(&mut self.conn, &mut self.begun, &mut self.failures, error)),
         }
     }
 
@@ -447,10 +425,7 @@ impl<S: Alter> TableStore<S> {
     {
         match audit::read_entries(&mut self.conn, self.alloc) {
             Ok(rows) => Ok(rows),
-            Err(error) => {
-                self.begun = false;
-                Err(fall(&mut self.conn, &mut self.failures, error))
-            }
+            Err(error) => Err(fail(&mut self.conn, &mut self.begun, &mut self.failures, error)),
         }
     }
 }

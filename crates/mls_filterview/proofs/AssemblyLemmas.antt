@@ -1,5 +1,5 @@
 -- Tuples put together from fragments are those of the table.
-use Rattle.std.proofs.Common.{◌≡◌, ◌+◌, ◌<◌, ℕ, suc, Bool, true, false, cond, List, [], ◌∷◌, ◌++◌, length, map, Option, Some, None, refl, sym, ap, ◌∙◌, zero-add, inl, inr, arith}
+use Rattle.std.proofs.Common.{◌≡◌, ◌+◌, ◌<◌, ℕ, suc, Bool, true, false, cond, List, [], ◌∷◌, ◌++◌, length, map, Option, Some, None, refl, sym, ap, subst, ◌∙◌, zero-add, inl, inr, arith}
 use Rattle.std.specs.Prelude.{◌↔◌}
 use Rattle.std.specs.Option.{unwrap_or}
 use Rattle.std.specs.Ordering.{is_eq, nat_cmp, ordering_then}
@@ -21,7 +21,7 @@ use Rattle.mls_filterview.specs.declared.fragment.Cell.{Cell}
 use Rattle.mls_filterview.specs.View.{IsAmong}
 use Rattle.mls_filterview.specs.Stored.{with_class, IsStored}
 use Rattle.mls_filterview.specs.Fragment.{node_of, cell_at, place_of_node}
-use Rattle.mls_filterview.specs.Assembly.{CellPlace, cell_place_cmp, place_of_cell, AreValues, elements_from, elements_of, AreRows, IsLowEntry, AreLow}
+use Rattle.mls_filterview.specs.Assembly.{CellPlace, cell_place_cmp, place_of_cell, AreValues, elements_from, elements_of, AreRows, IsLowEntry, AreOf, AreLow}
 use Rattle.mls_filterview.proofs.AmongLemmas.{among_push, among_left, push_last}
 use Rattle.mls_filterview.proofs.EntryLemmas.{Entry}
 use Rattle.mls_filterview.proofs.FragmentLemmas.{cell_found, cell_among}
@@ -85,53 +85,72 @@ same_elements held p k (e ∷ es) h =
     let first = h 0 k (omega arith) (omega arith) in
     λ t. record { value = first t; class = e.class } ∷ rest t
 
-module _ (ls : Labels) (n : ℕ) (T : Table) (stored : IsStored ls n T) (c k : ℕ) (ns : List Node) (ds : List Cell) (low : AreLow ls T c k ns ds) (all : (e : Entry) → get T e.0 ≡ Some e.1 → e.0.class < k)
+-- ---- the rows of some tuples of a table are those tuples
+
+module _ (ls : Labels) (n : ℕ) (T : Table) (stored : IsStored ls n T) (In : Entry → Type 0) (has : (e : Entry) → In e → get T e.0 ≡ Some e.1)
+    (down : (e f : Entry) → In e → get T f.0 ≡ Some f.1 → below ls f.0.class e.0.class ≡ true → In f) (ns : List Node) (ds : List Cell) (of : AreOf In ns ds)
     (held : CellPlace → Option (Option Value)) (are : AreValues ds held) where
   -- a value that is found at the place of an element of its own class is the element's
   value_found : (p : Place) (es : List Element) → get T p ≡ Some es → (i : ℕ) → (v : Option Value) → held (p, i) ≡ Some v → v ≡ (at es i).value
   value_found p es h i v g =
       let r = are.sound (p, i) v g in
-      let f = (low.cells r.0).0 r.1 in
+      let f = (of.cells r.0).0 r.1 in
       let d = cell_found 0 f.0.0 f.0.1 r.0 f.2 in
       let s : place_of_cell (cell_at f.0.0 (0 + d.0) (at f.0.1 d.0)) ≡ (p, i) = ap place_of_cell (sym d.1.1) ∙ r.2 in
       let q : f.0.0 ≡ p = λ t. record { key = (s t).0.key; key_class = (s t).0.key_class; class = (sym d.1.2 ∙ ap (λ (x : CellPlace). x.0.class) s) t } in
-      let same : f.0.1 ≡ es = same_Some f.0.1 es (sym f.1.0 ∙ ap (get T) q ∙ h) in
+      let same : f.0.1 ≡ es = same_Some f.0.1 es (sym (has f.0 f.1) ∙ ap (get T) q ∙ h) in
       let number : d.0 ≡ i = sym (zero-add d.0) ∙ ap (λ (x : CellPlace). x.1) s in
       sym r.3 ∙ ap (λ x. x.value) d.1.1 ∙ (λ t. (at (same t) (number t)).value)
 
   -- at the class of an element, its entity's tuple of that class has the element
-  value_at : (p : Place) (es : List Element) → IsLowEntry ls T c k (p, es) → (i : ℕ) → i < length es → held (with_class p (at es i).class, i) ≡ Some (at es i).value
+  value_at : (p : Place) (es : List Element) → In (p, es) → (i : ℕ) → i < length es → held (with_class p (at es i).class, i) ≡ Some (at es i).value
   value_at p es e i l =
       let m : ℕ = (at es i).class in
       let q : Place = with_class p m in
-      let st = stored p es e.0 in
+      let st = stored p es (has (p, es) e) in
       let cl = st.closed m (inr (i, l, refl)) in
       let agree : at cl.0 i ≡ at es i = cl.2 i l (below-refl ls m) in
       let within : i < length cl.0 = omega (arith, (stored q cl.0 cl.1).count, st.count) in
       let cell : Cell = cell_at q i (at cl.0 i) in
-      let there = (low.cells cell).1 ((q, cl.0), (cl.1, all (q, cl.0) cl.1, below-trans ls m p.class c (st.greatest m (inr (i, l, refl))) e.2), cell_among 0 q cl.0 i i within (omega arith) (ap (λ x. x.class) agree)) in
+      let there = (of.cells cell).1 ((q, cl.0), down (p, es) (q, cl.0) e cl.1 (st.greatest m (inr (i, l, refl))), cell_among 0 q cl.0 i i within (omega arith) (ap (λ x. x.class) agree)) in
       let found = are.complete cell there in
       let here : held (q, i) ≡ Some found.0 = ap (λ (x : Element). held (with_class p x.class, i)) (sym agree) ∙ found.1 in
       here ∙ ap Some (value_found q cl.0 cl.1 i found.0 here ∙ ap (λ x. x.value) agree)
 
-  elements_low : (e : Entry) → IsLowEntry ls T c k e → elements_of held (node_of e) ≡ e.1
-  elements_low e h = same_elements held e.0 0 e.1 (λ i j l q.
+  elements_in : (e : Entry) → In e → elements_of held (node_of e) ≡ e.1
+  elements_in e h = same_elements held e.0 0 e.1 (λ i j l q.
       ap (λ o. unwrap_or o None) (ap (λ j. held (with_class e.0 (at e.1 i).class, j)) (q ∙ zero-add i) ∙ value_at e.0 e.1 h i l))
 
-  -- so the rows are the tuples of classes that c dominates
-  pub rows_low : (found : Place → Option (List Element)) → AreRows held ns found → (e : Entry) → (found e.0 ≡ Some e.1) ↔ ((get T e.0 ≡ Some e.1) × (below ls e.0.class c ≡ true))
-  rows_low found rows e = (sound e, complete)
+  pub rows_in : (found : Place → Option (List Element)) → AreRows held ns found → (e : Entry) → (found e.0 ≡ Some e.1) ↔ In e
+  rows_in found rows e = (sound e, complete)
     where
-      sound : (e : Entry) → found e.0 ≡ Some e.1 → (get T e.0 ≡ Some e.1) × (below ls e.0.class c ≡ true)
+      sound : (e : Entry) → found e.0 ≡ Some e.1 → In e
       sound e g =
           let r = rows.sound e.0 e.1 g in
-          let f = (low.nodes r.0).0 r.1 in
+          let f = (of.nodes r.0).0 r.1 in
           let q : f.0.0 ≡ e.0 = ap place_of_node (sym f.2) ∙ r.2 in
-          let same : f.0.1 ≡ e.1 = sym (elements_low f.0 f.1) ∙ ap (elements_of held) (sym f.2) ∙ r.3 in
-          (ap (get T) (sym q) ∙ f.1.0 ∙ ap Some same, ap (λ p. below ls p.class c) (sym q) ∙ f.1.2)
+          let same : f.0.1 ≡ e.1 = sym (elements_in f.0 f.1) ∙ ap (elements_of held) (sym f.2) ∙ r.3 in
+          subst In (λ t. (q t, same t)) f.1
 
-      complete : (get T e.0 ≡ Some e.1) × (below ls e.0.class c ≡ true) → found e.0 ≡ Some e.1
+      complete : In e → found e.0 ≡ Some e.1
       complete h =
-          let r = rows.complete (node_of e) ((low.nodes (node_of e)).1 (e, (h.0, all e h.0, h.1), refl)) in
-          let s = sound (e.0, r.0) r.1 in
-          r.1 ∙ sym s.0 ∙ h.0
+          let r = rows.complete (node_of e) ((of.nodes (node_of e)).1 (e, h, refl)) in
+          r.1 ∙ sym (has (e.0, r.0) (sound (e.0, r.0) r.1)) ∙ has e h
+
+-- of those of classes that c dominates
+pub rows_low : (ls : Labels) (n : ℕ) (T : Table) → IsStored ls n T → (c : ℕ) (ns : List Node) (ds : List Cell) → AreLow ls T c (length ls) ns ds → (held : CellPlace → Option (Option Value)) → AreValues ds held
+    → (found : Place → Option (List Element)) → AreRows held ns found → (e : Entry) → (found e.0 ≡ Some e.1) ↔ ((get T e.0 ≡ Some e.1) × (below ls e.0.class c ≡ true))
+rows_low ls n T stored c ns ds low held are found rows e = ((λ g. let h = r.0 g in (h.0, h.2)), (λ h. r.1 (h.0, declared e h.0, h.1)))
+  where
+    declared : (f : Entry) → get T f.0 ≡ Some f.1 → f.0.class < length ls
+    declared f g = let st = stored f.0 f.1 g in st.declared f.0.class st.own
+
+    r : (found e.0 ≡ Some e.1) ↔ IsLowEntry ls T c (length ls) e
+    r =
+        rows_in ls n T stored (IsLowEntry ls T c (length ls)) (λ f h. h.0) (λ f g h k b. (k, declared g k, below-trans ls g.0.class f.0.class c b h.2))
+        ns ds low held are found rows e
+
+-- of all
+pub rows_all : (ls : Labels) (n : ℕ) (T : Table) → IsStored ls n T → (ns : List Node) (ds : List Cell) → AreOf (λ e. get T e.0 ≡ Some e.1) ns ds → (held : CellPlace → Option (Option Value)) → AreValues ds held
+    → (found : Place → Option (List Element)) → AreRows held ns found → (e : Entry) → (found e.0 ≡ Some e.1) ↔ (get T e.0 ≡ Some e.1)
+rows_all ls n T stored ns ds all held are found rows e = rows_in ls n T stored (λ e. get T e.0 ≡ Some e.1) (λ f h. h) (λ f g h k b. k) ns ds all held are found rows e

@@ -1,6 +1,7 @@
 -- The fragments of the labels that a label dominates.
 use Rattle.std.proofs.Common.{◌≡◌, ◌+◌, ◌<◌, ℕ, zero, suc, true, false, cond, List, [], ◌∷◌, ◌++◌, length, map, Some, refl, sym, ap, subst, ◌∙◌, inl, inr, arith}
-use Rattle.std.specs.Prelude.{◌↔◌, ◌⊎◌, nat_eq}
+use Rattle.std.specs.Prelude.{◌↔◌, ◌⊎◌, nat_eq, IsPermutation}
+use Rattle.std.specs.List.{flat_map}
 use Rattle.std.specs.FinMap.{get, entries}
 use Rattle.std.proofs.lemmas.Bool.{true≢false, cases_lt, eqb-true, eq-eqb}
 use Rattle.mls_lattice.specs.Labels.{Labels, below}
@@ -13,7 +14,7 @@ use Rattle.mls_filterview.specs.declared.fragment.Cell.{Cell}
 use Rattle.mls_filterview.specs.declared.fragment.Fragment.{Fragment}
 use Rattle.mls_filterview.specs.View.{IsAmong}
 use Rattle.mls_filterview.specs.Fragment.{of_class, node_of, cell_at, cells_from, cells_of, IsFragment}
-use Rattle.mls_filterview.specs.Assembly.{IsLowEntry, AreLow}
+use Rattle.mls_filterview.specs.Assembly.{IsLowEntry, AreOf, AreLow}
 use Rattle.mls_filterview.proofs.AmongLemmas.{among_map, map_among, among_filter, filter_among, among_append, among_left, among_right, among_permutation, among_flat_map, flat_map_among}
 use Rattle.mls_filterview.proofs.EntryLemmas.{Entry, among_entries, entries_among}
 
@@ -45,6 +46,20 @@ cell_among k p (e ∷ es) (suc i) j l q h =
       | false ↦ cell_among (suc k) p es i j (omega arith) (omega arith) h
     ]
 
+-- ---- what the nodes and the cells of entries are, in any order
+
+nodes_among : (es : List Entry) (ns : List Node) → IsPermutation (map node_of es) ns → (n : Node) → IsAmong n ns ↔ ((e : Entry) × IsAmong e es × (n ≡ node_of e))
+nodes_among es ns p n = (
+  (λ i. among_map node_of es n ((among_permutation _ _ p n).1 i)),
+  (λ h. (among_permutation _ _ p n).0 (subst (λ x. IsAmong x (map node_of es)) (sym h.2) (map_among node_of es h.0 h.1))),
+)
+
+cells_among : (es : List Entry) (ds : List Cell) → IsPermutation (flat_map cells_of es) ds → (d : Cell) → IsAmong d ds ↔ ((e : Entry) × IsAmong e es × IsAmong d (cells_of e))
+cells_among es ds p d = (
+  (λ i. among_flat_map cells_of es d ((among_permutation _ _ p d).1 i)),
+  (λ h. (among_permutation _ _ p d).0 (flat_map_among cells_of es h.0 d h.1 h.2)),
+)
+
 -- ---- what a fragment has
 
 in_class : (T : Table) (m : ℕ) (e : Entry) → IsAmong e (of_class m T) ↔ ((get T e.0 ≡ Some e.1) × (e.0.class ≡ m))
@@ -54,22 +69,34 @@ in_class T m e = (
 )
 
 pub fragment_nodes : (T : Table) (m : ℕ) (f : Fragment) → IsFragment T m f → (n : Node) → IsAmong n f.nodes ↔ ((e : Entry) × (get T e.0 ≡ Some e.1) × (e.0.class ≡ m) × (n ≡ node_of e))
-fragment_nodes T m f is n = (
-  (λ i.
-      let r = among_map node_of (of_class m T) n ((among_permutation _ _ is.nodes n).1 i) in
-      let g = (in_class T m r.0).0 r.1 in
-      (r.0, g.0, g.1, r.2)),
-  (λ h. (among_permutation _ _ is.nodes n).0 (subst (λ x. IsAmong x (map node_of (of_class m T))) (sym h.3) (map_among node_of (of_class m T) h.0 ((in_class T m h.0).1 (h.1, h.2))))),
-)
+fragment_nodes T m f is n =
+    let r = nodes_among (of_class m T) f.nodes is.nodes n in (
+      (λ i. (let h = r.0 i in let g = (in_class T m h.0).0 h.1 in (h.0, g.0, g.1, h.2))),
+      (λ h. r.1 (h.0, (in_class T m h.0).1 (h.1, h.2), h.3)),
+    )
 
 pub fragment_cells : (T : Table) (m : ℕ) (f : Fragment) → IsFragment T m f → (d : Cell) → IsAmong d f.cells ↔ ((e : Entry) × (get T e.0 ≡ Some e.1) × (e.0.class ≡ m) × IsAmong d (cells_of e))
-fragment_cells T m f is d = (
-  (λ i.
-      let r = among_flat_map cells_of (of_class m T) d ((among_permutation _ _ is.cells d).1 i) in
-      let g = (in_class T m r.0).0 r.1 in
-      (r.0, g.0, g.1, r.2)),
-  (λ h. (among_permutation _ _ is.cells d).0 (flat_map_among cells_of (of_class m T) h.0 d ((in_class T m h.0).1 (h.1, h.2)) h.3)),
-)
+fragment_cells T m f is d =
+    let r = cells_among (of_class m T) f.cells is.cells d in (
+      (λ i. (let h = r.0 i in let g = (in_class T m h.0).0 h.1 in (h.0, g.0, g.1, h.2))),
+      (λ h. r.1 (h.0, (in_class T m h.0).1 (h.1, h.2), h.3)),
+    )
+
+-- ---- what all nodes and all cells of a table are
+
+pub all_of : (T : Table) (ns : List Node) (ds : List Cell) → IsPermutation (map node_of (entries T)) ns → IsPermutation (flat_map cells_of (entries T)) ds → AreOf (λ e. get T e.0 ≡ Some e.1) ns ds
+all_of T ns ds p q = record {
+  nodes = λ n.
+      let r = nodes_among (entries T) ns p n in (
+        (λ i. (let h = r.0 i in (h.0, among_entries T h.0 h.1, h.2))),
+        (λ h. r.1 (h.0, entries_among T h.0.0 h.0.1 h.1, h.2)),
+      );
+  cells = λ d.
+      let r = cells_among (entries T) ds q d in (
+        (λ i. (let h = r.0 i in (h.0, among_entries T h.0 h.1, h.2))),
+        (λ h. r.1 (h.0, entries_among T h.0.0 h.0.1 h.1, h.2)),
+      );
+}
 
 -- ---- from label to label
 

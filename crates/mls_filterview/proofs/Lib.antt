@@ -23,3 +23,5 @@ pub mod EntitySteps
 pub mod EntityTests
 pub mod RuleLemmas
 pub mod CheckingLemmas
+pub mod RecoveringLemmas
+pub mod ContentLemmas

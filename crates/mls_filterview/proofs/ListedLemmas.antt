@@ -41,7 +41,7 @@ find-lookup : (q : Place) (es : List Entry) → find place_cmp q es ≡ lookup (
 find-lookup q [] = refl
 find-lookup q (e ∷ es) = ap (λ o. cond (is_place q e.0) (Some e.1) o) (find-lookup q es)
 
-in_map : (es : List Entry) → IsStrictlySortedBy place_cmp (keys_of es) → (e : Entry) → IsAmong e es ↔ (lookup (is_at (place_cmp e.0)) es ≡ Some e.1)
+pub in_map : (es : List Entry) → IsStrictlySortedBy place_cmp (keys_of es) → (e : Entry) → IsAmong e es ↔ (lookup (is_at (place_cmp e.0)) es ≡ Some e.1)
 in_map es s e = (
   (λ i. sym (find-lookup e.0 es) ∙ found_in es (so_from _ (sorted_keys es s)) e i),
   (λ h. among_found es e.0 e.1 (find-lookup e.0 es ∙ h)),
@@ -53,7 +53,7 @@ pub listed_rows : (ls : Labels) (n : ℕ) (T : Table) (c : ℕ) (ns : List Node)
     → IsStrictlySortedBy place_cmp (keys_of es) → AreRows held ns (λ q. lookup (is_at (place_cmp q)) es) → map (λ e. tuple_at e.0 e.1) (filter (is_max_among es) es) ≡ rows ls c T
 listed_rows ls n T c ns ds held es stored low values s found =
     rows-listed ls c T es (sorted_keys es s) (λ e.
-    let r = rows_low ls n T stored c (length ls) ns ds low (λ f g. let st = stored f.0 f.1 g in st.declared f.0.class st.own) held values (λ q. lookup (is_at (place_cmp q)) es) found e in
+    let r = rows_low ls n T stored c ns ds low held values (λ q. lookup (is_at (place_cmp q)) es) found e in
     ((λ i. r.0 ((in_map es s e).0 i)), (λ h. (in_map es s e).1 (r.1 h))))
 
 -- so they are just the tuples of the view, each once, in the order of places

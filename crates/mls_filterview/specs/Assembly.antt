@@ -2,7 +2,7 @@
 use Rattle.std.specs.Prelude.{◌≡◌, ℕ, suc, ◌<◌, true, if◌then◌else◌, nat_eq, List, [], ◌∷◌, find, Option, Some, None, option_and_then, ◌↔◌}
 use Rattle.std.specs.Ordering.{nat_cmp, ordering_then}
 use Rattle.std.specs.Option.{unwrap_or}
-use Rattle.std.specs.FinMap.{get}
+use Rattle.std.specs.FinMap.{get, from_sorted}
 use Rattle.std.specs.declared.cmp.Ordering.{Ordering}
 use Rattle.mls_lattice.specs.Labels.{Labels, below}
 use Rattle.mls_scheme.specs.declared.value.Value.{Value}
@@ -57,11 +57,19 @@ pub record AreRows (held : CellPlace → Option (Option Value)) (nodes : List No
   pub sound : (p : Place) (es : List Element) → found p ≡ Some es → (n : Node) × IsAmong n nodes × (place_of_node n ≡ p) × (elements_of held n ≡ es)
   pub complete : (n : Node) → IsAmong n nodes → (es : List Element) × (found (place_of_node n) ≡ Some es)
 
+-- the table of the entries of a map
+abbrev pub table_of : List (Place × List Element) → Table
+table_of es = from_sorted es
+
 -- a tuple of the table, of a class below k that c dominates
 abbrev pub IsLowEntry : Labels → Table → ℕ → ℕ → Place × List Element → Type 0
 IsLowEntry ls T c k e = (get T e.0 ≡ Some e.1) × (e.0.class < k) × (below ls e.0.class c ≡ true)
 
--- the nodes and the cells of these tuples, in any order
-pub record AreLow (ls : Labels) (T : Table) (c k : ℕ) (ns : List Node) (ds : List Cell) : Type 0 where
-  pub nodes : (n : Node) → IsAmong n ns ↔ ((e : Place × List Element) × IsLowEntry ls T c k e × (n ≡ node_of e))
-  pub cells : (d : Cell) → IsAmong d ds ↔ ((e : Place × List Element) × IsLowEntry ls T c k e × IsAmong d (cells_of e))
+-- the nodes and the cells of tuples, in any order
+pub record AreOf (In : Place × List Element → Type 0) (ns : List Node) (ds : List Cell) : Type 0 where
+  pub nodes : (n : Node) → IsAmong n ns ↔ ((e : Place × List Element) × In e × (n ≡ node_of e))
+  pub cells : (d : Cell) → IsAmong d ds ↔ ((e : Place × List Element) × In e × IsAmong d (cells_of e))
+
+-- those of the tuples of these classes
+abbrev pub AreLow : Labels → Table → ℕ → ℕ → List Node → List Cell → Type 0
+AreLow ls T c k = AreOf (IsLowEntry ls T c k)

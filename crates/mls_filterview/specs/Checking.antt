@@ -1,5 +1,5 @@
 -- The rules of the stored form, as tests of a row.
-use Rattle.std.specs.Prelude.{ℕ, Bool, true, false, not, ◌&&◌, ◌||◌, if◌then◌else◌, nat_eq, is_some, List, [], ◌∷◌, take, drop, Option, Some, None}
+use Rattle.std.specs.Prelude.{ℕ, Bool, true, false, not, ◌&&◌, ◌||◌, if◌then◌else◌, nat_eq, nat_lt, is_some, List, [], ◌∷◌, take, drop, Option, Some, None}
 use Rattle.std.specs.List.{list_all, list_any}
 use Rattle.mls_lattice.specs.Lattice.{same_pair}
 use Rattle.mls_lattice.specs.Labels.{Labels, label_of, below}
@@ -8,13 +8,15 @@ use Rattle.mls_scheme.specs.declared.tuple.Element.{Element}
 use Rattle.mls_scheme.specs.declared.tuple.Tuple.{Tuple}
 use Rattle.mls_scheme.specs.Value.{is_kind, fits_kind}
 use Rattle.mls_scheme.specs.Tuple.{tuple_class}
-use Rattle.mls_scheme.specs.Table.{place_of}
+use Rattle.mls_scheme.specs.declared.place.Place.{Place}
+use Rattle.mls_scheme.specs.Table.{place_of, tuple_at}
 use Rattle.mls_scheme.specs.Scheme.{Attribute, Scheme}
 use Rattle.mls_scheme.specs.Fits.{in_interval}
 use Rattle.mls_filterview.specs.declared.rule.Rule.{Rule}
 use Rattle.mls_filterview.specs.declared.rule.Rule.TheVariants.{Entity, Null, Interval, Poly, Closure}
 use Rattle.mls_filterview.specs.Stored.{is_entity}
 use Rattle.mls_filterview.specs.Subsumption.{same_element}
+use Rattle.mls_filterview.specs.Filtering.{class_number}
 use Rattle.mls_filterview.specs.Rules.{row_at}
 
 -- a test of each class of a tuple
@@ -94,3 +96,12 @@ broken_rule ls scheme ts i =
     else if not (is_determined ls ts i) then Some Poly
     else if not (is_chain ls (row_at ts i) && has_each_class ls ts (row_at ts i)) then Some Closure
     else None
+
+-- ---- rows by their places
+
+abbrev pub are_declared : ℕ → List Element → Bool
+are_declared count = list_all (λ e. nat_lt e.class count)
+
+-- the classes of a tuple are numbers of labels, of which there are count, and it stands at the number of its class
+abbrev pub is_placed : ℕ → Labels → Place × List Element → Bool
+is_placed count ls e = nat_lt e.0.key_class count && are_declared count e.1 && nat_eq e.0.class (class_number ls (tuple_at e.0 e.1))

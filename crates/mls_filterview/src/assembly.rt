@@ -95,7 +95,8 @@ fn elements_of(alloc: Global, values: &Values, node: &Node) -> Result<Items<Elem
 
 /// The tuples of nodes, by their places.
 pub fn rows_of(alloc: Global, nodes: Items<Node>, values: &Values) -> Result<Rows, AllocError>
-    ensures { IfOk result (λ rows. AreRows (get cell_place_cmp values.now) nodes (get place_cmp rows)) }
+    ensures rows { IfOk result (λ rows. AreRows (get cell_place_cmp values.now) nodes (get place_cmp rows)) }
+    ensures ordered { IfOk result (IsOrdered place_cmp) }
 {
     let mut rows = BTreeMap::new(alloc);
     for node in nodes.into_vec() {

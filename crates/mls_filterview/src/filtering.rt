@@ -9,7 +9,7 @@ ghost use Rattle.mls_scheme.specs.Table.{Table, IsIn};
 ghost use Rattle.mls_scheme.specs.declared.tuple.Tuple.{Tuple as SpecTuple};
 ghost use Rattle.mls_filterview.specs.View.{hide, filtered, View, rows, IsAmong};
 ghost use Rattle.mls_filterview.specs.Stored.{IsStored};
-ghost use Rattle.mls_filterview.specs.Filtering.{EachOnce, seen, class_number, row_of, row_cmp};
+ghost use Rattle.mls_filterview.specs.Filtering.{EachOnce, seen, greatest_from, row_of, row_cmp};
 
 use crate::maximal::maximal_tuples;
 use crate::row::Row;
@@ -108,13 +108,14 @@ fn hide(
 }
 
 /// The tuples with their places.
+#[tactic(auto, unfolding(crate::specs::Filtering::class_number))]
 fn rows_of(alloc: Global, policy: &Policy, tuples: Vec<Tuple>) -> Result<Vec<Row>, AllocError>
     requires { AllByRecursion (HasClassesBelow (length policy.now.labels)) tuples.items }
     ensures { IfOk result (λ v. v.items ≡ map (row_of (labels_of policy.now)) tuples.items) }
 {
     let mut rows = Vec::new(alloc);
     for tuple in tuples {
-        let class = class_number(policy, &tuple);
+        let class = greatest_class(policy, tuple.key_class, &tuple.elements);
         let place = Place {
             key: tuple.key,
             key_class: tuple.key_class,
@@ -128,14 +129,14 @@ fn rows_of(alloc: Global, policy: &Policy, tuples: Vec<Tuple>) -> Result<Vec<Row
     Ok(rows)
 }
 
-/// The number of the greatest class of a tuple, where there is one.
-#[tactic(auto, unfolding(crate::specs::Filtering::class_number))]
-fn class_number(policy: &Policy, tuple: &Tuple) -> LabelNo
-    requires { HasClassesBelow (length policy.now.labels) tuple.now }
-    ensures { result ≡ class_number (labels_of policy.now) tuple.now }
+/// The number of the greatest of the classes of a tuple, where there is one.
+pub(crate) fn greatest_class(policy: &Policy, key_class: LabelNo, elements: &[Element]) -> LabelNo
+    requires key_class { key_class < length policy.now.labels }
+    requires elements { AllByRecursion (λ e. e.class < length policy.now.labels) elements.now }
+    ensures { result ≡ greatest_from (labels_of policy.now) key_class elements.now }
 {
-    let mut class = tuple.key_class;
-    for element in tuple.elements.as_slice() {
+    let mut class = key_class;
+    for element in elements {
         if policy.dominates(element.class, class) {
             class = element.class;
         }

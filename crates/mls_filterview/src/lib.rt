@@ -11,11 +11,14 @@ mod fitting;
 mod fragment;
 mod laws;
 mod maximal;
+mod recovering;
 mod row;
 mod rule;
+mod splitting;
 mod subsumption;
 mod viewing;
 
+pub use assembly::{Rows, Values, rows_of, values_of};
 pub use base::{Base, BaseFault, abandon, made};
 pub use checking::integrity;
 pub use entity::{is_entity, is_same_entity};
@@ -26,6 +29,8 @@ pub use laws::{
     rows_are_the_view, stored_has_integrity, view_is_max_of_low, view_tells_low,
     views_and_low_agree,
 };
+pub use recovering::is_content;
 pub use rule::{Broken, Rule};
+pub use splitting::{add_cells, cells_of, node_of, nodes_of};
 pub use subsumption::subsumes;
 pub use viewing::view;

@@ -35,11 +35,7 @@ impl Row {
     pub fn tuple(&self) -> Result<Tuple, AllocError>
         ensures { IfOk result (λ t. t ≡ tuple_at self.now.0 self.now.1) }
     {
-        Ok(Tuple {
-            key: copy_key(&self.place.key)?,
-            key_class: self.place.key_class,
-            elements: self.elements.clone()?,
-        })
+        tuple_at(&self.place, &self.elements)
     }
 
     /// The order of rows: by place, and at one place by elements.
@@ -50,6 +46,17 @@ impl Row {
             .order(&other.place)
             .then(order_elements(&self.elements, &other.elements))
     }
+}
+
+/// A copy of the tuple at a place.
+pub(crate) fn tuple_at(place: &Place, elements: &Items<Element>) -> Result<Tuple, AllocError>
+    ensures { IfOk result (λ t. t ≡ tuple_at place.now elements.now) }
+{
+    Ok(Tuple {
+        key: copy_key(&place.key)?,
+        key_class: place.key_class,
+        elements: elements.clone()?,
+    })
 }
 
 /// The order of elements: the first that differ decide, null before values, and then by class.

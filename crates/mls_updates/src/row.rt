@@ -1,11 +1,11 @@
 //! One tuple, whole.
-ghost use Rattle.std.specs.Prelude.{◌≡◌, ◌++◌, ◌&&◌, if◌then◌else◌, nat_eq, IfOk, OnOk, map};
+ghost use Rattle.std.specs.Prelude.{◌≡◌, ◌++◌, ◌&&◌, if◌then◌else◌, nat_eq, IfOk, OnOk};
 ghost use Rattle.mls_filterview.specs.Fragment.{node_of, cells_of, set_from};
 ghost use Rattle.mls_updates.specs.Rows.{entry_of, is_of, is_at, set_row};
 
-use mls_filterview::{Cell, Node, is_entity};
+use mls_filterview::{Cell, Node, add_cells, is_entity, node_of};
 use mls_lattice::{Items, LabelNo};
-use mls_scheme::{Element, Place, RelNo, Value, copy_key};
+use mls_scheme::{Element, Place, RelNo, Value};
 use std::alloc::{AllocError, Global};
 
 /// A tuple of a relation, at its place.
@@ -35,13 +35,7 @@ impl Row {
     pub(crate) fn node(&self, alloc: Global) -> Result<Node, AllocError>
         ensures { IfOk result (λ n. n ≡ node_of (entry_of self.now)) }
     {
-        let pattern = classes(alloc, &self.elements)?;
-        Ok(Node {
-            key: copy_key(&self.place.key)?,
-            key_class: self.place.key_class,
-            label: self.place.class,
-            pattern: Items::from(pattern),
-        })
+        node_of(alloc, &self.place, &self.elements)
     }
 
     /// Adds the elements of the tuple's own class.
@@ -75,36 +69,6 @@ impl Row {
             elements: Items::from(elements),
         })
     }
-}
-
-/// The classes of elements.
-fn classes(alloc: Global, elements: &[Element]) -> Result<Vec<LabelNo>, AllocError>
-    ensures { IfOk result (λ v. v.items ≡ map (λ e. e.class) elements.now) }
-{
-    let mut classes = Vec::new(alloc);
-    for element in elements {
-        classes.push(element.class)?;
-    }
-    Ok(classes)
-}
-
-/// Adds the elements of the class of a place.
-fn add_cells(cells: &mut Vec<Cell>, place: &Place, elements: &[Element]) -> Result<(), AllocError>
-    ensures { OnOk result (cells.new.items ≡ cells.old.items ++ cells_of (place.now, elements.now)) }
-{
-    for (attr, element) in elements.iter().enumerate() {
-        if element.class != place.class {
-            continue;
-        }
-        cells.push(Cell {
-            key: copy_key(&place.key)?,
-            key_class: place.key_class,
-            attr,
-            label: element.class,
-            value: element.value.clone()?,
-        })?;
-    }
-    Ok(())
 }
 
 /// The elements, with a new value at an attribute where its class is the label.

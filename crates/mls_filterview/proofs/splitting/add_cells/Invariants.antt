@@ -1,6 +1,6 @@
 use Rattle.std.proofs.Common.{◌≡◌, ◌++◌, drop}
 use Rattle.mls_filterview.specs.Fragment.{cells_from}
-use Rattle.mls_updates.proofs.row.add_cells.Given as goal
+use Rattle.mls_filterview.proofs.splitting.add_cells.Given as goal
 
 abbrev pub invariant-loop-attr : goal.invariant-loop-attr
 invariant-loop-attr l =

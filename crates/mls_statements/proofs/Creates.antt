@@ -16,6 +16,7 @@ use Rattle.mls_statements.specs.Statements.{IsNext}
 use Rattle.mls_statements.proofs.Texts.{MakesTable, create_node, create_node_is, create_cell, create_cell_is, create_audit, create_audit_is, create_meta, create_meta_is}
 use Rattle.mls_statements.proofs.EditParts.{went, same_value}
 use Rattle.mls_statements.proofs.EndLemmas.{next}
+use Rattle.mls_statements.proofs.WholeSchema.{made_whole}
 
 pub record Made (s : Schema) (table : Table) (old new : State) : Type 0 where
   pub schema_is : new.now.schema ≡ created s table
@@ -73,4 +74,4 @@ module _ (old new : State) where
   makes_meta (Ok count) was h =
       let it = made with_audit create_meta meta create_meta_is refl old new count was.0 h in
       let before = still_empty with_audit.tables old.now.trees new.now.trees it.others was.1 in
-      ((it.schema_is, (before.0, (before.1.0, (before.1.1.0, (it.empty, tt))))), it.next)
+      ((it.schema_is ∙ made_whole, (before.0, (before.1.0, (before.1.1.0, (it.empty, tt))))), it.next)

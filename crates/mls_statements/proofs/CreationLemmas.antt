@@ -25,11 +25,13 @@ module _ (made added end : State) (lattice schemes : List ℕ) (is : IsMade sche
       let one : now.meta ≡ first_meta lattice schemes ∷ [] = one_permutation (first_meta lattice schemes) now.meta (subst (λ (t : Tables). IsPermutation (first_meta lattice schemes ∷ t.meta) now.meta) empty adds.rows.1) in
       let all : now ≡ described lattice schemes = adds.rows.0 ∙ (ap (λ (t : Tables). record t { meta = now.meta }) empty ∙ ap (λ ms. record no_rows { meta = ms }) one) in
       record {
-        is_open = commits.0.is_open;
-        mode = commits.0.mode;
-        ready = subst IsReady (sym commits.0.now_is) adds.ready;
+        settled = record {
+          is_open = commits.0.is_open;
+          mode = commits.0.mode;
+          ready = subst IsReady (sym commits.0.now_is) adds.ready;
+          settled = commits.0.now_is ∙ sym commits.0.committed_is;
+        };
         rows = ap (λ (db : Database). tables_of db.trees) commits.0.now_is ∙ all;
-        settled = commits.0.now_is ∙ sym commits.0.committed_is;
       }
 
   pub stored : (r : Result ℕ Error) → OnOk r (Commits added end) → OnOk r (IsNewStore lattice schemes end)

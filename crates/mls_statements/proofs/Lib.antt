@@ -2,6 +2,7 @@ pub mod Adds
 pub mod ApartRows
 pub mod Creates
 pub mod CreationLemmas
+pub mod DescriptionLemmas
 pub mod Drops
 pub mod EditParts
 pub mod EndLemmas
@@ -10,6 +11,9 @@ pub mod NumberedLemmas
 pub mod QueryAnswers
 pub mod ReadyLemmas
 pub mod RowLists
+pub mod SchemaLemmas
 pub mod TableRows
 pub mod Texts
 pub mod ValueTests
+pub mod WholeRows
+pub mod WholeSchema

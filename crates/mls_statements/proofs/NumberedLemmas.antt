@@ -1,7 +1,7 @@
 -- Entries whose numbers rise by one are the list that they are a permutation of.
 use Rattle.std.proofs.Common.{◌≡◌, inl, inr, ℕ, suc, ◌+◌, ◌<◌, ℤ, ◌+ℤ◌, pos, List, [], ◌∷◌, map, filter, length, nat_lt, Bool, true, false, IsPermutation, refl, sym, ap, subst, subst₂, ◌∙◌, arith}
 use Rattle.std.specs.Ordering.{int_eq}
-use Rattle.std.proofs.lemmas.Bool.{and_parts, cases_Bool}
+use Rattle.std.proofs.lemmas.Bool.{and_parts, and_from, cases_Bool}
 use Rattle.std.proofs.lemmas.Bool.Decides.{nat_tests}
 use Rattle.std.proofs.lemmas.Int.{ints}
 use Rattle.std.proofs.lemmas.List.Sorted.{length_permutation, IsPermutation-refl, IsPermutation-trans}
@@ -29,13 +29,18 @@ abbrev texts : List AuditRow → List (List ℕ)
 texts = map (λ a. a.bytes)
 
 -- rows that are numbered are those of their texts
-spelled : (k : ℕ) (rows : List AuditRow) → are_numbered (pos k) rows ≡ true → rows ≡ numbered k (texts rows)
+pub spelled : (k : ℕ) (rows : List AuditRow) → are_numbered (pos k) rows ≡ true → rows ≡ numbered k (texts rows)
 spelled k [] h = refl
 spelled k (a ∷ rows) h =
     let parts = and_parts _ _ h in
     let number = equal_ints a.number (pos k) parts.0 in
     let later = spelled (k + 1) rows (subst (λ n. are_numbered n rows ≡ true) (next_is k) parts.1) in
     ap (λ n. record { number = n; bytes = a.bytes } ∷ rows) number ∙ ap (λ l. record { number = pos k; bytes = a.bytes } ∷ l) later
+
+-- and rows of texts are numbered
+pub rising : (k : ℕ) (list : List (List ℕ)) → are_numbered (pos k) (numbered k list) ≡ true
+rising k [] = refl
+rising k (b ∷ list) = and_from _ _ (same_int k) (subst (λ n. are_numbered n (numbered (k + 1) list) ≡ true) (sym (next_is k)) (rising (k + 1) list))
 
 -- no row has a number below the first
 none_below : (j k : ℕ) (bs : List (List ℕ)) → j < k → filter (has_number j) (numbered k bs) ≡ []

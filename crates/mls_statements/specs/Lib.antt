@@ -1,3 +1,4 @@
+pub mod Adopting
 pub mod Rows
 pub mod Schema
 pub mod Statements

@@ -8,6 +8,7 @@ use Rattle.sqlite.specs.Schema.{Schema}
 use Rattle.sqlite.specs.Kind.{Kind}
 use Rattle.sqlite.specs.Kind.TheVariants.{Integer, Text, Blob}
 use Rattle.sqlite_schema.specs.declared.schema.Column.{Column}
+use Rattle.sqlite_schema.specs.declared.schema.Index.{Index}
 use Rattle.sqlite_value.specs.Keys.{plain}
 use Rattle.sqlite.specs.Change.{created}
 use Rattle.sqlite.specs.Effect.{Database}
@@ -15,69 +16,59 @@ use Rattle.sqlite.specs.Effect.{Database}
 abbrev pub needed : List ℕ → Kind → Column
 needed name kind = record { name = name; kind = kind; is_strict = true; not_null = true; default = Null; collation = Binary }
 
-abbrev pub node : Table
-node = record {
-  name = codes "node";
-  tree = 0;
-  columns = needed (codes "rel") Integer ∷ needed (codes "ent") Blob ∷ needed (codes "kclass") Integer ∷ needed (codes "label") Integer ∷ needed (codes "pattern") Blob ∷ [];
-  key = None;
-  primary = 1 ∷ 2 ∷ 3 ∷ 4 ∷ [];
-  uniques = (1 ∷ 2 ∷ 3 ∷ 4 ∷ []) ∷ [];
-  orders = plain ∷ [];
+-- nothing is tested, computed or counted beside the keys
+abbrev pub HasNoRules : Table → Type 0
+HasNoRules t =
+    (t.checks ≡ []) × ((t.references ≡ []) × ((t.computed ≡ []) × ((t.stamps ≡ record { places = []; terms = []; formats = [] }) × (t.is_counted ≡ false))))
+
+-- the first column is the rowid, and the only key
+abbrev pub IsByRowid : Table → Type 0
+IsByRowid t = (t.key ≡ Some 0) × ((t.primary ≡ 0 ∷ []) × ((t.uniques ≡ []) × (t.orders ≡ [])))
+
+-- the columns at these places are the only key, which has an index
+abbrev pub IsByIndex : List ℕ → Table → Type 0
+IsByIndex places t = (t.key ≡ None) × ((t.primary ≡ places) × ((t.uniques ≡ places ∷ []) × (t.orders ≡ plain ∷ [])))
+
+abbrev pub by_rowid : List ℕ → ℕ → List Column → Table
+by_rowid name tree columns = record {
+  name = name;
+  tree = tree;
+  columns = columns;
+  key = Some 0;
+  primary = 0 ∷ [];
+  uniques = [];
+  orders = [];
   checks = [];
   references = [];
   computed = [];
   stamps = record { places = []; terms = []; formats = [] };
   is_counted = false;
 }
+
+abbrev pub by_index : List ℕ → ℕ → List Column → List ℕ → Table
+by_index name tree columns places = record (by_rowid name tree columns) { key = None; primary = places; uniques = places ∷ []; orders = plain ∷ [] }
+
+-- the index that SQLite makes for a primary key
+abbrev pub key_index : List ℕ → ℕ → ℕ → List ℕ → Index
+key_index name tree table places = record { name = name; tree = tree; table = table; columns = places; order = plain; is_unique = true }
+
+abbrev pub node : Table
+node =
+    by_index (codes "node") 0
+    (needed (codes "rel") Integer ∷ needed (codes "ent") Blob ∷ needed (codes "kclass") Integer ∷ needed (codes "label") Integer ∷ needed (codes "pattern") Blob ∷ [])
+    (1 ∷ 2 ∷ 3 ∷ 4 ∷ [])
 
 abbrev pub cell : Table
-cell = record {
-  name = codes "cell";
-  tree = 2;
-  columns = needed (codes "rel") Integer ∷ needed (codes "ent") Blob ∷ needed (codes "kclass") Integer ∷ needed (codes "label") Integer ∷ needed (codes "attr") Integer ∷ needed (codes "value") Blob ∷ [];
-  key = None;
-  primary = 1 ∷ 2 ∷ 3 ∷ 5 ∷ 4 ∷ [];
-  uniques = (1 ∷ 2 ∷ 3 ∷ 5 ∷ 4 ∷ []) ∷ [];
-  orders = plain ∷ [];
-  checks = [];
-  references = [];
-  computed = [];
-  stamps = record { places = []; terms = []; formats = [] };
-  is_counted = false;
-}
+cell =
+    by_index (codes "cell") 2
+    (needed (codes "rel") Integer ∷ needed (codes "ent") Blob ∷ needed (codes "kclass") Integer ∷ needed (codes "label") Integer ∷ needed (codes "attr") Integer ∷ needed (codes "value") Blob ∷ [])
+    (1 ∷ 2 ∷ 3 ∷ 5 ∷ 4 ∷ [])
 
 abbrev pub audit : Table
-audit = record {
-  name = codes "audit";
-  tree = 4;
-  columns = needed (codes "number") Integer ∷ needed (codes "bytes") Blob ∷ [];
-  key = Some 0;
-  primary = 0 ∷ [];
-  uniques = [];
-  orders = [];
-  checks = [];
-  references = [];
-  computed = [];
-  stamps = record { places = []; terms = []; formats = [] };
-  is_counted = false;
-}
+audit = by_rowid (codes "audit") 4 (needed (codes "number") Integer ∷ needed (codes "bytes") Blob ∷ [])
 
 abbrev pub meta : Table
-meta = record {
-  name = codes "meta";
-  tree = 5;
-  columns = needed (codes "id") Integer ∷ needed (codes "version") Integer ∷ needed (codes "lattice") Text ∷ needed (codes "schemes") Text ∷ [];
-  key = Some 0;
-  primary = 0 ∷ [];
-  uniques = [];
-  orders = [];
-  checks = [];
-  references = [];
-  computed = [];
-  stamps = record { places = []; terms = []; formats = [] };
-  is_counted = false;
-}
+meta = by_rowid (codes "meta") 5 (needed (codes "id") Integer ∷ needed (codes "version") Integer ∷ needed (codes "lattice") Text ∷ needed (codes "schemes") Text ∷ [])
 
 abbrev pub no_schema : Schema
 no_schema = record { tables = []; indexes = []; views = [] }
@@ -94,7 +85,11 @@ with_audit = created with_cell audit
 
 -- the whole schema
 abbrev pub schema : Schema
-schema = created with_audit meta
+schema = record {
+  tables = node ∷ cell ∷ audit ∷ meta ∷ [];
+  indexes = key_index (codes "sqlite_autoindex_node_1") 1 0 (1 ∷ 2 ∷ 3 ∷ 4 ∷ []) ∷ key_index (codes "sqlite_autoindex_cell_1") 3 2 (1 ∷ 2 ∷ 3 ∷ 5 ∷ 4 ∷ []) ∷ [];
+  views = [];
+}
 
 -- the database has the tables of a schema, without a row
 abbrev pub IsMade : Schema → Database → Type 0

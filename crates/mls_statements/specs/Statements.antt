@@ -78,13 +78,17 @@ pub record Begins (old new : State) : Type 0 where
   pub committed : new.committed ≡ old.committed
   pub mode : new.in_transaction ≡ true
 
--- a store that was made, and is committed
-pub record IsNewStore (lattice schemes : List ℕ) (s : State) : Type 0 where
+-- an open connection shows the four tables, and has committed them
+pub record HasSettled (s : State) : Type 0 where
   pub is_open : IsTrue s.is_open
   pub mode : s.in_transaction ≡ false
   pub ready : IsReady s.now
-  pub rows : tables_of s.now.trees ≡ described lattice schemes
   pub settled : s.now ≡ s.committed
+
+-- a store that was made, and is committed
+pub record IsNewStore (lattice schemes : List ℕ) (s : State) : Type 0 where
+  pub settled : HasSettled s
+  pub rows : tables_of s.now.trees ≡ described lattice schemes
 
 -- nothing was done, or the transaction was undone
 abbrev pub IsEnded : State → State → Type 0

@@ -1,10 +1,11 @@
 //! Rows of tables from rows that queries show.
-ghost use Rattle.std.specs.Prelude.{◌≡◌, pos, true, map, IsTrue, IfOk};
+ghost use Rattle.std.specs.Prelude.{◌≡◌, pos, true, map, IfOk, IfErr};
 ghost use Rattle.std.specs.List.{AllByRecursion};
 ghost use Rattle.sqlite_value.specs.Order.{column};
 ghost use Rattle.sqlite_trees.specs.View.{is_int};
 ghost use Rattle.sqlite_rules.specs.Edit.{id_in};
 ghost use Rattle.mls_statements.specs.Rows.{nat_in, blob_in, text_in, is_nat, is_blob, is_text, shown_node, shows_node, shown_cell, shows_cell, shown_entry, shows_entry, shown_meta, shows_meta, are_numbered};
+ghost use Rattle.mls_statements.specs.Adopting.{IsNumber, IsInteger, IsBytes, IsText, ReadsNode, ReadsCell, ReadsEntry, ReadsMeta, HaveIds, Refutes, rise};
 
 use crate::rows::{AuditRow, CellRow, MetaRow, NodeRow};
 use mls_lattice::{Items, Str};
@@ -12,33 +13,38 @@ use sqlite::{Error, Row};
 use std::alloc::Global;
 
 fn bytes_at(row: &Row, at: usize) -> Result<Items<u8>, Error>
-    ensures { IfOk result (λ bytes. (bytes ≡ blob_in (column row.now at)) × (is_blob (column row.now at) ≡ true)) }
+    ensures ok { IfOk result (λ bytes. (bytes ≡ blob_in (column row.now at)) × (is_blob (column row.now at) ≡ true)) }
+    ensures refused { IfErr result (Refutes (IsBytes (column row.now at))) }
 {
     let bytes: Vec<u8> = row.get(at)?;
     Ok(Items::from(bytes))
 }
 
 fn text_at(row: &Row, at: usize) -> Result<Str, Error>
-    ensures { IfOk result (λ text. (text ≡ text_in (column row.now at)) × (is_text (column row.now at) ≡ true)) }
+    ensures ok { IfOk result (λ text. (text ≡ text_in (column row.now at)) × (is_text (column row.now at) ≡ true)) }
+    ensures refused { IfErr result (Refutes (IsText (column row.now at))) }
 {
     let text: String = row.get(at)?;
     Ok(Str::from(text))
 }
 
 fn number_at(row: &Row, at: usize) -> Result<u32, Error>
-    ensures { IfOk result (λ n. (n ≡ nat_in (column row.now at)) × (is_nat (column row.now at) ≡ true)) }
+    ensures ok { IfOk result (λ n. (n ≡ nat_in (column row.now at)) × (is_nat (column row.now at) ≡ true)) }
+    ensures refused { IfErr result (Refutes (IsNumber (column row.now at))) }
 {
     row.get(at)
 }
 
 fn integer_at(row: &Row, at: usize) -> Result<i64, Error>
-    ensures { IfOk result (λ n. (n ≡ id_in (column row.now at)) × (is_int (column row.now at) ≡ true)) }
+    ensures ok { IfOk result (λ n. (n ≡ id_in (column row.now at)) × (is_int (column row.now at) ≡ true)) }
+    ensures refused { IfErr result (Refutes (IsInteger (column row.now at))) }
 {
     row.get(at)
 }
 
 fn node_from(row: &Row) -> Result<NodeRow, Error>
-    ensures { IfOk result (λ x. (x ≡ shown_node row.now) × (shows_node row.now ≡ true)) }
+    ensures ok { IfOk result (λ x. (x ≡ shown_node row.now) × (shows_node row.now ≡ true)) }
+    ensures refused { IfErr result (Refutes (ReadsNode row.now)) }
 {
     let rel = number_at(row, 0)?;
     let ent = bytes_at(row, 1)?;
@@ -58,6 +64,7 @@ fn node_from(row: &Row) -> Result<NodeRow, Error>
 pub fn nodes_from(alloc: Global, rows: &[Row]) -> Result<Vec<NodeRow>, Error>
     ensures shown { IfOk result (λ xs. xs.items ≡ map shown_node rows.now) }
     ensures whole { IfOk result (λ _. AllByRecursion (λ r. shows_node r ≡ true) rows.now) }
+    ensures refused { IfErr result (Refutes (AllByRecursion ReadsNode rows.now)) }
 {
     let mut found = Vec::new(alloc);
     for row in rows {
@@ -67,7 +74,8 @@ pub fn nodes_from(alloc: Global, rows: &[Row]) -> Result<Vec<NodeRow>, Error>
 }
 
 fn cell_from(row: &Row) -> Result<CellRow, Error>
-    ensures { IfOk result (λ x. (x ≡ shown_cell row.now) × (shows_cell row.now ≡ true)) }
+    ensures ok { IfOk result (λ x. (x ≡ shown_cell row.now) × (shows_cell row.now ≡ true)) }
+    ensures refused { IfErr result (Refutes (ReadsCell row.now)) }
 {
     let rel = number_at(row, 0)?;
     let ent = bytes_at(row, 1)?;
@@ -89,6 +97,7 @@ fn cell_from(row: &Row) -> Result<CellRow, Error>
 pub fn cells_from(alloc: Global, rows: &[Row]) -> Result<Vec<CellRow>, Error>
     ensures shown { IfOk result (λ xs. xs.items ≡ map shown_cell rows.now) }
     ensures whole { IfOk result (λ _. AllByRecursion (λ r. shows_cell r ≡ true) rows.now) }
+    ensures refused { IfErr result (Refutes (AllByRecursion ReadsCell rows.now)) }
 {
     let mut found = Vec::new(alloc);
     for row in rows {
@@ -98,7 +107,8 @@ pub fn cells_from(alloc: Global, rows: &[Row]) -> Result<Vec<CellRow>, Error>
 }
 
 fn entry_from(row: &Row) -> Result<AuditRow, Error>
-    ensures { IfOk result (λ x. (x ≡ shown_entry row.now) × (shows_entry row.now ≡ true)) }
+    ensures ok { IfOk result (λ x. (x ≡ shown_entry row.now) × (shows_entry row.now ≡ true)) }
+    ensures refused { IfErr result (Refutes (ReadsEntry row.now)) }
 {
     let number = integer_at(row, 0)?;
     let bytes = bytes_at(row, 1)?;
@@ -109,6 +119,7 @@ fn entry_from(row: &Row) -> Result<AuditRow, Error>
 pub fn entries_from(alloc: Global, rows: &[Row]) -> Result<Vec<AuditRow>, Error>
     ensures shown { IfOk result (λ xs. xs.items ≡ map shown_entry rows.now) }
     ensures whole { IfOk result (λ _. AllByRecursion (λ r. shows_entry r ≡ true) rows.now) }
+    ensures refused { IfErr result (Refutes (AllByRecursion ReadsEntry rows.now)) }
 {
     let mut found = Vec::new(alloc);
     for row in rows {
@@ -118,7 +129,8 @@ pub fn entries_from(alloc: Global, rows: &[Row]) -> Result<Vec<AuditRow>, Error>
 }
 
 fn description_from(row: &Row) -> Result<MetaRow, Error>
-    ensures { IfOk result (λ x. (x ≡ shown_meta row.now) × (shows_meta row.now ≡ true)) }
+    ensures ok { IfOk result (λ x. (x ≡ shown_meta row.now) × (shows_meta row.now ≡ true)) }
+    ensures refused { IfErr result (Refutes (ReadsMeta row.now)) }
 {
     let id = integer_at(row, 0)?;
     let version = integer_at(row, 1)?;
@@ -136,6 +148,7 @@ fn description_from(row: &Row) -> Result<MetaRow, Error>
 pub fn meta_from(alloc: Global, rows: &[Row]) -> Result<Vec<MetaRow>, Error>
     ensures shown { IfOk result (λ xs. xs.items ≡ map shown_meta rows.now) }
     ensures whole { IfOk result (λ _. AllByRecursion (λ r. shows_meta r ≡ true) rows.now) }
+    ensures refused { IfErr result (Refutes (AllByRecursion ReadsMeta rows.now)) }
 {
     let mut found = Vec::new(alloc);
     for row in rows {
@@ -144,19 +157,35 @@ pub fn meta_from(alloc: Global, rows: &[Row]) -> Result<Vec<MetaRow>, Error>
     Ok(found)
 }
 
+/// Whether the rowids of rows, which stand at one place, rise.
+pub(crate) fn rowids_rise(rows: &[Row], at: usize) -> Result<bool, Error>
+    ensures rise { IfOk result (λ up. up ≡ rise at rows.now) }
+    ensures refused { IfErr result (Refutes (HaveIds at rows.now)) }
+{
+    let [first, more @ ..] = rows else {
+        return Ok(true);
+    };
+    let mut last = integer_at(first, at)?;
+    for row in more {
+        let id = integer_at(row, at)?;
+        if id <= last {
+            return Ok(false);
+        }
+        last = id;
+    }
+    Ok(true)
+}
+
 /// Whether the entries have the numbers 1, 2, .. in order.
 pub fn are_numbered(entries: &[AuditRow]) -> bool
-    ensures { IsTrue result → IsTrue (are_numbered (pos 1) entries.now) }
+    ensures { result ≡ are_numbered (pos 1) entries.now }
 {
     let mut last: i64 = 0;
     for entry in entries {
-        let Some(next) = last.checked_add(1) else {
-            return false;
-        };
-        if entry.number != next {
+        if last.checked_add(1) != Some(entry.number) {
             return false;
         }
-        last = next;
+        last = entry.number;
     }
     true
 }

@@ -1,6 +1,7 @@
 //! The four tables of a store, the statements on them, and a store that keeps its rows, its last commit and its failures.
 #![tactic(auto)]
 
+mod adopting;
 mod decode;
 mod failures;
 mod remembered;
@@ -9,6 +10,7 @@ mod rows;
 pub mod statements;
 mod store;
 
+pub use adopting::{AdoptFault, AllRows, read_store};
 pub use decode::{are_numbered, cells_from, entries_from, meta_from, nodes_from};
 pub use rows::{AuditRow, CellRow, MetaRow, NodeRow};
 pub use store::{StoreFault, TableStore};

@@ -10,3 +10,7 @@ pub mod creation;
 pub mod meta;
 /// The table of nodes.
 pub mod node;
+/// The tables that a database has.
+pub mod schema;
+/// Whole tables, at an adoption.
+pub mod whole;

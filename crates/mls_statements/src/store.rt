@@ -4,7 +4,7 @@ ghost use Rattle.sqlite.specs.Held.{state};
 ghost use Rattle.mls_statements.specs.declared.rows.CellRow.{CellRow as SpecCell};
 ghost use Rattle.mls_statements.specs.Rows.{Tables, tables_of, described, is_node_at, is_node_of, is_cell_at, is_cell_of, is_entry_at, numbered};
 ghost use Rattle.mls_statements.specs.Schema.{no_schema};
-ghost use Rattle.mls_statements.specs.Statements.{IsReady, AddsNode, DropsNode, AddsCell, SetsCell, DropsCells, AddsEntry, IsOne, has_key_of};
+ghost use Rattle.mls_statements.specs.Statements.{IsReady, AddsNode, DropsNode, AddsCell, SetsCell, DropsCells, AddsEntry, IsOne, has_key_of, HasSettled};
 ghost use Rattle.mls_statements.specs.Store.{IsClean, IsFault, IsCall, Writes, IsSame, HasEnded};
 
 use crate::decode::are_numbered;
@@ -120,20 +120,27 @@ impl<S: Alter> TableStore<S> {
         ensures clean { IfOk result (λ t. IsClean t → HasCleanDisk (state S.Store conn)) }
         ensures refused { IfErr result (λ e. HasCleanDisk (state S.Store e.1) → HasCleanDisk (state S.Store conn) × HasEnded (state S.Store conn) (state S.Store e.1)) }
     {
-        let mut failures = Failures::new();
         match creation::create_store(&mut conn, lattice, schemes) {
-            Ok(_) => {
-                let mut last = Remembered::new();
-                remember(&mut last, &conn);
-                Ok(TableStore {
-                    conn,
-                    alloc,
-                    begun: false,
-                    failures,
-                    last,
-                })
-            }
-            Err(error) => Err((fall(&mut conn, &mut failures, error), conn)),
+            Ok(_) => Ok(TableStore::over(alloc, conn)),
+            Err(error) => Err((fall(&mut conn, &mut Failures::new(), error), conn)),
+        }
+    }
+
+    /// The four tables that a connection has committed.
+    pub fn over(alloc: Global, conn: Connection<S>) -> TableStore<S>
+        requires tables { HasCleanDisk (state S.Store conn) → HasSettled (state S.Store conn) }
+        ensures rows { IsClean result → (result.now ≡ tables_of (state S.Store conn).now.trees) × (result.kept ≡ result.now) }
+        ensures mode { result.begun ≡ false }
+        ensures clean { IsClean result → HasCleanDisk (state S.Store conn) }
+    {
+        let mut last = Remembered::new();
+        remember(&mut last, &conn);
+        TableStore {
+            conn,
+            alloc,
+            begun: false,
+            failures: Failures::new(),
+            last,
         }
     }
 

@@ -2,6 +2,7 @@ ghost use Rattle.std.specs.Prelude.{IsTrue, OnOk, OnErr};
 ghost use Rattle.sqlite.specs.State.{HasCleanDisk, IsRolledBack, Commits};
 ghost use Rattle.sqlite.specs.Held.{state};
 ghost use Rattle.mls_statements.specs.Statements.{Begins, IsEnded};
+ghost use Rattle.mls_statements.specs.Store.{HasEnded};
 
 use sqlite::{Alter, Connection, Error};
 
@@ -30,4 +31,14 @@ pub fn undo<S: Alter>(conn: &mut Connection<S>) -> Result<usize, Error>
     ensures clean { HasCleanDisk (state S.Store conn.new) → HasCleanDisk (state S.Store conn.old) }
 {
     conn.execute("ROLLBACK", &[])
+}
+
+/// Ends the change, if one is begun: nothing of it is kept.
+pub fn end<S: Alter>(conn: &mut Connection<S>)
+    ensures ended { HasCleanDisk (state S.Store conn.new) → HasEnded (state S.Store conn.old) (state S.Store conn.new) }
+    ensures clean { HasCleanDisk (state S.Store conn.new) → HasCleanDisk (state S.Store conn.old) }
+{
+    if !conn.is_autocommit() {
+        let _ = undo(conn);
+    }
 }

@@ -1,0 +1,183 @@
+-- What the rows that a query showed of a whole table say of the table's.
+use Rattle.std.proofs.Common.{◌≡◌, ◌≢◌, ℕ, ℤ, List, [], ◌∷◌, map, Bool, true, false, Ok, Err, Result, Vec, OnOk, IfOk, IfErr, IsPermutation, refl, sym, ap, subst, ◌∙◌, int_lt, arith, length}
+use Rattle.std.specs.List.{AllByRecursion}
+use Rattle.std.specs.Ordering.{is_eq, int_cmp}
+use Rattle.std.specs.declared.alloc.Global.{Global}
+use Rattle.std.proofs.lemmas.Bool.{and_parts}
+use Rattle.std.proofs.lemmas.Bool.Decides.{nat_tests}
+use Rattle.std.proofs.lemmas.Int.{ints}
+use Rattle.std.proofs.lemmas.List.Sorted.{IsPermutation-refl, IsPermutation-cons, IsPermutation-trans, IsPermutation-sym, IsPermutation-map}
+use Rattle.sqlite_value.specs.declared.value.Value.{Value}
+use Rattle.sqlite_value.specs.declared.value.Value.TheVariants.{Int}
+use Rattle.sqlite_value.specs.Order.{Row, column, value_cmp}
+use Rattle.sqlite_value.proofs.OrderLemmas.{value_cmp-Int}
+use Rattle.sqlite_trees.specs.Tree.{rowid, IsAscending}
+use Rattle.sqlite_trees.specs.View.{is_int}
+use Rattle.sqlite_trees.proofs.ListLemmas.{along_permutation, all-permutation, all_from_map, ascending_from_map, map-map}
+use Rattle.sqlite_rules.specs.Edit.{id_in}
+use Rattle.sqlite_rules.proofs.TableLemmas.{int_is}
+use Rattle.sqlite.specs.declared.error.ErrorCode.TheVariants.{OutOfMemory}
+use Rattle.sqlite.specs.declared.error.Error.{Error}
+use Rattle.sqlite.specs.declared.error.Error.TheVariants.{SqliteFailure}
+use Rattle.sqlite.proofs.Callers.{one_permutation}
+use Rattle.mls_statements.specs.declared.adopting.AdoptFault.{AdoptFault}
+use Rattle.mls_statements.specs.declared.adopting.AdoptFault.TheVariants.{BadRows, OtherTexts}
+use Rattle.mls_statements.specs.Statements.{IsApart, AreRows}
+use Rattle.mls_statements.specs.Adopting.{IsInteger, HaveIds, Refutes, Blames, rise, rise_above}
+use Rattle.mls_statements.proofs.ApartRows.{other_way, swapped}
+
+abbrev differ : Value → Value → Type 0
+differ a b = is_eq (value_cmp a b) ≡ false
+
+abbrev AreDifferent : List Value → Type 0
+AreDifferent = IsAscending differ
+
+-- ---- integers that rise differ
+
+below_both : (a b c : ℤ) → int_lt a b ≡ true → int_lt b c ≡ true → int_lt a c ≡ true
+below_both a b c h k = grind (arith, ints, nat_tests)
+
+below_differs : (m n : ℤ) → int_lt m n ≡ true → is_eq (int_cmp m n) ≡ false
+below_differs m n h = grind (arith, ints, nat_tests)
+
+above_differs : (low : ℤ) (v : Value) → is_int v ≡ true → int_lt low (id_in v) ≡ true → differ (Int low) v
+above_differs low v int above =
+    ap (λ w. is_eq (value_cmp (Int low) w)) (int_is v int) ∙ (ap is_eq (value_cmp-Int low (id_in v)) ∙ below_differs low (id_in v) above)
+
+lower : (at : ℕ) (low high : ℤ) (rows : List Row) → int_lt low high ≡ true → rise_above at high rows ≡ true → rise_above at low rows ≡ true
+lower at low high [] below up = refl
+lower at low high (r ∷ rows) below up =
+    let a = and_parts _ _ up in
+    let b = and_parts _ _ a.1 in
+    let int : is_int (column r at) ≡ true = a.0 in
+    let above : int_lt low (id_in (column r at)) ≡ true = below_both low high (id_in (column r at)) below b.0 in
+    rw (int, above) b.1
+
+module _ (at : ℕ) where
+  abbrev values : List Row → List Value
+  values = map (λ r. column r at)
+
+  abbrev AreInts : List Row → Type 0
+  AreInts = AllByRecursion (λ r. is_int (column r at) ≡ true)
+
+  all_above : (low : ℤ) (rows : List Row) → rise_above at low rows ≡ true → AllByRecursion (differ (Int low)) (values rows)
+  all_above low [] up = tt
+  all_above low (r ∷ rows) up =
+      let a = and_parts _ _ up in
+      let b = and_parts _ _ a.1 in
+      (above_differs low (column r at) a.0 b.0, all_above low rows (lower at low (id_in (column r at)) rows b.0 b.1))
+
+  risen_above : (low : ℤ) (rows : List Row) → rise_above at low rows ≡ true → AreInts rows × AreDifferent (values rows)
+  risen_above low [] up = (tt, tt)
+  risen_above low (r ∷ rows) up =
+      let a = and_parts _ _ up in
+      let b = and_parts _ _ a.1 in
+      let more = risen_above (id_in (column r at)) rows b.1 in
+      ((a.0, more.0), (subst (λ v. AllByRecursion (differ v) (values rows)) (sym (int_is (column r at) a.0)) (all_above (id_in (column r at)) rows b.1), more.1))
+
+  pub risen : (rows : List Row) → rise at rows ≡ true → AreInts rows × AreDifferent (values rows)
+  risen [] up = (tt, tt)
+  risen (r ∷ rows) up =
+      let a = and_parts _ _ up in
+      let more = risen_above (id_in (column r at)) rows a.1 in
+      ((a.0, more.0), (subst (λ v. AllByRecursion (differ v) (values rows)) (sym (int_is (column r at) a.0)) (all_above (id_in (column r at)) rows a.1), more.1))
+
+-- ---- values that differ, do so in any order
+
+abbrev Keeps : List Value → List Value → Type 0
+Keeps xs ys = IsPermutation xs ys × (AreDifferent xs → AreDifferent ys)
+
+skips : (x : Value) (xs ys : List Value) → Keeps xs ys → Keeps (x ∷ xs) (x ∷ ys)
+skips x xs ys h = (IsPermutation-cons x xs ys h.0, λ apart. (all-permutation (differ x) xs ys h.0 apart.0, h.1 apart.1))
+
+turns : (x y : Value) (xs : List Value) → Keeps (x ∷ y ∷ xs) (y ∷ x ∷ xs)
+turns x y xs = (swapped x y xs, λ apart. ((other_way x y apart.0.0, apart.1.0), (apart.0.1, apart.1.1)))
+
+chains : (xs ys zs : List Value) → Keeps xs ys → Keeps ys zs → Keeps xs zs
+chains xs ys zs p q = (IsPermutation-trans xs ys zs p.0 q.0, λ apart. q.1 (p.1 apart))
+
+different_moved : (xs ys : List Value) → IsPermutation xs ys → AreDifferent xs → AreDifferent ys
+different_moved xs ys h = (along_permutation Keeps (λ zs. (IsPermutation-refl zs, λ apart. apart)) skips turns chains xs ys h).1
+
+-- ---- from the rows that were shown to those of the table
+
+module _ (columns : Row → Row) (rows found : List Row) (same : IsPermutation (map columns rows) found) where
+  back : IsPermutation found (map columns rows)
+  back = IsPermutation-sym (map columns rows) found same
+
+  -- what holds of every row as it is in the table holds of every row shown
+  pub all_shown : (P : Row → Type 0) → AllByRecursion P (map columns rows) → AllByRecursion P found
+  all_shown P = all-permutation P (map columns rows) found same
+
+  pub shown_all : (P : Row → Type 0) → AllByRecursion P found → AllByRecursion (λ r. P (columns r)) rows
+  shown_all P all = all_from_map P columns rows (all-permutation P found (map columns rows) back all)
+
+  pub items_shown : {X : Type 0} (show : Row → X) → IsPermutation (map (λ r. show (columns r)) rows) (map show found)
+  items_shown show = subst (λ xs. IsPermutation xs (map show found)) (map-map show columns rows) (IsPermutation-map show (map columns rows) found same)
+
+  module _ (at : ℕ) (place : (r : Row) → column (columns r) at ≡ rowid r) where
+    same_values : (rows : List Row) → map (λ r. column r at) (map columns rows) ≡ map rowid rows
+    same_values [] = refl
+    same_values (r ∷ rows) = rw (place r) (ap (λ vs. rowid r ∷ vs) (same_values rows))
+
+    pub apart : rise at found ≡ true → IsApart rows
+    apart up =
+        let moved = different_moved (map (λ r. column r at) found) (map (λ r. column r at) (map columns rows)) (IsPermutation-map (λ r. column r at) found (map columns rows) back) (risen at found up).1 in
+        ascending_from_map differ rowid rows (subst AreDifferent (same_values rows) moved)
+
+    -- rows that show what a table's rows are, under rowids that rise, are the table's
+    pub are_rows : (shows is_row : Row → Bool) → ((r : Row) → shows (columns r) ≡ true → is_int (rowid r) ≡ true → is_row r ≡ true)
+        → AllByRecursion (λ r. shows r ≡ true) found → rise at found ≡ true → AreRows is_row rows
+    are_rows shows is_row fits whole up =
+        (apart up, both rows (shown_all (λ r. shows r ≡ true) whole) (shown_all (λ r. is_int (column r at) ≡ true) (risen at found up).0))
+      where
+        both : (rows : List Row) → AllByRecursion (λ r. shows (columns r) ≡ true) rows → AllByRecursion (λ r. is_int (column (columns r) at) ≡ true) rows → AllByRecursion (λ r. is_row r ≡ true) rows
+        both [] h k = tt
+        both (r ∷ rows) h k = (fits r h.0 (sym (ap is_int (place r)) ∙ k.0), both rows h.1 k.1)
+
+-- ---- a table of one row
+
+one_apart : {X : Type 0} (f : Row → X) (m : X) (rows : List Row) → map f rows ≡ m ∷ [] → IsApart rows
+one_apart f m [] one = tt
+one_apart f m (r ∷ []) one = (tt, tt)
+one_apart f m (r ∷ s ∷ rows) one = let long : length (map f (r ∷ s ∷ rows)) ≡ 1 = ap length one in absurd (omega (arith, long))
+
+module _ {X : Type 0} (columns : Row → Row) (show : Row → X) (rows found : List Row) (same : IsPermutation (map columns rows) found) where
+  pub one_item : (m : X) → map show found ≡ m ∷ [] → map (λ r. show (columns r)) rows ≡ m ∷ []
+  one_item m one =
+      one_permutation m (map (λ r. show (columns r)) rows)
+      (IsPermutation-sym (map (λ r. show (columns r)) rows) (m ∷ []) (subst (λ xs. IsPermutation (map (λ r. show (columns r)) rows) xs) one (items_shown columns rows found same show)))
+
+  pub one_row : (m : X) → map show found ≡ m ∷ [] → (shows is_row : Row → Bool) → ((r : Row) → shows (columns r) ≡ true → is_row r ≡ true)
+      → AllByRecursion (λ r. shows r ≡ true) found → AreRows is_row rows
+  one_row m one shows is_row fits whole =
+      (one_apart (λ r. show (columns r)) m rows (one_item m one), each rows (shown_all columns rows found same (λ r. shows r ≡ true) whole))
+    where
+      each : (rows : List Row) → AllByRecursion (λ r. shows (columns r) ≡ true) rows → AllByRecursion (λ r. is_row r ≡ true) rows
+      each [] h = tt
+      each (r ∷ rows) h = (fits r h.0, each rows h.1)
+
+-- ---- tables that are read whole
+
+module _ {X : Type 0} (columns : Row → Row) (at : ℕ) (place : (r : Row) → column (columns r) at ≡ rowid r) (rows found : List Row) (same : IsPermutation (map columns rows) found)
+    (read : Result (Vec X Global) Error) where
+  pub read_whole : (show : Row → X) (shows is_row : Row → Bool) → ((r : Row) → shows (columns r) ≡ true → is_int (rowid r) ≡ true → is_row r ≡ true) → (result : Result (Vec X Global) AdoptFault)
+      → IfOk read (λ xs. xs.items ≡ map show found) → IfOk read (λ _. AllByRecursion (λ r. shows r ≡ true) found) → IfOk result (λ xs. read ≡ Ok xs) → OnOk result (rise at found ≡ true)
+      → IfOk result (λ xs. AreRows is_row rows × IsPermutation (map (λ r. show (columns r)) rows) xs.items)
+  read_whole show shows is_row fits (Err e) shown whole is up = tt
+  read_whole show shows is_row fits (Ok xs) shown whole is up =
+      let items : xs.items ≡ map show found = subst (λ r. IfOk r (λ xs. xs.items ≡ map show found)) is shown in
+      let all = subst (λ r. IfOk r (λ _. AllByRecursion (λ r. shows r ≡ true) found)) is whole in
+      (are_rows columns rows found same at place shows is_row fits all up, subst (IsPermutation (map (λ r. show (columns r)) rows)) (sym items) (items_shown columns rows found same show))
+
+  pub read_badly : (Reads : Row → Type 0) (result : Result (Vec X Global) AdoptFault) → IfErr read (Refutes (AllByRecursion Reads found)) → IfErr result (λ e. e ≢ OtherTexts)
+      → IfErr result (λ e. e ≡ BadRows → HaveIds at found → (error : Error) × (read ≡ Err error) × (error ≢ SqliteFailure OutOfMemory))
+      → IfErr result (Blames (AllByRecursion Reads (map columns rows) × HaveIds at (map columns rows)))
+  read_badly Reads (Ok xs) refused texts bad = tt
+  read_badly Reads (Err e) refused texts bad = (
+    texts,
+    λ is all.
+        let why = bad is (all_shown columns rows found same (λ r. IsInteger (column r at)) all.1) in
+        let no = subst (λ r. IfErr r (Refutes (AllByRecursion Reads found))) why.1 refused in
+        no why.2 (all_shown columns rows found same Reads all.0),
+  )

@@ -1,0 +1,16 @@
+use Rattle.std.proofs.Common.{refl}
+use Rattle.sqlite.specs.Held.{state}
+use Rattle.mls_statements.specs.Rows.{cell_columns, shown_cell, shows_cell, is_cell_row}
+use Rattle.mls_statements.specs.Adopting.{ReadsCell}
+use Rattle.mls_statements.proofs.WholeRows.{read_whole, read_badly}
+use Rattle.mls_statements.proofs.statements.whole.cells.Goals as goal
+
+pub returns-in-Ok-clause-rows : goal.returns-in-Ok-clause-rows
+returns-in-Ok-clause-rows g c clean has =
+    read_whole cell_columns 6 (λ r. refl) ((state g.S.Store c.args.conn.now).now.trees 2) c.in-Ok.rows.items (c.in-Ok.ensures.found clean has) c.cells_from.result shown_cell shows_cell is_cell_row (λ r shows int. rw (int, shows) refl) c.tested.result
+    (rw c.deref-in-Ok.ensures.value at c.cells_from.ensures.shown) (rw c.deref-in-Ok.ensures.value at c.cells_from.ensures.whole) c.tested.ensures.read (rw c.deref.ensures.value at c.tested.ensures.rise)
+
+pub returns-in-Ok-clause-bad : goal.returns-in-Ok-clause-bad
+returns-in-Ok-clause-bad g c clean has =
+    read_badly cell_columns 6 (λ r. refl) ((state g.S.Store c.args.conn.now).now.trees 2) c.in-Ok.rows.items (c.in-Ok.ensures.found clean has) c.cells_from.result ReadsCell c.tested.result
+    (rw c.deref-in-Ok.ensures.value at c.cells_from.ensures.refused) c.tested.ensures.texts (rw c.deref.ensures.value at c.tested.ensures.bad)

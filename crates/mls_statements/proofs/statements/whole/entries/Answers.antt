@@ -1,0 +1,16 @@
+use Rattle.std.proofs.Common.{refl}
+use Rattle.sqlite.specs.Held.{state}
+use Rattle.mls_statements.specs.Rows.{audit_columns, shown_entry, shows_entry, is_audit_row}
+use Rattle.mls_statements.specs.Adopting.{ReadsEntry}
+use Rattle.mls_statements.proofs.WholeRows.{read_whole, read_badly}
+use Rattle.mls_statements.proofs.statements.whole.entries.Goals as goal
+
+pub returns-in-Ok-clause-rows : goal.returns-in-Ok-clause-rows
+returns-in-Ok-clause-rows g c clean has =
+    read_whole audit_columns 0 (λ r. refl) ((state g.S.Store c.args.conn.now).now.trees 4) c.in-Ok.rows.items (c.in-Ok.ensures.found clean has) c.entries_from.result shown_entry shows_entry is_audit_row (λ r shows int. shows) c.tested.result
+    (rw c.deref-in-Ok.ensures.value at c.entries_from.ensures.shown) (rw c.deref-in-Ok.ensures.value at c.entries_from.ensures.whole) c.tested.ensures.read (rw c.deref.ensures.value at c.tested.ensures.rise)
+
+pub returns-in-Ok-clause-bad : goal.returns-in-Ok-clause-bad
+returns-in-Ok-clause-bad g c clean has =
+    read_badly audit_columns 0 (λ r. refl) ((state g.S.Store c.args.conn.now).now.trees 4) c.in-Ok.rows.items (c.in-Ok.ensures.found clean has) c.entries_from.result ReadsEntry c.tested.result
+    (rw c.deref-in-Ok.ensures.value at c.entries_from.ensures.refused) c.tested.ensures.texts (rw c.deref.ensures.value at c.tested.ensures.bad)

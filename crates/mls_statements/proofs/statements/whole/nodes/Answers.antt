@@ -1,0 +1,16 @@
+use Rattle.std.proofs.Common.{refl}
+use Rattle.sqlite.specs.Held.{state}
+use Rattle.mls_statements.specs.Rows.{node_columns, shown_node, shows_node, is_node_row}
+use Rattle.mls_statements.specs.Adopting.{ReadsNode}
+use Rattle.mls_statements.proofs.WholeRows.{read_whole, read_badly}
+use Rattle.mls_statements.proofs.statements.whole.nodes.Goals as goal
+
+pub returns-in-Ok-clause-rows : goal.returns-in-Ok-clause-rows
+returns-in-Ok-clause-rows g c clean has =
+    read_whole node_columns 5 (λ r. refl) ((state g.S.Store c.args.conn.now).now.trees 0) c.in-Ok.rows.items (c.in-Ok.ensures.found clean has) c.nodes_from.result shown_node shows_node is_node_row (λ r shows int. rw (int, shows) refl) c.tested.result
+    (rw c.deref-in-Ok.ensures.value at c.nodes_from.ensures.shown) (rw c.deref-in-Ok.ensures.value at c.nodes_from.ensures.whole) c.tested.ensures.read (rw c.deref.ensures.value at c.tested.ensures.rise)
+
+pub returns-in-Ok-clause-bad : goal.returns-in-Ok-clause-bad
+returns-in-Ok-clause-bad g c clean has =
+    read_badly node_columns 5 (λ r. refl) ((state g.S.Store c.args.conn.now).now.trees 0) c.in-Ok.rows.items (c.in-Ok.ensures.found clean has) c.nodes_from.result ReadsNode c.tested.result
+    (rw c.deref-in-Ok.ensures.value at c.nodes_from.ensures.refused) c.tested.ensures.texts (rw c.deref.ensures.value at c.tested.ensures.bad)

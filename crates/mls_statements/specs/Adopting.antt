@@ -1,0 +1,117 @@
+-- Which tables are adopted, and what is read of them.
+use Rattle.std.specs.Prelude.{◌≡◌, ◌≢◌, ℕ, ◌^◌, ◌<◌, ℤ, pos, Bool, true, ◌&&◌, int_lt, List, [], ◌∷◌, map, IsUtf8, IsPermutation}
+use Rattle.std.specs.List.{AllByRecursion}
+use Rattle.sqlite_value.specs.declared.value.Value.{Value}
+use Rattle.sqlite_value.specs.declared.value.Value.TheVariants.{Int, Text, Blob}
+use Rattle.sqlite_value.specs.Order.{Row, column}
+use Rattle.sqlite_trees.specs.View.{is_int}
+use Rattle.sqlite_rules.specs.Edit.{id_in}
+use Rattle.sqlite.specs.declared.error.ErrorCode.TheVariants.{OutOfMemory}
+use Rattle.sqlite.specs.declared.error.Error.{Error}
+use Rattle.sqlite.specs.declared.error.Error.TheVariants.{SqliteFailure}
+use Rattle.sqlite.specs.Effect.{Database}
+use Rattle.sqlite.specs.State.{State}
+use Rattle.mls_statements.specs.declared.rows.MetaRow.{MetaRow}
+use Rattle.mls_statements.specs.declared.adopting.AllRows.{AllRows}
+use Rattle.mls_statements.specs.declared.adopting.AdoptFault.{AdoptFault}
+use Rattle.mls_statements.specs.declared.adopting.AdoptFault.TheVariants.{BadRows, OtherTexts}
+use Rattle.mls_statements.specs.Rows.{Tables, tables_of, first_meta, meta_of, node_columns, cell_columns, audit_columns, meta_columns, is_node_row, is_cell_row, is_audit_row}
+use Rattle.mls_statements.specs.Schema.{schema}
+use Rattle.mls_statements.specs.Statements.{AreRows, HasSettled}
+
+-- ---- rows that read as what their tables are for, as queries show them
+
+abbrev pub IsNumber : Value → Type 0
+IsNumber v = (n : ℕ) × (v ≡ Int (pos n)) × (n < 2 ^ 32)
+
+abbrev pub IsInteger : Value → Type 0
+IsInteger v = (n : ℤ) × (v ≡ Int n)
+
+abbrev pub IsBytes : Value → Type 0
+IsBytes v = (b : List ℕ) × (v ≡ Blob b)
+
+abbrev pub IsText : Value → Type 0
+IsText v = (t : List ℕ) × (v ≡ Text t) × IsUtf8 t
+
+abbrev pub ReadsNode : Row → Type 0
+ReadsNode r = IsNumber (column r 0) × (IsBytes (column r 1) × (IsNumber (column r 2) × (IsNumber (column r 3) × IsBytes (column r 4))))
+
+abbrev pub ReadsCell : Row → Type 0
+ReadsCell r =
+    IsNumber (column r 0) × (IsBytes (column r 1) × (IsNumber (column r 2) × (IsNumber (column r 3) × (IsNumber (column r 4) × IsBytes (column r 5)))))
+
+abbrev pub ReadsEntry : Row → Type 0
+ReadsEntry r = IsInteger (column r 0) × IsBytes (column r 1)
+
+abbrev pub ReadsMeta : Row → Type 0
+ReadsMeta r = IsInteger (column r 0) × (IsInteger (column r 1) × (IsText (column r 2) × IsText (column r 3)))
+
+abbrev pub HaveIds : ℕ → List Row → Type 0
+HaveIds at = AllByRecursion (λ r. IsInteger (column r at))
+
+-- the integers at this place rise, from above a number
+abbrev pub rise_above : ℕ → ℤ → List Row → Bool
+rise_above at low [] = true
+rise_above at low (r ∷ rows) = is_int (column r at) && (int_lt low (id_in (column r at)) && rise_above at (id_in (column r at)) rows)
+
+abbrev pub rise : ℕ → List Row → Bool
+rise at [] = true
+rise at (r ∷ rows) = is_int (column r at) && rise_above at (id_in (column r at)) rows
+
+-- only memory refuses rows that read
+abbrev pub Refutes : Type 0 → Error → Type 0
+Refutes P e = e ≢ SqliteFailure OutOfMemory → ¬ P
+
+-- rows are called bad only where they are
+abbrev pub Blames : Type 0 → AdoptFault → Type 0
+Blames P e = (e ≢ OtherTexts) × (e ≡ BadRows → ¬ P)
+
+-- ---- what is adopted
+
+-- rows of each table, with their rowids, read
+abbrev pub AreNodes : List Row → Type 0
+AreNodes rows = AllByRecursion ReadsNode rows × HaveIds 5 rows
+
+abbrev pub AreCells : List Row → Type 0
+AreCells rows = AllByRecursion ReadsCell rows × HaveIds 6 rows
+
+abbrev pub AreEntries : List Row → Type 0
+AreEntries rows = AllByRecursion ReadsEntry rows × HaveIds 0 rows
+
+-- one row describes the store, of version 1
+abbrev pub IsDescription : MetaRow → Database → Type 0
+IsDescription m db = (map meta_of (db.trees 5) ≡ m ∷ []) × (m.version ≡ pos 1)
+
+abbrev pub IsReadDescription : Database → Type 0
+IsReadDescription db = ((m : MetaRow) × IsDescription m db) × AllByRecursion ReadsMeta (map meta_columns (db.trees 5))
+
+abbrev pub AreRead : Database → Type 0
+AreRead db = AreNodes (map node_columns (db.trees 0)) × (AreCells (map cell_columns (db.trees 2)) × AreEntries (map audit_columns (db.trees 4)))
+
+-- the database is the four tables, of version 1, and every row reads
+abbrev pub IsAdoptable : Database → Type 0
+IsAdoptable db = (db.schema ≡ schema) × (IsReadDescription db × AreRead db)
+
+-- the store is described, but not by both of these texts
+abbrev pub HasOtherTexts : List ℕ → List ℕ → Database → Type 0
+HasOtherTexts lattice schemes db =
+    (db.schema ≡ schema) × ((m : MetaRow) × IsDescription m db × (¬ ((m.lattice ≡ lattice) × (m.schemes ≡ schemes))))
+
+-- the one row of version 1, under any number, has both texts
+abbrev pub IsDescribedBy : List ℕ → List ℕ → Tables → Type 0
+IsDescribedBy lattice schemes t = (id : ℤ) × (t.meta ≡ record (first_meta lattice schemes) { id = id } ∷ [])
+
+-- the rows of the three other tables are what they should be
+abbrev pub HaveRows : Database → Type 0
+HaveRows db = AreRows is_node_row (db.trees 0) × (AreRows is_cell_row (db.trees 2) × AreRows is_audit_row (db.trees 4))
+
+-- all rows of the three other tables, each table's in any order
+abbrev pub AreAll : Tables → AllRows → Type 0
+AreAll t rows = IsPermutation t.nodes rows.nodes.items × (IsPermutation t.cells rows.cells.items × IsPermutation t.audit rows.entries.items)
+
+-- the tables were read in one transaction, which is committed
+pub record IsAdopted (lattice schemes : List ℕ) (old new : State) (rows : AllRows) : Type 0 where
+  pub settled : HasSettled new
+  pub same : new.now ≡ old.now
+  pub described : IsDescribedBy lattice schemes (tables_of old.now.trees)
+  pub all : AreAll (tables_of old.now.trees) rows

@@ -1,0 +1,149 @@
+//! Whole tables, whose rows are all read, and found to differ in their rowids.
+ghost use Rattle.std.specs.Prelude.{◌≡◌, ◌≢◌, ◌↔◌, ℤ, pos, true, [], ◌∷◌, map, IsTrue, IfOk, IfErr, OnOk, OnErr, IsPermutation};
+ghost use Rattle.std.specs.List.{AllByRecursion};
+ghost use Rattle.sqlite.specs.State.{HasCleanDisk, IsUnchanged, KeepsCommit};
+ghost use Rattle.sqlite.specs.Held.{state};
+ghost use Rattle.sqlite.specs.declared.error.Error.{Error as SqlError};
+ghost use Rattle.sqlite.specs.declared.error.Error.TheVariants.{SqliteFailure};
+ghost use Rattle.sqlite.specs.declared.error.ErrorCode.TheVariants.{OutOfMemory};
+ghost use Rattle.mls_statements.specs.declared.rows.MetaRow.{MetaRow as SpecMeta};
+ghost use Rattle.mls_statements.specs.Rows.{tables_of, first_meta, shown_meta, shows_meta, node_columns, cell_columns, audit_columns, is_node_row, is_cell_row, is_audit_row, is_meta_row};
+ghost use Rattle.mls_statements.specs.Schema.{schema};
+ghost use Rattle.mls_statements.specs.Statements.{AreRows};
+ghost use Rattle.mls_statements.specs.Adopting.{Blames, HaveIds, AreNodes, AreCells, AreEntries, ReadsMeta, IsReadDescription, IsDescribedBy, HasOtherTexts, rise};
+
+use crate::adopting::AdoptFault;
+use crate::decode::{cells_from, entries_from, meta_from, nodes_from, rowids_rise};
+use crate::rows::{AuditRow, CellRow, MetaRow, NodeRow};
+use crate::statements::{audit, cell, meta, node};
+use sqlite::{Alter, Connection, Error, Row};
+use std::alloc::Global;
+
+/// Tests that the rowids of rows, which stand at one place, rise.
+fn test_rowids(rows: &[Row], at: usize) -> Result<(), AdoptFault>
+    ensures rise { OnOk result (rise at rows.now ≡ true) }
+    ensures bad { IfErr result (Blames (HaveIds at rows.now)) }
+{
+    match rowids_rise(rows, at) {
+        Ok(true) => Ok(()),
+        Ok(false) => Err(AdoptFault::Store),
+        Err(error) => Err(AdoptFault::of_row(error)),
+    }
+}
+
+/// What was read of rows, where their rowids rise.
+fn tested<T: Drop>(
+    rows: &[Row],
+    at: usize,
+    read: Result<Vec<T>, Error>,
+) -> Result<Vec<T>, AdoptFault>
+    ensures read { IfOk result (λ xs. read ≡ Ok xs) }
+    ensures rise { OnOk result (rise at rows.now ≡ true) }
+    ensures texts { IfErr result (λ e. e ≢ AdoptFault.OtherTexts) }
+    ensures bad { IfErr result (λ e. e ≡ AdoptFault.BadRows → HaveIds at rows.now → (error : SqlError) × (read ≡ Err error) × (error ≢ SqliteFailure OutOfMemory)) }
+{
+    test_rowids(rows, at)?;
+    read.map_err(AdoptFault::of_row)
+}
+
+/// Every node.
+pub fn nodes<S: Alter>(conn: &mut Connection<S>, alloc: Global) -> Result<Vec<NodeRow>, AdoptFault>
+    ensures rows { HasCleanDisk (state S.Store conn.new) → (state S.Store conn.old).now.schema ≡ schema → IfOk result (λ rows. AreRows is_node_row ((state S.Store conn.old).now.trees 0) × IsPermutation (tables_of (state S.Store conn.old).now.trees).nodes rows.items) }
+    ensures same { HasCleanDisk (state S.Store conn.new) → (state S.Store conn.old).now.schema ≡ schema → OnOk result (IsUnchanged (state S.Store conn.old) (state S.Store conn.new)) }
+    ensures err { HasCleanDisk (state S.Store conn.new) → (state S.Store conn.old).now.schema ≡ schema → OnErr result (KeepsCommit (state S.Store conn.old) (state S.Store conn.new)) }
+    ensures bad { HasCleanDisk (state S.Store conn.new) → (state S.Store conn.old).now.schema ≡ schema → IfErr result (Blames (AreNodes (map node_columns ((state S.Store conn.old).now.trees 0)))) }
+    ensures clean { HasCleanDisk (state S.Store conn.new) → HasCleanDisk (state S.Store conn.old) }
+{
+    match node::all_nodes(conn) {
+        Ok(rows) => tested(&rows, 5, nodes_from(alloc, &rows)),
+        Err(error) => Err(AdoptFault::of_store(error)),
+    }
+}
+
+/// Every cell.
+pub fn cells<S: Alter>(conn: &mut Connection<S>, alloc: Global) -> Result<Vec<CellRow>, AdoptFault>
+    ensures rows { HasCleanDisk (state S.Store conn.new) → (state S.Store conn.old).now.schema ≡ schema → IfOk result (λ rows. AreRows is_cell_row ((state S.Store conn.old).now.trees 2) × IsPermutation (tables_of (state S.Store conn.old).now.trees).cells rows.items) }
+    ensures same { HasCleanDisk (state S.Store conn.new) → (state S.Store conn.old).now.schema ≡ schema → OnOk result (IsUnchanged (state S.Store conn.old) (state S.Store conn.new)) }
+    ensures err { HasCleanDisk (state S.Store conn.new) → (state S.Store conn.old).now.schema ≡ schema → OnErr result (KeepsCommit (state S.Store conn.old) (state S.Store conn.new)) }
+    ensures bad { HasCleanDisk (state S.Store conn.new) → (state S.Store conn.old).now.schema ≡ schema → IfErr result (Blames (AreCells (map cell_columns ((state S.Store conn.old).now.trees 2)))) }
+    ensures clean { HasCleanDisk (state S.Store conn.new) → HasCleanDisk (state S.Store conn.old) }
+{
+    match cell::all_cells(conn) {
+        Ok(rows) => tested(&rows, 6, cells_from(alloc, &rows)),
+        Err(error) => Err(AdoptFault::of_store(error)),
+    }
+}
+
+/// Every entry.
+pub fn entries<S: Alter>(
+    conn: &mut Connection<S>,
+    alloc: Global,
+) -> Result<Vec<AuditRow>, AdoptFault>
+    ensures rows { HasCleanDisk (state S.Store conn.new) → (state S.Store conn.old).now.schema ≡ schema → IfOk result (λ rows. AreRows is_audit_row ((state S.Store conn.old).now.trees 4) × IsPermutation (tables_of (state S.Store conn.old).now.trees).audit rows.items) }
+    ensures same { HasCleanDisk (state S.Store conn.new) → (state S.Store conn.old).now.schema ≡ schema → OnOk result (IsUnchanged (state S.Store conn.old) (state S.Store conn.new)) }
+    ensures err { HasCleanDisk (state S.Store conn.new) → (state S.Store conn.old).now.schema ≡ schema → OnErr result (KeepsCommit (state S.Store conn.old) (state S.Store conn.new)) }
+    ensures bad { HasCleanDisk (state S.Store conn.new) → (state S.Store conn.old).now.schema ≡ schema → IfErr result (Blames (AreEntries (map audit_columns ((state S.Store conn.old).now.trees 4)))) }
+    ensures clean { HasCleanDisk (state S.Store conn.new) → HasCleanDisk (state S.Store conn.old) }
+{
+    match audit::all_entries(conn) {
+        Ok(rows) => tested(&rows, 0, entries_from(alloc, &rows)),
+        Err(error) => Err(AdoptFault::of_store(error)),
+    }
+}
+
+fn has_texts(row: &MetaRow, lattice: &str, schemes: &str) -> bool
+    ensures { IsTrue result ↔ ((row.now.lattice ≡ lattice.now) × (row.now.schemes ≡ schemes.now)) }
+{
+    row.lattice.as_str() == lattice && row.schemes.as_str() == schemes
+}
+
+/// Tests that the rows are one, of version 1 and of these two texts.
+fn test_meta(found: &[MetaRow], lattice: &str, schemes: &str) -> Result<(), AdoptFault>
+    ensures ok { OnOk result ((id : ℤ) × (found.now ≡ record (first_meta lattice.now schemes.now) { id = id } ∷ [])) }
+    ensures bad { IfErr result (λ e. e ≡ AdoptFault.BadRows → ¬ ((m : SpecMeta) × (found.now ≡ m ∷ []) × (m.version ≡ pos 1))) }
+    ensures other { IfErr result (λ e. e ≡ AdoptFault.OtherTexts → (m : SpecMeta) × (found.now ≡ m ∷ []) × (m.version ≡ pos 1) × (¬ ((m.lattice ≡ lattice.now) × (m.schemes ≡ schemes.now)))) }
+{
+    let [row] = found else {
+        return Err(AdoptFault::BadRows);
+    };
+    if row.version != 1 {
+        return Err(AdoptFault::BadRows);
+    }
+    if !has_texts(row, lattice, schemes) {
+        return Err(AdoptFault::OtherTexts);
+    }
+    Ok(())
+}
+
+/// Tests that rows, as a query showed them, are one, of version 1 and of these two texts.
+fn test_shown(alloc: Global, rows: &[Row], lattice: &str, schemes: &str) -> Result<(), AdoptFault>
+    ensures ok { OnOk result ((id : ℤ) × (map shown_meta rows.now ≡ record (first_meta lattice.now schemes.now) { id = id } ∷ [])) }
+    ensures whole { OnOk result (AllByRecursion (λ r. shows_meta r ≡ true) rows.now) }
+    ensures bad { IfErr result (λ e. e ≡ AdoptFault.BadRows → AllByRecursion ReadsMeta rows.now → ¬ ((m : SpecMeta) × (map shown_meta rows.now ≡ m ∷ []) × (m.version ≡ pos 1))) }
+    ensures other { IfErr result (λ e. e ≡ AdoptFault.OtherTexts → (m : SpecMeta) × (map shown_meta rows.now ≡ m ∷ []) × (m.version ≡ pos 1) × (¬ ((m.lattice ≡ lattice.now) × (m.schemes ≡ schemes.now)))) }
+{
+    match meta_from(alloc, rows) {
+        Ok(found) => test_meta(&found, lattice, schemes),
+        Err(error) => Err(AdoptFault::of_row(error)),
+    }
+}
+
+/// Tests that one row describes the store, of version 1 and of these two texts.
+pub fn test_description<S: Alter>(
+    conn: &mut Connection<S>,
+    alloc: Global,
+    lattice: &str,
+    schemes: &str,
+) -> Result<(), AdoptFault>
+    ensures described { HasCleanDisk (state S.Store conn.new) → (state S.Store conn.old).now.schema ≡ schema → OnOk result (AreRows is_meta_row ((state S.Store conn.old).now.trees 5) × IsDescribedBy lattice.now schemes.now (tables_of (state S.Store conn.old).now.trees)) }
+    ensures same { HasCleanDisk (state S.Store conn.new) → (state S.Store conn.old).now.schema ≡ schema → OnOk result (IsUnchanged (state S.Store conn.old) (state S.Store conn.new)) }
+    ensures err { HasCleanDisk (state S.Store conn.new) → (state S.Store conn.old).now.schema ≡ schema → OnErr result (KeepsCommit (state S.Store conn.old) (state S.Store conn.new)) }
+    ensures bad { HasCleanDisk (state S.Store conn.new) → (state S.Store conn.old).now.schema ≡ schema → IfErr result (λ e. e ≡ AdoptFault.BadRows → ¬ IsReadDescription (state S.Store conn.old).now) }
+    ensures other { HasCleanDisk (state S.Store conn.new) → (state S.Store conn.old).now.schema ≡ schema → IfErr result (λ e. e ≡ AdoptFault.OtherTexts → HasOtherTexts lattice.now schemes.now (state S.Store conn.old).now) }
+    ensures clean { HasCleanDisk (state S.Store conn.new) → HasCleanDisk (state S.Store conn.old) }
+{
+    match meta::all_meta(conn) {
+        Ok(rows) => test_shown(alloc, &rows, lattice, schemes),
+        Err(error) => Err(AdoptFault::of_store(error)),
+    }
+}

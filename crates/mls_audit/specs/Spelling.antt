@@ -3,6 +3,7 @@ use Rattle.std.specs.Prelude.{◌≡◌, ℕ, ◌<◌, List, [], ◌∷◌, ◌+
 use Rattle.std.specs.Option.{IfSome}
 use Rattle.mls_scheme.specs.declared.value.Value.{Value}
 use Rattle.mls_scheme.specs.Spelling as values
+use Rattle.mls_audit.specs.Entry.{label_of}
 use Rattle.mls_audit.specs.declared.entry.Entry.{Entry}
 use Rattle.mls_audit.specs.declared.entry.Entry.TheVariants.{Called, Denied, Released}
 
@@ -48,6 +49,13 @@ IsShort (Released label user session value) = IsShortName user × IsShortName se
 -- what a spelling can be read back to
 abbrev pub HasSpelling : Entry → Type 0
 HasSpelling e = IsEntry e × IsShort e
+
+-- the spelling of an entry of one of count labels
+pub record IsEntryOf (count : ℕ) (bytes : List ℕ) : Type 0 where
+  pub entry : Entry
+  pub spelled : HasSpelling entry
+  pub declared : label_of entry < count
+  pub is : bytes ≡ entry_spelling entry
 
 -- no two entries have one spelling
 abbrev pub AreUnambiguous : Type 0

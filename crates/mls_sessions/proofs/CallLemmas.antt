@@ -13,7 +13,7 @@ use Rattle.mls_scheme.proofs.KindLemmas.{fits-spelled}
 use Rattle.mls_filterview.specs.Content.{State}
 use Rattle.mls_audit.specs.declared.entry.Entry.{Entry}
 use Rattle.mls_audit.specs.Entry.{label_of}
-use Rattle.mls_audit.specs.Spelling.{HasSpelling, entry_spelling}
+use Rattle.mls_audit.specs.Spelling.{IsEntryOf, HasSpelling, entry_spelling}
 use Rattle.mls_certcheck.specs.declared.certified.Certified.{Certified as Checked}
 use Rattle.mls_meaning.specs.declared.run.Run.{Run}
 use Rattle.mls_meaning.specs.Meaning.{Item, run_tx}
@@ -31,7 +31,7 @@ use Rattle.mls_machine.specs.Output.{ItemsAreKnown}
 use Rattle.mls_machine.proofs.DenyingLemmas.{may_run}
 use Rattle.mls_trusted.specs.Runs.{with_database, IsEvaluated}
 use Rattle.mls_monitor.specs.Denying.{denial_in}
-use Rattle.mls_sessions.specs.World.{entries_in, IsEntryOf, world_at}
+use Rattle.mls_sessions.specs.World.{entries_in, world_at}
 use Rattle.mls_sessions.specs.Calling.{with_entries}
 use Rattle.mls_sessions.specs.Turns.{IsStepOver}
 use Rattle.mls_sessions.proofs.StepLemmas.{read, spelled_read}

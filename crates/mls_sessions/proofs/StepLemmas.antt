@@ -15,7 +15,7 @@ use Rattle.mls_updates.specs.Calls.{IsWritten}
 use Rattle.mls_audit.specs.declared.entry.Entry.{Entry}
 use Rattle.mls_scheme.specs.declared.key_fault.KeyFault.{KeyFault}
 use Rattle.mls_audit.specs.Entry.{label_of, visible}
-use Rattle.mls_audit.specs.Spelling.{HasSpelling, entry_spelling}
+use Rattle.mls_audit.specs.Spelling.{IsEntryOf, HasSpelling, entry_spelling}
 use Rattle.mls_audit.specs.Reading.{entry_at}
 use Rattle.mls_audit.proofs.EntryLemmas.{entry_again}
 use Rattle.mls_script.specs.declared.event.Event.{Event}
@@ -24,7 +24,7 @@ use Rattle.mls_machine.specs.declared.reply.Reply.TheVariants.{Rows, Wrote, Entr
 use Rattle.mls_machine.specs.Site.{Site, site_labels, site_scheme}
 use Rattle.mls_machine.specs.Denying.{first_denial, write_denials}
 use Rattle.mls_machine.specs.Machine.{denial_entry, denied, unless, viewed, wrote, listed, write_step}
-use Rattle.mls_sessions.specs.World.{declared, entries_in, IsEntryOf, world_at}
+use Rattle.mls_sessions.specs.World.{declared, entries_in, world_at}
 use Rattle.mls_sessions.specs.Turns.{IsStepOver}
 
 -- ---- entries

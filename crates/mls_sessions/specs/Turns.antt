@@ -14,7 +14,8 @@ use Rattle.mls_machine.specs.Machine.{Sessions, World, Step, denied, step_inside
 use Rattle.mls_sessions.specs.declared.change.Deed.{Deed}
 use Rattle.mls_sessions.specs.declared.change.Deed.TheVariants.{Deny, Write, Call}
 use Rattle.mls_monitor.specs.Denying.{denial_in}
-use Rattle.mls_sessions.specs.World.{world_at, IsEntryOf}
+use Rattle.mls_audit.specs.Spelling.{IsEntryOf}
+use Rattle.mls_sessions.specs.World.{world_at}
 
 -- ---- faults
 

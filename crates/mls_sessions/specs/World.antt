@@ -7,7 +7,7 @@ use Rattle.mls_audit.specs.declared.entry.Entry.{Entry}
 use Rattle.mls_scheme.specs.declared.key_fault.KeyFault.{KeyFault}
 use Rattle.mls_audit.specs.Entry.{label_of}
 use Rattle.mls_audit.specs.Reading.{entry_at}
-use Rattle.mls_audit.specs.Spelling.{HasSpelling, entry_spelling}
+use Rattle.mls_audit.specs.Spelling.{IsEntryOf}
 use Rattle.mls_machine.specs.Site.{Site, site_labels}
 use Rattle.mls_machine.specs.Machine.{Sessions, World}
 
@@ -21,13 +21,6 @@ declared count (Err fault) = None
 -- the entries of declared labels that strings spell
 abbrev pub entries_in : ℕ → List (List ℕ) → List Entry
 entries_in count = filter_map (λ bytes. declared count (entry_at bytes))
-
--- the spelling of an entry of a declared label
-pub record IsEntryOf (count : ℕ) (bytes : List ℕ) : Type 0 where
-  pub entry : Entry
-  pub spelled : HasSpelling entry
-  pub declared : label_of entry < count
-  pub is : bytes ≡ entry_spelling entry
 
 -- ---- content
 

@@ -1,9 +1,13 @@
 pub mod AddingLemmas
 pub mod CallLemmas
 pub mod DroppingLemmas
+pub mod FindingLemmas
+pub mod KnownLemmas
 pub mod NotedLemmas
 pub mod ReadingLemmas
 pub mod RowLemmas
+pub mod RowOrderLemmas
 pub mod SettingLemmas
 pub mod ShownLemmas
+pub mod SortedLemmas
 pub mod WrittenLemmas

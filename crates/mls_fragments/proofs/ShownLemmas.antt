@@ -33,12 +33,12 @@ same_value (Some (Int n)) None a b e = absurd cc
 same_value (Some (Text s)) None a b e = absurd cc
 same_value (Some v) (Some w) a b e = ap Some (unambiguous.values v w [] [] a b (append-nil (value_spelling v) ∙ e ∙ sym (append-nil (value_spelling w)))).0
 
-same_node : (rel : ℕ) (n m : Node) → IsSpelledNode n → IsSpelledNode m → node_row rel n ≡ node_row rel m → n ≡ m
+pub same_node : (rel : ℕ) (n m : Node) → IsSpelledNode n → IsSpelledNode m → node_row rel n ≡ node_row rel m → n ≡ m
 same_node rel n m a b e =
     let key = unambiguous.keys n.key m.key a b (ap (λ r. r.ent) e) in
     λ i. record { key = key i; key_class = (e i).kclass; label = (e i).label; pattern = (e i).pattern }
 
-same_cell : (rel : ℕ) (c d : Cell) → IsSpelledCell c → IsSpelledCell d → cell_row rel c ≡ cell_row rel d → c ≡ d
+pub same_cell : (rel : ℕ) (c d : Cell) → IsSpelledCell c → IsSpelledCell d → cell_row rel c ≡ cell_row rel d → c ≡ d
 same_cell rel c d a b e =
     let key = unambiguous.keys c.key d.key a.0 b.0 (ap (λ r. r.ent) e) in
     let value = same_value c.value d.value a.1 b.1 (ap (λ r. r.value) e) in
@@ -67,7 +67,7 @@ module _ {A B : Type 0} (P : A → Type 0) (f : A → B) (apart : (x y : A) → 
       λ i. apart x y a.0 b.0 head i ∷ same_list xs ys a.1 b.1 rest i
 
   -- so lists whose images are permutations of one another are so too
-  reflects : (xs ys : List A) → AllByRecursion P xs → AllByRecursion P ys → IsPermutation (map f xs) (map f ys) → IsPermutation xs ys
+  pub reflects : (xs ys : List A) → AllByRecursion P xs → AllByRecursion P ys → IsPermutation (map f xs) (map f ys) → IsPermutation xs ys
   reflects xs ys a b h =
       let back = pull_back f (map f xs) (map f ys) h xs refl in
       subst (IsPermutation xs) (same_list back.0 ys (all-permutation P xs back.0 back.1 a) b (sym back.2)) back.1

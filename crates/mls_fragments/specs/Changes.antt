@@ -1,13 +1,14 @@
 -- Content, and the changes that make it.
-use Rattle.std.specs.Prelude.{ℕ, List, [], ◌∷◌, ◌++◌, Option}
+use Rattle.std.specs.Prelude.{ℕ, List, [], ◌∷◌, ◌++◌, slice_index_or, Option}
 use Rattle.std.specs.FinMap.{get, insert, remove}
 use Rattle.mls_scheme.specs.declared.value.Value.{Value}
+use Rattle.mls_scheme.specs.declared.tuple.Element.{Element}
 use Rattle.mls_scheme.specs.declared.place.Place.{Place}
-use Rattle.mls_scheme.specs.Table.{change}
+use Rattle.mls_scheme.specs.Table.{Table, change}
 use Rattle.mls_filterview.specs.declared.fragment.Node.{Node}
 use Rattle.mls_filterview.specs.declared.fragment.Cell.{Cell}
 use Rattle.mls_filterview.specs.Fragment.{place_of_node, set_in}
-use Rattle.mls_filterview.specs.Assembly.{made_of}
+use Rattle.mls_filterview.specs.Assembly.{table_of, made_of}
 use Rattle.mls_filterview.specs.Content.{Content, no_content, with_table}
 
 abbrev pub with_tuple : Content → ℕ → Node → List Cell → Content
@@ -22,8 +23,21 @@ without_tuple c rel p = record c { db = with_table c.db rel (remove (c.db rel) p
 abbrev pub with_bytes : Content → List ℕ → Content
 with_bytes c bytes = record c { audit = c.audit ++ bytes ∷ [] }
 
--- a tuple more, a value in the place of another, a tuple less, or an entry more
+-- tuples with their places, in the order of places
+abbrev pub Entries : Type 0
+Entries = List (Place × List Element)
+
+-- the table of a relation, by its number among the tables of the first relations
+abbrev pub table_in : List Entries → ℕ → Table
+table_in tables rel = table_of (slice_index_or tables rel [])
+
+-- what tables and entries of the audit list make
+abbrev pub found : List Entries → List (List ℕ) → Content
+found tables audit = record { db = table_in tables; audit = audit }
+
+-- what a store has when it is opened; or a tuple more, a value in the place of another, a tuple less, or an entry more
 pub data Change : Type 0 where
+  Finds : (tables : List Entries) (audit : List (List ℕ)) → Change
   Adds : (rel : ℕ) (node : Node) (cells : List Cell) → Change
   Sets : (rel : ℕ) (place : Place) (attr : ℕ) (value : Option Value) → Change
   Drops : (rel : ℕ) (place : Place) → Change
@@ -32,6 +46,7 @@ pub data Change : Type 0 where
 -- the content that changes make, the last one first
 abbrev pub content_of : List Change → Content
 content_of [] = no_content
+content_of (Finds tables audit ∷ before) = found tables audit
 content_of (Adds rel node cells ∷ before) = with_tuple (content_of before) rel node cells
 content_of (Sets rel place attr value ∷ before) = with_value (content_of before) rel place attr value
 content_of (Drops rel place ∷ before) = without_tuple (content_of before) rel place

@@ -2,4 +2,5 @@ pub mod Holding
 pub mod Changes
 pub mod Based
 pub mod OpenFault
+pub mod Finding
 pub mod Opening

@@ -2,6 +2,10 @@
 use Rattle.std.specs.Prelude.{ℕ, List, codes}
 use Rattle.mls_statements.specs.declared.store.StoreFault.{StoreFault}
 use Rattle.mls_statements.specs.declared.store.StoreFault.TheVariants as store
+use Rattle.mls_statements.specs.declared.adopting.AdoptFault.{AdoptFault}
+use Rattle.mls_statements.specs.declared.adopting.AdoptFault.TheVariants as adopt
+use Rattle.mls_fragments.specs.declared.reading.RowFault.{RowFault}
+use Rattle.mls_fragments.specs.declared.reading.RowFault.TheVariants as row
 use Rattle.mls_fragments.specs.declared.open_fault.OpenFault.{OpenFault}
 use Rattle.mls_fragments.specs.declared.open_fault.OpenFault.TheVariants.{Store, OtherPolicy, BadRows, Memory}
 
@@ -21,3 +25,15 @@ word_of Memory = codes "Memory"
 abbrev pub opening_fault : StoreFault → OpenFault
 opening_fault store.Store = Store
 opening_fault store.Memory = Memory
+
+-- why tables are not adopted
+abbrev pub adopting_fault : AdoptFault → OpenFault
+adopting_fault adopt.Store = Store
+adopting_fault adopt.Memory = Memory
+adopting_fault adopt.BadRows = BadRows
+adopting_fault adopt.OtherTexts = OtherPolicy
+
+-- why rows hold nothing
+abbrev pub finding_fault : RowFault → OpenFault
+finding_fault row.BadRow = BadRows
+finding_fault row.Memory = Memory

@@ -1,5 +1,5 @@
 //! A base over the tables of a store.
-ghost use Rattle.std.specs.Prelude.{◌≡◌, List, ℕ, false, IsTrue};
+ghost use Rattle.std.specs.Prelude.{◌≡◌, List, ℕ, pos, false, length, IsTrue};
 ghost use Rattle.sqlite.specs.State.{HasCleanDisk};
 ghost use Rattle.sqlite.specs.Held.{state};
 ghost use Rattle.mls_filterview.specs.Content.{no_content};
@@ -7,8 +7,10 @@ ghost use Rattle.mls_statements.specs.Rows.{described, tables_of};
 ghost use Rattle.mls_statements.specs.Statements.{IsReady};
 ghost use Rattle.mls_statements.specs.Store.{IsClean};
 ghost use Rattle.mls_fragments.specs.Based.{state_of};
+ghost use Rattle.mls_fragments.specs.Finding.{content_found};
 ghost use Rattle.mls_fragments.specs.Holding.{Holds};
 
+use crate::finding::Found;
 use crate::noted::{Noted, fall};
 use crate::reading::{read_entries, read_fragment};
 use crate::writing::{add_entry, add_tuple, drop_tuple, set_value};
@@ -54,6 +56,23 @@ impl<S: Alter> SqlBase<S> {
             store,
             now: Noted::new(),
             kept: Noted::new(),
+        }
+    }
+
+    /// A base over tables that hold what was found.
+    pub(crate) fn over_found(alloc: Global, store: TableStore<S>, found: &Found) -> SqlBase<S>
+        requires mode { store.begun ≡ false }
+        requires kept { IsClean store → store.kept ≡ store.now }
+        requires holds { IsClean store → Holds store.now (content_found found.now) }
+        requires last { found.now.last ≡ pos (length found.now.entries) }
+        ensures content { state_of result ≡ record { now = content_found found.now; kept = content_found found.now; begun = false } }
+        ensures tables { result.tables ≡ store }
+    {
+        SqlBase {
+            alloc,
+            store,
+            now: Noted::find(found),
+            kept: Noted::find(found),
         }
     }
 

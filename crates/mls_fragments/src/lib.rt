@@ -2,6 +2,8 @@
 #![tactic(auto)]
 
 mod base;
+mod comparing;
+mod finding;
 mod noted;
 mod open_fault;
 mod opening;

@@ -1,8 +1,9 @@
 //! What the rows hold: the changes that made it, which only clauses read, and the number of its last entry.
-ghost use Rattle.std.specs.Prelude.{◌≡◌, pos, [], ◌∷◌};
+ghost use Rattle.std.specs.Prelude.{◌≡◌, pos, [], ◌∷◌, map};
 ghost use Rattle.mls_fragments.specs.Based.{fault_of};
-ghost use Rattle.mls_fragments.specs.Changes.Change.{Appends};
+ghost use Rattle.mls_fragments.specs.Changes.Change.{Finds, Appends};
 
+use crate::finding::Found;
 use crate::recalled::Recalled;
 use mls_filterview::BaseFault;
 use mls_statements::StoreFault;
@@ -23,6 +24,19 @@ impl Noted {
         Noted {
             content: Recalled::new(),
             last: 0,
+        }
+    }
+
+    /// What the rows of a store hold when it is opened.
+    pub fn find(found: &Found) -> Noted
+        ensures content { result.content.changes ≡ Finds (map (λ t. t.entries) found.now.tables.items) found.now.entries ∷ [] }
+        ensures last { result.last ≡ found.now.last }
+    {
+        let mut content = Recalled::new();
+        content.find(&found.tables, &found.entries);
+        Noted {
+            content,
+            last: found.last,
         }
     }
 

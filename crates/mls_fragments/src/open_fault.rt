@@ -2,7 +2,8 @@ ghost use Rattle.std.specs.Prelude.{◌≡◌};
 ghost use Rattle.mls_fragments.specs.OpenFault.{code_of, word_of};
 ghost use Rattle.mls_fragments.specs.declared.open_fault.OpenFault.TheVariants.{Memory};
 
-use mls_statements::StoreFault;
+use crate::reading::RowFault;
+use mls_statements::{AdoptFault, StoreFault};
 use std::alloc::AllocError;
 use thiserror::Error;
 
@@ -58,6 +59,34 @@ impl From<StoreFault> for OpenFault {
         match fault {
             StoreFault::Store => OpenFault::Store,
             StoreFault::Memory => OpenFault::Memory,
+        }
+    }
+}
+
+impl From<AdoptFault> for OpenFault {
+    ghost use Rattle.mls_fragments.specs.OpenFault.{adopting_fault};
+
+    ghost from_gives = { λ f e. e ≡ adopting_fault f };
+
+    fn from(fault: AdoptFault) -> OpenFault {
+        match fault {
+            AdoptFault::Store => OpenFault::Store,
+            AdoptFault::Memory => OpenFault::Memory,
+            AdoptFault::BadRows => OpenFault::BadRows,
+            AdoptFault::OtherTexts => OpenFault::OtherPolicy,
+        }
+    }
+}
+
+impl From<RowFault> for OpenFault {
+    ghost use Rattle.mls_fragments.specs.OpenFault.{finding_fault};
+
+    ghost from_gives = { λ f e. e ≡ finding_fault f };
+
+    fn from(fault: RowFault) -> OpenFault {
+        match fault {
+            RowFault::BadRow => OpenFault::BadRows,
+            RowFault::Memory => OpenFault::Memory,
         }
     }
 }

@@ -1,23 +1,27 @@
 //! Stores that are opened.
-ghost use Rattle.std.specs.Prelude.{◌≡◌, ◌≢◌, false, length, string_bytes, IsTrue, IfOk, IfErr};
+ghost use Rattle.std.specs.Prelude.{◌≡◌, ◌≢◌, ◌⊎◌, false, length, string_bytes, IsTrue, IfOk, IfErr, OnOk};
 ghost use Rattle.sqlite.specs.State.{HasCleanDisk};
 ghost use Rattle.sqlite.specs.Held.{state};
 ghost use Rattle.mls_lattice.specs.Canon as lattice;
 ghost use Rattle.mls_scheme.specs.Scheme.{AreUnder};
 ghost use Rattle.mls_scheme.specs.Canon as scheme;
 ghost use Rattle.mls_filterview.specs.Content.{no_content};
-ghost use Rattle.mls_statements.specs.Rows.{described};
-ghost use Rattle.mls_statements.specs.Schema.{no_schema};
+ghost use Rattle.mls_statements.specs.Adopting.{HasOtherTexts, IsDescribedBy};
+ghost use Rattle.mls_statements.specs.Rows.{described, tables_of};
+ghost use Rattle.mls_statements.specs.Schema.{no_schema, schema};
 ghost use Rattle.mls_statements.specs.Store.{IsClean};
 ghost use Rattle.mls_fragments.specs.Based.{state_of};
-ghost use Rattle.mls_fragments.specs.Opening.{IsRefused};
+ghost use Rattle.mls_fragments.specs.Finding.{IsSoundContent};
+ghost use Rattle.mls_fragments.specs.Holding.{Holds};
+ghost use Rattle.mls_fragments.specs.Opening.{IsRefused, IsOpenable};
 
 use crate::base::SqlBase;
+use crate::finding::find;
 use crate::open_fault::OpenFault;
 use mls_lattice::Policy;
 use mls_scheme::Schemes;
-use mls_statements::TableStore;
 use mls_statements::statements::creation::has_nothing;
+use mls_statements::{TableStore, read_store};
 use sqlite::{Alter, Connection, MemStore};
 use std::alloc::{AllocError, Global};
 
@@ -36,9 +40,59 @@ fn texts_of(
     Ok((lattice, schemes))
 }
 
+/// An empty base over the store of a connection, which has no table, index or view.
+fn created<S: Alter>(
+    alloc: Global,
+    conn: Connection<S>,
+    lattice: &str,
+    schemes: &str,
+) -> Result<SqlBase<S>, (OpenFault, Connection<S>)>
+    requires nothing { HasCleanDisk (state S.Store conn) → (state S.Store conn).now.schema ≡ no_schema }
+    ensures content { IfOk result (λ b. state_of b ≡ record { now = no_content; kept = no_content; begun = false }) }
+    ensures described { IfOk result (λ b. IsClean b.tables → b.tables.now ≡ described lattice.now schemes.now) }
+    ensures clean { IfOk result (λ b. IsClean b.tables → HasCleanDisk (state S.Store conn)) }
+    ensures fault { IfErr result (λ e. (e.0 ≡ OpenFault.Store) ⊎ (e.0 ≡ OpenFault.Memory)) }
+    ensures refused { IfErr result (λ e. IsRefused (state S.Store conn) (state S.Store e.1)) }
+{
+    match TableStore::create(alloc, conn, lattice, schemes) {
+        Ok(store) => Ok(SqlBase::over_new(alloc, store)),
+        Err((fault, conn)) => Err((OpenFault::from(fault), conn)),
+    }
+}
+
+/// A base over the four tables of a connection's store, which these texts describe.
+fn opened<S: Alter>(
+    alloc: Global,
+    mut conn: Connection<S>,
+    policy: &Policy,
+    schemes: &Schemes,
+    texts: &(String, String),
+) -> Result<SqlBase<S>, (OpenFault, Connection<S>)>
+    requires under { AreUnder (length policy.now.labels) schemes.now }
+    ensures rows { IfOk result (λ b. IsClean b.tables → b.tables.now ≡ tables_of (state S.Store conn).now.trees) }
+    ensures described { IfOk result (λ b. IsClean b.tables → IsDescribedBy (string_bytes texts.now.0) (string_bytes texts.now.1) b.tables.now) }
+    ensures sound { IfOk result (λ b. IsSoundContent policy.now schemes.now (state_of b).now) }
+    ensures mode { IfOk result (λ b. (state_of b).begun ≡ false) }
+    ensures schema { OnOk result ((state S.Store conn).now.schema ≡ schema) }
+    ensures clean { IfOk result (λ b. IsClean b.tables → HasCleanDisk (state S.Store conn)) }
+    ensures refused { IfErr result (λ e. IsRefused (state S.Store conn) (state S.Store e.1)) }
+    ensures policy { IfErr result (λ e. HasCleanDisk (state S.Store e.1) → e.0 ≡ OpenFault.OtherPolicy → HasOtherTexts (string_bytes texts.now.0) (string_bytes texts.now.1) (state S.Store conn).now) }
+    ensures bad { IfErr result (λ e. HasCleanDisk (state S.Store e.1) → e.0 ≡ OpenFault.BadRows → ¬ IsOpenable policy.now schemes.now (state S.Store conn).now) }
+{
+    let rows = match read_store(&mut conn, alloc, &texts.0, &texts.1) {
+        Ok(rows) => rows,
+        Err(fault) => return Err((OpenFault::from(fault), conn)),
+    };
+    match find(alloc, policy, schemes, rows) {
+        Ok(found) => Ok(SqlBase::over_found(alloc, TableStore::over(alloc, conn), &found)),
+        Err(fault) => Err((OpenFault::from(fault), conn)),
+    }
+}
+
 impl<S: Alter> SqlBase<S> {
-    /// An empty base over the store of a connection, which has no table, index or view: it gets the four tables and the row that
-    /// describes it, in one transaction. Every other store is refused as BadRows. An `Err` hands the connection back.
+    /// A base over the store of a connection. A store that has no table, index or view gets the four tables and the row that
+    /// describes it, in one transaction. Of a store with the four tables all rows are read, in one transaction; users and the
+    /// matrix of rights are not compared. Every other store is refused as BadRows. An `Err` hands the connection back.
     pub fn adopt(
         alloc: Global,
         conn: Connection<S>,
@@ -47,26 +101,28 @@ impl<S: Alter> SqlBase<S> {
     ) -> Result<SqlBase<S>, (OpenFault, Connection<S>)>
         requires under { AreUnder (length policy.now.labels) schemes.now }
         requires outside { HasCleanDisk (state S.Store conn) → IsTrue (state S.Store conn).is_open → (state S.Store conn).in_transaction ≡ false }
-        ensures content { IfOk result (λ b. state_of b ≡ record { now = no_content; kept = no_content; begun = false }) }
-        ensures described { IfOk result (λ b. IsClean b.tables → b.tables.now ≡ described (lattice.lattice_of policy.now) (scheme.canon_of policy.now schemes.now)) }
-        ensures new { IfOk result (λ b. (state S.Store conn).now.schema ≡ no_schema) }
+        ensures new { (state S.Store conn).now.schema ≡ no_schema → IfOk result (λ b. (state_of b ≡ record { now = no_content; kept = no_content; begun = false })
+            × (IsClean b.tables → b.tables.now ≡ described (lattice.lattice_of policy.now) (scheme.canon_of policy.now schemes.now))) }
+        ensures rows { (state S.Store conn).now.schema ≢ no_schema → IfOk result (λ b. IsClean b.tables → b.tables.now ≡ tables_of (state S.Store conn).now.trees) }
+        ensures described { IfOk result (λ b. IsClean b.tables → IsDescribedBy (lattice.lattice_of policy.now) (scheme.canon_of policy.now schemes.now) b.tables.now) }
+        ensures holds { IfOk result (λ b. IsClean b.tables → Holds b.tables.now (state_of b).now) }
+        ensures sound { IfOk result (λ b. IsSoundContent policy.now schemes.now (state_of b).now) }
+        ensures mode { IfOk result (λ b. (state_of b).begun ≡ false) }
         ensures clean { IfOk result (λ b. IsClean b.tables → HasCleanDisk (state S.Store conn)) }
-        ensures policy { IfErr result (λ e. e.0 ≢ OpenFault.OtherPolicy) }
-        ensures rows { IfErr result (λ e. e.0 ≡ OpenFault.BadRows → (state S.Store conn).now.schema ≢ no_schema) }
-        ensures other { (state S.Store conn).now.schema ≢ no_schema → IfErr result (λ e. e.0 ≡ OpenFault.BadRows) }
+        ensures schema { OnOk result (((state S.Store conn).now.schema ≡ no_schema) ⊎ ((state S.Store conn).now.schema ≡ schema)) }
+        ensures policy { IfErr result (λ e. HasCleanDisk (state S.Store e.1) → e.0 ≡ OpenFault.OtherPolicy → HasOtherTexts (lattice.lattice_of policy.now) (scheme.canon_of policy.now schemes.now) (state S.Store conn).now) }
+        ensures bad { IfErr result (λ e. HasCleanDisk (state S.Store e.1) → e.0 ≡ OpenFault.BadRows → ¬ IsOpenable policy.now schemes.now (state S.Store conn).now) }
+        ensures made { (state S.Store conn).now.schema ≡ no_schema → IfErr result (λ e. (e.0 ≡ OpenFault.Store) ⊎ (e.0 ≡ OpenFault.Memory)) }
         ensures refused { IfErr result (λ e. IsRefused (state S.Store conn) (state S.Store e.1)) }
     {
-        if !has_nothing(&conn) {
-            return Err((OpenFault::BadRows, conn));
-        }
-        let (lattice, schemes) = match texts_of(alloc, policy, schemes) {
+        let texts = match texts_of(alloc, policy, schemes) {
             Ok(texts) => texts,
             Err(_) => return Err((OpenFault::Memory, conn)),
         };
-        match TableStore::create(alloc, conn, &lattice, &schemes) {
-            Ok(store) => Ok(SqlBase::over_new(alloc, store)),
-            Err((fault, conn)) => Err((OpenFault::from(fault), conn)),
+        if has_nothing(&conn) {
+            return created(alloc, conn, &texts.0, &texts.1);
         }
+        opened(alloc, conn, policy, schemes, &texts)
     }
 }
 

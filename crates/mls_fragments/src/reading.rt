@@ -1,12 +1,14 @@
 //! Nodes, cells and entries from rows.
-ghost use Rattle.std.specs.Prelude.{◌≡◌, ◌↔◌, ◌≤◌, ℕ, map, IfOk, IfSome, OnOk};
+ghost use Rattle.std.specs.Prelude.{◌≡◌, ◌↔◌, ◌<◌, ◌≤◌, List, map, filter, nat_eq, Option, IsOk, IfOk, IfErr, IfSome, OnOk};
 ghost use Rattle.std.specs.List.{AllByRecursion};
+ghost use Rattle.mls_scheme.specs.declared.value.Value.{Value as SpecValue};
 ghost use Rattle.mls_scheme.specs.declared.key_fault.KeyFault.TheVariants.{Memory as KeyMemory};
 ghost use Rattle.mls_scheme.specs.Spelling.{HasSpelling, IsSpelledKey, key_spelling};
 ghost use Rattle.mls_filterview.specs.Content.{Content};
 ghost use Rattle.mls_filterview.specs.Fragment.{IsFragment};
 ghost use Rattle.mls_statements.specs.Store.{IsClean, IsFault, IsCall, IsSame};
 ghost use Rattle.mls_fragments.specs.declared.reading.RowFault.TheVariants.{Memory};
+ghost use Rattle.mls_fragments.specs.Finding.{IsMemory, IsNodeRow, IsCellRow};
 ghost use Rattle.mls_fragments.specs.Holding.{Holds, node_row, cell_row, value_bytes, IsSpelledNode, IsSpelledCell};
 
 use mls_filterview::{Cell, Fragment, Node};
@@ -71,7 +73,8 @@ pub(crate) fn give_up<S: Alter>(store: &mut TableStore<S>, fault: RowFault) -> S
 }
 
 fn label_in(number: u32) -> Result<LabelNo, RowFault>
-    ensures { IfOk result (λ label. label ≡ number) }
+    ensures found { IfOk result (λ label. label ≡ number) }
+    ensures only { number < 256 → IsOk result }
 {
     match u8::try_from(number) {
         Ok(byte) => Ok(LabelNo::new(byte)),
@@ -80,13 +83,15 @@ fn label_in(number: u32) -> Result<LabelNo, RowFault>
 }
 
 fn key_in(alloc: Global, bytes: &[u8]) -> Result<Items<Value>, RowFault>
-    ensures { IfOk result (λ key. IsSpelledKey key × (key_spelling key ≡ bytes.now)) }
+    ensures found { IfOk result (λ key. IsSpelledKey key × (key_spelling key ≡ bytes.now)) }
+    ensures only { (key : List SpecValue) → IsSpelledKey key → bytes.now ≡ key_spelling key → IfErr result IsMemory }
 {
     Ok(Items::from(key_of(alloc, bytes)?))
 }
 
 fn pattern_in(alloc: Global, bytes: &[u8]) -> Result<Items<LabelNo>, RowFault>
-    ensures { IfOk result (λ pattern. pattern ≡ bytes.now) }
+    ensures found { IfOk result (λ pattern. pattern ≡ bytes.now) }
+    ensures only { IfErr result IsMemory }
 {
     let mut labels = Vec::new(alloc);
     for byte in bytes {
@@ -96,7 +101,8 @@ fn pattern_in(alloc: Global, bytes: &[u8]) -> Result<Items<LabelNo>, RowFault>
 }
 
 fn node_in(alloc: Global, row: &NodeRow) -> Result<Node, RowFault>
-    ensures { IfOk result (λ n. (node_row row.now.rel n ≡ row.now) × IsSpelledNode n) }
+    ensures found { IfOk result (λ n. (node_row row.now.rel n ≡ row.now) × IsSpelledNode n) }
+    ensures only { IsNodeRow row.now → IfErr result IsMemory }
 {
     Ok(Node {
         key: key_in(alloc, &row.ent)?,
@@ -106,19 +112,24 @@ fn node_in(alloc: Global, row: &NodeRow) -> Result<Node, RowFault>
     })
 }
 
-fn nodes_in(alloc: Global, rows: &[NodeRow]) -> Result<Items<Node>, RowFault>
-    ensures shown { IfOk result (λ nodes. (rel : ℕ) → AllByRecursion (λ r. r.rel ≡ rel) rows.now → map (node_row rel) nodes ≡ rows.now) }
+/// The nodes of one relation among rows.
+pub(crate) fn nodes_in(alloc: Global, rel: RelNo, rows: &[NodeRow]) -> Result<Items<Node>, RowFault>
+    ensures shown { IfOk result (λ nodes. map (node_row rel) nodes ≡ filter (λ r. nat_eq r.rel rel) rows.now) }
     ensures spelled { IfOk result (AllByRecursion IsSpelledNode) }
+    ensures only { AllByRecursion IsNodeRow rows.now → IfErr result IsMemory }
 {
     let mut nodes = Vec::new(alloc);
     for row in rows {
-        nodes.push(node_in(alloc, row)?)?;
+        if row.rel == u32::from(rel.byte()) {
+            nodes.push(node_in(alloc, row)?)?;
+        }
     }
     Ok(Items::from(nodes))
 }
 
 fn value_in(alloc: Global, bytes: &[u8]) -> Result<Option<Value>, RowFault>
-    ensures { IfOk result (λ value. (value_bytes value ≡ bytes.now) × IfSome value HasSpelling) }
+    ensures found { IfOk result (λ value. (value_bytes value ≡ bytes.now) × IfSome value HasSpelling) }
+    ensures only { (value : Option SpecValue) → IfSome value HasSpelling → bytes.now ≡ value_bytes value → IfErr result IsMemory }
 {
     if let [0] = bytes {
         return Ok(None);
@@ -131,7 +142,8 @@ fn value_in(alloc: Global, bytes: &[u8]) -> Result<Option<Value>, RowFault>
 }
 
 fn cell_in(alloc: Global, row: &CellRow) -> Result<Cell, RowFault>
-    ensures { IfOk result (λ c. (cell_row row.now.rel c ≡ row.now) × IsSpelledCell c) }
+    ensures found { IfOk result (λ c. (cell_row row.now.rel c ≡ row.now) × IsSpelledCell c) }
+    ensures only { IsCellRow row.now → IfErr result IsMemory }
 {
     Ok(Cell {
         key: key_in(alloc, &row.ent)?,
@@ -142,25 +154,34 @@ fn cell_in(alloc: Global, row: &CellRow) -> Result<Cell, RowFault>
     })
 }
 
-fn cells_in(alloc: Global, rows: &[CellRow]) -> Result<Items<Cell>, RowFault>
-    ensures shown { IfOk result (λ cells. (rel : ℕ) → AllByRecursion (λ r. r.rel ≡ rel) rows.now → map (cell_row rel) cells ≡ rows.now) }
+/// The cells of one relation among rows.
+pub(crate) fn cells_in(alloc: Global, rel: RelNo, rows: &[CellRow]) -> Result<Items<Cell>, RowFault>
+    ensures shown { IfOk result (λ cells. map (cell_row rel) cells ≡ filter (λ r. nat_eq r.rel rel) rows.now) }
     ensures spelled { IfOk result (AllByRecursion IsSpelledCell) }
+    ensures only { AllByRecursion IsCellRow rows.now → IfErr result IsMemory }
 {
     let mut cells = Vec::new(alloc);
     for row in rows {
-        cells.push(cell_in(alloc, row)?)?;
+        if row.rel == u32::from(rel.byte()) {
+            cells.push(cell_in(alloc, row)?)?;
+        }
     }
     Ok(Items::from(cells))
 }
 
-fn fragment_in(alloc: Global, nodes: &[NodeRow], cells: &[CellRow]) -> Result<Fragment, RowFault>
-    ensures nodes { IfOk result (λ f. (rel : ℕ) → AllByRecursion (λ r. r.rel ≡ rel) nodes.now → map (node_row rel) f.nodes ≡ nodes.now) }
-    ensures cells { IfOk result (λ f. (rel : ℕ) → AllByRecursion (λ r. r.rel ≡ rel) cells.now → map (cell_row rel) f.cells ≡ cells.now) }
+fn fragment_in(
+    alloc: Global,
+    rel: RelNo,
+    nodes: &[NodeRow],
+    cells: &[CellRow],
+) -> Result<Fragment, RowFault>
+    ensures nodes { IfOk result (λ f. map (node_row rel) f.nodes ≡ filter (λ r. nat_eq r.rel rel) nodes.now) }
+    ensures cells { IfOk result (λ f. map (cell_row rel) f.cells ≡ filter (λ r. nat_eq r.rel rel) cells.now) }
     ensures spelled { IfOk result (λ f. AllByRecursion IsSpelledNode f.nodes × AllByRecursion IsSpelledCell f.cells) }
 {
     Ok(Fragment {
-        nodes: nodes_in(alloc, nodes)?,
-        cells: cells_in(alloc, cells)?,
+        nodes: nodes_in(alloc, rel, nodes)?,
+        cells: cells_in(alloc, rel, cells)?,
     })
 }
 
@@ -178,14 +199,15 @@ pub(crate) fn read_fragment<S: Alter>(
 {
     let nodes = store.nodes_at(u32::from(rel.byte()), u32::from(label.byte()))?;
     let cells = store.cells_at(u32::from(rel.byte()), u32::from(label.byte()))?;
-    match fragment_in(alloc, &nodes, &cells) {
+    match fragment_in(alloc, rel, &nodes, &cells) {
         Ok(fragment) => Ok(fragment),
         Err(fault) => Err(give_up(store, fault)),
     }
 }
 
-fn entries_in(alloc: Global, rows: Vec<AuditRow>) -> Result<Items<Items<u8>>, RowFault>
-    ensures { IfOk result (λ entries. entries ≡ map (λ r. r.bytes) rows.items) }
+pub(crate) fn entries_in(alloc: Global, rows: Vec<AuditRow>) -> Result<Items<Items<u8>>, RowFault>
+    ensures found { IfOk result (λ entries. entries ≡ map (λ r. r.bytes) rows.items) }
+    ensures only { IfErr result IsMemory }
 {
     let mut entries = Vec::new(alloc);
     for row in rows {

@@ -1,10 +1,11 @@
 //! Changes that only clauses read.
-ghost use Rattle.std.specs.Prelude.{◌≡◌, List, [], ◌∷◌};
+ghost use Rattle.std.specs.Prelude.{◌≡◌, List, [], ◌∷◌, map};
 ghost use Rattle.std.specs.Borrow.{ftrue};
 ghost use Rattle.mls_fragments.specs.Changes.{Change};
-ghost use Rattle.mls_fragments.specs.Changes.Change.{Adds, Sets, Drops, Appends};
+ghost use Rattle.mls_fragments.specs.Changes.Change.{Finds, Adds, Sets, Drops, Appends};
 
-use mls_filterview::{Cell, Node};
+use mls_filterview::{Cell, Node, Rows};
+use mls_lattice::Items;
 use mls_scheme::{Place, RelNo, Value};
 use std::marker::{Model, PhantomData};
 
@@ -48,6 +49,13 @@ impl Recalled {
         ensures { self.new.changes ≡ other.now.changes }
     {
         self.note(other);
+    }
+
+    /// What a store has when it is opened.
+    pub fn find(&mut self, tables: &[Rows], entries: &[Items<u8>])
+        ensures { self.new.changes ≡ Finds (map (λ t. t.entries) tables.now) entries.now ∷ [] }
+    {
+        self.note(&(tables, entries));
     }
 
     /// One tuple more.

@@ -1,11 +1,12 @@
 //! The rows of a tuple, of a value and of an entry, written.
-ghost use Rattle.std.specs.Prelude.{◌≡◌, ◌+ℤ◌, pos, true, map, IfOk, IfSome, OnOk};
+ghost use Rattle.std.specs.Prelude.{◌≡◌, ◌+ℤ◌, pos, true, map, IfOk, IfErr, IfSome, OnOk};
 ghost use Rattle.std.specs.List.{AllByRecursion};
 ghost use Rattle.mls_scheme.specs.Spelling.{HasSpelling, IsSpelledKey, key_spelling};
 ghost use Rattle.mls_filterview.specs.Fragment.{IsCellOf};
 ghost use Rattle.mls_statements.specs.declared.rows.CellRow.{CellRow as SpecCell};
 ghost use Rattle.mls_statements.specs.Statements.{SetsCell, AddsEntry, IsOne, has_key_of};
 ghost use Rattle.mls_statements.specs.Store.{IsClean, IsCall, Writes};
+ghost use Rattle.mls_fragments.specs.Finding.{IsMemory};
 ghost use Rattle.mls_fragments.specs.Holding.{node_row, cell_row, value_bytes, IsSpelledCell, value_row, AddsTuple, AddsCells, DropsTuple};
 
 use crate::reading::{RowFault, give_up};
@@ -17,7 +18,8 @@ use sqlite::Alter;
 use std::alloc::Global;
 
 fn bytes_of(alloc: Global, pattern: &[LabelNo]) -> Result<Items<u8>, RowFault>
-    ensures { IfOk result (λ bytes. bytes ≡ pattern.now) }
+    ensures made { IfOk result (λ bytes. bytes ≡ pattern.now) }
+    ensures fault { IfErr result IsMemory }
 {
     let mut bytes = Vec::new(alloc);
     for label in pattern {
@@ -29,7 +31,8 @@ fn bytes_of(alloc: Global, pattern: &[LabelNo]) -> Result<Items<u8>, RowFault>
 /// The bytes of a value, and 0 for null.
 fn bytes_of_value(alloc: Global, value: &Option<Value>) -> Result<Items<u8>, RowFault>
     requires { IfSome value.now HasSpelling }
-    ensures { IfOk result (λ bytes. bytes ≡ value_bytes value.now) }
+    ensures made { IfOk result (λ bytes. bytes ≡ value_bytes value.now) }
+    ensures fault { IfErr result IsMemory }
 {
     match value {
         Some(value) => Ok(Items::from(value_bytes(alloc, value)?)),
@@ -43,23 +46,27 @@ fn bytes_of_value(alloc: Global, value: &Option<Value>) -> Result<Items<u8>, Row
 
 fn ent_of(alloc: Global, key: &[Value]) -> Result<Items<u8>, RowFault>
     requires { IsSpelledKey key.now }
-    ensures { IfOk result (λ bytes. bytes ≡ key_spelling key.now) }
+    ensures made { IfOk result (λ bytes. bytes ≡ key_spelling key.now) }
+    ensures fault { IfErr result IsMemory }
 {
     Ok(Items::from(key_bytes(alloc, key)?))
 }
 
+/// The number of an attribute. No memory is left for a tuple that has so many that one's would not fit.
 fn number_of(attr: usize) -> Result<u32, RowFault>
-    ensures { IfOk result (λ number. number ≡ attr) }
+    ensures made { IfOk result (λ number. number ≡ attr) }
+    ensures fault { IfErr result IsMemory }
 {
     match u32::try_from(attr) {
         Ok(number) => Ok(number),
-        Err(_) => Err(RowFault::BadRow),
+        Err(_) => Err(RowFault::Memory),
     }
 }
 
-fn row_of_node(alloc: Global, rel: RelNo, node: &Node) -> Result<NodeRow, RowFault>
+pub(crate) fn row_of_node(alloc: Global, rel: RelNo, node: &Node) -> Result<NodeRow, RowFault>
     requires { IsSpelledKey node.now.key }
-    ensures { IfOk result (λ row. row ≡ node_row rel node.now) }
+    ensures made { IfOk result (λ row. row ≡ node_row rel node.now) }
+    ensures fault { IfErr result IsMemory }
 {
     Ok(NodeRow {
         rel: u32::from(rel.byte()),
@@ -70,9 +77,10 @@ fn row_of_node(alloc: Global, rel: RelNo, node: &Node) -> Result<NodeRow, RowFau
     })
 }
 
-fn row_of_cell(alloc: Global, rel: RelNo, cell: &Cell) -> Result<CellRow, RowFault>
+pub(crate) fn row_of_cell(alloc: Global, rel: RelNo, cell: &Cell) -> Result<CellRow, RowFault>
     requires { IsSpelledCell cell.now }
-    ensures { IfOk result (λ row. row ≡ cell_row rel cell.now) }
+    ensures made { IfOk result (λ row. row ≡ cell_row rel cell.now) }
+    ensures fault { IfErr result IsMemory }
 {
     Ok(CellRow {
         rel: u32::from(rel.byte()),

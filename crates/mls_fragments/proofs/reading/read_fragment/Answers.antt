@@ -1,5 +1,5 @@
-use Rattle.std.proofs.Common.{◌≡◌, ◌∙◌, ℕ, map, filter, subst, subst₂, ap, IsPermutation}
-use Rattle.std.specs.List.{AllByRecursion}
+use Rattle.std.proofs.Common.{◌≡◌, ◌∙◌, map, filter, subst, subst₂, ap, IsPermutation}
+use Rattle.std.specs.Prelude.{nat_eq}
 use Rattle.mls_statements.specs.Rows.{is_node_at, is_cell_at}
 use Rattle.mls_fragments.specs.Holding.{node_row, cell_row}
 use Rattle.mls_fragments.proofs.ReadingLemmas.{found_fragment}
@@ -17,6 +17,6 @@ returns-in-Ok-clause-found g c clean content holds =
     let read_cells : IsPermutation (filter (is_cell_at c.args.rel c.args.label) c.nodes_at.new.self.now.cells) cells = subst₂ (λ r l. IsPermutation (filter (is_cell_at r l) c.nodes_at.new.self.now.cells) cells) (c.from-3.ensures ∙ c.byte-3.ensures) (c.from-4.ensures ∙ c.byte-4.ensures) (c.in_ok-cells.ensures.found clean) in
     let some_cells = subst (λ xs. IsPermutation (filter (is_cell_at c.args.rel c.args.label) xs) cells) same_cells read_cells in
     found_fragment t content c.args.rel c.args.label f nodes cells holds some_nodes some_cells
-    (subst (λ xs. (r : ℕ) → AllByRecursion (λ n. n.rel ≡ r) xs → map (node_row r) f.nodes ≡ xs) c.deref.ensures.value c.in-Ok.ensures.nodes)
-    (subst (λ xs. (r : ℕ) → AllByRecursion (λ n. n.rel ≡ r) xs → map (cell_row r) f.cells ≡ xs) c.deref-2.ensures.value c.in-Ok.ensures.cells)
+    (subst (λ xs. map (node_row c.args.rel) f.nodes ≡ filter (λ r. nat_eq r.rel c.args.rel) xs) c.deref.ensures.value c.in-Ok.ensures.nodes)
+    (subst (λ xs. map (cell_row c.args.rel) f.cells ≡ filter (λ r. nat_eq r.rel c.args.rel) xs) c.deref-2.ensures.value c.in-Ok.ensures.cells)
     c.in-Ok.ensures.spelled.0 c.in-Ok.ensures.spelled.1

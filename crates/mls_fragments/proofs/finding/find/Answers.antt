@@ -1,0 +1,71 @@
+use Rattle.std.proofs.Common.{◌≤◌, map, length, arith, true≢false, sym, subst, subst₂, ◌∙◌, rules, IsPermutation}
+use Rattle.std.proofs.lemmas.List.{length-map}
+use Rattle.std.proofs.lemmas.List.Sorted.{IsPermutation-trans}
+use Rattle.std.specs.List.{AllByRecursion}
+use Rattle.mls_lattice.specs.Policy.{Tables as Policy, labels_of}
+use Rattle.mls_fragments.specs.Finding.{IsNodeRow, IsCellRow, AreAlike, AreAssembled, AreTables, IsSpelledEntry, node_rows, cell_rows}
+use Rattle.mls_fragments.proofs.FindingLemmas.{are_content, finds, tables_spelled}
+use Rattle.mls_fragments.proofs.KnownLemmas.{node_rows_read, cell_rows_read, tables_are, same_node_rows, same_cell_rows}
+use Rattle.mls_fragments.proofs.finding.find.Goals as goal
+
+pub have_rows-requires-clause-spelled : goal.have_rows-requires-clause-spelled
+have_rows-requires-clause-spelled c =
+    subst (AllByRecursion (λ t. AllByRecursion IsSpelledEntry t.entries)) (sym c.deref-4.ensures.value)
+    (tables_spelled (λ t. t.entries) c.deref.result.now c.deref-2.result.now c.in_ok-tables.tables.items c.in_ok-tables.ensures.assembled)
+
+pub returns-clause-held : goal.returns-clause-held
+returns-clause-held c t all =
+    let tables = map (λ t. t.entries) c.in_ok-tables.tables.items in
+    let same = c.in_ok-have_rows.ensures.same c.if-not-branch-2.false in
+    finds (labels_of c.args.policy.now) c.args.schemes.now c.args.rows tables c.in_ok-entries.entries
+    (subst₂ (λ nodes cells. AreAssembled nodes cells tables) c.deref.ensures.value c.deref-2.ensures.value c.in_ok-tables.ensures.assembled)
+    (subst (λ ts. AreTables (labels_of c.args.policy.now) c.args.schemes.now (map (λ t. t.entries) ts)) c.deref-3.ensures.value (c.in_ok-are_content.ensures.0 c.if-not-branch.false))
+    (subst (λ ts. IsPermutation (node_rows 0 (map (λ t. t.entries) ts)) c.args.rows.nodes.items) c.deref-4.ensures.value same.0)
+    (subst (λ ts. IsPermutation (cell_rows 0 (map (λ t. t.entries) ts)) c.args.rows.cells.items) c.deref-4.ensures.value same.1)
+    c.in_ok-entries.ensures.numbered t all
+
+pub returns-clause-sound : goal.returns-clause-sound
+returns-clause-sound c = record {
+  content = are_content (labels_of c.args.policy.now) c.args.schemes.now (map (λ t. t.entries) c.in_ok-tables.tables.items)
+      (subst (λ ts. AreTables (labels_of c.args.policy.now) c.args.schemes.now (map (λ t. t.entries) ts)) c.deref-3.ensures.value (c.in_ok-are_content.ensures.0 c.if-not-branch.false));
+  entries = c.in_ok-entries.ensures.entries;
+}
+
+-- ---- rows that hold sound content are refused only for want of memory
+
+few_labels : (p : Policy) → length p.labels ≤ 64 → length (labels_of p) ≤ 256
+few_labels p h = omega (arith, h, length-map p.labels (λ l. l.value))
+
+pub returns-in_err-tables-clause-only : goal.returns-in_err-tables-clause-only
+returns-in_err-tables-clause-only c t all content holds sound =
+    let ls = labels_of c.args.policy.now in
+    let few = few_labels c.args.policy.now c.label_count-labels.ensures.few in
+    let nodes = node_rows_read ls few c.args.schemes.now t c.args.rows all content holds sound.content in
+    let cells = cell_rows_read ls few c.args.schemes.now t c.args.rows all content holds sound.content in
+    let memory = c.in_err-tables.ensures.only (subst (AllByRecursion IsNodeRow) (sym c.deref.ensures.value) nodes) (subst (AllByRecursion IsCellRow) (sym c.deref-2.ensures.value) cells) in
+    search rules
+
+pub returns-then-not-branch-clause-only : goal.returns-then-not-branch-clause-only
+returns-then-not-branch-clause-only c t all content holds sound =
+    let tables = map (λ t. t.entries) c.in_ok-tables.tables.items in
+    let made = subst₂ (λ nodes cells. AreAssembled nodes cells tables) c.deref.ensures.value c.deref-2.ensures.value c.in_ok-tables.ensures.assembled in
+    let count = length-map c.in_ok-tables.tables.items (λ t. t.entries) ∙ c.in_ok-tables.ensures.count ∙ c.count.ensures.count in
+    let are = tables_are (labels_of c.args.policy.now) (few_labels c.args.policy.now c.label_count-labels.ensures.few) c.args.schemes.now t c.args.rows all content holds sound.content tables count made in
+    absurd (true≢false (sym (c.in_ok-are_content.ensures.1 (subst (λ ts. AreTables (labels_of c.args.policy.now) c.args.schemes.now (map (λ t. t.entries) ts)) (sym c.deref-3.ensures.value) are)) ∙ c.if-not-branch.true))
+
+pub returns-then-not-branch-2-clause-only : goal.returns-then-not-branch-2-clause-only
+returns-then-not-branch-2-clause-only c t all content holds sound =
+    let tables = map (λ t. t.entries) c.in_ok-tables.tables.items in
+    let made = subst₂ (λ nodes cells. AreAssembled nodes cells tables) c.deref.ensures.value c.deref-2.ensures.value c.in_ok-tables.ensures.assembled in
+    let count = length-map c.in_ok-tables.tables.items (λ t. t.entries) ∙ c.in_ok-tables.ensures.count ∙ c.count.ensures.count in
+    let nodes = same_node_rows (labels_of c.args.policy.now) (few_labels c.args.policy.now c.label_count-labels.ensures.few) c.args.schemes.now t c.args.rows all content holds sound.content tables count made in
+    let cells = same_cell_rows (labels_of c.args.policy.now) (few_labels c.args.policy.now c.label_count-labels.ensures.few) c.args.schemes.now t c.args.rows all content holds sound.content tables count made in
+    let same = c.in_ok-have_rows.ensures.only
+    (subst (λ ts. AreAlike (λ r. r.rel) (node_rows 0 (map (λ t. t.entries) ts)) c.args.rows.nodes.items) (sym c.deref-4.ensures.value) nodes)
+    (subst (λ ts. AreAlike (λ r. r.rel) (cell_rows 0 (map (λ t. t.entries) ts)) c.args.rows.cells.items) (sym c.deref-4.ensures.value) cells) in
+    absurd (true≢false (sym same ∙ c.if-not-branch-2.true))
+
+pub returns-in_err-entries-clause-only : goal.returns-in_err-entries-clause-only
+returns-in_err-entries-clause-only c t all content holds sound =
+    let memory = c.in_err-entries.ensures.only content.audit (IsPermutation-trans _ _ _ holds.audit all.1.1) sound.entries in
+    search rules

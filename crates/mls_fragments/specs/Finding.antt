@@ -1,0 +1,97 @@
+-- What the rows of a store hold.
+use Rattle.std.specs.Prelude.{◌≡◌, ℕ, suc, ◌<◌, nat_eq, List, [], ◌∷◌, ◌++◌, map, length, slice_index_or, Option, IfSome, IsPermutation}
+use Rattle.std.specs.List.{AllByRecursion, filter, flat_map}
+use Rattle.std.specs.List.Sorted.{IsStrictlySortedBy}
+use Rattle.std.specs.Map.{lookup, keys_of}
+use Rattle.std.specs.BTreeMap.{is_at}
+use Rattle.mls_lattice.specs.Labels.{Labels}
+use Rattle.mls_lattice.specs.Policy.{Tables as Policy, labels_of}
+use Rattle.mls_scheme.specs.declared.value.Value.{Value}
+use Rattle.mls_scheme.specs.declared.tuple.Element.{Element}
+use Rattle.mls_scheme.specs.declared.place.Place.{Place}
+use Rattle.mls_scheme.specs.Spelling.{HasSpelling, IsSpelledKey}
+use Rattle.mls_scheme.specs.Scheme.{Schemes, scheme_of}
+use Rattle.mls_scheme.specs.Table.{place_cmp}
+use Rattle.mls_filterview.specs.declared.fragment.Node.{Node}
+use Rattle.mls_filterview.specs.declared.fragment.Cell.{Cell}
+use Rattle.mls_filterview.specs.Fragment.{node_of, cells_of}
+use Rattle.mls_filterview.specs.Assembly.{CellPlace, AreValues, AreRows}
+use Rattle.mls_filterview.specs.Stored.{IsContent, AreContent}
+use Rattle.mls_audit.specs.Spelling.{IsEntryOf}
+use Rattle.mls_filterview.specs.Content.{Content}
+use Rattle.mls_statements.specs.declared.rows.NodeRow.{NodeRow}
+use Rattle.mls_statements.specs.declared.rows.CellRow.{CellRow}
+use Rattle.mls_fragments.specs.declared.reading.RowFault.{RowFault}
+use Rattle.mls_fragments.specs.declared.reading.RowFault.TheVariants.{Memory}
+use Rattle.mls_fragments.specs.declared.finding.Found.{Found}
+use Rattle.mls_fragments.specs.Changes.{Entries, table_in, found}
+use Rattle.mls_fragments.specs.Holding.{node_row, cell_row, IsSpelledNode, IsSpelledCell}
+
+-- ---- rows that can be read
+
+abbrev pub IsMemory : RowFault → Type 0
+IsMemory e = e ≡ Memory
+
+-- the row of a node with a spelled key and classes of one byte
+pub record IsNodeRow (r : NodeRow) : Type 0 where
+  pub node : Node
+  pub spelled : IsSpelledNode node
+  pub key_class : node.key_class < 256
+  pub label : node.label < 256
+  pub is : r ≡ node_row r.rel node
+
+-- the row of a cell with a spelled key, a spelled value or null, and classes of one byte
+pub record IsCellRow (r : CellRow) : Type 0 where
+  pub cell : Cell
+  pub spelled : IsSpelledCell cell
+  pub key_class : cell.key_class < 256
+  pub label : cell.label < 256
+  pub is : r ≡ cell_row r.rel cell
+
+-- ---- tuples put together from rows
+
+-- a tuple whose key and values have spellings
+abbrev pub IsSpelledEntry : Place × List Element → Type 0
+IsSpelledEntry e = IsSpelledKey e.0.key × AllByRecursion (λ x. IfSome x.value HasSpelling) e.1
+
+-- tuples put together from the nodes and the cells of one relation
+pub record IsAssembled (rel : ℕ) (nodes : List NodeRow) (cells : List CellRow) (es : Entries) : Type 0 where
+  pub ns : List Node
+  pub cs : List Cell
+  pub held : CellPlace → Option (Option Value)
+  pub nodes_are : map (node_row rel) ns ≡ filter (λ r. nat_eq r.rel rel) nodes
+  pub cells_are : map (cell_row rel) cs ≡ filter (λ r. nat_eq r.rel rel) cells
+  pub nodes_spelled : AllByRecursion IsSpelledNode ns
+  pub cells_spelled : AllByRecursion IsSpelledCell cs
+  pub values : AreValues cs held
+  pub sorted : IsStrictlySortedBy place_cmp (keys_of es)
+  pub rows : AreRows held ns (λ q. lookup (is_at (place_cmp q)) es)
+
+abbrev pub AreAssembled : List NodeRow → List CellRow → List Entries → Type 0
+AreAssembled nodes cells tables = (rel : ℕ) → rel < length tables → IsAssembled rel nodes cells (slice_index_or tables rel [])
+
+-- the tables of relations, each of the stored form with the kinds and intervals of its scheme
+abbrev pub AreTables : Labels → Schemes → List Entries → Type 0
+AreTables ls schemes tables = (rel : ℕ) → rel < length tables → IsContent ls (scheme_of schemes rel) (table_in tables rel)
+
+-- relations of the stored form under their schemes, and an audit list of entries of declared labels
+pub record IsSoundContent (policy : Policy) (schemes : Schemes) (c : Content) : Type 0 where
+  pub content : AreContent (labels_of policy) schemes c.db
+  pub entries : AllByRecursion (IsEntryOf (length policy.labels)) c.audit
+
+-- what is found
+abbrev pub content_found : Found → Content
+content_found f = found (map (λ t. t.entries) f.tables.items) f.entries
+
+-- two lists have the same rows of each relation
+abbrev pub AreAlike : {R : Type 0} → (R → ℕ) → List R → List R → Type 0
+AreAlike rel_of xs ys = (rel : ℕ) → IsPermutation (filter (λ r. nat_eq (rel_of r) rel) xs) (filter (λ r. nat_eq (rel_of r) rel) ys)
+
+-- the rows of tables, which are numbered from k
+abbrev pub node_rows : ℕ → List Entries → List NodeRow
+node_rows k [] = []
+node_rows k (es ∷ tables) = map (node_row k) (map node_of es) ++ node_rows (suc k) tables
+
+abbrev pub cell_rows : ℕ → List Entries → List CellRow
+cell_rows k [] = []
+cell_rows k (es ∷ tables) = map (cell_row k) (flat_map cells_of es) ++ cell_rows (suc k) tables

@@ -1,0 +1,166 @@
+//! What the rows of a store hold: the tuples of each relation, put together and asked for the stored form, and the entries.
+ghost use Rattle.std.specs.Prelude.{◌≡◌, ◌↔◌, ◌≤◌, ℕ, List, pos, length, map, IsTrue, IfOk, IfErr, OnOk, IsPermutation};
+ghost use Rattle.std.specs.List.{AllByRecursion};
+ghost use Rattle.mls_lattice.specs.Policy.{labels_of};
+ghost use Rattle.mls_scheme.specs.Scheme.{AreUnder};
+ghost use Rattle.mls_audit.specs.Spelling.{IsEntryOf};
+ghost use Rattle.mls_filterview.specs.Content.{Content};
+ghost use Rattle.mls_statements.specs.Adopting.{AreAll};
+ghost use Rattle.mls_statements.specs.Rows.{Tables, numbered};
+ghost use Rattle.mls_fragments.specs.Finding.{IsMemory, IsNodeRow, IsCellRow, IsAssembled, AreAssembled, AreTables, IsSoundContent, content_found};
+ghost use Rattle.mls_fragments.specs.Holding.{Holds};
+
+use crate::comparing::have_rows;
+use crate::reading::{RowFault, cells_in, entries_in, nodes_in};
+use mls_audit::entry_of;
+use mls_filterview::{Rows, is_content, rows_of, values_of};
+use mls_lattice::{Items, Policy};
+use mls_scheme::{RelNo, Schemes};
+use mls_statements::{AllRows, AuditRow, CellRow, NodeRow, are_numbered};
+use std::alloc::{AllocError, Global};
+
+/// The tuples of one relation, put together from its nodes and cells.
+fn assembled(
+    alloc: Global,
+    rel: RelNo,
+    nodes: &[NodeRow],
+    cells: &[CellRow],
+) -> Result<Rows, RowFault>
+    ensures assembled { IfOk result (λ rows. IsAssembled rel nodes.now cells.now rows.entries) }
+    ensures only { AllByRecursion IsNodeRow nodes.now → AllByRecursion IsCellRow cells.now → IfErr result IsMemory }
+{
+    let nodes = nodes_in(alloc, rel, nodes)?;
+    let values = values_of(alloc, cells_in(alloc, rel, cells)?)?;
+    Ok(rows_of(alloc, nodes, &values)?)
+}
+
+/// The tuples of the first relations, by their numbers.
+pub(crate) fn tables_of(
+    alloc: Global,
+    count: usize,
+    nodes: &[NodeRow],
+    cells: &[CellRow],
+) -> Result<Vec<Rows>, RowFault>
+    requires few { count ≤ 256 }
+    ensures count { IfOk result (λ tables. length tables.items ≡ count) }
+    ensures assembled { IfOk result (λ tables. AreAssembled nodes.now cells.now (map (λ t. t.entries) tables.items)) }
+    ensures only { AllByRecursion IsNodeRow nodes.now → AllByRecursion IsCellRow cells.now → IfErr result IsMemory }
+{
+    let mut tables = Vec::new(alloc);
+    for rel in 0..count {
+        tables.push(assembled(alloc, RelNo::new(rel as u8), nodes, cells)?)?;
+    }
+    Ok(tables)
+}
+
+/// Whether each table is content of its relation.
+fn are_content(
+    alloc: Global,
+    policy: &Policy,
+    schemes: &Schemes,
+    tables: &[Rows],
+) -> Result<bool, AllocError>
+    requires under { AreUnder (length policy.now.labels) schemes.now }
+    requires few { length tables.now ≤ 256 }
+    requires within { length tables.now ≤ length schemes.now }
+    ensures { IfOk result (λ b. IsTrue b ↔ AreTables (labels_of policy.now) schemes.now (map (λ t. t.entries) tables.now)) }
+{
+    for (rel, table) in tables.iter().enumerate() {
+        let scheme = schemes.scheme(RelNo::new(rel as u8));
+        if !is_content(alloc, policy, scheme, table)? {
+            return Ok(false);
+        }
+    }
+    Ok(true)
+}
+
+/// Refuses bytes that are no entry of a declared label.
+fn check_entry(alloc: Global, policy: &Policy, bytes: &[u8]) -> Result<(), RowFault>
+    ensures found { OnOk result (IsEntryOf (length policy.now.labels) bytes.now) }
+    ensures only { IsEntryOf (length policy.now.labels) bytes.now → IfErr result IsMemory }
+{
+    let entry = entry_of(alloc, bytes)?;
+    if entry.label().index() < policy.label_count() {
+        Ok(())
+    } else {
+        Err(RowFault::BadRow)
+    }
+}
+
+/// Refuses rows with bytes that are no entry of a declared label.
+fn check_entries(alloc: Global, policy: &Policy, rows: &[AuditRow]) -> Result<(), RowFault>
+    ensures found { OnOk result (AllByRecursion (λ r. IsEntryOf (length policy.now.labels) r.bytes) rows.now) }
+    ensures only { AllByRecursion (λ r. IsEntryOf (length policy.now.labels) r.bytes) rows.now → IfErr result IsMemory }
+{
+    for row in rows {
+        check_entry(alloc, policy, &row.bytes)?;
+    }
+    Ok(())
+}
+
+/// The entries of rows whose numbers are 1, 2, .. up to their count.
+fn entries_of(
+    alloc: Global,
+    policy: &Policy,
+    mut rows: Vec<AuditRow>,
+) -> Result<Items<Items<u8>>, RowFault>
+    ensures numbered { IfOk result (λ entries. IsPermutation (numbered 1 entries) rows.items) }
+    ensures entries { IfOk result (AllByRecursion (IsEntryOf (length policy.now.labels))) }
+    ensures only { (list : List (List ℕ)) → IsPermutation (numbered 1 list) rows.items → AllByRecursion (IsEntryOf (length policy.now.labels)) list → IfErr result IsMemory }
+{
+    rows.sort()?;
+    if !are_numbered(&rows) {
+        return Err(RowFault::BadRow);
+    }
+    check_entries(alloc, policy, &rows)?;
+    entries_in(alloc, rows)
+}
+
+/// What a store's rows hold.
+#[derive(Drop)]
+pub(crate) struct Found {
+    /// The tuples of each relation, by its number.
+    pub tables: Vec<Rows>,
+    /// The entries of the audit list.
+    pub entries: Items<Items<u8>>,
+    /// The number of the last entry, 0 where there is none.
+    pub last: i64,
+}
+
+/// What rows hold, where that is content of the stored form and entries of declared labels.
+pub(crate) fn find(
+    alloc: Global,
+    policy: &Policy,
+    schemes: &Schemes,
+    rows: AllRows,
+) -> Result<Found, RowFault>
+    requires under { AreUnder (length policy.now.labels) schemes.now }
+    ensures held { IfOk result (λ f. (t : Tables) → AreAll t rows → Holds t (content_found f)) }
+    ensures sound { IfOk result (λ f. IsSoundContent policy.now schemes.now (content_found f)) }
+    ensures only { (t : Tables) → AreAll t rows → (c : Content) → Holds t c → IsSoundContent policy.now schemes.now c → IfErr result IsMemory }
+    ensures last { IfOk result (λ f. f.last ≡ pos (length f.entries)) }
+{
+    let AllRows {
+        nodes,
+        cells,
+        entries,
+    } = rows;
+    // for how many labels there are
+    let _labels = policy.label_count();
+    let tables = tables_of(alloc, schemes.count(), &nodes, &cells)?;
+    if !are_content(alloc, policy, schemes, &tables)? {
+        return Err(RowFault::BadRow);
+    }
+    if !have_rows(alloc, &tables, nodes, cells)? {
+        return Err(RowFault::BadRow);
+    }
+    let entries = entries_of(alloc, policy, entries)?;
+    let Ok(last) = i64::try_from(entries.len()) else {
+        return Err(RowFault::Memory);
+    };
+    Ok(Found {
+        tables,
+        entries,
+        last,
+    })
+}

@@ -63,7 +63,7 @@ pub fn words_of<'a>(head: &'a str) -> [&'a str; 5] {
     ["mldb", "run", policy, schemes, "script"]
 }
 
-/// Tells what a script prints, and where it prints another thing over lists: a case is `POLICY SCHEMES: title`, and its script below.
+/// Tells what a script prints, and where it prints another thing over lists, or leaves a store that is not opened again: a case is `POLICY SCHEMES: title`, and its script below.
 pub fn tell_script<R: Files + AllocGlobal>(
     rt: &R,
     case: &Case<'_>,
@@ -76,7 +76,7 @@ pub fn tell_script<R: Files + AllocGlobal>(
     tell_written(out, &written)?;
     match lists::printed_by(rt, words[2], words[3], script.as_bytes()) {
         Some(printed) if printed.as_slice() == written.out.as_slice() => Ok(()),
-        _ => out.push_str("  not so over lists\n"),
+        _ => out.push_str("  not so over lists, or not opened again\n"),
     }
 }
 

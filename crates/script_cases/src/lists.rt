@@ -1,9 +1,10 @@
-//! Scripts over lists: what they print there is what they print over a store.
+//! Scripts over lists: what they print there is what they print over a store, and the store that they leave is opened again.
 ghost use Rattle.std.specs.Prelude.{◌≡◌, [], length};
 ghost use Rattle.std.specs.List.{AllByRecursion};
 ghost use Rattle.mls_scheme.specs.Scheme.{AreUnder};
 ghost use Rattle.mls_script.specs.Event.{EventFits};
 
+use crate::stores::is_opened_again;
 use mls_lattice::{Items, Policy};
 use mls_scheme::Schemes;
 use mls_script::{Event, script};
@@ -14,7 +15,7 @@ use std::fs;
 use std::rt::Files;
 
 /// No stored transactions.
-fn none_stored(alloc: Global) -> Items<Stored>
+pub fn none_stored(alloc: Global) -> Items<Stored>
     ensures { result ≡ [] }
 {
     Items::from(Vec::new(alloc))
@@ -41,7 +42,8 @@ fn replies_of(
     }
 }
 
-/// What a script prints, if it runs to its end under the texts of a policy and schemes.
+/// What a script prints, if it runs to its end under the texts of a policy and schemes, and the store that it leaves is opened
+/// again.
 fn printed_under(alloc: Global, policy: &str, schemes: &str, text: &[u8]) -> Option<Vec<u8>> {
     let Ok(policy) = Policy::read(alloc, policy.as_bytes()) else {
         return None;
@@ -52,10 +54,13 @@ fn printed_under(alloc: Global, policy: &str, schemes: &str, text: &[u8]) -> Opt
     let Ok(events) = script(alloc, &policy, &schemes, text) else {
         return None;
     };
+    if !is_opened_again(alloc, &policy, &schemes, &events) {
+        return None;
+    }
     replies_of(alloc, &policy, &schemes, &events)
 }
 
-/// What a script prints, if it runs to its end under the files of a policy and schemes.
+/// The same, under the files of a policy and schemes.
 pub fn printed_by<R: Files + AllocGlobal>(
     rt: &R,
     policy: &str,

@@ -5,6 +5,7 @@ mod commands;
 mod desk;
 mod lists;
 mod narrow;
+mod stores;
 mod table;
 mod worlds;
 

@@ -9,7 +9,7 @@ use mls_scheme::{RelNo, Value};
 use std::alloc::Global;
 
 /// What the parts of a line say; what no part says is blank.
-#[derive(Drop, Debug)]
+#[derive(Drop)]
 pub(crate) struct Draft {
     pub level: LabelNo,
     pub session: Str,

@@ -69,7 +69,7 @@ pub struct ScriptFault {
 }
 
 /// Where in a line which fault stands: bytes are counted from 1.
-#[derive(Clone, Copy, PartialEq, Eq, Debug)]
+#[derive(Clone, Copy)]
 pub(crate) struct LineFault {
     pub at: usize,
     pub cause: ScriptCause,

@@ -3,7 +3,7 @@ ghost use Rattle.std.specs.Prelude.{◌≡◌, option_map};
 ghost use Rattle.mls_script.specs.Grammar.{verb_word, parts_of, part_word};
 
 /// What a command begins with.
-#[derive(Clone, Copy, PartialEq, Eq, Debug)]
+#[derive(Clone, Copy)]
 pub(crate) enum Verb {
     Open,
     Close,
@@ -16,7 +16,7 @@ pub(crate) enum Verb {
 }
 
 /// A part of a line.
-#[derive(Clone, Copy, PartialEq, Eq, Debug)]
+#[derive(Clone, Copy)]
 pub(crate) enum Part {
     /// The label of the session's level.
     Level,

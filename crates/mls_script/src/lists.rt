@@ -12,7 +12,7 @@ use mls_tokens::{Sign, Token, TokenCause, TokenFault, Tokens};
 use std::alloc::Global;
 
 /// The values of a list, the places of their first bytes in the same order, and the place of the list's end.
-#[derive(Drop, Debug)]
+#[derive(Drop)]
 pub(crate) struct Listed {
     pub values: Items<Option<Value>>,
     pub places: Items<usize>,
@@ -23,7 +23,7 @@ pub(crate) struct Listed {
 pub(crate) type Sets = Items<(usize, Option<Value>)>;
 
 /// An attribute's name and its new value, and their places.
-#[derive(Drop, Debug)]
+#[derive(Drop)]
 pub(crate) struct Setting {
     pub name: Str,
     pub name_at: usize,

@@ -14,7 +14,7 @@ use mls_filterview::{Base, BaseFault, Cell, Node, made};
 use std::alloc::{AllocError, Global};
 
 /// A tuple as a base takes it.
-#[derive(Drop, Debug)]
+#[derive(Drop)]
 struct Parts {
     node: Node,
     cells: Vec<Cell>,

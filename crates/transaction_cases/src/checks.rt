@@ -33,6 +33,12 @@ fn named<'a>(txs: &'a [Tx], name: &str) -> Option<&'a Tx> {
     txs.iter().find(|tx| tx.name() == name)
 }
 
+/// The certificate that a folded text is, if it is one.
+pub fn cert_of(alloc: Global, text: &str) -> Result<Option<Cert>, AllocError> {
+    let text = unfolded(alloc, text)?;
+    Ok(Cert::read(alloc, &text).ok())
+}
+
 /// Writes `yes`, or the number of a statement and the rule that is broken there.
 fn push_answer(policy: &Policy, tx: &Tx, cert: &Cert, out: &mut String) -> Result<(), AllocError> {
     match check(policy, tx, cert) {
@@ -50,9 +56,9 @@ fn push_checked(
     cert: &str,
     out: &mut String,
 ) -> Result<(), AllocError> {
-    let text = unfolded(alloc, cert)?;
-    match (named(txs, name), Cert::read(alloc, &text)) {
-        (Some(tx), Ok(cert)) => push_answer(policy, tx, &cert, out),
+    let cert = cert_of(alloc, cert)?;
+    match (named(txs, name), &cert) {
+        (Some(tx), Some(cert)) => push_answer(policy, tx, cert, out),
         _ => out.push_str("no transaction, or no certificate"),
     }
 }

@@ -8,9 +8,9 @@ ghost use Rattle.mls_filterview.specs.Stored.{AreContent};
 ghost use Rattle.mls_translang.specs.Fits.{IsReadUnder};
 ghost use Rattle.mls_meaning.specs.Laws.{IsItem};
 
-use case_tables::{Case, case_at, joined, push_line, unfolded};
+use crate::checks::cert_of;
+use case_tables::{Case, case_at, joined, push_line};
 use mls_certcheck::Certified;
-use mls_certificate::Cert;
 use mls_filterview::Base;
 use mls_lattice::{LabelNo, Policy};
 use mls_parser::parse;
@@ -37,13 +37,19 @@ fn transaction_of(
 }
 
 /// A transaction with its certificate, where that holds.
-fn certified_of(policy: &Policy, schemes: &Schemes, tx: Tx, cert: Cert) -> Option<Certified>
+fn certified_of(
+    alloc: Global,
+    policy: &Policy,
+    schemes: &Schemes,
+    tx: Tx,
+    cert: &str,
+) -> Result<Option<Certified>, AllocError>
     requires { IsReadUnder policy.now schemes.now tx }
-    ensures { IfSome result (λ k. IsReadUnder policy.now schemes.now k.tx) }
+    ensures { IfOk result (λ o. IfSome o (λ k. IsReadUnder policy.now schemes.now k.tx)) }
 {
-    match Certified::new(policy, tx, cert) {
-        Ok(certified) => Some(certified),
-        Err(_) => None,
+    match cert_of(alloc, cert)? {
+        Some(cert) => Ok(Certified::new(policy, tx, cert).ok()),
+        None => Ok(None),
     }
 }
 
@@ -57,13 +63,9 @@ fn certified_in(
     ensures { IfOk result (λ o. IfSome o (λ k. IsReadUnder policy.now schemes.now k.tx)) }
 {
     let text = joined(alloc, case.body)?;
-    let cert = unfolded(alloc, case.head)?;
-    match (
-        transaction_of(alloc, policy, schemes, text.as_bytes())?,
-        Cert::read(alloc, &cert),
-    ) {
-        (Some(tx), Ok(cert)) => Ok(certified_of(policy, schemes, tx, cert)),
-        _ => Ok(None),
+    match transaction_of(alloc, policy, schemes, text.as_bytes())? {
+        Some(tx) => certified_of(alloc, policy, schemes, tx, case.head),
+        None => Ok(None),
     }
 }
 

@@ -2,7 +2,7 @@
 use Rattle.std.proofs.Common.{◌≡◌, ◌+◌, ℕ, ◌<◌, true, false, List, [], ◌∷◌, length, drop, get_or, refl, sym, ap, ◌∙◌, add-one, drop-cons, Option, Some, None, ◌++◌, take, codes, append-nil, append_assoc}
 use Rattle.std.specs.List.{flat_map}
 use Rattle.std.specs.Prelude.{map, slice_get, option_map, Result, Ok, Err, OnOk}
-use Rattle.std.proofs.lemmas.List.{get_or-map}
+use Rattle.std.proofs.lemmas.List.{get_or-map, flat_map_more, take_more}
 use Rattle.std.proofs.lemmas.Option.{slice_get-get_or}
 use Rattle.mls_lattice.specs.Lattice.{Pair, same_pair, bottom}
 use Rattle.mls_lattice.specs.Labels.{label_of}
@@ -61,9 +61,22 @@ names_more attributes k name start h =
 -- ---- lines
 
 -- the parts of the line of an item
+pub line_parts : (start f row end : List ℕ) → ((start ++ f) ++ row) ++ end ≡ start ++ (f ++ row ++ end)
+line_parts start f row end = ap (λ (x : List ℕ). x ++ end) (append_assoc start f row) ∙ append_assoc start (f ++ row) end
+
+pub cell_parts : (start cell sign name end : List ℕ) → (((start ++ cell) ++ sign) ++ name) ++ end ≡ start ++ (cell ++ sign ++ name ++ end)
+cell_parts start cell sign name end = ap (λ (x : List ℕ). (x ++ name) ++ end) (append_assoc start cell sign) ∙ line_parts start (cell ++ sign) name end
+
 pub item_parts : (start f deed cell end : List ℕ) → (((start ++ f) ++ deed) ++ cell) ++ end ≡ start ++ (f ++ (deed ++ cell) ++ end)
 item_parts start f deed cell end =
-    ap (λ (x : List ℕ). x ++ end) (append_assoc (start ++ f) deed cell ∙ append_assoc start f (deed ++ cell)) ∙ append_assoc start (f ++ (deed ++ cell)) end
+    ap (λ (x : List ℕ). x ++ end) (append_assoc (start ++ f) deed cell) ∙ line_parts start f (deed ++ cell) end
+
+-- what is written for one thing more
+pub one_more : {X : Type 0} (f : X → List ℕ) (xs : List X) (k : ℕ) (x : X) (start old new : List ℕ) → k < length xs → x ≡ get_or xs k x
+    → old ≡ start ++ flat_map f (take k xs) → new ≡ old ++ f x → new ≡ start ++ flat_map f (take (k + 1) xs)
+one_more f xs k x start old new within is before after =
+    after ∙ ap (λ (t : List ℕ). t ++ f x) before ∙ flat_map_more f start (take k xs) x
+    ∙ ap (λ ys. start ++ flat_map f ys) (sym (take_more xs k x within ∙ ap (λ y. take k xs ++ y ∷ []) (sym is)))
 
 no_texts : (site : Site) (command : Command) (tuples : List Tuple) → ((rel label : ℕ) → command ≡ commands.View rel label → ⊥) → view_texts site command tuples ≡ []
 no_texts site (commands.Open name) tuples other = refl

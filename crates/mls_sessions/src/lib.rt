@@ -13,6 +13,5 @@ pub use cause::{RunCause, RunFault};
 pub use engine::Engine;
 pub use mls_machine::{Denial, Reply, Stored};
 pub use mls_meaning::Run;
-pub use mls_replies::reply_bytes;
-pub use mls_script::{Command, Event, ScriptCause, ScriptFault, script};
+pub use mls_script::{Command, Event, ScriptCause, ScriptFault};
 pub use running::run;

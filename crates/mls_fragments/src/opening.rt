@@ -1,6 +1,6 @@
 //! Stores that are opened.
 ghost use Rattle.std.specs.Prelude.{◌≡◌, ◌≢◌, ◌⊎◌, false, length, string_bytes, IsTrue, IfOk, IfErr, OnOk};
-ghost use Rattle.sqlite.specs.State.{HasCleanDisk};
+ghost use Rattle.sqlite.specs.State.{HasCleanDisk, KeepsCommit};
 ghost use Rattle.sqlite.specs.Held.{state};
 ghost use Rattle.mls_lattice.specs.Canon as lattice;
 ghost use Rattle.mls_scheme.specs.Scheme.{AreUnder};
@@ -53,6 +53,7 @@ fn created<S: Alter>(
     ensures clean { IfOk result (λ b. IsClean b.tables → HasCleanDisk (state S.Store conn)) }
     ensures fault { IfErr result (λ e. (e.0 ≡ OpenFault.Store) ⊎ (e.0 ≡ OpenFault.Memory)) }
     ensures refused { IfErr result (λ e. IsRefused (state S.Store conn) (state S.Store e.1)) }
+    ensures kept { IfErr result (λ e. HasCleanDisk (state S.Store e.1) → KeepsCommit (state S.Store conn) (state S.Store e.1)) }
 {
     match TableStore::create(alloc, conn, lattice, schemes) {
         Ok(store) => Ok(SqlBase::over_new(alloc, store)),
@@ -114,6 +115,7 @@ impl<S: Alter> SqlBase<S> {
         ensures bad { IfErr result (λ e. HasCleanDisk (state S.Store e.1) → e.0 ≡ OpenFault.BadRows → ¬ IsOpenable policy.now schemes.now (state S.Store conn).now) }
         ensures made { (state S.Store conn).now.schema ≡ no_schema → IfErr result (λ e. (e.0 ≡ OpenFault.Store) ⊎ (e.0 ≡ OpenFault.Memory)) }
         ensures refused { IfErr result (λ e. IsRefused (state S.Store conn) (state S.Store e.1)) }
+        ensures kept { (state S.Store conn).now.schema ≡ no_schema → IfErr result (λ e. HasCleanDisk (state S.Store e.1) → KeepsCommit (state S.Store conn) (state S.Store e.1)) }
     {
         let texts = match texts_of(alloc, policy, schemes) {
             Ok(texts) => texts,

@@ -1,5 +1,5 @@
 -- What adding a row comes to, in each table.
-use Rattle.std.proofs.Common.{◌≡◌, ℕ, ℤ, pos, List, [], ◌∷◌, not, ◌&&◌, Bool, true, false, cond, None, Ok, Err, Result, OnOk, refl, sym, subst, ◌∙◌}
+use Rattle.std.proofs.Common.{◌≡◌, ℕ, ℤ, pos, List, [], ◌∷◌, not, ◌&&◌, Bool, true, false, cond, Ok, Err, Result, OnOk, refl, sym, ◌∙◌}
 use Rattle.std.proofs.lemmas.Bool.{not-true}
 use Rattle.sqlite_value.specs.Order.{Row}
 use Rattle.sqlite.specs.declared.types.Value.{Value}
@@ -9,14 +9,9 @@ use Rattle.sqlite.specs.Tree.{put_row}
 use Rattle.sqlite.specs.Ops.{unary}
 use Rattle.sqlite.specs.Cast.{cast}
 use Rattle.sqlite.specs.Kind.TheVariants.{Integer}
-use Rattle.sqlite.specs.Command.TheVariants.{Insert}
-use Rattle.sqlite.specs.Source.TheVariants.{Values}
 use Rattle.sqlite.specs.Rowids.TheVariants.{Chosen}
 use Rattle.sqlite.specs.Edit.{next_rowid, edit_of, edited}
-use Rattle.sqlite.specs.Does.{Does}
-use Rattle.sqlite.specs.Listing.{understood}
-use Rattle.sqlite.specs.State.{State, mode_of, Executes}
-use Rattle.sqlite.proofs.Callers.{statement_of, runs_as}
+use Rattle.sqlite.specs.State.{State, Executes}
 use Rattle.sqlite_rules.specs.Edit.{is_taken}
 use Rattle.mls_statements.specs.declared.rows.NodeRow.{NodeRow}
 use Rattle.mls_statements.specs.declared.rows.CellRow.{CellRow}
@@ -25,11 +20,10 @@ use Rattle.mls_statements.specs.Schema.{schema, node, cell, audit, meta}
 use Rattle.mls_statements.specs.Rows.{node_of, is_node_row, node_values, cell_of, is_cell_row, cell_values, audit_of, is_audit_row, audit_values, meta_of, is_meta_row, first_meta}
 use Rattle.mls_statements.specs.Statements.{IsReady, Changes, AddsNode, AddsCell, AddsEntry, AddsMeta}
 use Rattle.mls_statements.proofs.Texts.{add_node, add_node_is, node_terms, add_cell, add_cell_is, cell_terms, add_entry, add_entry_is, audit_terms, add_meta, add_meta_is, meta_terms}
-use Rattle.mls_statements.proofs.EditParts.{inserted}
+use Rattle.mls_statements.proofs.PlainWrites.{adds}
 use Rattle.mls_statements.proofs.TableRows.{puts}
 use Rattle.mls_statements.proofs.ValueTests.{and_true}
 use Rattle.mls_statements.proofs.ReadyLemmas.{nodes_changed, cells_changed, audit_changed, meta_changed}
-use Rattle.mls_statements.proofs.EndLemmas.{next}
 
 either : (b : Bool) (x : Value) → cond b x x ≡ x
 either true x = refl
@@ -51,70 +45,54 @@ module _ (old new : State) (ready : IsReady old.now) where
   adds_node n (Err e) h = tt
   adds_node n (Ok count) h =
       let params = node_values n in
-      let command = Insert 0 (Values node_terms 6) in
       let rows = old.now.trees 0 in
       let row = Int (next_rowid rows) ∷ params in
-      let w = runs_as add_node params old new schema ready.0 command add_node_is.0 add_node_is.1 count h in
-      let text = statement_of add_node (understood schema add_node) in
-      let did = inserted schema 0 node refl (λ olds news. refl) old.step_limit params old.now.trees text w.tally new.now node_terms 6
-      (subst (λ s. Does old.step_limit (mode_of old) params (record old.now { schema = s }) text None command (Ok (w.tally, new.now))) ready.0 w.changed) in
+      let did = adds old new schema ready.0 add_node 0 node refl (λ olds news. refl) params count h node_terms 6 add_node_is in
       let edit : edited old.now.trees (edit_of old.now.trees node [] Chosen 0 ((Null ∷ params) ∷ [])) ≡ put_row row rows = rw (cast_null, cast_int (pos n.rel), cast_int (pos n.kclass), cast_int (pos n.label)) in
       let fresh : (not (is_taken rows row) && true) ≡ true = rw cast_null at did.1.fresh in
       let put = puts is_node_row node_of rows row (fresh_one rows row fresh) refl ready.1.0 in
       let is : new.now.trees 0 ≡ put_row row rows = did.1.rows ∙ edit in
       let all = nodes_changed old.now new.now did.0 ready (rw is put.0) (did.1.tables.1.0 (λ e. cc)) (did.1.tables.1.1.0 (λ e. cc)) (did.1.tables.1.1.1.0 (λ e. cc)) in
-      record { ready = all.0; rows = (all.1, rw is put.1); next = next old new command text params count w }
+      record { ready = all.0; rows = (all.1, rw is put.1); next = did.2 }
 
   pub adds_cell : (x : CellRow) (r : Result ℕ Error) → Executes add_cell (cell_values x) old new r → OnOk r (Changes (AddsCell x) old new)
   adds_cell x (Err e) h = tt
   adds_cell x (Ok count) h =
       let params = cell_values x in
-      let command = Insert 1 (Values cell_terms 7) in
       let rows = old.now.trees 2 in
       let row = Int (next_rowid rows) ∷ params in
-      let w = runs_as add_cell params old new schema ready.0 command add_cell_is.0 add_cell_is.1 count h in
-      let text = statement_of add_cell (understood schema add_cell) in
-      let did = inserted schema 1 cell refl (λ olds news. refl) old.step_limit params old.now.trees text w.tally new.now cell_terms 7
-      (subst (λ s. Does old.step_limit (mode_of old) params (record old.now { schema = s }) text None command (Ok (w.tally, new.now))) ready.0 w.changed) in
+      let did = adds old new schema ready.0 add_cell 1 cell refl (λ olds news. refl) params count h cell_terms 7 add_cell_is in
       let edit : edited old.now.trees (edit_of old.now.trees cell [] Chosen 0 ((Null ∷ params) ∷ [])) ≡ put_row row rows = rw (cast_null, cast_int (pos x.rel), cast_int (pos x.kclass), cast_int (pos x.label), cast_int (pos x.attr)) in
       let fresh : (not (is_taken rows row) && true) ≡ true = rw cast_null at did.1.fresh in
       let put = puts is_cell_row cell_of rows row (fresh_one rows row fresh) refl ready.1.1.0 in
       let is : new.now.trees 2 ≡ put_row row rows = did.1.rows ∙ edit in
       let all = cells_changed old.now new.now did.0 ready (did.1.tables.0 (λ e. cc)) (rw is put.0) (did.1.tables.1.1.0 (λ e. cc)) (did.1.tables.1.1.1.0 (λ e. cc)) in
-      record { ready = all.0; rows = (all.1, rw is put.1); next = next old new command text params count w }
+      record { ready = all.0; rows = (all.1, rw is put.1); next = did.2 }
 
   pub adds_entry : (x : AuditRow) (r : Result ℕ Error) → Executes add_entry (audit_values x) old new r → OnOk r (Changes (AddsEntry x) old new)
   adds_entry x (Err e) h = tt
   adds_entry x (Ok count) h =
       let params = audit_values x in
-      let command = Insert 2 (Values audit_terms 3) in
       let rows = old.now.trees 4 in
       let row = Int x.number ∷ Null ∷ Blob x.bytes ∷ [] in
-      let w = runs_as add_entry params old new schema ready.0 command add_entry_is.0 add_entry_is.1 count h in
-      let text = statement_of add_entry (understood schema add_entry) in
-      let did = inserted schema 2 audit refl (λ olds news. refl) old.step_limit params old.now.trees text w.tally new.now audit_terms 3
-      (subst (λ s. Does old.step_limit (mode_of old) params (record old.now { schema = s }) text None command (Ok (w.tally, new.now))) ready.0 w.changed) in
+      let did = adds old new schema ready.0 add_entry 2 audit refl (λ olds news. refl) params count h audit_terms 3 add_entry_is in
       let edit : edited old.now.trees (edit_of old.now.trees audit [] Chosen 0 (row ∷ [])) ≡ put_row row rows = rw (cast_int x.number, cast_null) in
       let fresh : (not (is_taken rows row) && true) ≡ true = rw (cast_int x.number) at did.1.fresh in
       let put = puts is_audit_row audit_of rows row (fresh_one rows row fresh) refl ready.1.1.1.0 in
       let is : new.now.trees 4 ≡ put_row row rows = did.1.rows ∙ edit in
       let all = audit_changed old.now new.now did.0 ready (did.1.tables.0 (λ e. cc)) (did.1.tables.1.0 (λ e. cc)) (rw is put.0) (did.1.tables.1.1.1.0 (λ e. cc)) in
-      record { ready = all.0; rows = (all.1, rw is put.1); next = next old new command text params count w }
+      record { ready = all.0; rows = (all.1, rw is put.1); next = did.2 }
 
   pub adds_meta : (lattice schemes : List ℕ) (r : Result ℕ Error) → Executes add_meta (Text lattice ∷ Text schemes ∷ []) old new r → OnOk r (Changes (AddsMeta (first_meta lattice schemes)) old new)
   adds_meta lattice schemes (Err e) h = tt
   adds_meta lattice schemes (Ok count) h =
       let params = Text lattice ∷ Text schemes ∷ [] in
-      let command = Insert 3 (Values meta_terms 5) in
       let rows = old.now.trees 5 in
       let row = Int (pos 1) ∷ Null ∷ Int (pos 1) ∷ Text lattice ∷ Text schemes ∷ [] in
-      let w = runs_as add_meta params old new schema ready.0 command add_meta_is.0 add_meta_is.1 count h in
-      let text = statement_of add_meta (understood schema add_meta) in
-      let did = inserted schema 3 meta refl (λ olds news. refl) old.step_limit params old.now.trees text w.tally new.now meta_terms 5
-      (subst (λ s. Does old.step_limit (mode_of old) params (record old.now { schema = s }) text None command (Ok (w.tally, new.now))) ready.0 w.changed) in
+      let did = adds old new schema ready.0 add_meta 3 meta refl (λ olds news. refl) params count h meta_terms 5 add_meta_is in
       let edit : edited old.now.trees (edit_of old.now.trees meta [] Chosen 0 (row ∷ [])) ≡ put_row row rows = rw (cast_int (pos 1), cast_null) in
       let fresh : (not (is_taken rows row) && true) ≡ true = rw (cast_int (pos 1)) at did.1.fresh in
       let put = puts is_meta_row meta_of rows row (fresh_one rows row fresh) refl ready.1.1.1.1 in
       let is : new.now.trees 5 ≡ put_row row rows = did.1.rows ∙ edit in
       let all = meta_changed old.now new.now did.0 ready (did.1.tables.0 (λ e. cc)) (did.1.tables.1.0 (λ e. cc)) (did.1.tables.1.1.0 (λ e. cc)) (rw is put.0) in
-      record { ready = all.0; rows = (all.1, rw is put.1); next = next old new command text params count w }
+      record { ready = all.0; rows = (all.1, rw is put.1); next = did.2 }

@@ -10,12 +10,9 @@ use Rattle.sqlite.specs.declared.types.Value.TheVariants.{Int, Blob}
 use Rattle.sqlite.specs.declared.error.Error.{Error}
 use Rattle.sqlite.specs.Tree.{rowid, put_row}
 use Rattle.sqlite.specs.Term.{col, eval_all}
-use Rattle.sqlite.specs.Command.TheVariants.{Delete, Update}
 use Rattle.sqlite.specs.Rowids.TheVariants.{Given}
-use Rattle.sqlite.specs.Does.{Does}
-use Rattle.sqlite.specs.Listing.{understood}
-use Rattle.sqlite.specs.State.{State, mode_of, Executes}
-use Rattle.sqlite.proofs.Callers.{statement_of, runs_as, one_permutation}
+use Rattle.sqlite.specs.State.{State, Executes}
+use Rattle.sqlite.proofs.Callers.{one_permutation}
 use Rattle.sqlite_schema.specs.declared.schema.Keys.TheVariants.{Enforced}
 use Rattle.sqlite_trees.specs.View.{is_int}
 use Rattle.sqlite_trees.proofs.ListLemmas.{all-filter}
@@ -27,13 +24,12 @@ use Rattle.mls_statements.specs.Schema.{schema, node, cell}
 use Rattle.mls_statements.specs.Rows.{node_of, is_node_row, is_node, cell_of, is_cell_row, is_cell_in, cell_values, tables_of, blob_in}
 use Rattle.mls_statements.specs.Statements.{IsReady, IsApart, AreRows, Changes, DropsNode, DropsCells, SetsCell, IsOne, has_key_of}
 use Rattle.mls_statements.proofs.Texts.{by_class, by_cell, set_terms, drop_node, drop_node_is, drop_cells, drop_cells_is, set_cell, set_cell_is}
-use Rattle.mls_statements.proofs.EditParts.{deleted, updated, alone}
+use Rattle.mls_statements.proofs.PlainWrites.{drops, sets}
 use Rattle.mls_statements.proofs.QueryAnswers.{rows_by, passes, answered}
 use Rattle.mls_statements.proofs.RowLists.{AreKeyed, removed}
 use Rattle.mls_statements.proofs.TableRows.{puts, keeps, filtered, keyed}
 use Rattle.mls_statements.proofs.ReadyLemmas.{nodes_changed, cells_changed}
 use Rattle.mls_statements.proofs.ValueTests.{node_parts, cell_parts, node_in_class, cell_in_class, cell_at_key, nat_is, blob_is}
-use Rattle.mls_statements.proofs.EndLemmas.{next}
 use Rattle.mls_statements.proofs.Adds.{cast_int, fresh_one}
 
 rowids_of : (rows : List Row) → ids_of (map (λ r. column r 0 ∷ []) rows) ≡ ids_of rows
@@ -60,13 +56,9 @@ module _ (old new : State) (ready : IsReady old.now) where
   drops_node rel ent kclass label (Ok count) h =
       let params = Int (pos rel) ∷ Blob ent ∷ Int (pos kclass) ∷ Int (pos label) ∷ [] in
       let q = rows_by 0 by_class (col 1 0 ∷ []) in
-      let command = Delete 0 (alone q) in
       let rows = old.now.trees 0 in
       let are = ready.1.0 in
-      let w = runs_as drop_node params old new schema ready.0 command drop_node_is.0 drop_node_is.1 count h in
-      let text = statement_of drop_node (understood schema drop_node) in
-      let did = deleted schema 0 node refl (λ olds news. refl) old.step_limit params old.now.trees text w.tally new.now q
-      (subst (λ s. Does old.step_limit (mode_of old) params (record old.now { schema = s }) text None command (Ok (w.tally, new.now))) ready.0 w.changed) in
+      let did = drops old new schema ready.0 drop_node 0 node refl (λ olds news. refl) params count h q drop_node_is in
       let p = passes by_class params in
       let answer : IsPermutation (map (λ r. column r 0 ∷ []) (filter p rows)) did.1 = answered 0 by_class (col 1 0 ∷ []) [] old.now.trees params did.1 refl did.2 in
       let is : new.now.trees 0 ≡ filter (λ r. not (p r)) rows = did.3.rows ∙ left_others p rows did.1 are.0 (keyed is_node_row node_of node_id rows are.1) answer in
@@ -74,7 +66,7 @@ module _ (old new : State) (ready : IsReady old.now) where
       let all = nodes_changed old.now new.now did.0 ready fits (did.3.tables.1.0 (λ e. cc)) (did.3.tables.1.1.0 (λ e. cc)) (did.3.tables.1.1.1.0 (λ e. cc)) in
       let left : map node_of (new.now.trees 0) ≡ filter (λ n. not (is_node rel ent kclass label n)) (map node_of rows) =
       ap (map node_of) is ∙ filtered is_node_row node_of (λ r. not (p r)) (λ n. not (is_node rel ent kclass label n)) (λ r h. ap not (node_in_class rel ent kclass label r h)) rows are.1 in
-      record { ready = all.0; rows = all.1 ∙ ap (λ ns. record (tables_of old.now.trees) { nodes = ns }) left; next = next old new command text params count w }
+      record { ready = all.0; rows = all.1 ∙ ap (λ ns. record (tables_of old.now.trees) { nodes = ns }) left; next = did.4 }
 
   pub drops_cells : (rel : ℕ) (ent : List ℕ) (kclass label : ℕ) (r : Result ℕ Error) → Executes drop_cells (Int (pos rel) ∷ Blob ent ∷ Int (pos kclass) ∷ Int (pos label) ∷ []) old new r
       → OnOk r (Changes (DropsCells rel ent kclass label) old new)
@@ -82,13 +74,9 @@ module _ (old new : State) (ready : IsReady old.now) where
   drops_cells rel ent kclass label (Ok count) h =
       let params = Int (pos rel) ∷ Blob ent ∷ Int (pos kclass) ∷ Int (pos label) ∷ [] in
       let q = rows_by 2 by_class (col 1 0 ∷ []) in
-      let command = Delete 1 (alone q) in
       let rows = old.now.trees 2 in
       let are = ready.1.1.0 in
-      let w = runs_as drop_cells params old new schema ready.0 command drop_cells_is.0 drop_cells_is.1 count h in
-      let text = statement_of drop_cells (understood schema drop_cells) in
-      let did = deleted schema 1 cell refl (λ olds news. refl) old.step_limit params old.now.trees text w.tally new.now q
-      (subst (λ s. Does old.step_limit (mode_of old) params (record old.now { schema = s }) text None command (Ok (w.tally, new.now))) ready.0 w.changed) in
+      let did = drops old new schema ready.0 drop_cells 1 cell refl (λ olds news. refl) params count h q drop_cells_is in
       let p = passes by_class params in
       let answer : IsPermutation (map (λ r. column r 0 ∷ []) (filter p rows)) did.1 = answered 2 by_class (col 1 0 ∷ []) [] old.now.trees params did.1 refl did.2 in
       let is : new.now.trees 2 ≡ filter (λ r. not (p r)) rows = did.3.rows ∙ left_others p rows did.1 are.0 (keyed is_cell_row cell_of cell_id rows are.1) answer in
@@ -96,7 +84,7 @@ module _ (old new : State) (ready : IsReady old.now) where
       let all = cells_changed old.now new.now did.0 ready (did.3.tables.0 (λ e. cc)) fits (did.3.tables.1.1.0 (λ e. cc)) (did.3.tables.1.1.1.0 (λ e. cc)) in
       let left : map cell_of (new.now.trees 2) ≡ filter (λ c. not (is_cell_in rel ent kclass label c)) (map cell_of rows) =
       ap (map cell_of) is ∙ filtered is_cell_row cell_of (λ r. not (p r)) (λ c. not (is_cell_in rel ent kclass label c)) (λ r h. ap not (cell_in_class rel ent kclass label r h)) rows are.1 in
-      record { ready = all.0; rows = all.1 ∙ ap (λ cs. record (tables_of old.now.trees) { cells = cs }) left; next = next old new command text params count w }
+      record { ready = all.0; rows = all.1 ∙ ap (λ cs. record (tables_of old.now.trees) { cells = cs }) left; next = did.4 }
 
 -- ---- a cell is set
 
@@ -139,14 +127,10 @@ module _ (old new : State) (ready : IsReady old.now) where
   sets_cell x was (Ok count) one h =
       let params = cell_values x in
       let q = rows_by 2 by_cell set_terms in
-      let command = Update 1 (alone q) in
       let rows = old.now.trees 2 in
       let are = ready.1.1.0 in
       let p = passes by_cell params in
-      let w = runs_as set_cell params old new schema ready.0 command set_cell_is.0 set_cell_is.1 count h in
-      let text = statement_of set_cell (understood schema set_cell) in
-      let did = updated schema 1 cell refl (λ olds news. refl) old.step_limit params old.now.trees text w.tally new.now q
-      (subst (λ s. Does old.step_limit (mode_of old) params (record old.now { schema = s }) text None command (Ok (w.tally, new.now))) ready.0 w.changed) in
+      let did = sets old new schema ready.0 set_cell 1 cell refl (λ olds news. refl) params count h q set_cell_is in
       let found = single cell_of (filter p rows) was (filtered is_cell_row cell_of p (has_key_of x) (cell_at_key x) rows are.1 ∙ one) in
       let r = found.0 in
       let fits : is_cell_row r ≡ true = (subst (AllByRecursion (λ r. is_cell_row r ≡ true)) found.1 (all-filter _ p rows are.1)).0 in
@@ -171,4 +155,4 @@ module _ (old new : State) (ready : IsReady old.now) where
       ap (map cell_of) rest ∙ filtered is_cell_row cell_of (λ r. not (p r)) (λ d. not (has_key_of x d)) (λ r h. ap not (cell_at_key x r h)) rows are.1 in
       let moved : IsPermutation (x ∷ filter (λ d. not (has_key_of x d)) (map cell_of rows)) (map cell_of (new.now.trees 2)) =
       subst₂ (λ (xs ys : List CellRow). IsPermutation (x ∷ xs) ys) stay (ap (map cell_of) (sym is)) put.1 in
-      record { ready = all.0; rows = (all.1, moved); next = next old new command text params count w }
+      record { ready = all.0; rows = (all.1, moved); next = did.4 }

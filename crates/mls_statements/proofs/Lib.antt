@@ -8,6 +8,7 @@ pub mod EditParts
 pub mod EndLemmas
 pub mod Finds
 pub mod NumberedLemmas
+pub mod PlainWrites
 pub mod QueryAnswers
 pub mod ReadyLemmas
 pub mod RowLists

@@ -2,6 +2,7 @@ pub mod Adds
 pub mod ApartRows
 pub mod Creates
 pub mod CreationLemmas
+pub mod DecodeLemmas
 pub mod DescriptionLemmas
 pub mod Drops
 pub mod EditParts

@@ -2,14 +2,17 @@
 ghost use Rattle.std.specs.Prelude.{◌≡◌, ◌+◌, ◌≤◌, ◌∷◌, [], length, IfOk};
 ghost use Rattle.mls_syntax.specs.Blocks.{block_of as syntax_of};
 ghost use Rattle.mls_syntax.specs.Limits.{depth};
+ghost use Rattle.mls_syntax.specs.Tree.{For, End as Finish};
 ghost use Rattle.mls_translang.specs.Blocks.{block_of};
+ghost use Rattle.mls_translang.specs.Tree.{If, End};
 ghost use Rattle.mls_translang.specs.Tokens.{with_rows};
 ghost use Rattle.mls_parser.specs.Names.{IsPlace, relation_named, numbered};
-ghost use Rattle.mls_parser.specs.Elaboration.{block};
+ghost use Rattle.mls_parser.specs.Elaboration.{block, expr};
+ghost use Rattle.mls_parser.specs.Faults.{inside};
 
 use crate::context::Context;
 use mls_lattice::Str;
-use mls_syntax::{Block as Syntax, Name, Stmt as Form};
+use mls_syntax::{Block as Syntax, Expr, Name, Stmt as Form};
 use mls_translang::{Block, Row, Stmt};
 use std::alloc::{AllocError, Global};
 
@@ -53,6 +56,21 @@ impl Context<'_> {
         }
     }
 
+    /// A choice between two blocks, whose names are resolved.
+    fn branch(
+        &self,
+        alloc: Global,
+        guard: &Expr,
+        one: Block,
+        other: Block,
+    ) -> Result<Stmt, AllocError>
+        requires { IsPlace self.now }
+        ensures { IfOk result (λ s. block_of (s ∷ []) ≡ If (expr self.now guard.now) one other End) }
+    {
+        let guard = self.expr(alloc, guard)?;
+        Ok(Stmt::If { guard, one, other })
+    }
+
     /// The statements of a block.
     #[cycle(resolve)]
     #[tactic(auto, using(crate::proofs::BlockLemmas::resolve_steps))]
@@ -68,6 +86,47 @@ impl Context<'_> {
         Ok(Block { stmts })
     }
 
+    /// The body of a loop.
+    #[cycle(resolve)]
+    #[tactic(auto, using(crate::proofs::BlockLemmas::resolve_steps))]
+    fn body(
+        &self,
+        alloc: Global,
+        row: &Name,
+        relation: &Name,
+        body: &Syntax,
+    ) -> Result<Block, AllocError>
+        requires place { IsPlace self.now }
+        requires shallow { length self.now.scope.rows + depth body.now + 1 ≤ 16 }
+        ensures { IfOk result (λ b. b ≡ block (inside self.now row.now relation.now) body.now) }
+    {
+        let rows = self.rows_inside(alloc, row, relation)?;
+        let inside = (&*self).with_rows(&rows);
+        inside.block(alloc, body)
+    }
+
+    /// A loop.
+    #[cycle(resolve)]
+    fn repeated(
+        &self,
+        alloc: Global,
+        row: &Name,
+        relation: &Name,
+        label: &Name,
+        body: &Syntax,
+    ) -> Result<Stmt, AllocError>
+        requires place { IsPlace self.now }
+        requires shallow { length self.now.scope.rows + depth body.now + 1 ≤ 16 }
+        ensures { IfOk result (λ s. block_of (s ∷ []) ≡ block self.now (For row.now relation.now label.now body.now Finish)) }
+    {
+        Ok(Stmt::For {
+            row: Str::copy_of(alloc, row.text())?,
+            relation: self.relation(relation),
+            label: self.label(label),
+            body: self.body(alloc, row, relation, body)?,
+        })
+    }
+
     #[cycle(resolve)]
     #[tactic(auto, using(crate::proofs::BlockLemmas::resolve_steps))]
     fn stmt(&self, alloc: Global, form: &Form) -> Result<Stmt, AllocError>
@@ -77,27 +136,17 @@ impl Context<'_> {
     {
         match form {
             Form::Assign { target, value } => self.assign(alloc, target, value),
-            Form::If { guard, one, other } => Ok(Stmt::If {
-                guard: self.expr(alloc, guard)?,
-                one: self.block(alloc, one)?,
-                other: self.block(alloc, other)?,
-            }),
+            Form::If { guard, one, other } => {
+                let one = self.block(alloc, one)?;
+                let other = self.block(alloc, other)?;
+                self.branch(alloc, guard, one, other)
+            }
             Form::For {
                 row,
                 relation,
                 label,
                 body,
-            } => {
-                let rows = self.rows_inside(alloc, row, relation)?;
-                let inside = (&*self).with_rows(&rows);
-                let body = inside.block(alloc, body)?;
-                Ok(Stmt::For {
-                    row: Str::copy_of(alloc, row.text())?,
-                    relation: self.relation(relation),
-                    label: self.label(label),
-                    body,
-                })
-            }
+            } => self.repeated(alloc, row, relation, label, body),
             Form::Insert {
                 relation,
                 key,

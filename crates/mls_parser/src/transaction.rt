@@ -5,17 +5,17 @@ ghost use Rattle.std.specs.Str.{bytes_eq};
 ghost use Rattle.mls_translang.specs.Tx.{IsTx};
 ghost use Rattle.mls_syntax.specs.Limits.{IsLimited};
 ghost use Rattle.mls_parser.specs.Fault.{least_from};
-ghost use Rattle.mls_parser.specs.Names.{relation_named};
-ghost use Rattle.mls_parser.specs.Faults.{levels_faults, name_faults, tx_faults, txs_faults};
+ghost use Rattle.mls_parser.specs.Names.{label_named, relation_named, numbered, IsPlace};
+ghost use Rattle.mls_parser.specs.Faults.{params_from, vars_from, outermost, levels_faults, name_faults, tx_faults, txs_faults};
 ghost use Rattle.mls_parser.specs.Elaboration.{transaction};
 
 use crate::context::{Context, label, label_or_first, relation};
 use crate::fault::{Found, TextCause, unless};
 use crate::header::{params, vars};
 use mls_lattice::{Items, Policy, Str};
-use mls_scheme::Schemes;
+use mls_scheme::{Kind, Schemes};
 use mls_syntax::{Name, Transaction};
-use mls_translang::Tx;
+use mls_translang::{Block, Named, Parameter, Tx};
 use std::alloc::{AllocError, Global};
 
 /// Whether one of some transactions has a name.
@@ -59,6 +59,30 @@ fn check_name(schemes: &Schemes, earlier: &[Transaction], found: Found, name: &N
     unless(found, !taken, name.at(), TextCause::Repeated)
 }
 
+/// The place of a transaction's own statements.
+fn outermost<'a>(
+    policy: &'a Policy,
+    schemes: &'a Schemes,
+    tx: &Transaction,
+    params: &'a Named<Parameter>,
+    vars: &'a Named<Kind>,
+) -> Context<'a>
+    requires limited { IsLimited tx.now }
+    requires params { params.now ≡ params_from policy.now [] tx.now.params }
+    requires vars { vars.now ≡ vars_from [] tx.now.vars }
+    ensures exact { result ≡ outermost policy.now schemes.now tx.now }
+    ensures place { IsPlace result }
+{
+    Context {
+        policy,
+        schemes,
+        hi: label_or_first(policy, &tx.hi),
+        params,
+        vars,
+        rows: &[],
+    }
+}
+
 /// The same of a transaction, behind some.
 #[tactic(auto, using(crate::proofs::PlaceLemmas::tx_steps))]
 fn check_transaction(
@@ -76,15 +100,7 @@ fn check_transaction(
     let found = check_levels(policy, found, &tx.lo, &tx.hi);
     let (params, found) = params(alloc, policy, found, &tx.params)?;
     let (vars, found) = vars(alloc, &params, found, &tx.vars)?;
-    let context = Context {
-        policy,
-        schemes,
-        hi: label_or_first(policy, &tx.hi),
-        params: &params,
-        vars: &vars,
-        rows: &[],
-    };
-    context.check_block(alloc, found, &tx.body)
+    outermost(policy, schemes, tx, &params, &vars).check_block(alloc, found, &tx.body)
 }
 
 /// The least fault of transactions.
@@ -104,6 +120,38 @@ pub(crate) fn check_transactions(
     Ok(found)
 }
 
+/// The transaction of these parameters, variables and statements.
+fn with_header(
+    alloc: Global,
+    policy: &Policy,
+    syntax: &Transaction,
+    params: Named<Parameter>,
+    vars: Named<Kind>,
+    body: Block,
+) -> Result<Tx, AllocError>
+    requires { IsTx (record {
+      name = syntax.now.name.0;
+      lo = numbered (label_named policy.now syntax.now.lo.0);
+      hi = numbered (label_named policy.now syntax.now.hi.0);
+      params = params;
+      vars = vars;
+      body = body;
+    }) }
+    ensures { IfOk result (λ tx. tx ≡ record {
+      name = syntax.now.name.0;
+      lo = numbered (label_named policy.now syntax.now.lo.0);
+      hi = numbered (label_named policy.now syntax.now.hi.0);
+      params = params;
+      vars = vars;
+      body = body;
+    }) }
+{
+    let name = Str::copy_of(alloc, syntax.name.text())?;
+    let lo = label_or_first(policy, &syntax.lo);
+    let hi = label_or_first(policy, &syntax.hi);
+    Ok(Tx::new(name, lo, hi, params, vars, body))
+}
+
 /// A transaction without faults.
 #[tactic(auto, using(crate::proofs::PlaceLemmas::tx_steps))]
 fn transaction(
@@ -118,19 +166,8 @@ fn transaction(
 {
     let (params, _) = params(alloc, policy, None, &syntax.params)?;
     let (vars, _) = vars(alloc, &params, None, &syntax.vars)?;
-    let lo = label_or_first(policy, &syntax.lo);
-    let hi = label_or_first(policy, &syntax.hi);
-    let context = Context {
-        policy,
-        schemes,
-        hi,
-        params: &params,
-        vars: &vars,
-        rows: &[],
-    };
-    let body = context.block(alloc, &syntax.body)?;
-    let name = Str::copy_of(alloc, syntax.name.text())?;
-    Ok(Tx::new(name, lo, hi, params, vars, body))
+    let body = outermost(policy, schemes, syntax, &params, &vars).block(alloc, &syntax.body)?;
+    with_header(alloc, policy, syntax, params, vars, body)
 }
 
 /// Transactions without faults.

@@ -17,3 +17,4 @@ mod words;
 pub use crate::acting::act;
 pub use crate::host::{Host, HostFault, MOST_BYTES, read_whole};
 pub use crate::refusal::{Refusal, Role};
+pub use crate::running::run_on;

@@ -21,6 +21,7 @@ use crate::refusal::{Refusal, Role};
 use crate::samples;
 use crate::storing::stored_of;
 use crate::words::RunFiles;
+use mls_filterview::Base;
 use mls_fragments::SqlBase;
 use mls_lattice::{Items, Policy};
 use mls_scheme::Schemes;
@@ -69,6 +70,31 @@ fn run_script<W: Write>(
     Ok(())
 }
 
+/// Answers events over an empty base, and gives the base back.
+pub fn run_on<B: Base, W: Write>(
+    alloc: Global,
+    policy: &Policy,
+    schemes: &Schemes,
+    stored: Items<Stored>,
+    base: B,
+    events: &[Event],
+    out: &mut W,
+) -> (Result<(), RunFault>, B)
+    requires under { AreUnder (length policy.now.labels) schemes.now }
+    requires read { AreRead (record { policy = policy.now; schemes = schemes.now; stored = stored }) }
+    requires certified { AreCertified (record { policy = policy.now; schemes = schemes.now; stored = stored }) }
+    requires fits { AllByRecursion (EventFits policy.now schemes.now) events.now }
+    requires empty { B.state base ≡ record { now = no_content; kept = no_content; begun = false } }
+    ensures idle { (B.state result.1).begun ≡ false }
+    ensures written { B.is_clean result.1 → OnOk result.0 (Appends (W.contents out.old) (W.contents out.new) (output (record { policy = policy.now; schemes = schemes.now; stored = stored }) events.now)) }
+    ensures integrity { B.is_clean result.1 → KeepsIntegrity (record { policy = policy.now; schemes = schemes.now; stored = stored }) first_world events.now }
+    ensures secret { B.is_clean result.1 → OnOk result.0 (PassesOnlyReleasesDown (record { policy = policy.now; schemes = schemes.now; stored = stored }) first_world events.now) }
+{
+    let mut engine = Engine::new(alloc, base, policy, schemes, stored);
+    let outcome = run(&mut engine, events, out);
+    (outcome, engine.finish())
+}
+
 /// Answers events over an empty base in a store, and gives the store's connection back.
 fn run_over<S: Alter, W: Write>(
     alloc: Global,
@@ -88,9 +114,8 @@ fn run_over<S: Alter, W: Write>(
     ensures integrity { HasCleanDisk (state S.Store result.1) → KeepsIntegrity (record { policy = policy.now; schemes = schemes.now; stored = stored }) first_world events.now }
     ensures secret { HasCleanDisk (state S.Store result.1) → OnOk result.0 (PassesOnlyReleasesDown (record { policy = policy.now; schemes = schemes.now; stored = stored }) first_world events.now) }
 {
-    let mut engine = Engine::new(alloc, base, policy, schemes, stored);
-    let outcome = run(&mut engine, events, out);
-    (outcome, engine.finish().into_connection())
+    let (outcome, left) = run_on(alloc, policy, schemes, stored, base, events, out);
+    (outcome, left.into_connection())
 }
 
 /// Answers events over an empty database in memory.

@@ -1,47 +1,13 @@
-use Rattle.std.proofs.Common.{◌≡◌, false, sym, ap, subst}
-use Rattle.mls_filterview.specs.Content.{State}
-use Rattle.mls_machine.specs.Site.{Site}
-use Rattle.mls_machine.specs.Observation.{EventsFit}
-use Rattle.mls_machine.specs.Laws.{KeepsIntegrity}
-use Rattle.mls_statements.specs.Store.{IsClean}
-use Rattle.mls_fragments.specs.Based.{BaseState, state_of}
-use Rattle.mls_sessions.specs.World.{IsSound}
-use Rattle.mls_sessions.proofs.StartLemmas.{no_content_sound}
-use Rattle.mls_command.proofs.RunningLemmas.{is_first, at_first, run_output, run_secret}
 use Rattle.mls_command.proofs.running.run_over.Goals as goal
 
-pub new-engine-requires-clause-idle : goal.new-engine-requires-clause-idle
-new-engine-requires-clause-idle g c = ap (λ (s : State). s.begun) c.requires.empty
-
-pub new-engine-requires-clause-sound : goal.new-engine-requires-clause-sound
-new-engine-requires-clause-sound g c = λ _.
-    let at : Site = record { policy = c.args.policy.now; schemes = c.args.schemes.now; stored = c.args.stored } in
-    subst (λ (s : State). IsSound at s.now) (sym c.requires.empty) (no_content_sound at)
-
-pub run-outcome-requires-clause-fits : goal.run-outcome-requires-clause-fits
-run-outcome-requires-clause-fits g c =
-    subst (λ at. EventsFit at c.args.events.now) (sym c.new-engine.ensures.site) c.requires.fits
-
 pub into_connection-requires : goal.into_connection-requires
-into_connection-requires g c = record {
-  begun = subst (λ (b : BaseState). (state_of b).begun ≡ false) (sym c.finish.ensures) c.run-outcome.ensures.kept.ready.idle;
-}
+into_connection-requires g c = record { begun = c.run_on-outcome.ensures.idle }
 
 pub returns-clause-written : goal.returns-clause-written
-returns-clause-written g c = λ clean.
-    let at : Site = record { policy = c.args.policy.now; schemes = c.args.schemes.now; stored = c.args.stored } in
-    run_output c.run-outcome.result _ at _ _ c.args.events.now (g.W.Write.contents c.args.out.now) (g.W.Write.contents c.run-outcome.new.out)
-    c.new-engine.ensures.site (is_first _ at _ c.new-engine.ensures.world c.requires.empty)
-    (c.run-outcome.ensures.ok (subst (λ (b : BaseState). IsClean b.tables) c.finish.ensures (c.into_connection.ensures.clean clean)))
+returns-clause-written g c = λ clean. c.run_on-outcome.ensures.written (c.into_connection.ensures.clean clean)
 
 pub returns-clause-integrity : goal.returns-clause-integrity
-returns-clause-integrity g c = λ clean.
-    let at : Site = record { policy = c.args.policy.now; schemes = c.args.schemes.now; stored = c.args.stored } in
-    at_first (λ x w. KeepsIntegrity x w c.args.events.now) _ at _ c.new-engine.ensures.site (is_first _ at _ c.new-engine.ensures.world c.requires.empty)
-    (c.run-outcome.ensures.integrity (subst (λ (b : BaseState). IsClean b.tables) c.finish.ensures (c.into_connection.ensures.clean clean)))
+returns-clause-integrity g c = λ clean. c.run_on-outcome.ensures.integrity (c.into_connection.ensures.clean clean)
 
 pub returns-clause-secret : goal.returns-clause-secret
-returns-clause-secret g c = λ clean.
-    let at : Site = record { policy = c.args.policy.now; schemes = c.args.schemes.now; stored = c.args.stored } in
-    run_secret c.run-outcome.result _ at _ c.args.events.now c.new-engine.ensures.site (is_first _ at _ c.new-engine.ensures.world c.requires.empty)
-    (c.run-outcome.ensures.secret (subst (λ (b : BaseState). IsClean b.tables) c.finish.ensures (c.into_connection.ensures.clean clean)))
+returns-clause-secret g c = λ clean. c.run_on-outcome.ensures.secret (c.into_connection.ensures.clean clean)

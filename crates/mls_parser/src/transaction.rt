@@ -153,7 +153,6 @@ fn with_header(
 }
 
 /// A transaction without faults.
-#[tactic(auto, using(crate::proofs::PlaceLemmas::tx_steps))]
 fn transaction(
     alloc: Global,
     policy: &Policy,

@@ -2,5 +2,7 @@
 #![tactic(auto)]
 
 mod block;
+mod told;
 
 pub use crate::block::{Case, case_at, indent, inner, joined, push_line, text_of, unfolded};
+pub use crate::told::Told;

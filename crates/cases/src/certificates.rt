@@ -1,61 +1,75 @@
 //! Certificates, and files of them: what is read of a text, and what is printed for that.
-use case_tables::unfolded;
+use crate::show::{push_fault, push_word};
+use case_tables::{Told, unfolded};
 use mls_certificate::{Cert, CertCause, CertFault, certs_read};
 use mls_lattice::Str;
-use std::alloc::{AllocError, Global};
+use std::alloc::Global;
 
-/// Writes the text of a certificate, a bar for each end of a line.
-fn push_cert(alloc: Global, cert: &Cert, out: &mut String) -> Result<(), AllocError> {
-    let text = cert.print(alloc)?;
-    out.push(' ')?;
+/// Adds a text, a bar for each end of a line.
+fn push_barred(text: &str, out: &mut Told) {
+    out.push(" ");
     for line in text.lines() {
-        out.push_str(line)?;
-        out.push('|')?;
+        out.push(line);
+        out.push("|");
     }
-    Ok(())
 }
 
-fn push_fault(out: &mut String, fault: CertFault) -> Result<(), AllocError> {
-    let (code, word) = (fault.cause.code(), fault.cause.word());
-    write!(out, " {code} {word} at {}", fault.line)
+fn push_cert(alloc: Global, cert: &Cert, out: &mut Told) {
+    match cert.print(alloc) {
+        Ok(text) => push_barred(&text, out),
+        Err(_) => out.fail(),
+    }
 }
 
-fn tell_cert(alloc: Global, bytes: &[u8], out: &mut String) -> Result<(), AllocError> {
+fn push_fault_at(fault: CertFault, out: &mut Told) {
+    out.push(" ");
+    push_fault(fault.cause.code(), fault.cause.word(), out);
+    out.push(" at ");
+    out.push_count(fault.line);
+}
+
+fn tell_cert(alloc: Global, bytes: &[u8], out: &mut Told) {
     match Cert::read(alloc, bytes) {
         Ok(cert) => push_cert(alloc, &cert, out),
-        Err(fault) => push_fault(out, fault),
+        Err(fault) => push_fault_at(fault, out),
     }
 }
 
-fn push_blocks(alloc: Global, blocks: &[(Str, Cert)], out: &mut String) -> Result<(), AllocError> {
+fn push_blocks(alloc: Global, blocks: &[(Str, Cert)], out: &mut Told) {
     for block in blocks {
-        out.push(' ')?;
-        out.push_str(block.0.as_str())?;
-        push_cert(alloc, &block.1, out)?;
+        push_word(block.0.as_str(), out);
+        push_cert(alloc, &block.1, out);
     }
-    Ok(())
 }
 
-fn tell_file(alloc: Global, bytes: &[u8], out: &mut String) -> Result<(), AllocError> {
+fn tell_file(alloc: Global, bytes: &[u8], out: &mut Told) {
     match certs_read(alloc, bytes) {
         Ok(blocks) => push_blocks(alloc, &blocks, out),
-        Err(fault) => push_fault(out, fault),
+        Err(fault) => push_fault_at(fault, out),
     }
 }
 
-/// Writes how long the parts of a file are that are read, and the fault of each other, where another than Line.
-fn tell_prefixes(alloc: Global, bytes: &[u8], out: &mut String) -> Result<(), AllocError> {
+fn push_count(count: usize, out: &mut Told) {
+    out.push(" ");
+    out.push_count(count);
+}
+
+fn tell_prefix(alloc: Global, bytes: &[u8], out: &mut Told) {
+    match certs_read(alloc, bytes) {
+        Ok(_) => push_count(bytes.len(), out),
+        Err(fault) if fault.cause == CertCause::Line => {}
+        Err(fault) => push_fault_at(fault, out),
+    }
+}
+
+/// Tells how long the parts of a file are that are read, and the fault of each other, where another than Line.
+fn tell_prefixes(alloc: Global, bytes: &[u8], out: &mut Told) {
     for count in 0..bytes.len() {
-        match certs_read(alloc, &bytes[..count]) {
-            Ok(_) => write!(out, " {count}")?,
-            Err(fault) if fault.cause == CertCause::Line => {}
-            Err(fault) => push_fault(out, fault)?,
-        }
+        tell_prefix(alloc, &bytes[..count], out);
     }
-    Ok(())
 }
 
-fn tell_bytes(alloc: Global, kind: &str, bytes: &[u8], out: &mut String) -> Result<(), AllocError> {
+fn tell_bytes(alloc: Global, kind: &str, bytes: &[u8], out: &mut Told) {
     match kind {
         "cert" => tell_cert(alloc, bytes, out),
         "file" => tell_file(alloc, bytes, out),
@@ -64,9 +78,13 @@ fn tell_bytes(alloc: Global, kind: &str, bytes: &[u8], out: &mut String) -> Resu
 }
 
 /// Tells what texts are read as: a line is `cert`, `file` or `prefixes`, and the text.
-pub fn tell(alloc: Global, head: &str, out: &mut String) -> Result<(), AllocError> {
+pub fn tell(alloc: Global, head: &str, out: &mut Told) {
     let (kind, text) = head.split_once(' ').unwrap_or((head, ""));
-    write!(out, "{head}:")?;
-    tell_bytes(alloc, kind, &unfolded(alloc, text)?, out)?;
-    out.push('\n')
+    out.push(head);
+    out.push(":");
+    match unfolded(alloc, text) {
+        Ok(bytes) => tell_bytes(alloc, kind, &bytes, out),
+        Err(_) => out.fail(),
+    }
+    out.push("\n");
 }

@@ -1,60 +1,55 @@
 //! Entries of the audit list in hexadecimal, and what a level sees of them.
-ghost use Rattle.std.specs.Prelude.{◌<◌, IfOk, length};
+ghost use Rattle.std.specs.Prelude.{◌<◌, length};
+ghost use Rattle.std.specs.Option.{IfSome};
 ghost use Rattle.std.specs.List.{AllByRecursion};
-ghost use Rattle.mls_audit.specs.Entry.{label_of};
+ghost use Rattle.mls_audit.specs.Entry.{label_of as label_in};
+ghost use Rattle.mls_audit.specs.Spelling.{HasSpelling};
 
-use crate::show::{push_hex, push_value};
-use case_tables::{Case, inner};
-use mls_audit::{Entry, EntryFault, entry_bytes, entry_of, visible};
+use crate::show::{push_value, push_word, push_written};
+use crate::tuples::label_of;
+use case_tables::{Case, Told, inner};
+use mls_audit::{Entry, entry_bytes, entry_of, visible};
 use mls_lattice::{LabelNo, Policy};
 use mls_scheme::Value;
-use std::alloc::{AllocError, Global};
+use std::alloc::Global;
 
-/// Writes words, each after a blank.
-fn push_words(out: &mut String, words: &[&str]) -> Result<(), AllocError> {
-    for word in words {
-        out.push(' ')?;
-        out.push_str(word)?;
-    }
-    Ok(())
-}
-
-/// Writes what was released, after a blank.
-fn push_released(out: &mut String, value: &Option<Value>) -> Result<(), AllocError> {
+/// Adds what was released.
+fn push_released(value: &Option<Value>, out: &mut Told) {
     match value {
-        Some(value) => {
-            out.push(' ')?;
-            push_value(out, value)
-        }
-        None => out.push_str(" null"),
+        Some(value) => push_value(value, out),
+        None => out.push(" null"),
     }
 }
 
-fn push_entry(out: &mut String, entry: &Entry) -> Result<(), AllocError> {
-    write!(out, "label {}", entry.label().byte())?;
+/// Adds what was done by whom.
+fn push_done(word: &str, user: &str, session: &str, out: &mut Told) {
+    push_word(word, out);
+    push_word(user, out);
+    push_word(session, out);
+}
+
+fn push_entry(entry: &Entry, out: &mut Told) {
+    out.push("label ");
+    out.push_count(entry.label().index());
     match entry {
         Entry::Called {
             user,
             session,
             transaction,
             ..
-        } => push_words(
-            out,
-            &[
-                "called",
-                user.as_str(),
-                session.as_str(),
-                transaction.as_str(),
-            ],
-        ),
+        } => {
+            push_done("called", user.as_str(), session.as_str(), out);
+            push_word(transaction.as_str(), out);
+        }
         Entry::Denied {
             user,
             session,
             code,
             ..
         } => {
-            push_words(out, &["denied", user.as_str(), session.as_str()])?;
-            write!(out, " {code}")
+            push_done("denied", user.as_str(), session.as_str(), out);
+            out.push(" ");
+            out.push_count(*code as usize);
         }
         Entry::Released {
             user,
@@ -62,131 +57,117 @@ fn push_entry(out: &mut String, entry: &Entry) -> Result<(), AllocError> {
             value,
             ..
         } => {
-            push_words(out, &["released", user.as_str(), session.as_str()])?;
-            push_released(out, value)
+            push_done("released", user.as_str(), session.as_str(), out);
+            push_released(value, out);
         }
     }
 }
 
-fn push_spelled(out: &mut String, entry: &Entry, written: &[u8]) -> Result<(), AllocError> {
-    out.push(' ')?;
-    push_entry(out, entry)?;
-    out.push_str(" = ")?;
-    push_hex(out, written)
-}
-
-/// Writes an entry, and the bytes that are written for it.
-fn tell_entry(alloc: Global, bytes: &[u8], out: &mut String) -> Result<(), EntryFault> {
-    let entry = entry_of(alloc, bytes)?;
-    let written = entry_bytes(alloc, &entry)?;
-    Ok(push_spelled(out, &entry, &written)?)
-}
-
-fn answer_of(alloc: Global, bytes: &[u8]) -> &'static str {
-    match entry_of(alloc, bytes) {
-        Ok(_) => "read",
-        Err(fault) => fault.word(),
-    }
-}
-
-/// Writes what each part of the bytes that is shorter is read as.
-fn tell_prefixes(alloc: Global, bytes: &[u8], out: &mut String) -> Result<(), AllocError> {
-    for count in 0..bytes.len() {
-        out.push(' ')?;
-        out.push_str(answer_of(alloc, &bytes[..count]))?;
-    }
-    Ok(())
-}
-
-fn bytes_of(alloc: Global, digits: &str) -> Result<Vec<u8>, EntryFault> {
-    match hex::decode(alloc, digits) {
-        Ok(bytes) => Ok(bytes),
-        Err(_) => Err(EntryFault::BadText),
-    }
-}
-
-/// The entry that a line spells. One of a label that the policy doesn't have is told as a bad tag.
-fn known_entry(alloc: Global, policy: &Policy, line: &str) -> Result<Entry, EntryFault>
-    ensures { IfOk result (λ e. label_of e < length policy.now.labels) }
+fn push_read(alloc: Global, entry: &Entry, out: &mut Told)
+    requires { HasSpelling entry.now }
 {
-    let entry = entry_of(alloc, &bytes_of(alloc, line)?)?;
-    if entry.label().index() < policy.label_count() {
-        Ok(entry)
-    } else {
-        Err(EntryFault::BadTag)
+    out.push(" ");
+    push_entry(entry, out);
+    push_written(alloc, entry_bytes(alloc, entry), out);
+}
+
+/// Tells an entry, and the bytes that are written for it.
+fn tell_entry(alloc: Global, bytes: &[u8], out: &mut Told) {
+    match entry_of(alloc, bytes) {
+        Ok(entry) => push_read(alloc, &entry, out),
+        Err(fault) => push_word(fault.word(), out),
     }
 }
 
-fn entries_of(alloc: Global, policy: &Policy, lines: &[&str]) -> Result<Vec<Entry>, EntryFault>
-    ensures { IfOk result (λ v. AllByRecursion (λ e. label_of e < length policy.now.labels) v.items) }
+fn tell_prefix(alloc: Global, bytes: &[u8], out: &mut Told) {
+    match entry_of(alloc, bytes) {
+        Ok(_) => push_word("read", out),
+        Err(fault) => push_word(fault.word(), out),
+    }
+}
+
+/// Tells what each part of the bytes that is shorter is read as.
+fn tell_prefixes(alloc: Global, bytes: &[u8], out: &mut Told) {
+    for count in 0..bytes.len() {
+        tell_prefix(alloc, &bytes[..count], out);
+    }
+}
+
+fn tell_bytes(alloc: Global, kind: &str, digits: &str, out: &mut Told) {
+    match hex::decode(alloc, digits) {
+        Ok(bytes) if kind == "entry" => tell_entry(alloc, &bytes, out),
+        Ok(bytes) => tell_prefixes(alloc, &bytes, out),
+        Err(_) => out.push(" no hexadecimal digits"),
+    }
+}
+
+/// The entry that bytes spell, where it has a label of the policy.
+fn entry_in(alloc: Global, policy: &Policy, bytes: &[u8]) -> Option<Entry>
+    ensures { IfSome result (λ e. label_in e < length policy.now.labels) }
+{
+    match entry_of(alloc, bytes) {
+        Ok(entry) if entry.label().index() < policy.label_count() => Some(entry),
+        _ => None,
+    }
+}
+
+/// The entry that a line spells.
+fn entry_at(alloc: Global, policy: &Policy, line: &str) -> Option<Entry>
+    ensures { IfSome result (λ e. label_in e < length policy.now.labels) }
+{
+    match hex::decode(alloc, line) {
+        Ok(bytes) => entry_in(alloc, policy, &bytes),
+        Err(_) => None,
+    }
+}
+
+fn entries_of(alloc: Global, policy: &Policy, lines: &[&str]) -> Option<Vec<Entry>>
+    ensures { IfSome result (λ v. AllByRecursion (λ e. label_in e < length policy.now.labels) v.items) }
 {
     let mut entries = Vec::new(alloc);
     for line in lines {
-        entries.push(known_entry(alloc, policy, inner(line))?)?;
+        entries.push(entry_at(alloc, policy, inner(line))?).ok()?;
     }
-    Ok(entries)
+    Some(entries)
 }
 
-fn push_entries(out: &mut String, entries: &[Entry]) -> Result<(), AllocError> {
+fn push_entries(entries: &[Entry], out: &mut Told) {
     for entry in entries {
-        out.push_str("\n  ")?;
-        push_entry(out, entry)?;
+        out.push("\n  ");
+        push_entry(entry, out);
     }
-    Ok(())
 }
 
-fn level_of(policy: &Policy, name: &str) -> Result<LabelNo, EntryFault>
-    ensures { IfOk result (λ l. l < length policy.now.labels) }
+fn push_visible(alloc: Global, policy: &Policy, entries: &[Entry], level: LabelNo, out: &mut Told)
+    requires entries { AllByRecursion (λ e. label_in e < length policy.now.labels) entries.now }
+    requires level { level < length policy.now.labels }
 {
-    match policy.label(name) {
-        Some(label) if label.index() < policy.label_count() => Ok(label),
-        _ => Err(EntryFault::BadText),
+    match visible(alloc, policy, entries, level) {
+        Ok(seen) => push_entries(&seen, out),
+        Err(_) => out.fail(),
     }
 }
 
-/// Writes the entries of a body that a level sees.
-fn tell_visible(
-    alloc: Global,
-    policy: &Policy,
-    level: &str,
-    body: &[&str],
-    out: &mut String,
-) -> Result<(), EntryFault> {
-    let level = level_of(policy, level)?;
-    let entries = entries_of(alloc, policy, body)?;
-    Ok(push_entries(out, &visible(alloc, policy, &entries, level)?)?)
-}
-
-fn tell_bytes(alloc: Global, kind: &str, bytes: &[u8], out: &mut String) -> Result<(), EntryFault> {
-    match kind {
-        "entry" => tell_entry(alloc, bytes, out),
-        _ => Ok(tell_prefixes(alloc, bytes, out)?),
+/// Tells the entries of a body that a level sees.
+fn tell_visible(alloc: Global, policy: &Policy, level: &str, body: &[&str], out: &mut Told) {
+    let Some(level) = label_of(policy, level) else {
+        return out.push(" no level");
+    };
+    match entries_of(alloc, policy, body) {
+        Some(entries) => push_visible(alloc, policy, &entries, level, out),
+        None => out.push(" no entries"),
     }
-}
-
-fn tell_case(
-    alloc: Global,
-    policy: &Policy,
-    case: &Case<'_>,
-    out: &mut String,
-) -> Result<(), EntryFault> {
-    let (kind, rest) = case.head.split_once(' ').unwrap_or((case.head, ""));
-    if kind == "visible" {
-        return tell_visible(alloc, policy, rest, case.body, out);
-    }
-    tell_bytes(alloc, kind, &bytes_of(alloc, rest)?, out)
 }
 
 /// Tells what bytes spell: a line is `entry` or `prefixes`, and the bytes. `visible`, and a label, has lines of bytes below.
-pub fn tell(
-    alloc: Global,
-    policy: &Policy,
-    case: &Case<'_>,
-    out: &mut String,
-) -> Result<(), AllocError> {
-    write!(out, "{}:", case.head)?;
-    match tell_case(alloc, policy, case, out) {
-        Ok(()) => out.push('\n'),
-        Err(fault) => writeln!(out, " {}", fault.word()),
+pub fn tell(alloc: Global, policy: &Policy, case: &Case<'_>, out: &mut Told) {
+    let (kind, rest) = case.head.split_once(' ').unwrap_or((case.head, ""));
+    out.push(case.head);
+    out.push(":");
+    if kind == "visible" {
+        tell_visible(alloc, policy, rest, case.body, out);
+    } else {
+        tell_bytes(alloc, kind, rest, out);
     }
+    out.push("\n");
 }

@@ -1,75 +1,75 @@
 //! Keys and values in hexadecimal.
-use crate::show::{push_hex, push_value, push_values};
-use mls_scheme::{KeyFault, Value, key_bytes, key_of, value_bytes, value_of};
-use std::alloc::{AllocError, Global};
+ghost use Rattle.mls_scheme.specs.Spelling.{HasSpelling, IsSpelledKey};
 
-fn push_key(out: &mut String, key: &[Value], written: &[u8]) -> Result<(), AllocError> {
-    push_values(out, key)?;
-    out.push_str(" = ")?;
-    push_hex(out, written)
+use crate::show::{push_value, push_word, push_written};
+use case_tables::Told;
+use mls_scheme::{Value, key_bytes, key_of, value_bytes, value_of};
+use std::alloc::Global;
+
+fn push_key(alloc: Global, key: &[Value], out: &mut Told)
+    requires { IsSpelledKey key.now }
+{
+    for value in key {
+        push_value(value, out);
+    }
+    push_written(alloc, key_bytes(alloc, key), out);
 }
 
-/// Writes the values of a key, and the bytes that are written for these.
-fn tell_key(alloc: Global, bytes: &[u8], out: &mut String) -> Result<(), KeyFault> {
-    let key = key_of(alloc, bytes)?;
-    let written = key_bytes(alloc, &key)?;
-    Ok(push_key(out, &key, &written)?)
-}
-
-fn push_read(
-    out: &mut String,
-    value: &Value,
-    count: usize,
-    written: &[u8],
-) -> Result<(), AllocError> {
-    out.push(' ')?;
-    push_value(out, value)?;
-    write!(out, " of {count} = ")?;
-    push_hex(out, written)
-}
-
-/// Writes the value that begins the bytes, how many it takes, and the bytes that are written for it.
-fn tell_value(alloc: Global, bytes: &[u8], out: &mut String) -> Result<(), KeyFault> {
-    let (value, count) = value_of(alloc, bytes)?;
-    let written = value_bytes(alloc, &value)?;
-    Ok(push_read(out, &value, count, &written)?)
-}
-
-fn answer_of(alloc: Global, bytes: &[u8]) -> &'static str {
+/// Tells the values of a key, and the bytes that are written for these.
+fn tell_key(alloc: Global, bytes: &[u8], out: &mut Told) {
     match key_of(alloc, bytes) {
-        Ok(_) => "read",
-        Err(fault) => fault.word(),
+        Ok(key) => push_key(alloc, &key, out),
+        Err(fault) => push_word(fault.word(), out),
     }
 }
 
-/// Writes what each part of the bytes that is shorter is read as.
-fn tell_prefixes(alloc: Global, bytes: &[u8], out: &mut String) -> Result<(), AllocError> {
+fn push_read(alloc: Global, value: &Value, count: usize, out: &mut Told)
+    requires { HasSpelling value.now }
+{
+    push_value(value, out);
+    out.push(" of ");
+    out.push_count(count);
+    push_written(alloc, value_bytes(alloc, value), out);
+}
+
+/// Tells the value that begins the bytes, how many it takes, and the bytes that are written for it.
+fn tell_value(alloc: Global, bytes: &[u8], out: &mut Told) {
+    match value_of(alloc, bytes) {
+        Ok((value, count)) => push_read(alloc, &value, count, out),
+        Err(fault) => push_word(fault.word(), out),
+    }
+}
+
+fn tell_prefix(alloc: Global, bytes: &[u8], out: &mut Told) {
+    match key_of(alloc, bytes) {
+        Ok(_) => push_word("read", out),
+        Err(fault) => push_word(fault.word(), out),
+    }
+}
+
+/// Tells what each part of the bytes that is shorter is read as.
+fn tell_prefixes(alloc: Global, bytes: &[u8], out: &mut Told) {
     for count in 0..bytes.len() {
-        out.push(' ')?;
-        out.push_str(answer_of(alloc, &bytes[..count]))?;
+        tell_prefix(alloc, &bytes[..count], out);
     }
-    Ok(())
 }
 
-fn tell_bytes(alloc: Global, kind: &str, bytes: &[u8], out: &mut String) -> Result<(), AllocError> {
-    let read = match kind {
+fn tell_bytes(alloc: Global, kind: &str, bytes: &[u8], out: &mut Told) {
+    match kind {
         "key" => tell_key(alloc, bytes, out),
         "value" => tell_value(alloc, bytes, out),
-        _ => return tell_prefixes(alloc, bytes, out),
-    };
-    match read {
-        Ok(()) => Ok(()),
-        Err(fault) => write!(out, " {}", fault.word()),
+        _ => tell_prefixes(alloc, bytes, out),
     }
 }
 
 /// Tells what bytes spell: a line is `key`, `value` or `prefixes`, and the bytes.
-pub fn tell(alloc: Global, head: &str, out: &mut String) -> Result<(), AllocError> {
+pub fn tell(alloc: Global, head: &str, out: &mut Told) {
     let (kind, digits) = head.split_once(' ').unwrap_or((head, ""));
-    write!(out, "{head}:")?;
+    out.push(head);
+    out.push(":");
     match hex::decode(alloc, digits) {
-        Ok(bytes) => tell_bytes(alloc, kind, &bytes, out)?,
-        Err(_) => out.push_str(" no hexadecimal digits")?,
+        Ok(bytes) => tell_bytes(alloc, kind, &bytes, out),
+        Err(_) => out.push(" no hexadecimal digits"),
     }
-    out.push('\n')
+    out.push("\n");
 }

@@ -1,6 +1,6 @@
 //! Documents of so many parts, which would be long to write out.
 use crate::documents::told;
-use case_tables::push_line;
+use case_tables::Told;
 use mls_lattice::Policy;
 use std::alloc::{AllocError, Global};
 
@@ -11,84 +11,85 @@ fn count_at(words: &[&str], place: usize) -> u16 {
         .map_or(0, |word| word.parse::<u16>().unwrap_or(0))
 }
 
-/// Writes so many texts, each with its number from 1 in the middle.
-fn push_each(text: &mut String, front: &str, count: u16, back: &str) -> Result<(), AllocError> {
+/// Adds so many texts, each with its number from 1 in the middle.
+fn push_each(front: &str, count: u16, back: &str, text: &mut Told) {
     for number in 0..count {
-        write!(text, "{front}{}{back}", number as u32 + 1)?;
+        text.push(front);
+        text.push_count(number as usize + 1);
+        text.push(back);
     }
-    Ok(())
 }
 
-/// Writes a list of names: a letter, and the numbers from 1.
-fn push_names(text: &mut String, front: &str, letter: &str, count: u16) -> Result<(), AllocError> {
-    text.push_str(front)?;
-    push_each(text, letter, count, "\", ")?;
-    push_line(text, "]")
+/// Adds labels of sixteen levels, sixteen of each category.
+fn push_labels(count: u16, text: &mut Told) {
+    for number in 0..count {
+        text.push("[[label]]\nname = \"A");
+        text.push_count(number as usize + 1);
+        text.push("\"\nlevel = \"L");
+        text.push_count(number as usize % 16 + 1);
+        text.push("\"\ncategories = [\"K");
+        text.push_count(number as usize / 16 + 1);
+        text.push("\"]\n");
+    }
 }
 
-/// Writes labels of sixteen levels, sixteen of each category.
-fn push_labels(text: &mut String, count: u16) -> Result<(), AllocError> {
-    for number in 0..count {
-        let (level, category) = (number % 16 + 1, number / 16 + 1);
-        write!(
-            text,
-            "[[label]]\nname = \"A{}\"\nlevel = \"L{level}\"\ncategories = [\"K{category}\"]\n",
-            number as u32 + 1
-        )?;
-    }
-    Ok(())
-}
+const MODES: &str = "\"\nmodes = [\"read\"]\n";
 
 /// The parts of a policy in their order: levels, categories, labels, users and entries of the matrix.
-fn push_policy(text: &mut String, words: &[&str]) -> Result<(), AllocError> {
-    push_names(text, "levels = [", "\"L", count_at(words, 2))?;
-    push_names(text, "categories = [", "\"K", count_at(words, 4))?;
-    push_labels(text, count_at(words, 6))?;
+fn push_policy(words: &[&str], text: &mut Told) {
+    text.push("levels = [");
+    push_each("\"L", count_at(words, 2), "\", ", text);
+    text.push("]\ncategories = [");
+    push_each("\"K", count_at(words, 4), "\", ", text);
+    text.push("]\n");
+    push_labels(count_at(words, 6), text);
     push_each(
-        text,
         "[[user]]\nname = \"U",
         count_at(words, 8),
         "\"\nclearance = \"A1\"\n",
-    )?;
-    push_each(
         text,
+    );
+    push_each(
         "[[matrix]]\nuser = \"U1\"\nobject = \"T",
         count_at(words, 10),
-        "\"\nmodes = [\"read\"]\n",
-    )
+        MODES,
+        text,
+    );
 }
 
 const ATTRIBUTE: &str = "\"\nkind = \"int\"\nlow = \"U\"\nhigh = \"H\"\n";
 
 /// The relations of schemes, each with its key and other attributes.
-fn push_schemes(text: &mut String, words: &[&str]) -> Result<(), AllocError> {
+fn push_schemes(words: &[&str], text: &mut Told) {
     for number in 0..count_at(words, 2) {
-        writeln!(text, "[[relation]]\nname = \"R{}\"", number as u32 + 1)?;
+        text.push("[[relation]]\nname = \"R");
+        text.push_count(number as usize + 1);
+        text.push("\"\n");
         push_each(
-            text,
             "[[relation.key]]\nname = \"k",
             count_at(words, 4),
             ATTRIBUTE,
-        )?;
-        push_each(
             text,
+        );
+        push_each(
             "[[relation.attribute]]\nname = \"a",
             count_at(words, 6),
             ATTRIBUTE,
-        )?;
+            text,
+        );
     }
-    Ok(())
 }
 
 fn document_of(alloc: Global, head: &str) -> Result<String, AllocError> {
     let words: Vec<&str> = head.split_ascii_whitespace().collect(alloc)?;
-    let mut text = String::from_str(alloc, "version = 1\n")?;
+    let mut text = Told::new(alloc);
+    text.push("version = 1\n");
     if head.starts_with("policy ") {
-        push_policy(&mut text, &words)?;
+        push_policy(&words, &mut text);
     } else {
-        push_schemes(&mut text, &words)?;
+        push_schemes(&words, &mut text);
     }
-    Ok(text)
+    text.finish()
 }
 
 fn word_of(line: &str) -> &str {
@@ -115,34 +116,50 @@ fn end_of_run<'a>(first: &'a str, lines: &[&'a str]) -> (&'a str, usize) {
     (last, lines.len())
 }
 
-fn tell_run(out: &mut String, first: &str, lines: &[&str]) -> Result<(), AllocError> {
-    match end_of_run(first, lines) {
-        (_, 1) => writeln!(out, "  {first}"),
-        (last, count) => writeln!(out, "  {count} lines: {first} .. {last}"),
+fn tell_run(first: &str, lines: &[&str], out: &mut Told) {
+    let (last, count) = end_of_run(first, lines);
+    out.push("  ");
+    if count > 1 {
+        out.push_count(count);
+        out.push(" lines: ");
+        out.push(first);
+        out.push(" .. ");
     }
+    out.push_line(last);
 }
 
 /// Tells lines by their runs with one first word.
-fn tell_runs(out: &mut String, lines: &[&str]) -> Result<(), AllocError> {
+fn tell_runs(lines: &[&str], out: &mut Told) {
     let mut before = None;
     for (at, line) in lines.iter().enumerate() {
         if begins_run(before, line) {
-            tell_run(out, line, &lines[at..])?;
+            tell_run(line, &lines[at..], out);
         }
         before = Some(line);
     }
+}
+
+fn tell_lines(alloc: Global, text: &str, out: &mut Told) -> Result<(), AllocError> {
+    let lines: Vec<&str> = text.lines().collect(alloc)?;
+    tell_runs(&lines, out);
     Ok(())
 }
 
+fn tell_document(alloc: Global, policy: &Policy, head: &str, text: &str, out: &mut Told) {
+    match told(alloc, policy, head, text) {
+        Ok(told) => {
+            let growth = tell_lines(alloc, &told, out);
+            out.note(growth);
+        }
+        Err(_) => out.fail(),
+    }
+}
+
 /// Tells a document of so many parts.
-pub fn tell(
-    alloc: Global,
-    policy: &Policy,
-    head: &str,
-    out: &mut String,
-) -> Result<(), AllocError> {
-    push_line(out, head)?;
-    let text = told(alloc, policy, head, &document_of(alloc, head)?)?;
-    let lines: Vec<&str> = text.lines().collect(alloc)?;
-    tell_runs(out, &lines)
+pub fn tell(alloc: Global, policy: &Policy, head: &str, out: &mut Told) {
+    out.push_line(head);
+    match document_of(alloc, head) {
+        Ok(text) => tell_document(alloc, policy, head, &text, out),
+        Err(_) => out.fail(),
+    }
 }

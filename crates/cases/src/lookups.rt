@@ -1,29 +1,34 @@
 //! Labels, users and rights of the sample policy.
 ghost use Rattle.std.specs.Prelude.{◌<◌, length};
 
+use crate::show::push_word;
 use crate::tuples::name_of;
 use bitflags::Flags;
-use mls_lattice::{Label, Policy, UserNo};
-use std::alloc::AllocError;
+use case_tables::Told;
+use mls_lattice::{Label, LabelNo, Policy, UserNo};
 
-fn push_label(out: &mut String, label: Label) -> Result<(), AllocError> {
-    write!(out, " rank {} categories {:b}", label.rank, label.cats)
-}
-
-fn tell_label(policy: &Policy, name: &str, out: &mut String) -> Result<(), AllocError> {
-    match policy.label(name) {
-        Some(label) if label.index() < policy.label_count() => {
-            write!(out, " {} {}", label.byte(), policy.name(label))?;
-            push_label(out, policy.value(label))
-        }
-        _ => out.push_str(" none"),
-    }
+/// Adds the rank of a label, and its categories as bits.
+pub fn push_label(label: Label, out: &mut Told) {
+    let growth = write!(out.text, " rank {} categories {:b}", label.rank, label.cats);
+    out.note(growth);
 }
 
 fn value_of(policy: &Policy, name: &str) -> Option<Label> {
     match policy.label(name) {
         Some(label) if label.index() < policy.label_count() => Some(policy.value(label)),
         _ => None,
+    }
+}
+
+fn tell_label(policy: &Policy, name: &str, out: &mut Told) {
+    match policy.label(name) {
+        Some(label) if label.index() < policy.label_count() => {
+            out.push(" ");
+            out.push_count(label.index());
+            push_word(policy.name(label), out);
+            push_label(policy.value(label), out);
+        }
+        _ => out.push(" none"),
     }
 }
 
@@ -37,68 +42,74 @@ fn word_of(first: Label, second: Label) -> &'static str {
     }
 }
 
-/// Writes how two labels compare, their join and their meet.
-fn push_labels(out: &mut String, first: Label, second: Label) -> Result<(), AllocError> {
-    out.push_str(word_of(first, second))?;
-    out.push_str(", join")?;
-    push_label(out, first.join(second))?;
-    out.push_str(", meet")?;
-    push_label(out, first.meet(second))
+/// Adds how two labels compare, their join and their meet.
+fn push_labels(first: Label, second: Label, out: &mut Told) {
+    out.push(word_of(first, second));
+    out.push(", join");
+    push_label(first.join(second), out);
+    out.push(", meet");
+    push_label(first.meet(second), out);
 }
 
-fn tell_labels(policy: &Policy, names: &str, out: &mut String) -> Result<(), AllocError> {
+fn tell_labels(policy: &Policy, names: &str, out: &mut Told) {
     let (first, second) = names.split_once(' ').unwrap_or((names, ""));
     match (value_of(policy, first), value_of(policy, second)) {
-        (Some(first), Some(second)) => push_labels(out, first, second),
-        _ => out.push_str(" none"),
+        (Some(first), Some(second)) => push_labels(first, second, out),
+        _ => out.push(" none"),
     }
 }
 
-/// Writes the number of a user, its clearance and its trusted interval.
-fn push_user(policy: &Policy, user: UserNo, out: &mut String) -> Result<(), AllocError>
+fn push_trusted(policy: &Policy, low: LabelNo, high: LabelNo, out: &mut Told) {
+    out.push(" trusted ");
+    out.push(name_of(policy, low));
+    out.push(" to ");
+    out.push(name_of(policy, high));
+}
+
+/// Adds the number of a user, its clearance and its trusted interval.
+fn push_user(policy: &Policy, user: UserNo, out: &mut Told)
     requires { user < length policy.now.users }
 {
-    let clearance = name_of(policy, policy.clearance(user));
-    write!(
-        out,
-        " {} {} {clearance}",
-        user.index(),
-        policy.user_name(user)
-    )?;
-    match policy.trusted(user) {
-        Some((low, high)) => {
-            let (low, high) = (name_of(policy, low), name_of(policy, high));
-            write!(out, " trusted {low} to {high}")
-        }
-        None => Ok(()),
+    out.push(" ");
+    out.push_count(user.index());
+    push_word(policy.user_name(user), out);
+    push_word(name_of(policy, policy.clearance(user)), out);
+    if let Some((low, high)) = policy.trusted(user) {
+        push_trusted(policy, low, high, out);
     }
 }
 
-fn tell_user(policy: &Policy, name: &str, out: &mut String) -> Result<(), AllocError> {
+fn tell_user(policy: &Policy, name: &str, out: &mut Told) {
     match policy.user(name) {
         Some(user) => push_user(policy, user, out),
-        None => out.push_str(" none"),
+        None => out.push(" none"),
     }
 }
 
-/// Writes the bits of what a user may do with an object.
-fn tell_modes(policy: &Policy, names: &str, out: &mut String) -> Result<(), AllocError> {
+/// Adds the bits of what a user may do with an object.
+fn push_modes(policy: &Policy, user: UserNo, object: &str, out: &mut Told) {
+    out.push(" ");
+    out.push_count(policy.modes(user, object).bits() as usize);
+}
+
+fn tell_modes(policy: &Policy, names: &str, out: &mut Told) {
     let (user, object) = names.split_once(' ').unwrap_or((names, ""));
     match policy.user(user) {
-        Some(user) => write!(out, " {}", policy.modes(user, object).bits()),
-        None => out.push_str(" none"),
+        Some(user) => push_modes(policy, user, object, out),
+        None => out.push(" none"),
     }
 }
 
 /// Tells what a policy says of `label NAME`, `labels NAME NAME`, `user NAME` and `modes USER OBJECT`.
-pub fn tell(policy: &Policy, head: &str, out: &mut String) -> Result<(), AllocError> {
+pub fn tell(policy: &Policy, head: &str, out: &mut Told) {
     let (kind, names) = head.split_once(' ').unwrap_or((head, ""));
-    write!(out, "{head}:")?;
+    out.push(head);
+    out.push(":");
     match kind {
-        "label" => tell_label(policy, names, out)?,
-        "labels" => tell_labels(policy, names, out)?,
-        "user" => tell_user(policy, names, out)?,
-        _ => tell_modes(policy, names, out)?,
+        "label" => tell_label(policy, names, out),
+        "labels" => tell_labels(policy, names, out),
+        "user" => tell_user(policy, names, out),
+        _ => tell_modes(policy, names, out),
     }
-    out.push('\n')
+    out.push("\n");
 }

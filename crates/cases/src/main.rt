@@ -16,18 +16,31 @@ mod table;
 mod tuples;
 mod views;
 
-use crate::table::{TABLES, tell};
+use crate::table::{TABLES, Table, told};
 use mls_lattice::Policy;
 use mls_scheme::Schemes;
 use std::fs;
 use std::io::{self, Error, ErrorKind, Write};
 
+fn tell_table(
+    rt: &HostRuntime,
+    policy: &Policy,
+    schemes: &Schemes,
+    file: &str,
+    table: Table,
+) -> io::Result<()>
+    requires { AreUnder (length policy.now.labels) schemes.now }
+{
+    let text = fs::read_to_string(rt, file)?;
+    let told = told(rt.alloc(), policy, schemes, file, table, &text)?;
+    rt.stdout().write_all(told.as_bytes())
+}
+
 fn tell_tables(rt: &HostRuntime, policy: &Policy, schemes: &Schemes) -> io::Result<()>
     requires { AreUnder (length policy.now.labels) schemes.now }
 {
-    for table in TABLES {
-        let text = tell(rt, policy, schemes, table)?;
-        rt.stdout().write_all(text.as_bytes())?;
+    for (file, table) in TABLES {
+        tell_table(rt, policy, schemes, file, table)?;
     }
     Ok(())
 }

@@ -1,65 +1,38 @@
 //! Views over a base that fails where it reads what one label holds: a view reads only what labels hold that its own dominates.
-ghost use Rattle.std.specs.Prelude.{length};
+ghost use Rattle.std.specs.Prelude.{◌<◌, length};
 ghost use Rattle.std.specs.List.{AllByRecursion};
 ghost use Rattle.mls_scheme.specs.Tuple.{HasClassesBelow};
 
-use crate::tuples::{TupleFault, label_of, tuples_of};
-use crate::views::push_rows;
-use case_tables::{Case, push_line};
-use mls_filterview::{Base, BaseFault, Cell, Fragment, Node, view};
+use crate::tuples::{label_of, push_tuples, tuples_of};
+use case_tables::{Case, Told};
+use mls_filterview::{Base, BaseFault, Cell, Fragment, Node, add_cells, node_of, view};
 use mls_lattice::{Items, LabelNo, Policy};
-use mls_scheme::{Place, RelNo, Tuple, Value, copy_key, tuple_class};
+use mls_scheme::{Element, Place, RelNo, Tuple, Value, tuple_class};
 use std::alloc::{AllocError, Global};
 
-/// Tuples with their classes, in a store that fails at one label. It takes no change, and nothing is said of what it holds.
+/// A tuple at its place.
+#[derive(Drop)]
+struct Row {
+    place: Place,
+    elements: Items<Element>,
+}
+
+/// Tuples at their places, in a store that fails at one label. It takes no change, and nothing is said of what it holds.
 #[derive(Drop)]
 struct Broken {
     alloc: Global,
-    rows: Vec<(LabelNo, Tuple)>,
+    rows: Vec<Row>,
     broken: LabelNo,
     failures: u64,
 }
 
-fn node_of(alloc: Global, class: LabelNo, tuple: &Tuple) -> Result<Node, AllocError> {
-    let mut pattern = Vec::new(alloc);
-    for element in tuple.elements.as_slice() {
-        pattern.push(element.class)?;
-    }
-    Ok(Node {
-        key: copy_key(&tuple.key)?,
-        key_class: tuple.key_class,
-        label: class,
-        pattern: Items::from(pattern),
-    })
-}
-
-/// Adds the cells that have the class of their tuple.
-fn push_cells(cells: &mut Vec<Cell>, class: LabelNo, tuple: &Tuple) -> Result<(), AllocError> {
-    for (attr, element) in tuple.elements.as_slice().iter().enumerate() {
-        if element.class == class {
-            cells.push(Cell {
-                key: copy_key(&tuple.key)?,
-                key_class: tuple.key_class,
-                attr,
-                label: class,
-                value: element.copy()?.value,
-            })?;
-        }
-    }
-    Ok(())
-}
-
-fn fragment_of(
-    alloc: Global,
-    rows: &[(LabelNo, Tuple)],
-    label: LabelNo,
-) -> Result<Fragment, AllocError> {
+fn fragment_of(alloc: Global, rows: &[Row], label: LabelNo) -> Result<Fragment, AllocError> {
     let mut nodes = Vec::new(alloc);
     let mut cells = Vec::new(alloc);
     for row in rows {
-        if row.0 == label {
-            nodes.push(node_of(alloc, label, &row.1)?)?;
-            push_cells(&mut cells, label, &row.1)?;
+        if row.place.class == label {
+            nodes.push(node_of(alloc, &row.place, &row.elements)?)?;
+            add_cells(&mut cells, &row.place, &row.elements)?;
         }
     }
     Ok(Fragment {
@@ -148,61 +121,96 @@ fn class_of(policy: &Policy, tuple: &Tuple) -> LabelNo
     tuple.key_class
 }
 
-fn rows_of(
-    alloc: Global,
-    policy: &Policy,
-    tuples: Vec<Tuple>,
-) -> Result<Vec<(LabelNo, Tuple)>, AllocError>
+fn rows_of(alloc: Global, policy: &Policy, tuples: Vec<Tuple>) -> Result<Vec<Row>, AllocError>
     requires { AllByRecursion (HasClassesBelow (length policy.now.labels)) tuples.items }
 {
     let mut rows = Vec::new(alloc);
     for tuple in tuples {
-        rows.push((class_of(policy, &tuple), tuple))?;
+        let class = class_of(policy, &tuple);
+        let place = Place {
+            key: tuple.key,
+            key_class: tuple.key_class,
+            class,
+        };
+        rows.push(Row {
+            place,
+            elements: tuple.elements,
+        })?;
     }
     Ok(rows)
 }
 
-fn view_of(
+fn push_view(policy: &Policy, seen: Result<Vec<Tuple>, BaseFault>, out: &mut Told) {
+    match seen {
+        Ok(tuples) => push_tuples(policy, &tuples, out),
+        Err(BaseFault::Store) => out.push("  Store\n"),
+        Err(_) => out.fail(),
+    }
+}
+
+/// Tells what a level sees of a base that fails at a label.
+fn tell_rows(
     alloc: Global,
     policy: &Policy,
-    labels: (&str, &str),
-    body: &[&str],
-) -> Result<Result<Vec<Tuple>, BaseFault>, TupleFault> {
-    let level = label_of(policy, labels.0)?;
-    let broken = label_of(policy, labels.1)?;
-    let rows = rows_of(alloc, policy, tuples_of(alloc, policy, body)?)?;
+    level: LabelNo,
+    broken: LabelNo,
+    rows: Vec<Row>,
+    out: &mut Told,
+)
+    requires { level < length policy.now.labels }
+{
     let mut base = Broken {
         alloc,
         rows,
         broken,
         failures: 0,
     };
-    Ok(view(alloc, &mut base, policy, RelNo::new(0), level))
+    push_view(
+        policy,
+        view(alloc, &mut base, policy, RelNo::new(0), level),
+        out,
+    );
 }
 
 fn tell_view(
     alloc: Global,
     policy: &Policy,
-    case: &Case<'_>,
-    out: &mut String,
-) -> Result<(), TupleFault> {
-    let labels = case.head.split_once(' ').unwrap_or((case.head, ""));
-    match view_of(alloc, policy, labels, case.body)? {
-        Ok(rows) => Ok(push_rows(out, policy, &rows)?),
-        Err(fault) => Ok(writeln!(out, "  {fault:?}")?),
+    level: LabelNo,
+    broken: LabelNo,
+    tuples: Vec<Tuple>,
+    out: &mut Told,
+)
+    requires level { level < length policy.now.labels }
+    requires classes { AllByRecursion (HasClassesBelow (length policy.now.labels)) tuples.items }
+{
+    match rows_of(alloc, policy, tuples) {
+        Ok(rows) => tell_rows(alloc, policy, level, broken, rows, out),
+        Err(_) => out.fail(),
+    }
+}
+
+fn tell_labels(
+    alloc: Global,
+    policy: &Policy,
+    level: LabelNo,
+    broken: LabelNo,
+    body: &[&str],
+    out: &mut Told,
+)
+    requires { level < length policy.now.labels }
+{
+    match tuples_of(alloc, policy, body) {
+        Some(tuples) => tell_view(alloc, policy, level, broken, tuples, out),
+        None => out.push("  no tuples\n"),
     }
 }
 
 /// Tells views: a case is `LABEL BROKEN`, and the tuples of the base below.
-pub fn tell(
-    alloc: Global,
-    policy: &Policy,
-    case: &Case<'_>,
-    out: &mut String,
-) -> Result<(), AllocError> {
-    push_line(out, case.head)?;
-    match tell_view(alloc, policy, case, out) {
-        Ok(()) => Ok(()),
-        Err(fault) => writeln!(out, "  {fault:?}"),
+pub fn tell(alloc: Global, policy: &Policy, case: &Case<'_>, out: &mut Told) {
+    let (level, broken) = case.head.split_once(' ').unwrap_or((case.head, ""));
+    out.push_line(case.head);
+    match (label_of(policy, level), label_of(policy, broken)) {
+        (Some(level), Some(broken)) => tell_labels(alloc, policy, level, broken, case.body, out),
+        _ => out.push("  no labels\n"),
     }
 }

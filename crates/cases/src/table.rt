@@ -3,12 +3,10 @@ ghost use Rattle.std.specs.Prelude.{length};
 ghost use Rattle.mls_scheme.specs.Scheme.{AreUnder};
 
 use crate::{certificates, documents, entries, keys, limits, lookups, reads, views};
-use case_tables::{Case, case_at};
+use case_tables::{Case, Told, case_at};
 use mls_lattice::Policy;
 use mls_scheme::Schemes;
 use std::alloc::{AllocError, Global};
-use std::rt::Files;
-use std::{fs, io};
 
 /// What the cases of a file are about.
 #[derive(Clone, Copy)]
@@ -25,69 +23,53 @@ pub enum Table {
     Certificates,
 }
 
-pub const TABLES: [Table; 10] = [
-    Table::Policies,
-    Table::Schemes,
-    Table::Documents,
-    Table::Limits,
-    Table::Lookups,
-    Table::Keys,
-    Table::Entries,
-    Table::Views,
-    Table::Reads,
-    Table::Certificates,
+pub const TABLES: [(&str, Table); 10] = [
+    ("policies.txt", Table::Policies),
+    ("schemes.txt", Table::Schemes),
+    ("documents.txt", Table::Documents),
+    ("limits.txt", Table::Limits),
+    ("lookups.txt", Table::Lookups),
+    ("keys.txt", Table::Keys),
+    ("entries.txt", Table::Entries),
+    ("views.txt", Table::Views),
+    ("reads.txt", Table::Reads),
+    ("certificates.txt", Table::Certificates),
 ];
 
-impl Table {
-    fn file(self) -> &'static str {
-        match self {
-            Table::Policies => "policies.txt",
-            Table::Schemes => "schemes.txt",
-            Table::Documents => "documents.txt",
-            Table::Limits => "limits.txt",
-            Table::Lookups => "lookups.txt",
-            Table::Keys => "keys.txt",
-            Table::Entries => "entries.txt",
-            Table::Views => "views.txt",
-            Table::Reads => "reads.txt",
-            Table::Certificates => "certificates.txt",
-        }
-    }
-}
-
 /// What is told of the cases of a table, under the sample policy and schemes.
-pub fn tell<R: Files + AllocGlobal>(
-    rt: &R,
+pub fn told(
+    alloc: Global,
     policy: &Policy,
     schemes: &Schemes,
+    file: &str,
     table: Table,
-) -> io::Result<String>
+    text: &str,
+) -> Result<String, AllocError>
     requires { AreUnder (length policy.now.labels) schemes.now }
 {
-    let text = fs::read_to_string(rt, table.file())?;
-    let mut out = String::new(rt.alloc());
-    writeln!(out, "== {}", table.file())?;
-    tell_text(rt.alloc(), policy, schemes, table, &text, &mut out)?;
-    Ok(out)
+    let lines: Vec<&str> = text.lines().collect(alloc)?;
+    let mut out = Told::new(alloc);
+    out.push("== ");
+    out.push_line(file);
+    tell_cases(alloc, policy, schemes, table, &lines, &mut out);
+    out.finish()
 }
 
-fn tell_text(
+fn tell_cases(
     alloc: Global,
     policy: &Policy,
     schemes: &Schemes,
     table: Table,
-    text: &str,
-    out: &mut String,
-) -> Result<(), AllocError>
+    lines: &[&str],
+    out: &mut Told,
+)
     requires { AreUnder (length policy.now.labels) schemes.now }
 {
-    let lines: Vec<&str> = text.lines().collect(alloc)?;
     for at in 0..lines.len() {
         if let Some(case) = case_at(&lines[at..]) {
-            tell_case(alloc, policy, schemes, table, &case, out)?;
+            tell_case(alloc, policy, schemes, table, &case, out);
         }
     }
-    Ok(())
 }
 
 fn tell_case(
@@ -96,8 +78,8 @@ fn tell_case(
     schemes: &Schemes,
     table: Table,
     case: &Case<'_>,
-    out: &mut String,
-) -> Result<(), AllocError>
+    out: &mut Told,
+)
     requires { AreUnder (length policy.now.labels) schemes.now }
 {
     match table {

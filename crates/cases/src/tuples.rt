@@ -1,113 +1,91 @@
 //! Tuples in one line each, as `Enterprise U | Spying S | - U`: the key, its class, and elements with their classes.
-ghost use Rattle.std.specs.Prelude.{◌<◌, IfOk, length};
+ghost use Rattle.std.specs.Prelude.{◌<◌, length};
 ghost use Rattle.std.specs.Option.{IfSome};
 ghost use Rattle.std.specs.List.{AllByRecursion};
 ghost use Rattle.mls_scheme.specs.Tuple.{HasClassesBelow};
 
+use crate::show::push_word;
+use case_tables::Told;
 use mls_lattice::{Items, LabelNo, Policy, Str};
 use mls_scheme::{Element, Tuple, Value};
-use std::alloc::{AllocError, AllocFailed, Global};
-
-/// Why a line is no tuple.
-#[derive(Clone, Copy, PartialEq, Eq, Debug)]
-pub enum TupleFault {
-    Unreadable,
-    Memory,
-}
-
-impl From<AllocError> for TupleFault {
-    fn from(_error: AllocError) -> TupleFault {
-        TupleFault::Memory
-    }
-}
-
-impl<T: Drop> From<AllocFailed<T>> for TupleFault {
-    fn from(_error: AllocFailed<T>) -> TupleFault {
-        TupleFault::Memory
-    }
-}
+use std::alloc::Global;
 
 /// The label of a name.
-pub fn label_of(policy: &Policy, name: &str) -> Result<LabelNo, TupleFault>
-    ensures { IfOk result (λ l. l < length policy.now.labels) }
+pub fn label_of(policy: &Policy, name: &str) -> Option<LabelNo>
+    ensures { IfSome result (λ l. l < length policy.now.labels) }
 {
     match policy.label(name) {
-        Some(label) if label.index() < policy.label_count() => Ok(label),
-        _ => Err(TupleFault::Unreadable),
+        Some(label) if label.index() < policy.label_count() => Some(label),
+        _ => None,
     }
 }
 
-/// A number where the word is one, `-` for null, and else a text.
-fn value_of(alloc: Global, word: &str) -> Result<Option<Value>, TupleFault> {
-    if word == "-" {
-        return Ok(None);
-    }
+/// A number where the word is one, and else a text.
+fn value_of(alloc: Global, word: &str) -> Option<Value> {
     match word.parse::<i64>() {
-        Ok(number) => Ok(Some(Value::Int(number))),
-        Err(_) => Ok(Some(Value::Text(Str::copy_of(alloc, word)?))),
+        Ok(number) => Some(Value::Int(number)),
+        Err(_) => Some(Value::Text(Str::copy_of(alloc, word).ok()?)),
     }
 }
 
-fn element_of(alloc: Global, policy: &Policy, part: &str) -> Result<Element, TupleFault>
-    ensures { IfOk result (λ e. e.class < length policy.now.labels) }
+/// A word and a class: `-` is null.
+fn element_of(alloc: Global, policy: &Policy, part: &str) -> Option<Element>
+    ensures { IfSome result (λ e. e.class < length policy.now.labels) }
 {
-    let Some((word, name)) = part.trim().split_once(' ') else {
-        return Err(TupleFault::Unreadable);
-    };
+    let (word, name) = part.trim().split_once(' ')?;
     let class = label_of(policy, name)?;
-    let value = value_of(alloc, word)?;
-    Ok(Element { value, class })
+    if word == "-" {
+        return Some(Element { value: None, class });
+    }
+    let value = Some(value_of(alloc, word)?);
+    Some(Element { value, class })
 }
 
-fn elements_of(alloc: Global, policy: &Policy, parts: &[&str]) -> Result<Vec<Element>, TupleFault>
-    ensures { IfOk result (λ v. AllByRecursion (λ e. e.class < length policy.now.labels) v.items) }
+fn elements_of(alloc: Global, policy: &Policy, parts: &str) -> Option<Vec<Element>>
+    ensures { IfSome result (λ v. AllByRecursion (λ e. e.class < length policy.now.labels) v.items) }
 {
     let mut elements = Vec::new(alloc);
-    for part in parts {
-        elements.push(element_of(alloc, policy, part)?)?;
+    for part in parts.split('|') {
+        if !part.is_empty() {
+            elements.push(element_of(alloc, policy, part)?).ok()?;
+        }
     }
-    Ok(elements)
+    Some(elements)
 }
 
 /// The values of a key, which commas separate.
-fn key_of(alloc: Global, part: &str) -> Result<Items<Value>, TupleFault> {
+fn key_of(alloc: Global, part: &str) -> Option<Items<Value>> {
     let mut key = Vec::new(alloc);
     for word in part.split(',') {
-        if let Some(value) = value_of(alloc, word)? {
-            key.push(value)?;
-        }
+        key.push(value_of(alloc, word)?).ok()?;
     }
-    Ok(Items::from(key))
+    Some(Items::from(key))
 }
 
-fn tuple_of(alloc: Global, policy: &Policy, line: &str) -> Result<Tuple, TupleFault>
-    ensures { IfOk result (HasClassesBelow (length policy.now.labels)) }
+fn tuple_of(alloc: Global, policy: &Policy, line: &str) -> Option<Tuple>
+    ensures { IfSome result (HasClassesBelow (length policy.now.labels)) }
 {
-    let parts: Vec<&str> = line.split('|').collect(alloc)?;
-    let Some((front, rest)) = parts.split_first() else {
-        return Err(TupleFault::Unreadable);
-    };
-    let Some((key, name)) = front.trim().split_once(' ') else {
-        return Err(TupleFault::Unreadable);
-    };
+    let (front, parts) = line.split_once('|').unwrap_or((line, ""));
+    let (key, name) = front.trim().split_once(' ')?;
     let key_class = label_of(policy, name)?;
-    let elements = elements_of(alloc, policy, rest)?;
-    Ok(Tuple {
-        key: key_of(alloc, key)?,
+    let key = key_of(alloc, key)?;
+    let elements = elements_of(alloc, policy, parts)?;
+    Some(Tuple {
+        key,
         key_class,
         elements: Items::from(elements),
     })
 }
 
-/// The tuples of lines.
-pub fn tuples_of(alloc: Global, policy: &Policy, lines: &[&str]) -> Result<Vec<Tuple>, TupleFault>
-    ensures { IfOk result (λ v. AllByRecursion (HasClassesBelow (length policy.now.labels)) v.items) }
+/// The tuples of lines, where each line is one.
+pub fn tuples_of(alloc: Global, policy: &Policy, lines: &[&str]) -> Option<Vec<Tuple>>
+    ensures { IfSome result (λ v. AllByRecursion (HasClassesBelow (length policy.now.labels)) v.items) }
 {
     let mut tuples = Vec::new(alloc);
     for line in lines {
-        tuples.push(tuple_of(alloc, policy, line)?)?;
+        tuples.push(tuple_of(alloc, policy, line)?).ok()?;
     }
-    Ok(tuples)
+    Some(tuples)
 }
 
 /// The name of a label.
@@ -119,35 +97,45 @@ pub fn name_of(policy: &Policy, label: LabelNo) -> &str {
     }
 }
 
-fn push_word(out: &mut String, value: &Option<Value>) -> Result<(), AllocError> {
+fn push_value(value: &Value, out: &mut Told) {
     match value {
-        None => out.push('-'),
-        Some(Value::Int(number)) => write!(out, "{number}"),
-        Some(Value::Text(text)) => out.push_str(text.as_str()),
+        Value::Int(number) => out.push_number(*number),
+        Value::Text(text) => out.push(text.as_str()),
     }
 }
 
-fn push_key(out: &mut String, key: &[Value]) -> Result<(), AllocError> {
+fn push_key(key: &[Value], out: &mut Told) {
     for (place, value) in key.iter().enumerate() {
         if place > 0 {
-            out.push(',')?;
+            out.push(",");
         }
-        match value {
-            Value::Int(number) => write!(out, "{number}")?,
-            Value::Text(text) => out.push_str(text.as_str())?,
-        }
+        push_value(value, out);
     }
-    Ok(())
 }
 
-/// Writes a tuple as tables have it.
-pub fn push_tuple(out: &mut String, policy: &Policy, tuple: &Tuple) -> Result<(), AllocError> {
-    push_key(out, &tuple.key)?;
-    write!(out, " {}", name_of(policy, tuple.key_class))?;
-    for element in tuple.elements.as_slice() {
-        out.push_str(" | ")?;
-        push_word(out, &element.value)?;
-        write!(out, " {}", name_of(policy, element.class))?;
+fn push_element(policy: &Policy, element: &Element, out: &mut Told) {
+    out.push(" | ");
+    match &element.value {
+        Some(value) => push_value(value, out),
+        None => out.push("-"),
     }
-    Ok(())
+    push_word(name_of(policy, element.class), out);
+}
+
+/// Adds a tuple as tables have it, in a line of its own.
+fn push_tuple(policy: &Policy, tuple: &Tuple, out: &mut Told) {
+    out.push("  ");
+    push_key(&tuple.key, out);
+    push_word(name_of(policy, tuple.key_class), out);
+    for element in tuple.elements.as_slice() {
+        push_element(policy, element, out);
+    }
+    out.push("\n");
+}
+
+/// Adds a line for each tuple.
+pub fn push_tuples(policy: &Policy, tuples: &[Tuple], out: &mut Told) {
+    for tuple in tuples {
+        push_tuple(policy, tuple, out);
+    }
 }

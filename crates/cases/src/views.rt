@@ -4,35 +4,29 @@ ghost use Rattle.std.specs.List.{AllByRecursion};
 ghost use Rattle.mls_scheme.specs.Scheme.{AreUnder};
 ghost use Rattle.mls_scheme.specs.Tuple.{HasClassesBelow};
 
-use crate::tuples::{TupleFault, label_of, push_tuple, tuples_of};
-use case_tables::{Case, push_line};
-use mls_filterview::{filter, integrity, subsumes};
+use crate::lookups::push_label;
+use crate::tuples::{label_of, push_tuples, tuples_of};
+use case_tables::{Case, Told};
+use mls_filterview::{Broken, filter, integrity, subsumes};
 use mls_lattice::Policy;
 use mls_scheme::{Schemes, Tuple, tuple_class};
-use std::alloc::{AllocError, Global};
+use std::alloc::Global;
 
-/// Writes a line for each tuple.
-pub fn push_rows(out: &mut String, policy: &Policy, rows: &[Tuple]) -> Result<(), AllocError> {
-    for row in rows {
-        out.push_str("  ")?;
-        push_tuple(out, policy, row)?;
-        out.push('\n')?;
-    }
-    Ok(())
-}
-
-fn tell_filter(
-    alloc: Global,
-    policy: &Policy,
-    level: &str,
-    tuples: &[Tuple],
-    out: &mut String,
-) -> Result<(), TupleFault>
+fn tell_filter(alloc: Global, policy: &Policy, level: &str, tuples: &[Tuple], out: &mut Told)
     requires { AllByRecursion (HasClassesBelow (length policy.now.labels)) tuples.now }
 {
-    let level = label_of(policy, level)?;
-    let rows = filter(alloc, policy, tuples, level)?;
-    Ok(push_rows(out, policy, &rows)?)
+    let Some(level) = label_of(policy, level) else {
+        return out.push("  no label\n");
+    };
+    match filter(alloc, policy, tuples, level) {
+        Ok(seen) => push_tuples(policy, &seen, out),
+        Err(_) => out.fail(),
+    }
+}
+
+fn push_broken(broken: Broken, out: &mut Told) {
+    let growth = writeln!(out.text, "  row {} {:?}", broken.row, broken.rule);
+    out.note(growth);
 }
 
 fn tell_integrity(
@@ -40,80 +34,73 @@ fn tell_integrity(
     schemes: &Schemes,
     relation: &str,
     tuples: &[Tuple],
-    out: &mut String,
-) -> Result<(), TupleFault>
+    out: &mut Told,
+)
     requires under { AreUnder (length policy.now.labels) schemes.now }
     requires classes { AllByRecursion (HasClassesBelow (length policy.now.labels)) tuples.now }
 {
     let Some(rel) = schemes.relation(relation) else {
-        return Err(TupleFault::Unreadable);
+        return out.push("  no relation\n");
     };
     match integrity(policy, schemes.scheme(rel), tuples) {
-        None => out.push_str("  stored\n")?,
-        Some(broken) => writeln!(out, "  row {} {:?}", broken.row, broken.rule)?,
+        None => out.push("  stored\n"),
+        Some(broken) => push_broken(broken, out),
     }
-    Ok(())
 }
 
-/// Writes a line for each tuple: whether it subsumes each one.
-fn tell_subsumes(tuples: &[Tuple], out: &mut String) -> Result<(), TupleFault> {
-    for left in tuples {
-        out.push(' ')?;
-        push_subsumed(left, tuples, out)?;
-        out.push('\n')?;
-    }
-    Ok(())
-}
-
-fn push_subsumed(left: &Tuple, tuples: &[Tuple], out: &mut String) -> Result<(), AllocError> {
+fn push_subsumed(left: &Tuple, tuples: &[Tuple], out: &mut Told) {
     for right in tuples {
-        out.push_str(if subsumes(left, right) { " yes" } else { " no" })?;
+        out.push(if subsumes(left, right) { " yes" } else { " no" });
     }
-    Ok(())
 }
 
-fn tell_classes(policy: &Policy, tuples: &[Tuple], out: &mut String) -> Result<(), TupleFault>
+/// Tells of each tuple, in a line, whether it subsumes each one.
+fn tell_subsumes(tuples: &[Tuple], out: &mut Told) {
+    for left in tuples {
+        out.push(" ");
+        push_subsumed(left, tuples, out);
+        out.push("\n");
+    }
+}
+
+fn tell_classes(policy: &Policy, tuples: &[Tuple], out: &mut Told)
     requires { AllByRecursion (HasClassesBelow (length policy.now.labels)) tuples.now }
 {
     for tuple in tuples {
-        let class = tuple_class(policy, tuple);
-        writeln!(out, "  rank {} categories {:b}", class.rank, class.cats)?;
+        out.push(" ");
+        push_label(tuple_class(policy, tuple), out);
+        out.push("\n");
     }
-    Ok(())
 }
 
-fn tell_case(
+fn tell_tuples(
     alloc: Global,
     policy: &Policy,
     schemes: &Schemes,
-    case: &Case<'_>,
-    out: &mut String,
-) -> Result<(), TupleFault>
-    requires { AreUnder (length policy.now.labels) schemes.now }
+    head: &str,
+    tuples: &[Tuple],
+    out: &mut Told,
+)
+    requires under { AreUnder (length policy.now.labels) schemes.now }
+    requires classes { AllByRecursion (HasClassesBelow (length policy.now.labels)) tuples.now }
 {
-    let tuples = tuples_of(alloc, policy, case.body)?;
-    let words = case.head.split_once(':').map_or(case.head, |parts| parts.0);
-    match words.split_once(' ') {
-        Some(("filter", level)) => tell_filter(alloc, policy, level, &tuples, out),
-        Some(("integrity", relation)) => tell_integrity(policy, schemes, relation, &tuples, out),
-        _ if words == "subsumes" => tell_subsumes(&tuples, out),
-        _ => tell_classes(policy, &tuples, out),
+    let words = head.split_once(':').map_or(head, |parts| parts.0);
+    let (kind, name) = words.split_once(' ').unwrap_or((words, ""));
+    match kind {
+        "filter" => tell_filter(alloc, policy, name, tuples, out),
+        "integrity" => tell_integrity(policy, schemes, name, tuples, out),
+        "subsumes" => tell_subsumes(tuples, out),
+        _ => tell_classes(policy, tuples, out),
     }
 }
 
 /// Tells of lists of tuples: a case is `filter LABEL: title`, `integrity RELATION: title`, `subsumes: title` or `classes: title`.
-pub fn tell(
-    alloc: Global,
-    policy: &Policy,
-    schemes: &Schemes,
-    case: &Case<'_>,
-    out: &mut String,
-) -> Result<(), AllocError>
+pub fn tell(alloc: Global, policy: &Policy, schemes: &Schemes, case: &Case<'_>, out: &mut Told)
     requires { AreUnder (length policy.now.labels) schemes.now }
 {
-    push_line(out, case.head)?;
-    match tell_case(alloc, policy, schemes, case, out) {
-        Ok(()) => Ok(()),
-        Err(fault) => writeln!(out, "  {fault:?}"),
+    out.push_line(case.head);
+    match tuples_of(alloc, policy, case.body) {
+        Some(tuples) => tell_tuples(alloc, policy, schemes, case.head, &tuples, out),
+        None => out.push("  no tuples\n"),
     }
 }

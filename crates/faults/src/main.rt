@@ -14,60 +14,15 @@ mod outcomes;
 mod runs;
 mod steps;
 
-use crate::outcomes::{Way, push_outcomes};
-use crate::runs::{Scripts, What};
+use crate::outcomes::told;
 use mls_lattice::Policy;
 use mls_scheme::Schemes;
 use mls_script::{Event, script};
-use std::alloc::{AllocError, Global};
 use std::fs;
 use std::io::{self, Error, ErrorKind, Write};
 
 /// The scripts, in the order in which they are told.
 const FILES: [&str; 2] = ["audit.script", "writes.script"];
-
-/// What is tried of each script.
-const TRIALS: [(Way, What); 5] = [
-    (Way::Run, What::Store),
-    (Way::Run, What::Memory),
-    (Way::Run, What::Write),
-    (Way::Steps, What::Store),
-    (Way::Steps, What::Memory),
-];
-
-fn push_all(
-    alloc: Global,
-    policy: &Policy,
-    schemes: &Schemes,
-    scripts: Scripts<'_>,
-    out: &mut String,
-) -> Result<(), AllocError>
-    requires under { AreUnder (length policy.now.labels) schemes.now }
-    requires events { AllByRecursion (EventFits policy.now schemes.now) scripts.events.now }
-    requires questions { AllByRecursion (EventFits policy.now schemes.now) scripts.questions.now }
-{
-    for (way, what) in TRIALS {
-        push_outcomes(alloc, policy, schemes, scripts, way, what, out)?;
-    }
-    Ok(())
-}
-
-fn tell(
-    rt: &HostRuntime,
-    policy: &Policy,
-    schemes: &Schemes,
-    file: &str,
-    scripts: Scripts<'_>,
-) -> io::Result<()>
-    requires under { AreUnder (length policy.now.labels) schemes.now }
-    requires events { AllByRecursion (EventFits policy.now schemes.now) scripts.events.now }
-    requires questions { AllByRecursion (EventFits policy.now schemes.now) scripts.questions.now }
-{
-    let mut out = String::new(rt.alloc());
-    writeln!(out, "== {file}")?;
-    push_all(rt.alloc(), policy, schemes, scripts, &mut out)?;
-    rt.stdout().write_all(out.as_bytes())
-}
 
 fn tell_file(
     rt: &HostRuntime,
@@ -80,16 +35,8 @@ fn tell_file(
     requires questions { AllByRecursion (EventFits policy.now schemes.now) questions.now }
 {
     let text = fs::read_to_string(rt, file)?;
-    match script(rt.alloc(), policy, schemes, text.as_bytes()) {
-        Ok(events) => {
-            let scripts = Scripts {
-                events: &events,
-                questions,
-            };
-            tell(rt, policy, schemes, file, scripts)
-        }
-        Err(_) => Err(Error::from(ErrorKind::InvalidData)),
-    }
+    let told = told(rt.alloc(), policy, schemes, file, &text, questions)?;
+    rt.stdout().write_all(told.as_bytes())
 }
 
 fn tell_files(

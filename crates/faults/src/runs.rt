@@ -9,13 +9,14 @@ ghost use Rattle.mls_sessions.specs.World.{IsSound};
 
 use crate::faulty::Faulty;
 use crate::narrow::Narrow;
+use case_tables::{Told, text_of};
 use mls_filterview::Base;
 use mls_lattice::{Items, Policy};
 use mls_scheme::Schemes;
 use mls_script::Event;
 use mls_sessions::{Engine, RunFault, Stored, run};
 use mls_updates::ListBase;
-use std::alloc::{AllocError, Global};
+use std::alloc::Global;
 
 /// What fails: a call of the base by its store or for want of memory, or a write; after so many that don't.
 #[derive(Clone, Copy)]
@@ -88,35 +89,27 @@ fn run_over<B: Base>(
     (end, engine.finish())
 }
 
-fn push_end(out: &mut String, end: Result<(), RunFault>) -> Result<(), AllocError> {
+fn push_end(end: Result<(), RunFault>, out: &mut Told) {
     match end {
-        Ok(()) => out.push_str("all well\n"),
+        Ok(()) => out.push("all well\n"),
         Err(fault) => {
-            let stands = if fault.done { "done" } else { "not done" };
-            writeln!(out, "{} at {}, {stands}", fault.cause.word(), fault.event)
+            out.push(fault.cause.word());
+            out.push(" at ");
+            out.push_count(fault.event);
+            out.push_line(if fault.done { ", done" } else { ", not done" });
         }
     }
 }
 
-/// Writes the lines of replies, each after two blanks.
-pub fn push_lines(out: &mut String, bytes: &[u8]) -> Result<(), AllocError> {
-    for line in std::str::from_utf8(bytes).unwrap_or("").lines() {
-        out.push_str("  ")?;
-        out.push_str(line)?;
-        out.push('\n')?;
-    }
-    Ok(())
-}
-
-/// Writes what a base answers to questions.
+/// Adds what a base answers to questions.
 fn push_answers(
     alloc: Global,
     policy: &Policy,
     schemes: &Schemes,
     base: ListBase,
     questions: &[Event],
-    out: &mut String,
-) -> Result<(), AllocError>
+    out: &mut Told,
+)
     requires under { AreUnder (length policy.now.labels) schemes.now }
     requires fits { AllByRecursion (EventFits policy.now schemes.now) questions.now }
     requires idle { (⟦<ListBase as Base>⟧.state base).begun ≡ false }
@@ -124,18 +117,18 @@ fn push_answers(
 {
     let mut answers = Narrow::new(alloc, u64::MAX);
     let _ = run_over(alloc, policy, schemes, base, questions, &mut answers);
-    push_lines(out, &answers.bytes)
+    out.push_indented(text_of(&answers.bytes));
 }
 
-/// Writes how the run of a script ends, the replies before its end, and what the base then holds.
+/// Adds how the run of a script ends, the replies before its end, and what the base then holds; and answers whether all was well.
 pub fn push_outcome(
     alloc: Global,
     policy: &Policy,
     schemes: &Schemes,
     scripts: Scripts<'_>,
     failure: Failure,
-    out: &mut String,
-) -> Result<bool, AllocError>
+    out: &mut Told,
+) -> bool
     requires under { AreUnder (length policy.now.labels) schemes.now }
     requires events { AllByRecursion (EventFits policy.now schemes.now) scripts.events.now }
     requires questions { AllByRecursion (EventFits policy.now schemes.now) scripts.questions.now }
@@ -143,9 +136,9 @@ pub fn push_outcome(
     let mut replies = failure.writer(alloc);
     let base = failure.base(alloc);
     let (end, base) = run_over(alloc, policy, schemes, base, scripts.events, &mut replies);
-    push_end(out, end)?;
-    push_lines(out, &replies.bytes)?;
-    out.push_str("  --\n")?;
+    push_end(end, out);
+    out.push_indented(text_of(&replies.bytes));
+    out.push("  --\n");
     push_answers(
         alloc,
         policy,
@@ -153,6 +146,6 @@ pub fn push_outcome(
         base.finish(),
         scripts.questions,
         out,
-    )?;
-    Ok(end.is_ok())
+    );
+    end.is_ok()
 }

@@ -9,13 +9,14 @@ ghost use Rattle.mls_sessions.specs.World.{IsSound};
 ghost use Rattle.mls_sessions.specs.Engine.{site, IsReady, IsKept};
 
 use crate::narrow::Narrow;
-use crate::runs::{Failure, Scripts, none_stored, push_lines};
+use crate::runs::{Failure, Scripts, none_stored};
+use case_tables::{Told, text_of};
 use mls_filterview::{Base, BaseFault};
 use mls_lattice::Policy;
 use mls_scheme::Schemes;
 use mls_script::Event;
 use mls_sessions::{Engine, run};
-use std::alloc::{AllocError, Global};
+use std::alloc::Global;
 
 /// Answers events in order, up to the first that fails: its number, from 1, and why.
 fn step_to_fault<B: Base>(engine: &mut Engine<B>, events: &[Event]) -> Option<(usize, BaseFault)>
@@ -66,15 +67,22 @@ fn fault_word(fault: BaseFault) -> &'static str {
     }
 }
 
-/// Writes which step of a script fails, and what the engine answers afterwards.
+fn push_stop(number: usize, fault: BaseFault, out: &mut Told) {
+    out.push(fault_word(fault));
+    out.push(" at step ");
+    out.push_count(number);
+    out.push("\n");
+}
+
+/// Adds which step of a script fails, and what the engine answers afterwards; and answers whether none failed.
 pub fn push_steps(
     alloc: Global,
     policy: &Policy,
     schemes: &Schemes,
     scripts: Scripts<'_>,
     failure: Failure,
-    out: &mut String,
-) -> Result<bool, AllocError>
+    out: &mut Told,
+) -> bool
     requires under { AreUnder (length policy.now.labels) schemes.now }
     requires events { AllByRecursion (EventFits policy.now schemes.now) scripts.events.now }
     requires questions { AllByRecursion (EventFits policy.now schemes.now) scripts.questions.now }
@@ -82,11 +90,10 @@ pub fn push_steps(
     let mut replies = Narrow::new(alloc, u64::MAX);
     let base = failure.base(alloc);
     let (stop, _base) = step_over(alloc, policy, schemes, base, scripts, &mut replies);
-    let Some((number, fault)) = stop else {
-        out.push_str("all steps well\n")?;
-        return Ok(true);
-    };
-    writeln!(out, "{} at step {number}", fault_word(fault))?;
-    push_lines(out, &replies.bytes)?;
-    Ok(false)
+    match stop {
+        Some((number, fault)) => push_stop(number, fault, out),
+        None => out.push("all steps well\n"),
+    }
+    out.push_indented(text_of(&replies.bytes));
+    stop.is_none()
 }

@@ -1,5 +1,5 @@
 //! Certificates that are checked for transactions.
-use case_tables::{case_at, inner, push_line, unfolded};
+use case_tables::{Told, case_at, inner, unfolded};
 use mls_certcheck::check;
 use mls_certificate::Cert;
 use mls_lattice::Policy;
@@ -8,76 +8,93 @@ use mls_scheme::Schemes;
 use mls_translang::Tx;
 use std::alloc::{AllocError, Global};
 
-/// Writes the lines of a body.
-fn push_body(text: &mut String, body: &[&str]) -> Result<(), AllocError> {
+/// Adds the lines of a body.
+fn push_body(body: &[&str], text: &mut Told) {
     for line in body {
-        push_line(text, inner(line))?;
+        text.push_line(inner(line));
     }
-    Ok(())
 }
 
 /// The transactions, each of which stands after `tx`, as one text.
 fn text_of(alloc: Global, lines: &[&str]) -> Result<String, AllocError> {
-    let mut text = String::new(alloc);
+    let mut text = Told::new(alloc);
     for at in 0..lines.len() {
         if let Some(case) = case_at(&lines[at..])
             && case.head == "tx"
         {
-            push_body(&mut text, case.body)?;
+            push_body(case.body, &mut text);
         }
     }
-    Ok(text)
+    text.finish()
 }
 
 fn named<'a>(txs: &'a [Tx], name: &str) -> Option<&'a Tx> {
-    txs.iter().find(|tx| tx.name() == name)
+    for tx in txs {
+        if tx.name() == name {
+            return Some(tx);
+        }
+    }
+    None
 }
 
 /// The certificate that a folded text is, if it is one.
-pub fn cert_of(alloc: Global, text: &str) -> Result<Option<Cert>, AllocError> {
-    let text = unfolded(alloc, text)?;
-    Ok(Cert::read(alloc, &text).ok())
+pub fn cert_of(alloc: Global, text: &str) -> Option<Cert> {
+    let text = unfolded(alloc, text).ok()?;
+    Cert::read(alloc, &text).ok()
 }
 
-/// Writes `yes`, or the number of a statement and the rule that is broken there.
-fn push_answer(policy: &Policy, tx: &Tx, cert: &Cert, out: &mut String) -> Result<(), AllocError> {
+/// Adds `yes`, or the number of a statement and the rule that is broken there.
+fn push_answer(policy: &Policy, tx: &Tx, cert: &Cert, out: &mut Told) {
     match check(policy, tx, cert) {
-        Ok(()) => out.push_str("yes"),
-        Err(refusal) => write!(out, "{} {}", refusal.stmt, refusal.rule.text()),
+        Ok(()) => out.push("yes"),
+        Err(refusal) => {
+            out.push_count(refusal.stmt);
+            out.push(" ");
+            out.push(refusal.rule.text());
+        }
     }
 }
 
-/// Writes the answer to a certificate for a transaction, by its name.
-fn push_checked(
-    alloc: Global,
-    policy: &Policy,
-    txs: &[Tx],
-    name: &str,
-    cert: &str,
-    out: &mut String,
-) -> Result<(), AllocError> {
-    let cert = cert_of(alloc, cert)?;
-    match (named(txs, name), &cert) {
-        (Some(tx), Some(cert)) => push_answer(policy, tx, cert, out),
-        _ => out.push_str("no transaction, or no certificate"),
+/// Adds the answer to a certificate for a transaction.
+fn push_checked(alloc: Global, policy: &Policy, tx: &Tx, cert: &str, out: &mut Told) {
+    match cert_of(alloc, cert) {
+        Some(cert) => push_answer(policy, tx, &cert, out),
+        None => out.push("no certificate"),
     }
 }
 
-/// Tells the answer to a certificate: a line is `check`, the name of a transaction and the certificate.
-fn tell_check(
+/// Tells the answer to a certificate: the name of a transaction and the certificate.
+fn tell_check(alloc: Global, policy: &Policy, txs: &[Tx], question: &str, out: &mut Told) {
+    let (name, cert) = question.split_once(' ').unwrap_or((question, ""));
+    match named(txs, name) {
+        Some(tx) => push_checked(alloc, policy, tx, cert, out),
+        None => out.push("no transaction"),
+    }
+    out.push(": ");
+    out.push_line(question);
+}
+
+/// Tells the answers to certificates, each in a line after `check`.
+fn tell_checks(alloc: Global, policy: &Policy, txs: &[Tx], lines: &[&str], out: &mut Told) {
+    for line in lines {
+        if let Some(question) = line.strip_prefix("check ") {
+            tell_check(alloc, policy, txs, question, out);
+        }
+    }
+}
+
+fn tell_parsed(
     alloc: Global,
     policy: &Policy,
-    txs: &[Tx],
-    line: &str,
-    out: &mut String,
-) -> Result<(), AllocError> {
-    if let Some(question) = line.strip_prefix("check ")
-        && let Some((name, cert)) = question.split_once(' ')
-    {
-        push_checked(alloc, policy, txs, name, cert, out)?;
-        writeln!(out, ": {question}")?;
+    schemes: &Schemes,
+    text: &str,
+    lines: &[&str],
+    out: &mut Told,
+) {
+    match parse(alloc, policy, schemes, text.as_bytes()) {
+        Ok(txs) => tell_checks(alloc, policy, &txs, lines, out),
+        Err(_) => out.push("no transactions\n"),
     }
-    Ok(())
 }
 
 /// Tells the answers to the certificates of a table.
@@ -86,16 +103,10 @@ pub fn tell_lines(
     policy: &Policy,
     schemes: &Schemes,
     lines: &[&str],
-    out: &mut String,
-) -> Result<(), AllocError> {
-    let text = text_of(alloc, lines)?;
-    match parse(alloc, policy, schemes, text.as_bytes()) {
-        Ok(txs) => {
-            for line in lines {
-                tell_check(alloc, policy, &txs, line, out)?;
-            }
-            Ok(())
-        }
-        Err(_) => out.push_str("no transactions\n"),
+    out: &mut Told,
+) {
+    match text_of(alloc, lines) {
+        Ok(text) => tell_parsed(alloc, policy, schemes, &text, lines, out),
+        Err(_) => out.fail(),
     }
 }

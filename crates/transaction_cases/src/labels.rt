@@ -1,60 +1,38 @@
 //! The least certificates of transactions.
-use crate::texts::push_fault;
-use case_tables::{Case, indent, joined, push_line};
+use case_tables::Told;
+use mls_certcheck::Rule;
+use mls_certificate::Cert;
 use mls_labeller::{LabelFault, label_tx};
 use mls_lattice::Policy;
-use mls_parser::parse;
-use mls_scheme::Schemes;
 use mls_translang::Tx;
-use std::alloc::{AllocError, Global};
+use std::alloc::Global;
 
-/// Writes a certificate, or the number of a statement and the rule that no labels keep there.
-fn push_labels(
-    alloc: Global,
-    policy: &Policy,
-    tx: &Tx,
-    out: &mut String,
-) -> Result<(), AllocError> {
+fn push_cert(alloc: Global, cert: &Cert, out: &mut Told) {
+    match cert.print(alloc) {
+        Ok(text) => out.push(&text),
+        Err(_) => out.fail(),
+    }
+}
+
+/// Adds the number of a statement and the rule that no labels keep there.
+fn push_rule(stmt: usize, rule: Rule, out: &mut Told) {
+    out.push("no labels: ");
+    out.push_count(stmt);
+    out.push(" ");
+    out.push_line(rule.text());
+}
+
+fn push_label(alloc: Global, policy: &Policy, tx: &Tx, out: &mut Told) {
     match label_tx(alloc, policy, tx) {
-        Ok(cert) => {
-            let text = cert.print(alloc)?;
-            indent(out, &text)
-        }
-        Err(LabelFault::NoLabels { stmt, rule }) => {
-            writeln!(out, "  no labels: {stmt} {}", rule.text())
-        }
-        Err(LabelFault::Memory) => out.push_str("  memory\n"),
+        Ok(cert) => push_cert(alloc, &cert, out),
+        Err(LabelFault::NoLabels { stmt, rule }) => push_rule(stmt, rule, out),
+        Err(LabelFault::Memory) => out.fail(),
     }
 }
 
-fn push_all(
-    alloc: Global,
-    policy: &Policy,
-    txs: &[Tx],
-    out: &mut String,
-) -> Result<(), AllocError> {
+/// Adds the least certificates of transactions.
+pub fn push_labels(alloc: Global, policy: &Policy, txs: &[Tx], out: &mut Told) {
     for tx in txs {
-        push_labels(alloc, policy, tx, out)?;
-    }
-    Ok(())
-}
-
-/// Tells the certificates of the transactions of a text, or its fault.
-pub fn tell(
-    alloc: Global,
-    policy: &Policy,
-    schemes: &Schemes,
-    case: &Case<'_>,
-    out: &mut String,
-) -> Result<(), AllocError> {
-    let text = joined(alloc, case.body)?;
-    push_line(out, case.head)?;
-    match parse(alloc, policy, schemes, text.as_bytes()) {
-        Ok(txs) => push_all(alloc, policy, &txs, out),
-        Err(fault) => {
-            out.push_str("  ")?;
-            push_fault(out, fault)?;
-            out.push('\n')
-        }
+        push_label(alloc, policy, tx, out);
     }
 }

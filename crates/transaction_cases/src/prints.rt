@@ -1,47 +1,27 @@
-//! Transactions of texts, and what they are printed as.
+//! What transactions are printed as.
 ghost use Rattle.std.specs.List.{AllByRecursion};
 ghost use Rattle.mls_translang.specs.Fits.{IsReadUnder};
 
-use crate::texts::push_fault;
-use case_tables::{Case, indent, joined, push_line, text_of};
+use case_tables::{Told, text_of};
 use mls_lattice::Policy;
-use mls_parser::parse;
 use mls_scheme::Schemes;
 use mls_translang::{Tx, print};
-use std::alloc::{AllocError, Global};
+use std::alloc::Global;
 
-fn push_prints(
-    alloc: Global,
-    policy: &Policy,
-    schemes: &Schemes,
-    txs: &[Tx],
-    out: &mut String,
-) -> Result<(), AllocError>
+fn push_print(alloc: Global, policy: &Policy, schemes: &Schemes, tx: &Tx, out: &mut Told)
+    requires { IsReadUnder policy.now schemes.now tx.now }
+{
+    match print(alloc, policy, schemes, tx) {
+        Ok(text) => out.push(text_of(&text)),
+        Err(_) => out.fail(),
+    }
+}
+
+/// Adds what transactions are printed as.
+pub fn push_prints(alloc: Global, policy: &Policy, schemes: &Schemes, txs: &[Tx], out: &mut Told)
     requires { AllByRecursion (IsReadUnder policy.now schemes.now) txs.now }
 {
     for tx in txs {
-        let text = print(alloc, policy, schemes, tx)?;
-        indent(out, text_of(&text))?;
-    }
-    Ok(())
-}
-
-/// Tells what the transactions of a text are printed as, or its fault.
-pub fn tell(
-    alloc: Global,
-    policy: &Policy,
-    schemes: &Schemes,
-    case: &Case<'_>,
-    out: &mut String,
-) -> Result<(), AllocError> {
-    let text = joined(alloc, case.body)?;
-    push_line(out, case.head)?;
-    match parse(alloc, policy, schemes, text.as_bytes()) {
-        Ok(txs) => push_prints(alloc, policy, schemes, &txs, out),
-        Err(fault) => {
-            out.push_str("  ")?;
-            push_fault(out, fault)?;
-            out.push('\n')
-        }
+        push_print(alloc, policy, schemes, tx, out);
     }
 }

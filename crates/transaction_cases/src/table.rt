@@ -2,13 +2,11 @@
 ghost use Rattle.std.specs.Prelude.{length};
 ghost use Rattle.mls_scheme.specs.Scheme.{AreUnder};
 
-use crate::{checks, evaluations, labels, limits, prints, texts};
-use case_tables::{Case, case_at};
+use crate::{checks, evaluations, limits, texts};
+use case_tables::{Case, Told, case_at};
 use mls_lattice::Policy;
 use mls_scheme::Schemes;
 use std::alloc::{AllocError, Global};
-use std::rt::Files;
-use std::{fs, io};
 
 /// What the cases of a file are about.
 #[derive(Clone, Copy)]
@@ -21,60 +19,32 @@ pub enum Table {
     Labels,
 }
 
-pub const TABLES: [Table; 6] = [
-    Table::Texts,
-    Table::Limits,
-    Table::Prints,
-    Table::Checks,
-    Table::Evaluations,
-    Table::Labels,
+pub const TABLES: [(&str, Table); 6] = [
+    ("texts.txt", Table::Texts),
+    ("limits.txt", Table::Limits),
+    ("prints.txt", Table::Prints),
+    ("checks.txt", Table::Checks),
+    ("evaluations.txt", Table::Evaluations),
+    ("labels.txt", Table::Labels),
 ];
 
-impl Table {
-    fn file(self) -> &'static str {
-        match self {
-            Table::Texts => "texts.txt",
-            Table::Limits => "limits.txt",
-            Table::Prints => "prints.txt",
-            Table::Checks => "checks.txt",
-            Table::Evaluations => "evaluations.txt",
-            Table::Labels => "labels.txt",
-        }
-    }
-}
-
 /// What is told of the cases of a table, under the sample policy and schemes.
-pub fn tell<R: Files + AllocGlobal>(
-    rt: &R,
-    policy: &Policy,
-    schemes: &Schemes,
-    table: Table,
-) -> io::Result<String>
-    requires { AreUnder (length policy.now.labels) schemes.now }
-{
-    let text = fs::read_to_string(rt, table.file())?;
-    let mut out = String::new(rt.alloc());
-    writeln!(out, "== {}", table.file())?;
-    tell_text(rt.alloc(), policy, schemes, table, &text, &mut out)?;
-    Ok(out)
-}
-
-fn tell_text(
+pub fn told(
     alloc: Global,
     policy: &Policy,
     schemes: &Schemes,
+    file: &str,
     table: Table,
     text: &str,
-    out: &mut String,
-) -> io::Result<()>
+) -> Result<String, AllocError>
     requires { AreUnder (length policy.now.labels) schemes.now }
 {
     let lines: Vec<&str> = text.lines().collect(alloc)?;
-    match table {
-        Table::Checks => Ok(checks::tell_lines(alloc, policy, schemes, &lines, out)?),
-        Table::Evaluations => evaluations::tell_lines(alloc, policy, schemes, &lines, out),
-        _ => Ok(tell_lines(alloc, policy, schemes, table, &lines, out)?),
-    }
+    let mut out = Told::new(alloc);
+    out.push("== ");
+    out.push_line(file);
+    tell_lines(alloc, policy, schemes, table, &lines, &mut out);
+    out.finish()
 }
 
 fn tell_lines(
@@ -83,14 +53,30 @@ fn tell_lines(
     schemes: &Schemes,
     table: Table,
     lines: &[&str],
-    out: &mut String,
-) -> Result<(), AllocError> {
+    out: &mut Told,
+)
+    requires { AreUnder (length policy.now.labels) schemes.now }
+{
+    match table {
+        Table::Checks => checks::tell_lines(alloc, policy, schemes, lines, out),
+        Table::Evaluations => evaluations::tell_lines(alloc, policy, schemes, lines, out),
+        _ => tell_cases(alloc, policy, schemes, table, lines, out),
+    }
+}
+
+fn tell_cases(
+    alloc: Global,
+    policy: &Policy,
+    schemes: &Schemes,
+    table: Table,
+    lines: &[&str],
+    out: &mut Told,
+) {
     for at in 0..lines.len() {
         if let Some(case) = case_at(&lines[at..]) {
-            tell_case(alloc, policy, schemes, table, &case, out)?;
+            tell_case(alloc, policy, schemes, table, &case, out);
         }
     }
-    Ok(())
 }
 
 fn tell_case(
@@ -99,13 +85,11 @@ fn tell_case(
     schemes: &Schemes,
     table: Table,
     case: &Case<'_>,
-    out: &mut String,
-) -> Result<(), AllocError> {
+    out: &mut Told,
+) {
     match table {
-        Table::Texts => texts::tell(alloc, policy, schemes, case.head, out),
+        Table::Texts => texts::tell_line(alloc, policy, schemes, case.head, out),
         Table::Limits => limits::tell(alloc, policy, schemes, case.head, out),
-        Table::Prints => prints::tell(alloc, policy, schemes, case, out),
-        Table::Labels => labels::tell(alloc, policy, schemes, case, out),
-        Table::Checks | Table::Evaluations => Ok(()),
+        _ => texts::tell_block(alloc, policy, schemes, table, case, out),
     }
 }

@@ -1,41 +1,107 @@
-//! Texts of transactions: whether they are read, or which fault stands where.
-use case_tables::unfolded;
+//! Texts of transactions: whether they are read, or what is told of their transactions, or which fault stands where.
+ghost use Rattle.std.specs.List.{AllByRecursion};
+ghost use Rattle.mls_translang.specs.Fits.{IsReadUnder};
+
+use crate::labels::push_labels;
+use crate::prints::push_prints;
+use crate::table::Table;
+use case_tables::{Case, Told, joined, unfolded};
 use mls_lattice::Policy;
 use mls_parser::{TextFault, parse};
 use mls_scheme::Schemes;
+use mls_translang::Tx;
 use std::alloc::{AllocError, Global};
 
-/// Writes the number and the name of a fault, and where it stands.
-pub fn push_fault(out: &mut String, fault: TextFault) -> Result<(), AllocError> {
-    let (code, word) = (fault.cause.code(), fault.cause.word());
-    let (line, column) = (fault.line, fault.column);
-    write!(out, "{code} {word} at {line}:{column}")
+/// Adds the number and the name of a fault, and where it stands.
+fn push_fault(fault: TextFault, out: &mut Told) {
+    out.push_count(fault.cause.code() as usize);
+    out.push(" ");
+    out.push(fault.cause.word());
+    out.push(" at ");
+    out.push_count(fault.line);
+    out.push(":");
+    out.push_count(fault.column);
 }
 
-/// Tells what a text is read as, and the line that it is made of.
+fn push_txs(
+    alloc: Global,
+    policy: &Policy,
+    schemes: &Schemes,
+    table: Table,
+    txs: &[Tx],
+    out: &mut Told,
+)
+    requires { AllByRecursion (IsReadUnder policy.now schemes.now) txs.now }
+{
+    match table {
+        Table::Prints => push_prints(alloc, policy, schemes, txs, out),
+        Table::Labels => push_labels(alloc, policy, txs, out),
+        _ => out.push("read"),
+    }
+}
+
+/// Adds what is told of a text.
+fn push_text(
+    alloc: Global,
+    policy: &Policy,
+    schemes: &Schemes,
+    table: Table,
+    text: &[u8],
+    out: &mut Told,
+) {
+    match parse(alloc, policy, schemes, text) {
+        Ok(txs) => push_txs(alloc, policy, schemes, table, &txs, out),
+        Err(fault) => push_fault(fault, out),
+    }
+}
+
+/// Tells whether a text is read, and the line that it is made of.
 pub fn tell_read(
     alloc: Global,
     policy: &Policy,
     schemes: &Schemes,
     text: &[u8],
     line: &str,
-    out: &mut String,
-) -> Result<(), AllocError> {
-    match parse(alloc, policy, schemes, text) {
-        Ok(_) => out.push_str("read")?,
-        Err(fault) => push_fault(out, fault)?,
-    }
-    writeln!(out, ": {line}")
+    out: &mut Told,
+) {
+    push_text(alloc, policy, schemes, Table::Texts, text, out);
+    out.push(": ");
+    out.push_line(line);
 }
 
-/// Tells what a text is read as that stands in one line.
-pub fn tell(
+/// Tells whether a text is read that stands in one line.
+pub fn tell_line(alloc: Global, policy: &Policy, schemes: &Schemes, line: &str, out: &mut Told) {
+    match unfolded(alloc, line) {
+        Ok(text) => tell_read(alloc, policy, schemes, &text, line, out),
+        Err(_) => out.fail(),
+    }
+}
+
+fn told(
     alloc: Global,
     policy: &Policy,
     schemes: &Schemes,
-    line: &str,
-    out: &mut String,
-) -> Result<(), AllocError> {
-    let text = unfolded(alloc, line)?;
-    tell_read(alloc, policy, schemes, &text, line, out)
+    table: Table,
+    body: &[&str],
+) -> Result<String, AllocError> {
+    let text = joined(alloc, body)?;
+    let mut out = Told::new(alloc);
+    push_text(alloc, policy, schemes, table, text.as_bytes(), &mut out);
+    out.finish()
+}
+
+/// Tells of the text that stands below a line.
+pub fn tell_block(
+    alloc: Global,
+    policy: &Policy,
+    schemes: &Schemes,
+    table: Table,
+    case: &Case<'_>,
+    out: &mut Told,
+) {
+    out.push_line(case.head);
+    match told(alloc, policy, schemes, table, case.body) {
+        Ok(told) => out.push_indented(&told),
+        Err(_) => out.fail(),
+    }
 }

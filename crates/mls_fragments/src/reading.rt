@@ -19,7 +19,7 @@ use sqlite::Alter;
 use std::alloc::{AllocError, AllocFailed, Global};
 
 /// Why a row can't be read, or made.
-#[derive(Clone, Copy, PartialEq, Eq, Debug)]
+#[derive(Clone, Copy)]
 pub(crate) enum RowFault {
     /// The row stands for nothing.
     BadRow,

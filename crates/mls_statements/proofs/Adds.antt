@@ -1,29 +1,30 @@
 -- What adding a row comes to, in each table.
-use Rattle.std.proofs.Common.{◌≡◌, ℕ, ℤ, pos, List, [], ◌∷◌, not, ◌&&◌, Bool, true, false, cond, Ok, Err, Result, OnOk, refl, sym, ◌∙◌}
-use Rattle.std.proofs.lemmas.Bool.{not-true}
-use Rattle.sqlite_value.specs.Order.{Row}
+use Rattle.std.proofs.Common.{◌≡◌, ℕ, ℤ, pos, List, [], ◌∷◌, Bool, true, false, cond, Ok, Err, Result, OnOk, refl}
 use Rattle.sqlite.specs.declared.types.Value.{Value}
 use Rattle.sqlite.specs.declared.types.Value.TheVariants.{Null, Int, Text, Blob}
 use Rattle.sqlite.specs.declared.error.Error.{Error}
-use Rattle.sqlite.specs.Tree.{put_row}
+use Rattle.sqlite.specs.Table.{Table}
 use Rattle.sqlite.specs.Ops.{unary}
 use Rattle.sqlite.specs.Cast.{cast}
 use Rattle.sqlite.specs.Kind.TheVariants.{Integer}
 use Rattle.sqlite.specs.Rowids.TheVariants.{Chosen}
-use Rattle.sqlite.specs.Edit.{next_rowid, edit_of, edited}
+use Rattle.sqlite.specs.Edit.{edit_of, Applies}
 use Rattle.sqlite.specs.State.{State, Executes}
-use Rattle.sqlite_rules.specs.Edit.{is_taken}
+use Rattle.sqlite_value.specs.Order.{Row}
+use Rattle.sqlite_schema.specs.declared.schema.Keys.TheVariants.{Enforced}
+use Rattle.sqlite_rules.specs.Cast.{cast_row}
 use Rattle.mls_statements.specs.declared.rows.NodeRow.{NodeRow}
 use Rattle.mls_statements.specs.declared.rows.CellRow.{CellRow}
 use Rattle.mls_statements.specs.declared.rows.AuditRow.{AuditRow}
 use Rattle.mls_statements.specs.Schema.{schema, node, cell, audit, meta}
 use Rattle.mls_statements.specs.Rows.{node_of, is_node_row, node_values, cell_of, is_cell_row, cell_values, audit_of, is_audit_row, audit_values, meta_of, is_meta_row, first_meta}
-use Rattle.mls_statements.specs.Statements.{IsReady, Changes, AddsNode, AddsCell, AddsEntry, AddsMeta}
+use Rattle.mls_statements.specs.Statements.{IsReady, IsNext, Changes, AddsNode, AddsCell, AddsEntry, AddsMeta}
 use Rattle.mls_statements.proofs.Texts.{add_node, add_node_is, node_terms, add_cell, add_cell_is, cell_terms, add_entry, add_entry_is, audit_terms, add_meta, add_meta_is, meta_terms}
 use Rattle.mls_statements.proofs.PlainWrites.{adds}
-use Rattle.mls_statements.proofs.TableRows.{puts}
-use Rattle.mls_statements.proofs.ValueTests.{and_true}
+use Rattle.mls_statements.proofs.TableEdits.{added}
 use Rattle.mls_statements.proofs.ReadyLemmas.{nodes_changed, cells_changed, audit_changed, meta_changed}
+
+-- ---- values of a column's kind are cast to themselves
 
 either : (b : Bool) (x : Value) → cond b x x ≡ x
 either true x = refl
@@ -37,62 +38,62 @@ pub cast_int : (n : ℤ) → cast Integer (Int n) ≡ Int n
 unfolding unary
 cast_int n = either _ (Int n)
 
-pub fresh_one : (rows : List Row) (row : Row) → (not (is_taken rows row) && true) ≡ true → is_taken rows row ≡ false
-fresh_one rows row h = not-true _ (sym (and_true _) ∙ h)
+cast_node : (n : NodeRow) → cast_row node (Null ∷ node_values n) ≡ Null ∷ node_values n
+cast_node n = rw (cast_null, cast_int (pos n.rel), cast_int (pos n.kclass), cast_int (pos n.label))
+
+pub cast_cell : (id : Value) (c : CellRow) → cast Integer id ≡ id → cast_row cell (id ∷ cell_values c) ≡ id ∷ cell_values c
+cast_cell id c same = rw (same, cast_int (pos c.rel), cast_int (pos c.kclass), cast_int (pos c.label), cast_int (pos c.attr))
+
+cast_entry : (number : ℤ) (bytes : List ℕ) → cast_row audit (Int number ∷ Null ∷ Blob bytes ∷ []) ≡ Int number ∷ Null ∷ Blob bytes ∷ []
+cast_entry number bytes = rw (cast_int number, cast_null)
+
+cast_meta : (lattice schemes : List ℕ) → cast_row meta (Int (pos 1) ∷ Null ∷ Int (pos 1) ∷ Text lattice ∷ Text schemes ∷ []) ≡ Int (pos 1) ∷ Null ∷ Int (pos 1) ∷ Text lattice ∷ Text schemes ∷ []
+cast_meta lattice schemes = rw (cast_int (pos 1), cast_null)
+
+-- ---- each table
 
 module _ (old new : State) (ready : IsReady old.now) where
+  -- the source of the one row that a statement adds to a table
+  abbrev Puts : Table → Row → Type 0
+  Puts table source = (new.now.schema ≡ schema) × Applies schema Enforced old.now.trees (edit_of old.now.trees table [] Chosen 0 (source ∷ [])) new.now.trees × IsNext old new
+
+  node_put : (n : NodeRow) → Puts node (Null ∷ node_values n) → Changes (AddsNode n) old new
+  node_put n did =
+      let put = added is_node_row node_of schema old.now.trees new.now.trees node ready.1.0 (Null ∷ node_values n) (cast_node n) refl did.1 in
+      let all = nodes_changed old.now new.now did.0 ready put.0 did.1.tables in
+      record { ready = all.0; rows = (all.1, put.1); next = did.2 }
+
   pub adds_node : (n : NodeRow) (r : Result ℕ Error) → Executes add_node (node_values n) old new r → OnOk r (Changes (AddsNode n) old new)
   adds_node n (Err e) h = tt
-  adds_node n (Ok count) h =
-      let params = node_values n in
-      let rows = old.now.trees 0 in
-      let row = Int (next_rowid rows) ∷ params in
-      let did = adds old new schema ready.0 add_node 0 node refl (λ olds news. refl) params count h node_terms 6 add_node_is in
-      let edit : edited old.now.trees (edit_of old.now.trees node [] Chosen 0 ((Null ∷ params) ∷ [])) ≡ put_row row rows = rw (cast_null, cast_int (pos n.rel), cast_int (pos n.kclass), cast_int (pos n.label)) in
-      let fresh : (not (is_taken rows row) && true) ≡ true = rw cast_null at did.1.fresh in
-      let put = puts is_node_row node_of rows row (fresh_one rows row fresh) refl ready.1.0 in
-      let is : new.now.trees 0 ≡ put_row row rows = did.1.rows ∙ edit in
-      let all = nodes_changed old.now new.now did.0 ready (rw is put.0) (did.1.tables.1.0 (λ e. cc)) (did.1.tables.1.1.0 (λ e. cc)) (did.1.tables.1.1.1.0 (λ e. cc)) in
-      record { ready = all.0; rows = (all.1, rw is put.1); next = did.2 }
+  adds_node n (Ok count) h = node_put n (adds old new schema ready.0 add_node 0 node refl (λ olds news. refl) (node_values n) count h node_terms 6 add_node_is)
 
-  pub adds_cell : (x : CellRow) (r : Result ℕ Error) → Executes add_cell (cell_values x) old new r → OnOk r (Changes (AddsCell x) old new)
-  adds_cell x (Err e) h = tt
-  adds_cell x (Ok count) h =
-      let params = cell_values x in
-      let rows = old.now.trees 2 in
-      let row = Int (next_rowid rows) ∷ params in
-      let did = adds old new schema ready.0 add_cell 1 cell refl (λ olds news. refl) params count h cell_terms 7 add_cell_is in
-      let edit : edited old.now.trees (edit_of old.now.trees cell [] Chosen 0 ((Null ∷ params) ∷ [])) ≡ put_row row rows = rw (cast_null, cast_int (pos x.rel), cast_int (pos x.kclass), cast_int (pos x.label), cast_int (pos x.attr)) in
-      let fresh : (not (is_taken rows row) && true) ≡ true = rw cast_null at did.1.fresh in
-      let put = puts is_cell_row cell_of rows row (fresh_one rows row fresh) refl ready.1.1.0 in
-      let is : new.now.trees 2 ≡ put_row row rows = did.1.rows ∙ edit in
-      let all = cells_changed old.now new.now did.0 ready (did.1.tables.0 (λ e. cc)) (rw is put.0) (did.1.tables.1.1.0 (λ e. cc)) (did.1.tables.1.1.1.0 (λ e. cc)) in
-      record { ready = all.0; rows = (all.1, rw is put.1); next = did.2 }
+  cell_put : (c : CellRow) → Puts cell (Null ∷ cell_values c) → Changes (AddsCell c) old new
+  cell_put c did =
+      let put = added is_cell_row cell_of schema old.now.trees new.now.trees cell ready.1.1.0 (Null ∷ cell_values c) (cast_cell Null c cast_null) refl did.1 in
+      let all = cells_changed old.now new.now did.0 ready put.0 did.1.tables in
+      record { ready = all.0; rows = (all.1, put.1); next = did.2 }
 
-  pub adds_entry : (x : AuditRow) (r : Result ℕ Error) → Executes add_entry (audit_values x) old new r → OnOk r (Changes (AddsEntry x) old new)
-  adds_entry x (Err e) h = tt
-  adds_entry x (Ok count) h =
-      let params = audit_values x in
-      let rows = old.now.trees 4 in
-      let row = Int x.number ∷ Null ∷ Blob x.bytes ∷ [] in
-      let did = adds old new schema ready.0 add_entry 2 audit refl (λ olds news. refl) params count h audit_terms 3 add_entry_is in
-      let edit : edited old.now.trees (edit_of old.now.trees audit [] Chosen 0 (row ∷ [])) ≡ put_row row rows = rw (cast_int x.number, cast_null) in
-      let fresh : (not (is_taken rows row) && true) ≡ true = rw (cast_int x.number) at did.1.fresh in
-      let put = puts is_audit_row audit_of rows row (fresh_one rows row fresh) refl ready.1.1.1.0 in
-      let is : new.now.trees 4 ≡ put_row row rows = did.1.rows ∙ edit in
-      let all = audit_changed old.now new.now did.0 ready (did.1.tables.0 (λ e. cc)) (did.1.tables.1.0 (λ e. cc)) (rw is put.0) (did.1.tables.1.1.1.0 (λ e. cc)) in
-      record { ready = all.0; rows = (all.1, rw is put.1); next = did.2 }
+  pub adds_cell : (c : CellRow) (r : Result ℕ Error) → Executes add_cell (cell_values c) old new r → OnOk r (Changes (AddsCell c) old new)
+  adds_cell c (Err e) h = tt
+  adds_cell c (Ok count) h = cell_put c (adds old new schema ready.0 add_cell 1 cell refl (λ olds news. refl) (cell_values c) count h cell_terms 7 add_cell_is)
+
+  entry_put : (a : AuditRow) → Puts audit (Int a.number ∷ Null ∷ Blob a.bytes ∷ []) → Changes (AddsEntry a) old new
+  entry_put a did =
+      let put = added is_audit_row audit_of schema old.now.trees new.now.trees audit ready.1.1.1.0 (Int a.number ∷ Null ∷ Blob a.bytes ∷ []) (cast_entry a.number a.bytes) refl did.1 in
+      let all = audit_changed old.now new.now did.0 ready put.0 did.1.tables in
+      record { ready = all.0; rows = (all.1, put.1); next = did.2 }
+
+  pub adds_entry : (a : AuditRow) (r : Result ℕ Error) → Executes add_entry (audit_values a) old new r → OnOk r (Changes (AddsEntry a) old new)
+  adds_entry a (Err e) h = tt
+  adds_entry a (Ok count) h = entry_put a (adds old new schema ready.0 add_entry 2 audit refl (λ olds news. refl) (audit_values a) count h audit_terms 3 add_entry_is)
+
+  meta_put : (lattice schemes : List ℕ) → Puts meta (Int (pos 1) ∷ Null ∷ Int (pos 1) ∷ Text lattice ∷ Text schemes ∷ []) → Changes (AddsMeta (first_meta lattice schemes)) old new
+  meta_put lattice schemes did =
+      let put = added is_meta_row meta_of schema old.now.trees new.now.trees meta ready.1.1.1.1 (Int (pos 1) ∷ Null ∷ Int (pos 1) ∷ Text lattice ∷ Text schemes ∷ []) (cast_meta lattice schemes) refl did.1 in
+      let all = meta_changed old.now new.now did.0 ready put.0 did.1.tables in
+      record { ready = all.0; rows = (all.1, put.1); next = did.2 }
 
   pub adds_meta : (lattice schemes : List ℕ) (r : Result ℕ Error) → Executes add_meta (Text lattice ∷ Text schemes ∷ []) old new r → OnOk r (Changes (AddsMeta (first_meta lattice schemes)) old new)
   adds_meta lattice schemes (Err e) h = tt
   adds_meta lattice schemes (Ok count) h =
-      let params = Text lattice ∷ Text schemes ∷ [] in
-      let rows = old.now.trees 5 in
-      let row = Int (pos 1) ∷ Null ∷ Int (pos 1) ∷ Text lattice ∷ Text schemes ∷ [] in
-      let did = adds old new schema ready.0 add_meta 3 meta refl (λ olds news. refl) params count h meta_terms 5 add_meta_is in
-      let edit : edited old.now.trees (edit_of old.now.trees meta [] Chosen 0 (row ∷ [])) ≡ put_row row rows = rw (cast_int (pos 1), cast_null) in
-      let fresh : (not (is_taken rows row) && true) ≡ true = rw (cast_int (pos 1)) at did.1.fresh in
-      let put = puts is_meta_row meta_of rows row (fresh_one rows row fresh) refl ready.1.1.1.1 in
-      let is : new.now.trees 5 ≡ put_row row rows = did.1.rows ∙ edit in
-      let all = meta_changed old.now new.now did.0 ready (did.1.tables.0 (λ e. cc)) (did.1.tables.1.0 (λ e. cc)) (did.1.tables.1.1.0 (λ e. cc)) (rw is put.0) in
-      record { ready = all.0; rows = (all.1, rw is put.1); next = did.2 }
+      meta_put lattice schemes (adds old new schema ready.0 add_meta 3 meta refl (λ olds news. refl) (Text lattice ∷ Text schemes ∷ []) count h meta_terms 5 add_meta_is)

@@ -1,5 +1,5 @@
 -- What the queries find.
-use Rattle.std.proofs.Common.{◌≡◌, ℕ, ℤ, pos, List, [], ◌∷◌, ◌++◌, map, filter, codes, Ok, Err, Result, IfOk, Vec, Bool, true, refl, ap, subst, IsPermutation}
+use Rattle.std.proofs.Common.{◌≡◌, ℕ, pos, List, [], ◌∷◌, ◌++◌, map, filter, codes, Ok, Err, Result, IfOk, Vec, Bool, true, refl, ap, subst, IsPermutation}
 use Rattle.std.specs.declared.alloc.Global.{Global}
 use Rattle.sqlite_value.specs.Order.{Row}
 use Rattle.sqlite.specs.declared.types.Value.TheVariants.{Null, Int, Blob}
@@ -13,13 +13,13 @@ use Rattle.sqlite_value.specs.Keys.{ascending}
 use Rattle.sqlite.specs.Collation.TheVariants.{Binary}
 use Rattle.sqlite.proofs.Callers.{reads_as}
 use Rattle.mls_statements.specs.Schema.{schema}
-use Rattle.mls_statements.specs.Rows.{tables_of, node_columns, cell_columns, audit_columns, meta_columns, is_node_at, is_node_of, node_values, node_of, is_node_row, is_cell_at, is_cell_of, cell_values, cell_of, is_cell_row, is_entry_at, audit_values, audit_of, is_audit_row}
+use Rattle.mls_statements.specs.Rows.{tables_of, node_columns, cell_columns, audit_columns, meta_columns, is_node_at, is_node_of, node_values, node_of, is_node_row, is_cell_at, is_cell_of, cell_values, cell_of, is_cell_row}
 use Rattle.mls_statements.specs.Statements.{IsReady}
 use Rattle.mls_statements.proofs.EditParts.{alone}
 use Rattle.mls_statements.proofs.QueryAnswers.{rows_sorted, passes, answered}
 use Rattle.mls_statements.proofs.TableRows.{answers}
-use Rattle.mls_statements.proofs.ValueTests.{node_at_label, node_of_entity, node_shows, cell_at_label, cell_of_entity, cell_shows, entry_at_number, entry_shows}
-use Rattle.mls_statements.proofs.Texts.{Asks, same, by_label, by_entity, node_names, node_shown, nodes_at, nodes_at_is, nodes_of, nodes_of_is, cell_names, cell_shown, cells_at, cells_at_is, cells_of, cells_of_is, audit_names, audit_shown, entry_at, entry_at_is, meta_names, all_nodes, all_nodes_is, all_cells, all_cells_is, all_entries, all_entries_is, all_meta, all_meta_is}
+use Rattle.mls_statements.proofs.ValueTests.{node_at_label, node_of_entity, node_shows, cell_at_label, cell_of_entity, cell_shows}
+use Rattle.mls_statements.proofs.Texts.{Asks, by_label, by_entity, node_names, node_shown, nodes_at, nodes_at_is, nodes_of, nodes_of_is, cell_names, cell_shown, cells_at, cells_at_is, cells_of, cells_of_is, audit_names, audit_shown, meta_names, all_nodes, all_nodes_is, all_cells, all_cells_is, all_entries, all_entries_is, all_meta, all_meta_is}
 
 abbrev Found : Type 0
 Found = Result (Vec Row Global) Error
@@ -62,14 +62,6 @@ module _ (old new : State) (ready : IsReady old.now) where
       let params = Int (pos rel) ∷ Blob ent ∷ Int (pos kclass) ∷ [] in
       answers is_cell_row cell_of (passes by_entity params) (is_cell_of rel ent kclass) _ cell_values (cell_of_entity rel ent kclass) (cell_shows params) (old.now.trees 2) rows.items ready.1.1.0.1
       (found old new cells_of params 2 by_entity cell_shown cell_names [] cells_of_is refl ready.0 rows.items h)
-
-  pub finds_entry_at : (number : ℤ) (r : Found) → IfOk r (λ rows. Shown entry_at (Int number ∷ []) old new rows.items)
-      → IfOk r (λ rows. IsPermutation (map audit_values (filter (is_entry_at number) (tables_of old.now.trees).audit)) rows.items)
-  finds_entry_at number (Err e) h = tt
-  finds_entry_at number (Ok rows) h =
-      let params = Int number ∷ [] in
-      answers is_audit_row audit_of (passes (same 0 0 ∷ []) params) (is_entry_at number) _ audit_values (entry_at_number number) (entry_shows params) (old.now.trees 4) rows.items ready.1.1.1.0.1
-      (found old new entry_at params 4 (same 0 0 ∷ []) audit_shown audit_names [] entry_at_is refl ready.0 rows.items h)
 
 -- ---- whole tables, where only the schema is known
 

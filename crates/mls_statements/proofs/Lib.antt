@@ -14,6 +14,7 @@ pub mod QueryAnswers
 pub mod ReadyLemmas
 pub mod RowLists
 pub mod SchemaLemmas
+pub mod TableEdits
 pub mod TableRows
 pub mod Texts
 pub mod ValueTests

@@ -196,13 +196,6 @@ audit_names = codes "number" ∷ codes "bytes" ∷ []
 abbrev pub audit_shown : List Term
 audit_shown = col 1 0 ∷ col 1 2 ∷ []
 
-abbrev pub entry_at : List ℕ
-entry_at = codes "SELECT number, bytes FROM audit WHERE number = ?1"
-
-pub entry_at_is : Asks schema entry_at (Select (alone (rows_by 4 (same 0 0 ∷ []) audit_shown)) audit_names)
-unfolding understood everything
-entry_at_is = (refl, (refl, refl), refl)
-
 abbrev pub meta_names : List (List ℕ)
 meta_names = codes "id" ∷ codes "version" ∷ codes "lattice" ∷ codes "schemes" ∷ []
 

@@ -1,7 +1,7 @@
 -- What SQL's tests on the columns of a row say of the row as plain data.
-use Rattle.std.proofs.Common.{◌≡◌, ℕ, ℤ, pos, negsuc, List, [], ◌∷◌, Bool, true, false, ◌&&◌, nat_eq, refl, sym, ap, ◌∙◌, true≢false, arith}
+use Rattle.std.proofs.Common.{◌≡◌, ℕ, pos, negsuc, List, [], ◌∷◌, Bool, true, false, ◌&&◌, nat_eq, refl, sym, ap, ◌∙◌, true≢false, arith}
 use Rattle.std.specs.Str.{bytes_eq}
-use Rattle.std.specs.Ordering.{is_eq, int_cmp, int_eq}
+use Rattle.std.specs.Ordering.{is_eq, int_cmp}
 use Rattle.std.proofs.lemmas.Bool.{and_parts}
 use Rattle.std.proofs.lemmas.Bool.Decides.{nat_tests}
 use Rattle.std.proofs.lemmas.Int.{ints}
@@ -12,17 +12,16 @@ use Rattle.sqlite_value.specs.Order.{Row, column, value_cmp}
 use Rattle.sqlite_value.proofs.OrderLemmas.{value_cmp-Int, value_cmp-Blob}
 use Rattle.sqlite_trees.specs.Tree.{rowid}
 use Rattle.sqlite_trees.specs.View.{is_int}
-use Rattle.sqlite_rules.specs.Edit.{id_in}
 use Rattle.sqlite_rules.proofs.TableLemmas.{int_is}
 use Rattle.sqlite.specs.Term.{eval_all}
 use Rattle.sqlite.specs.Ops.{binary, is_true}
 use Rattle.sqlite_sql.specs.declared.ops.BinaryOp.TheVariants.{Compare}
 use Rattle.sqlite_sql.specs.declared.ops.CompareOp.TheVariants.{Eq}
 use Rattle.sqlite.specs.Collation.TheVariants.{Binary}
-use Rattle.mls_statements.specs.Rows.{nat_in, blob_in, is_nat, is_blob, node_of, is_node_row, cell_of, is_cell_row, audit_of, is_audit_row, node_values, cell_values, audit_values, is_node_at, is_node_of, is_node, is_cell_at, is_cell_of, is_cell_in, is_cell, is_entry_at}
+use Rattle.mls_statements.specs.Rows.{nat_in, blob_in, is_nat, is_blob, node_of, is_node_row, cell_of, is_cell_row, audit_of, is_audit_row, node_values, cell_values, audit_values, is_node_at, is_node_of, is_node, is_cell_at, is_cell_of, is_cell_in, is_cell}
 use Rattle.mls_statements.specs.declared.rows.CellRow.{CellRow}
 use Rattle.mls_statements.proofs.QueryAnswers.{passes, equals_int, equals_blob}
-use Rattle.mls_statements.proofs.Texts.{same, by_class, by_cell, by_label, by_entity, node_shown, cell_shown, audit_shown}
+use Rattle.mls_statements.proofs.Texts.{by_class, by_cell, by_label, by_entity, node_shown, cell_shown, audit_shown}
 
 pub nat_is : (v : Value) → is_nat v ≡ true → v ≡ Int (pos (nat_in v))
 nat_is Null h = absurd (true≢false (sym h))
@@ -42,16 +41,9 @@ blob_is (Blob b) h = refl
 equal_numbers : (m n : ℕ) → is_eq (int_cmp (pos m) (pos n)) ≡ nat_eq m n
 equal_numbers m n = grind (arith, ints, nat_tests)
 
-equal_integers : (m n : ℤ) → is_eq (int_cmp m n) ≡ int_eq m n
-equal_integers m n = grind (arith, ints, nat_tests)
-
 same_nat : (v : Value) (n : ℕ) → is_nat v ≡ true → is_true (binary (Compare Eq Binary) v (Int (pos n))) ≡ nat_eq (nat_in v) n
 same_nat v n h =
     equals_int v (pos n) ∙ (ap (λ w. is_eq (value_cmp w (Int (pos n)))) (nat_is v h) ∙ (ap is_eq (value_cmp-Int (pos (nat_in v)) (pos n)) ∙ equal_numbers (nat_in v) n))
-
-same_int : (v : Value) (n : ℤ) → is_int v ≡ true → is_true (binary (Compare Eq Binary) v (Int n)) ≡ int_eq (id_in v) n
-same_int v n h =
-    equals_int v n ∙ (ap (λ w. is_eq (value_cmp w (Int n))) (int_is v h) ∙ (ap is_eq (value_cmp-Int (id_in v) n) ∙ equal_integers (id_in v) n))
 
 same_blob : (v : Value) (b : List ℕ) → is_blob v ≡ true → is_true (binary (Compare Eq Binary) v (Blob b)) ≡ bytes_eq (blob_in v) b
 same_blob v b h =
@@ -151,9 +143,6 @@ pub cell_shows : (params r : Row) → is_cell_row r ≡ true → eval_all cell_s
 cell_shows params r h =
     let c = cell_parts r h in
     rw (← nat_is (column r 1) c.rel, ← blob_is (column r 2) c.ent, ← nat_is (column r 3) c.kclass, ← nat_is (column r 4) c.label, ← nat_is (column r 5) c.attr, ← blob_is (column r 6) c.value)
-
-pub entry_at_number : (number : ℤ) (r : Row) → is_audit_row r ≡ true → passes (same 0 0 ∷ []) (Int number ∷ []) r ≡ is_entry_at number (audit_of r)
-entry_at_number number r h = let c = and_parts _ _ h in rw (same_int (rowid r) number c.0, and_true (int_eq (id_in (rowid r)) number))
 
 pub entry_shows : (params r : Row) → is_audit_row r ≡ true → eval_all audit_shown (params ∷ r ∷ []) ≡ audit_values (audit_of r)
 entry_shows params r h = let c = and_parts _ _ h in rw (← int_is (rowid r) c.0, ← blob_is (column r 2) c.1)

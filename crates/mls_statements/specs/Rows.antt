@@ -47,9 +47,6 @@ abbrev pub is_cell : ℕ → List ℕ → ℕ → ℕ → ℕ → CellRow → Bo
 is_cell rel ent kclass label attr c =
     nat_eq c.rel rel && (bytes_eq c.ent ent && (nat_eq c.kclass kclass && (nat_eq c.label label && nat_eq c.attr attr)))
 
-abbrev pub is_entry_at : ℤ → AuditRow → Bool
-is_entry_at number a = int_eq a.number number
-
 -- the entries of a list, numbered from k
 abbrev pub numbered : ℕ → List (List ℕ) → List AuditRow
 numbered k [] = []

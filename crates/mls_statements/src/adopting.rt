@@ -17,7 +17,7 @@ use sqlite::{Alter, Connection, Error, ErrorCode};
 use std::alloc::Global;
 
 /// Why tables that a store has are not adopted.
-#[derive(Clone, Copy, PartialEq, Eq, Debug)]
+#[derive(Clone, Copy)]
 pub enum AdoptFault {
     /// The store failed.
     Store,
@@ -53,7 +53,7 @@ impl AdoptFault {
 }
 
 /// Every row of the tables of nodes, cells and entries, each table's in any order.
-#[derive(Debug, Drop)]
+#[derive(Drop)]
 pub struct AllRows {
     pub nodes: Vec<NodeRow>,
     pub cells: Vec<CellRow>,

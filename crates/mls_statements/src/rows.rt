@@ -1,7 +1,7 @@
 use mls_lattice::{Items, Str};
 
 /// A row of the table of nodes: a tuple without its values.
-#[derive(PartialEq, Eq, PartialOrd, Ord, Debug, Drop)]
+#[derive(PartialEq, Eq, PartialOrd, Ord, Drop)]
 pub struct NodeRow {
     /// The relation's number.
     pub rel: u32,
@@ -16,7 +16,7 @@ pub struct NodeRow {
 }
 
 /// A row of the table of cells: one element, which the tuples of its entity share that have it.
-#[derive(PartialEq, Eq, PartialOrd, Ord, Debug, Drop)]
+#[derive(PartialEq, Eq, PartialOrd, Ord, Drop)]
 pub struct CellRow {
     /// The relation's number.
     pub rel: u32,
@@ -33,7 +33,7 @@ pub struct CellRow {
 }
 
 /// A row of the audit table.
-#[derive(PartialEq, Eq, PartialOrd, Ord, Debug, Drop)]
+#[derive(PartialEq, Eq, PartialOrd, Ord, Drop)]
 pub struct AuditRow {
     /// 1, 2, .. in the order of entries.
     pub number: i64,
@@ -42,7 +42,7 @@ pub struct AuditRow {
 }
 
 /// A row of the table that describes the store.
-#[derive(Debug, Drop)]
+#[derive(Drop)]
 pub struct MetaRow {
     pub id: i64,
     /// The version of this layout of tables.

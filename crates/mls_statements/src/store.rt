@@ -2,7 +2,7 @@ ghost use Rattle.std.specs.Prelude.{◌≡◌, ◌≢◌, ◌⊎◌, ◌+◌, �
 ghost use Rattle.sqlite.specs.State.{HasCleanDisk};
 ghost use Rattle.sqlite.specs.Held.{state};
 ghost use Rattle.mls_statements.specs.declared.rows.CellRow.{CellRow as SpecCell};
-ghost use Rattle.mls_statements.specs.Rows.{Tables, tables_of, described, is_node_at, is_node_of, is_cell_at, is_cell_of, is_entry_at, numbered};
+ghost use Rattle.mls_statements.specs.Rows.{Tables, tables_of, described, is_node_at, is_node_of, is_cell_at, is_cell_of, numbered};
 ghost use Rattle.mls_statements.specs.Schema.{no_schema};
 ghost use Rattle.mls_statements.specs.Statements.{IsReady, AddsNode, DropsNode, AddsCell, SetsCell, DropsCells, AddsEntry, IsOne, has_key_of, HasSettled};
 ghost use Rattle.mls_statements.specs.Store.{IsClean, IsFault, IsCall, Writes, IsSame, HasEnded};
@@ -17,7 +17,7 @@ use std::alloc::Global;
 use std::marker::Model;
 
 /// Why a call over the tables gives no answer.
-#[derive(Clone, Copy, PartialEq, Eq, Debug)]
+#[derive(Clone, Copy)]
 pub enum StoreFault {
     /// The store failed in this call.
     Store,
@@ -391,19 +391,6 @@ impl<S: Alter> TableStore<S> {
     {
         match audit::add_entry(&mut self.conn, entry) {
             Ok(_) => Ok(()),
-            Err(error) => Err(fail(&mut self.conn, &mut self.begun, &mut self.failures, error)),
-        }
-    }
-
-    /// The entries of one number.
-    pub fn entry_at(&mut self, number: i64) -> Result<Vec<AuditRow>, StoreFault>
-        ensures call { IsCall self.old self.new result }
-        ensures mode { OnOk result (self.new.begun ≡ self.old.begun) }
-        ensures found { IsClean self.new → IfOk result (λ rows. IsPermutation (filter (is_entry_at number) self.old.now.audit) rows.items) }
-        ensures same { IsClean self.new → OnOk result (IsSame self.old self.new) }
-    {
-        match audit::read_entry_at(&mut self.conn, self.alloc, number) {
-            Ok(rows) => Ok(rows),
             Err(error) => Err(fail(&mut self.conn, &mut self.begun, &mut self.failures, error)),
         }
     }

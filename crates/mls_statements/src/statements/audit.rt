@@ -1,7 +1,7 @@
-ghost use Rattle.std.specs.Prelude.{◌≡◌, map, filter, IsTrue, IfOk, OnOk, OnErr, IsPermutation};
+ghost use Rattle.std.specs.Prelude.{◌≡◌, map, IsTrue, IfOk, OnOk, OnErr, IsPermutation};
 ghost use Rattle.sqlite.specs.State.{HasCleanDisk, IsUnchanged};
 ghost use Rattle.sqlite.specs.Held.{state};
-ghost use Rattle.mls_statements.specs.Rows.{tables_of, is_entry_at, audit_values, audit_columns};
+ghost use Rattle.mls_statements.specs.Rows.{tables_of, audit_columns};
 ghost use Rattle.mls_statements.specs.Schema.{schema};
 ghost use Rattle.mls_statements.specs.Statements.{IsReady, Changes, AddsEntry, IsEnded};
 
@@ -22,20 +22,6 @@ pub fn add_entry<S: Alter>(conn: &mut Connection<S>, entry: &AuditRow) -> Result
     )
 }
 
-/// The entry of a number, as a row of its two columns.
-pub fn entry_at<S: Alter>(conn: &mut Connection<S>, number: i64) -> Result<Vec<Row>, Error>
-    ensures found { HasCleanDisk (state S.Store conn.new) → IsReady (state S.Store conn.old).now → IfOk result (λ rows. IsPermutation (map audit_values (filter (is_entry_at number) (tables_of (state S.Store conn.old).now.trees).audit)) rows.items) }
-    ensures open { HasCleanDisk (state S.Store conn.new) → OnOk result (IsTrue (state S.Store conn.old).is_open) }
-    ensures same { HasCleanDisk (state S.Store conn.new) → IsReady (state S.Store conn.old).now → OnOk result (IsUnchanged (state S.Store conn.old) (state S.Store conn.new)) }
-    ensures err { HasCleanDisk (state S.Store conn.new) → OnErr result (IsEnded (state S.Store conn.old) (state S.Store conn.new)) }
-    ensures clean { HasCleanDisk (state S.Store conn.new) → HasCleanDisk (state S.Store conn.old) }
-{
-    conn.query_all(
-        "SELECT number, bytes FROM audit WHERE number = ?1",
-        params![number],
-    )
-}
-
 /// Every entry, as a row of its two columns, in a database of the four tables.
 pub fn all_entries<S: Alter>(conn: &mut Connection<S>) -> Result<Vec<Row>, Error>
     ensures found { HasCleanDisk (state S.Store conn.new) → (state S.Store conn.old).now.schema ≡ schema → IfOk result (λ rows. IsPermutation (map audit_columns ((state S.Store conn.old).now.trees 4)) rows.items) }
@@ -45,21 +31,6 @@ pub fn all_entries<S: Alter>(conn: &mut Connection<S>) -> Result<Vec<Row>, Error
     ensures clean { HasCleanDisk (state S.Store conn.new) → HasCleanDisk (state S.Store conn.old) }
 {
     conn.query_all("SELECT number, bytes FROM audit ORDER BY number", &[])
-}
-
-/// The entries of one number.
-pub fn read_entry_at<S: Alter>(
-    conn: &mut Connection<S>,
-    alloc: Global,
-    number: i64,
-) -> Result<Vec<AuditRow>, Error>
-    ensures found { HasCleanDisk (state S.Store conn.new) → IsReady (state S.Store conn.old).now → IfOk result (λ found. IsPermutation (filter (is_entry_at number) (tables_of (state S.Store conn.old).now.trees).audit) found.items) }
-    ensures open { HasCleanDisk (state S.Store conn.new) → OnOk result (IsTrue (state S.Store conn.old).is_open) }
-    ensures same { HasCleanDisk (state S.Store conn.new) → IsReady (state S.Store conn.old).now → OnOk result (IsUnchanged (state S.Store conn.old) (state S.Store conn.new)) }
-    ensures err { HasCleanDisk (state S.Store conn.new) → (IsTrue (state S.Store conn.old).is_open → IsReady (state S.Store conn.old).now) → OnErr result (IsEnded (state S.Store conn.old) (state S.Store conn.new)) }
-    ensures clean { HasCleanDisk (state S.Store conn.new) → HasCleanDisk (state S.Store conn.old) }
-{
-    entries_from(alloc, &entry_at(conn, number)?)
 }
 
 /// Every entry.

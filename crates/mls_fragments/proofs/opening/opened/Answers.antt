@@ -1,4 +1,5 @@
-use Rattle.std.proofs.Common.{◌≡◌, inr, refl, sym, ap, subst₂, ◌∙◌}
+use Rattle.std.proofs.Common.{◌≡◌, inr, refl, sym, ap, subst₂, ◌∙◌, arith}
+use Rattle.std.proofs.lemmas.Grind.{common_steps}
 use Rattle.sqlite.specs.Held.{state}
 use Rattle.mls_statements.specs.declared.adopting.AdoptFault.{AdoptFault}
 use Rattle.mls_statements.specs.declared.adopting.AdoptFault.TheVariants as adopt
@@ -33,3 +34,12 @@ returns-in-Err-find-clause-bad g c clean bad openable =
     let adopted = c.in-Ok.ensures.adopted clean in
     let memory = c.in-Err-find.ensures.only _ adopted.all openable.content openable.holds openable.sound in
     absurd (let e = sym (ap finding_fault memory) ∙ (sym c.from-in-Err-find.ensures ∙ bad) in cc)
+
+pub returns-in-Err-clause-refused : goal.returns-in-Err-clause-refused
+returns-in-Err-clause-refused g c = grind (arith, common_steps)
+
+pub returns-in-Err-clause-bad : goal.returns-in-Err-clause-bad
+returns-in-Err-clause-bad g c = grind (arith, common_steps)
+
+pub returns-in-Err-find-clause-policy : goal.returns-in-Err-find-clause-policy
+returns-in-Err-find-clause-policy g c = grind (arith, common_steps)

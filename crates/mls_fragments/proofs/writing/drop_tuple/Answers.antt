@@ -1,4 +1,5 @@
-use Rattle.std.proofs.Common.{◌∙◌, rules}
+use Rattle.std.proofs.Common.{◌∙◌, rules, arith}
+use Rattle.std.proofs.lemmas.Grind.{common_steps}
 use Rattle.mls_fragments.proofs.CallLemmas.{drops_both}
 use Rattle.mls_fragments.proofs.writing.drop_tuple.Goals as goal
 
@@ -7,3 +8,12 @@ returns-clause-done g c clean =
     drops_both c.args.rel c.args.place.now c.from-rel.result c.from-kclass.result c.from-label.result c.deref-2.result.now c.deref-3.result.now c.args.store.now c.drop_node.new.self c.drop_cells.new.self c.drop_cells.result
     (c.from-rel.ensures ∙ c.byte.ensures) (c.from-kclass.ensures ∙ c.byte-2.ensures) (c.from-label.ensures ∙ c.byte-3.ensures)
     (search rules) (search rules) (c.in_ok-drop_node.ensures.done (c.drop_cells.ensures.call.clean clean)) (c.drop_cells.ensures.done clean)
+
+pub returns-in-Err-clause-call : goal.returns-in-Err-clause-call
+returns-in-Err-clause-call g c = grind (arith, common_steps)
+
+pub returns-in_err-drop_node-clause-call : goal.returns-in_err-drop_node-clause-call
+returns-in_err-drop_node-clause-call g c = grind (arith, common_steps)
+
+pub returns-clause-call : goal.returns-clause-call
+returns-clause-call g c = grind (arith, common_steps)

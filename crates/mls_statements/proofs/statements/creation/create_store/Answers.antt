@@ -1,4 +1,5 @@
-use Rattle.std.proofs.Common.{ap, ◌∙◌}
+use Rattle.std.proofs.Common.{ap, ◌∙◌, arith}
+use Rattle.std.proofs.lemmas.Grind.{common_steps}
 use Rattle.sqlite.specs.Effect.{Database}
 use Rattle.sqlite.specs.Held.{state}
 use Rattle.mls_statements.proofs.CreationLemmas.{made_ready, stored}
@@ -12,3 +13,15 @@ returns-clause-made g c clean none =
     let tables = c.in_ok-create_tables.ensures.made made (ap (λ (db : Database). db.schema) begun.now ∙ none, tt) in
     let adds = c.in_ok-add_meta.ensures.added added (made_ready (state g.S.Store c.create_tables.new.conn).now tables.0).0 in
     stored (state g.S.Store c.create_tables.new.conn) (state g.S.Store c.add_meta.new.conn) (state g.S.Store c.commit.new.conn) c.args.lattice.now c.args.schemes.now tables.0 adds c.commit.result (c.commit.ensures.committed clean)
+
+pub returns-in_err-begin-clause-err : goal.returns-in_err-begin-clause-err
+returns-in_err-begin-clause-err g c = grind (arith, common_steps)
+
+pub returns-in_err-create_tables-clause-err : goal.returns-in_err-create_tables-clause-err
+returns-in_err-create_tables-clause-err g c = grind (arith, common_steps)
+
+pub returns-in_err-add_meta-clause-err : goal.returns-in_err-add_meta-clause-err
+returns-in_err-add_meta-clause-err g c = grind (arith, common_steps)
+
+pub returns-clause-err : goal.returns-clause-err
+returns-clause-err g c = grind (arith, common_steps)

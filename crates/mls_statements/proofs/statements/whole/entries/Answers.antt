@@ -1,4 +1,5 @@
-use Rattle.std.proofs.Common.{refl}
+use Rattle.std.proofs.Common.{refl, arith}
+use Rattle.std.proofs.lemmas.Grind.{common_steps}
 use Rattle.sqlite.specs.Held.{state}
 use Rattle.mls_statements.specs.Rows.{audit_columns, shown_entry, shows_entry, is_audit_row}
 use Rattle.mls_statements.specs.Adopting.{ReadsEntry}
@@ -14,3 +15,15 @@ pub returns-in-Ok-clause-bad : goal.returns-in-Ok-clause-bad
 returns-in-Ok-clause-bad g c clean has =
     read_badly audit_columns 0 (λ r. refl) ((state g.S.Store c.args.conn.now).now.trees 4) c.in-Ok.rows.items (c.in-Ok.ensures.found clean has) c.entries_from.result ReadsEntry c.tested.result
     (rw c.deref-in-Ok.ensures.value at c.entries_from.ensures.refused) c.tested.ensures.texts (rw c.deref.ensures.value at c.tested.ensures.bad)
+
+pub returns-in-Ok-clause-same : goal.returns-in-Ok-clause-same
+returns-in-Ok-clause-same g c = grind (arith, common_steps)
+
+pub returns-in-Ok-clause-err : goal.returns-in-Ok-clause-err
+returns-in-Ok-clause-err g c = grind (arith, common_steps)
+
+pub returns-in-Err-clause-err : goal.returns-in-Err-clause-err
+returns-in-Err-clause-err g c = grind (arith, common_steps)
+
+pub returns-in-Err-clause-bad : goal.returns-in-Err-clause-bad
+returns-in-Err-clause-bad g c = grind (arith, common_steps)

@@ -1,6 +1,7 @@
 pub mod FaultLemmas
 pub mod NameLemmas
 pub mod ListLemmas
+pub mod LoopLemmas
 pub mod SetLemmas
 pub mod HeaderLemmas
 pub mod SortLemmas

@@ -2,12 +2,11 @@
 ghost use Rattle.std.specs.Prelude.{◌≡◌, ◌+◌, ◌≤◌, ◌∷◌, [], length, IfOk};
 ghost use Rattle.mls_syntax.specs.Blocks.{block_of as syntax_of};
 ghost use Rattle.mls_syntax.specs.Limits.{depth};
-ghost use Rattle.mls_syntax.specs.Tree.{For, End as Finish};
 ghost use Rattle.mls_translang.specs.Blocks.{block_of};
-ghost use Rattle.mls_translang.specs.Tree.{If, End};
+ghost use Rattle.mls_translang.specs.Tree.{If, For, End};
 ghost use Rattle.mls_translang.specs.Tokens.{with_rows};
 ghost use Rattle.mls_parser.specs.Names.{IsPlace, relation_named, numbered};
-ghost use Rattle.mls_parser.specs.Elaboration.{block, expr};
+ghost use Rattle.mls_parser.specs.Elaboration.{block, expr, label};
 ghost use Rattle.mls_parser.specs.Faults.{inside};
 
 use crate::context::Context;
@@ -71,6 +70,26 @@ impl Context<'_> {
         Ok(Stmt::If { guard, one, other })
     }
 
+    /// A loop over the rows of a relation at a label. The names in its body are resolved.
+    fn repeated(
+        &self,
+        alloc: Global,
+        row: &Name,
+        relation: &Name,
+        at: &Name,
+        body: Block,
+    ) -> Result<Stmt, AllocError>
+        ensures { IfOk result (λ s. block_of (s ∷ [])
+            ≡ For row.now.0 (numbered (relation_named self.now.schemes relation.now.0)) (label self.now at.now) body End) }
+    {
+        Ok(Stmt::For {
+            row: Str::copy_of(alloc, row.text())?,
+            relation: self.relation(relation),
+            label: self.label(at),
+            body,
+        })
+    }
+
     /// The statements of a block.
     #[cycle(resolve)]
     #[tactic(auto, using(crate::proofs::BlockLemmas::resolve_steps))]
@@ -105,28 +124,6 @@ impl Context<'_> {
         inside.block(alloc, body)
     }
 
-    /// A loop.
-    #[cycle(resolve)]
-    fn repeated(
-        &self,
-        alloc: Global,
-        row: &Name,
-        relation: &Name,
-        label: &Name,
-        body: &Syntax,
-    ) -> Result<Stmt, AllocError>
-        requires place { IsPlace self.now }
-        requires shallow { length self.now.scope.rows + depth body.now + 1 ≤ 16 }
-        ensures { IfOk result (λ s. block_of (s ∷ []) ≡ block self.now (For row.now relation.now label.now body.now Finish)) }
-    {
-        Ok(Stmt::For {
-            row: Str::copy_of(alloc, row.text())?,
-            relation: self.relation(relation),
-            label: self.label(label),
-            body: self.body(alloc, row, relation, body)?,
-        })
-    }
-
     #[cycle(resolve)]
     #[tactic(auto, using(crate::proofs::BlockLemmas::resolve_steps))]
     fn stmt(&self, alloc: Global, form: &Form) -> Result<Stmt, AllocError>
@@ -146,7 +143,10 @@ impl Context<'_> {
                 relation,
                 label,
                 body,
-            } => self.repeated(alloc, row, relation, label, body),
+            } => {
+                let body = self.body(alloc, row, relation, body)?;
+                self.repeated(alloc, row, relation, label, body)
+            }
             Form::Insert {
                 relation,
                 key,

@@ -1,6 +1,7 @@
 //! Expressions with their names resolved.
 ghost use Rattle.std.specs.Prelude.{◌≡◌, map, IfOk};
 ghost use Rattle.mls_parser.specs.Names.{row_named, referent, IsPlace};
+ghost use Rattle.mls_translang.specs.Tree.{No, Op};
 ghost use Rattle.mls_translang.specs.Exprs.{expr_of};
 ghost use Rattle.mls_parser.specs.Elaboration.{refer, field, expr};
 
@@ -9,13 +10,27 @@ use crate::names::{Referent, attribute};
 use mls_lattice::Items;
 use mls_scheme::Value;
 use mls_syntax::{Expr as Syntax, ExprList, Name, Term as Part};
-use mls_translang::{Expr, Term};
+use mls_translang::{Expr, Operator, Term};
 use std::alloc::{AllocError, Global};
 
 fn copy(value: &Value) -> Result<Value, AllocError>
     ensures { IfOk result (λ v. v ≡ value.now) }
 {
     value.clone()
+}
+
+fn negated(alloc: Global, operand: Expr) -> Result<Expr, AllocError>
+    ensures { IfOk result (λ e. e ≡ No operand) }
+{
+    Ok(Expr::from(Term::Not(Box::new(alloc, operand)?)))
+}
+
+fn combined(alloc: Global, operator: Operator, left: Expr, right: Expr) -> Result<Expr, AllocError>
+    ensures { IfOk result (λ e. e ≡ Op operator left right) }
+{
+    let left = Box::new(alloc, left)?;
+    let right = Box::new(alloc, right)?;
+    Ok(Expr::from(Term::Op(operator, left, right)))
 }
 
 impl Context<'_> {
@@ -52,14 +67,14 @@ impl Context<'_> {
         requires { IsPlace self.now }
         ensures { IfOk result (λ e. e ≡ expr self.now syntax.now) }
     {
-        let term = match &syntax.term {
-            Part::Literal { value, .. } => Term::Known(copy(value)?),
-            Part::Null { .. } => Term::Null,
-            Part::Name(name) => self.refer(name),
-            Part::Field { row, attribute } => self.field(row, attribute),
+        match &syntax.term {
+            Part::Literal { value, .. } => Ok(Expr::from(Term::Known(copy(value)?))),
+            Part::Null { .. } => Ok(Expr::from(Term::Null)),
+            Part::Name(name) => Ok(Expr::from(self.refer(name))),
+            Part::Field { row, attribute } => Ok(Expr::from(self.field(row, attribute))),
             Part::Not { operand, .. } => {
                 let operand = self.expr(alloc, operand)?;
-                Term::Not(Box::new(alloc, operand)?)
+                negated(alloc, operand)
             }
             Part::Op {
                 left,
@@ -69,10 +84,9 @@ impl Context<'_> {
             } => {
                 let left = self.expr(alloc, left)?;
                 let right = self.expr(alloc, right)?;
-                Term::Op(*operator, Box::new(alloc, left)?, Box::new(alloc, right)?)
+                combined(alloc, *operator, left, right)
             }
-        };
-        Ok(Expr::from(term))
+        }
     }
 
     /// Expressions in order.

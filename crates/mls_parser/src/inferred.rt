@@ -6,7 +6,7 @@ use mls_scheme::Kind;
 use mls_translang::Operator;
 
 /// What an expression gives, as far as its names are known.
-#[derive(Clone, Copy, PartialEq, Eq, Debug)]
+#[derive(Clone, Copy)]
 pub(crate) enum Inferred {
     /// A truth value.
     Truth,

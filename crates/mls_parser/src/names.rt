@@ -11,7 +11,7 @@ use mls_syntax::Name;
 use mls_translang::Row;
 
 /// A variable or a parameter, by its place.
-#[derive(Clone, Copy, PartialEq, Eq, Debug)]
+#[derive(Clone, Copy)]
 pub(crate) enum Referent {
     Variable(usize),
     Parameter(usize),

@@ -33,7 +33,7 @@ use Rattle.mls_syntax.specs.Places.{bare_name, bare, bare_set, bare_stmt, bare_b
 use Rattle.mls_syntax.specs.Fault.{fault_at}
 use Rattle.mls_syntax.specs.Words.{opening_of}
 use Rattle.mls_syntax.specs.ReadExpr.{sign_at, whole_at, list_at, sets_at}
-use Rattle.mls_syntax.specs.ReadBlock.{name_behind, list_behind, outcome_of, outcome_at, written_at, keyed_at, assign_at, insert_at, classes_at, changes_at, renewal_at, update_at, delete_at, last_name_at, release_at, emit_at, plain_at, Counted, loop_head_at, with_count, braced, other_of, other_at, blocks_at, content_at, opened, stmt_with, deep_stmt, end_or, stmts_from, stmts_with, stmts_at, body_at}
+use Rattle.mls_syntax.specs.ReadBlock.{name_behind, names_behind, list_behind, outcome_of, outcome_at, written_at, keyed_at, assign_at, insert_at, classes_at, changes_at, renewal_at, update_at, delete_at, last_name_at, release_at, emit_at, plain_at, Counted, loop_head_at, with_count, braced, other_of, other_at, blocks_at, content_at, opened, stmt_with, deep_stmt, end_or, stmts_from, stmts_with, stmts_at, body_at}
 use Rattle.mls_syntax.specs.Spelling.{name_token, behind_tokens, expr_tokens, list_tokens, set_tokens, outcome_tokens, keyed_tokens, write_tokens, stmt_tokens, for_tokens, SpellsOther, SpellsBlock}
 use Rattle.mls_syntax.proofs.AgainLemmas.{sign_gets, word_gets, Called, name_gets, behind_gets, known_gets, differs, IsWhole, whole_again, SameList, list_again, NoDot, IsSet, sets_again}
 
@@ -87,6 +87,16 @@ keyed_again rel key us l named h k =
     gets_more (λ r. list_behind (codes "key") r.1 >>= λ x. done (r.0, x.0) x.1) (name_gets rel (Word (codes "key") ∷ (list_tokens key ++ us)) l named k)
     (λ r m s t. gets_more (λ x. done (r, x.0) x.1) (behind_list (codes "key") key us m h t) (λ x q s2 t2. gets_done (r, x) q (SameKeyed rel key) us (s, s2) t2))
 
+abbrev pub SamePair : PlacedName → PlacedName → PlacedName × PlacedName → Type 0
+SamePair a b y = Called a y.0 × Called b y.1
+
+pub names_again : (v w : Bytes) (a b : PlacedName) (us : List Token) (l : Left) → IsNamed a → IsNamed b → tokens_in l.placed ≡ Word v ∷ name_token a ∷ Word w ∷ name_token b ∷ us
+    → Gets (names_behind v w l) l (SamePair a b) us
+unfolding names_behind
+names_again v w a b us l ha hb k =
+    gets_more (λ x. name_behind w x.1 >>= λ y. done (x.0, y.0) y.1) (behind_gets v a (Word w ∷ name_token b ∷ us) l ha k)
+    (λ x m s t. gets_more (λ y. done (x, y.0) y.1) (behind_gets w b us m hb t) (λ y m2 s2 t2. gets_done (x, y) m2 (SamePair a b) us (s, s2) t2))
+
 abbrev SameClasses : PlacedName → PlacedName → PlacedName → PlacedName × PlacedName × PlacedName → Type 0
 SameClasses c f w y = Called c y.0 × Called f y.1 × Called w y.2
 
@@ -95,11 +105,10 @@ classes_again : (c f w : PlacedName) (us : List Token) (l : Left) → IsNamed c 
     → Gets (classes_at l) l (SameClasses c f w) us
 unfolding classes_at
 classes_again c f w us l hc hf hw k =
-    gets_more (λ x. name_behind (codes "from") x.1 >>= λ y. name_behind (codes "at") y.1 >>= λ z. done (x.0, y.0, z.0) z.1)
+    gets_more (λ x. names_behind (codes "from") (codes "at") x.1 >>= λ y. done (x.0, y.0.0, y.0.1) y.1)
     (behind_gets (codes "class") c (Word (codes "from") ∷ name_token f ∷ Word (codes "at") ∷ name_token w ∷ us) l hc k)
-    (λ x m s t. gets_more (λ y. name_behind (codes "at") y.1 >>= λ z. done (x, y.0, z.0) z.1) (behind_gets (codes "from") f (Word (codes "at") ∷ name_token w ∷ us) m hf t)
-    (λ y m2 s2 t2. gets_more (λ z. done (x, y, z.0) z.1) (behind_gets (codes "at") w us m2 hw t2)
-    (λ z m3 s3 t3. gets_done (x, y, z) m3 (SameClasses c f w) us (s, s2, s3) t3)))
+    (λ x m s t. gets_more (λ y. done (x, y.0.0, y.0.1) y.1) (names_again (codes "from") (codes "at") f w us m hf hw t)
+    (λ y m2 s2 t2. gets_done (x, y.0, y.1) m2 (SameClasses c f w) us (s, s2.0, s2.1) t2))
 
 last_name_again : (w : Bytes) (n : PlacedName) (us : List Token) (l : Left) → IsNamed n → tokens_in l.placed ≡ Word w ∷ name_token n ∷ Sign sign.Semicolon ∷ us → Gets (last_name_at w l) l (Called n) us
 unfolding last_name_at
@@ -112,11 +121,10 @@ loop_head_again : (row rel label : PlacedName) (us : List Token) (l : Left) → 
     → Gets (loop_head_at l) l (SameClasses row rel label) us
 unfolding loop_head_at
 loop_head_again row rel label us l hr hn hl k =
-    gets_more (λ x. name_behind (codes "in") x.1 >>= λ y. name_behind (codes "at") y.1 >>= λ z. done (x.0, y.0, z.0) z.1)
+    gets_more (λ x. names_behind (codes "in") (codes "at") x.1 >>= λ y. done (x.0, y.0.0, y.0.1) y.1)
     (name_gets row (Word (codes "in") ∷ name_token rel ∷ Word (codes "at") ∷ name_token label ∷ us) l hr k)
-    (λ x m s t. gets_more (λ y. name_behind (codes "at") y.1 >>= λ z. done (x, y.0, z.0) z.1) (behind_gets (codes "in") rel (Word (codes "at") ∷ name_token label ∷ us) m hn t)
-    (λ y m2 s2 t2. gets_more (λ z. done (x, y, z.0) z.1) (behind_gets (codes "at") label us m2 hl t2)
-    (λ z m3 s3 t3. gets_done (x, y, z) m3 (SameClasses row rel label) us (s, s2, s3) t3)))
+    (λ x m s t. gets_more (λ y. done (x, y.0.0, y.0.1) y.1) (names_again (codes "in") (codes "at") rel label us m hn hl t)
+    (λ y m2 s2 t2. gets_done (x, y.0, y.1) m2 (SameClasses row rel label) us (s, s2.0, s2.1) t2))
 
 -- ---- statements with no statement inside
 

@@ -1,5 +1,5 @@
 -- Statements and blocks are read as what stands there.
-use Rattle.std.proofs.Common.{◌≡◌, ℕ, zero, suc, ◌+◌, ◌-◌, ◌≤◌, true, false, List, [], ◌∷◌, ◌++◌, Option, Some, None, Result, Ok, Err, inl, inr, refl, sym, ap, ◌∙◌, subst, arith, append_assoc, nat_lt}
+use Rattle.std.proofs.Common.{◌≡◌, ℕ, zero, suc, ◌+◌, ◌-◌, ◌≤◌, max, true, false, List, [], ◌∷◌, ◌++◌, Option, Some, None, Result, Ok, Err, inl, inr, refl, sym, ap, ◌∙◌, subst, arith, append_assoc, nat_lt}
 use Rattle.std.specs.Prelude.{codes, ◌⊎◌, option_map, if◌then◌else◌}
 use Rattle.std.specs.Str.{bytes_eq}
 use Rattle.std.proofs.lemmas.Bool.{ltb-true}
@@ -32,12 +32,12 @@ use Rattle.mls_syntax.specs.Limits.{depth, BlockAll}
 use Rattle.mls_syntax.specs.Fault.{fault_at, in_syntax}
 use Rattle.mls_syntax.specs.Words.{plain_of_word, opening_of_word, opening_of, pass_known}
 use Rattle.mls_syntax.specs.ReadExpr.{sign_at, whole_at}
-use Rattle.mls_syntax.specs.ReadBlock.{name_at, name_behind, plain_at, Counted, with_count, braced, other_of, other_at, loop_head_at, blocks_at, if_at, for_at, content_at, opened, stmt_with, deep_stmt, end_or, stmts_from, stmts_with, stmts_at, body_at}
+use Rattle.mls_syntax.specs.ReadBlock.{name_at, names_behind, plain_at, Counted, with_count, braced, other_of, other_at, loop_head_at, blocks_at, if_at, for_at, content_at, opened, stmt_with, deep_stmt, end_or, stmts_from, stmts_with, stmts_at, body_at}
 use Rattle.mls_syntax.specs.Spelling.{name_token, behind_tokens, expr_tokens, stmt_tokens, for_tokens, SpellsOther, SpellsBlock}
-use Rattle.mls_syntax.proofs.PassedLemmas.{syntax_ok, sign_found, known_found}
+use Rattle.mls_syntax.proofs.PassedLemmas.{each_step, each_done, syntax_ok, sign_found, known_found}
 use Rattle.mls_tokens.proofs.TokenLemmas.{chosen}
-use Rattle.mls_syntax.proofs.ExprLemmas.{IsNested, whole_found}
-use Rattle.mls_syntax.proofs.StmtLemmas.{named, behind, PlainFound, PlainIs, plain_found}
+use Rattle.mls_syntax.proofs.ExprLemmas.{IsNested, ExprFound, whole_found}
+use Rattle.mls_syntax.proofs.StmtLemmas.{named, pair_tokens, names_found, PlainFound, PlainIs, plain_found}
 
 -- ---- blocks put together
 
@@ -244,17 +244,36 @@ head_tokens h = name_token h.0 ∷ (behind_tokens (codes "in") h.1 ++ behind_tok
 
 loop_head_found : (l : Left) (x : (PlacedName × PlacedName × PlacedName) × Left) → loop_head_at l ≡ Ok x → Passed (head_tokens x.0) l x.1 × (is_name x.0.0.0 ≡ true)
 unfolding loop_head_at
-loop_head_found l x e =
-    let r = bind_ok (name_at l) (λ r. name_behind (codes "in") r.1 >>= λ n. name_behind (codes "at") n.1 >>= λ w. Ok ((r.0, n.0, w.0), w.1)) x e in
-    let n = bind_ok (name_behind (codes "in") r.0.1) (λ n. name_behind (codes "at") n.1 >>= λ w. Ok ((r.0.0, n.0, w.0), w.1)) x r.2 in
-    let w = bind_ok (name_behind (codes "at") n.0.1) (λ w. Ok ((r.0.0, n.0.0, w.0), w.1)) x n.2 in
-    let row = named l r.0 r.1 in
-    let done : Result ((PlacedName × PlacedName × PlacedName) × Left) SyntaxFault = Ok ((r.0.0, n.0.0, w.0.0), w.0.1) in
-    subst (λ (y : (PlacedName × PlacedName × PlacedName) × Left). Passed (head_tokens y.0) l y.1 × (is_name y.0.0.0 ≡ true)) (same_ok done ((r.0.0, n.0.0, w.0.0), w.0.1) x refl w.2) (
-      passed_more (name_token r.0.0 ∷ []) (behind_tokens (codes "in") n.0.0 ++ behind_tokens (codes "at") w.0.0) l r.0.1 w.0.1 row.0
-          (passed_more (behind_tokens (codes "in") n.0.0) (behind_tokens (codes "at") w.0.0) r.0.1 n.0.1 w.0.1 (behind (codes "in") r.0.1 n.0 n.1) (behind (codes "at") n.0.1 w.0 w.1)),
+loop_head_found l =
+    each_step (name_at l) _ (λ x. Passed (head_tokens x.0) l x.1 × (is_name x.0.0.0 ≡ true)) (λ r is_row.
+    each_step (names_behind (codes "in") (codes "at") r.1) _ _ (λ n is_names.
+    let row = named l r is_row in
+    each_done ((r.0, n.0.0, n.0.1), n.1) _ (
+      passed_more (name_token r.0 ∷ []) (pair_tokens (codes "in") (codes "at") n.0) l r.1 n.1 row.0 (names_found (codes "in") (codes "at") r.1 n is_names),
       row.1,
-    )
+    )))
+
+-- ---- how many statements there are, and how deep
+
+if_counted : (count m n a b : ℕ) → m ≡ count + a → n ≡ m + b → n + 1 ≡ count + (1 + a + b + 0)
+if_counted count m n a b h k = omega arith
+
+if_deep : (d a b : ℕ) → a ≤ d → b ≤ d → max (1 + max a b) 0 ≤ suc d
+if_deep d a b h k = omega arith
+
+for_counted : (count m a : ℕ) → m ≡ count + a → m + 1 ≡ count + (1 + a + 0)
+for_counted count m a h = omega arith
+
+for_deep : (d a : ℕ) → a ≤ d → max (1 + a) 0 ≤ suc d
+for_deep d a h = omega arith
+
+more_counted : (count m n a b c : ℕ) → m ≡ count + a → n ≡ m + b → c ≡ a + b → n ≡ count + c
+more_counted count m n a b c h k e = omega arith
+
+-- ---- statements with blocks inside
+
+abbrev if_tokens : Expr → List Token → List Token → List Token
+if_tokens guard a b = expr_tokens guard ++ (braced_tokens a ++ (b ++ []))
 
 module _ (d : ℕ) (inner : ℕ → Left → Counted Block) (sound : (count : ℕ) (l : Left) (y : Ended Block) → count ≤ 1000 → inner count l ≡ Ok y → BlockFound closed d count l y) where
   braced_found : (count : ℕ) (l : Left) (y : Ended Block) → count ≤ 1000 → braced inner count l ≡ Ok y → BlockFound braced_tokens d count l y
@@ -286,55 +305,53 @@ module _ (d : ℕ) (inner : ℕ → Left → Counted Block) (sound : (count : �
         parts = b.kept.parts;
       }
 
+  if_kept : (count : ℕ) (guard : Expr) (m : Left) (one other : Ended Block) (l : Left) → ExprFound 16 l (guard, m) → BlockFound braced_tokens d count m one → OtherFound d one.1 one.2 other
+      → ContentFound d (Word (codes "if")) count l (stmts.If guard one.0 other.0, other.1, other.2)
+  if_kept count guard m one other l g a b =
+      record {
+        more = if_tokens guard a.tokens b.tokens;
+        passed = passed_more (expr_tokens guard) (braced_tokens a.tokens ++ (b.tokens ++ [])) l m other.2 g.passed
+            (passed_more (braced_tokens a.tokens) (b.tokens ++ []) m one.2 other.2 a.passed (subst (λ ts. Passed ts one.2 other.2) (sym (append-nil b.tokens)) b.passed));
+        counted = if_counted count one.1 other.1 (statements one.0) (statements other.0) a.counted b.counted;
+        few = b.few;
+        kept = record {
+          spelled = (a.tokens, b.tokens, [], refl, a.kept.spelled, b.spelled, refl);
+          depth = if_deep d (depth one.0) (depth other.0) a.kept.depth b.depth;
+          parts = (g.nesting, a.kept.parts, b.parts, tt);
+        };
+      }
+
   if_found : (count : ℕ) (l : Left) (x : Ended Form) → count ≤ 1000 → if_at inner count l ≡ Ok x → ContentFound d (Word (codes "if")) count l x
   unfolding blocks_at
-  if_found count l x few e =
-      let g = bind_ok (whole_at l) (λ g. blocks_at inner count g.1 >>= λ y. Ok (stmts.If g.0 y.0.0 y.0.1, y.1, y.2)) x e in
-      let y = bind_ok (blocks_at inner count g.0.1) (λ y. Ok (stmts.If g.0.0 y.0.0 y.0.1, y.1, y.2)) x g.2 in
-      let a = bind_ok (braced inner count g.0.1) (λ a. other_at inner a.1 a.2 >>= λ b. Ok ((a.0, b.0), b.1, b.2)) y.0 y.1 in
-      let b = bind_ok (other_at inner a.0.1 a.0.2) (λ b. Ok ((a.0.0, b.0), b.1, b.2)) y.0 a.2 in
-      let guard = whole_found l g.0 g.1 in
-      let one = braced_found count g.0.1 a.0 few a.1 in
-      let other = other_found a.0.1 a.0.2 (taken (is_word (codes "else")) a.0.2) b.0 one.few refl b.1 in
-      let whole : Ended (Block × Block) → Result (Ended Form) SyntaxFault = λ y. Ok (stmts.If g.0.0 y.0.0 y.0.1, y.1, y.2) in
-      let pair : Result (Ended (Block × Block)) SyntaxFault = Ok ((a.0.0, b.0.0), b.0.1, b.0.2) in
-      let done : Result (Ended Form) SyntaxFault = Ok (stmts.If g.0.0 a.0.0 b.0.0, b.0.1, b.0.2) in
-      let is : done ≡ Ok x = ap whole (same_ok pair ((a.0.0, b.0.0), b.0.1, b.0.2) y.0 refl b.2) ∙ y.2 in
-      let inside : List Token = braced_tokens one.tokens ++ (other.tokens ++ []) in
-      subst (ContentFound d (Word (codes "if")) count l) (same_ok done (stmts.If g.0.0 a.0.0 b.0.0, b.0.1, b.0.2) x refl is)
-      (record {
-        more = expr_tokens g.0.0 ++ inside;
-        passed = passed_more (expr_tokens g.0.0) inside l g.0.1 b.0.2 guard.passed
-            (passed_more (braced_tokens one.tokens) (other.tokens ++ []) g.0.1 a.0.2 b.0.2 one.passed (subst (λ ts. Passed ts a.0.2 b.0.2) (sym (append-nil other.tokens)) other.passed));
-        counted = (let m = one.counted in let n = other.counted in omega (arith, m, n));
-        few = other.few;
-        kept = record {
-          spelled = (one.tokens, other.tokens, [], refl, one.kept.spelled, other.spelled, refl);
-          depth = (let m = one.kept.depth in let n = other.depth in omega (arith, m, n));
-          parts = (guard.nesting, one.kept.parts, other.parts, tt);
-        };
-      })
+  if_found count l x few =
+      each_step (whole_at l) (λ g. blocks_at inner count g.1 >>= λ y. Ok (stmts.If g.0 y.0.0 y.0.1, y.1, y.2)) (ContentFound d (Word (codes "if")) count l) (λ g is_guard.
+      each_step (blocks_at inner count g.1) _ _ (λ y is_blocks.
+      each_done (stmts.If g.0 y.0.0 y.0.1, y.1, y.2) _
+      (each_step (braced inner count g.1) _ (λ y. ContentFound d (Word (codes "if")) count l (stmts.If g.0 y.0.0 y.0.1, y.1, y.2)) (λ a is_one.
+      each_step (other_at inner a.1 a.2) _ _ (λ b is_other.
+      let one = braced_found count g.1 a few is_one in
+      each_done ((a.0, b.0), b.1, b.2) _
+      (if_kept count g.0 g.1 a b l (whole_found l g is_guard) one (other_found a.1 a.2 (taken (is_word (codes "else")) a.2) b one.few refl is_other))))
+      y is_blocks))) x
 
   for_found : (count : ℕ) (l : Left) (x : Ended Form) → count ≤ 1000 → for_at inner count l ≡ Ok x → ContentFound d (Word (codes "for")) count l x
-  for_found count l x few e =
-      let h = bind_ok (loop_head_at l) (λ h. braced inner count h.1 >>= λ b. Ok (stmts.For h.0.0 h.0.1 h.0.2 b.0, b.1, b.2)) x e in
-      let b = bind_ok (braced inner count h.0.1) (λ b. Ok (stmts.For h.0.0.0 h.0.0.1 h.0.0.2 b.0, b.1, b.2)) x h.2 in
-      let head = loop_head_found l h.0 h.1 in
-      let body = braced_found count h.0.1 b.0 few b.1 in
-      let done : Result (Ended Form) SyntaxFault = Ok (stmts.For h.0.0.0 h.0.0.1 h.0.0.2 b.0.0, b.0.1, b.0.2) in
-      let inside : List Token = braced_tokens body.tokens ++ [] in
-      subst (ContentFound d (Word (codes "for")) count l) (same_ok done (stmts.For h.0.0.0 h.0.0.1 h.0.0.2 b.0.0, b.0.1, b.0.2) x refl b.2)
+  for_found count l x few =
+      each_step (loop_head_at l) _ (ContentFound d (Word (codes "for")) count l) (λ h is_head.
+      each_step (braced inner count h.1) _ _ (λ b is_body.
+      let head = loop_head_found l h is_head in
+      let body = braced_found count h.1 b few is_body in
+      each_done (stmts.For h.0.0 h.0.1 h.0.2 b.0, b.1, b.2) _
       (record {
-        more = head_tokens h.0.0 ++ inside;
-        passed = passed_more (head_tokens h.0.0) inside l h.0.1 b.0.2 head.0 (subst (λ ts. Passed ts h.0.1 b.0.2) (sym (append-nil (braced_tokens body.tokens))) body.passed);
-        counted = (let m = body.counted in omega (arith, m));
+        more = head_tokens h.0 ++ (braced_tokens body.tokens ++ []);
+        passed = passed_more (head_tokens h.0) (braced_tokens body.tokens ++ []) l h.1 b.2 head.0 (subst (λ ts. Passed ts h.1 b.2) (sym (append-nil (braced_tokens body.tokens))) body.passed);
+        counted = for_counted count b.1 (statements b.0) body.counted;
         few = body.few;
         kept = record {
           spelled = (body.tokens, [], refl, body.kept.spelled, refl);
-          depth = (let m = body.kept.depth in omega (arith, m));
+          depth = for_deep d (depth b.0) body.kept.depth;
           parts = (head.1, body.kept.parts, tt);
         };
-      })
+      }))) x
 
   counted_found : (t : Token) (count : ℕ) (l : Left) (y : Form × Left) (x : Ended Form) → count ≤ 1000 → PlainFound t l y → with_count count y ≡ Ok x → ContentFound d t count l x
   counted_found t count l y x few h e =
@@ -417,7 +434,7 @@ module _ (d : ℕ) (stmt : ℕ → Left → Counted Form) (sound : (count : ℕ)
             tokens = one.tokens ++ rest.tokens;
             whole = rest.whole ∙ ap block_of (append_assoc front (x.0.0 ∷ []) rest.new);
             passed = subst (λ ts. Passed ts l y.2) (sym (append_assoc one.tokens rest.tokens (Sign sign.RightBrace ∷ []))) (passed_more one.tokens (closed rest.tokens) l x.0.2 y.2 one.passed rest.passed);
-            counted = (let a = one.counted in let b = rest.counted in let c = statements_more x.0.0 rest.new in omega (arith, a, b, c));
+            counted = more_counted count x.0.1 y.1 (statements (block_of (x.0.0 ∷ []))) (statements (block_of rest.new)) (statements (block_of (x.0.0 ∷ rest.new))) one.counted rest.counted (statements_more x.0.0 rest.new);
             few = rest.few;
             kept = kept_more d x.0.0 rest.new one.tokens rest.tokens one.kept rest.kept;
           }

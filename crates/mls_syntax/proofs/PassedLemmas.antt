@@ -1,7 +1,8 @@
 -- The tokens that the first pass passed.
 use Rattle.std.proofs.Common.{◌≡◌, ℕ, List, [], ◌∷◌, Option, Some, None, Result, Ok, Err, refl, ap, subst}
 use Rattle.mls_lattice.specs.Policy.{Name}
-use Rattle.mls_lattice.proofs.ReadingLemmas.{bind_ok, same_ok}
+use Rattle.mls_lattice.specs.Reading.{◌>>=◌}
+use Rattle.mls_lattice.proofs.ReadingLemmas.{ok_is, bind_ok, same_ok}
 use Rattle.mls_tokens.specs.declared.fault.TokenFault.{TokenFault}
 use Rattle.mls_tokens.specs.declared.token.Token.{Token}
 use Rattle.mls_tokens.specs.declared.token.Token.TheVariants.{Word, Sign}
@@ -13,6 +14,19 @@ use Rattle.mls_tokens.proofs.PassedLemmas.{Passed, passed_more, word_found, sign
 use Rattle.mls_syntax.specs.Fault.{in_syntax}
 use Rattle.mls_syntax.specs.Words.{known, pass_known_of, pass_known, pass_head_of, pass_head, head_of, pass_name_behind}
 use Rattle.mls_syntax.specs.declared.words.Head.{Head}
+
+-- ---- steps
+
+-- what holds of all that two steps give
+pub each_step : {A B E : Type 0} (r : Result A E) (f : A → Result B E) (P : B → Type 0) → ((x : A) → r ≡ Ok x → (y : B) → f x ≡ Ok y → P y) → (y : B) → (r >>= f) ≡ Ok y → P y
+each_step (Ok x) f P next y e = next x refl y e
+each_step (Err d) f P next y e = absurd cc
+
+-- and of what the last step gives
+pub each_done : {A E : Type 0} (x : A) (P : A → Type 0) → P x → (y : A) → Path (Result A E) (Ok x) (Ok y) → P y
+each_done x P h y e = subst P (ok_is x y e) h
+
+-- ---- tokens
 
 pub syntax_ok : {A : Type 0} (r : Result A TokenFault) (x : A) → in_syntax r ≡ Ok x → r ≡ Ok x
 syntax_ok (Ok y) x e = ap (λ z. Ok z) (same_ok (in_syntax (Ok y)) y x refl e)

@@ -5,15 +5,18 @@ use Rattle.std.specs.Prelude.{if◌then◌else◌}
 use Rattle.mls_lattice.specs.Reading.{◌>>=◌}
 use Rattle.mls_tokens.specs.declared.sign.Sign.TheVariants.{RightBrace}
 use Rattle.mls_tokens.specs.Scanning.{Left}
-use Rattle.mls_tokens.specs.Passing.{is_sign, taken}
+use Rattle.mls_tokens.specs.Passing.{PlacedName, is_sign, taken}
 use Rattle.mls_syntax.specs.declared.fault.SyntaxFault.{SyntaxFault}
 use Rattle.mls_syntax.specs.declared.fault.SyntaxCause.TheVariants.{Depth}
 use Rattle.mls_syntax.specs.declared.block.Stmt.{Stmt}
+use Rattle.mls_syntax.specs.declared.block.Stmt.TheVariants as stmts
+use Rattle.mls_syntax.specs.ExprTree.{Expr}
+use Rattle.mls_syntax.specs.ReadExpr.{Read, whole_at}
 use Rattle.mls_syntax.specs.Blocks.{block_of}
 use Rattle.mls_syntax.specs.Tree.{Block}
 use Rattle.mls_syntax.specs.Fault.{fault_at, in_syntax}
 use Rattle.mls_syntax.specs.Words.{opening_of, pass_known}
-use Rattle.mls_syntax.specs.ReadBlock.{Counted, opened, end_or, stmts_from, stmts_with, stmts_at, stmt_at}
+use Rattle.mls_syntax.specs.ReadBlock.{Counted, braced, other_at, blocks_at, loop_head_at, if_at, for_at, opened, end_or, stmts_from, stmts_with, stmts_at, stmt_at}
 
 -- ---- one level of depth
 
@@ -28,6 +31,27 @@ stmts_is (suc d) count l =
     let some : (suc d == 0) ≡ false = ne_eqb (suc d) 0 (λ e. omega arith) in
     let less : suc d - 1 ≡ d = omega arith in
     sym (λ i. stmts_with (stmt_by (some i) (λ c r. stmts_at (less i) c r)) count l)
+
+-- ---- statements with blocks inside
+
+pub up_to : (a b d : ℕ) → a ≤ b → b ≤ d → a ≤ d
+up_to a b d h k = omega arith
+
+module _ (inner : ℕ → Left → Counted Block) (count : ℕ) (l m r : Left) where
+  pub blocks_read : (one other : Block) (n k : ℕ) → braced inner count l ≡ Ok (one, n, m) → other_at inner n m ≡ Ok (other, k, r) → blocks_at inner count l ≡ Ok ((one, other), k, r)
+  unfolding blocks_at
+  blocks_read one other n k a b =
+      ap (λ (x : Counted Block). x >>= λ y. other_at inner y.1 y.2 >>= λ z. Ok ((y.0, z.0), z.1, z.2)) a ∙ ap (λ (x : Counted Block). x >>= λ z. Ok ((one, z.0), z.1, z.2)) b
+
+  pub if_read : (guard : Expr) (one other : Block) (n : ℕ) → whole_at l ≡ Ok (guard, m) → blocks_at inner count m ≡ Ok ((one, other), n, r) → if_at inner count l ≡ Ok (stmts.If guard one other, n, r)
+  if_read guard one other n a b =
+      ap (λ (x : Read Expr). x >>= λ g. blocks_at inner count g.1 >>= λ y. Ok (stmts.If g.0 y.0.0 y.0.1, y.1, y.2)) a
+      ∙ ap (λ (x : Counted (Block × Block)). x >>= λ y. Ok (stmts.If guard y.0.0 y.0.1, y.1, y.2)) b
+
+  pub for_read : (row rel label : PlacedName) (body : Block) (n : ℕ) → loop_head_at l ≡ Ok ((row, rel, label), m) → braced inner count m ≡ Ok (body, n, r) → for_at inner count l ≡ Ok (stmts.For row rel label body, n, r)
+  for_read row rel label body n a b =
+      ap (λ (x : Read (PlacedName × PlacedName × PlacedName)). x >>= λ h. braced inner count h.1 >>= λ y. Ok (stmts.For h.0.0 h.0.1 h.0.2 y.0, y.1, y.2)) a
+      ∙ ap (λ (x : Counted Block). x >>= λ y. Ok (stmts.For row rel label y.0, y.1, y.2)) b
 
 -- ---- statement by statement
 

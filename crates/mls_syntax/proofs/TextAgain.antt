@@ -29,11 +29,11 @@ use Rattle.mls_syntax.specs.Places.{bare_param, bare_block, bare_var, bare_trans
 use Rattle.mls_syntax.specs.Fault.{in_syntax}
 use Rattle.mls_syntax.specs.Words.{kind_of, pass_known}
 use Rattle.mls_syntax.specs.ReadExpr.{sign_at, after_item}
-use Rattle.mls_syntax.specs.ReadBlock.{word_at, name_behind, body_at}
-use Rattle.mls_syntax.specs.Reading.{too_many, param_at, params_from, params_behind, params_at, var_at, or_var, vars_from, vars_at, interval_at, parts_at, transaction_at, transactions_from, syntax_at}
+use Rattle.mls_syntax.specs.ReadBlock.{word_at, name_behind, names_behind, body_at}
+use Rattle.mls_syntax.specs.Reading.{too_many, kind_and_label, param_at, params_from, params_behind, params_at, var_at, or_var, vars_from, vars_at, parts_at, transaction_at, transactions_from, syntax_at}
 use Rattle.mls_syntax.specs.Spelling.{name_token, param_tokens, params_tokens, var_tokens, SpellsBlock, SpellsEach}
 use Rattle.mls_syntax.proofs.AgainLemmas.{sign_gets, word_gets, Called, name_gets, behind_gets, known_gets, IsWhole, IsSet}
-use Rattle.mls_syntax.proofs.BlockAgain.{WritingIsGood, StmtIsGood, BlockIsGood, Closed, IsOther, block_begins, body_again}
+use Rattle.mls_syntax.proofs.BlockAgain.{WritingIsGood, StmtIsGood, BlockIsGood, Closed, IsOther, block_begins, body_again, names_again}
 
 -- ---- parameters
 
@@ -47,16 +47,26 @@ SameParam p y = bare_param y ≡ bare_param p
 abbrev ParamIsGood : Parameter → Type 0
 ParamIsGood p = IsNamed p.name × IsNamed p.label
 
+abbrev SameKind : Kind → PlacedName → Kind × PlacedName → Type 0
+SameKind k label y = (y.0 ≡ k) × Called label y.1
+
+kind_and_label_again : (k : Kind) (label : PlacedName) (us : List Token) (l : Left) → IsNamed label → tokens_in l.placed ≡ Sign sign.Colon ∷ kind_token k ∷ Word (codes "at") ∷ name_token label ∷ us
+    → Gets (kind_and_label l) l (SameKind k label) us
+unfolding kind_and_label
+kind_and_label_again k label us l h e =
+    gets_more (λ c. in_syntax (pass_known kind_of c.1) >>= λ x. name_behind (codes "at") x.1 >>= λ w. done (x.0.0, w.0) w.1)
+    (sign_gets sign.Colon (kind_token k ∷ Word (codes "at") ∷ name_token label ∷ us) l e)
+    (λ c m s t. gets_more (λ x. name_behind (codes "at") x.1 >>= λ w. done (x.0.0, w.0) w.1)
+    (known_gets kind_of k (kind_token k) (Word (codes "at") ∷ name_token label ∷ us) (kind_again k) m t)
+    (λ x m2 s2 t2. gets_more (λ w. done (x.0, w.0) w.1) (behind_gets (codes "at") label us m2 h t2)
+    (λ w m3 s3 t3. gets_done (x.0, w) m3 (SameKind k label) us (s2, s3) t3)))
+
 param_again : (p : Parameter) (n : PlacedName) (us : List Token) (l : Left) → Called p.name n → IsNamed p.label → tokens_in l.placed ≡ Sign sign.Colon ∷ kind_token p.kind ∷ Word (codes "at") ∷ name_token p.label ∷ us
     → Gets (param_at n l) l (SameParam p) us
 unfolding param_at
 param_again p n us l called h k =
-    gets_more (λ c. in_syntax (pass_known kind_of c.1) >>= λ x. name_behind (codes "at") x.1 >>= λ w. done (record { name = n; kind = x.0.0; label = w.0 }) w.1)
-    (sign_gets sign.Colon (kind_token p.kind ∷ Word (codes "at") ∷ name_token p.label ∷ us) l k)
-    (λ c m s t. gets_more (λ x. name_behind (codes "at") x.1 >>= λ w. done (record { name = n; kind = x.0.0; label = w.0 }) w.1)
-    (known_gets kind_of p.kind (kind_token p.kind) (Word (codes "at") ∷ name_token p.label ∷ us) (kind_again p.kind) m t)
-    (λ x m2 s2 t2. gets_more (λ w. done (record { name = n; kind = x.0; label = w.0 }) w.1) (behind_gets (codes "at") p.label us m2 h t2)
-    (λ w m3 s3 t3. gets_done (record { name = n; kind = x.0; label = w }) m3 (SameParam p) us (λ i. record { name = called i; kind = s2 i; label = s3 i }) t3)))
+    gets_more (λ x. done (record { name = n; kind = x.0.0; label = x.0.1 }) x.1) (kind_and_label_again p.kind p.label us l h k)
+    (λ x m s t. gets_done (record { name = n; kind = x.0; label = x.1 }) m (SameParam p) us (λ i. record { name = called i; kind = s.0 i; label = s.1 i }) t)
 
 abbrev ManyParams : List Parameter → List Parameter → List Parameter → Type 0
 ManyParams front ps ys = (zs : List Parameter) × (ys ≡ front ++ zs) × (map bare_param zs ≡ map bare_param ps)
@@ -196,15 +206,6 @@ pub record IsGood (t : Transaction) : Type 0 where
   pub shallow : depth t.body ≤ 16
   pub body : BlockIsGood t.body
 
-abbrev SameInterval : PlacedName → PlacedName → PlacedName × PlacedName → Type 0
-SameInterval lo hi y = Called lo y.0 × Called hi y.1
-
-interval_again : (lo hi : PlacedName) (us : List Token) (l : Left) → IsNamed lo → IsNamed hi → tokens_in l.placed ≡ Word (codes "levels") ∷ name_token lo ∷ Word (codes "to") ∷ name_token hi ∷ us → Gets (interval_at l) l (SameInterval lo hi) us
-unfolding interval_at
-interval_again lo hi us l hl hh k =
-    gets_more (λ x. name_behind (codes "to") x.1 >>= λ y. done (x.0, y.0) y.1) (behind_gets (codes "levels") lo (Word (codes "to") ∷ name_token hi ∷ us) l hl k)
-    (λ x m s t. gets_more (λ y. done (x, y.0) y.1) (behind_gets (codes "to") hi us m hh t) (λ y m2 s2 t2. gets_done (x, y) m2 (SameInterval lo hi) us (s, s2) t2))
-
 abbrev SameTransaction : Transaction → Transaction → Type 0
 SameTransaction t y = bare_transaction y ≡ bare_transaction t
 
@@ -241,10 +242,10 @@ transaction_again : (t : Transaction) (b us : List Token) (l : Left) → IsGood 
 unfolding transaction_at
 transaction_again t b us l h spelled k =
     let rest : List Token = (params_tokens t.params ++ braced_tokens (flat_map var_tokens t.vars ++ b)) ++ us in
-    gets_more (λ n. interval_at n.1 >>= λ i. parts_at i.1 >>= λ p. done (record { name = n.0; lo = i.0.0; hi = i.0.1; params = p.0.0; vars = p.0.1; body = p.0.2 }) p.1)
+    gets_more (λ n. names_behind (codes "levels") (codes "to") n.1 >>= λ i. parts_at i.1 >>= λ p. done (record { name = n.0; lo = i.0.0; hi = i.0.1; params = p.0.0; vars = p.0.1; body = p.0.2 }) p.1)
     (name_gets t.name (Word (codes "levels") ∷ name_token t.lo ∷ Word (codes "to") ∷ name_token t.hi ∷ rest) l h.name k)
     (λ n m s j. gets_more (λ i. parts_at i.1 >>= λ p. done (record { name = n; lo = i.0.0; hi = i.0.1; params = p.0.0; vars = p.0.1; body = p.0.2 }) p.1)
-    (interval_again t.lo t.hi rest m h.lo h.hi j)
+    (names_again (codes "levels") (codes "to") t.lo t.hi rest m h.lo h.hi j)
     (λ i m2 s2 j2. gets_more (λ p. done (record { name = n; lo = i.0; hi = i.1; params = p.0.0; vars = p.0.1; body = p.0.2 }) p.1)
     (parts_again t b us m2 h spelled j2)
     (λ p m3 s3 j3. gets_done (record { name = n; lo = i.0; hi = i.1; params = p.0; vars = p.1; body = p.2 }) m3 (SameTransaction t) us

@@ -1,5 +1,5 @@
 -- Transactions are read as what stands there.
-use Rattle.std.proofs.Common.{◌≡◌, ℕ, zero, suc, ◌≤◌, true, false, List, [], ◌∷◌, ◌++◌, length, Option, Some, None, Result, Ok, inl, inr, refl, sym, ap, ◌∙◌, subst, arith, append_assoc}
+use Rattle.std.proofs.Common.{◌≡◌, ℕ, zero, suc, ◌+◌, ◌≤◌, true, false, List, [], ◌∷◌, ◌++◌, length, Option, Some, None, Result, Ok, inl, inr, refl, sym, ap, ◌∙◌, subst, arith, append_assoc}
 use Rattle.std.specs.Prelude.{codes, ◌⊎◌, if◌then◌else◌}
 use Rattle.std.specs.List.{AllByRecursion, flat_map}
 use Rattle.std.specs.Str.{bytes_eq}
@@ -29,13 +29,13 @@ use Rattle.mls_syntax.specs.Limits.{depth, BlockAll}
 use Rattle.mls_syntax.specs.Fault.{in_syntax}
 use Rattle.mls_syntax.specs.Words.{kind_of_word, kind_of, pass_known}
 use Rattle.mls_syntax.specs.ReadExpr.{sign_at, after_item}
-use Rattle.mls_syntax.specs.ReadBlock.{word_at, name_at, name_behind, body_at}
-use Rattle.mls_syntax.specs.Reading.{too_many, param_at, params_from, params_behind, params_at, var_at, or_var, vars_from, vars_at, interval_at, parts_at, transaction_at, transactions_from}
+use Rattle.mls_syntax.specs.ReadBlock.{word_at, name_at, name_behind, names_behind, body_at}
+use Rattle.mls_syntax.specs.Reading.{too_many, kind_and_label, param_at, params_from, params_behind, params_at, var_at, or_var, vars_from, vars_at, parts_at, transaction_at, transactions_from}
 use Rattle.mls_syntax.specs.Spelling.{name_token, behind_tokens, param_tokens, params_tokens, var_tokens, SpellsBlock, SpellsTransaction, SpellsEach}
-use Rattle.mls_syntax.proofs.PassedLemmas.{syntax_ok, sign_found, known_found}
+use Rattle.mls_syntax.proofs.PassedLemmas.{each_step, each_done, syntax_ok, sign_found, known_found}
 use Rattle.mls_tokens.proofs.TokenLemmas.{chosen}
 use Rattle.mls_syntax.proofs.ExprLemmas.{IsNested}
-use Rattle.mls_syntax.proofs.StmtLemmas.{named, behind, worded}
+use Rattle.mls_syntax.proofs.StmtLemmas.{named, behind, worded, pair_tokens, names_found}
 use Rattle.mls_syntax.proofs.BlockLemmas.{test_word, closed, body_found}
 
 -- ---- kinds
@@ -67,23 +67,25 @@ kind_found l x e =
 abbrev ParamNamed : Parameter → Type 0
 ParamNamed p = is_name p.name.0 ≡ true
 
+kind_and_label_found : (l : Left) (x : (Kind × PlacedName) × Left) → kind_and_label l ≡ Ok x → Passed (Sign sign.Colon ∷ kind_token x.0.0 ∷ behind_tokens (codes "at") x.0.1) l x.1
+unfolding kind_and_label
+kind_and_label_found l =
+    each_step (sign_at sign.Colon l) _ (λ x. Passed (Sign sign.Colon ∷ kind_token x.0.0 ∷ behind_tokens (codes "at") x.0.1) l x.1) (λ c is_colon.
+    each_step (in_syntax (pass_known kind_of c.1)) _ _ (λ k is_kind.
+    each_step (name_behind (codes "at") k.1) _ _ (λ w is_label.
+    each_done ((k.0.0, w.0), w.1) _
+    (passed_more (Sign sign.Colon ∷ []) (kind_token k.0.0 ∷ behind_tokens (codes "at") w.0) l c.1 w.1 (sign_found sign.Colon l c is_colon)
+    (passed_more (kind_token k.0.0 ∷ []) (behind_tokens (codes "at") w.0) c.1 k.1 w.1 (kind_found c.1 k is_kind) (behind (codes "at") k.1 w is_label))))))
+
 record ParamFound (name : PlacedName) (l : Left) (x : Parameter × Left) : Type 0 where
   passed : Passed (Sign sign.Colon ∷ kind_token x.0.kind ∷ behind_tokens (codes "at") x.0.label) l x.1
   named : name ≡ x.0.name
 
 param_found : (name : PlacedName) (l : Left) (x : Parameter × Left) → param_at name l ≡ Ok x → ParamFound name l x
 unfolding param_at
-param_found name l x e =
-    let c = bind_ok (sign_at sign.Colon l) (λ c. in_syntax (pass_known kind_of c.1) >>= λ k. name_behind (codes "at") k.1 >>= λ w. Ok (record { name = name; kind = k.0.0; label = w.0 }, w.1)) x e in
-    let k = bind_ok (in_syntax (pass_known kind_of c.0.1)) (λ k. name_behind (codes "at") k.1 >>= λ w. Ok (record { name = name; kind = k.0.0; label = w.0 }, w.1)) x c.2 in
-    let w = bind_ok (name_behind (codes "at") k.0.1) (λ w. Ok (record { name = name; kind = k.0.0.0; label = w.0 }, w.1)) x k.2 in
-    let done : Result (Parameter × Left) SyntaxFault = Ok (record { name = name; kind = k.0.0.0; label = w.0.0 }, w.0.1) in
-    subst (ParamFound name l) (same_ok done (record { name = name; kind = k.0.0.0; label = w.0.0 }, w.0.1) x refl w.2)
-    (record {
-      passed = passed_more (Sign sign.Colon ∷ []) (kind_token k.0.0.0 ∷ behind_tokens (codes "at") w.0.0) l c.0.1 w.0.1 (sign_found sign.Colon l c.0 c.1)
-          (passed_more (kind_token k.0.0.0 ∷ []) (behind_tokens (codes "at") w.0.0) c.0.1 k.0.1 w.0.1 (kind_found c.0.1 k.0 k.1) (behind (codes "at") k.0.1 w.0 w.1));
-      named = refl;
-    })
+param_found name l =
+    each_step (kind_and_label l) _ (ParamFound name l) (λ x is.
+    each_done (record { name = name; kind = x.0.0; label = x.0.1 }, x.1) _ (record { passed = kind_and_label_found l x is; named = refl }))
 
 record ParamsFound (room : ℕ) (front : List Parameter) (l : Left) (y : List Parameter × Left) : Type 0 where
   head : Parameter
@@ -175,19 +177,18 @@ var_rest v = name_token v.name ∷ Sign sign.Colon ∷ kind_token v.kind ∷ Sig
 
 var_found : (l : Left) (x : Variable × Left) → var_at l ≡ Ok x → Passed (var_rest x.0) l x.1 × VarNamed x.0
 unfolding var_at
-var_found l x e =
-    let n = bind_ok (name_at l) (λ n. sign_at sign.Colon n.1 >>= λ c. in_syntax (pass_known kind_of c.1) >>= λ k. sign_at sign.Semicolon k.1 >>= λ end. Ok (record { name = n.0; kind = k.0.0 }, end.1)) x e in
-    let c = bind_ok (sign_at sign.Colon n.0.1) (λ c. in_syntax (pass_known kind_of c.1) >>= λ k. sign_at sign.Semicolon k.1 >>= λ end. Ok (record { name = n.0.0; kind = k.0.0 }, end.1)) x n.2 in
-    let k = bind_ok (in_syntax (pass_known kind_of c.0.1)) (λ k. sign_at sign.Semicolon k.1 >>= λ end. Ok (record { name = n.0.0; kind = k.0.0 }, end.1)) x c.2 in
-    let end = bind_ok (sign_at sign.Semicolon k.0.1) (λ end. Ok (record { name = n.0.0; kind = k.0.0.0 }, end.1)) x k.2 in
-    let name = named l n.0 n.1 in
-    let done : Result (Variable × Left) SyntaxFault = Ok (record { name = n.0.0; kind = k.0.0.0 }, end.0.1) in
-    subst (λ (y : Variable × Left). Passed (var_rest y.0) l y.1 × VarNamed y.0) (same_ok done (record { name = n.0.0; kind = k.0.0.0 }, end.0.1) x refl end.2) (
-      passed_more (name_token n.0.0 ∷ []) (Sign sign.Colon ∷ kind_token k.0.0.0 ∷ Sign sign.Semicolon ∷ []) l n.0.1 end.0.1 name.0
-          (passed_more (Sign sign.Colon ∷ []) (kind_token k.0.0.0 ∷ Sign sign.Semicolon ∷ []) n.0.1 c.0.1 end.0.1 (sign_found sign.Colon n.0.1 c.0 c.1)
-          (passed_more (kind_token k.0.0.0 ∷ []) (Sign sign.Semicolon ∷ []) c.0.1 k.0.1 end.0.1 (kind_found c.0.1 k.0 k.1) (sign_found sign.Semicolon k.0.1 end.0 end.1))),
+var_found l =
+    each_step (name_at l) _ (λ x. Passed (var_rest x.0) l x.1 × VarNamed x.0) (λ n is_name_.
+    each_step (sign_at sign.Colon n.1) _ _ (λ c is_colon.
+    each_step (in_syntax (pass_known kind_of c.1)) _ _ (λ k is_kind.
+    each_step (sign_at sign.Semicolon k.1) _ _ (λ end is_end.
+    let name = named l n is_name_ in
+    each_done (record { name = n.0; kind = k.0.0 }, end.1) _ (
+      passed_more (name_token n.0 ∷ []) (Sign sign.Colon ∷ kind_token k.0.0 ∷ Sign sign.Semicolon ∷ []) l n.1 end.1 name.0
+          (passed_more (Sign sign.Colon ∷ []) (kind_token k.0.0 ∷ Sign sign.Semicolon ∷ []) n.1 c.1 end.1 (sign_found sign.Colon n.1 c is_colon)
+          (passed_more (kind_token k.0.0 ∷ []) (Sign sign.Semicolon ∷ []) c.1 k.1 end.1 (kind_found c.1 k is_kind) (sign_found sign.Semicolon k.1 end is_end))),
       name.1,
-    )
+    )))))
 
 record VarsFound (room : ℕ) (front : List Variable) (l : Left) (y : List Variable × Left) : Type 0 where
   new : List Variable
@@ -241,18 +242,6 @@ pub record IsSized (t : Transaction) : Type 0 where
   pub shallow : depth t.body ≤ 16
   pub parts : BlockAll IsNested t.body
 
-abbrev interval_tokens : PlacedName × PlacedName → List Token
-interval_tokens i = behind_tokens (codes "levels") i.0 ++ behind_tokens (codes "to") i.1
-
-interval_found : (l : Left) (x : (PlacedName × PlacedName) × Left) → interval_at l ≡ Ok x → Passed (interval_tokens x.0) l x.1
-unfolding interval_at
-interval_found l x e =
-    let lo = bind_ok (name_behind (codes "levels") l) (λ lo. name_behind (codes "to") lo.1 >>= λ hi. Ok ((lo.0, hi.0), hi.1)) x e in
-    let hi = bind_ok (name_behind (codes "to") lo.0.1) (λ hi. Ok ((lo.0.0, hi.0), hi.1)) x lo.2 in
-    let done : Result ((PlacedName × PlacedName) × Left) SyntaxFault = Ok ((lo.0.0, hi.0.0), hi.0.1) in
-    subst (λ (y : (PlacedName × PlacedName) × Left). Passed (interval_tokens y.0) l y.1) (same_ok done ((lo.0.0, hi.0.0), hi.0.1) x refl hi.2)
-    (passed_more (behind_tokens (codes "levels") lo.0.0) (behind_tokens (codes "to") hi.0.0) l lo.0.1 hi.0.1 (behind (codes "levels") l lo.0 lo.1) (behind (codes "to") lo.0.1 hi.0 hi.1))
-
 record TransactionFound (l : Left) (x : Transaction × Left) : Type 0 where
   more : List Token
   passed : Passed more l x.1
@@ -272,53 +261,58 @@ record PartsFound (l : Left) (x : (List Parameter × List Variable × Block) × 
   shallow : depth x.0.2 ≤ 16
   nested : BlockAll IsNested x.0.2
 
+-- the braces, and what stands in them
+block_found : (vars : List Variable) (inside : List Token) (l m n r : Left) → Passed (Sign sign.LeftBrace ∷ []) l m → Passed (flat_map var_tokens vars) m n → Passed (closed inside) n r
+    → Passed (Sign sign.LeftBrace ∷ closed (flat_map var_tokens vars ++ inside)) l r
+block_found vars inside l m n r brace declared body =
+    let same : flat_map var_tokens vars ++ closed inside ≡ closed (flat_map var_tokens vars ++ inside) = sym (append_assoc (flat_map var_tokens vars) inside (Sign sign.RightBrace ∷ [])) in
+    passed_more (Sign sign.LeftBrace ∷ []) (closed (flat_map var_tokens vars ++ inside)) l m r brace
+    (subst (λ ts. Passed ts m r) same (passed_more (flat_map var_tokens vars) (closed inside) m n r declared body))
+
+few_counted : (m n : ℕ) → m ≡ 0 + n → m ≤ 1000 → n ≤ 1000
+few_counted m n e h = omega arith
+
 parts_found : (l : Left) (x : (List Parameter × List Variable × Block) × Left) → parts_at l ≡ Ok x → PartsFound l x
 unfolding parts_at vars_at
-parts_found l x e =
-    let ps = bind_ok (params_at l) (λ ps. sign_at sign.LeftBrace ps.1 >>= λ c. vars_at c.1 >>= λ vs. body_at vs.1 >>= λ b. Ok ((ps.0, vs.0, b.0), b.2)) x e in
-    let c = bind_ok (sign_at sign.LeftBrace ps.0.1) (λ c. vars_at c.1 >>= λ vs. body_at vs.1 >>= λ b. Ok ((ps.0.0, vs.0, b.0), b.2)) x ps.2 in
-    let vs = bind_ok (vars_at c.0.1) (λ vs. body_at vs.1 >>= λ b. Ok ((ps.0.0, vs.0, b.0), b.2)) x c.2 in
-    let b = bind_ok (body_at vs.0.1) (λ b. Ok ((ps.0.0, vs.0.0, b.0), b.2)) x vs.2 in
-    let params = params_read l ps.0 ps.1 in
-    let vars = vars_found 64 [] c.0.1 vs.0 vs.1 in
-    let body = body_found vs.0.1 b.0 b.1 in
-    let done : Result ((List Parameter × List Variable × Block) × Left) SyntaxFault = Ok ((ps.0.0, vs.0.0, b.0.0), b.0.2) in
-    let declared : Passed (flat_map var_tokens vs.0.0) c.0.1 vs.0.1 = subst (λ (xs : List Variable). Passed (flat_map var_tokens xs) c.0.1 vs.0.1) vars.whole vars.passed in
-    let same : flat_map var_tokens vs.0.0 ++ closed body.tokens ≡ closed (flat_map var_tokens vs.0.0 ++ body.tokens) = sym (append_assoc (flat_map var_tokens vs.0.0) body.tokens (Sign sign.RightBrace ∷ [])) in
-    let block : List Token = Sign sign.LeftBrace ∷ closed (flat_map var_tokens vs.0.0 ++ body.tokens) in
-    let block_read : Passed block ps.0.1 b.0.2 =
-    passed_more (Sign sign.LeftBrace ∷ []) (closed (flat_map var_tokens vs.0.0 ++ body.tokens)) ps.0.1 c.0.1 b.0.2 (sign_found sign.LeftBrace ps.0.1 c.0 c.1)
-    (subst (λ ts. Passed ts c.0.1 b.0.2) same (passed_more (flat_map var_tokens vs.0.0) (closed body.tokens) c.0.1 vs.0.1 b.0.2 declared body.passed)) in
-    subst (PartsFound l) (same_ok done ((ps.0.0, vs.0.0, b.0.0), b.0.2) x refl b.2)
+parts_found l =
+    each_step (params_at l) _ (PartsFound l) (λ ps is_params.
+    each_step (sign_at sign.LeftBrace ps.1) _ _ (λ c is_brace.
+    each_step (vars_at c.1) _ _ (λ vs is_vars.
+    each_step (body_at vs.1) _ _ (λ b is_body.
+    let params = params_read l ps is_params in
+    let vars = vars_found 64 [] c.1 vs is_vars in
+    let body = body_found vs.1 b is_body in
+    let declared : Passed (flat_map var_tokens vs.0) c.1 vs.1 = subst (λ (xs : List Variable). Passed (flat_map var_tokens xs) c.1 vs.1) vars.whole vars.passed in
+    each_done ((ps.0, vs.0, b.0), b.2) _
     (record {
       inside = body.tokens;
-      passed = passed_more (params_tokens ps.0.0) block l ps.0.1 b.0.2 params.passed block_read;
+      passed = passed_more (params_tokens ps.0) (Sign sign.LeftBrace ∷ closed (flat_map var_tokens vs.0 ++ body.tokens)) l ps.1 b.2 params.passed
+          (block_found vs.0 body.tokens ps.1 c.1 vs.1 b.2 (sign_found sign.LeftBrace ps.1 c is_brace) declared body.passed);
       spelled = body.kept.spelled;
       params = params.names;
       vars = subst (λ (xs : List Variable). AllByRecursion VarNamed xs) vars.whole vars.names;
       few_params = params.few;
       few_vars = subst (λ (xs : List Variable). length xs ≤ 64) vars.whole vars.few;
-      few_statements = (let a = body.counted in let f = body.few in omega (arith, a, f));
+      few_statements = few_counted b.1 (statements b.0) body.counted body.few;
       shallow = body.kept.depth;
       nested = body.kept.parts;
-    })
+    })))))
 
 transaction_found : (l : Left) (x : Transaction × Left) → transaction_at l ≡ Ok x → TransactionFound l x
 unfolding transaction_at
-transaction_found l x e =
-    let n = bind_ok (name_at l) (λ n. interval_at n.1 >>= λ i. parts_at i.1 >>= λ p. Ok (record { name = n.0; lo = i.0.0; hi = i.0.1; params = p.0.0; vars = p.0.1; body = p.0.2 }, p.1)) x e in
-    let i = bind_ok (interval_at n.0.1) (λ i. parts_at i.1 >>= λ p. Ok (record { name = n.0.0; lo = i.0.0; hi = i.0.1; params = p.0.0; vars = p.0.1; body = p.0.2 }, p.1)) x n.2 in
-    let p = bind_ok (parts_at i.0.1) (λ p. Ok (record { name = n.0.0; lo = i.0.0.0; hi = i.0.0.1; params = p.0.0; vars = p.0.1; body = p.0.2 }, p.1)) x i.2 in
-    let name = named l n.0 n.1 in
-    let parts = parts_found i.0.1 p.0 p.1 in
-    let tx : Transaction = record { name = n.0.0; lo = i.0.0.0; hi = i.0.0.1; params = p.0.0.0; vars = p.0.0.1; body = p.0.0.2 } in
-    let done : Result (Transaction × Left) SyntaxFault = Ok (tx, p.0.1) in
-    let rest : List Token = params_tokens p.0.0.0 ++ (Sign sign.LeftBrace ∷ closed (flat_map var_tokens p.0.0.1 ++ parts.inside)) in
-    subst (TransactionFound l) (same_ok done (tx, p.0.1) x refl p.2)
+transaction_found l =
+    each_step (name_at l) _ (TransactionFound l) (λ n is_name_.
+    each_step (names_behind (codes "levels") (codes "to") n.1) _ _ (λ i is_interval.
+    each_step (parts_at i.1) _ _ (λ p is_parts.
+    let name = named l n is_name_ in
+    let parts = parts_found i.1 p is_parts in
+    let levels : List Token = pair_tokens (codes "levels") (codes "to") i.0 in
+    let rest : List Token = params_tokens p.0.0 ++ (Sign sign.LeftBrace ∷ closed (flat_map var_tokens p.0.1 ++ parts.inside)) in
+    each_done (record { name = n.0; lo = i.0.0; hi = i.0.1; params = p.0.0; vars = p.0.1; body = p.0.2 }, p.1) _
     (record {
-      more = name_token n.0.0 ∷ (interval_tokens i.0.0 ++ rest);
-      passed = passed_more (name_token n.0.0 ∷ []) (interval_tokens i.0.0 ++ rest) l n.0.1 p.0.1 name.0
-          (passed_more (interval_tokens i.0.0) rest n.0.1 i.0.1 p.0.1 (interval_found n.0.1 i.0 i.1) parts.passed);
+      more = name_token n.0 ∷ (levels ++ rest);
+      passed = passed_more (name_token n.0 ∷ []) (levels ++ rest) l n.1 p.1 name.0
+          (passed_more levels rest n.1 i.1 p.1 (names_found (codes "levels") (codes "to") n.1 i is_interval) parts.passed);
       spelled = (parts.inside, refl, parts.spelled);
       sized = record {
         name = name.1;
@@ -330,7 +324,7 @@ transaction_found l x e =
         shallow = parts.shallow;
         parts = parts.nested;
       };
-    })
+    }))))
 
 -- ---- the whole text
 

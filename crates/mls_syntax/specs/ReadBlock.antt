@@ -30,6 +30,13 @@ name_at l = in_syntax (pass_name l)
 abbrev pub name_behind : List ℕ → Left → Read PlacedName
 name_behind word l = in_syntax (pass_name_behind word l)
 
+-- two words, and a name behind each
+unfoldable pub names_behind : List ℕ → List ℕ → Left → Read (PlacedName × PlacedName)
+names_behind first second l = do
+  x ← name_behind first l
+  y ← name_behind second x.1
+  Ok ((x.0, y.0), y.1)
+
 unfoldable pub list_behind : List ℕ → Left → Read ExprList
 list_behind word l = word_at word l >>= λ x. list_at x.1
 
@@ -78,9 +85,8 @@ insert_at l = do
 unfoldable pub classes_at : Left → Read (PlacedName × PlacedName × PlacedName)
 classes_at l = do
   class ← name_behind (codes "class") l
-  from ← name_behind (codes "from") class.1
-  w ← name_behind (codes "at") from.1
-  Ok ((class.0, from.0, w.0), w.1)
+  rest ← names_behind (codes "from") (codes "at") class.1
+  Ok ((class.0, rest.0.0, rest.0.1), rest.1)
 
 -- its new values, and the outcome
 unfoldable pub changes_at : Left → Read (List (PlacedName × Expr) × Option PlacedName)
@@ -145,9 +151,8 @@ plain_at plains.Emit at l = emit_at l
 unfoldable pub loop_head_at : Left → Read (PlacedName × PlacedName × PlacedName)
 loop_head_at l = do
   row ← name_at l
-  rel ← name_behind (codes "in") row.1
-  label ← name_behind (codes "at") rel.1
-  Ok ((row.0, rel.0, label.0), label.1)
+  rest ← names_behind (codes "in") (codes "at") row.1
+  Ok ((row.0, rest.0.0, rest.0.1), rest.1)
 
 -- what is read, how many statements the transaction has up to there, and what is left behind it; or the first fault
 abbrev pub Counted : Type 0 → Type 0

@@ -1,6 +1,7 @@
 -- What a text says as syntax trees, or its first fault.
 use Rattle.std.specs.Prelude.{ℕ, zero, suc, if◌then◌else◌, List, [], ◌∷◌, ◌++◌, codes, Option, Some, None, Result, Ok, Err}
 use Rattle.mls_lattice.specs.Reading.{◌>>=◌}
+use Rattle.mls_scheme.specs.declared.value.Kind.{Kind}
 use Rattle.mls_tokens.specs.declared.sign.Sign.TheVariants.{LeftParen, RightParen, LeftBrace, Comma, Semicolon, Colon}
 use Rattle.mls_tokens.specs.Scanning.{Left, tokens_at}
 use Rattle.mls_tokens.specs.Passing.{is_word, is_sign, taken, PlacedName, is_over}
@@ -13,7 +14,7 @@ use Rattle.mls_syntax.specs.Tree.{Block}
 use Rattle.mls_syntax.specs.Fault.{fault_at, in_syntax}
 use Rattle.mls_syntax.specs.Words.{kind_of, pass_known}
 use Rattle.mls_syntax.specs.ReadExpr.{Read, sign_at, after_item}
-use Rattle.mls_syntax.specs.ReadBlock.{word_at, name_at, name_behind, body_at}
+use Rattle.mls_syntax.specs.ReadBlock.{word_at, name_at, name_behind, names_behind, body_at}
 
 -- one thing more than there may be
 abbrev pub too_many : {X : Type 0} → ℕ → Result X SyntaxFault
@@ -21,13 +22,16 @@ too_many at = Err (fault_at at TooLong)
 
 -- ---- parameters
 
--- behind its name
-unfoldable pub param_at : PlacedName → Left → Read Parameter
-param_at name l = do
+-- the kind and the label behind its name
+unfoldable pub kind_and_label : Left → Read (Kind × PlacedName)
+kind_and_label l = do
   colon ← sign_at Colon l
   kind ← in_syntax (pass_known kind_of colon.1)
   label ← name_behind (codes "at") kind.1
-  Ok (record { name = name; kind = kind.0.0; label = label.0 }, label.1)
+  Ok ((kind.0.0, label.0), label.1)
+
+unfoldable pub param_at : PlacedName → Left → Read Parameter
+param_at name l = kind_and_label l >>= λ x. Ok (record { name = name; kind = x.0.0; label = x.0.1 }, x.1)
 
 -- with a comma between each two, behind those before: there is room for some more
 unfoldable pub params_from : ℕ → List Parameter → Left → Read (List Parameter)
@@ -68,13 +72,6 @@ vars_at l = vars_from 64 [] l
 
 -- ---- transactions
 
--- the labels that it runs between
-unfoldable pub interval_at : Left → Read (PlacedName × PlacedName)
-interval_at l = do
-  lo ← name_behind (codes "levels") l
-  hi ← name_behind (codes "to") lo.1
-  Ok ((lo.0, hi.0), hi.1)
-
 -- its parameters, its variables and its statements
 unfoldable pub parts_at : Left → Read (List Parameter × List Variable × Block)
 parts_at l = do
@@ -88,7 +85,7 @@ parts_at l = do
 unfoldable pub transaction_at : Left → Read Transaction
 transaction_at l = do
   name ← name_at l
-  interval ← interval_at name.1
+  interval ← names_behind (codes "levels") (codes "to") name.1
   parts ← parts_at interval.1
   Ok (record { name = name.0; lo = interval.0.0; hi = interval.0.1; params = parts.0.0; vars = parts.0.1; body = parts.0.2 }, parts.1)
 

@@ -4,26 +4,23 @@ ghost use Rattle.mls_syntax.specs.Fault.{lifted};
 
 use mls_tokens::{TokenCause, TokenFault};
 use std::alloc::{AllocError, AllocFailed};
-use thiserror::Error;
 
 /// Why a text is no transactions, whatever its names stand for.
-#[derive(Clone, Copy, PartialEq, Eq, Debug, Error)]
+#[derive(Clone, Copy)]
 pub enum SyntaxCause {
-    #[error("no token stands here")]
+    /// No token stands there.
     Token,
-    #[error("no transaction goes on so")]
+    /// No transaction goes on so.
     Expected,
-    #[error("statements, or the parts of an expression, are nested too deeply")]
+    /// Statements, or the parts of an expression, are nested too deeply.
     Depth,
-    #[error("a text is too long, or there are too many things of a kind")]
+    /// A text is too long, or there are too many things of a kind.
     TooLong,
-    #[error("out of memory")]
     Memory,
 }
 
 /// Where in a text which fault stands: bytes are counted from 1 over the whole text.
-#[derive(Clone, Copy, PartialEq, Eq, Debug, Error)]
-#[error("byte {at}: {cause}")]
+#[derive(Clone, Copy)]
 pub struct SyntaxFault {
     pub at: usize,
     pub cause: SyntaxCause,

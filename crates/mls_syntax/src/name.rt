@@ -4,7 +4,7 @@ use mls_lattice::Str;
 use std::marker::Model;
 
 /// A name as it is written, and the place of its first byte: the bytes of the whole text are counted from 1.
-#[derive(Drop, Debug)]
+#[derive(Drop)]
 pub struct Name {
     text: Str,
     at: usize,

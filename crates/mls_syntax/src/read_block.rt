@@ -8,8 +8,8 @@ use crate::fault::{SyntaxCause, SyntaxFault};
 use crate::limits::{MAX_DEPTH, MAX_STATEMENTS};
 use crate::name::Name;
 use crate::read_expr::whole;
-use crate::read_stmt::plain;
-use crate::words::{Opening, name_behind, pass_name, pass_opening};
+use crate::read_stmt::{names_behind, plain};
+use crate::words::{Opening, pass_name, pass_opening};
 use mls_tokens::{Sign, Tokens};
 use std::alloc::Global;
 
@@ -89,8 +89,7 @@ fn loop_head(tokens: &mut Tokens) -> Result<(Name, Name, Name), SyntaxFault>
     ensures { Gives (λ x. ((x.0, x.1, x.2), tokens.new)) result (loop_head_at tokens.old) }
 {
     let row = pass_name(tokens)?;
-    let relation = name_behind(tokens, "in")?;
-    let label = name_behind(tokens, "at")?;
+    let (relation, label) = names_behind(tokens, "in", "at")?;
     Ok((row, relation, label))
 }
 

@@ -1,7 +1,7 @@
 //! Statements with no statement inside, from the tokens that are left, each behind what it begins with.
 ghost use Rattle.std.specs.Prelude.{◌≡◌, option_map};
 ghost use Rattle.mls_syntax.specs.Fault.{Gives};
-ghost use Rattle.mls_syntax.specs.ReadBlock.{list_behind, outcome_at, written_at, keyed_at, assign_at, insert_at, classes_at, changes_at, renewal_at, update_at, delete_at, last_name_at, release_at, emit_at, plain_at};
+ghost use Rattle.mls_syntax.specs.ReadBlock.{names_behind, list_behind, outcome_at, written_at, keyed_at, assign_at, insert_at, classes_at, changes_at, renewal_at, update_at, delete_at, last_name_at, release_at, emit_at, plain_at};
 
 use crate::block::Stmt;
 use crate::expr::Expr;
@@ -14,6 +14,20 @@ use crate::words::{Plain, name_behind, pass_name};
 use mls_lattice::Items;
 use mls_tokens::{Sign, Tokens};
 use std::alloc::Global;
+
+/// Two words, and a name behind each.
+#[tactic(auto, unfolding(crate::specs::ReadBlock::names_behind))]
+pub(crate) fn names_behind(
+    tokens: &mut Tokens,
+    first: &str,
+    second: &str,
+) -> Result<(Name, Name), SyntaxFault>
+    ensures { Gives (λ x. ((x.0, x.1), tokens.new)) result (names_behind first.now second.now tokens.old) }
+{
+    let one = name_behind(tokens, first)?;
+    let other = name_behind(tokens, second)?;
+    Ok((one, other))
+}
 
 /// A word, and a list behind it.
 #[tactic(auto, unfolding(crate::specs::ReadBlock::list_behind))]
@@ -29,12 +43,13 @@ fn list_behind(alloc: Global, tokens: &mut Tokens, word: &str) -> Result<ExprLis
 fn outcome(tokens: &mut Tokens) -> Result<Option<Name>, SyntaxFault>
     ensures { Gives (λ x. (x, tokens.new)) result (outcome_at tokens.old) }
 {
-    let mut outcome = None;
-    if tokens.takes_word("as").is_some() {
-        outcome = Some(pass_name(tokens)?);
+    if tokens.takes_word("as").is_none() {
+        tokens.sign(Sign::Semicolon)?;
+        return Ok(None);
     }
+    let outcome = pass_name(tokens)?;
     tokens.sign(Sign::Semicolon)?;
-    Ok(outcome)
+    Ok(Some(outcome))
 }
 
 /// Where a tuple is written, and the outcome.
@@ -89,8 +104,7 @@ fn classes(tokens: &mut Tokens) -> Result<(Name, Name, Name), SyntaxFault>
     ensures { Gives (λ x. ((x.0, x.1, x.2), tokens.new)) result (classes_at tokens.old) }
 {
     let key_class = name_behind(tokens, "class")?;
-    let from = name_behind(tokens, "from")?;
-    let at = name_behind(tokens, "at")?;
+    let (from, at) = names_behind(tokens, "from", "at")?;
     Ok((key_class, from, at))
 }
 

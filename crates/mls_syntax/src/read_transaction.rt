@@ -2,7 +2,7 @@
 ghost use Rattle.std.specs.Prelude.{◌≡◌, ◌≤◌, length, IfOk};
 ghost use Rattle.mls_syntax.specs.Fault.{Gives, fault_at};
 ghost use Rattle.mls_syntax.specs.Next.{next_param_at, next_var_at, next_transaction_at};
-ghost use Rattle.mls_syntax.specs.Reading.{param_at, params_from, params_at, var_at, vars_at, interval_at, parts_at, transaction_at, transactions_from};
+ghost use Rattle.mls_syntax.specs.Reading.{kind_and_label, params_from, params_at, var_at, vars_at, parts_at, transaction_at, transactions_from};
 ghost use Rattle.std.specs.Prelude.{[]};
 
 use crate::block::Block;
@@ -10,9 +10,11 @@ use crate::fault::{SyntaxCause, SyntaxFault};
 use crate::limits::{MAX_NAMES, MAX_TRANSACTIONS};
 use crate::name::Name;
 use crate::read_block::body;
+use crate::read_stmt::names_behind;
 use crate::transaction::{Parameter, Transaction, Variable};
 use crate::words::{name_behind, pass_kind, pass_name};
 use mls_lattice::Items;
+use mls_scheme::Kind;
 use mls_tokens::{Sign, Tokens};
 use std::alloc::Global;
 
@@ -26,28 +28,28 @@ fn too_many(at: usize) -> SyntaxFault
     }
 }
 
-/// A parameter behind its name.
-#[tactic(auto, unfolding(crate::specs::Reading::param_at))]
-fn param(tokens: &mut Tokens, name: Name) -> Result<Parameter, SyntaxFault>
-    ensures { Gives (λ x. (x, tokens.new)) result (param_at name tokens.old) }
+/// The kind and the label of a parameter, behind its name.
+#[tactic(auto, unfolding(crate::specs::Reading::kind_and_label))]
+fn kind_and_label(tokens: &mut Tokens) -> Result<(Kind, Name), SyntaxFault>
+    ensures { Gives (λ x. ((x.0, x.1), tokens.new)) result (kind_and_label tokens.old) }
 {
     tokens.sign(Sign::Colon)?;
     let (kind, _) = pass_kind(tokens)?;
     let label = name_behind(tokens, "at")?;
-    Ok(Parameter { name, kind, label })
+    Ok((kind, label))
 }
 
 /// One parameter more, behind so many.
-#[tactic(auto, unfolding(crate::specs::Next::next_param_at))]
+#[tactic(auto, unfolding(crate::specs::Next::next_param_at, crate::specs::Reading::param_at))]
 fn next_param(tokens: &mut Tokens, count: usize) -> Result<Parameter, SyntaxFault>
     ensures { Gives (λ x. (x, tokens.new)) result (next_param_at count tokens.old) }
 {
     let name = pass_name(tokens)?;
-    if count < MAX_NAMES {
-        param(tokens, name)
-    } else {
-        Err(too_many(name.at()))
+    if count >= MAX_NAMES {
+        return Err(too_many(name.at()));
     }
+    let (kind, label) = kind_and_label(tokens)?;
+    Ok(Parameter { name, kind, label })
 }
 
 /// Parameters, one or more with a comma between each two.
@@ -120,16 +122,6 @@ fn vars(alloc: Global, tokens: &mut Tokens) -> Result<Vec<Variable>, SyntaxFault
     }
 }
 
-/// The labels that a transaction runs between.
-#[tactic(auto, unfolding(crate::specs::Reading::interval_at))]
-fn interval(tokens: &mut Tokens) -> Result<(Name, Name), SyntaxFault>
-    ensures { Gives (λ x. ((x.0, x.1), tokens.new)) result (interval_at tokens.old) }
-{
-    let lo = name_behind(tokens, "levels")?;
-    let hi = name_behind(tokens, "to")?;
-    Ok((lo, hi))
-}
-
 /// A transaction behind its labels: its parameters, its variables and its statements.
 #[tactic(auto, unfolding(crate::specs::Reading::parts_at))]
 fn parts(
@@ -151,7 +143,7 @@ fn transaction(alloc: Global, tokens: &mut Tokens) -> Result<Transaction, Syntax
     ensures { Gives (λ x. (x, tokens.new)) result (transaction_at tokens.old) }
 {
     let name = pass_name(tokens)?;
-    let (lo, hi) = interval(tokens)?;
+    let (lo, hi) = names_behind(tokens, "levels", "to")?;
     let (params, vars, body) = parts(alloc, tokens)?;
     Ok(Transaction {
         name,

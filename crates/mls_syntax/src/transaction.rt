@@ -4,7 +4,7 @@ use mls_lattice::Items;
 use mls_scheme::Kind;
 
 /// A parameter: the kind of its values, and their label.
-#[derive(Drop, Debug)]
+#[derive(Drop)]
 pub struct Parameter {
     pub name: Name,
     pub kind: Kind,
@@ -12,7 +12,7 @@ pub struct Parameter {
 }
 
 /// A variable, and the kind of its values.
-#[derive(Drop, Debug)]
+#[derive(Drop)]
 pub struct Variable {
     pub name: Name,
     pub kind: Kind,

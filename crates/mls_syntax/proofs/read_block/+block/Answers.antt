@@ -1,7 +1,9 @@
-use Rattle.std.proofs.Common.{rules, ◌≡◌, None}
+use Rattle.std.proofs.Common.{rules, ◌≡◌, List, None, Ok, sym, subst}
 use Rattle.mls_tokens.specs.declared.sign.Sign.TheVariants.{RightBrace}
 use Rattle.mls_tokens.specs.Passing.{is_sign, taken}
-use Rattle.mls_syntax.proofs.StmtSteps.{stmts_err, stmts_end}
+use Rattle.mls_syntax.specs.declared.block.Stmt.{Stmt}
+use Rattle.mls_syntax.specs.ReadBlock.{stmts_at, stmt_at}
+use Rattle.mls_syntax.proofs.StmtSteps.{up_to, blocks_read, if_read, for_read, StmtsSoFar, stmts_err, stmts_end, stmts_more}
 use Rattle.mls_syntax.proofs.read_block.+block.Goals as goal
 
 pub stmts-returns-in_err-next-clause-exact : goal.stmts-returns-in_err-next-clause-exact
@@ -14,3 +16,34 @@ pub stmts-returns-clause-exact : goal.stmts-returns-clause-exact
 stmts-returns-clause-exact t c =
     let stop = stmts_end c.args.depth c.args.count c.args.tokens.now c.loop-alloc.stmts.items c.loop-alloc.count c.loop-alloc.tokens c.loop-alloc.invariant in
     search (rules, stop)
+
+pub stmts-loop-alloc-preserved : goal.stmts-loop-alloc-preserved
+stmts-loop-alloc-preserved t c =
+    let off : taken (is_sign RightBrace) c.loop-alloc.tokens ≡ None = search rules in
+    let is : stmt_at c.args.depth c.loop-alloc.count c.loop-alloc.tokens ≡ Ok (c.in_ok-next.next, c.in_ok-next.so_far, c.stmt.new.tokens) = search rules in
+    subst (λ (xs : List Stmt). StmtsSoFar c.args.depth c.args.count c.args.tokens.now xs c.in_ok-next.so_far c.stmt.new.tokens) (sym c.in_ok-push.ensures.items)
+    (stmts_more c.args.depth c.args.count c.args.tokens.now c.loop-alloc.stmts.items c.loop-alloc.count c.loop-alloc.tokens c.loop-alloc.invariant off
+    c.in_ok-next.next c.in_ok-next.so_far c.stmt.new.tokens is c.in_ok-next.ensures.counted.0 c.in_ok-next.ensures.counted.1)
+
+-- ---- statements with blocks inside
+
+pub blocks-returns : goal.blocks-returns
+blocks-returns t c = record {
+  exact = blocks_read (stmts_at c.args.depth) c.args.count c.args.tokens.now c.braced.new.tokens c.other.new.tokens
+      c.in_ok-one.one c.in_ok-other.other c.in_ok-one.count c.in_ok-other.count c.in_ok-one.ensures.exact c.in_ok-other.ensures.exact;
+  counted = (up_to c.args.count c.in_ok-one.count c.in_ok-other.count c.in_ok-one.ensures.counted.0 c.in_ok-other.ensures.counted.0, c.in_ok-other.ensures.counted.1);
+}
+
+pub if_stmt-returns : goal.if_stmt-returns
+if_stmt-returns t c = record {
+  exact = if_read (stmts_at c.args.depth) c.args.count c.args.tokens.now c.whole.new.tokens c.blocks-2.new.tokens
+      c.in_ok-guard.guard c.in_ok-one.one c.in_ok-one.other c.in_ok-one.count c.in_ok-guard.ensures c.in_ok-one.ensures.exact;
+  counted = c.in_ok-one.ensures.counted;
+}
+
+pub for_stmt-returns : goal.for_stmt-returns
+for_stmt-returns t c = record {
+  exact = for_read (stmts_at c.args.depth) c.args.count c.args.tokens.now c.loop_head.new.tokens c.braced.new.tokens
+      c.in_ok-row.row c.in_ok-row.relation c.in_ok-row.label c.in_ok-body.body c.in_ok-body.count c.in_ok-row.ensures c.in_ok-body.ensures.exact;
+  counted = c.in_ok-body.ensures.counted;
+}

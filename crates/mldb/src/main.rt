@@ -4,20 +4,20 @@
 mod machine;
 
 use crate::machine::Machine;
-use mls_command::{Refusal, act};
+use mls_command::{Usage, act};
 use std::io::ErrorKind;
 use std::process::ExitCode;
 
 /// The words of the command line.
-fn words_of(rt: &HostRuntime) -> Result<Vec<String>, Refusal> {
+fn words_of(rt: &HostRuntime) -> Result<Vec<String>, Usage> {
     match std::env::args(rt) {
         Ok(words) => Ok(words.collect(rt.alloc())?),
-        Err(e) if e.kind() == ErrorKind::OutOfMemory => Err(Refusal::Memory),
-        Err(_) => Err(Refusal::Usage(String::from_str(rt.alloc(), "mldb: a word is not UTF-8\n")?)),
+        Err(e) if e.kind() == ErrorKind::OutOfMemory => Err(Usage::Memory),
+        Err(_) => Err(Usage::Text(String::from_str(rt.alloc(), "mldb: a word is not UTF-8\n")?)),
     }
 }
 
-fn run(rt: &HostRuntime) -> Result<u8, Refusal> {
+fn run(rt: &HostRuntime) -> Result<u8, Usage> {
     let words = words_of(rt)?;
     let words: Vec<&str> = words.iter().map(|word| word.as_str()).collect(rt.alloc())?;
     let host = Machine::new(rt);
@@ -28,10 +28,10 @@ fn run(rt: &HostRuntime) -> Result<u8, Refusal> {
 fn main(rt: HostRuntime) -> ExitCode {
     match run(&rt) {
         Ok(status) => ExitCode::from(status),
-        Err(refusal) => {
+        Err(usage) => {
             // A failure of standard error changes nothing.
-            let _ = refusal.tell(&mut rt.stderr());
-            ExitCode::from(refusal.status())
+            let _ = usage.tell(&mut rt.stderr());
+            ExitCode::from(usage.status())
         }
     }
 }

@@ -13,9 +13,10 @@ use Rattle.mls_machine.specs.Site.{Site}
 use Rattle.mls_machine.specs.declared.stored.Stored.{Stored}
 use Rattle.mls_command.specs.declared.samples.TheConstants.{POLICY, SCHEMES}
 use Rattle.mls_command.specs.declared.words.Job.{Job}
-use Rattle.mls_command.specs.declared.words.Job.TheVariants.{Samples, Run, ShowPolicy, Certify, Check}
+use Rattle.mls_command.specs.declared.words.Job.TheVariants.{Samples, Under}
+use Rattle.mls_command.specs.declared.words.Task.{Task}
+use Rattle.mls_command.specs.declared.words.Task.TheVariants.{ShowPolicy, Run, Certify, Check}
 use Rattle.mls_command.specs.declared.words.RunFiles.{RunFiles}
-use Rattle.mls_command.specs.declared.words.TxFiles.{TxFiles}
 use Rattle.mls_command.specs.declared.ending.Ending.{Ending}
 use Rattle.mls_command.specs.declared.ending.Ending.TheVariants.{Well}
 use Rattle.mls_command.specs.Words.{Asks}
@@ -29,19 +30,11 @@ module _ (Gives : Option (List ℕ) → List ℕ → Type 0) where
   abbrev pub IsRunOf : Option (List ℕ) → Site → Option (List ℕ) → Option (List ℕ) → Type 0
   IsRunOf source site before after = IsFrom Gives source (λ script. IsScriptRun site script before after)
 
-  -- the script is run at the site of the schemes, the transactions and the certificates
-  pub record IsRunUnder (policy : Tables) (files : RunFiles) (before after : Option (List ℕ)) : Type 0 where
-    pub schemes : Schemes
+  -- the script of a file is run at the site of the policy, the schemes, and the transactions and certificates of others
+  pub record IsFilesRun (policy : Tables) (schemes : Schemes) (files : RunFiles) (before after : Option (List ℕ)) : Type 0 where
     pub stored : List Stored
-    pub schemes_are : AreSchemesFrom Gives files.schemes.now policy schemes
     pub stored_are : AreStoredFrom Gives (option_map (λ p. p.now) files.transactions) (option_map (λ p. p.now) files.certificates) policy schemes stored
     pub run : IsRunOf (Some files.script.now) (record { policy = policy; schemes = schemes; stored = stored }) before after
-
-  -- and under the policy
-  pub record IsFilesRun (files : RunFiles) (before after : Option (List ℕ)) : Type 0 where
-    pub policy : Tables
-    pub policy_is : IsPolicyFrom Gives files.policy.now policy
-    pub run : IsRunUnder policy files before after
 
   -- the script on the standard input is run under the sample schemes, with nothing stored
   pub record IsSampleRunUnder (policy : Tables) (before after : Option (List ℕ)) : Type 0 where
@@ -57,51 +50,43 @@ module _ (Gives : Option (List ℕ) → List ℕ → Type 0) where
     pub policy_is : ReadsPolicy POLICY.now policy
     pub run : IsSampleRunUnder policy before after
 
-  -- the canonical texts of a policy and its schemes are written
-  pub record AreSchemesShown (policy : Tables) (path : List ℕ) (before after : Option (List ℕ)) : Type 0 where
-    pub schemes : Schemes
-    pub schemes_are : AreSchemesFrom Gives path policy schemes
-    pub written : Appends before after (lattice.canon_of policy ++ scheme.canon_of policy schemes)
-
-  pub record IsShown (policy_path schemes_path : List ℕ) (before after : Option (List ℕ)) : Type 0 where
-    pub policy : Tables
-    pub policy_is : IsPolicyFrom Gives policy_path policy
-    pub shown : AreSchemesShown policy schemes_path before after
-
-  -- something is done with the transactions of a file, under schemes of another
-  pub record IsDoneUnder (policy : Tables) (files : TxFiles) (Does : List Tx → Type 0) : Type 0 where
-    pub schemes : Schemes
+  -- something is done with the transactions of a file
+  pub record IsDoneWith (policy : Tables) (schemes : Schemes) (path : List ℕ) (Does : List Tx → Type 0) : Type 0 where
     pub txs : List Tx
-    pub schemes_are : AreSchemesFrom Gives files.schemes.now policy schemes
-    pub told : AreToldIn Gives files.transactions.now policy schemes txs
+    pub told : AreToldIn Gives path policy schemes txs
     pub done : Does txs
 
-  abbrev pub IsCertifiedUnder : TxFiles → Tables → Option (List ℕ) → Option (List ℕ) → Ending → Type 0
-  IsCertifiedUnder files policy before after ending = IsDoneUnder policy files (λ txs. IsCertified policy txs before after ending)
+  abbrev pub IsCertifying : Tables → Schemes → List ℕ → Option (List ℕ) → Option (List ℕ) → Ending → Type 0
+  IsCertifying policy schemes path before after ending = IsDoneWith policy schemes path (λ txs. IsCertified policy txs before after ending)
 
   -- with the certificates of a further file
-  abbrev pub IsCheckedUnder : TxFiles → List ℕ → Tables → Option (List ℕ) → Option (List ℕ) → Ending → Type 0
-  IsCheckedUnder files certificates policy before after ending =
-      IsDoneUnder policy files (λ txs. (blocks : List Block) × AreBlocksIn Gives certificates blocks × IsChecked policy blocks txs before after ending)
+  abbrev pub IsChecking : Tables → Schemes → List ℕ → List ℕ → Option (List ℕ) → Option (List ℕ) → Ending → Type 0
+  IsChecking policy schemes path certificates before after ending =
+      IsDoneWith policy schemes path (λ txs. (blocks : List Block) × AreBlocksIn Gives certificates blocks × IsChecked policy blocks txs before after ending)
 
-  -- and under the policy
-  pub record IsCertifying (files : TxFiles) (before after : Option (List ℕ)) (ending : Ending) : Type 0 where
-    pub policy : Tables
-    pub policy_is : IsPolicyFrom Gives files.policy.now policy
-    pub certified : IsCertifiedUnder files policy before after ending
+  -- a task is done under a policy and schemes
+  abbrev pub IsTaskDone : Tables → Schemes → Task → Option (List ℕ) → Option (List ℕ) → Ending → Type 0
+  IsTaskDone policy schemes ShowPolicy before after ending = Appends before after (lattice.canon_of policy ++ scheme.canon_of policy schemes) × (ending ≡ Well)
+  IsTaskDone policy schemes (Run files) before after ending = IsFilesRun policy schemes files before after × (ending ≡ Well)
+  IsTaskDone policy schemes (Certify transactions) before after ending = IsCertifying policy schemes transactions.now before after ending
+  IsTaskDone policy schemes (Check transactions certificates) before after ending = IsChecking policy schemes transactions.now certificates.now before after ending
 
-  pub record IsChecking (files : TxFiles) (certificates : List ℕ) (before after : Option (List ℕ)) (ending : Ending) : Type 0 where
+  -- under the schemes of a file
+  pub record IsDoneUnder (policy : Tables) (path : List ℕ) (task : Task) (before after : Option (List ℕ)) (ending : Ending) : Type 0 where
+    pub schemes : Schemes
+    pub schemes_are : AreSchemesFrom Gives path policy schemes
+    pub done : IsTaskDone policy schemes task before after ending
+
+  -- and under the policy of another
+  pub record IsDoneBy (policy_path schemes_path : List ℕ) (task : Task) (before after : Option (List ℕ)) (ending : Ending) : Type 0 where
     pub policy : Tables
-    pub policy_is : IsPolicyFrom Gives files.policy.now policy
-    pub checked : IsCheckedUnder files certificates policy before after ending
+    pub policy_is : IsPolicyFrom Gives policy_path policy
+    pub done : IsDoneUnder policy schemes_path task before after ending
 
   -- what the words ask for is done
   abbrev pub IsDone : Job → Option (List ℕ) → Option (List ℕ) → Ending → Type 0
   IsDone Samples before after ending = IsSampleRun before after × (ending ≡ Well)
-  IsDone (Run files) before after ending = IsFilesRun files before after × (ending ≡ Well)
-  IsDone (ShowPolicy policy schemes) before after ending = IsShown policy.now schemes.now before after × (ending ≡ Well)
-  IsDone (Certify files) before after ending = IsCertifying files before after ending
-  IsDone (Check files certificates) before after ending = IsChecking files certificates.now before after ending
+  IsDone (Under policy schemes task) before after ending = IsDoneBy policy.now schemes.now task before after ending
 
   -- a job for which so many words can ask is done
   pub record IsAnswered (words : ℕ) (before after : Option (List ℕ)) (ending : Ending) : Type 0 where

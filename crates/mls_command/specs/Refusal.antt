@@ -1,5 +1,5 @@
 -- Why a command ends without success, and the line that tells it.
-use Rattle.std.specs.Prelude.{ℕ, List, ◌++◌, codes, string_bytes}
+use Rattle.std.specs.Prelude.{ℕ, List, ◌++◌, codes}
 use Rattle.std.specs.Fmt.{decimal}
 use Rattle.mls_lattice.specs.declared.fault.PolicyFault.TheVariants as policies
 use Rattle.mls_lattice.specs.Fault as policy_faults
@@ -23,7 +23,7 @@ use Rattle.mls_command.specs.declared.host.HostFault.TheVariants as host
 use Rattle.mls_command.specs.declared.refusal.Role.{Role}
 use Rattle.mls_command.specs.declared.refusal.Role.TheVariants as role
 use Rattle.mls_command.specs.declared.refusal.Refusal.{Refusal}
-use Rattle.mls_command.specs.declared.refusal.Refusal.TheVariants.{Usage, Unreadable, TooLong, Policy, Schemes, Transactions, Certificates, Script, Store, Run, Output, Memory}
+use Rattle.mls_command.specs.declared.refusal.Refusal.TheVariants.{Unreadable, TooLong, Policy, Schemes, Transactions, Certificates, Script, Store, Run, Output, Memory}
 
 abbrev pub role_word : Role → List ℕ
 role_word role.Policy = codes "policy"
@@ -47,11 +47,6 @@ abbrev pub input_refusal : Role → HostFault → Refusal
 input_refusal r host.Unreadable = Unreadable r
 input_refusal r host.TooLong = TooLong r
 input_refusal r host.Memory = memory_refusal r
-
--- the command line is not refused
-abbrev pub IsNoUsage : Refusal → Type 0
-IsNoUsage (Usage text) = ⊥
-IsNoUsage _ = Unit {0}
 
 -- ---- lines
 
@@ -89,7 +84,6 @@ run_text f = codes "mldb: run: " ++ cause_word f.cause ++ codes " at " ++ decima
 
 -- what is told of a refusal
 abbrev pub refusal_text : Refusal → List ℕ
-refusal_text (Usage text) = string_bytes text
 refusal_text (Unreadable r) = input_text r (codes "unreadable")
 refusal_text (TooLong r) = input_text r (codes "too long")
 refusal_text (Policy f) = fault_text role.Policy (policy_faults.code_of f) (policy_faults.word_of f)

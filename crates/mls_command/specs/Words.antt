@@ -1,17 +1,20 @@
--- What the words of a command line ask for, and what they are refused for.
-use Rattle.std.specs.Prelude.{◌≡◌, ◌≢◌, ℕ, ◌<◌, ◌≤◌}
+-- What the words of a command line ask for, and what is said where they ask for nothing.
+use Rattle.std.specs.Prelude.{◌≡◌, ◌≢◌, ℕ, ◌<◌, ◌≤◌, List, codes, string_bytes}
 use Rattle.mls_command.specs.declared.words.Job.{Job}
 use Rattle.mls_command.specs.declared.words.Job.TheVariants.{Samples}
-use Rattle.mls_command.specs.declared.refusal.Refusal.{Refusal}
-use Rattle.mls_command.specs.declared.refusal.Refusal.TheVariants.{Usage, Memory}
-
--- a text of the parser, or want of memory
-abbrev pub IsOfWords : Refusal → Type 0
-IsOfWords (Usage text) = Unit {0}
-IsOfWords Memory = Unit {0}
-IsOfWords _ = ⊥
+use Rattle.mls_command.specs.declared.usage.Usage.{Usage}
+use Rattle.mls_command.specs.declared.usage.Usage.TheVariants.{Text, Memory}
 
 -- the samples without any word after the name of the program, and only then
 pub record Asks (words : ℕ) (job : Job) : Type 0 where
   pub samples : words < 2 → job ≡ Samples
   pub other : 2 ≤ words → job ≢ Samples
+
+-- what is said where they ask for nothing that can be done
+abbrev pub usage_text : Usage → List ℕ
+usage_text (Text text) = string_bytes text
+usage_text Memory = codes "mldb: memory\n"
+
+abbrev pub usage_status : Usage → ℕ
+usage_status (Text text) = 2
+usage_status Memory = 3

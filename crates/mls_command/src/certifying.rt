@@ -1,20 +1,19 @@
 //! Transactions get the least certificates that hold for them.
-ghost use Rattle.std.specs.Prelude.{◌≡◌, ◌++◌, string_bytes, IfOk, OnOk, IfErr};
+ghost use Rattle.std.specs.Prelude.{◌≡◌, ◌++◌, string_bytes, IfOk, OnOk};
 ghost use Rattle.std.specs.List.{flat_map, list_any};
 ghost use Rattle.mls_command.specs.Certifying.{AreLabels, IsAnswer, AreAnswers, block_of, none_front, none_text, refusal_of, has_none, ending_of, IsListing, IsCertified};
-ghost use Rattle.mls_command.specs.Acting.{IsCertifiedUnder, IsCertifying};
-ghost use Rattle.mls_command.specs.Refusal.{IsNoUsage};
+ghost use Rattle.mls_command.specs.Acting.{IsCertifying};
 
 use crate::ending::Ending;
 use crate::host::Host;
-use crate::inputs::{policy_of, schemes_of, transactions_in};
+use crate::inputs::transactions_in;
 use crate::refusal::Refusal;
 use crate::showing::print;
-use crate::words::TxFiles;
 use mls_certcheck::Rule;
 use mls_certificate::{Cert, block_print};
 use mls_labeller::{LabelFault, label_tx};
 use mls_lattice::Policy;
+use mls_scheme::Schemes;
 use mls_translang::Tx;
 use std::alloc::{AllocError, Global};
 use std::io::Write;
@@ -180,8 +179,7 @@ fn certify<W: Write, E: Write>(
     out: &mut W,
     err: &mut E,
 ) -> Result<Ending, Refusal>
-    ensures ok { IfOk result (IsCertified policy.now txs.now (W.contents out.old) (W.contents out.new)) }
-    ensures refused { IfErr result IsNoUsage }
+    ensures { IfOk result (IsCertified policy.now txs.now (W.contents out.old) (W.contents out.new)) }
 {
     let listing = listing_of(alloc, policy, txs)?;
     print(out, listing.blocks.as_bytes())?;
@@ -190,33 +188,18 @@ fn certify<W: Write, E: Write>(
     Ok(listing.ending)
 }
 
-fn certify_under<H: Host, W: Write, E: Write>(
-    alloc: Global,
-    host: &H,
-    policy: &Policy,
-    files: TxFiles,
-    out: &mut W,
-    err: &mut E,
-) -> Result<Ending, Refusal>
-    ensures ok { IfOk result (IsCertifiedUnder (H.gives host.now) files.entry policy.now (W.contents out.old) (W.contents out.new)) }
-    ensures refused { IfErr result IsNoUsage }
-{
-    let schemes = schemes_of(alloc, host, policy, files.schemes)?;
-    let txs = transactions_in(alloc, host, policy, &schemes, files.transactions)?;
-    certify(alloc, policy, &txs, out, err)
-}
-
 /// Prints the least certificate of each transaction of a file, and tells which transactions have none.
 pub(crate) fn certify_files<H: Host, W: Write, E: Write>(
     alloc: Global,
     host: &H,
-    files: TxFiles,
+    policy: &Policy,
+    schemes: &Schemes,
+    transactions: &str,
     out: &mut W,
     err: &mut E,
 ) -> Result<Ending, Refusal>
-    ensures ok { IfOk result (IsCertifying (H.gives host.now) files.entry (W.contents out.old) (W.contents out.new)) }
-    ensures refused { IfErr result IsNoUsage }
+    ensures { IfOk result (IsCertifying (H.gives host.now) policy.now schemes.now transactions.now (W.contents out.old) (W.contents out.new)) }
 {
-    let policy = policy_of(alloc, host, files.policy)?;
-    certify_under(alloc, host, &policy, files, out, err)
+    let txs = transactions_in(alloc, host, policy, schemes, transactions)?;
+    certify(alloc, policy, &txs, out, err)
 }

@@ -1,30 +1,29 @@
 //! Certificates are checked against the transactions of their names.
-ghost use Rattle.std.specs.Prelude.{◌≡◌, ◌↔◌, ◌++◌, Some, string_bytes, IfOk, OnOk, IfErr};
+ghost use Rattle.std.specs.Prelude.{◌≡◌, ◌↔◌, ◌++◌, Some, string_bytes, IfOk, OnOk};
 ghost use Rattle.std.specs.List.{flat_map, list_any};
 ghost use Rattle.mls_certcheck.specs.Rules.{Rules, claim};
 ghost use Rattle.mls_certificate.specs.declared.cert.Cert.{Cert as SpecCert};
 ghost use Rattle.mls_command.specs.Storing.{cert_named};
 ghost use Rattle.mls_command.specs.declared.checking.Verdict.TheVariants.{Yes};
 ghost use Rattle.mls_command.specs.Checking.{verdict_of, verdict_text, line_of, is_refused, IsChecked};
-ghost use Rattle.mls_command.specs.Acting.{IsCheckedUnder, IsChecking};
-ghost use Rattle.mls_command.specs.Refusal.{IsNoUsage};
+ghost use Rattle.mls_command.specs.Acting.{IsChecking};
 
 use crate::ending::Ending;
 use crate::host::Host;
-use crate::inputs::{certificates_in, policy_of, schemes_of, transactions_in};
+use crate::inputs::{certificates_in, transactions_in};
 use crate::refusal::Refusal as Stop;
 use crate::showing::print;
 use crate::storing::cert_named;
-use crate::words::TxFiles;
 use mls_certcheck::{Refusal, check};
 use mls_certificate::Cert;
 use mls_lattice::{Policy, Str};
+use mls_scheme::Schemes;
 use mls_translang::Tx;
 use std::alloc::{AllocError, Global};
 use std::io::Write;
 
 /// What is said of a transaction and the first certificate of its name.
-#[derive(Clone, Copy, PartialEq, Eq)]
+#[derive(Clone, Copy)]
 pub(crate) enum Verdict {
     Yes,
     /// The first rule that is broken.
@@ -104,8 +103,7 @@ fn check_all<W: Write>(
     txs: &[Tx],
     out: &mut W,
 ) -> Result<Ending, Stop>
-    ensures ok { IfOk result (IsChecked policy.now blocks.now txs.now (W.contents out.old) (W.contents out.new)) }
-    ensures refused { IfErr result IsNoUsage }
+    ensures { IfOk result (IsChecked policy.now blocks.now txs.now (W.contents out.old) (W.contents out.new)) }
 {
     let verdicts = verdicts_of(alloc, policy, blocks, txs)?;
     print(out, verdicts.text.as_bytes())?;
@@ -116,34 +114,19 @@ fn check_all<W: Write>(
     }
 }
 
-fn check_under<H: Host, W: Write>(
-    alloc: Global,
-    host: &H,
-    policy: &Policy,
-    files: TxFiles,
-    certificates: &str,
-    out: &mut W,
-) -> Result<Ending, Stop>
-    ensures ok { IfOk result (IsCheckedUnder (H.gives host.now) files.entry certificates.now policy.now (W.contents out.old) (W.contents out.new)) }
-    ensures refused { IfErr result IsNoUsage }
-{
-    let schemes = schemes_of(alloc, host, policy, files.schemes)?;
-    let txs = transactions_in(alloc, host, policy, &schemes, files.transactions)?;
-    let blocks = certificates_in(alloc, host, certificates)?;
-    check_all(alloc, policy, &blocks, &txs, out)
-}
-
 /// Says of each transaction of a file whether the first certificate of its name in another file holds for it.
 pub(crate) fn check_files<H: Host, W: Write>(
     alloc: Global,
     host: &H,
-    files: TxFiles,
+    policy: &Policy,
+    schemes: &Schemes,
+    transactions: &str,
     certificates: &str,
     out: &mut W,
 ) -> Result<Ending, Stop>
-    ensures ok { IfOk result (IsChecking (H.gives host.now) files.entry certificates.now (W.contents out.old) (W.contents out.new)) }
-    ensures refused { IfErr result IsNoUsage }
+    ensures { IfOk result (IsChecking (H.gives host.now) policy.now schemes.now transactions.now certificates.now (W.contents out.old) (W.contents out.new)) }
 {
-    let policy = policy_of(alloc, host, files.policy)?;
-    check_under(alloc, host, &policy, files, certificates, out)
+    let txs = transactions_in(alloc, host, policy, schemes, transactions)?;
+    let blocks = certificates_in(alloc, host, certificates)?;
+    check_all(alloc, policy, &blocks, &txs, out)
 }

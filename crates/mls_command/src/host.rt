@@ -8,7 +8,7 @@ use std::io::{ErrorKind, Read};
 pub const MOST_BYTES: usize = 1_048_576;
 
 /// Why an input is not read.
-#[derive(Clone, Copy, PartialEq, Eq, Debug)]
+#[derive(Clone, Copy)]
 pub enum HostFault {
     Unreadable,
     TooLong,

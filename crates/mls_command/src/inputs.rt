@@ -1,10 +1,9 @@
 //! Files, read as what a command takes them for.
-ghost use Rattle.std.specs.Prelude.{length, Some, option_map, IfOk, IfErr};
+ghost use Rattle.std.specs.Prelude.{length, Some, option_map, IfOk};
 ghost use Rattle.std.specs.List.{AllByRecursion};
 ghost use Rattle.mls_scheme.specs.Scheme.{AreUnder};
 ghost use Rattle.mls_translang.specs.Fits.{IsReadUnder};
 ghost use Rattle.mls_command.specs.Inputs.{IsPolicyFrom, AreSchemesFrom, AreToldIn, AreBlocksIn, AreTransactionsFrom, AreCertificatesFrom};
-ghost use Rattle.mls_command.specs.Refusal.{IsNoUsage};
 
 use crate::host::Host;
 use crate::refusal::{Refusal, Role};
@@ -21,8 +20,7 @@ pub(crate) fn input_of<H: Host>(
     role: Role,
     path: &str,
 ) -> Result<Vec<u8>, Refusal>
-    ensures given { IfOk result (λ bytes. H.gives host.now (Some path.now) bytes.items) }
-    ensures refused { IfErr result IsNoUsage }
+    ensures { IfOk result (λ bytes. H.gives host.now (Some path.now) bytes.items) }
 {
     match host.file(alloc, path) {
         Ok(bytes) => Ok(bytes),
@@ -31,8 +29,7 @@ pub(crate) fn input_of<H: Host>(
 }
 
 pub(crate) fn policy_of<H: Host>(alloc: Global, host: &H, path: &str) -> Result<Policy, Refusal>
-    ensures read { IfOk result (IsPolicyFrom (H.gives host.now) path.now) }
-    ensures refused { IfErr result IsNoUsage }
+    ensures { IfOk result (IsPolicyFrom (H.gives host.now) path.now) }
 {
     let bytes = input_of(alloc, host, Role::Policy, path)?;
     Ok(Policy::read(alloc, &bytes)?)
@@ -46,7 +43,6 @@ pub(crate) fn schemes_of<H: Host>(
 ) -> Result<Schemes, Refusal>
     ensures read { IfOk result (AreSchemesFrom (H.gives host.now) path.now policy.now) }
     ensures ok { IfOk result (AreUnder (length policy.now.labels)) }
-    ensures refused { IfErr result IsNoUsage }
 {
     let bytes = input_of(alloc, host, Role::Schemes, path)?;
     Ok(Schemes::read(alloc, policy, &bytes)?)
@@ -62,7 +58,6 @@ pub(crate) fn transactions_in<H: Host>(
 ) -> Result<Items<Tx>, Refusal>
     ensures told { IfOk result (AreToldIn (H.gives host.now) path.now policy.now schemes.now) }
     ensures ok { IfOk result (AllByRecursion (IsReadUnder policy.now schemes.now)) }
-    ensures refused { IfErr result IsNoUsage }
 {
     let bytes = input_of(alloc, host, Role::Transactions, path)?;
     Ok(parse(alloc, policy, schemes, &bytes)?)
@@ -78,7 +73,6 @@ pub(crate) fn transactions_of<H: Host>(
 ) -> Result<Items<Tx>, Refusal>
     ensures told { IfOk result (AreTransactionsFrom (H.gives host.now) (option_map (λ p. p.now) path.entry) policy.now schemes.now) }
     ensures ok { IfOk result (AllByRecursion (IsReadUnder policy.now schemes.now)) }
-    ensures refused { IfErr result IsNoUsage }
 {
     match path {
         None => Ok(Items::from(Vec::new(alloc))),
@@ -92,8 +86,7 @@ pub(crate) fn certificates_in<H: Host>(
     host: &H,
     path: &str,
 ) -> Result<Vec<(Str, Cert)>, Refusal>
-    ensures read { IfOk result (λ blocks. AreBlocksIn (H.gives host.now) path.now blocks.items) }
-    ensures refused { IfErr result IsNoUsage }
+    ensures { IfOk result (λ blocks. AreBlocksIn (H.gives host.now) path.now blocks.items) }
 {
     let bytes = input_of(alloc, host, Role::Certificates, path)?;
     Ok(certs_read(alloc, &bytes)?)
@@ -105,8 +98,7 @@ pub(crate) fn certificates_of<H: Host>(
     host: &H,
     path: Option<&str>,
 ) -> Result<Vec<(Str, Cert)>, Refusal>
-    ensures read { IfOk result (λ blocks. AreCertificatesFrom (H.gives host.now) (option_map (λ p. p.now) path.entry) blocks.items) }
-    ensures refused { IfErr result IsNoUsage }
+    ensures { IfOk result (λ blocks. AreCertificatesFrom (H.gives host.now) (option_map (λ p. p.now) path.entry) blocks.items) }
 {
     match path {
         None => Ok(Vec::new(alloc)),

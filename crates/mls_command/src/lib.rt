@@ -12,9 +12,10 @@ mod running;
 mod samples;
 mod showing;
 mod storing;
+mod usage;
 mod words;
 
 pub use crate::acting::act;
 pub use crate::host::{Host, HostFault, MOST_BYTES, read_whole};
-pub use crate::refusal::{Refusal, Role};
 pub use crate::running::run_on;
+pub use crate::usage::Usage;

@@ -1,7 +1,7 @@
 //! Why a command ends without success, and how that is told.
 ghost use Rattle.std.specs.Prelude.{◌≡◌, ◌⊎◌, OnOk};
 ghost use Rattle.std.specs.Io.KnownBytes.{Appends};
-ghost use Rattle.mls_command.specs.Refusal.{IsNoUsage, role_word, input_refusal, input_text, fault_text, line_text, front_text, spot_text, place_text, text_fault_text, cert_fault_text, script_fault_text, run_text, refusal_text};
+ghost use Rattle.mls_command.specs.Refusal.{role_word, input_refusal, input_text, fault_text, line_text, front_text, spot_text, place_text, text_fault_text, cert_fault_text, script_fault_text, run_text, refusal_text};
 
 use crate::host::HostFault;
 use mls_certificate::{CertCause, CertFault};
@@ -41,10 +41,8 @@ impl Role {
 }
 
 /// Why a command ends without success.
-#[derive(Drop)]
+#[derive(Clone, Copy)]
 pub enum Refusal {
-    /// The command line is bad, or asks for help: the text that is printed.
-    Usage(String),
     Unreadable(Role),
     TooLong(Role),
     Policy(PolicyFault),
@@ -141,8 +139,7 @@ fn tell_run<W: Write>(err: &mut W, fault: &RunFault) -> io::Result<()>
 impl Refusal {
     /// The refusal of an input that the host did not give.
     pub fn of_input(role: Role, fault: HostFault) -> Refusal
-        ensures exact { result ≡ input_refusal role fault }
-        ensures input { IsNoUsage result }
+        ensures { result ≡ input_refusal role fault }
     {
         match (fault, role) {
             (HostFault::Unreadable, _) => Refusal::Unreadable(role),
@@ -167,7 +164,7 @@ impl Refusal {
         }
     }
 
-    /// The exit status: 2 where an input or the command line was refused, 3 for store, writing and memory.
+    /// The exit status: 2 where an input was refused, 3 for store, writing and memory.
     pub fn status(&self) -> u8
         ensures { (result ≡ 2) ⊎ (result ≡ 3) }
     {
@@ -190,7 +187,6 @@ impl Refusal {
         ensures { OnOk result (Appends (W.contents err.old) (W.contents err.new) (refusal_text self.now)) }
     {
         match self {
-            Refusal::Usage(text) => err.write_all(text.as_bytes()),
             Refusal::Unreadable(role) => tell_input(err, *role, "unreadable"),
             Refusal::TooLong(role) => tell_input(err, *role, "too long"),
             Refusal::Policy(fault) => tell_fault(err, Role::Policy, fault.code(), fault.word()),

@@ -1,5 +1,5 @@
 //! Scripts that are run over an empty database.
-ghost use Rattle.std.specs.Prelude.{◌≡◌, false, length, option_map, IfOk, OnOk, IfErr};
+ghost use Rattle.std.specs.Prelude.{◌≡◌, false, length, option_map, IfOk, OnOk};
 ghost use Rattle.std.specs.List.{AllByRecursion};
 ghost use Rattle.std.specs.Io.KnownBytes.{Appends};
 ghost use Rattle.sqlite.specs.State.{HasCleanDisk};
@@ -10,13 +10,12 @@ ghost use Rattle.mls_fragments.specs.Based.{state_of};
 ghost use Rattle.mls_script.specs.Event.{EventFits};
 ghost use Rattle.mls_machine.specs.Observation.{AreRead, AreCertified, PassesOnlyReleasesDown};
 ghost use Rattle.mls_machine.specs.Laws.{KeepsIntegrity};
-ghost use Rattle.mls_command.specs.Running.{first_world, output, IsScriptRun};
+ghost use Rattle.mls_command.specs.Running.{first_world, output, IsLeftBy, IsScriptRun};
 ghost use Rattle.mls_command.specs.Inputs.{AreStoredFrom};
-ghost use Rattle.mls_command.specs.Acting.{IsSampleRunUnder, IsSampleRun, IsRunUnder, IsFilesRun};
-ghost use Rattle.mls_command.specs.Refusal.{IsNoUsage};
+ghost use Rattle.mls_command.specs.Acting.{IsSampleRunUnder, IsSampleRun, IsFilesRun};
 
 use crate::host::Host;
-use crate::inputs::{certificates_of, input_of, policy_of, schemes_of, transactions_of};
+use crate::inputs::{certificates_of, input_of, transactions_of};
 use crate::refusal::{Refusal, Role};
 use crate::samples;
 use crate::storing::stored_of;
@@ -43,7 +42,6 @@ fn stored_files<H: Host>(
     ensures from { IfOk result (AreStoredFrom (H.gives host.now) (option_map (λ p. p.now) files.entry.transactions) (option_map (λ p. p.now) files.entry.certificates) policy.now schemes.now) }
     ensures read { IfOk result (λ ss. AreRead (record { policy = policy.now; schemes = schemes.now; stored = ss })) }
     ensures certified { IfOk result (λ ss. AreCertified (record { policy = policy.now; schemes = schemes.now; stored = ss })) }
-    ensures refused { IfErr result IsNoUsage }
 {
     let txs = transactions_of(alloc, host, policy, schemes, files.transactions)?;
     let blocks = certificates_of(alloc, host, files.certificates)?;
@@ -62,8 +60,7 @@ fn run_script<W: Write>(
     requires under { AreUnder (length policy.now.labels) schemes.now }
     requires read { AreRead (record { policy = policy.now; schemes = schemes.now; stored = stored }) }
     requires certified { AreCertified (record { policy = policy.now; schemes = schemes.now; stored = stored }) }
-    ensures ok { OnOk result (IsScriptRun (record { policy = policy.now; schemes = schemes.now; stored = stored }) bytes.now (W.contents out.old) (W.contents out.new)) }
-    ensures refused { IfErr result IsNoUsage }
+    ensures { OnOk result (IsScriptRun (record { policy = policy.now; schemes = schemes.now; stored = stored }) bytes.now (W.contents out.old) (W.contents out.new)) }
 {
     let events = script(alloc, policy, schemes, bytes)?;
     run_events(alloc, policy, schemes, stored, &events, out)?;
@@ -86,6 +83,7 @@ pub fn run_on<B: Base, W: Write>(
     requires fits { AllByRecursion (EventFits policy.now schemes.now) events.now }
     requires empty { B.state base ≡ record { now = no_content; kept = no_content; begun = false } }
     ensures idle { (B.state result.1).begun ≡ false }
+    ensures left { B.is_clean result.1 → OnOk result.0 (IsLeftBy (record { policy = policy.now; schemes = schemes.now; stored = stored }) events.now (B.state result.1).now) }
     ensures written { B.is_clean result.1 → OnOk result.0 (Appends (W.contents out.old) (W.contents out.new) (output (record { policy = policy.now; schemes = schemes.now; stored = stored }) events.now)) }
     ensures integrity { B.is_clean result.1 → KeepsIntegrity (record { policy = policy.now; schemes = schemes.now; stored = stored }) first_world events.now }
     ensures secret { B.is_clean result.1 → OnOk result.0 (PassesOnlyReleasesDown (record { policy = policy.now; schemes = schemes.now; stored = stored }) first_world events.now) }
@@ -134,7 +132,6 @@ fn run_events<W: Write>(
     ensures written { OnOk result (Appends (W.contents out.old) (W.contents out.new) (output (record { policy = policy.now; schemes = schemes.now; stored = stored }) events.now)) }
     ensures integrity { OnOk result (KeepsIntegrity (record { policy = policy.now; schemes = schemes.now; stored = stored }) first_world events.now) }
     ensures secret { OnOk result (PassesOnlyReleasesDown (record { policy = policy.now; schemes = schemes.now; stored = stored }) first_world events.now) }
-    ensures refused { IfErr result IsNoUsage }
 {
     let base = SqlBase::open_memory(alloc, policy, schemes)?;
     let (outcome, _connection) = run_over(alloc, policy, schemes, stored, base, events, out);
@@ -148,8 +145,7 @@ fn run_sample_schemes<H: Host, W: Write>(
     policy: &Policy,
     out: &mut W,
 ) -> Result<(), Refusal>
-    ensures ok { OnOk result (IsSampleRunUnder (H.gives host.now) policy.now (W.contents out.old) (W.contents out.new)) }
-    ensures refused { IfErr result IsNoUsage }
+    ensures { OnOk result (IsSampleRunUnder (H.gives host.now) policy.now (W.contents out.old) (W.contents out.new)) }
 {
     let schemes = Schemes::read(alloc, policy, samples::SCHEMES.as_bytes())?;
     match host.input(alloc) {
@@ -167,38 +163,25 @@ pub(crate) fn run_samples<H: Host, W: Write>(
     host: &H,
     out: &mut W,
 ) -> Result<(), Refusal>
-    ensures ok { OnOk result (IsSampleRun (H.gives host.now) (W.contents out.old) (W.contents out.new)) }
-    ensures refused { IfErr result IsNoUsage }
+    ensures { OnOk result (IsSampleRun (H.gives host.now) (W.contents out.old) (W.contents out.new)) }
 {
     let policy = Policy::read(alloc, samples::POLICY.as_bytes())?;
     run_sample_schemes(alloc, host, &policy, out)
 }
 
-fn run_schemes<H: Host, W: Write>(
-    alloc: Global,
-    host: &H,
-    policy: &Policy,
-    files: RunFiles,
-    out: &mut W,
-) -> Result<(), Refusal>
-    ensures ok { OnOk result (IsRunUnder (H.gives host.now) policy.now files.entry (W.contents out.old) (W.contents out.new)) }
-    ensures refused { IfErr result IsNoUsage }
-{
-    let schemes = schemes_of(alloc, host, policy, files.schemes)?;
-    let stored = stored_files(alloc, host, policy, &schemes, files)?;
-    let bytes = input_of(alloc, host, Role::Script, files.script)?;
-    run_script(alloc, policy, &schemes, stored, &bytes, out)
-}
-
+/// Runs the script of a file, over the transactions and certificates of others.
 pub(crate) fn run_files<H: Host, W: Write>(
     alloc: Global,
     host: &H,
+    policy: &Policy,
+    schemes: &Schemes,
     files: RunFiles,
     out: &mut W,
 ) -> Result<(), Refusal>
-    ensures ok { OnOk result (IsFilesRun (H.gives host.now) files.entry (W.contents out.old) (W.contents out.new)) }
-    ensures refused { IfErr result IsNoUsage }
+    requires { AreUnder (length policy.now.labels) schemes.now }
+    ensures { OnOk result (IsFilesRun (H.gives host.now) policy.now schemes.now files.entry (W.contents out.old) (W.contents out.new)) }
 {
-    let policy = policy_of(alloc, host, files.policy)?;
-    run_schemes(alloc, host, &policy, files, out)
+    let stored = stored_files(alloc, host, policy, schemes, files)?;
+    let bytes = input_of(alloc, host, Role::Script, files.script)?;
+    run_script(alloc, policy, schemes, stored, &bytes, out)
 }

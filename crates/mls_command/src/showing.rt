@@ -1,14 +1,10 @@
 //! The canonical texts of a policy and its schemes.
-ghost use Rattle.std.specs.Prelude.{◌≡◌, ◌++◌, length, IfOk, OnOk, IfErr};
+ghost use Rattle.std.specs.Prelude.{◌≡◌, ◌++◌, length, IfOk, OnOk};
 ghost use Rattle.std.specs.Io.KnownBytes.{Appends};
 ghost use Rattle.mls_scheme.specs.Scheme.{AreUnder};
 ghost use Rattle.mls_lattice.specs.Canon as lattice;
 ghost use Rattle.mls_scheme.specs.Canon as scheme;
-ghost use Rattle.mls_command.specs.Acting.{AreSchemesShown, IsShown};
-ghost use Rattle.mls_command.specs.Refusal.{IsNoUsage};
 
-use crate::host::Host;
-use crate::inputs::{policy_of, schemes_of};
 use crate::refusal::Refusal;
 use mls_lattice::Policy;
 use mls_scheme::Schemes;
@@ -17,8 +13,7 @@ use std::io::Write;
 
 /// Writes what a command other than a run prints.
 pub(crate) fn print<W: Write>(out: &mut W, text: &[u8]) -> Result<(), Refusal>
-    ensures ok { OnOk result (Appends (W.contents out.old) (W.contents out.new) text.now) }
-    ensures refused { IfErr result IsNoUsage }
+    ensures { OnOk result (Appends (W.contents out.old) (W.contents out.new) text.now) }
 {
     match out.write_all(text) {
         Ok(()) => Ok(()),
@@ -36,32 +31,16 @@ fn texts_of(alloc: Global, policy: &Policy, schemes: &Schemes) -> Result<Vec<u8>
     Ok(text)
 }
 
-fn show_schemes<H: Host, W: Write>(
-    alloc: Global,
-    host: &H,
-    policy: &Policy,
-    schemes: &str,
-    out: &mut W,
-) -> Result<(), Refusal>
-    ensures ok { OnOk result (AreSchemesShown (H.gives host.now) policy.now schemes.now (W.contents out.old) (W.contents out.new)) }
-    ensures refused { IfErr result IsNoUsage }
-{
-    let schemes = schemes_of(alloc, host, policy, schemes)?;
-    let text = texts_of(alloc, policy, &schemes)?;
-    print(out, &text)
-}
-
 /// Prints the canonical texts.
-pub(crate) fn show_policy<H: Host, W: Write>(
+pub(crate) fn show_policy<W: Write>(
     alloc: Global,
-    host: &H,
-    policy: &str,
-    schemes: &str,
+    policy: &Policy,
+    schemes: &Schemes,
     out: &mut W,
 ) -> Result<(), Refusal>
-    ensures ok { OnOk result (IsShown (H.gives host.now) policy.now schemes.now (W.contents out.old) (W.contents out.new)) }
-    ensures refused { IfErr result IsNoUsage }
+    requires { AreUnder (length policy.now.labels) schemes.now }
+    ensures { OnOk result (Appends (W.contents out.old) (W.contents out.new) (lattice.canon_of policy.now ++ scheme.canon_of policy.now schemes.now)) }
 {
-    let policy = policy_of(alloc, host, policy)?;
-    show_schemes(alloc, host, &policy, schemes, out)
+    let text = texts_of(alloc, policy, schemes)?;
+    print(out, &text)
 }

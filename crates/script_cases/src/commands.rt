@@ -1,10 +1,9 @@
 //! Whole commands: what they write, and how they end.
 use crate::desk::Desk;
-use crate::lists;
+use crate::elsewhere::{Ran, told_by};
 use crate::narrow::Narrow;
-use case_tables::{Case, indent, joined, push_line, text_of, unfolded};
+use case_tables::{Case, Told, joined, text_of, unfolded};
 use mls_command::act;
-use std::alloc::AllocError;
 use std::rt::Files;
 
 /// What a command wrote, on standard output and standard error, and its status.
@@ -33,13 +32,15 @@ pub fn written_by<R: Files + AllocGlobal>(
     }
 }
 
-/// Writes the status where it is not 0, standard error, and standard output.
-fn tell_written(out: &mut String, written: &Written) -> Result<(), AllocError> {
+/// Tells the status where it is not 0, standard error, and standard output.
+fn tell_written(written: &Written, out: &mut Told) {
     if written.status != 0 {
-        writeln!(out, "  status {}", written.status)?;
+        out.push("  status ");
+        out.push_count(usize::from(written.status));
+        out.push("\n");
     }
-    indent(out, text_of(&written.err))?;
-    indent(out, text_of(&written.out))
+    out.push_indented(text_of(&written.err));
+    out.push_indented(text_of(&written.out));
 }
 
 fn tell_words<R: Files + AllocGlobal>(
@@ -47,11 +48,15 @@ fn tell_words<R: Files + AllocGlobal>(
     words: &[&str],
     case: &Case<'_>,
     to: Narrow,
-    out: &mut String,
-) -> Result<(), AllocError> {
-    let script = joined(rt.alloc(), case.body)?;
-    push_line(out, case.head)?;
-    tell_written(out, &written_by(rt, words, script.as_bytes(), to))
+    out: &mut Told,
+) {
+    match joined(rt.alloc(), case.body) {
+        Ok(script) => {
+            out.push_line(case.head);
+            tell_written(&written_by(rt, words, script.as_bytes(), to), out);
+        }
+        Err(_) => out.fail(),
+    }
 }
 
 /// The words of a run of the script under the policy and the schemes that a head names, as in `POLICY SCHEMES: title`.
@@ -63,20 +68,24 @@ pub fn words_of<'a>(head: &'a str) -> [&'a str; 5] {
     ["mldb", "run", policy, schemes, "script"]
 }
 
-/// Tells what a script prints, and where it prints another thing over lists, or leaves a store that is not opened again: a case is `POLICY SCHEMES: title`, and its script below.
-pub fn tell_script<R: Files + AllocGlobal>(
-    rt: &R,
-    case: &Case<'_>,
-    out: &mut String,
-) -> Result<(), AllocError> {
-    let script = joined(rt.alloc(), case.body)?;
-    let words = words_of(case.head);
-    let written = written_by(rt, &words, script.as_bytes(), Narrow::wide(rt.alloc()));
-    push_line(out, case.head)?;
-    tell_written(out, &written)?;
-    match lists::printed_by(rt, words[2], words[3], script.as_bytes()) {
-        Some(printed) if printed.as_slice() == written.out.as_slice() => Ok(()),
-        _ => out.push_str("  not so over lists, or not opened again\n"),
+fn tell_run<R: Files + AllocGlobal>(rt: &R, head: &str, script: &[u8], out: &mut Told) {
+    let words = words_of(head);
+    let written = written_by(rt, &words, script, Narrow::wide(rt.alloc()));
+    out.push_line(head);
+    tell_written(&written, out);
+    let ran = Ran {
+        script,
+        printed: &written.out,
+    };
+    out.push(told_by(rt, words[2], words[3], ran));
+}
+
+/// Tells what a script prints, and where it prints another thing over lists, or leaves a store that is not opened again: a case is
+/// `POLICY SCHEMES: title`, and its script below.
+pub fn tell_script<R: Files + AllocGlobal>(rt: &R, case: &Case<'_>, out: &mut Told) {
+    match joined(rt.alloc(), case.body) {
+        Ok(script) => tell_run(rt, case.head, script.as_bytes(), out),
+        Err(_) => out.fail(),
     }
 }
 
@@ -100,57 +109,41 @@ pub fn call_words_of<'a>(head: &'a str) -> [&'a str; 9] {
 }
 
 /// Tells what a script prints that calls transactions: a case is `POLICY TRANSACTIONS CERTIFICATES: title`, and its script below.
-pub fn tell_call<R: Files + AllocGlobal>(
-    rt: &R,
-    case: &Case<'_>,
-    out: &mut String,
-) -> Result<(), AllocError> {
-    tell_words(
-        rt,
-        &call_words_of(case.head),
-        case,
-        Narrow::wide(rt.alloc()),
-        out,
-    )
+pub fn tell_call<R: Files + AllocGlobal>(rt: &R, case: &Case<'_>, out: &mut Told) {
+    let words = call_words_of(case.head);
+    tell_words(rt, &words, case, Narrow::wide(rt.alloc()), out);
 }
 
 /// Tells the status and what a command line writes, with the script below it on standard input.
-pub fn tell_command<R: Files + AllocGlobal>(
-    rt: &R,
-    case: &Case<'_>,
-    out: &mut String,
-) -> Result<(), AllocError> {
-    let words: Vec<&str> = case.head.split_ascii_whitespace().collect(rt.alloc())?;
-    tell_words(rt, &words, case, Narrow::wide(rt.alloc()), out)
+pub fn tell_command<R: Files + AllocGlobal>(rt: &R, case: &Case<'_>, out: &mut Told) {
+    let words: Result<Vec<&str>, _> = case.head.split_ascii_whitespace().collect(rt.alloc());
+    match words {
+        Ok(words) => tell_words(rt, &words, case, Narrow::wide(rt.alloc()), out),
+        Err(_) => out.fail(),
+    }
 }
 
 fn number_of(word: &str) -> usize {
     word.parse::<usize>().unwrap_or(0)
 }
 
-fn tell_narrow<R: Files + AllocGlobal>(
-    rt: &R,
-    words: &[&str],
-    case: &Case<'_>,
-    out: &mut String,
-) -> Result<(), AllocError> {
+fn tell_narrow<R: Files + AllocGlobal>(rt: &R, words: &[&str], case: &Case<'_>, out: &mut Told) {
     match words {
         [width, left, command @ ..] => {
             let to = Narrow::new(rt.alloc(), number_of(width), number_of(left));
-            tell_words(rt, command, case, to, out)
+            tell_words(rt, command, case, to, out);
         }
-        _ => out.push_str("no numbers\n"),
+        _ => out.push("no numbers\n"),
     }
 }
 
 /// Tells what a command writes: a case is `WIDTH WRITES` and a command line, and its script below.
-pub fn tell_writer<R: Files + AllocGlobal>(
-    rt: &R,
-    case: &Case<'_>,
-    out: &mut String,
-) -> Result<(), AllocError> {
-    let words: Vec<&str> = case.head.split_ascii_whitespace().collect(rt.alloc())?;
-    tell_narrow(rt, &words, case, out)
+pub fn tell_writer<R: Files + AllocGlobal>(rt: &R, case: &Case<'_>, out: &mut Told) {
+    let words: Result<Vec<&str>, _> = case.head.split_ascii_whitespace().collect(rt.alloc());
+    match words {
+        Ok(words) => tell_narrow(rt, &words, case, out),
+        Err(_) => out.fail(),
+    }
 }
 
 /// The line on standard error, or that the script is read.
@@ -162,44 +155,39 @@ fn answer_of(written: &Written) -> &str {
 }
 
 /// Tells standard error for a script in one line, or that it is read.
-pub fn tell_fault<R: Files + AllocGlobal>(
-    rt: &R,
-    line: &str,
-    out: &mut String,
-) -> Result<(), AllocError> {
-    let script = unfolded(rt.alloc(), line)?;
-    let written = written_by(rt, &words_of(""), &script, Narrow::wide(rt.alloc()));
-    writeln!(out, "{}: {line}", answer_of(&written))
+pub fn tell_fault<R: Files + AllocGlobal>(rt: &R, line: &str, out: &mut Told) {
+    match unfolded(rt.alloc(), line) {
+        Ok(script) => {
+            let written = written_by(rt, &words_of(""), &script, Narrow::wide(rt.alloc()));
+            out.push(answer_of(&written));
+            out.push(": ");
+            out.push_line(line);
+        }
+        Err(_) => out.fail(),
+    }
 }
 
-/// Writes how long the parts of a script are that are read, itself not among them.
-fn push_read<R: Files + AllocGlobal>(
-    rt: &R,
-    script: &[u8],
-    out: &mut String,
-) -> Result<(), AllocError> {
+/// Tells how long the parts of a script are that are read, itself not among them.
+fn tell_read<R: Files + AllocGlobal>(rt: &R, script: &[u8], out: &mut Told) {
     for count in 0..script.len() {
-        let written = written_by(
-            rt,
-            &words_of(""),
-            &script[..count],
-            Narrow::wide(rt.alloc()),
-        );
+        let part = &script[..count];
+        let written = written_by(rt, &words_of(""), part, Narrow::wide(rt.alloc()));
         if written.status == 0 {
-            write!(out, " {count}")?;
+            out.push(" ");
+            out.push_count(count);
         }
     }
-    Ok(())
 }
 
 /// Tells which parts of a script in one line, from its beginning, are read.
-pub fn tell_prefixes<R: Files + AllocGlobal>(
-    rt: &R,
-    line: &str,
-    out: &mut String,
-) -> Result<(), AllocError> {
-    let script = unfolded(rt.alloc(), line)?;
-    out.push_str("read at")?;
-    push_read(rt, &script, out)?;
-    writeln!(out, ": {line}")
+pub fn tell_prefixes<R: Files + AllocGlobal>(rt: &R, line: &str, out: &mut Told) {
+    match unfolded(rt.alloc(), line) {
+        Ok(script) => {
+            out.push("read at");
+            tell_read(rt, &script, out);
+            out.push(": ");
+            out.push_line(line);
+        }
+        Err(_) => out.fail(),
+    }
 }

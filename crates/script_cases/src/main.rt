@@ -3,19 +3,24 @@
 
 mod commands;
 mod desk;
-mod lists;
+mod elsewhere;
 mod narrow;
-mod stores;
 mod table;
 mod worlds;
 
-use crate::table::{TABLES, tell};
+use crate::table::{TABLES, Table, told};
+use std::fs;
 use std::io::{self, Write};
 
+fn tell_table(rt: &HostRuntime, file: &str, table: Table) -> io::Result<()> {
+    let text = fs::read_to_string(rt, file)?;
+    let told = told(rt, file, table, &text)?;
+    rt.stdout().write_all(told.as_bytes())
+}
+
 fn main(rt: HostRuntime) -> io::Result<()> {
-    for table in TABLES {
-        let text = tell(&rt, table)?;
-        rt.stdout().write_all(text.as_bytes())?;
+    for (file, table) in TABLES {
+        tell_table(&rt, file, table)?;
     }
     Ok(())
 }

@@ -3,7 +3,7 @@ ghost use Rattle.std.specs.Prelude.{◌≤◌, length};
 
 use crate::commands::{call_words_of, written_by};
 use crate::narrow::Narrow;
-use case_tables::{Case, indent, inner, push_line, text_of};
+use case_tables::{Case, Told, inner, text_of};
 use std::alloc::AllocError;
 use std::rt::Files;
 
@@ -24,40 +24,24 @@ fn event_of<'a>(line: &'a str, world: &str) -> &'a str {
     }
 }
 
-/// Writes the events of the lines for a world.
-fn push_lines(script: &mut String, lines: &[&str], world: &str) -> Result<(), AllocError> {
+/// Adds the events of the lines for a world.
+fn push_lines(script: &mut Told, lines: &[&str], world: &str) {
     for line in lines {
         let line = inner(line);
         if is_for(line, world) {
-            push_line(script, event_of(line, world))?;
+            script.push_line(event_of(line, world));
         }
     }
-    Ok(())
 }
 
-/// Writes the lines that begin with one of the labels.
-fn push_seen(seen: &mut String, labels: &str, text: &str) -> Result<(), AllocError> {
+/// Adds the lines that begin with one of the labels.
+fn push_seen(seen: &mut Told, labels: &str, text: &str) {
     for line in text.lines() {
         let label = line.split_once(' ').map_or("", |parts| parts.0);
         if labels.split(' ').any(|seen| seen == label) {
-            push_line(seen, line)?;
+            seen.push_line(line);
         }
     }
-    Ok(())
-}
-
-/// What the labels see of a world after some events, and of the questions.
-fn seen_of<R: Files + AllocGlobal>(
-    rt: &R,
-    labels: &str,
-    world: &str,
-    events: &[&str],
-    questions: &[&str],
-) -> Result<String, AllocError> {
-    let mut script = String::new(rt.alloc());
-    push_lines(&mut script, events, world)?;
-    push_lines(&mut script, questions, world)?;
-    seen_by(rt, labels, &script)
 }
 
 /// What the labels see of a run of a script.
@@ -68,10 +52,24 @@ fn seen_by<R: Files + AllocGlobal>(
 ) -> Result<String, AllocError> {
     let to = Narrow::wide(rt.alloc());
     let written = written_by(rt, &call_words_of(FILES), script.as_bytes(), to);
-    let mut seen = String::new(rt.alloc());
-    push_seen(&mut seen, labels, text_of(&written.err))?;
-    push_seen(&mut seen, labels, text_of(&written.out))?;
-    Ok(seen)
+    let mut seen = Told::new(rt.alloc());
+    push_seen(&mut seen, labels, text_of(&written.err));
+    push_seen(&mut seen, labels, text_of(&written.out));
+    seen.finish()
+}
+
+/// What the labels see of a world after some events, and of the questions.
+fn seen_of<R: Files + AllocGlobal>(
+    rt: &R,
+    labels: &str,
+    world: &str,
+    events: &[&str],
+    questions: &[&str],
+) -> Result<String, AllocError> {
+    let mut script = Told::new(rt.alloc());
+    push_lines(&mut script, events, world);
+    push_lines(&mut script, questions, world);
+    seen_by(rt, labels, &script.finish()?)
 }
 
 fn look_alike<R: Files + AllocGlobal>(
@@ -97,6 +95,21 @@ fn first_question(lines: &[&str]) -> usize
     lines.len()
 }
 
+/// Tells what the labels see of a world after some events, and of the questions.
+fn tell_seen<R: Files + AllocGlobal>(
+    rt: &R,
+    labels: &str,
+    world: &str,
+    events: &[&str],
+    questions: &[&str],
+    out: &mut Told,
+) {
+    match seen_of(rt, labels, world, events, questions) {
+        Ok(seen) => out.push_indented(&seen),
+        Err(_) => out.fail(),
+    }
+}
+
 /// Tells whether the worlds look alike to the labels after each event, or after which they don't, and then what is seen of
 /// the second.
 fn tell_likeness<R: Files + AllocGlobal>(
@@ -104,26 +117,27 @@ fn tell_likeness<R: Files + AllocGlobal>(
     labels: &str,
     events: &[&str],
     questions: &[&str],
-    out: &mut String,
-) -> Result<(), AllocError> {
+    out: &mut Told,
+) {
     for at in 0..events.len() {
-        if !look_alike(rt, labels, &events[..at + 1], questions)? {
-            writeln!(out, "  differ after {}", inner(events[at]))?;
-            return indent(out, &seen_of(rt, labels, "2", events, questions)?);
+        match look_alike(rt, labels, &events[..at + 1], questions) {
+            Ok(true) => {}
+            Ok(false) => {
+                out.push("  differ after ");
+                out.push_line(inner(events[at]));
+                return tell_seen(rt, labels, "2", events, questions, out);
+            }
+            Err(_) => return out.fail(),
         }
     }
-    out.push_str("  alike\n")
+    out.push("  alike\n")
 }
 
 /// Tells what labels see of two worlds: a case is `LABEL..: title`, and the events of both below, then questions.
-pub fn tell<R: Files + AllocGlobal>(
-    rt: &R,
-    case: &Case<'_>,
-    out: &mut String,
-) -> Result<(), AllocError> {
+pub fn tell<R: Files + AllocGlobal>(rt: &R, case: &Case<'_>, out: &mut Told) {
     let labels = case.head.split_once(':').map_or("", |parts| parts.0);
     let (events, questions) = case.body.split_at(first_question(case.body));
-    push_line(out, case.head)?;
-    indent(out, &seen_of(rt, labels, "1", events, questions)?)?;
-    tell_likeness(rt, labels, events, questions, out)
+    out.push_line(case.head);
+    tell_seen(rt, labels, "1", events, questions, out);
+    tell_likeness(rt, labels, events, questions, out);
 }

@@ -3,9 +3,10 @@ use Rattle.mls_filterview.specs.Content.{State}
 use Rattle.mls_machine.specs.Site.{Site}
 use Rattle.mls_machine.specs.Observation.{EventsFit}
 use Rattle.mls_machine.specs.Laws.{KeepsIntegrity}
+use Rattle.mls_monitor.specs.Sessions.{site_of, sessions_of}
 use Rattle.mls_sessions.specs.World.{IsSound}
 use Rattle.mls_sessions.proofs.StartLemmas.{no_content_sound}
-use Rattle.mls_command.proofs.RunningLemmas.{is_first, at_first, run_output, run_secret}
+use Rattle.mls_command.proofs.RunningLemmas.{is_first, at_first, run_output, run_left, run_secret}
 use Rattle.mls_command.proofs.running.run_on.Goals as goal
 
 pub new-engine-requires-clause-idle : goal.new-engine-requires-clause-idle
@@ -29,6 +30,14 @@ returns-clause-written g c = λ clean.
     run_output c.run-outcome.result _ at _ _ c.args.events.now (g.W.Write.contents c.args.out.now) (g.W.Write.contents c.run-outcome.new.out)
     c.new-engine.ensures.site (is_first _ at _ c.new-engine.ensures.world c.requires.empty)
     (c.run-outcome.ensures.ok (subst g.B.Base.is_clean c.finish.ensures clean))
+
+pub returns-clause-left : goal.returns-clause-left
+returns-clause-left g c = λ clean.
+    let at : Site = record { policy = c.args.policy.now; schemes = c.args.schemes.now; stored = c.args.stored } in
+    run_left c.run-outcome.result _ at (site_of c.run-outcome.new.engine.rules) _ (sessions_of c.run-outcome.new.engine.sessions.items)
+    (g.B.Base.state c.run-outcome.new.engine.base).now (g.B.Base.state c.finish.result).now c.args.events.now (g.W.Write.contents c.args.out.now) (g.W.Write.contents c.run-outcome.new.out)
+    c.new-engine.ensures.site (is_first _ at _ c.new-engine.ensures.world c.requires.empty) (ap site_of c.run-outcome.ensures.kept.rules)
+    (ap (λ b. (g.B.Base.state b).now) c.finish.ensures) (c.run-outcome.ensures.ok (subst g.B.Base.is_clean c.finish.ensures clean))
 
 pub returns-clause-integrity : goal.returns-clause-integrity
 returns-clause-integrity g c = λ clean.

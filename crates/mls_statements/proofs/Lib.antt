@@ -12,6 +12,7 @@ pub mod NumberedLemmas
 pub mod PlainWrites
 pub mod QueryAnswers
 pub mod ReadyLemmas
+pub mod RisingLemmas
 pub mod RowLists
 pub mod SchemaLemmas
 pub mod TableEdits

@@ -3,7 +3,6 @@ use Rattle.std.proofs.Common.{◌≡◌, ◌≢◌, ℕ, ℤ, List, [], ◌∷�
 use Rattle.std.specs.List.{AllByRecursion}
 use Rattle.std.specs.Ordering.{is_eq, int_cmp}
 use Rattle.std.specs.declared.alloc.Global.{Global}
-use Rattle.std.proofs.lemmas.Bool.{and_parts}
 use Rattle.std.proofs.lemmas.Bool.Decides.{nat_tests}
 use Rattle.std.proofs.lemmas.Int.{ints}
 use Rattle.std.proofs.lemmas.List.Sorted.{IsPermutation-refl, IsPermutation-cons, IsPermutation-trans, IsPermutation-sym, IsPermutation-map}
@@ -23,7 +22,7 @@ use Rattle.sqlite.proofs.Callers.{one_permutation}
 use Rattle.mls_statements.specs.declared.adopting.AdoptFault.{AdoptFault}
 use Rattle.mls_statements.specs.declared.adopting.AdoptFault.TheVariants.{BadRows, OtherTexts}
 use Rattle.mls_statements.specs.Statements.{IsApart, AreRows}
-use Rattle.mls_statements.specs.Adopting.{IsInteger, HaveIds, Refutes, Blames, rise, rise_above}
+use Rattle.mls_statements.specs.Adopting.{IsInteger, HaveIds, Refutes, Blames, AreRising}
 use Rattle.mls_statements.proofs.ApartRows.{other_way, swapped}
 
 abbrev differ : Value → Value → Type 0
@@ -34,24 +33,13 @@ AreDifferent = IsAscending differ
 
 -- ---- integers that rise differ
 
-below_both : (a b c : ℤ) → int_lt a b ≡ true → int_lt b c ≡ true → int_lt a c ≡ true
-below_both a b c h k = grind (arith, ints, nat_tests)
-
 below_differs : (m n : ℤ) → int_lt m n ≡ true → is_eq (int_cmp m n) ≡ false
 below_differs m n h = grind (arith, ints, nat_tests)
 
-above_differs : (low : ℤ) (v : Value) → is_int v ≡ true → int_lt low (id_in v) ≡ true → differ (Int low) v
-above_differs low v int above =
-    ap (λ w. is_eq (value_cmp (Int low) w)) (int_is v int) ∙ (ap is_eq (value_cmp-Int low (id_in v)) ∙ below_differs low (id_in v) above)
-
-lower : (at : ℕ) (low high : ℤ) (rows : List Row) → int_lt low high ≡ true → rise_above at high rows ≡ true → rise_above at low rows ≡ true
-lower at low high [] below up = refl
-lower at low high (r ∷ rows) below up =
-    let a = and_parts _ _ up in
-    let b = and_parts _ _ a.1 in
-    let int : is_int (column r at) ≡ true = a.0 in
-    let above : int_lt low (id_in (column r at)) ≡ true = below_both low high (id_in (column r at)) below b.0 in
-    rw (int, above) b.1
+above_differs : (v w : Value) → is_int v ≡ true → is_int w ≡ true → int_lt (id_in v) (id_in w) ≡ true → differ v w
+above_differs v w int int_too above =
+    ap (λ x. is_eq (value_cmp x w)) (int_is v int)
+    ∙ (ap (λ x. is_eq (value_cmp (Int (id_in v)) x)) (int_is w int_too) ∙ (ap is_eq (value_cmp-Int (id_in v) (id_in w)) ∙ below_differs (id_in v) (id_in w) above))
 
 module _ (at : ℕ) where
   abbrev values : List Row → List Value
@@ -60,27 +48,13 @@ module _ (at : ℕ) where
   abbrev AreInts : List Row → Type 0
   AreInts = AllByRecursion (λ r. is_int (column r at) ≡ true)
 
-  all_above : (low : ℤ) (rows : List Row) → rise_above at low rows ≡ true → AllByRecursion (differ (Int low)) (values rows)
-  all_above low [] up = tt
-  all_above low (r ∷ rows) up =
-      let a = and_parts _ _ up in
-      let b = and_parts _ _ a.1 in
-      (above_differs low (column r at) a.0 b.0, all_above low rows (lower at low (id_in (column r at)) rows b.0 b.1))
+  all_differ : (v : Value) (rows : List Row) → is_int v ≡ true → AreInts rows → AllByRecursion (λ r. int_lt (id_in v) (id_in (column r at)) ≡ true) rows → AllByRecursion (differ v) (values rows)
+  all_differ v [] int ints above = tt
+  all_differ v (r ∷ rows) int ints above = (above_differs v (column r at) int ints.0 above.0, all_differ v rows int ints.1 above.1)
 
-  risen_above : (low : ℤ) (rows : List Row) → rise_above at low rows ≡ true → AreInts rows × AreDifferent (values rows)
-  risen_above low [] up = (tt, tt)
-  risen_above low (r ∷ rows) up =
-      let a = and_parts _ _ up in
-      let b = and_parts _ _ a.1 in
-      let more = risen_above (id_in (column r at)) rows b.1 in
-      ((a.0, more.0), (subst (λ v. AllByRecursion (differ v) (values rows)) (sym (int_is (column r at) a.0)) (all_above (id_in (column r at)) rows b.1), more.1))
-
-  pub risen : (rows : List Row) → rise at rows ≡ true → AreInts rows × AreDifferent (values rows)
-  risen [] up = (tt, tt)
-  risen (r ∷ rows) up =
-      let a = and_parts _ _ up in
-      let more = risen_above (id_in (column r at)) rows a.1 in
-      ((a.0, more.0), (subst (λ v. AllByRecursion (differ v) (values rows)) (sym (int_is (column r at) a.0)) (all_above (id_in (column r at)) rows a.1), more.1))
+  pub risen : (rows : List Row) → AreRising at rows → AreDifferent (values rows)
+  risen [] up = tt
+  risen (r ∷ rows) up = (all_differ (column r at) rows up.0.0 up.0.1 up.1.0, risen rows (up.0.1, up.1.1))
 
 -- ---- values that differ, do so in any order
 
@@ -120,16 +94,16 @@ module _ (columns : Row → Row) (rows found : List Row) (same : IsPermutation (
     same_values [] = refl
     same_values (r ∷ rows) = rw (place r) (ap (λ vs. rowid r ∷ vs) (same_values rows))
 
-    pub apart : rise at found ≡ true → IsApart rows
+    pub apart : AreRising at found → IsApart rows
     apart up =
-        let moved = different_moved (map (λ r. column r at) found) (map (λ r. column r at) (map columns rows)) (IsPermutation-map (λ r. column r at) found (map columns rows) back) (risen at found up).1 in
+        let moved = different_moved (map (λ r. column r at) found) (map (λ r. column r at) (map columns rows)) (IsPermutation-map (λ r. column r at) found (map columns rows) back) (risen at found up) in
         ascending_from_map differ rowid rows (subst AreDifferent (same_values rows) moved)
 
     -- rows that show what a table's rows are, under rowids that rise, are the table's
     pub are_rows : (shows is_row : Row → Bool) → ((r : Row) → shows (columns r) ≡ true → is_int (rowid r) ≡ true → is_row r ≡ true)
-        → AllByRecursion (λ r. shows r ≡ true) found → rise at found ≡ true → AreRows is_row rows
+        → AllByRecursion (λ r. shows r ≡ true) found → AreRising at found → AreRows is_row rows
     are_rows shows is_row fits whole up =
-        (apart up, both rows (shown_all (λ r. shows r ≡ true) whole) (shown_all (λ r. is_int (column r at) ≡ true) (risen at found up).0))
+        (apart up, both rows (shown_all (λ r. shows r ≡ true) whole) (shown_all (λ r. is_int (column r at) ≡ true) up.0))
       where
         both : (rows : List Row) → AllByRecursion (λ r. shows (columns r) ≡ true) rows → AllByRecursion (λ r. is_int (column (columns r) at) ≡ true) rows → AllByRecursion (λ r. is_row r ≡ true) rows
         both [] h k = tt
@@ -162,7 +136,7 @@ module _ {X : Type 0} (columns : Row → Row) (show : Row → X) (rows found : L
 module _ {X : Type 0} (columns : Row → Row) (at : ℕ) (place : (r : Row) → column (columns r) at ≡ rowid r) (rows found : List Row) (same : IsPermutation (map columns rows) found)
     (read : Result (Vec X Global) Error) where
   pub read_whole : (show : Row → X) (shows is_row : Row → Bool) → ((r : Row) → shows (columns r) ≡ true → is_int (rowid r) ≡ true → is_row r ≡ true) → (result : Result (Vec X Global) AdoptFault)
-      → IfOk read (λ xs. xs.items ≡ map show found) → IfOk read (λ _. AllByRecursion (λ r. shows r ≡ true) found) → IfOk result (λ xs. read ≡ Ok xs) → OnOk result (rise at found ≡ true)
+      → IfOk read (λ xs. xs.items ≡ map show found) → IfOk read (λ _. AllByRecursion (λ r. shows r ≡ true) found) → IfOk result (λ xs. read ≡ Ok xs) → OnOk result (AreRising at found)
       → IfOk result (λ xs. AreRows is_row rows × IsPermutation (map (λ r. show (columns r)) rows) xs.items)
   read_whole show shows is_row fits (Err e) shown whole is up = tt
   read_whole show shows is_row fits (Ok xs) shown whole is up =

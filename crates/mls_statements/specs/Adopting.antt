@@ -1,9 +1,10 @@
 -- Which tables are adopted, and what is read of them.
-use Rattle.std.specs.Prelude.{◌≡◌, ◌≢◌, ℕ, ◌^◌, ◌<◌, ℤ, pos, Bool, true, ◌&&◌, int_lt, List, [], ◌∷◌, map, IsUtf8, IsPermutation}
+use Rattle.std.specs.Prelude.{◌≡◌, ◌≢◌, ℕ, ◌^◌, ◌<◌, ℤ, pos, true, int_lt, List, [], ◌∷◌, map, IsUtf8, IsPermutation}
 use Rattle.std.specs.List.{AllByRecursion}
 use Rattle.sqlite_value.specs.declared.value.Value.{Value}
 use Rattle.sqlite_value.specs.declared.value.Value.TheVariants.{Int, Text, Blob}
 use Rattle.sqlite_value.specs.Order.{Row, column}
+use Rattle.sqlite_trees.specs.Tree.{IsAscending}
 use Rattle.sqlite_trees.specs.View.{is_int}
 use Rattle.sqlite_rules.specs.Edit.{id_in}
 use Rattle.sqlite.specs.declared.error.ErrorCode.TheVariants.{OutOfMemory}
@@ -49,14 +50,9 @@ ReadsMeta r = IsInteger (column r 0) × (IsInteger (column r 1) × (IsText (colu
 abbrev pub HaveIds : ℕ → List Row → Type 0
 HaveIds at = AllByRecursion (λ r. IsInteger (column r at))
 
--- the integers at this place rise, from above a number
-abbrev pub rise_above : ℕ → ℤ → List Row → Bool
-rise_above at low [] = true
-rise_above at low (r ∷ rows) = is_int (column r at) && (int_lt low (id_in (column r at)) && rise_above at (id_in (column r at)) rows)
-
-abbrev pub rise : ℕ → List Row → Bool
-rise at [] = true
-rise at (r ∷ rows) = is_int (column r at) && rise_above at (id_in (column r at)) rows
+-- the integers at this place rise
+abbrev pub AreRising : ℕ → List Row → Type 0
+AreRising at rows = AllByRecursion (λ r. is_int (column r at) ≡ true) rows × IsAscending (λ a b. int_lt (id_in (column a at)) (id_in (column b at)) ≡ true) rows
 
 -- only memory refuses rows that read
 abbrev pub Refutes : Type 0 → Error → Type 0

@@ -1,11 +1,11 @@
 //! Rows of tables from rows that queries show.
-ghost use Rattle.std.specs.Prelude.{◌≡◌, pos, true, map, IfOk, IfErr};
+ghost use Rattle.std.specs.Prelude.{◌≡◌, ◌↔◌, pos, true, map, IfOk, IfErr};
 ghost use Rattle.std.specs.List.{AllByRecursion};
 ghost use Rattle.sqlite_value.specs.Order.{column};
 ghost use Rattle.sqlite_trees.specs.View.{is_int};
 ghost use Rattle.sqlite_rules.specs.Edit.{id_in};
 ghost use Rattle.mls_statements.specs.Rows.{nat_in, blob_in, text_in, is_nat, is_blob, is_text, shown_node, shows_node, shown_cell, shows_cell, shown_entry, shows_entry, shown_meta, shows_meta, are_numbered};
-ghost use Rattle.mls_statements.specs.Adopting.{IsNumber, IsInteger, IsBytes, IsText, ReadsNode, ReadsCell, ReadsEntry, ReadsMeta, HaveIds, Refutes, rise};
+ghost use Rattle.mls_statements.specs.Adopting.{IsNumber, IsInteger, IsBytes, IsText, ReadsNode, ReadsCell, ReadsEntry, ReadsMeta, HaveIds, Refutes, AreRising};
 
 use crate::rows::{AuditRow, CellRow, MetaRow, NodeRow};
 use mls_lattice::{Items, Str};
@@ -159,7 +159,7 @@ pub fn meta_from(alloc: Global, rows: &[Row]) -> Result<Vec<MetaRow>, Error>
 
 /// Whether the rowids of rows, which stand at one place, rise.
 pub(crate) fn rowids_rise(rows: &[Row], at: usize) -> Result<bool, Error>
-    ensures rise { IfOk result (λ up. up ≡ rise at rows.now) }
+    ensures rise { IfOk result (λ up. up ≡ true ↔ AreRising at rows.now) }
     ensures refused { IfErr result (Refutes (HaveIds at rows.now)) }
 {
     let [first, more @ ..] = rows else {

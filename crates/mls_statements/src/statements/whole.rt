@@ -10,7 +10,7 @@ ghost use Rattle.mls_statements.specs.declared.rows.MetaRow.{MetaRow as SpecMeta
 ghost use Rattle.mls_statements.specs.Rows.{tables_of, first_meta, shown_meta, shows_meta, node_columns, cell_columns, audit_columns, is_node_row, is_cell_row, is_audit_row, is_meta_row};
 ghost use Rattle.mls_statements.specs.Schema.{schema};
 ghost use Rattle.mls_statements.specs.Statements.{AreRows};
-ghost use Rattle.mls_statements.specs.Adopting.{Blames, HaveIds, AreNodes, AreCells, AreEntries, ReadsMeta, IsReadDescription, IsDescribedBy, HasOtherTexts, rise};
+ghost use Rattle.mls_statements.specs.Adopting.{Blames, HaveIds, AreNodes, AreCells, AreEntries, ReadsMeta, IsReadDescription, IsDescribedBy, HasOtherTexts, AreRising};
 
 use crate::adopting::AdoptFault;
 use crate::decode::{cells_from, entries_from, meta_from, nodes_from, rowids_rise};
@@ -21,7 +21,7 @@ use std::alloc::Global;
 
 /// Tests that the rowids of rows, which stand at one place, rise.
 fn test_rowids(rows: &[Row], at: usize) -> Result<(), AdoptFault>
-    ensures rise { OnOk result (rise at rows.now ≡ true) }
+    ensures rise { OnOk result (AreRising at rows.now) }
     ensures bad { IfErr result (Blames (HaveIds at rows.now)) }
 {
     match rowids_rise(rows, at) {
@@ -38,7 +38,7 @@ fn tested<T: Drop>(
     read: Result<Vec<T>, Error>,
 ) -> Result<Vec<T>, AdoptFault>
     ensures read { IfOk result (λ xs. read ≡ Ok xs) }
-    ensures rise { OnOk result (rise at rows.now ≡ true) }
+    ensures rise { OnOk result (AreRising at rows.now) }
     ensures texts { IfErr result (λ e. e ≢ AdoptFault.OtherTexts) }
     ensures bad { IfErr result (λ e. e ≡ AdoptFault.BadRows → HaveIds at rows.now → (error : SqlError) × (read ≡ Err error) × (error ≢ SqliteFailure OutOfMemory)) }
 {

@@ -1,19 +1,20 @@
-use Rattle.std.proofs.Common.{◌≡◌, ℕ, ◌+◌, ◌<◌, ℤ, ◌&&◌, int_lt, List, length, get_or, drop, sym, ap, ◌∙◌, arith}
-use Rattle.std.proofs.lemmas.List.{at_drop_more}
+use Rattle.std.proofs.Common.{◌≡◌, true, false, arith}
 use Rattle.std.proofs.lemmas.Grind.{common_steps}
-use Rattle.sqlite_value.specs.Order.{Row, column}
-use Rattle.sqlite_trees.specs.View.{is_int}
-use Rattle.sqlite_rules.specs.Edit.{id_in}
-use Rattle.mls_statements.specs.Adopting.{rise_above}
+use Rattle.mls_statements.proofs.RisingLemmas.{rise, rise_above-drop, decided}
 use Rattle.mls_statements.proofs.decode.rowids_rise.Goals as goal
-
--- the test of one row
-rise_above-drop : (at : ℕ) (low : ℤ) (rows : List Row) (i : ℕ) (r : Row) → i < length rows → r ≡ get_or rows i r
-    → rise_above at low (drop i rows) ≡ (is_int (column r at) && (int_lt low (id_in (column r at)) && rise_above at (id_in (column r at)) (drop (i + 1) rows)))
-rise_above-drop at low rows i r within is =
-    at_drop_more (rise_above at low) rows i r within ∙ ap (λ (s : Row). is_int (column s at) && (int_lt low (id_in (column s at)) && rise_above at (id_in (column s at)) (drop (i + 1) rows))) (sym is)
 
 pub loop-row-preserved : goal.loop-row-preserved
 loop-row-preserved c =
     let tested = rise_above-drop c.args.at c.loop-row.last _ c.loop-row.row-index c.row-item.result c.loop-row-test.true c.row-item.is in
     grind (arith, common_steps)
+
+pub returns-then-id-last-clause-rise : goal.returns-then-id-last-clause-rise
+returns-then-id-last-clause-rise c =
+    let tested = rise_above-drop c.args.at c.loop-row.last _ c.loop-row.row-index c.row-item.result c.loop-row-test.true c.row-item.is in
+    let is : false ≡ rise c.args.at c.args.rows.now = grind (arith, common_steps) in
+    decided c.args.at false c.args.rows.now is
+
+pub returns-clause-rise : goal.returns-clause-rise
+returns-clause-rise c =
+    let is : true ≡ rise c.args.at c.args.rows.now = grind (arith, common_steps) in
+    decided c.args.at true c.args.rows.now is

@@ -1,5 +1,5 @@
 use Rattle.std.proofs.Common.{◌≡◌, drop}
-use Rattle.mls_statements.specs.Adopting.{rise, rise_above}
+use Rattle.mls_statements.proofs.RisingLemmas.{rise, rise_above}
 use Rattle.mls_statements.proofs.decode.rowids_rise.Given as goal
 
 abbrev pub invariant-loop-row : goal.invariant-loop-row

@@ -157,7 +157,7 @@ pub fn read_store<S: Alter>(
     match read_database(conn, alloc, lattice, schemes) {
         Ok(rows) => Ok(rows),
         Err(fault) => {
-            change::end(conn);
+            let _ = change::end(conn);
             Err(fault)
         }
     }

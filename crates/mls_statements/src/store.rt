@@ -79,10 +79,7 @@ fn fall<S: Alter>(conn: &mut Connection<S>, failures: &mut Failures, error: Erro
     ensures store { result ≡ StoreFault.Store → failures.old.count < failures.new.count }
 {
     let fault = blame(failures, error);
-    if conn.is_autocommit() {
-        return fault;
-    }
-    if let Err(other) = change::undo(conn) {
+    if let Err(other) = change::end(conn) {
         blame(failures, other);
     }
     fault
@@ -168,10 +165,7 @@ impl<S: Alter> TableStore<S> {
         ensures count { self.old.failures ≤ self.new.failures }
     {
         self.begun = false;
-        if self.conn.is_autocommit() {
-            return;
-        }
-        if let Err(other) = change::undo(&mut self.conn) {
+        if let Err(other) = change::end(&mut self.conn) {
             blame(&mut self.failures, other);
         }
     }
@@ -233,11 +227,8 @@ impl<S: Alter> TableStore<S> {
         ensures done { IsClean self.new → OnOk result ((self.new.now ≡ self.old.kept) × (self.new.kept ≡ self.old.kept)) }
     {
         self.begun = false;
-        if self.conn.is_autocommit() {
-            return Ok(());
-        }
-        match change::undo(&mut self.conn) {
-            Ok(_) => Ok(()),
+        match change::end(&mut self.conn) {
+            Ok(()) => Ok(()),
             Err(error) => Err(fall(&mut self.conn, &mut self.failures, error)),
         }
     }

@@ -25,7 +25,7 @@ pub fn commit<S: Alter>(conn: &mut Connection<S>) -> Result<usize, Error>
 }
 
 /// Undoes the change, also where it answers an error.
-pub fn undo<S: Alter>(conn: &mut Connection<S>) -> Result<usize, Error>
+fn undo<S: Alter>(conn: &mut Connection<S>) -> Result<usize, Error>
     requires { IsTrue (state S.Store conn.old).in_transaction }
     ensures undone { HasCleanDisk (state S.Store conn.new) → IsRolledBack (state S.Store conn.old) (state S.Store conn.new) }
     ensures clean { HasCleanDisk (state S.Store conn.new) → HasCleanDisk (state S.Store conn.old) }
@@ -33,12 +33,13 @@ pub fn undo<S: Alter>(conn: &mut Connection<S>) -> Result<usize, Error>
     conn.execute("ROLLBACK", &[])
 }
 
-/// Ends the change, if one is begun: nothing of it is kept.
-pub fn end<S: Alter>(conn: &mut Connection<S>)
+/// Ends the change, if one is begun: nothing of it is kept, also where it answers an error.
+pub fn end<S: Alter>(conn: &mut Connection<S>) -> Result<(), Error>
     ensures ended { HasCleanDisk (state S.Store conn.new) → HasEnded (state S.Store conn.old) (state S.Store conn.new) }
     ensures clean { HasCleanDisk (state S.Store conn.new) → HasCleanDisk (state S.Store conn.old) }
 {
     if !conn.is_autocommit() {
-        let _ = undo(conn);
+        undo(conn)?;
     }
+    Ok(())
 }

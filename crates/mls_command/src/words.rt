@@ -76,7 +76,7 @@ struct Subcommand {
     arguments: &'static [Argument],
 }
 
-const SUBCOMMANDS: [Subcommand; 4] = [
+static SUBCOMMANDS: [Subcommand; 4] = [
     Subcommand {
         name: "run",
         about: "Runs a script, and prints a line for each reply",

@@ -35,6 +35,12 @@ fn tell_cert(alloc: Global, bytes: &[u8], out: &mut Told) {
     }
 }
 
+/// The certificate that a folded text is, if it is one.
+pub fn cert_of(alloc: Global, text: &str) -> Option<Cert> {
+    let text = unfolded(alloc, text).ok()?;
+    Cert::read(alloc, &text).ok()
+}
+
 fn push_blocks(alloc: Global, blocks: &[(Str, Cert)], out: &mut Told) {
     for block in blocks {
         push_word(block.0.as_str(), out);

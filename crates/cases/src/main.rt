@@ -1,4 +1,5 @@
-//! Cases: what the public calls answer for the tables in `data/`. Adding a case is adding a line there, and its answer to `stdout`.
+//! Cases: what the public calls answer for the tables in `data/`, and what runs of its scripts leave where something fails. Adding a case is
+//! adding a line there, and its answer to `stdout`.
 #![tactic(auto)]
 
 ghost use Rattle.std.specs.Prelude.{length};
@@ -7,12 +8,14 @@ ghost use Rattle.mls_scheme.specs.Scheme.{AreUnder};
 mod certificates;
 mod documents;
 mod entries;
+mod faults;
 mod keys;
 mod limits;
 mod lookups;
 mod reads;
 mod show;
 mod table;
+mod transactions;
 mod tuples;
 mod views;
 
@@ -39,16 +42,23 @@ fn tell_table(
 fn tell_tables(rt: &HostRuntime, policy: &Policy, schemes: &Schemes) -> io::Result<()>
     requires { AreUnder (length policy.now.labels) schemes.now }
 {
-    for (file, table) in TABLES {
+    for &(file, table) in &TABLES {
         tell_table(rt, policy, schemes, file, table)?;
     }
     Ok(())
 }
 
+fn tell_all(rt: &HostRuntime, policy: &Policy, schemes: &Schemes) -> io::Result<()>
+    requires { AreUnder (length policy.now.labels) schemes.now }
+{
+    tell_tables(rt, policy, schemes)?;
+    faults::tell_files(rt, policy, schemes)
+}
+
 fn tell_under(rt: &HostRuntime, policy: &Policy) -> io::Result<()> {
     let text = fs::read_to_string(rt, "schemes.toml")?;
     match Schemes::read(rt.alloc(), policy, text.as_bytes()) {
-        Ok(schemes) => tell_tables(rt, policy, &schemes),
+        Ok(schemes) => tell_all(rt, policy, &schemes),
         Err(_) => Err(Error::from(ErrorKind::InvalidData)),
     }
 }

@@ -2,15 +2,27 @@
 ghost use Rattle.std.specs.Prelude.{length};
 ghost use Rattle.mls_scheme.specs.Scheme.{AreUnder};
 
+use crate::transactions::{checks, evaluations, limits as text_limits, texts};
 use crate::{certificates, documents, entries, keys, limits, lookups, reads, views};
 use case_tables::{Case, Told, case_at};
 use mls_lattice::Policy;
 use mls_scheme::Schemes;
 use std::alloc::{AllocError, Global};
 
-/// What the cases of a file are about.
+/// How a file is told.
 #[derive(Clone, Copy)]
 pub enum Table {
+    /// Each case by itself.
+    Each(Subject),
+    /// Certificates for the transactions of the file.
+    Checks,
+    /// The transactions of the file, one after another over one base.
+    Evaluations,
+}
+
+/// What a case is about.
+#[derive(Clone, Copy)]
+pub enum Subject {
     Policies,
     Schemes,
     Documents,
@@ -21,19 +33,29 @@ pub enum Table {
     Views,
     Reads,
     Certificates,
+    Texts,
+    TextLimits,
+    Prints,
+    Labels,
 }
 
-pub const TABLES: [(&str, Table); 10] = [
-    ("policies.txt", Table::Policies),
-    ("schemes.txt", Table::Schemes),
-    ("documents.txt", Table::Documents),
-    ("limits.txt", Table::Limits),
-    ("lookups.txt", Table::Lookups),
-    ("keys.txt", Table::Keys),
-    ("entries.txt", Table::Entries),
-    ("views.txt", Table::Views),
-    ("reads.txt", Table::Reads),
-    ("certificates.txt", Table::Certificates),
+pub static TABLES: [(&str, Table); 16] = [
+    ("policies.txt", Table::Each(Subject::Policies)),
+    ("schemes.txt", Table::Each(Subject::Schemes)),
+    ("documents.txt", Table::Each(Subject::Documents)),
+    ("limits.txt", Table::Each(Subject::Limits)),
+    ("lookups.txt", Table::Each(Subject::Lookups)),
+    ("keys.txt", Table::Each(Subject::Keys)),
+    ("entries.txt", Table::Each(Subject::Entries)),
+    ("views.txt", Table::Each(Subject::Views)),
+    ("reads.txt", Table::Each(Subject::Reads)),
+    ("certificates.txt", Table::Each(Subject::Certificates)),
+    ("texts.txt", Table::Each(Subject::Texts)),
+    ("text_limits.txt", Table::Each(Subject::TextLimits)),
+    ("prints.txt", Table::Each(Subject::Prints)),
+    ("checks.txt", Table::Checks),
+    ("evaluations.txt", Table::Evaluations),
+    ("labels.txt", Table::Each(Subject::Labels)),
 ];
 
 /// What is told of the cases of a table, under the sample policy and schemes.
@@ -51,11 +73,11 @@ pub fn told(
     let mut out = Told::new(alloc);
     out.push("== ");
     out.push_line(file);
-    tell_cases(alloc, policy, schemes, table, &lines, &mut out);
+    tell_lines(alloc, policy, schemes, table, &lines, &mut out);
     out.finish()
 }
 
-fn tell_cases(
+fn tell_lines(
     alloc: Global,
     policy: &Policy,
     schemes: &Schemes,
@@ -65,9 +87,26 @@ fn tell_cases(
 )
     requires { AreUnder (length policy.now.labels) schemes.now }
 {
+    match table {
+        Table::Each(subject) => tell_cases(alloc, policy, schemes, subject, lines, out),
+        Table::Checks => checks::tell_lines(alloc, policy, schemes, lines, out),
+        Table::Evaluations => evaluations::tell_lines(alloc, policy, schemes, lines, out),
+    }
+}
+
+fn tell_cases(
+    alloc: Global,
+    policy: &Policy,
+    schemes: &Schemes,
+    subject: Subject,
+    lines: &[&str],
+    out: &mut Told,
+)
+    requires { AreUnder (length policy.now.labels) schemes.now }
+{
     for at in 0..lines.len() {
         if let Some(case) = case_at(&lines[at..]) {
-            tell_case(alloc, policy, schemes, table, &case, out);
+            tell_case(alloc, policy, schemes, subject, &case, out);
         }
     }
 }
@@ -76,22 +115,27 @@ fn tell_case(
     alloc: Global,
     policy: &Policy,
     schemes: &Schemes,
-    table: Table,
+    subject: Subject,
     case: &Case<'_>,
     out: &mut Told,
 )
     requires { AreUnder (length policy.now.labels) schemes.now }
 {
-    match table {
-        Table::Policies => documents::tell_policy(alloc, case.head, out),
-        Table::Schemes => documents::tell_schemes(alloc, policy, case.head, out),
-        Table::Documents => documents::tell(alloc, policy, case, out),
-        Table::Limits => limits::tell(alloc, policy, case.head, out),
-        Table::Lookups => lookups::tell(policy, case.head, out),
-        Table::Keys => keys::tell(alloc, case.head, out),
-        Table::Entries => entries::tell(alloc, policy, case, out),
-        Table::Views => views::tell(alloc, policy, schemes, case, out),
-        Table::Reads => reads::tell(alloc, policy, case, out),
-        Table::Certificates => certificates::tell(alloc, case.head, out),
+    match subject {
+        Subject::Policies => documents::tell_policy(alloc, case.head, out),
+        Subject::Schemes => documents::tell_schemes(alloc, policy, case.head, out),
+        Subject::Documents => documents::tell(alloc, policy, case, out),
+        Subject::Limits => limits::tell(alloc, policy, case.head, out),
+        Subject::Lookups => lookups::tell(policy, case.head, out),
+        Subject::Keys => keys::tell(alloc, case.head, out),
+        Subject::Entries => entries::tell(alloc, policy, case, out),
+        Subject::Views => views::tell(alloc, policy, schemes, case, out),
+        Subject::Reads => reads::tell(alloc, policy, case, out),
+        Subject::Certificates => certificates::tell(alloc, case.head, out),
+        Subject::Texts => texts::tell_line(alloc, policy, schemes, case.head, out),
+        Subject::TextLimits => text_limits::tell(alloc, policy, schemes, case.head, out),
+        Subject::Prints | Subject::Labels => {
+            texts::tell_block(alloc, policy, schemes, subject, case, out);
+        }
     }
 }

@@ -1,0 +1,64 @@
+//! What runs leave where a call of the base, or a write, fails: the replies before the fault are whole, and content and audit list are those
+//! before or after its event; and what single steps leave where a call fails: content, audit list and sessions are those before it, and the
+//! event is answered where it is tried again. `data/` has the scripts, `stdout` what they have to leave.
+ghost use Rattle.std.specs.Prelude.{length};
+ghost use Rattle.std.specs.List.{AllByRecursion};
+ghost use Rattle.mls_scheme.specs.Scheme.{AreUnder};
+ghost use Rattle.mls_script.specs.Event.{EventFits};
+
+mod faulty;
+mod narrow;
+mod outcomes;
+mod runs;
+mod steps;
+
+use self::outcomes::told;
+use mls_lattice::Policy;
+use mls_scheme::Schemes;
+use mls_script::{Event, script};
+use std::fs;
+use std::io::{self, Error, ErrorKind, Write};
+
+/// The scripts, in the order in which they are told.
+const FILES: [&str; 2] = ["audit.script", "writes.script"];
+
+fn tell_file(
+    rt: &HostRuntime,
+    policy: &Policy,
+    schemes: &Schemes,
+    file: &str,
+    questions: &[Event],
+) -> io::Result<()>
+    requires under { AreUnder (length policy.now.labels) schemes.now }
+    requires questions { AllByRecursion (EventFits policy.now schemes.now) questions.now }
+{
+    let text = fs::read_to_string(rt, file)?;
+    let told = told(rt.alloc(), policy, schemes, file, &text, questions)?;
+    rt.stdout().write_all(told.as_bytes())
+}
+
+fn tell_scripts(
+    rt: &HostRuntime,
+    policy: &Policy,
+    schemes: &Schemes,
+    questions: &[Event],
+) -> io::Result<()>
+    requires under { AreUnder (length policy.now.labels) schemes.now }
+    requires questions { AllByRecursion (EventFits policy.now schemes.now) questions.now }
+{
+    for file in FILES {
+        tell_file(rt, policy, schemes, file, questions)?;
+    }
+    Ok(())
+}
+
+/// Tells what the scripts leave.
+pub fn tell_files(rt: &HostRuntime, policy: &Policy, schemes: &Schemes) -> io::Result<()>
+    requires { AreUnder (length policy.now.labels) schemes.now }
+{
+    let text = fs::read_to_string(rt, "questions.script")?;
+    match script(rt.alloc(), policy, schemes, text.as_bytes()) {
+        Ok(questions) => tell_scripts(rt, policy, schemes, &questions),
+        Err(_) => Err(Error::from(ErrorKind::InvalidData)),
+    }
+}

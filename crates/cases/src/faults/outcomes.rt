@@ -1,0 +1,150 @@
+//! The outcomes of a script, where one call after another fails.
+ghost use Rattle.std.specs.Prelude.{length};
+ghost use Rattle.std.specs.List.{AllByRecursion};
+ghost use Rattle.mls_scheme.specs.Scheme.{AreUnder};
+ghost use Rattle.mls_script.specs.Event.{EventFits};
+
+use super::runs::{Failure, Scripts, What, push_outcome};
+use super::steps::push_steps;
+use case_tables::Told;
+use mls_lattice::Policy;
+use mls_scheme::Schemes;
+use mls_script::{Event, script};
+use std::alloc::{AllocError, Global};
+
+/// How the events of a script are answered.
+#[derive(Clone, Copy)]
+enum Way {
+    /// By a run.
+    Run,
+    /// Each by a step of its own.
+    Steps,
+}
+
+/// What is tried of each script.
+const TRIALS: [(Way, What); 5] = [
+    (Way::Run, What::Store),
+    (Way::Run, What::Memory),
+    (Way::Run, What::Write),
+    (Way::Steps, What::Store),
+    (Way::Steps, What::Memory),
+];
+
+/// Adds an outcome, and answers whether all was well.
+fn push_one(
+    alloc: Global,
+    policy: &Policy,
+    schemes: &Schemes,
+    scripts: Scripts<'_>,
+    way: Way,
+    failure: Failure,
+    out: &mut Told,
+) -> bool
+    requires under { AreUnder (length policy.now.labels) schemes.now }
+    requires events { AllByRecursion (EventFits policy.now schemes.now) scripts.events.now }
+    requires questions { AllByRecursion (EventFits policy.now schemes.now) scripts.questions.now }
+{
+    match way {
+        Way::Run => push_outcome(alloc, policy, schemes, scripts, failure, out),
+        Way::Steps => push_steps(alloc, policy, schemes, scripts, failure, out),
+    }
+}
+
+/// Adds an outcome where it differs from the last one.
+fn push_new(last: &Told, next: &Told, out: &mut Told) {
+    if next.text.as_str() != last.text.as_str() {
+        out.push(&next.text);
+    }
+    if !next.is_whole {
+        out.fail();
+    }
+}
+
+/// The most calls after which one fails.
+const MOST: u64 = 200;
+
+/// Tells the outcomes of a script where a call fails after none, one, two and so on, up to the one in which all is well. Of outcomes
+/// that follow each other and are equal one is told.
+fn tell_outcomes(
+    alloc: Global,
+    policy: &Policy,
+    schemes: &Schemes,
+    scripts: Scripts<'_>,
+    way: Way,
+    what: What,
+    out: &mut Told,
+)
+    requires under { AreUnder (length policy.now.labels) schemes.now }
+    requires events { AllByRecursion (EventFits policy.now schemes.now) scripts.events.now }
+    requires questions { AllByRecursion (EventFits policy.now schemes.now) scripts.questions.now }
+{
+    let mut last = Told::new(alloc);
+    for after in 0..MOST {
+        let mut next = Told::new(alloc);
+        let failure = Failure { what, after };
+        let is_well = push_one(alloc, policy, schemes, scripts, way, failure, &mut next);
+        push_new(&last, &next, out);
+        if is_well {
+            return;
+        }
+        last = next;
+    }
+}
+
+fn tell_trials(
+    alloc: Global,
+    policy: &Policy,
+    schemes: &Schemes,
+    scripts: Scripts<'_>,
+    out: &mut Told,
+)
+    requires under { AreUnder (length policy.now.labels) schemes.now }
+    requires events { AllByRecursion (EventFits policy.now schemes.now) scripts.events.now }
+    requires questions { AllByRecursion (EventFits policy.now schemes.now) scripts.questions.now }
+{
+    for (way, what) in TRIALS {
+        tell_outcomes(alloc, policy, schemes, scripts, way, what, out);
+    }
+}
+
+fn tell_script(
+    alloc: Global,
+    policy: &Policy,
+    schemes: &Schemes,
+    text: &str,
+    questions: &[Event],
+    out: &mut Told,
+)
+    requires under { AreUnder (length policy.now.labels) schemes.now }
+    requires questions { AllByRecursion (EventFits policy.now schemes.now) questions.now }
+{
+    match script(alloc, policy, schemes, text.as_bytes()) {
+        Ok(events) => {
+            let scripts = Scripts {
+                events: &events,
+                questions,
+            };
+            tell_trials(alloc, policy, schemes, scripts, out);
+        }
+        Err(_) => out.push("no script\n"),
+    }
+}
+
+/// What is told of the script of a file.
+pub fn told(
+    alloc: Global,
+    policy: &Policy,
+    schemes: &Schemes,
+    file: &str,
+    text: &str,
+    questions: &[Event],
+) -> Result<String, AllocError>
+    requires under { AreUnder (length policy.now.labels) schemes.now }
+    requires questions { AllByRecursion (EventFits policy.now schemes.now) questions.now }
+{
+    let mut out = Told::new(alloc);
+    out.push("== ");
+    out.push_line(file);
+    tell_script(alloc, policy, schemes, text, questions, &mut out);
+    out.finish()
+}

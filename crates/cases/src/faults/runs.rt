@@ -1,0 +1,151 @@
+//! What a run leaves where a call of the base, or a write, fails.
+ghost use Rattle.std.specs.Prelude.{◌≡◌, false, [], length};
+ghost use Rattle.std.specs.List.{AllByRecursion};
+ghost use Rattle.mls_scheme.specs.Scheme.{AreUnder};
+ghost use Rattle.mls_script.specs.Event.{EventFits};
+ghost use Rattle.mls_filterview.specs.Content.{no_content};
+ghost use Rattle.mls_replies.specs.Under.{site_under};
+ghost use Rattle.mls_sessions.specs.World.{IsSound};
+
+use super::faulty::Faulty;
+use super::narrow::Narrow;
+use case_tables::{Told, text_of};
+use mls_filterview::Base;
+use mls_lattice::{Items, Policy};
+use mls_scheme::Schemes;
+use mls_script::Event;
+use mls_sessions::{Engine, RunFault, Stored, run};
+use mls_updates::ListBase;
+use std::alloc::Global;
+
+/// What fails: a call of the base by its store or for want of memory, or a write; after so many that don't.
+#[derive(Clone, Copy)]
+pub struct Failure {
+    pub what: What,
+    pub after: u64,
+}
+
+/// What a failure is one of.
+#[derive(Clone, Copy)]
+pub enum What {
+    Store,
+    Memory,
+    Write,
+}
+
+impl Failure {
+    /// An empty base of which a call fails, or none where a write does.
+    pub fn base(self, alloc: Global) -> Faulty<ListBase>
+        ensures { ⟦<ListBase as Base>⟧.state result.base ≡ record { now = no_content; kept = no_content; begun = false } }
+    {
+        let lists = ListBase::new(alloc);
+        match self.what {
+            What::Store => Faulty::new(lists, self.after, false),
+            What::Memory => Faulty::new(lists, self.after, true),
+            What::Write => Faulty::new(lists, u64::MAX, false),
+        }
+    }
+
+    fn writer(self, alloc: Global) -> Narrow {
+        match self.what {
+            What::Write => Narrow::new(alloc, self.after),
+            _ => Narrow::new(alloc, u64::MAX),
+        }
+    }
+}
+
+/// Two scripts: the events whose run fails, and those that ask afterwards what the base holds.
+#[derive(Clone, Copy)]
+pub struct Scripts<'a> {
+    pub events: &'a [Event],
+    pub questions: &'a [Event],
+}
+
+/// No stored transactions.
+pub fn none_stored(alloc: Global) -> Items<Stored>
+    ensures { result ≡ [] }
+{
+    Items::from(Vec::new(alloc))
+}
+
+/// Runs events over a base.
+fn run_over<B: Base>(
+    alloc: Global,
+    policy: &Policy,
+    schemes: &Schemes,
+    base: B,
+    events: &[Event],
+    out: &mut Narrow,
+) -> (Result<(), RunFault>, B)
+    requires under { AreUnder (length policy.now.labels) schemes.now }
+    requires fits { AllByRecursion (EventFits policy.now schemes.now) events.now }
+    requires idle { (B.state base).begun ≡ false }
+    requires sound { B.is_clean base → IsSound (site_under policy.now schemes.now) (B.state base).now }
+    ensures idle { (B.state result.1).begun ≡ false }
+    ensures sound { B.is_clean result.1 → IsSound (site_under policy.now schemes.now) (B.state result.1).now }
+{
+    let mut engine = Engine::new(alloc, base, policy, schemes, none_stored(alloc));
+    let end = run(&mut engine, events, out);
+    (end, engine.finish())
+}
+
+fn push_end(end: Result<(), RunFault>, out: &mut Told) {
+    match end {
+        Ok(()) => out.push("all well\n"),
+        Err(fault) => {
+            out.push(fault.cause.word());
+            out.push(" at ");
+            out.push_count(fault.event);
+            out.push_line(if fault.done { ", done" } else { ", not done" });
+        }
+    }
+}
+
+/// Adds what a base answers to questions.
+fn push_answers(
+    alloc: Global,
+    policy: &Policy,
+    schemes: &Schemes,
+    base: ListBase,
+    questions: &[Event],
+    out: &mut Told,
+)
+    requires under { AreUnder (length policy.now.labels) schemes.now }
+    requires fits { AllByRecursion (EventFits policy.now schemes.now) questions.now }
+    requires idle { (⟦<ListBase as Base>⟧.state base).begun ≡ false }
+    requires sound { IsSound (site_under policy.now schemes.now) (⟦<ListBase as Base>⟧.state base).now }
+{
+    let mut answers = Narrow::new(alloc, u64::MAX);
+    let _ = run_over(alloc, policy, schemes, base, questions, &mut answers);
+    out.push_indented(text_of(&answers.bytes));
+}
+
+/// Adds how the run of a script ends, the replies before its end, and what the base then holds; and answers whether all was well.
+pub fn push_outcome(
+    alloc: Global,
+    policy: &Policy,
+    schemes: &Schemes,
+    scripts: Scripts<'_>,
+    failure: Failure,
+    out: &mut Told,
+) -> bool
+    requires under { AreUnder (length policy.now.labels) schemes.now }
+    requires events { AllByRecursion (EventFits policy.now schemes.now) scripts.events.now }
+    requires questions { AllByRecursion (EventFits policy.now schemes.now) scripts.questions.now }
+{
+    let mut replies = failure.writer(alloc);
+    let base = failure.base(alloc);
+    let (end, base) = run_over(alloc, policy, schemes, base, scripts.events, &mut replies);
+    push_end(end, out);
+    out.push_indented(text_of(&replies.bytes));
+    out.push("  --\n");
+    push_answers(
+        alloc,
+        policy,
+        schemes,
+        base.finish(),
+        scripts.questions,
+        out,
+    );
+    end.is_ok()
+}

@@ -1,0 +1,99 @@
+//! What a step leaves where a call of the base fails.
+ghost use Rattle.std.specs.Prelude.{◌≡◌, ◌<◌, ◌≤◌, false, length, IfSome};
+ghost use Rattle.std.specs.List.{AllByRecursion};
+ghost use Rattle.mls_scheme.specs.Scheme.{AreUnder};
+ghost use Rattle.mls_script.specs.Event.{EventFits};
+ghost use Rattle.mls_machine.specs.Observation.{EventsFit};
+ghost use Rattle.mls_replies.specs.Under.{site_under};
+ghost use Rattle.mls_sessions.specs.World.{IsSound};
+ghost use Rattle.mls_sessions.specs.Engine.{site, IsReady, IsKept};
+
+use super::narrow::Narrow;
+use super::runs::{Failure, Scripts, none_stored};
+use case_tables::{Told, text_of};
+use mls_filterview::{Base, BaseFault};
+use mls_lattice::Policy;
+use mls_scheme::Schemes;
+use mls_script::Event;
+use mls_sessions::{Engine, run};
+use std::alloc::Global;
+
+/// Answers events in order, up to the first that fails: its number, from 1, and why.
+fn step_to_fault<B: Base>(engine: &mut Engine<B>, events: &[Event]) -> Option<(usize, BaseFault)>
+    requires ready { IsReady B.state B.is_clean engine.old }
+    requires fits { EventsFit (site engine.old) events.now }
+    ensures kept { IsKept B.state B.is_clean engine.old engine.new }
+    ensures number { IfSome result (λ r. (0 < r.0) × (r.0 ≤ length events.now)) }
+{
+    for (place, event) in events.iter().enumerate() {
+        if let Err(fault) = engine.step(event) {
+            return Some((place + 1, fault));
+        }
+    }
+    None
+}
+
+/// Steps through events over a base, up to the first that fails. The replies are to what is asked of the engine afterwards: the questions,
+/// and the events from the one that failed on.
+fn step_over<B: Base>(
+    alloc: Global,
+    policy: &Policy,
+    schemes: &Schemes,
+    base: B,
+    scripts: Scripts<'_>,
+    replies: &mut Narrow,
+) -> (Option<(usize, BaseFault)>, B)
+    requires under { AreUnder (length policy.now.labels) schemes.now }
+    requires events { AllByRecursion (EventFits policy.now schemes.now) scripts.events.now }
+    requires questions { AllByRecursion (EventFits policy.now schemes.now) scripts.questions.now }
+    requires idle { (B.state base).begun ≡ false }
+    requires sound { B.is_clean base → IsSound (site_under policy.now schemes.now) (B.state base).now }
+{
+    let mut engine = Engine::new(alloc, base, policy, schemes, none_stored(alloc));
+    let stop = step_to_fault(&mut engine, scripts.events);
+    if let Some((number, _)) = stop {
+        let _ = run(&mut engine, scripts.questions, replies);
+        let _ = run(&mut engine, &scripts.events[number - 1..], replies);
+    }
+    (stop, engine.finish())
+}
+
+fn fault_word(fault: BaseFault) -> &'static str {
+    match fault {
+        BaseFault::Store => "Store",
+        BaseFault::Memory => "Memory",
+        BaseFault::NotBegun => "NotBegun",
+        BaseFault::Begun => "Begun",
+    }
+}
+
+fn push_stop(number: usize, fault: BaseFault, out: &mut Told) {
+    out.push(fault_word(fault));
+    out.push(" at step ");
+    out.push_count(number);
+    out.push("\n");
+}
+
+/// Adds which step of a script fails, and what the engine answers afterwards; and answers whether none failed.
+pub fn push_steps(
+    alloc: Global,
+    policy: &Policy,
+    schemes: &Schemes,
+    scripts: Scripts<'_>,
+    failure: Failure,
+    out: &mut Told,
+) -> bool
+    requires under { AreUnder (length policy.now.labels) schemes.now }
+    requires events { AllByRecursion (EventFits policy.now schemes.now) scripts.events.now }
+    requires questions { AllByRecursion (EventFits policy.now schemes.now) scripts.questions.now }
+{
+    let mut replies = Narrow::new(alloc, u64::MAX);
+    let base = failure.base(alloc);
+    let (stop, _base) = step_over(alloc, policy, schemes, base, scripts, &mut replies);
+    match stop {
+        Some((number, fault)) => push_stop(number, fault, out),
+        None => out.push("all steps well\n"),
+    }
+    out.push_indented(text_of(&replies.bytes));
+    stop.is_none()
+}

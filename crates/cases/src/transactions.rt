@@ -1,0 +1,7 @@
+//! Cases of transactions: their texts, what they are printed as, their certificates, their least labels, and what they do.
+pub mod checks;
+pub mod evaluations;
+mod labels;
+pub mod limits;
+mod prints;
+pub mod texts;

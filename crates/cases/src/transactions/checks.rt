@@ -1,0 +1,107 @@
+//! Certificates that are checked for transactions.
+use crate::certificates::cert_of;
+use case_tables::{Told, case_at, inner};
+use mls_certcheck::check;
+use mls_certificate::Cert;
+use mls_lattice::Policy;
+use mls_parser::parse;
+use mls_scheme::Schemes;
+use mls_translang::Tx;
+use std::alloc::{AllocError, Global};
+
+/// Adds the lines of a body.
+fn push_body(body: &[&str], text: &mut Told) {
+    for line in body {
+        text.push_line(inner(line));
+    }
+}
+
+/// The transactions, each of which stands after `tx`, as one text.
+fn text_of(alloc: Global, lines: &[&str]) -> Result<String, AllocError> {
+    let mut text = Told::new(alloc);
+    for at in 0..lines.len() {
+        if let Some(case) = case_at(&lines[at..])
+            && case.head == "tx"
+        {
+            push_body(case.body, &mut text);
+        }
+    }
+    text.finish()
+}
+
+fn named<'a>(txs: &'a [Tx], name: &str) -> Option<&'a Tx> {
+    for tx in txs {
+        if tx.name() == name {
+            return Some(tx);
+        }
+    }
+    None
+}
+
+/// Adds `yes`, or the number of a statement and the rule that is broken there.
+fn push_answer(policy: &Policy, tx: &Tx, cert: &Cert, out: &mut Told) {
+    match check(policy, tx, cert) {
+        Ok(()) => out.push("yes"),
+        Err(refusal) => {
+            out.push_count(refusal.stmt);
+            out.push(" ");
+            out.push(refusal.rule.text());
+        }
+    }
+}
+
+/// Adds the answer to a certificate for a transaction.
+fn push_checked(alloc: Global, policy: &Policy, tx: &Tx, cert: &str, out: &mut Told) {
+    match cert_of(alloc, cert) {
+        Some(cert) => push_answer(policy, tx, &cert, out),
+        None => out.push("no certificate"),
+    }
+}
+
+/// Tells the answer to a certificate: the name of a transaction and the certificate.
+fn tell_check(alloc: Global, policy: &Policy, txs: &[Tx], question: &str, out: &mut Told) {
+    let (name, cert) = question.split_once(' ').unwrap_or((question, ""));
+    match named(txs, name) {
+        Some(tx) => push_checked(alloc, policy, tx, cert, out),
+        None => out.push("no transaction"),
+    }
+    out.push(": ");
+    out.push_line(question);
+}
+
+/// Tells the answers to certificates, each in a line after `check`.
+fn tell_checks(alloc: Global, policy: &Policy, txs: &[Tx], lines: &[&str], out: &mut Told) {
+    for line in lines {
+        if let Some(question) = line.strip_prefix("check ") {
+            tell_check(alloc, policy, txs, question, out);
+        }
+    }
+}
+
+fn tell_parsed(
+    alloc: Global,
+    policy: &Policy,
+    schemes: &Schemes,
+    text: &str,
+    lines: &[&str],
+    out: &mut Told,
+) {
+    match parse(alloc, policy, schemes, text.as_bytes()) {
+        Ok(txs) => tell_checks(alloc, policy, &txs, lines, out),
+        Err(_) => out.push("no transactions\n"),
+    }
+}
+
+/// Tells the answers to the certificates of a table.
+pub fn tell_lines(
+    alloc: Global,
+    policy: &Policy,
+    schemes: &Schemes,
+    lines: &[&str],
+    out: &mut Told,
+) {
+    match text_of(alloc, lines) {
+        Ok(text) => tell_parsed(alloc, policy, schemes, &text, lines, out),
+        Err(_) => out.fail(),
+    }
+}

@@ -1,0 +1,151 @@
+//! Certified transactions that are run one after another over one base.
+ghost use Rattle.std.specs.Prelude.{◌≡◌, length, OnOk};
+ghost use Rattle.std.specs.Option.{IfSome};
+ghost use Rattle.std.specs.List.{AllByRecursion};
+ghost use Rattle.mls_lattice.specs.Policy.{labels_of};
+ghost use Rattle.mls_scheme.specs.Scheme.{AreUnder};
+ghost use Rattle.mls_filterview.specs.Stored.{AreContent};
+ghost use Rattle.mls_translang.specs.Fits.{IsReadUnder};
+ghost use Rattle.mls_meaning.specs.Laws.{IsItem};
+
+use crate::certificates::cert_of;
+use case_tables::{Case, Told, case_at, joined};
+use mls_certcheck::Certified;
+use mls_filterview::{Base, BaseFault};
+use mls_lattice::{LabelNo, Policy};
+use mls_parser::parse;
+use mls_scheme::{Schemes, Value};
+use mls_translang::Tx;
+use mls_trusted::{Run, evaluate};
+use mls_updates::ListBase;
+use std::alloc::Global;
+
+/// The last transaction of a text.
+fn transaction_of(alloc: Global, policy: &Policy, schemes: &Schemes, text: &str) -> Option<Tx>
+    ensures { IfSome result (IsReadUnder policy.now schemes.now) }
+{
+    match parse(alloc, policy, schemes, text.as_bytes()) {
+        Ok(txs) => txs.into_vec().pop(),
+        Err(_) => None,
+    }
+}
+
+/// The transaction of a case with the certificate that its head is, where that holds.
+fn certified_in(
+    alloc: Global,
+    policy: &Policy,
+    schemes: &Schemes,
+    case: &Case<'_>,
+) -> Option<Certified>
+    ensures { IfSome result (λ k. IsReadUnder policy.now schemes.now k.tx) }
+{
+    let cert = cert_of(alloc, case.head)?;
+    let text = joined(alloc, case.body).ok()?;
+    let tx = transaction_of(alloc, policy, schemes, &text)?;
+    Certified::new(policy, tx, cert).ok()
+}
+
+fn push_value(value: &Option<Value>, out: &mut Told) {
+    match value {
+        None => out.push("null"),
+        Some(Value::Int(number)) => out.push_number(*number),
+        Some(Value::Text(text)) => out.push(text.as_str()),
+    }
+}
+
+/// Adds items, each with its label.
+fn push_items(policy: &Policy, word: &str, items: &[(LabelNo, Option<Value>)], out: &mut Told)
+    requires { AllByRecursion (IsItem policy.now) items.now }
+{
+    for item in items {
+        out.push(word);
+        out.push(policy.name(item.0));
+        out.push(" ");
+        push_value(&item.1, out);
+        out.push("\n");
+    }
+}
+
+fn push_run(policy: &Policy, run: &Run, out: &mut Told)
+    requires emitted { AllByRecursion (IsItem policy.now) run.now.emitted }
+    requires released { AllByRecursion (IsItem policy.now) run.now.released }
+{
+    push_items(policy, "  emit ", &run.emitted, out);
+    push_items(policy, "  release ", &run.released, out);
+}
+
+/// Tells what a transaction without parameters emits and releases over a base.
+#[tactic(auto, using(crate::proofs::StartLemmas::none_fit))]
+fn tell_certified<B: Base>(
+    alloc: Global,
+    policy: &Policy,
+    schemes: &Schemes,
+    certified: &Certified,
+    base: &mut B,
+    out: &mut Told,
+) -> Result<(), BaseFault>
+    requires under { AreUnder (length policy.now.labels) schemes.now }
+    requires read { IsReadUnder policy.now schemes.now certified.now.tx }
+    requires content { B.is_clean base.old → AreContent (labels_of policy.now) schemes.now (B.state base.old).now.db }
+    ensures { B.is_clean base.new → OnOk result (AreContent (labels_of policy.now) schemes.now (B.state base.new).now.db) }
+{
+    out.push_line(certified.tx().name());
+    if !certified.tx().params().is_empty() {
+        return Ok(());
+    }
+    let run = evaluate(alloc, base, policy, schemes, certified, &[])?;
+    push_run(policy, &run, out);
+    Ok(())
+}
+
+/// Tells what the transaction of a case emits and releases over a base.
+fn tell_case<B: Base>(
+    alloc: Global,
+    policy: &Policy,
+    schemes: &Schemes,
+    case: &Case<'_>,
+    base: &mut B,
+    out: &mut Told,
+) -> Result<(), BaseFault>
+    requires under { AreUnder (length policy.now.labels) schemes.now }
+    requires content { B.is_clean base.old → AreContent (labels_of policy.now) schemes.now (B.state base.old).now.db }
+    ensures { B.is_clean base.new → OnOk result (AreContent (labels_of policy.now) schemes.now (B.state base.new).now.db) }
+{
+    match certified_in(alloc, policy, schemes, case) {
+        Some(certified) => tell_certified(alloc, policy, schemes, &certified, base, out),
+        None => {
+            out.push("no certificate that holds\n");
+            Ok(())
+        }
+    }
+}
+
+/// Tells what the transactions of cases do, one after another.
+fn tell_over<B: Base>(
+    alloc: Global,
+    policy: &Policy,
+    schemes: &Schemes,
+    lines: &[&str],
+    base: &mut B,
+    out: &mut Told,
+) -> Result<(), BaseFault>
+    requires under { AreUnder (length policy.now.labels) schemes.now }
+    requires content { B.is_clean base.old → AreContent (labels_of policy.now) schemes.now (B.state base.old).now.db }
+{
+    for at in 0..lines.len() {
+        if let Some(case) = case_at(&lines[at..]) {
+            tell_case(alloc, policy, schemes, &case, base, out)?;
+        }
+    }
+    Ok(())
+}
+
+/// Tells what the transactions of a table do, one after another over one base, which is empty at first.
+pub fn tell_lines(alloc: Global, policy: &Policy, schemes: &Schemes, lines: &[&str], out: &mut Told)
+    requires { AreUnder (length policy.now.labels) schemes.now }
+{
+    let mut base = ListBase::new(alloc);
+    if tell_over(alloc, policy, schemes, lines, &mut base, out).is_err() {
+        out.fail();
+    }
+}

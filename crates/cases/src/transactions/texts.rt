@@ -1,0 +1,107 @@
+//! Texts of transactions: whether they are read, or what is told of their transactions, or which fault stands where.
+ghost use Rattle.std.specs.List.{AllByRecursion};
+ghost use Rattle.mls_translang.specs.Fits.{IsReadUnder};
+
+use super::labels::push_labels;
+use super::prints::push_prints;
+use crate::table::Subject;
+use case_tables::{Case, Told, joined, unfolded};
+use mls_lattice::Policy;
+use mls_parser::{TextFault, parse};
+use mls_scheme::Schemes;
+use mls_translang::Tx;
+use std::alloc::{AllocError, Global};
+
+/// Adds the number and the name of a fault, and where it stands.
+fn push_fault(fault: TextFault, out: &mut Told) {
+    out.push_count(fault.cause.code() as usize);
+    out.push(" ");
+    out.push(fault.cause.word());
+    out.push(" at ");
+    out.push_count(fault.line);
+    out.push(":");
+    out.push_count(fault.column);
+}
+
+fn push_txs(
+    alloc: Global,
+    policy: &Policy,
+    schemes: &Schemes,
+    subject: Subject,
+    txs: &[Tx],
+    out: &mut Told,
+)
+    requires { AllByRecursion (IsReadUnder policy.now schemes.now) txs.now }
+{
+    match subject {
+        Subject::Prints => push_prints(alloc, policy, schemes, txs, out),
+        Subject::Labels => push_labels(alloc, policy, txs, out),
+        _ => out.push("read"),
+    }
+}
+
+/// Adds what is told of a text.
+fn push_text(
+    alloc: Global,
+    policy: &Policy,
+    schemes: &Schemes,
+    subject: Subject,
+    text: &[u8],
+    out: &mut Told,
+) {
+    match parse(alloc, policy, schemes, text) {
+        Ok(txs) => push_txs(alloc, policy, schemes, subject, &txs, out),
+        Err(fault) => push_fault(fault, out),
+    }
+}
+
+/// Tells whether a text is read, and the line that it is made of.
+pub fn tell_read(
+    alloc: Global,
+    policy: &Policy,
+    schemes: &Schemes,
+    text: &[u8],
+    line: &str,
+    out: &mut Told,
+) {
+    push_text(alloc, policy, schemes, Subject::Texts, text, out);
+    out.push(": ");
+    out.push_line(line);
+}
+
+/// Tells whether a text is read that stands in one line.
+pub fn tell_line(alloc: Global, policy: &Policy, schemes: &Schemes, line: &str, out: &mut Told) {
+    match unfolded(alloc, line) {
+        Ok(text) => tell_read(alloc, policy, schemes, &text, line, out),
+        Err(_) => out.fail(),
+    }
+}
+
+fn told(
+    alloc: Global,
+    policy: &Policy,
+    schemes: &Schemes,
+    subject: Subject,
+    body: &[&str],
+) -> Result<String, AllocError> {
+    let text = joined(alloc, body)?;
+    let mut out = Told::new(alloc);
+    push_text(alloc, policy, schemes, subject, text.as_bytes(), &mut out);
+    out.finish()
+}
+
+/// Tells of the text that stands below a line.
+pub fn tell_block(
+    alloc: Global,
+    policy: &Policy,
+    schemes: &Schemes,
+    subject: Subject,
+    case: &Case<'_>,
+    out: &mut Told,
+) {
+    out.push_line(case.head);
+    match told(alloc, policy, schemes, subject, case.body) {
+        Ok(told) => out.push_indented(&told),
+        Err(_) => out.fail(),
+    }
+}

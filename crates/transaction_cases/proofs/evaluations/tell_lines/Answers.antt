@@ -1,6 +1,0 @@
-use Rattle.mls_lattice.specs.Policy.{labels_of}
-use Rattle.transaction_cases.proofs.StartLemmas.{none_stored}
-use Rattle.transaction_cases.proofs.evaluations.tell_lines.Goals as goal
-
-pub tell_over-requires-clause-content : goal.tell_over-requires-clause-content
-tell_over-requires-clause-content c = λ _. none_stored (labels_of c.args.policy.now) c.args.schemes.now _ c.new-base.ensures

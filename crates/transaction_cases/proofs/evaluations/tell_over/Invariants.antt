@@ -1,6 +1,0 @@
-use Rattle.mls_lattice.specs.Policy.{labels_of}
-use Rattle.mls_filterview.specs.Stored.{AreContent}
-use Rattle.transaction_cases.proofs.evaluations.tell_over.Given as goal
-
-abbrev pub invariant-loop-at : goal.invariant-loop-at
-invariant-loop-at g l = g.B.Base.is_clean l.base → AreContent (labels_of l.policy) l.schemes (g.B.Base.state l.base).now.db

@@ -3,20 +3,21 @@ ghost use Rattle.mls_certificate.specs.declared.fault.CertCause.TheVariants.{Mem
 ghost use Rattle.mls_certificate.specs.Fault.{code_of, word_of};
 
 use std::alloc::{AllocError, AllocFailed};
+use std::fmt;
 use thiserror::Error;
 
 /// Why a text is no certificate.
 #[derive(Clone, Copy, PartialEq, Eq, Debug, Error)]
 pub enum CertCause {
-    #[error("the line has the wrong form, or is missing")]
+    /// The line has the wrong form, or is missing.
     Line,
-    #[error("a label is none")]
+    /// A label is none.
     Label,
-    #[error("the version is another")]
+    /// The version is another.
     Version,
-    #[error("a name stands twice")]
+    /// A name stands twice.
     Repeated,
-    #[error("out of memory")]
+    /// A growth was refused.
     Memory,
 }
 
@@ -39,6 +40,13 @@ impl CertCause {
             CertCause::Repeated => "Repeated",
             CertCause::Memory => "Memory",
         }
+    }
+}
+
+/// The name of the fault.
+impl fmt::Display for CertCause {
+    fn fmt<W: fmt::Write>(&self, f: &mut fmt::Formatter<W>) -> fmt::Result {
+        f.write_str(self.word())
     }
 }
 

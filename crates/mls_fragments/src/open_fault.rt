@@ -5,19 +5,19 @@ ghost use Rattle.mls_fragments.specs.declared.open_fault.OpenFault.TheVariants.{
 use crate::reading::RowFault;
 use mls_statements::{AdoptFault, StoreFault};
 use std::alloc::AllocError;
+use std::fmt;
 use thiserror::Error;
 
 /// Why a store is not opened.
 #[derive(Clone, Copy, Debug, Error)]
 pub enum OpenFault {
-    #[error("the store failed")]
+    /// The store failed.
     Store,
-    /// Users and the matrix of rights are not compared.
-    #[error("the store is of another policy or other schemes")]
+    /// The store is of another policy or other schemes; users and the matrix of rights are not compared.
     OtherPolicy,
-    #[error("the rows are no content")]
+    /// The rows are no content.
     BadRows,
-    #[error("out of memory")]
+    /// A growth was refused.
     Memory,
 }
 
@@ -39,6 +39,13 @@ impl OpenFault {
             OpenFault::BadRows => "BadRows",
             OpenFault::Memory => "Memory",
         }
+    }
+}
+
+/// The name of the fault.
+impl fmt::Display for OpenFault {
+    fn fmt<W: fmt::Write>(&self, f: &mut fmt::Formatter<W>) -> fmt::Result {
+        f.write_str(self.word())
     }
 }
 

@@ -3,28 +3,29 @@ ghost use Rattle.mls_lattice.specs.declared.fault.PolicyFault.TheVariants.{Memor
 ghost use Rattle.mls_lattice.specs.Fault.{code_of, word_of};
 
 use std::alloc::{AllocError, AllocFailed};
+use std::fmt;
 use thiserror::Error;
 
 /// Why a policy is refused.
 #[derive(Clone, Copy, PartialEq, Eq, Debug, Error)]
 pub enum PolicyFault {
-    #[error("no TOML document")]
+    /// No TOML document.
     NotToml,
-    #[error("a field is missing")]
+    /// A field is missing.
     MissingField,
-    #[error("a field has the wrong kind")]
+    /// A field has the wrong kind.
     WrongKind,
-    #[error("a name stands twice")]
+    /// A name stands twice.
     Repeated,
-    #[error("a name is unknown")]
+    /// A name is unknown.
     UnknownName,
-    #[error("a list is too long")]
+    /// A list is too long.
     TooMany,
-    #[error("a name is no name")]
+    /// A name is no name.
     BadName,
-    #[error("an interval is empty")]
+    /// An interval is empty.
     EmptyInterval,
-    #[error("out of memory")]
+    /// A growth was refused.
     Memory,
 }
 
@@ -51,6 +52,13 @@ impl PolicyFault {
             PolicyFault::EmptyInterval => "EmptyInterval",
             PolicyFault::Memory => "Memory",
         }
+    }
+}
+
+/// The name of the fault.
+impl fmt::Display for PolicyFault {
+    fn fmt<W: fmt::Write>(&self, f: &mut fmt::Formatter<W>) -> fmt::Result {
+        f.write_str(self.word())
     }
 }
 

@@ -6,28 +6,29 @@ ghost use Rattle.mls_parser.specs.Fault.{code_of, word_of, unless, is_before, so
 
 use mls_syntax::{SyntaxCause, SyntaxFault};
 use std::alloc::AllocError;
+use std::fmt;
 use thiserror::Error;
 
 /// Why a text of transactions is refused.
 #[derive(Clone, Copy, PartialEq, Eq, Debug, Error)]
 pub enum TextCause {
-    #[error("no token stands here")]
+    /// No token stands here.
     Token,
-    #[error("no transaction goes on so")]
+    /// No transaction goes on so.
     Expected,
-    #[error("a name is unknown")]
+    /// A name is unknown.
     UnknownName,
-    #[error("an expression has the wrong kind, or a list the wrong length")]
+    /// An expression has the wrong kind, or a list the wrong length.
     Kind,
-    #[error("a name stands twice")]
+    /// A name stands twice.
     Repeated,
-    #[error("statements or operators stand too deep in one another")]
+    /// Statements or operators stand too deep in one another.
     Depth,
-    #[error("a text is too long, or there are too many of a sort")]
+    /// A text is too long, or there are too many of a sort.
     TooLong,
-    #[error("a label does not dominate another")]
+    /// A label does not dominate another.
     LabelOrder,
-    #[error("out of memory")]
+    /// A growth was refused.
     Memory,
 }
 
@@ -94,6 +95,13 @@ impl TextCause {
             TextCause::LabelOrder => "LabelOrder",
             TextCause::Memory => "Memory",
         }
+    }
+}
+
+/// The name of the fault.
+impl fmt::Display for TextCause {
+    fn fmt<W: fmt::Write>(&self, f: &mut fmt::Formatter<W>) -> fmt::Result {
+        f.write_str(self.word())
     }
 }
 

@@ -4,32 +4,33 @@ ghost use Rattle.mls_scheme.specs.Fault.{code_of, word_of, scheme_fault_of};
 
 use mls_lattice::PolicyFault;
 use std::alloc::{AllocError, AllocFailed};
+use std::fmt;
 use thiserror::Error;
 
 /// Why schemes are refused.
 #[derive(Clone, Copy, PartialEq, Eq, Debug, Error)]
 pub enum SchemeFault {
-    #[error("no TOML document")]
+    /// No TOML document.
     NotToml,
-    #[error("a field is missing")]
+    /// A field is missing.
     MissingField,
-    #[error("a field has the wrong kind")]
+    /// A field has the wrong kind.
     WrongKind,
-    #[error("a name stands twice")]
+    /// A name stands twice.
     Repeated,
-    #[error("a name is unknown")]
+    /// A name is unknown.
     UnknownName,
-    #[error("a list is too long")]
+    /// A list is too long.
     TooMany,
-    #[error("a name is no name")]
+    /// A name is no name.
     BadName,
-    #[error("an interval is empty")]
+    /// An interval is empty.
     EmptyInterval,
-    #[error("out of memory")]
+    /// A growth was refused.
     Memory,
-    #[error("a relation has no key")]
+    /// A relation has no key.
     NoKey,
-    #[error("key attributes have different intervals")]
+    /// Key attributes have different intervals.
     KeyIntervals,
 }
 
@@ -58,6 +59,13 @@ impl SchemeFault {
             SchemeFault::NoKey => "NoKey",
             SchemeFault::KeyIntervals => "KeyIntervals",
         }
+    }
+}
+
+/// The name of the fault.
+impl fmt::Display for SchemeFault {
+    fn fmt<W: fmt::Write>(&self, f: &mut fmt::Formatter<W>) -> fmt::Result {
+        f.write_str(self.word())
     }
 }
 

@@ -3,21 +3,21 @@ ghost use Rattle.mls_scheme.specs.declared.key_fault.KeyFault.TheVariants.{Memor
 ghost use Rattle.mls_scheme.specs.KeyWords.{key_word_of};
 
 use std::alloc::{AllocError, AllocFailed};
+use std::fmt;
 use thiserror::Error;
 
 /// Why bytes are no key, begin with no value, or are no entry of the audit list: the first fault from left to right.
 #[derive(Clone, Copy, PartialEq, Eq, Debug, Error)]
 pub enum KeyFault {
-    #[error("a field passes the end")]
+    /// A field passes the end.
     Short,
-    /// Also where a key's number of values is not 1 to 4.
-    #[error("a tag is unknown")]
+    /// A tag is unknown, or a key's number of values is not 1 to 4.
     BadTag,
-    #[error("a text is no UTF-8")]
+    /// A text is no UTF-8.
     BadText,
-    #[error("bytes follow the last field")]
+    /// Bytes follow the last field.
     Trailing,
-    #[error("out of memory")]
+    /// A growth was refused.
     Memory,
 }
 
@@ -33,6 +33,13 @@ impl KeyFault {
             KeyFault::Trailing => "Trailing",
             KeyFault::Memory => "Memory",
         }
+    }
+}
+
+/// The name of the fault.
+impl fmt::Display for KeyFault {
+    fn fmt<W: fmt::Write>(&self, f: &mut fmt::Formatter<W>) -> fmt::Result {
+        f.write_str(self.word())
     }
 }
 

@@ -2,26 +2,27 @@ ghost use Rattle.std.specs.Prelude.{◌≡◌};
 ghost use Rattle.mls_script.specs.Fault.{code_of, word_of, lifted, in_line};
 
 use mls_tokens::{TokenCause, TokenFault};
+use std::fmt;
 use thiserror::Error;
 
 /// Why a script is refused.
 #[derive(Clone, Copy, PartialEq, Eq, Debug, Error)]
 pub enum ScriptCause {
-    #[error("no token stands here")]
+    /// No token stands here.
     Token,
-    #[error("no command goes on so")]
+    /// No command goes on so.
     Expected,
-    #[error("a name is unknown")]
+    /// A name is unknown.
     UnknownName,
-    #[error("a value has the wrong kind, or a list the wrong length")]
+    /// A value has the wrong kind, or a list the wrong length.
     Kind,
-    #[error("a name stands twice")]
+    /// A name stands twice.
     Repeated,
-    #[error("a text is too long")]
+    /// A text is too long.
     TooLong,
-    #[error("out of memory")]
+    /// A growth was refused.
     Memory,
-    #[error("the last line has no end")]
+    /// The last line has no end.
     Unterminated,
 }
 
@@ -56,6 +57,13 @@ impl ScriptCause {
             ScriptCause::Memory => "Memory",
             ScriptCause::Unterminated => "Unterminated",
         }
+    }
+}
+
+/// The name of the fault.
+impl fmt::Display for ScriptCause {
+    fn fmt<W: fmt::Write>(&self, f: &mut fmt::Formatter<W>) -> fmt::Result {
+        f.write_str(self.word())
     }
 }
 

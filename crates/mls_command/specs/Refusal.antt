@@ -82,6 +82,9 @@ script_fault_text f = place_text role.Script (script_faults.code_of f.cause) (sc
 abbrev pub run_text : RunFault → List ℕ
 run_text f = codes "mldb: run: " ++ cause_word f.cause ++ codes " at " ++ decimal f.event ++ codes "\n"
 
+abbrev pub memory_text : List ℕ
+memory_text = codes "mldb: memory\n"
+
 -- what is told of a refusal
 abbrev pub refusal_text : Refusal → List ℕ
 refusal_text (Unreadable r) = input_text r (codes "unreadable")
@@ -94,4 +97,4 @@ refusal_text (Script f) = script_fault_text f
 refusal_text (Store f) = fault_text role.Store (store_faults.code_of f) (store_faults.word_of f)
 refusal_text (Run f) = run_text f
 refusal_text Output = codes "mldb: output: Write\n"
-refusal_text Memory = codes "mldb: memory\n"
+refusal_text Memory = memory_text

@@ -1,7 +1,7 @@
 //! Why a command ends without success, and how that is told.
 ghost use Rattle.std.specs.Prelude.{◌≡◌, ◌⊎◌, OnOk};
 ghost use Rattle.std.specs.Io.KnownBytes.{Appends};
-ghost use Rattle.mls_command.specs.Refusal.{role_word, input_refusal, input_text, fault_text, line_text, front_text, spot_text, place_text, text_fault_text, cert_fault_text, script_fault_text, run_text, refusal_text};
+ghost use Rattle.mls_command.specs.Refusal.{role_word, input_refusal, input_text, fault_text, line_text, front_text, spot_text, place_text, text_fault_text, cert_fault_text, script_fault_text, run_text, memory_text, refusal_text};
 
 use crate::host::HostFault;
 use mls_certificate::{CertCause, CertFault};
@@ -56,6 +56,13 @@ pub enum Refusal {
     /// What a command other than a run prints was not taken.
     Output,
     Memory,
+}
+
+/// Writes the line that tells want of memory.
+pub(crate) fn tell_memory<W: Write>(err: &mut W) -> io::Result<()>
+    ensures { OnOk result (Appends (W.contents err.old) (W.contents err.new) memory_text) }
+{
+    err.write_all(b"mldb: memory\n")
 }
 
 fn tell_input<W: Write>(err: &mut W, role: Role, word: &str) -> io::Result<()>
@@ -197,7 +204,7 @@ impl Refusal {
             Refusal::Store(fault) => tell_fault(err, Role::Store, fault.code(), fault.word()),
             Refusal::Run(fault) => tell_run(err, fault),
             Refusal::Output => err.write_all(b"mldb: output: Write\n"),
-            Refusal::Memory => err.write_all(b"mldb: memory\n"),
+            Refusal::Memory => tell_memory(err),
         }
     }
 }

@@ -1,7 +1,7 @@
 //! The sample policy and schemes, for a run without words.
 
 /// Four labels, of which M and S are incomparable and H is their join, and five users.
-pub const POLICY: &str = "\
+pub static POLICY: &str = "\
 version = 1
 levels = [\"U\", \"C\", \"S\"]
 categories = [\"N\"]
@@ -112,7 +112,7 @@ modes = [\"execute\"]
 ";
 
 /// Starships with an objective and a destination, and a crew.
-pub const SCHEMES: &str = "\
+pub static SCHEMES: &str = "\
 version = 1
 
 [[relation]]

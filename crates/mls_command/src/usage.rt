@@ -3,6 +3,7 @@ ghost use Rattle.std.specs.Prelude.{◌≡◌, OnOk};
 ghost use Rattle.std.specs.Io.KnownBytes.{Appends};
 ghost use Rattle.mls_command.specs.Words.{usage_text, usage_status};
 
+use crate::refusal::tell_memory;
 use std::alloc::AllocError;
 use std::io::{self, Write};
 
@@ -11,6 +12,7 @@ use std::io::{self, Write};
 pub enum Usage {
     /// The text that is printed.
     Text(String),
+    /// A growth was refused.
     Memory,
 }
 
@@ -31,7 +33,7 @@ impl Usage {
     {
         match self {
             Usage::Text(text) => err.write_all(text.as_bytes()),
-            Usage::Memory => err.write_all(b"mldb: memory\n"),
+            Usage::Memory => tell_memory(err),
         }
     }
 }

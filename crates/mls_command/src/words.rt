@@ -76,6 +76,7 @@ struct Subcommand {
     arguments: &'static [Argument],
 }
 
+/// The commands, in the order in which help lists them.
 static SUBCOMMANDS: [Subcommand; 4] = [
     Subcommand {
         name: "run",

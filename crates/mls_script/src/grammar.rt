@@ -43,7 +43,7 @@ pub(crate) enum Part {
 }
 
 /// Every verb.
-pub(crate) const VERBS: [Verb; 8] = [
+pub(crate) static VERBS: [Verb; 8] = [
     Verb::Open,
     Verb::Close,
     Verb::Audit,

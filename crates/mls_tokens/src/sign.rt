@@ -44,7 +44,7 @@ pub enum Sign {
 }
 
 /// Every sign, those of two bytes first.
-const SIGNS: [Sign; 18] = [
+static SIGNS: [Sign; 18] = [
     Sign::Becomes,
     Sign::Differs,
     Sign::AtMost,

@@ -6,7 +6,7 @@ use mls_scheme::Value;
 use std::alloc::AllocError;
 
 /// An entry of the audit list. The label is the session's level, and that of a release the one to which it was made.
-#[derive(Clone, PartialEq, Eq, Drop, Debug)]
+#[derive(Clone, PartialEq, Eq, Drop)]
 pub enum Entry {
     /// A transaction was called.
     Called {

@@ -1,7 +1,7 @@
 use mls_lattice::{Items, Label};
 
 /// The labels that a transaction is certified with. They need not be declared by any policy.
-#[derive(PartialEq, Eq, Drop, Debug)]
+#[derive(Drop)]
 pub struct Cert {
     /// One for each variable, in order of declaration.
     pub var_labels: Items<Label>,

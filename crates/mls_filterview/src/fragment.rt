@@ -3,7 +3,7 @@ use mls_lattice::{Items, LabelNo};
 use mls_scheme::Value;
 
 /// A tuple without its values: its entity, its class, and the class of each element in the order of the scheme.
-#[derive(Drop, Debug)]
+#[derive(Drop)]
 pub struct Node {
     pub key: Items<Value>,
     pub key_class: LabelNo,
@@ -12,7 +12,7 @@ pub struct Node {
 }
 
 /// The element of an entity at an attribute and a class. Attributes outside the key are numbered from 0.
-#[derive(Drop, Debug)]
+#[derive(Drop)]
 pub struct Cell {
     pub key: Items<Value>,
     pub key_class: LabelNo,
@@ -22,7 +22,7 @@ pub struct Cell {
 }
 
 /// The tuples of one class, and the elements of that class in them.
-#[derive(Drop, Debug)]
+#[derive(Drop)]
 pub struct Fragment {
     pub nodes: Items<Node>,
     pub cells: Items<Cell>,

@@ -73,7 +73,7 @@ impl Denial {
 }
 
 /// What a command is answered.
-#[derive(Drop, Debug)]
+#[derive(Drop)]
 pub enum Reply {
     /// The session is open, for this user.
     Opened(UserNo),

@@ -13,7 +13,7 @@ use mls_machine::{Denial, Reply};
 use mls_script::{Command, Event};
 
 /// An open session: its level and its name, and the user that it is open for.
-#[derive(Drop, Debug)]
+#[derive(Drop)]
 pub struct Session {
     level: LabelNo,
     name: Str,

@@ -3,7 +3,7 @@ use mls_lattice::{Items, LabelNo, Str};
 use mls_scheme::{RelNo, Value};
 
 /// A command of a session, which is named by its level and its name.
-#[derive(PartialEq, Eq, Drop, Debug)]
+#[derive(Drop)]
 pub struct Event {
     pub level: LabelNo,
     pub session: Str,
@@ -12,7 +12,7 @@ pub struct Event {
 
 /// What a session is to do. Numbers of labels and relations are those of the policy and the schemes that the script
 /// was read under.
-#[derive(PartialEq, Eq, Drop, Debug)]
+#[derive(Drop)]
 pub enum Command {
     /// Opens the session for the user of a name.
     Open(Str),

@@ -5,7 +5,7 @@ use crate::sign::Sign;
 use mls_lattice::{Str, is_name};
 
 /// A token.
-#[derive(PartialEq, Eq, Drop, Debug)]
+#[derive(Drop)]
 pub enum Token {
     /// A name or a reserved word, of 32 bytes at most.
     Word(Str),
@@ -16,7 +16,7 @@ pub enum Token {
 }
 
 /// A token, and the place of its first byte, counted from 1.
-#[derive(Drop, Debug)]
+#[derive(Drop)]
 pub struct Placed {
     pub token: Token,
     pub at: usize,

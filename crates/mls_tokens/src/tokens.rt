@@ -15,7 +15,7 @@ use std::collections::VecDeque;
 use std::marker::Model;
 
 /// The tokens of a text that are left, up to the first place where none stands: its end, or a fault.
-#[derive(Drop, Debug)]
+#[derive(Drop)]
 pub struct Tokens {
     placed: VecDeque<Placed>,
     stop: TokenFault,

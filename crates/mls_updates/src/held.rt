@@ -12,7 +12,7 @@ use mls_scheme::{Place, RelNo};
 use std::alloc::{AllocError, Global};
 
 /// The tuples of all relations, and the audit list.
-#[derive(Drop, Debug)]
+#[derive(Drop)]
 pub(crate) struct Held {
     pub(crate) rows: Rows,
     pub(crate) audit: Vec<Items<u8>>,

@@ -12,7 +12,7 @@ use std::alloc::Global;
 /// A base that keeps whole tuples and entries in lists, and at a change those of the last commit beside them.
 ///
 /// Its calls answer no `Store`.
-#[derive(Drop, Debug)]
+#[derive(Drop)]
 pub struct ListBase {
     alloc: Global,
     held: Held,

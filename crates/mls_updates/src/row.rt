@@ -9,7 +9,7 @@ use mls_scheme::{Element, Place, RelNo, Value};
 use std::alloc::{AllocError, Global};
 
 /// A tuple of a relation, at its place.
-#[derive(Clone, Drop, Debug)]
+#[derive(Clone, Drop)]
 pub(crate) struct Row {
     pub(crate) rel: RelNo,
     pub(crate) place: Place,

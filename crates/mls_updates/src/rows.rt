@@ -14,7 +14,7 @@ use std::alloc::{AllocError, Global};
 use std::marker::Model;
 
 /// Tuples, no two of a relation at one place.
-#[derive(Drop, Debug)]
+#[derive(Drop)]
 pub(crate) struct Rows {
     vec: Vec<Row>,
 }

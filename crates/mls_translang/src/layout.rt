@@ -8,7 +8,7 @@ use std::alloc::{AllocError, Global};
 use std::marker::Model;
 
 /// What stands before a token.
-#[derive(Clone, Copy, PartialEq, Eq, Debug)]
+#[derive(Clone, Copy, PartialEq, Eq)]
 pub enum Before {
     /// No token.
     Nothing,
@@ -23,7 +23,7 @@ pub enum Before {
 }
 
 /// What a token is to the one before it.
-#[derive(Clone, Copy, PartialEq, Eq, Debug)]
+#[derive(Clone, Copy, PartialEq, Eq)]
 pub enum Side {
     /// `)`, `,`, `;`, `:` or `.`
     Tight,

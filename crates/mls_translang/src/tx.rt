@@ -10,7 +10,7 @@ use mls_scheme::Kind;
 use std::marker::Model;
 
 /// A parameter: the kind of its values, and their label.
-#[derive(Clone, Copy, PartialEq, Eq, Debug)]
+#[derive(Clone, Copy, PartialEq, Eq)]
 pub struct Parameter {
     pub kind: Kind,
     pub label: LabelNo,

@@ -1,5 +1,5 @@
 //! The fields of a TOML document, as policies and schemes read them.
-ghost use Rattle.std.specs.Prelude.{◌≡◌, ◌≢◌, IfErr, option_map, is_some};
+ghost use Rattle.std.specs.Prelude.{◌≡◌, option_map, is_some};
 ghost use Rattle.std.specs.List.{list_all};
 ghost use Rattle.toml.specs.Data.{get_member, as_str, as_table};
 ghost use Rattle.toml.specs.View.{view, items_view, table_view};
@@ -11,8 +11,7 @@ use toml::{Table, Value};
 
 /// The value at a key.
 pub fn wanted<'a>(table: &'a Table, key: &str) -> Result<&'a Value, PolicyFault>
-    ensures reads { Gives (λ v. view v.now) result (wanted key.now (table_view table.now)) }
-    ensures toml { IfErr result (λ e. e ≢ PolicyFault.NotToml) }
+    ensures { Gives (λ v. view v.now) result (wanted key.now (table_view table.now)) }
 {
     field(table, key).ok_or(PolicyFault::MissingField)
 }
@@ -26,16 +25,14 @@ pub fn field<'a>(table: &'a Table, key: &str) -> Option<&'a Value>
 
 /// The text of a string, which need not be a name.
 pub fn text_of(value: &Value) -> Result<&str, PolicyFault>
-    ensures reads { Gives (λ s. s.now) result (text_at (view value.now)) }
-    ensures toml { IfErr result (λ e. e ≢ PolicyFault.NotToml) }
+    ensures { Gives (λ s. s.now) result (text_at (view value.now)) }
 {
     value.as_str().ok_or(PolicyFault::WrongKind)
 }
 
 /// The number that an integer is; a float is of the wrong kind.
 pub fn integer_of(value: &Value) -> Result<i64, PolicyFault>
-    ensures reads { Gives (λ n. n) result (integer_at (view value.now)) }
-    ensures toml { IfErr result (λ e. e ≢ PolicyFault.NotToml) }
+    ensures { Gives (λ n. n) result (integer_at (view value.now)) }
 {
     value.as_integer().ok_or(PolicyFault::WrongKind)
 }
@@ -43,8 +40,7 @@ pub fn integer_of(value: &Value) -> Result<i64, PolicyFault>
 /// The version, which is 1.
 #[tactic(auto, unfolding(crate::specs::Reading::version_at))]
 pub fn version_of(document: &Table) -> Result<(), PolicyFault>
-    ensures reads { Gives (λ v. v) result (version_at (table_view document.now)) }
-    ensures toml { IfErr result (λ e. e ≢ PolicyFault.NotToml) }
+    ensures { Gives (λ v. v) result (version_at (table_view document.now)) }
 {
     if integer_of(wanted(document, "version")?)? == 1 {
         Ok(())
@@ -55,8 +51,7 @@ pub fn version_of(document: &Table) -> Result<(), PolicyFault>
 
 /// The items of an array, of any kind.
 pub fn items_of(value: &Value) -> Result<&[Value], PolicyFault>
-    ensures reads { Gives (λ items. items_view items.now) result (array_at (view value.now)) }
-    ensures toml { IfErr result (λ e. e ≢ PolicyFault.NotToml) }
+    ensures { Gives (λ items. items_view items.now) result (array_at (view value.now)) }
 {
     match value.as_array() {
         Some(items) => Ok(items.as_slice()),
@@ -66,16 +61,14 @@ pub fn items_of(value: &Value) -> Result<&[Value], PolicyFault>
 
 /// The fields of a table, inline or under a heading.
 pub fn table_of(value: &Value) -> Result<&Table, PolicyFault>
-    ensures reads { Gives (λ t. table_view t.now) result (table_at (view value.now)) }
-    ensures toml { IfErr result (λ e. e ≢ PolicyFault.NotToml) }
+    ensures { Gives (λ t. table_view t.now) result (table_at (view value.now)) }
 {
     value.as_table().ok_or(PolicyFault::WrongKind)
 }
 
 /// A string that is a name.
 pub fn name_of(value: &Value) -> Result<&str, PolicyFault>
-    ensures reads { Gives (λ s. s.now) result (name_at (view value.now)) }
-    ensures toml { IfErr result (λ e. e ≢ PolicyFault.NotToml) }
+    ensures { Gives (λ s. s.now) result (name_at (view value.now)) }
 {
     let text = text_of(value)?;
     if is_name(text) {
@@ -100,8 +93,7 @@ fn are_tables(items: &[Value]) -> bool
 /// The items of an array of strings.
 #[tactic(auto, using(crate::proofs::ReadingLemmas::counts))]
 pub fn texts_of(value: &Value) -> Result<&[Value], PolicyFault>
-    ensures reads { Gives (λ items. items_view items.now) result (texts_at (view value.now)) }
-    ensures toml { IfErr result (λ e. e ≢ PolicyFault.NotToml) }
+    ensures { Gives (λ items. items_view items.now) result (texts_at (view value.now)) }
 {
     let items = items_of(value)?;
     if are_texts(items) {
@@ -114,8 +106,7 @@ pub fn texts_of(value: &Value) -> Result<&[Value], PolicyFault>
 /// The items of an array of tables.
 #[tactic(auto, using(crate::proofs::ReadingLemmas::counts))]
 pub fn tables_of(value: &Value) -> Result<&[Value], PolicyFault>
-    ensures reads { Gives (λ items. items_view items.now) result (tables_at (view value.now)) }
-    ensures toml { IfErr result (λ e. e ≢ PolicyFault.NotToml) }
+    ensures { Gives (λ items. items_view items.now) result (tables_at (view value.now)) }
 {
     let items = items_of(value)?;
     if are_tables(items) {
@@ -127,8 +118,7 @@ pub fn tables_of(value: &Value) -> Result<&[Value], PolicyFault>
 
 /// The strings at a key, none where it is missing.
 pub fn optional_texts<'a>(table: &'a Table, key: &str) -> Result<&'a [Value], PolicyFault>
-    ensures reads { Gives (λ items. items_view items.now) result (optional texts_at (get_member key.now (table_view table.now))) }
-    ensures toml { IfErr result (λ e. e ≢ PolicyFault.NotToml) }
+    ensures { Gives (λ items. items_view items.now) result (optional texts_at (get_member key.now (table_view table.now))) }
 {
     match field(table, key) {
         Some(value) => texts_of(value),
@@ -138,8 +128,7 @@ pub fn optional_texts<'a>(table: &'a Table, key: &str) -> Result<&'a [Value], Po
 
 /// The tables at a key, none where it is missing.
 pub fn optional_tables<'a>(table: &'a Table, key: &str) -> Result<&'a [Value], PolicyFault>
-    ensures reads { Gives (λ items. items_view items.now) result (optional tables_at (get_member key.now (table_view table.now))) }
-    ensures toml { IfErr result (λ e. e ≢ PolicyFault.NotToml) }
+    ensures { Gives (λ items. items_view items.now) result (optional tables_at (get_member key.now (table_view table.now))) }
 {
     match field(table, key) {
         Some(value) => tables_of(value),
@@ -150,8 +139,7 @@ pub fn optional_tables<'a>(table: &'a Table, key: &str) -> Result<&'a [Value], P
 /// The same items, if they are no more than these.
 #[tactic(auto, using(crate::proofs::ReadingLemmas::counts))]
 pub fn at_most(items: &[Value], most: usize) -> Result<&[Value], PolicyFault>
-    ensures reads { Gives (λ items. items_view items.now) result (at_most most (items_view items.now)) }
-    ensures toml { IfErr result (λ e. e ≢ PolicyFault.NotToml) }
+    ensures { Gives (λ items. items_view items.now) result (at_most most (items_view items.now)) }
 {
     if items.len() > most {
         Err(PolicyFault::TooMany)
@@ -163,8 +151,7 @@ pub fn at_most(items: &[Value], most: usize) -> Result<&[Value], PolicyFault>
 /// The same items, if there is one and they are no more than these.
 #[tactic(auto, using(crate::proofs::ReadingLemmas::counts))]
 pub fn some_of(items: &[Value], most: usize) -> Result<&[Value], PolicyFault>
-    ensures reads { Gives (λ items. items_view items.now) result (some_of most (items_view items.now)) }
-    ensures toml { IfErr result (λ e. e ≢ PolicyFault.NotToml) }
+    ensures { Gives (λ items. items_view items.now) result (some_of most (items_view items.now)) }
 {
     if items.is_empty() {
         Err(PolicyFault::MissingField)
@@ -175,8 +162,7 @@ pub fn some_of(items: &[Value], most: usize) -> Result<&[Value], PolicyFault>
 
 /// The name at a key.
 pub fn name_field<'a>(table: &'a Table, key: &str) -> Result<&'a str, PolicyFault>
-    ensures reads { Gives (λ s. s.now) result (name_field key.now (table_view table.now)) }
-    ensures toml { IfErr result (λ e. e ≢ PolicyFault.NotToml) }
+    ensures { Gives (λ s. s.now) result (name_field key.now (table_view table.now)) }
 {
     name_of(wanted(table, key)?)
 }

@@ -1,5 +1,5 @@
 //! The labels of a document.
-ghost use Rattle.std.specs.Prelude.{◌≡◌, ◌≢◌, ◌<◌, ◌≤◌, [], length, IfOk, IfErr, IfSome, map, position};
+ghost use Rattle.std.specs.Prelude.{◌≡◌, ◌<◌, ◌≤◌, [], length, IfOk, IfSome, map, position};
 ghost use Rattle.std.specs.List.{list_any};
 ghost use Rattle.std.specs.Str.{bytes_eq};
 ghost use Rattle.std.specs.FinSet as set;
@@ -25,8 +25,7 @@ const MAX_LABELS: usize = 64;
 #[tactic(auto, using(crate::proofs::PolicyReadingLemmas::category_steps))]
 fn categories_in(categories: &[Str], items: &[Value]) -> Result<u32, PolicyFault>
     requires { length categories.now ≤ 32 }
-    ensures reads { Gives cats_of result (more_categories categories.now set.empty (items_view items.now)) }
-    ensures toml { IfErr result (λ e. e ≢ PolicyFault.NotToml) }
+    ensures { Gives cats_of result (more_categories categories.now set.empty (items_view items.now)) }
 {
     let mut label = Label { rank: 0, cats: 0 };
     for value in items {
@@ -56,8 +55,7 @@ fn has_value(labels: &[NamedLabel], label: Label) -> bool
 fn value_of(levels: &[Str], categories: &[Str], fields: &Table) -> Result<Label, PolicyFault>
     requires few_levels { length levels.now ≤ 16 }
     requires few_categories { length categories.now ≤ 32 }
-    ensures reads { Gives pair_of result (value_at levels.now categories.now (table_view fields.now)) }
-    ensures toml { IfErr result (λ e. e ≢ PolicyFault.NotToml) }
+    ensures { Gives pair_of result (value_at levels.now categories.now (table_view fields.now)) }
 {
     let rank = place_of(levels, name_field(fields, "level")?)? as u8;
     let cats = categories_in(categories, optional_texts(fields, "categories")?)?;
@@ -74,8 +72,7 @@ fn label_of(
 ) -> Result<NamedLabel, PolicyFault>
     requires few_levels { length levels.now ≤ 16 }
     requires few_categories { length categories.now ≤ 32 }
-    ensures reads { Gives named result (label_at levels.now categories.now (map named labels.now) (view value.now)) }
-    ensures toml { IfErr result (λ e. e ≢ PolicyFault.NotToml) }
+    ensures { Gives named result (label_at levels.now categories.now (map named labels.now) (view value.now)) }
 {
     let fields = table_of(value)?;
     let name = name_field(fields, "name")?;
@@ -100,7 +97,6 @@ fn rows_of(
     requires few_categories { length categories.now ≤ 32 }
     ensures reads { Gives (λ v. map named v.items) result (rows_at (label_at levels.now categories.now) [] (items_view items.now)) }
     ensures count { IfOk result (λ v. length v.items ≡ length items.now) }
-    ensures toml { IfErr result (λ e. e ≢ PolicyFault.NotToml) }
 {
     let mut labels = Vec::new(alloc);
     for value in items {
@@ -122,7 +118,6 @@ pub(crate) fn labels_of(
     requires few_categories { length categories.now ≤ 32 }
     ensures reads { Gives (λ v. map named v.items) result (labels_at levels.now categories.now (table_view document.now)) }
     ensures count { IfOk result (λ v. length v.items ≤ 64) }
-    ensures toml { IfErr result (λ e. e ≢ PolicyFault.NotToml) }
 {
     let all = tables_of(wanted(document, "label")?)?;
     let items = some_of(all, MAX_LABELS)?;
@@ -142,7 +137,6 @@ pub(crate) fn position_of_label(labels: &[NamedLabel], name: &str) -> Option<usi
 pub(crate) fn label_place(labels: &[NamedLabel], name: &str) -> Result<usize, PolicyFault>
     ensures reads { Gives (λ place. place) result (label_place (map named labels.now) name.now) }
     ensures within { IfOk result (λ place. place < length labels.now) }
-    ensures toml { IfErr result (λ e. e ≢ PolicyFault.NotToml) }
 {
     match position_of_label(labels, name) {
         Some(place) => Ok(place),

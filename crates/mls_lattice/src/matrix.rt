@@ -1,5 +1,5 @@
 //! The matrix of a document: what users may do with objects.
-ghost use Rattle.std.specs.Prelude.{◌≡◌, ◌≢◌, ◌≤◌, [], length, IfOk, IfErr};
+ghost use Rattle.std.specs.Prelude.{◌≡◌, ◌≤◌, [], length, IfOk};
 ghost use Rattle.std.specs.List.{list_any};
 ghost use Rattle.toml.specs.View.{view, items_view, table_view};
 ghost use Rattle.mls_lattice.specs.Policy.{is_entry, modes_in};
@@ -22,8 +22,7 @@ const MAX_RIGHTS: usize = 1024;
 
 /// The mode that a word stands for.
 fn mode_of(word: &str) -> Result<Modes, PolicyFault>
-    ensures reads { Gives (λ m. m.0) result (mode_of word.now) }
-    ensures toml { IfErr result (λ e. e ≢ PolicyFault.NotToml) }
+    ensures { Gives (λ m. m.0) result (mode_of word.now) }
 {
     match word {
         "execute" => Ok(Modes::EXECUTE),
@@ -37,8 +36,7 @@ fn mode_of(word: &str) -> Result<Modes, PolicyFault>
 /// The modes of an array of words, none of them twice.
 #[tactic(auto, using(crate::proofs::PolicyReadingLemmas::mode_steps))]
 fn modes_of(items: &[Value]) -> Result<Modes, PolicyFault>
-    ensures reads { Gives (λ m. m.0) result (more_modes 0 (items_view items.now)) }
-    ensures toml { IfErr result (λ e. e ≢ PolicyFault.NotToml) }
+    ensures { Gives (λ m. m.0) result (more_modes 0 (items_view items.now)) }
 {
     let mut modes = Modes::empty();
     for value in items {
@@ -84,8 +82,7 @@ fn right_of(
     value: &Value,
 ) -> Result<Right, PolicyFault>
     requires { length users.now ≤ 64 }
-    ensures reads { Gives (λ r. r) result (right_at users.now matrix.now (view value.now)) }
-    ensures toml { IfErr result (λ e. e ≢ PolicyFault.NotToml) }
+    ensures { Gives (λ r. r) result (right_at users.now matrix.now (view value.now)) }
 {
     let fields = table_of(value)?;
     let user = UserNo::new(user_place(users, name_field(fields, "user")?)? as u8);
@@ -104,8 +101,7 @@ fn right_of(
 
 fn rows_of(alloc: Global, users: &[User], items: &[Value]) -> Result<Vec<Right>, PolicyFault>
     requires { length users.now ≤ 64 }
-    ensures reads { Gives (λ v. v.items) result (rows_at (right_at users.now) [] (items_view items.now)) }
-    ensures toml { IfErr result (λ e. e ≢ PolicyFault.NotToml) }
+    ensures { Gives (λ v. v.items) result (rows_at (right_at users.now) [] (items_view items.now)) }
 {
     let mut matrix = Vec::new(alloc);
     for value in items {
@@ -123,8 +119,7 @@ pub(crate) fn matrix_of(
     document: &Table,
 ) -> Result<Vec<Right>, PolicyFault>
     requires { length users.now ≤ 64 }
-    ensures reads { Gives (λ v. v.items) result (matrix_at users.now (table_view document.now)) }
-    ensures toml { IfErr result (λ e. e ≢ PolicyFault.NotToml) }
+    ensures { Gives (λ v. v.items) result (matrix_at users.now (table_view document.now)) }
 {
     let all = optional_tables(document, "matrix")?;
     let items = at_most(all, MAX_RIGHTS)?;

@@ -1,5 +1,5 @@
 //! Lists of names.
-ghost use Rattle.std.specs.Prelude.{◌≡◌, ◌≢◌, ◌<◌, ◌≤◌, [], length, IfOk, IfErr, IfSome, position};
+ghost use Rattle.std.specs.Prelude.{◌≡◌, ◌<◌, ◌≤◌, [], length, IfOk, IfSome, position};
 ghost use Rattle.std.specs.List.{list_any};
 ghost use Rattle.std.specs.Str.{bytes_eq};
 ghost use Rattle.toml.specs.View.{view, items_view};
@@ -20,8 +20,7 @@ fn contains(names: &[Str], name: &str) -> bool
 
 #[tactic(auto, unfolding(crate::specs::PolicyReading::new_name_at))]
 fn new_name<'a>(names: &[Str], value: &'a Value) -> Result<&'a str, PolicyFault>
-    ensures reads { Gives (λ s. s.now) result (new_name_at names.now (view value.now)) }
-    ensures toml { IfErr result (λ e. e ≢ PolicyFault.NotToml) }
+    ensures { Gives (λ s. s.now) result (new_name_at names.now (view value.now)) }
 {
     let name = name_of(value)?;
     if contains(names, name) {
@@ -34,7 +33,6 @@ fn new_name<'a>(names: &[Str], value: &'a Value) -> Result<&'a str, PolicyFault>
 pub(crate) fn names_of(alloc: Global, items: &[Value]) -> Result<Vec<Str>, PolicyFault>
     ensures reads { Gives (λ v. v.items) result (rows_at new_name_at [] (items_view items.now)) }
     ensures count { IfOk result (λ v. length v.items ≡ length items.now) }
-    ensures toml { IfErr result (λ e. e ≢ PolicyFault.NotToml) }
 {
     let mut names = Vec::new(alloc);
     for value in items {
@@ -55,7 +53,6 @@ fn position_of(names: &[Str], name: &str) -> Option<usize>
 pub(crate) fn place_of(names: &[Str], name: &str) -> Result<usize, PolicyFault>
     ensures reads { Gives (λ place. place) result (place_in names.now name.now) }
     ensures within { IfOk result (λ place. place < length names.now) }
-    ensures toml { IfErr result (λ e. e ≢ PolicyFault.NotToml) }
 {
     match position_of(names, name) {
         Some(place) => Ok(place),

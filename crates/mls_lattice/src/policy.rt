@@ -207,7 +207,6 @@ const MAX_CATEGORIES: usize = 32;
 fn levels_of(alloc: Global, document: &Table) -> Result<Vec<Str>, PolicyFault>
     ensures reads { Gives (λ v. v.items) result (levels_at (table_view document.now)) }
     ensures count { IfOk result (λ v. length v.items ≤ 16) }
-    ensures toml { IfErr result (λ e. e ≢ PolicyFault.NotToml) }
 {
     let all = texts_of(wanted(document, "levels")?)?;
     let items = some_of(all, MAX_LEVELS)?;
@@ -218,7 +217,6 @@ fn levels_of(alloc: Global, document: &Table) -> Result<Vec<Str>, PolicyFault>
 fn categories_of(alloc: Global, document: &Table) -> Result<Vec<Str>, PolicyFault>
     ensures reads { Gives (λ v. v.items) result (categories_at (table_view document.now)) }
     ensures count { IfOk result (λ v. length v.items ≤ 32) }
-    ensures toml { IfErr result (λ e. e ≢ PolicyFault.NotToml) }
 {
     let all = optional_texts(document, "categories")?;
     let items = at_most(all, MAX_CATEGORIES)?;
@@ -227,8 +225,7 @@ fn categories_of(alloc: Global, document: &Table) -> Result<Vec<Str>, PolicyFaul
 
 #[tactic(auto, unfolding(crate::specs::PolicyReading::policy_at))]
 fn policy_of(alloc: Global, document: &Table) -> Result<Policy, PolicyFault>
-    ensures reads { Gives (λ p. p) result (policy_at (table_view document.now)) }
-    ensures toml { IfErr result (λ e. e ≢ PolicyFault.NotToml) }
+    ensures { Gives (λ p. p) result (policy_at (table_view document.now)) }
 {
     version_of(document)?;
     let levels = levels_of(alloc, document)?;

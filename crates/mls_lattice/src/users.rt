@@ -1,5 +1,5 @@
 //! The users of a document.
-ghost use Rattle.std.specs.Prelude.{◌≡◌, ◌≢◌, ◌<◌, ◌≤◌, [], codes, length, IfOk, IfErr, IfSome, map, position};
+ghost use Rattle.std.specs.Prelude.{◌≡◌, ◌<◌, ◌≤◌, [], codes, length, IfOk, IfSome, map, position};
 ghost use Rattle.std.specs.List.{list_any};
 ghost use Rattle.std.specs.Str.{bytes_eq};
 ghost use Rattle.toml.specs.Data.{get_member};
@@ -26,7 +26,6 @@ fn label_named(labels: &[NamedLabel], value: &Value) -> Result<LabelNo, PolicyFa
     requires { length labels.now ≤ 64 }
     ensures reads { Gives (λ l. l) result (label_name_at (map named labels.now) (view value.now)) }
     ensures within { IfOk result (λ l. l < length labels.now) }
-    ensures toml { IfErr result (λ e. e ≢ PolicyFault.NotToml) }
 {
     let place = label_place(labels, name_of(value)?)?;
     Ok(LabelNo::new(place as u8))
@@ -48,8 +47,7 @@ fn interval_of(
     items: &[Value],
 ) -> Result<Option<(LabelNo, LabelNo)>, PolicyFault>
     requires { length labels.now ≤ 64 }
-    ensures reads { Gives (λ i. i) result (interval_at (map named labels.now) (items_view items.now)) }
-    ensures toml { IfErr result (λ e. e ≢ PolicyFault.NotToml) }
+    ensures { Gives (λ i. i) result (interval_at (map named labels.now) (items_view items.now)) }
 {
     let [low, high] = items else {
         return Err(PolicyFault::WrongKind);
@@ -68,8 +66,7 @@ fn trusted_of(
     fields: &Table,
 ) -> Result<Option<(LabelNo, LabelNo)>, PolicyFault>
     requires { length labels.now ≤ 64 }
-    ensures reads { Gives (λ i. i) result (trusted_at (map named labels.now) (get_member (codes "trusted") (table_view fields.now))) }
-    ensures toml { IfErr result (λ e. e ≢ PolicyFault.NotToml) }
+    ensures { Gives (λ i. i) result (trusted_at (map named labels.now) (get_member (codes "trusted") (table_view fields.now))) }
 {
     match field(fields, "trusted") {
         Some(value) => interval_of(labels, texts_of(value)?),
@@ -91,8 +88,7 @@ fn user_of(
     value: &Value,
 ) -> Result<User, PolicyFault>
     requires { length labels.now ≤ 64 }
-    ensures reads { Gives (λ u. u) result (user_at (map named labels.now) users.now (view value.now)) }
-    ensures toml { IfErr result (λ e. e ≢ PolicyFault.NotToml) }
+    ensures { Gives (λ u. u) result (user_at (map named labels.now) users.now (view value.now)) }
 {
     let fields = table_of(value)?;
     let name = name_field(fields, "name")?;
@@ -113,7 +109,6 @@ fn rows_of(alloc: Global, labels: &[NamedLabel], items: &[Value]) -> Result<Vec<
     requires { length labels.now ≤ 64 }
     ensures reads { Gives (λ v. v.items) result (rows_at (user_at (map named labels.now)) [] (items_view items.now)) }
     ensures count { IfOk result (λ v. length v.items ≡ length items.now) }
-    ensures toml { IfErr result (λ e. e ≢ PolicyFault.NotToml) }
 {
     let mut users = Vec::new(alloc);
     for value in items {
@@ -133,7 +128,6 @@ pub(crate) fn users_of(
     requires { length labels.now ≤ 64 }
     ensures reads { Gives (λ v. v.items) result (users_at (map named labels.now) (table_view document.now)) }
     ensures count { IfOk result (λ v. length v.items ≤ 64) }
-    ensures toml { IfErr result (λ e. e ≢ PolicyFault.NotToml) }
 {
     let all = optional_tables(document, "user")?;
     let items = at_most(all, MAX_USERS)?;
@@ -152,7 +146,6 @@ pub(crate) fn position_of_user(users: &[User], name: &str) -> Option<usize>
 pub(crate) fn user_place(users: &[User], name: &str) -> Result<usize, PolicyFault>
     ensures reads { Gives (λ place. place) result (user_place users.now name.now) }
     ensures within { IfOk result (λ place. place < length users.now) }
-    ensures toml { IfErr result (λ e. e ≢ PolicyFault.NotToml) }
 {
     match position_of_user(users, name) {
         Some(place) => Ok(place),

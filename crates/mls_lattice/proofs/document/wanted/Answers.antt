@@ -2,5 +2,5 @@ use Rattle.toml.specs.View.{view}
 use Rattle.mls_lattice.proofs.ReadingLemmas.{Gives-ok_or}
 use Rattle.mls_lattice.proofs.document.wanted.Goals as goal
 
-pub returns-clause-reads : goal.returns-clause-reads
-returns-clause-reads c = Gives-ok_or (λ v. view v.now) _ _ _ _ c.field.ensures c.ok_or.ensures.value
+pub returns : goal.returns
+returns c = Gives-ok_or (λ v. view v.now) _ _ _ _ c.field.ensures c.ok_or.ensures.value

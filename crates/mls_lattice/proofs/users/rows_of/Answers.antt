@@ -13,19 +13,14 @@ loop-value-init c = (rw c.new-users.ensures.items refl, rw c.new-users.ensures.i
 pub returns-in_err-user-clause-reads : goal.returns-in_err-user-clause-reads
 returns-in_err-user-clause-reads c =
     let p = err_from_is_err_and c.from_residual.result c.from_residual.ensures.1 in
-    let refused = rw c.deref.ensures.value at c.in_err-user.ensures.reads in
+    let refused = rw c.deref.ensures.value at c.in_err-user.ensures in
     rw (p.1, p.2) (λ m. sym c.loop-value.invariant.0 ∙ rows_refused (user_at (map named c.args.labels.now)) _ _ _ _ _ c.loop-value-test.true c.value-item.is (refused m))
-
-pub returns-in_err-user-clause-toml : goal.returns-in_err-user-clause-toml
-returns-in_err-user-clause-toml c =
-    let p = err_from_is_err_and c.from_residual.result c.from_residual.ensures.1 in
-    rw (p.1, p.2) c.in_err-user.ensures.toml
 
 pub loop-value-preserved : goal.loop-value-preserved
 loop-value-preserved c =
     let front = c.loop-value.users.items in
     let row = c.in_ok-user.user in
-    let read = rw c.deref.ensures.value at c.in_ok-user.ensures.reads in
+    let read = rw c.deref.ensures.value at c.in_ok-user.ensures in
     rw c.in_ok-push.ensures.items (
       rows-more c.args.items.now c.loop-value.value-index c.value-item.result c.loop-value-test.true c.value-item.is (user_at (map named c.args.labels.now)) front row read ∙ c.loop-value.invariant.0,
       length_push front row ∙ ap (λ n. n + 1) c.loop-value.invariant.1,

@@ -3,7 +3,7 @@ ghost use Rattle.std.specs.List.{list_all};
 ghost use Rattle.mls_lattice.specs.Name.{is_name, is_reserved, is_name_byte};
 
 /// The words of transactions and scripts, which are never names.
-const RESERVED: [&str; 32] = [
+static RESERVED: [&str; 32] = [
     "transaction",
     "levels",
     "to",

@@ -1,5 +1,5 @@
 //! The fields of schemes, and what they are refused for.
-ghost use Rattle.std.specs.Prelude.{◌≡◌, ◌≢◌, ◌≤◌, ◌<◌, IfOk, IfErr, length, codes};
+ghost use Rattle.std.specs.Prelude.{◌≡◌, ◌≤◌, ◌<◌, IfOk, length, codes};
 ghost use Rattle.toml.specs.View.{view, items_view, table_view};
 ghost use Rattle.mls_lattice.specs.Reading.{table_at};
 ghost use Rattle.mls_scheme.specs.Reading.{Gives, lift, name_field, text_field, kind_in, label_in, label_field, key_items, other_items, relation_items};
@@ -14,16 +14,14 @@ use toml::{Table, Value};
 
 /// The fields of a table.
 pub(crate) fn fields_of(value: &Value) -> Result<&Table, SchemeFault>
-    ensures reads { Gives (λ t. table_view t.now) result (lift (table_at (view value.now))) }
-    ensures toml { IfErr result (λ e. e ≢ SchemeFault.NotToml) }
+    ensures { Gives (λ t. table_view t.now) result (lift (table_at (view value.now))) }
 {
     Ok(table_of(value)?)
 }
 
 /// The name at a key.
 pub(crate) fn name_field<'a>(fields: &'a Table, key: &str) -> Result<&'a str, SchemeFault>
-    ensures reads { Gives (λ s. s.now) result (name_field key.now (table_view fields.now)) }
-    ensures toml { IfErr result (λ e. e ≢ SchemeFault.NotToml) }
+    ensures { Gives (λ s. s.now) result (name_field key.now (table_view fields.now)) }
 {
     let value = wanted(fields, key)?;
     Ok(name_of(value)?)
@@ -31,8 +29,7 @@ pub(crate) fn name_field<'a>(fields: &'a Table, key: &str) -> Result<&'a str, Sc
 
 /// The string at a key.
 pub(crate) fn text_field<'a>(fields: &'a Table, key: &str) -> Result<&'a str, SchemeFault>
-    ensures reads { Gives (λ s. s.now) result (text_field key.now (table_view fields.now)) }
-    ensures toml { IfErr result (λ e. e ≢ SchemeFault.NotToml) }
+    ensures { Gives (λ s. s.now) result (text_field key.now (table_view fields.now)) }
 {
     let value = wanted(fields, key)?;
     Ok(text_of(value)?)
@@ -40,8 +37,7 @@ pub(crate) fn text_field<'a>(fields: &'a Table, key: &str) -> Result<&'a str, Sc
 
 /// The kind of a word.
 pub(crate) fn kind_in(word: &str) -> Result<Kind, SchemeFault>
-    ensures reads { Gives (λ k. k) result (kind_in word.now) }
-    ensures toml { IfErr result (λ e. e ≢ SchemeFault.NotToml) }
+    ensures { Gives (λ k. k) result (kind_in word.now) }
 {
     match word {
         "int" => Ok(Kind::Int),
@@ -53,7 +49,6 @@ pub(crate) fn kind_in(word: &str) -> Result<Kind, SchemeFault>
 /// The label of a name.
 fn label_in(policy: &Policy, name: &str) -> Result<LabelNo, SchemeFault>
     ensures reads { Gives (λ n. n) result (label_in policy.now.labels name.now) }
-    ensures toml { IfErr result (λ e. e ≢ SchemeFault.NotToml) }
     ensures within { IfOk result (λ n. n < length policy.now.labels) }
 {
     match policy.label(name) {
@@ -69,7 +64,6 @@ pub(crate) fn label_field(
     key: &str,
 ) -> Result<LabelNo, SchemeFault>
     ensures reads { Gives (λ n. n) result (label_field policy.now.labels key.now (table_view fields.now)) }
-    ensures toml { IfErr result (λ e. e ≢ SchemeFault.NotToml) }
     ensures within { IfOk result (λ n. n < length policy.now.labels) }
 {
     label_in(policy, name_field(fields, key)?)
@@ -84,8 +78,7 @@ const MAX_RELATIONS: usize = 16;
 /// The tables of the key attributes.
 #[tactic(auto, using(mls_lattice::proofs::ReadingLemmas::counts), unfolding(crate::specs::Reading::key_items))]
 pub(crate) fn key_items(fields: &Table) -> Result<&[Value], SchemeFault>
-    ensures reads { Gives (λ items. items_view items.now) result (key_items (table_view fields.now)) }
-    ensures toml { IfErr result (λ e. e ≢ SchemeFault.NotToml) }
+    ensures { Gives (λ items. items_view items.now) result (key_items (table_view fields.now)) }
 {
     let items = optional_tables(fields, "key")?;
     if items.is_empty() {
@@ -97,8 +90,7 @@ pub(crate) fn key_items(fields: &Table) -> Result<&[Value], SchemeFault>
 /// The tables of the attributes outside the key.
 #[tactic(auto, unfolding(crate::specs::Reading::other_items))]
 pub(crate) fn other_items(fields: &Table) -> Result<&[Value], SchemeFault>
-    ensures reads { Gives (λ items. items_view items.now) result (other_items (table_view fields.now)) }
-    ensures toml { IfErr result (λ e. e ≢ SchemeFault.NotToml) }
+    ensures { Gives (λ items. items_view items.now) result (other_items (table_view fields.now)) }
 {
     let items = optional_tables(fields, "attribute")?;
     Ok(at_most(items, MAX_OTHERS)?)
@@ -107,8 +99,7 @@ pub(crate) fn other_items(fields: &Table) -> Result<&[Value], SchemeFault>
 /// The tables of the relations.
 #[tactic(auto, unfolding(crate::specs::Reading::relation_items))]
 pub(crate) fn relation_items(document: &Table) -> Result<&[Value], SchemeFault>
-    ensures reads { Gives (λ items. items_view items.now) result (relation_items (table_view document.now)) }
-    ensures toml { IfErr result (λ e. e ≢ SchemeFault.NotToml) }
+    ensures { Gives (λ items. items_view items.now) result (relation_items (table_view document.now)) }
 {
     let value = wanted(document, "relation")?;
     let items = tables_of(value)?;

@@ -1,5 +1,5 @@
 //! Schemes from the tables of a document.
-ghost use Rattle.std.specs.Prelude.{◌≡◌, ◌≢◌, ◌++◌, [], false, IfOk, IfErr, string_bytes};
+ghost use Rattle.std.specs.Prelude.{◌≡◌, ◌++◌, [], false, IfOk, string_bytes};
 ghost use Rattle.toml.specs.View.{view, items_view, table_view};
 ghost use Rattle.mls_scheme.specs.Scheme.{attribute_of};
 ghost use Rattle.mls_scheme.specs.Reading.{Gives, column_at, attribute_at, has_attribute, has_key_interval, key_at, other_at, gather, has_relation, scheme_at, schemes_at};
@@ -17,8 +17,7 @@ use toml::{Table, Value};
 
 #[tactic(auto, unfolding(crate::specs::Reading::column_at))]
 fn column_of(policy: &Policy, fields: &Table) -> Result<Column, SchemeFault>
-    ensures reads { Gives (λ c. c) result (column_at policy.now (table_view fields.now)) }
-    ensures toml { IfErr result (λ e. e ≢ SchemeFault.NotToml) }
+    ensures { Gives (λ c. c) result (column_at policy.now (table_view fields.now)) }
 {
     let kind = kind_in(text_field(fields, "kind")?)?;
     let low = label_field(policy, fields, "low")?;
@@ -47,7 +46,6 @@ fn attribute_in(
     value: &Value,
 ) -> Result<(String, Column), SchemeFault>
     ensures reads { Gives attribute_of result (attribute_at policy.now (keys.now ++ others.now) (view value.now)) }
-    ensures toml { IfErr result (λ e. e ≢ SchemeFault.NotToml) }
     ensures fresh { IfOk result (λ a. has_attribute (keys.now ++ others.now) (string_bytes a.0) ≡ false) }
 {
     let fields = fields_of(value)?;
@@ -78,7 +76,6 @@ fn key_in(
     value: &Value,
 ) -> Result<(String, Column), SchemeFault>
     ensures reads { Gives attribute_of result (key_at policy.now keys.now (view value.now)) }
-    ensures toml { IfErr result (λ e. e ≢ SchemeFault.NotToml) }
     ensures fresh { IfOk result (λ a. has_attribute keys.now (string_bytes a.0) ≡ false) }
 {
     let none = Attributes::new(alloc);
@@ -99,7 +96,6 @@ fn other_in(
     value: &Value,
 ) -> Result<(String, Column), SchemeFault>
     ensures reads { Gives attribute_of result (other_at policy.now keys.now others.now (view value.now)) }
-    ensures toml { IfErr result (λ e. e ≢ SchemeFault.NotToml) }
     ensures fresh { IfOk result (λ a. has_attribute others.now (string_bytes a.0) ≡ false) }
 {
     attribute_in(alloc, policy, keys, others, value)
@@ -108,8 +104,7 @@ fn other_in(
 /// The key attributes.
 #[tactic(auto, using(crate::proofs::SchemeSteps::gather_steps))]
 fn keys_in(alloc: Global, policy: &Policy, items: &[Value]) -> Result<Attributes, SchemeFault>
-    ensures reads { Gives (λ a. a) result (gather (key_at policy.now) [] (items_view items.now)) }
-    ensures toml { IfErr result (λ e. e ≢ SchemeFault.NotToml) }
+    ensures { Gives (λ a. a) result (gather (key_at policy.now) [] (items_view items.now)) }
 {
     let mut keys = Attributes::new(alloc);
     for value in items {
@@ -127,8 +122,7 @@ fn others_in(
     keys: &Attributes,
     items: &[Value],
 ) -> Result<Attributes, SchemeFault>
-    ensures reads { Gives (λ a. a) result (gather (other_at policy.now keys.now) [] (items_view items.now)) }
-    ensures toml { IfErr result (λ e. e ≢ SchemeFault.NotToml) }
+    ensures { Gives (λ a. a) result (gather (other_at policy.now keys.now) [] (items_view items.now)) }
 {
     let mut others = Attributes::new(alloc);
     for value in items {
@@ -151,8 +145,7 @@ fn scheme_in(
     before: &[Scheme],
     value: &Value,
 ) -> Result<Scheme, SchemeFault>
-    ensures reads { Gives (λ s. s) result (scheme_at policy.now before.now (view value.now)) }
-    ensures toml { IfErr result (λ e. e ≢ SchemeFault.NotToml) }
+    ensures { Gives (λ s. s) result (scheme_at policy.now before.now (view value.now)) }
 {
     let fields = fields_of(value)?;
     let name = name_field(fields, "name")?;
@@ -167,8 +160,7 @@ fn scheme_in(
 
 #[tactic(auto, using(crate::proofs::SchemeSteps::gather_steps))]
 fn relations_in(alloc: Global, policy: &Policy, items: &[Value]) -> Result<Vec<Scheme>, SchemeFault>
-    ensures reads { Gives (λ v. v.items) result (gather (scheme_at policy.now) [] (items_view items.now)) }
-    ensures toml { IfErr result (λ e. e ≢ SchemeFault.NotToml) }
+    ensures { Gives (λ v. v.items) result (gather (scheme_at policy.now) [] (items_view items.now)) }
 {
     let mut relations = Vec::new(alloc);
     for value in items {
@@ -184,8 +176,7 @@ pub(crate) fn schemes_of(
     policy: &Policy,
     document: &Table,
 ) -> Result<Schemes, SchemeFault>
-    ensures reads { Gives (λ s. s) result (schemes_at policy.now (table_view document.now)) }
-    ensures toml { IfErr result (λ e. e ≢ SchemeFault.NotToml) }
+    ensures { Gives (λ s. s) result (schemes_at policy.now (table_view document.now)) }
 {
     version_of(document)?;
     let relations = relations_in(alloc, policy, relation_items(document)?)?;

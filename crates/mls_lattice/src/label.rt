@@ -3,7 +3,7 @@ ghost use Rattle.std.specs.FinSet as set;
 ghost use Rattle.mls_lattice.specs.Lattice.{cats_of, pair_of, same_pair, join, meet, Dominates};
 
 /// A rank and a set of categories: bit k of `cats` stands for category k.
-#[derive(Clone, Copy, PartialEq, Eq, Debug)]
+#[derive(Clone, Copy, PartialEq, Eq)]
 pub struct Label {
     pub rank: u8,
     pub cats: u32,

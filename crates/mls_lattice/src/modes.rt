@@ -9,7 +9,7 @@ use std::ops::{
 };
 
 /// What a user may do with an object: a set with a bit for each mode.
-#[derive(Clone, Copy, PartialEq, Eq, Debug)]
+#[derive(Clone, Copy, PartialEq, Eq)]
 pub struct Modes(u8);
 
 impl Modes {

@@ -32,7 +32,7 @@ use std::marker::Model;
 use toml::Table;
 
 /// Levels, categories, labels, users and rights, as a policy file declares them.
-#[derive(Drop, Debug)]
+#[derive(Drop)]
 pub struct Policy {
     levels: Items<Str>,
     categories: Items<Str>,

@@ -5,14 +5,14 @@ use crate::number::{LabelNo, UserNo};
 use crate::text::Str;
 
 /// A declared label.
-#[derive(Drop, Debug)]
+#[derive(Drop)]
 pub struct NamedLabel {
     pub name: Str,
     pub label: Label,
 }
 
 /// A user: the clearance, and the interval in which the user is trusted.
-#[derive(Drop, Debug)]
+#[derive(Drop)]
 pub struct User {
     pub name: Str,
     pub clearance: LabelNo,
@@ -20,7 +20,7 @@ pub struct User {
 }
 
 /// What a user may do with an object (Bell and LaPadula 1976).
-#[derive(Drop, Debug)]
+#[derive(Drop)]
 pub struct Right {
     pub user: UserNo,
     pub object: Str,

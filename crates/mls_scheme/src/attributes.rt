@@ -11,7 +11,7 @@ use std::alloc::Global;
 use std::marker::Model;
 
 /// What is said of an attribute beside its name: low and high are the ends of the interval of its classes.
-#[derive(Clone, Copy, PartialEq, Eq, Debug)]
+#[derive(Clone, Copy, PartialEq, Eq)]
 pub struct Column {
     pub kind: Kind,
     pub low: LabelNo,

@@ -9,7 +9,7 @@ use mls_lattice::{Items, LabelNo};
 use std::cmp::Ordering;
 
 /// Where a tuple stands in its relation: its entity (a key with its class), and its class.
-#[derive(Clone, Drop, Debug)]
+#[derive(Clone, Drop)]
 pub struct Place {
     pub key: Items<Value>,
     pub key_class: LabelNo,

@@ -9,14 +9,14 @@ use mls_lattice::{Items, Label, LabelNo, Policy};
 use std::alloc::AllocError;
 
 /// A value or null, and its class.
-#[derive(Clone, PartialEq, Eq, PartialOrd, Ord, Drop, Debug)]
+#[derive(Clone, PartialEq, Eq, PartialOrd, Ord, Drop)]
 pub struct Element {
     pub value: Option<Value>,
     pub class: LabelNo,
 }
 
 /// A key with its class, and an element for each attribute outside the key, in the order of the scheme.
-#[derive(Clone, PartialEq, Eq, PartialOrd, Ord, Drop, Debug)]
+#[derive(Clone, PartialEq, Eq, PartialOrd, Ord, Drop)]
 pub struct Tuple {
     pub key: Items<Value>,
     pub key_class: LabelNo,

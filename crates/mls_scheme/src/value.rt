@@ -11,7 +11,7 @@ use std::cmp::Ordering;
 const TEXT_LIMIT: usize = 4_294_967_296;
 
 /// What kind of value an attribute holds.
-#[derive(Clone, Copy, PartialEq, Eq, Debug)]
+#[derive(Clone, Copy, PartialEq, Eq)]
 pub enum Kind {
     /// 64 signed bits.
     Int,
@@ -20,7 +20,7 @@ pub enum Kind {
 }
 
 /// A value that is not null. Numbers come before texts; numbers go by value, texts by their bytes.
-#[derive(Clone, PartialEq, Eq, PartialOrd, Ord, Drop, Debug)]
+#[derive(Clone, PartialEq, Eq, PartialOrd, Ord, Drop)]
 pub enum Value {
     Int(i64),
     Text(Str),

@@ -231,6 +231,10 @@ abbrev pub verb_among : List Verb → Left → Result (Verb × Left) TokenFault
 verb_among [] l = Err (refused l)
 verb_among (v ∷ vs) l = verb_or (λ r. verb_among vs r) l v (taken (is_word (verb_word v)) l)
 
+-- the event of a verb, if what its parts say has no fault
+abbrev pub event_from : Verb → Looked → Result Event LineFault
+event_from v looked = looked >>= λ d. Ok (event_of v d)
+
 -- ---- the form of a line in its place, and a line in a script
 
 abbrev pub form_of : {X : Type 0} → Result X TokenFault → Result X LineFault
@@ -271,7 +275,7 @@ module _ (policy : Tables) (schemes : Schemes) where
 
   unfoldable pub command_at : Looked → Left → Result (Result Event LineFault × Left) TokenFault
   command_at looked l =
-      verb_among verbs l >>= λ v. parts_at (parts_of v.0) looked v.1 >>= λ x. Ok ((x.0 >>= λ d. Ok (event_of v.0 d)), x.1)
+      verb_among verbs l >>= λ v. parts_at (parts_of v.0) looked v.1 >>= λ x. Ok (event_from v.0 x.0, x.1)
 
   -- the event, or the first fault of its names and kinds
   unfoldable pub sentence_at : Left → Result (Result Event LineFault) TokenFault

@@ -126,69 +126,83 @@ fn held(schemes: &Schemes, rel: RelNo, part: Part, listed: &Listed) -> Result<()
 }
 
 /// The values of a key or of the other attributes, which have to fit.
-pub(crate) fn with_values(schemes: &Schemes, part: Part, looked: Looked, listed: Listed) -> Looked
-    ensures { result ≡ with_values schemes.now part looked listed }
+pub(crate) fn put_values(schemes: &Schemes, part: Part, looked: &mut Looked, listed: Listed)
+    ensures { looked.new ≡ with_values schemes.now part looked.old listed }
 {
-    let mut draft = looked?;
-    held(schemes, draft.rel, part, &listed)?;
-    match part {
-        Part::Key => draft.key = listed.values,
-        _ => draft.values = listed.values,
+    let Ok(draft) = looked else {
+        return;
+    };
+    match held(schemes, draft.rel, part, &listed) {
+        Ok(()) => match part {
+            Part::Key => draft.key = listed.values,
+            _ => draft.values = listed.values,
+        },
+        Err(fault) => *looked = Err(fault),
     }
-    Ok(draft)
 }
 
 /// Arguments, which are left to the denials.
-pub(crate) fn with_arguments(looked: Looked, values: Items<Option<Value>>) -> Looked
-    ensures { result ≡ with_arguments looked values }
+pub(crate) fn put_arguments(looked: &mut Looked, values: Items<Option<Value>>)
+    ensures { looked.new ≡ with_arguments looked.old values }
 {
-    let mut draft = looked?;
-    draft.values = values;
-    Ok(draft)
+    if let Ok(draft) = looked {
+        draft.values = values;
+    }
 }
 
 /// A label, in its place in the draft.
-pub(crate) fn with_label(part: Part, looked: Looked, found: Result<LabelNo, LineFault>) -> Looked
-    ensures { result ≡ with_label part looked found }
+pub(crate) fn put_label(part: Part, looked: &mut Looked, found: Result<LabelNo, LineFault>)
+    ensures { looked.new ≡ with_label part looked.old found }
 {
-    let mut draft = looked?;
-    let label = found?;
-    match part {
-        Part::Level => draft.level = label,
-        Part::From => draft.from = label,
-        _ => draft.label = label,
+    let Ok(draft) = looked else {
+        return;
+    };
+    match found {
+        Ok(label) => match part {
+            Part::Level => draft.level = label,
+            Part::From => draft.from = label,
+            _ => draft.label = label,
+        },
+        Err(fault) => *looked = Err(fault),
     }
-    Ok(draft)
 }
 
 /// The name of a session, a user or a transaction: users and transactions are left to the denials.
-pub(crate) fn with_name(part: Part, looked: Looked, name: Str) -> Looked
-    ensures { result ≡ with_name part looked name }
+pub(crate) fn put_name(part: Part, looked: &mut Looked, name: Str)
+    ensures { looked.new ≡ with_name part looked.old name }
 {
-    let mut draft = looked?;
-    match part {
-        Part::Session => draft.session = name,
-        _ => draft.name = name,
+    if let Ok(draft) = looked {
+        match part {
+            Part::Session => draft.session = name,
+            _ => draft.name = name,
+        }
     }
-    Ok(draft)
 }
 
 /// A relation.
-pub(crate) fn with_relation(looked: Looked, found: Result<RelNo, LineFault>) -> Looked
-    ensures { result ≡ with_relation looked found }
+pub(crate) fn put_relation(looked: &mut Looked, found: Result<RelNo, LineFault>)
+    ensures { looked.new ≡ with_relation looked.old found }
 {
-    let mut draft = looked?;
-    draft.rel = found?;
-    Ok(draft)
+    let Ok(draft) = looked else {
+        return;
+    };
+    match found {
+        Ok(rel) => draft.rel = rel,
+        Err(fault) => *looked = Err(fault),
+    }
 }
 
 /// New values.
-pub(crate) fn with_sets(looked: Looked, found: Result<Sets, LineFault>) -> Looked
-    ensures { result ≡ with_sets looked found }
+pub(crate) fn put_sets(looked: &mut Looked, found: Result<Sets, LineFault>)
+    ensures { looked.new ≡ with_sets looked.old found }
 {
-    let mut draft = looked?;
-    draft.sets = found?;
-    Ok(draft)
+    let Ok(draft) = looked else {
+        return;
+    };
+    match found {
+        Ok(sets) => draft.sets = sets,
+        Err(fault) => *looked = Err(fault),
+    }
 }
 
 /// Whether an attribute has a new value already.

@@ -46,10 +46,7 @@ fn line_event(
             cause: ScriptCause::Unterminated,
         });
     }
-    match told {
-        Some(event) => Ok(Some(event?)),
-        None => Ok(None),
-    }
+    told.transpose()
 }
 
 fn keep(events: &mut Vec<Event>, told: Option<Event>) -> Result<(), LineFault>

@@ -1,7 +1,7 @@
 //! A line, part by part: its form, and what its names and values say.
 ghost use Rattle.std.specs.Prelude.{◌≡◌, Ok};
 ghost use Rattle.mls_tokens.specs.Scanning.{Reads};
-ghost use Rattle.mls_script.specs.Reading.{label_at, name_at, relation_at, list_at, arguments_at, sets_at, content_at, pass_word, part_at, parts_at, verb_among, command_at, sentence_at, told_at};
+ghost use Rattle.mls_script.specs.Reading.{label_at, name_at, relation_at, list_at, arguments_at, sets_at, content_at, pass_word, part_at, parts_at, verb_among, event_from, command_at, sentence_at, told_at};
 ghost use Rattle.mls_script.specs.Grammar.{part_word, verbs};
 
 use crate::draft::Draft;
@@ -10,8 +10,8 @@ use crate::fault::LineFault;
 use crate::grammar::{Part, VERBS, Verb};
 use crate::lists::{list, new_sets};
 use crate::lookup::{
-    Looked, label_named, relation_named, scheme_in, with_arguments, with_label, with_name,
-    with_relation, with_sets, with_values,
+    Looked, label_named, put_arguments, put_label, put_name, put_relation, put_sets, put_values,
+    relation_named, scheme_in,
 };
 use mls_lattice::Policy;
 use mls_scheme::Schemes;
@@ -21,59 +21,65 @@ use std::alloc::Global;
 fn label(
     policy: &Policy,
     part: Part,
-    looked: Looked,
+    looked: &mut Looked,
     tokens: &mut Tokens,
-) -> Result<Looked, TokenFault>
-    ensures { Reads (λ x. (x, tokens.new)) result (label_at policy.now part looked tokens.old) }
+) -> Result<(), TokenFault>
+    ensures { Reads (λ _. (looked.new, tokens.new)) result (label_at policy.now part looked.old tokens.old) }
 {
     let (name, at) = tokens.name()?;
-    Ok(with_label(part, looked, label_named(policy, &name, at)))
+    put_label(part, looked, label_named(policy, &name, at));
+    Ok(())
 }
 
-fn name(part: Part, looked: Looked, tokens: &mut Tokens) -> Result<Looked, TokenFault>
-    ensures { Reads (λ x. (x, tokens.new)) result (name_at part looked tokens.old) }
+fn name(part: Part, looked: &mut Looked, tokens: &mut Tokens) -> Result<(), TokenFault>
+    ensures { Reads (λ _. (looked.new, tokens.new)) result (name_at part looked.old tokens.old) }
 {
     let (name, _) = tokens.name()?;
-    Ok(with_name(part, looked, name))
+    put_name(part, looked, name);
+    Ok(())
 }
 
-fn relation(schemes: &Schemes, looked: Looked, tokens: &mut Tokens) -> Result<Looked, TokenFault>
-    ensures { Reads (λ x. (x, tokens.new)) result (relation_at schemes.now looked tokens.old) }
+fn relation(schemes: &Schemes, looked: &mut Looked, tokens: &mut Tokens) -> Result<(), TokenFault>
+    ensures { Reads (λ _. (looked.new, tokens.new)) result (relation_at schemes.now looked.old tokens.old) }
 {
     let (name, at) = tokens.name()?;
-    Ok(with_relation(looked, relation_named(schemes, &name, at)))
+    put_relation(looked, relation_named(schemes, &name, at));
+    Ok(())
 }
 
 fn values(
     alloc: Global,
     schemes: &Schemes,
     part: Part,
-    looked: Looked,
+    looked: &mut Looked,
     tokens: &mut Tokens,
-) -> Result<Looked, TokenFault>
-    ensures { Reads (λ x. (x, tokens.new)) result (list_at schemes.now part looked tokens.old) }
+) -> Result<(), TokenFault>
+    ensures { Reads (λ _. (looked.new, tokens.new)) result (list_at schemes.now part looked.old tokens.old) }
 {
     let listed = list(alloc, tokens)?;
-    Ok(with_values(schemes, part, looked, listed))
+    put_values(schemes, part, looked, listed);
+    Ok(())
 }
 
-fn arguments(alloc: Global, looked: Looked, tokens: &mut Tokens) -> Result<Looked, TokenFault>
-    ensures { Reads (λ x. (x, tokens.new)) result (arguments_at looked tokens.old) }
+fn arguments(alloc: Global, looked: &mut Looked, tokens: &mut Tokens) -> Result<(), TokenFault>
+    ensures { Reads (λ _. (looked.new, tokens.new)) result (arguments_at looked.old tokens.old) }
 {
     let listed = list(alloc, tokens)?;
-    Ok(with_arguments(looked, listed.values))
+    put_arguments(looked, listed.values);
+    Ok(())
 }
 
 fn new_values(
     alloc: Global,
     schemes: &Schemes,
-    looked: Looked,
+    looked: &mut Looked,
     tokens: &mut Tokens,
-) -> Result<Looked, TokenFault>
-    ensures { Reads (λ x. (x, tokens.new)) result (sets_at schemes.now looked tokens.old) }
+) -> Result<(), TokenFault>
+    ensures { Reads (λ _. (looked.new, tokens.new)) result (sets_at schemes.now looked.old tokens.old) }
 {
-    let found = new_sets(alloc, scheme_in(schemes, &looked), tokens)?;
-    Ok(with_sets(looked, found))
+    let found = new_sets(alloc, scheme_in(schemes, looked), tokens)?;
+    put_sets(looked, found);
+    Ok(())
 }
 
 /// What a part says, behind its word.
@@ -83,10 +89,10 @@ fn content(
     policy: &Policy,
     schemes: &Schemes,
     part: Part,
-    looked: Looked,
+    looked: &mut Looked,
     tokens: &mut Tokens,
-) -> Result<Looked, TokenFault>
-    ensures { Reads (λ x. (x, tokens.new)) result (content_at policy.now schemes.now part looked tokens.old) }
+) -> Result<(), TokenFault>
+    ensures { Reads (λ _. (looked.new, tokens.new)) result (content_at policy.now schemes.now part looked.old tokens.old) }
 {
     match part {
         Part::Level | Part::At | Part::Class | Part::From => label(policy, part, looked, tokens),
@@ -115,10 +121,10 @@ fn part(
     policy: &Policy,
     schemes: &Schemes,
     part: Part,
-    looked: Looked,
+    looked: &mut Looked,
     tokens: &mut Tokens,
-) -> Result<Looked, TokenFault>
-    ensures { Reads (λ x. (x, tokens.new)) result (part_at policy.now schemes.now part looked tokens.old) }
+) -> Result<(), TokenFault>
+    ensures { Reads (λ _. (looked.new, tokens.new)) result (part_at policy.now schemes.now part looked.old tokens.old) }
 {
     word(part, tokens)?;
     content(alloc, policy, schemes, part, looked, tokens)
@@ -130,16 +136,15 @@ fn parts(
     policy: &Policy,
     schemes: &Schemes,
     parts: &[Part],
-    looked: Looked,
+    looked: &mut Looked,
     tokens: &mut Tokens,
-) -> Result<Looked, TokenFault>
-    ensures { Reads (λ x. (x, tokens.new)) result (parts_at policy.now schemes.now parts.now looked tokens.old) }
+) -> Result<(), TokenFault>
+    ensures { Reads (λ _. (looked.new, tokens.new)) result (parts_at policy.now schemes.now parts.now looked.old tokens.old) }
 {
-    let mut looked = looked;
     for next in parts {
-        looked = part(alloc, policy, schemes, *next, looked, tokens)?;
+        part(alloc, policy, schemes, *next, looked, tokens)?;
     }
-    Ok(looked)
+    Ok(())
 }
 
 /// The first of some verbs that is next.
@@ -154,22 +159,27 @@ fn verb_among(verbs: &[Verb], tokens: &mut Tokens) -> Result<Verb, TokenFault>
     Err(tokens.refused())
 }
 
+/// The event of a verb, if what its parts say has no fault.
+fn event_from(verb: Verb, looked: Looked) -> Result<Event, LineFault>
+    ensures { result ≡ event_from verb looked }
+{
+    Ok(looked?.into_event(verb))
+}
+
 /// A verb and its parts.
 #[tactic(auto, unfolding(crate::specs::Reading::command_at))]
 fn command(
     alloc: Global,
     policy: &Policy,
     schemes: &Schemes,
-    looked: Looked,
+    mut looked: Looked,
     tokens: &mut Tokens,
 ) -> Result<Result<Event, LineFault>, TokenFault>
     ensures { Reads (λ x. (x, tokens.new)) result (command_at policy.now schemes.now looked tokens.old) }
 {
     let verb = verb_among(&VERBS, tokens)?;
-    match parts(alloc, policy, schemes, verb.parts(), looked, tokens)? {
-        Ok(draft) => Ok(Ok(draft.into_event(verb))),
-        Err(fault) => Ok(Err(fault)),
-    }
+    parts(alloc, policy, schemes, verb.parts(), &mut looked, tokens)?;
+    Ok(event_from(verb, looked))
 }
 
 /// The event of a line that is not blank; or the first fault of its names and kinds.
@@ -183,8 +193,8 @@ fn sentence(
     ensures { Reads (λ x. x) result (sentence_at policy.now schemes.now tokens.old) }
 {
     let front = [Part::Level, Part::Session];
-    let looked = Ok(Draft::new(alloc));
-    let looked = parts(alloc, policy, schemes, &front, looked, tokens)?;
+    let mut looked = Ok(Draft::new(alloc));
+    parts(alloc, policy, schemes, &front, &mut looked, tokens)?;
     let event = command(alloc, policy, schemes, looked, tokens)?;
     tokens.end()?;
     Ok(event)

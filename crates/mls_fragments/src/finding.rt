@@ -79,8 +79,8 @@ fn check_entry(alloc: Global, policy: &Policy, bytes: &[u8]) -> Result<(), RowFa
     ensures found { OnOk result (IsEntryOf (length policy.now.labels) bytes.now) }
     ensures only { IsEntryOf (length policy.now.labels) bytes.now → IfErr result IsMemory }
 {
-    let entry = entry_of(alloc, bytes)?;
-    if entry.label().index() < policy.label_count() {
+    let label = entry_of(alloc, bytes)?.label();
+    if label.index() < policy.label_count() {
         Ok(())
     } else {
         Err(RowFault::BadRow)

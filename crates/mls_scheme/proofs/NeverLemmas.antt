@@ -13,7 +13,7 @@ use Rattle.mls_scheme.specs.declared.fault.SchemeFault.{SchemeFault}
 use Rattle.mls_scheme.specs.declared.fault.SchemeFault.TheVariants.{NotToml, Repeated, UnknownName, EmptyInterval, Memory, NoKey, KeyIntervals}
 use Rattle.mls_scheme.specs.Fault.{scheme_fault_of}
 use Rattle.mls_scheme.specs.Scheme.{Attribute, Schemes, column_of}
-use Rattle.mls_scheme.specs.Reading.{Gives, lift, gather, name_field, text_field, kind_in, label_in, label_field, column_at, has_attribute, new_name, attribute_at, has_key_interval, key_at, other_at, key_items, other_items, has_relation, scheme_at, relation_items, schemes_at}
+use Rattle.mls_scheme.specs.Reading.{Gives, lift, gather, name_field, text_field, kind_in, label_in, label_field, column_at, has_attribute, new_name, attribute_at, has_key_interval, key_at, other_at, key_items, other_items, attributes_at, has_relation, scheme_at, relation_items, schemes_at}
 
 pub gives-never : {X Y : Type 0} (view : X → Y) (r : Result X SchemeFault) (read : Result Y SchemeFault) → Gives view r read → IsNever NotToml read → IsNever NotToml r
 gives-never view = never-given (λ e. e ≡ Memory) view NotToml (λ same. absurd cc)
@@ -109,13 +109,17 @@ other_items-never : (fields : Members) → IsNever NotToml (other_items fields)
 unfolding other_items
 other_items-never fields = lifted _ (never-then _ _ _ (optional-never tables_at tables-never (get_member (codes "attribute") fields)) (at_most-never 15))
 
+attributes-never : (p : Tables) (fields : Members) → IsNever NotToml (attributes_at p fields)
+unfolding attributes_at
+attributes-never p fields =
+    never-then _ _ _ (key_items-never fields) (λ key_tables. never-then _ _ _ (gathered (key_at p) (key-never p) [] key_tables) (λ keys.
+    never-then _ _ _ (other_items-never fields) (λ other_tables. never-then _ _ _ (gathered (other_at p keys) (other-never p keys) [] other_tables) (λ others. tt))))
+
 scheme-never : (p : Tables) (before : Schemes) (d : Data) → IsNever NotToml (scheme_at p before d)
 unfolding scheme_at
 scheme-never p before d =
     never-then _ _ _ (lifted _ (table-never d)) (λ fields. never-then _ _ _ (field-never (codes "name") fields) (λ name.
-    never-then _ _ _ (new_name-never (has_relation before name)) (λ new. never-then _ _ _ (key_items-never fields) (λ key_tables.
-    never-then _ _ _ (gathered (key_at p) (key-never p) [] key_tables) (λ keys. never-then _ _ _ (other_items-never fields) (λ other_tables.
-    never-then _ _ _ (gathered (other_at p keys) (other-never p keys) [] other_tables) (λ others. tt)))))))
+    never-then _ _ _ (new_name-never (has_relation before name)) (λ new. never-then _ _ _ (attributes-never p fields) (λ attributes. tt))))
 
 relation_items-never : (document : Members) → IsNever NotToml (relation_items document)
 unfolding relation_items

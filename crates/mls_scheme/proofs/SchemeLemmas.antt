@@ -10,13 +10,13 @@ use Rattle.mls_lattice.specs.Labels.{below}
 use Rattle.mls_lattice.specs.Policy.{Name, Tables, AreNames, labels_of}
 use Rattle.mls_lattice.specs.ReadsPolicy.{IsDocument}
 use Rattle.mls_lattice.specs.Reading.{◌>>=◌, version_at, table_at, items_len}
-use Rattle.mls_lattice.proofs.ReadingLemmas.{bind_ok, pass_ok}
+use Rattle.mls_lattice.proofs.ReadingLemmas.{ok_is, bind_ok, pass_ok}
 use Rattle.mls_lattice.proofs.ReadsPolicyLemmas.{one_document}
 use Rattle.mls_scheme.specs.declared.fault.SchemeFault.{SchemeFault}
 use Rattle.mls_scheme.specs.declared.fault.SchemeFault.TheVariants.{NotToml, Memory, EmptyInterval, KeyIntervals}
 use Rattle.mls_scheme.specs.declared.attributes.Column.{Column}
 use Rattle.mls_scheme.specs.Scheme.{Attribute, Scheme, Schemes, attribute_named, column_of, no_attribute, first_key, HasInterval, IsScheme, AreSchemes, IsAmongLabels, AreUnder, HaveIntervals}
-use Rattle.mls_scheme.specs.Reading.{Gives, lift, gather, name_field, text_field, kind_in, label_field, column_at, has_attribute, new_name, attribute_at, has_key_interval, key_at, other_at, key_items, other_items, has_relation, scheme_at, relation_items, schemes_at}
+use Rattle.mls_scheme.specs.Reading.{Gives, lift, gather, name_field, text_field, kind_in, label_field, column_at, has_attribute, new_name, attribute_at, has_key_interval, key_at, other_at, key_items, other_items, attributes_at, has_relation, scheme_at, relation_items, schemes_at}
 use Rattle.mls_scheme.specs.Document.{tables_of, HoldsTables, kind_word, SaysAttribute, SaysRelation, Says, ReadsSchemes, SaysOnce}
 use Rattle.mls_scheme.proofs.GatherLemmas.{Each, Step, gather_found, gather_again, items_len-tables_of, Each-left, Each-right, Each-both, distinct_found, distinct_again}
 use Rattle.mls_scheme.proofs.FieldLemmas.{table_found, name_found, name_again, text_field_found, text_field_again, kind_found, kind_again, label_found, label_again, version_found, version_again, key_found, key_again, other_found, other_again, relation_found, relation_again}
@@ -159,6 +159,25 @@ names_says p [] us (a ∷ keys) others h g = absurd h
 names_says p (t ∷ ts) us [] others h g = absurd h
 names_says p (t ∷ ts) us (a ∷ keys) others h g = (h.0.named, names_says p ts us keys others h.1 g)
 
+attributes_found : (p : Tables) (fields : Members) (s : Scheme) → attributes_at p fields ≡ Ok (s.keys, s.others) → Parts p fields s
+unfolding attributes_at
+attributes_found p fields s e =
+    let k = bind_ok (key_items fields) _ (s.keys, s.others) e in
+    let ks = bind_ok (gather (key_at p) [] k.0) _ (s.keys, s.others) k.2 in
+    let o = bind_ok (other_items fields) _ (s.keys, s.others) ks.2 in
+    let os = bind_ok (gather (other_at p ks.0) [] o.0) _ (s.keys, s.others) o.2 in
+    let both : (ks.0, os.0) ≡ (s.keys, s.others) = ok_is (ks.0, os.0) (s.keys, s.others) os.2 in
+    let keys : ks.0 ≡ s.keys = ap (λ (x : List Attribute × List Attribute). x.0) both in
+    let others : os.0 ≡ s.others = ap (λ (x : List Attribute × List Attribute). x.1) both in
+    record {
+      key_ds = k.0;
+      key_text = k.1;
+      keys = ks.1 ∙ ap (λ (xs : List Attribute). Ok xs) keys;
+      other_ds = o.0;
+      other_text = o.1;
+      others = ap (λ (xs : List Attribute). gather (other_at p xs) [] o.0) (sym keys) ∙ os.1 ∙ ap (λ (xs : List Attribute). Ok xs) others;
+    }
+
 parts_says : (p : Tables) (fields : Members) (s : Scheme) → name_field (codes "name") fields ≡ Ok s.name → Parts p fields s → SaysRelation p fields s
 unfolding IsDistinct
 parts_says p fields s named r =
@@ -216,23 +235,14 @@ scheme_step p before d s e =
     let f = bind_ok (lift (table_at d)) _ s e in
     let n = bind_ok (name_field (codes "name") f.0) _ s f.2 in
     let w = new_found (has_relation before n.0) _ s n.2 in
-    let k = bind_ok (key_items f.0) _ s w.1 in
-    let ks = bind_ok (gather (key_at p) [] k.0) _ s k.2 in
-    let o = bind_ok (other_items f.0) _ s ks.2 in
-    let os = bind_ok (gather (other_at p ks.0) [] o.0) _ s o.2 in
-    let made : Scheme = record { name = n.0; keys = ks.0; others = os.0 } in
-    let same : Ok made ≡ Ok s = os.2 in
-    let here : made ≡ s = ap (λ (r : Result Scheme SchemeFault). scheme_or r) same in
-    let parts : Parts p f.0 made = record { key_ds = k.0; key_text = k.1; keys = ks.1; other_ds = o.0; other_text = o.1; others = os.1 } in
-    let says : SaysRelation p f.0 made = parts_says p f.0 made n.1 parts in
+    let a = bind_ok (attributes_at p f.0) _ s w.1 in
+    let made : Scheme = record { name = n.0; keys = a.0.0; others = a.0.1 } in
+    let here : made ≡ s = ok_is made s a.2 in
+    let says : SaysRelation p f.0 made = parts_says p f.0 made n.1 (attributes_found p f.0 made a.1) in
     record { fields = f.0; text = table_found d f.0 f.1; says = subst (SaysRelation p f.0) here says; follows = subst (IsNewRelation before) here w.0 }
-  where
-    scheme_or : Result Scheme SchemeFault → Scheme
-    scheme_or (Ok x) = x
-    scheme_or (Err e) = record { name = []; keys = []; others = [] }
 
 scheme_step_again : (p : Tables) (before : Schemes) (fields : Members) (s : Scheme) → SaysRelation p fields s → IsNewRelation before s → scheme_at p before (table fields) ≡ Ok s
-unfolding scheme_at IsDistinct
+unfolding scheme_at attributes_at IsDistinct
 scheme_step_again p before fields s r fresh =
     let key_len : items_len (tables_of r.key_tables) ≡ length s.keys = items_len-tables_of (SaysAttribute p) r.key_tables s.keys r.keys in
     let other_len : items_len (tables_of r.other_tables) ≡ length s.others = items_len-tables_of (SaysAttribute p) r.other_tables s.others r.others in
@@ -322,10 +332,8 @@ says_again p document schemes s =
 
 -- ---- what the code asks and promises
 
-pub scheme_valid : (p : Tables) (fields : Members) (s : Scheme) (kd od : Items) → name_field (codes "name") fields ≡ Ok s.name → key_items fields ≡ Ok kd → gather (key_at p) [] kd ≡ Ok s.keys
-    → other_items fields ≡ Ok od → gather (other_at p s.keys) [] od ≡ Ok s.others → IsScheme s
-scheme_valid p fields s kd od name key keys other others =
-    (parts_says p fields s name (record { key_ds = kd; key_text = key; keys = keys; other_ds = od; other_text = other; others = others })).valid
+pub scheme_valid : (p : Tables) (fields : Members) (s : Scheme) → name_field (codes "name") fields ≡ Ok s.name → attributes_at p fields ≡ Ok (s.keys, s.others) → IsScheme s
+scheme_valid p fields s name attributes = (parts_says p fields s name (attributes_found p fields s attributes)).valid
 
 pub schemes_valid : (p : Tables) (document : Members) (ds : Items) (schemes : Schemes) → lift (version_at document) ≡ Ok tt → relation_items document ≡ Ok ds → gather (scheme_at p) [] ds ≡ Ok schemes → AreSchemes schemes
 schemes_valid p document ds schemes version text e = (relations_says p document ds schemes version text e).valid

@@ -101,17 +101,23 @@ other_items fields = lift (optional tables_at (get_member (codes "attribute") fi
 abbrev pub has_relation : Schemes → Name → Bool
 has_relation schemes name = list_any (λ s. bytes_eq s.name name) schemes
 
+-- the key attributes, and those outside the key
+unfoldable pub attributes_at : Tables → Members → Result (List Attribute × List Attribute) SchemeFault
+attributes_at p fields = do
+  key_tables ← key_items fields
+  keys ← gather (key_at p) [] key_tables
+  other_tables ← other_items fields
+  others ← gather (other_at p keys) [] other_tables
+  Ok (keys, others)
+
 -- a relation with a name that those before don't have
 unfoldable pub scheme_at : Tables → Schemes → Data → Result Scheme SchemeFault
 scheme_at p before d = do
   fields ← lift (table_at d)
   name ← name_field (codes "name") fields
   new ← new_name (has_relation before name)
-  key_tables ← key_items fields
-  keys ← gather (key_at p) [] key_tables
-  other_tables ← other_items fields
-  others ← gather (other_at p keys) [] other_tables
-  Ok (record { name = name; keys = keys; others = others })
+  attributes ← attributes_at p fields
+  Ok (record { name = name; keys = attributes.0; others = attributes.1 })
 
 -- from 1 to 16 tables
 unfoldable pub relation_items : Members → Result Items SchemeFault

@@ -2,7 +2,7 @@
 ghost use Rattle.std.specs.Prelude.{◌≡◌, ◌++◌, [], false, IfOk, string_bytes};
 ghost use Rattle.toml.specs.View.{view, items_view, table_view};
 ghost use Rattle.mls_scheme.specs.Scheme.{attribute_of};
-ghost use Rattle.mls_scheme.specs.Reading.{Gives, column_at, attribute_at, has_attribute, has_key_interval, key_at, other_at, gather, has_relation, scheme_at, schemes_at};
+ghost use Rattle.mls_scheme.specs.Reading.{Gives, column_at, attribute_at, has_attribute, has_key_interval, key_at, other_at, gather, attributes_at, has_relation, scheme_at, schemes_at};
 
 use crate::attributes::{Attributes, Column};
 use crate::fault::SchemeFault;
@@ -138,6 +138,20 @@ fn has_relation(relations: &[Scheme], name: &str) -> bool
     relations.iter().any(|scheme| scheme.name() == name)
 }
 
+/// The key attributes, and those outside the key.
+#[tactic(auto, unfolding(crate::specs::Reading::attributes_at))]
+fn attributes_in(
+    alloc: Global,
+    policy: &Policy,
+    fields: &Table,
+) -> Result<(Attributes, Attributes), SchemeFault>
+    ensures { Gives (λ a. a) result (attributes_at policy.now (table_view fields.now)) }
+{
+    let keys = keys_in(alloc, policy, key_items(fields)?)?;
+    let others = others_in(alloc, policy, &keys, other_items(fields)?)?;
+    Ok((keys, others))
+}
+
 #[tactic(auto, unfolding(crate::specs::Reading::scheme_at))]
 fn scheme_in(
     alloc: Global,
@@ -152,8 +166,7 @@ fn scheme_in(
     if has_relation(before, name) {
         return Err(SchemeFault::Repeated);
     }
-    let keys = keys_in(alloc, policy, key_items(fields)?)?;
-    let others = others_in(alloc, policy, &keys, other_items(fields)?)?;
+    let (keys, others) = attributes_in(alloc, policy, fields)?;
     let name = Str::copy_of(alloc, name)?;
     Ok(Scheme::new(name, keys, others))
 }

@@ -2,4 +2,4 @@ use Rattle.mls_scheme.proofs.SchemeLemmas.{scheme_valid}
 use Rattle.mls_scheme.proofs.reading.scheme_in.Goals as goal
 
 pub new-requires : goal.new-requires
-new-requires c = rw c.in_ok-name-2.ensures (scheme_valid c.args.policy.now _ _ _ _ c.in_ok-name.ensures c.in_ok-key_items.ensures c.in_ok-keys.ensures c.in_ok-other_items.ensures c.in_ok-others.ensures)
+new-requires c = rw c.in_ok-name-2.ensures (scheme_valid c.args.policy.now _ _ c.in_ok-name.ensures c.in_ok-keys.ensures)

@@ -1,5 +1,5 @@
 //! The fields of schemes, and what they are refused for.
-ghost use Rattle.std.specs.Prelude.{◌≡◌, ◌≤◌, ◌<◌, IfOk, length, codes};
+ghost use Rattle.std.specs.Prelude.{◌<◌, IfOk, length};
 ghost use Rattle.toml.specs.View.{view, items_view, table_view};
 ghost use Rattle.mls_lattice.specs.Reading.{table_at};
 ghost use Rattle.mls_scheme.specs.Reading.{Gives, lift, name_field, text_field, kind_in, label_in, label_field, key_items, other_items, relation_items};

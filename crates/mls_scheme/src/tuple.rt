@@ -1,8 +1,7 @@
 ghost use Rattle.std.specs.Prelude.{◌≡◌, ◌↔◌, ◌<◌, IsTrue, IfOk, length};
-ghost use Rattle.std.specs.List.{AllByRecursion};
 ghost use Rattle.mls_lattice.specs.Lattice.{pair_of};
 ghost use Rattle.mls_lattice.specs.Policy.{labels_of};
-ghost use Rattle.mls_scheme.specs.Tuple.{is_null, tuple_class, join_of, HasClassesBelow};
+ghost use Rattle.mls_scheme.specs.Tuple.{is_null, tuple_class, HasClassesBelow};
 
 use crate::value::{Value, same_key};
 use mls_lattice::{Items, Label, LabelNo, Policy};

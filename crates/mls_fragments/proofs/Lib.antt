@@ -1,3 +1,4 @@
+pub mod OpeningLemmas
 pub mod AddingLemmas
 pub mod CallLemmas
 pub mod DroppingLemmas

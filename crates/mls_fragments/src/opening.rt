@@ -1,5 +1,5 @@
 //! Stores that are opened.
-ghost use Rattle.std.specs.Prelude.{◌≡◌, ◌≢◌, ◌⊎◌, false, length, string_bytes, IsTrue, IfOk, IfErr, OnOk};
+ghost use Rattle.std.specs.Prelude.{◌≡◌, ◌≢◌, ◌⊎◌, false, length, string_bytes, None, IsTrue, IfOk, IfErr, IfSome, OnOk};
 ghost use Rattle.sqlite.specs.State.{HasCleanDisk, KeepsCommit};
 ghost use Rattle.sqlite.specs.Held.{state};
 ghost use Rattle.mls_lattice.specs.Canon as lattice;
@@ -13,7 +13,9 @@ ghost use Rattle.mls_statements.specs.Store.{IsClean};
 ghost use Rattle.mls_fragments.specs.Based.{state_of};
 ghost use Rattle.mls_fragments.specs.Finding.{IsSoundContent};
 ghost use Rattle.mls_fragments.specs.Holding.{Holds};
-ghost use Rattle.mls_fragments.specs.Opening.{IsRefused, IsOpenable};
+ghost use Rattle.sqlite.specs.Files.{file_state};
+ghost use Rattle.sqlite.specs.WalFiles.{image_at};
+ghost use Rattle.mls_fragments.specs.Opening.{IsRefused, IsOpenable, IsFoundIn, IsOverFiles, AreFilesRefused};
 
 use crate::base::SqlBase;
 use crate::finding::find;
@@ -22,7 +24,7 @@ use mls_lattice::Policy;
 use mls_scheme::Schemes;
 use mls_statements::statements::creation::has_nothing;
 use mls_statements::{TableStore, read_store};
-use sqlite::{Alter, Connection, MemStore};
+use sqlite::{Alter, Connection, Error, ErrorCode, FileFrom, FileStore, MemStore, Start};
 use std::alloc::{AllocError, Global};
 
 /// The two texts that describe the stores of a policy and its schemes.
@@ -145,6 +147,64 @@ impl SqlBase<MemStore> {
         match SqlBase::adopt(alloc, conn, policy, schemes) {
             Ok(base) => Ok(base),
             Err((fault, _)) => Err(fault),
+        }
+    }
+}
+
+/// Why the files of a store are not opened.
+fn fault_of(error: Error) -> OpenFault
+    ensures { (result ≡ OpenFault.Store) ⊎ (result ≡ OpenFault.Memory) }
+{
+    match error {
+        Error::SqliteFailure(ErrorCode::OutOfMemory) => OpenFault::Memory,
+        _ => OpenFault::Store,
+    }
+}
+
+/// A connection to the files at a path, which are made where there are none.
+fn connected<F: Start>(
+    rt: &HostRuntime,
+    path: &str,
+    start: F,
+) -> Result<Connection<FileStore<FileFrom<F>>>, OpenFault>
+    ensures found { IfOk result (λ c. HasCleanDisk (file_state c) → IsFoundIn (image_at F.Start) (file_state c).now.trees) }
+    ensures idle { IfOk result (λ c. c.in_transaction ≡ false) }
+    ensures fault { IfErr result (λ e. (e ≡ OpenFault.Store) ⊎ (e ≡ OpenFault.Memory)) }
+{
+    match Connection::open_from(rt, path, false, start) {
+        Ok(conn) => Ok(conn),
+        Err((error, _)) => Err(fault_of(error)),
+    }
+}
+
+impl<F: Start> SqlBase<FileStore<FileFrom<F>>> {
+    /// A base over the store in the files at a path, as `adopt` opens it; they are made where there are none. `F` stands for what
+    /// the files held, which nobody knows before they are read: a program passes `Unknown`. An `Err` hands the connection back where
+    /// the files were opened; where they were not, it is Store or Memory.
+    pub fn open_from(
+        rt: &HostRuntime,
+        path: &str,
+        start: F,
+        policy: &Policy,
+        schemes: &Schemes,
+    ) -> Result<
+        SqlBase<FileStore<FileFrom<F>>>,
+        (OpenFault, Option<Connection<FileStore<FileFrom<F>>>>),
+    >
+        requires under { AreUnder (length policy.now.labels) schemes.now }
+        ensures over { IfOk result (IsOverFiles policy.now schemes.now (image_at F.Start)) }
+        ensures sound { IfOk result (λ b. IsSoundContent policy.now schemes.now (state_of b).now) }
+        ensures mode { IfOk result (λ b. (state_of b).begun ≡ false) }
+        ensures unopened { IfErr result (λ e. e.1 ≡ None → (e.0 ≡ OpenFault.Store) ⊎ (e.0 ≡ OpenFault.Memory)) }
+        ensures refused { IfErr result (λ e. IfSome e.1 (AreFilesRefused policy.now schemes.now (image_at F.Start) e.0)) }
+    {
+        let conn = match connected(rt, path, start) {
+            Ok(conn) => conn,
+            Err(fault) => return Err((fault, None)),
+        };
+        match SqlBase::adopt(rt.alloc(), conn, policy, schemes) {
+            Ok(base) => Ok(base),
+            Err((fault, conn)) => Err((fault, Some(conn))),
         }
     }
 }

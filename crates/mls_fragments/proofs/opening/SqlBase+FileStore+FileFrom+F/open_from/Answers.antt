@@ -1,0 +1,23 @@
+use Rattle.std.proofs.Common.{ap}
+use Rattle.sqlite.specs.Files.{file_state}
+use Rattle.mls_filterview.specs.Content.{State}
+use Rattle.mls_fragments.proofs.opening.SqlBase+FileStore+FileFrom+F.open_from.Goals as goal
+
+pub returns-in-Ok-adopt-clause-over : goal.returns-in-Ok-adopt-clause-over
+returns-in-Ok-adopt-clause-over g c = record {
+  db = (file_state c.in-Ok.conn).now;
+  found = λ clean. c.in-Ok.ensures.found (c.in-Ok-adopt.ensures.clean clean);
+  new = λ none. ap (λ (s : State). s.now) (c.in-Ok-adopt.ensures.new none).0;
+  rows = c.in-Ok-adopt.ensures.rows;
+  described = c.in-Ok-adopt.ensures.described;
+  holds = c.in-Ok-adopt.ensures.holds;
+}
+
+pub returns-in-Err-adopt-clause-refused : goal.returns-in-Err-adopt-clause-refused
+returns-in-Err-adopt-clause-refused g c = record {
+  was = c.in-Ok.conn;
+  found = c.in-Ok.ensures.found;
+  texts = c.in-Err-adopt.ensures.policy;
+  bad = c.in-Err-adopt.ensures.bad;
+  refused = c.in-Err-adopt.ensures.refused;
+}

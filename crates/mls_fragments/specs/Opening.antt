@@ -1,6 +1,6 @@
 -- Stores that are opened, and that are not.
 use Rattle.std.specs.Prelude.{◌≡◌, ◌≢◌, ◌⊎◌, false, IsTrue}
-use Rattle.sqlite.specs.Effect.{Database}
+use Rattle.sqlite.specs.Effect.{Database, IsDatabase}
 use Rattle.sqlite.specs.State.{State, HasCleanDisk}
 use Rattle.sqlite.specs.Files.{HoldsDatabase, AreFoundIn, file_state}
 use Rattle.sqlite.specs.Held.{Held}
@@ -43,15 +43,16 @@ pub record IsOpenable (policy : Policy) (schemes : Schemes) (db : Database) : Ty
 
 -- ---- stores in files
 
--- the trees are the database that the files held, if they held one
-pub record IsFoundIn (start : Image) (trees : Trees) : Type 0 where
-  pub holds : (db : Trees) → HoldsDatabase start db → trees ≡ db
-  pub reads : AreFoundIn start trees
+-- a database whose trees are those that the files held, if they held one, and whose schema is sound for them
+pub record IsFoundIn (start : Image) (db : Database) : Type 0 where
+  pub holds : (trees : Trees) → HoldsDatabase start trees → db.trees ≡ trees
+  pub reads : AreFoundIn start db.trees
+  pub sound : IsDatabase db
 
 -- a base over what the files held: an empty one over a new store, and else one whose content is what the rows hold
 pub record IsOverFiles (policy : Policy) (schemes : Schemes) (start : Image) (b : BaseState) : Type 0 where
   pub db : Database
-  pub found : IsClean b.tables → IsFoundIn start db.trees
+  pub found : IsClean b.tables → IsFoundIn start db
   pub new : db.schema ≡ no_schema → (state_of b).now ≡ no_content
   pub rows : db.schema ≢ no_schema → IsClean b.tables → b.tables.now ≡ tables_of db.trees
   pub described : IsClean b.tables → IsDescribedBy (lattice.lattice_of policy) (scheme.canon_of policy schemes) b.tables.now
@@ -60,7 +61,7 @@ pub record IsOverFiles (policy : Policy) (schemes : Schemes) (start : Image) (b 
 -- what the files held is refused, and left as it was
 pub record AreFilesRefused {D : Type 0} {g : Ghosts D} (policy : Policy) (schemes : Schemes) (start : Image) (e : OpenFault) (left : Held (FileStore D g)) : Type 0 where
   pub was : Held (FileStore D g)
-  pub found : HasCleanDisk (file_state was) → IsFoundIn start (file_state was).now.trees
+  pub found : HasCleanDisk (file_state was) → IsFoundIn start (file_state was).now
   pub texts : HasCleanDisk (file_state left) → e ≡ OtherPolicy → HasOtherTexts (lattice.lattice_of policy) (scheme.canon_of policy schemes) (file_state was).now
   pub bad : HasCleanDisk (file_state left) → e ≡ BadRows → ¬ IsOpenable policy schemes (file_state was).now
   pub refused : IsRefused (file_state was) (file_state left)

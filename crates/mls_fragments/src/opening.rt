@@ -167,7 +167,7 @@ fn connected<F: Start>(
     path: &str,
     start: F,
 ) -> Result<Connection<FileStore<FileFrom<F>>>, OpenFault>
-    ensures found { IfOk result (λ c. HasCleanDisk (file_state c) → IsFoundIn (image_at F.Start) (file_state c).now.trees) }
+    ensures found { IfOk result (λ c. HasCleanDisk (file_state c) → IsFoundIn (image_at F.Start) (file_state c).now) }
     ensures idle { IfOk result (λ c. c.in_transaction ≡ false) }
     ensures fault { IfErr result (λ e. (e ≡ OpenFault.Store) ⊎ (e ≡ OpenFault.Memory)) }
 {

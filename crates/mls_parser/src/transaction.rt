@@ -1,13 +1,13 @@
 //! Transactions: their faults, and what they are.
-ghost use Rattle.std.specs.Prelude.{◌≡◌, ◌||◌, [], map, None, IfOk, is_some};
+ghost use Rattle.std.specs.Prelude.{◌≡◌, ◌||◌, ◌++◌, [], map, None, IfOk, is_some};
 ghost use Rattle.std.specs.List.{AllByRecursion, list_any};
 ghost use Rattle.std.specs.Str.{bytes_eq};
 ghost use Rattle.mls_translang.specs.Tx.{IsTx};
 ghost use Rattle.mls_syntax.specs.Limits.{IsLimited};
 ghost use Rattle.mls_parser.specs.Fault.{least_from};
-ghost use Rattle.mls_parser.specs.Names.{label_named, relation_named, numbered, IsPlace};
-ghost use Rattle.mls_parser.specs.Faults.{params_from, vars_from, outermost, levels_faults, name_faults, tx_faults, txs_faults};
-ghost use Rattle.mls_parser.specs.Elaboration.{transaction};
+ghost use Rattle.mls_parser.specs.Names.{relation_named, IsPlace};
+ghost use Rattle.mls_parser.specs.Faults.{params_from, vars_from, vars_faults, block_faults, outermost, levels_faults, name_faults, tx_faults, txs_faults};
+ghost use Rattle.mls_parser.specs.Elaboration.{block, transaction};
 
 use crate::context::{Context, label, label_or_first, relation};
 use crate::fault::{Found, TextCause, unless};
@@ -83,6 +83,25 @@ fn outermost<'a>(
     }
 }
 
+/// The least fault, those of a transaction's variables and statements among them.
+#[tactic(auto, using(crate::proofs::PlaceLemmas::tx_steps))]
+fn check_body(
+    alloc: Global,
+    policy: &Policy,
+    schemes: &Schemes,
+    found: Found,
+    tx: &Transaction,
+    params: &Named<Parameter>,
+) -> Result<Found, AllocError>
+    requires limited { IsLimited tx.now }
+    requires params { params.now ≡ params_from policy.now [] tx.now.params }
+    ensures { IfOk result (λ f. f
+        ≡ least_from found (vars_faults params.now [] tx.now.vars ++ block_faults (outermost policy.now schemes.now tx.now) tx.now.body)) }
+{
+    let (vars, found) = vars(alloc, params, found, &tx.vars)?;
+    outermost(policy, schemes, tx, params, &vars).check_block(alloc, found, &tx.body)
+}
+
 /// The same of a transaction, behind some.
 #[tactic(auto, using(crate::proofs::PlaceLemmas::tx_steps))]
 fn check_transaction(
@@ -99,8 +118,7 @@ fn check_transaction(
     let found = check_name(schemes, earlier, found, &tx.name);
     let found = check_levels(policy, found, &tx.lo, &tx.hi);
     let (params, found) = params(alloc, policy, found, &tx.params)?;
-    let (vars, found) = vars(alloc, &params, found, &tx.vars)?;
-    outermost(policy, schemes, tx, &params, &vars).check_block(alloc, found, &tx.body)
+    check_body(alloc, policy, schemes, found, tx, &params)
 }
 
 /// The least fault of transactions.
@@ -120,36 +138,22 @@ pub(crate) fn check_transactions(
     Ok(found)
 }
 
-/// The transaction of these parameters, variables and statements.
-fn with_header(
+/// The variables and the statements of a transaction without faults.
+fn body(
     alloc: Global,
     policy: &Policy,
+    schemes: &Schemes,
     syntax: &Transaction,
-    params: Named<Parameter>,
-    vars: Named<Kind>,
-    body: Block,
-) -> Result<Tx, AllocError>
-    requires { IsTx (record {
-      name = syntax.now.name.0;
-      lo = numbered (label_named policy.now syntax.now.lo.0);
-      hi = numbered (label_named policy.now syntax.now.hi.0);
-      params = params;
-      vars = vars;
-      body = body;
-    }) }
-    ensures { IfOk result (λ tx. tx ≡ record {
-      name = syntax.now.name.0;
-      lo = numbered (label_named policy.now syntax.now.lo.0);
-      hi = numbered (label_named policy.now syntax.now.hi.0);
-      params = params;
-      vars = vars;
-      body = body;
-    }) }
+    params: &Named<Parameter>,
+) -> Result<(Named<Kind>, Block), AllocError>
+    requires limited { IsLimited syntax.now }
+    requires params { params.now ≡ params_from policy.now [] syntax.now.params }
+    ensures vars { IfOk result (λ x. x.0 ≡ vars_from [] syntax.now.vars) }
+    ensures body { IfOk result (λ x. x.1 ≡ block (outermost policy.now schemes.now syntax.now) syntax.now.body) }
 {
-    let name = Str::copy_of(alloc, syntax.name.text())?;
-    let lo = label_or_first(policy, &syntax.lo);
-    let hi = label_or_first(policy, &syntax.hi);
-    Ok(Tx::new(name, lo, hi, params, vars, body))
+    let (vars, _) = vars(alloc, params, None, &syntax.vars)?;
+    let body = outermost(policy, schemes, syntax, params, &vars).block(alloc, &syntax.body)?;
+    Ok((vars, body))
 }
 
 /// A transaction without faults.
@@ -163,10 +167,12 @@ fn transaction(
     requires right { IsTx (transaction policy.now schemes.now syntax.now) }
     ensures { IfOk result (λ tx. tx ≡ transaction policy.now schemes.now syntax.now) }
 {
+    let lo = label_or_first(policy, &syntax.lo);
+    let hi = label_or_first(policy, &syntax.hi);
+    let name = Str::copy_of(alloc, syntax.name.text())?;
     let (params, _) = params(alloc, policy, None, &syntax.params)?;
-    let (vars, _) = vars(alloc, &params, None, &syntax.vars)?;
-    let body = outermost(policy, schemes, syntax, &params, &vars).block(alloc, &syntax.body)?;
-    with_header(alloc, policy, syntax, params, vars, body)
+    let (vars, body) = body(alloc, policy, schemes, syntax, &params)?;
+    Ok(Tx::new(name, lo, hi, params, vars, body))
 }
 
 /// Transactions without faults.

@@ -7,7 +7,12 @@ use Rattle.mls_scheme.specs.declared.tuple.Element.{Element}
 use Rattle.mls_scheme.specs.Table.{Table}
 use Rattle.mls_scheme.specs.declared.place.Place.{Place}
 use Rattle.mls_scheme.specs.Scheme.{Scheme, Schemes, scheme_of, IsUnder, AreUnder}
-use Rattle.mls_filterview.specs.Content.{State}
+use Rattle.std.specs.Prelude.{◌≤◌, Result, Ok, Err, IfErr}
+use Rattle.std.specs.Result.{IsErrOf}
+use Rattle.mls_filterview.specs.declared.base.BaseFault.{BaseFault}
+use Rattle.mls_filterview.specs.declared.base.BaseFault.TheVariants.{NotBegun, Begun}
+use Rattle.mls_filterview.specs.Calls.{begun_after, IsCall, IsFault, IsServed}
+use Rattle.mls_filterview.specs.Content.{State, after}
 use Rattle.mls_filterview.specs.Stored.{IsContent}
 use Rattle.mls_filterview.specs.declared.fragment.Node.{Node}
 use Rattle.mls_filterview.specs.declared.fragment.Cell.{Cell}
@@ -54,3 +59,35 @@ pub written_content : (ls : Labels) (distinct : AreDistinct ls) (scheme : Scheme
 written_content ls distinct scheme rel w wr s t o fits kinds content h =
     let S = (write ls scheme w wr (s.now.db rel)).table in
     subst (IsContent ls scheme) (sym (ap (λ x. x.now.db rel) h.state ∙ table_of s rel S)) (write-content ls distinct scheme w (s.now.db rel) content wr fits kinds)
+
+-- ---- faults of the store or of memory
+
+pub served_not_begun : {A : Type 0} (r : Result A BaseFault) → IfErr r IsServed → IsErrOf r NotBegun → ⊥
+served_not_begun r h e = (subst (λ x. IfErr x IsServed) e h).0 refl
+
+pub served_no_other : {A : Type 0} (r : Result A BaseFault) → IfErr r IsServed → IsErrOf r Begun → ⊥
+served_no_other r h e = (subst (λ x. IfErr x IsServed) e h).1 refl
+
+pub served_from : {A : Type 0} (r : Result A BaseFault) → (IsErrOf r NotBegun → ⊥) → (IsErrOf r Begun → ⊥) → IfErr r IsServed
+served_from (Ok x) n o = tt
+served_from (Err e) n o = (λ h. n (ap Err h), λ h. o (ap Err h))
+
+-- a call after one that left the state as it was
+module _ {Self : Type 0} (is_clean : Self → Type 0) (failures : Self → ℕ) (state : Self → State) {A : Type 0} (old mid new : Self) (mode : (state mid).begun ≡ (state old).begun) (same : is_clean mid → state mid ≡ state old) where
+  later_fault : (count : failures old ≤ failures mid) (clean : is_clean new → is_clean mid) (r : Result A BaseFault) → IfErr r IsServed → IfErr r (λ e. IsFault is_clean failures state e mid new)
+      → IfErr r (λ e. IsFault is_clean failures state e old new)
+  later_fault count clean (Ok x) s f = tt
+  later_fault count clean (Err e) s f = record {
+    store = λ h. (let less = f.store h in omega (arith, count, less));
+    not_begun = λ h. absurd (s.0 h);
+    begun = λ h. absurd (s.1 h);
+    mode = f.mode ∙ ap (begun_after e) mode;
+    content = λ h. f.content h ∙ ap (after e) (same (clean h));
+  }
+
+  pub later_call : {B : Type 0} (q : Result B BaseFault) (r : Result A BaseFault) → IsCall is_clean failures state old mid q → IfErr r IsServed → IsCall is_clean failures state mid new r → IsCall is_clean failures state old new r
+  later_call q r first served second = record {
+    clean = λ h. first.clean (second.clean h);
+    count = (let n = first.count in let m = second.count in omega (arith, n, m));
+    fault = later_fault first.count second.clean r served second.fault;
+  }

@@ -147,5 +147,3 @@ insert_all P (x ∷ xs) zero m h k = (k, h)
 insert_all P (x ∷ xs) (suc i) m h k = (h.0, insert_all P xs i m h.1 k)
 
 pub ruleset downward_steps = (downward_skip, downward_put, nothing_below, insert_all)
-
-pub ruleset place_steps = (place_found, place_next, place_end)

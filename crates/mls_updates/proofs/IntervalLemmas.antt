@@ -1,12 +1,12 @@
 -- Intervals of attributes.
-use Rattle.std.proofs.Common.{◌≡◌, ℕ, zero, suc, true, false, ◌&&◌, List, [], ◌∷◌, Some, sym, ap, ◌∙◌, arith, drop, ◌+◌}
-use Rattle.std.specs.Prelude.{slice_get}
-use Rattle.std.specs.List.{list_all}
+use Rattle.std.proofs.Common.{◌≡◌, ℕ, zero, suc, true, false, ◌&&◌, List, [], ◌∷◌, Some, sym, ap, ◌∙◌, subst, arith, drop, length, ◌+◌, ◌<◌}
+use Rattle.std.specs.Prelude.{slice_get, slice_index_or}
+use Rattle.std.specs.List.{list_all, AllByRecursion}
 use Rattle.std.specs.Option.{option_map}
 use Rattle.std.proofs.lemmas.Option.{same_Some, none-some}
 use Rattle.mls_lattice.specs.Labels.{Labels}
 use Rattle.mls_scheme.specs.declared.attributes.Column.{Column}
-use Rattle.mls_scheme.specs.Scheme.{Attribute, column_of}
+use Rattle.mls_scheme.specs.Scheme.{Attribute, column_of, no_attribute, IsAmongLabels}
 use Rattle.mls_scheme.specs.Fits.{in_interval, in_column}
 
 module _ (ls : Labels) (class : ℕ) where
@@ -31,4 +31,14 @@ module _ (ls : Labels) (class : ℕ) where
       ap (λ k. list_all (in_interval ls class) (drop k attributes)) n
       ∙ sym (ap (λ b. b && list_all (in_interval ls class) (drop (suc i) attributes)) in') ∙ sym (step attributes i c h) ∙ all
 
-pub ruleset interval_steps = (one_out, one_in)
+-- what is kept of the attribute at a place
+pub column_at : (attributes : List Attribute) (i : ℕ) (c : Column) → option_map column_of (slice_get attributes i) ≡ Some c → i < length attributes → column_of (slice_index_or attributes i no_attribute) ≡ c
+column_at [] i c h l = absurd (omega arith)
+column_at (a ∷ attributes) zero c h l = same_Some (column_of a) c h
+column_at (a ∷ attributes) (suc i) c h l = column_at attributes i c h (omega arith)
+
+pub column_among : (count : ℕ) (attributes : List Attribute) → AllByRecursion (IsAmongLabels count) attributes → (i : ℕ) (c : Column) → option_map column_of (slice_get attributes i) ≡ Some c → (c.low < count) × (c.high < count)
+column_among count [] all zero c h = absurd (none-some c h)
+column_among count [] all (suc i) c h = absurd (none-some c h)
+column_among count (a ∷ attributes) all zero c h = let same = same_Some (column_of a) c h in (subst (λ k. k.low < count) same all.0.low, subst (λ k. k.high < count) same all.0.high)
+column_among count (a ∷ attributes) all (suc i) c h = column_among count attributes all.1 i c h

@@ -21,7 +21,7 @@ pub table_of : (s : State) (rel : ℕ) (T : Table) → (with_relation s rel T).n
 table_of s rel T = cond-true (nat_eq rel rel) T (s.now.db rel) (eq-eqb rel rel refl)
 
 -- of two tables put there the second stands
-put_twice : (s : State) (rel : ℕ) (T U : Table) → with_relation (with_relation s rel T) rel U ≡ with_relation s rel U
+pub put_twice : (s : State) (rel : ℕ) (T U : Table) → with_relation (with_relation s rel T) rel U ≡ with_relation s rel U
 put_twice s rel T U = λ i. record s { now = record { db = λ r. by_test r (nat_eq r rel) i; audit = s.now.audit } }
   where
     by_test : (r : ℕ) (b : Bool) → cond b U (cond b T (s.now.db r)) ≡ cond b U (s.now.db r)

@@ -47,6 +47,5 @@ pub(crate) fn add_row<B: Base>(alloc: Global, base: &mut B, row: &Row) -> Result
         → OnOk result (B.state base.new ≡ with_relation (B.state base.old) row.now.rel (insert ((B.state base.old).now.db row.now.rel) row.now.place es)) }
 {
     let parts = made(base, parts_of(alloc, row))?;
-    base.add(row.rel, parts.node, &parts.cells)?;
-    Ok(())
+    base.add(row.rel, parts.node, &parts.cells)
 }

@@ -41,8 +41,7 @@ fn drop_above<B: Base>(
         → OnOk result (B.state base.new ≡ with_relation (B.state base.old) rel (retain_keys ((B.state base.old).now.db rel) (λ q. not (is_above (labels_of policy.now) place q)))) }
 {
     let order = made(base, downwards(alloc, policy, place.class))?;
-    drop_each(base, rel, place, &order)?;
-    Ok(())
+    drop_each(base, rel, place, &order)
 }
 
 /// Removes the tuple at a place and the entity's tuples above it.
@@ -108,6 +107,5 @@ pub fn delete<B: Base>(
         return Ok(Outcome::KeyNull);
     }
     let place = made(base, place_of(alloc, key, key_class, w))?;
-    let outcome = delete_at(alloc, base, policy, rel, place)?;
-    Ok(outcome)
+    delete_at(alloc, base, policy, rel, place)
 }

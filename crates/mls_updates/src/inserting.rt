@@ -51,7 +51,6 @@ fn insert_at<B: Base>(
 /// Adds a root of class `w` with these values, inside a change.
 ///
 /// `NotBegun` comes before any outcome. After `Store` or `Memory` the change has ended.
-#[tactic(auto, using(crate::proofs::CallLemmas::under_scheme))]
 pub fn insert<B: Base>(
     alloc: Global,
     base: &mut B,
@@ -85,6 +84,5 @@ pub fn insert<B: Base>(
         return Ok(Outcome::KeyNull);
     }
     let place = made(base, place_of(alloc, key, w, w))?;
-    let outcome = insert_at(alloc, base, policy, scheme, rel, place, values)?;
-    Ok(outcome)
+    insert_at(alloc, base, policy, scheme, rel, place, values)
 }

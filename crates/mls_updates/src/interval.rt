@@ -9,7 +9,6 @@ use mls_lattice::{LabelNo, Policy};
 use mls_scheme::{Attributes, Scheme, in_interval};
 
 /// Whether a class lies in the interval of each attribute.
-#[tactic(auto, using(crate::proofs::IntervalLemmas::interval_steps))]
 pub(crate) fn in_intervals(policy: &Policy, class: LabelNo, attributes: &Attributes) -> bool
     requires class { class < length policy.now.labels }
     requires among { AllByRecursion (IsAmongLabels (length policy.now.labels)) attributes.now }

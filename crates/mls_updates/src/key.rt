@@ -15,7 +15,6 @@ pub(crate) fn has_null(key: &[Option<Value>]) -> bool
 }
 
 /// The values of a key.
-#[tactic(auto, using(crate::proofs::KeyLemmas::key_steps))]
 fn values_of(alloc: Global, key: &[Option<Value>]) -> Result<Vec<Value>, AllocError>
     ensures { IfOk result (λ values. values.items ≡ filter_map (λ v. v) key.now) }
 {

@@ -9,7 +9,6 @@ use mls_lattice::{LabelNo, Policy};
 use std::alloc::{AllocError, Global};
 
 /// The place of the first label that is dominated by a new one, or the end.
-#[tactic(auto, using(crate::proofs::DownwardLemmas::place_steps))]
 fn place_in(policy: &Policy, order: &[LabelNo], label: LabelNo) -> usize
     requires label { label < length policy.now.labels }
     requires order { AllByRecursion (λ m. m < length policy.now.labels) order.now }

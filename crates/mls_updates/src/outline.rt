@@ -93,6 +93,5 @@ pub(crate) fn add_outline<B: Base>(
         → OnOk result (B.state base.new ≡ with_relation (B.state base.old) rel (insert ((B.state base.old).now.db rel) place es)) }
 {
     let row = made(base, outline_at(alloc, rel, place, sets, pattern))?;
-    add_row(alloc, base, &row)?;
-    Ok(())
+    add_row(alloc, base, &row)
 }

@@ -43,6 +43,5 @@ pub(crate) fn pattern_at<B: Base>(
     ensures same { B.is_clean base.new → OnOk result (B.state base.new ≡ B.state base.old) }
 {
     let fragment = base.fragment(rel, place.class)?;
-    let pattern = made(base, pattern_in(&fragment.nodes, place))?;
-    Ok(pattern)
+    made(base, pattern_in(&fragment.nodes, place))
 }

@@ -42,8 +42,7 @@ fn pattern_below<B: Base>(
     if !policy.dominates(w, place.class) {
         return Ok(None);
     }
-    let pattern = pattern_at(base, rel, place)?;
-    Ok(pattern)
+    pattern_at(base, rel, place)
 }
 
 /// Adds a tuple at a place: that of class `from`, of which the classes were found, with the named attributes new.
@@ -123,6 +122,5 @@ pub(crate) fn update_below<B: Base>(
     let from = place.class;
     let mut place = place;
     place.class = w;
-    let outcome = derive(alloc, base, policy, scheme, rel, place, from, sets, pattern)?;
-    Ok(outcome)
+    derive(alloc, base, policy, scheme, rel, place, from, sets, pattern)
 }

@@ -69,6 +69,5 @@ pub(crate) fn add_root<B: Base>(
         → OnOk result (B.state base.new ≡ with_relation (B.state base.old) rel (insert ((B.state base.old).now.db rel) place (root place.class values.now))) }
 {
     let row = made(base, root_at(alloc, rel, place, values))?;
-    add_row(alloc, base, &row)?;
-    Ok(())
+    add_row(alloc, base, &row)
 }

@@ -32,8 +32,7 @@ fn set_one<B: Base>(
         → OnOk result (B.state base.new ≡ with_relation (B.state base.old) rel (change (set_in place.now attr value.now) ((B.state base.old).now.db rel))) }
 {
     let value = made(base, copy_value(value))?;
-    base.set(rel, place, attr, value)?;
-    Ok(())
+    base.set(rel, place, attr, value)
 }
 
 /// Sets cells of the class of a place, the last one first: of two at one attribute the first stands.

@@ -23,7 +23,6 @@ use std::alloc::Global;
 /// Where `from` is `w` the elements of class `w` are changed in each tuple of the entity that has them. Else the entity
 /// gets a tuple of class `w`: that of class `from` with the named attributes new. Where an attribute is named twice
 /// its first value counts. `NotBegun` comes before any outcome. After `Store` or `Memory` the change has ended.
-#[tactic(auto, using(crate::proofs::CallLemmas::under_scheme))]
 pub fn update<B: Base>(
     alloc: Global,
     base: &mut B,
@@ -65,9 +64,7 @@ pub fn update<B: Base>(
     let scheme = schemes.scheme(rel);
     let place = made(base, place_of(alloc, key, key_class, from))?;
     if from == w {
-        let outcome = update_own(base, policy, rel, &place, sets)?;
-        return Ok(outcome);
+        return update_own(base, policy, rel, &place, sets);
     }
-    let outcome = update_below(alloc, base, policy, scheme, rel, w, place, sets)?;
-    Ok(outcome)
+    update_below(alloc, base, policy, scheme, rel, w, place, sets)
 }

@@ -1,11 +1,13 @@
-use Rattle.std.proofs.Common.{◌≡◌, ◌<◌, length, IfOk, sym, ap, subst}
+use Rattle.std.proofs.Common.{◌≡◌, ◌<◌, length, IfOk, sym, ap, ◌∙◌, subst}
+use Rattle.std.proofs.lemmas.Bool.{true≢false}
+use Rattle.std.proofs.lemmas.Result.{IfOk-weaker}
 use Rattle.mls_lattice.specs.Policy.{labels_of}
-use Rattle.mls_scheme.specs.Scheme.{IsScheme, scheme_of}
+use Rattle.mls_scheme.specs.Scheme.{Scheme, IsScheme, scheme_of}
 use Rattle.mls_scheme.specs.Spelling.{IsSpelledKey}
 use Rattle.mls_filterview.specs.Stored.{IsStored}
 use Rattle.mls_updates.specs.Writes.{Delete, place}
-use Rattle.mls_updates.specs.Calls.{IsDeleted}
-use Rattle.mls_updates.proofs.CallLemmas.{written_content}
+use Rattle.mls_updates.specs.Calls.{IsDeleted, IsWritten}
+use Rattle.mls_updates.proofs.CallLemmas.{written_content, served_not_begun, served_no_other}
 use Rattle.mls_updates.proofs.LeftLemmas.{delete_null, delete_left}
 use Rattle.mls_updates.proofs.SpellingLemmas.{key_spelled}
 use Rattle.mls_updates.proofs.deleting.delete.Goals as goal
@@ -46,16 +48,29 @@ returns-clause-done g c = λ clean.
     let scheme = scheme_of c.args.schemes.now c.args.rel in
     let s = g.B.Base.state c.args.base.now in
     let u = g.B.Base.state c.delete_at.new.base in
-    let o = c.in_ok-outcome.outcome in
     let p = place c.args.key.now c.args.key_class c.args.w in
     let here : c.in_ok-place.place ≡ p = subst (λ r. IfOk r (λ q. q ≡ p)) c.in_ok-place.ensures.value c.place_of.ensures in
     let same : g.B.Base.state c.made.new.base ≡ s = ap g.B.Base.state c.in_ok-place.ensures.same in
-    delete_left ls scheme c.args.rel c.args.w c.args.key.now s c.args.key_class u o (sym c.if-has_null.ensures)
+    IfOk-weaker c.delete_at.result (λ o. (x : Scheme) → IsDeleted ls x c.args.rel c.in_ok-place.place (g.B.Base.state c.made.new.base) u o) _
+    (λ o done. delete_left ls scheme c.args.rel c.args.w c.args.key.now s c.args.key_class u o (sym c.if-has_null.ensures)
     (subst (λ x. IsDeleted ls scheme c.args.rel p x u o) same
-    (subst (λ x. IsDeleted ls scheme c.args.rel x (g.B.Base.state c.made.new.base) u o) here (c.in_ok-outcome.ensures.done clean scheme)))
+    (subst (λ x. IsDeleted ls scheme c.args.rel x (g.B.Base.state c.made.new.base) u o) here (done scheme))))
+    (c.delete_at.ensures.done clean)
 
 pub returns-clause-kept : goal.returns-clause-kept
 returns-clause-kept g c = λ clean.
-    written_content (labels_of c.args.policy.now) c.label_count-count.ensures.distinct (scheme_of c.args.schemes.now c.args.rel) c.args.rel c.args.w (Delete c.args.key.now c.args.key_class)
-    (g.B.Base.state c.args.base.now) (g.B.Base.state c.delete_at.new.base) c.in_ok-outcome.outcome tt tt
-    (c.requires.stored (c.in_ok-place.ensures.call.clean (c.in_ok-outcome.ensures.call.clean clean))) (returns-clause-done g c clean)
+    let ls = labels_of c.args.policy.now in
+    let scheme = scheme_of c.args.schemes.now c.args.rel in
+    let wr = Delete c.args.key.now c.args.key_class in
+    let s = g.B.Base.state c.args.base.now in
+    let u = g.B.Base.state c.delete_at.new.base in
+    IfOk-weaker c.delete_at.result (IsWritten ls scheme c.args.rel c.args.w wr s u) _
+    (λ o. written_content ls c.label_count-count.ensures.distinct scheme c.args.rel c.args.w wr s u o tt tt
+    (c.requires.stored (c.in_ok-place.ensures.call.clean (c.delete_at.ensures.call.clean clean))))
+    (returns-clause-done g c clean)
+
+pub returns-clause-not_begun : goal.returns-clause-not_begun
+returns-clause-not_begun g c = (λ e. absurd (served_not_begun c.delete_at.result c.delete_at.ensures.served e), λ b. absurd (true≢false (c.if-not-is_begun.ensures ∙ b)))
+
+pub returns-clause-no_other : goal.returns-clause-no_other
+returns-clause-no_other g c = served_no_other c.delete_at.result c.delete_at.ensures.served

@@ -1,12 +1,14 @@
-use Rattle.std.proofs.Common.{◌≡◌, ◌<◌, length, IfOk, sym, ap, subst}
+use Rattle.std.proofs.Common.{◌≡◌, ◌<◌, length, IfOk, sym, ap, ◌∙◌, subst}
 use Rattle.std.proofs.lemmas.List.{length-map}
 use Rattle.std.proofs.lemmas.Slice.Zip.{AllZip-long}
+use Rattle.std.proofs.lemmas.Bool.{true≢false}
+use Rattle.std.proofs.lemmas.Result.{IfOk-weaker}
 use Rattle.mls_lattice.specs.Policy.{labels_of}
-use Rattle.mls_scheme.specs.Scheme.{Scheme, IsScheme, scheme_of}
+use Rattle.mls_scheme.specs.Scheme.{Scheme, IsScheme, IsUnder, scheme_of}
 use Rattle.mls_scheme.specs.Spelling.{IsSpelledKey}
 use Rattle.mls_updates.specs.Writes.{Insert, place}
-use Rattle.mls_updates.specs.Calls.{IsInserted}
-use Rattle.mls_updates.proofs.CallLemmas.{written_content}
+use Rattle.mls_updates.specs.Calls.{IsInserted, IsWritten}
+use Rattle.mls_updates.proofs.CallLemmas.{under_scheme, written_content, served_not_begun, served_no_other}
 use Rattle.mls_updates.proofs.LeftLemmas.{insert_null, insert_left}
 use Rattle.mls_updates.proofs.SpellingLemmas.{values_spelled, key_spelled}
 use Rattle.mls_updates.proofs.inserting.insert.Goals as goal
@@ -37,19 +39,36 @@ returns-clause-done g c = λ clean.
     let values = c.args.values.now in
     let s = g.B.Base.state c.args.base.now in
     let u = g.B.Base.state c.insert_at.new.base in
-    let o = c.in_ok-outcome.outcome in
     let p = place c.args.key.now w w in
     let here : c.in_ok-place.place ≡ p = subst (λ r. IfOk r (λ q. q ≡ p)) c.in_ok-place.ensures.value c.place_of.ensures in
     let same : g.B.Base.state c.made.new.base ≡ s = ap g.B.Base.state c.in_ok-place.ensures.same in
-    insert_left ls (scheme_of c.args.schemes.now c.args.rel) c.args.rel w c.args.key.now s values u o (sym c.if-has_null.ensures)
+    IfOk-weaker c.insert_at.result (IsInserted ls c.scheme-scheme.result.now c.args.rel c.in_ok-place.place values (g.B.Base.state c.made.new.base) u) _
+    (λ o done. insert_left ls (scheme_of c.args.schemes.now c.args.rel) c.args.rel w c.args.key.now s values u o (sym c.if-has_null.ensures)
     (subst (λ (x : Scheme). IsInserted ls x c.args.rel p values s u o) c.scheme-scheme.ensures.row
     (subst (λ x. IsInserted ls c.scheme-scheme.result.now c.args.rel p values x u o) same
-    (subst (λ x. IsInserted ls c.scheme-scheme.result.now c.args.rel x values (g.B.Base.state c.made.new.base) u o) here (c.in_ok-outcome.ensures.done clean))))
+    (subst (λ x. IsInserted ls c.scheme-scheme.result.now c.args.rel x values (g.B.Base.state c.made.new.base) u o) here done))))
+    (c.insert_at.ensures.done clean)
 
 pub returns-clause-kept : goal.returns-clause-kept
 returns-clause-kept g c = λ clean.
     let scheme = scheme_of c.args.schemes.now c.args.rel in
     let declared = subst (λ n. c.args.w < n) (sym (length-map c.args.policy.now.labels (λ l. l.value))) c.requires.label in
-    written_content (labels_of c.args.policy.now) c.label_count-count.ensures.distinct scheme c.args.rel c.args.w (Insert c.args.key.now c.args.values.now)
-    (g.B.Base.state c.args.base.now) (g.B.Base.state c.insert_at.new.base) c.in_ok-outcome.outcome
-    (declared, AllZip-long _ scheme.others c.args.values.now c.requires.kinds.1) c.requires.kinds (c.requires.stored (c.in_ok-place.ensures.call.clean (c.in_ok-outcome.ensures.call.clean clean))) (returns-clause-done g c clean)
+    let ls = labels_of c.args.policy.now in
+    let wr = Insert c.args.key.now c.args.values.now in
+    let s = g.B.Base.state c.args.base.now in
+    let u = g.B.Base.state c.insert_at.new.base in
+    IfOk-weaker c.insert_at.result (IsWritten ls scheme c.args.rel c.args.w wr s u) _
+    (λ o. written_content ls c.label_count-count.ensures.distinct scheme c.args.rel c.args.w wr s u o
+    (declared, AllZip-long _ scheme.others c.args.values.now c.requires.kinds.1) c.requires.kinds (c.requires.stored (c.in_ok-place.ensures.call.clean (c.insert_at.ensures.call.clean clean))))
+    (returns-clause-done g c clean)
+
+pub insert_at-requires-clause-under : goal.insert_at-requires-clause-under
+insert_at-requires-clause-under g c =
+    let count = length c.args.policy.now.labels in
+    subst (IsUnder count) (sym c.scheme-scheme.ensures.row) (under_scheme count c.args.schemes.now c.args.rel c.requires.under c.requires.relation)
+
+pub returns-clause-not_begun : goal.returns-clause-not_begun
+returns-clause-not_begun g c = (λ e. absurd (served_not_begun c.insert_at.result c.insert_at.ensures.served e), λ b. absurd (true≢false (c.if-not-is_begun.ensures ∙ b)))
+
+pub returns-clause-no_other : goal.returns-clause-no_other
+returns-clause-no_other g c = served_no_other c.insert_at.result c.insert_at.ensures.served

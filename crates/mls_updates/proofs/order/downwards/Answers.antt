@@ -1,9 +1,9 @@
-use Rattle.std.proofs.Common.{rules, ◌≡◌, ◌<◌, true, length, sym, ap, ◌∙◌, subst, arith}
+use Rattle.std.proofs.Common.{rules, ◌≡◌, ◌<◌, ◌≤◌, true, false, length, sym, ap, ◌∙◌, subst, arith}
 use Rattle.std.proofs.lemmas.List.{length-map}
 use Rattle.std.specs.List.{AllByRecursion, insert}
 use Rattle.mls_lattice.specs.Labels.{below}
 use Rattle.mls_lattice.specs.Policy.{labels_of}
-use Rattle.mls_updates.proofs.DownwardLemmas.{downward_put, downward_above, insert_all, before}
+use Rattle.mls_updates.proofs.DownwardLemmas.{downward_put, downward_skip, downward_above, insert_all, before}
 use Rattle.mls_updates.proofs.order.downwards.Goals as goal
 
 pub loop-number-preserved : goal.loop-number-preserved
@@ -28,3 +28,32 @@ returns c =
     (let l = c.loop-number-test.false in let m = c.label_count-number-end.ensures.count in omega (arith, n, l, m))
     (let l = c.loop-number.auto.number-end in let m = c.label_count-number-end.ensures.count in omega (arith, n, l, m))
     c.loop-number.invariant.0
+
+pub new-label-requires : goal.new-label-requires
+new-label-requires c = tt
+
+pub overflow_cast-number : goal.overflow_cast-number
+overflow_cast-number c = let l = c.loop-number-test.true in let m = c.label_count-number-end.ensures.count in let few = c.label_count-number-end.ensures.few in omega (arith, l, m, few)
+
+pub dominates-requires-clause-high : goal.dominates-requires-clause-high
+dominates-requires-clause-high c =
+    subst (λ m. m < length c.args.policy.now.labels) (sym c.new-label.ensures) (let l = c.loop-number-test.true in let m = c.label_count-number-end.ensures.count in omega (arith, l, m))
+
+pub dominates-requires-clause-low : goal.dominates-requires-clause-low
+dominates-requires-clause-low c = c.requires
+
+pub loop-number-preserved-then-not-dominates : goal.loop-number-preserved-then-not-dominates
+loop-number-preserved-then-not-dominates c =
+    let ls = labels_of c.args.policy.now in
+    let not_above : below ls c.args.w c.loop-number.number ≡ false = ap (below ls c.args.w) (sym c.new-label.ensures) ∙ sym c.dominates.ensures.order ∙ c.if-not-dominates.true in
+    (c.loop-number.invariant.0 ∙ sym (downward_skip ls c.args.w c.loop-number.number not_above), c.loop-number.invariant.1)
+
+pub place_in-place-requires-clause-label : goal.place_in-place-requires-clause-label
+place_in-place-requires-clause-label c =
+    subst (λ m. m < length c.args.policy.now.labels) (sym c.new-label.ensures) (let l = c.loop-number-test.true in let m = c.label_count-number-end.ensures.count in omega (arith, l, m))
+
+pub place_in-place-requires-clause-order : goal.place_in-place-requires-clause-order
+place_in-place-requires-clause-order c = subst (AllByRecursion (λ m. m < length c.args.policy.now.labels)) (sym c.deref.ensures.value) c.loop-number.invariant.1
+
+pub insert-requires : goal.insert-requires
+insert-requires c = subst (λ n. c.place_in-place.result ≤ n) c.deref.ensures.len c.place_in-place.ensures.within

@@ -2,6 +2,7 @@ use Rattle.std.proofs.Common.{◌≡◌, IfOk, sym, ap, ◌∙◌, subst}
 use Rattle.std.specs.Prelude.{IfSome}
 use Rattle.std.specs.List.{AllByRecursion}
 use Rattle.std.specs.FinMap.{insert}
+use Rattle.std.proofs.lemmas.Result.{on_ok_weaker}
 use Rattle.mls_scheme.specs.Spelling.{HasSpelling}
 use Rattle.mls_filterview.specs.Content.{with_relation}
 use Rattle.mls_filterview.specs.Fragment.{IsMadeOf, node_of, cells_of}
@@ -34,5 +35,5 @@ returns-clause-done g c = λ clean es is.
     let row : c.in_ok-row.row ≡ it = subst (λ r. IfOk r (λ x. x ≡ it)) c.in_ok-row.ensures.value c.outline_at.ensures in
     let same : g.B.Base.state c.made.new.base ≡ g.B.Base.state c.args.base.now = ap g.B.Base.state c.in_ok-row.ensures.same in
     let here = subst (λ x. IsMadeOf (x.now.db c.args.rel) (node_of (entry_of it)) (cells_of (entry_of it)) es) (sym same) is in
-    c.in_ok-add_row.ensures.done clean es (subst (λ (r : Row). IsMadeOf ((g.B.Base.state c.made.new.base).now.db r.rel) (node_of (entry_of r)) (cells_of (entry_of r)) es) (sym row) here)
-    ∙ (λ i. with_relation (same i) (row i).rel (insert ((same i).now.db (row i).rel) (row i).place es))
+    on_ok_weaker c.add_row.result (λ e. e ∙ (λ i. with_relation (same i) (row i).rel (insert ((same i).now.db (row i).rel) (row i).place es)))
+    (c.add_row.ensures.done clean es (subst (λ (r : Row). IsMadeOf ((g.B.Base.state c.made.new.base).now.db r.rel) (node_of (entry_of r)) (cells_of (entry_of r)) es) (sym row) here))

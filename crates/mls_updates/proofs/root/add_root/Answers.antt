@@ -2,6 +2,7 @@ use Rattle.std.proofs.Common.{◌≡◌, IfOk, sym, ap, ◌∙◌, subst}
 use Rattle.std.specs.Prelude.{IfSome}
 use Rattle.std.specs.List.{AllByRecursion}
 use Rattle.std.specs.FinMap.{insert}
+use Rattle.std.proofs.lemmas.Result.{on_ok_weaker}
 use Rattle.mls_scheme.specs.Spelling.{HasSpelling}
 use Rattle.mls_filterview.specs.Content.{with_relation}
 use Rattle.mls_filterview.specs.Fragment.{IsMadeOf, node_of, cells_of}
@@ -32,5 +33,5 @@ returns-clause-done g c = λ clean.
     let same : g.B.Base.state c.made.new.base ≡ g.B.Base.state c.args.base.now = ap g.B.Base.state c.in_ok-row.ensures.same in
     let t = g.B.Base.state c.made.new.base in
     let es = root c.args.place.class c.args.values.now in
-    c.in_ok-add_row.ensures.done clean es (subst (λ (r : Row). IsMadeOf (t.now.db r.rel) (node_of (entry_of r)) (cells_of (entry_of r)) es) (sym row) (root_made (t.now.db c.args.rel) c.args.place c.args.values.now))
-    ∙ (λ i. with_relation (same i) (row i).rel (insert ((same i).now.db (row i).rel) (row i).place es))
+    on_ok_weaker c.add_row.result (λ e. e ∙ (λ i. with_relation (same i) (row i).rel (insert ((same i).now.db (row i).rel) (row i).place es)))
+    (c.add_row.ensures.done clean es (subst (λ (r : Row). IsMadeOf (t.now.db r.rel) (node_of (entry_of r)) (cells_of (entry_of r)) es) (sym row) (root_made (t.now.db c.args.rel) c.args.place c.args.values.now)))

@@ -3,13 +3,14 @@ use Rattle.std.specs.List.{AllByRecursion}
 use Rattle.std.specs.FinMap.{get}
 use Rattle.std.proofs.lemmas.Bool.{eqb-true, eq-eqb, true≢false}
 use Rattle.std.proofs.lemmas.List.{length-map}
+use Rattle.std.proofs.lemmas.Result.{IfOk-weaker}
 use Rattle.mls_lattice.specs.Policy.{labels_of}
-use Rattle.mls_scheme.specs.Scheme.{Scheme, IsScheme, scheme_of}
+use Rattle.mls_scheme.specs.Scheme.{Scheme, IsScheme, IsUnder, scheme_of}
 use Rattle.mls_scheme.specs.Spelling.{IsSpelledKey}
 use Rattle.mls_filterview.specs.Stored.{IsStored, with_class}
 use Rattle.mls_updates.specs.Writes.{Update, place}
-use Rattle.mls_updates.specs.Calls.{IsChanged, IsDerived}
-use Rattle.mls_updates.proofs.CallLemmas.{written_content}
+use Rattle.mls_updates.specs.Calls.{IsChanged, IsDerived, IsWritten}
+use Rattle.mls_updates.proofs.CallLemmas.{under_scheme, written_content, served_not_begun, served_no_other}
 use Rattle.mls_updates.proofs.LeftLemmas.{update_null, own_left, below_left}
 use Rattle.mls_updates.proofs.SpellingLemmas.{key_spelled, sets_spelled, sets_values}
 use Rattle.mls_updates.proofs.updating.update.Goals as goal
@@ -74,22 +75,29 @@ returns-then-eq-clause-done g c = λ clean.
     let sets = c.args.sets.now in
     let s = g.B.Base.state c.args.base.now in
     let u = g.B.Base.state c.update_own.new.base in
-    let o = c.in_ok-outcome.outcome in
     let e = eqb-true c.args.from c.args.w (sym c.if-eq.ensures) in
     let q = place c.args.key.now c.args.key_class c.args.from in
     let here : c.in_ok-place.place ≡ q = subst (λ r. IfOk r (λ x. x ≡ q)) c.in_ok-place.ensures.value c.place_of.ensures in
     let there : c.in_ok-place.place ≡ place c.args.key.now kc c.args.w = here ∙ ap (place c.args.key.now kc) e in
     let same : g.B.Base.state c.made.new.base ≡ s = ap g.B.Base.state c.in_ok-place.ensures.same in
-    own_left ls scheme c.args.rel c.args.w c.args.key.now s kc sets c.args.from u o e (sym c.if-has_null.ensures)
+    IfOk-weaker c.update_own.result (λ o. (x : Scheme) → IsChanged ls x c.args.rel c.in_ok-place.place sets (g.B.Base.state c.made.new.base) u o) _
+    (λ o done. own_left ls scheme c.args.rel c.args.w c.args.key.now s kc sets c.args.from u o e (sym c.if-has_null.ensures)
     (subst (λ x. IsChanged ls scheme c.args.rel (place c.args.key.now kc c.args.w) sets x u o) same
-    (subst (λ x. IsChanged ls scheme c.args.rel x sets (g.B.Base.state c.made.new.base) u o) there (c.in_ok-outcome.ensures.done clean scheme)))
+    (subst (λ x. IsChanged ls scheme c.args.rel x sets (g.B.Base.state c.made.new.base) u o) there (done scheme))))
+    (c.update_own.ensures.done clean)
 
 pub returns-then-eq-clause-kept : goal.returns-then-eq-clause-kept
 returns-then-eq-clause-kept g c = λ clean.
     let declared = subst (λ n. c.args.w < n) (sym (length-map c.args.policy.now.labels (λ l. l.value))) c.requires.label in
-    written_content (labels_of c.args.policy.now) c.label_count-count.ensures.distinct (scheme_of c.args.schemes.now c.args.rel) c.args.rel c.args.w
-    (Update c.args.key.now c.args.key_class c.args.from c.args.sets.now) (g.B.Base.state c.args.base.now) (g.B.Base.state c.update_own.new.base) c.in_ok-outcome.outcome
-    (declared, c.requires.named, c.requires.fits) c.requires.kinds (c.requires.stored (c.in_ok-place.ensures.call.clean (c.in_ok-outcome.ensures.call.clean clean))) (returns-then-eq-clause-done g c clean)
+    let ls = labels_of c.args.policy.now in
+    let scheme = scheme_of c.args.schemes.now c.args.rel in
+    let wr = Update c.args.key.now c.args.key_class c.args.from c.args.sets.now in
+    let s = g.B.Base.state c.args.base.now in
+    let u = g.B.Base.state c.update_own.new.base in
+    IfOk-weaker c.update_own.result (IsWritten ls scheme c.args.rel c.args.w wr s u) _
+    (λ o. written_content ls c.label_count-count.ensures.distinct scheme c.args.rel c.args.w wr s u o
+    (declared, c.requires.named, c.requires.fits) c.requires.kinds (c.requires.stored (c.in_ok-place.ensures.call.clean (c.update_own.ensures.call.clean clean))))
+    (returns-then-eq-clause-done g c clean)
 
 pub update_below-requires-clause-other : goal.update_below-requires-clause-other
 update_below-requires-clause-other g c =
@@ -118,18 +126,42 @@ returns-clause-done g c = λ clean.
     let sets = c.args.sets.now in
     let s = g.B.Base.state c.args.base.now in
     let u = g.B.Base.state c.update_below.new.base in
-    let o = c.in_ok-outcome-2.outcome in
     let q = place c.args.key.now c.args.key_class c.args.from in
     let here : c.in_ok-place.place ≡ q = subst (λ r. IfOk r (λ x. x ≡ q)) c.in_ok-place.ensures.value c.place_of.ensures in
     let same : g.B.Base.state c.made.new.base ≡ s = ap g.B.Base.state c.in_ok-place.ensures.same in
-    below_left ls scheme c.args.rel w c.args.key.now s kc sets c.args.from u o (λ e. true≢false (sym (eq-eqb c.args.from w e) ∙ sym c.if-eq.ensures)) (sym c.if-has_null.ensures)
+    IfOk-weaker c.update_below.result (IsDerived ls c.scheme-scheme.result.now c.args.rel (with_class c.in_ok-place.place w) c.in_ok-place.place.class sets (g.B.Base.state c.made.new.base) u) _
+    (λ o done. below_left ls scheme c.args.rel w c.args.key.now s kc sets c.args.from u o (λ e. true≢false (sym (eq-eqb c.args.from w e) ∙ sym c.if-eq.ensures)) (sym c.if-has_null.ensures)
     (subst (λ (x : Scheme). IsDerived ls x c.args.rel (with_class q w) c.args.from sets s u o) c.scheme-scheme.ensures.row
     (subst (λ x. IsDerived ls c.scheme-scheme.result.now c.args.rel (with_class q w) c.args.from sets x u o) same
-    (subst (λ x. IsDerived ls c.scheme-scheme.result.now c.args.rel (with_class x w) x.class sets (g.B.Base.state c.made.new.base) u o) here (c.in_ok-outcome-2.ensures.done clean))))
+    (subst (λ x. IsDerived ls c.scheme-scheme.result.now c.args.rel (with_class x w) x.class sets (g.B.Base.state c.made.new.base) u o) here done))))
+    (c.update_below.ensures.done clean)
 
 pub returns-clause-kept : goal.returns-clause-kept
 returns-clause-kept g c = λ clean.
     let declared = subst (λ n. c.args.w < n) (sym (length-map c.args.policy.now.labels (λ l. l.value))) c.requires.label in
-    written_content (labels_of c.args.policy.now) c.label_count-count.ensures.distinct (scheme_of c.args.schemes.now c.args.rel) c.args.rel c.args.w
-    (Update c.args.key.now c.args.key_class c.args.from c.args.sets.now) (g.B.Base.state c.args.base.now) (g.B.Base.state c.update_below.new.base) c.in_ok-outcome-2.outcome
-    (declared, c.requires.named, c.requires.fits) c.requires.kinds (c.requires.stored (c.in_ok-place.ensures.call.clean (c.in_ok-outcome-2.ensures.call.clean clean))) (returns-clause-done g c clean)
+    let ls = labels_of c.args.policy.now in
+    let scheme = scheme_of c.args.schemes.now c.args.rel in
+    let wr = Update c.args.key.now c.args.key_class c.args.from c.args.sets.now in
+    let s = g.B.Base.state c.args.base.now in
+    let u = g.B.Base.state c.update_below.new.base in
+    IfOk-weaker c.update_below.result (IsWritten ls scheme c.args.rel c.args.w wr s u) _
+    (λ o. written_content ls c.label_count-count.ensures.distinct scheme c.args.rel c.args.w wr s u o
+    (declared, c.requires.named, c.requires.fits) c.requires.kinds (c.requires.stored (c.in_ok-place.ensures.call.clean (c.update_below.ensures.call.clean clean))))
+    (returns-clause-done g c clean)
+
+pub update_below-requires-clause-under : goal.update_below-requires-clause-under
+update_below-requires-clause-under g c =
+    let count = length c.args.policy.now.labels in
+    subst (IsUnder count) (sym c.scheme-scheme.ensures.row) (under_scheme count c.args.schemes.now c.args.rel c.requires.under c.requires.relation)
+
+pub returns-then-eq-clause-not_begun : goal.returns-then-eq-clause-not_begun
+returns-then-eq-clause-not_begun g c = (λ e. absurd (served_not_begun c.update_own.result c.update_own.ensures.served e), λ b. absurd (true≢false (c.if-not-is_begun.ensures ∙ b)))
+
+pub returns-then-eq-clause-no_other : goal.returns-then-eq-clause-no_other
+returns-then-eq-clause-no_other g c = served_no_other c.update_own.result c.update_own.ensures.served
+
+pub returns-clause-not_begun : goal.returns-clause-not_begun
+returns-clause-not_begun g c = (λ e. absurd (served_not_begun c.update_below.result c.update_below.ensures.served e), λ b. absurd (true≢false (c.if-not-is_begun.ensures ∙ b)))
+
+pub returns-clause-no_other : goal.returns-clause-no_other
+returns-clause-no_other g c = served_no_other c.update_below.result c.update_below.ensures.served

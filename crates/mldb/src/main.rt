@@ -3,8 +3,9 @@
 
 mod machine;
 
-use crate::machine::Machine;
+use crate::machine::{FilesOf, Machine};
 use mls_command::{Usage, act};
+use sqlite::{Start, Unknown};
 use std::io::ErrorKind;
 use std::process::ExitCode;
 
@@ -17,16 +18,21 @@ fn words_of(rt: &HostRuntime) -> Result<Vec<String>, Usage> {
     }
 }
 
-fn run(rt: &HostRuntime) -> Result<u8, Usage> {
+/// Does what the words ask for, whatever the files of a store held.
+fn run<F: Start>(rt: &HostRuntime, start: F) -> Result<u8, Usage> {
     let words = words_of(rt)?;
     let words: Vec<&str> = words.iter().map(|word| word.as_str()).collect(rt.alloc())?;
-    let host = Machine::new(rt);
+    let stores = FilesOf {
+        rt,
+        start: Some(start),
+    };
+    let mut host = Machine::new(rt, stores);
     let (mut out, mut err) = (rt.stdout(), rt.stderr());
-    Ok(act(rt.alloc(), &words, &host, &mut out, &mut err))
+    Ok(act(rt.alloc(), &words, &mut host, &mut out, &mut err))
 }
 
 fn main(rt: HostRuntime) -> ExitCode {
-    match run(&rt) {
+    match run(&rt, Unknown) {
         Ok(status) => ExitCode::from(status),
         Err(usage) => {
             // A failure of standard error changes nothing.

@@ -2,6 +2,7 @@
 ghost use Rattle.std.specs.Prelude.{◌≡◌, ◌≤◌, length, IfOk};
 ghost use Rattle.mls_scheme.specs.Scheme.{AreUnder};
 ghost use Rattle.mls_command.specs.declared.ending.Ending.TheVariants.{Well, Refused};
+ghost use Rattle.mls_command.specs.Running.{IsRunOver};
 ghost use Rattle.mls_command.specs.Acting.{IsTaskDone, IsDoneUnder, IsDoneBy, IsDone, IsAnswered};
 
 use crate::certifying::certify_files;
@@ -21,7 +22,7 @@ use std::io::Write;
 /// Does a task under a policy and schemes.
 fn perform_task<H: Host, W: Write, E: Write>(
     alloc: Global,
-    host: &H,
+    host: &mut H,
     policy: &Policy,
     schemes: &Schemes,
     task: Task,
@@ -29,7 +30,7 @@ fn perform_task<H: Host, W: Write, E: Write>(
     err: &mut E,
 ) -> Result<Ending, Refusal>
     requires { AreUnder (length policy.now.labels) schemes.now }
-    ensures { IfOk result (IsTaskDone (H.gives host.now) policy.now schemes.now task.entry (W.contents out.old) (W.contents out.new)) }
+    ensures { IfOk result (IsTaskDone (H.gives host.old) (IsRunOver (H.keeps host.old) (H.keeps host.new) (H.is_honest host.new)) policy.now schemes.now task.entry (W.contents out.old) (W.contents out.new)) }
 {
     match task {
         Task::ShowPolicy => show_policy(alloc, policy, schemes, out)?,
@@ -58,14 +59,14 @@ fn perform_task<H: Host, W: Write, E: Write>(
 /// Does a task under a policy and the schemes of a file.
 fn perform_under<H: Host, W: Write, E: Write>(
     alloc: Global,
-    host: &H,
+    host: &mut H,
     policy: &Policy,
     schemes: &str,
     task: Task,
     out: &mut W,
     err: &mut E,
 ) -> Result<Ending, Refusal>
-    ensures { IfOk result (IsDoneUnder (H.gives host.now) policy.now schemes.now task.entry (W.contents out.old) (W.contents out.new)) }
+    ensures { IfOk result (IsDoneUnder (H.gives host.old) (IsRunOver (H.keeps host.old) (H.keeps host.new) (H.is_honest host.new)) policy.now schemes.now task.entry (W.contents out.old) (W.contents out.new)) }
 {
     let schemes = schemes_of(alloc, host, policy, schemes)?;
     perform_task(alloc, host, policy, &schemes, task, out, err)
@@ -74,14 +75,14 @@ fn perform_under<H: Host, W: Write, E: Write>(
 /// Does a task under the policy of a file and the schemes of another.
 fn perform_by<H: Host, W: Write, E: Write>(
     alloc: Global,
-    host: &H,
+    host: &mut H,
     policy: &str,
     schemes: &str,
     task: Task,
     out: &mut W,
     err: &mut E,
 ) -> Result<Ending, Refusal>
-    ensures { IfOk result (IsDoneBy (H.gives host.now) policy.now schemes.now task.entry (W.contents out.old) (W.contents out.new)) }
+    ensures { IfOk result (IsDoneBy (H.gives host.old) (IsRunOver (H.keeps host.old) (H.keeps host.new) (H.is_honest host.new)) policy.now schemes.now task.entry (W.contents out.old) (W.contents out.new)) }
 {
     let policy = policy_of(alloc, host, policy)?;
     perform_under(alloc, host, &policy, schemes, task, out, err)
@@ -91,11 +92,11 @@ fn perform_by<H: Host, W: Write, E: Write>(
 fn perform<H: Host, W: Write, E: Write>(
     alloc: Global,
     job: Job,
-    host: &H,
+    host: &mut H,
     out: &mut W,
     err: &mut E,
 ) -> Result<Ending, Refusal>
-    ensures { IfOk result (IsDone (H.gives host.now) job.entry (W.contents out.old) (W.contents out.new)) }
+    ensures { IfOk result (IsDone (H.gives host.old) (IsRunOver (H.keeps host.old) (H.keeps host.new) (H.is_honest host.new)) job.entry (W.contents out.old) (W.contents out.new)) }
 {
     match job {
         Job::Samples => {
@@ -114,13 +115,13 @@ fn perform<H: Host, W: Write, E: Write>(
 fn finish<H: Host, W: Write, E: Write>(
     alloc: Global,
     job: Job,
-    host: &H,
+    host: &mut H,
     out: &mut W,
     err: &mut E,
 ) -> u8
     ensures status { result ≤ 3 }
-    ensures well { result ≡ 0 → IsDone (H.gives host.now) job.entry (W.contents out.old) (W.contents out.new) Well }
-    ensures refused { result ≡ 1 → IsDone (H.gives host.now) job.entry (W.contents out.old) (W.contents out.new) Refused }
+    ensures well { result ≡ 0 → IsDone (H.gives host.old) (IsRunOver (H.keeps host.old) (H.keeps host.new) (H.is_honest host.new)) job.entry (W.contents out.old) (W.contents out.new) Well }
+    ensures refused { result ≡ 1 → IsDone (H.gives host.old) (IsRunOver (H.keeps host.old) (H.keeps host.new) (H.is_honest host.new)) job.entry (W.contents out.old) (W.contents out.new) Refused }
 {
     match perform(alloc, job, host, out, err) {
         Ok(Ending::Well) => 0,
@@ -135,20 +136,20 @@ fn finish<H: Host, W: Write, E: Write>(
 
 /// Does what the words ask for, and answers the exit status: 0 all well, 1 a transaction has no certificate or none that holds, 2 an
 /// input or the command line was refused, 3 store, writing or memory. Files are read in the order policy, schemes, transactions,
-/// certificates, script, and nothing runs before all were accepted.
+/// certificates, script, store, and nothing runs before all were accepted.
 ///
 /// A run that ends well passes no information down but what its calls release.
 pub fn act<H: Host, W: Write, E: Write>(
     alloc: Global,
     words: &[&str],
-    host: &H,
+    host: &mut H,
     out: &mut W,
     err: &mut E,
 ) -> u8
     ensures status { result ≤ 3 }
     // What the words ask for is done, by what the host gives.
-    ensures well { result ≡ 0 → IsAnswered (H.gives host.now) (length words.now) (W.contents out.old) (W.contents out.new) Well }
-    ensures refused { result ≡ 1 → IsAnswered (H.gives host.now) (length words.now) (W.contents out.old) (W.contents out.new) Refused }
+    ensures well { result ≡ 0 → IsAnswered (H.gives host.old) (IsRunOver (H.keeps host.old) (H.keeps host.new) (H.is_honest host.new)) (length words.now) (W.contents out.old) (W.contents out.new) Well }
+    ensures refused { result ≡ 1 → IsAnswered (H.gives host.old) (IsRunOver (H.keeps host.old) (H.keeps host.new) (H.is_honest host.new)) (length words.now) (W.contents out.old) (W.contents out.new) Refused }
 {
     match job_of(alloc, words) {
         Ok(job) => finish(alloc, job, host, out, err),

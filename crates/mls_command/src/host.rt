@@ -1,6 +1,13 @@
 //! What a command asks of the machine that it runs on.
-ghost use Rattle.std.specs.Prelude.{◌≤◌, ℕ, List, Option, Some, None, length, IfOk};
+ghost use Rattle.std.specs.Prelude.{◌≡◌, ◌≤◌, ℕ, false, List, Option, Some, None, length, IfOk};
+ghost use Rattle.mls_scheme.specs.Scheme.{AreUnder};
+ghost use Rattle.mls_filterview.specs.Content.{Content};
+ghost use Rattle.mls_fragments.specs.Finding.{IsSoundContent};
 
+use mls_filterview::Base;
+use mls_fragments::OpenFault;
+use mls_lattice::Policy;
+use mls_scheme::Schemes;
 use std::alloc::Global;
 use std::io::{ErrorKind, Read};
 
@@ -15,11 +22,19 @@ pub enum HostFault {
     Memory,
 }
 
-/// Where inputs come from.
+/// Where inputs come from, and where stores are.
 ///
-/// Contracts see which bytes a host gives for the file at a path, and, with no path, for the standard input.
+/// Contracts see which bytes a host gives for the file at a path, and, with no path, for the standard input; which content the
+/// store at a path keeps; and whether the stores that it took back give what was written to them.
 pub trait Host {
     ghost gives: { Self → Option (List ℕ) → List ℕ → Type 0 };
+
+    ghost keeps: { Self → List ℕ → Content → Type 0 };
+
+    ghost is_honest: { Self → Type 0 };
+
+    /// Where the content of a store is worked on.
+    type Store: Base;
 
     /// The bytes of a file, which a path names.
     fn file(&self, alloc: Global, path: &str) -> Result<Vec<u8>, HostFault>
@@ -28,6 +43,25 @@ pub trait Host {
     /// The bytes of the standard input.
     fn input(&self, alloc: Global) -> Result<Vec<u8>, HostFault>
         ensures { IfOk result (λ bytes. gives self.now None bytes.items) };
+
+    /// Opens the store at a path, which is made where there is none.
+    fn store(
+        &mut self,
+        alloc: Global,
+        path: &str,
+        policy: &Policy,
+        schemes: &Schemes,
+    ) -> Result<Self::Store, OpenFault>
+        requires under { AreUnder (length policy.now.labels) schemes.now }
+        ensures idle { IfOk result (λ b. (Self.Store.Base.state b).begun ≡ false) }
+        ensures sound { IfOk result (λ b. IsSoundContent policy.now schemes.now (Self.Store.Base.state b).now) }
+        ensures kept { IfOk result (λ b. Self.Store.Base.is_clean b → keeps self.old path.now (Self.Store.Base.state b).now) };
+
+    /// Takes the store at a path back, with what a run left in it.
+    fn keep(&mut self, path: &str, store: Self::Store)
+        requires idle { (Self.Store.Base.state store).begun ≡ false }
+        ensures honest { is_honest self.new → Self.Store.Base.is_clean store }
+        ensures kept { is_honest self.new → keeps self.new path.now (Self.Store.Base.state store).now };
 }
 
 /// All bytes of a reader, where they are at most `MOST_BYTES`.

@@ -56,6 +56,12 @@ const SCRIPT: Argument = Argument {
     is_option: false,
 };
 
+const STORE: Argument = Argument {
+    name: "store",
+    help: "The database, which the run goes on with; without it the run begins with an empty one, in memory",
+    is_option: true,
+};
+
 const STORED_TRANSACTIONS: Argument = Argument {
     name: "transactions",
     help: "The stored transactions, which the script can call",
@@ -82,6 +88,7 @@ static SUBCOMMANDS: [Subcommand; 4] = [
         name: "run",
         about: "Runs a script, and prints a line for each reply",
         arguments: &[
+            STORE,
             STORED_TRANSACTIONS,
             STORED_CERTIFICATES,
             POLICY,
@@ -106,9 +113,10 @@ static SUBCOMMANDS: [Subcommand; 4] = [
     },
 ];
 
-/// The files of a run; transactions and certificates where they are given.
+/// The files of a run; the store, transactions and certificates where they are given.
 #[derive(Clone, Copy)]
 pub struct RunFiles<'a> {
+    pub store: Option<&'a str>,
     pub transactions: Option<&'a str>,
     pub certificates: Option<&'a str>,
     pub script: &'a str,
@@ -194,6 +202,7 @@ fn no_command(alloc: Global) -> Usage {
 
 fn run_files<'a>(run: &ArgMatches<'a>) -> Option<RunFiles<'a>> {
     Some(RunFiles {
+        store: run.get_str("store"),
         transactions: run.get_str("transactions"),
         certificates: run.get_str("certificates"),
         script: run.get_str("SCRIPT")?,

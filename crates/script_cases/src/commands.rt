@@ -4,6 +4,7 @@ use crate::elsewhere::{Ran, told_by};
 use crate::narrow::Narrow;
 use case_tables::{Case, Told, joined, text_of, unfolded};
 use mls_command::act;
+use sqlite::{Connection, MemStore};
 use std::rt::Files;
 
 /// What a command wrote, on standard output and standard error, and its status.
@@ -14,6 +15,26 @@ pub struct Written {
     pub status: u8,
 }
 
+/// What a command writes with a script, which is its standard input too, over the store that the last run left, and what it leaves.
+pub fn written_over<R: Files + AllocGlobal>(
+    rt: &R,
+    words: &[&str],
+    script: &[u8],
+    out: Narrow,
+    left: Option<Connection<MemStore>>,
+) -> (Written, Option<Connection<MemStore>>) {
+    let mut out = out;
+    let mut err = Vec::new(rt.alloc());
+    let mut desk = Desk { rt, script, left };
+    let status = act(rt.alloc(), words, &mut desk, &mut out, &mut err);
+    let written = Written {
+        out: out.bytes,
+        err,
+        status,
+    };
+    (written, desk.left)
+}
+
 /// What a command writes with a script, which is its standard input too.
 pub fn written_by<R: Files + AllocGlobal>(
     rt: &R,
@@ -21,19 +42,11 @@ pub fn written_by<R: Files + AllocGlobal>(
     script: &[u8],
     out: Narrow,
 ) -> Written {
-    let mut out = out;
-    let mut err = Vec::new(rt.alloc());
-    let desk = Desk { rt, script };
-    let status = act(rt.alloc(), words, &desk, &mut out, &mut err);
-    Written {
-        out: out.bytes,
-        err,
-        status,
-    }
+    written_over(rt, words, script, out, None).0
 }
 
 /// Tells the status where it is not 0, standard error, and standard output.
-fn tell_written(written: &Written, out: &mut Told) {
+pub fn tell_written(written: &Written, out: &mut Told) {
     if written.status != 0 {
         out.push("  status ");
         out.push_count(usize::from(written.status));

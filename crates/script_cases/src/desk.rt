@@ -1,5 +1,9 @@
-//! A machine whose files are those of `data/`, but for a script and two files of many bytes.
+//! A machine whose files are those of `data/`, but for a script and two files of many bytes, and whose stores are in memory.
 use mls_command::{Host, HostFault, MOST_BYTES, read_whole};
+use mls_fragments::{OpenFault, SqlBase};
+use mls_lattice::Policy;
+use mls_scheme::Schemes;
+use sqlite::{Connection, MemStore};
 use std::alloc::Global;
 use std::fs;
 use std::rt::Files;
@@ -13,17 +17,54 @@ fn empty_lines(alloc: Global, count: usize) -> Result<Vec<u8>, HostFault> {
     }
 }
 
+/// A store that has a table of somebody else's.
+fn store_with_table(alloc: Global) -> Result<Connection<MemStore>, OpenFault> {
+    let mut conn = Connection::open_in_memory(alloc)?;
+    match conn.execute_batch("CREATE TABLE t (a)") {
+        Ok(()) => Ok(conn),
+        Err(_) => Err(OpenFault::Store),
+    }
+}
+
 /// `script` is the script, which is the standard input too; `full` has as many bytes as a file may have, `long` one more, and
-/// `memory` asks for more memory than there is.
+/// `memory` asks for more memory than there is. Of the stores `new` is one, `left` is what the last run left, `table` has a
+/// table of somebody else's, and no other can be opened.
 #[derive(Drop)]
 pub struct Desk<'a, R: Files> {
     pub rt: &'a R,
     pub script: &'a [u8],
+    pub left: Option<Connection<MemStore>>,
+}
+
+impl<'a, R: Files> Desk<'a, R> {
+    /// The connection to a store, which is not inside a transaction.
+    fn connection(
+        &mut self,
+        alloc: Global,
+        path: &str,
+    ) -> Result<Connection<MemStore>, OpenFault> {
+        match path {
+            "new" => Ok(Connection::open_in_memory(alloc)?),
+            "table" => store_with_table(alloc),
+            "left" => self.left.take().ok_or(OpenFault::Store),
+            _ => Err(OpenFault::Store),
+        }
+    }
 }
 
 impl<'a, R: Files> Host for Desk<'a, R> {
-    // Any bytes: what a file has is known to nobody before it is read.
+    ghost use Rattle.std.specs.Option.{IfSome};
+    ghost use Rattle.sqlite.specs.State.{HasCleanDisk};
+    ghost use Rattle.sqlite.specs.Held.{state};
+
+    // Any bytes and any content: what a file has is known to nobody before it is read.
     ghost gives = { λ _ _ _. Unit {0} };
+
+    ghost keeps = { λ _ _ _. Unit {0} };
+
+    ghost is_honest = { λ _. Unit {0} };
+
+    type Store = SqlBase<MemStore>;
 
     fn file(&self, alloc: Global, path: &str) -> Result<Vec<u8>, HostFault> {
         match path {
@@ -40,5 +81,29 @@ impl<'a, R: Files> Host for Desk<'a, R> {
 
     fn input(&self, alloc: Global) -> Result<Vec<u8>, HostFault> {
         read_whole(alloc, self.script)
+    }
+
+    fn store(
+        &mut self,
+        alloc: Global,
+        path: &str,
+        policy: &Policy,
+        schemes: &Schemes,
+    ) -> Result<SqlBase<MemStore>, OpenFault> {
+        let conn = self.connection(alloc, path)?;
+        if !conn.is_autocommit() {
+            return Err(OpenFault::Store);
+        }
+        match SqlBase::adopt(alloc, conn, policy, schemes) {
+            Ok(base) => Ok(base),
+            Err((fault, conn)) => {
+                self.left = Some(conn);
+                Err(fault)
+            }
+        }
+    }
+
+    fn keep(&mut self, path: &str, store: SqlBase<MemStore>) {
+        self.left = Some(store.into_connection());
     }
 }

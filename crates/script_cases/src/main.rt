@@ -5,6 +5,7 @@ mod commands;
 mod desk;
 mod elsewhere;
 mod narrow;
+mod stores;
 mod table;
 mod worlds;
 

@@ -1,5 +1,5 @@
 //! The tables, in the order in which they are told.
-use crate::{commands, worlds};
+use crate::{commands, stores, worlds};
 use case_tables::{Case, Told, case_at};
 use std::alloc::AllocError;
 use std::rt::Files;
@@ -14,9 +14,10 @@ pub enum Table {
     Writers,
     Worlds,
     Calls,
+    Stores,
 }
 
-pub const TABLES: [(&str, Table); 9] = [
+pub const TABLES: [(&str, Table); 10] = [
     ("script_faults.txt", Table::Faults),
     ("prefixes.txt", Table::Prefixes),
     ("scripts.txt", Table::Scripts),
@@ -26,6 +27,7 @@ pub const TABLES: [(&str, Table); 9] = [
     ("calls.txt", Table::Calls),
     ("options.txt", Table::Commands),
     ("certifying.txt", Table::Commands),
+    ("stores.txt", Table::Stores),
 ];
 
 /// What is told of the cases of a table.
@@ -39,7 +41,10 @@ pub fn told<R: Files + AllocGlobal>(
     let mut out = Told::new(rt.alloc());
     out.push("== ");
     out.push_line(file);
-    tell_cases(rt, table, &lines, &mut out);
+    match table {
+        Table::Stores => stores::tell_all(rt, &lines, &mut out),
+        _ => tell_cases(rt, table, &lines, &mut out),
+    }
     out.finish()
 }
 
@@ -60,5 +65,7 @@ fn tell_case<R: Files + AllocGlobal>(rt: &R, table: Table, case: &Case<'_>, out:
         Table::Writers => commands::tell_writer(rt, case, out),
         Table::Worlds => worlds::tell(rt, case, out),
         Table::Calls => commands::tell_call(rt, case, out),
+        // Each of these goes on with what the one before it left.
+        Table::Stores => {}
     }
 }

@@ -3,9 +3,11 @@
 
 mod machine;
 
-use crate::machine::{FilesOf, Machine};
+use crate::machine::{FilesOf, Machine, Opens};
 use mls_command::{Usage, act};
-use sqlite::{Start, Unknown};
+use mls_filterview::Base;
+use mls_fragments::SqlBase;
+use sqlite::{FileFrom, FileStore, Start, Unknown};
 use std::io::ErrorKind;
 use std::process::ExitCode;
 
@@ -18,17 +20,22 @@ fn words_of(rt: &HostRuntime) -> Result<Vec<String>, Usage> {
     }
 }
 
-/// Does what the words ask for, whatever the files of a store held.
-fn run<F: Start>(rt: &HostRuntime, start: F) -> Result<u8, Usage> {
+/// Does what the words ask for, over stores that are opened as such bases.
+fn answer<B: Base + Drop, O: Opens<B> + Drop>(rt: &HostRuntime, stores: O) -> Result<u8, Usage> {
     let words = words_of(rt)?;
     let words: Vec<&str> = words.iter().map(|word| word.as_str()).collect(rt.alloc())?;
+    let mut host = Machine::new(rt, stores);
+    let (mut out, mut err) = (rt.stdout(), rt.stderr());
+    Ok(act(rt.alloc(), &words, &mut host, &mut out, &mut err))
+}
+
+/// The same, whatever the files of a store held.
+fn run<F: Start>(rt: &HostRuntime, start: F) -> Result<u8, Usage> {
     let stores = FilesOf {
         rt,
         start: Some(start),
     };
-    let mut host = Machine::new(rt, stores);
-    let (mut out, mut err) = (rt.stdout(), rt.stderr());
-    Ok(act(rt.alloc(), &words, &mut host, &mut out, &mut err))
+    answer::<SqlBase<FileStore<FileFrom<F>>>, FilesOf<F>>(rt, stores)
 }
 
 fn main(rt: HostRuntime) -> ExitCode {

@@ -38,11 +38,7 @@ pub struct Desk<'a, R: Files> {
 
 impl<'a, R: Files> Desk<'a, R> {
     /// The connection to a store, which is not inside a transaction.
-    fn connection(
-        &mut self,
-        alloc: Global,
-        path: &str,
-    ) -> Result<Connection<MemStore>, OpenFault> {
+    fn connection(&mut self, alloc: Global, path: &str) -> Result<Connection<MemStore>, OpenFault> {
         match path {
             "new" => Ok(Connection::open_in_memory(alloc)?),
             "table" => store_with_table(alloc),

@@ -25,3 +25,4 @@ pub mod RuleLemmas
 pub mod CheckingLemmas
 pub mod RecoveringLemmas
 pub mod ContentLemmas
+pub mod PlaceLemmas

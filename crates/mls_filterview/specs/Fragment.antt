@@ -1,12 +1,13 @@
--- What one label holds of a relation: its tuples without values, and the elements of that class in them.
+-- What one label holds of a relation, and of one entity: tuples without values, and the elements of that class in them.
 use Rattle.std.specs.Prelude.{◌≡◌, ◌≢◌, ℕ, suc, ◌<◌, true, ◌&&◌, if◌then◌else◌, nat_eq, List, [], ◌∷◌, map, length, Option, Some, IfSome, IsPermutation}
 use Rattle.std.specs.List.{filter, flat_map}
+use Rattle.std.specs.Ordering.{eq_by_cmp}
 use Rattle.std.specs.FinMap.{get, entries}
 use Rattle.mls_scheme.specs.declared.value.Value.{Value}
 use Rattle.mls_scheme.specs.declared.tuple.Element.{Element}
 use Rattle.mls_scheme.specs.Spelling.{HasSpelling}
 use Rattle.mls_scheme.specs.Tuple.{at}
-use Rattle.mls_scheme.specs.Table.{Table}
+use Rattle.mls_scheme.specs.Table.{place_cmp, Table}
 use Rattle.mls_scheme.specs.declared.place.Place.{Place}
 use Rattle.mls_filterview.specs.Stored.{with_class, is_entity}
 use Rattle.mls_filterview.specs.declared.fragment.Node.{Node}
@@ -16,6 +17,10 @@ use Rattle.mls_filterview.specs.declared.fragment.Fragment.{Fragment}
 -- the tuples of a class, in the order of places
 abbrev pub of_class : ℕ → Table → List (Place × List Element)
 of_class m T = filter (λ e. nat_eq e.0.class m) (entries T)
+
+-- the tuple of an entity and a class, where there is one
+abbrev pub at_place : Place → Table → List (Place × List Element)
+at_place p T = filter (λ e. eq_by_cmp place_cmp e.0 p) (entries T)
 
 -- a tuple without its values
 abbrev pub node_of : Place × List Element → Node
@@ -32,10 +37,18 @@ cells_from k p (e ∷ es) = if nat_eq e.class p.class then cell_at p k e ∷ cel
 abbrev pub cells_of : Place × List Element → List Cell
 cells_of e = cells_from 0 e.0 e.1
 
--- the fragment of a label, in any order
-pub record IsFragment (T : Table) (m : ℕ) (f : Fragment) : Type 0 where
-  pub nodes : IsPermutation (map node_of (of_class m T)) f.nodes
-  pub cells : IsPermutation (flat_map cells_of (of_class m T)) f.cells
+-- what tuples are without their values, and the elements of their own classes, in any order
+pub record ArePartsOf (es : List (Place × List Element)) (f : Fragment) : Type 0 where
+  pub nodes : IsPermutation (map node_of es) f.nodes
+  pub cells : IsPermutation (flat_map cells_of es) f.cells
+
+-- the fragment of a label
+abbrev pub IsFragment : Table → ℕ → Fragment → Type 0
+IsFragment T m = ArePartsOf (of_class m T)
+
+-- the part of it that belongs to one entity
+abbrev pub IsEntityPart : Table → Place → Fragment → Type 0
+IsEntityPart T p = ArePartsOf (at_place p T)
 
 abbrev pub place_of_node : Node → Place
 place_of_node n = record { key = n.key; key_class = n.key_class; class = n.label }

@@ -7,7 +7,7 @@ ghost use Rattle.mls_scheme.specs.Table.{change};
 ghost use Rattle.mls_scheme.specs.Spelling.{HasSpelling, IsSpelledKey};
 ghost use Rattle.mls_filterview.specs.Content.{State, begun_change, committed, ended, failed, with_relation, with_entry};
 ghost use Rattle.mls_filterview.specs.Calls.{IsCall, IsServed};
-ghost use Rattle.mls_filterview.specs.Fragment.{IsFragment, IsMadeOf, place_of_node, HasCell, set_in, IsAlone, IsCellOf};
+ghost use Rattle.mls_filterview.specs.Fragment.{IsFragment, IsEntityPart, IsMadeOf, place_of_node, HasCell, set_in, IsAlone, IsCellOf};
 
 use crate::fragment::{Cell, Fragment, Node};
 use mls_lattice::{Items, LabelNo};
@@ -100,6 +100,15 @@ pub trait Base {
         ensures served { IfErr result IsServed }
         ensures mode { OnOk result ((state self.new).begun ≡ (state self.old).begun) }
         ensures found { is_clean self.new → IfOk result (IsFragment ((state self.old).now.db rel) label) }
+        ensures same { is_clean self.new → OnOk result (state self.new ≡ state self.old) };
+
+    /// What the class of a place holds of the place's entity: the part of the fragment that belongs to it.
+    fn entity(&mut self, rel: RelNo, place: &Place) -> Result<Fragment, BaseFault>
+        requires key { IsSpelledKey place.now.key }
+        ensures call { IsCall is_clean failures state self.old self.new result }
+        ensures served { IfErr result IsServed }
+        ensures mode { OnOk result ((state self.new).begun ≡ (state self.old).begun) }
+        ensures found { is_clean self.new → IfOk result (IsEntityPart ((state self.old).now.db rel) place.now) }
         ensures same { is_clean self.new → OnOk result (state self.new ≡ state self.old) };
 
     /// Adds a tuple: its node, and the cells of its class in the order of attributes. `NotBegun` where no change is begun.

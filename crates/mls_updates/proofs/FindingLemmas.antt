@@ -1,58 +1,36 @@
--- The node of a tuple, found in the fragment of the tuple's class.
-use Rattle.std.proofs.Common.{◌≡◌, Bool, true, false, List, map, Option, Some, None, refl, sym, ap, ◌∙◌}
-use Rattle.std.specs.Prelude.{◌↔◌, IsTrue, is_some, nat_eq}
-use Rattle.std.specs.FinMap.{get, entries}
-use Rattle.std.proofs.lemmas.Bool.{false_from_ne_true, true_from_ne_false, true≢false, eq-eqb}
-use Rattle.std.proofs.lemmas.Option.{none-some}
-use Rattle.std.proofs.lemmas.List.Sorted.{list_any-IsPermutation}
+-- Whether a place has a tuple, and of which classes, by the nodes that are found there.
+use Rattle.std.proofs.Common.{◌≡◌, ◌<◌, suc, arith, true≢false, not, List, [], ◌∷◌, ◌++◌, length, Option, Some, None, refl, sym, ap, ◌∙◌, subst}
+use Rattle.std.specs.Prelude.{◌↔◌, is_some, nat_eq, slice_index_or, option_to_list, IsSome}
+use Rattle.std.proofs.lemmas.List.{length-append}
+use Rattle.std.specs.Option.{option_map}
+use Rattle.std.specs.FinMap.{get}
 use Rattle.mls_scheme.specs.declared.tuple.Element.{Element}
 use Rattle.mls_scheme.specs.declared.place.Place.{Place}
 use Rattle.mls_scheme.specs.Table.{Table}
-use Rattle.mls_scheme.proofs.OrderLemmas.{is_place-true, is_place-same}
 use Rattle.mls_filterview.specs.declared.fragment.Node.{Node}
 use Rattle.mls_filterview.specs.declared.fragment.Fragment.{Fragment}
-use Rattle.mls_filterview.specs.Fragment.{of_class, node_of, place_of_node, IsFragment}
-use Rattle.mls_filterview.proofs.EntryLemmas.{Entry, among_entries, entries_among}
-use Rattle.mls_filterview.proofs.AmongLemmas.{none_of, all_none, among_map, map_among, among_filter, filter_among}
-use Rattle.mls_updates.specs.Finding.{is_at, has_node}
+use Rattle.mls_filterview.specs.Fragment.{IsEntityPart}
+use Rattle.mls_filterview.proofs.PlaceLemmas.{node_there, entity_nodes}
+use Rattle.mls_updates.specs.Finding.{classes}
 
-module _ (p : Place) (n : Node) where
-  pub other_class : (n.label ≡ p.class → ⊥) → false ≡ is_at p n
-  other_class ne = sym (false_from_ne_true (is_at p n) (λ h. ne (ap (λ q. q.class) (is_place-true (place_of_node n) p h))))
+module _ (T : Table) (p : Place) (f : Fragment) (is : IsEntityPart T p f) where
+  some_there : (o : Option (List Element)) → not (nat_eq (length (node_there p o)) 0) ≡ is_some o
+  some_there None = refl
+  some_there (Some es) = refl
 
-  pub by_entity : (b : Bool) → n.label ≡ p.class → IsTrue b ↔ ((n.key ≡ p.key) × (n.key_class ≡ p.key_class)) → b ≡ is_at p n
-  by_entity true same h = sym (is_place-same (place_of_node n) p (λ i. record { key = (h.0 refl).0 i; key_class = (h.0 refl).1 i; class = same i }))
-  by_entity false same h =
-      sym (false_from_ne_true (is_at p n) (λ t. (let e = is_place-true (place_of_node n) p t in true≢false (sym (h.1 (ap (λ q. q.key) e, ap (λ q. q.key_class) e))))))
+  pub has_node-get : not (nat_eq (length f.nodes) 0) ≡ is_some (get T p)
+  has_node-get = ap (λ (ns : List Node). not (nat_eq (length ns) 0)) (entity_nodes T p f is) ∙ some_there (get T p)
 
-pub ruleset at_steps = (other_class, by_entity)
+  -- the last node of these, where there is one, and what stands before it
+  last_there : (before : List Node) (last : Option Node) (o : Option (List Element)) → node_there p o ≡ before ++ option_to_list last → (IsSome last ↔ (0 < length (node_there p o)))
+      → option_map (λ (n : Node). n.pattern) last ≡ option_map classes o
+  last_there before None None e v = refl
+  last_there before (Some n) None e v = absurd (let l = v.0 refl in omega (arith, l))
+  last_there before None (Some es) e v = absurd (true≢false (sym (v.1 (omega arith))))
+  last_there [] (Some n) (Some es) e v = ap (λ (ns : List Node). Some (slice_index_or ns 0 n).pattern) (sym e)
+  last_there (m ∷ ms) (Some n) (Some es) e v = absurd (let l : length (node_there p (Some es)) ≡ suc (length (ms ++ n ∷ [])) = ap length e in omega (arith, l, length-append ms (n ∷ [])))
 
--- the fragment of a class has the node of a place of this class just where the table has a tuple there
-module _ (T : Table) (p : Place) where
-  nodes : List Node
-  nodes = map node_of (of_class p.class T)
-
-  found : (es : List Element) → get T p ≡ Some es → has_node nodes p ≡ true
-  unfolding nodes
-  found es h = true_from_ne_false (has_node nodes p) (λ none.
-      let e : Entry = (p, es) in
-      let in' = filter_among (λ (d : Entry). nat_eq d.0.class p.class) (entries T) e (entries_among T p es h) (eq-eqb p.class p.class refl) in
-      true≢false (sym (is_place-same p p refl) ∙ none_of (is_at p) nodes none (node_of e) (map_among node_of (of_class p.class T) e in')))
-
-  missing : get T p ≡ None → has_node nodes p ≡ false
-  unfolding nodes
-  missing h = all_none (is_at p) nodes (λ n i.
-      let r = among_map node_of (of_class p.class T) n i in
-      let e : Entry = r.0 in
-      let f = among_filter (λ (d : Entry). nat_eq d.0.class p.class) (entries T) e r.1 in
-      false_from_ne_true (is_at p n) (λ t.
-      let same : e.0 ≡ p = is_place-true e.0 p (ap (is_at p) (sym r.2) ∙ t) in
-      none-some e.1 (sym h ∙ ap (get T) (sym same) ∙ among_entries T e f.0)))
-
-  by_look : (o : Option (List Element)) → get T p ≡ o → has_node nodes p ≡ is_some o
-  by_look None h = missing h
-  by_look (Some es) h = found es h
-
-  pub has_node-get : (f : Fragment) → IsFragment T p.class f → has_node f.nodes p ≡ is_some (get T p)
-  unfolding nodes
-  has_node-get f is = sym (list_any-IsPermutation (is_at p) nodes f.nodes is.nodes) ∙ by_look (get T p) refl
+  pub last_pattern-get : (before : List Node) (last : Option Node) → f.nodes ≡ before ++ option_to_list last → (IsSome last ↔ (0 < length f.nodes)) → option_map (λ (n : Node). n.pattern) last ≡ option_map classes (get T p)
+  last_pattern-get before last e v =
+      let same = entity_nodes T p f is in
+      last_there before last (get T p) (sym same ∙ e) (subst (λ (ns : List Node). IsSome last ↔ (0 < length ns)) same v)

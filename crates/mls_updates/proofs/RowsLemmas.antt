@@ -1,12 +1,14 @@
 -- Tables of plain rows, by look-up.
-use Rattle.std.proofs.Common.{◌≡◌, ℕ, Bool, true, false, cond, not, ◌&&◌, List, [], ◌∷◌, ◌++◌, map, Option, Some, None, refl, sym, ap, ◌∙◌}
-use Rattle.std.specs.Prelude.{nat_eq, is_some}
+use Rattle.std.proofs.Common.{◌≡◌, ◌<◌, ℕ, Bool, true, false, cond, not, ◌&&◌, List, [], ◌∷◌, ◌++◌, map, length, drop, get_or, Option, Some, None, Result, Ok, Err, refl, sym, ap, ◌∙◌}
+use Rattle.std.specs.Prelude.{nat_eq, is_some, IfOk}
+use Rattle.std.specs.declared.alloc.AllocError.{AllocError}
 use Rattle.std.specs.List.{filter}
 use Rattle.std.specs.Option.{option_map}
 use Rattle.std.specs.FinMap.{empty, get, insert, remove, get-remove, get-from_entries, find}
 use Rattle.std.specs.Cmp.{eq_by_cmp_equiv}
 use Rattle.std.proofs.lemmas.Bool.{true≢false, false_from_ne_true, and_parts, and_from, cond-true, eqb-true, eq-eqb}
 use Rattle.std.proofs.lemmas.Cmp.{nat_eq_equiv}
+use Rattle.std.proofs.lemmas.List.{drop_more}
 use Rattle.std.proofs.lemmas.Option.{none-some}
 use Rattle.mls_scheme.specs.declared.value.Value.{Value}
 use Rattle.mls_scheme.specs.declared.tuple.Element.{Element}
@@ -15,7 +17,9 @@ use Rattle.mls_scheme.specs.Table.{place_cmp, Table, Database, change}
 use Rattle.mls_scheme.proofs.OrderLemmas.{place_total, is_place, is_place-true, is_place-same}
 use Rattle.mls_scheme.proofs.TableLemmas.{same_table, get_put, get_change}
 use Rattle.mls_filterview.specs.Content.{no_content, with_table, with_relation, with_entry}
-use Rattle.mls_filterview.specs.Fragment.{set_in}
+use Rattle.mls_filterview.specs.Fragment.{set_in, node_of, cells_of, IsEntityPart}
+use Rattle.mls_filterview.specs.declared.fragment.Fragment.{Fragment}
+use Rattle.mls_filterview.proofs.PlaceLemmas.{node_there, cells_there, entity_part}
 use Rattle.mls_updates.specs.declared.row.Row.{Row}
 use Rattle.mls_updates.specs.declared.held.Held.{Held}
 use Rattle.mls_updates.specs.Rows.{entry_of, entries_of, table_of, is_at, found_at, HavePlaces, set_row, without}
@@ -46,6 +50,19 @@ at-true rel p r h = let q = and_parts _ _ h in (sym (eqb-true r.rel rel q.0), is
 
 at-same : (rel : ℕ) (p : Place) (r : Row) → rel ≡ r.rel → p ≡ r.place → is_at rel p r ≡ true
 at-same rel p r e s = and_from _ _ (eq-eqb r.rel rel (sym e)) (is_place-same p r.place s)
+
+-- the row at a place, met where none was found before it
+module _ (rel : ℕ) (p : Place) (rows : List Row) (i : ℕ) (r : Row) (within : i < length rows) (is : r ≡ get_or rows i r) (before : found_at rel p (drop i rows) ≡ found_at rel p rows) (h : is_at rel p r ≡ true) where
+  pub found_row : found_at rel p rows ≡ Some r.elements
+  found_row =
+      sym before ∙ ap (found_at rel p) (drop_more rows i r within)
+      ∙ cond-true (is_at rel p (get_or rows i r)) _ _ (ap (is_at rel p) (sym is) ∙ h) ∙ ap (λ (s : Row). Some s.elements) (sym is)
+
+  pub node_found : node_of (entry_of r) ∷ [] ≡ node_there p (found_at rel p rows)
+  node_found = ap (λ q. node_of (q, r.elements) ∷ []) (sym (at-true rel p r h).1) ∙ ap (node_there p) (sym found_row)
+
+  pub cells_found : cells_of (entry_of r) ≡ cells_there p (found_at rel p rows)
+  cells_found = ap (λ q. cells_of (q, r.elements)) (sym (at-true rel p r h).1) ∙ ap (cells_there p) (sym found_row)
 
 -- where nothing is found, the first row stands elsewhere, and nothing is found further on
 elsewhere : (rel : ℕ) (p : Place) (r : Row) (rs : List Row) → found_at rel p (r ∷ rs) ≡ None → (is_at rel p r ≡ false) × (found_at rel p rs ≡ None)
@@ -195,3 +212,13 @@ pub state-entered : (h new : Held) (saved : Option Held) → is_some saved ≡ t
     → state_of new saved ≡ with_entry (state_of h saved) bytes
 state-entered h new None begun bytes same e = absurd (true≢false (sym begun))
 state-entered h new (Some old) begun bytes same e = λ i. record { now = record { db = table_of (same i); audit = e i }; kept = content_of old; begun = true }
+
+-- ---- one entity
+
+-- the parts of what is found at a place, in equal rows
+pub found_entity : (rows same : List Row) (rel : ℕ) (p : Place) → same ≡ rows → (r : Result Fragment AllocError) → IfOk r (λ f. f.nodes ≡ node_there p (found_at rel p same)) → IfOk r (λ f. f.cells ≡ cells_there p (found_at rel p same))
+    → IfOk r (IsEntityPart (table_of rows rel) p)
+found_entity rows same rel p is (Err e) nodes cells = tt
+found_entity rows same rel p is (Ok f) nodes cells =
+    let found = ap (found_at rel p) is ∙ sym (get_table rows rel p) in
+    entity_part (table_of rows rel) p f (nodes ∙ ap (node_there p) found) (cells ∙ ap (cells_there p) found)

@@ -10,8 +10,8 @@ ghost use Rattle.mls_filterview.specs.Calls.{IsCall, IsServed};
 ghost use Rattle.mls_updates.specs.Calls.{IsChanged};
 
 use crate::deciding::own_outcome;
+use crate::finding::pattern_at;
 use crate::outcome::Outcome;
-use crate::pattern::pattern_at;
 use crate::setting::set_each;
 use mls_filterview::{Base, BaseFault};
 use mls_lattice::Policy;

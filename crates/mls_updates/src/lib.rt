@@ -17,7 +17,6 @@ mod making;
 mod order;
 mod outcome;
 mod outline;
-mod pattern;
 mod raising;
 mod root;
 mod row;

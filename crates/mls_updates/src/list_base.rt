@@ -91,6 +91,13 @@ impl Base for ListBase {
         }
     }
 
+    fn entity(&mut self, rel: RelNo, place: &Place) -> Result<Fragment, BaseFault> {
+        match self.held.rows.entity(self.alloc, rel, place) {
+            Ok(fragment) => Ok(fragment),
+            Err(_) => Err(self.fail()),
+        }
+    }
+
     fn add(&mut self, rel: RelNo, node: Node, cells: &[Cell]) -> Result<(), BaseFault> {
         if !self.is_begun() {
             return Err(BaseFault::NotBegun);

@@ -9,10 +9,9 @@ ghost use Rattle.mls_filterview.specs.Stored.{IsStored, with_class};
 ghost use Rattle.mls_updates.specs.Calls.{IsDerived, classes_below};
 
 use crate::deciding::below_outcome;
-use crate::finding::has_tuple;
+use crate::finding::{has_tuple, pattern_at};
 use crate::outcome::Outcome;
 use crate::outline::add_outline;
-use crate::pattern::pattern_at;
 use mls_filterview::{Base, BaseFault};
 use mls_lattice::{Items, LabelNo, Policy};
 use mls_scheme::{Place, RelNo, Scheme, Value};
@@ -30,6 +29,7 @@ fn pattern_below<B: Base>(
     requires label { w < length policy.now.labels }
     requires class { place.now.class < length policy.now.labels }
     requires key_class { place.now.key_class < length policy.now.labels }
+    requires key { IsSpelledKey place.now.key }
     ensures call { IsCall B.is_clean B.failures B.state base.old base.new result }
     ensures served { IfErr result IsServed }
     ensures mode { OnOk result ((B.state base.new).begun ≡ (B.state base.old).begun) }

@@ -1,9 +1,10 @@
 //! The tuples that a base holds.
 ghost use Rattle.std.specs.Prelude.{◌≡◌, ◌++◌, ◌∷◌, [], IfOk, OnOk, OnErr, map, None};
+ghost use Rattle.std.specs.Option.{option_map_or};
 ghost use Rattle.std.specs.FinMap.{get};
-ghost use Rattle.mls_filterview.specs.Fragment.{IsFragment};
+ghost use Rattle.mls_filterview.specs.Fragment.{IsFragment, IsEntityPart, node_of, cells_of};
 ghost use Rattle.mls_filterview.specs.Assembly.{elements_from};
-ghost use Rattle.mls_updates.specs.Rows.{table_of, nodes_of, cells_in, held_in, found_at, set_row, without};
+ghost use Rattle.mls_updates.specs.Rows.{entry_of, table_of, nodes_of, cells_in, held_in, found_at, set_row, without};
 
 use crate::making;
 use crate::row::Row;
@@ -64,6 +65,18 @@ impl Rows {
             nodes: Items::from(nodes),
             cells: Items::from(cells),
         })
+    }
+
+    /// What a class holds of one entity.
+    pub(crate) fn entity(
+        &self,
+        alloc: Global,
+        rel: RelNo,
+        place: &Place,
+    ) -> Result<Fragment, AllocError>
+        ensures { IfOk result (IsEntityPart (table_of self.now rel) place.now) }
+    {
+        entity_of(alloc, &self.vec, rel, place)
     }
 
     /// The elements of a new tuple.
@@ -154,6 +167,42 @@ fn cells_of(
         }
     }
     Ok(cells)
+}
+
+/// The node of a tuple, and the elements of its own class.
+fn parts_of(alloc: Global, row: &Row) -> Result<Fragment, AllocError>
+    ensures nodes { IfOk result (λ f. f.nodes ≡ node_of (entry_of row.now) ∷ []) }
+    ensures cells { IfOk result (λ f. f.cells ≡ cells_of (entry_of row.now)) }
+{
+    let mut nodes = Vec::new(alloc);
+    nodes.push(row.node(alloc)?)?;
+    let mut cells = Vec::new(alloc);
+    row.add_cells(&mut cells)?;
+    Ok(Fragment {
+        nodes: Items::from(nodes),
+        cells: Items::from(cells),
+    })
+}
+
+/// The parts of the tuple of a relation at a place, if there is one.
+fn entity_of(
+    alloc: Global,
+    rows: &[Row],
+    rel: RelNo,
+    place: &Place,
+) -> Result<Fragment, AllocError>
+    ensures nodes { IfOk result (λ f. f.nodes ≡ option_map_or (λ es. node_of (place.now, es) ∷ []) (found_at rel place.now rows.now) []) }
+    ensures cells { IfOk result (λ f. f.cells ≡ option_map_or (λ es. cells_of (place.now, es)) (found_at rel place.now rows.now) []) }
+{
+    for row in rows {
+        if row.is_at(rel, place) {
+            return parts_of(alloc, row);
+        }
+    }
+    Ok(Fragment {
+        nodes: Items::from(Vec::new(alloc)),
+        cells: Items::from(Vec::new(alloc)),
+    })
 }
 
 /// The rows with the value of a cell set.

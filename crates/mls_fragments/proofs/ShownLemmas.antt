@@ -1,27 +1,30 @@
--- The rows of a relation and a label show its fragment.
+-- The rows of a relation and a label show its fragment, and those of a place what belongs to its entity.
 use Rattle.std.proofs.Common.{◌≡◌, ℕ, Bool, true, false, cond, ◌&&◌, List, [], ◌∷◌, map, filter, flat_map, Option, Some, None, refl, sym, ap, ◌∙◌, subst, append-nil, IsPermutation}
 use Rattle.std.specs.Prelude.{nat_eq, IfSome}
 use Rattle.std.specs.List.{AllByRecursion}
 use Rattle.std.specs.FinMap.{entries}
+use Rattle.std.proofs.lemmas.Bool.{and_parts}
 use Rattle.std.proofs.lemmas.List.Sorted.{IsPermutation-trans}
-use Rattle.sqlite_trees.proofs.ListLemmas.{filter-map, all-map, all-permutation, pull_back, IsPermutation-filter}
+use Rattle.sqlite_trees.proofs.ListLemmas.{filter-map, filter-filter, filter_same, all-map, all-permutation, pull_back, IsPermutation-filter}
 use Rattle.mls_scheme.specs.declared.value.Value.{Value}
 use Rattle.mls_scheme.specs.declared.value.Value.TheVariants.{Int, Text}
-use Rattle.mls_scheme.specs.Spelling.{value_spelling, HasSpelling, IsSpelledKey}
+use Rattle.mls_scheme.specs.Spelling.{key_spelling, value_spelling, HasSpelling, IsSpelledKey}
+use Rattle.mls_scheme.specs.declared.place.Place.{Place}
 use Rattle.mls_scheme.specs.Table.{Table}
 use Rattle.mls_scheme.proofs.KeyLemmas.{unambiguous}
+use Rattle.mls_scheme.proofs.OrderLemmas.{is_place}
 use Rattle.mls_filterview.specs.declared.fragment.Node.{Node}
 use Rattle.mls_filterview.specs.declared.fragment.Cell.{Cell}
 use Rattle.mls_filterview.specs.declared.fragment.Fragment.{Fragment}
 use Rattle.mls_filterview.specs.Content.{Content}
-use Rattle.mls_filterview.specs.Fragment.{IsFragment, of_class, node_of, cells_of}
+use Rattle.mls_filterview.specs.Fragment.{ArePartsOf, IsFragment, IsEntityPart, of_class, at_place, node_of, cells_of}
 use Rattle.mls_filterview.specs.View.{IsAmong}
 use Rattle.mls_filterview.proofs.AmongLemmas.{each_among, among_filter, among_flat_map}
 use Rattle.mls_filterview.proofs.EntryLemmas.{Entry, among_entries}
 use Rattle.mls_filterview.proofs.FragmentLemmas.{cell_found}
-use Rattle.mls_statements.specs.Rows.{Tables, is_node_at, is_cell_at}
+use Rattle.mls_statements.specs.Rows.{Tables, is_node_at, is_cell_at, is_node, is_cell_in}
 use Rattle.mls_fragments.specs.Holding.{Holds, HoldsTable, IsSpelledNode, IsSpelledCell, value_bytes, node_row, cell_row}
-use Rattle.mls_fragments.proofs.WrittenLemmas.{filter_each, spelled_keys}
+use Rattle.mls_fragments.proofs.WrittenLemmas.{filter_each, spelled_keys, entity_test, place_test, cells_where}
 
 -- ---- rows that are the same
 
@@ -47,7 +50,7 @@ same_cell rel c d a b e =
 -- ---- lists
 
 -- two tests, one after the other
-filter_both : {A : Type 0} (p q : A → Bool) (xs : List A) → filter p (filter q xs) ≡ filter (λ x. q x && p x) xs
+pub filter_both : {A : Type 0} (p q : A → Bool) (xs : List A) → filter p (filter q xs) ≡ filter (λ x. q x && p x) xs
 filter_both p q [] = refl
 filter_both p q (x ∷ xs) =
     elim (q x) as (λ b. filter p (cond b (x ∷ filter q xs) (filter q xs)) ≡ cond (b && p x) (x ∷ filter (λ y. q y && p y) xs) (filter (λ y. q y && p y) xs)) [
@@ -72,6 +75,32 @@ module _ {A B : Type 0} (P : A → Type 0) (f : A → B) (apart : (x y : A) → 
       let back = pull_back f (map f xs) (map f ys) h xs refl in
       subst (IsPermutation xs) (same_list back.0 ys (all-permutation P xs back.0 back.1 a) b (sym back.2)) back.1
 
+-- ---- some tuples of a table
+
+module _ (t : Tables) (rel : ℕ) (T : Table) (held : HoldsTable t rel T) (test : Entry → Bool) where
+  stored : (e : Entry) → IsAmong e (filter test (entries T)) → IsAmong e (entries T)
+  stored e i = (among_filter test (entries T) e i).0
+
+  nodes_spelled : AllByRecursion IsSpelledNode (map node_of (filter test (entries T)))
+  nodes_spelled = all-map IsSpelledNode node_of (filter test (entries T)) (each_among (λ e. IsSpelledKey e.0.key) (filter test (entries T)) (λ e i. spelled_keys t rel T held e (stored e i)))
+
+  cells_spelled : AllByRecursion IsSpelledCell (flat_map cells_of (filter test (entries T)))
+  cells_spelled = each_among IsSpelledCell (flat_map cells_of (filter test (entries T))) (λ d k.
+      let r = among_flat_map cells_of (filter test (entries T)) d k in
+      let f = cell_found 0 r.0.0 r.0.1 d r.2 in
+      let shared = held.shared r.0.0 r.0.1 (among_entries T r.0 (stored r.0 r.1)) in
+      subst IsSpelledCell (sym f.1.1) (shared.key, shared.values f.0 f.1.0))
+
+  -- rows that are theirs show their parts
+  pub show_parts : (f : Fragment) → AllByRecursion IsSpelledNode f.nodes → AllByRecursion IsSpelledCell f.cells
+      → IsPermutation (map (node_row rel) (map node_of (filter test (entries T)))) (map (node_row rel) f.nodes)
+      → IsPermutation (map (cell_row rel) (flat_map cells_of (filter test (entries T)))) (map (cell_row rel) f.cells)
+      → ArePartsOf (filter test (entries T)) f
+  show_parts f ns cs nodes cells = record {
+    nodes = reflects IsSpelledNode (node_row rel) (same_node rel) _ f.nodes nodes_spelled ns nodes;
+    cells = reflects IsSpelledCell (cell_row rel) (same_cell rel) _ f.cells cells_spelled cs cells;
+  }
+
 -- ---- the rows of a label
 
 module _ (t : Tables) (rel label : ℕ) (T : Table) (held : HoldsTable t rel T) where
@@ -94,19 +123,6 @@ module _ (t : Tables) (rel label : ℕ) (T : Table) (held : HoldsTable t rel T) 
       ∙ ap (map (cell_row rel)) (filter_each cells_of (λ d. nat_eq d.label label) (λ e. nat_eq e.0.class label) (entries T) label_test))
       (IsPermutation-filter (λ c. nat_eq c.label label) _ _ held.cells))
 
-  stored : (e : Entry) → IsAmong e (of_class label T) → IsAmong e (entries T)
-  stored e i = (among_filter (λ e. nat_eq e.0.class label) (entries T) e i).0
-
-  nodes_spelled : AllByRecursion IsSpelledNode (map node_of (of_class label T))
-  nodes_spelled = all-map IsSpelledNode node_of (of_class label T) (each_among (λ e. IsSpelledKey e.0.key) (of_class label T) (λ e i. spelled_keys t rel T held e (stored e i)))
-
-  cells_spelled : AllByRecursion IsSpelledCell (flat_map cells_of (of_class label T))
-  cells_spelled = each_among IsSpelledCell (flat_map cells_of (of_class label T)) (λ d k.
-      let r = among_flat_map cells_of (of_class label T) d k in
-      let f = cell_found 0 r.0.0 r.0.1 d r.2 in
-      let shared = held.shared r.0.0 r.0.1 (among_entries T r.0 (stored r.0 r.1)) in
-      subst IsSpelledCell (sym f.1.1) (shared.key, shared.values f.0 f.1.0))
-
 pub shows_fragment : (t : Tables) (c : Content) (rel label : ℕ) (f : Fragment) → Holds t c
     → AllByRecursion IsSpelledNode f.nodes → AllByRecursion IsSpelledCell f.cells
     → IsPermutation (filter (is_node_at rel label) t.nodes) (map (node_row rel) f.nodes)
@@ -115,7 +131,37 @@ pub shows_fragment : (t : Tables) (c : Content) (rel label : ℕ) (f : Fragment)
 shows_fragment t c rel label f holds ns cs nodes cells =
     let T = c.db rel in
     let held = holds.tables rel in
-    record {
-      nodes = reflects IsSpelledNode (node_row rel) (same_node rel) _ f.nodes (nodes_spelled t rel label T held) ns (IsPermutation-trans _ _ _ (nodes_at t rel label T held) nodes);
-      cells = reflects IsSpelledCell (cell_row rel) (same_cell rel) _ f.cells (cells_spelled t rel label T held) cs (IsPermutation-trans _ _ _ (cells_at t rel label T held) cells);
-    }
+    show_parts t rel T held (λ e. nat_eq e.0.class label) f ns cs (IsPermutation-trans _ _ _ (nodes_at t rel label T held) nodes) (IsPermutation-trans _ _ _ (cells_at t rel label T held) cells)
+
+-- ---- the rows of a place
+
+module _ (t : Tables) (rel : ℕ) (p : Place) (spelled : IsSpelledKey p.key) (T : Table) (held : HoldsTable t rel T) where
+  keys : (e : Entry) → IsAmong e (entries T) → IsSpelledKey e.0.key
+  keys = spelled_keys t rel T held
+
+  there_nodes : IsPermutation (map (node_row rel) (map node_of (at_place p T))) (filter (is_node rel (key_spelling p.key) p.key_class p.class) t.nodes)
+  there_nodes =
+      subst (IsPermutation (map (node_row rel) (map node_of (at_place p T)))) (filter-filter (is_node rel (key_spelling p.key) p.key_class p.class) (λ n. nat_eq n.rel rel) (λ n h. (and_parts _ _ h).0) t.nodes)
+      (subst (λ l. IsPermutation l (filter (is_node rel (key_spelling p.key) p.key_class p.class) (filter (λ n. nat_eq n.rel rel) t.nodes)))
+      (filter-map _ (node_row rel) (map node_of (entries T))
+      ∙ ap (map (node_row rel)) (filter-map _ node_of (entries T)
+      ∙ ap (map node_of) (filter_same _ (λ e. is_place e.0 p) (entries T) (each_among _ (entries T) (λ e i.
+      entity_test rel p e.0 (nat_eq e.0.class p.class) spelled (keys e i) ∙ place_test p e.0)))))
+      (IsPermutation-filter _ _ _ held.nodes))
+
+  there_cells : IsPermutation (map (cell_row rel) (flat_map cells_of (at_place p T))) (filter (is_cell_in rel (key_spelling p.key) p.key_class p.class) t.cells)
+  there_cells =
+      subst (IsPermutation (map (cell_row rel) (flat_map cells_of (at_place p T)))) (filter-filter (is_cell_in rel (key_spelling p.key) p.key_class p.class) (λ x. nat_eq x.rel rel) (λ x h. (and_parts _ _ h).0) t.cells)
+      (subst (λ l. IsPermutation l (filter (is_cell_in rel (key_spelling p.key) p.key_class p.class) (filter (λ x. nat_eq x.rel rel) t.cells)))
+      (cells_where rel T p spelled keys (λ b. b))
+      (IsPermutation-filter _ _ _ held.cells))
+
+pub shows_entity : (t : Tables) (c : Content) (rel : ℕ) (p : Place) (f : Fragment) → Holds t c → IsSpelledKey p.key
+    → AllByRecursion IsSpelledNode f.nodes → AllByRecursion IsSpelledCell f.cells
+    → IsPermutation (filter (is_node rel (key_spelling p.key) p.key_class p.class) t.nodes) (map (node_row rel) f.nodes)
+    → IsPermutation (filter (is_cell_in rel (key_spelling p.key) p.key_class p.class) t.cells) (map (cell_row rel) f.cells)
+    → IsEntityPart (c.db rel) p f
+shows_entity t c rel p f holds spelled ns cs nodes cells =
+    let T = c.db rel in
+    let held = holds.tables rel in
+    show_parts t rel T held (λ e. is_place e.0 p) f ns cs (IsPermutation-trans _ _ _ (there_nodes t rel p spelled T held) nodes) (IsPermutation-trans _ _ _ (there_cells t rel p spelled T held) cells)

@@ -3,6 +3,7 @@
 
 mod base;
 mod comparing;
+mod entity;
 mod finding;
 mod noted;
 mod open_fault;

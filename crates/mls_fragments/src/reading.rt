@@ -169,7 +169,7 @@ pub(crate) fn cells_in(alloc: Global, rel: RelNo, rows: &[CellRow]) -> Result<It
     Ok(Items::from(cells))
 }
 
-fn fragment_in(
+pub(crate) fn fragment_in(
     alloc: Global,
     rel: RelNo,
     nodes: &[NodeRow],

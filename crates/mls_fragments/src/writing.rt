@@ -44,7 +44,7 @@ fn bytes_of_value(alloc: Global, value: &Option<Value>) -> Result<Items<u8>, Row
     }
 }
 
-fn ent_of(alloc: Global, key: &[Value]) -> Result<Items<u8>, RowFault>
+pub(crate) fn ent_of(alloc: Global, key: &[Value]) -> Result<Items<u8>, RowFault>
     requires { IsSpelledKey key.now }
     ensures made { IfOk result (λ bytes. bytes ≡ key_spelling key.now) }
     ensures fault { IfErr result IsMemory }

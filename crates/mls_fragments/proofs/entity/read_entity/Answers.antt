@@ -1,0 +1,27 @@
+use Rattle.std.proofs.Common.{◌≡◌, ◌∙◌, map, filter, subst, ap, IsPermutation, rules}
+use Rattle.std.specs.Prelude.{nat_eq}
+use Rattle.mls_scheme.specs.Spelling.{key_spelling}
+use Rattle.mls_statements.specs.Rows.{is_node, is_cell_in}
+use Rattle.mls_fragments.specs.Holding.{node_row, cell_row}
+use Rattle.mls_fragments.proofs.ReadingLemmas.{found_entity}
+use Rattle.mls_fragments.proofs.entity.read_entity.Goals as goal
+
+pub returns-in-Ok-fragment_in-clause-found : goal.returns-in-Ok-fragment_in-clause-found
+returns-in-Ok-fragment_in-clause-found g c clean content holds =
+    let p = c.args.place.now in
+    let rel = c.args.rel in
+    let t = c.args.store.now.now in
+    let f = c.in-Ok-fragment_in.fragment in
+    let nodes = c.in_ok-nodes.nodes.items in
+    let cells = c.in_ok-cells.cells.items in
+    let before = c.in_ok-cells.ensures.call.clean clean in
+    let key : c.deref-2.result.now ≡ key_spelling p.key = search rules in
+    let key_again : c.deref-3.result.now ≡ key_spelling p.key = search rules in
+    let some_nodes = subst (λ e. IsPermutation (filter (is_node rel e p.key_class p.class) t.nodes) nodes) key (c.in_ok-nodes.ensures.found before) in
+    let same_cells = ap (λ u. u.cells) (c.in_ok-nodes.ensures.same before).0 in
+    let read_cells = subst (λ e. IsPermutation (filter (is_cell_in rel e p.key_class p.class) c.nodes_at.new.store.now.cells) cells) key_again (c.in_ok-cells.ensures.found clean) in
+    let some_cells = subst (λ xs. IsPermutation (filter (is_cell_in rel (key_spelling p.key) p.key_class p.class) xs) cells) same_cells read_cells in
+    found_entity t content rel p f nodes cells holds c.requires.key some_nodes some_cells
+    (subst (λ xs. map (node_row rel) f.nodes ≡ filter (λ r. nat_eq r.rel rel) xs) c.deref-4.ensures.value c.in-Ok-fragment_in.ensures.nodes)
+    (subst (λ xs. map (cell_row rel) f.cells ≡ filter (λ r. nat_eq r.rel rel) xs) c.deref-5.ensures.value c.in-Ok-fragment_in.ensures.cells)
+    c.in-Ok-fragment_in.ensures.spelled.0 c.in-Ok-fragment_in.ensures.spelled.1

@@ -1,0 +1,75 @@
+//! What the tables hold of one entity.
+ghost use Rattle.std.specs.Prelude.{◌≡◌, filter, IfOk, IsPermutation, OnOk};
+ghost use Rattle.mls_scheme.specs.Spelling.{IsSpelledKey};
+ghost use Rattle.mls_filterview.specs.Content.{Content};
+ghost use Rattle.mls_filterview.specs.Fragment.{IsEntityPart};
+ghost use Rattle.mls_statements.specs.Rows.{is_node, is_cell_in};
+ghost use Rattle.mls_statements.specs.Store.{IsClean, IsCall, IsSame};
+ghost use Rattle.mls_fragments.specs.Holding.{Holds};
+
+use crate::reading::{fragment_in, give_up};
+use crate::writing::ent_of;
+use mls_filterview::Fragment;
+use mls_scheme::{Place, RelNo};
+use mls_statements::{CellRow, NodeRow, StoreFault, TableStore};
+use sqlite::Alter;
+use std::alloc::Global;
+
+/// The node at a place, as rows of its entity and class.
+fn nodes_at<S: Alter>(
+    store: &mut TableStore<S>,
+    rel: RelNo,
+    place: &Place,
+    ent: &[u8],
+) -> Result<Vec<NodeRow>, StoreFault>
+    ensures call { IsCall store.old store.new result }
+    ensures mode { OnOk result (store.new.begun ≡ store.old.begun) }
+    ensures found { IsClean store.new → IfOk result (λ rows. IsPermutation (filter (is_node rel ent.now place.now.key_class place.now.class) store.old.now.nodes) rows.items) }
+    ensures same { IsClean store.new → OnOk result (IsSame store.old store.new) }
+{
+    let mut rows = store.nodes_of(u32::from(rel.byte()), ent, u32::from(place.key_class.byte()))?;
+    rows.retain(|row| row.label == u32::from(place.class.byte()));
+    Ok(rows)
+}
+
+/// The cells at a place, as rows of its entity and class.
+fn cells_at<S: Alter>(
+    store: &mut TableStore<S>,
+    rel: RelNo,
+    place: &Place,
+    ent: &[u8],
+) -> Result<Vec<CellRow>, StoreFault>
+    ensures call { IsCall store.old store.new result }
+    ensures mode { OnOk result (store.new.begun ≡ store.old.begun) }
+    ensures found { IsClean store.new → IfOk result (λ rows. IsPermutation (filter (is_cell_in rel ent.now place.now.key_class place.now.class) store.old.now.cells) rows.items) }
+    ensures same { IsClean store.new → OnOk result (IsSame store.old store.new) }
+{
+    let mut rows = store.cells_of(u32::from(rel.byte()), ent, u32::from(place.key_class.byte()))?;
+    rows.retain(|row| row.label == u32::from(place.class.byte()));
+    Ok(rows)
+}
+
+/// What the class of a place holds of the place's entity.
+pub(crate) fn read_entity<S: Alter>(
+    store: &mut TableStore<S>,
+    alloc: Global,
+    rel: RelNo,
+    place: &Place,
+) -> Result<Fragment, StoreFault>
+    requires key { IsSpelledKey place.now.key }
+    ensures call { IsCall store.old store.new result }
+    ensures mode { OnOk result (store.new.begun ≡ store.old.begun) }
+    ensures found { IsClean store.new → (c : Content) → Holds store.old.now c → IfOk result (IsEntityPart (c.db rel) place.now) }
+    ensures same { IsClean store.new → OnOk result (IsSame store.old store.new) }
+{
+    let ent = match ent_of(alloc, &place.key) {
+        Ok(ent) => ent,
+        Err(fault) => return Err(give_up(store, fault)),
+    };
+    let nodes = nodes_at(store, rel, place, &ent)?;
+    let cells = cells_at(store, rel, place, &ent)?;
+    match fragment_in(alloc, rel, &nodes, &cells) {
+        Ok(fragment) => Ok(fragment),
+        Err(fault) => Err(give_up(store, fault)),
+    }
+}

@@ -3,6 +3,9 @@ pub mod TurnLemmas
 pub mod StepLemmas
 pub mod CallLemmas
 pub mod EnteringLemmas
+pub mod ViewsLemmas
+pub mod KeptLemmas
+pub mod UnseenLemmas
 pub mod EngineLemmas
 pub mod NamingLemmas
 pub mod AnswerLemmas

@@ -1,4 +1,5 @@
 pub mod World
+pub mod Views
 pub mod Turns
 pub mod Engine
 pub mod Calling

@@ -1,5 +1,5 @@
 //! Events that change the base: denials, which are entered, writes and calls. Each is one change.
-ghost use Rattle.std.specs.Prelude.{◌≡◌, ◌<◌, true, false, length, IfOk, IfErr, OnOk};
+ghost use Rattle.std.specs.Prelude.{◌≡◌, ◌<◌, true, false, length, IfOk, IfErr, OnOk, OnErr};
 ghost use Rattle.mls_lattice.specs.Policy.{labels_of};
 ghost use Rattle.mls_scheme.specs.Scheme.{AreUnder};
 ghost use Rattle.mls_filterview.specs.Calls.{IsCall, IsServed};
@@ -11,8 +11,10 @@ ghost use Rattle.mls_monitor.specs.Sessions.{site_of};
 ghost use Rattle.mls_sessions.specs.World.{IsSound};
 ghost use Rattle.mls_replies.specs.Known.{HasKnownNumbers};
 ghost use Rattle.mls_sessions.specs.Turns.{IsTurn, IsDeedOf, IsDoneOf};
+ghost use Rattle.mls_sessions.specs.Views.{AreDeclared, left_by};
 
 use crate::calling::call;
+use crate::views::Views;
 use mls_audit::{Entry, entry_bytes};
 use mls_filterview::{Base, BaseFault, made};
 use mls_lattice::{Str, UserNo};
@@ -166,5 +168,32 @@ pub(crate) fn change<B: Base>(
     base.begin()?;
     let reply = act(rules, base, event, deed)?;
     base.commit()?;
+    Ok(reply)
+}
+
+/// Does what an event changes, as one change of the base, and gives up the kept views that it may change.
+pub(crate) fn alter<B: Base>(
+    rules: &Rules,
+    base: &mut B,
+    views: &mut Views,
+    event: &Event,
+    deed: Deed,
+) -> Result<Reply, BaseFault>
+    requires idle { (B.state base.old).begun ≡ false }
+    requires under { AreUnder (length rules.now.policy.now.labels) rules.now.schemes.now }
+    requires sound { B.is_clean base.old → IsSound (site_of rules.now) (B.state base.old).now }
+    requires fits { EventFits rules.now.policy.now rules.now.schemes.now event.now }
+    requires read { AreRead (site_of rules.now) }
+    requires deed { IsDeedOf (site_of rules.now) event.now deed }
+    requires declared { AreDeclared (length rules.now.policy.now.labels) views.old }
+    ensures turn { IsTurn B.is_clean B.failures (λ b. (B.state b).now) base.old base.new result }
+    ensures idle { (B.state base.new).begun ≡ false }
+    ensures done { B.is_clean base.new → IfOk result (IsDoneOf (site_of rules.now) event.now deed (B.state base.old).now (B.state base.new).now) }
+    ensures known { IfOk result (HasKnownNumbers rules.now.policy.now) }
+    ensures left { IfOk result (λ r. views.new ≡ left_by (labels_of rules.now.policy.now) event.now.level r views.old) }
+    ensures failed { OnErr result (views.new ≡ views.old) }
+{
+    let reply = change(rules, base, event, deed)?;
+    views.follow(rules.policy, event.level, &reply);
     Ok(reply)
 }

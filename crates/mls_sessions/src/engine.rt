@@ -9,8 +9,9 @@ ghost use Rattle.mls_sessions.specs.World.{world_at, IsSound};
 ghost use Rattle.mls_sessions.specs.Engine.{site, world_of, IsReady, IsStep, IsKept, IsEngineTurn};
 ghost use Rattle.mls_replies.specs.Known.{HasKnownNumbers};
 
-use crate::change::{Deed, change};
+use crate::change::{Deed, alter, change};
 use crate::looking::{audit, look};
+use crate::views::Views;
 use mls_filterview::{Base, BaseFault};
 use mls_lattice::{Items, Policy, UserNo};
 use mls_machine::{Reply, Stored};
@@ -19,11 +20,12 @@ use mls_scheme::Schemes;
 use mls_script::{Command, Event};
 use std::alloc::Global;
 
-/// Sessions over a base, under a policy and its schemes.
+/// Sessions over a base, under a policy and its schemes. It keeps the views that were asked for last.
 pub struct Engine<'a, B: Base> {
     pub(crate) rules: Rules<'a>,
     base: B,
     sessions: Vec<Session>,
+    views: Views,
 }
 
 impl<'a, B: Base> Engine<'a, B> {
@@ -59,6 +61,7 @@ impl<'a, B: Base> Engine<'a, B> {
             rules,
             base,
             sessions: Vec::new(alloc),
+            views: Views::new(),
         }
     }
 
@@ -70,6 +73,7 @@ impl<'a, B: Base> Engine<'a, B> {
             base,
             rules: _,
             sessions: _,
+            views: _,
         } = self;
         base
     }
@@ -107,13 +111,21 @@ impl<'a, B: Base> Engine<'a, B> {
                 close(&mut self.sessions, event.level, &event.session);
                 Ok(Reply::Closed)
             }
-            Command::View { rel, label } => look(&self.rules, &mut self.base, *rel, *label),
+            Command::View { rel, label } => look(
+                &self.rules,
+                &mut self.base,
+                &mut self.views,
+                *rel,
+                *label,
+            ),
             Command::Audit => audit(&self.rules, &mut self.base, event.level),
             Command::Insert { .. } | Command::Update { .. } | Command::Delete { .. } => {
-                change(&self.rules, &mut self.base, event, Deed::Write)
+                let deed = Deed::Write;
+                alter(&self.rules, &mut self.base, &mut self.views, event, deed)
             }
             Command::Call { .. } => {
-                change(&self.rules, &mut self.base, event, Deed::Call { user })
+                let deed = Deed::Call { user };
+                alter(&self.rules, &mut self.base, &mut self.views, event, deed)
             }
         }
     }

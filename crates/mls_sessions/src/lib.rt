@@ -7,6 +7,7 @@ mod change;
 mod engine;
 mod looking;
 mod running;
+mod views;
 mod writing;
 
 pub use cause::{RunCause, RunFault};

@@ -12,7 +12,7 @@ mod outcomes;
 mod runs;
 mod steps;
 
-use self::outcomes::told;
+use self::outcomes::{Trials, told};
 use mls_lattice::Policy;
 use mls_scheme::Schemes;
 use mls_script::{Event, script};
@@ -20,19 +20,23 @@ use std::fs;
 use std::io::{self, Error, ErrorKind, Write};
 
 /// The scripts, in the order in which they are told.
-const FILES: [&str; 2] = ["audit.script", "writes.script"];
+const FILES: [(&str, Trials); 3] = [
+    ("audit.script", Trials::Calls),
+    ("writes.script", Trials::Calls),
+    ("again.script", Trials::Fragments),
+];
 
 fn tell_file(
     rt: &HostRuntime,
     policy: &Policy,
     schemes: &Schemes,
-    file: &str,
+    file: (&str, Trials),
     questions: &[Event],
 ) -> io::Result<()>
     requires under { AreUnder (length policy.now.labels) schemes.now }
     requires questions { AllByRecursion (EventFits policy.now schemes.now) questions.now }
 {
-    let text = fs::read_to_string(rt, file)?;
+    let text = fs::read_to_string(rt, file.0)?;
     let told = told(rt.alloc(), policy, schemes, file, &text, questions)?;
     rt.stdout().write_all(told.as_bytes())
 }

@@ -78,6 +78,10 @@ impl Base for Broken {
         }
     }
 
+    fn entity(&mut self, _rel: RelNo, _place: &Place) -> Result<Fragment, BaseFault> {
+        Err(BaseFault::Memory)
+    }
+
     fn add(&mut self, _rel: RelNo, _node: Node, _cells: &[Cell]) -> Result<(), BaseFault> {
         Err(BaseFault::NotBegun)
     }

@@ -1,25 +1,38 @@
-//! A base, one of whose calls fails.
-ghost use Rattle.std.specs.Prelude.{◌≡◌, ◌≤◌, ◌+◌, true, false, if◌then◌else◌};
+//! A base, some of whose calls fail.
+ghost use Rattle.std.specs.Prelude.{◌≡◌, ◌<◌, ◌≤◌, ◌+◌, true};
 ghost use Rattle.mls_filterview.specs.Calls.{IsFault, IsServed};
 
 use mls_filterview::{Base, BaseFault, Cell, Fragment, Node, abandon};
 use mls_lattice::{Items, LabelNo};
 use mls_scheme::{Place, RelNo, Value};
 
-/// Which call fails: one, after so many others.
+/// Which calls fail: all, or those that read fragments, after so many others and up to so many.
+#[derive(Clone, Copy)]
+pub struct Fault {
+    pub after: u64,
+    pub most: u64,
+    pub of_fragments: bool,
+    pub is_memory: bool,
+}
+
+/// No more calls fail than this.
+const MANY: u64 = 1_000_000;
+
+/// How many calls may come before those that fail, and how many have failed.
 #[derive(Drop)]
 struct Fuse {
     left: u64,
-    is_blown: bool,
+    most: u64,
+    failed: u64,
 }
 
 impl Fuse {
     /// Whether the call that begins is to fail.
     fn is_due(&mut self) -> bool
-        ensures kept { self.new.is_blown ≡ self.old.is_blown }
-        ensures once { result ≡ true → self.old.is_blown ≡ false }
+        ensures failed { self.new.failed ≡ self.old.failed }
+        ensures due { result ≡ true → self.old.failed < 1000000 }
     {
-        if self.is_blown {
+        if self.failed >= MANY || self.failed >= self.most {
             return false;
         }
         if self.left > 0 {
@@ -30,26 +43,29 @@ impl Fuse {
     }
 }
 
-/// A base that hands its calls on to another one, and answers `Store`, or `Memory`, to one of them.
+/// A base that hands its calls on to another one, and answers `Store`, or `Memory`, to some of them.
 #[derive(Drop)]
 pub struct Faulty<B: Base> {
     pub base: B,
     fuse: Fuse,
+    of_fragments: bool,
     is_memory: bool,
 }
 
 impl<B: Base> Faulty<B> {
-    /// A base whose call after so many fails.
-    pub fn new(base: B, calls: u64, is_memory: bool) -> Faulty<B>
+    /// A base of which some calls fail.
+    pub fn new(base: B, fault: Fault) -> Faulty<B>
         ensures { result.base ≡ base }
     {
         Faulty {
             base,
             fuse: Fuse {
-                left: calls,
-                is_blown: false,
+                left: fault.after,
+                most: fault.most,
+                failed: 0,
             },
-            is_memory,
+            of_fragments: fault.of_fragments,
+            is_memory: fault.is_memory,
         }
     }
 
@@ -60,20 +76,30 @@ impl<B: Base> Faulty<B> {
         let Faulty {
             base,
             fuse: _,
+            of_fragments: _,
             is_memory: _,
         } = self;
         base
     }
 
+    /// Whether the call that begins, which reads no fragment, is to fail.
+    fn is_due(&mut self) -> bool
+        ensures base { self.new.base ≡ self.old.base }
+        ensures failed { self.new.fuse.failed ≡ self.old.fuse.failed }
+        ensures due { result ≡ true → self.new.fuse.failed < 1000000 }
+    {
+        !self.of_fragments && self.fuse.is_due()
+    }
+
     /// Fails, as a store does: the change is ended.
     fn fail(&mut self) -> BaseFault
-        requires { self.old.fuse.is_blown ≡ false }
+        requires { self.old.fuse.failed < 1000000 }
         ensures clean { B.is_clean self.new.base → B.is_clean self.old.base }
         ensures count { ⟦<Faulty<B> as Base>⟧.failures self.old ≤ ⟦<Faulty<B> as Base>⟧.failures self.new }
         ensures fault { IsFault ⟦<Faulty<B> as Base>⟧.is_clean ⟦<Faulty<B> as Base>⟧.failures ⟦<Faulty<B> as Base>⟧.state result self.old self.new }
         ensures served { IsServed result }
     {
-        self.fuse.is_blown = true;
+        self.fuse.failed += 1;
         abandon(&mut self.base);
         if self.is_memory {
             BaseFault::Memory
@@ -86,7 +112,7 @@ impl<B: Base> Faulty<B> {
 impl<B: Base> Base for Faulty<B> {
     ghost state = { λ b. B.state b.base };
 
-    ghost failures = { λ b. B.failures b.base + (if b.fuse.is_blown then 1 else 0) };
+    ghost failures = { λ b. B.failures b.base + b.fuse.failed };
 
     ghost is_clean = { λ b. B.is_clean b.base };
 
@@ -100,7 +126,7 @@ impl<B: Base> Base for Faulty<B> {
         if self.is_begun() {
             return Err(BaseFault::Begun);
         }
-        if self.fuse.is_due() {
+        if self.is_due() {
             return Err(self.fail());
         }
         self.base.begin()
@@ -110,7 +136,7 @@ impl<B: Base> Base for Faulty<B> {
         if !self.is_begun() {
             return Err(BaseFault::NotBegun);
         }
-        if self.fuse.is_due() {
+        if self.is_due() {
             return Err(self.fail());
         }
         self.base.commit()
@@ -120,7 +146,7 @@ impl<B: Base> Base for Faulty<B> {
         if !self.is_begun() {
             return Err(BaseFault::NotBegun);
         }
-        if self.fuse.is_due() {
+        if self.is_due() {
             return Err(self.fail());
         }
         self.base.rollback()
@@ -133,11 +159,18 @@ impl<B: Base> Base for Faulty<B> {
         self.base.fragment(rel, label)
     }
 
+    fn entity(&mut self, rel: RelNo, place: &Place) -> Result<Fragment, BaseFault> {
+        if self.is_due() {
+            return Err(self.fail());
+        }
+        self.base.entity(rel, place)
+    }
+
     fn add(&mut self, rel: RelNo, node: Node, cells: &[Cell]) -> Result<(), BaseFault> {
         if !self.is_begun() {
             return Err(BaseFault::NotBegun);
         }
-        if self.fuse.is_due() {
+        if self.is_due() {
             return Err(self.fail());
         }
         self.base.add(rel, node, cells)
@@ -153,7 +186,7 @@ impl<B: Base> Base for Faulty<B> {
         if !self.is_begun() {
             return Err(BaseFault::NotBegun);
         }
-        if self.fuse.is_due() {
+        if self.is_due() {
             return Err(self.fail());
         }
         self.base.set(rel, place, attr, value)
@@ -163,7 +196,7 @@ impl<B: Base> Base for Faulty<B> {
         if !self.is_begun() {
             return Err(BaseFault::NotBegun);
         }
-        if self.fuse.is_due() {
+        if self.is_due() {
             return Err(self.fail());
         }
         self.base.drop_at(rel, place)
@@ -173,14 +206,14 @@ impl<B: Base> Base for Faulty<B> {
         if !self.is_begun() {
             return Err(BaseFault::NotBegun);
         }
-        if self.fuse.is_due() {
+        if self.is_due() {
             return Err(self.fail());
         }
         self.base.audit_add(bytes)
     }
 
     fn audit_all(&mut self) -> Result<Items<Items<u8>>, BaseFault> {
-        if self.fuse.is_due() {
+        if self.is_due() {
             return Err(self.fail());
         }
         self.base.audit_all()

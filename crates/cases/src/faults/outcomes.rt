@@ -21,8 +21,17 @@ enum Way {
     Steps,
 }
 
-/// What is tried of each script.
-const TRIALS: [(Way, What); 5] = [
+/// What is tried of a script.
+#[derive(Clone, Copy)]
+pub enum Trials {
+    /// That one of its calls, or writes, fails.
+    Calls,
+    /// That the calls which read fragments fail.
+    Fragments,
+}
+
+/// How single calls, and writes, fail.
+const CALLS: [(Way, What); 5] = [
     (Way::Run, What::Store),
     (Way::Run, What::Memory),
     (Way::Run, What::Write),
@@ -91,7 +100,7 @@ fn tell_outcomes(
     }
 }
 
-fn tell_trials(
+fn tell_calls(
     alloc: Global,
     policy: &Policy,
     schemes: &Schemes,
@@ -102,8 +111,29 @@ fn tell_trials(
     requires events { AllByRecursion (EventFits policy.now schemes.now) scripts.events.now }
     requires questions { AllByRecursion (EventFits policy.now schemes.now) scripts.questions.now }
 {
-    for (way, what) in TRIALS {
+    for (way, what) in CALLS {
         tell_outcomes(alloc, policy, schemes, scripts, way, what, out);
+    }
+}
+
+fn tell_trials(
+    alloc: Global,
+    policy: &Policy,
+    schemes: &Schemes,
+    trials: Trials,
+    scripts: Scripts<'_>,
+    out: &mut Told,
+)
+    requires under { AreUnder (length policy.now.labels) schemes.now }
+    requires events { AllByRecursion (EventFits policy.now schemes.now) scripts.events.now }
+    requires questions { AllByRecursion (EventFits policy.now schemes.now) scripts.questions.now }
+{
+    match trials {
+        Trials::Calls => tell_calls(alloc, policy, schemes, scripts, out),
+        Trials::Fragments => {
+            let what = What::Fragments;
+            tell_outcomes(alloc, policy, schemes, scripts, Way::Run, what, out);
+        }
     }
 }
 
@@ -111,6 +141,7 @@ fn tell_script(
     alloc: Global,
     policy: &Policy,
     schemes: &Schemes,
+    trials: Trials,
     text: &str,
     questions: &[Event],
     out: &mut Told,
@@ -124,7 +155,7 @@ fn tell_script(
                 events: &events,
                 questions,
             };
-            tell_trials(alloc, policy, schemes, scripts, out);
+            tell_trials(alloc, policy, schemes, trials, scripts, out);
         }
         Err(_) => out.push("no script\n"),
     }
@@ -135,16 +166,17 @@ pub fn told(
     alloc: Global,
     policy: &Policy,
     schemes: &Schemes,
-    file: &str,
+    file: (&str, Trials),
     text: &str,
     questions: &[Event],
 ) -> Result<String, AllocError>
     requires under { AreUnder (length policy.now.labels) schemes.now }
     requires questions { AllByRecursion (EventFits policy.now schemes.now) questions.now }
 {
+    let (name, trials) = file;
     let mut out = Told::new(alloc);
     out.push("== ");
-    out.push_line(file);
-    tell_script(alloc, policy, schemes, text, questions, &mut out);
+    out.push_line(name);
+    tell_script(alloc, policy, schemes, trials, text, questions, &mut out);
     out.finish()
 }

@@ -7,7 +7,7 @@ ghost use Rattle.mls_filterview.specs.Content.{no_content};
 ghost use Rattle.mls_replies.specs.Under.{site_under};
 ghost use Rattle.mls_sessions.specs.World.{IsSound};
 
-use super::faulty::Faulty;
+use super::faulty::{Fault, Faulty};
 use super::narrow::Narrow;
 use case_tables::{Told, text_of};
 use mls_filterview::Base;
@@ -18,7 +18,8 @@ use mls_sessions::{Engine, RunFault, Stored, run};
 use mls_updates::ListBase;
 use std::alloc::Global;
 
-/// What fails: a call of the base by its store or for want of memory, or a write; after so many that don't.
+/// What fails: a call of the base by its store or for want of memory, each call that reads a fragment, or a write; after so many that
+/// don't.
 #[derive(Clone, Copy)]
 pub struct Failure {
     pub what: What,
@@ -30,20 +31,31 @@ pub struct Failure {
 pub enum What {
     Store,
     Memory,
+    Fragments,
     Write,
 }
 
 impl Failure {
-    /// An empty base of which a call fails, or none where a write does.
+    /// The calls of a base that fail.
+    fn fault(self) -> Fault {
+        let (after, most) = match self.what {
+            What::Store | What::Memory => (self.after, 1),
+            What::Fragments => (self.after, u64::MAX),
+            What::Write => (0, 0),
+        };
+        Fault {
+            after,
+            most,
+            of_fragments: matches!(self.what, What::Fragments),
+            is_memory: matches!(self.what, What::Memory),
+        }
+    }
+
+    /// An empty base of which calls fail, or none where a write does.
     pub fn base(self, alloc: Global) -> Faulty<ListBase>
         ensures { ⟦<ListBase as Base>⟧.state result.base ≡ record { now = no_content; kept = no_content; begun = false } }
     {
-        let lists = ListBase::new(alloc);
-        match self.what {
-            What::Store => Faulty::new(lists, self.after, false),
-            What::Memory => Faulty::new(lists, self.after, true),
-            What::Write => Faulty::new(lists, u64::MAX, false),
-        }
+        Faulty::new(ListBase::new(alloc), self.fault())
     }
 
     fn writer(self, alloc: Global) -> Narrow {

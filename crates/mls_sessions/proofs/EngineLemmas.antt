@@ -1,5 +1,5 @@
 -- What each way through a step does is the machine's step, and the engine keeps what it holds.
-use Rattle.std.proofs.Common.{◌≡◌, ℕ, Bool, true, false, cond, List, length, Option, Some, None, Result, Ok, Err, refl, sym, ap, ◌∙◌, subst, Vec, Global, arith}
+use Rattle.std.proofs.Common.{◌≡◌, ℕ, Bool, true, false, cond, List, length, Option, Some, None, Result, Ok, Err, refl, sym, ap, ◌∙◌, subst, Vec, Global, arith, ◌≤◌}
 use Rattle.std.specs.Prelude.{IfOk, IfErr, OnErr}
 use Rattle.std.specs.List.{filter}
 use Rattle.mls_filterview.specs.declared.base.BaseFault.{BaseFault}
@@ -31,8 +31,8 @@ use Rattle.mls_monitor.specs.Sessions.{sessions_of, AreForUsers}
 use Rattle.mls_sessions.specs.World.{world_at, IsSound}
 use Rattle.mls_monitor.specs.Sessions.{IsSessionStep}
 use Rattle.mls_sessions.specs.Turns.{IsTurn, IsStepOver}
-use Rattle.mls_sessions.specs.Views.{Kept, AreRows, AreDeclared, outlives, is_quiet, left_by}
-use Rattle.mls_sessions.proofs.KeptLemmas.{outlived_declared, outlived_rows}
+use Rattle.mls_sessions.specs.Views.{Kept, AreRows, AreDeclared, most_views, outlives, is_quiet, left_by}
+use Rattle.mls_sessions.proofs.KeptLemmas.{outlived_most, outlived_declared, outlived_rows}
 use Rattle.mls_sessions.proofs.UnseenLemmas.{unseen, quiet_db}
 use Rattle.mls_sessions.specs.Engine.{site, world_of, IsReady, IsStep, IsKept, IsEngineTurn}
 
@@ -189,9 +189,17 @@ module _ {B : Type 0} (state : B → State) (is_clean : B → Type 0) (failures 
     left_declared (Ok r) left = subst (AreDeclared (length (site old).policy.labels)) (sym left.0) (declared_left (is_quiet r))
     left_declared (Err e) left = subst (AreDeclared (length (site old).policy.labels)) (sym left.1) ready.declared
 
+    most_left : (quiet : Bool) → length (cond quiet old.views (filter (outlives (site_labels (site old)) event.level) old.views)) ≤ most_views
+    most_left true = ready.most
+    most_left false = outlived_most (site_labels (site old)) event.level old.views ready.most
+
+    left_most : (r : Result Reply BaseFault) → AreLeft r → length views ≤ most_views
+    left_most (Ok r) left = subst (λ (es : Kept). length es ≤ most_views) (sym left.0) (most_left (is_quiet r))
+    left_most (Err e) left = subst (λ (es : Kept). length es ≤ most_views) (sym left.1) ready.most
+
     pub answers_over : (r : Result Reply BaseFault) → IsTurn is_clean failures now old.base b r → (state b).begun ≡ false → (is_clean b → Over r)
-        → AreDeclared (length (site old).policy.labels) views → (is_clean b → Are views) → Answers new r
-    answers_over r t idle h declared are = record {
+        → length views ≤ most_views → AreDeclared (length (site old).policy.labels) views → (is_clean b → Are views) → Answers new r
+    answers_over r t idle h most declared are = record {
       turn = over_turn r t;
       kept = record {
         rules = refl;
@@ -203,6 +211,7 @@ module _ {B : Type 0} (state : B → State) (is_clean : B → Type 0) (failures 
           users = ready.users;
           idle = idle;
           sound = λ c. over_sound r t c (h c);
+          most = most;
           declared = declared;
           views = are;
         };
@@ -212,10 +221,10 @@ module _ {B : Type 0} (state : B → State) (is_clean : B → Type 0) (failures 
 
     pub answers_stay : (r : Result Reply BaseFault) → IsTurn is_clean failures now old.base b r → (state b).begun ≡ false → (is_clean b → Over r) → (X w).world.db ≡ w.db → views ≡ old.views → Answers new r
     answers_stay r t idle h same kept =
-        answers_over r t idle h (subst (AreDeclared (length (site old).policy.labels)) (sym kept) ready.declared) (λ c. subst Are (sym kept) (views_stay r t h same c))
+        answers_over r t idle h (subst (λ (es : Kept). length es ≤ most_views) (sym kept) ready.most) (subst (AreDeclared (length (site old).policy.labels)) (sym kept) ready.declared) (λ c. subst Are (sym kept) (views_stay r t h same c))
 
     pub answers_left : (r : Result Reply BaseFault) → IsTurn is_clean failures now old.base b r → (state b).begun ≡ false → (is_clean b → Over r) → AreLeft r → Answers new r
-    answers_left r t idle h left = answers_over r t idle h (left_declared r left) (views_left r t h left)
+    answers_left r t idle h left = answers_over r t idle h (left_most r left) (left_declared r left) (views_left r t h left)
 
   -- ---- with other sessions
 
@@ -224,7 +233,7 @@ module _ {B : Type 0} (state : B → State) (is_clean : B → Type 0) (failures 
     with_them = record old { sessions = sessions }
 
     them_kept : IsKept state is_clean old with_them
-    them_kept = record { rules = refl; ready = record { under = ready.under; distinct = ready.distinct; read = ready.read; certified = ready.certified; users = users; idle = ready.idle; sound = ready.sound; declared = ready.declared; views = ready.views } }
+    them_kept = record { rules = refl; ready = record { under = ready.under; distinct = ready.distinct; read = ready.read; certified = ready.certified; users = users; idle = ready.idle; sound = ready.sound; most = ready.most; declared = ready.declared; views = ready.views } }
 
     pub answers_closed : sessions_of sessions.items ≡ with_session (sessions_of old.sessions.items) event.level event.session None → s ≡ closed w event → Answers with_them (Ok Closed)
     answers_closed h is = record {

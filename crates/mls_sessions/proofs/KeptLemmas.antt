@@ -1,5 +1,5 @@
 -- What holds of kept views holds after one is taken, kept or given up.
-use Rattle.std.proofs.Common.{◌≡◌, ℕ, zero, suc, ◌<◌, Bool, true, false, cond, not, List, [], ◌∷◌, map, take, Option, Some, None, refl, sym, ap, ◌∙◌, subst, eqb-true}
+use Rattle.std.proofs.Common.{◌≡◌, ℕ, zero, suc, ◌<◌, Bool, true, false, cond, not, List, [], ◌∷◌, map, take, Option, Some, None, refl, sym, ap, ◌∙◌, subst, eqb-true, ◌+◌, ◌≤◌, length, arith}
 use Rattle.std.specs.Prelude.{nat_eq}
 use Rattle.std.specs.List.{AllByRecursion, filter}
 use Rattle.std.specs.FinMap.{entries}
@@ -13,7 +13,7 @@ use Rattle.mls_filterview.specs.Subsumption.{is_max_among}
 use Rattle.mls_filterview.specs.View.{low, rows}
 use Rattle.lru.proofs.CallerLemmas.{Contains-lookup_entry}
 use Rattle.mls_sessions.specs.declared.views.ViewKey.{ViewKey}
-use Rattle.mls_sessions.specs.Views.{Kept, AreRows, AreDeclared, key_of, is_view, put_view, outlives}
+use Rattle.mls_sessions.specs.Views.{Kept, AreRows, AreDeclared, key_of, is_view, put_view, outlives, most_views}
 use Rattle.mls_sessions.proofs.ViewsLemmas.{Entry, key_refl, all_filtered}
 
 -- ---- lists
@@ -42,6 +42,53 @@ module _ (P : Entry → Type 0) where
 
 key_parts : (rel label : ℕ) (k : ViewKey) → is_view rel label k ≡ true → (rel ≡ k.rel) × (label ≡ k.label)
 key_parts rel label k h = let parts = and_parts (nat_eq rel k.rel) (nat_eq label k.label) h in (eqb-true rel k.rel parts.0, eqb-true label k.label parts.1)
+
+-- ---- how many
+
+removed_fewer : (test : ViewKey → Bool) (es : Kept) → length (remove_entry test es) ≤ length es
+removed_fewer test [] = omega arith
+removed_fewer test (e ∷ es) = elim (test e.0) as (λ b. length (cond b es (e ∷ remove_entry test es)) ≤ length (e ∷ es)) [
+  | true ↦ omega arith
+  | false ↦ let a = removed_fewer test es in omega (arith, a)
+]
+
+none_entry : {A : Type 0} (e : Entry) → None ≡ Some e → A
+none_entry e h = absurd cc
+
+found_fewer : (test : ViewKey → Bool) (es : Kept) (e : Entry) → lookup_entry test es ≡ Some e → length (remove_entry test es) + 1 ≤ length es
+found_fewer test [] e h = none_entry e h
+found_fewer test (x ∷ es) e h =
+    (elim (test x.0) as (λ b. cond b (Some x) (lookup_entry test es) ≡ Some e → length (cond b es (x ∷ remove_entry test es)) + 1 ≤ length (x ∷ es)) [
+      | true ↦ λ k. omega arith
+      | false ↦ λ k. (let a = found_fewer test es e k in omega (arith, a))
+    ]) h
+
+taken_fewer : (n : ℕ) (es : Kept) → length (take n es) ≤ n
+taken_fewer zero es = omega arith
+taken_fewer (suc n) [] = omega arith
+taken_fewer (suc n) (e ∷ es) = let a = taken_fewer n es in omega (arith, a)
+
+filtered_fewer : (test : Entry → Bool) (es : Kept) → length (filter test es) ≤ length es
+filtered_fewer test [] = omega arith
+filtered_fewer test (e ∷ es) = elim (test e) as (λ b. length (cond b (e ∷ filter test es) (filter test es)) ≤ length (e ∷ es)) [
+  | true ↦ let a = filtered_fewer test es in omega (arith, a)
+  | false ↦ let a = filtered_fewer test es in omega (arith, a)
+]
+
+pub removed_most : (rel label : ℕ) (es : Kept) → length es ≤ most_views → length (remove_entry (is_view rel label) es) ≤ most_views
+removed_most rel label es h = let a = removed_fewer (is_view rel label) es in omega (arith, a, h)
+
+module _ (rel label : ℕ) (tuples : List Tuple) (es : Kept) (h : length es ≤ most_views) where
+  put_most_by : (o : Option Entry) → lookup_entry (is_view rel label) es ≡ o
+      → length (option_map_or (λ (e : Entry). (e.0, tuples) ∷ remove_entry (is_view rel label) es) o ((key_of rel label, tuples) ∷ take 31 es)) ≤ most_views
+  put_most_by None is = let a = taken_fewer 31 es in omega (arith, a)
+  put_most_by (Some e) is = let a = found_fewer (is_view rel label) es e is in omega (arith, a, h)
+
+  pub put_most : length (put_view rel label tuples es) ≤ most_views
+  put_most = put_most_by (lookup_entry (is_view rel label) es) refl
+
+pub outlived_most : (ls : Labels) (level : ℕ) (es : Kept) → length es ≤ most_views → length (filter (outlives ls level) es) ≤ most_views
+outlived_most ls level es h = let a = filtered_fewer (outlives ls level) es in omega (arith, a, h)
 
 -- ---- labels
 

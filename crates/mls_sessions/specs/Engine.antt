@@ -1,5 +1,5 @@
 -- The world that an engine holds, and what an engine keeps to.
-use Rattle.std.specs.Prelude.{◌≡◌, ℕ, false, length, Result}
+use Rattle.std.specs.Prelude.{◌≡◌, ℕ, ◌≤◌, false, length, Result}
 use Rattle.mls_lattice.specs.Labels.{AreDistinct}
 use Rattle.mls_scheme.specs.Scheme.{AreUnder}
 use Rattle.mls_filterview.specs.declared.base.BaseFault.{BaseFault}
@@ -12,7 +12,7 @@ use Rattle.mls_sessions.specs.declared.engine.Engine.{Engine}
 use Rattle.mls_monitor.specs.Sessions.{site_of, sessions_of, AreForUsers}
 use Rattle.mls_sessions.specs.World.{world_at, IsSound}
 use Rattle.mls_sessions.specs.Turns.{IsTurn}
-use Rattle.mls_sessions.specs.Views.{AreRows, AreDeclared}
+use Rattle.mls_sessions.specs.Views.{AreRows, AreDeclared, most_views}
 
 abbrev pub site : {B : Type 0} → Engine B → Site
 site e = site_of e.rules
@@ -21,7 +21,7 @@ module _ {B : Type 0} (state : B → State) where
   abbrev pub world_of : Engine B → World
   world_of e = world_at (site e) (sessions_of e.sessions.items) (state e.base).now
 
-  -- what an engine holds between events; over a clean base each kept view is that of the content now
+  -- what an engine holds between events; over a clean base each view that it keeps is that of the content now
   pub record IsReady (is_clean : B → Type 0) (e : Engine B) : Type 0 where
     pub under : AreUnder (length (site e).policy.labels) (site e).schemes
     pub distinct : AreDistinct (site_labels (site e))
@@ -30,6 +30,7 @@ module _ {B : Type 0} (state : B → State) where
     pub users : AreForUsers (length (site e).policy.users) e.sessions.items
     pub idle : (state e.base).begun ≡ false
     pub sound : is_clean e.base → IsSound (site e) (state e.base).now
+    pub most : length e.views ≤ most_views
     pub declared : AreDeclared (length (site e).policy.labels) e.views
     pub views : is_clean e.base → AreRows (site_labels (site e)) (state e.base).now.db e.views
 

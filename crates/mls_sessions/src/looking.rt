@@ -1,5 +1,5 @@
 //! Events that look at the base: views and audits. They change no content.
-ghost use Rattle.std.specs.Prelude.{◌≡◌, ◌<◌, false, length, IfOk, OnOk};
+ghost use Rattle.std.specs.Prelude.{◌≡◌, ◌<◌, ◌≤◌, false, length, IfOk, OnOk};
 ghost use Rattle.mls_lattice.specs.Policy.{labels_of};
 ghost use Rattle.mls_filterview.specs.View.{rows};
 ghost use Rattle.mls_audit.specs.Entry.{visible};
@@ -10,7 +10,7 @@ ghost use Rattle.mls_monitor.specs.Sessions.{site_of};
 ghost use Rattle.mls_sessions.specs.World.{declared, entries_in, IsSound};
 ghost use Rattle.mls_replies.specs.Known.{HasKnownNumbers};
 ghost use Rattle.mls_sessions.specs.Turns.{IsTurn, IsStepOver};
-ghost use Rattle.mls_sessions.specs.Views.{AreRows, AreDeclared};
+ghost use Rattle.mls_sessions.specs.Views.{AreRows, AreDeclared, most_views};
 
 use crate::views::Views;
 use mls_audit::{Entry, EntryFault, entry_of, visible};
@@ -32,12 +32,14 @@ fn resolved<B: Base>(
     requires idle { (B.state base.old).begun ≡ false }
     requires label { label < length rules.now.policy.now.labels }
     requires sound { B.is_clean base.old → IsSound (site_of rules.now) (B.state base.old).now }
+    requires most { length views.old ≤ most_views }
     requires declared { AreDeclared (length rules.now.policy.now.labels) views.old }
     requires are_rows { B.is_clean base.old → AreRows (labels_of rules.now.policy.now) (B.state base.old).now.db views.old }
     ensures turn { IsTurn B.is_clean B.failures (λ b. (B.state b).now) base.old base.new result }
     ensures idle { (B.state base.new).begun ≡ false }
     ensures rows { B.is_clean base.new → IfOk result (λ ts. ts ≡ rows (labels_of rules.now.policy.now) label ((B.state base.old).now.db rel)) }
     ensures same { B.is_clean base.new → OnOk result (B.state base.new ≡ B.state base.old) }
+    ensures most { length views.new ≤ most_views }
     ensures declared { AreDeclared (length rules.now.policy.now.labels) views.new }
     ensures are_rows { B.is_clean base.new → AreRows (labels_of rules.now.policy.now) (B.state base.new).now.db views.new }
 {
@@ -59,12 +61,14 @@ pub(crate) fn look<B: Base>(
     requires idle { (B.state base.old).begun ≡ false }
     requires label { label < length rules.now.policy.now.labels }
     requires sound { B.is_clean base.old → IsSound (site_of rules.now) (B.state base.old).now }
+    requires most { length views.old ≤ most_views }
     requires declared { AreDeclared (length rules.now.policy.now.labels) views.old }
     requires are_rows { B.is_clean base.old → AreRows (labels_of rules.now.policy.now) (B.state base.old).now.db views.old }
     ensures turn { IsTurn B.is_clean B.failures (λ b. (B.state b).now) base.old base.new result }
     ensures idle { (B.state base.new).begun ≡ false }
     ensures done { B.is_clean base.new → IfOk result (IsStepOver (site_of rules.now) (λ w. viewed (site_of rules.now) w rel label) (B.state base.old).now (B.state base.new).now) }
     ensures known { IfOk result (HasKnownNumbers rules.now.policy.now) }
+    ensures most { length views.new ≤ most_views }
     ensures declared { AreDeclared (length rules.now.policy.now.labels) views.new }
     ensures are_rows { B.is_clean base.new → AreRows (labels_of rules.now.policy.now) (B.state base.new).now.db views.new }
 {

@@ -1,10 +1,16 @@
-use Rattle.std.proofs.Common.{◌≡◌, length, sym, ap, ◌∙◌, subst, inl, inr}
+use Rattle.std.proofs.Common.{◌≡◌, ◌≤◌, length, sym, ap, ◌∙◌, subst, inl, inr}
 use Rattle.mls_lattice.specs.Policy.{labels_of}
 use Rattle.mls_filterview.specs.Content.{State}
 use Rattle.mls_filterview.specs.View.{rows}
-use Rattle.mls_sessions.specs.Views.{AreRows, AreDeclared}
-use Rattle.mls_sessions.proofs.KeptLemmas.{put_declared, put_rows}
+use Rattle.mls_sessions.specs.Views.{Kept, AreRows, AreDeclared, most_views}
+use Rattle.mls_sessions.proofs.KeptLemmas.{put_most, put_declared, put_rows}
 use Rattle.mls_sessions.proofs.looking.look.Goals as goal
+
+pub returns-clause-most : goal.returns-clause-most
+returns-clause-most g c = elim c.keep.ensures [
+  | inl same ↦ subst (λ (es : Kept). length es ≤ most_views) (sym same) c.resolved.ensures.most
+  | inr put ↦ subst (λ (es : Kept). length es ≤ most_views) (sym put) (put_most c.args.rel c.args.label c.in_ok-tuples.tuples c.resolved.new.views c.resolved.ensures.most)
+]
 
 pub returns-clause-declared : goal.returns-clause-declared
 returns-clause-declared g c =

@@ -27,7 +27,11 @@ fn nodes_at<S: Alter>(
     ensures found { IsClean store.new → IfOk result (λ rows. IsPermutation (filter (is_node rel ent.now place.now.key_class place.now.class) store.old.now.nodes) rows.items) }
     ensures same { IsClean store.new → OnOk result (IsSame store.old store.new) }
 {
-    let mut rows = store.nodes_of(u32::from(rel.byte()), ent, u32::from(place.key_class.byte()))?;
+    let mut rows = store.nodes_of(
+        u32::from(rel.byte()),
+        ent,
+        u32::from(place.key_class.byte()),
+    )?;
     rows.retain(|row| row.label == u32::from(place.class.byte()));
     Ok(rows)
 }
@@ -44,7 +48,11 @@ fn cells_at<S: Alter>(
     ensures found { IsClean store.new → IfOk result (λ rows. IsPermutation (filter (is_cell_in rel ent.now place.now.key_class place.now.class) store.old.now.cells) rows.items) }
     ensures same { IsClean store.new → OnOk result (IsSame store.old store.new) }
 {
-    let mut rows = store.cells_of(u32::from(rel.byte()), ent, u32::from(place.key_class.byte()))?;
+    let mut rows = store.cells_of(
+        u32::from(rel.byte()),
+        ent,
+        u32::from(place.key_class.byte()),
+    )?;
     rows.retain(|row| row.label == u32::from(place.class.byte()));
     Ok(rows)
 }

@@ -185,12 +185,7 @@ fn parts_of(alloc: Global, row: &Row) -> Result<Fragment, AllocError>
 }
 
 /// The parts of the tuple of a relation at a place, if there is one.
-fn entity_of(
-    alloc: Global,
-    rows: &[Row],
-    rel: RelNo,
-    place: &Place,
-) -> Result<Fragment, AllocError>
+fn entity_of(alloc: Global, rows: &[Row], rel: RelNo, place: &Place) -> Result<Fragment, AllocError>
     ensures nodes { IfOk result (λ f. f.nodes ≡ option_map_or (λ es. node_of (place.now, es) ∷ []) (found_at rel place.now rows.now) []) }
     ensures cells { IfOk result (λ f. f.cells ≡ option_map_or (λ es. cells_of (place.now, es)) (found_at rel place.now rows.now) []) }
 {

@@ -1,9 +1,9 @@
 //! Certificates, and files of them: what is read of a text, and what is printed for that.
 use crate::show::{push_fault, push_word};
 use case_tables::{Told, unfolded};
-use mls_certificate::{Cert, CertCause, CertFault, certs_read};
+use mls_certificate::{Cert, Cert2, CertCause, CertFault, Certificate, certs_read};
 use mls_lattice::Str;
-use std::alloc::Global;
+use std::alloc::{AllocError, Global};
 
 /// Adds a text, a bar for each end of a line.
 fn push_barred(text: &str, out: &mut Told) {
@@ -14,10 +14,25 @@ fn push_barred(text: &str, out: &mut Told) {
     }
 }
 
-fn push_cert(alloc: Global, cert: &Cert, out: &mut Told) {
-    match cert.print(alloc) {
+fn push_printed(printed: Result<String, AllocError>, out: &mut Told) {
+    match printed {
         Ok(text) => push_barred(&text, out),
         Err(_) => out.fail(),
+    }
+}
+
+/// The text of a certificate of version 2, which has as many rows as statements.
+pub fn print2(alloc: Global, cert: &Cert2) -> Result<String, AllocError> {
+    if cert.rows.len() != cert.pc_labels.len() {
+        return Err(AllocError);
+    }
+    cert.print(alloc)
+}
+
+fn push_certificate(alloc: Global, certificate: &Certificate, out: &mut Told) {
+    match certificate {
+        Certificate::One(cert) => push_printed(cert.print(alloc), out),
+        Certificate::Two(cert) => push_printed(print2(alloc, cert), out),
     }
 }
 
@@ -30,21 +45,33 @@ fn push_fault_at(fault: CertFault, out: &mut Told) {
 
 fn tell_cert(alloc: Global, bytes: &[u8], out: &mut Told) {
     match Cert::read(alloc, bytes) {
-        Ok(cert) => push_cert(alloc, &cert, out),
+        Ok(cert) => push_printed(cert.print(alloc), out),
         Err(fault) => push_fault_at(fault, out),
     }
 }
 
-/// The certificate that a folded text is, if it is one.
-pub fn cert_of(alloc: Global, text: &str) -> Option<Cert> {
-    let text = unfolded(alloc, text).ok()?;
-    Cert::read(alloc, &text).ok()
+fn tell_cert2(alloc: Global, bytes: &[u8], out: &mut Told) {
+    match Cert2::read(alloc, bytes) {
+        Ok(cert) => push_printed(print2(alloc, &cert), out),
+        Err(fault) => push_fault_at(fault, out),
+    }
 }
 
-fn push_blocks(alloc: Global, blocks: &[(Str, Cert)], out: &mut Told) {
+/// The certificate that a folded text is, if it is one: of version 2 where it begins with `pcs`.
+pub fn certificate_of(alloc: Global, text: &str) -> Option<Certificate> {
+    let bytes = unfolded(alloc, text).ok()?;
+    if text.starts_with("pcs") {
+        let cert = Cert2::read(alloc, &bytes).ok()?;
+        return Some(Certificate::Two(cert));
+    }
+    let cert = Cert::read(alloc, &bytes).ok()?;
+    Some(Certificate::One(cert))
+}
+
+fn push_blocks(alloc: Global, blocks: &[(Str, Certificate)], out: &mut Told) {
     for block in blocks {
         push_word(block.0.as_str(), out);
-        push_cert(alloc, &block.1, out);
+        push_certificate(alloc, &block.1, out);
     }
 }
 
@@ -78,12 +105,13 @@ fn tell_prefixes(alloc: Global, bytes: &[u8], out: &mut Told) {
 fn tell_bytes(alloc: Global, kind: &str, bytes: &[u8], out: &mut Told) {
     match kind {
         "cert" => tell_cert(alloc, bytes, out),
+        "cert2" => tell_cert2(alloc, bytes, out),
         "file" => tell_file(alloc, bytes, out),
         _ => tell_prefixes(alloc, bytes, out),
     }
 }
 
-/// Tells what texts are read as: a line is `cert`, `file` or `prefixes`, and the text.
+/// Tells what texts are read as: a line is `cert`, `cert2`, `file` or `prefixes`, and the text.
 pub fn tell(alloc: Global, head: &str, out: &mut Told) {
     let (kind, text) = head.split_once(' ').unwrap_or((head, ""));
     out.push(head);

@@ -11,7 +11,7 @@ use case_tables::{Case, Told, inner};
 use mls_audit::{Entry, entry_bytes, entry_of, visible};
 use mls_lattice::{LabelNo, Policy};
 use mls_scheme::Value;
-use std::alloc::Global;
+use std::alloc::{AllocError, Global};
 
 /// Adds what was released.
 fn push_released(value: &Option<Value>, out: &mut Told) {
@@ -76,6 +76,74 @@ fn tell_entry(alloc: Global, bytes: &[u8], out: &mut Told) {
     match entry_of(alloc, bytes) {
         Ok(entry) => push_read(alloc, &entry, out),
         Err(fault) => push_word(fault.word(), out),
+    }
+}
+
+/// Adds a short string of so many letters.
+fn push_letters(count: u8, bytes: &mut Vec<u8>) -> Result<(), AllocError> {
+    bytes.push(count)?;
+    for _ in 0..count {
+        bytes.push(b'x')?;
+    }
+    Ok(())
+}
+
+/// The bytes of a call at U, whose user, session and transaction have names of so many letters.
+fn call_of(alloc: Global, count: u8) -> Result<Vec<u8>, AllocError> {
+    let mut bytes = Vec::new(alloc);
+    bytes.extend_from_slice(&[1, 0])?;
+    push_letters(count, &mut bytes)?;
+    push_letters(count, &mut bytes)?;
+    push_letters(count, &mut bytes)?;
+    Ok(bytes)
+}
+
+fn push_length(name: &str, out: &mut Told) {
+    out.push(" ");
+    out.push_count(name.len());
+}
+
+/// Adds how long the names of a call are.
+fn push_lengths(entry: &Entry, out: &mut Told) {
+    match entry {
+        Entry::Called {
+            user,
+            session,
+            transaction,
+            ..
+        } => {
+            push_length(user.as_str(), out);
+            push_length(session.as_str(), out);
+            push_length(transaction.as_str(), out);
+        }
+        _ => out.push(" no call"),
+    }
+}
+
+/// Adds how long the names of a call are, and whether the bytes that are written for it are those that were read.
+fn push_again(alloc: Global, entry: &Entry, bytes: &[u8], out: &mut Told)
+    requires { HasSpelling entry.now }
+{
+    push_lengths(entry, out);
+    match entry_bytes(alloc, entry) {
+        Ok(again) if again.as_slice() == bytes => out.push(", given back"),
+        Ok(_) => out.push(", not given back"),
+        Err(_) => out.fail(),
+    }
+}
+
+fn tell_call(alloc: Global, bytes: &[u8], out: &mut Told) {
+    match entry_of(alloc, bytes) {
+        Ok(entry) => push_again(alloc, &entry, bytes, out),
+        Err(fault) => push_word(fault.word(), out),
+    }
+}
+
+/// Tells of a call with names of so many letters.
+fn tell_names(alloc: Global, count: &str, out: &mut Told) {
+    match call_of(alloc, count.parse::<u8>().unwrap_or(0)) {
+        Ok(bytes) => tell_call(alloc, &bytes, out),
+        Err(_) => out.fail(),
     }
 }
 
@@ -159,15 +227,16 @@ fn tell_visible(alloc: Global, policy: &Policy, level: &str, body: &[&str], out:
     }
 }
 
-/// Tells what bytes spell: a line is `entry` or `prefixes`, and the bytes. `visible`, and a label, has lines of bytes below.
+/// Tells what bytes spell: a line is `entry` or `prefixes`, and the bytes; or `names`, and how long they are. `visible`, and a label, has
+/// lines of bytes below.
 pub fn tell(alloc: Global, policy: &Policy, case: &Case<'_>, out: &mut Told) {
     let (kind, rest) = case.head.split_once(' ').unwrap_or((case.head, ""));
     out.push(case.head);
     out.push(":");
-    if kind == "visible" {
-        tell_visible(alloc, policy, rest, case.body, out);
-    } else {
-        tell_bytes(alloc, kind, rest, out);
+    match kind {
+        "visible" => tell_visible(alloc, policy, rest, case.body, out),
+        "names" => tell_names(alloc, rest, out),
+        _ => tell_bytes(alloc, kind, rest, out),
     }
     out.push("\n");
 }

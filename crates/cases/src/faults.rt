@@ -20,7 +20,8 @@ use std::fs;
 use std::io::{self, Error, ErrorKind, Write};
 
 /// The scripts, in the order in which they are told.
-const FILES: [(&str, Trials); 3] = [
+const FILES: [(&str, Trials); 4] = [
+    ("first.script", Trials::Writes),
     ("audit.script", Trials::Calls),
     ("writes.script", Trials::Calls),
     ("again.script", Trials::Fragments),

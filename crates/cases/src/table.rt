@@ -37,9 +37,10 @@ pub enum Subject {
     TextLimits,
     Prints,
     Labels,
+    Labels2,
 }
 
-pub static TABLES: [(&str, Table); 16] = [
+pub static TABLES: [(&str, Table); 17] = [
     ("policies.txt", Table::Each(Subject::Policies)),
     ("schemes.txt", Table::Each(Subject::Schemes)),
     ("documents.txt", Table::Each(Subject::Documents)),
@@ -56,6 +57,7 @@ pub static TABLES: [(&str, Table); 16] = [
     ("checks.txt", Table::Checks),
     ("evaluations.txt", Table::Evaluations),
     ("labels.txt", Table::Each(Subject::Labels)),
+    ("labels2.txt", Table::Each(Subject::Labels2)),
 ];
 
 /// What is told of the cases of a table, under the sample policy and schemes.
@@ -134,7 +136,7 @@ fn tell_case(
         Subject::Certificates => certificates::tell(alloc, case.head, out),
         Subject::Texts => texts::tell_line(alloc, policy, schemes, case.head, out),
         Subject::TextLimits => text_limits::tell(alloc, policy, schemes, case.head, out),
-        Subject::Prints | Subject::Labels => {
+        Subject::Prints | Subject::Labels | Subject::Labels2 => {
             texts::tell_block(alloc, policy, schemes, subject, case, out);
         }
     }

@@ -1,5 +1,5 @@
 -- What the checker's answer says.
-use Rattle.std.proofs.Common.{◌≡◌, ℕ, zero, suc, ◌+◌, Bool, true, false, ◌&&◌, List, [], ◌∷◌, drop, Some, Result, Ok, Err, refl, sym, ap, ◌∙◌, arith}
+use Rattle.std.proofs.Common.{◌≡◌, ℕ, zero, suc, ◌+◌, ◌<◌, Bool, true, false, ◌&&◌, List, [], ◌∷◌, drop, Some, Result, Ok, Err, refl, sym, ap, ◌∙◌, arith}
 use Rattle.std.specs.Prelude.{◌↔◌, IfOk, option_map, slice_get}
 use Rattle.std.specs.List.{flat_map, list_all}
 use Rattle.mls_lattice.specs.Labels.{AreDistinct}
@@ -8,9 +8,9 @@ use Rattle.mls_translang.specs.declared.tx.Parameter.{Parameter}
 use Rattle.mls_translang.specs.Tree.{Block}
 use Rattle.mls_translang.specs.Tx.{Tx}
 use Rattle.mls_meaning.specs.Secure.{Secure}
-use Rattle.mls_certificate.specs.declared.cert.Cert.{Cert}
+use Rattle.mls_certificate.specs.declared.cert.Certificate.{Certificate}
 use Rattle.mls_certcheck.specs.Rules.{Claim, Rules, all_places, claim}
-use Rattle.mls_certcheck.specs.Checks.{verdict, tests_at, First}
+use Rattle.mls_certcheck.specs.Checks.{verdict, tests_at, all_below, First}
 use Rattle.mls_certcheck.specs.Walk.{Says, walked}
 use Rattle.mls_certcheck.specs.declared.refusal.Refusal.{Refusal}
 use Rattle.mls_certcheck.proofs.RulesLemmas.{rules_from_first, first_from_rules}
@@ -23,15 +23,15 @@ says_rules c (Ok u) h = (λ k. rules_from_first c h, λ rules. refl)
 says_rules c (Err e) h = (λ k. absurd cc, λ rules. absurd (let holds = first_from_rules c rules in cc))
 
 -- what is accepted is secure
-pub says_secure : (policy : Tables) → AreDistinct (labels_of policy) → (tx : Tx) (cert : Cert) (r : Result (Unit {0}) Refusal) → Says r (First (claim policy tx cert)) → IfOk r (λ _. Secure policy tx)
+pub says_secure : (policy : Tables) → AreDistinct (labels_of policy) → (tx : Tx) (cert : Certificate) (r : Result (Unit {0}) Refusal) → Says r (First (claim policy tx cert)) → IfOk r (λ _. Secure policy tx)
 says_secure policy distinct tx cert (Ok u) h = secure_rules policy distinct tx cert (rules_from_first (claim policy tx cert) h)
 says_secure policy distinct tx cert (Err e) h = tt
 
-pub body_err : (c : Claim) (rows : List ℕ) (b : Block) (e : Refusal) → rows ≡ [] → b ≡ c.tx.body → walked c 1 0 rows b ≡ Err e → verdict (flat_map (tests_at c) (all_places c)) ≡ Err e
-body_err c rows b e none whole h = walk_is_err c 1 0 [] c.tx.body e ((λ i. walked c 1 0 (sym none i) (sym whole i)) ∙ h)
+pub body_err : (c : Claim) (rows : List ℕ) (b : Block) (e : Refusal) → rows ≡ [] → b ≡ c.tx.body → walked c 1 0 0 rows b ≡ Err e → verdict (flat_map (tests_at c) (all_places c)) ≡ Err e
+body_err c rows b e none whole h = walk_is_err c 1 0 0 [] c.tx.body e ((λ i. walked c 1 0 0 (sym none i) (sym whole i)) ∙ h)
 
-pub body_ok : (c : Claim) (rows : List ℕ) (b : Block) (m : ℕ) → rows ≡ [] → b ≡ c.tx.body → walked c 1 0 rows b ≡ Ok m → verdict (flat_map (tests_at c) (all_places c)) ≡ Ok tt
-body_ok c rows b m none whole h = walk_is_ok c 1 0 [] c.tx.body m ((λ i. walked c 1 0 (sym none i) (sym whole i)) ∙ h)
+pub body_ok : (c : Claim) (rows : List ℕ) (b : Block) (m : ℕ) → rows ≡ [] → b ≡ c.tx.body → walked c 1 0 0 rows b ≡ Ok m → verdict (flat_map (tests_at c) (all_places c)) ≡ Ok tt
+body_ok c rows b m none whole h = walk_is_ok c 1 0 0 [] c.tx.body m ((λ i. walked c 1 0 0 (sym none i) (sym whole i)) ∙ h)
 
 -- ---- a loop over parameters
 
@@ -51,3 +51,12 @@ module _ (p : Parameter → Bool) (ps : List (Name × Parameter)) (i : ℕ) (x :
 
   pub param_more : b ≡ true → list_all (λ q. p q.1) (drop (i + 1) ps) ≡ all
   param_more h = sym (split ∙ ap (λ (t : Bool). t && list_all (λ q. p q.1) (drop (i + 1) ps)) h)
+
+-- ---- a loop over numbers
+
+pub below_fails : (n : ℕ) (p : ℕ → Bool) (i : ℕ) → i < n → p i ≡ false → all_below n p ≡ false
+below_fails zero p i within fails = absurd (omega (arith, within))
+below_fails (suc n) p i within fails =
+    let earlier : i < n → all_below n p ≡ false = λ lt. below_fails n p i lt fails in
+    let last : i ≡ n → p n ≡ false = λ e. ap p (sym e) ∙ fails in
+    grind (arith, earlier, last, within)

@@ -2,7 +2,7 @@
 use Rattle.std.proofs.Common.{◌≡◌, ℕ, zero, suc, ◌+◌, true, false, cond, List, [], ◌∷◌, ◌++◌, Option, Some, None, refl, sym, ap, ◌∙◌, subst, inl, inr, pos}
 use Rattle.std.proofs.Recursive.{every_front, every_back}
 use Rattle.std.specs.Prelude.{nat_eq, ◌⊎◌, slice_index, slice_index_or}
-use Rattle.std.proofs.lemmas.Bool.{true≢false, cases_Bool, eqb-true}
+use Rattle.std.proofs.lemmas.Bool.{true≢false, cases_Bool, eqb-true, eq-eqb}
 use Rattle.std.proofs.lemmas.List.Elements.{filter-append}
 use Rattle.mls_lattice.specs.Lattice.{Pair, Dominates, ◌⊑◌, join}
 use Rattle.mls_lattice.specs.Labels.{Labels, label_of, below, AreDistinct}
@@ -20,7 +20,7 @@ use Rattle.mls_updates.specs.declared.outcome.Outcome.{Outcome}
 use Rattle.mls_updates.specs.Outcome.{code_of}
 use Rattle.mls_updates.specs.Writes.{Write, Written, write}
 use Rattle.mls_updates.proofs.LawLemmas.{low_use_low}
-use Rattle.mls_translang.specs.Tree.{Expr, Stmt, Assign, Write_at, Release, Emit, Block, End, Do, If, For, statements}
+use Rattle.mls_translang.specs.Tree.{Expr, Stmt, Writing, Assign, Write_at, Release, Emit, Block, End, Do, If, For, statements}
 use Rattle.mls_translang.specs.Scope.{Scope, in_loop}
 use Rattle.mls_translang.specs.Fits.{BlockFits}
 use Rattle.mls_translang.specs.Tx.{Tx}
@@ -28,12 +28,12 @@ use Rattle.mls_meaning.specs.Expressions.{is_true, same, value_in, holds_in}
 use Rattle.mls_meaning.specs.Meaning.{Item, Variables, Progress, set_var, set_outcome, do_write, environment, perform, for_each, run_block}
 use Rattle.mls_meaning.specs.Secure.{AreStored, seen_items, Split}
 use Rattle.mls_meaning.proofs.KeepingLemmas.{Extends, cond_kept, for_each_kept, perform_stored, block_stored, block_extends}
-use Rattle.mls_certificate.specs.declared.cert.Cert.{Cert}
-use Rattle.mls_certcheck.specs.Place.{Plain, directs, places}
-use Rattle.mls_certcheck.specs.Rules.{Claim, claim, hi, pc, lab, var_label, param_label}
+use Rattle.mls_certificate.specs.declared.cert.Certificate.{Certificate}
+use Rattle.mls_certcheck.specs.Place.{Plain, directs, last, places}
+use Rattle.mls_certcheck.specs.Rules.{Claim, claim, hi, pc, lab, after, param_label, target, Keeps}
 use Rattle.mls_certcheck.proofs.RulesLemmas.{PlaceRules}
-use Rattle.mls_certcheck.proofs.PlaceLemmas.{unseen_above, seen_under, below-⊑, BlockObeys}
-use Rattle.mls_certcheck.proofs.QuietLemmas.{Agrees, agrees_trans, agrees_sym, agrees_same, seen_not, quiet_write, quiet_block}
+use Rattle.mls_certcheck.proofs.PlaceLemmas.{unseen_above, seen_under, below-⊑, BlockObeys, HasNoMore}
+use Rattle.mls_certcheck.proofs.QuietLemmas.{Agrees, Quiet, agrees_on, quiet_then, quiet_both, quiet_keeps, keeps_seen, seen_not, rest_seen, quiet_write, quiet_block}
 use Rattle.mls_certcheck.proofs.ScopeLemmas.{EnvironmentsAgree, eval_same, value_same, write_same}
 
 -- ---- lists of items that split
@@ -55,33 +55,39 @@ seen_more ls c s t h = ap (seen_items ls c) h.is ∙ filter-append (λ i. below 
 -- ---- two runs
 
 -- either the releases split, which c does not dominate the ceiling for, or they agree
-abbrev pub Related : Claim → ℕ → Progress → Progress → Type 0
-Related k c s t = ((hi k ⊑ label_of k.labels c ≡ false) × Split (seen_items k.labels c s.released) (seen_items k.labels c t.released)) ⊎ Agrees k c s t
+abbrev pub Related : Claim → ℕ → ℕ → Progress → Progress → Type 0
+Related k c n s t = ((hi k ⊑ label_of k.labels c ≡ false) × Split (seen_items k.labels c s.released) (seen_items k.labels c t.released)) ⊎ Agrees k c n s t
+
+-- where variables keep what they hold
+related_keeps : (k : Claim) (c m n : ℕ) (s t : Progress) → HasNoMore k → Keeps k m n → Related k c m s t → Related k c n s t
+related_keeps k c m n s t none h (inl r) = inl r
+related_keeps k c m n s t none h (inr a) = inr (agrees_on (keeps_seen k c m n none h) a)
 
 -- what goes on from runs that agree goes on from related ones
-related_on : (k : Claim) (c : ℕ) (s t s' t' : Progress) → Extends s s' → Extends t t' → (Agrees k c s t → Related k c s' t') → Related k c s t → Related k c s' t'
-related_on k c s t s' t' e f g (inr a) = g a
-related_on k c s t s' t' e f g (inl h) = inl (
+related_on : (k : Claim) (c m n : ℕ) (s t s' t' : Progress) → Extends s s' → Extends t t' → (Agrees k c m s t → Related k c n s' t') → Related k c m s t → Related k c n s' t'
+related_on k c m n s t s' t' e f g (inr a) = g a
+related_on k c m n s t s' t' e f g (inl h) = inl (
   h.0,
   subst (λ xs. Split xs (seen_items k.labels c t'.released)) (sym (seen_more k.labels c s s' e))
       (subst (λ ys. Split (seen_items k.labels c s.released ++ seen_items k.labels c e.more) ys) (sym (seen_more k.labels c t t' f))
       (split_more (seen_items k.labels c s.released) (seen_items k.labels c t.released) (seen_items k.labels c e.more) (seen_items k.labels c f.more) h.1)),
 )
 
-set_same : (k : Claim) (c x : ℕ) (v w : Option Value) (p q : Variables) → ((i : ℕ) → var_label k i ⊑ label_of k.labels c ≡ true → p i ≡ q i) → (var_label k x ⊑ label_of k.labels c ≡ true → v ≡ w)
-    → (i : ℕ) → var_label k i ⊑ label_of k.labels c ≡ true → set_var x v p i ≡ set_var x w q i
-set_same k c x v w p q h f i l =
+-- a variable that both runs set, and the others
+set_same : (k : Claim) (c n x : ℕ) (v w : Option Value) (p q : Variables) → ((i : ℕ) → (i ≡ x → ⊥) → after k n i ⊑ label_of k.labels c ≡ true → p i ≡ q i) → (after k n x ⊑ label_of k.labels c ≡ true → v ≡ w)
+    → (i : ℕ) → after k n i ⊑ label_of k.labels c ≡ true → set_var x v p i ≡ set_var x w q i
+set_same k c n x v w p q h f i l =
     elim (nat_eq i x) as (λ b. nat_eq i x ≡ b → cond b v (p i) ≡ cond b w (q i)) [
-      | true ↦ λ e. f (subst (λ j. var_label k j ⊑ label_of k.labels c ≡ true) (eqb-true i x e) l)
-      | false ↦ λ e. h i l
+      | true ↦ λ e. f (subst (λ j. after k n j ⊑ label_of k.labels c ≡ true) (eqb-true i x e) l)
+      | false ↦ λ e. h i (λ same. true≢false (sym (eq-eqb i x same) ∙ e)) l
     ] refl
 
-outcome_same : (k : Claim) (c : ℕ) (outcome : Option ℕ) (o r : Outcome) (p q : Variables) → ((i : ℕ) → var_label k i ⊑ label_of k.labels c ≡ true → p i ≡ q i) → o ≡ r
-    → (i : ℕ) → var_label k i ⊑ label_of k.labels c ≡ true → set_outcome outcome o p i ≡ set_outcome outcome r q i
-outcome_same k c None o r p q h e i l = h i l
-outcome_same k c (Some x) o r p q h e i l = set_same k c x _ _ p q h (λ _. ap (λ o. Some (Int (pos (code_of o)))) e) i l
+outcome_same : (k : Claim) (c n : ℕ) (outcome : Option ℕ) (o r : Outcome) (p q : Variables) → ((i : ℕ) → (outcome ≡ Some i → ⊥) → after k n i ⊑ label_of k.labels c ≡ true → p i ≡ q i) → o ≡ r
+    → (i : ℕ) → after k n i ⊑ label_of k.labels c ≡ true → set_outcome outcome o p i ≡ set_outcome outcome r q i
+outcome_same k c n None o r p q h e i l = h i (λ f. absurd cc) l
+outcome_same k c n (Some x) o r p q h e i l = set_same k c n x _ _ p q (λ j other. h j (λ f. other (let same : x ≡ j = cc in sym same))) (λ _. ap (λ o. Some (Int (pos (code_of o)))) e) i l
 
-module _ (policy : Tables) (distinct : AreDistinct (labels_of policy)) (tx : Tx) (cert : Cert) (schemes : Schemes) (args brgs : List (Option Value)) (c : ℕ) where
+module _ (policy : Tables) (distinct : AreDistinct (labels_of policy)) (tx : Tx) (cert : Certificate) (none : HasNoMore (claim policy tx cert)) (schemes : Schemes) (args brgs : List (Option Value)) (c : ℕ) where
   abbrev k : Claim
   k = claim policy tx cert
 
@@ -91,15 +97,21 @@ module _ (policy : Tables) (distinct : AreDistinct (labels_of policy)) (tx : Tx)
   abbrev level : Pair
   level = label_of ls c
 
+  -- a variable but the target
+  rest_same : (n a b : ℕ) (loops : List ℕ) (stmt : Stmt) (s t : Progress) → PlaceRules k (record { number = n; around = a; before = b; rows = loops; node = Plain stmt }) → Agrees k c b s t
+      → (i : ℕ) → (target stmt ≡ Some i → ⊥) → after k n i ⊑ level ≡ true → s.vars i ≡ t.vars i
+  rest_same n a b loops stmt s t h g i other l = g.values i (rest_seen policy distinct tx cert none schemes args c n a b loops stmt h i other l)
+
   -- a write of equal operands at a label that c sees
-  seen_write : (rel w : ℕ) (v wr : Write) (outcome : Option ℕ) (s t : Progress) → v ≡ wr → label_of ls w ⊑ level ≡ true → Agrees k c s t
-      → Agrees k c (do_write ls schemes args rel w v outcome s) (do_write ls schemes brgs rel w wr outcome t)
-  seen_write rel w v wr outcome s t e seen a = record {
+  seen_write : (n a b : ℕ) (loops : List ℕ) (rel w : ℕ) (writing : Writing) (v wr : Write) (outcome : Option ℕ) (s t : Progress)
+      → PlaceRules k (record { number = n; around = a; before = b; rows = loops; node = Plain (Write_at rel w writing outcome) }) → v ≡ wr → label_of ls w ⊑ level ≡ true → Agrees k c b s t
+      → Agrees k c n (do_write ls schemes args rel w v outcome s) (do_write ls schemes brgs rel w wr outcome t)
+  seen_write n at b loops rel w writing v wr outcome s t h e seen a = record {
     tables = λ r. elim (nat_eq r rel) as (λ b. low ls c (cond b (new v s).table (s.db r)) ≡ low ls c (cond b (new wr t).table (t.db r))) [
       | true ↦ first.1 ∙ (λ i. (write ls (scheme_of schemes rel) w (e i) (a.tables rel i)).table) ∙ sym second.1
       | false ↦ a.tables r
     ];
-    values = outcome_same k c outcome (new v s).outcome (new wr t).outcome s.vars t.vars a.values
+    values = outcome_same k c n outcome (new v s).outcome (new wr t).outcome s.vars t.vars (rest_same n at b loops (Write_at rel w writing outcome) s t h a)
         (first.0 ∙ (λ i. (write ls (scheme_of schemes rel) w (e i) (a.tables rel i)).outcome) ∙ sym second.0);
     emitted = a.emitted;
     released = a.released;
@@ -124,8 +136,8 @@ module _ (policy : Tables) (distinct : AreDistinct (labels_of policy)) (tx : Tx)
     pub params : (i : ℕ) → param_label (claim policy tx cert) i ⊑ label_of (labels_of policy) c ≡ true → slice_index_or args i None ≡ slice_index_or brgs i None
     pub rows : (d : ℕ) → label_of (labels_of policy) (slice_index loops d) ⊑ label_of (labels_of policy) c ≡ true → slice_index_or rs d no_tuple ≡ slice_index_or qs d no_tuple
 
-  environments : (loops : List ℕ) (rs qs : List Tuple) (s t : Progress) → Around loops rs qs → Agrees k c s t → EnvironmentsAgree k c loops (environment args rs s) (environment brgs qs t)
-  environments loops rs qs s t h a = record { vars = a.values; params = h.params; rows = h.rows }
+  environments : (m : ℕ) (loops : List ℕ) (rs qs : List Tuple) (s t : Progress) → Around loops rs qs → Agrees k c m s t → EnvironmentsAgree k c m loops (environment args rs s) (environment brgs qs t)
+  environments m loops rs qs s t h a = record { vars = a.values; params = h.params; rows = h.rows }
 
   push_row : (loops : List ℕ) (label : ℕ) (row : Tuple) (rs qs : List Tuple) → Around loops rs qs → Around (label ∷ loops) (row ∷ rs) (row ∷ qs)
   push_row loops label row rs qs h = record { params = h.params; rows = at_depth }
@@ -136,9 +148,9 @@ module _ (policy : Tables) (distinct : AreDistinct (labels_of policy)) (tx : Tx)
 
   -- ---- releases
 
-  module _ (n a : ℕ) (loops : List ℕ) (rs qs : List Tuple) (e : Expr) (to into : ℕ) (s t : Progress)
-      (h : PlaceRules (claim policy tx cert) (record { number = n; around = a; rows = loops; node = Plain (Release e to into) }))
-      (envs : EnvironmentsAgree (claim policy tx cert) c loops (environment args rs s) (environment brgs qs t)) (g : Agrees (claim policy tx cert) c s t) where
+  module _ (n a b : ℕ) (loops : List ℕ) (rs qs : List Tuple) (e : Expr) (to into : ℕ) (s t : Progress)
+      (h : PlaceRules (claim policy tx cert) (record { number = n; around = a; before = b; rows = loops; node = Plain (Release e to into) }))
+      (envs : EnvironmentsAgree (claim policy tx cert) c b loops (environment args rs s) (environment brgs qs t)) (g : Agrees (claim policy tx cert) c b s t) where
     abbrev v : Option Value
     v = value_in (environment args rs s) e
 
@@ -151,10 +163,13 @@ module _ (policy : Tables) (distinct : AreDistinct (labels_of policy)) (tx : Tx)
     abbrev second : Progress
     second = record { db = t.db; vars = set_var into w t.vars; emitted = t.emitted; released = t.released ++ (to, w) ∷ [] }
 
-    equal : v ≡ w → Related k c first second
+    others : (i : ℕ) → (i ≡ into → ⊥) → after k n i ⊑ level ≡ true → s.vars i ≡ t.vars i
+    others i other l = rest_same n a b loops (Release e to into) s t h g i (λ f. other (let same : into ≡ i = cc in sym same)) l
+
+    equal : v ≡ w → Related k c n first second
     equal eq = inr (record {
       tables = g.tables;
-      values = set_same k c into v w s.vars t.vars g.values (λ l. eq);
+      values = set_same k c n into v w s.vars t.vars others (λ l. eq);
       emitted = g.emitted;
       released = seen_item s.released t.released (to, v) (to, w) g.released (λ i. (to, eq i));
     })
@@ -168,17 +183,17 @@ module _ (policy : Tables) (distinct : AreDistinct (labels_of policy)) (tx : Tx)
         (subst (λ ys. Split (seen_items ls c s.released ++ (to, v) ∷ []) ys) (ap (λ xs. xs ++ (to, w) ∷ []) g.released ∙ sym (shown t.released w seen))
         (split_here (seen_items ls c s.released) (to, v) (to, w) refl (λ eq. true≢false (sym (same_value-refl v) ∙ ap (same v) eq ∙ ne))))
 
-    related_release : Related k c first second
+    related_release : Related k c n first second
     related_release =
         elim (cases_Bool (label_of ls to ⊑ level)) [
           | inr out ↦ inr (record {
             tables = g.tables;
-            values = set_same k c into v w s.vars t.vars g.values (λ l. absurd (true≢false (sym l ∙ unseen_above level (label_of ls to) (var_label k into) h.own.release.target out)));
+            values = set_same k c n into v w s.vars t.vars others (λ l. absurd (true≢false (sym l ∙ unseen_above level (label_of ls to) (after k n into) h.own.release.target out)));
             emitted = g.emitted;
             released = seen_not ls c s.released (to, v) out ∙ g.released ∙ sym (seen_not ls c t.released (to, w) out);
           })
           | inl seen ↦ elim (cases_Bool (hi k ⊑ level)) [
-            | inl under ↦ equal (value_same k c loops (environment args rs s) (environment brgs qs t) envs e (seen_under level (lab k loops e) (hi k) h.own.release.value under))
+            | inl under ↦ equal (value_same k c b loops (environment args rs s) (environment brgs qs t) envs e (seen_under level (lab k b loops e) (hi k) h.own.release.value under))
             | inr above ↦ elim (cases_Bool (same v w)) [
               | inl eq ↦ equal (same_value-true v w eq)
               | inr ne ↦ inl (above, apart seen ne)
@@ -188,32 +203,32 @@ module _ (policy : Tables) (distinct : AreDistinct (labels_of policy)) (tx : Tx)
 
   -- ---- statements
 
-  related_stmt : (n a : ℕ) (loops : List ℕ) (rs qs : List Tuple) (stmt : Stmt) (s t : Progress) → PlaceRules k (record { number = n; around = a; rows = loops; node = Plain stmt })
-      → EnvironmentsAgree k c loops (environment args rs s) (environment brgs qs t) → AreStored ls schemes s.db → AreStored ls schemes t.db → Agrees k c s t
-      → Related k c (perform ls schemes args rs stmt s) (perform ls schemes brgs qs stmt t)
+  related_stmt : (n a b : ℕ) (loops : List ℕ) (rs qs : List Tuple) (stmt : Stmt) (s t : Progress) → PlaceRules k (record { number = n; around = a; before = b; rows = loops; node = Plain stmt })
+      → EnvironmentsAgree k c b loops (environment args rs s) (environment brgs qs t) → AreStored ls schemes s.db → AreStored ls schemes t.db → Agrees k c b s t
+      → Related k c n (perform ls schemes args rs stmt s) (perform ls schemes brgs qs stmt t)
   unfolding perform
-  related_stmt n a loops rs qs (Assign x e) s t h envs p q g = inr (record {
+  related_stmt n a b loops rs qs (Assign x e) s t h envs p q g = inr (record {
     tables = g.tables;
-    values = set_same k c x (value_in (environment args rs s) e) (value_in (environment brgs qs t) e) s.vars t.vars g.values
-        (λ l. value_same k c loops (environment args rs s) (environment brgs qs t) envs e
-        (seen_under level (lab k loops e) (var_label k x) (Dominates-trans _ _ _ h.own.assignment (join-right (pc k n) (lab k loops e))) l));
+    values = set_same k c n x (value_in (environment args rs s) e) (value_in (environment brgs qs t) e) s.vars t.vars (λ i other. rest_same n a b loops (Assign x e) s t h g i (λ f. other (let same : x ≡ i = cc in sym same)))
+        (λ l. value_same k c b loops (environment args rs s) (environment brgs qs t) envs e
+        (seen_under level (lab k b loops e) (after k n x) (Dominates-trans _ _ _ h.own.assignment (join-right (pc k n) (lab k b loops e))) l));
     emitted = g.emitted;
     released = g.released;
   })
-  related_stmt n a loops rs qs (Write_at rel w writing outcome) s t h envs p q g =
+  related_stmt n a b loops rs qs (Write_at rel w writing outcome) s t h envs p q g =
       elim (cases_Bool (label_of ls w ⊑ level)) [
-        | inl seen ↦ inr (seen_write rel w _ _ outcome s t (write_same k c loops (environment args rs s) (environment brgs qs t) envs (label_of ls w) seen writing h.own.write.operands) seen g)
-        | inr out ↦ inr (agrees_trans (agrees_sym (quiet_write policy distinct tx cert schemes args c rel w _ outcome s h.own.write.into out p))
-            (agrees_trans g (quiet_write policy distinct tx cert schemes brgs c rel w _ outcome t h.own.write.into out q)))
+        | inl seen ↦ inr (seen_write n a b loops rel w writing _ _ outcome s t h (write_same k c b loops (environment args rs s) (environment brgs qs t) envs (label_of ls w) seen writing h.own.write.operands) seen g)
+        | inr out ↦ inr (quiet_both (quiet_write policy distinct tx cert none schemes args c n a b loops rel w writing _ outcome s h out p)
+            (quiet_write policy distinct tx cert none schemes brgs c n a b loops rel w writing _ outcome t h out q) g)
       ]
-  related_stmt n a loops rs qs (Release e to into) s t h envs p q g = related_release n a loops rs qs e to into s t h envs g
-  related_stmt n a loops rs qs (Emit e label) s t h envs p q g =
+  related_stmt n a b loops rs qs (Release e to into) s t h envs p q g = related_release n a b loops rs qs e to into s t h envs g
+  related_stmt n a b loops rs qs (Emit e label) s t h envs p q g =
       inr (record {
         tables = g.tables;
-        values = g.values;
+        values = λ i l. rest_same n a b loops (Emit e label) s t h g i (λ f. absurd cc) l;
         emitted = elim (cases_Bool (label_of ls label ⊑ level)) [
           | inl seen ↦
-              (let eq = value_same k c loops (environment args rs s) (environment brgs qs t) envs e (seen_under level (lab k loops e) (label_of ls label) h.own.emit.value seen) in
+              (let eq = value_same k c b loops (environment args rs s) (environment brgs qs t) envs e (seen_under level (lab k b loops e) (label_of ls label) h.own.emit.value seen) in
               seen_item s.emitted t.emitted _ _ g.emitted (λ i. (label, eq i)))
           | inr out ↦ seen_not ls c s.emitted _ out ∙ g.emitted ∙ sym (seen_not ls c t.emitted _ out)
         ];
@@ -224,11 +239,11 @@ module _ (policy : Tables) (distinct : AreDistinct (labels_of policy)) (tx : Tx)
   related_each : (f g : Tuple → Progress → Progress)
       → ((row : Tuple) (s : Progress) → AreStored ls schemes s.db → AreStored ls schemes (f row s).db) → ((row : Tuple) (s : Progress) → AreStored ls schemes s.db → AreStored ls schemes (g row s).db)
       → ((row : Tuple) (s : Progress) → Extends s (f row s)) → ((row : Tuple) (s : Progress) → Extends s (g row s))
-      → ((row : Tuple) (s t : Progress) → AreStored ls schemes s.db → AreStored ls schemes t.db → Agrees k c s t → Related k c (f row s) (g row t))
-      → (rows : List Tuple) (s t : Progress) → AreStored ls schemes s.db → AreStored ls schemes t.db → Related k c s t → Related k c (for_each f rows s) (for_each g rows t)
-  related_each f g fs gs fe ge step [] s t p q r = r
-  related_each f g fs gs fe ge step (row ∷ rest) s t p q r =
-      related_each f g fs gs fe ge step rest (f row s) (g row t) (fs row s p) (gs row t q) (related_on k c s t (f row s) (g row t) (fe row s) (ge row t) (step row s t p q) r)
+      → (n : ℕ) → ((row : Tuple) (s t : Progress) → AreStored ls schemes s.db → AreStored ls schemes t.db → Agrees k c n s t → Related k c n (f row s) (g row t))
+      → (rows : List Tuple) (s t : Progress) → AreStored ls schemes s.db → AreStored ls schemes t.db → Related k c n s t → Related k c n (for_each f rows s) (for_each g rows t)
+  related_each f g fs gs fe ge n step [] s t p q r = r
+  related_each f g fs gs fe ge n step (row ∷ rest) s t p q r =
+      related_each f g fs gs fe ge n step rest (f row s) (g row t) (fs row s p) (gs row t q) (related_on k c n n s t (f row s) (g row t) (fe row s) (ge row t) (step row s t p q) r)
 
   abbrev run_1 : Block → List Tuple → Progress → Progress
   run_1 block rs s = run_block ls schemes args block rs s
@@ -236,51 +251,56 @@ module _ (policy : Tables) (distinct : AreDistinct (labels_of policy)) (tx : Tx)
   abbrev run_2 : Block → List Tuple → Progress → Progress
   run_2 block rs s = run_block ls schemes brgs block rs s
 
-  pub related_block : (scope : Scope) (block : Block) (n a : ℕ) (loops : List ℕ) → BlockObeys k n a loops block → BlockFits policy schemes tx.hi scope block → (rs qs : List Tuple) → Around loops rs qs
-      → (s t : Progress) → AreStored ls schemes s.db → AreStored ls schemes t.db → Agrees k c s t → Related k c (run_1 block rs s) (run_2 block qs t)
+  pub related_block : (scope : Scope) (block : Block) (n a b : ℕ) (loops : List ℕ) → BlockObeys k n a b loops block → BlockFits policy schemes tx.hi scope block → (rs qs : List Tuple) → Around loops rs qs
+      → (s t : Progress) → AreStored ls schemes s.db → AreStored ls schemes t.db → Agrees k c b s t → Related k c (last b n block) (run_1 block rs s) (run_2 block qs t)
   unfolding run_block
-  related_block scope End n a loops h f rs qs ar s t p q g = inr g
-  related_block scope (Do stmt rest) n a loops h f rs qs ar s t p q g =
+  related_block scope End n a b loops h f rs qs ar s t p q g = inr g
+  related_block scope (Do stmt rest) n a b loops h f rs qs ar s t p q g =
       let s' = perform ls schemes args rs stmt s in
       let t' = perform ls schemes brgs qs stmt t in
-      related_on k c s' t' _ _ (block_extends ls schemes args rest rs s') (block_extends ls schemes brgs rest qs t')
-      (related_block scope rest (n + 1) a loops h.1 f.1 rs qs ar s' t' (perform_stored policy schemes tx.hi distinct args scope rs stmt s f.0 p) (perform_stored policy schemes tx.hi distinct brgs scope qs stmt t f.0 q))
-      (related_stmt n a loops rs qs stmt s t h.0 (environments loops rs qs s t ar g) p q g)
-  related_block scope (If guard one other rest) n a loops h f rs qs ar s t p q g =
-      let l = lab k loops guard in
+      related_on k c n _ s' t' _ _ (block_extends ls schemes args rest rs s') (block_extends ls schemes brgs rest qs t')
+      (related_block scope rest (n + 1) a n loops h.1 f.1 rs qs ar s' t' (perform_stored policy schemes tx.hi distinct args scope rs stmt s f.0 p) (perform_stored policy schemes tx.hi distinct brgs scope qs stmt t f.0 q))
+      (related_stmt n a b loops rs qs stmt s t h.0 (environments b loops rs qs s t ar g) p q g)
+  related_block scope (If guard one other rest) n a b loops h f rs qs ar s t p q g =
+      let l = lab k b loops guard in
       let m : Pair = join (pc k n) l in
-      let later = every_back (PlaceRules k) _ (places (n + 1) n loops one) _ h.1 refl in
-      let obeys_1 = every_front (PlaceRules k) _ (places (n + 1) n loops one) _ h.1 refl in
-      let obeys_2 = every_front (PlaceRules k) _ (places (n + 1 + statements one) n loops other) _ later refl in
-      let obeys_3 = every_back (PlaceRules k) _ (places (n + 1 + statements one) n loops other) _ later refl in
-      let above_1 = every_front (λ j. Dominates (pc k j) m) _ (directs (n + 1) one) _ h.0.own.branch refl in
-      let above_2 = every_back (λ j. Dominates (pc k j) m) _ (directs (n + 1) one) _ h.0.own.branch refl in
-      let b = holds_in (environment args rs s) guard in
-      let d = holds_in (environment brgs qs t) guard in
-      let s' = cond b (run_1 one rs s) (run_1 other rs s) in
-      let t' = cond d (run_2 one qs t) (run_2 other qs t) in
-      let p' = cond_kept (λ u. AreStored ls schemes u.db) b _ _ (block_stored policy schemes tx.hi distinct args scope one f.1 rs s p) (block_stored policy schemes tx.hi distinct args scope other f.2 rs s p) in
-      let q' = cond_kept (λ u. AreStored ls schemes u.db) d _ _ (block_stored policy schemes tx.hi distinct brgs scope one f.1 qs t q) (block_stored policy schemes tx.hi distinct brgs scope other f.2 qs t q) in
-      let middle : Related k c s' t' = elim (cases_Bool (l ⊑ level)) [
+      let later = every_back (PlaceRules k) _ (places (n + 1) n b loops one) _ h.1 refl in
+      let obeys_1 = every_front (PlaceRules k) _ (places (n + 1) n b loops one) _ h.1 refl in
+      let obeys_2 = every_front (PlaceRules k) _ (places (n + 1 + statements one) n b loops other) _ later refl in
+      let obeys_3 = every_back (PlaceRules k) _ (places (n + 1 + statements one) n b loops other) _ later refl in
+      let above_1 = every_front (λ j. Dominates (pc k j) m) _ (directs (n + 1) one) _ h.0.own.branch.body refl in
+      let above_2 = every_back (λ j. Dominates (pc k j) m) _ (directs (n + 1) one) _ h.0.own.branch.body refl in
+      let v = holds_in (environment args rs s) guard in
+      let w = holds_in (environment brgs qs t) guard in
+      let s' = cond v (run_1 one rs s) (run_1 other rs s) in
+      let t' = cond w (run_2 one qs t) (run_2 other qs t) in
+      let p' = cond_kept (λ u. AreStored ls schemes u.db) v _ _ (block_stored policy schemes tx.hi distinct args scope one f.1 rs s p) (block_stored policy schemes tx.hi distinct args scope other f.2 rs s p) in
+      let q' = cond_kept (λ u. AreStored ls schemes u.db) w _ _ (block_stored policy schemes tx.hi distinct brgs scope one f.1 qs t q) (block_stored policy schemes tx.hi distinct brgs scope other f.2 qs t q) in
+      let middle : Related k c n s' t' = elim (cases_Bool (l ⊑ level)) [
         | inl seen ↦
-            let e : b ≡ d = ap is_true (eval_same k c loops (environment args rs s) (environment brgs qs t) (environments loops rs qs s t ar g) guard seen) in
-            subst (λ x. Related k c s' (cond x (run_2 one qs t) (run_2 other qs t))) e
-            (elim b as (λ x. Related k c (cond x (run_1 one rs s) (run_1 other rs s)) (cond x (run_2 one qs t) (run_2 other qs t))) [
-              | true ↦ related_block scope one (n + 1) n loops obeys_1 f.1 rs qs ar s t p q g
-              | false ↦ related_block scope other (n + 1 + statements one) n loops obeys_2 f.2 rs qs ar s t p q g
+            let e : v ≡ w = ap is_true (eval_same k c b loops (environment args rs s) (environment brgs qs t) (environments b loops rs qs s t ar g) guard seen) in
+            subst (λ x. Related k c n s' (cond x (run_2 one qs t) (run_2 other qs t))) e
+            (elim v as (λ x. Related k c n (cond x (run_1 one rs s) (run_1 other rs s)) (cond x (run_2 one qs t) (run_2 other qs t))) [
+              | true ↦ related_keeps k c (last b (n + 1) one) n _ _ none h.0.own.branch.ends.0 (related_block scope one (n + 1) n b loops obeys_1 f.1 rs qs ar s t p q g)
+              | false ↦ related_keeps k c (last b (n + 1 + statements one) other) n _ _ none h.0.own.branch.ends.1.0 (related_block scope other (n + 1 + statements one) n b loops obeys_2 f.2 rs qs ar s t p q g)
             ])
         | inr out ↦
             let inner : m ⊑ level ≡ false = unseen_above level l m (join-right (pc k n) l) out in
-            inr (agrees_trans
-            (agrees_sym (cond_kept (Agrees k c s) b _ _ (quiet_block policy distinct tx cert schemes args c scope one (n + 1) n loops m obeys_1 above_1 f.1 inner rs s p) (quiet_block policy distinct tx cert schemes args c scope other (n + 1 + statements one) n loops m obeys_2 above_2 f.2 inner rs s p)))
-            (agrees_trans g (cond_kept (Agrees k c t) d _ _ (quiet_block policy distinct tx cert schemes brgs c scope one (n + 1) n loops m obeys_1 above_1 f.1 inner qs t q) (quiet_block policy distinct tx cert schemes brgs c scope other (n + 1 + statements one) n loops m obeys_2 above_2 f.2 inner qs t q))))
+            inr (quiet_both
+            (cond_kept (Quiet k c b n s) v _ _
+            (quiet_then (quiet_block policy distinct tx cert none schemes args c scope one (n + 1) n b loops m obeys_1 above_1 f.1 inner rs s p) (quiet_keeps k c (last b (n + 1) one) n _ none h.0.own.branch.ends.0))
+            (quiet_then (quiet_block policy distinct tx cert none schemes args c scope other (n + 1 + statements one) n b loops m obeys_2 above_2 f.2 inner rs s p) (quiet_keeps k c (last b (n + 1 + statements one) other) n _ none h.0.own.branch.ends.1.0)))
+            (cond_kept (Quiet k c b n t) w _ _
+            (quiet_then (quiet_block policy distinct tx cert none schemes brgs c scope one (n + 1) n b loops m obeys_1 above_1 f.1 inner qs t q) (quiet_keeps k c (last b (n + 1) one) n _ none h.0.own.branch.ends.0))
+            (quiet_then (quiet_block policy distinct tx cert none schemes brgs c scope other (n + 1 + statements one) n b loops m obeys_2 above_2 f.2 inner qs t q) (quiet_keeps k c (last b (n + 1 + statements one) other) n _ none h.0.own.branch.ends.1.0)))
+            g)
       ] in
-      related_on k c s' t' _ _ (block_extends ls schemes args rest rs s') (block_extends ls schemes brgs rest qs t')
-      (related_block scope rest (n + (1 + statements one + statements other)) a loops obeys_3 f.3 rs qs ar s' t' p' q') middle
-  related_block scope (For name rel label body rest) n a loops h f rs qs ar s t p q g =
+      related_on k c n _ s' t' _ _ (block_extends ls schemes args rest rs s') (block_extends ls schemes brgs rest qs t')
+      (related_block scope rest (n + (1 + statements one + statements other)) a n loops obeys_3 f.3 rs qs ar s' t' p' q') middle
+  related_block scope (For name rel label body rest) n a b loops h f rs qs ar s t p q g =
       let m : Pair = join (pc k n) (label_of ls label) in
-      let obeys_1 = every_front (PlaceRules k) _ (places (n + 1) n (label ∷ loops) body) _ h.1 refl in
-      let obeys_2 = every_back (PlaceRules k) _ (places (n + 1) n (label ∷ loops) body) _ h.1 refl in
+      let obeys_1 = every_front (PlaceRules k) _ (places (n + 1) n n (label ∷ loops) body) _ h.1 refl in
+      let obeys_2 = every_back (PlaceRules k) _ (places (n + 1) n n (label ∷ loops) body) _ h.1 refl in
       let rows_1 = rows ls label (s.db rel) in
       let rows_2 = rows ls label (t.db rel) in
       let inside = in_loop scope name rel in
@@ -292,20 +312,23 @@ module _ (policy : Tables) (distinct : AreDistinct (labels_of policy)) (tx : Tx)
       let t' = for_each f2 rows_2 t in
       let p' = for_each_kept (λ u. AreStored ls schemes u.db) f1 k1 rows_1 s p in
       let q' = for_each_kept (λ u. AreStored ls schemes u.db) f2 k2 rows_2 t q in
-      let middle : Related k c s' t' = elim (cases_Bool (label_of ls label ⊑ level)) [
+      let middle : Related k c n s' t' = elim (cases_Bool (label_of ls label ⊑ level)) [
         | inl seen ↦
             let e : rows_1 ≡ rows_2 = rows_under ls c label (s.db rel) (t.db rel) (g.tables rel) (below-⊑ ls label c true seen) in
-            subst (λ xs. Related k c s' (for_each f2 xs t)) e
+            subst (λ xs. Related k c n s' (for_each f2 xs t)) e
             (related_each f1 f2 k1 k2 (λ row u. block_extends ls schemes args body (row ∷ rs) u) (λ row u. block_extends ls schemes brgs body (row ∷ qs) u)
-            (λ row u v x y z. related_block inside body (n + 1) n (label ∷ loops) obeys_1 f.2 (row ∷ rs) (row ∷ qs) (push_row loops label row rs qs ar) u v x y z)
-            rows_1 s t p q (inr g))
+            n (λ row u v x y z. related_keeps k c (last n (n + 1) body) n _ _ none h.0.own.row_loop.ends.1.0
+            (related_block inside body (n + 1) n n (label ∷ loops) obeys_1 f.2 (row ∷ rs) (row ∷ qs) (push_row loops label row rs qs ar) u v x y z))
+            rows_1 s t p q (related_keeps k c b n s t none h.0.own.row_loop.ends.0 (inr g)))
         | inr out ↦
             let inner : m ⊑ level ≡ false = unseen_above level (label_of ls label) m (join-right (pc k n) (label_of ls label)) out in
-            let x = for_each_kept (λ u. Agrees k c s u × AreStored ls schemes u.db) f1
-            (λ row u z. (agrees_trans z.0 (quiet_block policy distinct tx cert schemes args c inside body (n + 1) n (label ∷ loops) m obeys_1 h.0.own.row_loop.body f.2 inner (row ∷ rs) u z.1), k1 row u z.1)) rows_1 s (agrees_same k c s, p) in
-            let y = for_each_kept (λ u. Agrees k c t u × AreStored ls schemes u.db) f2
-            (λ row u z. (agrees_trans z.0 (quiet_block policy distinct tx cert schemes brgs c inside body (n + 1) n (label ∷ loops) m obeys_1 h.0.own.row_loop.body f.2 inner (row ∷ qs) u z.1), k2 row u z.1)) rows_2 t (agrees_same k c t, q) in
-            inr (agrees_trans (agrees_sym x.0) (agrees_trans g y.0))
+            let x = for_each_kept (λ u. Quiet k c b n s u × AreStored ls schemes u.db) f1
+            (λ row u z. (quiet_then z.0 (quiet_then (quiet_block policy distinct tx cert none schemes args c inside body (n + 1) n n (label ∷ loops) m obeys_1 h.0.own.row_loop.body f.2 inner (row ∷ rs) u z.1) (quiet_keeps k c (last n (n + 1) body) n _ none h.0.own.row_loop.ends.1.0)), k1 row u z.1))
+            rows_1 s (quiet_keeps k c b n s none h.0.own.row_loop.ends.0, p) in
+            let y = for_each_kept (λ u. Quiet k c b n t u × AreStored ls schemes u.db) f2
+            (λ row u z. (quiet_then z.0 (quiet_then (quiet_block policy distinct tx cert none schemes brgs c inside body (n + 1) n n (label ∷ loops) m obeys_1 h.0.own.row_loop.body f.2 inner (row ∷ qs) u z.1) (quiet_keeps k c (last n (n + 1) body) n _ none h.0.own.row_loop.ends.1.0)), k2 row u z.1))
+            rows_2 t (quiet_keeps k c b n t none h.0.own.row_loop.ends.0, q) in
+            inr (quiet_both x.0 y.0 g)
       ] in
-      related_on k c s' t' _ _ (block_extends ls schemes args rest rs s') (block_extends ls schemes brgs rest qs t')
-      (related_block scope rest (n + (1 + statements body)) a loops obeys_2 f.3 rs qs ar s' t' p' q') middle
+      related_on k c n _ s' t' _ _ (block_extends ls schemes args rest rs s') (block_extends ls schemes brgs rest qs t')
+      (related_block scope rest (n + (1 + statements body)) a n loops obeys_2 f.3 rs qs ar s' t' p' q') middle

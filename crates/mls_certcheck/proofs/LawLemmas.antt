@@ -15,7 +15,7 @@ use Rattle.mls_meaning.proofs.KeepingLemmas.{block_stored}
 use Rattle.mls_certcheck.specs.Rules.{claim, pc}
 use Rattle.mls_certcheck.specs.Laws.{RulesMakeSecure}
 use Rattle.mls_certcheck.proofs.RulesLemmas.{rules_everywhere}
-use Rattle.mls_certcheck.proofs.PlaceLemmas.{below-⊑, ⊑-below, around_above}
+use Rattle.mls_certcheck.proofs.PlaceLemmas.{below-⊑, ⊑-below, around_above, has_no_more}
 use Rattle.mls_certcheck.proofs.QuietLemmas.{Agrees, quiet_block}
 use Rattle.mls_certcheck.proofs.FlowLemmas.{Around, related_block}
 
@@ -35,9 +35,10 @@ secure_rules policy distinct tx cert rules = record {
   two_runs = λ c schemes d e args brgs read p q views same.
       let ls = labels_of policy in
       let k = claim policy tx cert in
-      let begin : Agrees k c (start d) (start e) = record { tables = λ r. low_from_views ls distinct _ _ (d r) (e r) (p r) (q r) c (views r); values = λ i v. refl; emitted = refl; released = refl } in
-      let around : Around policy distinct tx cert schemes args brgs c [] [] [] = record { params = args_same policy tx c args brgs same; rows = λ i l. refl } in
-      elim (related_block policy distinct tx cert schemes args brgs c (scope_of tx) tx.body 1 0 [] (rules_everywhere k rules) read.fits [] [] around (start d) (start e) p q begin) [
+      let none = has_no_more k rules.var_count in
+      let begin : Agrees k c 0 (start d) (start e) = record { tables = λ r. low_from_views ls distinct _ _ (d r) (e r) (p r) (q r) c (views r); values = λ i v. refl; emitted = refl; released = refl } in
+      let around : Around policy distinct tx cert none schemes args brgs c [] [] [] = record { params = args_same policy tx c args brgs same; rows = λ i l. refl } in
+      elim (related_block policy distinct tx cert none schemes args brgs c (scope_of tx) tx.body 1 0 0 [] (rules_everywhere k rules) read.fits [] [] around (start d) (start e) p q begin) [
         | inl h ↦ inl (below-⊑ ls tx.hi c false h.0, h.1)
         | inr a ↦ inr (record {
           released = a.released;
@@ -49,7 +50,7 @@ secure_rules policy distinct tx cert rules = record {
       let ls = labels_of policy in
       let k = claim policy tx cert in
       let obeys = rules_everywhere k rules in
-      let a = quiet_block policy distinct tx cert schemes args c (scope_of tx) tx.body 1 0 [] (pc k 0) obeys (around_above k tx.body 1 0 [] obeys) read.fits (⊑-below ls tx.lo c false out) [] (start d) p in
+      let a = (quiet_block policy distinct tx cert (has_no_more k rules.var_count) schemes args c (scope_of tx) tx.body 1 0 0 [] (pc k 0) obeys (around_above k tx.body 1 0 0 [] obeys) read.fits (⊑-below ls tx.lo c false out) [] (start d) p).same in
       record {
         released = sym a.released;
         emitted = sym a.emitted;

@@ -8,3 +8,4 @@ pub mod QuietLemmas
 pub mod ScopeLemmas
 pub mod FlowLemmas
 pub mod LawLemmas
+pub mod LiftLemmas

@@ -2,16 +2,17 @@
 use Rattle.std.specs.Prelude.{ℕ, ◌+◌, List, [], ◌∷◌, ◌++◌}
 use Rattle.mls_translang.specs.Tree.{Expr, Stmt, Block, End, Do, If, For, statements}
 
--- a statement, with the numbers of those directly inside
+-- a statement, with the numbers of those directly inside, and of those after which it may end
 pub data Node : Type 0 where
   Plain : (stmt : Stmt) → Node
-  Branching : (guard : Expr) (inner : List ℕ) → Node
-  Looping : (label : ℕ) (inner : List ℕ) → Node
+  Branching : (guard : Expr) (inner ends : List ℕ) → Node
+  Looping : (label : ℕ) (inner ends : List ℕ) → Node
 
--- its number, that of what is around it, and the labels of the loops around it, the innermost first
+-- its number, that of what is around it, that after which it begins, and the labels of the loops around it, the innermost first
 pub record Place : Type 0 where
   pub number : ℕ
   pub around : ℕ
+  pub before : ℕ
   pub rows : List ℕ
   pub node : Node
 
@@ -22,13 +23,30 @@ directs n (Do stmt rest) = n ∷ directs (n + 1) rest
 directs n (If guard one other rest) = n ∷ directs (n + (1 + statements one + statements other)) rest
 directs n (For row rel label body rest) = n ∷ directs (n + (1 + statements body)) rest
 
+-- the number of the last of them, or that after which the block begins
+abbrev pub last : ℕ → ℕ → Block → ℕ
+last before n End = before
+last before n (Do stmt rest) = last n (n + 1) rest
+last before n (If guard one other rest) = last n (n + (1 + statements one + statements other)) rest
+last before n (For row rel label body rest) = last n (n + (1 + statements body)) rest
+
+-- a branch begins both blocks after what it begins after itself, and ends after one of them
+abbrev pub branching : ℕ → ℕ → Expr → Block → Block → Node
+branching n before guard one other =
+    Branching guard (directs (n + 1) one ++ directs (n + 1 + statements one) other) (last before (n + 1) one ∷ last before (n + 1 + statements one) other ∷ [])
+
+-- each turn of a loop begins after the loop itself, so it ends after what it begins after, and after a turn
+abbrev pub looping : ℕ → ℕ → ℕ → Block → Node
+looping n before label body = Looping label (directs (n + 1) body) (before ∷ last n (n + 1) body ∷ [])
+
 -- all statements of a block, the first of which is n
-abbrev pub places : ℕ → ℕ → List ℕ → Block → List Place
-places n around rows End = []
-places n around rows (Do stmt rest) = record { number = n; around = around; rows = rows; node = Plain stmt } ∷ places (n + 1) around rows rest
-places n around rows (If guard one other rest) =
-    record { number = n; around = around; rows = rows; node = Branching guard (directs (n + 1) one ++ directs (n + 1 + statements one) other) }
-    ∷ (places (n + 1) n rows one ++ (places (n + 1 + statements one) n rows other ++ places (n + (1 + statements one + statements other)) around rows rest))
-places n around rows (For row rel label body rest) =
-    record { number = n; around = around; rows = rows; node = Looping label (directs (n + 1) body) }
-    ∷ (places (n + 1) n (label ∷ rows) body ++ places (n + (1 + statements body)) around rows rest)
+abbrev pub places : ℕ → ℕ → ℕ → List ℕ → Block → List Place
+places n around before rows End = []
+places n around before rows (Do stmt rest) =
+    record { number = n; around = around; before = before; rows = rows; node = Plain stmt } ∷ places (n + 1) around n rows rest
+places n around before rows (If guard one other rest) =
+    record { number = n; around = around; before = before; rows = rows; node = branching n before guard one other }
+    ∷ (places (n + 1) n before rows one ++ (places (n + 1 + statements one) n before rows other ++ places (n + (1 + statements one + statements other)) around n rows rest))
+places n around before rows (For row rel label body rest) =
+    record { number = n; around = around; before = before; rows = rows; node = looping n before label body }
+    ∷ (places (n + 1) n n (label ∷ rows) body ++ places (n + (1 + statements body)) around n rows rest)

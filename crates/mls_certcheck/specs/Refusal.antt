@@ -1,7 +1,7 @@
 -- The short names of the rules.
 use Rattle.std.specs.Prelude.{ℕ, List, codes}
 use Rattle.mls_certcheck.specs.declared.refusal.Rule.{Rule}
-use Rattle.mls_certcheck.specs.declared.refusal.Rule.TheVariants.{Assignment, Branch, RowLoop, Write, Order, Release, Emit, Context, VarCount, StmtCount, AboveCeiling}
+use Rattle.mls_certcheck.specs.declared.refusal.Rule.TheVariants.{Assignment, Branch, RowLoop, Write, Order, Release, Emit, Context, Rest, VarCount, StmtCount, AboveCeiling}
 
 abbrev pub text_of : Rule → List ℕ
 text_of Assignment = codes "F1"
@@ -12,6 +12,7 @@ text_of Order = codes "F5"
 text_of Release = codes "F6"
 text_of Emit = codes "F7"
 text_of Context = codes "F8"
+text_of Rest = codes "F9"
 text_of VarCount = codes "42"
 text_of StmtCount = codes "43"
 text_of AboveCeiling = codes "44"

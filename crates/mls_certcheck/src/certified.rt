@@ -6,7 +6,7 @@ ghost use Rattle.mls_certcheck.specs.Certified.{Rules-prop};
 
 use crate::checking::check;
 use crate::refusal::Refusal;
-use mls_certificate::Cert;
+use mls_certificate::Certificate;
 use mls_lattice::Policy;
 use mls_translang::Tx;
 use std::snapshot::Snapshot;
@@ -16,14 +16,18 @@ use std::snapshot::Snapshot;
 #[derive(Drop)]
 pub struct Certified {
     tx: Tx,
-    cert: Cert,
+    cert: Certificate,
     policy: Snapshot<Policy>,
     pub ghost rules: { Rules (claim policy.value tx cert) } by { Rules-prop (claim policy.value tx cert) },
 }
 
 impl Certified {
     /// Checks a transaction under a policy; else it comes back with its certificate and the first rule that is broken.
-    pub fn new(policy: &Policy, tx: Tx, cert: Cert) -> Result<Certified, (Tx, Cert, Refusal)>
+    pub fn new(
+        policy: &Policy,
+        tx: Tx,
+        cert: Certificate,
+    ) -> Result<Certified, (Tx, Certificate, Refusal)>
         ensures kept { IfOk result (λ k. (k.tx ≡ tx) × (k.cert ≡ cert)) }
         ensures rules { IfOk result (λ k. Rules (claim policy.now tx cert)) }
         ensures secure { IfOk result (λ k. Secure policy.now k.tx) }
@@ -48,7 +52,7 @@ impl Certified {
     }
 
     /// The certificate.
-    pub fn cert(&self) -> &Cert
+    pub fn cert(&self) -> &Certificate
         ensures { result.now ≡ self.now.cert }
     {
         &self.cert

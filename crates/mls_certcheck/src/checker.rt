@@ -2,13 +2,13 @@
 ghost use Rattle.std.specs.Prelude.{◌≡◌, ◌≤◌, map, slice_index, slice_index_or};
 ghost use Rattle.mls_lattice.specs.Lattice.{bottom, pair_of, ◌⊑◌};
 ghost use Rattle.mls_lattice.specs.Labels.{label_of};
-ghost use Rattle.mls_lattice.specs.Policy.{labels_of};
-ghost use Rattle.mls_certcheck.specs.Rules.{hi, pc, var_label, param_label, lab};
+ghost use Rattle.mls_certificate.specs.declared.cert.Certificate.TheVariants.{Two};
+ghost use Rattle.mls_certcheck.specs.Rules.{hi, pc, after, param_label, lab, pc_labels, row_after, own_row, tx_row};
 ghost use Rattle.mls_certcheck.specs.Rows.{rows_of};
 ghost use Rattle.mls_certcheck.specs.Walk.{claim_of};
 
-use crate::rows::Rows;
-use mls_certificate::Cert;
+use crate::here::Here;
+use mls_certificate::{Cert2, Certificate};
 use mls_lattice::{Label, LabelNo, Policy};
 use mls_translang::{Expr, Term, Tx};
 
@@ -17,7 +17,7 @@ use mls_translang::{Expr, Term, Tx};
 pub(crate) struct Checker<'a> {
     pub policy: &'a Policy,
     pub tx: &'a Tx,
-    pub cert: &'a Cert,
+    pub cert: &'a Certificate,
 }
 
 #[tactic(auto, using(crate::proofs::LabelLemmas::bottom_pair))]
@@ -45,6 +45,19 @@ fn nth(labels: &[Label], place: usize) -> Label
     }
 }
 
+/// The row of a statement: before the first one there is none.
+#[tactic(auto, using(crate::proofs::LabelLemmas::row_places))]
+fn row_of(cert: &Cert2, number: usize) -> &[Label]
+    ensures { result.now ≡ row_after (Two cert.now) number }
+{
+    let rows = cert.rows.as_slice();
+    if number > 0 && number <= rows.len() {
+        rows[number - 1].as_slice()
+    } else {
+        &[]
+    }
+}
+
 impl Checker<'_> {
     /// What a number of a label stands for.
     #[tactic(auto, using(crate::proofs::LabelLemmas::past_labels))]
@@ -65,6 +78,15 @@ impl Checker<'_> {
         self.declared(self.tx.hi())
     }
 
+    fn pc_labels(&self) -> &[Label]
+        ensures { result.now ≡ pc_labels self.now.cert.now }
+    {
+        match self.cert {
+            Certificate::One(cert) => cert.pc_labels.as_slice(),
+            Certificate::Two(cert) => cert.pc_labels.as_slice(),
+        }
+    }
+
     /// The label of a statement, or of the transaction itself.
     pub(crate) fn pc(&self, number: usize) -> Label
         ensures { pair_of result ≡ pc (claim_of self.now) number }
@@ -72,15 +94,44 @@ impl Checker<'_> {
         if number == 0 {
             self.declared(self.tx.lo())
         } else {
-            nth(&self.cert.pc_labels, number - 1)
+            nth(self.pc_labels(), number - 1)
         }
     }
 
-    /// The label of a variable.
-    pub(crate) fn variable(&self, place: u8) -> Label
-        ensures { pair_of result ≡ var_label (claim_of self.now) place }
+    fn row_after(&self, number: usize) -> &[Label]
+        ensures { result.now ≡ row_after self.now.cert.now number }
     {
-        nth(&self.cert.var_labels, usize::from(place))
+        match self.cert {
+            Certificate::One(cert) => cert.var_labels.as_slice(),
+            Certificate::Two(cert) => row_of(cert, number),
+        }
+    }
+
+    /// The row that a statement has in the certificate.
+    pub(crate) fn own_row(&self, number: usize) -> &[Label]
+        ensures { result.now ≡ own_row self.now.cert.now number }
+    {
+        match self.cert {
+            Certificate::One(_) => &[],
+            Certificate::Two(cert) => row_of(cert, number),
+        }
+    }
+
+    /// The row that the transaction itself has in the certificate.
+    pub(crate) fn tx_row(&self) -> &[Label]
+        ensures { result.now ≡ tx_row self.now.cert.now }
+    {
+        match self.cert {
+            Certificate::One(cert) => cert.var_labels.as_slice(),
+            Certificate::Two(_) => &[],
+        }
+    }
+
+    /// The label of a variable after a statement.
+    pub(crate) fn after(&self, number: usize, place: usize) -> Label
+        ensures { pair_of result ≡ after (claim_of self.now) number place }
+    {
+        nth(self.row_after(number), place)
     }
 
     fn parameter_no(&self, place: u8) -> LabelNo
@@ -103,17 +154,17 @@ impl Checker<'_> {
     }
 
     /// The join of the labels of the names in an expression.
-    pub(crate) fn label(&self, rows: &Rows, expr: &Expr) -> Label
-        requires { rows.now.count ≤ 16 }
-        ensures { pair_of result ≡ lab (claim_of self.now) (rows_of rows.now) expr.now }
+    pub(crate) fn label(&self, here: &Here, expr: &Expr) -> Label
+        requires { here.now.rows.count ≤ 16 }
+        ensures { pair_of result ≡ lab (claim_of self.now) here.now.before (rows_of here.now.rows) expr.now }
     {
         match &expr.term {
             Term::Known(_) | Term::Null => lowest(),
-            Term::Variable(place) => self.variable(*place),
+            Term::Variable(place) => self.after(here.before, usize::from(*place)),
             Term::Parameter(place) => self.parameter(*place),
-            Term::Field { depth, .. } => self.declared(rows.label(*depth)),
-            Term::Not(expr) => self.label(rows, expr),
-            Term::Op(_, left, right) => self.label(rows, left).join(self.label(rows, right)),
+            Term::Field { depth, .. } => self.declared(here.rows.label(*depth)),
+            Term::Not(expr) => self.label(here, expr),
+            Term::Op(_, left, right) => self.label(here, left).join(self.label(here, right)),
         }
     }
 }

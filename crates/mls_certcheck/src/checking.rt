@@ -1,25 +1,49 @@
 //! The checker: it walks over the statements once.
-ghost use Rattle.std.specs.Prelude.{◌≡◌, ◌↔◌, Ok, IfOk};
+ghost use Rattle.std.specs.Prelude.{◌≡◌, ◌↔◌, Ok, IfOk, length, nat_eq};
 ghost use Rattle.std.specs.List.{flat_map, list_all};
-ghost use Rattle.mls_lattice.specs.Lattice.{pair_of, ◌⊑◌};
+ghost use Rattle.mls_translang.specs.Tree.{statements};
 ghost use Rattle.mls_meaning.specs.Secure.{Secure};
-ghost use Rattle.mls_certcheck.specs.Rules.{Rules, all_places, claim, hi};
-ghost use Rattle.mls_certcheck.specs.Checks.{First, param_holds, tests_at, tx_tests, verdict};
+ghost use Rattle.mls_certcheck.specs.Rules.{Rules, all_places, claim, var_rows};
+ghost use Rattle.mls_certcheck.specs.Checks.{First, are_under, counts, param_holds, tests_at, tx_tests, verdict};
 ghost use Rattle.mls_certcheck.specs.Walk.{claim_of, Says};
 
 use crate::checker::{Checker, flows};
+use crate::here::Here;
 use crate::refusal::{Refusal, Rule};
 use crate::rows::Rows;
-use mls_certificate::Cert;
-use mls_lattice::{LabelNo, Policy};
+use mls_certificate::Certificate;
+use mls_lattice::{Label, LabelNo, Policy};
 use mls_translang::{Tx, statements};
 
 impl Checker<'_> {
-    fn variables_hold(&self) -> bool
-        ensures { result ≡ list_all (λ l. pair_of l ⊑ hi (claim_of self.now)) self.now.cert.now.var_labels }
+    fn rows_count(&self) -> bool
+        ensures { result ≡ list_all (λ row. nat_eq (length row) (length self.now.tx.now.vars)) (var_rows self.now.cert.now) }
+    {
+        let count = self.tx.vars().len();
+        match self.cert {
+            Certificate::One(cert) => cert.var_labels.len() == count,
+            Certificate::Two(cert) => {
+                let rows = cert.rows.as_slice();
+                rows.iter().all(|row| row.len() == count)
+            }
+        }
+    }
+
+    fn stmts_count(&self) -> bool
+        ensures { result ≡ counts (statements self.now.tx.now.body) self.now.cert.now }
+    {
+        let count = statements(self.tx);
+        match self.cert {
+            Certificate::One(cert) => cert.pc_labels.len() == count,
+            Certificate::Two(cert) => cert.rows.len() == count && cert.pc_labels.len() == count,
+        }
+    }
+
+    /// Whether no label lies above the ceiling.
+    pub(crate) fn are_under(&self, labels: &[Label]) -> bool
+        ensures { result ≡ are_under (claim_of self.now) labels.now }
     {
         let hi = self.hi();
-        let labels = self.cert.var_labels.as_slice();
         labels.iter().all(|label| flows(*label, hi))
     }
 
@@ -46,11 +70,10 @@ impl Checker<'_> {
     fn heads(&self) -> Result<(), Refusal>
         ensures { Says result (verdict (tx_tests (claim_of self.now))) }
     {
-        let vars = self.cert.var_labels.len() == self.tx.vars().len();
-        Refusal::unless(vars, 0, Rule::VarCount)?;
-        let stmts = self.cert.pc_labels.len() == statements(self.tx);
-        Refusal::unless(stmts, 0, Rule::StmtCount)?;
-        Refusal::unless(self.variables_hold(), 0, Rule::AboveCeiling)?;
+        Refusal::unless(self.rows_count(), 0, Rule::VarCount)?;
+        Refusal::unless(self.stmts_count(), 0, Rule::StmtCount)?;
+        let under = self.are_under(self.tx_row());
+        Refusal::unless(under, 0, Rule::AboveCeiling)?;
         Refusal::unless(self.parameters_hold(), 0, Rule::Context)
     }
 
@@ -58,7 +81,12 @@ impl Checker<'_> {
     fn body(&self) -> Result<(), Refusal>
         ensures { Says result (verdict (flat_map (tests_at (claim_of self.now)) (all_places (claim_of self.now)))) }
     {
-        self.block(1, 0, &Rows::outside(), self.tx.body())?;
+        let start = Here {
+            number: 1,
+            before: 0,
+            rows: Rows::outside(),
+        };
+        self.block(0, &start, self.tx.body())?;
         Ok(())
     }
 
@@ -71,8 +99,8 @@ impl Checker<'_> {
 }
 
 /// Whether a certificate of a transaction holds under a policy: else the first rule that is broken, in the order of `First`.
-/// It takes no memory. Each statement is tested once, and counted once for each statement around it.
-pub fn check(policy: &Policy, tx: &Tx, cert: &Cert) -> Result<(), Refusal>
+/// It takes no memory. Each statement is tested once, and counted a few times for each statement around it.
+pub fn check(policy: &Policy, tx: &Tx, cert: &Certificate) -> Result<(), Refusal>
     // Ok exactly where the rules hold.
     ensures rules { result ≡ Ok tt ↔ Rules (claim policy.now tx.now cert.now) }
     // Which rule it is else.

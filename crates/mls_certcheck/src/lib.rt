@@ -1,9 +1,11 @@
-//! The rules of certificates, the checker that says whether they hold, and the law that they make a transaction secure.
+//! The rules of certificates, the checker that says whether they hold, and the laws of them.
 #![tactic(auto)]
 
 mod certified;
 mod checker;
 mod checking;
+mod here;
+mod keeping;
 mod laws;
 mod own;
 mod refusal;
@@ -12,5 +14,5 @@ mod walk;
 
 pub use certified::Certified;
 pub use checking::check;
-pub use laws::rules_make_secure;
+pub use laws::{flat_certificates_lift, rules_make_secure};
 pub use refusal::{Refusal, Rule};

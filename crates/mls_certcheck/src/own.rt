@@ -1,18 +1,17 @@
 //! The rules of what a statement is.
-ghost use Rattle.std.specs.Prelude.{◌≡◌, ◌<◌, ◌≤◌, ◌+◌, ◌^◌, ◌++◌, ◌&&◌, map};
-ghost use Rattle.std.specs.List.{list_all};
+ghost use Rattle.std.specs.Prelude.{◌≡◌, ◌<◌, ◌≤◌, ◌+◌, ◌^◌, ◌&&◌, map};
 ghost use Rattle.mls_lattice.specs.Lattice.{join, pair_of, ◌⊑◌};
 ghost use Rattle.mls_lattice.specs.Labels.{label_of};
 ghost use Rattle.mls_translang.specs.Tree.{Assign, Write_at, Inserting, Updating, Deleting, Release, Emit, statements};
-ghost use Rattle.mls_certcheck.specs.Place.{Plain, directs};
-ghost use Rattle.mls_certcheck.specs.Rules.{hi, pc, var_label, lab};
-ghost use Rattle.mls_certcheck.specs.Checks.{verdict, own_tests, inner_dominate, operands_hold, outcome_holds, order_holds};
+ghost use Rattle.mls_certcheck.specs.Place.{directs};
+ghost use Rattle.mls_certcheck.specs.Rules.{hi, pc};
+ghost use Rattle.mls_certcheck.specs.Checks.{verdict, stmt_tests, inner_dominate, operands_hold, outcome_holds};
 ghost use Rattle.mls_certcheck.specs.Rows.{rows_of};
 ghost use Rattle.mls_certcheck.specs.Walk.{claim_of, Says};
 
 use crate::checker::{Checker, flows};
+use crate::here::Here;
 use crate::refusal::{Refusal, Rule};
-use crate::rows::Rows;
 use mls_lattice::{Label, LabelNo};
 use mls_translang::{Block, Expr};
 
@@ -32,42 +31,42 @@ impl Checker<'_> {
         true
     }
 
-    fn operands_hold(&self, rows: &Rows, w: LabelNo, operands: &[Expr]) -> bool
-        requires { rows.now.count ≤ 16 }
-        ensures { result ≡ operands_hold (claim_of self.now) (rows_of rows.now) w operands.now }
+    fn operands_hold(&self, here: &Here, w: LabelNo, operands: &[Expr]) -> bool
+        requires { here.now.rows.count ≤ 16 }
+        ensures { result ≡ operands_hold (claim_of self.now) here.now.before (rows_of here.now.rows) w operands.now }
     {
         let w = self.declared(w);
         operands
             .iter()
-            .all(|operand| flows(self.label(rows, operand), w))
+            .all(|operand| flows(self.label(here, operand), w))
     }
 
-    fn sets_hold(&self, rows: &Rows, w: LabelNo, sets: &[(u8, Expr)]) -> bool
-        requires { rows.now.count ≤ 16 }
-        ensures { result ≡ operands_hold (claim_of self.now) (rows_of rows.now) w (map (λ s. s.1) sets.now) }
+    fn sets_hold(&self, here: &Here, w: LabelNo, sets: &[(u8, Expr)]) -> bool
+        requires { here.now.rows.count ≤ 16 }
+        ensures { result ≡ operands_hold (claim_of self.now) here.now.before (rows_of here.now.rows) w (map (λ s. s.1) sets.now) }
     {
         let w = self.declared(w);
         for set in sets {
-            if !flows(self.label(rows, &set.1), w) {
+            if !flows(self.label(here, &set.1), w) {
                 return false;
             }
         }
         true
     }
 
-    fn outcome_holds(&self, w: LabelNo, outcome: Option<u8>) -> bool
-        ensures { result ≡ outcome_holds (claim_of self.now) w outcome }
+    fn outcome_holds(&self, number: usize, w: LabelNo, outcome: Option<u8>) -> bool
+        ensures { result ≡ outcome_holds (claim_of self.now) number w outcome }
     {
         match outcome {
             None => true,
-            Some(place) => flows(self.declared(w), self.variable(place)),
+            Some(place) => flows(self.declared(w), self.after(number, usize::from(place))),
         }
     }
 
     /// Whether a write may stand at a label, by the labels of its operands.
     fn write_holds(&self, number: usize, w: LabelNo, operands: bool, outcome: Option<u8>) -> bool
         ensures { result ≡ (pc (claim_of self.now) number ⊑ label_of (claim_of self.now).labels w && operands
-            && label_of (claim_of self.now).labels w ⊑ hi (claim_of self.now) && outcome_holds (claim_of self.now) w outcome) }
+            && label_of (claim_of self.now).labels w ⊑ hi (claim_of self.now) && outcome_holds (claim_of self.now) number w outcome) }
     {
         if !flows(self.pc(number), self.declared(w)) {
             return false;
@@ -78,24 +77,18 @@ impl Checker<'_> {
         if !flows(self.declared(w), self.hi()) {
             return false;
         }
-        self.outcome_holds(w, outcome)
+        self.outcome_holds(number, w, outcome)
     }
 
     /// The rule of an assignment.
-    pub(crate) fn assigns(
-        &self,
-        number: usize,
-        rows: &Rows,
-        variable: u8,
-        value: &Expr,
-    ) -> Result<(), Refusal>
-        requires { rows.now.count ≤ 16 }
-        ensures { Says result (verdict (own_tests (claim_of self.now) number (rows_of rows.now) (Plain (Assign variable value.now)))) }
+    pub(crate) fn assigns(&self, here: &Here, variable: u8, value: &Expr) -> Result<(), Refusal>
+        requires { here.now.rows.count ≤ 16 }
+        ensures { Says result (verdict (stmt_tests (claim_of self.now) here.now.number here.now.before (rows_of here.now.rows) (Assign variable value.now))) }
     {
-        let source = self.pc(number).join(self.label(rows, value));
+        let source = self.pc(here.number).join(self.label(here, value));
         Refusal::unless(
-            flows(source, self.variable(variable)),
-            number,
+            flows(source, self.after(here.number, usize::from(variable))),
+            here.number,
             Rule::Assignment,
         )
     }
@@ -103,19 +96,18 @@ impl Checker<'_> {
     /// The rules of an insert.
     pub(crate) fn inserts(
         &self,
-        number: usize,
-        rows: &Rows,
+        here: &Here,
         key: &[Expr],
         values: &[Expr],
         w: LabelNo,
         outcome: Option<u8>,
     ) -> Result<(), Refusal>
-        requires { rows.now.count ≤ 16 }
-        ensures { Says result (verdict (own_tests (claim_of self.now) number (rows_of rows.now) (Plain (Write_at 0 w (Inserting key.now values.now) outcome)))) }
+        requires { here.now.rows.count ≤ 16 }
+        ensures { Says result (verdict (stmt_tests (claim_of self.now) here.now.number here.now.before (rows_of here.now.rows) (Write_at 0 w (Inserting key.now values.now) outcome))) }
     {
-        let operands = self.operands_hold(rows, w, key) && self.operands_hold(rows, w, values);
-        let holds = self.write_holds(number, w, operands, outcome);
-        Refusal::unless(holds, number, Rule::Write)
+        let operands = self.operands_hold(here, w, key) && self.operands_hold(here, w, values);
+        let holds = self.write_holds(here.number, w, operands, outcome);
+        Refusal::unless(holds, here.number, Rule::Write)
     }
 
     fn update_is_ordered(&self, key_class: LabelNo, from: LabelNo, w: LabelNo) -> bool
@@ -129,79 +121,70 @@ impl Checker<'_> {
     /// The rules of an update.
     pub(crate) fn updates(
         &self,
-        number: usize,
-        rows: &Rows,
+        here: &Here,
         key: &[Expr],
         classes: (LabelNo, LabelNo, LabelNo),
         sets: &[(u8, Expr)],
         outcome: Option<u8>,
     ) -> Result<(), Refusal>
-        requires { rows.now.count ≤ 16 }
-        ensures { Says result (verdict (own_tests (claim_of self.now) number (rows_of rows.now)
-            (Plain (Write_at 0 classes.2 (Updating key.now classes.0 classes.1 sets.now) outcome)))) }
+        requires { here.now.rows.count ≤ 16 }
+        ensures { Says result (verdict (stmt_tests (claim_of self.now) here.now.number here.now.before (rows_of here.now.rows)
+            (Write_at 0 classes.2 (Updating key.now classes.0 classes.1 sets.now) outcome))) }
     {
         let (key_class, from, w) = classes;
-        let operands = self.operands_hold(rows, w, key) && self.sets_hold(rows, w, sets);
-        let holds = self.write_holds(number, w, operands, outcome);
-        Refusal::unless(holds, number, Rule::Write)?;
+        let operands = self.operands_hold(here, w, key) && self.sets_hold(here, w, sets);
+        let holds = self.write_holds(here.number, w, operands, outcome);
+        Refusal::unless(holds, here.number, Rule::Write)?;
         let ordered = self.update_is_ordered(key_class, from, w);
-        Refusal::unless(ordered, number, Rule::Order)
+        Refusal::unless(ordered, here.number, Rule::Order)
     }
 
     /// The rules of a delete.
     pub(crate) fn deletes(
         &self,
-        number: usize,
-        rows: &Rows,
+        here: &Here,
         key: &[Expr],
         key_class: LabelNo,
         w: LabelNo,
         outcome: Option<u8>,
     ) -> Result<(), Refusal>
-        requires { rows.now.count ≤ 16 }
-        ensures { Says result (verdict (own_tests (claim_of self.now) number (rows_of rows.now) (Plain (Write_at 0 w (Deleting key.now key_class) outcome)))) }
+        requires { here.now.rows.count ≤ 16 }
+        ensures { Says result (verdict (stmt_tests (claim_of self.now) here.now.number here.now.before (rows_of here.now.rows) (Write_at 0 w (Deleting key.now key_class) outcome))) }
     {
-        let operands = self.operands_hold(rows, w, key);
-        let holds = self.write_holds(number, w, operands, outcome);
-        Refusal::unless(holds, number, Rule::Write)?;
+        let operands = self.operands_hold(here, w, key);
+        let holds = self.write_holds(here.number, w, operands, outcome);
+        Refusal::unless(holds, here.number, Rule::Write)?;
         let ordered = flows(self.declared(key_class), self.declared(w));
-        Refusal::unless(ordered, number, Rule::Order)
+        Refusal::unless(ordered, here.number, Rule::Order)
     }
 
     /// The rules of an emission.
-    pub(crate) fn emits(
-        &self,
-        number: usize,
-        rows: &Rows,
-        value: &Expr,
-        label: LabelNo,
-    ) -> Result<(), Refusal>
-        requires { rows.now.count ≤ 16 }
-        ensures { Says result (verdict (own_tests (claim_of self.now) number (rows_of rows.now) (Plain (Emit value.now label)))) }
+    pub(crate) fn emits(&self, here: &Here, value: &Expr, label: LabelNo) -> Result<(), Refusal>
+        requires { here.now.rows.count ≤ 16 }
+        ensures { Says result (verdict (stmt_tests (claim_of self.now) here.now.number here.now.before (rows_of here.now.rows) (Emit value.now label))) }
     {
         let target = self.declared(label);
-        let holds = flows(self.pc(number), target)
-            && flows(self.label(rows, value), target)
+        let holds = flows(self.pc(here.number), target)
+            && flows(self.label(here, value), target)
             && flows(target, self.hi());
-        Refusal::unless(holds, number, Rule::Emit)
+        Refusal::unless(holds, here.number, Rule::Emit)
     }
 
     /// The rules of a release.
     pub(crate) fn releases(
         &self,
-        number: usize,
-        rows: &Rows,
+        here: &Here,
         value: &Expr,
         to: LabelNo,
         into: u8,
     ) -> Result<(), Refusal>
-        requires { rows.now.count ≤ 16 }
-        ensures { Says result (verdict (own_tests (claim_of self.now) number (rows_of rows.now) (Plain (Release value.now to into)))) }
+        requires { here.now.rows.count ≤ 16 }
+        ensures { Says result (verdict (stmt_tests (claim_of self.now) here.now.number here.now.before (rows_of here.now.rows) (Release value.now to into))) }
     {
         let lower = self.declared(to);
-        let holds = flows(self.pc(number), lower)
-            && flows(self.label(rows, value), self.hi())
-            && flows(lower, self.variable(into));
-        Refusal::unless(holds, number, Rule::Release)
+        let holds = flows(self.pc(here.number), lower)
+            && flows(self.label(here, value), self.hi())
+            && flows(lower, self.after(here.number, usize::from(into)));
+        Refusal::unless(holds, here.number, Rule::Release)
     }
 }

@@ -21,9 +21,11 @@ pub enum Rule {
     Emit,
     /// What a parameter lies between, and what a statement stands in.
     Context,
-    /// As many labels as variables.
+    /// What a statement leaves as it was.
+    Rest,
+    /// As many labels as variables, in each row.
     VarCount,
-    /// As many labels as statements.
+    /// As many labels as statements, and as many rows.
     StmtCount,
     /// No label above the ceiling.
     AboveCeiling,
@@ -43,6 +45,7 @@ impl Rule {
             Rule::Release => "F6",
             Rule::Emit => "F7",
             Rule::Context => "F8",
+            Rule::Rest => "F9",
             Rule::VarCount => "42",
             Rule::StmtCount => "43",
             Rule::AboveCeiling => "44",

@@ -1,15 +1,16 @@
 //! The walk over the statements, which names the first rule that is broken.
-ghost use Rattle.std.specs.Prelude.{◌≡◌, ◌<◌, ◌≤◌, ◌+◌, ◌^◌, ◌∷◌, []};
+ghost use Rattle.std.specs.Prelude.{◌<◌, ◌≤◌, ◌+◌, ◌^◌, ◌∷◌, []};
 ghost use Rattle.mls_translang.specs.Tree.{statements};
 ghost use Rattle.mls_translang.specs.Tx.{depth};
 ghost use Rattle.mls_translang.specs.Blocks.{block_of};
 ghost use Rattle.mls_certcheck.specs.Checks.{verdict};
 ghost use Rattle.mls_certcheck.specs.Rows.{rows_of};
-ghost use Rattle.mls_certcheck.specs.Walk.{claim_of, Says, entry_tests, plain_tests, branch_tests, loop_tests, walked};
+ghost use Rattle.mls_certcheck.specs.Walk.{claim_of, Says, entry_tests, doing_tests, leaving_tests, plain_tests, branch_tests, loop_tests, walked};
 
 use crate::checker::{Checker, flows};
+use crate::here::Here;
+use crate::keeping::last;
 use crate::refusal::{Refusal, Rule};
-use crate::rows::Rows;
 use mls_lattice::LabelNo;
 use mls_translang::{Block, Expr, Stmt};
 
@@ -18,56 +19,56 @@ impl Checker<'_> {
     fn enters(&self, number: usize, around: usize) -> Result<(), Refusal>
         ensures { Says result (verdict (entry_tests (claim_of self.now) number around)) }
     {
-        let here = self.pc(number);
-        Refusal::unless(flows(here, self.hi()), number, Rule::AboveCeiling)?;
-        Refusal::unless(flows(self.pc(around), here), number, Rule::Context)
+        let own = self.pc(number);
+        let under = flows(own, self.hi()) && self.are_under(self.own_row(number));
+        Refusal::unless(under, number, Rule::AboveCeiling)?;
+        Refusal::unless(flows(self.pc(around), own), number, Rule::Context)
     }
 
     /// The rule of a branch.
-    fn branches(
-        &self,
-        number: usize,
-        rows: &Rows,
-        guard: &Expr,
-        one: &Block,
-        other: &Block,
-    ) -> Result<(), Refusal>
-        requires rows { rows.now.count ≤ 16 }
-        requires few { number + statements one.now + statements other.now + 1 < 2 ^ 63 }
-        ensures { Says result (verdict (branch_tests (claim_of self.now) number (rows_of rows.now) guard.now one.now other.now)) }
+    fn branches(&self, here: &Here, guard: &Expr, one: &Block, other: &Block) -> Result<(), Refusal>
+        requires rows { here.now.rows.count ≤ 16 }
+        requires few { here.now.number + statements one.now + statements other.now + 1 < 2 ^ 63 }
+        ensures { Says result (verdict (branch_tests (claim_of self.now) here.now.number here.now.before (rows_of here.now.rows) guard.now one.now other.now)) }
     {
-        let bound = self.pc(number).join(self.label(rows, guard));
-        let second = number + 1 + one.statements();
-        let holds = self.inner_dominate(bound, number + 1, one)
-            && self.inner_dominate(bound, second, other);
-        Refusal::unless(holds, number, Rule::Branch)
+        let bound = self.pc(here.number).join(self.label(here, guard));
+        let second = here.number + 1 + one.statements();
+        let one_end = last(here.before, here.number + 1, one);
+        let other_end = last(here.before, second, other);
+        let holds = self.inner_dominate(bound, here.number + 1, one)
+            && self.inner_dominate(bound, second, other)
+            && self.both_keep(one_end, other_end, here.number);
+        Refusal::unless(holds, here.number, Rule::Branch)
     }
 
     /// The rule of a loop.
-    fn loops(&self, number: usize, label: LabelNo, body: &Block) -> Result<(), Refusal>
-        requires { number + statements body.now + 1 < 2 ^ 63 }
-        ensures { Says result (verdict (loop_tests (claim_of self.now) number label body.now)) }
+    fn loops(&self, here: &Here, label: LabelNo, body: &Block) -> Result<(), Refusal>
+        requires { here.now.number + statements body.now + 1 < 2 ^ 63 }
+        ensures { Says result (verdict (loop_tests (claim_of self.now) here.now.number here.now.before label body.now)) }
     {
         let rows = self.declared(label);
-        let bound = self.pc(number).join(rows);
-        let holds = flows(rows, self.hi()) && self.inner_dominate(bound, number + 1, body);
-        Refusal::unless(holds, number, Rule::RowLoop)
+        let bound = self.pc(here.number).join(rows);
+        let end = last(here.number, here.number + 1, body);
+        let holds = flows(rows, self.hi())
+            && self.inner_dominate(bound, here.number + 1, body)
+            && self.both_keep(here.before, end, here.number);
+        Refusal::unless(holds, here.number, Rule::RowLoop)
     }
 
-    /// The rules of a statement with none inside.
-    fn plain(&self, number: usize, rows: &Rows, stmt: &Stmt) -> Result<(), Refusal>
-        requires { rows.now.count ≤ 16 }
-        ensures { Says result (verdict (plain_tests (claim_of self.now) number (rows_of rows.now) (block_of (stmt.now ∷ [])))) }
+    /// The rules of what a statement does that has none inside.
+    fn doing(&self, here: &Here, stmt: &Stmt) -> Result<(), Refusal>
+        requires { here.now.rows.count ≤ 16 }
+        ensures { Says result (verdict (doing_tests (claim_of self.now) here.now.number here.now.before (rows_of here.now.rows) (block_of (stmt.now ∷ [])))) }
     {
         match stmt {
-            Stmt::Assign { variable, value } => self.assigns(number, rows, *variable, value),
+            Stmt::Assign { variable, value } => self.assigns(here, *variable, value),
             Stmt::Insert {
                 key,
                 values,
                 at,
                 outcome,
                 ..
-            } => self.inserts(number, rows, key, values, *at, *outcome),
+            } => self.inserts(here, key, values, *at, *outcome),
             Stmt::Update {
                 key,
                 key_class,
@@ -76,60 +77,103 @@ impl Checker<'_> {
                 sets,
                 outcome,
                 ..
-            } => self.updates(number, rows, key, (*key_class, *from, *at), sets, *outcome),
+            } => self.updates(here, key, (*key_class, *from, *at), sets, *outcome),
             Stmt::Delete {
                 key,
                 key_class,
                 at,
                 outcome,
                 ..
-            } => self.deletes(number, rows, key, *key_class, *at, *outcome),
-            Stmt::Release { value, to, into } => self.releases(number, rows, value, *to, *into),
-            Stmt::Emit { value, label } => self.emits(number, rows, value, *label),
+            } => self.deletes(here, key, *key_class, *at, *outcome),
+            Stmt::Release { value, to, into } => self.releases(here, value, *to, *into),
+            Stmt::Emit { value, label } => self.emits(here, value, *label),
             _ => Ok(()),
         }
     }
 
-    /// The statements of a block, the first of which has this number.
+    /// The rule of what such a statement leaves as it was.
+    fn leaving(&self, here: &Here, stmt: &Stmt) -> Result<(), Refusal>
+        ensures { Says result (verdict (leaving_tests (claim_of self.now) here.now.number here.now.before (block_of (stmt.now ∷ [])))) }
+    {
+        let target = match stmt {
+            Stmt::Assign { variable, .. } => Some(*variable),
+            Stmt::Insert { outcome, .. } => *outcome,
+            Stmt::Update { outcome, .. } => *outcome,
+            Stmt::Delete { outcome, .. } => *outcome,
+            Stmt::Release { into, .. } => Some(*into),
+            Stmt::Emit { .. } => None,
+            _ => return Ok(()),
+        };
+        let holds = self.rest_keeps(here.number, here.before, target);
+        Refusal::unless(holds, here.number, Rule::Rest)
+    }
+
+    /// The rules of a statement with none inside.
+    #[tactic(auto, using(crate::proofs::WalkLemmas::verdict_more))]
+    fn plain(&self, here: &Here, stmt: &Stmt) -> Result<(), Refusal>
+        requires { here.now.rows.count ≤ 16 }
+        ensures { Says result (verdict (plain_tests (claim_of self.now) here.now.number here.now.before (rows_of here.now.rows) (block_of (stmt.now ∷ [])))) }
+    {
+        self.doing(here, stmt)?;
+        self.leaving(here, stmt)
+    }
+
+    /// The statements of a block, which begins here.
     #[cycle(walk)]
     #[tactic(auto, using(crate::proofs::WalkLemmas::block_steps))]
-    pub(crate) fn block(
-        &self,
-        number: usize,
-        around: usize,
-        rows: &Rows,
-        block: &Block,
-    ) -> Result<usize, Refusal>
-        requires few { number + statements block.now < 2 ^ 63 }
-        requires shallow { rows.now.count + depth block.now ≤ 16 }
-        ensures { Says result (walked (claim_of self.now) number around (rows_of rows.now) block.now) }
+    pub(crate) fn block(&self, around: usize, start: &Here, block: &Block) -> Result<usize, Refusal>
+        requires few { start.now.number + statements block.now < 2 ^ 63 }
+        requires shallow { start.now.rows.count + depth block.now ≤ 16 }
+        ensures { Says result (walked (claim_of self.now) start.now.number around start.now.before (rows_of start.now.rows) block.now) }
     {
-        let mut next = number;
+        let mut number = start.number;
+        let mut before = start.before;
         for stmt in &block.stmts {
-            next = self.stmt(next, around, rows, stmt)?;
+            let here = Here {
+                number,
+                before,
+                rows: start.rows,
+            };
+            let next = self.stmt(around, &here, stmt)?;
+            before = number;
+            number = next;
         }
-        Ok(next)
+        Ok(number)
     }
 
     #[cycle(walk)]
-    fn stmt(&self, number: usize, around: usize, rows: &Rows, stmt: &Stmt) -> Result<usize, Refusal>
-        requires few { number + statements (block_of (stmt.now ∷ [])) < 2 ^ 63 }
-        requires shallow { rows.now.count + depth (block_of (stmt.now ∷ [])) ≤ 16 }
-        ensures { Says result (walked (claim_of self.now) number around (rows_of rows.now) (block_of (stmt.now ∷ []))) }
+    fn stmt(&self, around: usize, here: &Here, stmt: &Stmt) -> Result<usize, Refusal>
+        requires few { here.now.number + statements (block_of (stmt.now ∷ [])) < 2 ^ 63 }
+        requires shallow { here.now.rows.count + depth (block_of (stmt.now ∷ [])) ≤ 16 }
+        ensures { Says result (walked (claim_of self.now) here.now.number around here.now.before (rows_of here.now.rows) (block_of (stmt.now ∷ []))) }
     {
+        let number = here.number;
         self.enters(number, around)?;
         match stmt {
             Stmt::If { guard, one, other } => {
-                self.branches(number, rows, guard, one, other)?;
-                let next = self.block(number + 1, number, rows, one)?;
-                self.block(next, number, rows, other)
+                self.branches(here, guard, one, other)?;
+                let first = Here {
+                    number: number + 1,
+                    ..*here
+                };
+                let next = self.block(number, &first, one)?;
+                let second = Here {
+                    number: next,
+                    ..*here
+                };
+                self.block(number, &second, other)
             }
             Stmt::For { label, body, .. } => {
-                self.loops(number, *label, body)?;
-                self.block(number + 1, number, &rows.inside(*label), body)
+                self.loops(here, *label, body)?;
+                let first = Here {
+                    number: number + 1,
+                    before: number,
+                    rows: here.rows.inside(*label),
+                };
+                self.block(number, &first, body)
             }
             _ => {
-                self.plain(number, rows, stmt)?;
+                self.plain(here, stmt)?;
                 Ok(number + 1)
             }
         }

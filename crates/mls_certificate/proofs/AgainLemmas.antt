@@ -1,8 +1,9 @@
--- What is written of a certificate is read again.
+-- What is written of labels is read again.
 use Rattle.std.proofs.Common.{◌≡◌, ℕ, suc, ◌+◌, ◌-◌, ◌/◌, ◌%◌, ◌<◌, ◌≤◌, ◌^◌, ◌⊎◌, Bool, true, false, cond, ◌&&◌, ◌==◌, nat_lt, nat_le, List, [], ◌∷◌, ◌++◌, length, map, take, drop, codes, inl, inr, Result, Ok, refl, sym, ap, ◌∙◌, append_assoc, arith, ne_eqb, le-ltb, lt-ltb}
 use Rattle.std.specs.Prelude.{slice_index}
 use Rattle.std.specs.Char.{is_ascii_digit, digit_char}
 use Rattle.std.specs.Fmt.{decimal}
+use Rattle.std.specs.Cmp.Lexicographic.{bytes_decides}
 use Rattle.std.specs.Int.{w32, to_be_bytes, from_be_bytes}
 use Rattle.std.specs.List.{AllByRecursion, All, flat_map}
 use Rattle.std.specs.Str.Parse.{digits_value, AllDigits}
@@ -16,12 +17,10 @@ use Rattle.std.proofs.lemmas.Nat.{from_be_bytes-to_be_bytes_4}
 use Rattle.std.proofs.lemmas.Str.Parse.{digit_from_value}
 use Rattle.mls_lattice.specs.declared.label.Label.{Label}
 use Rattle.mls_lattice.specs.Reading.{◌>>=◌}
-use Rattle.mls_lattice.proofs.ReadingLemmas.{ok_is}
 use Rattle.mls_certificate.proofs.LabelLemmas.{own}
-use Rattle.mls_certificate.specs.declared.cert.Cert.{Cert}
 use Rattle.mls_certificate.specs.declared.fault.CertFault.{CertFault}
-use Rattle.mls_certificate.specs.Reading.{pieces, are_digits, is_decimal, number_in, rank_in, digit_in, byte_in, bytes_in, cats_in, label_in, labels_in, worded_in, line_in, cert_in, cert_at, text_in}
-use Rattle.mls_certificate.specs.Spelling.{byte_text, label_text, spaced_label, cert_text, IsLabel, IsCert, AreUnambiguous}
+use Rattle.mls_certificate.specs.Reading.{pieces, are_digits, is_decimal, number_in, rank_in, digit_in, byte_in, bytes_in, cats_in, label_in, labels_in, worded_in, line_in}
+use Rattle.mls_certificate.specs.Spelling.{byte_text, label_text, spaced_label, IsLabel, AreLabels}
 
 abbrev pub done : {A : Type 0} → A → Result A CertFault
 done x = Ok x
@@ -35,7 +34,7 @@ pub Above-append : (m : ℕ) (xs ys : List ℕ) → Above m xs → Above m ys �
 Above-append m [] ys p q = q
 Above-append m (x ∷ xs) ys p q = (p.0, Above-append m xs ys p.1 q)
 
-Above-lower : (m n : ℕ) (xs : List ℕ) → m ≤ n → Above n xs → Above m xs
+pub Above-lower : (m n : ℕ) (xs : List ℕ) → m ≤ n → Above n xs → Above m xs
 Above-lower m n [] le p = tt
 Above-lower m n (x ∷ xs) le p = (omega (arith, p.0), Above-lower m n xs le p.1)
 
@@ -166,39 +165,8 @@ words_again word (l ∷ ls) above is =
     slice_split_at (λ b. b == 32) word 32 (label_text l ++ flat_map spaced_label ls) (no_mark 32 word above) refl
     ∙ ap (λ (ps : List (List ℕ)). word ∷ ps) (words_again (label_text l) ls (label_above l is.0) is.1)
 
-pub vars_again : (line : ℕ) (ls : List Label) → AllByRecursion IsLabel ls → line_in (codes "vars") line (codes "vars" ++ flat_map spaced_label ls) ≡ Ok ls
+pub words_read : (word : List ℕ) (line : ℕ) (ls : List Label) → Above 32 word → AreLabels ls → line_in word line (word ++ flat_map spaced_label ls) ≡ Ok ls
 unfolding worded_in
-vars_again line ls is =
-    ap (worded_in (codes "vars") line) (words_again (codes "vars") ls (omega arith, (omega arith, (omega arith, (omega arith, tt)))) is)
-    ∙ labels_again line [] ls is
-
-pub pcs_again : (line : ℕ) (ls : List Label) → AllByRecursion IsLabel ls → line_in (codes "pcs") line (codes "pcs" ++ flat_map spaced_label ls) ≡ Ok ls
-unfolding worded_in
-pcs_again line ls is =
-    ap (worded_in (codes "pcs") line) (words_again (codes "pcs") ls (omega arith, (omega arith, (omega arith, tt))) is)
-    ∙ labels_again line [] ls is
-
--- ---- certificates
-
--- a line before its end
-end_of : (word : List ℕ) (ls : List Label) (rest : List ℕ) → Above 10 word → AllByRecursion IsLabel ls → pieces 10 ((word ++ flat_map spaced_label ls ++ codes "\n") ++ rest) ≡ (word ++ flat_map spaced_label ls) ∷ pieces 10 rest
-end_of word ls rest above is =
-    ap (pieces 10) (append_assoc (word ++ flat_map spaced_label ls) (codes "\n") rest)
-    ∙ slice_split_at (λ b. b == 10) (word ++ flat_map spaced_label ls) 10 rest (no_mark 10 (word ++ flat_map spaced_label ls) (Above-append 10 word (flat_map spaced_label ls) above (labels_above ls is))) refl
-
-lines_again : (c : Cert) → IsCert c → pieces 10 (cert_text c) ≡ (codes "vars" ++ flat_map spaced_label c.var_labels) ∷ (codes "pcs" ++ flat_map spaced_label c.pc_labels) ∷ [] ∷ []
-lines_again c is =
-    let vars = codes "vars" ++ flat_map spaced_label c.var_labels in
-    let pcs = codes "pcs" ++ flat_map spaced_label c.pc_labels ++ codes "\n" in
-    end_of (codes "vars") c.var_labels pcs (omega arith, (omega arith, (omega arith, (omega arith, tt)))) is.0
-    ∙ ap (λ (ps : List (List ℕ)). vars ∷ ps) (ap (pieces 10) (sym (append-nil pcs)) ∙ end_of (codes "pcs") c.pc_labels [] (omega arith, (omega arith, (omega arith, tt))) is.1)
-
-pub cert_again : (c : Cert) → IsCert c → text_in (cert_text c) ≡ Ok c
-unfolding cert_at cert_in
-cert_again c is =
-    ap cert_at (lines_again c is)
-    ∙ rw (vars_again 1 c.var_labels is.0, pcs_again 2 c.pc_labels is.1) refl
-
--- no two certificates have one text
-pub unambiguous : AreUnambiguous
-unambiguous c d p q same = ok_is c d (sym (cert_again c p) ∙ ap text_in same ∙ cert_again d q)
+words_read word line ls above is =
+    ap (worded_in word line) (words_again word ls above is)
+    ∙ rw ((bytes_decides word word).1 refl) (labels_again line [] ls is)

@@ -1,6 +1,6 @@
--- What is read is a certificate, and the text is its own.
-use Rattle.std.proofs.Common.{◌≡◌, ℕ, zero, suc, ◌+◌, ◌-◌, ◌*◌, ◌/◌, ◌%◌, ◌<◌, ◌≤◌, ◌^◌, Bool, true, false, cond, not, ◌||◌, ◌&&◌, ◌==◌, nat_lt, nat_le, List, [], ◌∷◌, ◌++◌, length, map, take, drop, get_or, codes, Result, Ok, Err, refl, sym, ap, subst, ◌∙◌, append_assoc, arith, eq-eqb, eqb-true, ltb-true, ltb-false}
-use Rattle.std.specs.Prelude.{slice_index, IfOk}
+-- What is read of a line is labels, and the text is their own.
+use Rattle.std.proofs.Common.{◌≡◌, ℕ, zero, suc, ◌+◌, ◌-◌, ◌*◌, ◌/◌, ◌%◌, ◌<◌, ◌≤◌, ◌^◌, Bool, true, false, cond, not, ◌||◌, ◌&&◌, ◌==◌, nat_lt, nat_le, List, [], ◌∷◌, ◌++◌, length, map, take, drop, get_or, codes, Ok, refl, sym, ap, subst, ◌∙◌, append_assoc, arith, eq-eqb, eqb-true, ltb-true, ltb-false}
+use Rattle.std.specs.Prelude.{slice_index}
 use Rattle.std.specs.Char.{is_ascii_digit, digit_char}
 use Rattle.std.specs.Cmp.Lexicographic.{bytes_decides}
 use Rattle.std.specs.Fmt.{decimal}
@@ -11,18 +11,16 @@ use Rattle.std.specs.Str.Parse.{digits_value}
 use Rattle.std.proofs.lemmas.Bool.{and_parts, le-ltb, lt-ltb}
 use Rattle.std.proofs.lemmas.Bool.Decides.{nat_tests}
 use Rattle.std.proofs.lemmas.Fmt.{decimal-digits_value}
-use Rattle.std.proofs.lemmas.List.{append-nil, nil_from_length}
+use Rattle.std.proofs.lemmas.List.{append-nil}
 use Rattle.std.proofs.lemmas.List.Splits.{join_with_byte-slice_split}
 use Rattle.std.proofs.lemmas.Nat.{be_bytes_4}
 use Rattle.mls_lattice.specs.declared.label.Label.{Label}
 use Rattle.mls_lattice.specs.Reading.{◌>>=◌}
 use Rattle.mls_lattice.proofs.ReadingLemmas.{bind_ok, guard_ok, pass_ok, ok_is}
 use Rattle.mls_certificate.proofs.LabelLemmas.{own, some_digits}
-use Rattle.mls_certificate.specs.declared.cert.Cert.{Cert}
-use Rattle.mls_certificate.specs.declared.fault.CertFault.{CertFault}
 use Rattle.mls_certificate.specs.declared.fault.CertCause.TheVariants.{Label as BadLabel}
-use Rattle.mls_certificate.specs.Reading.{Gives, refused, pieces, is_decimal, number_in, rank_in, digit_in, byte_in, bytes_in, cats_in, label_in, labels_in, worded_in, line_in, cert_in, is_end, cert_at, text_in}
-use Rattle.mls_certificate.specs.Spelling.{byte_text, label_text, spaced_label, labels_line, cert_text, IsLabel, IsCert}
+use Rattle.mls_certificate.specs.Reading.{refused, pieces, is_decimal, number_in, rank_in, digit_in, byte_in, bytes_in, cats_in, label_in, labels_in, worded_in, line_in}
+use Rattle.mls_certificate.specs.Spelling.{byte_text, label_text, spaced_label, IsLabel}
 
 -- ---- ranks
 
@@ -196,50 +194,5 @@ worded_found word line (first ∷ words) ls e =
     let same : first ≡ word = (bytes_decides first word).0 p.0 in
     (subst (AllByRecursion IsLabel) (sym f.whole) f.fits, (λ i. join_with_byte 32 (same i ∷ f.text i)) ∙ joined word f.more ∙ ap (λ (ms : List Label). word ++ flat_map spaced_label ms) (sym f.whole))
 
-line_found : (word : List ℕ) (line : ℕ) (text : List ℕ) (ls : List Label) → line_in word line text ≡ Ok ls → AllByRecursion IsLabel ls × (text ≡ word ++ flat_map spaced_label ls)
+pub line_found : (word : List ℕ) (line : ℕ) (text : List ℕ) (ls : List Label) → line_in word line text ≡ Ok ls → AllByRecursion IsLabel ls × (text ≡ word ++ flat_map spaced_label ls)
 line_found word line text ls e = let f = worded_found word line (pieces 32 text) ls e in (f.0, sym (join_with_byte-slice_split 32 text) ∙ f.1)
-
--- ---- certificates
-
-pub record CertFound (c : Cert) (vars pcs : List ℕ) : Type 0 where
-  pub is : IsCert c
-  pub vars_text : vars ≡ codes "vars" ++ flat_map spaced_label c.var_labels
-  pub pcs_text : pcs ≡ codes "pcs" ++ flat_map spaced_label c.pc_labels
-
-pub lines_found : (line : ℕ) (vars pcs : List ℕ) (c : Cert) → cert_in line vars pcs ≡ Ok c → CertFound c vars pcs
-unfolding cert_in
-lines_found line vars pcs c e =
-    let v = bind_ok (line_in (codes "vars") line vars) _ c e in
-    let p = bind_ok (line_in (codes "pcs") (line + 1) pcs) _ c v.2 in
-    let vf = line_found (codes "vars") line vars v.0 v.1 in
-    let pf = line_found (codes "pcs") (line + 1) pcs p.0 p.1 in
-    subst (λ (d : Cert). CertFound d vars pcs) (ok_is (record { var_labels = v.0; pc_labels = p.0 }) c p.2) (record { is = (vf.0, pf.0); vars_text = vf.1; pcs_text = pf.1 })
-
-end_found : (lines : List (List ℕ)) → is_end lines ≡ true → lines ≡ [] ∷ []
-end_found [] e = absurd cc
-end_found (text ∷ []) e = ap (λ (t : List ℕ). t ∷ []) (nil_from_length text (eqb-true _ 0 e))
-end_found (text ∷ more ∷ lines) e = absurd cc
-
--- the lines of a certificate, each with its end
-whole : (c : Cert) (vars pcs : List ℕ) → CertFound c vars pcs → join_with_byte 10 (vars ∷ pcs ∷ [] ∷ []) ≡ cert_text c
-whole c vars pcs f =
-    (λ i. f.vars_text i ++ (10 ∷ (f.pcs_text i ++ (10 ∷ []))))
-    ∙ sym (append_assoc (codes "vars" ++ flat_map spaced_label c.var_labels) (codes "\n") (labels_line (codes "pcs") c.pc_labels))
-
-at_found : (lines : List (List ℕ)) (c : Cert) → cert_at lines ≡ Ok c → IsCert c × (join_with_byte 10 lines ≡ cert_text c)
-unfolding cert_at
-at_found [] c e = absurd cc
-at_found (end ∷ []) c e = absurd cc
-at_found (vars ∷ end ∷ []) c e = let v = bind_ok (line_in (codes "vars") 1 vars) _ c e in absurd (let d = v.2 in cc)
-at_found (vars ∷ pcs ∷ end ∷ more) c e =
-    let d = bind_ok (cert_in 1 vars pcs) _ c e in
-    let p = pass_ok (is_end (end ∷ more)) _ (Ok d.0) c d.2 in
-    let f = subst (λ (x : Cert). CertFound x vars pcs) (ok_is d.0 c p.1) (lines_found 1 vars pcs d.0 d.1) in
-    (f.is, ap (λ (ls : List (List ℕ)). join_with_byte 10 (vars ∷ pcs ∷ ls)) (end_found (end ∷ more) p.0) ∙ whole c vars pcs f)
-
-pub cert_found : (bytes : List ℕ) (c : Cert) → text_in bytes ≡ Ok c → IsCert c × (bytes ≡ cert_text c)
-cert_found bytes c e = let f = at_found (pieces 10 bytes) c e in (f.0, sym (join_with_byte-slice_split 10 bytes) ∙ f.1)
-
-pub is_found : (bytes : List ℕ) (r : Result Cert CertFault) → Gives (λ c. c) r (text_in bytes) → IfOk r (λ c. IsCert c × (bytes ≡ cert_text c))
-is_found bytes (Ok c) given = cert_found bytes c given
-is_found bytes (Err e) given = tt

@@ -1,7 +1,10 @@
 pub mod AgainLemmas
+pub mod CertLemmas
 pub mod FileLemmas
 pub mod FoundLemmas
+pub mod HeadLemmas
 pub mod LabelLemmas
+pub mod LinesLemmas
 pub mod NameLemmas
 pub mod ReadingSteps
 pub mod WritingLemmas

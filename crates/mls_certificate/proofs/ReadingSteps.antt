@@ -1,89 +1,56 @@
--- How lines of a file follow one another.
-use Rattle.std.proofs.Common.{◌≡◌, ℕ, ◌+◌, ◌-◌, ◌≤◌, Bool, true, false, cond, ◌==◌, List, [], ◌∷◌, ◌++◌, length, map, take, drop, get_or, codes, Option, Some, None, Result, Ok, Err, refl, sym, ap, ◌∙◌, arith, Bor}
-use Rattle.std.proofs.lemmas.List.{drop-map, drop-drop, take_all, length-drop}
-use Rattle.mls_lattice.specs.Reading.{◌>>=◌}
-use Rattle.mls_lattice.proofs.ReadingLemmas.{bind_ok}
+-- How lines, rows and blocks follow one another.
+use Rattle.std.proofs.Common.{◌≡◌, ℕ, zero, suc, ◌+◌, ◌-◌, ◌<◌, true, false, List, [], ◌∷◌, ◌++◌, length, map, take, drop, codes, Ok, Err, refl, sym, ap, ◌∙◌, arith, Bor}
+use Rattle.std.proofs.lemmas.List.{drop-map, take_all, length-drop}
+use Rattle.mls_lattice.specs.declared.label.Label.{Label}
 use Rattle.mls_certificate.specs.declared.fault.CertFault.{CertFault}
-use Rattle.mls_certificate.specs.declared.fault.CertCause.TheVariants.{Line}
-use Rattle.mls_certificate.specs.Reading.{Block, refused, name_in, line_in, block_in, end_in, step_in, blocks_in}
+use Rattle.mls_certificate.specs.Reading.{Block, line_at, is_over, rows_at, lines_of, block_at, blocks_at}
 
--- a block, where four lines are left
-pub step_four : (blocks : List Block) (line : ℕ) (xs : List (Bor (List ℕ))) (d : Bor (List ℕ)) (b : Block) → 4 ≤ length xs → block_in blocks line (get_or xs 0 d).now (get_or xs 1 d).now (get_or xs 2 d).now ≡ Ok b → step_in blocks line (map (λ x. x.now) xs) ≡ Ok (Some b)
-unfolding step_in
-step_four blocks line [] d b long h = absurd (omega arith)
-step_four blocks line (x ∷ []) d b long h = absurd (omega arith)
-step_four blocks line (x ∷ y ∷ []) d b long h = absurd (omega arith)
-step_four blocks line (x ∷ y ∷ z ∷ []) d b long h = absurd (omega arith)
-step_four blocks line (x ∷ y ∷ z ∷ w ∷ rest) d b long h = rw h refl
+-- what is left of lines that are lent
+pub left_lent : (xs : List (Bor (List ℕ))) (i : ℕ) → map (λ x. x.now) (take (length xs - i) (drop i xs)) ≡ drop i (map (λ x. x.now) xs)
+left_lent xs i =
+    ap (map (λ (x : Bor (List ℕ)). x.now)) (take_all (length xs - i) (drop i xs) (omega (arith, length-drop i xs)))
+    ∙ sym (drop-map (λ (x : Bor (List ℕ)). x.now) i xs)
 
-bind_err : {A B : Type 0} (r : Result A CertFault) (f : A → B) (d : CertFault) → (r >>= (λ x. Ok (f x))) ≡ Err d → r ≡ Err d
-bind_err (Ok x) f d e = absurd cc
-bind_err (Err c) f d e = cc
+-- ---- the loop over blocks, of which a number may still come
 
--- what stands behind the last block is none
-end_none : (blocks : List Block) (line : ℕ) (ls : List (List ℕ)) (o : Option Block) → end_in blocks line ls ≡ Ok o → o ≡ None
-unfolding end_in
-end_none blocks line [] o h = cc
-end_none blocks line (x ∷ []) o h = at (length x == 0) h
+pub blocks_over : (n : ℕ) (front : List Block) (lines : List (List ℕ)) (i : ℕ) → is_over (drop i lines) ≡ true → blocks_at n front lines i ≡ Ok front
+unfolding blocks_at
+blocks_over zero front lines i over = refl
+blocks_over (suc n) front lines i over = rw over refl
+
+pub blocks_next : (n m : ℕ) (ds front more : List Block) (lines : List (List ℕ)) (i j : ℕ) (b : Block) → n ≡ suc m → ds ≡ front → more ≡ front ++ b ∷ [] → j ≡ i + 1 + lines_of b.1 → is_over (drop i lines) ≡ false → block_at ds lines i ≡ Ok b → blocks_at m more lines j ≡ blocks_at n front lines i
+unfolding blocks_at
+blocks_next n m ds front more lines i j b some same grown moved left e =
+    let read : block_at front lines i ≡ Ok b = ap (λ (bs : List Block). block_at bs lines i) (sym same) ∙ e in
+    let step : blocks_at (suc m) front lines i ≡ blocks_at m (front ++ b ∷ []) lines (i + 1 + lines_of b.1) = rw (left, read) refl in
+    (λ k. blocks_at m (grown k) lines (moved k)) ∙ sym step ∙ ap (λ (k : ℕ). blocks_at k front lines i) (sym some)
+
+pub blocks_err : (n m : ℕ) (ds front : List Block) (lines : List (List ℕ)) (i : ℕ) (e : CertFault) → n ≡ suc m → ds ≡ front → is_over (drop i lines) ≡ false → block_at ds lines i ≡ Err e → blocks_at n front lines i ≡ Err e
+unfolding blocks_at
+blocks_err n m ds front lines i e some same left h =
+    let read : block_at front lines i ≡ Err e = ap (λ (bs : List Block). block_at bs lines i) (sym same) ∙ h in
+    ap (λ (k : ℕ). blocks_at k front lines i) some ∙ rw (left, read) refl
+
+-- lines are left where they are not over
+pub left_some : (xs : List (Bor (List ℕ))) (i : ℕ) → is_over (drop i (map (λ x. x.now) xs)) ≡ false → i < length xs
+left_some xs i h = at (drop i xs) (length-drop i xs) (ap is_over (sym (drop-map (λ (x : Bor (List ℕ)). x.now) i xs)) ∙ h)
   where
-    at : (b : Bool) → cond b (Ok None) (refused line Line) ≡ Ok o → o ≡ None
-    at true h = cc
-    at false h = absurd cc
-end_none blocks line (x ∷ y ∷ []) o h = let p = bind_ok (name_in blocks line x) (λ _. refused (line + 1) Line) o h in absurd (let e = p.2 in cc)
-end_none blocks line (x ∷ y ∷ z ∷ rest) o h =
-    let p = bind_ok (name_in blocks line x) (λ _. line_in (codes "vars") (line + 1) y >>= λ _. refused (line + 2) Line) o h in
-    let q = bind_ok (line_in (codes "vars") (line + 1) y) (λ _. refused (line + 2) Line) o p.2 in
-    absurd (let e = q.2 in cc)
+    at : (ls : List (Bor (List ℕ))) → length ls ≡ length xs - i → is_over (map (λ x. x.now) ls) ≡ false → i < length xs
+    at [] l h = absurd cc
+    at (t ∷ ls) l h = omega (arith, l)
 
--- what a step gives is what is read
-block_some : (blocks : List Block) (line : ℕ) (ls : List (List ℕ)) (b : Block) → step_in blocks line ls ≡ Ok (Some b) → blocks_in blocks line ls ≡ blocks_in (blocks ++ b ∷ []) (line + 3) (drop 3 ls)
-unfolding step_in blocks_in
-block_some blocks line [] b h = absurd (let e = end_none blocks line [] (Some b) h in cc)
-block_some blocks line (x ∷ []) b h = absurd (let e = end_none blocks line (x ∷ []) (Some b) h in cc)
-block_some blocks line (x ∷ y ∷ []) b h = absurd (let e = end_none blocks line (x ∷ y ∷ []) (Some b) h in cc)
-block_some blocks line (x ∷ y ∷ z ∷ []) b h = absurd (let e = end_none blocks line (x ∷ y ∷ z ∷ []) (Some b) h in cc)
-block_some blocks line (x ∷ y ∷ z ∷ w ∷ rest) b h =
-    let p = bind_ok (block_in blocks line x y z) (λ c. Ok (Some c)) (Some b) h in
-    let same : p.0 ≡ b = let e = p.2 in cc in
-    rw p.1 (ap (λ (c : Block). blocks_in (blocks ++ c ∷ []) (line + 3) (w ∷ rest)) same)
+-- ---- the loop over rows
 
--- the same, as a loop has it
-pub block_next : (blocks : List Block) (start : ℕ) (xs : List (Bor (List ℕ))) (b : Block) → step_in blocks (start + 1) (map (λ x. x.now) (drop start xs)) ≡ Ok (Some b) → blocks_in (blocks ++ b ∷ []) (start + 3 + 1) (map (λ x. x.now) (drop (start + 3) xs)) ≡ blocks_in blocks (start + 1) (map (λ x. x.now) (drop start xs))
-block_next blocks start xs b h =
-    let lines : start + 1 + 3 ≡ start + 3 + 1 = omega arith in
-    let left : drop 3 (map (λ x. x.now) (drop start xs)) ≡ map (λ x. x.now) (drop (start + 3) xs) = drop-map (λ (x : Bor (List ℕ)). x.now) 3 (drop start xs) ∙ ap (map (λ (x : Bor (List ℕ)). x.now)) (drop-drop 3 start xs) in
-    sym (block_some blocks (start + 1) (map (λ x. x.now) (drop start xs)) b h ∙ (λ i. blocks_in (blocks ++ b ∷ []) (lines i) (left i)))
+pub rows_all : (n : ℕ) (front : List (List Label)) (lines : List (List ℕ)) (i : ℕ) → n ≡ 0 → rows_at front n lines i ≡ Ok front
+unfolding rows_at
+rows_all n front lines i none = ap (λ (k : ℕ). rows_at front k lines i) none
 
-pub block_none : (blocks : List Block) (line : ℕ) (ls : List (List ℕ)) → step_in blocks line ls ≡ Ok None → blocks_in blocks line ls ≡ Ok blocks
-unfolding step_in blocks_in
-block_none blocks line [] h = rw h refl
-block_none blocks line (x ∷ []) h = rw h refl
-block_none blocks line (x ∷ y ∷ []) h = rw h refl
-block_none blocks line (x ∷ y ∷ z ∷ []) h = rw h refl
-block_none blocks line (x ∷ y ∷ z ∷ w ∷ rest) h =
-    let p = bind_ok (block_in blocks line x y z) (λ c. Ok (Some c)) None h in absurd (let e = p.2 in cc)
+pub rows_next : (n m : ℕ) (front more : List (List Label)) (row : List Label) (lines : List (List ℕ)) (i : ℕ) → n ≡ suc m → more ≡ front ++ row ∷ [] → line_at (codes "row") lines i ≡ Ok row → rows_at more m lines (i + 1) ≡ rows_at front n lines i
+unfolding rows_at
+rows_next n m front more row lines i some grown e =
+    let step : rows_at front (suc m) lines i ≡ rows_at (front ++ row ∷ []) m lines (i + 1) = rw e refl in
+    ap (λ (rs : List (List Label)). rows_at rs m lines (i + 1)) grown ∙ sym step ∙ ap (λ (k : ℕ). rows_at front k lines i) (sym some)
 
-pub block_err : (blocks : List Block) (line : ℕ) (ls : List (List ℕ)) (e : CertFault) → step_in blocks line ls ≡ Err e → blocks_in blocks line ls ≡ Err e
-unfolding step_in blocks_in
-block_err blocks line [] e h = rw h refl
-block_err blocks line (x ∷ []) e h = rw h refl
-block_err blocks line (x ∷ y ∷ []) e h = rw h refl
-block_err blocks line (x ∷ y ∷ z ∷ []) e h = rw h refl
-block_err blocks line (x ∷ y ∷ z ∷ w ∷ rest) e h = rw (bind_err (block_in blocks line x y z) (λ c. Some c) e h) refl
-
--- ---- the loop over blocks: those read, where it stands, and what reading all gives
-
-module _ (ds blocks : List Block) (start : ℕ) (xs : List (Bor (List ℕ))) (all : Result (List Block) CertFault) (same : ds ≡ blocks) (within : start ≤ length xs) (read : blocks_in blocks (start + 1) (map (λ x. x.now) (drop start xs)) ≡ all) (r : Result (Option Block) CertFault) (step : step_in ds (start + 1) (map (λ x. x.now) (take (length xs - start) (drop start xs))) ≡ r) where
-  stepped : step_in blocks (start + 1) (map (λ x. x.now) (drop start xs)) ≡ r
-  stepped =
-      let left : take (length xs - start) (drop start xs) ≡ drop start xs = take_all (length xs - start) (drop start xs) (omega (arith, length-drop start xs)) in
-      (λ i. step_in (sym same i) (start + 1) (map (λ (x : Bor (List ℕ)). x.now) (sym left i))) ∙ step
-
-  pub loop_err : (e : CertFault) → r ≡ Err e → all ≡ Err e
-  loop_err e h = sym read ∙ block_err blocks (start + 1) (map (λ x. x.now) (drop start xs)) e (stepped ∙ h)
-
-  pub loop_none : r ≡ Ok None → all ≡ Ok blocks
-  loop_none h = sym read ∙ block_none blocks (start + 1) (map (λ x. x.now) (drop start xs)) (stepped ∙ h)
-
-  pub loop_next : (more : List Block) (b : Block) → more ≡ blocks ++ b ∷ [] → r ≡ Ok (Some b) → blocks_in more (start + 3 + 1) (map (λ x. x.now) (drop (start + 3) xs)) ≡ all
-  loop_next more b grown h = ap (λ (bs : List Block). blocks_in bs (start + 3 + 1) (map (λ (x : Bor (List ℕ)). x.now) (drop (start + 3) xs))) grown ∙ block_next blocks start xs b (stepped ∙ h) ∙ read
+pub rows_err : (n m : ℕ) (front : List (List Label)) (lines : List (List ℕ)) (i : ℕ) (e : CertFault) → n ≡ suc m → line_at (codes "row") lines i ≡ Err e → rows_at front n lines i ≡ Err e
+unfolding rows_at
+rows_err n m front lines i e some h = ap (λ (k : ℕ). rows_at front k lines i) some ∙ rw h refl

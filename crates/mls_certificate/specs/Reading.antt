@@ -1,5 +1,5 @@
 -- Certificates are read line by line, and a line word by word, up to the first fault.
-use Rattle.std.specs.Prelude.{◌≡◌, ℕ, ◌+◌, ◌*◌, ◌-◌, false, Bool, ◌&&◌, ◌||◌, not, ◌==◌, nat_lt, nat_le, if◌then◌else◌, List, [], ◌∷◌, ◌++◌, length, take, drop, slice_index, codes, Option, Some, None, Result, Ok, Err}
+use Rattle.std.specs.Prelude.{◌≡◌, ℕ, zero, suc, ◌+◌, ◌*◌, ◌-◌, true, false, Bool, ◌&&◌, ◌||◌, not, ◌==◌, nat_lt, nat_le, if◌then◌else◌, List, [], ◌∷◌, ◌++◌, length, take, drop, slice_index, codes, Result, Ok, Err}
 use Rattle.std.specs.List.{slice_split, list_any, list_all, prefix_len}
 use Rattle.std.specs.Char.{is_ascii_digit}
 use Rattle.std.specs.Str.{bytes_eq}
@@ -10,9 +10,14 @@ use Rattle.mls_lattice.specs.Name.{is_name}
 use Rattle.mls_lattice.specs.Reading.{◌>>=◌, GivesUnless}
 use Rattle.mls_certificate.specs.Spelling.{IsFile, file_text}
 use Rattle.mls_certificate.specs.declared.cert.Cert.{Cert}
+use Rattle.mls_certificate.specs.declared.cert.Cert2.{Cert2}
+use Rattle.mls_certificate.specs.declared.cert.Certificate.{Certificate}
+use Rattle.mls_certificate.specs.declared.cert.Certificate.TheVariants.{One, Two}
+use Rattle.mls_certificate.specs.declared.cert.Version.{Version}
+use Rattle.mls_certificate.specs.declared.cert.Version.TheVariants.{First, Second}
 use Rattle.mls_certificate.specs.declared.fault.CertFault.{CertFault}
 use Rattle.mls_certificate.specs.declared.fault.CertCause.{CertCause}
-use Rattle.mls_certificate.specs.declared.fault.CertCause.TheVariants.{Line, Label as BadLabel, Version, Repeated, Memory}
+use Rattle.mls_certificate.specs.declared.fault.CertCause.TheVariants.{Line, Label as BadLabel, Version as BadVersion, Repeated, Memory}
 
 -- What a function returned, seen by view, is what reading gives, unless memory ran out.
 abbrev pub Gives : {X Y : Type 0} → (X → Y) → Result X CertFault → Result Y CertFault → Type 0
@@ -88,31 +93,75 @@ worded_in word line (first ∷ words) = if bytes_eq first word then labels_in li
 abbrev pub line_in : List ℕ → ℕ → List ℕ → Result (List Label) CertFault
 line_in word line text = worded_in word line (pieces 32 text)
 
-unfoldable pub cert_in : ℕ → List ℕ → List ℕ → Result Cert CertFault
-cert_in line vars pcs = do
-  v ← line_in (codes "vars") line vars
-  p ← line_in (codes "pcs") (line + 1) pcs
-  Ok (record { var_labels = v; pc_labels = p })
+-- ---- the lines of a text, each by its place
 
--- ---- one certificate
+-- a line that has its end: something stands behind it
+unfoldable pub whole_in : ℕ → List (List ℕ) → Result (List ℕ) CertFault
+whole_in line [] = refused line Line
+whole_in line (text ∷ []) = refused line Line
+whole_in line (text ∷ _ ∷ _) = Ok text
 
--- the last line had its end: nothing stands behind it
-abbrev pub is_end : List (List ℕ) → Bool
-is_end [] = false
-is_end (text ∷ []) = length text == 0
-is_end (text ∷ more ∷ lines) = false
+abbrev pub text_at : List (List ℕ) → ℕ → Result (List ℕ) CertFault
+text_at lines i = whole_in (i + 1) (drop i lines)
 
--- two lines, each with its end, and nothing more
-unfoldable pub cert_at : List (List ℕ) → Result Cert CertFault
-cert_at [] = refused 1 Line
-cert_at (end ∷ []) = refused 1 Line
-cert_at (vars ∷ end ∷ []) = line_in (codes "vars") 1 vars >>= λ _. refused 2 Line
-cert_at (vars ∷ pcs ∷ end ∷ more) = cert_in 1 vars pcs >>= λ c. if is_end (end ∷ more) then Ok c else refused 3 Line
+unfoldable pub line_at : List ℕ → List (List ℕ) → ℕ → Result (List Label) CertFault
+line_at word lines i = text_at lines i >>= λ text. line_in word (i + 1) text
+
+-- nothing is left
+abbrev pub is_over : List (List ℕ) → Bool
+is_over [] = true
+is_over (text ∷ []) = length text == 0
+is_over (text ∷ _ ∷ _) = false
+
+-- ---- certificates
+
+unfoldable pub cert_at : List (List ℕ) → ℕ → Result Cert CertFault
+cert_at lines i = do
+  vars ← line_at (codes "vars") lines i
+  pcs ← line_at (codes "pcs") lines (i + 1)
+  Ok (record { var_labels = vars; pc_labels = pcs })
+
+-- as many rows, after those read before
+unfoldable pub rows_at : List (List Label) → ℕ → List (List ℕ) → ℕ → Result (List (List Label)) CertFault
+rows_at front zero lines i = Ok front
+rows_at front (suc n) lines i = line_at (codes "row") lines i >>= λ row. rows_at (front ++ row ∷ []) n lines (i + 1)
+
+unfoldable pub cert2_at : List (List ℕ) → ℕ → Result Cert2 CertFault
+cert2_at lines i = do
+  pcs ← line_at (codes "pcs") lines i
+  rows ← rows_at [] (length pcs) lines (i + 1)
+  Ok (record { rows = rows; pc_labels = pcs })
+
+unfoldable pub certificate_at : Version → List (List ℕ) → ℕ → Result Certificate CertFault
+certificate_at First lines i = cert_at lines i >>= λ c. Ok (One c)
+certificate_at Second lines i = cert2_at lines i >>= λ c. Ok (Two c)
+
+-- how many lines a certificate has
+abbrev pub lines_of : Certificate → ℕ
+lines_of (One c) = 2
+lines_of (Two c) = 1 + length c.pc_labels
+
+-- what was read, where nothing is left
+unfoldable pub ended_at : {A : Type 0} → List (List ℕ) → ℕ → A → Result A CertFault
+ended_at lines i x = if is_over (drop i lines) then Ok x else refused (i + 1) Line
+
+unfoldable pub lines_in : List (List ℕ) → Result Cert CertFault
+lines_in lines = cert_at lines 0 >>= λ c. ended_at lines 2 c
+
+unfoldable pub lines2_in : List (List ℕ) → Result Cert2 CertFault
+lines2_in lines = cert2_at lines 0 >>= λ c. ended_at lines (1 + length c.pc_labels) c
+
+-- a whole text of version 1, and of version 2
+abbrev pub text_in : List ℕ → Result Cert CertFault
+text_in bytes = lines_in (pieces 10 bytes)
+
+abbrev pub text2_in : List ℕ → Result Cert2 CertFault
+text2_in bytes = lines2_in (pieces 10 bytes)
 
 -- ---- a file of certificates
 
 abbrev pub Block : Type 0
-Block = List ℕ × Cert
+Block = List ℕ × Certificate
 
 -- a name that none of the blocks before has
 unfoldable pub fresh_in : List Block → ℕ → List ℕ → Result (List ℕ) CertFault
@@ -121,54 +170,45 @@ fresh_in front line name = if list_any (λ b. bytes_eq b.0 name) front then refu
 unfoldable pub proper_in : ℕ → List ℕ → Result (List ℕ) CertFault
 proper_in line name = if is_name name then Ok name else refused line Line
 
+unfoldable pub version_in : ℕ → List ℕ → Result Version CertFault
+version_in line text = if bytes_eq text (codes "1") then Ok First else (if bytes_eq text (codes "2") then Ok Second else refused line BadVersion)
+
 -- the version, and a name
-unfoldable pub versioned_in : List Block → ℕ → List ℕ → List ℕ → Result (List ℕ) CertFault
-versioned_in front line version name =
-    proper_in line name >>= λ n. if bytes_eq version (codes "1") then fresh_in front line n else refused line Version
+unfoldable pub versioned_in : List Block → ℕ → List ℕ → List ℕ → Result (Version × List ℕ) CertFault
+versioned_in front line version name = do
+  proper ← proper_in line name
+  v ← version_in line version
+  fresh ← fresh_in front line proper
+  Ok (v, fresh)
 
 -- digits, a space and a name
-unfoldable pub named_in : List Block → ℕ → List ℕ → Result (List ℕ) CertFault
+unfoldable pub named_in : List Block → ℕ → List ℕ → Result (Version × List ℕ) CertFault
 named_in front line text =
     let k = prefix_len is_ascii_digit text in
     if k == 0 then refused line Line
     else (if k == length text then refused line Line
     else (if slice_index text k == 32 then versioned_in front line (take k text) (drop (k + 1) text) else refused line Line))
 
-unfoldable pub name_in : List Block → ℕ → List ℕ → Result (List ℕ) CertFault
-name_in front line text = if bytes_eq (take 12 text) (codes "certificate ") then named_in front line (drop 12 text) else refused line Line
+unfoldable pub head_in : List Block → ℕ → List ℕ → Result (Version × List ℕ) CertFault
+head_in front line text = if bytes_eq (take 12 text) (codes "certificate ") then named_in front line (drop 12 text) else refused line Line
 
-unfoldable pub block_in : List Block → ℕ → List ℕ → List ℕ → List ℕ → Result Block CertFault
-block_in front line first vars pcs = do
-  name ← name_in front line first
-  cert ← cert_in (line + 1) vars pcs
-  Ok (name, cert)
+unfoldable pub block_at : List Block → List (List ℕ) → ℕ → Result Block CertFault
+block_at front lines i = do
+  text ← text_at lines i
+  head ← head_in front (i + 1) text
+  cert ← certificate_at head.0 lines (i + 1)
+  Ok (head.1, cert)
 
--- what stands behind the last whole block: nothing, or a fault
-unfoldable pub end_in : List Block → ℕ → List (List ℕ) → Result (Option Block) CertFault
-end_in front line [] = Ok None
-end_in front line (end ∷ []) = if length end == 0 then Ok None else refused line Line
-end_in front line (first ∷ _ ∷ []) = name_in front line first >>= λ _. refused (line + 1) Line
-end_in front line (first ∷ vars ∷ _ ∷ _) = name_in front line first >>= λ _. line_in (codes "vars") (line + 1) vars >>= λ _. refused (line + 2) Line
+-- blocks, no more than a number, after those read before
+unfoldable pub blocks_at : ℕ → List Block → List (List ℕ) → ℕ → Result (List Block) CertFault
+blocks_at zero front lines i = Ok front
+blocks_at (suc n) front lines i =
+    if is_over (drop i lines) then Ok front
+    else (block_at front lines i >>= λ b. blocks_at n (front ++ b ∷ []) lines (i + 1 + lines_of b.1))
 
--- a block of three lines, each with its end, if there is one
-unfoldable pub step_in : List Block → ℕ → List (List ℕ) → Result (Option Block) CertFault
-step_in front line (first ∷ vars ∷ pcs ∷ _ ∷ _) = block_in front line first vars pcs >>= λ b. Ok (Some b)
-step_in front line [] = end_in front line []
-step_in front line (end ∷ []) = end_in front line (end ∷ [])
-step_in front line (first ∷ end ∷ []) = end_in front line (first ∷ end ∷ [])
-step_in front line (first ∷ vars ∷ end ∷ []) = end_in front line (first ∷ vars ∷ end ∷ [])
-
--- blocks, after those read before
-unfoldable pub blocks_in : List Block → ℕ → List (List ℕ) → Result (List Block) CertFault
-blocks_in front line (first ∷ vars ∷ pcs ∷ next ∷ rest) = block_in front line first vars pcs >>= λ b. blocks_in (front ++ b ∷ []) (line + 3) (next ∷ rest)
-blocks_in front line rest = end_in front line rest >>= λ _. Ok front
-
--- a whole file
+-- a whole file, which has fewer blocks than lines
 abbrev pub file_in : List ℕ → Result (List Block) CertFault
-file_in bytes = blocks_in [] 1 (pieces 10 bytes)
-
-abbrev pub text_in : List ℕ → Result Cert CertFault
-text_in bytes = cert_at (pieces 10 bytes)
+file_in bytes = let lines = pieces 10 bytes in blocks_at (length lines) [] lines 0
 
 -- the texts of blocks one after another are read as these blocks
 abbrev pub FilesAreReadAgain : Type 0

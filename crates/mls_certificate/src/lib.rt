@@ -6,13 +6,15 @@ ghost use Rattle.mls_certificate.specs.Spelling.{AreUnambiguous, FilesAreUnambig
 
 mod cert;
 mod fault;
+mod head;
 mod label;
 mod line;
-mod name;
+mod lines;
 mod reading;
+mod rows;
 mod writing;
 
-pub use cert::Cert;
+pub use cert::{Cert, Cert2, Certificate, Version};
 pub use fault::{CertCause, CertFault};
 pub use reading::certs_read;
 pub use writing::block_print;

@@ -3,11 +3,11 @@ ghost use Rattle.std.specs.Prelude.{◌≡◌, ◌∷◌, [], ◌++◌, true, co
 ghost use Rattle.std.specs.List.{flat_map, AllByRecursion};
 ghost use Rattle.std.specs.Int.{w32, to_be_bytes};
 ghost use Rattle.mls_lattice.specs.Name.{is_name};
-ghost use Rattle.mls_certificate.specs.Reading.{file_in};
-ghost use Rattle.mls_certificate.specs.Spelling.{byte_text, label_text, spaced_label, labels_line, cert_text, block_text, IsLabel, IsCert};
+ghost use Rattle.mls_certificate.specs.Reading.{file_in, text2_in};
+ghost use Rattle.mls_certificate.specs.Spelling.{byte_text, label_text, spaced_label, labels_line, row_line, cert_text, cert2_text, block_text, IsLabel, AreLabels, HasEachRow, HasText, IsCert, IsCert2, IsCertificate};
 
-use crate::cert::Cert;
-use mls_lattice::Label;
+use crate::cert::{Cert, Cert2, Certificate};
+use mls_lattice::{Items, Label};
 use std::alloc::{AllocError, Global};
 
 #[tactic(auto, using(crate::proofs::WritingLemmas::byte_written))]
@@ -39,7 +39,7 @@ fn label_to(text: &mut String, label: Label) -> Result<(), AllocError>
 
 fn labels_to(text: &mut String, word: &str, labels: &[Label]) -> Result<(), AllocError>
     ensures text { OnOk result (string_bytes text.new ≡ string_bytes text.old ++ labels_line word.now labels.now) }
-    ensures fits { OnOk result (AllByRecursion IsLabel labels.now) }
+    ensures fits { OnOk result (AreLabels labels.now) }
 {
     text.push_str(word)?;
     for label in labels {
@@ -69,15 +69,67 @@ impl Cert {
     }
 }
 
-/// The three lines of a certificate in a file: the version and the name of its transaction, and its text.
-pub fn block_print(alloc: Global, name: &str, cert: &Cert) -> Result<String, AllocError>
-    requires { is_name name.now ≡ true }
+fn rows_to(text: &mut String, rows: &[Items<Label>]) -> Result<(), AllocError>
+    ensures text { OnOk result (string_bytes text.new ≡ string_bytes text.old ++ flat_map row_line rows.now) }
+    ensures fits { OnOk result (AllByRecursion AreLabels rows.now) }
+{
+    for row in rows {
+        labels_to(text, "row", row)?;
+    }
+    Ok(())
+}
+
+fn cert2_to(text: &mut String, cert: &Cert2) -> Result<(), AllocError>
+    requires { HasEachRow cert.now }
+    ensures text { OnOk result (string_bytes text.new ≡ string_bytes text.old ++ cert2_text cert.now) }
+    ensures fits { OnOk result (IsCert2 cert.now) }
+{
+    labels_to(text, "pcs", &cert.pc_labels)?;
+    rows_to(text, &cert.rows)?;
+    Ok(())
+}
+
+impl Cert2 {
+    /// Its one text: a line of labels for the statements, and a row for each of them.
+    pub fn print(&self, alloc: Global) -> Result<String, AllocError>
+        requires { HasEachRow self.now }
+        ensures text { IfOk result (λ s. string_bytes s ≡ cert2_text self.now) }
+        // The text is read as this certificate.
+        ensures again { IfOk result (λ s. text2_in (string_bytes s) ≡ Ok self.now) }
+    {
+        let mut text = String::new(alloc);
+        cert2_to(&mut text, self)?;
+        Ok(text)
+    }
+}
+
+fn block_to(text: &mut String, name: &str, cert: &Certificate) -> Result<(), AllocError>
+    requires { HasText cert.now }
+    ensures text { OnOk result (string_bytes text.new ≡ string_bytes text.old ++ block_text (name.now, cert.now)) }
+    ensures fits { OnOk result (IsCertificate cert.now) }
+{
+    match cert {
+        Certificate::One(cert) => {
+            writeln!(text, "certificate 1 {name}")?;
+            cert_to(text, cert)
+        }
+        Certificate::Two(cert) => {
+            writeln!(text, "certificate 2 {name}")?;
+            cert2_to(text, cert)
+        }
+    }
+}
+
+/// The lines of a certificate in a file: the version and the name of its transaction, and its text.
+pub fn block_print(alloc: Global, name: &str, cert: &Certificate) -> Result<String, AllocError>
+    requires named { is_name name.now ≡ true }
+    // One of the second version has as many rows as statements.
+    requires spelled { HasText cert.now }
     ensures text { IfOk result (λ s. string_bytes s ≡ block_text (name.now, cert.now)) }
     // A file of nothing else is read as that name and that certificate.
     ensures again { IfOk result (λ s. file_in (string_bytes s) ≡ Ok ((name.now, cert.now) ∷ [])) }
 {
     let mut text = String::new(alloc);
-    writeln!(text, "certificate 1 {name}")?;
-    cert_to(&mut text, cert)?;
+    block_to(&mut text, name, cert)?;
     Ok(text)
 }

@@ -1,2 +1,3 @@
 pub mod RunningLemmas
 pub mod StoringLemmas
+pub mod CertifyingLemmas

@@ -5,7 +5,7 @@ use Rattle.mls_lattice.specs.Policy.{Tables}
 use Rattle.mls_scheme.specs.Scheme.{Schemes}
 use Rattle.mls_translang.specs.Tx.{Tx}
 use Rattle.mls_translang.specs.Fits.{IsReadUnder}
-use Rattle.mls_certificate.specs.declared.cert.Cert.{Cert}
+use Rattle.mls_certificate.specs.declared.cert.Certificate.{Certificate}
 use Rattle.mls_certificate.specs.Reading.{Block}
 use Rattle.mls_certcheck.specs.Rules.{Claim, Rules}
 use Rattle.mls_certcheck.specs.Checks.{First}
@@ -23,12 +23,12 @@ pub refused_breaks : (c : Claim) (e : Refusal) → First c ≡ Err e → Rules c
 refused_breaks c e refused rules = let both : Err e ≡ Ok tt = sym refused ∙ first_from_rules c rules in absurd cc
 
 module _ (policy : Tables) where
-  same_tx : (o : Option Cert) (tx : Tx) (s : Stored) → IsStoredWith policy o tx s → tx_of s ≡ tx
+  same_tx : (o : Option Certificate) (tx : Tx) (s : Stored) → IsStoredWith policy o tx s → tx_of s ≡ tx
   same_tx None tx s h = ap tx_of h
   same_tx (Some cert) tx (Certified k) h = h.0
   same_tx (Some cert) tx (Plain t) h = h.0
 
-  made_under : (o : Option Cert) (tx : Tx) (s : Stored) → IsStoredWith policy o tx s → IsMadeUnder policy s
+  made_under : (o : Option Certificate) (tx : Tx) (s : Stored) → IsStoredWith policy o tx s → IsMadeUnder policy s
   made_under None tx s h = subst (IsMadeUnder policy) (sym h) tt
   made_under (Some cert) tx (Certified k) h = h.2
   made_under (Some cert) tx (Plain t) h = tt

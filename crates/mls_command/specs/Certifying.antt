@@ -6,12 +6,17 @@ use Rattle.std.specs.Io.KnownBytes.{Appends}
 use Rattle.mls_lattice.specs.Policy.{Name, Tables}
 use Rattle.mls_translang.specs.Tx.{Tx}
 use Rattle.mls_certificate.specs.declared.cert.Cert.{Cert}
-use Rattle.mls_certificate.specs.Spelling.{block_text}
+use Rattle.mls_certificate.specs.declared.cert.Cert2.{Cert2}
+use Rattle.mls_certificate.specs.declared.cert.Certificate.{Certificate}
+use Rattle.mls_certificate.specs.declared.cert.Certificate.TheVariants.{One, Two}
+use Rattle.mls_certificate.specs.Spelling.{HasText, block_text}
 use Rattle.mls_certcheck.specs.Rules.{Rules, claim}
 use Rattle.mls_certcheck.specs.Checks.{First}
 use Rattle.mls_certcheck.specs.Refusal.{text_of}
 use Rattle.mls_certcheck.specs.declared.refusal.Rule.{Rule}
-use Rattle.mls_labeller.specs.Least.{IsLeast, Below}
+use Rattle.mls_certificate.specs.declared.cert.Version.{Version}
+use Rattle.mls_certificate.specs.declared.cert.Version.TheVariants as version
+use Rattle.mls_labeller.specs.Least.{IsOf, IsLeast, Below}
 use Rattle.mls_command.specs.declared.ending.Ending.{Ending}
 use Rattle.mls_command.specs.declared.ending.Ending.TheVariants.{Well, Refused}
 use Rattle.mls_command.specs.declared.certifying.Labels.{Labels}
@@ -20,18 +25,33 @@ use Rattle.mls_command.specs.declared.certifying.Answer.{Answer}
 use Rattle.mls_command.specs.declared.certifying.Listing.{Listing}
 
 module _ (policy : Tables) (tx : Tx) where
-  -- the rules hold under it, and each of its labels is dominated by the one at the same place of every other under which they hold
-  pub record IsLeastCertificate (cert : Cert) : Type 0 where
-    pub obeys : Rules (claim policy tx cert)
-    pub below : (other : Cert) → Rules (claim policy tx other) → Below (claim policy tx cert) (claim policy tx other)
+  -- the rules hold under a certificate
+  abbrev pub Obeys : Certificate → Type 0
+  Obeys cert = Rules (claim policy tx cert)
 
-  -- they hold under none; and this is what the least labels break first which meet the lower bounds
+  -- they hold under none of a version
+  abbrev pub HasNoneOf : Version → Type 0
+  HasNoneOf v = (cert : Certificate) → IsOf v cert → Obeys cert → ⊥
+
+  -- they hold under it, and each of its labels is dominated by the one at the same place of every other of its version under which they hold
+  pub record IsLeastOne (cert : Cert) : Type 0 where
+    pub obeys : Obeys (One cert)
+    pub below : (other : Cert) → Obeys (One other) → Below (claim policy tx (One cert)) (claim policy tx (One other))
+
+  -- version 2 stands where there is none of version 1
+  pub record IsLeastTwo (cert : Cert2) : Type 0 where
+    pub none : HasNoneOf version.First
+    pub obeys : Obeys (Two cert)
+    pub below : (other : Cert2) → Obeys (Two other) → Below (claim policy tx (Two cert)) (claim policy tx (Two other))
+
+  -- they hold under none; and this is what the least labels of version 2 break first which meet the lower bounds
   pub record HasNoCertificate (stmt : ℕ) (rule : Rule) : Type 0 where
-    pub none : (cert : Cert) → Rules (claim policy tx cert) → ⊥
-    pub first : (cert : Cert) × (IsLeast policy tx cert × (First (claim policy tx cert) ≡ Err (record { stmt = stmt; rule = rule })))
+    pub none : (cert : Certificate) → Obeys cert → ⊥
+    pub first : (cert : Certificate) × (IsLeast version.Second policy tx cert × (First (claim policy tx cert) ≡ Err (record { stmt = stmt; rule = rule })))
 
   abbrev pub AreLabels : Labels → Type 0
-  AreLabels (Least cert) = IsLeastCertificate cert
+  AreLabels (Least (One cert)) = IsLeastOne cert
+  AreLabels (Least (Two cert)) = IsLeastTwo cert
   AreLabels (Missing stmt rule) = HasNoCertificate stmt rule
 
 abbrev pub IsAnswer : Tables → Tx → Answer → Type 0
@@ -42,6 +62,11 @@ abbrev pub AreAnswers : Tables → List Tx → List Answer → Type 0
 AreAnswers policy = AllZip (IsAnswer policy)
 
 -- ---- what is printed of it
+
+-- what has a text, where there is one
+abbrev pub HaveText : Labels → Type 0
+HaveText (Least cert) = HasText cert
+HaveText (Missing stmt rule) = Unit {0}
 
 abbrev pub labels_block : Name → Labels → List ℕ
 labels_block name (Least cert) = block_text (name, cert)

@@ -5,7 +5,7 @@ use Rattle.std.specs.Fmt.{decimal}
 use Rattle.std.specs.Io.KnownBytes.{Appends}
 use Rattle.mls_lattice.specs.Policy.{Name, Tables}
 use Rattle.mls_translang.specs.Tx.{Tx}
-use Rattle.mls_certificate.specs.declared.cert.Cert.{Cert}
+use Rattle.mls_certificate.specs.declared.cert.Certificate.{Certificate}
 use Rattle.mls_certificate.specs.Reading.{Block}
 use Rattle.mls_certcheck.specs.Rules.{claim}
 use Rattle.mls_certcheck.specs.Checks.{First}
@@ -22,7 +22,7 @@ abbrev pub judged : Result (Unit {0}) Refusal → Verdict
 judged (Ok _) = Yes
 judged (Err refusal) = No refusal
 
-abbrev pub verdict_on : Tables → Tx → Option Cert → Verdict
+abbrev pub verdict_on : Tables → Tx → Option Certificate → Verdict
 verdict_on policy tx None = Missing
 verdict_on policy tx (Some cert) = judged (First (claim policy tx cert))
 

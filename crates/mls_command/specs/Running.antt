@@ -1,5 +1,5 @@
 -- What a run of the program writes, what it begins with and what it leaves.
-use Rattle.std.specs.Prelude.{◌≡◌, ℕ, List, [], Option, Some, None}
+use Rattle.std.specs.Prelude.{◌≡◌, ℕ, List, Option, Some, None}
 use Rattle.std.specs.Io.KnownBytes.{Appends}
 use Rattle.mls_filterview.specs.Content.{Content, no_content}
 use Rattle.mls_script.specs.declared.event.Event.{Event}

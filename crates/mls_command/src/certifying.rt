@@ -1,7 +1,8 @@
 //! Transactions get the least certificates that hold for them.
 ghost use Rattle.std.specs.Prelude.{◌≡◌, ◌++◌, string_bytes, IfOk, OnOk};
-ghost use Rattle.std.specs.List.{flat_map, list_any};
-ghost use Rattle.mls_command.specs.Certifying.{AreLabels, IsAnswer, AreAnswers, block_of, none_front, none_text, refusal_of, has_none, ending_of, IsListing, IsCertified};
+ghost use Rattle.std.specs.List.{flat_map, list_any, AllByRecursion};
+ghost use Rattle.mls_certificate.specs.declared.cert.Version.TheVariants.{First};
+ghost use Rattle.mls_command.specs.Certifying.{HasNoneOf, HaveText, AreLabels, IsAnswer, AreAnswers, block_of, none_front, none_text, refusal_of, has_none, ending_of, IsListing, IsCertified};
 ghost use Rattle.mls_command.specs.Acting.{IsCertifying};
 
 use crate::ending::Ending;
@@ -10,8 +11,8 @@ use crate::inputs::transactions_in;
 use crate::refusal::Refusal;
 use crate::showing::print;
 use mls_certcheck::Rule;
-use mls_certificate::{Cert, block_print};
-use mls_labeller::{LabelFault, label_tx};
+use mls_certificate::{Certificate, block_print};
+use mls_labeller::{LabelFault, label_tx, label_tx2};
 use mls_lattice::Policy;
 use mls_scheme::Schemes;
 use mls_translang::Tx;
@@ -21,8 +22,10 @@ use std::io::Write;
 /// The labels of a transaction.
 #[derive(Drop)]
 pub(crate) enum Labels {
-    Least(Cert),
-    /// There are none: the first rule that the least labels break which meet the lower bounds, and the number of its statement.
+    /// Of version 1, or, where that has none, of version 2.
+    Least(Certificate),
+    /// Neither version has any: the first rule that the least labels of version 2 break which meet the lower bounds, and the number of
+    /// its statement.
     Missing { stmt: usize, rule: Rule },
 }
 
@@ -41,12 +44,24 @@ pub(crate) struct Listing {
     pub ending: Ending,
 }
 
+/// The labels of a transaction that has none of version 1.
+fn labels2_of(alloc: Global, policy: &Policy, tx: &Tx) -> Result<Labels, AllocError>
+    requires { HasNoneOf policy.now tx.now First }
+    ensures { IfOk result (AreLabels policy.now tx.now) }
+{
+    match label_tx2(alloc, policy, tx) {
+        Ok(cert) => Ok(Labels::Least(Certificate::Two(cert))),
+        Err(LabelFault::NoLabels { stmt, rule }) => Ok(Labels::Missing { stmt, rule }),
+        Err(LabelFault::Memory) => Err(AllocError),
+    }
+}
+
 fn labels_of(alloc: Global, policy: &Policy, tx: &Tx) -> Result<Labels, AllocError>
     ensures { IfOk result (AreLabels policy.now tx.now) }
 {
     match label_tx(alloc, policy, tx) {
-        Ok(cert) => Ok(Labels::Least(cert)),
-        Err(LabelFault::NoLabels { stmt, rule }) => Ok(Labels::Missing { stmt, rule }),
+        Ok(cert) => Ok(Labels::Least(Certificate::One(cert))),
+        Err(LabelFault::NoLabels { .. }) => labels2_of(alloc, policy, tx),
         Err(LabelFault::Memory) => Err(AllocError),
     }
 }
@@ -75,6 +90,7 @@ fn answers_of<'a>(
 }
 
 fn block_to(alloc: Global, text: &mut String, answer: &Answer<'_>) -> Result<(), AllocError>
+    requires { HaveText answer.now.labels }
     ensures { OnOk result (string_bytes text.new ≡ string_bytes text.old ++ block_of answer.now) }
 {
     match &answer.labels {
@@ -88,6 +104,7 @@ fn block_to(alloc: Global, text: &mut String, answer: &Answer<'_>) -> Result<(),
 
 /// The blocks of the transactions that have labels.
 fn blocks_of(alloc: Global, answers: &[Answer<'_>]) -> Result<String, AllocError>
+    requires { AllByRecursion (λ a. HaveText a.labels) answers.now }
     ensures { IfOk result (λ s. string_bytes s ≡ flat_map block_of answers.now) }
 {
     let mut text = String::new(alloc);

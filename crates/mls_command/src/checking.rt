@@ -2,7 +2,7 @@
 ghost use Rattle.std.specs.Prelude.{◌≡◌, ◌↔◌, ◌++◌, Some, string_bytes, IfOk, OnOk};
 ghost use Rattle.std.specs.List.{flat_map, list_any};
 ghost use Rattle.mls_certcheck.specs.Rules.{Rules, claim};
-ghost use Rattle.mls_certificate.specs.declared.cert.Cert.{Cert as SpecCert};
+ghost use Rattle.mls_certificate.specs.declared.cert.Certificate.{Certificate as SpecCertificate};
 ghost use Rattle.mls_command.specs.Storing.{cert_named};
 ghost use Rattle.mls_command.specs.declared.checking.Verdict.TheVariants.{Yes};
 ghost use Rattle.mls_command.specs.Checking.{verdict_of, verdict_text, line_of, is_refused, IsChecked};
@@ -15,7 +15,7 @@ use crate::refusal::Refusal as Stop;
 use crate::showing::print;
 use crate::storing::cert_named;
 use mls_certcheck::{Refusal, check};
-use mls_certificate::Cert;
+use mls_certificate::Certificate;
 use mls_lattice::{Policy, Str};
 use mls_scheme::Schemes;
 use mls_translang::Tx;
@@ -32,10 +32,10 @@ pub(crate) enum Verdict {
     Missing,
 }
 
-fn verdict_of(policy: &Policy, blocks: &[(Str, Cert)], tx: &Tx) -> Verdict
+fn verdict_of(policy: &Policy, blocks: &[(Str, Certificate)], tx: &Tx) -> Verdict
     ensures exact { result ≡ verdict_of policy.now blocks.now tx.now }
     // Yes exactly where the rules hold under the first certificate of the name.
-    ensures yes { (cert : SpecCert) → cert_named blocks.now tx.now.name ≡ Some cert → (result ≡ Yes ↔ Rules (claim policy.now tx.now cert)) }
+    ensures yes { (cert : SpecCertificate) → cert_named blocks.now tx.now.name ≡ Some cert → (result ≡ Yes ↔ Rules (claim policy.now tx.now cert)) }
 {
     match cert_named(blocks, tx.name()) {
         None => Verdict::Missing,
@@ -79,7 +79,7 @@ pub(crate) struct Verdicts {
 fn verdicts_of(
     alloc: Global,
     policy: &Policy,
-    blocks: &[(Str, Cert)],
+    blocks: &[(Str, Certificate)],
     txs: &[Tx],
 ) -> Result<Verdicts, AllocError>
     ensures text { IfOk result (λ v. string_bytes v.text ≡ flat_map (line_of policy.now blocks.now) txs.now) }
@@ -99,7 +99,7 @@ fn verdicts_of(
 fn check_all<W: Write>(
     alloc: Global,
     policy: &Policy,
-    blocks: &[(Str, Cert)],
+    blocks: &[(Str, Certificate)],
     txs: &[Tx],
     out: &mut W,
 ) -> Result<Ending, Stop>

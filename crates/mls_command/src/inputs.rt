@@ -7,7 +7,7 @@ ghost use Rattle.mls_command.specs.Inputs.{IsPolicyFrom, AreSchemesFrom, AreTold
 
 use crate::host::Host;
 use crate::refusal::{Refusal, Role};
-use mls_certificate::{Cert, certs_read};
+use mls_certificate::{Certificate, certs_read};
 use mls_lattice::{Items, Policy, Str};
 use mls_parser::parse;
 use mls_scheme::Schemes;
@@ -85,7 +85,7 @@ pub(crate) fn certificates_in<H: Host>(
     alloc: Global,
     host: &H,
     path: &str,
-) -> Result<Vec<(Str, Cert)>, Refusal>
+) -> Result<Vec<(Str, Certificate)>, Refusal>
     ensures { IfOk result (λ blocks. AreBlocksIn (H.gives host.now) path.now blocks.items) }
 {
     let bytes = input_of(alloc, host, Role::Certificates, path)?;
@@ -97,7 +97,7 @@ pub(crate) fn certificates_of<H: Host>(
     alloc: Global,
     host: &H,
     path: Option<&str>,
-) -> Result<Vec<(Str, Cert)>, Refusal>
+) -> Result<Vec<(Str, Certificate)>, Refusal>
     ensures { IfOk result (λ blocks. AreCertificatesFrom (H.gives host.now) (option_map (λ p. p.now) path.entry) blocks.items) }
 {
     match path {

@@ -3,14 +3,17 @@ ghost use Rattle.std.specs.Prelude.{◌≡◌, IfOk, option_map};
 ghost use Rattle.mls_command.specs.Storing.{cert_named, IsChecked, IsStoredWith, AreStoredWith};
 
 use mls_certcheck::Certified;
-use mls_certificate::Cert;
+use mls_certificate::Certificate;
 use mls_lattice::{Items, Policy, Str};
 use mls_machine::Stored;
 use mls_translang::Tx;
 use std::alloc::{AllocError, Global};
 
 /// The first certificate of a name.
-pub(crate) fn cert_named<'a>(blocks: &'a [(Str, Cert)], name: &str) -> Option<&'a Cert>
+pub(crate) fn cert_named<'a>(
+    blocks: &'a [(Str, Certificate)],
+    name: &str,
+) -> Option<&'a Certificate>
     ensures { option_map (λ c. c.now) result ≡ cert_named blocks.now name.now }
 {
     for block in blocks {
@@ -21,17 +24,8 @@ pub(crate) fn cert_named<'a>(blocks: &'a [(Str, Cert)], name: &str) -> Option<&'
     None
 }
 
-fn copy_of(cert: &Cert) -> Result<Cert, AllocError>
-    ensures { IfOk result (λ c. c ≡ cert.now) }
-{
-    Ok(Cert {
-        var_labels: cert.var_labels.clone()?,
-        pc_labels: cert.pc_labels.clone()?,
-    })
-}
-
 /// A transaction with a certificate, where that holds for it.
-fn checked(policy: &Policy, tx: Tx, cert: Cert) -> Stored
+fn checked(policy: &Policy, tx: Tx, cert: Certificate) -> Stored
     ensures { IsChecked policy.now tx cert result }
 {
     match Certified::new(policy, tx, cert) {
@@ -40,11 +34,11 @@ fn checked(policy: &Policy, tx: Tx, cert: Cert) -> Stored
     }
 }
 
-fn stored_as(policy: &Policy, blocks: &[(Str, Cert)], tx: Tx) -> Result<Stored, AllocError>
+fn stored_as(policy: &Policy, blocks: &[(Str, Certificate)], tx: Tx) -> Result<Stored, AllocError>
     ensures { IfOk result (λ s. IsStoredWith policy.now (cert_named blocks.now tx.name) tx s) }
 {
     match cert_named(blocks, tx.name()) {
-        Some(cert) => Ok(checked(policy, tx, copy_of(cert)?)),
+        Some(cert) => Ok(checked(policy, tx, cert.copy()?)),
         None => Ok(Stored::Plain(tx)),
     }
 }
@@ -55,7 +49,7 @@ pub fn stored_of(
     alloc: Global,
     policy: &Policy,
     txs: Items<Tx>,
-    blocks: &[(Str, Cert)],
+    blocks: &[(Str, Certificate)],
 ) -> Result<Items<Stored>, AllocError>
     ensures { IfOk result (λ ss. AreStoredWith policy.now blocks.now txs ss) }
 {

@@ -4,3 +4,4 @@ pub mod FlowLemmas
 pub mod SlotLemmas
 pub mod RoomLemmas
 pub mod RiseLemmas
+pub mod PutLemmas

@@ -31,5 +31,5 @@ room_less old new p rank cats is above =
       | inr differ ↦ let less : old.rank < new.rank = omega (arith, ranks, differ) in omega (arith, bits, rank, cats, less)
     ]
 
-pub sum_less : (ls : List Label) (i : ℕ) (new d : Label) → i < length ls → room_of new < room_of (get_or ls i d) → sum_by room_of (set ls i new) < sum_by room_of ls
-sum_less ls i new d lt less = omega (arith, sum_by-set room_of ls i new d lt, less)
+pub sum_less : {A : Type 0} (f : A → ℕ) (xs : List A) (i : ℕ) (new d : A) → i < length xs → f new < f (get_or xs i d) → sum_by f (set xs i new) < sum_by f xs
+sum_less f xs i new d lt less = omega (arith, sum_by-set f xs i new d lt, less)

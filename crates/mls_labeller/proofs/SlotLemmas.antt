@@ -1,17 +1,20 @@
 -- Every lower bound is on a variable or a statement that there is.
-use Rattle.std.proofs.Common.{◌≡◌, ◌+◌, ℕ, ◌<◌, ◌≤◌, List, [], ◌∷◌, ◌++◌, length, map, Some, None, refl, sym, subst, arith}
+use Rattle.std.proofs.Common.{◌≡◌, ◌+◌, ℕ, zero, suc, ◌<◌, ◌≤◌, List, [], ◌∷◌, ◌++◌, length, map, Some, None, refl, arith}
 use Rattle.std.specs.List.{AllByRecursion}
 use Rattle.mls_translang.specs.Tree.{Stmt, Assign, Write_at, Release, Emit, Block, End, Do, If, For, statements}
 use Rattle.mls_translang.specs.Scope.{Scope, in_loop}
 use Rattle.mls_translang.specs.Tx.{Tx, IsTx, BlockIsOwn, StmtIsOwn, scope_of}
-use Rattle.mls_certificate.specs.declared.cert.Cert.{Cert}
-use Rattle.mls_certcheck.specs.Place.{Place, Plain, directs, places}
-use Rattle.mls_labeller.specs.Flows.{own_flows, flows_at, flows}
-use Rattle.mls_labeller.specs.Rising.{HasSlot, HasSlots}
+use Rattle.mls_certificate.specs.declared.cert.Certificate.{Certificate}
+use Rattle.mls_certificate.specs.declared.cert.Certificate.TheVariants.{One, Two}
+use Rattle.mls_certcheck.specs.Place.{Place, Plain, directs, last, places}
+use Rattle.mls_certcheck.specs.Rules.{target}
+use Rattle.mls_labeller.specs.Flows.{kept, stmt_flows, own_flows, flows_at, flows}
+use Rattle.mls_labeller.specs.Rising.{HasSlot, HasFlow, HasCounts}
 use Rattle.mls_labeller.specs.declared.flow.Slot.{Slot}
-use Rattle.mls_labeller.specs.declared.flow.Slot.TheVariants.{Statement}
+use Rattle.mls_labeller.specs.declared.flow.Slot.TheVariants.{Variable, Statement}
 use Rattle.mls_labeller.specs.declared.flow.Flow.{Flow}
-use Rattle.mls_labeller.proofs.EachLemmas.{all_both, all_map, each_flat}
+use Rattle.mls_labeller.specs.declared.flow.Flow.TheVariants.{Into, Kept}
+use Rattle.mls_labeller.proofs.EachLemmas.{all_both, all_map, all_at, each_flat}
 
 directs_within : (n : ℕ) (b : Block) → AllByRecursion (λ m. (n ≤ m) × (m < n + statements b)) (directs n b)
 directs_within n End = tt
@@ -24,64 +27,79 @@ directs_within n (For row rel label body rest) =
     let k = n + (1 + statements body) in
     ((omega arith, omega arith), all_map (λ m. (k ≤ m) × (m < k + statements rest)) (λ m. (n ≤ m) × (m < n + (1 + statements body + statements rest))) (λ m h. (omega (arith, h.0), omega (arith, h.1))) _ (directs_within k rest))
 
-module _ (vars total : ℕ) where
+module _ (vars total : ℕ) (x : Certificate) (counts : HasCounts vars total x) where
+  has_variable : (n i : ℕ) → 0 < n → n ≤ total → i < vars → HasSlot x (Variable n i)
+  has_variable n i low high lt = in_row x n counts low high
+    where
+      in_row : (x : Certificate) (n : ℕ) → HasCounts vars total x → 0 < n → n ≤ total → HasSlot x (Variable n i)
+      in_row (One c) n has low high = (low, omega (arith, lt, has.vars.0))
+      in_row (Two c) zero has low high = absurd (omega (arith, low))
+      in_row (Two c) (suc n) has low high = (low, omega (arith, lt, all_at (λ row. length row ≡ vars) c.rows n [] (omega (arith, high, has.stmts.0)) has.vars))
+
+  has_statement : (n : ℕ) → 0 < n → n ≤ total → HasSlot x (Statement n)
+  has_statement n low high = in_list x counts
+    where
+      in_list : (x : Certificate) → HasCounts vars total x → HasSlot x (Statement n)
+      in_list (One c) has = (low, omega (arith, high, has.stmts))
+      in_list (Two c) has = (low, omega (arith, high, has.stmts.1))
+
   abbrev Has : Flow → Type 0
-  Has f = AllByRecursion (HasSlot vars total) f.targets
+  Has f = HasFlow vars x f
 
-  has_inner : (n : ℕ) (b : Block) → 0 < n → n + statements b ≤ total + 1 → AllByRecursion (λ m. HasSlot vars total (Statement m)) (directs n b)
-  has_inner n b low high = all_map (λ m. (n ≤ m) × (m < n + statements b)) (λ m. HasSlot vars total (Statement m)) (λ m h. (omega (arith, h.0), omega (arith, h.1))) (directs n b) (directs_within n b)
+  has_inner : (n : ℕ) (b : Block) → 0 < n → n + statements b ≤ total + 1 → AllByRecursion (λ m. HasSlot x (Statement m)) (directs n b)
+  has_inner n b low high = all_map (λ m. (n ≤ m) × (m < n + statements b)) (λ m. HasSlot x (Statement m)) (λ m h. has_statement m (omega (arith, h.0, low)) (omega (arith, h.1, high))) (directs n b) (directs_within n b)
 
-  has_map : (ms : List ℕ) → AllByRecursion (λ m. HasSlot vars total (Statement m)) ms → AllByRecursion (HasSlot vars total) (map (λ m. Statement m) ms)
+  has_map : (ms : List ℕ) → AllByRecursion (λ m. HasSlot x (Statement m)) ms → AllByRecursion (HasSlot x) (map (λ m. Statement m) ms)
   has_map [] h = tt
   has_map (m ∷ ms) h = (h.0, has_map ms h.1)
 
-  module _ (s : Scope) (count : length s.vars ≡ vars) where
-    known : (x : ℕ) → x < length s.vars → x < vars
-    known x h = omega (arith, h, count)
+  -- all variables after a statement
+  has_kept : (n : ℕ) → 0 < n → n ≤ total → (ms : List ℕ) → AllByRecursion Has (map (λ m. kept m n None) ms)
+  has_kept n low high [] = tt
+  has_kept n low high (m ∷ ms) = (λ i lt. has_variable n i low high lt, has_kept n low high ms)
 
-    has_own : (n : ℕ) (rows : List ℕ) (stmt : Stmt) → StmtIsOwn s stmt → AllByRecursion Has (own_flows n rows (Plain stmt))
-    has_own n rows (Assign x e) h = ((known x h.0, tt), tt)
-    has_own n rows (Write_at rel w writing None) h = tt
-    has_own n rows (Write_at rel w writing (Some x)) h = ((known x h.1, tt), tt)
-    has_own n rows (Release e to into) h = ((known into h.1, tt), tt)
-    has_own n rows (Emit e label) h = tt
+  module _ (s : Scope) (count : length s.vars ≡ vars) (n : ℕ) (low : 0 < n) (high : n ≤ total) where
+    known : (i : ℕ) → i < length s.vars → HasSlot x (Variable n i)
+    known i h = has_variable n i low high (omega (arith, h, count))
+
+    has_stmt : (b : ℕ) (rows : List ℕ) (stmt : Stmt) → StmtIsOwn s stmt → AllByRecursion Has (stmt_flows n b rows stmt)
+    has_stmt b rows (Assign i e) h = ((known i h.0, tt), tt)
+    has_stmt b rows (Write_at rel w writing None) h = tt
+    has_stmt b rows (Write_at rel w writing (Some i)) h = ((known i h.1, tt), tt)
+    has_stmt b rows (Release e to into) h = ((known into h.1, tt), tt)
+    has_stmt b rows (Emit e label) h = tt
+
+    has_own : (b : ℕ) (rows : List ℕ) (stmt : Stmt) → StmtIsOwn s stmt → AllByRecursion Has (own_flows n b rows (Plain stmt))
+    has_own b rows stmt h = all_both Has (stmt_flows n b rows stmt) (kept b n (target stmt) ∷ []) (has_stmt b rows stmt h) (λ i lt. has_variable n i low high lt, tt)
 
   abbrev HasAt : Place → Type 0
   HasAt p = AllByRecursion Has (flows_at p)
 
-  has_places : (s : Scope) → length s.vars ≡ vars → (n around : ℕ) (rows : List ℕ) (b : Block) → 0 < n → n + statements b ≤ total + 1 → BlockIsOwn s b → AllByRecursion HasAt (places n around rows b)
-  has_places s count n around rows End low high own = tt
-  has_places s count n around rows (Do stmt rest) low high own =
-      let here : HasSlot vars total (Statement n) = (low, omega arith) in
-      (((here, tt), has_own s count n rows stmt own.0), has_places s count (n + 1) around rows rest (omega arith) (omega arith) own.1)
-  has_places s count n around rows (If guard one other rest) low high own =
-      let here : HasSlot vars total (Statement n) = (low, omega arith) in
-      let inner = all_both (λ m. HasSlot vars total (Statement m)) (directs (n + 1) one) (directs (n + 1 + statements one) other) (has_inner (n + 1) one (omega arith) (omega arith)) (has_inner (n + 1 + statements one) other (omega arith) (omega arith)) in (
-        ((here, tt), (has_map (directs (n + 1) one ++ directs (n + 1 + statements one) other) inner, tt)),
-        all_both HasAt (places (n + 1) n rows one) _ (has_places s count (n + 1) n rows one (omega arith) (omega arith) own.1)
-            (all_both HasAt (places (n + 1 + statements one) n rows other) _ (has_places s count (n + 1 + statements one) n rows other (omega arith) (omega arith) own.2)
-            (has_places s count (n + (1 + statements one + statements other)) around rows rest (omega arith) (omega arith) own.3)),
+  has_places : (s : Scope) → length s.vars ≡ vars → (n around b : ℕ) (rows : List ℕ) (block : Block) → 0 < n → n + statements block ≤ total + 1 → BlockIsOwn s block → AllByRecursion HasAt (places n around b rows block)
+  has_places s count n around b rows End low high own = tt
+  has_places s count n around b rows (Do stmt rest) low high own =
+      let within : n ≤ total = omega (arith, high) in
+      (((has_statement n low within, tt), has_own s count n low within b rows stmt own.0), has_places s count (n + 1) around n rows rest (omega arith) (omega (arith, high)) own.1)
+  has_places s count n around b rows (If guard one other rest) low high own =
+      let within : n ≤ total = omega (arith, high) in
+      let inner = all_both (λ m. HasSlot x (Statement m)) (directs (n + 1) one) (directs (n + 1 + statements one) other) (has_inner (n + 1) one (omega arith) (omega (arith, high))) (has_inner (n + 1 + statements one) other (omega arith) (omega (arith, high))) in (
+        ((has_statement n low within, tt), (has_map (directs (n + 1) one ++ directs (n + 1 + statements one) other) inner, has_kept n low within (last b (n + 1) one ∷ last b (n + 1 + statements one) other ∷ []))),
+        all_both HasAt (places (n + 1) n b rows one) _ (has_places s count (n + 1) n b rows one (omega arith) (omega (arith, high)) own.1)
+            (all_both HasAt (places (n + 1 + statements one) n b rows other) _ (has_places s count (n + 1 + statements one) n b rows other (omega arith) (omega (arith, high)) own.2)
+            (has_places s count (n + (1 + statements one + statements other)) around n rows rest (omega (arith, low)) (omega (arith, high)) own.3)),
       )
-  has_places s count n around rows (For row rel label body rest) low high own =
-      let here : HasSlot vars total (Statement n) = (low, omega arith) in (
-        ((here, tt), (has_map (directs (n + 1) body) (has_inner (n + 1) body (omega arith) (omega arith)), tt)),
-        all_both HasAt (places (n + 1) n (label ∷ rows) body) _ (has_places (in_loop s row rel) count (n + 1) n (label ∷ rows) body (omega arith) (omega arith) own.1)
-            (has_places s count (n + (1 + statements body)) around rows rest (omega arith) (omega arith) own.2),
+  has_places s count n around b rows (For row rel label body rest) low high own =
+      let within : n ≤ total = omega (arith, high) in (
+        ((has_statement n low within, tt), (has_map (directs (n + 1) body) (has_inner (n + 1) body (omega arith) (omega (arith, high))), has_kept n low within (b ∷ last n (n + 1) body ∷ []))),
+        all_both HasAt (places (n + 1) n n (label ∷ rows) body) _ (has_places (in_loop s row rel) count (n + 1) n n (label ∷ rows) body (omega arith) (omega (arith, high)) own.1)
+            (has_places s count (n + (1 + statements body)) around n rows rest (omega (arith, low)) (omega (arith, high)) own.2),
       )
 
-abbrev pub FlowsHave : ℕ → ℕ → List Flow → Type 0
-FlowsHave v s fs = AllByRecursion (λ f. AllByRecursion (HasSlot v s) f.targets) fs
+pub flows_have_slots : (tx : Tx) → IsTx tx → (x : Certificate) → HasCounts (length tx.vars) (statements tx.body) x → AllByRecursion (HasFlow (length tx.vars) x) (flows tx)
+flows_have_slots tx is x counts =
+    each_flat (HasFlow (length tx.vars) x) flows_at (places 1 0 0 [] tx.body)
+    (has_places (length tx.vars) (statements tx.body) x counts (scope_of tx) refl 1 0 0 [] tx.body (omega arith) (omega arith) is.own)
 
-pub flows_have_slots : (tx : Tx) → IsTx tx → FlowsHave (length tx.vars) (statements tx.body) (flows tx)
-flows_have_slots tx is =
-    each_flat (λ f. AllByRecursion (HasSlot (length tx.vars) (statements tx.body)) f.targets) flows_at (places 1 0 [] tx.body)
-    (has_places (length tx.vars) (statements tx.body) (scope_of tx) refl 1 0 [] tx.body (omega arith) (omega arith) is.own)
-
--- counts that are equal
-pub same_counts : (v w s t : ℕ) → v ≡ w → s ≡ t → (fs : List Flow) → FlowsHave v s fs → FlowsHave w t fs
-same_counts v w s t e f fs h = subst (λ x. FlowsHave x t fs) e (subst (λ x. FlowsHave v x fs) f h)
-
-pub slots_same : (x y : Cert) → length y.var_labels ≡ length x.var_labels → length y.pc_labels ≡ length x.pc_labels → (slots : List Slot) → HasSlots x slots → HasSlots y slots
-slots_same x y e f slots h =
-    let v = length y.var_labels in
-    subst (λ n. AllByRecursion (HasSlot v n) slots) (sym f) (subst (λ n. AllByRecursion (HasSlot n (length x.pc_labels)) slots) (sym e) h)
+pub flow_has : (vars : ℕ) (x y : Certificate) → ((t : Slot) → HasSlot x t → HasSlot y t) → (f : Flow) → HasFlow vars x f → HasFlow vars y f
+flow_has vars x y has (Into targets sources) h = all_map (HasSlot x) (HasSlot y) has targets h
+flow_has vars x y has (Kept m n but) h = λ i lt. has (Variable n i) (h i lt)

@@ -8,7 +8,7 @@ use Rattle.mls_translang.specs.Tree.{Expr, Stmt as Simple, Assign, Write_at, Ins
 use Rattle.mls_translang.specs.Blocks.{block_of}
 use Rattle.mls_translang.specs.declared.block.Stmt.{Stmt}
 use Rattle.mls_translang.specs.declared.block.Stmt.TheVariants as stmt
-use Rattle.mls_certcheck.specs.Place.{Place, Plain, Branching, Looping, directs, places}
+use Rattle.mls_certcheck.specs.Place.{Place, Plain, directs, last, branching, looping, places}
 use Rattle.mls_labeller.specs.Flows.{flow, own_flows, flows_at}
 use Rattle.mls_labeller.specs.Walk.{own_slots, block_flows, plain_flows, if_flows, for_flows}
 use Rattle.mls_labeller.specs.declared.flow.Slot.{Slot}
@@ -40,26 +40,50 @@ directs-first n (stmt.Delete rel key key_class w outcome) rest = refl
 directs-first n (stmt.Release e to into) rest = refl
 directs-first n (stmt.Emit e label) rest = refl
 
-places-first : (n around : ℕ) (rows : List ℕ) (s : Stmt) (rest : List Stmt) → places n around rows (block_of (s ∷ rest)) ≡ places n around rows (block_of (s ∷ [])) ++ places (n + statements (block_of (s ∷ []))) around rows (block_of rest)
-places-first n around rows (stmt.Assign x e) rest = refl
-places-first n around rows (stmt.If guard one other) rest =
-    let a = places (n + 1) n rows one in
-    let b = places (n + 1 + statements one) n rows other in
-    let r = places (n + (1 + statements one + statements other + 0)) around rows (block_of rest) in
+last-first : (b n : ℕ) (s : Stmt) (rest : List Stmt) → last b n (block_of (s ∷ rest)) ≡ last n (n + statements (block_of (s ∷ []))) (block_of rest)
+last-first b n (stmt.Assign x e) rest = refl
+last-first b n (stmt.If guard one other) rest =
     let e : n + (1 + statements one + statements other) ≡ n + (1 + statements one + statements other + 0) = omega arith in
-    ap (λ (ps : List Place). record { number = n; around = around; rows = rows; node = Branching guard (directs (n + 1) one ++ directs (n + 1 + statements one) other) } ∷ ps)
-    (ap (λ (k : ℕ). a ++ (b ++ places k around rows (block_of rest))) e ∙ ap (λ (l : List Place). a ++ (l ++ r)) (sym (append-nil b)) ∙ sym (append_assoc a (b ++ []) r))
-places-first n around rows (stmt.For row rel label body) rest =
-    let a = places (n + 1) n (label ∷ rows) body in
-    let r = places (n + (1 + statements body + 0)) around rows (block_of rest) in
+    ap (λ (k : ℕ). last n k (block_of rest)) e
+last-first b n (stmt.For row rel label body) rest =
     let e : n + (1 + statements body) ≡ n + (1 + statements body + 0) = omega arith in
-    ap (λ (ps : List Place). record { number = n; around = around; rows = rows; node = Looping label (directs (n + 1) body) } ∷ ps)
-    (ap (λ (k : ℕ). a ++ places k around rows (block_of rest)) e ∙ ap (λ (l : List Place). l ++ r) (sym (append-nil a)))
-places-first n around rows (stmt.Insert rel key values w outcome) rest = refl
-places-first n around rows (stmt.Update rel key key_class from w sets outcome) rest = refl
-places-first n around rows (stmt.Delete rel key key_class w outcome) rest = refl
-places-first n around rows (stmt.Release e to into) rest = refl
-places-first n around rows (stmt.Emit e label) rest = refl
+    ap (λ (k : ℕ). last n k (block_of rest)) e
+last-first b n (stmt.Insert rel key values w outcome) rest = refl
+last-first b n (stmt.Update rel key key_class from w sets outcome) rest = refl
+last-first b n (stmt.Delete rel key key_class w outcome) rest = refl
+last-first b n (stmt.Release e to into) rest = refl
+last-first b n (stmt.Emit e label) rest = refl
+
+places-first : (n around b : ℕ) (rows : List ℕ) (s : Stmt) (rest : List Stmt) → places n around b rows (block_of (s ∷ rest)) ≡ places n around b rows (block_of (s ∷ [])) ++ places (n + statements (block_of (s ∷ []))) around n rows (block_of rest)
+places-first n around b rows (stmt.Assign x e) rest = refl
+places-first n around b rows (stmt.If guard one other) rest =
+    let p = places (n + 1) n b rows one in
+    let q = places (n + 1 + statements one) n b rows other in
+    let r = places (n + (1 + statements one + statements other + 0)) around n rows (block_of rest) in
+    let e : n + (1 + statements one + statements other) ≡ n + (1 + statements one + statements other + 0) = omega arith in
+    ap (λ (ps : List Place). record { number = n; around = around; before = b; rows = rows; node = branching n b guard one other } ∷ ps)
+    (ap (λ (k : ℕ). p ++ (q ++ places k around n rows (block_of rest))) e ∙ ap (λ (l : List Place). p ++ (l ++ r)) (sym (append-nil q)) ∙ sym (append_assoc p (q ++ []) r))
+places-first n around b rows (stmt.For row rel label body) rest =
+    let p = places (n + 1) n n (label ∷ rows) body in
+    let r = places (n + (1 + statements body + 0)) around n rows (block_of rest) in
+    let e : n + (1 + statements body) ≡ n + (1 + statements body + 0) = omega arith in
+    ap (λ (ps : List Place). record { number = n; around = around; before = b; rows = rows; node = looping n b label body } ∷ ps)
+    (ap (λ (k : ℕ). p ++ places k around n rows (block_of rest)) e ∙ ap (λ (l : List Place). l ++ r) (sym (append-nil p)))
+places-first n around b rows (stmt.Insert rel key values w outcome) rest = refl
+places-first n around b rows (stmt.Update rel key key_class from w sets outcome) rest = refl
+places-first n around b rows (stmt.Delete rel key key_class w outcome) rest = refl
+places-first n around b rows (stmt.Release e to into) rest = refl
+places-first n around b rows (stmt.Emit e label) rest = refl
+
+statements-first : (s : Stmt) (rest : List Stmt) → statements (block_of (s ∷ rest)) ≡ statements (block_of (s ∷ [])) + statements (block_of rest)
+statements-first (stmt.Assign x e) rest = refl
+statements-first (stmt.If guard one other) rest = omega arith
+statements-first (stmt.For row rel label body) rest = omega arith
+statements-first (stmt.Insert rel key values w outcome) rest = refl
+statements-first (stmt.Update rel key key_class from w sets outcome) rest = refl
+statements-first (stmt.Delete rel key key_class w outcome) rest = refl
+statements-first (stmt.Release e to into) rest = refl
+statements-first (stmt.Emit e label) rest = refl
 
 drop_here : (items : List Stmt) (i : ℕ) (s : Stmt) → i < length items → s ≡ get_or items i s → drop i items ≡ s ∷ drop (i + 1) items
 drop_here items i s within is =
@@ -67,6 +91,13 @@ drop_here items i s within is =
     drop-cons items i s within ∙ (λ k. sym is k ∷ drop (next k) items)
 
 module _ (items : List Stmt) (i : ℕ) (s : Stmt) (within : i < length items) (is : s ≡ get_or items i s) where
+  pub split_statements : statements (block_of (drop i items)) ≡ statements (block_of (s ∷ [])) + statements (block_of (drop (i + 1) items))
+  split_statements = ap (λ (ss : List Stmt). statements (block_of ss)) (drop_here items i s within is) ∙ statements-first s (drop (i + 1) items)
+
+  pub last_more : (b n m all : ℕ) → m ≡ n + statements (block_of (s ∷ [])) → last b n (block_of (drop i items)) ≡ all → last n m (block_of (drop (i + 1) items)) ≡ all
+  last_more b n m all next whole =
+      ap (λ (k : ℕ). last n k (block_of (drop (i + 1) items))) next ∙ sym (last-first b n s (drop (i + 1) items)) ∙ ap (λ (ss : List Stmt). last b n (block_of ss)) (sym (drop_here items i s within is)) ∙ whole
+
   pub slots_more : (n m : ℕ) (out two all : List Slot) → m ≡ n + statements (block_of (s ∷ [])) → two ≡ out ++ Statement n ∷ [] → out ++ own_slots n (block_of (drop i items)) ≡ all → two ++ own_slots m (block_of (drop (i + 1) items)) ≡ all
   unfolding own_slots
   slots_more n m out two all next put whole =
@@ -74,13 +105,13 @@ module _ (items : List Stmt) (i : ℕ) (s : Stmt) (within : i < length items) (i
       ap (λ (ss : List Stmt). own_slots n (block_of ss)) (drop_here items i s within is) ∙ ap (map (λ k. Statement k)) (directs-first n s (drop (i + 1) items)) in
       notes_more out two (Statement n ∷ []) _ _ all put (x ∙ ap (λ (k : ℕ). Statement n ∷ own_slots k (block_of (drop (i + 1) items))) (sym next)) whole
 
-  pub block_more : (n m around : ℕ) (rows : List ℕ) (out two all : List Flow) → m ≡ n + statements (block_of (s ∷ [])) → two ≡ out ++ block_flows n around rows (block_of (s ∷ [])) → out ++ block_flows n around rows (block_of (drop i items)) ≡ all → two ++ block_flows m around rows (block_of (drop (i + 1) items)) ≡ all
+  pub block_more : (n m around b : ℕ) (rows : List ℕ) (out two all : List Flow) → m ≡ n + statements (block_of (s ∷ [])) → two ≡ out ++ block_flows n around b rows (block_of (s ∷ [])) → out ++ block_flows n around b rows (block_of (drop i items)) ≡ all → two ++ block_flows m around n rows (block_of (drop (i + 1) items)) ≡ all
   unfolding block_flows
-  block_more n m around rows out two all next put whole =
-      let a = block_flows n around rows (block_of (s ∷ [])) in
-      let x : block_flows n around rows (block_of (drop i items)) ≡ a ++ block_flows (n + statements (block_of (s ∷ []))) around rows (block_of (drop (i + 1) items)) =
-      ap (λ (ss : List Stmt). flat_map flows_at (places n around rows (block_of ss))) (drop_here items i s within is) ∙ ap (flat_map flows_at) (places-first n around rows s (drop (i + 1) items)) ∙ flat_map-append flows_at _ _ in
-      notes_more out two a _ _ all put (x ∙ ap (λ (k : ℕ). a ++ block_flows k around rows (block_of (drop (i + 1) items))) (sym next)) whole
+  block_more n m around b rows out two all next put whole =
+      let a = block_flows n around b rows (block_of (s ∷ [])) in
+      let x : block_flows n around b rows (block_of (drop i items)) ≡ a ++ block_flows (n + statements (block_of (s ∷ []))) around n rows (block_of (drop (i + 1) items)) =
+      ap (λ (ss : List Stmt). flat_map flows_at (places n around b rows (block_of ss))) (drop_here items i s within is) ∙ ap (flat_map flows_at) (places-first n around b rows s (drop (i + 1) items)) ∙ flat_map-append flows_at _ _ in
+      notes_more out two a _ _ all put (x ∙ ap (λ (k : ℕ). a ++ block_flows k around n rows (block_of (drop (i + 1) items))) (sym next)) whole
 
 -- ---- a whole block
 
@@ -88,50 +119,50 @@ pub slots_done : (n : ℕ) (out : List Slot) → out ++ own_slots n End ≡ out
 unfolding own_slots
 slots_done n out = append-nil out
 
-pub block_done : (n around : ℕ) (rows : List ℕ) (out : List Flow) → out ++ block_flows n around rows End ≡ out
+pub block_done : (n around b : ℕ) (rows : List ℕ) (out : List Flow) → out ++ block_flows n around b rows End ≡ out
 unfolding block_flows
-block_done n around rows out = append-nil out
+block_done n around b rows out = append-nil out
 
 -- ---- one statement
 
-module _ (n around : ℕ) (rows : List ℕ) where
+module _ (n around b : ℕ) (rows : List ℕ) where
   abbrev entry : List Flow
   entry = flow (Statement n ∷ []) (Held (Statement around) ∷ []) ∷ []
 
-  if_whole : (guard : Expr) (one other : Block) → entry ++ if_flows n rows guard one other ≡ block_flows n around rows (If guard one other End)
+  if_whole : (guard : Expr) (one other : Block) → entry ++ if_flows n b rows guard one other ≡ block_flows n around b rows (If guard one other End)
   unfolding block_flows
   if_whole guard one other =
-      let own = own_flows n rows (Branching guard (directs (n + 1) one ++ directs (n + 1 + statements one) other)) in
-      let a = places (n + 1) n rows one in
-      let b = places (n + 1 + statements one) n rows other in
-      sym (append_assoc entry own (flat_map flows_at a ++ flat_map flows_at b))
-      ∙ ap (λ (l : List Flow). (entry ++ own) ++ l) (sym (flat_map-append flows_at a b) ∙ ap (λ (ps : List Place). flat_map flows_at (a ++ ps)) (sym (append-nil b)))
+      let own = own_flows n b rows (branching n b guard one other) in
+      let p = places (n + 1) n b rows one in
+      let q = places (n + 1 + statements one) n b rows other in
+      sym (append_assoc entry own (flat_map flows_at p ++ flat_map flows_at q))
+      ∙ ap (λ (l : List Flow). (entry ++ own) ++ l) (sym (flat_map-append flows_at p q) ∙ ap (λ (ps : List Place). flat_map flows_at (p ++ ps)) (sym (append-nil q)))
 
-  for_whole : (row : List ℕ) (rel label : ℕ) (body : Block) → entry ++ for_flows n rows label body ≡ block_flows n around rows (For row rel label body End)
+  for_whole : (row : List ℕ) (rel label : ℕ) (body : Block) → entry ++ for_flows n b rows label body ≡ block_flows n around b rows (For row rel label body End)
   unfolding block_flows
   for_whole row rel label body =
-      let own = own_flows n rows (Looping label (directs (n + 1) body)) in
-      let a = places (n + 1) n (label ∷ rows) body in
-      sym (append_assoc entry own (flat_map flows_at a)) ∙ ap (λ (ps : List Place). (entry ++ own) ++ flat_map flows_at ps) (sym (append-nil a))
+      let own = own_flows n b rows (looping n b label body) in
+      let p = places (n + 1) n n (label ∷ rows) body in
+      sym (append_assoc entry own (flat_map flows_at p)) ∙ ap (λ (ps : List Place). (entry ++ own) ++ flat_map flows_at ps) (sym (append-nil p))
 
-  do_whole : (s : Simple) → entry ++ own_flows n rows (Plain s) ≡ block_flows n around rows (Do s End)
+  do_whole : (s : Simple) → entry ++ own_flows n b rows (Plain s) ≡ block_flows n around b rows (Do s End)
   unfolding block_flows
-  do_whole s = sym (append-nil (entry ++ own_flows n rows (Plain s)))
+  do_whole s = sym (append-nil (entry ++ own_flows n b rows (Plain s)))
 
   -- what was put for a statement, once it is known which
   module _ (out two three : List Flow) (entered : two ≡ out ++ entry) where
-    pub if_put : (s : Stmt) (guard : Expr) (one other : Block) → s ≡ stmt.If guard one other → three ≡ two ++ if_flows n rows guard one other → three ≡ out ++ block_flows n around rows (block_of (s ∷ []))
+    pub if_put : (s : Stmt) (guard : Expr) (one other : Block) → s ≡ stmt.If guard one other → three ≡ two ++ if_flows n b rows guard one other → three ≡ out ++ block_flows n around b rows (block_of (s ∷ []))
     if_put s guard one other is h =
-        behind out two three _ _ _ entered h (if_whole guard one other) ∙ ap (λ (t : Stmt). out ++ block_flows n around rows (block_of (t ∷ []))) (sym is)
+        behind out two three _ _ _ entered h (if_whole guard one other) ∙ ap (λ (t : Stmt). out ++ block_flows n around b rows (block_of (t ∷ []))) (sym is)
 
-    pub for_put : (s : Stmt) (row : List ℕ) (rel label : ℕ) (body : Block) → s ≡ stmt.For row rel label body → three ≡ two ++ for_flows n rows label body → three ≡ out ++ block_flows n around rows (block_of (s ∷ []))
+    pub for_put : (s : Stmt) (row : List ℕ) (rel label : ℕ) (body : Block) → s ≡ stmt.For row rel label body → three ≡ two ++ for_flows n b rows label body → three ≡ out ++ block_flows n around b rows (block_of (s ∷ []))
     for_put s row rel label body is h =
-        behind out two three _ _ _ entered h (for_whole row rel label body) ∙ ap (λ (t : Stmt). out ++ block_flows n around rows (block_of (t ∷ []))) (sym is)
+        behind out two three _ _ _ entered h (for_whole row rel label body) ∙ ap (λ (t : Stmt). out ++ block_flows n around b rows (block_of (t ∷ []))) (sym is)
 
-    do_put : (s : Simple) → three ≡ two ++ own_flows n rows (Plain s) → three ≡ out ++ block_flows n around rows (Do s End)
+    do_put : (s : Simple) → three ≡ two ++ own_flows n b rows (Plain s) → three ≡ out ++ block_flows n around b rows (Do s End)
     do_put s h = behind out two three _ _ _ entered h (do_whole s)
 
-    pub plain_put : (s : Stmt) (not_if : (guard : Expr) (one other : Block) → s ≡ stmt.If guard one other → ⊥) (not_for : (row : List ℕ) (rel label : ℕ) (body : Block) → s ≡ stmt.For row rel label body → ⊥) → three ≡ two ++ plain_flows n rows (block_of (s ∷ [])) → three ≡ out ++ block_flows n around rows (block_of (s ∷ []))
+    pub plain_put : (s : Stmt) (not_if : (guard : Expr) (one other : Block) → s ≡ stmt.If guard one other → ⊥) (not_for : (row : List ℕ) (rel label : ℕ) (body : Block) → s ≡ stmt.For row rel label body → ⊥) → three ≡ two ++ plain_flows n b rows (block_of (s ∷ [])) → three ≡ out ++ block_flows n around b rows (block_of (s ∷ []))
     plain_put (stmt.Assign x value) not_if not_for h = do_put (Assign x value) h
     plain_put (stmt.If guard one other) not_if not_for h = absurd (not_if guard one other refl)
     plain_put (stmt.For row rel label body) not_if not_for h = absurd (not_for row rel label body refl)

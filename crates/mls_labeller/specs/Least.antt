@@ -1,23 +1,34 @@
 -- The least labels that meet the lower bounds.
-use Rattle.std.specs.Prelude.{◌≡◌, ℕ, length}
+use Rattle.std.specs.Prelude.{◌≡◌, ℕ, ◌<◌, List, length, Some}
 use Rattle.std.specs.List.{AllByRecursion}
 use Rattle.mls_lattice.specs.Lattice.{Pair, Dominates}
 use Rattle.mls_lattice.specs.Labels.{label_of}
 use Rattle.mls_lattice.specs.Policy.{Tables}
 use Rattle.mls_translang.specs.Tree.{statements}
 use Rattle.mls_translang.specs.Tx.{Tx}
-use Rattle.mls_certificate.specs.declared.cert.Cert.{Cert}
-use Rattle.mls_certcheck.specs.Rules.{Claim, claim, var_label, pc, param_label}
+use Rattle.mls_certificate.specs.declared.cert.Certificate.{Certificate}
+use Rattle.mls_certificate.specs.declared.cert.Certificate.TheVariants.{One, Two}
+use Rattle.mls_certcheck.specs.Rules.{Claim, claim, after, pc, param_label, var_rows, Counts}
 use Rattle.mls_labeller.specs.Flows.{flows}
+use Rattle.mls_certificate.specs.declared.cert.Version.{Version}
+use Rattle.mls_certificate.specs.declared.cert.Version.TheVariants as version
 use Rattle.mls_labeller.specs.declared.flow.Slot.{Slot}
 use Rattle.mls_labeller.specs.declared.flow.Slot.TheVariants.{Variable, Statement}
 use Rattle.mls_labeller.specs.declared.flow.Source.{Source}
 use Rattle.mls_labeller.specs.declared.flow.Source.TheVariants.{Held, Parameter, Declared}
 use Rattle.mls_labeller.specs.declared.flow.Flow.{Flow}
+use Rattle.mls_labeller.specs.declared.flow.Flow.TheVariants.{Into, Kept}
+
+-- a certificate has this version
+abbrev pub IsOf : Version → Certificate → Type 0
+IsOf version.First (One cert) = Unit {0}
+IsOf version.First (Two cert) = ⊥
+IsOf version.Second (One cert) = ⊥
+IsOf version.Second (Two cert) = Unit {0}
 
 module _ (c : Claim) where
   abbrev pub slot_label : Slot → Pair
-  slot_label (Variable x) = var_label c x
+  slot_label (Variable n x) = after c n x
   slot_label (Statement n) = pc c n
 
   abbrev pub source_label : Source → Pair
@@ -26,21 +37,27 @@ module _ (c : Claim) where
   source_label (Declared label) = label_of c.labels label
 
   -- the label of each target dominates that of each source
+  abbrev pub Pours : List Slot → List Source → Type 0
+  Pours targets sources = AllByRecursion (λ t. AllByRecursion (λ s. Dominates (slot_label t) (source_label s)) sources) targets
+
+  -- so do labels of variables after a statement, where these are kept
   abbrev pub Holds : Flow → Type 0
-  Holds f = AllByRecursion (λ t. AllByRecursion (λ s. Dominates (slot_label t) (source_label s)) f.sources) f.targets
+  Holds (Into targets sources) = Pours targets sources
+  Holds (Kept m n but) = (x : ℕ) → x < length c.tx.vars → (but ≡ Some x → ⊥) → Dominates (after c n x) (after c m x)
 
   -- a label for each variable and statement, and each lower bound holds
   pub record Meets : Type 0 where
-    pub var_count : length c.cert.var_labels ≡ length c.tx.vars
-    pub stmt_count : length c.cert.pc_labels ≡ statements c.tx.body
+    pub var_count : AllByRecursion (λ row. length row ≡ length c.tx.vars) (var_rows c.cert)
+    pub stmt_count : Counts (statements c.tx.body) c.cert
     pub bounds : AllByRecursion Holds (flows c.tx)
 
 -- each label of the first is dominated by the label at the same place of the second
 pub record Below (c d : Claim) : Type 0 where
-  pub vars : (x : ℕ) → Dominates (var_label d x) (var_label c x)
+  pub vars : (n x : ℕ) → Dominates (after d n x) (after c n x)
   pub stmts : (n : ℕ) → Dominates (pc d n) (pc c n)
 
--- it meets the lower bounds, and its labels are below those of each that does
-pub record IsLeast (policy : Tables) (tx : Tx) (cert : Cert) : Type 0 where
+-- it meets the lower bounds, and its labels are below those of each of its version that does
+pub record IsLeast (v : Version) (policy : Tables) (tx : Tx) (cert : Certificate) : Type 0 where
+  pub version : IsOf v cert
   pub meets : Meets (claim policy tx cert)
-  pub least : (other : Cert) → Meets (claim policy tx other) → Below (claim policy tx cert) (claim policy tx other)
+  pub least : (other : Certificate) → IsOf v other → Meets (claim policy tx other) → Below (claim policy tx cert) (claim policy tx other)

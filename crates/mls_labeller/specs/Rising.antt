@@ -1,48 +1,82 @@
 -- Labels that rise from the lowest until they meet the lower bounds.
-use Rattle.std.specs.Prelude.{◌≡◌, ℕ, ◌+◌, ◌-◌, ◌<◌, ◌≤◌, ◌^◌, Bool, true, false, List, length, slice_set, sum_by}
+use Rattle.std.specs.Prelude.{◌≡◌, ℕ, ◌+◌, ◌-◌, ◌<◌, ◌≤◌, ◌^◌, Bool, true, false, List, [], map, length, slice_index_or, slice_set, sum_by, Option, Some, Vec}
+use Rattle.std.specs.Global.{Global}
 use Rattle.std.specs.List.{AllByRecursion}
 use Rattle.mls_lattice.specs.Lattice.{Pair, Dominates, bottom, pair_of}
 use Rattle.mls_lattice.specs.declared.label.Label.{Label}
-use Rattle.mls_certificate.specs.declared.cert.Cert.{Cert}
-use Rattle.mls_certcheck.specs.Rules.{Claim, claim}
-use Rattle.mls_labeller.specs.Least.{slot_label, source_label, Below}
+use Rattle.mls_certificate.specs.declared.cert.Certificate.{Certificate}
+use Rattle.mls_certificate.specs.declared.cert.Certificate.TheVariants.{One, Two}
+use Rattle.mls_certcheck.specs.Rules.{Claim, claim, after, row_after, var_rows, pc_labels, Counts}
+use Rattle.mls_labeller.specs.Least.{IsOf, slot_label, source_label, Below}
+use Rattle.mls_certificate.specs.declared.cert.Version.{Version}
+use Rattle.mls_certificate.specs.declared.cert.Version.TheVariants as version
 use Rattle.mls_labeller.specs.declared.flow.Slot.{Slot}
 use Rattle.mls_labeller.specs.declared.flow.Slot.TheVariants.{Variable, Statement}
 use Rattle.mls_labeller.specs.declared.flow.Source.{Source}
+use Rattle.mls_labeller.specs.declared.flow.Flow.{Flow}
+use Rattle.mls_labeller.specs.declared.flow.Flow.TheVariants.{Into, Kept}
 use Rattle.mls_labeller.specs.declared.labels.Labels.{Labels}
 use Rattle.mls_labeller.specs.declared.least.Labeller.{Labeller}
 
-abbrev pub cert_of : Labels → Cert
-cert_of l = record { var_labels = l.vars.items; pc_labels = l.stmts.items }
+abbrev pub rows_of : List (Vec Label Global) → List (List Label)
+rows_of rows = map (λ row. row.items) rows
+
+abbrev pub certificate : Version → List (List Label) → List Label → Certificate
+certificate version.First rows stmts = One (record { var_labels = slice_index_or rows 0 []; pc_labels = stmts })
+certificate version.Second rows stmts = Two (record { rows = rows; pc_labels = stmts })
+
+abbrev pub cert_of : Labels → Certificate
+cert_of l = certificate l.version (rows_of l.rows.items) l.stmts.items
 
 abbrev pub claim_at : Labeller → Labels → Claim
 claim_at k l = claim k.policy.now k.tx.now (cert_of l)
 
 -- there is such a variable or statement
-abbrev pub HasSlot : ℕ → ℕ → Slot → Type 0
-HasSlot vars stmts (Variable x) = x < vars
-HasSlot vars stmts (Statement n) = (0 < n) × (n ≤ stmts)
+abbrev pub HasSlot : Certificate → Slot → Type 0
+HasSlot x (Variable n i) = (0 < n) × (i < length (row_after x n))
+HasSlot x (Statement n) = (0 < n) × (n ≤ length (pc_labels x))
 
-abbrev pub HasSlots : Cert → List Slot → Type 0
-HasSlots x slots = AllByRecursion (HasSlot (length x.var_labels) (length x.pc_labels)) slots
+abbrev pub HasSlots : Certificate → List Slot → Type 0
+HasSlots x slots = AllByRecursion (HasSlot x) slots
+
+-- there are so many variables after a statement
+abbrev pub HasRow : ℕ → Certificate → ℕ → Type 0
+HasRow vars x n = (i : ℕ) → i < vars → HasSlot x (Variable n i)
+
+abbrev pub HasFlow : ℕ → Certificate → Flow → Type 0
+HasFlow vars x (Into targets sources) = HasSlots x targets
+HasFlow vars x (Kept m n but) = HasRow vars x n
+
+-- labels for so many variables and statements
+pub record HasCounts (v s : ℕ) (x : Certificate) : Type 0 where
+  pub vars : AllByRecursion (λ row. length row ≡ v) (var_rows x)
+  pub stmts : Counts s x
+
+abbrev pub AreLowest : List Label → Type 0
+AreLowest labels = AllByRecursion (λ l. pair_of l ≡ bottom) labels
 
 -- so many labels, each the lowest
-pub record IsLowest (v s : ℕ) (x : Cert) : Type 0 where
-  pub var_count : length x.var_labels ≡ v
-  pub stmt_count : length x.pc_labels ≡ s
-  pub vars : AllByRecursion (λ l. pair_of l ≡ bottom) x.var_labels
-  pub stmts : AllByRecursion (λ l. pair_of l ≡ bottom) x.pc_labels
+pub record IsLowest (v s : ℕ) (x : Certificate) : Type 0 where
+  pub counts : HasCounts v s x
+  pub vars : AllByRecursion AreLowest (var_rows x)
+  pub stmts : AreLowest (pc_labels x)
 
-abbrev pub put : Cert → Slot → Label → Cert
-put x (Variable n) l = record { var_labels = slice_set x.var_labels n l; pc_labels = x.pc_labels }
-put x (Statement n) l = record { var_labels = x.var_labels; pc_labels = slice_set x.pc_labels (n - 1) l }
+abbrev pub put : Certificate → Slot → Label → Certificate
+put (One x) (Variable n i) l = One (record { var_labels = slice_set x.var_labels i l; pc_labels = x.pc_labels })
+put (One x) (Statement n) l = One (record { var_labels = x.var_labels; pc_labels = slice_set x.pc_labels (n - 1) l })
+put (Two x) (Variable n i) l =
+    Two (record { rows = slice_set x.rows (n - 1) (slice_set (slice_index_or x.rows (n - 1) []) i l); pc_labels = x.pc_labels })
+put (Two x) (Statement n) l = Two (record { rows = x.rows; pc_labels = slice_set x.pc_labels (n - 1) l })
 
 -- how far a label can rise
 abbrev pub room_of : Label → ℕ
 room_of l = 255 - l.rank + (2 ^ 32 - 1 - l.cats)
 
-abbrev pub room : Cert → ℕ
-room x = sum_by room_of x.var_labels + sum_by room_of x.pc_labels
+abbrev pub room_in : List Label → ℕ
+room_in labels = sum_by room_of labels
+
+abbrev pub room : Certificate → ℕ
+room x = sum_by room_in (var_rows x) + room_in (pc_labels x)
 
 -- the least pair over the labels of sources
 pub record IsJoin (c : Claim) (sources : List Source) (p : Pair) : Type 0 where
@@ -53,13 +87,27 @@ pub record IsJoin (c : Claim) (sources : List Source) (p : Pair) : Type 0 where
 abbrev pub Over : Pair → Claim → Slot → Type 0
 Over p c t = Dominates (slot_label c t) p
 
+-- each bound of a list
+abbrev pub Each : {A : Type 0} → (Claim → A → Type 0) → List A → Claim → Type 0
+Each H bounds c = AllByRecursion (H c) bounds
+
+-- what a variable (but one) holds after the statement m, it may hold after the statement n
+abbrev pub Keeps : Claim → ℕ → ℕ → Option ℕ → ℕ → Type 0
+Keeps c m n but x = (but ≡ Some x → ⊥) → Dominates (after c n x) (after c m x)
+
+-- so each of the first variables
+abbrev pub KeepsBelow : ℕ → Claim → ℕ → ℕ → Option ℕ → Type 0
+KeepsBelow count c m n but = (x : ℕ) → x < count → Keeps c m n but x
+
 -- from the first labels to the second, some bounds being looked at: they stay below all labels for which these hold; and where none
 -- rose, all these hold
-pub record Rises {A : Type 0} (k : Labeller) (H : Claim → A → Type 0) (bounds : List A) (x y : Cert) (rose : Bool) : Type 0 where
-  pub var_count : length y.var_labels ≡ length x.var_labels
-  pub stmt_count : length y.pc_labels ≡ length x.pc_labels
-  pub least : (other : Cert) → AllByRecursion (H (claim k.policy.now k.tx.now other)) bounds → Below (claim k.policy.now k.tx.now x) (claim k.policy.now k.tx.now other)
+pub record Rises (k : Labeller) (G : Claim → Type 0) (x y : Certificate) (rose : Bool) : Type 0 where
+  pub version : (v : Version) → IsOf v x → IsOf v y
+  pub counts : (v s : ℕ) → HasCounts v s x → HasCounts v s y
+  pub slots : (t : Slot) → HasSlot x t → HasSlot y t
+  pub least : (v : Version) → IsOf v x → (other : Certificate) → IsOf v other → G (claim k.policy.now k.tx.now other)
+      → Below (claim k.policy.now k.tx.now x) (claim k.policy.now k.tx.now other)
       → Below (claim k.policy.now k.tx.now y) (claim k.policy.now k.tx.now other)
   pub still : rose ≡ false → y ≡ x
-  pub hold : rose ≡ false → AllByRecursion (H (claim k.policy.now k.tx.now y)) bounds
+  pub hold : rose ≡ false → G (claim k.policy.now k.tx.now y)
   pub room : rose ≡ true → room y < room x

@@ -2,11 +2,11 @@
 
 use mls_lattice::{Items, LabelNo};
 
-/// What a certificate has a label for: a variable, by its place, or a statement, by its number. Number 0 is the transaction
-/// itself, whose label is the lower end.
+/// What a certificate has a label for: a variable, by its place, after a statement, or a statement, by its number. Number 0 is the
+/// transaction itself, whose label is the lower end, and after which its body begins.
 #[derive(Clone, Copy)]
 pub(crate) enum Slot {
-    Variable(u8),
+    Variable { after: usize, place: usize },
     Statement(usize),
 }
 
@@ -18,9 +18,18 @@ pub(crate) enum Source {
     Declared(LabelNo),
 }
 
-/// Each source flows into each target: the label of the target dominates that of the source.
+/// What flows on.
 #[derive(Drop)]
-pub(crate) struct Flow {
-    pub targets: Items<Slot>,
-    pub sources: Items<Source>,
+pub(crate) enum Flow {
+    /// Each source flows into each target: the label of the target dominates that of the source.
+    Into {
+        targets: Items<Slot>,
+        sources: Items<Source>,
+    },
+    /// What each variable (but one) holds after the one statement, it may hold after the other.
+    Kept {
+        from: usize,
+        to: usize,
+        but: Option<u8>,
+    },
 }

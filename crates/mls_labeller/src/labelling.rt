@@ -2,32 +2,70 @@ ghost use Rattle.std.specs.Prelude.{◌≡◌, IfOk, IfErr};
 ghost use Rattle.mls_certcheck.specs.Rules.{Rules, claim};
 ghost use Rattle.mls_labeller.specs.Least.{IsLeast, Below};
 ghost use Rattle.mls_labeller.specs.Fault.{HasNone, IsFirst};
+ghost use Rattle.mls_certificate.specs.declared.cert.Version.TheVariants as version;
 ghost use Rattle.mls_certificate.specs.declared.cert.Cert.{Cert as SpecCert};
+ghost use Rattle.mls_certificate.specs.declared.cert.Cert2.{Cert2 as SpecCert2};
+ghost use Rattle.mls_certificate.specs.declared.cert.Certificate.TheVariants.{One, Two};
 
 use crate::fault::LabelFault;
 use crate::flows::flows_of;
 use crate::least::Labeller;
 use mls_certcheck::check;
-use mls_certificate::Cert;
+use mls_certificate::{Cert, Cert2, Certificate, Version};
 use mls_lattice::Policy;
 use mls_translang::Tx;
 use std::alloc::Global;
 
-/// The least certificate that passes under a policy (after Denning and Denning 1977), or why there is none. The labels rise from
-/// the lowest until each lower bound holds, so that none is higher than it must be; where they break another rule, so do all.
-pub fn label_tx(alloc: Global, policy: &Policy, tx: &Tx) -> Result<Cert, LabelFault>
+/// The least certificate of a version, where it passes.
+fn labelled(
+    alloc: Global,
+    policy: &Policy,
+    tx: &Tx,
+    version: Version,
+) -> Result<Certificate, LabelFault>
     ensures obeys { IfOk result (λ cert. Rules (claim policy.now tx.now cert)) }
-    ensures least { IfOk result (λ cert. IsLeast policy.now tx.now cert) }
-    // Each of its labels is dominated by the label at the same place in every certificate that passes.
-    ensures below { IfOk result (λ cert. (other : SpecCert) → Rules (claim policy.now tx.now other) → Below (claim policy.now tx.now cert) (claim policy.now tx.now other)) }
-    // No labels: no certificate passes.
-    ensures none { IfErr result (HasNone policy.now tx.now) }
-    // Which rule it is that the least labels break first.
-    ensures first { IfErr result (IsFirst policy.now tx.now) }
+    ensures least { IfOk result (λ cert. IsLeast version policy.now tx.now cert) }
+    ensures none { IfErr result (HasNone version policy.now tx.now) }
+    ensures first { IfErr result (IsFirst version policy.now tx.now) }
 {
     let flows = flows_of(alloc, tx)?;
     let labeller = Labeller { policy, tx };
-    let cert = labeller.least(alloc, &flows)?.into_cert();
+    let cert = labeller.least(alloc, version, &flows)?.into_cert(alloc)?;
     check(policy, tx, &cert)?;
     Ok(cert)
+}
+
+/// The least certificate of version 1 that passes under a policy (after Denning and Denning 1977), or why there is none. The labels
+/// rise from the lowest until each lower bound holds, so that none is higher than it must be; where they break another rule, so do all.
+pub fn label_tx(alloc: Global, policy: &Policy, tx: &Tx) -> Result<Cert, LabelFault>
+    ensures obeys { IfOk result (λ cert. Rules (claim policy.now tx.now (One cert))) }
+    ensures least { IfOk result (λ cert. IsLeast version.First policy.now tx.now (One cert)) }
+    // Each of its labels is dominated by the label at the same place in every certificate that passes.
+    ensures below { IfOk result (λ cert. (other : SpecCert) → Rules (claim policy.now tx.now (One other)) → Below (claim policy.now tx.now (One cert)) (claim policy.now tx.now (One other))) }
+    // No labels: no certificate passes.
+    ensures none { IfErr result (HasNone version.First policy.now tx.now) }
+    // Which rule it is that the least labels break first.
+    ensures first { IfErr result (IsFirst version.First policy.now tx.now) }
+{
+    match labelled(alloc, policy, tx, Version::First)? {
+        Certificate::One(cert) => Ok(cert),
+        Certificate::Two(_) => unreachable!(),
+    }
+}
+
+/// The least certificate of version 2 that passes under a policy, or why there is none.
+pub fn label_tx2(alloc: Global, policy: &Policy, tx: &Tx) -> Result<Cert2, LabelFault>
+    ensures obeys { IfOk result (λ cert. Rules (claim policy.now tx.now (Two cert))) }
+    ensures least { IfOk result (λ cert. IsLeast version.Second policy.now tx.now (Two cert)) }
+    // Each of its labels is dominated by the label at the same place in every certificate that passes.
+    ensures below { IfOk result (λ cert. (other : SpecCert2) → Rules (claim policy.now tx.now (Two other)) → Below (claim policy.now tx.now (Two cert)) (claim policy.now tx.now (Two other))) }
+    // No labels: no certificate passes.
+    ensures none { IfErr result (HasNone version.Second policy.now tx.now) }
+    // Which rule it is that the least labels break first.
+    ensures first { IfErr result (IsFirst version.Second policy.now tx.now) }
+{
+    match labelled(alloc, policy, tx, Version::Second)? {
+        Certificate::Two(cert) => Ok(cert),
+        Certificate::One(_) => unreachable!(),
+    }
 }

@@ -1,17 +1,19 @@
 //! The labels rise until every lower bound holds.
-ghost use Rattle.std.specs.Prelude.{◌≡◌, ◌<◌, ◌∷◌, [], IfOk, length, slice_index, slice_index_or, map};
+ghost use Rattle.std.specs.Prelude.{◌≡◌, ◌↔◌, IsTrue, Some, IfOk, length, slice_index, slice_index_or, map};
 ghost use Rattle.std.specs.List.{AllByRecursion};
 ghost use Rattle.mls_lattice.specs.Lattice.{pair_of, bottom};
 ghost use Rattle.mls_lattice.specs.Labels.{label_of};
 ghost use Rattle.mls_lattice.specs.Policy.{labels_of};
 ghost use Rattle.mls_translang.specs.Tree.{statements};
-ghost use Rattle.mls_certcheck.specs.Rules.{claim, pc, var_label, param_label};
-ghost use Rattle.mls_labeller.specs.Flows.{flows as flows_in};
-ghost use Rattle.mls_labeller.specs.Least.{slot_label, source_label, Holds, IsLeast};
-ghost use Rattle.mls_labeller.specs.Rising.{cert_of, claim_at, HasSlots, IsJoin, Over, Rises};
+ghost use Rattle.mls_certcheck.specs.Rules.{claim, pc, param_label};
+ghost use Rattle.mls_labeller.specs.Flows.{flows as flows_in, kept};
+ghost use Rattle.mls_labeller.specs.Least.{slot_label, source_label, Pours, Holds, IsLeast};
+ghost use Rattle.mls_labeller.specs.Rising.{cert_of, claim_at, HasSlot, HasSlots, HasRow, HasFlow, IsJoin, Over, Each, Keeps, Rises};
+ghost use Rattle.mls_labeller.specs.declared.flow.Slot.TheVariants.{Variable};
 
 use crate::flow::{Flow, Slot, Source};
 use crate::labels::Labels;
+use mls_certificate::Version;
 use mls_lattice::{Label, LabelNo, Policy};
 use mls_translang::{Tx, statements};
 use std::alloc::{AllocError, Global};
@@ -38,6 +40,16 @@ fn nth(labels: &[Label], place: usize) -> Label
         labels[place]
     } else {
         lowest()
+    }
+}
+
+/// Whether it is this variable.
+fn is_it(variable: Option<u8>, place: usize) -> bool
+    ensures { IsTrue result ↔ (variable ≡ Some place) }
+{
+    match variable {
+        Some(other) => usize::from(other) == place,
+        None => false,
     }
 }
 
@@ -70,7 +82,7 @@ impl Labeller<'_> {
         ensures { pair_of result ≡ slot_label (claim_at self.now labels.now) slot }
     {
         match slot {
-            Slot::Variable(place) => nth(&labels.vars, usize::from(place)),
+            Slot::Variable { after, place } => nth(labels.row(after), place),
             Slot::Statement(0) => self.declared(self.tx.lo()),
             Slot::Statement(number) => nth(&labels.stmts, number - 1),
         }
@@ -99,8 +111,8 @@ impl Labeller<'_> {
 
     /// Raises a label to a lower bound: false where it was there.
     fn raise(&self, labels: &mut Labels, slot: Slot, low: Label) -> bool
-        requires { HasSlots (cert_of labels.old) (slot ∷ []) }
-        ensures { Rises self.now (Over (pair_of low)) (slot ∷ []) (cert_of labels.old) (cert_of labels.new) result }
+        requires { HasSlot (cert_of labels.old) slot }
+        ensures { Rises self.now (λ c. Over (pair_of low) c slot) (cert_of labels.old) (cert_of labels.new) result }
     {
         let here = self.held(labels, slot);
         if here.dominates(low) {
@@ -113,7 +125,7 @@ impl Labeller<'_> {
     /// Raises labels to one lower bound: false where they all were there.
     fn raise_all(&self, labels: &mut Labels, slots: &[Slot], low: Label) -> bool
         requires { HasSlots (cert_of labels.old) slots.now }
-        ensures { Rises self.now (Over (pair_of low)) slots.now (cert_of labels.old) (cert_of labels.new) result }
+        ensures { Rises self.now (Each (Over (pair_of low)) slots.now) (cert_of labels.old) (cert_of labels.new) result }
     {
         let mut rose = false;
         for slot in slots {
@@ -124,19 +136,63 @@ impl Labeller<'_> {
         rose
     }
 
-    /// Raises the targets of a flow to the join of its sources: false where they all were there.
-    fn follow(&self, labels: &mut Labels, flow: &Flow) -> bool
-        requires { HasSlots (cert_of labels.old) flow.now.targets }
-        ensures { Rises self.now Holds (flow.now ∷ []) (cert_of labels.old) (cert_of labels.new) result }
+    /// Raises the label of a variable after the one statement to that after the other, unless it is that one.
+    fn keep(
+        &self,
+        labels: &mut Labels,
+        from: usize,
+        to: usize,
+        but: Option<u8>,
+        place: usize,
+    ) -> bool
+        requires { HasSlot (cert_of labels.old) (Variable to place) }
+        ensures { Rises self.now (λ c. Keeps c from to but place) (cert_of labels.old) (cert_of labels.new) result }
     {
-        let low = self.joined(labels, &flow.sources);
-        self.raise_all(labels, &flow.targets, low)
+        if is_it(but, place) {
+            return false;
+        }
+        let low = self.held(labels, Slot::Variable { after: from, place });
+        self.raise(labels, Slot::Variable { after: to, place }, low)
+    }
+
+    /// Raises so the labels of all variables but one: false where they all were there.
+    fn keep_all(&self, labels: &mut Labels, from: usize, to: usize, but: Option<u8>) -> bool
+        requires { HasRow (length self.now.tx.now.vars) (cert_of labels.old) to }
+        ensures { Rises self.now (λ c. Holds c (kept from to but)) (cert_of labels.old) (cert_of labels.new) result }
+    {
+        let mut rose = false;
+        for place in 0..self.tx.vars().len() {
+            if self.keep(labels, from, to, but, place) {
+                rose = true;
+            }
+        }
+        rose
+    }
+
+    /// Raises slots to the join of sources: false where they all were there.
+    fn pour(&self, labels: &mut Labels, targets: &[Slot], sources: &[Source]) -> bool
+        requires { HasSlots (cert_of labels.old) targets.now }
+        ensures { Rises self.now (λ c. Pours c targets.now sources.now) (cert_of labels.old) (cert_of labels.new) result }
+    {
+        let low = self.joined(labels, sources);
+        self.raise_all(labels, targets, low)
+    }
+
+    /// Raises labels until what flows is bounded: false where they all were there.
+    fn follow(&self, labels: &mut Labels, flow: &Flow) -> bool
+        requires { HasFlow (length self.now.tx.now.vars) (cert_of labels.old) flow.now }
+        ensures { Rises self.now (λ c. Holds c flow.now) (cert_of labels.old) (cert_of labels.new) result }
+    {
+        match flow {
+            Flow::Into { targets, sources } => self.pour(labels, targets, sources),
+            Flow::Kept { from, to, but } => self.keep_all(labels, *from, *to, *but),
+        }
     }
 
     /// Follows each flow in turn: false where all labels were there.
     fn round(&self, labels: &mut Labels, flows: &[Flow]) -> bool
-        requires { AllByRecursion (λ f. HasSlots (cert_of labels.old) f.targets) flows.now }
-        ensures { Rises self.now Holds flows.now (cert_of labels.old) (cert_of labels.new) result }
+        requires { AllByRecursion (HasFlow (length self.now.tx.now.vars) (cert_of labels.old)) flows.now }
+        ensures { Rises self.now (Each Holds flows.now) (cert_of labels.old) (cert_of labels.new) result }
     {
         let mut rose = false;
         for flow in flows {
@@ -148,12 +204,17 @@ impl Labeller<'_> {
     }
 
     /// The least labels that meet all lower bounds.
-    pub(crate) fn least(&self, alloc: Global, flows: &[Flow]) -> Result<Labels, AllocError>
+    pub(crate) fn least(
+        &self,
+        alloc: Global,
+        version: Version,
+        flows: &[Flow],
+    ) -> Result<Labels, AllocError>
         requires { flows.now ≡ flows_in self.now.tx.now }
-        ensures { IfOk result (λ l. IsLeast self.now.policy.now self.now.tx.now (cert_of l)) }
+        ensures { IfOk result (λ l. IsLeast version self.now.policy.now self.now.tx.now (cert_of l)) }
     {
-        let lowest = lowest();
-        let mut labels = Labels::all_of(alloc, lowest, self.tx.vars().len(), statements(self.tx))?;
+        let vars = self.tx.vars().len();
+        let mut labels = Labels::all_of(alloc, version, lowest(), vars, statements(self.tx))?;
         loop {
             if !self.round(&mut labels, flows) {
                 return Ok(labels);

@@ -10,4 +10,4 @@ mod least;
 mod sources;
 
 pub use fault::LabelFault;
-pub use labelling::label_tx;
+pub use labelling::{label_tx, label_tx2};

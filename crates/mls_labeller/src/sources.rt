@@ -21,36 +21,48 @@ fn row_label(rows: &[LabelNo], depth: u8) -> LabelNo
     }
 }
 
-/// Adds the names in an expression.
-fn names_to(sources: &mut Vec<Source>, rows: &[LabelNo], expr: &Expr) -> Result<(), AllocError>
-    ensures { OnOk result (sources.new.items ≡ sources.old.items ++ names rows.now expr.now) }
+/// Adds the names in an expression that stands after a statement.
+fn names_to(
+    sources: &mut Vec<Source>,
+    before: usize,
+    rows: &[LabelNo],
+    expr: &Expr,
+) -> Result<(), AllocError>
+    ensures { OnOk result (sources.new.items ≡ sources.old.items ++ names before rows.now expr.now) }
 {
     match &expr.term {
         Term::Known(_) | Term::Null => {}
-        Term::Variable(place) => sources.push(Source::Held(Slot::Variable(*place)))?,
+        Term::Variable(place) => {
+            let place = usize::from(*place);
+            sources.push(Source::Held(Slot::Variable {
+                after: before,
+                place,
+            }))?;
+        }
         Term::Parameter(place) => sources.push(Source::Parameter(*place))?,
         Term::Field { depth, .. } => sources.push(Source::Declared(row_label(rows, *depth)))?,
-        Term::Not(expr) => names_to(sources, rows, expr)?,
+        Term::Not(expr) => names_to(sources, before, rows, expr)?,
         Term::Op(_, left, right) => {
-            names_to(sources, rows, left)?;
-            names_to(sources, rows, right)?;
+            names_to(sources, before, rows, left)?;
+            names_to(sources, before, rows, right)?;
         }
     }
     Ok(())
 }
 
-/// What flows on where a statement runs that asks for an expression.
+/// What flows on where a statement runs, after another, that asks for an expression.
 pub(crate) fn sources_of(
     alloc: Global,
     number: usize,
+    before: usize,
     rows: &[LabelNo],
     expr: &Expr,
 ) -> Result<Vec<Source>, AllocError>
-    ensures { IfOk result (λ v. v.items ≡ Held (Statement number) ∷ names rows.now expr.now) }
+    ensures { IfOk result (λ v. v.items ≡ Held (Statement number) ∷ names before rows.now expr.now) }
 {
     let mut sources = Vec::new(alloc);
     sources.push(Source::Held(Slot::Statement(number)))?;
-    names_to(&mut sources, rows, expr)?;
+    names_to(&mut sources, before, rows, expr)?;
     Ok(sources)
 }
 

@@ -45,14 +45,19 @@ pub fn written_by<R: Files + AllocGlobal>(
     written_over(rt, words, script, out, None).0
 }
 
-/// Tells the status where it is not 0, standard error, and standard output.
-pub fn tell_written(written: &Written, out: &mut Told) {
+/// Tells the status where it is not 0, and standard error.
+pub fn tell_ending(written: &Written, out: &mut Told) {
     if written.status != 0 {
         out.push("  status ");
         out.push_count(usize::from(written.status));
         out.push("\n");
     }
     out.push_indented(text_of(&written.err));
+}
+
+/// Tells the status where it is not 0, standard error, and standard output.
+pub fn tell_written(written: &Written, out: &mut Told) {
+    tell_ending(written, out);
     out.push_indented(text_of(&written.out));
 }
 

@@ -1,10 +1,11 @@
-//! A machine whose files are those of `data/`, but for a script and two files of many bytes, and whose stores are in memory.
+//! A machine whose files are those of `data/`, but for a script and some files of many bytes, and whose stores are in memory.
+use crate::most;
 use mls_command::{Host, HostFault, MOST_BYTES, read_whole};
 use mls_fragments::{OpenFault, SqlBase};
 use mls_lattice::Policy;
 use mls_scheme::Schemes;
 use sqlite::{Connection, MemStore};
-use std::alloc::Global;
+use std::alloc::{AllocError, Global};
 use std::fs;
 use std::rt::Files;
 
@@ -13,6 +14,14 @@ fn empty_lines(alloc: Global, count: usize) -> Result<Vec<u8>, HostFault> {
     let mut lines = Vec::new(alloc);
     match lines.resize(count, b'\n') {
         Ok(()) => read_whole(alloc, lines.as_slice()),
+        Err(_) => Err(HostFault::Memory),
+    }
+}
+
+/// A text, read as a file is.
+fn read_text(alloc: Global, text: Result<String, AllocError>) -> Result<Vec<u8>, HostFault> {
+    match text {
+        Ok(text) => read_whole(alloc, text.as_bytes()),
         Err(_) => Err(HostFault::Memory),
     }
 }
@@ -27,8 +36,9 @@ fn store_with_table(alloc: Global) -> Result<Connection<MemStore>, OpenFault> {
 }
 
 /// `script` is the script, which is the standard input too; `full` has as many bytes as a file may have, `long` one more, and
-/// `memory` asks for more memory than there is. Of the stores `new` is one, `left` is what the last run left, `table` has a
-/// table of somebody else's, and no other can be opened.
+/// `memory` asks for more memory than there is. `most.transactions` and `most2.transactions` have as many transactions as a file
+/// may have, and `most.certificates` and `most2.certificates` theirs. Of the stores `new` is one, `left` is what the last run
+/// left, `table` has a table of somebody else's, and no other can be opened.
 #[derive(Drop)]
 pub struct Desk<'a, R: Files> {
     pub rt: &'a R,
@@ -67,6 +77,10 @@ impl<'a, R: Files> Host for Desk<'a, R> {
             "script" => read_whole(alloc, self.script),
             "full" => empty_lines(alloc, MOST_BYTES),
             "long" => empty_lines(alloc, MOST_BYTES + 1),
+            "most.transactions" => read_text(alloc, most::transactions(alloc)),
+            "most.certificates" => read_text(alloc, most::certificates(alloc)),
+            "most2.transactions" => read_text(alloc, most::transactions2(alloc)),
+            "most2.certificates" => read_text(alloc, most::certificates2(alloc)),
             "memory" => Err(HostFault::Memory),
             _ => match fs::open(self.rt, path) {
                 Ok(file) => read_whole(alloc, file),

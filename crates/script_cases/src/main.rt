@@ -2,8 +2,10 @@
 #![tactic(auto)]
 
 mod commands;
+mod counts;
 mod desk;
 mod elsewhere;
+mod most;
 mod narrow;
 mod stores;
 mod table;

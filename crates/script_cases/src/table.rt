@@ -1,5 +1,5 @@
 //! The tables, in the order in which they are told.
-use crate::{commands, stores, worlds};
+use crate::{commands, counts, stores, worlds};
 use case_tables::{Case, Told, case_at};
 use std::alloc::AllocError;
 use std::rt::Files;
@@ -14,10 +14,11 @@ pub enum Table {
     Writers,
     Worlds,
     Calls,
+    Counts,
     Stores,
 }
 
-pub const TABLES: [(&str, Table); 10] = [
+pub const TABLES: [(&str, Table); 11] = [
     ("script_faults.txt", Table::Faults),
     ("prefixes.txt", Table::Prefixes),
     ("scripts.txt", Table::Scripts),
@@ -27,6 +28,7 @@ pub const TABLES: [(&str, Table); 10] = [
     ("calls.txt", Table::Calls),
     ("options.txt", Table::Commands),
     ("certifying.txt", Table::Commands),
+    ("limits.txt", Table::Counts),
     ("stores.txt", Table::Stores),
 ];
 
@@ -65,6 +67,7 @@ fn tell_case<R: Files + AllocGlobal>(rt: &R, table: Table, case: &Case<'_>, out:
         Table::Writers => commands::tell_writer(rt, case, out),
         Table::Worlds => worlds::tell(rt, case, out),
         Table::Calls => commands::tell_call(rt, case, out),
+        Table::Counts => counts::tell(rt, case, out),
         // Each of these goes on with what the one before it left.
         Table::Stores => {}
     }

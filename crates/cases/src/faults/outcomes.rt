@@ -28,6 +28,8 @@ pub enum Trials {
     Calls,
     /// That the calls which read fragments fail.
     Fragments,
+    /// That one of its writes fails.
+    Writes,
 }
 
 /// How single calls, and writes, fail.
@@ -132,6 +134,10 @@ fn tell_trials(
         Trials::Calls => tell_calls(alloc, policy, schemes, scripts, out),
         Trials::Fragments => {
             let what = What::Fragments;
+            tell_outcomes(alloc, policy, schemes, scripts, Way::Run, what, out);
+        }
+        Trials::Writes => {
+            let what = What::Write;
             tell_outcomes(alloc, policy, schemes, scripts, Way::Run, what, out);
         }
     }

@@ -1,8 +1,8 @@
 //! Certificates that are checked for transactions.
-use crate::certificates::cert_of;
+use crate::certificates::certificate_of;
 use case_tables::{Told, case_at, inner};
 use mls_certcheck::check;
-use mls_certificate::Cert;
+use mls_certificate::Certificate;
 use mls_lattice::Policy;
 use mls_parser::parse;
 use mls_scheme::Schemes;
@@ -39,8 +39,8 @@ fn named<'a>(txs: &'a [Tx], name: &str) -> Option<&'a Tx> {
 }
 
 /// Adds `yes`, or the number of a statement and the rule that is broken there.
-fn push_answer(policy: &Policy, tx: &Tx, cert: &Cert, out: &mut Told) {
-    match check(policy, tx, cert) {
+fn push_answer(policy: &Policy, tx: &Tx, certificate: &Certificate, out: &mut Told) {
+    match check(policy, tx, certificate) {
         Ok(()) => out.push("yes"),
         Err(refusal) => {
             out.push_count(refusal.stmt);
@@ -51,18 +51,18 @@ fn push_answer(policy: &Policy, tx: &Tx, cert: &Cert, out: &mut Told) {
 }
 
 /// Adds the answer to a certificate for a transaction.
-fn push_checked(alloc: Global, policy: &Policy, tx: &Tx, cert: &str, out: &mut Told) {
-    match cert_of(alloc, cert) {
-        Some(cert) => push_answer(policy, tx, &cert, out),
+fn push_checked(alloc: Global, policy: &Policy, tx: &Tx, text: &str, out: &mut Told) {
+    match certificate_of(alloc, text) {
+        Some(certificate) => push_answer(policy, tx, &certificate, out),
         None => out.push("no certificate"),
     }
 }
 
 /// Tells the answer to a certificate: the name of a transaction and the certificate.
 fn tell_check(alloc: Global, policy: &Policy, txs: &[Tx], question: &str, out: &mut Told) {
-    let (name, cert) = question.split_once(' ').unwrap_or((question, ""));
+    let (name, text) = question.split_once(' ').unwrap_or((question, ""));
     match named(txs, name) {
-        Some(tx) => push_checked(alloc, policy, tx, cert, out),
+        Some(tx) => push_checked(alloc, policy, tx, text, out),
         None => out.push("no transaction"),
     }
     out.push(": ");

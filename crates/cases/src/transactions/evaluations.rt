@@ -8,7 +8,7 @@ ghost use Rattle.mls_filterview.specs.Stored.{AreContent};
 ghost use Rattle.mls_translang.specs.Fits.{IsReadUnder};
 ghost use Rattle.mls_meaning.specs.Laws.{IsItem};
 
-use crate::certificates::cert_of;
+use crate::certificates::certificate_of;
 use case_tables::{Case, Told, case_at, joined};
 use mls_certcheck::Certified;
 use mls_filterview::{Base, BaseFault};
@@ -39,10 +39,10 @@ fn certified_in(
 ) -> Option<Certified>
     ensures { IfSome result (λ k. IsReadUnder policy.now schemes.now k.tx) }
 {
-    let cert = cert_of(alloc, case.head)?;
+    let certificate = certificate_of(alloc, case.head)?;
     let text = joined(alloc, case.body).ok()?;
     let tx = transaction_of(alloc, policy, schemes, &text)?;
-    Certified::new(policy, tx, cert).ok()
+    Certified::new(policy, tx, certificate).ok()
 }
 
 fn push_value(value: &Option<Value>, out: &mut Told) {

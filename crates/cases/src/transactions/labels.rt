@@ -1,14 +1,14 @@
 //! The least certificates of transactions.
+use crate::certificates::print2;
 use case_tables::Told;
 use mls_certcheck::Rule;
-use mls_certificate::Cert;
-use mls_labeller::{LabelFault, label_tx};
+use mls_labeller::{LabelFault, label_tx, label_tx2};
 use mls_lattice::Policy;
 use mls_translang::Tx;
-use std::alloc::Global;
+use std::alloc::{AllocError, Global};
 
-fn push_cert(alloc: Global, cert: &Cert, out: &mut Told) {
-    match cert.print(alloc) {
+fn push_printed(printed: Result<String, AllocError>, out: &mut Told) {
+    match printed {
         Ok(text) => out.push(&text),
         Err(_) => out.fail(),
     }
@@ -22,11 +22,17 @@ fn push_rule(stmt: usize, rule: Rule, out: &mut Told) {
     out.push_line(rule.text());
 }
 
+fn push_fault(fault: LabelFault, out: &mut Told) {
+    match fault {
+        LabelFault::NoLabels { stmt, rule } => push_rule(stmt, rule, out),
+        LabelFault::Memory => out.fail(),
+    }
+}
+
 fn push_label(alloc: Global, policy: &Policy, tx: &Tx, out: &mut Told) {
     match label_tx(alloc, policy, tx) {
-        Ok(cert) => push_cert(alloc, &cert, out),
-        Err(LabelFault::NoLabels { stmt, rule }) => push_rule(stmt, rule, out),
-        Err(LabelFault::Memory) => out.fail(),
+        Ok(cert) => push_printed(cert.print(alloc), out),
+        Err(fault) => push_fault(fault, out),
     }
 }
 
@@ -34,5 +40,19 @@ fn push_label(alloc: Global, policy: &Policy, tx: &Tx, out: &mut Told) {
 pub fn push_labels(alloc: Global, policy: &Policy, txs: &[Tx], out: &mut Told) {
     for tx in txs {
         push_label(alloc, policy, tx, out);
+    }
+}
+
+fn push_label2(alloc: Global, policy: &Policy, tx: &Tx, out: &mut Told) {
+    match label_tx2(alloc, policy, tx) {
+        Ok(cert) => push_printed(print2(alloc, &cert), out),
+        Err(fault) => push_fault(fault, out),
+    }
+}
+
+/// Adds the least certificates of transactions, of version 2.
+pub fn push_labels2(alloc: Global, policy: &Policy, txs: &[Tx], out: &mut Told) {
+    for tx in txs {
+        push_label2(alloc, policy, tx, out);
     }
 }

@@ -1,5 +1,6 @@
 //! Texts of so many parts, which would be long to write out.
 use super::texts::tell_read;
+use crate::table::Subject;
 use case_tables::Told;
 use mls_lattice::Policy;
 use mls_scheme::Schemes;
@@ -27,22 +28,40 @@ fn push_parts(count: u16, part: &str, between: &str, text: &mut Told) {
     }
 }
 
-/// The text of a line: a number, the front, a part, what stands between two, and the back.
+/// Adds what the first four words say: a number, a part that stands so many times, what stands between two, and what stands behind them.
+fn push_group(words: &[&str], text: &mut Told) {
+    if let [count, part, between, back, ..] = words {
+        push_parts(count.parse::<u16>().unwrap_or(0), part, between, text);
+        text.push(back);
+    }
+}
+
+fn push_groups(words: &[&str], text: &mut Told) {
+    for at in 0..words.len() {
+        if at % 4 == 0 {
+            push_group(&words[at..], text);
+        }
+    }
+}
+
+/// The text of a line: the front, and groups of four words.
 fn text_of(alloc: Global, line: &str) -> Result<String, AllocError> {
     let words: Vec<&str> = line.split('~').collect(alloc)?;
     let mut text = Told::new(alloc);
-    if let [count, front, part, between, back] = words.as_slice() {
+    if let [front, groups @ ..] = words.as_slice() {
         text.push(front);
-        push_parts(count.parse::<u16>().unwrap_or(0), part, between, &mut text);
-        text.push(back);
+        push_groups(groups, &mut text);
     }
     text.finish()
 }
 
-/// Tells whether the text of a line is read.
+/// Tells whether the text of a line is read, and how long it is printed.
 pub fn tell(alloc: Global, policy: &Policy, schemes: &Schemes, line: &str, out: &mut Told) {
     match text_of(alloc, line) {
-        Ok(text) => tell_read(alloc, policy, schemes, text.as_bytes(), line, out),
+        Ok(text) => {
+            let subject = Subject::TextLimits;
+            tell_read(alloc, policy, schemes, subject, text.as_bytes(), line, out);
+        }
         Err(_) => out.fail(),
     }
 }

@@ -25,3 +25,19 @@ pub fn push_prints(alloc: Global, policy: &Policy, schemes: &Schemes, txs: &[Tx]
         push_print(alloc, policy, schemes, tx, out);
     }
 }
+
+/// Adds that transactions are read, and how many bytes they are printed in.
+pub fn push_size(alloc: Global, policy: &Policy, schemes: &Schemes, txs: &[Tx], out: &mut Told)
+    requires { AllByRecursion (IsReadUnder policy.now schemes.now) txs.now }
+{
+    let mut printed = Told::new(alloc);
+    push_prints(alloc, policy, schemes, txs, &mut printed);
+    match printed.finish() {
+        Ok(text) => {
+            out.push("read, printed in ");
+            out.push_count(text.len());
+            out.push(" bytes");
+        }
+        Err(_) => out.fail(),
+    }
+}

@@ -2,8 +2,8 @@
 ghost use Rattle.std.specs.List.{AllByRecursion};
 ghost use Rattle.mls_translang.specs.Fits.{IsReadUnder};
 
-use super::labels::push_labels;
-use super::prints::push_prints;
+use super::labels::{push_labels, push_labels2};
+use super::prints::{push_prints, push_size};
 use crate::table::Subject;
 use case_tables::{Case, Told, joined, unfolded};
 use mls_lattice::Policy;
@@ -36,6 +36,8 @@ fn push_txs(
     match subject {
         Subject::Prints => push_prints(alloc, policy, schemes, txs, out),
         Subject::Labels => push_labels(alloc, policy, txs, out),
+        Subject::Labels2 => push_labels2(alloc, policy, txs, out),
+        Subject::TextLimits => push_size(alloc, policy, schemes, txs, out),
         _ => out.push("read"),
     }
 }
@@ -55,16 +57,17 @@ fn push_text(
     }
 }
 
-/// Tells whether a text is read, and the line that it is made of.
+/// Tells of a text, and the line that it is made of.
 pub fn tell_read(
     alloc: Global,
     policy: &Policy,
     schemes: &Schemes,
+    subject: Subject,
     text: &[u8],
     line: &str,
     out: &mut Told,
 ) {
-    push_text(alloc, policy, schemes, Subject::Texts, text, out);
+    push_text(alloc, policy, schemes, subject, text, out);
     out.push(": ");
     out.push_line(line);
 }
@@ -72,7 +75,7 @@ pub fn tell_read(
 /// Tells whether a text is read that stands in one line.
 pub fn tell_line(alloc: Global, policy: &Policy, schemes: &Schemes, line: &str, out: &mut Told) {
     match unfolded(alloc, line) {
-        Ok(text) => tell_read(alloc, policy, schemes, &text, line, out),
+        Ok(text) => tell_read(alloc, policy, schemes, Subject::Texts, &text, line, out),
         Err(_) => out.fail(),
     }
 }

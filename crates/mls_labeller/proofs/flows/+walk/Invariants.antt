@@ -9,7 +9,7 @@ abbrev pub invariant-block_to-loop-stmt : goal.invariant-block_to-loop-stmt
 invariant-block_to-loop-stmt l = record {
   number : l.next + statements (block_of (drop l.stmt-index l.stmt-items)) ≡ l.number + statements (block_of l.stmt-items);
   size : statements (block_of (drop l.stmt-index l.stmt-items)) ≤ statements (block_of l.stmt-items);
-  notes : l.flows.items ++ block_flows l.next l.around l.rows (block_of (drop l.stmt-index l.stmt-items)) ≡ l.initial.flows.items ++ block_flows l.number l.around l.rows (block_of l.stmt-items);
+  notes : l.flows.items ++ block_flows l.next l.around l.end l.rows (block_of (drop l.stmt-index l.stmt-items)) ≡ l.initial.flows.items ++ block_flows l.number l.around l.before l.rows (block_of l.stmt-items);
 }
 
 -- ---- how deep

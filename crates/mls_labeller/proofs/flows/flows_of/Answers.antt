@@ -4,4 +4,4 @@ use Rattle.mls_labeller.proofs.flows.flows_of.Goals as goal
 
 pub returns : goal.returns
 unfolding block_flows
-returns c = c.in_ok-block_to.ensures ∙ (λ i. c.new-flows.ensures.items i ++ block_flows 1 0 [] (c.body.ensures.body i))
+returns c = c.in_ok-block_to.ensures ∙ (λ i. c.new-flows.ensures.items i ++ block_flows 1 0 0 [] (c.body.ensures.body i))

@@ -1,11 +1,11 @@
-use Rattle.std.proofs.Common.{ap, subst, ◌∙◌}
+use Rattle.std.proofs.Common.{◌≡◌, ap, subst, ◌∙◌}
 use Rattle.mls_certificate.specs.Reading.{Gives, text_in}
-use Rattle.mls_certificate.proofs.AgainLemmas.{cert_again}
-use Rattle.mls_certificate.proofs.FoundLemmas.{is_found}
+use Rattle.mls_certificate.specs.Spelling.{IsCert, cert_text}
+use Rattle.mls_certificate.proofs.CertLemmas.{cert_found, cert_again, is_found}
 use Rattle.mls_certificate.proofs.cert.Cert.read.Goals as goal
 
 pub returns-clause-found : goal.returns-clause-found
-returns-clause-found c = is_found c.args.bytes.now c.whole_of.result c.whole_of.ensures
+returns-clause-found c = is_found (λ x. x) (λ d. IsCert d × (c.args.bytes.now ≡ cert_text d)) (text_in c.args.bytes.now) c.cert_in.result (cert_found c.args.bytes.now) c.cert_in.ensures
 
 pub returns-clause-only : goal.returns-clause-only
-returns-clause-only c = λ d is same. subst (λ f. Gives (λ x. x) c.whole_of.result f) (ap text_in same ∙ cert_again d is) c.whole_of.ensures
+returns-clause-only c = λ d is same. subst (λ f. Gives (λ x. x) c.cert_in.result f) (ap text_in same ∙ cert_again d is) c.cert_in.ensures

@@ -1,20 +1,36 @@
-use Rattle.std.proofs.Common.{length, sym, ap, subst, ◌∙◌}
+use Rattle.std.proofs.Common.{◌≡◌, length, sym, ap, subst, ◌∙◌}
+use Rattle.std.specs.List.{AllByRecursion}
 use Rattle.mls_translang.specs.Tree.{statements}
-use Rattle.mls_labeller.specs.Rising.{cert_of}
+use Rattle.mls_certcheck.specs.Rules.{claim}
+use Rattle.mls_labeller.specs.Least.{Holds}
+use Rattle.mls_labeller.specs.Rising.{cert_of, HasFlow, HasCounts}
 use Rattle.mls_labeller.proofs.RiseLemmas.{lowest_below}
-use Rattle.mls_labeller.proofs.SlotLemmas.{flows_have_slots, same_counts, FlowsHave}
+use Rattle.mls_labeller.proofs.SlotLemmas.{flows_have_slots}
 use Rattle.mls_labeller.proofs.least.Labeller.least.Goals as goal
 
 pub loop-labels-init : goal.loop-labels-init
-loop-labels-init c = record {
-  var_count = c.in_ok-labels.ensures.var_count ∙ c.len.ensures ∙ ap length c.vars.ensures.vars;
-  stmt_count = c.in_ok-labels.ensures.stmt_count ∙ c.statements.ensures;
-  below = λ other h. lowest_below c.args.self.now _ _ (cert_of c.in_ok-labels.labels) other c.in_ok-labels.ensures;
-}
+loop-labels-init c =
+    let tx = c.args.self.now.tx.now in
+    let x = cert_of c.in_ok-labels.labels in
+    let vars : c.len-vars.result ≡ length tx.vars = c.len-vars.ensures ∙ ap length c.vars.ensures.vars in
+    record {
+      version = c.in_ok-labels.ensures.version;
+      counts = subst (λ n. HasCounts n (statements tx.body) x) vars (subst (λ n. HasCounts c.len-vars.result n x) c.statements.ensures c.in_ok-labels.ensures.lowest.counts);
+      below = λ other d h. lowest_below c.args.self.now _ _ x other c.in_ok-labels.ensures.lowest;
+    }
 
 pub round-requires : goal.round-requires
 round-requires c =
     let tx = c.args.self.now.tx.now in
-    let n = statements tx.body in
-    let has = subst (FlowsHave (length tx.vars) n) (sym c.requires) (flows_have_slots tx c.vars.ensures.valid) in
-    same_counts (length tx.vars) (length c.loop-labels.labels.vars.items) n (length c.loop-labels.labels.stmts.items) (sym c.loop-labels.invariant.var_count) (sym c.loop-labels.invariant.stmt_count) c.args.flows.now has
+    let x = cert_of c.loop-labels.labels in
+    subst (AllByRecursion (HasFlow (length tx.vars) x)) (sym c.requires) (flows_have_slots tx c.vars.ensures.valid x c.loop-labels.invariant.counts)
+
+pub loop-labels-preserved : goal.loop-labels-preserved
+loop-labels-preserved c =
+    let at = c.loop-labels.invariant in
+    let rises = c.round.ensures in
+    record {
+      version = rises.version c.args.version at.version;
+      counts = rises.counts _ _ at.counts;
+      below = λ other d h. rises.least c.args.version at.version other d (subst (AllByRecursion (Holds (claim c.args.self.now.policy.now c.args.self.now.tx.now other))) (sym c.requires) h.bounds) (at.below other d h);
+    }

@@ -1,4 +1,4 @@
-use Rattle.std.proofs.Common.{◌≡◌, ◌<◌, ◌^◌, ◌∷◌, [], true, refl, sym, subst, ap, ◌∙◌, arith}
+use Rattle.std.proofs.Common.{◌≡◌, ◌<◌, ◌^◌, true, refl, sym, subst, ap, ◌∙◌, arith}
 use Rattle.std.proofs.lemmas.Bool.{true≢false}
 use Rattle.mls_lattice.specs.Lattice.{Dominates, pair_of, join}
 use Rattle.mls_labeller.specs.Least.{slot_label}
@@ -9,7 +9,7 @@ use Rattle.mls_labeller.proofs.least.Labeller.raise.Goals as goal
 pub returns-then-dominates : goal.returns-then-dominates
 returns-then-dominates c =
     let low = pair_of c.args.low in
-    rises_not c.args.self.now (cert_of c.args.labels.now) c.args.slot low (subst (λ p. Dominates p low) c.held-here.ensures (c.if-dominates.ensures.0 refl))
+    rises_not c.args.self.now (λ a. Over low a c.args.slot) (cert_of c.args.labels.now) (subst (λ p. Dominates p low) c.held-here.ensures (c.if-dominates.ensures.0 refl))
 
 pub returns : goal.returns
 returns c =
@@ -19,6 +19,6 @@ returns c =
     let rank : c.join.result.rank < 256 = omega arith in
     let cats : c.join.result.cats < 2 ^ 32 = omega arith in
     let is : pair_of c.join.result ≡ join (slot_label (claim_at k c.args.labels.now) c.args.slot) low = c.join.ensures ∙ ap (λ p. join p low) c.held-here.ensures in
-    subst (λ y. Rises k (Over low) (c.args.slot ∷ []) x y true) (sym c.put.ensures)
-    (rises k x c.args.slot low c.join.result c.requires.0 rank cats is
+    subst (λ y. Rises k (λ a. Over low a c.args.slot) x y true) (sym c.put.ensures)
+    (rises k x c.args.slot low c.join.result c.requires rank cats is
     (λ h. true≢false (sym (c.if-dominates.ensures.1 (subst (λ p. Dominates p low) (sym c.held-here.ensures) h)))))

@@ -1,0 +1,13 @@
+use Rattle.std.proofs.Common.{◌≡◌, ◌||◌, length, sym, ◌∙◌, arith}
+use Rattle.mls_lattice.specs.Lattice.{◌⊑◌}
+use Rattle.mls_certcheck.specs.Rules.{after}
+use Rattle.mls_certcheck.specs.Checks.{is_target}
+use Rattle.mls_certcheck.specs.Walk.{claim_of}
+use Rattle.mls_certcheck.proofs.CheckLemmas.{below_fails}
+use Rattle.mls_certcheck.proofs.checker.Checker.rest_keeps.Goals as goal
+
+pub returns-then-not-rests : goal.returns-then-not-rests
+returns-then-not-rests c =
+    let k = claim_of c.args.self.now in
+    let count : c.len-place-end.result ≡ length k.tx.vars = cc in
+    sym (below_fails (length k.tx.vars) (λ x. is_target c.args.target x || after k c.args.earlier x ⊑ after k c.args.later x) c.loop-place.place (omega (arith, count, c.loop-place-test.true)) (sym c.rests.ensures ∙ c.if-not-rests.true))

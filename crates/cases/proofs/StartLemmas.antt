@@ -8,12 +8,15 @@ use Rattle.mls_scheme.specs.declared.tuple.Element.{Element}
 use Rattle.mls_scheme.specs.declared.place.Place.{Place}
 use Rattle.mls_scheme.specs.Scheme.{Schemes}
 use Rattle.mls_scheme.specs.Table.{Table, place_cmp}
-use Rattle.mls_filterview.specs.Content.{State, no_content}
+use Rattle.mls_filterview.specs.Content.{State, Content, no_content}
 use Rattle.mls_filterview.specs.Stored.{AreContent}
 use Rattle.mls_translang.specs.declared.tx.Parameter.{Parameter}
 use Rattle.mls_translang.specs.Tx.{Tx}
 use Rattle.mls_scheme.specs.Value.{fits_kind}
 use Rattle.mls_meaning.specs.Laws.{ArgsFit}
+use Rattle.mls_machine.specs.declared.stored.Stored.{Stored}
+use Rattle.mls_sessions.specs.World.{IsSound}
+use Rattle.mls_lattice.specs.Policy.{Tables}
 
 nothing : {A : Type 0} (es : List Element) (p : Place) (T : Table) → get T p ≡ None → get T p ≡ Some es → A
 nothing es p T none some = let both : None ≡ Some es = sym none ∙ some in absurd cc
@@ -43,3 +46,12 @@ last_holds {A = A} P xs front (Some x) is h = behind front (subst (AllByRecursio
     behind : (ys : List A) → AllByRecursion P (ys ++ x ∷ []) → P x
     behind [] g = g.0
     behind (y ∷ ys) g = behind ys g.1
+
+-- with one more item what holds of all of a list and of the item holds of all
+pub all_more : {A : Type 0} (P : A → Type 0) (xs : List A) (x : A) → AllByRecursion P xs → P x → AllByRecursion P (xs ++ x ∷ [])
+all_more P [] x h k = (k, tt)
+all_more P (y ∷ ys) x h k = (h.0, all_more P ys x h.1 k)
+
+-- stored transactions play no part in what content is sound
+pub sound_alike : (policy : Tables) (schemes : Schemes) (xs ys : List Stored) (c : Content) → IsSound (record { policy = policy; schemes = schemes; stored = xs }) c → IsSound (record { policy = policy; schemes = schemes; stored = ys }) c
+sound_alike policy schemes xs ys c h = record { content = h.content; entries = h.entries }

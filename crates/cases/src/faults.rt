@@ -11,20 +11,24 @@ mod narrow;
 mod outcomes;
 mod runs;
 mod steps;
+mod stored;
 
 use self::outcomes::{Trials, told};
+use self::runs::{Scripts, What};
 use mls_lattice::Policy;
 use mls_scheme::Schemes;
-use mls_script::{Event, script};
+use mls_script::script;
 use std::fs;
 use std::io::{self, Error, ErrorKind, Write};
 
 /// The scripts, in the order in which they are told.
-const FILES: [(&str, Trials); 4] = [
-    ("first.script", Trials::Writes),
+const FILES: [(&str, Trials); 6] = [
+    ("first.script", Trials::Each(What::Write)),
     ("audit.script", Trials::Calls),
     ("writes.script", Trials::Calls),
-    ("again.script", Trials::Fragments),
+    ("again.script", Trials::Each(What::Fragments)),
+    ("calls.script", Trials::Calls),
+    ("calls.script", Trials::Each(What::Piece)),
 ];
 
 fn tell_file(
@@ -32,13 +36,13 @@ fn tell_file(
     policy: &Policy,
     schemes: &Schemes,
     file: (&str, Trials),
-    questions: &[Event],
+    scripts: Scripts<'_>,
 ) -> io::Result<()>
     requires under { AreUnder (length policy.now.labels) schemes.now }
-    requires questions { AllByRecursion (EventFits policy.now schemes.now) questions.now }
+    requires questions { AllByRecursion (EventFits policy.now schemes.now) scripts.questions.now }
 {
     let text = fs::read_to_string(rt, file.0)?;
-    let told = told(rt.alloc(), policy, schemes, file, &text, questions)?;
+    let told = told(rt.alloc(), policy, schemes, file, &text, scripts)?;
     rt.stdout().write_all(told.as_bytes())
 }
 
@@ -46,13 +50,13 @@ fn tell_scripts(
     rt: &HostRuntime,
     policy: &Policy,
     schemes: &Schemes,
-    questions: &[Event],
+    scripts: Scripts<'_>,
 ) -> io::Result<()>
     requires under { AreUnder (length policy.now.labels) schemes.now }
-    requires questions { AllByRecursion (EventFits policy.now schemes.now) questions.now }
+    requires questions { AllByRecursion (EventFits policy.now schemes.now) scripts.questions.now }
 {
     for file in FILES {
-        tell_file(rt, policy, schemes, file, questions)?;
+        tell_file(rt, policy, schemes, file, scripts)?;
     }
     Ok(())
 }
@@ -61,9 +65,17 @@ fn tell_scripts(
 pub fn tell_files(rt: &HostRuntime, policy: &Policy, schemes: &Schemes) -> io::Result<()>
     requires { AreUnder (length policy.now.labels) schemes.now }
 {
+    let transactions = fs::read_to_string(rt, "transactions.txt")?;
     let text = fs::read_to_string(rt, "questions.script")?;
     match script(rt.alloc(), policy, schemes, text.as_bytes()) {
-        Ok(questions) => tell_scripts(rt, policy, schemes, &questions),
+        Ok(questions) => {
+            let scripts = Scripts {
+                events: &[],
+                questions: &questions,
+                transactions: &transactions,
+            };
+            tell_scripts(rt, policy, schemes, scripts)
+        }
         Err(_) => Err(Error::from(ErrorKind::InvalidData)),
     }
 }

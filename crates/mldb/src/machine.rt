@@ -1,9 +1,11 @@
 //! Files, the standard input and stores, as the program has them.
-ghost use Rattle.std.specs.Prelude.{◌≡◌, false, length, IfOk};
+ghost use Rattle.std.specs.Prelude.{◌≡◌, false, length, IfOk, MatchOption};
 ghost use Rattle.mls_scheme.specs.Scheme.{AreUnder};
+ghost use Rattle.mls_filterview.specs.Content.{Content};
 ghost use Rattle.mls_fragments.specs.Finding.{IsSoundContent};
 
-use mls_command::{Host, HostFault, read_whole};
+use crate::private;
+use mls_command::{CloseFault, Host, HostFault, read_whole};
 use mls_filterview::Base;
 use mls_fragments::{OpenFault, SqlBase};
 use mls_lattice::Policy;
@@ -12,14 +14,23 @@ use sqlite::{FileFrom, FileStore, Start};
 use std::alloc::Global;
 use std::fs;
 use std::io::ErrorKind;
+use std::snapshot::Snapshot;
 
-/// What opens the stores at paths as bases.
+/// What opens the stores at paths as bases, and closes them.
 pub trait Opens<B: Base> {
-    /// The base over the store at a path.
+    // The content that the store held before it was opened.
+    ghost holds: { Self → Content → Type 0 };
+
+    /// The base over the store at a path, which is made where there is none.
     fn open(&mut self, path: &str, policy: &Policy, schemes: &Schemes) -> Result<B, OpenFault>
         requires under { AreUnder (length policy.now.labels) schemes.now }
         ensures idle { IfOk result (λ b. (B.state b).begun ≡ false) }
-        ensures sound { IfOk result (λ b. IsSoundContent policy.now schemes.now (B.state b).now) };
+        ensures sound { IfOk result (λ b. IsSoundContent policy.now schemes.now (B.state b).now) }
+        ensures held { IfOk result (λ b. B.is_clean b → holds self.old (B.state b).now) };
+
+    /// Closes the store of a base.
+    fn close(&mut self, store: B) -> Result<(), CloseFault>
+        requires idle { (B.state store).begun ≡ false };
 }
 
 /// Stores in files. `start` stands for what they held, and is there until the first is opened: a command opens no more.
@@ -30,6 +41,11 @@ pub struct FilesOf<'a, F: Start> {
 }
 
 impl<'a, F: Start> Opens<SqlBase<FileStore<FileFrom<F>>>> for FilesOf<'a, F> {
+    ghost use Rattle.sqlite.specs.WalFiles.{image_at};
+    ghost use Rattle.mls_fragments.specs.Opening.{IsContentIn};
+
+    ghost holds = { λ _ c. IsContentIn (image_at F.Start) c };
+
     fn open(
         &mut self,
         path: &str,
@@ -37,19 +53,21 @@ impl<'a, F: Start> Opens<SqlBase<FileStore<FileFrom<F>>>> for FilesOf<'a, F> {
         schemes: &Schemes,
     ) -> Result<SqlBase<FileStore<FileFrom<F>>>, OpenFault> {
         let start = self.start.take().ok_or(OpenFault::Store)?;
-        match SqlBase::open_from(self.rt, path, start, policy, schemes) {
-            Ok(base) => Ok(base),
-            Err((fault, _)) => Err(fault),
-        }
+        private::make(self.rt, path);
+        SqlBase::open_path(self.rt, path, start, policy, schemes)
+    }
+
+    fn close(&mut self, store: SqlBase<FileStore<FileFrom<F>>>) -> Result<(), CloseFault> {
+        store.close().map_err(|_| CloseFault)
     }
 }
 
-/// The machine itself, and the store that a run left open.
+/// The machine itself, and, for contracts alone, the store that a run left.
 #[derive(Drop)]
 pub struct Machine<'a, B: Base + Drop, O: Drop> {
     rt: &'a HostRuntime,
     stores: O,
-    left: Option<B>,
+    left: Option<Snapshot<B>>,
 }
 
 impl<'a, B: Base + Drop, O: Opens<B> + Drop> Machine<'a, B, O> {
@@ -64,15 +82,16 @@ impl<'a, B: Base + Drop, O: Opens<B> + Drop> Machine<'a, B, O> {
 }
 
 impl<'a, B: Base + Drop, O: Opens<B> + Drop> Host for Machine<'a, B, O> {
-    ghost use Rattle.std.specs.Option.{IfSome};
+    ghost use Rattle.std.specs.Prelude.{⊤};
 
-    // Any bytes and any content: what a file has is known to nobody before it is read.
-    ghost gives = { λ _ _ _. Unit {0} };
+    // Any bytes: what a file has is known to nobody before it is read.
+    ghost gives = { λ _ _ _. ⊤ };
 
-    ghost keeps = { λ _ _ _. Unit {0} };
+    // What the files held; and after a run, what the base held over them that was taken back.
+    ghost keeps = { λ m path c. MatchOption m.left (O.holds m.stores c) (λ l. (B.state l.value).now ≡ c) };
 
-    // The store that was taken back gives what was written to it.
-    ghost is_honest = { λ m. IfSome m.left B.is_clean };
+    // The base that was taken back is clean.
+    ghost is_honest = { λ m. MatchOption m.left ⊥ (λ l. B.is_clean l.value) };
 
     type Store = B;
 
@@ -95,10 +114,14 @@ impl<'a, B: Base + Drop, O: Opens<B> + Drop> Host for Machine<'a, B, O> {
         policy: &Policy,
         schemes: &Schemes,
     ) -> Result<B, OpenFault> {
+        if self.left.is_some() {
+            return Err(OpenFault::Store);
+        }
         self.stores.open(path, policy, schemes)
     }
 
-    fn keep(&mut self, path: &str, store: B) {
-        self.left = Some(store);
+    fn keep(&mut self, path: &str, store: B) -> Result<(), CloseFault> {
+        self.left = Some(Snapshot::of(&store));
+        self.stores.close(store)
     }
 }

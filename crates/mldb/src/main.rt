@@ -2,9 +2,10 @@
 #![tactic(auto)]
 
 mod machine;
+mod private;
 
 use crate::machine::{FilesOf, Machine, Opens};
-use mls_command::{Usage, act};
+use mls_command::{Errors, Usage, act};
 use mls_filterview::Base;
 use mls_fragments::SqlBase;
 use sqlite::{FileFrom, FileStore, Start, Unknown};
@@ -25,7 +26,7 @@ fn answer<B: Base + Drop, O: Opens<B> + Drop>(rt: &HostRuntime, stores: O) -> Re
     let words = words_of(rt)?;
     let words: Vec<&str> = words.iter().map(|word| word.as_str()).collect(rt.alloc())?;
     let mut host = Machine::new(rt, stores);
-    let (mut out, mut err) = (rt.stdout(), rt.stderr());
+    let (mut out, mut err) = (rt.stdout(), Errors::new(rt.stderr()));
     Ok(act(rt.alloc(), &words, &mut host, &mut out, &mut err))
 }
 

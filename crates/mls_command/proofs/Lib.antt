@@ -1,3 +1,5 @@
 pub mod RunningLemmas
 pub mod StoringLemmas
 pub mod CertifyingLemmas
+pub mod ActingLemmas
+pub mod WordsLemmas

@@ -1,20 +1,27 @@
--- Runs over a content: the lines of their events, what they leave, and what their worlds keep.
-use Rattle.std.proofs.Common.{◌≡◌, ℕ, List, Option, Some, None, false, Result, Ok, Err, OnOk, ◌∙◌, ap, sym, subst}
-use Rattle.std.proofs.lemmas.Result.{on_ok_weaker}
+-- Runs over a content: the lines of their events, what they leave, and how they end.
+use Rattle.std.proofs.Common.{refl, ◌≡◌, ℕ, ◌≤◌, List, [], ◌++◌, Option, Some, None, false, Result, Ok, Err, OnOk, IfErr, IfSome, take, ◌∙◌, ap, sym, subst, inl, inr}
+use Rattle.std.specs.Prelude.{option_map}
+use Rattle.std.specs.Borrow.{Bor}
+use Rattle.std.specs.Io.KnownBytes.{Appends}
 use Rattle.mls_filterview.specs.Content.{Content, State, no_content}
 use Rattle.mls_fragments.specs.Finding.{IsSoundContent}
-use Rattle.std.specs.Io.KnownBytes.{Appends}
 use Rattle.mls_script.specs.declared.event.Event.{Event}
-use Rattle.mls_script.specs.Script.{ReadsScript}
 use Rattle.mls_machine.specs.Site.{Site}
 use Rattle.mls_machine.specs.Machine.{World, Sessions, end_of}
-use Rattle.mls_machine.specs.Output.{run_lines, printed}
-use Rattle.mls_machine.specs.Observation.{PassesOnlyReleasesDown}
+use Rattle.mls_machine.specs.Observation.{PassesOnlyReleasesDown, ShowsOnlyReleases}
 use Rattle.mls_machine.specs.Laws.{KeepsIntegrity}
+use Rattle.mls_machine.proofs.RunLemmas.{shows_only_releases}
+use Rattle.mls_sessions.specs.declared.cause.RunFault.{RunFault}
 use Rattle.mls_sessions.specs.World.{world_at, IsSound}
-use Rattle.mls_sessions.specs.Run.{IsWhole}
+use Rattle.mls_sessions.specs.Run.{IsWhole, IsStopped as IsHalted, IsFaultOf}
 use Rattle.mls_sessions.proofs.StartLemmas.{no_content_sound}
-use Rattle.mls_command.specs.Running.{first_world, IsRun, IsScriptRun, IsRunOver}
+use Rattle.mls_command.specs.declared.host.CloseFault.{CloseFault}
+use Rattle.mls_command.specs.declared.refusal.Refusal.{Refusal}
+use Rattle.mls_command.specs.declared.refusal.Refusal.TheVariants.{Unreadable, TooLong, Policy, Reader, Schemes, Transactions, Certificates, Script, Store, Run, NotClosed, Output, Memory}
+use Rattle.mls_command.specs.Refusal.{IsBefore, ended}
+use Rattle.mls_command.specs.Running.{first_world, IsRun, IsRunEnd}
+use Rattle.mls_command.specs.Hosting.{Hosted}
+use Rattle.mls_command.specs.Acting.{IsRunFrom}
 
 -- content that is sound under a policy and schemes is sound at their site
 pub sound_at : (site : Site) (c : Content) → IsSoundContent site.policy site.schemes c → IsSound site c
@@ -24,33 +31,94 @@ sound_at site c sound = record { content = sound.content; entries = sound.entrie
 pub none_sound : (site : Site) (s : State) → s ≡ record { now = no_content; kept = no_content; begun = false } → IsSound site s.now
 none_sound site s none = subst (λ (x : State). IsSound site x.now) (sym none) (no_content_sound site)
 
--- what holds of a site and a world holds of the same
-pub at_same : (Holds : Site → World → Type 0) (s t : Site) (v w : World) → s ≡ t → v ≡ w → Holds s v → Holds t w
-at_same Holds s t v w site world h = subst (λ x. Holds t x) world (subst (λ x. Holds x v) site h)
+-- what an engine's run comes to: its lines, its last world, and what is proved of it
+pub record IsEngineRun (site : Site) (reader : Option ℕ) (v : World) (es : List Event) (before after : Option (List ℕ)) (new : World) (r : Result (Unit {0}) RunFault) : Type 0 where
+  pub ok : OnOk r (IsWhole site reader v es before after new)
+  pub err : IfErr r (IsHalted site reader v es before after new)
+  pub fault : IfErr r (IsFaultOf es)
+  pub integrity : KeepsIntegrity site v es
+  pub secret : (n : ℕ) → PassesOnlyReleasesDown site v (take n es)
 
--- the run of an engine at a site, over a base that holds a content at first and another at last
-pub run_as : {E : Type 0} (r : Result (Unit {0}) E) (s t new : Site) (v : World) (sessions : Sessions) (first held left : Content) (es : List Event) (before after : Option (List ℕ))
-    → s ≡ t → v ≡ first_world t first → new ≡ s → left ≡ held → OnOk r (IsWhole s v es before after (world_at new sessions held))
-    → KeepsIntegrity s v es → OnOk r (PassesOnlyReleasesDown s v es) → OnOk r (IsRun t first left es before after)
-run_as (Ok u) s t new v sessions first held left es before after site world same is whole integrity secret = record {
-  written = subst (Appends before after) (λ i. printed (run_lines (site i) (world i) es)) whole.bytes;
-  left_by = (sessions, ap (world_at t sessions) is ∙ ap (λ x. world_at x sessions held) (sym (same ∙ site)) ∙ whole.world ∙ (λ i. end_of (site i) (world i) es));
-  integrity = at_same (λ x w. KeepsIntegrity x w es) s t v (first_world t first) site world integrity;
-  secret = at_same (λ x w. PassesOnlyReleasesDown x w es) s t v (first_world t first) site world secret;
+shown_to : (site : Site) (reader : Option ℕ) (v : World) (es : List Event) → ((n : ℕ) → PassesOnlyReleasesDown site v (take n es)) → IfSome reader (λ c. (n : ℕ) → ShowsOnlyReleases site c v (take n es))
+shown_to site None v es secret = tt
+shown_to site (Some c) v es secret = λ n. shows_only_releases site c v (take n es) (secret n)
+
+-- over a base that holds a content at first and another at last
+pub run_at : (site : Site) (reader : Option ℕ) (sessions : Sessions) (first left : Content) (es : List Event) (before after : Option (List ℕ)) (r : Result (Unit {0}) RunFault)
+    → IsSound site left → IsEngineRun site reader (first_world site first) es before after (world_at site sessions left) r
+    → IsRun site reader es (Appends before after) r first left
+run_at site reader sessions first left es before after (Ok u) sound h = record {
+  written = h.ok.bytes;
+  left_by = (sessions, h.ok.world);
+  sound = sound;
+  integrity = h.integrity;
+  secret = h.secret;
+  shown = shown_to site reader (first_world site first) es h.secret;
 }
-run_as (Err e) s t new v sessions first held left es before after site world same is whole integrity secret = tt
+run_at site reader sessions first left es before after (Err fault) sound h = record {
+  written = record { part = h.err.part; rest = h.err.rest; written = h.err.bytes; whole = h.err.reply; none = h.err.none; last = h.fault.last };
+  left_by = (sessions, h.err.world);
+  sound = sound;
+  integrity = h.integrity;
+  secret = h.secret;
+  shown = shown_to site reader (first_world site first) es h.secret;
+}
 
-over_weaker : (WasKept IsKept : List ℕ → Content → Type 0) (IsHonest : Type 0) (store : Option (List ℕ)) (Runs More : Content → Content → Type 0)
-    → ((first left : Content) → Runs first left → More first left) → IsRunOver WasKept IsKept IsHonest store Runs → IsRunOver WasKept IsKept IsHonest store More
-over_weaker WasKept IsKept IsHonest None Runs More f h = (h.0, f no_content h.0 h.1)
-over_weaker WasKept IsKept IsHonest (Some path) Runs More f h = λ honest. let x = h honest in (x.0, x.1, x.2, f x.0 x.1 x.3, x.4)
+-- ---- how runs end
 
--- the run of the events that a script tells
-pub script_run : {E : Type 0} (r : Result (Unit {0}) E) (WasKept IsKept : List ℕ → Content → Type 0) (IsHonest : Type 0) (store : Option (List ℕ))
-    (site : Site) (script : List ℕ) (before after : Option (List ℕ)) (es fs : List Event) → fs ≡ es → ReadsScript site.policy site.schemes script es
-    → OnOk r (IsRunOver WasKept IsKept IsHonest store (λ first left. IsRun site first left fs before after))
-    → OnOk r (IsRunOver WasKept IsKept IsHonest store (IsScriptRun site script before after))
-script_run r WasKept IsKept IsHonest store site script before after es fs same read =
-    on_ok_weaker r
-    (over_weaker WasKept IsKept IsHonest store (λ first left. IsRun site first left fs before after) (IsScriptRun site script before after)
-    (λ first left run. record { events = fs; read = subst (ReadsScript site.policy site.schemes script) (sym same) read; run = run }))
+module _ (Runs : Result (Unit {0}) RunFault → Type 0) (Nothing : Type 0) where
+  -- a run that ended, or stopped, over a store that was closed, or not
+  pub ended_so : (outcome : Result (Unit {0}) RunFault) (closed : Result (Unit {0}) CloseFault) → Runs outcome → IsRunEnd Runs Nothing (ended outcome closed)
+  ended_so (Err fault) closed h = h
+  ended_so (Ok u) (Err e) h = h
+  ended_so (Ok u) (Ok v) h = h
+
+  -- one that did not begin
+  pub not_begun : (refusal : Refusal) → IsBefore refusal → Nothing → IsRunEnd Runs Nothing (Err refusal)
+  not_begun (Unreadable r) b h = h
+  not_begun (TooLong r) b h = h
+  not_begun (Policy f) b h = h
+  not_begun Reader b h = h
+  not_begun (Schemes f) b h = h
+  not_begun (Transactions f) b h = h
+  not_begun (Certificates f) b h = h
+  not_begun (Script f) b h = h
+  not_begun (Store f) b h = h
+  not_begun (Run f) b h = absurd b
+  not_begun NotClosed b h = absurd b
+  not_begun Output b h = absurd b
+  not_begun Memory b h = h
+
+  pub end_weaker : (More : Result (Unit {0}) RunFault → Type 0) → ((end : Result (Unit {0}) RunFault) → Runs end → More end) → (r : Result (Unit {0}) Refusal)
+      → IsRunEnd Runs Nothing r → IsRunEnd More Nothing r
+  end_weaker More f (Ok u) h = f (Ok tt) h
+  end_weaker More f (Err (Run fault)) h = f (Err fault) h
+  end_weaker More f (Err NotClosed) h = f (Ok tt) h
+  end_weaker More f (Err Output) h = absurd h
+  end_weaker More f (Err (Unreadable r)) h = h
+  end_weaker More f (Err (TooLong r)) h = h
+  end_weaker More f (Err (Policy x)) h = h
+  end_weaker More f (Err Reader) h = h
+  end_weaker More f (Err (Schemes x)) h = h
+  end_weaker More f (Err (Transactions x)) h = h
+  end_weaker More f (Err (Certificates x)) h = h
+  end_weaker More f (Err (Script x)) h = h
+  end_weaker More f (Err (Store x)) h = h
+  end_weaker More f (Err Memory) h = h
+
+-- ---- where runs begin
+
+module _ (h : Hosted) (site : Site) (reader : Option ℕ) (es : List Event) (Wrote : List ℕ → Type 0) (store : Option (Bor (List ℕ))) (r : Result (Unit {0}) Refusal) where
+  -- with nothing
+  pub from_memory : store ≡ None → IsRunEnd (λ end. (left : Content) × IsRun site reader es Wrote end no_content left) (Wrote []) r
+      → IsRunEnd (IsRunFrom h (option_map (λ p. p.now) store) site reader es Wrote) (Wrote []) r
+  from_memory none run =
+      let f : (end : Result (Unit {0}) RunFault) → ((left : Content) × IsRun site reader es Wrote end no_content left) → IsRunFrom h None site reader es Wrote end
+      = λ end k. λ clean. (no_content, k.0, refl, tt, k.1) in
+      subst (λ (s : Option (Bor (List ℕ))). IsRunEnd (IsRunFrom h (option_map (λ p. p.now) s) site reader es Wrote) (Wrote []) r) (sym none)
+      (end_weaker (λ end. (left : Content) × IsRun site reader es Wrote end no_content left) (Wrote []) (IsRunFrom h None site reader es Wrote) f r run)
+
+  -- with what a store kept
+  pub from_store : (path : Bor (List ℕ)) → store ≡ Some path → IsRunEnd (IsRunFrom h (Some path.now) site reader es Wrote) (Wrote []) r
+      → IsRunEnd (IsRunFrom h (option_map (λ p. p.now) store) site reader es Wrote) (Wrote []) r
+  from_store path some run = subst (λ (s : Option (Bor (List ℕ))). IsRunEnd (IsRunFrom h (option_map (λ p. p.now) s) site reader es Wrote) (Wrote []) r) (sym some) run

@@ -1,98 +1,160 @@
--- What a command writes, by what its host gives.
-use Rattle.std.specs.Prelude.{◌≡◌, ℕ, List, [], ◌++◌, Option, Some, None, option_map}
-use Rattle.std.specs.Io.KnownBytes.{Appends}
+-- What comes of a command line, by what its host gives.
+use Rattle.std.specs.Prelude.{◌≡◌, ℕ, List, [], ◌++◌, Option, Some, None, option_map, Result, Ok, Err, ◌⊎◌, ⊤}
 use Rattle.mls_lattice.specs.Policy.{Tables}
 use Rattle.mls_lattice.specs.ReadsPolicy.{ReadsPolicy}
 use Rattle.mls_lattice.specs.Canon as lattice
 use Rattle.mls_scheme.specs.Scheme.{Schemes}
 use Rattle.mls_scheme.specs.Document.{ReadsSchemes}
 use Rattle.mls_scheme.specs.Canon as scheme
-use Rattle.mls_translang.specs.Tx.{Tx}
-use Rattle.mls_certificate.specs.Reading.{Block}
-use Rattle.mls_filterview.specs.Content.{Content}
-use Rattle.mls_machine.specs.Site.{Site}
+use Rattle.mls_filterview.specs.Content.{Content, no_content}
+use Rattle.mls_script.specs.declared.event.Event.{Event}
+use Rattle.mls_script.specs.Script.{ReadsScript}
 use Rattle.mls_machine.specs.declared.stored.Stored.{Stored}
+use Rattle.mls_machine.specs.Site.{Site}
+use Rattle.mls_sessions.specs.declared.cause.RunFault.{RunFault}
 use Rattle.mls_command.specs.declared.samples.TheConstants.{POLICY, SCHEMES}
 use Rattle.mls_command.specs.declared.words.Job.{Job}
-use Rattle.mls_command.specs.declared.words.Job.TheVariants.{Samples, Under}
+use Rattle.mls_command.specs.declared.words.Documents.{Documents}
 use Rattle.mls_command.specs.declared.words.Task.{Task}
 use Rattle.mls_command.specs.declared.words.Task.TheVariants.{ShowPolicy, Run, Certify, Check}
 use Rattle.mls_command.specs.declared.words.RunFiles.{RunFiles}
+use Rattle.mls_command.specs.declared.usage.Usage.{Usage}
 use Rattle.mls_command.specs.declared.ending.Ending.{Ending}
-use Rattle.mls_command.specs.declared.ending.Ending.TheVariants.{Well}
-use Rattle.mls_command.specs.Words.{Asks}
-use Rattle.mls_command.specs.Inputs.{IsFrom, IsPolicyFrom, AreSchemesFrom, AreToldIn, AreBlocksIn, AreStoredFrom}
-use Rattle.mls_command.specs.Running.{IsScriptRun}
+use Rattle.mls_command.specs.declared.ending.Ending.TheVariants.{Well, Refused}
+use Rattle.mls_command.specs.declared.refusal.Refusal.{Refusal}
+use Rattle.mls_command.specs.declared.refusal.Refusal.TheVariants as refusals
+use Rattle.mls_command.specs.Hosting.{Hosted}
+use Rattle.clap.specs.Words.{Text}
+use Rattle.mls_command.specs.Words.{Asks, AskNothing, usage_text, usage_status}
+use Rattle.mls_command.specs.Inputs.{IsFrom, IsReader, AreToldIn, AreStoredFrom}
+use Rattle.mls_command.specs.Refusal.{refusal_text, refusal_status, IsBefore}
+use Rattle.mls_command.specs.Ending.{ending_status}
+use Rattle.mls_command.specs.Running.{IsCutOff, IsRun, site_of}
 use Rattle.mls_command.specs.Certifying.{IsCertified}
 use Rattle.mls_command.specs.Checking.{IsChecked}
 
-module _ (Gives : Option (List ℕ) → List ℕ → Type 0) where
-  -- something is done with the transactions of a file
-  pub record IsDoneWith (policy : Tables) (schemes : Schemes) (path : List ℕ) (Does : List Tx → Type 0) : Type 0 where
-    pub txs : List Tx
-    pub told : AreToldIn Gives path policy schemes txs
-    pub done : Does txs
+-- ---- the policy and the schemes: those of the samples, or of files
 
-  abbrev pub IsCertifying : Tables → Schemes → List ℕ → Option (List ℕ) → Option (List ℕ) → Ending → Type 0
-  IsCertifying policy schemes path before after ending = IsDoneWith policy schemes path (λ txs. IsCertified policy txs before after ending)
+-- what a command other than a run prints is written, and what it tells is told
+pub record IsPrinted (Prints : List ℕ → List ℕ → Ending → Type 0) (Wrote Told : List ℕ → Type 0) (end : Ending) : Type 0 where
+  pub text : List ℕ
+  pub told : List ℕ
+  pub prints : Prints text told end
+  pub is_written : Wrote text
+  pub is_told : Told told
 
-  -- with the certificates of a further file
-  abbrev pub IsChecking : Tables → Schemes → List ℕ → List ℕ → Option (List ℕ) → Option (List ℕ) → Ending → Type 0
-  IsChecking policy schemes path certificates before after ending =
-      IsDoneWith policy schemes path (λ txs. (blocks : List Block) × AreBlocksIn Gives certificates blocks × IsChecked policy blocks txs before after ending)
+-- a first part of it is written
+pub record IsPrintedInPart (Prints : List ℕ → List ℕ → Ending → Type 0) (Wrote : List ℕ → Type 0) : Type 0 where
+  pub text : List ℕ
+  pub told : List ℕ
+  pub end : Ending
+  pub prints : Prints text told end
+  pub is_cut_off : IsCutOff Wrote text
 
--- `IsOver store Runs`: the run goes from what the store at a path kept to what it keeps, or, with no path, from nothing
-module _ (Gives : Option (List ℕ) → List ℕ → Type 0) (IsOver : Option (List ℕ) → (Content → Content → Type 0) → Type 0) where
-  -- a script of the host is run at a site
-  abbrev pub IsRunOf : Option (List ℕ) → Option (List ℕ) → Site → Option (List ℕ) → Option (List ℕ) → Type 0
-  IsRunOf source store site before after = IsFrom Gives source (λ script. IsOver store (IsScriptRun site script before after))
+-- the events of a script
+abbrev pub IsScriptRead : (Option (List ℕ) → List ℕ → Type 0) → Option (List ℕ) → Tables → Schemes → List Event → Type 0
+IsScriptRead Gives source policy schemes events = IsFrom Gives source (λ script. ReadsScript policy schemes script events)
 
-  -- the script of a file is run at the site of the policy, the schemes, and the transactions and certificates of others
-  pub record IsFilesRun (policy : Tables) (schemes : Schemes) (files : RunFiles) (before after : Option (List ℕ)) : Type 0 where
+module _ (h : Hosted) where
+  abbrev pub IsPolicyOf : Option Documents → Tables → Type 0
+  IsPolicyOf None policy = ReadsPolicy POLICY.now policy
+  IsPolicyOf (Some d) policy = IsFrom h.gives (Some d.policy.now) (λ bytes. ReadsPolicy bytes policy)
+
+  abbrev pub AreSchemesOf : Option Documents → Tables → Schemes → Type 0
+  AreSchemesOf None policy schemes = ReadsSchemes policy SCHEMES.now schemes
+  AreSchemesOf (Some d) policy schemes = IsFrom h.gives (Some d.schemes.now) (λ bytes. ReadsSchemes policy bytes schemes)
+
+  -- ---- runs
+
+  -- without a path a run begins with nothing; with one, with what the store there kept
+  abbrev pub BeginsWith : Option (List ℕ) → Content → Type 0
+  BeginsWith None first = first ≡ no_content
+  BeginsWith (Some path) first = h.kept path first
+
+  -- and what it leaves is kept there
+  abbrev pub IsKeptAt : Option (List ℕ) → Content → Type 0
+  IsKeptAt None left = ⊤
+  IsKeptAt (Some path) left = h.keeps path left
+
+  -- what is said of a run with a store is said where that is clean
+  abbrev pub IsClean : Option (List ℕ) → Type 0
+  IsClean None = ⊤
+  IsClean (Some path) = h.is_honest
+
+  -- events are run from what a store kept to what it keeps
+  abbrev pub IsRunFrom : Option (List ℕ) → Site → Option ℕ → List Event → (List ℕ → Type 0) → Result (Unit {0}) RunFault → Type 0
+  IsRunFrom store site reader events Wrote end = IsClean store → (first : Content) × (left : Content) × BeginsWith store first × IsKeptAt store left × IsRun site reader events Wrote end first left
+
+  -- a script is run, which ended, or stopped at a fault
+  pub record IsScriptRun (policy : Tables) (schemes : Schemes) (reader : Option ℕ) (files : RunFiles) (Wrote : List ℕ → Type 0) (end : Result (Unit {0}) RunFault) : Type 0 where
     pub stored : List Stored
-    pub stored_are : AreStoredFrom Gives (option_map (λ p. p.now) files.transactions) (option_map (λ p. p.now) files.certificates) policy schemes stored
-    pub run : IsRunOf (Some files.script.now) (option_map (λ p. p.now) files.store) (record { policy = policy; schemes = schemes; stored = stored }) before after
+    pub events : List Event
+    pub first : Content
+    pub left : Content
+    pub stored_are : AreStoredFrom h.gives (option_map (λ p. p.now) files.transactions) (option_map (λ p. p.now) files.certificates) policy schemes stored
+    pub events_are : IsScriptRead h.gives (option_map (λ p. p.now) files.script) policy schemes events
+    pub first_is : BeginsWith (option_map (λ p. p.now) files.store) first
+    pub left_is : IsKeptAt (option_map (λ p. p.now) files.store) left
+    pub run : IsRun (site_of policy schemes stored) reader events Wrote end first left
 
-  -- the script on the standard input is run under the sample schemes, with nothing stored
-  pub record IsSampleRunUnder (policy : Tables) (before after : Option (List ℕ)) : Type 0 where
-    pub schemes : Schemes
-    pub stored : List Stored
-    pub schemes_are : ReadsSchemes policy SCHEMES.now schemes
-    pub none : stored ≡ []
-    pub run : IsRunOf None None (record { policy = policy; schemes = schemes; stored = stored }) before after
+  abbrev pub Runs : Tables → Schemes → Option ℕ → RunFiles → (List ℕ → Type 0) → Result (Unit {0}) RunFault → Type 0
+  Runs policy schemes reader files Wrote end = IsClean (option_map (λ p. p.now) files.store) → IsScriptRun policy schemes reader files Wrote end
 
-  -- and under the sample policy
-  pub record IsSampleRun (before after : Option (List ℕ)) : Type 0 where
+  -- ---- tasks
+
+  -- what a command other than a run prints on standard output, what it tells on standard error, and how it ends
+  abbrev pub Prints : Tables → Schemes → Task → List ℕ → List ℕ → Ending → Type 0
+  Prints policy schemes ShowPolicy text told end = (text ≡ lattice.canon_of policy ++ scheme.canon_of policy schemes) × (told ≡ []) × (end ≡ Well)
+  Prints policy schemes (Run files) text told end = ⊥
+  Prints policy schemes (Certify transactions) text told end = IsCertified h.gives policy schemes transactions.now text told end
+  Prints policy schemes (Check transactions certificates) text told end = IsChecked h.gives policy schemes transactions.now certificates.now text told end
+
+  -- a task is done; a run tells nothing
+  abbrev pub IsTaskDone : Tables → Schemes → Option ℕ → Task → (List ℕ → Type 0) → (List ℕ → Type 0) → Ending → Type 0
+  IsTaskDone policy schemes reader (Run files) Wrote Told end = (end ≡ Well) × Told [] × Runs policy schemes reader files Wrote (Ok tt)
+  IsTaskDone policy schemes reader ShowPolicy Wrote Told end = IsPrinted (Prints policy schemes ShowPolicy) Wrote Told end
+  IsTaskDone policy schemes reader (Certify transactions) Wrote Told end = IsPrinted (Prints policy schemes (Certify transactions)) Wrote Told end
+  IsTaskDone policy schemes reader (Check transactions certificates) Wrote Told end = IsPrinted (Prints policy schemes (Check transactions certificates)) Wrote Told end
+
+  -- a run ended so; no other task is one
+  abbrev pub IsRunOf : Tables → Schemes → Option ℕ → Task → (List ℕ → Type 0) → Result (Unit {0}) RunFault → Type 0
+  IsRunOf policy schemes reader (Run files) Wrote end = Runs policy schemes reader files Wrote end
+  IsRunOf policy schemes reader ShowPolicy Wrote end = ⊥
+  IsRunOf policy schemes reader (Certify transactions) Wrote end = ⊥
+  IsRunOf policy schemes reader (Check transactions certificates) Wrote end = ⊥
+
+  -- What was written where a task is given up: of a run that stopped, the lines up to there; of one whose store was not closed, all;
+  -- where the output was not taken, a first part of it; and else nothing.
+  abbrev pub IsTaskGivenUp : Tables → Schemes → Option ℕ → Task → (List ℕ → Type 0) → Refusal → Type 0
+  IsTaskGivenUp policy schemes reader task Wrote (refusals.Run fault) = IsRunOf policy schemes reader task Wrote (Err fault)
+  IsTaskGivenUp policy schemes reader task Wrote refusals.NotClosed = IsRunOf policy schemes reader task Wrote (Ok tt)
+  IsTaskGivenUp policy schemes reader task Wrote refusals.Output = IsPrintedInPart (Prints policy schemes task) Wrote
+  IsTaskGivenUp policy schemes reader task Wrote refusal = Wrote []
+
+  -- ---- jobs
+
+  -- under the policy and the schemes, and, where a reader is named, for it alone
+  pub record IsUnder (job : Job) (Does : Tables → Schemes → Option ℕ → Task → Type 0) : Type 0 where
     pub policy : Tables
-    pub policy_is : ReadsPolicy POLICY.now policy
-    pub run : IsSampleRunUnder policy before after
-
-  -- a task is done under a policy and schemes
-  abbrev pub IsTaskDone : Tables → Schemes → Task → Option (List ℕ) → Option (List ℕ) → Ending → Type 0
-  IsTaskDone policy schemes ShowPolicy before after ending = Appends before after (lattice.canon_of policy ++ scheme.canon_of policy schemes) × (ending ≡ Well)
-  IsTaskDone policy schemes (Run files) before after ending = IsFilesRun policy schemes files before after × (ending ≡ Well)
-  IsTaskDone policy schemes (Certify transactions) before after ending = IsCertifying Gives policy schemes transactions.now before after ending
-  IsTaskDone policy schemes (Check transactions certificates) before after ending = IsChecking Gives policy schemes transactions.now certificates.now before after ending
-
-  -- under the schemes of a file
-  pub record IsDoneUnder (policy : Tables) (path : List ℕ) (task : Task) (before after : Option (List ℕ)) (ending : Ending) : Type 0 where
     pub schemes : Schemes
-    pub schemes_are : AreSchemesFrom Gives path policy schemes
-    pub done : IsTaskDone policy schemes task before after ending
+    pub reader : Option ℕ
+    pub policy_is : IsPolicyOf job.documents policy
+    pub schemes_are : AreSchemesOf job.documents policy schemes
+    pub reader_is : IsReader policy job.task reader
+    pub does : Does policy schemes reader job.task
 
-  -- and under the policy of another
-  pub record IsDoneBy (policy_path schemes_path : List ℕ) (task : Task) (before after : Option (List ℕ)) (ending : Ending) : Type 0 where
-    pub policy : Tables
-    pub policy_is : IsPolicyFrom Gives policy_path policy
-    pub done : IsDoneUnder policy schemes_path task before after ending
+  abbrev pub IsDone : Job → (List ℕ → Type 0) → (List ℕ → Type 0) → Ending → Type 0
+  IsDone job Wrote Told end = IsUnder job (λ policy schemes reader task. IsTaskDone policy schemes reader task Wrote Told end)
 
-  -- what the words ask for is done
-  abbrev pub IsDone : Job → Option (List ℕ) → Option (List ℕ) → Ending → Type 0
-  IsDone Samples before after ending = IsSampleRun before after × (ending ≡ Well)
-  IsDone (Under policy schemes task) before after ending = IsDoneBy policy.now schemes.now task before after ending
+  -- it is given up before anything is written, or as its task is
+  abbrev pub IsGivenUp : Job → (List ℕ → Type 0) → Refusal → Type 0
+  IsGivenUp job Wrote refusal = (IsBefore refusal × Wrote []) ⊎ IsUnder job (λ policy schemes reader task. IsTaskGivenUp policy schemes reader task Wrote refusal)
 
-  -- a job for which so many words can ask is done
-  pub record IsAnswered (words : ℕ) (before after : Option (List ℕ)) (ending : Ending) : Type 0 where
-    pub job : Job
-    pub asked : Asks words job
-    pub done : IsDone job before after ending
+  -- ---- command lines
+
+  -- What came of the words: a job is done, or given up for a reason that is told, or they ask for none. Each has its status.
+  pub data IsAnswered (words : List Text) (Wrote Told : List ℕ → Type 0) (status : ℕ) : Type 0 where
+    done : (job : Job) (end : Ending) → Asks words job → IsDone job Wrote Told end → status ≡ ending_status end → IsAnswered words Wrote Told status
+    given_up : (job : Job) (refusal : Refusal) → Asks words job → IsGivenUp job Wrote refusal → Told (refusal_text refusal) → status ≡ refusal_status refusal
+        → IsAnswered words Wrote Told status
+    not_asked : (usage : Usage) → AskNothing words usage → Wrote [] → Told (usage_text usage) → status ≡ usage_status usage → IsAnswered words Wrote Told status

@@ -2,8 +2,8 @@
 use Rattle.std.specs.Prelude.{◌≡◌, ℕ, Bool, true, false, if◌then◌else◌, List, [], ◌++◌, codes, string_bytes, Option, Err}
 use Rattle.std.specs.List.{flat_map, list_any, AllZip}
 use Rattle.std.specs.Fmt.{decimal}
-use Rattle.std.specs.Io.KnownBytes.{Appends}
 use Rattle.mls_lattice.specs.Policy.{Name, Tables}
+use Rattle.mls_scheme.specs.Scheme.{Schemes}
 use Rattle.mls_translang.specs.Tx.{Tx}
 use Rattle.mls_certificate.specs.declared.cert.Cert.{Cert}
 use Rattle.mls_certificate.specs.declared.cert.Cert2.{Cert2}
@@ -22,7 +22,8 @@ use Rattle.mls_command.specs.declared.ending.Ending.TheVariants.{Well, Refused}
 use Rattle.mls_command.specs.declared.certifying.Labels.{Labels}
 use Rattle.mls_command.specs.declared.certifying.Labels.TheVariants.{Least, Missing}
 use Rattle.mls_command.specs.declared.certifying.Answer.{Answer}
-use Rattle.mls_command.specs.declared.certifying.Listing.{Listing}
+use Rattle.mls_command.specs.declared.listing.Listing.{Listing}
+use Rattle.mls_command.specs.Inputs.{AreToldIn}
 
 module _ (policy : Tables) (tx : Tx) where
   -- the rules hold under a certificate
@@ -102,13 +103,16 @@ ending_of answers = if list_any has_none answers then Refused else Well
 pub record IsListing (policy : Tables) (txs : List Tx) (listing : Listing) : Type 0 where
   pub answers : List Answer
   pub labels : AreAnswers policy txs answers
-  pub blocks : string_bytes listing.blocks ≡ flat_map block_of answers
-  pub refusals : string_bytes listing.refusals ≡ flat_map refusal_of answers
+  pub text : listing.text.items ≡ flat_map block_of answers
+  pub told : string_bytes listing.told ≡ flat_map refusal_of answers
   pub outcome : listing.ending ≡ ending_of answers
 
--- the blocks are written, and it is refused just where a transaction has none
-pub record IsCertified (policy : Tables) (txs : List Tx) (before after : Option (List ℕ)) (ending : Ending) : Type 0 where
+-- what is printed and told of the transactions of a file
+pub record IsCertified (Gives : Option (List ℕ) → List ℕ → Type 0) (policy : Tables) (schemes : Schemes) (path text told : List ℕ) (end : Ending) : Type 0 where
+  pub txs : List Tx
   pub answers : List Answer
+  pub txs_are : AreToldIn Gives path policy schemes txs
   pub labels : AreAnswers policy txs answers
-  pub written : Appends before after (flat_map block_of answers)
-  pub outcome : ending ≡ ending_of answers
+  pub text_is : text ≡ flat_map block_of answers
+  pub told_is : told ≡ flat_map refusal_of answers
+  pub end_is : end ≡ ending_of answers

@@ -1,27 +1,38 @@
 -- What is read from the inputs that a host gives: a file by its path, and the standard input.
-use Rattle.std.specs.Prelude.{◌≡◌, ℕ, List, [], Option, Some, None}
+use Rattle.std.specs.Prelude.{◌≡◌, ℕ, List, [], Option, Some, None, option_map}
+use Rattle.std.specs.List.{position}
+use Rattle.std.specs.Str.{bytes_eq}
 use Rattle.mls_lattice.specs.Policy.{Tables}
-use Rattle.mls_lattice.specs.ReadsPolicy.{ReadsPolicy}
 use Rattle.mls_scheme.specs.Scheme.{Schemes}
-use Rattle.mls_scheme.specs.Document.{ReadsSchemes}
 use Rattle.mls_translang.specs.Tx.{Tx}
 use Rattle.mls_translang.specs.Tells.{Tells}
 use Rattle.mls_certificate.specs.Reading.{Block}
 use Rattle.mls_certificate.specs.Spelling.{IsFile, file_text}
 use Rattle.mls_machine.specs.declared.stored.Stored.{Stored}
+use Rattle.mls_command.specs.declared.words.Task.{Task}
+use Rattle.mls_command.specs.declared.words.Task.TheVariants.{ShowPolicy, Run, Certify, Check}
 use Rattle.mls_command.specs.Storing.{AreStoredWith}
+
+-- the name of the label for which alone a run prints
+abbrev pub at_of : Task → Option (List ℕ)
+at_of ShowPolicy = None
+at_of (Run files) = option_map (λ p. p.now) files.at
+at_of (Certify transactions) = None
+at_of (Check transactions certificates) = None
+
+-- none without a name; with one, the label of the name
+abbrev pub IsNamed : Tables → Option (List ℕ) → Option ℕ → Type 0
+IsNamed policy None reader = reader ≡ None
+IsNamed policy (Some name) reader = (label : ℕ) × (reader ≡ Some label) × (position (λ l. bytes_eq l.name name) policy.labels ≡ Some label)
+
+abbrev pub IsReader : Tables → Task → Option ℕ → Type 0
+IsReader policy task reader = IsNamed policy (at_of task) reader
 
 -- `Gives source bytes`: the host gives these bytes for the file at a path, or, with no path, for the standard input
 module _ (Gives : Option (List ℕ) → List ℕ → Type 0) where
   -- the host gives bytes there that say so
   abbrev pub IsFrom : Option (List ℕ) → (List ℕ → Type 0) → Type 0
   IsFrom source Says = (bytes : List ℕ) × Gives source bytes × Says bytes
-
-  abbrev pub IsPolicyFrom : List ℕ → Tables → Type 0
-  IsPolicyFrom path policy = IsFrom (Some path) (λ bytes. ReadsPolicy bytes policy)
-
-  abbrev pub AreSchemesFrom : List ℕ → Tables → Schemes → Type 0
-  AreSchemesFrom path policy schemes = IsFrom (Some path) (λ bytes. ReadsSchemes policy bytes schemes)
 
   abbrev pub AreToldIn : List ℕ → Tables → Schemes → List Tx → Type 0
   AreToldIn path policy schemes txs = IsFrom (Some path) (λ bytes. Tells policy schemes bytes txs)

@@ -1,8 +1,10 @@
-pub mod Running
+pub mod Hosting
 pub mod Inputs
-pub mod Acting
 pub mod Storing
 pub mod Certifying
 pub mod Checking
+pub mod Running
 pub mod Refusal
 pub mod Words
+pub mod Ending
+pub mod Acting

@@ -1,29 +1,35 @@
 -- Why a command ends without success, and the line that tells it.
-use Rattle.std.specs.Prelude.{ℕ, List, ◌++◌, codes}
+use Rattle.std.specs.Prelude.{ℕ, List, ◌++◌, codes, Result, Ok, Err, ⊤}
 use Rattle.std.specs.Fmt.{decimal}
+use Rattle.mls_lattice.specs.declared.fault.PolicyFault.{PolicyFault}
 use Rattle.mls_lattice.specs.declared.fault.PolicyFault.TheVariants as policies
 use Rattle.mls_lattice.specs.Fault as policy_faults
+use Rattle.mls_scheme.specs.declared.fault.SchemeFault.{SchemeFault}
 use Rattle.mls_scheme.specs.declared.fault.SchemeFault.TheVariants as schemes
 use Rattle.mls_scheme.specs.Fault as scheme_faults
 use Rattle.mls_parser.specs.declared.fault.TextFault.{TextFault}
+use Rattle.mls_parser.specs.declared.fault.TextCause.{TextCause}
 use Rattle.mls_parser.specs.declared.fault.TextCause.TheVariants as texts
 use Rattle.mls_parser.specs.Fault as text_faults
 use Rattle.mls_certificate.specs.declared.fault.CertFault.{CertFault}
+use Rattle.mls_certificate.specs.declared.fault.CertCause.{CertCause}
 use Rattle.mls_certificate.specs.declared.fault.CertCause.TheVariants as certs
 use Rattle.mls_certificate.specs.Fault as cert_faults
 use Rattle.mls_script.specs.declared.fault.ScriptFault.{ScriptFault}
+use Rattle.mls_script.specs.declared.fault.ScriptCause.{ScriptCause}
 use Rattle.mls_script.specs.declared.fault.ScriptCause.TheVariants as scripts
 use Rattle.mls_script.specs.Fault as script_faults
 use Rattle.mls_fragments.specs.declared.open_fault.OpenFault.TheVariants as stores
 use Rattle.mls_fragments.specs.OpenFault as store_faults
 use Rattle.mls_sessions.specs.declared.cause.RunFault.{RunFault}
 use Rattle.mls_sessions.specs.Cause.{cause_word}
+use Rattle.mls_command.specs.declared.host.CloseFault.{CloseFault}
 use Rattle.mls_command.specs.declared.host.HostFault.{HostFault}
 use Rattle.mls_command.specs.declared.host.HostFault.TheVariants as host
 use Rattle.mls_command.specs.declared.refusal.Role.{Role}
 use Rattle.mls_command.specs.declared.refusal.Role.TheVariants as role
 use Rattle.mls_command.specs.declared.refusal.Refusal.{Refusal}
-use Rattle.mls_command.specs.declared.refusal.Refusal.TheVariants.{Unreadable, TooLong, Policy, Schemes, Transactions, Certificates, Script, Store, Run, Output, Memory}
+use Rattle.mls_command.specs.declared.refusal.Refusal.TheVariants.{Unreadable, TooLong, Policy, Reader, Schemes, Transactions, Certificates, Script, Store, Run, NotClosed, Output, Memory}
 
 abbrev pub role_word : Role → List ℕ
 role_word role.Policy = codes "policy"
@@ -90,11 +96,65 @@ abbrev pub refusal_text : Refusal → List ℕ
 refusal_text (Unreadable r) = input_text r (codes "unreadable")
 refusal_text (TooLong r) = input_text r (codes "too long")
 refusal_text (Policy f) = fault_text role.Policy (policy_faults.code_of f) (policy_faults.word_of f)
+refusal_text Reader = codes "mldb: at: 23 UnknownName\n"
 refusal_text (Schemes f) = fault_text role.Schemes (scheme_faults.code_of f) (scheme_faults.word_of f)
 refusal_text (Transactions f) = text_fault_text f
 refusal_text (Certificates f) = cert_fault_text f
 refusal_text (Script f) = script_fault_text f
 refusal_text (Store f) = fault_text role.Store (store_faults.code_of f) (store_faults.word_of f)
 refusal_text (Run f) = run_text f
+refusal_text NotClosed = fault_text role.Store (store_faults.code_of stores.Store) (store_faults.word_of stores.Store)
 refusal_text Output = codes "mldb: output: Write\n"
 refusal_text Memory = memory_text
+
+-- ---- statuses: 2 where an input is refused, 3 for store, writing and memory
+
+abbrev pub policy_status : PolicyFault → ℕ
+policy_status policies.Memory = 3
+policy_status fault = 2
+
+abbrev pub scheme_status : SchemeFault → ℕ
+scheme_status schemes.Memory = 3
+scheme_status fault = 2
+
+abbrev pub text_status : TextCause → ℕ
+text_status texts.Memory = 3
+text_status cause = 2
+
+abbrev pub cert_status : CertCause → ℕ
+cert_status certs.Memory = 3
+cert_status cause = 2
+
+abbrev pub script_status : ScriptCause → ℕ
+script_status scripts.Memory = 3
+script_status cause = 2
+
+abbrev pub refusal_status : Refusal → ℕ
+refusal_status (Unreadable r) = 2
+refusal_status (TooLong r) = 2
+refusal_status (Policy f) = policy_status f
+refusal_status Reader = 2
+refusal_status (Schemes f) = scheme_status f
+refusal_status (Transactions f) = text_status f.cause
+refusal_status (Certificates f) = cert_status f.cause
+refusal_status (Script f) = script_status f.cause
+refusal_status (Store f) = 3
+refusal_status (Run f) = 3
+refusal_status NotClosed = 3
+refusal_status Output = 3
+refusal_status Memory = 3
+
+-- ---- kinds
+
+-- it is of an input, the store's opening or memory: nothing was written
+abbrev pub IsBefore : Refusal → Type 0
+IsBefore (Run f) = ⊥
+IsBefore NotClosed = ⊥
+IsBefore Output = ⊥
+IsBefore refusal = ⊤
+
+-- how a run ended whose store was closed, or not
+abbrev pub ended : Result (Unit {0}) RunFault → Result (Unit {0}) CloseFault → Result (Unit {0}) Refusal
+ended (Err fault) closed = Err (Run fault)
+ended (Ok _) (Err fault) = Err NotClosed
+ended (Ok _) (Ok _) = Ok tt

@@ -1,44 +1,79 @@
 -- What a run of the program writes, what it begins with and what it leaves.
-use Rattle.std.specs.Prelude.{◌≡◌, ℕ, List, Option, Some, None}
-use Rattle.std.specs.Io.KnownBytes.{Appends}
-use Rattle.mls_filterview.specs.Content.{Content, no_content}
+use Rattle.std.specs.Prelude.{◌≡◌, ◌≢◌, ℕ, ◌-◌, ◌≤◌, if◌then◌else◌, List, [], ◌++◌, length, take, Option, IfSome, Result, Ok, Err}
+use Rattle.mls_lattice.specs.Policy.{Tables}
+use Rattle.mls_scheme.specs.Scheme.{Schemes}
+use Rattle.mls_filterview.specs.Content.{Content}
+use Rattle.mls_machine.specs.declared.stored.Stored.{Stored}
 use Rattle.mls_script.specs.declared.event.Event.{Event}
-use Rattle.mls_script.specs.Script.{ReadsScript}
-use Rattle.mls_machine.specs.Site.{Site}
+use Rattle.mls_machine.specs.Site.{Site, site_labels}
 use Rattle.mls_machine.specs.Machine.{World, Sessions, no_sessions, end_of}
-use Rattle.mls_machine.specs.Observation.{PassesOnlyReleasesDown}
-use Rattle.mls_machine.specs.Laws.{KeepsIntegrity}
 use Rattle.mls_machine.specs.Output.{run_lines, printed}
-use Rattle.mls_sessions.specs.World.{world_at}
+use Rattle.mls_machine.specs.Observation.{heard, PassesOnlyReleasesDown, ShowsOnlyReleases}
+use Rattle.mls_machine.specs.Laws.{KeepsIntegrity}
+use Rattle.mls_sessions.specs.declared.cause.RunCause.TheVariants.{Write}
+use Rattle.mls_sessions.specs.declared.cause.RunFault.{RunFault}
+use Rattle.mls_sessions.specs.World.{world_at, IsSound}
+use Rattle.mls_command.specs.declared.refusal.Refusal.{Refusal}
+use Rattle.mls_command.specs.declared.refusal.Refusal.TheVariants as refusals
+
+abbrev pub site_of : Tables → Schemes → List Stored → Site
+site_of policy schemes stored = record { policy = policy; schemes = schemes; stored = stored }
 
 -- the tuples and the entries of the content, and no session
 abbrev pub first_world : Site → Content → World
 first_world site c = world_at site no_sessions c
 
--- the lines of the replies to these events, from a content
-abbrev pub output : Site → Content → List Event → List ℕ
-output site c es = printed (run_lines site (first_world site c) es)
+-- the lines of the replies to these events, or those of them that a reader may see
+abbrev pub output : Site → Option ℕ → Content → List Event → List ℕ
+output site reader first es = printed (heard (site_labels site) reader (run_lines site (first_world site first) es))
+
+-- a first part of a text is written
+pub record IsCutOff (Wrote : List ℕ → Type 0) (text : List ℕ) : Type 0 where
+  pub part : List ℕ
+  pub rest : List ℕ
+  pub written : Wrote part
+  pub whole : part ++ rest ≡ text
+
+-- the lines before the event that stopped the run, and of its own a first part, which is empty unless the writer failed
+pub record IsStopped (site : Site) (reader : Option ℕ) (first : Content) (es : List Event) (Wrote : List ℕ → Type 0) (fault : RunFault) : Type 0 where
+  pub part : List ℕ
+  pub rest : List ℕ
+  pub written : Wrote (output site reader first (take (fault.event - 1) es) ++ part)
+  pub whole : (output site reader first (take (fault.event - 1) es) ++ part) ++ rest ≡ output site reader first (take fault.event es)
+  pub none : fault.cause ≢ Write → part ≡ []
+  pub last : fault.event ≤ length es
+
+-- what is written of a run that ended, or stopped
+abbrev pub IsWritten : Site → Option ℕ → Content → List Event → (List ℕ → Type 0) → Result (Unit {0}) RunFault → Type 0
+IsWritten site reader first es Wrote (Ok _) = Wrote (output site reader first es)
+IsWritten site reader first es Wrote (Err fault) = IsStopped site reader first es Wrote fault
+
+-- the events whose changes stand
+abbrev pub standing : List Event → Result (Unit {0}) RunFault → List Event
+standing es (Ok _) = es
+standing es (Err fault) = take (if fault.done then fault.event else fault.event - 1) es
 
 -- the content is what the events leave: the relations and the entries of the last world
 abbrev pub IsLeftBy : Site → Content → List Event → Content → Type 0
 IsLeftBy site first es left = (sessions : Sessions) × (world_at site sessions left ≡ end_of site (first_world site first) es)
 
--- What is written is the lines of the events' replies, and what is left is what they leave. Each database on the way has the
--- four integrity properties, and no information flows down but what is released.
-pub record IsRun (site : Site) (first left : Content) (es : List Event) (before after : Option (List ℕ)) : Type 0 where
-  pub written : Appends before after (output site first es)
-  pub left_by : IsLeftBy site first es left
+-- a run of events from one content to another
+pub record IsRun (site : Site) (reader : Option ℕ) (es : List Event) (Wrote : List ℕ → Type 0) (end : Result (Unit {0}) RunFault) (first left : Content) : Type 0 where
+  pub written : IsWritten site reader first es Wrote end
+  pub left_by : IsLeftBy site first (standing es end) left
+  -- a next run may begin with what is left
+  pub sound : IsSound site left
+  -- each database on the way has the four integrity properties
   pub integrity : KeepsIntegrity site (first_world site first) es
-  pub secret : PassesOnlyReleasesDown site (first_world site first) es
+  -- no information flows down but what is released: over all events, and over the first n of them
+  pub secret : (n : ℕ) → PassesOnlyReleasesDown site (first_world site first) (take n es)
+  -- and so the bytes that a reader is shown are the same
+  pub shown : IfSome reader (λ c. (n : ℕ) → ShowsOnlyReleases site c (first_world site first) (take n es))
 
--- the script tells events, and they are run
-pub record IsScriptRun (site : Site) (script : List ℕ) (before after : Option (List ℕ)) (first left : Content) : Type 0 where
-  pub events : List Event
-  pub read : ReadsScript site.policy site.schemes script events
-  pub run : IsRun site first left events before after
-
--- from one content to another: without a path a run begins with nothing; with one it begins with what was kept there, and
--- what it leaves is kept there, if the store gives back what is written to it
-abbrev pub IsRunOver : (List ℕ → Content → Type 0) → (List ℕ → Content → Type 0) → Type 0 → Option (List ℕ) → (Content → Content → Type 0) → Type 0
-IsRunOver WasKept IsKept IsHonest None Runs = (left : Content) × Runs no_content left
-IsRunOver WasKept IsKept IsHonest (Some path) Runs = IsHonest → (first : Content) × (left : Content) × WasKept path first × Runs first left × IsKept path left
+-- what holds of a run that ended, or was given up at a fault; it is whole where its store was not closed; and else nothing was written
+abbrev pub IsRunEnd : (Result (Unit {0}) RunFault → Type 0) → Type 0 → Result (Unit {0}) Refusal → Type 0
+IsRunEnd Runs Nothing (Ok _) = Runs (Ok tt)
+IsRunEnd Runs Nothing (Err (refusals.Run fault)) = Runs (Err fault)
+IsRunEnd Runs Nothing (Err refusals.NotClosed) = Runs (Ok tt)
+IsRunEnd Runs Nothing (Err refusals.Output) = ⊥
+IsRunEnd Runs Nothing (Err refusal) = Nothing

@@ -1,21 +1,103 @@
 -- What the words of a command line ask for, and what is said where they ask for nothing.
-use Rattle.std.specs.Prelude.{◌≡◌, ◌≢◌, ℕ, ◌<◌, ◌≤◌, List, string_bytes}
+use Rattle.std.specs.Prelude.{◌≡◌, ℕ, ◌<◌, ◌≤◌, true, false, List, [], ◌∷◌, map, length, codes, string_bytes, Option, Some, None, option_map, ◌⊎◌, ⊤}
+use Rattle.std.specs.Borrow.{Bor}
+use Rattle.clap.specs.Words.{App, Row, Rule, Text, first_of, new_app, new_rule, subcommand_of, takes, with_rule, with_subcommand}
 use Rattle.mls_command.specs.declared.words.Job.{Job}
-use Rattle.mls_command.specs.declared.words.Job.TheVariants.{Samples}
+use Rattle.mls_command.specs.declared.words.Documents.{Documents}
+use Rattle.mls_command.specs.declared.words.Task.{Task}
+use Rattle.mls_command.specs.declared.words.Task.TheVariants.{ShowPolicy, Run, Certify, Check}
+use Rattle.mls_command.specs.declared.words.RunFiles.{RunFiles}
 use Rattle.mls_command.specs.declared.usage.Usage.{Usage}
-use Rattle.mls_command.specs.declared.usage.Usage.TheVariants.{Text, Memory}
+use Rattle.mls_command.specs.declared.usage.Usage.TheVariants as usage
 use Rattle.mls_command.specs.Refusal.{memory_text}
 
--- the samples without any word after the name of the program, and only then
-pub record Asks (words : ℕ) (job : Job) : Type 0 where
-  pub samples : words < 2 → job ≡ Samples
-  pub other : 2 ≤ words → job ≢ Samples
+abbrev pub texts_of : List (Bor Text) → List Text
+texts_of = map (λ w. w.now)
 
--- what is said where they ask for nothing that can be done
+-- ---- the command line
+
+-- an argument that stands in its place, and one that is an option with a value
+abbrev pub place : Text → Rule
+place id = record (new_rule id) { required = true }
+
+abbrev pub option : Text → Rule
+option id = record (new_rule id) { long = Some id; value_names = 1 }
+
+-- the policy and the schemes
+abbrev pub with_documents : App → App
+with_documents c = with_rule (with_rule c (place (codes "POLICY"))) (place (codes "SCHEMES"))
+
+-- what is stored
+abbrev pub with_stored : App → App
+with_stored c = with_rule (with_rule c (option (codes "transactions"))) (option (codes "certificates"))
+
+abbrev pub run : App
+run = with_rule (with_documents (with_stored (with_rule (with_rule (new_app (codes "run")) (option (codes "at"))) (option (codes "store"))))) (place (codes "SCRIPT"))
+
+abbrev pub show_policy : App
+show_policy = with_documents (new_app (codes "show-policy"))
+
+abbrev pub certify : App
+certify = with_rule (with_documents (new_app (codes "certify"))) (place (codes "TRANSACTIONS"))
+
+abbrev pub check : App
+check = with_rule (with_rule (with_documents (new_app (codes "check"))) (place (codes "TRANSACTIONS"))) (place (codes "CERTIFICATES"))
+
+abbrev pub program : App
+program = let top = new_app (codes "mldb") in record top { top = record top.top { subcommand_required = true; has_version = true } }
+
+-- a command of its own for each task
+abbrev pub command_line : App
+command_line = with_subcommand (with_subcommand (with_subcommand (with_subcommand program run.top) show_policy.top) certify.top) check.top
+
+-- ---- jobs
+
+-- the job of a run of the samples, with the script on the standard input
+abbrev pub samples : Job
+samples = record { documents = None; task = Run (record { at = None; store = None; transactions = None; certificates = None; script = None }) }
+
+-- a task, by the name of its command and the values of its arguments
+abbrev pub IsTask : Text → List Row → Task → Type 0
+IsTask name rows ShowPolicy = name ≡ codes "show-policy"
+IsTask name rows (Run files) =
+    (name ≡ codes "run")
+    × (option_map (λ p. p.now) files.at ≡ first_of (codes "at") rows)
+    × (option_map (λ p. p.now) files.store ≡ first_of (codes "store") rows)
+    × (option_map (λ p. p.now) files.transactions ≡ first_of (codes "transactions") rows)
+    × (option_map (λ p. p.now) files.certificates ≡ first_of (codes "certificates") rows)
+    × (option_map (λ p. p.now) files.script ≡ first_of (codes "SCRIPT") rows)
+IsTask name rows (Certify transactions) = (name ≡ codes "certify") × (Some transactions.now ≡ first_of (codes "TRANSACTIONS") rows)
+IsTask name rows (Check transactions certificates) =
+    (name ≡ codes "check") × (Some transactions.now ≡ first_of (codes "TRANSACTIONS") rows) × (Some certificates.now ≡ first_of (codes "CERTIFICATES") rows)
+
+-- it is done under the files that are named
+pub record IsCommand (name : Text) (rows : List Row) (job : Job) : Type 0 where
+  pub documents : Documents
+  pub documents_are : job.documents ≡ Some documents
+  pub policy : Some documents.policy.now ≡ first_of (codes "POLICY") rows
+  pub schemes : Some documents.schemes.now ≡ first_of (codes "SCHEMES") rows
+  pub task : IsTask name rows job.task
+
+abbrev pub IsCommandOf : Option (Text × List Row) → Job → Type 0
+IsCommandOf None job = ⊥
+IsCommandOf (Some c) job = IsCommand c.0 c.1 job
+
+-- the samples without any word after the name of the program; and else what the command among the words says
+pub record Asks (words : List Text) (job : Job) : Type 0 where
+  pub samples_are : length words < 2 → job ≡ samples
+  pub command_is : 2 ≤ length words → IsCommandOf (subcommand_of command_line words) job
+
+-- words that ask for nothing are no command line, or name no job; or there was no memory to read them
+abbrev pub AskNothing : List Text → Usage → Type 0
+AskNothing words (usage.Text text) = (takes command_line words ≡ false) ⊎ ((job : Job) → Asks words job → ⊥)
+AskNothing words usage.Memory = ⊤
+
+-- ---- what is said
+
 abbrev pub usage_text : Usage → List ℕ
-usage_text (Text text) = string_bytes text
-usage_text Memory = memory_text
+usage_text (usage.Text text) = string_bytes text
+usage_text usage.Memory = memory_text
 
 abbrev pub usage_status : Usage → ℕ
-usage_status (Text text) = 2
-usage_status Memory = 3
+usage_status (usage.Text text) = 2
+usage_status usage.Memory = 3

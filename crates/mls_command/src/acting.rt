@@ -1,91 +1,106 @@
 //! What the program does with its words.
-ghost use Rattle.std.specs.Prelude.{◌≡◌, ◌≤◌, length, IfOk};
+ghost use Rattle.std.specs.Prelude.{◌≡◌, ◌<◌, length, IfOk, IfErr, OnErr};
+ghost use Rattle.std.specs.List.{AllByRecursion};
+ghost use Rattle.std.specs.Option.{IfSome};
 ghost use Rattle.mls_scheme.specs.Scheme.{AreUnder};
-ghost use Rattle.mls_command.specs.declared.ending.Ending.TheVariants.{Well, Refused};
-ghost use Rattle.mls_command.specs.Running.{IsRunOver};
-ghost use Rattle.mls_command.specs.Acting.{IsTaskDone, IsDoneUnder, IsDoneBy, IsDone, IsAnswered};
+ghost use Rattle.clap.specs.Words.{Text};
+ghost use Rattle.std.specs.Prelude.{List};
+ghost use Rattle.mls_command.specs.Hosting.{hosted, IsAppended, IsTold};
+ghost use Rattle.mls_command.specs.Words.{texts_of, Asks};
+ghost use Rattle.mls_command.specs.Refusal.{IsBefore};
+ghost use Rattle.mls_command.specs.Inputs.{IsReader};
+ghost use Rattle.mls_command.specs.Acting.{IsPolicyOf, AreSchemesOf, IsTaskDone, IsTaskGivenUp, IsDone, IsGivenUp, IsAnswered};
 
-use crate::certifying::certify_files;
-use crate::checking::check_files;
+use crate::certifying::certified;
+use crate::checking::checked;
 use crate::ending::Ending;
+use crate::errors::Errors;
 use crate::host::Host;
-use crate::inputs::{policy_of, schemes_of};
-use crate::refusal::Refusal;
-use crate::running::{run_files, run_samples};
-use crate::showing::show_policy;
-use crate::words::{Job, Task, job_of};
-use mls_lattice::Policy;
+use crate::inputs::{input_of, reader_of};
+use crate::refusal::{Refusal, Role};
+use crate::running::run_files;
+use crate::samples;
+use crate::showing::texts;
+use crate::words::{Documents, Job, Task, job_of};
+use mls_lattice::{LabelNo, Policy};
 use mls_scheme::Schemes;
 use std::alloc::Global;
 use std::io::Write;
 
-/// Does a task under a policy and schemes.
+/// The policy of a file, or that of the samples.
+fn policy_of<H: Host>(
+    alloc: Global,
+    host: &H,
+    documents: Option<Documents>,
+) -> Result<Policy, Refusal>
+    ensures policy { IfOk result (IsPolicyOf (hosted H.gives H.keeps H.is_honest host.now host.now) documents.entry) }
+    ensures before { IfErr result IsBefore }
+{
+    match documents {
+        None => Ok(Policy::read(alloc, samples::POLICY.as_bytes())?),
+        Some(files) => {
+            let bytes = input_of(alloc, host, Role::Policy, Some(files.policy))?;
+            Ok(Policy::read(alloc, &bytes)?)
+        }
+    }
+}
+
+/// The schemes of a file, or those of the samples.
+fn schemes_of<H: Host>(
+    alloc: Global,
+    host: &H,
+    policy: &Policy,
+    documents: Option<Documents>,
+) -> Result<Schemes, Refusal>
+    ensures schemes { IfOk result (AreSchemesOf (hosted H.gives H.keeps H.is_honest host.now host.now) documents.entry policy.now) }
+    ensures under { IfOk result (AreUnder (length policy.now.labels)) }
+    ensures before { IfErr result IsBefore }
+{
+    match documents {
+        None => Ok(Schemes::read(alloc, policy, samples::SCHEMES.as_bytes())?),
+        Some(files) => {
+            let bytes = input_of(alloc, host, Role::Schemes, Some(files.schemes))?;
+            Ok(Schemes::read(alloc, policy, &bytes)?)
+        }
+    }
+}
+
+/// Does a task under a policy and schemes, for a reader alone where there is one.
 fn perform_task<H: Host, W: Write, E: Write>(
     alloc: Global,
     host: &mut H,
     policy: &Policy,
     schemes: &Schemes,
+    reader: Option<LabelNo>,
     task: Task,
     out: &mut W,
-    err: &mut E,
+    err: &mut Errors<E>,
 ) -> Result<Ending, Refusal>
-    requires { AreUnder (length policy.now.labels) schemes.now }
-    ensures { IfOk result (IsTaskDone (H.gives host.old) (IsRunOver (H.keeps host.old) (H.keeps host.new) (H.is_honest host.new)) policy.now schemes.now task.entry (W.contents out.old) (W.contents out.new)) }
+    requires under { AreUnder (length policy.now.labels) schemes.now }
+    requires declared { IfSome reader (λ c. c < length policy.now.labels) }
+    ensures done { IfOk result (IsTaskDone (hosted H.gives H.keeps H.is_honest host.old host.new) policy.now schemes.now reader
+        task.entry (IsAppended W.contents out.old out.new) (IsTold E.contents err.old err.new)) }
+    ensures given_up { IfErr result (IsTaskGivenUp (hosted H.gives H.keeps H.is_honest host.old host.new) policy.now schemes.now
+        reader task.entry (IsAppended W.contents out.old out.new)) }
+    ensures quiet { OnErr result (err.new ≡ err.old) }
 {
     match task {
-        Task::ShowPolicy => show_policy(alloc, policy, schemes, out)?,
-        Task::Run(files) => run_files(alloc, host, policy, schemes, files, out)?,
+        Task::ShowPolicy => texts(alloc, policy, schemes)?.print(out, err),
+        Task::Run(files) => {
+            run_files(alloc, host, policy, schemes, files, reader, out)?;
+            Ok(Ending::Well)
+        }
         Task::Certify { transactions } => {
-            return certify_files(alloc, host, policy, schemes, transactions, out, err);
+            certified(alloc, host, policy, schemes, transactions)?.print(out, err)
         }
         Task::Check {
             transactions,
             certificates,
         } => {
-            return check_files(
-                alloc,
-                host,
-                policy,
-                schemes,
-                transactions,
-                certificates,
-                out,
-            );
+            let listing = checked(alloc, host, policy, schemes, transactions, certificates)?;
+            listing.print(out, err)
         }
     }
-    Ok(Ending::Well)
-}
-
-/// Does a task under a policy and the schemes of a file.
-fn perform_under<H: Host, W: Write, E: Write>(
-    alloc: Global,
-    host: &mut H,
-    policy: &Policy,
-    schemes: &str,
-    task: Task,
-    out: &mut W,
-    err: &mut E,
-) -> Result<Ending, Refusal>
-    ensures { IfOk result (IsDoneUnder (H.gives host.old) (IsRunOver (H.keeps host.old) (H.keeps host.new) (H.is_honest host.new)) policy.now schemes.now task.entry (W.contents out.old) (W.contents out.new)) }
-{
-    let schemes = schemes_of(alloc, host, policy, schemes)?;
-    perform_task(alloc, host, policy, &schemes, task, out, err)
-}
-
-/// Does a task under the policy of a file and the schemes of another.
-fn perform_by<H: Host, W: Write, E: Write>(
-    alloc: Global,
-    host: &mut H,
-    policy: &str,
-    schemes: &str,
-    task: Task,
-    out: &mut W,
-    err: &mut E,
-) -> Result<Ending, Refusal>
-    ensures { IfOk result (IsDoneBy (H.gives host.old) (IsRunOver (H.keeps host.old) (H.keeps host.new) (H.is_honest host.new)) policy.now schemes.now task.entry (W.contents out.old) (W.contents out.new)) }
-{
-    let policy = policy_of(alloc, host, policy)?;
-    perform_under(alloc, host, &policy, schemes, task, out, err)
 }
 
 /// Does a job.
@@ -94,21 +109,18 @@ fn perform<H: Host, W: Write, E: Write>(
     job: Job,
     host: &mut H,
     out: &mut W,
-    err: &mut E,
+    err: &mut Errors<E>,
 ) -> Result<Ending, Refusal>
-    ensures { IfOk result (IsDone (H.gives host.old) (IsRunOver (H.keeps host.old) (H.keeps host.new) (H.is_honest host.new)) job.entry (W.contents out.old) (W.contents out.new)) }
+    ensures done { IfOk result (IsDone (hosted H.gives H.keeps H.is_honest host.old host.new) job.entry
+        (IsAppended W.contents out.old out.new) (IsTold E.contents err.old err.new)) }
+    ensures given_up { IfErr result (IsGivenUp (hosted H.gives H.keeps H.is_honest host.old host.new) job.entry
+        (IsAppended W.contents out.old out.new)) }
+    ensures quiet { OnErr result (err.new ≡ err.old) }
 {
-    match job {
-        Job::Samples => {
-            run_samples(alloc, host, out)?;
-            Ok(Ending::Well)
-        }
-        Job::Under {
-            policy,
-            schemes,
-            task,
-        } => perform_by(alloc, host, policy, schemes, task, out, err),
-    }
+    let policy = policy_of(alloc, host, job.documents)?;
+    let reader = reader_of(&policy, job.task.at())?;
+    let schemes = schemes_of(alloc, host, &policy, job.documents)?;
+    perform_task(alloc, host, &policy, &schemes, reader, job.task, out, err)
 }
 
 /// Does a job, and answers the exit status.
@@ -117,18 +129,15 @@ fn finish<H: Host, W: Write, E: Write>(
     job: Job,
     host: &mut H,
     out: &mut W,
-    err: &mut E,
+    err: &mut Errors<E>,
 ) -> u8
-    ensures status { result ≤ 3 }
-    ensures well { result ≡ 0 → IsDone (H.gives host.old) (IsRunOver (H.keeps host.old) (H.keeps host.new) (H.is_honest host.new)) job.entry (W.contents out.old) (W.contents out.new) Well }
-    ensures refused { result ≡ 1 → IsDone (H.gives host.old) (IsRunOver (H.keeps host.old) (H.keeps host.new) (H.is_honest host.new)) job.entry (W.contents out.old) (W.contents out.new) Refused }
+    ensures { (words : List Text) → Asks words job.entry → IsAnswered (hosted H.gives H.keeps H.is_honest host.old host.new) words
+        (IsAppended W.contents out.old out.new) (IsTold E.contents err.old err.new) result }
 {
     match perform(alloc, job, host, out, err) {
-        Ok(Ending::Well) => 0,
-        Ok(Ending::Refused) => 1,
+        Ok(ending) => ending.status(),
         Err(refusal) => {
-            // A failure of standard error changes nothing.
-            let _ = refusal.tell(err);
+            err.tell_refusal(&refusal);
             refusal.status()
         }
     }
@@ -137,24 +146,20 @@ fn finish<H: Host, W: Write, E: Write>(
 /// Does what the words ask for, and answers the exit status: 0 all well, 1 a transaction has no certificate or none that holds, 2 an
 /// input or the command line was refused, 3 store, writing or memory. Files are read in the order policy, schemes, transactions,
 /// certificates, script, store, and nothing runs before all were accepted.
-///
-/// A run that ends well passes no information down but what its calls release.
 pub fn act<H: Host, W: Write, E: Write>(
     alloc: Global,
     words: &[&str],
     host: &mut H,
     out: &mut W,
-    err: &mut E,
+    err: &mut Errors<E>,
 ) -> u8
-    ensures status { result ≤ 3 }
-    // What the words ask for is done, by what the host gives.
-    ensures well { result ≡ 0 → IsAnswered (H.gives host.old) (IsRunOver (H.keeps host.old) (H.keeps host.new) (H.is_honest host.new)) (length words.now) (W.contents out.old) (W.contents out.new) Well }
-    ensures refused { result ≡ 1 → IsAnswered (H.gives host.old) (IsRunOver (H.keeps host.old) (H.keeps host.new) (H.is_honest host.new)) (length words.now) (W.contents out.old) (W.contents out.new) Refused }
+    ensures { IsAnswered (hosted H.gives H.keeps H.is_honest host.old host.new) (texts_of words.now)
+        (IsAppended W.contents out.old out.new) (IsTold E.contents err.old err.new) result }
 {
     match job_of(alloc, words) {
         Ok(job) => finish(alloc, job, host, out, err),
         Err(usage) => {
-            let _ = usage.tell(err);
+            err.tell_usage(&usage);
             usage.status()
         }
     }

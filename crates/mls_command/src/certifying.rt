@@ -1,15 +1,15 @@
 //! Transactions get the least certificates that hold for them.
-ghost use Rattle.std.specs.Prelude.{◌≡◌, ◌++◌, string_bytes, IfOk, OnOk};
+ghost use Rattle.std.specs.Prelude.{◌≡◌, ◌++◌, string_bytes, IfOk, IfErr, OnOk};
 ghost use Rattle.std.specs.List.{flat_map, list_any, AllByRecursion};
 ghost use Rattle.mls_certificate.specs.declared.cert.Version.TheVariants.{First};
 ghost use Rattle.mls_command.specs.Certifying.{HasNoneOf, HaveText, AreLabels, IsAnswer, AreAnswers, block_of, none_front, none_text, refusal_of, has_none, ending_of, IsListing, IsCertified};
-ghost use Rattle.mls_command.specs.Acting.{IsCertifying};
+ghost use Rattle.mls_command.specs.Refusal.{IsBefore};
 
 use crate::ending::Ending;
 use crate::host::Host;
 use crate::inputs::transactions_in;
+use crate::listing::Listing;
 use crate::refusal::Refusal;
-use crate::showing::print;
 use mls_certcheck::Rule;
 use mls_certificate::{Certificate, block_print};
 use mls_labeller::{LabelFault, label_tx, label_tx2};
@@ -17,7 +17,6 @@ use mls_lattice::Policy;
 use mls_scheme::Schemes;
 use mls_translang::Tx;
 use std::alloc::{AllocError, Global};
-use std::io::Write;
 
 /// The labels of a transaction.
 #[derive(Drop)]
@@ -34,14 +33,6 @@ pub(crate) enum Labels {
 pub(crate) struct Answer<'a> {
     pub tx: &'a Tx,
     pub labels: Labels,
-}
-
-/// What a command tells on standard output and on standard error.
-#[derive(Drop)]
-pub(crate) struct Listing {
-    pub blocks: String,
-    pub refusals: String,
-    pub ending: Ending,
 }
 
 /// The labels of a transaction that has none of version 1.
@@ -174,7 +165,7 @@ fn ending_of(answers: &[Answer<'_>]) -> Ending
     }
 }
 
-/// All that is told of transactions.
+/// All that is printed and told of transactions.
 fn listing_of(alloc: Global, policy: &Policy, txs: &[Tx]) -> Result<Listing, AllocError>
     ensures { IfOk result (IsListing policy.now txs.now) }
 {
@@ -182,41 +173,23 @@ fn listing_of(alloc: Global, policy: &Policy, txs: &[Tx]) -> Result<Listing, All
     let blocks = blocks_of(alloc, &answers)?;
     let refusals = refusals_of(alloc, &answers)?;
     Ok(Listing {
-        blocks,
-        refusals,
+        text: blocks.into_bytes(),
+        told: refusals,
         ending: ending_of(&answers),
     })
 }
 
-/// Prints the blocks, and tells which transactions have none.
-fn certify<W: Write, E: Write>(
-    alloc: Global,
-    policy: &Policy,
-    txs: &[Tx],
-    out: &mut W,
-    err: &mut E,
-) -> Result<Ending, Refusal>
-    ensures { IfOk result (IsCertified policy.now txs.now (W.contents out.old) (W.contents out.new)) }
-{
-    let listing = listing_of(alloc, policy, txs)?;
-    print(out, listing.blocks.as_bytes())?;
-    // A failure of standard error changes nothing.
-    let _ = err.write_all(listing.refusals.as_bytes());
-    Ok(listing.ending)
-}
-
-/// Prints the least certificate of each transaction of a file, and tells which transactions have none.
-pub(crate) fn certify_files<H: Host, W: Write, E: Write>(
+/// The least certificate of each transaction of a file that has one, and a line for each other.
+pub(crate) fn certified<H: Host>(
     alloc: Global,
     host: &H,
     policy: &Policy,
     schemes: &Schemes,
     transactions: &str,
-    out: &mut W,
-    err: &mut E,
-) -> Result<Ending, Refusal>
-    ensures { IfOk result (IsCertifying (H.gives host.now) policy.now schemes.now transactions.now (W.contents out.old) (W.contents out.new)) }
+) -> Result<Listing, Refusal>
+    ensures listing { IfOk result (λ l. IsCertified (H.gives host.now) policy.now schemes.now transactions.now l.text.items (string_bytes l.told) l.ending) }
+    ensures before { IfErr result IsBefore }
 {
     let txs = transactions_in(alloc, host, policy, schemes, transactions)?;
-    certify(alloc, policy, &txs, out, err)
+    Ok(listing_of(alloc, policy, &txs)?)
 }

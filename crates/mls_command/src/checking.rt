@@ -1,18 +1,19 @@
 //! Certificates are checked against the transactions of their names.
-ghost use Rattle.std.specs.Prelude.{◌≡◌, ◌↔◌, ◌++◌, Some, string_bytes, IfOk, OnOk};
+ghost use Rattle.std.specs.Prelude.{◌≡◌, ◌↔◌, ◌++◌, if◌then◌else◌, Some, string_bytes, IfOk, IfErr, OnOk};
 ghost use Rattle.std.specs.List.{flat_map, list_any};
 ghost use Rattle.mls_certcheck.specs.Rules.{Rules, claim};
 ghost use Rattle.mls_certificate.specs.declared.cert.Certificate.{Certificate as SpecCertificate};
 ghost use Rattle.mls_command.specs.Storing.{cert_named};
 ghost use Rattle.mls_command.specs.declared.checking.Verdict.TheVariants.{Yes};
+ghost use Rattle.mls_command.specs.declared.ending.Ending.TheVariants.{Well, Refused};
 ghost use Rattle.mls_command.specs.Checking.{verdict_of, verdict_text, line_of, is_refused, IsChecked};
-ghost use Rattle.mls_command.specs.Acting.{IsChecking};
+ghost use Rattle.mls_command.specs.Refusal.{IsBefore};
 
 use crate::ending::Ending;
 use crate::host::Host;
 use crate::inputs::{certificates_in, transactions_in};
+use crate::listing::Listing;
 use crate::refusal::Refusal as Stop;
-use crate::showing::print;
 use crate::storing::cert_named;
 use mls_certcheck::{Refusal, check};
 use mls_certificate::Certificate;
@@ -20,7 +21,6 @@ use mls_lattice::{Policy, Str};
 use mls_scheme::Schemes;
 use mls_translang::Tx;
 use std::alloc::{AllocError, Global};
-use std::io::Write;
 
 /// What is said of a transaction and the first certificate of its name.
 #[derive(Clone, Copy)]
@@ -95,38 +95,34 @@ fn verdicts_of(
     Ok(Verdicts { text, refused })
 }
 
-/// Prints the verdicts.
-fn check_all<W: Write>(
-    alloc: Global,
-    policy: &Policy,
-    blocks: &[(Str, Certificate)],
-    txs: &[Tx],
-    out: &mut W,
-) -> Result<Ending, Stop>
-    ensures { IfOk result (IsChecked policy.now blocks.now txs.now (W.contents out.old) (W.contents out.new)) }
+fn ending_of(refused: bool) -> Ending
+    ensures { result ≡ (if refused then Refused else Well) }
 {
-    let verdicts = verdicts_of(alloc, policy, blocks, txs)?;
-    print(out, verdicts.text.as_bytes())?;
-    if verdicts.refused {
-        Ok(Ending::Refused)
+    if refused {
+        Ending::Refused
     } else {
-        Ok(Ending::Well)
+        Ending::Well
     }
 }
 
-/// Says of each transaction of a file whether the first certificate of its name in another file holds for it.
-pub(crate) fn check_files<H: Host, W: Write>(
+/// For each transaction of a file whether the first certificate of its name in another file holds for it.
+pub(crate) fn checked<H: Host>(
     alloc: Global,
     host: &H,
     policy: &Policy,
     schemes: &Schemes,
     transactions: &str,
     certificates: &str,
-    out: &mut W,
-) -> Result<Ending, Stop>
-    ensures { IfOk result (IsChecking (H.gives host.now) policy.now schemes.now transactions.now certificates.now (W.contents out.old) (W.contents out.new)) }
+) -> Result<Listing, Stop>
+    ensures listing { IfOk result (λ l. IsChecked (H.gives host.now) policy.now schemes.now transactions.now certificates.now l.text.items (string_bytes l.told) l.ending) }
+    ensures before { IfErr result IsBefore }
 {
     let txs = transactions_in(alloc, host, policy, schemes, transactions)?;
     let blocks = certificates_in(alloc, host, certificates)?;
-    check_all(alloc, policy, &blocks, &txs, out)
+    let verdicts = verdicts_of(alloc, policy, &blocks, &txs)?;
+    Ok(Listing {
+        text: verdicts.text.into_bytes(),
+        told: String::new(alloc),
+        ending: ending_of(verdicts.refused),
+    })
 }

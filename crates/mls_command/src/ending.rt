@@ -1,4 +1,6 @@
 //! How a command ends that is not refused.
+ghost use Rattle.std.specs.Prelude.{◌≡◌};
+ghost use Rattle.mls_command.specs.Ending.{ending_status};
 
 /// What is said of the transactions that a command looks at.
 #[derive(Clone, Copy)]
@@ -7,4 +9,16 @@ pub enum Ending {
     Well,
     /// One at least is.
     Refused,
+}
+
+impl Ending {
+    /// The exit status.
+    pub fn status(self) -> u8
+        ensures { result ≡ ending_status self }
+    {
+        match self {
+            Ending::Well => 0,
+            Ending::Refused => 1,
+        }
+    }
 }

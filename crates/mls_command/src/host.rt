@@ -1,5 +1,5 @@
 //! What a command asks of the machine that it runs on.
-ghost use Rattle.std.specs.Prelude.{◌≡◌, ◌≤◌, ℕ, false, List, Option, Some, None, length, IfOk};
+ghost use Rattle.std.specs.Prelude.{◌≡◌, ◌≤◌, ◌↔◌, ℕ, false, List, Option, Some, None, length, IfOk};
 ghost use Rattle.mls_scheme.specs.Scheme.{AreUnder};
 ghost use Rattle.mls_filterview.specs.Content.{Content};
 ghost use Rattle.mls_fragments.specs.Finding.{IsSoundContent};
@@ -22,10 +22,14 @@ pub enum HostFault {
     Memory,
 }
 
+/// A store was not closed: what was committed is in its log alone.
+#[derive(Clone, Copy)]
+pub struct CloseFault;
+
 /// Where inputs come from, and where stores are.
 ///
 /// Contracts see which bytes a host gives for the file at a path, and, with no path, for the standard input; which content the
-/// store at a path keeps; and whether the stores that it took back give what was written to them.
+/// store at a path keeps; and that the store which it took back last was clean.
 pub trait Host {
     ghost gives: { Self → Option (List ℕ) → List ℕ → Type 0 };
 
@@ -57,10 +61,10 @@ pub trait Host {
         ensures sound { IfOk result (λ b. IsSoundContent policy.now schemes.now (Self.Store.Base.state b).now) }
         ensures kept { IfOk result (λ b. Self.Store.Base.is_clean b → keeps self.old path.now (Self.Store.Base.state b).now) };
 
-    /// Takes the store at a path back, with what a run left in it.
-    fn keep(&mut self, path: &str, store: Self::Store)
+    /// Takes the store at a path back, with what a run left in it, and closes it.
+    fn keep(&mut self, path: &str, store: Self::Store) -> Result<(), CloseFault>
         requires idle { (Self.Store.Base.state store).begun ≡ false }
-        ensures honest { is_honest self.new → Self.Store.Base.is_clean store }
+        ensures honest { is_honest self.new ↔ Self.Store.Base.is_clean store }
         ensures kept { is_honest self.new → keeps self.new path.now (Self.Store.Base.state store).now };
 }
 

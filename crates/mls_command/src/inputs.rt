@@ -1,51 +1,54 @@
 //! Files, read as what a command takes them for.
-ghost use Rattle.std.specs.Prelude.{length, Some, option_map, IfOk};
+ghost use Rattle.std.specs.Prelude.{◌<◌, length, Some, option_map, IfOk, IfErr};
+ghost use Rattle.std.specs.Option.{IfSome};
 ghost use Rattle.std.specs.List.{AllByRecursion};
 ghost use Rattle.mls_scheme.specs.Scheme.{AreUnder};
 ghost use Rattle.mls_translang.specs.Fits.{IsReadUnder};
-ghost use Rattle.mls_command.specs.Inputs.{IsPolicyFrom, AreSchemesFrom, AreToldIn, AreBlocksIn, AreTransactionsFrom, AreCertificatesFrom};
+ghost use Rattle.mls_command.specs.Inputs.{IsNamed, AreToldIn, AreBlocksIn, AreTransactionsFrom, AreCertificatesFrom};
+ghost use Rattle.mls_command.specs.Refusal.{IsBefore};
 
 use crate::host::Host;
 use crate::refusal::{Refusal, Role};
 use mls_certificate::{Certificate, certs_read};
-use mls_lattice::{Items, Policy, Str};
+use mls_lattice::{Items, LabelNo, Policy, Str};
 use mls_parser::parse;
 use mls_scheme::Schemes;
 use mls_translang::Tx;
 use std::alloc::Global;
 
+/// The bytes of a file, or, with no path, of the standard input.
 pub(crate) fn input_of<H: Host>(
     alloc: Global,
     host: &H,
     role: Role,
-    path: &str,
+    path: Option<&str>,
 ) -> Result<Vec<u8>, Refusal>
-    ensures { IfOk result (λ bytes. H.gives host.now (Some path.now) bytes.items) }
+    ensures given { IfOk result (λ bytes. H.gives host.now (option_map (λ p. p.now) path.entry) bytes.items) }
+    ensures before { IfErr result IsBefore }
 {
-    match host.file(alloc, path) {
+    let given = match path {
+        Some(path) => host.file(alloc, path),
+        None => host.input(alloc),
+    };
+    match given {
         Ok(bytes) => Ok(bytes),
         Err(fault) => Err(Refusal::of_input(role, fault)),
     }
 }
 
-pub(crate) fn policy_of<H: Host>(alloc: Global, host: &H, path: &str) -> Result<Policy, Refusal>
-    ensures { IfOk result (IsPolicyFrom (H.gives host.now) path.now) }
+/// The label of a name for which alone a run prints, if one is named.
+pub(crate) fn reader_of(policy: &Policy, at: Option<&str>) -> Result<Option<LabelNo>, Refusal>
+    ensures named { IfOk result (IsNamed policy.now (option_map (λ p. p.now) at.entry)) }
+    ensures declared { IfOk result (λ reader. IfSome reader (λ c. c < length policy.now.labels)) }
+    ensures before { IfErr result IsBefore }
 {
-    let bytes = input_of(alloc, host, Role::Policy, path)?;
-    Ok(Policy::read(alloc, &bytes)?)
-}
-
-pub(crate) fn schemes_of<H: Host>(
-    alloc: Global,
-    host: &H,
-    policy: &Policy,
-    path: &str,
-) -> Result<Schemes, Refusal>
-    ensures read { IfOk result (AreSchemesFrom (H.gives host.now) path.now policy.now) }
-    ensures ok { IfOk result (AreUnder (length policy.now.labels)) }
-{
-    let bytes = input_of(alloc, host, Role::Schemes, path)?;
-    Ok(Schemes::read(alloc, policy, &bytes)?)
+    match at {
+        None => Ok(None),
+        Some(name) => match policy.label(name) {
+            Some(label) => Ok(Some(label)),
+            None => Err(Refusal::Reader),
+        },
+    }
 }
 
 /// The transactions of a file.
@@ -58,8 +61,9 @@ pub(crate) fn transactions_in<H: Host>(
 ) -> Result<Items<Tx>, Refusal>
     ensures told { IfOk result (AreToldIn (H.gives host.now) path.now policy.now schemes.now) }
     ensures ok { IfOk result (AllByRecursion (IsReadUnder policy.now schemes.now)) }
+    ensures before { IfErr result IsBefore }
 {
-    let bytes = input_of(alloc, host, Role::Transactions, path)?;
+    let bytes = input_of(alloc, host, Role::Transactions, Some(path))?;
     Ok(parse(alloc, policy, schemes, &bytes)?)
 }
 
@@ -73,6 +77,7 @@ pub(crate) fn transactions_of<H: Host>(
 ) -> Result<Items<Tx>, Refusal>
     ensures told { IfOk result (AreTransactionsFrom (H.gives host.now) (option_map (λ p. p.now) path.entry) policy.now schemes.now) }
     ensures ok { IfOk result (AllByRecursion (IsReadUnder policy.now schemes.now)) }
+    ensures before { IfErr result IsBefore }
 {
     match path {
         None => Ok(Items::from(Vec::new(alloc))),
@@ -86,9 +91,10 @@ pub(crate) fn certificates_in<H: Host>(
     host: &H,
     path: &str,
 ) -> Result<Vec<(Str, Certificate)>, Refusal>
-    ensures { IfOk result (λ blocks. AreBlocksIn (H.gives host.now) path.now blocks.items) }
+    ensures blocks { IfOk result (λ blocks. AreBlocksIn (H.gives host.now) path.now blocks.items) }
+    ensures before { IfErr result IsBefore }
 {
-    let bytes = input_of(alloc, host, Role::Certificates, path)?;
+    let bytes = input_of(alloc, host, Role::Certificates, Some(path))?;
     Ok(certs_read(alloc, &bytes)?)
 }
 
@@ -98,7 +104,8 @@ pub(crate) fn certificates_of<H: Host>(
     host: &H,
     path: Option<&str>,
 ) -> Result<Vec<(Str, Certificate)>, Refusal>
-    ensures { IfOk result (λ blocks. AreCertificatesFrom (H.gives host.now) (option_map (λ p. p.now) path.entry) blocks.items) }
+    ensures blocks { IfOk result (λ blocks. AreCertificatesFrom (H.gives host.now) (option_map (λ p. p.now) path.entry) blocks.items) }
+    ensures before { IfErr result IsBefore }
 {
     match path {
         None => Ok(Vec::new(alloc)),

@@ -1,9 +1,9 @@
 //! Why a command ends without success, and how that is told.
-ghost use Rattle.std.specs.Prelude.{◌≡◌, ◌⊎◌, OnOk};
+ghost use Rattle.std.specs.Prelude.{◌≡◌, OnOk};
 ghost use Rattle.std.specs.Io.KnownBytes.{Appends};
-ghost use Rattle.mls_command.specs.Refusal.{role_word, input_refusal, input_text, fault_text, line_text, front_text, spot_text, place_text, text_fault_text, cert_fault_text, script_fault_text, run_text, memory_text, refusal_text};
+ghost use Rattle.mls_command.specs.Refusal.{role_word, input_refusal, input_text, fault_text, line_text, front_text, spot_text, place_text, text_fault_text, cert_fault_text, script_fault_text, run_text, memory_text, refusal_text, refusal_status, ended};
 
-use crate::host::HostFault;
+use crate::host::{CloseFault, HostFault};
 use mls_certificate::{CertCause, CertFault};
 use mls_fragments::OpenFault;
 use mls_lattice::PolicyFault;
@@ -46,6 +46,8 @@ pub enum Refusal {
     Unreadable(Role),
     TooLong(Role),
     Policy(PolicyFault),
+    /// The policy has no label of the name for which alone a run is to print.
+    Reader,
     Schemes(SchemeFault),
     Transactions(TextFault),
     Certificates(CertFault),
@@ -53,6 +55,8 @@ pub enum Refusal {
     /// The store was not opened.
     Store(OpenFault),
     Run(RunFault),
+    /// All was done, and the store was not closed.
+    NotClosed,
     /// What a command other than a run prints was not taken.
     Output,
     Memory,
@@ -173,13 +177,14 @@ impl Refusal {
 
     /// The exit status: 2 where an input was refused, 3 for store, writing and memory.
     pub fn status(&self) -> u8
-        ensures { (result ≡ 2) ⊎ (result ≡ 3) }
+        ensures { result ≡ refusal_status self.now }
     {
         match self {
             Refusal::Policy(PolicyFault::Memory)
             | Refusal::Schemes(SchemeFault::Memory)
             | Refusal::Store(_)
             | Refusal::Run(_)
+            | Refusal::NotClosed
             | Refusal::Output
             | Refusal::Memory => 3,
             Refusal::Transactions(fault) if fault.cause == TextCause::Memory => 3,
@@ -197,15 +202,36 @@ impl Refusal {
             Refusal::Unreadable(role) => tell_input(err, *role, "unreadable"),
             Refusal::TooLong(role) => tell_input(err, *role, "too long"),
             Refusal::Policy(fault) => tell_fault(err, Role::Policy, fault.code(), fault.word()),
+            Refusal::Reader => err.write_all(b"mldb: at: 23 UnknownName\n"),
             Refusal::Schemes(fault) => tell_fault(err, Role::Schemes, fault.code(), fault.word()),
             Refusal::Transactions(fault) => tell_text(err, fault),
             Refusal::Certificates(fault) => tell_cert(err, fault),
             Refusal::Script(fault) => tell_script(err, fault),
             Refusal::Store(fault) => tell_fault(err, Role::Store, fault.code(), fault.word()),
             Refusal::Run(fault) => tell_run(err, fault),
+            Refusal::NotClosed => tell_fault(
+                err,
+                Role::Store,
+                OpenFault::Store.code(),
+                OpenFault::Store.word(),
+            ),
             Refusal::Output => err.write_all(b"mldb: output: Write\n"),
             Refusal::Memory => tell_memory(err),
         }
+    }
+}
+
+/// How a run ended whose store was closed, or not.
+pub(crate) fn ended(
+    outcome: Result<(), RunFault>,
+    closed: Result<(), CloseFault>,
+) -> Result<(), Refusal>
+    ensures { result ≡ ended outcome closed }
+{
+    match (outcome, closed) {
+        (Err(fault), _) => Err(Refusal::Run(fault)),
+        (Ok(()), Err(_)) => Err(Refusal::NotClosed),
+        (Ok(()), Ok(())) => Ok(()),
     }
 }
 
@@ -283,16 +309,5 @@ impl From<OpenFault> for Refusal {
 
     fn from(fault: OpenFault) -> Refusal {
         Refusal::Store(fault)
-    }
-}
-
-impl From<RunFault> for Refusal {
-    ghost use Rattle.std.specs.Prelude.{◌≡◌};
-    ghost use Rattle.mls_command.specs.declared.refusal.Refusal.TheVariants.{Run};
-
-    ghost from_gives = { λ f e. e ≡ Run f };
-
-    fn from(fault: RunFault) -> Refusal {
-        Refusal::Run(fault)
     }
 }

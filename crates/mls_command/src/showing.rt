@@ -1,25 +1,15 @@
 //! The canonical texts of a policy and its schemes.
-ghost use Rattle.std.specs.Prelude.{◌≡◌, ◌++◌, length, IfOk, OnOk};
-ghost use Rattle.std.specs.Io.KnownBytes.{Appends};
+ghost use Rattle.std.specs.Prelude.{◌≡◌, ◌++◌, [], length, string_bytes, IfOk, IfErr};
 ghost use Rattle.mls_scheme.specs.Scheme.{AreUnder};
 ghost use Rattle.mls_lattice.specs.Canon as lattice;
 ghost use Rattle.mls_scheme.specs.Canon as scheme;
+ghost use Rattle.mls_command.specs.declared.ending.Ending.TheVariants.{Well};
 
-use crate::refusal::Refusal;
+use crate::ending::Ending;
+use crate::listing::Listing;
 use mls_lattice::Policy;
 use mls_scheme::Schemes;
 use std::alloc::{AllocError, Global};
-use std::io::Write;
-
-/// Writes what a command other than a run prints.
-pub(crate) fn print<W: Write>(out: &mut W, text: &[u8]) -> Result<(), Refusal>
-    ensures { OnOk result (Appends (W.contents out.old) (W.contents out.new) text.now) }
-{
-    match out.write_all(text) {
-        Ok(()) => Ok(()),
-        Err(_) => Err(Refusal::Output),
-    }
-}
 
 /// The canonical texts of a policy and its schemes.
 fn texts_of(alloc: Global, policy: &Policy, schemes: &Schemes) -> Result<Vec<u8>, AllocError>
@@ -31,16 +21,21 @@ fn texts_of(alloc: Global, policy: &Policy, schemes: &Schemes) -> Result<Vec<u8>
     Ok(text)
 }
 
-/// Prints the canonical texts.
-pub(crate) fn show_policy<W: Write>(
+/// The canonical texts, as they are printed.
+pub(crate) fn texts(
     alloc: Global,
     policy: &Policy,
     schemes: &Schemes,
-    out: &mut W,
-) -> Result<(), Refusal>
+) -> Result<Listing, AllocError>
     requires { AreUnder (length policy.now.labels) schemes.now }
-    ensures { OnOk result (Appends (W.contents out.old) (W.contents out.new) (lattice.canon_of policy.now ++ scheme.canon_of policy.now schemes.now)) }
+    ensures text { IfOk result (λ l. l.text.items ≡ lattice.canon_of policy.now ++ scheme.canon_of policy.now schemes.now) }
+    ensures told { IfOk result (λ l. string_bytes l.told ≡ []) }
+    ensures end { IfOk result (λ l. l.ending ≡ Well) }
 {
     let text = texts_of(alloc, policy, schemes)?;
-    print(out, &text)
+    Ok(Listing {
+        text,
+        told: String::new(alloc),
+        ending: Ending::Well,
+    })
 }

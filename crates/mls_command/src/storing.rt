@@ -1,11 +1,16 @@
 //! Transactions as they are stored: with the certificates that hold for them, or without.
 ghost use Rattle.std.specs.Prelude.{◌≡◌, IfOk, option_map};
+ghost use Rattle.mls_machine.specs.Observation.{AreRead, AreCertified};
+ghost use Rattle.mls_command.specs.Running.{site_of};
 ghost use Rattle.mls_command.specs.Storing.{cert_named, IsChecked, IsStoredWith, AreStoredWith};
 
+use crate::refusal::Refusal;
 use mls_certcheck::Certified;
-use mls_certificate::Certificate;
+use mls_certificate::{Certificate, certs_read};
 use mls_lattice::{Items, Policy, Str};
 use mls_machine::Stored;
+use mls_parser::parse;
+use mls_scheme::Schemes;
 use mls_translang::Tx;
 use std::alloc::{AllocError, Global};
 
@@ -45,7 +50,7 @@ fn stored_as(policy: &Policy, blocks: &[(Str, Certificate)], tx: Tx) -> Result<S
 
 /// Transactions as they are stored, in order: each with the first certificate of its name where that holds for it under the policy.
 /// Certificates of other names are ignored.
-pub fn stored_of(
+pub(crate) fn stored_of(
     alloc: Global,
     policy: &Policy,
     txs: Items<Tx>,
@@ -58,4 +63,21 @@ pub fn stored_of(
         stored.push(stored_as(policy, blocks, tx)?)?;
     }
     Ok(Items::from(stored))
+}
+
+/// The transactions of a text as they are stored, with the certificates of another.
+#[tactic(auto, using(crate::proofs::StoringLemmas::stored_read))]
+pub fn stored_from(
+    alloc: Global,
+    policy: &Policy,
+    schemes: &Schemes,
+    transactions: &[u8],
+    certificates: &[u8],
+) -> Result<Items<Stored>, Refusal>
+    ensures read { IfOk result (λ ss. AreRead (site_of policy.now schemes.now ss)) }
+    ensures certified { IfOk result (λ ss. AreCertified (site_of policy.now schemes.now ss)) }
+{
+    let txs = parse(alloc, policy, schemes, transactions)?;
+    let blocks = certs_read(alloc, certificates)?;
+    Ok(stored_of(alloc, policy, txs, &blocks)?)
 }

@@ -1,8 +1,14 @@
 //! The command line.
-ghost use Rattle.std.specs.Prelude.{◌≡◌, ◌≢◌, ◌<◌, length, Ok, IfOk};
+ghost use Rattle.std.specs.Prelude.{◌≡◌, ◌⊎◌, false, Some, None, codes, option_map, IfOk, IfErr};
 ghost use Rattle.std.specs.Option.{IfSome};
-ghost use Rattle.mls_command.specs.Words.{Asks};
-ghost use Rattle.mls_command.specs.declared.words.Job.TheVariants.{Samples};
+ghost use Rattle.clap.specs.Words.{app_of, first_of, found_of, kind_of, new_app, rows_of, subcommand_of, subcommand_rows_of, with_rule};
+ghost use Rattle.clap.specs.declared.builder.command.Command.TheViews.{out-Command as fields_of};
+ghost use Rattle.mls_command.specs.declared.words.Task.{Task as SpecTask};
+ghost use Rattle.mls_command.specs.declared.words.Task.TheVariants.{Run};
+ghost use Rattle.mls_command.specs.declared.words.Job.{Job as SpecJob};
+ghost use Rattle.mls_command.specs.declared.usage.Usage.TheVariants.{Memory};
+ghost use Rattle.mls_command.specs.Inputs.{at_of};
+ghost use Rattle.mls_command.specs.Words.{texts_of, place, option, with_stored, run, show_policy, certify, check, program, command_line, IsTask, IsCommand, IsCommandOf, Asks, AskNothing};
 
 use crate::usage::Usage;
 use clap::error::ErrorKind;
@@ -11,115 +17,82 @@ use std::alloc::{AllocError, Global};
 
 const ABOUT: &str = "A relational database whose elements have security levels, proved";
 
+const VERSION: &str = "1.0.0 (stores of version 1)";
+
 const EXAMPLE: &str = "\
 Without any words mldb runs the script on standard input under a sample policy and schemes.
 
 Example:
   mldb run samples/policy.toml samples/schemes.toml samples/first.script
+
+Status: 0 all well; 1 certify or check refused a transaction; 2 an input or the command line was refused;
+3 store, writing or memory.
 ";
 
-/// A file that a command line names: by its place, or by an option.
-#[derive(Clone, Copy)]
-struct Argument {
-    name: &'static str,
-    help: &'static str,
-    is_option: bool,
-}
+const RUN_NOTES: &str = "\
+Each line of the script is the level and the name of a session, and a command; each line that is printed begins with the label
+that may see it. A store is made where there is none; tuples and the audit list are kept in it, sessions are not.
 
-const POLICY: Argument = Argument {
-    name: "POLICY",
-    help: "The policy: levels, labels, users and rights (TOML)",
-    is_option: false,
-};
+Example:
+  mldb run --store fleet.db samples/policy.toml samples/schemes.toml samples/first.script
 
-const SCHEMES: Argument = Argument {
-    name: "SCHEMES",
-    help: "The relations (TOML)",
-    is_option: false,
-};
+Status: 0 the run ended; 2 an input was refused, and nothing ran; 3 store, writing or memory.
+";
 
-const TRANSACTIONS: Argument = Argument {
-    name: "TRANSACTIONS",
-    help: "The transactions",
-    is_option: false,
-};
+const SHOW_NOTES: &str = "\
+Example:
+  mldb show-policy samples/policy.toml samples/schemes.toml
 
-const CERTIFICATES: Argument = Argument {
-    name: "CERTIFICATES",
-    help: "Their certificates",
-    is_option: false,
-};
+Status: 0 all well; 2 an input was refused; 3 writing or memory.
+";
 
-const SCRIPT: Argument = Argument {
-    name: "SCRIPT",
-    help: "The commands of the sessions, one a line",
-    is_option: false,
-};
+const CERTIFY_NOTES: &str = "\
+Certificates go to standard output. Each transaction that has none is told on standard error, with the statement and the rule
+that even its least labels break.
 
-const STORE: Argument = Argument {
-    name: "store",
-    help: "The database, which the run goes on with; without it the run begins with an empty one, in memory",
-    is_option: true,
-};
+Example:
+  mldb certify samples/policy.toml samples/schemes.toml samples/transactions.txt
 
-const STORED_TRANSACTIONS: Argument = Argument {
-    name: "transactions",
-    help: "The stored transactions, which the script can call",
-    is_option: true,
-};
+Status: 0 all have one; 1 one has none; 2 an input was refused; 3 writing or memory.
+";
 
-const STORED_CERTIFICATES: Argument = Argument {
-    name: "certificates",
-    help: "Their certificates: without one that holds, no call is allowed",
-    is_option: true,
-};
+const CHECK_NOTES: &str = "\
+Prints NAME yes, NAME no STATEMENT RULE, or NAME no certificate.
 
-/// A command of the program.
-#[derive(Clone, Copy)]
-struct Subcommand {
-    name: &'static str,
-    about: &'static str,
-    arguments: &'static [Argument],
-}
+Example:
+  mldb check samples/policy.toml samples/schemes.toml samples/transactions.txt samples/certificates.txt
 
-/// The commands, in the order in which help lists them.
-static SUBCOMMANDS: [Subcommand; 4] = [
-    Subcommand {
-        name: "run",
-        about: "Runs a script, and prints a line for each reply",
-        arguments: &[
-            STORE,
-            STORED_TRANSACTIONS,
-            STORED_CERTIFICATES,
-            POLICY,
-            SCHEMES,
-            SCRIPT,
-        ],
-    },
-    Subcommand {
-        name: "show-policy",
-        about: "Prints the canonical texts of a policy and its schemes",
-        arguments: &[POLICY, SCHEMES],
-    },
-    Subcommand {
-        name: "certify",
-        about: "Prints the least certificate of each transaction that has one",
-        arguments: &[POLICY, SCHEMES, TRANSACTIONS],
-    },
-    Subcommand {
-        name: "check",
-        about: "Says of each transaction whether its certificate holds",
-        arguments: &[POLICY, SCHEMES, TRANSACTIONS, CERTIFICATES],
-    },
-];
+Status: 0 all hold; 1 one does not; 2 an input was refused; 3 writing or memory.
+";
 
-/// The files of a run; the store, transactions and certificates where they are given.
+const POLICY: &str = "The policy: levels, labels, users and rights (TOML)";
+
+const SCHEMES: &str = "The relations (TOML)";
+
+const TRANSACTIONS: &str = "The transactions";
+
+const CERTIFICATES: &str = "Their certificates";
+
+const SCRIPT: &str = "The commands of the sessions, one a line";
+
+const AT: &str = "Prints only the lines that this label dominates";
+
+const STORE: &str =
+    "The database, which the run goes on with; without it the run begins with an empty one, in memory";
+
+const STORED_TRANSACTIONS: &str = "The stored transactions, which the script can call";
+
+const STORED_CERTIFICATES: &str = "Their certificates: without one that holds, no call is allowed";
+
+/// The names of a run: the label for which alone it prints, and the files of the store, the transactions and the certificates, where
+/// they are given; and the script, which is else on standard input.
 #[derive(Clone, Copy)]
 pub struct RunFiles<'a> {
+    pub at: Option<&'a str>,
     pub store: Option<&'a str>,
     pub transactions: Option<&'a str>,
     pub certificates: Option<&'a str>,
-    pub script: &'a str,
+    pub script: Option<&'a str>,
 }
 
 /// What is done under a policy and schemes, with files that are each named by a path.
@@ -140,49 +113,177 @@ pub enum Task<'a> {
     },
 }
 
-/// What the words ask for.
+impl<'a> Task<'a> {
+    /// The name of the label for which alone it prints.
+    pub fn at(self) -> Option<&'a str>
+        ensures { option_map (λ p. p.now) result ≡ at_of self.entry }
+    {
+        match self {
+            Task::Run(files) => files.at,
+            _ => None,
+        }
+    }
+}
+
+/// The files of a policy and schemes.
 #[derive(Clone, Copy)]
-pub enum Job<'a> {
-    /// The script on standard input, under the sample policy and schemes.
-    Samples,
-    /// A task under a policy and schemes, each named by a path.
-    Under {
-        policy: &'a str,
-        schemes: &'a str,
-        task: Task<'a>,
-    },
+pub struct Documents<'a> {
+    pub policy: &'a str,
+    pub schemes: &'a str,
 }
 
-fn arg_of<'a>(alloc: Global, argument: &Argument) -> Arg<'a> {
-    let arg = Arg::new(alloc, argument.name).help(argument.help);
-    if argument.is_option {
-        arg.long(argument.name).value_name("FILE")
-    } else {
-        arg.required(true)
-    }
+/// What the words ask for: a task, under the policy and the schemes of files, or of the samples.
+#[derive(Clone, Copy)]
+pub struct Job<'a> {
+    pub documents: Option<Documents<'a>>,
+    pub task: Task<'a>,
 }
 
-fn command_of<'a>(alloc: Global, sub: &Subcommand) -> Result<Command<'a>, AllocError> {
-    let mut command = Command::new(alloc, sub.name).about(sub.about);
-    for argument in sub.arguments {
-        command = command.arg(arg_of(alloc, argument))?;
-    }
-    Ok(command)
+/// The script on standard input, under the samples.
+const SAMPLES: Job<'static> = Job {
+    documents: None,
+    task: Task::Run(RunFiles {
+        at: None,
+        store: None,
+        transactions: None,
+        certificates: None,
+        script: None,
+    }),
+};
+
+/// A command without arguments, and what help says of it: a line, and notes below its arguments.
+fn bare<'a>(alloc: Global, name: &'a str, about: &'a str, notes: &'a str) -> Command<'a>
+    ensures app { app_of result ≡ new_app name.entry.now }
+    ensures local { (fields_of result).has_globals ≡ false }
+{
+    Command::new(alloc, name).about(about).after_help(notes)
 }
 
-fn command<'a>(alloc: Global) -> Result<Command<'a>, AllocError> {
-    let mut command = Command::new(alloc, "mldb")
+/// With an argument that stands in its place.
+fn with_place<'a>(
+    alloc: Global,
+    command: Command<'a>,
+    name: &'a str,
+    help: &'a str,
+) -> Result<Command<'a>, AllocError>
+    ensures app { IfOk result (λ c. app_of c ≡ with_rule (app_of command.entry) (place name.entry.now)) }
+    ensures local { (fields_of command.entry).has_globals ≡ false → IfOk result (λ c. (fields_of c).has_globals ≡ false) }
+{
+    command.arg(Arg::new(alloc, name).help(help).required(true))
+}
+
+/// With an option that has a value.
+fn with_option<'a>(
+    alloc: Global,
+    command: Command<'a>,
+    name: &'a str,
+    value: &'a str,
+    help: &'a str,
+) -> Result<Command<'a>, AllocError>
+    ensures app { IfOk result (λ c. app_of c ≡ with_rule (app_of command.entry) (option name.entry.now)) }
+    ensures local { (fields_of command.entry).has_globals ≡ false → IfOk result (λ c. (fields_of c).has_globals ≡ false) }
+{
+    command.arg(
+        Arg::new(alloc, name)
+            .help(help)
+            .long(name)
+            .value_name(value),
+    )
+}
+
+/// With the files of the policy and the schemes.
+fn with_documents<'a>(alloc: Global, command: Command<'a>) -> Result<Command<'a>, AllocError>
+    ensures app { IfOk result (λ c. app_of c ≡ with_rule (with_rule (app_of command.entry) (place (codes "POLICY"))) (place (codes "SCHEMES"))) }
+    ensures local { (fields_of command.entry).has_globals ≡ false → IfOk result (λ c. (fields_of c).has_globals ≡ false) }
+{
+    let command = with_place(alloc, command, "POLICY", POLICY)?;
+    with_place(alloc, command, "SCHEMES", SCHEMES)
+}
+
+/// With the files of what is stored, as options.
+fn with_stored<'a>(alloc: Global, run: Command<'a>) -> Result<Command<'a>, AllocError>
+    ensures app { IfOk result (λ c. app_of c ≡ with_stored (app_of run.entry)) }
+    ensures local { (fields_of run.entry).has_globals ≡ false → IfOk result (λ c. (fields_of c).has_globals ≡ false) }
+{
+    let run = with_option(alloc, run, "transactions", "FILE", STORED_TRANSACTIONS)?;
+    with_option(alloc, run, "certificates", "FILE", STORED_CERTIFICATES)
+}
+
+/// With the options of a run.
+fn with_options<'a>(alloc: Global, run: Command<'a>) -> Result<Command<'a>, AllocError>
+    ensures app { IfOk result (λ c. app_of c ≡ with_stored (with_rule (with_rule (app_of run.entry) (option (codes "at"))) (option (codes "store")))) }
+    ensures local { (fields_of run.entry).has_globals ≡ false → IfOk result (λ c. (fields_of c).has_globals ≡ false) }
+{
+    let run = with_option(alloc, run, "at", "LABEL", AT)?;
+    let run = with_option(alloc, run, "store", "FILE", STORE)?;
+    with_stored(alloc, run)
+}
+
+fn run_command<'a>(alloc: Global) -> Result<Command<'a>, AllocError>
+    ensures app { IfOk result (λ c. app_of c ≡ run) }
+    ensures local { IfOk result (λ c. (fields_of c).has_globals ≡ false) }
+{
+    let run = bare(
+        alloc,
+        "run",
+        "Runs a script, and prints a line for each reply",
+        RUN_NOTES,
+    );
+    let run = with_documents(alloc, with_options(alloc, run)?)?;
+    with_place(alloc, run, "SCRIPT", SCRIPT)
+}
+
+fn show_command<'a>(alloc: Global) -> Result<Command<'a>, AllocError>
+    ensures app { IfOk result (λ c. app_of c ≡ show_policy) }
+    ensures local { IfOk result (λ c. (fields_of c).has_globals ≡ false) }
+{
+    let about = "Prints the canonical texts of a policy and its schemes";
+    with_documents(alloc, bare(alloc, "show-policy", about, SHOW_NOTES))
+}
+
+fn certify_command<'a>(alloc: Global) -> Result<Command<'a>, AllocError>
+    ensures app { IfOk result (λ c. app_of c ≡ certify) }
+    ensures local { IfOk result (λ c. (fields_of c).has_globals ≡ false) }
+{
+    let about = "Prints the least certificate of each transaction that has one";
+    let certify = with_documents(alloc, bare(alloc, "certify", about, CERTIFY_NOTES))?;
+    with_place(alloc, certify, "TRANSACTIONS", TRANSACTIONS)
+}
+
+fn check_command<'a>(alloc: Global) -> Result<Command<'a>, AllocError>
+    ensures app { IfOk result (λ c. app_of c ≡ check) }
+    ensures local { IfOk result (λ c. (fields_of c).has_globals ≡ false) }
+{
+    let about = "Says of each transaction whether its certificate holds";
+    let check = with_documents(alloc, bare(alloc, "check", about, CHECK_NOTES))?;
+    let check = with_place(alloc, check, "TRANSACTIONS", TRANSACTIONS)?;
+    with_place(alloc, check, "CERTIFICATES", CERTIFICATES)
+}
+
+/// The program without its commands.
+fn program<'a>(alloc: Global) -> Command<'a>
+    ensures { app_of result ≡ program }
+{
+    Command::new(alloc, "mldb")
+        .version(VERSION)
         .about(ABOUT)
         .after_help(EXAMPLE)
-        .subcommand_required(true);
-    for sub in SUBCOMMANDS.iter() {
-        command = command.subcommand(command_of(alloc, sub)?)?;
-    }
-    Ok(command)
+        .subcommand_required(true)
+}
+
+fn command_line<'a>(alloc: Global) -> Result<Command<'a>, AllocError>
+    ensures { IfOk result (λ c. app_of c ≡ command_line) }
+{
+    let line = program(alloc).subcommand(run_command(alloc)?)?;
+    let line = line.subcommand(show_command(alloc)?)?;
+    let line = line.subcommand(certify_command(alloc)?)?;
+    line.subcommand(check_command(alloc)?)
 }
 
 /// What the parser says of words that it refuses.
-fn said(alloc: Global, error: &Error) -> Usage {
+fn said(alloc: Global, error: &Error) -> Usage
+    ensures { kind_of error.now ≡ ErrorKind.OutOfMemory → result ≡ Memory }
+{
     if error.kind() == ErrorKind::OutOfMemory {
         return Usage::Memory;
     }
@@ -200,43 +301,105 @@ fn no_command(alloc: Global) -> Usage {
     }
 }
 
-fn run_files<'a>(run: &ArgMatches<'a>) -> Option<RunFiles<'a>> {
-    Some(RunFiles {
-        store: run.get_str("store"),
-        transactions: run.get_str("transactions"),
-        certificates: run.get_str("certificates"),
-        script: run.get_str("SCRIPT")?,
-    })
+/// The first value of an argument.
+fn value_of<'a>(matches: &ArgMatches<'a>, name: &str) -> Option<&'a str>
+    ensures { option_map (λ s. s.now) result ≡ first_of name.now (rows_of (found_of matches.now)) }
+{
+    matches.get_str(name)
 }
 
-fn task_of<'a>(name: &str, matches: &ArgMatches<'a>) -> Option<Task<'a>> {
-    match name {
-        "run" => Some(Task::Run(run_files(matches)?)),
-        "show-policy" => Some(Task::ShowPolicy),
-        "certify" => Some(Task::Certify {
-            transactions: matches.get_str("TRANSACTIONS")?,
+fn run_files<'a>(run: &ArgMatches<'a>) -> RunFiles<'a>
+    ensures { IsTask (codes "run") (rows_of (found_of run.now)) (Run result) }
+{
+    RunFiles {
+        at: value_of(run, "at"),
+        store: value_of(run, "store"),
+        transactions: value_of(run, "transactions"),
+        certificates: value_of(run, "certificates"),
+        script: value_of(run, "SCRIPT"),
+    }
+}
+
+fn certify_task<'a>(matches: &ArgMatches<'a>) -> Option<Task<'a>>
+    ensures some { IfSome result (IsTask (codes "certify") (rows_of (found_of matches.now))) }
+    ensures none { result ≡ None → (task : SpecTask) → IsTask (codes "certify") (rows_of (found_of matches.now)) task → ⊥ }
+{
+    match value_of(matches, "TRANSACTIONS") {
+        Some(transactions) => Some(Task::Certify { transactions }),
+        None => None,
+    }
+}
+
+fn check_task<'a>(matches: &ArgMatches<'a>) -> Option<Task<'a>>
+    ensures some { IfSome result (IsTask (codes "check") (rows_of (found_of matches.now))) }
+    ensures none { result ≡ None → (task : SpecTask) → IsTask (codes "check") (rows_of (found_of matches.now)) task → ⊥ }
+{
+    match (
+        value_of(matches, "TRANSACTIONS"),
+        value_of(matches, "CERTIFICATES"),
+    ) {
+        (Some(transactions), Some(certificates)) => Some(Task::Check {
+            transactions,
+            certificates,
         }),
-        "check" => Some(Task::Check {
-            transactions: matches.get_str("TRANSACTIONS")?,
-            certificates: matches.get_str("CERTIFICATES")?,
+        _ => None,
+    }
+}
+
+fn task_of<'a>(name: &str, matches: &ArgMatches<'a>) -> Option<Task<'a>>
+    ensures some { IfSome result (IsTask name.now (rows_of (found_of matches.now))) }
+    ensures none { result ≡ None → (task : SpecTask) → IsTask name.now (rows_of (found_of matches.now)) task → ⊥ }
+{
+    match name {
+        "run" => Some(Task::Run(run_files(matches))),
+        "show-policy" => Some(Task::ShowPolicy),
+        "certify" => certify_task(matches),
+        "check" => check_task(matches),
+        _ => None,
+    }
+}
+
+fn documents_of<'a>(matches: &ArgMatches<'a>) -> Option<Documents<'a>>
+    ensures some { IfSome result (λ d. (Some d.policy.now ≡ first_of (codes "POLICY") (rows_of (found_of matches.now)))
+        × (Some d.schemes.now ≡ first_of (codes "SCHEMES") (rows_of (found_of matches.now)))) }
+    ensures none { result ≡ None → (first_of (codes "POLICY") (rows_of (found_of matches.now)) ≡ None)
+        ⊎ (first_of (codes "SCHEMES") (rows_of (found_of matches.now)) ≡ None) }
+{
+    match (value_of(matches, "POLICY"), value_of(matches, "SCHEMES")) {
+        (Some(policy), Some(schemes)) => Some(Documents { policy, schemes }),
+        _ => None,
+    }
+}
+
+/// The job that a command names.
+fn job_named<'a>(name: &str, matches: &ArgMatches<'a>) -> Option<Job<'a>>
+    ensures some { IfSome result (IsCommand name.now (rows_of (found_of matches.now))) }
+    ensures none { result ≡ None → (job : SpecJob) → IsCommand name.now (rows_of (found_of matches.now)) job → ⊥ }
+{
+    match (documents_of(matches), task_of(name, matches)) {
+        (Some(documents), Some(task)) => Some(Job {
+            documents: Some(documents),
+            task,
         }),
         _ => None,
     }
 }
 
 fn job_in<'a>(matches: &ArgMatches<'a>) -> Option<Job<'a>>
-    ensures { IfSome result (λ j. j ≢ Samples) }
+    ensures some { IfSome result (IsCommandOf (subcommand_rows_of matches.now)) }
+    ensures none { result ≡ None → (job : SpecJob) → IsCommandOf (subcommand_rows_of matches.now) job → ⊥ }
 {
-    let (name, matches) = matches.subcommand()?;
-    Some(Job::Under {
-        policy: matches.get_str("POLICY")?,
-        schemes: matches.get_str("SCHEMES")?,
-        task: task_of(name, matches)?,
-    })
+    match matches.subcommand() {
+        Some((name, matches)) => job_named(name, matches),
+        None => None,
+    }
 }
 
-fn matches_of<'a>(alloc: Global, words: &'a [&'a str]) -> Result<ArgMatches<'a>, Usage> {
-    match command(alloc)?.try_get_matches_from(words) {
+fn matches_of<'a>(alloc: Global, words: &'a [&'a str]) -> Result<ArgMatches<'a>, Usage>
+    ensures rows { IfOk result (λ m. subcommand_rows_of m ≡ subcommand_of command_line (texts_of words.now)) }
+    ensures refused { IfErr result (AskNothing (texts_of words.now)) }
+{
+    match command_line(alloc)?.try_get_matches_from(words) {
         Ok(matches) => Ok(matches),
         Err(error) => Err(said(alloc, &error)),
     }
@@ -244,12 +407,11 @@ fn matches_of<'a>(alloc: Global, words: &'a [&'a str]) -> Result<ArgMatches<'a>,
 
 /// What the words ask for; the first of them is the name that the program was called by.
 pub fn job_of<'a>(alloc: Global, words: &'a [&'a str]) -> Result<Job<'a>, Usage>
-    ensures asked { IfOk result (Asks (length words.now)) }
-    // Without any words nothing is refused.
-    ensures samples { length words.now < 2 → result ≡ Ok Samples }
+    ensures asked { IfOk result (Asks (texts_of words.now)) }
+    ensures nothing { IfErr result (AskNothing (texts_of words.now)) }
 {
     if words.len() < 2 {
-        return Ok(Job::Samples);
+        return Ok(SAMPLES);
     }
     let matches = matches_of(alloc, words)?;
     match job_in(&matches) {

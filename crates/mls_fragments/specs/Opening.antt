@@ -58,6 +58,15 @@ pub record IsOverFiles (policy : Policy) (schemes : Schemes) (start : Image) (b 
   pub described : IsClean b.tables → IsDescribedBy (lattice.lattice_of policy) (scheme.canon_of policy schemes) b.tables.now
   pub holds : IsClean b.tables → Holds b.tables.now (state_of b).now
 
+-- the content that files held: that of a base over them, whose store is clean
+pub record IsContentIn (start : Image) (c : Content) : Type 0 where
+  pub policy : Policy
+  pub schemes : Schemes
+  pub base : BaseState
+  pub clean : IsClean base.tables
+  pub over : IsOverFiles policy schemes start base
+  pub is : (state_of base).now ≡ c
+
 -- what the files held is refused, and left as it was
 pub record AreFilesRefused {D : Type 0} {g : Ghosts D} (policy : Policy) (schemes : Schemes) (start : Image) (e : OpenFault) (left : Held (FileStore D g)) : Type 0 where
   pub was : Held (FileStore D g)

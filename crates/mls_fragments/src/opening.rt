@@ -15,7 +15,7 @@ ghost use Rattle.mls_fragments.specs.Finding.{IsSoundContent};
 ghost use Rattle.mls_fragments.specs.Holding.{Holds};
 ghost use Rattle.sqlite.specs.Files.{file_state};
 ghost use Rattle.sqlite.specs.WalFiles.{image_at};
-ghost use Rattle.mls_fragments.specs.Opening.{IsRefused, IsOpenable, IsFoundIn, IsOverFiles, AreFilesRefused};
+ghost use Rattle.mls_fragments.specs.Opening.{IsRefused, IsOpenable, IsFoundIn, IsOverFiles, IsContentIn, AreFilesRefused};
 
 use crate::base::SqlBase;
 use crate::finding::find;
@@ -205,6 +205,36 @@ impl<F: Start> SqlBase<FileStore<FileFrom<F>>> {
         match SqlBase::adopt(rt.alloc(), conn, policy, schemes) {
             Ok(base) => Ok(base),
             Err((fault, conn)) => Err((fault, Some(conn))),
+        }
+    }
+
+    /// As `open_from`, where what is not opened is let go.
+    pub fn open_path(
+        rt: &HostRuntime,
+        path: &str,
+        start: F,
+        policy: &Policy,
+        schemes: &Schemes,
+    ) -> Result<SqlBase<FileStore<FileFrom<F>>>, OpenFault>
+        requires under { AreUnder (length policy.now.labels) schemes.now }
+        ensures content { IfOk result (λ b. IsClean b.tables → IsContentIn (image_at F.Start) (state_of b).now) }
+        ensures sound { IfOk result (λ b. IsSoundContent policy.now schemes.now (state_of b).now) }
+        ensures mode { IfOk result (λ b. (state_of b).begun ≡ false) }
+    {
+        match SqlBase::open_from(rt, path, start, policy, schemes) {
+            Ok(base) => Ok(base),
+            Err((fault, _)) => Err(fault),
+        }
+    }
+
+    /// Closes the files: the database file alone then holds what was committed. Where that fails, its log holds the rest.
+    pub fn close(self) -> Result<(), OpenFault>
+        requires begun { (state_of self).begun ≡ false }
+        ensures { IfErr result (λ e. (e ≡ OpenFault.Store) ⊎ (e ≡ OpenFault.Memory)) }
+    {
+        match self.into_connection().close() {
+            Ok(()) => Ok(()),
+            Err(error) => Err(fault_of(error)),
         }
     }
 }

@@ -17,6 +17,7 @@ use Rattle.mls_translang.specs.Tx.{Tx}
 use Rattle.mls_translang.specs.Fits.{IsReadUnder}
 use Rattle.mls_meaning.specs.Meaning.{run_tx}
 use Rattle.mls_meaning.proofs.LawLemmas.{keep_form as call_form, keep_content as call_content}
+use Rattle.mls_meaning.proofs.ThroughoutLemmas.{form_throughout}
 use Rattle.mls_script.specs.declared.event.Event.{Event}
 use Rattle.mls_script.specs.declared.event.Command.{Command}
 use Rattle.mls_script.specs.declared.event.Command.TheVariants as commands
@@ -24,13 +25,14 @@ use Rattle.mls_script.specs.Event.{CommandFits, EventFits}
 use Rattle.mls_machine.specs.declared.reply.Denial.{Denial}
 use Rattle.mls_machine.specs.declared.stored.Stored.{Stored}
 use Rattle.mls_machine.specs.declared.stored.Stored.TheVariants.{Certified, Plain}
+use Rattle.mls_machine.specs.Stored.{tx_of}
 use Rattle.mls_machine.specs.Site.{Site, site_labels, site_scheme}
 use Rattle.mls_machine.specs.Denying.{first_denial, cleared, user_named, stored_named, fitted, call_denials}
 use Rattle.mls_machine.specs.Machine.{World, Step, unless, wrote, called, call_step, step_inside, open_step, step_outside, step_at, step, end_of}
 use Rattle.mls_machine.specs.Observation.{AreStored, EventsFit, AreRead}
-use Rattle.mls_machine.specs.Laws.{RunsKeepIntegrity}
+use Rattle.mls_machine.specs.Laws.{AreWhole, KeepsIntegrity, RunsKeepIntegrity}
 use Rattle.mls_machine.proofs.DenyingLemmas.{may_run}
-use Rattle.mls_machine.proofs.CalledLemmas.{certified_of, CallsRead, all_read}
+use Rattle.mls_machine.proofs.CalledLemmas.{certified_of, CallsRead, found_holds, all_read}
 use Rattle.mls_machine.proofs.ArgumentLemmas.{fitted_fit}
 
 -- what a write of a script fits
@@ -160,6 +162,22 @@ first_fit site zero es fits = tt
 first_fit site (suc n) [] fits = tt
 first_fit site (suc n) (e ∷ es) fits = (fits.0, first_fit site n es fits.1)
 
+module _ (site : Site) (distinct : AreDistinct (site_labels site)) (read : AreRead site) (w : World) (es : List Event) (stored : AreStored site w.db) (fits : EventsFit site es) where
+  stored_after : (n : ℕ) → AreStored site (end_of site w (take n es)).db
+  stored_after n = run_stored site distinct w (take n es) stored (first_fit site n es fits) (all_calls_read site distinct read (take n es))
+
+  whole : (db : Database) → AreStored site db → AreWhole site db
+  whole db h rel = has_integrity (site_labels site) _ _ (h rel)
+
+  read_named : (name : Name) (s : Stored) → stored_named site.stored name ≡ Some s → IsReadUnder site.policy site.schemes (tx_of s)
+  read_named name s e = subst (λ o. IfSome o (λ x. IsReadUnder site.policy site.schemes (tx_of x))) e (found_holds _ _ site.stored read)
+
+  integrity_kept : KeepsIntegrity site w es
+  integrity_kept = record {
+    after = λ n. whole _ (stored_after n);
+    within = λ n name args s e.
+        form_throughout site.policy distinct site.schemes (tx_of s) (read_named name s e) (fitted (tx_of s).params args) (end_of site w (take n es)).db (stored_after n) (AreWhole site) whole;
+  }
+
 pub keep_integrity : RunsKeepIntegrity
-keep_integrity site distinct read w es stored fits n rel =
-    has_integrity (site_labels site) _ _ (run_stored site distinct w (take n es) stored (first_fit site n es fits) (all_calls_read site distinct read (take n es)) rel)
+keep_integrity site distinct read w es stored fits = integrity_kept site distinct read w es stored fits

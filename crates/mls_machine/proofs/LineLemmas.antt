@@ -1,12 +1,27 @@
 -- Runs of the machine: one event more.
-use Rattle.std.proofs.Common.{◌≡◌, ℕ, ◌+◌, ◌<◌, List, [], ◌∷◌, ◌++◌, length, take, get_or, refl, sym, ap, ◌∙◌, append_assoc, append-nil}
+use Rattle.std.proofs.Common.{◌≡◌, ℕ, ◌+◌, ◌<◌, List, [], ◌∷◌, ◌++◌, length, take, get_or, Option, Some, None, refl, sym, ap, ◌∙◌, append_assoc, append-nil}
 use Rattle.std.specs.Prelude.{codes}
 use Rattle.std.proofs.lemmas.List.{take_more}
+use Rattle.std.proofs.lemmas.List.Elements.{filter-append}
 use Rattle.std.proofs.lemmas.Grind.{flat_map-append}
+use Rattle.mls_lattice.specs.Labels.{Labels, below}
 use Rattle.mls_script.specs.declared.event.Event.{Event}
-use Rattle.mls_machine.specs.Site.{Site}
+use Rattle.mls_machine.specs.Site.{Site, site_labels}
 use Rattle.mls_machine.specs.Machine.{World, step, end_of}
-use Rattle.mls_machine.specs.Output.{reply_lines, run_lines, printed}
+use Rattle.mls_machine.specs.Output.{Line, reply_lines, run_lines, printed}
+use Rattle.mls_machine.specs.Observation.{heard}
+
+-- what a reader hears of some lines and then of others
+heard-append : (ls : Labels) (reader : Option ℕ) (xs ys : List Line) → heard ls reader (xs ++ ys) ≡ heard ls reader xs ++ heard ls reader ys
+heard-append ls None xs ys = refl
+heard-append ls (Some c) xs ys = filter-append (λ l. below ls l.label c) xs ys
+
+pub printed-append : (ls : Labels) (reader : Option ℕ) (xs ys : List Line) → printed (heard ls reader (xs ++ ys)) ≡ printed (heard ls reader xs) ++ printed (heard ls reader ys)
+printed-append ls reader xs ys = ap printed (heard-append ls reader xs ys) ∙ flat_map-append (λ (l : Line). l.text ++ codes "\n") (heard ls reader xs) (heard ls reader ys)
+
+pub nothing_heard : (ls : Labels) (reader : Option ℕ) → printed (heard ls reader []) ≡ []
+nothing_heard ls None = refl
+nothing_heard ls (Some c) = refl
 
 module _ (site : Site) where
   end_of-snoc : (w : World) (es : List Event) (e : Event) → end_of site w (es ++ e ∷ []) ≡ (step site (end_of site w es) e).world
@@ -32,5 +47,8 @@ module _ (site : Site) where
     pub lines_more : run_lines site w (take (i + 1) es) ≡ run_lines site w (take i es) ++ reply_lines site e (step site (end_of site w (take i es)) e).reply
     lines_more = ap (run_lines site w) more ∙ run_lines-snoc w (take i es) e
 
-    pub printed_more : printed (run_lines site w (take (i + 1) es)) ≡ printed (run_lines site w (take i es)) ++ printed (reply_lines site e (step site (end_of site w (take i es)) e).reply)
-    printed_more = ap printed lines_more ∙ flat_map-append (λ l. l.text ++ codes "\n") (run_lines site w (take i es)) (reply_lines site e (step site (end_of site w (take i es)) e).reply)
+    pub printed_more : (reader : Option ℕ) → printed (heard (site_labels site) reader (run_lines site w (take (i + 1) es)))
+        ≡ printed (heard (site_labels site) reader (run_lines site w (take i es))) ++ printed (heard (site_labels site) reader (reply_lines site e (step site (end_of site w (take i es)) e).reply))
+    printed_more reader =
+        ap (λ l. printed (heard (site_labels site) reader l)) lines_more
+        ∙ printed-append (site_labels site) reader (run_lines site w (take i es)) (reply_lines site e (step site (end_of site w (take i es)) e).reply)

@@ -19,8 +19,8 @@ use Rattle.mls_machine.specs.declared.stored.Stored.TheVariants.{Certified, Plai
 use Rattle.mls_machine.specs.Stored.{WhereCertified, IsCertifiedUnder, IsMadeUnder}
 use Rattle.mls_machine.specs.Site.{Site, site_labels}
 use Rattle.mls_machine.specs.Machine.{World, step, end_of}
-use Rattle.mls_machine.specs.Output.{Line, reply_lines, run_lines}
-use Rattle.mls_machine.specs.Observation.{AreStored, EventsFit, AreRead, AreSecure, AreCertified, AreMadeUnder, IsNoCall, HaveNoCall, shown, glimpse, seen, AgreeAt, EndAlike, IsBelowCeiling, AreBelowCeiling, out, released_in, run_released, released_to, PassesOnlyReleasesDown}
+use Rattle.mls_machine.specs.Output.{Line, reply_lines, run_lines, printed}
+use Rattle.mls_machine.specs.Observation.{AreStored, EventsFit, AreRead, AreSecure, AreCertified, AreMadeUnder, IsNoCall, HaveNoCall, shown, glimpse, seen, AgreeAt, EndAlike, IsBelowCeiling, AreBelowCeiling, out, released_in, run_released, released_to, PassesOnlyReleasesDown, ShowsOnlyReleases}
 use Rattle.mls_machine.specs.Laws.{LowRunsAreAlike, SecureRunsAreAlike, AcceptedRunsAreAlike}
 use Rattle.mls_machine.proofs.CalledLemmas.{WhereCalled, CallsRead, IsSafe, all_safe, no_call, weaker}
 use Rattle.mls_machine.proofs.KeepingLemmas.{step_stored, first_fit}
@@ -266,6 +266,10 @@ accepted_alike site distinct read certified = secure_alike site distinct read (c
 -- of the first events of a run
 pub first_accepted_alike : (site : Site) → AreDistinct (site_labels site) → AreRead site → AreCertified site → (v : World) (es : List Event) → AreStored site v.db → EventsFit site es → (n : ℕ) → PassesOnlyReleasesDown site v (take n es)
 first_accepted_alike site distinct read certified v es sv fits n = accepted_alike site distinct read certified v (take n es) sv (first_fit site n es fits)
+
+-- the lines that a level is shown are the same, and so are their bytes
+pub shows_only_releases : (site : Site) (c : ℕ) (v : World) (es : List Event) → PassesOnlyReleasesDown site v es → ShowsOnlyReleases site c v es
+shows_only_releases site c v es passes w fs sw ff agree same rel = ap printed (passes c w fs sw ff agree same rel).out
 
 -- ---- without calls
 

@@ -1,15 +1,22 @@
 -- The laws of the machine: refusals change nothing, runs keep integrity, and no information flows down but by releases.
 use Rattle.std.specs.Prelude.{◌≡◌, ℕ, false, List, [], ◌∷◌, ◌++◌, take, Option, Some, ⊤}
 use Rattle.mls_lattice.specs.Labels.{AreDistinct}
+use Rattle.mls_lattice.specs.Policy.{Name}
+use Rattle.mls_scheme.specs.declared.value.Value.{Value}
+use Rattle.mls_scheme.specs.Table.{Database}
 use Rattle.mls_filterview.specs.Integrity.{HasIntegrity}
 use Rattle.mls_updates.specs.Outcome.{is_done}
 use Rattle.mls_audit.specs.declared.entry.Entry.{Entry}
+use Rattle.mls_meaning.specs.Throughout.{Throughout}
 use Rattle.mls_script.specs.declared.event.Event.{Event}
 use Rattle.mls_script.specs.declared.event.Command.{Command}
 use Rattle.mls_script.specs.declared.event.Command.TheVariants.{Call}
 use Rattle.mls_machine.specs.declared.reply.Reply.{Reply}
 use Rattle.mls_machine.specs.declared.reply.Reply.TheVariants.{Opened, Closed, Rows, Wrote, Ran, Entries, Denied}
+use Rattle.mls_machine.specs.declared.stored.Stored.{Stored}
+use Rattle.mls_machine.specs.Stored.{tx_of}
 use Rattle.mls_machine.specs.Site.{Site, site_labels}
+use Rattle.mls_machine.specs.Denying.{stored_named, fitted}
 use Rattle.mls_machine.specs.Machine.{World, denial_entry, call_entries, step, end_of}
 use Rattle.mls_machine.specs.Observation.{AreStored, EventsFit, HaveNoCall, AreRead, AreSecure, AreCertified, PassesNothingDown, PassesOnlyReleasesDown}
 
@@ -40,9 +47,15 @@ abbrev pub DenialsAndCallsAreEntered : Type 0
 DenialsAndCallsAreEntered =
     (site : Site) (w : World) (e : Event) → (step site w e).world.audit ≡ w.audit ++ entries_added site e e.command (w.sessions e.level e.session) (step site w e).reply
 
--- each database on the way of a run has the four integrity properties
-abbrev pub KeepsIntegrity : Site → World → List Event → Type 0
-KeepsIntegrity site w es = (n rel : ℕ) → HasIntegrity (site_labels site) ((end_of site w (take n es)).db rel)
+-- each relation of a database has the four integrity properties
+abbrev pub AreWhole : Site → Database → Type 0
+AreWhole site db = (rel : ℕ) → HasIntegrity (site_labels site) (db rel)
+
+-- so each database on the way of a run: after each event, and after each statement of a call, whatever is called next
+pub record KeepsIntegrity (site : Site) (w : World) (es : List Event) : Type 0 where
+  pub after : (n : ℕ) → AreWhole site (end_of site w (take n es)).db
+  pub within : (n : ℕ) (name : Name) (args : List (Option Value)) (s : Stored) → stored_named site.stored name ≡ Some s
+      → Throughout (site_labels site) site.schemes (tx_of s) (fitted (tx_of s).params args) (end_of site w (take n es)).db (AreWhole site)
 
 abbrev pub RunsKeepIntegrity : Type 0
 RunsKeepIntegrity =

@@ -25,7 +25,7 @@ use Rattle.mls_machine.specs.Stored.{tx_of, WhereCertified, IsCertifiedUnder, Is
 use Rattle.mls_machine.specs.Site.{Site, site_labels, site_scheme}
 use Rattle.mls_machine.specs.Denying.{stored_named}
 use Rattle.mls_machine.specs.Machine.{World, step, end_of}
-use Rattle.mls_machine.specs.Output.{Line, run_lines}
+use Rattle.mls_machine.specs.Output.{Line, run_lines, printed}
 
 -- ---- what a run begins with
 
@@ -100,6 +100,11 @@ HaveNoCall = AllByRecursion (λ e. IsNoCall e.command)
 abbrev pub out : Labels → ℕ → List Line → List Line
 out ls c lines = filter (λ l. below ls l.label c) lines
 
+-- all lines, or those whose labels a reader dominates
+abbrev pub heard : Labels → Option ℕ → List Line → List Line
+heard ls None lines = lines
+heard ls (Some c) lines = out ls c lines
+
 abbrev pub released_in : Reply → List Item
 released_in (Ran run) = run.released
 released_in reply = []
@@ -145,3 +150,11 @@ PassesOnlyReleasesDown site v es =
     → AgreeAt (site_labels site) c v w → seen site c es ≡ seen site c fs
     → (released_to site c v es ≡ released_to site c w fs) ⊎ AreBelowCeiling site c es
     → EndAlike site c v w es fs
+
+-- what a run prints for c passes nothing down but what is released: its bytes are the same for any other such run
+abbrev pub ShowsOnlyReleases : Site → ℕ → World → List Event → Type 0
+ShowsOnlyReleases site c v es =
+    (w : World) (fs : List Event) → AreStored site w.db → EventsFit site fs
+    → AgreeAt (site_labels site) c v w → seen site c es ≡ seen site c fs
+    → (released_to site c v es ≡ released_to site c w fs) ⊎ AreBelowCeiling site c es
+    → printed (out (site_labels site) c (run_lines site v es)) ≡ printed (out (site_labels site) c (run_lines site w fs))

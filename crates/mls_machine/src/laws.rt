@@ -13,7 +13,8 @@ pub fn denials_and_calls_are_entered()
     ensures { DenialsAndCallsAreEntered }
 {}
 
-/// Over content of the stored form each database on the way of a run has the four integrity properties.
+/// Over content of the stored form each database on the way of a run has the four integrity properties: after each event,
+/// and after each statement of a call.
 pub fn runs_keep_integrity()
     ensures { RunsKeepIntegrity }
 {}

@@ -13,6 +13,7 @@ use Rattle.mls_translang.specs.Tx.{Tx}
 use Rattle.mls_translang.specs.Fits.{IsLabel, IsReadUnder}
 use Rattle.mls_meaning.specs.Meaning.{Item, run_tx}
 use Rattle.mls_meaning.specs.Secure.{AreStored}
+use Rattle.mls_meaning.specs.Throughout.{Throughout}
 
 -- an argument for each parameter, of its kind or null
 abbrev pub ArgsFit : Tx → List (Option Value) → Type 0
@@ -29,6 +30,13 @@ CallsKeepForm =
     (policy : Tables) → AreDistinct (labels_of policy) → (schemes : Schemes) (tx : Tx) → IsReadUnder policy schemes tx
     → (args : List (Option Value)) (db : Database) → AreStored (labels_of policy) schemes db
     → AreStored (labels_of policy) schemes (run_tx (labels_of policy) schemes tx args db).db
+
+-- and so is each database on the way of it
+abbrev pub CallsKeepFormThroughout : Type 0
+CallsKeepFormThroughout =
+    (policy : Tables) → AreDistinct (labels_of policy) → (schemes : Schemes) (tx : Tx) → IsReadUnder policy schemes tx
+    → (args : List (Option Value)) (db : Database) → AreStored (labels_of policy) schemes db
+    → Throughout (labels_of policy) schemes tx args db (AreStored (labels_of policy) schemes)
 
 -- a call with arguments that fit keeps the whole stored form, kinds and intervals too
 abbrev pub CallsKeepContent : Type 0

@@ -4,5 +4,5 @@
 mod laws;
 mod run;
 
-pub use laws::{calls_give_items, calls_keep_content, calls_keep_form};
+pub use laws::{calls_give_items, calls_keep_content, calls_keep_form, calls_keep_form_throughout};
 pub use run::Run;

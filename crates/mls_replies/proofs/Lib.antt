@@ -1,2 +1,3 @@
 pub mod KnownLemmas
 pub mod PrintingSteps
+pub mod ShownLemmas

@@ -1,4 +1,4 @@
-//! Replies as bytes: the lines that a session is answered, and whether a reply can be printed.
+//! Replies as bytes: the lines that a session is answered, those that a reader may see, and whether a reply can be printed.
 #![tactic(auto)]
 
 mod known;
@@ -6,6 +6,8 @@ mod printing;
 mod printing_items;
 mod printing_rows;
 mod replies;
+mod shown;
 
 pub use known::is_known;
 pub use replies::reply_bytes;
+pub use shown::shown_bytes;

@@ -13,7 +13,7 @@ use mls_tokens::{push_printable, push_str};
 use std::alloc::{AllocError, Global};
 
 /// Appends the line of an item, which its label may see.
-fn push_item(
+pub(crate) fn push_item(
     alloc: Global,
     text: &mut Vec<u8>,
     policy: &Policy,
@@ -71,7 +71,11 @@ fn call_bytes(
 }
 
 /// The line that says what was called, which answers a call and nothing else.
-fn called_bytes(alloc: Global, policy: &Policy, event: &Event) -> Result<Vec<u8>, AllocError>
+pub(crate) fn called_bytes(
+    alloc: Global,
+    policy: &Policy,
+    event: &Event,
+) -> Result<Vec<u8>, AllocError>
     requires { event.now.level < length policy.now.labels }
     ensures { IfOk result (λ text. text.items ≡ flat_map (λ t. front policy.now event.now event.now.level ++ t ++ codes "\n") (call_texts event.now.command)) }
 {

@@ -15,4 +15,5 @@ pub use engine::Engine;
 pub use mls_machine::{Denial, Reply, Stored};
 pub use mls_meaning::Run;
 pub use mls_script::{Command, Event, ScriptCause, ScriptFault};
-pub use running::run;
+pub use running::{run, run_to};
+pub use writing::write_whole;

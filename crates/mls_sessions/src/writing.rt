@@ -29,7 +29,7 @@ fn write_some<W: Write>(out: &mut W, bytes: &[u8]) -> Result<usize>
 }
 
 /// Writes all the bytes; where the writer refuses, a first part of them is written.
-pub(crate) fn write_whole<W: Write>(out: &mut W, bytes: &[u8]) -> Result<()>
+pub fn write_whole<W: Write>(out: &mut W, bytes: &[u8]) -> Result<()>
     ensures ok { OnOk result (Appends (W.contents out.old) (W.contents out.new) bytes.now) }
     ensures err { OnErr result (IsPart (W.contents out.old) (W.contents out.new) bytes.now) }
 {

@@ -1,9 +1,9 @@
 //! Whole commands: what they write, and how they end.
 use crate::desk::Desk;
-use crate::elsewhere::{Ran, told_by};
+use crate::elsewhere::told_by;
 use crate::narrow::Narrow;
 use case_tables::{Case, Told, joined, text_of, unfolded};
-use mls_command::act;
+use mls_command::{Errors, act};
 use sqlite::{Connection, MemStore};
 use std::rt::Files;
 
@@ -24,15 +24,26 @@ pub fn written_over<R: Files + AllocGlobal>(
     left: Option<Connection<MemStore>>,
 ) -> (Written, Option<Connection<MemStore>>) {
     let mut out = out;
-    let mut err = Vec::new(rt.alloc());
+    let mut err = Errors::new(Vec::new(rt.alloc()));
     let mut desk = Desk { rt, script, left };
     let status = act(rt.alloc(), words, &mut desk, &mut out, &mut err);
     let written = Written {
         out: out.bytes,
-        err,
+        err: err.writer,
         status,
     };
     (written, desk.left)
+}
+
+/// What a command writes with a script, which is its standard input too, over the store that the last run left.
+pub fn written_after<R: Files + AllocGlobal>(
+    rt: &R,
+    words: &[&str],
+    script: &[u8],
+    out: Narrow,
+    left: Option<Connection<MemStore>>,
+) -> Written {
+    written_over(rt, words, script, out, left).0
 }
 
 /// What a command writes with a script, which is its standard input too.
@@ -42,7 +53,7 @@ pub fn written_by<R: Files + AllocGlobal>(
     script: &[u8],
     out: Narrow,
 ) -> Written {
-    written_over(rt, words, script, out, None).0
+    written_after(rt, words, script, out, None)
 }
 
 /// Tells the status where it is not 0, and standard error.
@@ -86,25 +97,22 @@ pub fn words_of<'a>(head: &'a str) -> [&'a str; 5] {
     ["mldb", "run", policy, schemes, "script"]
 }
 
-fn tell_run<R: Files + AllocGlobal>(rt: &R, head: &str, script: &[u8], out: &mut Told) {
-    let words = words_of(head);
-    let written = written_by(rt, &words, script, Narrow::wide(rt.alloc()));
-    out.push_line(head);
-    tell_written(&written, out);
-    let ran = Ran {
-        script,
-        printed: &written.out,
-    };
-    out.push(told_by(rt, words[2], words[3], ran));
-}
-
-/// Tells what a script prints, and where it prints another thing over lists, or leaves a store that is not opened again: a case is
-/// `POLICY SCHEMES: title`, and its script below.
-pub fn tell_script<R: Files + AllocGlobal>(rt: &R, case: &Case<'_>, out: &mut Told) {
+/// Tells what a run of a script writes, and where it writes another thing over other bases, or leaves a store that is not opened again.
+fn tell_run<R: Files + AllocGlobal>(rt: &R, words: &[&str], case: &Case<'_>, out: &mut Told) {
     match joined(rt.alloc(), case.body) {
-        Ok(script) => tell_run(rt, case.head, script.as_bytes(), out),
+        Ok(script) => {
+            let written = written_by(rt, words, script.as_bytes(), Narrow::wide(rt.alloc()));
+            out.push_line(case.head);
+            tell_written(&written, out);
+            out.push(told_by(rt, words, script.as_bytes(), &written));
+        }
         Err(_) => out.fail(),
     }
+}
+
+/// Tells what a script prints, over each base: a case is `POLICY SCHEMES: title`, and its script below.
+pub fn tell_script<R: Files + AllocGlobal>(rt: &R, case: &Case<'_>, out: &mut Told) {
+    tell_run(rt, &words_of(case.head), case, out);
 }
 
 /// The words of a run of the script under the policy and with the stored transactions that a head names, as in
@@ -126,10 +134,10 @@ pub fn call_words_of<'a>(head: &'a str) -> [&'a str; 9] {
     ]
 }
 
-/// Tells what a script prints that calls transactions: a case is `POLICY TRANSACTIONS CERTIFICATES: title`, and its script below.
+/// Tells what a script prints that calls transactions, over each base: a case is `POLICY TRANSACTIONS CERTIFICATES: title`, and its
+/// script below.
 pub fn tell_call<R: Files + AllocGlobal>(rt: &R, case: &Case<'_>, out: &mut Told) {
-    let words = call_words_of(case.head);
-    tell_words(rt, &words, case, Narrow::wide(rt.alloc()), out);
+    tell_run(rt, &call_words_of(case.head), case, out);
 }
 
 /// Tells the status and what a command line writes, with the script below it on standard input.

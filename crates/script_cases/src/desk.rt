@@ -1,6 +1,6 @@
 //! A machine whose files are those of `data/`, but for a script and some files of many bytes, and whose stores are in memory.
 use crate::most;
-use mls_command::{Host, HostFault, MOST_BYTES, read_whole};
+use mls_command::{CloseFault, Host, HostFault, MOST_BYTES, read_whole};
 use mls_fragments::{OpenFault, SqlBase};
 use mls_lattice::Policy;
 use mls_scheme::Schemes;
@@ -35,10 +35,33 @@ fn store_with_table(alloc: Global) -> Result<Connection<MemStore>, OpenFault> {
     }
 }
 
-/// `script` is the script, which is the standard input too; `full` has as many bytes as a file may have, `long` one more, and
-/// `memory` asks for more memory than there is. `most.transactions` and `most2.transactions` have as many transactions as a file
-/// may have, and `most.certificates` and `most2.certificates` theirs. Of the stores `new` is one, `left` is what the last run
-/// left, `table` has a table of somebody else's, and no other can be opened.
+/// The bytes of a file: `script` is the script; `full` has as many bytes as a file may have, `long` one more, and `memory` asks for
+/// more memory than there is. `most.transactions` and `most2.transactions` have as many transactions as a file may have, and
+/// `most.certificates` and `most2.certificates` theirs.
+pub fn file_of<R: Files>(
+    rt: &R,
+    script: &[u8],
+    alloc: Global,
+    path: &str,
+) -> Result<Vec<u8>, HostFault> {
+    match path {
+        "script" => read_whole(alloc, script),
+        "full" => empty_lines(alloc, MOST_BYTES),
+        "long" => empty_lines(alloc, MOST_BYTES + 1),
+        "most.transactions" => read_text(alloc, most::transactions(alloc)),
+        "most.certificates" => read_text(alloc, most::certificates(alloc)),
+        "most2.transactions" => read_text(alloc, most::transactions2(alloc)),
+        "most2.certificates" => read_text(alloc, most::certificates2(alloc)),
+        "memory" => Err(HostFault::Memory),
+        _ => match fs::open(rt, path) {
+            Ok(file) => read_whole(alloc, file),
+            Err(_) => Err(HostFault::Unreadable),
+        },
+    }
+}
+
+/// `script` is the script, which is the standard input too. Of the stores `new` is one, `left` is what the last run left, `table` has
+/// a table of somebody else's, and no other can be opened.
 #[derive(Drop)]
 pub struct Desk<'a, R: Files> {
     pub rt: &'a R,
@@ -73,20 +96,7 @@ impl<'a, R: Files> Host for Desk<'a, R> {
     type Store = SqlBase<MemStore>;
 
     fn file(&self, alloc: Global, path: &str) -> Result<Vec<u8>, HostFault> {
-        match path {
-            "script" => read_whole(alloc, self.script),
-            "full" => empty_lines(alloc, MOST_BYTES),
-            "long" => empty_lines(alloc, MOST_BYTES + 1),
-            "most.transactions" => read_text(alloc, most::transactions(alloc)),
-            "most.certificates" => read_text(alloc, most::certificates(alloc)),
-            "most2.transactions" => read_text(alloc, most::transactions2(alloc)),
-            "most2.certificates" => read_text(alloc, most::certificates2(alloc)),
-            "memory" => Err(HostFault::Memory),
-            _ => match fs::open(self.rt, path) {
-                Ok(file) => read_whole(alloc, file),
-                Err(_) => Err(HostFault::Unreadable),
-            },
-        }
+        file_of(self.rt, self.script, alloc, path)
     }
 
     fn input(&self, alloc: Global) -> Result<Vec<u8>, HostFault> {
@@ -113,7 +123,8 @@ impl<'a, R: Files> Host for Desk<'a, R> {
         }
     }
 
-    fn keep(&mut self, path: &str, store: SqlBase<MemStore>) {
+    fn keep(&mut self, path: &str, store: SqlBase<MemStore>) -> Result<(), CloseFault> {
         self.left = Some(store.into_connection());
+        Ok(())
     }
 }

@@ -1,5 +1,5 @@
 //! The tables, in the order in which they are told.
-use crate::{commands, counts, stores, worlds};
+use crate::{commands, counts, samples, stores, worlds};
 use case_tables::{Case, Told, case_at};
 use std::alloc::AllocError;
 use std::rt::Files;
@@ -16,9 +16,10 @@ pub enum Table {
     Calls,
     Counts,
     Stores,
+    Samples,
 }
 
-pub const TABLES: [(&str, Table); 11] = [
+pub const TABLES: [(&str, Table); 12] = [
     ("script_faults.txt", Table::Faults),
     ("prefixes.txt", Table::Prefixes),
     ("scripts.txt", Table::Scripts),
@@ -30,6 +31,7 @@ pub const TABLES: [(&str, Table); 11] = [
     ("certifying.txt", Table::Commands),
     ("limits.txt", Table::Counts),
     ("stores.txt", Table::Stores),
+    ("samples.txt", Table::Samples),
 ];
 
 /// What is told of the cases of a table.
@@ -68,6 +70,7 @@ fn tell_case<R: Files + AllocGlobal>(rt: &R, table: Table, case: &Case<'_>, out:
         Table::Worlds => worlds::tell(rt, case, out),
         Table::Calls => commands::tell_call(rt, case, out),
         Table::Counts => counts::tell(rt, case, out),
+        Table::Samples => samples::tell(rt, case, out),
         // Each of these goes on with what the one before it left.
         Table::Stores => {}
     }

@@ -1,20 +1,22 @@
-//! A writer that refuses after some writes.
+//! A writer that takes a few bytes at a time, and refuses after some writes.
 use std::alloc::Global;
 use std::io::{self, Error, ErrorKind, Write};
 
-/// Takes all bytes of so many writes, and none after them.
+/// Takes bytes in so many writes, up to a number in each, and none after them.
 #[derive(Drop)]
 pub struct Narrow {
     pub bytes: Vec<u8>,
     left: u64,
+    most: usize,
 }
 
 impl Narrow {
-    /// A writer that refuses after so many writes.
-    pub fn new(alloc: Global, left: u64) -> Narrow {
+    /// A writer that refuses after so many writes, of up to so many bytes.
+    pub fn new(alloc: Global, left: u64, most: usize) -> Narrow {
         Narrow {
             bytes: Vec::new(alloc),
             left,
+            most,
         }
     }
 }
@@ -25,8 +27,9 @@ impl Write for Narrow {
             return Err(Error::from(ErrorKind::BrokenPipe));
         }
         self.left -= 1;
-        self.bytes.extend_from_slice(buf)?;
-        Ok(buf.len())
+        let count = buf.len().min(self.most);
+        self.bytes.extend_from_slice(&buf[..count])?;
+        Ok(count)
     }
 
     fn flush(&mut self) -> io::Result<()> {

@@ -9,7 +9,7 @@ use super::steps::push_steps;
 use case_tables::Told;
 use mls_lattice::Policy;
 use mls_scheme::Schemes;
-use mls_script::{Event, script};
+use mls_script::script;
 use std::alloc::{AllocError, Global};
 
 /// How the events of a script are answered.
@@ -26,10 +26,8 @@ enum Way {
 pub enum Trials {
     /// That one of its calls, or writes, fails.
     Calls,
-    /// That the calls which read fragments fail.
-    Fragments,
-    /// That one of its writes fails.
-    Writes,
+    /// That only these fail.
+    Each(What),
 }
 
 /// How single calls, and writes, fail.
@@ -132,12 +130,7 @@ fn tell_trials(
 {
     match trials {
         Trials::Calls => tell_calls(alloc, policy, schemes, scripts, out),
-        Trials::Fragments => {
-            let what = What::Fragments;
-            tell_outcomes(alloc, policy, schemes, scripts, Way::Run, what, out);
-        }
-        Trials::Writes => {
-            let what = What::Write;
+        Trials::Each(what) => {
             tell_outcomes(alloc, policy, schemes, scripts, Way::Run, what, out);
         }
     }
@@ -149,17 +142,17 @@ fn tell_script(
     schemes: &Schemes,
     trials: Trials,
     text: &str,
-    questions: &[Event],
+    scripts: Scripts<'_>,
     out: &mut Told,
 )
     requires under { AreUnder (length policy.now.labels) schemes.now }
-    requires questions { AllByRecursion (EventFits policy.now schemes.now) questions.now }
+    requires questions { AllByRecursion (EventFits policy.now schemes.now) scripts.questions.now }
 {
     match script(alloc, policy, schemes, text.as_bytes()) {
         Ok(events) => {
             let scripts = Scripts {
                 events: &events,
-                questions,
+                ..scripts
             };
             tell_trials(alloc, policy, schemes, trials, scripts, out);
         }
@@ -167,22 +160,22 @@ fn tell_script(
     }
 }
 
-/// What is told of the script of a file.
+/// What is told of the script of a file: the events are its own.
 pub fn told(
     alloc: Global,
     policy: &Policy,
     schemes: &Schemes,
     file: (&str, Trials),
     text: &str,
-    questions: &[Event],
+    scripts: Scripts<'_>,
 ) -> Result<String, AllocError>
     requires under { AreUnder (length policy.now.labels) schemes.now }
-    requires questions { AllByRecursion (EventFits policy.now schemes.now) questions.now }
+    requires questions { AllByRecursion (EventFits policy.now schemes.now) scripts.questions.now }
 {
     let (name, trials) = file;
     let mut out = Told::new(alloc);
     out.push("== ");
     out.push_line(name);
-    tell_script(alloc, policy, schemes, trials, text, questions, &mut out);
+    tell_script(alloc, policy, schemes, trials, text, scripts, &mut out);
     out.finish()
 }

@@ -4,11 +4,13 @@ ghost use Rattle.std.specs.List.{AllByRecursion};
 ghost use Rattle.mls_scheme.specs.Scheme.{AreUnder};
 ghost use Rattle.mls_script.specs.Event.{EventFits};
 ghost use Rattle.mls_filterview.specs.Content.{no_content};
+ghost use Rattle.mls_machine.specs.Observation.{AreRead, AreCertified};
 ghost use Rattle.mls_replies.specs.Under.{site_under};
 ghost use Rattle.mls_sessions.specs.World.{IsSound};
 
 use super::faulty::{Fault, Faulty};
 use super::narrow::Narrow;
+use super::stored::stored_in;
 use case_tables::{Told, text_of};
 use mls_filterview::Base;
 use mls_lattice::{Items, Policy};
@@ -18,13 +20,16 @@ use mls_sessions::{Engine, RunFault, Stored, run};
 use mls_updates::ListBase;
 use std::alloc::Global;
 
-/// What fails: a call of the base by its store or for want of memory, each call that reads a fragment, or a write; after so many that
-/// don't.
+/// What fails: a call of the base by its store or for want of memory, each call that reads a fragment, or a write of a whole reply or of a
+/// few bytes; after so many that don't.
 #[derive(Clone, Copy)]
 pub struct Failure {
     pub what: What,
     pub after: u64,
 }
+
+/// The bytes of a write, where a reply takes several.
+const PIECE: usize = 22;
 
 /// What a failure is one of.
 #[derive(Clone, Copy)]
@@ -33,6 +38,7 @@ pub enum What {
     Memory,
     Fragments,
     Write,
+    Piece,
 }
 
 impl Failure {
@@ -41,7 +47,7 @@ impl Failure {
         let (after, most) = match self.what {
             What::Store | What::Memory => (self.after, 1),
             What::Fragments => (self.after, u64::MAX),
-            What::Write => (0, 0),
+            What::Write | What::Piece => (0, 0),
         };
         Fault {
             after,
@@ -60,21 +66,23 @@ impl Failure {
 
     fn writer(self, alloc: Global) -> Narrow {
         match self.what {
-            What::Write => Narrow::new(alloc, self.after),
-            _ => Narrow::new(alloc, u64::MAX),
+            What::Write => Narrow::new(alloc, self.after, usize::MAX),
+            What::Piece => Narrow::new(alloc, self.after, PIECE),
+            _ => Narrow::new(alloc, u64::MAX, usize::MAX),
         }
     }
 }
 
-/// Two scripts: the events whose run fails, and those that ask afterwards what the base holds.
+/// Two scripts, the events whose run fails and those that ask afterwards what the base holds, and the transactions that they call.
 #[derive(Clone, Copy)]
 pub struct Scripts<'a> {
     pub events: &'a [Event],
     pub questions: &'a [Event],
+    pub transactions: &'a str,
 }
 
 /// No stored transactions.
-pub fn none_stored(alloc: Global) -> Items<Stored>
+fn none_stored(alloc: Global) -> Items<Stored>
     ensures { result ≡ [] }
 {
     Items::from(Vec::new(alloc))
@@ -85,18 +93,21 @@ fn run_over<B: Base>(
     alloc: Global,
     policy: &Policy,
     schemes: &Schemes,
+    stored: Items<Stored>,
     base: B,
     events: &[Event],
     out: &mut Narrow,
 ) -> (Result<(), RunFault>, B)
     requires under { AreUnder (length policy.now.labels) schemes.now }
+    requires read { AreRead (record { policy = policy.now; schemes = schemes.now; stored = stored }) }
+    requires certified { AreCertified (record { policy = policy.now; schemes = schemes.now; stored = stored }) }
     requires fits { AllByRecursion (EventFits policy.now schemes.now) events.now }
     requires idle { (B.state base).begun ≡ false }
     requires sound { B.is_clean base → IsSound (site_under policy.now schemes.now) (B.state base).now }
     ensures idle { (B.state result.1).begun ≡ false }
     ensures sound { B.is_clean result.1 → IsSound (site_under policy.now schemes.now) (B.state result.1).now }
 {
-    let mut engine = Engine::new(alloc, base, policy, schemes, none_stored(alloc));
+    let mut engine = Engine::new(alloc, base, policy, schemes, stored);
     let end = run(&mut engine, events, out);
     (end, engine.finish())
 }
@@ -127,8 +138,9 @@ fn push_answers(
     requires idle { (⟦<ListBase as Base>⟧.state base).begun ≡ false }
     requires sound { IsSound (site_under policy.now schemes.now) (⟦<ListBase as Base>⟧.state base).now }
 {
-    let mut answers = Narrow::new(alloc, u64::MAX);
-    let _ = run_over(alloc, policy, schemes, base, questions, &mut answers);
+    let none = none_stored(alloc);
+    let mut answers = Narrow::new(alloc, u64::MAX, usize::MAX);
+    let _ = run_over(alloc, policy, schemes, none, base, questions, &mut answers);
     out.push_indented(text_of(&answers.bytes));
 }
 
@@ -145,9 +157,14 @@ pub fn push_outcome(
     requires events { AllByRecursion (EventFits policy.now schemes.now) scripts.events.now }
     requires questions { AllByRecursion (EventFits policy.now schemes.now) scripts.questions.now }
 {
+    let Some(stored) = stored_in(alloc, policy, schemes, scripts.transactions) else {
+        out.fail();
+        return true;
+    };
     let mut replies = failure.writer(alloc);
     let base = failure.base(alloc);
-    let (end, base) = run_over(alloc, policy, schemes, base, scripts.events, &mut replies);
+    let events = scripts.events;
+    let (end, base) = run_over(alloc, policy, schemes, stored, base, events, &mut replies);
     push_end(end, out);
     out.push_indented(text_of(&replies.bytes));
     out.push("  --\n");

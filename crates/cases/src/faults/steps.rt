@@ -3,19 +3,20 @@ ghost use Rattle.std.specs.Prelude.{◌≡◌, ◌<◌, ◌≤◌, false, length
 ghost use Rattle.std.specs.List.{AllByRecursion};
 ghost use Rattle.mls_scheme.specs.Scheme.{AreUnder};
 ghost use Rattle.mls_script.specs.Event.{EventFits};
-ghost use Rattle.mls_machine.specs.Observation.{EventsFit};
+ghost use Rattle.mls_machine.specs.Observation.{EventsFit, AreRead, AreCertified};
 ghost use Rattle.mls_replies.specs.Under.{site_under};
 ghost use Rattle.mls_sessions.specs.World.{IsSound};
 ghost use Rattle.mls_sessions.specs.Engine.{site, IsReady, IsKept};
 
 use super::narrow::Narrow;
-use super::runs::{Failure, Scripts, none_stored};
+use super::runs::{Failure, Scripts};
+use super::stored::stored_in;
 use case_tables::{Told, text_of};
 use mls_filterview::{Base, BaseFault};
-use mls_lattice::Policy;
+use mls_lattice::{Items, Policy};
 use mls_scheme::Schemes;
 use mls_script::Event;
-use mls_sessions::{Engine, run};
+use mls_sessions::{Engine, Stored, run};
 use std::alloc::Global;
 
 /// Answers events in order, up to the first that fails: its number, from 1, and why.
@@ -39,17 +40,20 @@ fn step_over<B: Base>(
     alloc: Global,
     policy: &Policy,
     schemes: &Schemes,
+    stored: Items<Stored>,
     base: B,
     scripts: Scripts<'_>,
     replies: &mut Narrow,
 ) -> (Option<(usize, BaseFault)>, B)
     requires under { AreUnder (length policy.now.labels) schemes.now }
+    requires read { AreRead (record { policy = policy.now; schemes = schemes.now; stored = stored }) }
+    requires certified { AreCertified (record { policy = policy.now; schemes = schemes.now; stored = stored }) }
     requires events { AllByRecursion (EventFits policy.now schemes.now) scripts.events.now }
     requires questions { AllByRecursion (EventFits policy.now schemes.now) scripts.questions.now }
     requires idle { (B.state base).begun ≡ false }
     requires sound { B.is_clean base → IsSound (site_under policy.now schemes.now) (B.state base).now }
 {
-    let mut engine = Engine::new(alloc, base, policy, schemes, none_stored(alloc));
+    let mut engine = Engine::new(alloc, base, policy, schemes, stored);
     let stop = step_to_fault(&mut engine, scripts.events);
     if let Some((number, _)) = stop {
         let _ = run(&mut engine, scripts.questions, replies);
@@ -87,9 +91,13 @@ pub fn push_steps(
     requires events { AllByRecursion (EventFits policy.now schemes.now) scripts.events.now }
     requires questions { AllByRecursion (EventFits policy.now schemes.now) scripts.questions.now }
 {
-    let mut replies = Narrow::new(alloc, u64::MAX);
+    let Some(stored) = stored_in(alloc, policy, schemes, scripts.transactions) else {
+        out.fail();
+        return true;
+    };
+    let mut replies = Narrow::new(alloc, u64::MAX, usize::MAX);
     let base = failure.base(alloc);
-    let (stop, _base) = step_over(alloc, policy, schemes, base, scripts, &mut replies);
+    let (stop, _base) = step_over(alloc, policy, schemes, stored, base, scripts, &mut replies);
     match stop {
         Some((number, fault)) => push_stop(number, fault, out),
         None => out.push("all steps well\n"),

@@ -1,20 +1,29 @@
-use Rattle.std.proofs.Common.{subst}
+use Rattle.std.proofs.Common.{◌≡◌, List, ℕ, [], Result, Ok, sym, subst}
+use Rattle.std.proofs.KnownBytes.{Appends-nil}
 use Rattle.sqlite.proofs.Callers.{memory_is_clean}
-use Rattle.mls_filterview.specs.Content.{State}
-use Rattle.mls_machine.specs.Site.{Site}
+use Rattle.std.specs.Io.KnownBytes.{Appends}
+use Rattle.mls_filterview.specs.Content.{State, Content, no_content}
 use Rattle.mls_fragments.specs.Based.{state_of}
-use Rattle.mls_command.specs.Running.{IsRun}
-use Rattle.mls_command.proofs.RunningLemmas.{none_sound}
+use Rattle.mls_sessions.specs.declared.cause.RunFault.{RunFault}
+use Rattle.mls_command.specs.declared.refusal.Refusal.{Refusal}
+use Rattle.mls_command.specs.Running.{site_of, IsRun, IsRunEnd}
+use Rattle.mls_command.proofs.RunningLemmas.{none_sound, ended_so}
 use Rattle.mls_command.proofs.running.run_in_memory.Goals as goal
 
 pub run_on-outcome-requires-clause-sound : goal.run_on-outcome-requires-clause-sound
-run_on-outcome-requires-clause-sound g c = λ _.
-    let at : Site = record { policy = c.args.policy.now; schemes = c.args.schemes.now; stored = c.args.stored } in
-    none_sound at _ c.in_ok-base.ensures.content
+run_on-outcome-requires-clause-sound g c = λ _. none_sound (site_of c.args.policy.now c.args.schemes.now c.args.stored) _ c.in-Ok.ensures.content
+
+pub returns-in-Err : goal.returns-in-Err
+returns-in-Err g c = Appends-nil _
 
 pub returns : goal.returns
 returns g c =
-    let at : Site = record { policy = c.args.policy.now; schemes = c.args.schemes.now; stored = c.args.stored } in
+    let at = site_of c.args.policy.now c.args.schemes.now c.args.stored in
     let left = (state_of c.run_on-outcome.result.1).now in
-    let run = rw c.in_ok-outcome.was at (c.run_on-outcome.ensures.run (c.into_connection-connection.ensures.clean (memory_is_clean c.into_connection-connection.result))) in
-    (left, subst (λ (x : State). IsRun at x.now left c.args.events.now (g.W.Write.contents c.args.out.now) (g.W.Write.contents c.run_on-outcome.new.out)) c.in_ok-base.ensures.content run)
+    let before = g.W.Write.contents c.args.out.now in
+    let after = g.W.Write.contents c.run_on-outcome.new.out in
+    let run = c.run_on-outcome.ensures.run (c.into_connection-connection.ensures.clean (memory_is_clean c.into_connection-connection.result)) in
+    let Runs : Result (Unit {0}) RunFault → Type 0 = λ end. (last : Content) × IsRun at c.args.reader c.args.events.now (Appends before after) end no_content last in
+    let ran : Runs c.run_on-outcome.result.0 = (left, subst (λ (x : State). IsRun at c.args.reader c.args.events.now (Appends before after) c.run_on-outcome.result.0 x.now left) c.in-Ok.ensures.content run) in
+    subst (λ (r : Result (Unit {0}) Refusal). IsRunEnd Runs (Appends before after []) r) (sym c.ended.ensures)
+    (ended_so Runs (Appends before after []) c.run_on-outcome.result.0 (Ok tt) ran)

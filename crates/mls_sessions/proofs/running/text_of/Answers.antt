@@ -1,8 +1,12 @@
 use Rattle.std.proofs.Common.{ap, ◌∙◌}
+use Rattle.mls_machine.specs.Site.{site_labels}
 use Rattle.mls_machine.specs.Output.{printed}
+use Rattle.mls_machine.specs.Observation.{heard}
 use Rattle.mls_monitor.specs.Sessions.{site_of}
 use Rattle.mls_replies.proofs.PrintingSteps.{lines_under}
 use Rattle.mls_sessions.proofs.running.text_of.Goals as goal
 
 pub returns-in-Ok-clause-done : goal.returns-in-Ok-clause-done
-returns-in-Ok-clause-done c = c.in-Ok.ensures ∙ ap printed (lines_under (site_of c.args.rules.now) c.args.event.now c.args.reply.now)
+returns-in-Ok-clause-done c =
+    c.in-Ok.ensures
+    ∙ ap (λ l. printed (heard (site_labels (site_of c.args.rules.now)) c.args.reader.now l)) (lines_under (site_of c.args.rules.now) c.args.event.now c.args.reply.now)

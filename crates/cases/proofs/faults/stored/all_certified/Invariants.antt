@@ -1,0 +1,11 @@
+use Rattle.std.specs.List.{AllByRecursion}
+use Rattle.mls_translang.specs.Fits.{IsReadUnder}
+use Rattle.mls_machine.specs.Stored.{tx_of, IsCertifiedUnder}
+use Rattle.cases.proofs.faults.stored.all_certified.Given as goal
+
+abbrev pub invariant-loop-tx : goal.invariant-loop-tx
+invariant-loop-tx l = record {
+  read : AllByRecursion (λ s. IsReadUnder l.policy l.schemes (tx_of s)) l.stored.items;
+  certified : AllByRecursion (IsCertifiedUnder l.policy) l.stored.items;
+  rest : AllByRecursion (IsReadUnder l.policy l.schemes) l.tx-iterator.rest.items;
+}

@@ -1,0 +1,11 @@
+-- What a reader may see of an item.
+use Rattle.std.specs.Prelude.{ℕ, List, [], ◌∷◌}
+use Rattle.mls_lattice.specs.Policy.{Tables, labels_of}
+use Rattle.mls_meaning.specs.Meaning.{Item}
+use Rattle.mls_script.specs.declared.event.Event.{Event}
+use Rattle.mls_machine.specs.Output.{item_line, printed}
+use Rattle.mls_machine.specs.Observation.{out}
+
+-- the bytes of its line, or nothing where the reader doesn't dominate its label
+unfoldable pub seen_item : Tables → Event → ℕ → List ℕ → Item → List ℕ
+seen_item p e reader deed item = printed (out (labels_of p) reader (item_line p e deed item ∷ []))

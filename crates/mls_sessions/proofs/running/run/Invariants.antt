@@ -1,5 +1,0 @@
-use Rattle.mls_sessions.proofs.AnswerLemmas.{Running}
-use Rattle.mls_sessions.proofs.running.run.Given as goal
-
-abbrev pub invariant-loop-place : goal.invariant-loop-place
-invariant-loop-place g l = Running g.B.Base.state g.B.Base.is_clean g.B.Base.failures l.events l.initial.engine (g.W.Write.contents l.initial.out) l.place l.engine (g.W.Write.contents l.out)

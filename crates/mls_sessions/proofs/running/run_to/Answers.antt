@@ -1,0 +1,35 @@
+use Rattle.std.proofs.Common.{rules}
+use Rattle.mls_machine.proofs.KeepingLemmas.{keep_integrity}
+use Rattle.mls_machine.proofs.RunLemmas.{first_accepted_alike}
+use Rattle.mls_sessions.specs.Engine.{site, world_of}
+use Rattle.mls_sessions.proofs.AnswerLemmas.{running_start, running_more, running_stopped, stored_at}
+use Rattle.mls_sessions.proofs.running.run_to.Goals as goal
+
+pub loop-place-init : goal.loop-place-init
+loop-place-init g c = running_start g.B.Base.state g.B.Base.is_clean g.B.Base.failures c.args.reader c.args.events.now c.args.engine.now (g.W.Write.contents c.args.out.now) c.requires.ready
+
+pub returns-in-Err-clause-err : goal.returns-in-Err-clause-err
+returns-in-Err-clause-err g c = λ h. running_stopped g.B.Base.state g.B.Base.is_clean g.B.Base.failures c.args.reader c.args.events.now c.args.engine.now (g.W.Write.contents c.args.out.now)
+    c.loop-place.place c.loop-place.engine (g.W.Write.contents c.loop-place.out) c.loop-place.invariant c.index-events-place.result c.loop-place-test.true (search rules)
+    c.answer.new.engine (g.W.Write.contents c.answer.new.out) c.answer.ensures.clean c.in-Err.stop.cause c.in-Err.stop.done c.in-Err.ensures.stopped h
+
+pub loop-place-preserved : goal.loop-place-preserved
+loop-place-preserved g c = running_more g.B.Base.state g.B.Base.is_clean g.B.Base.failures c.args.reader c.args.events.now c.args.engine.now (g.W.Write.contents c.args.out.now)
+    c.loop-place.place c.loop-place.engine (g.W.Write.contents c.loop-place.out) c.loop-place.invariant c.index-events-place.result c.loop-place-test.true (search rules)
+    c.answer.new.engine (g.W.Write.contents c.answer.new.out) c.answer.ensures.clean c.answer.ensures.count c.answer.ensures.kept (search rules)
+
+pub returns-in-Err-clause-integrity : goal.returns-in-Err-clause-integrity
+returns-in-Err-clause-integrity g c = λ h. keep_integrity (site c.args.engine.now) c.requires.ready.distinct c.requires.ready.read (world_of g.B.Base.state c.args.engine.now) c.args.events.now
+    (stored_at g.B.Base.state g.B.Base.is_clean c.args.engine.now c.requires.ready (c.loop-place.invariant.clean (c.answer.ensures.clean h))) c.requires.fits
+
+pub returns-clause-integrity : goal.returns-clause-integrity
+returns-clause-integrity g c = λ h. keep_integrity (site c.args.engine.now) c.requires.ready.distinct c.requires.ready.read (world_of g.B.Base.state c.args.engine.now) c.args.events.now
+    (stored_at g.B.Base.state g.B.Base.is_clean c.args.engine.now c.requires.ready (c.loop-place.invariant.clean h)) c.requires.fits
+
+pub returns-clause-secret : goal.returns-clause-secret
+returns-clause-secret g c = λ h. first_accepted_alike (site c.args.engine.now) c.requires.ready.distinct c.requires.ready.read c.requires.ready.certified (world_of g.B.Base.state c.args.engine.now) c.args.events.now
+    (stored_at g.B.Base.state g.B.Base.is_clean c.args.engine.now c.requires.ready (c.loop-place.invariant.clean h)) c.requires.fits
+
+pub returns-in-Err-clause-secret : goal.returns-in-Err-clause-secret
+returns-in-Err-clause-secret g c = λ h. first_accepted_alike (site c.args.engine.now) c.requires.ready.distinct c.requires.ready.read c.requires.ready.certified (world_of g.B.Base.state c.args.engine.now) c.args.events.now
+    (stored_at g.B.Base.state g.B.Base.is_clean c.args.engine.now c.requires.ready (c.loop-place.invariant.clean (c.answer.ensures.clean h))) c.requires.fits

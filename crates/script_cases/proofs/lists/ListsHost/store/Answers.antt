@@ -1,0 +1,11 @@
+use Rattle.std.proofs.Common.{ap, sym, subst}
+use Rattle.mls_filterview.specs.Content.{State}
+use Rattle.mls_fragments.specs.Finding.{IsSoundContent}
+use Rattle.mls_fragments.proofs.FindingLemmas.{nothing_sound}
+use Rattle.script_cases.proofs.lists.ListsHost.store.Goals as goal
+
+pub returns-clause-idle : goal.returns-clause-idle
+returns-clause-idle g c = ap (λ (s : State). s.begun) c.new.ensures
+
+pub returns-clause-sound : goal.returns-clause-sound
+returns-clause-sound g c = subst (λ (s : State). IsSoundContent c.args.policy.now c.args.schemes.now s.now) (sym c.new.ensures) (nothing_sound c.args.policy.now c.args.schemes.now)

@@ -1,0 +1,49 @@
+//! A machine with the files of a desk, whose stores are lists.
+use crate::desk::file_of;
+use mls_command::{CloseFault, Host, HostFault, read_whole};
+use mls_fragments::OpenFault;
+use mls_lattice::Policy;
+use mls_scheme::Schemes;
+use mls_updates::ListBase;
+use std::alloc::Global;
+use std::rt::Files;
+
+/// Each store is a new one, and what a run leaves in it is not kept.
+#[derive(Drop)]
+pub struct Lists<'a, R: Files> {
+    pub rt: &'a R,
+    pub script: &'a [u8],
+}
+
+impl<'a, R: Files> Host for Lists<'a, R> {
+    // Any bytes and any content: what a file has is known to nobody before it is read.
+    ghost gives = { λ _ _ _. Unit {0} };
+
+    ghost keeps = { λ _ _ _. Unit {0} };
+
+    ghost is_honest = { λ _. Unit {0} };
+
+    type Store = ListBase;
+
+    fn file(&self, alloc: Global, path: &str) -> Result<Vec<u8>, HostFault> {
+        file_of(self.rt, self.script, alloc, path)
+    }
+
+    fn input(&self, alloc: Global) -> Result<Vec<u8>, HostFault> {
+        read_whole(alloc, self.script)
+    }
+
+    fn store(
+        &mut self,
+        alloc: Global,
+        path: &str,
+        policy: &Policy,
+        schemes: &Schemes,
+    ) -> Result<ListBase, OpenFault> {
+        Ok(ListBase::new(alloc))
+    }
+
+    fn keep(&mut self, path: &str, store: ListBase) -> Result<(), CloseFault> {
+        Ok(())
+    }
+}

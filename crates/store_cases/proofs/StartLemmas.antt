@@ -1,0 +1,14 @@
+-- What runs begin with.
+use Rattle.std.proofs.Common.{◌≡◌, false, [], sym, subst}
+use Rattle.mls_lattice.specs.Policy.{Tables}
+use Rattle.mls_scheme.specs.Scheme.{Schemes}
+use Rattle.mls_filterview.specs.Content.{State, no_content}
+use Rattle.mls_fragments.specs.Finding.{IsSoundContent}
+use Rattle.mls_sessions.proofs.StartLemmas.{no_content_sound}
+use Rattle.mls_command.specs.Running.{site_of}
+
+-- a base that holds nothing is sound
+pub none_sound : (policy : Tables) (schemes : Schemes) (s : State) → s ≡ record { now = no_content; kept = no_content; begun = false } → IsSoundContent policy schemes s.now
+none_sound policy schemes s none =
+    let sound = no_content_sound (site_of policy schemes []) in
+    subst (λ (x : State). IsSoundContent policy schemes x.now) (sym none) (record { content = sound.content; entries = sound.entries })

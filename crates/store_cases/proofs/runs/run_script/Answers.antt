@@ -1,0 +1,6 @@
+use Rattle.mls_command.specs.Running.{site_of}
+use Rattle.mls_command.proofs.RunningLemmas.{sound_at}
+use Rattle.store_cases.proofs.runs.run_script.Goals as goal
+
+pub run_on-outcome-requires-clause-sound : goal.run_on-outcome-requires-clause-sound
+run_on-outcome-requires-clause-sound g c = λ clean. sound_at (site_of c.args.site.now.policy c.args.site.now.schemes _) _ (c.requires.sound clean)

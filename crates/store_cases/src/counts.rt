@@ -1,0 +1,185 @@
+//! How many stops leave what.
+use case_tables::Told;
+use std::alloc::{AllocError, Global};
+
+/// Where a stop is: 0 in the opening of a store, then in one of the events, and last in the closing; and whether its event is done.
+#[derive(Clone, Copy)]
+pub struct Place {
+    pub number: usize,
+    pub done: bool,
+}
+
+/// Whether the content in this place is what is found.
+fn holds(contents: &[String], place: usize, found: &Option<String>) -> bool {
+    match (contents.get(place), found) {
+        (Some(content), Some(found)) => content.as_str() == found.as_str(),
+        _ => false,
+    }
+}
+
+/// How many stops left what was before their events, which are not said to be done, and how many what is after them. All others are
+/// wrong.
+#[derive(Clone, Copy)]
+struct Left {
+    before: usize,
+    after: usize,
+}
+
+impl Left {
+    const NONE: Left = Left {
+        before: 0,
+        after: 0,
+    };
+
+    /// Notes what is found after a stop, and answers whether it is one of the two.
+    fn note(&mut self, contents: &[String], place: Place, found: &Option<String>) -> bool {
+        if !place.done && holds(contents, place.number.saturating_sub(1), found) {
+            self.before = self.before.saturating_add(1);
+            return true;
+        }
+        if holds(contents, place.number, found) {
+            self.after = self.after.saturating_add(1);
+            return true;
+        }
+        false
+    }
+
+    fn tell(&self, name: &str, out: &mut Told) {
+        out.push("; ");
+        out.push(name);
+        out.push(" ");
+        out.push_count(self.before);
+        out.push(" before, ");
+        out.push_count(self.after);
+        out.push(" after");
+    }
+
+    fn plus(&self, other: &Left) -> Left {
+        Left {
+            before: self.before.saturating_add(other.before),
+            after: self.after.saturating_add(other.after),
+        }
+    }
+}
+
+/// How many stops there are, how many events are done then, and what is left of what was synced, and of all that was written.
+#[derive(Clone, Copy)]
+struct Count {
+    stops: usize,
+    done: usize,
+    synced: Left,
+    written: Left,
+}
+
+impl Count {
+    const NONE: Count = Count {
+        stops: 0,
+        done: 0,
+        synced: Left::NONE,
+        written: Left::NONE,
+    };
+
+    fn tell(&self, name: &str, out: &mut Told) {
+        out.push("  ");
+        out.push_count(self.stops);
+        out.push(" stops, ");
+        out.push_count(self.done);
+        out.push(" done");
+        self.synced.tell("synced", out);
+        self.written.tell("written", out);
+        out.push(": ");
+        out.push_line(name);
+    }
+
+    fn plus(&self, other: &Count) -> Count {
+        Count {
+            stops: self.stops.saturating_add(other.stops),
+            done: self.done.saturating_add(other.done),
+            synced: self.synced.plus(&other.synced),
+            written: self.written.plus(&other.written),
+        }
+    }
+}
+
+/// What is found after a stop, if anything is: where only what was synced is left, and where all that was written is.
+#[derive(Drop)]
+pub struct Found {
+    pub synced: Option<String>,
+    pub written: Option<String>,
+}
+
+/// What the stops of a series leave, by their places.
+#[derive(Drop)]
+pub struct Counts {
+    places: Vec<Count>,
+    wrong: Vec<u64>,
+    is_whole: bool,
+}
+
+impl Counts {
+    /// No stop yet, of so many places.
+    pub fn new(alloc: Global, places: usize) -> Result<Counts, AllocError> {
+        let mut counts = Vec::new(alloc);
+        counts.resize(places, Count::NONE)?;
+        Ok(Counts {
+            places: counts,
+            wrong: Vec::new(alloc),
+            is_whole: false,
+        })
+    }
+
+    /// Notes what is found after the stop after so many calls.
+    pub fn note(
+        &mut self,
+        contents: &[String],
+        place: Place,
+        found: &Found,
+        calls: u64,
+    ) -> Result<(), AllocError> {
+        let Some(count) = self.places.get_mut(place.number) else {
+            self.wrong.push(calls)?;
+            return Ok(());
+        };
+        count.stops = count.stops.saturating_add(1);
+        count.done = count.done.saturating_add(usize::from(place.done));
+        let synced = count.synced.note(contents, place, &found.synced);
+        let written = count.written.note(contents, place, &found.written);
+        if !synced || !written {
+            self.wrong.push(calls)?;
+        }
+        Ok(())
+    }
+
+    /// Notes what is found where nothing stopped: the last content, if all is well.
+    pub fn end(&mut self, contents: &[String], found: &Found) {
+        let last = contents.len().saturating_sub(1);
+        self.is_whole = holds(contents, last, &found.synced)
+            && holds(contents, last, &found.written);
+    }
+
+    fn total(&self) -> Count {
+        let mut total = Count::NONE;
+        for count in &self.places {
+            total = total.plus(count);
+        }
+        total
+    }
+
+    /// Tells them, with the names of the places.
+    pub fn tell(&self, names: &[&str], out: &mut Told) {
+        for (count, name) in self.places.iter().zip(names) {
+            if count.stops > 0 {
+                count.tell(name, out);
+            }
+        }
+        self.total().tell("in all", out);
+        if !self.is_whole {
+            out.push_line("  not whole where nothing stops");
+        }
+        for calls in &self.wrong {
+            out.push("  wrong after ");
+            out.push_number(calls.cast_signed());
+            out.push_line(" calls");
+        }
+    }
+}

@@ -1,0 +1,29 @@
+//! Cases of stores in files: what is found in them after a stop, after damage, and when they are opened again. Adding a case is adding
+//! a line in `data/`, and its answer to `stdout`.
+#![tactic(auto)]
+
+mod again;
+mod contents;
+mod counts;
+mod cuts;
+mod damage;
+mod disks;
+mod narrow;
+mod runs;
+mod site;
+mod stopping;
+mod stops;
+mod stores;
+mod table;
+
+use crate::table::{TABLES, told};
+use sqlite_disk::{Fuse, Memory};
+use std::io::{self, Write};
+
+fn main(rt: HostRuntime) -> io::Result<()> {
+    for (file, table) in TABLES {
+        let told = told::<Fuse<Memory>, HostRuntime>(&rt, file, table)?;
+        rt.stdout().write_all(told.as_bytes())?;
+    }
+    Ok(())
+}

@@ -32,12 +32,12 @@ use Rattle.mls_filterview.proofs.RecoveringLemmas.{in_table_of, table_of_is}
 
 -- ---- tests of a list
 
-all-among : {A : Type 0} (p : A → Bool) (xs : List A) → list_all p xs ≡ true → (x : A) → IsAmong x xs → p x ≡ true
+pub all-among : {A : Type 0} (p : A → Bool) (xs : List A) → list_all p xs ≡ true → (x : A) → IsAmong x xs → p x ≡ true
 all-among p [] h x i = absurd i
 all-among p (y ∷ ys) h x (inl e) = ap p e ∙ (and_parts _ _ h).0
 all-among p (y ∷ ys) h x (inr i) = all-among p ys (and_parts _ _ h).1 x i
 
-among-all : {A : Type 0} (p : A → Bool) (xs : List A) → ((x : A) → IsAmong x xs → p x ≡ true) → list_all p xs ≡ true
+pub among-all : {A : Type 0} (p : A → Bool) (xs : List A) → ((x : A) → IsAmong x xs → p x ≡ true) → list_all p xs ≡ true
 among-all p [] h = refl
 among-all p (x ∷ xs) h = and_from _ _ (h x (inl refl)) (among-all p xs (λ y i. h y (inr i)))
 
@@ -53,7 +53,7 @@ pub declared-true : (n : ℕ) (es : List Element) → are_declared n es ≡ true
 declared-true n [] h = tt
 declared-true n (e ∷ es) h = let p = and_parts _ _ h in (ltb-true e.class n p.0, declared-true n es p.1)
 
-declared-from : (n : ℕ) (es : List Element) → ((i : ℕ) → i < length es → (at es i).class < n) → are_declared n es ≡ true
+pub declared-from : (n : ℕ) (es : List Element) → ((i : ℕ) → i < length es → (at es i).class < n) → are_declared n es ≡ true
 declared-from n [] h = refl
 declared-from n (e ∷ es) h = and_from _ _ (lt-ltb e.class n (h 0 (omega arith))) (declared-from n es (λ i l. h (suc i) (omega arith)))
 

@@ -26,3 +26,6 @@ pub mod CheckingLemmas
 pub mod RecoveringLemmas
 pub mod ContentLemmas
 pub mod PlaceLemmas
+pub mod WidenLemmas
+pub mod WideningLemmas
+pub mod WidenedRowLemmas

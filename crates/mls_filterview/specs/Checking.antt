@@ -105,3 +105,7 @@ are_declared count = list_all (λ e. nat_lt e.class count)
 -- the classes of a tuple are numbers of labels, of which there are count, and it stands at the number of its class
 abbrev pub is_placed : ℕ → Labels → Place × List Element → Bool
 is_placed count ls e = nat_lt e.0.key_class count && are_declared count e.1 && nat_eq e.0.class (class_number ls (tuple_at e.0 e.1))
+
+-- the classes of a tuple and of its place are below count
+abbrev pub is_below : ℕ → Place × List Element → Bool
+is_below count e = nat_lt e.0.class count && nat_lt e.0.key_class count && are_declared count e.1

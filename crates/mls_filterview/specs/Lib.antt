@@ -10,4 +10,5 @@ pub mod Filtering
 pub mod Rules
 pub mod Checking
 pub mod RowOrder
+pub mod Widen
 pub mod Laws

@@ -1,7 +1,7 @@
 //! Tuples put together from fragments.
 ghost use Rattle.std.specs.Prelude.{◌≡◌, OnOk, IfOk, Some, None};
 ghost use Rattle.std.specs.Option.{unwrap_or};
-ghost use Rattle.std.specs.BTreeMap.{Updates, IsOrdered, get};
+ghost use Rattle.std.specs.BTreeMap.{Updates, IsOrdered, get, insert_entry};
 ghost use Rattle.mls_scheme.specs.Table.{place_cmp};
 ghost use Rattle.mls_filterview.specs.Assembly.{cell_place_cmp, AreValues, AreRows, elements_of};
 
@@ -19,12 +19,13 @@ pub type Rows = BTreeMap<Place, Items<Element>>;
 pub type Values = BTreeMap<(Place, usize), Option<Value>>;
 
 /// Puts elements at a place.
-fn put_row(
+pub(crate) fn put_row(
     rows: &mut Rows,
     place: Place,
     elements: Items<Element>,
 ) -> Result<(), AllocFailed<(Place, Items<Element>)>>
     ensures updates { OnOk result (Updates place_cmp rows.old rows.new place (Some elements)) }
+    ensures entries { OnOk result (rows.new.entries ≡ insert_entry place_cmp rows.old.entries place elements) }
     ensures ordered { OnOk result (IsOrdered place_cmp rows.new) }
 {
     rows.insert(place, elements)?;

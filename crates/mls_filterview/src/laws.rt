@@ -1,5 +1,6 @@
 //! The laws of views and of the stored form, each the contract of a function.
 ghost use Rattle.mls_filterview.specs.Laws.{StoredHasIntegrity, ViewIsMaxOfLow, ViewTellsLow, ViewsAndLowAgree, RowsAreTheView};
+ghost use Rattle.mls_filterview.specs.Widen.{ViewOfWidened, ViewOfWidenedTable, WideningKeepsContent, WidenedWasContent, ContentNeedsItsLabels};
 
 /// The stored form has the four integrity properties.
 pub fn stored_has_integrity()
@@ -24,4 +25,29 @@ pub fn views_and_low_agree()
 /// The rows of a level are the tuples of its view, in the order of places.
 pub fn rows_are_the_view()
     ensures { RowsAreTheView }
+{}
+
+/// What a level sees of widened tuples is what it sees of the tuples, widened.
+pub fn view_of_widened()
+    ensures { ViewOfWidened }
+{}
+
+/// So of a table that was widened.
+pub fn view_of_widened_table()
+    ensures { ViewOfWidenedTable }
+{}
+
+/// Widening keeps the stored form, also where labels are added behind those of before.
+pub fn widening_keeps_content()
+    ensures { WideningKeepsContent }
+{}
+
+/// What was widened had the stored form under the labels of before, where it has only their classes.
+pub fn widened_was_content()
+    ensures { WidenedWasContent }
+{}
+
+/// Content of the classes of the first labels is content under these alone.
+pub fn content_needs_its_labels()
+    ensures { ContentNeedsItsLabels }
 {}

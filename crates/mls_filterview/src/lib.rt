@@ -17,6 +17,7 @@ mod rule;
 mod splitting;
 mod subsumption;
 mod viewing;
+mod widening;
 
 pub use assembly::{Rows, Values, rows_of, values_of};
 pub use base::{Base, BaseFault, abandon, made};
@@ -26,11 +27,13 @@ pub use entity_rules::is_same_label;
 pub use filtering::filter;
 pub use fragment::{Cell, Fragment, Node};
 pub use laws::{
-    rows_are_the_view, stored_has_integrity, view_is_max_of_low, view_tells_low,
-    views_and_low_agree,
+    content_needs_its_labels, rows_are_the_view, stored_has_integrity, view_is_max_of_low,
+    view_of_widened, view_of_widened_table, view_tells_low, views_and_low_agree,
+    widened_was_content, widening_keeps_content,
 };
 pub use recovering::is_content;
 pub use rule::{Broken, Rule};
 pub use splitting::{add_cells, cells_of, node_of, nodes_of};
 pub use subsumption::subsumes;
 pub use viewing::view;
+pub use widening::{are_below, widened};

@@ -18,7 +18,7 @@ use mls_scheme::{Element, Place, Scheme, Tuple};
 use std::alloc::{AllocError, Global};
 
 /// Whether the classes of elements are numbers of labels, of which there are `count`.
-fn are_declared(count: usize, elements: &[Element]) -> bool
+pub(crate) fn are_declared(count: usize, elements: &[Element]) -> bool
     ensures { result ≡ are_declared count elements.now }
 {
     for element in elements {

@@ -48,7 +48,7 @@ class_bound n [] h i l = absurd (omega arith)
 class_bound n (e ∷ es) h zero l = h.0
 class_bound n (e ∷ es) h (suc i) l = class_bound n es h.1 i (omega arith)
 
-occurs_bound : (n : ℕ) (t : Tuple) → HasClassesBelow n t → (m : ℕ) → OccursIn t m → m < n
+pub occurs_bound : (n : ℕ) (t : Tuple) → HasClassesBelow n t → (m : ℕ) → OccursIn t m → m < n
 occurs_bound n t h m (inl e) = subst (λ x. x < n) (sym e) h.key_class
 occurs_bound n t h m (inr o) = subst (λ x. x < n) (sym o.2) (class_bound n t.elements h.elements o.0 o.1)
 

@@ -23,6 +23,7 @@ pub mod EntitySteps
 pub mod EntityTests
 pub mod RuleLemmas
 pub mod CheckingLemmas
+pub mod RowRuleLemmas
 pub mod RecoveringLemmas
 pub mod ContentLemmas
 pub mod PlaceLemmas

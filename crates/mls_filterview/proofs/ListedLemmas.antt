@@ -37,7 +37,7 @@ pub sorted_keys : (es : List Entry) → IsStrictlySortedBy place_cmp (keys_of es
 sorted_keys [] h = refl
 sorted_keys (e ∷ es) h = and_from _ _ (below_keys e.0 es (sorted_head place_cmp e.0 (keys_of es) h)) (sorted_keys es (sorted_tail place_cmp e.0 (keys_of es) h))
 
-find-lookup : (q : Place) (es : List Entry) → find place_cmp q es ≡ lookup (is_at (place_cmp q)) es
+pub find-lookup : (q : Place) (es : List Entry) → find place_cmp q es ≡ lookup (is_at (place_cmp q)) es
 find-lookup q [] = refl
 find-lookup q (e ∷ es) = ap (λ o. cond (is_place q e.0) (Some e.1) o) (find-lookup q es)
 

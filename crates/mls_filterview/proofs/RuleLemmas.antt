@@ -71,19 +71,19 @@ among-before (s ∷ ts) (suc i) t (inr h) = let r = among-before ts i t h in (su
 
 -- ---- the classes of a tuple
 
-classes-each : (p : ℕ → Bool) (t : Tuple) → all_classes p t ≡ true → (m : ℕ) → OccursIn t m → p m ≡ true
+pub classes-each : (p : ℕ → Bool) (t : Tuple) → all_classes p t ≡ true → (m : ℕ) → OccursIn t m → p m ≡ true
 classes-each p t h m (inl e) = ap p e ∙ (and_parts _ _ h).0
 classes-each p t h m (inr o) = ap p o.2 ∙ all-each (λ e. p e.class) null_element t.elements (and_parts _ _ h).1 o.0 o.1
 
-each-classes : (p : ℕ → Bool) (t : Tuple) → ((m : ℕ) → OccursIn t m → p m ≡ true) → all_classes p t ≡ true
+pub each-classes : (p : ℕ → Bool) (t : Tuple) → ((m : ℕ) → OccursIn t m → p m ≡ true) → all_classes p t ≡ true
 each-classes p t h = and_from _ _ (h t.key_class (inl refl)) (each-all (λ e. p e.class) null_element t.elements (λ k l. h (at t.elements k).class (inr (k, l, refl))))
 
 -- ---- nulls
 
-null-true : (v : Option Value) (c k : ℕ) → (is_some v || nat_eq c k) ≡ true → v ≡ None → c ≡ k
+pub null-true : (v : Option Value) (c k : ℕ) → (is_some v || nat_eq c k) ≡ true → v ≡ None → c ≡ k
 null-true v c k h e = elim (or_cases _ _ h) [ inl s ↦ absurd (false≢true (sym (ap is_some e) ∙ s)) | inr s ↦ eqb-true c k s ]
 
-null-from : (v : Option Value) (c k : ℕ) → (v ≡ None → c ≡ k) → (is_some v || nat_eq c k) ≡ true
+pub null-from : (v : Option Value) (c k : ℕ) → (v ≡ None → c ≡ k) → (is_some v || nat_eq c k) ≡ true
 null-from (Some v) c k h = refl
 null-from None c k h = eq-eqb c k (h refl)
 
@@ -102,13 +102,13 @@ zip-from p P f (x ∷ xs) [] h = absurd h
 zip-from p P f (x ∷ xs) (y ∷ ys) h = and_from _ _ (f x y h.0) (zip-from p P f xs ys h.1)
 
 module _ (ls : Labels) (scheme : Scheme) (t : Tuple) where
-  fits-true : fits_scheme ls scheme t ≡ true → Fits ls scheme (place_of 0 t) t.elements
+  pub fits-true : fits_scheme ls scheme t ≡ true → Fits ls scheme (place_of 0 t) t.elements
   fits-true h = record {
     key = zip-true (fits_value ls t.key_class) (λ a v. (is_kind v a.kind ≡ true) × (in_interval ls t.key_class a ≡ true)) (λ a v b. and_parts _ _ b) scheme.keys t.key (and_parts _ _ h).0;
     others = zip-true (fits_element ls) (λ a e. (fits_kind e.value a.kind ≡ true) × (in_interval ls e.class a ≡ true)) (λ a e b. and_parts _ _ b) scheme.others t.elements (and_parts _ _ h).1;
   }
 
-  fits-from : Fits ls scheme (place_of 0 t) t.elements → fits_scheme ls scheme t ≡ true
+  pub fits-from : Fits ls scheme (place_of 0 t) t.elements → fits_scheme ls scheme t ≡ true
   fits-from f =
       and_from _ _ (zip-from (fits_value ls t.key_class) (λ a v. (is_kind v a.kind ≡ true) × (in_interval ls t.key_class a ≡ true)) (λ a v b. and_from _ _ b.0 b.1) scheme.keys t.key f.key)
       (zip-from (fits_element ls) (λ a e. (fits_kind e.value a.kind ≡ true) × (in_interval ls e.class a ≡ true)) (λ a e b. and_from _ _ b.0 b.1) scheme.others t.elements f.others)
@@ -141,7 +141,7 @@ module _ (ls : Labels) where
   one_down : (i n : ℕ) → suc i < suc n → i < n
   one_down i n h = omega arith
 
-  below-true : (m : ℕ) (es fs : List Element) → has_below ls m es fs ≡ true → HasBelow ls m es fs
+  pub below-true : (m : ℕ) (es fs : List Element) → has_below ls m es fs ≡ true → HasBelow ls m es fs
   below-true m [] fs h i l b = absurd (omega arith)
   below-true m (e ∷ es) [] h zero l b = absurd (false≢true (not-below e.class m false b (and_parts _ _ h).0))
   below-true m (e ∷ es) [] h (suc i) l b = absurd (no_room (below-true m es [] (and_parts _ _ h).1 i (omega arith) b).0)
@@ -152,7 +152,7 @@ module _ (ls : Labels) where
   implied true b h = h refl
   implied false b h = refl
 
-  below-from : (m : ℕ) (es fs : List Element) → HasBelow ls m es fs → has_below ls m es fs ≡ true
+  pub below-from : (m : ℕ) (es fs : List Element) → HasBelow ls m es fs → has_below ls m es fs ≡ true
   below-from m [] fs h = refl
   below-from m (e ∷ es) [] h =
       and_from _ _ (implied (below ls e.class m) false (λ b. absurd (no_room (h 0 (omega arith) b).0)))

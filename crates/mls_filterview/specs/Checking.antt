@@ -14,7 +14,7 @@ use Rattle.mls_scheme.specs.Scheme.{Attribute, Scheme}
 use Rattle.mls_scheme.specs.Fits.{in_interval}
 use Rattle.mls_filterview.specs.declared.rule.Rule.{Rule}
 use Rattle.mls_filterview.specs.declared.rule.Rule.TheVariants.{Entity, Null, Interval, Poly, Closure}
-use Rattle.mls_filterview.specs.Stored.{is_entity}
+use Rattle.mls_filterview.specs.Stored.{is_entity, with_class}
 use Rattle.mls_filterview.specs.Subsumption.{same_element}
 use Rattle.mls_filterview.specs.Filtering.{class_number}
 use Rattle.mls_filterview.specs.Rules.{row_at}
@@ -105,6 +105,22 @@ are_declared count = list_all (λ e. nat_lt e.class count)
 -- the classes of a tuple are numbers of labels, of which there are count, and it stands at the number of its class
 abbrev pub is_placed : ℕ → Labels → Place × List Element → Bool
 is_placed count ls e = nat_lt e.0.key_class count && are_declared count e.1 && nat_eq e.0.class (class_number ls (tuple_at e.0 e.1))
+
+-- a tuple keeps the rules that speak of no other tuple
+abbrev pub is_right_alone : Labels → Scheme → Tuple → Bool
+is_right_alone ls scheme t = is_above_key ls t && has_nulls_at_key t && fits_scheme ls scheme t && is_chain ls t
+
+-- there is a tuple, and it has the elements es wherever m dominates the class in es
+abbrev pub agrees_with_found : Labels → ℕ → List Element → Option (List Element) → Bool
+agrees_with_found ls m es None = false
+agrees_with_found ls m es (Some fs) = has_below ls m es fs
+
+-- for each class of a tuple its entity has a tuple of that class that agrees with it
+abbrev pub is_closed : Labels → (Place → Option (List Element)) → Place × List Element → Bool
+is_closed ls found e = all_classes (λ m. agrees_with_found ls m e.1 (found (with_class e.0 m))) (tuple_at e.0 e.1)
+
+abbrev pub is_stored_row : ℕ → Labels → Scheme → (Place → Option (List Element)) → Place × List Element → Bool
+is_stored_row count ls scheme found e = is_placed count ls e && is_right_alone ls scheme (tuple_at e.0 e.1) && is_closed ls found e
 
 -- the classes of a tuple and of its place are below count
 abbrev pub is_below : ℕ → Place × List Element → Bool

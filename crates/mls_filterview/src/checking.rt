@@ -5,7 +5,7 @@ ghost use Rattle.mls_lattice.specs.Policy.{labels_of};
 ghost use Rattle.mls_scheme.specs.Scheme.{IsUnder};
 ghost use Rattle.mls_scheme.specs.Tuple.{HasClassesBelow};
 ghost use Rattle.mls_filterview.specs.Rules.{IsStoredList, IsFirstBroken};
-ghost use Rattle.mls_filterview.specs.Checking.{is_above_key, has_nulls_at_key, broken_rule};
+ghost use Rattle.mls_filterview.specs.Checking.{is_above_key, has_nulls_at_key, is_right_alone, broken_rule};
 
 use crate::entity_rules::{has_each_class, is_chain, is_determined};
 use crate::fitting::fits_scheme;
@@ -57,6 +57,18 @@ fn broken_rule(policy: &Policy, scheme: &Scheme, tuples: &[Tuple], row: usize) -
         return Some(Rule::Closure);
     }
     None
+}
+
+/// Whether a tuple keeps the rules that speak of no other tuple.
+pub(crate) fn is_right_alone(policy: &Policy, scheme: &Scheme, tuple: &Tuple) -> bool
+    requires classes { HasClassesBelow (length policy.now.labels) tuple.now }
+    requires under { IsUnder (length policy.now.labels) scheme.now }
+    ensures { result ≡ is_right_alone (labels_of policy.now) scheme.now tuple.now }
+{
+    is_above_key(policy, tuple)
+        && has_nulls_at_key(tuple)
+        && fits_scheme(policy, scheme, tuple)
+        && is_chain(policy, tuple)
 }
 
 /// Whether each class dominates the key class.

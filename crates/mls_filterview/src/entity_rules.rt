@@ -63,7 +63,12 @@ fn has_at(element: &Element, elements: &[Element], place: usize) -> bool
 
 /// Whether the second list has the elements of the first wherever a class dominates theirs.
 #[tactic(auto, using(crate::proofs::EntitySteps::below_steps))]
-fn has_below(policy: &Policy, class: LabelNo, left: &[Element], right: &[Element]) -> bool
+pub(crate) fn has_below(
+    policy: &Policy,
+    class: LabelNo,
+    left: &[Element],
+    right: &[Element],
+) -> bool
     requires class { class < length policy.now.labels }
     requires classes { AllByRecursion (λ e. e.class < length policy.now.labels) left.now }
     ensures { result ≡ has_below (labels_of policy.now) class left.now right.now }

@@ -1,38 +1,40 @@
-use Rattle.std.proofs.Common.{◌≡◌, ◌↔◌, None, List, sym, ap, ◌∙◌, subst, length}
-use Rattle.std.specs.List.{list_all, AllByRecursion}
-use Rattle.std.proofs.lemmas.Bool.{true≢false, false≢true}
+-- proofs/recovering/is_content/Answers.antt
+use Rattle.std.proofs.Common.{◌≡◌, Bool, true, false, ◌&&◌, List, Option, sym, ap, ◌∙◌, length}
+use Rattle.std.specs.BTreeMap.{get}
+use Rattle.std.specs.List.{list_all}
 use Rattle.std.proofs.lemmas.List.{length-map}
 use Rattle.mls_lattice.specs.Policy.{Tables, labels_of}
-use Rattle.mls_scheme.specs.Tuple.{HasClassesBelow}
-use Rattle.mls_filterview.specs.Rules.{IsStoredList}
-use Rattle.mls_filterview.specs.Checking.{is_placed}
+use Rattle.mls_scheme.specs.declared.tuple.Element.{Element}
+use Rattle.mls_scheme.specs.declared.place.Place.{Place}
+use Rattle.mls_scheme.specs.Table.{place_cmp}
+use Rattle.mls_scheme.specs.Scheme.{Scheme}
+use Rattle.mls_filterview.specs.Checking.{is_stored_row}
 use Rattle.mls_filterview.proofs.EntryLemmas.{Entry}
-use Rattle.mls_filterview.proofs.ContentLemmas.{placed-bounded, all_placed, content_told}
+use Rattle.mls_filterview.proofs.ContentLemmas.{content_told}
 use Rattle.mls_filterview.proofs.recovering.is_content.Goals as goal
 
 -- the numbers of labels, counted in either list
-same_test : (policy : Tables) (es : List Entry) → list_all (is_placed (length (labels_of policy)) (labels_of policy)) es ≡ list_all (is_placed (length policy.labels) (labels_of policy)) es
-same_test policy es = ap (λ n. list_all (is_placed n (labels_of policy)) es) (length-map policy.labels (λ l. l.value))
+same_test : (policy : Tables) (scheme : Scheme) (found : Place → Option (List Element)) (es : List Entry)
+    → list_all (is_stored_row (length policy.labels) (labels_of policy) scheme found) es ≡ list_all (is_stored_row (length (labels_of policy)) (labels_of policy) scheme found) es
+same_test policy scheme found es = sym (ap (λ n. list_all (is_stored_row n (labels_of policy) scheme found) es) (length-map policy.labels (λ l. l.value)))
 
-pub returns-then-not-are_placed : goal.returns-then-not-are_placed
-returns-then-not-are_placed c = (
-  (λ h. absurd (false≢true h)),
-  (λ content.
-      absurd
-      (true≢false
-      (sym (all_placed (labels_of c.args.policy.now) c.label_count-labels.ensures.distinct c.args.scheme.now c.args.rows.now.entries c.are_placed.ensures.ordered content)
-      ∙ same_test c.args.policy.now c.args.rows.now.entries ∙ sym c.if-not-are_placed.ensures.placed))),
-)
-
-pub integrity-broken-requires-clause-classes : goal.integrity-broken-requires-clause-classes
-integrity-broken-requires-clause-classes c =
-    subst (AllByRecursion (HasClassesBelow (length c.args.policy.now.labels))) (sym (c.deref.ensures.value ∙ c.in_ok-tuples.ensures))
-    (placed-bounded (length c.args.policy.now.labels) (labels_of c.args.policy.now) c.args.rows.now.entries (sym c.if-not-are_placed.ensures.placed))
+pub returns-then-not-branch : goal.returns-then-not-branch
+returns-then-not-branch c =
+    let policy = c.args.policy.now in
+    let scheme = c.args.scheme.now in
+    let found = get place_cmp c.args.rows.now in
+    let es = c.args.rows.now.entries in
+    let test : Entry → Bool = is_stored_row (length policy.labels) (labels_of policy) scheme found in
+    let fails : test (c.in-Some.place.now, c.in-Some.elements.now) ≡ false = sym c.in_ok-is_stored_row.ensures ∙ c.if-not-branch.true in
+    content_told (labels_of policy) c.label_count-labels.ensures.distinct scheme es c.iter-place-items.ensures.ordered false
+    (sym (ap (λ b. b && list_all test c.next.new.self) fails) ∙ sym (ap (list_all test) c.in-Some.ensures.steps) ∙ c.loop-place.invariant ∙ same_test policy scheme found es)
 
 pub returns : goal.returns
 returns c =
-    let ls = labels_of c.args.policy.now in
-    content_told ls c.label_count-labels.ensures.distinct c.args.scheme.now c.args.rows.now.entries c.are_placed.ensures.ordered
-    (same_test c.args.policy.now c.args.rows.now.entries ∙ sym c.if-not-are_placed.ensures.placed) c.integrity-broken.result
-    (subst (λ ts. (c.integrity-broken.result ≡ None) ↔ IsStoredList ls c.args.scheme.now ts) (c.deref.ensures.value ∙ c.in_ok-tuples.ensures) c.integrity-broken.ensures.none)
-    c.is_none.result c.is_none.ensures
+    let policy = c.args.policy.now in
+    let scheme = c.args.scheme.now in
+    let found = get place_cmp c.args.rows.now in
+    let es = c.args.rows.now.entries in
+    let test : Entry → Bool = is_stored_row (length policy.labels) (labels_of policy) scheme found in
+    content_told (labels_of policy) c.label_count-labels.ensures.distinct scheme es c.iter-place-items.ensures.ordered true
+    (sym (ap (list_all test) c.in-None.ensures.steps.0) ∙ c.loop-place.invariant ∙ same_test policy scheme found es)

@@ -2,7 +2,7 @@
 use crate::show::push_fault;
 use case_tables::{Case, Told, joined, text_of, unfolded};
 use mls_lattice::Policy;
-use mls_scheme::Schemes;
+use mls_scheme::SchemesFile;
 use std::alloc::{AllocError, Global};
 
 fn tell_policy_read(alloc: Global, bytes: &[u8], out: &mut Told) {
@@ -13,7 +13,7 @@ fn tell_policy_read(alloc: Global, bytes: &[u8], out: &mut Told) {
 }
 
 fn tell_schemes_read(alloc: Global, policy: &Policy, bytes: &[u8], out: &mut Told) {
-    match Schemes::read(alloc, policy, bytes) {
+    match SchemesFile::read(alloc, policy, bytes) {
         Ok(_) => out.push("read"),
         Err(fault) => push_fault(fault.code(), fault.word(), out),
     }
@@ -61,8 +61,8 @@ fn push_policy_in(alloc: Global, text: &str, out: &mut Told) {
 }
 
 fn push_schemes_in(alloc: Global, policy: &Policy, text: &str, out: &mut Told) {
-    match Schemes::read(alloc, policy, text.as_bytes()) {
-        Ok(schemes) => push_canon(schemes.canon(alloc, policy), out),
+    match SchemesFile::read(alloc, policy, text.as_bytes()) {
+        Ok(file) => push_canon(file.canon(alloc, policy), out),
         Err(fault) => push_fault(fault.code(), fault.word(), out),
     }
 }

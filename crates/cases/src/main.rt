@@ -8,6 +8,7 @@ ghost use Rattle.mls_scheme.specs.Scheme.{AreUnder};
 mod certificates;
 mod documents;
 mod entries;
+mod extending;
 mod faults;
 mod keys;
 mod limits;
@@ -21,7 +22,7 @@ mod views;
 
 use crate::table::{TABLES, Table, told};
 use mls_lattice::Policy;
-use mls_scheme::Schemes;
+use mls_scheme::{Schemes, SchemesFile};
 use std::fs;
 use std::io::{self, Error, ErrorKind, Write};
 
@@ -57,8 +58,8 @@ fn tell_all(rt: &HostRuntime, policy: &Policy, schemes: &Schemes) -> io::Result<
 
 fn tell_under(rt: &HostRuntime, policy: &Policy) -> io::Result<()> {
     let text = fs::read_to_string(rt, "schemes.toml")?;
-    match Schemes::read(rt.alloc(), policy, text.as_bytes()) {
-        Ok(schemes) => tell_all(rt, policy, &schemes),
+    match SchemesFile::read(rt.alloc(), policy, text.as_bytes()) {
+        Ok(file) => tell_all(rt, policy, &file.schemes),
         Err(_) => Err(Error::from(ErrorKind::InvalidData)),
     }
 }

@@ -3,7 +3,7 @@ ghost use Rattle.std.specs.Prelude.{length};
 ghost use Rattle.mls_scheme.specs.Scheme.{AreUnder};
 
 use crate::transactions::{checks, evaluations, limits as text_limits, texts};
-use crate::{certificates, documents, entries, keys, limits, lookups, reads, views};
+use crate::{certificates, documents, entries, extending, keys, limits, lookups, reads, views};
 use case_tables::{Case, Told, case_at};
 use mls_lattice::Policy;
 use mls_scheme::Schemes;
@@ -26,6 +26,7 @@ pub enum Subject {
     Policies,
     Schemes,
     Documents,
+    Extending,
     Limits,
     Lookups,
     Keys,
@@ -40,10 +41,11 @@ pub enum Subject {
     Labels2,
 }
 
-pub static TABLES: [(&str, Table); 17] = [
+pub static TABLES: [(&str, Table); 18] = [
     ("policies.txt", Table::Each(Subject::Policies)),
     ("schemes.txt", Table::Each(Subject::Schemes)),
     ("documents.txt", Table::Each(Subject::Documents)),
+    ("extending.txt", Table::Each(Subject::Extending)),
     ("limits.txt", Table::Each(Subject::Limits)),
     ("lookups.txt", Table::Each(Subject::Lookups)),
     ("keys.txt", Table::Each(Subject::Keys)),
@@ -127,6 +129,7 @@ fn tell_case(
         Subject::Policies => documents::tell_policy(alloc, case.head, out),
         Subject::Schemes => documents::tell_schemes(alloc, policy, case.head, out),
         Subject::Documents => documents::tell(alloc, policy, case, out),
+        Subject::Extending => extending::tell(alloc, policy, schemes, case, out),
         Subject::Limits => limits::tell(alloc, policy, case.head, out),
         Subject::Lookups => lookups::tell(policy, case.head, out),
         Subject::Keys => keys::tell(alloc, case.head, out),

@@ -9,7 +9,7 @@ use mls_command::{CloseFault, Host, HostFault, read_whole};
 use mls_filterview::Base;
 use mls_fragments::{OpenFault, SqlBase};
 use mls_lattice::Policy;
-use mls_scheme::Schemes;
+use mls_scheme::SchemesFile;
 use sqlite::{FileFrom, FileStore, Start};
 use std::alloc::Global;
 use std::fs;
@@ -22,10 +22,10 @@ pub trait Opens<B: Base> {
     ghost holds: { Self → Content → Type 0 };
 
     /// The base over the store at a path, which is made where there is none.
-    fn open(&mut self, path: &str, policy: &Policy, schemes: &Schemes) -> Result<B, OpenFault>
-        requires under { AreUnder (length policy.now.labels) schemes.now }
+    fn open(&mut self, path: &str, policy: &Policy, file: &SchemesFile) -> Result<B, OpenFault>
+        requires under { AreUnder (length policy.now.labels) file.now.schemes }
         ensures idle { IfOk result (λ b. (B.state b).begun ≡ false) }
-        ensures sound { IfOk result (λ b. IsSoundContent policy.now schemes.now (B.state b).now) }
+        ensures sound { IfOk result (λ b. IsSoundContent policy.now file.now.schemes (B.state b).now) }
         ensures held { IfOk result (λ b. B.is_clean b → holds self.old (B.state b).now) };
 
     /// Closes the store of a base.
@@ -50,11 +50,11 @@ impl<'a, F: Start> Opens<SqlBase<FileStore<FileFrom<F>>>> for FilesOf<'a, F> {
         &mut self,
         path: &str,
         policy: &Policy,
-        schemes: &Schemes,
+        file: &SchemesFile,
     ) -> Result<SqlBase<FileStore<FileFrom<F>>>, OpenFault> {
         let start = self.start.take().ok_or(OpenFault::Store)?;
         private::make(self.rt, path);
-        SqlBase::open_path(self.rt, path, start, policy, schemes)
+        SqlBase::open_path(self.rt, path, start, policy, file)
     }
 
     fn close(&mut self, store: SqlBase<FileStore<FileFrom<F>>>) -> Result<(), CloseFault> {
@@ -112,12 +112,12 @@ impl<'a, B: Base + Drop, O: Opens<B> + Drop> Host for Machine<'a, B, O> {
         alloc: Global,
         path: &str,
         policy: &Policy,
-        schemes: &Schemes,
+        file: &SchemesFile,
     ) -> Result<B, OpenFault> {
         if self.left.is_some() {
             return Err(OpenFault::Store);
         }
-        self.stores.open(path, policy, schemes)
+        self.stores.open(path, policy, file)
     }
 
     fn keep(&mut self, path: &str, store: B) -> Result<(), CloseFault> {

@@ -56,7 +56,7 @@ run_at site reader sessions first left es before after (Ok u) sound h = record {
   shown = shown_to site reader (first_world site first) es h.secret;
 }
 run_at site reader sessions first left es before after (Err fault) sound h = record {
-  written = record { part = h.err.part; rest = h.err.rest; written = h.err.bytes; whole = h.err.reply; none = h.err.none; last = h.fault.last };
+  written = record { part = h.err.part; rest = h.err.rest; written = h.err.bytes; whole = h.err.reply; none = h.err.none; is = h.fault };
   left_by = (sessions, h.err.world);
   sound = sound;
   integrity = h.integrity;

@@ -4,6 +4,7 @@ use Rattle.mls_lattice.specs.Policy.{Tables}
 use Rattle.mls_lattice.specs.ReadsPolicy.{ReadsPolicy}
 use Rattle.mls_lattice.specs.Canon as lattice
 use Rattle.mls_scheme.specs.Scheme.{Schemes}
+use Rattle.mls_scheme.specs.declared.file.SchemesFile.{SchemesFile}
 use Rattle.mls_scheme.specs.Document.{ReadsSchemes}
 use Rattle.mls_scheme.specs.Canon as scheme
 use Rattle.mls_filterview.specs.Content.{Content, no_content}
@@ -20,20 +21,18 @@ use Rattle.mls_command.specs.declared.words.Task.TheVariants.{ShowPolicy, Run, C
 use Rattle.mls_command.specs.declared.words.RunFiles.{RunFiles}
 use Rattle.mls_command.specs.declared.usage.Usage.{Usage}
 use Rattle.mls_command.specs.declared.ending.Ending.{Ending}
-use Rattle.mls_command.specs.declared.ending.Ending.TheVariants.{Well, Refused}
+use Rattle.mls_command.specs.declared.ending.Ending.TheVariants.{Well}
 use Rattle.mls_command.specs.declared.refusal.Refusal.{Refusal}
 use Rattle.mls_command.specs.declared.refusal.Refusal.TheVariants as refusals
 use Rattle.mls_command.specs.Hosting.{Hosted}
 use Rattle.clap.specs.Words.{Text}
 use Rattle.mls_command.specs.Words.{Asks, AskNothing, usage_text, usage_status}
-use Rattle.mls_command.specs.Inputs.{IsFrom, IsReader, AreToldIn, AreStoredFrom}
+use Rattle.mls_command.specs.Inputs.{IsFrom, IsReader, AreStoredFrom}
 use Rattle.mls_command.specs.Refusal.{refusal_text, refusal_status, IsBefore}
 use Rattle.mls_command.specs.Ending.{ending_status}
 use Rattle.mls_command.specs.Running.{IsCutOff, IsRun, site_of}
 use Rattle.mls_command.specs.Certifying.{IsCertified}
 use Rattle.mls_command.specs.Checking.{IsChecked}
-
--- ---- the policy and the schemes: those of the samples, or of files
 
 -- what a command other than a run prints is written, and what it tells is told
 pub record IsPrinted (Prints : List ℕ → List ℕ → Ending → Type 0) (Wrote Told : List ℕ → Type 0) (end : Ending) : Type 0 where
@@ -56,13 +55,15 @@ abbrev pub IsScriptRead : (Option (List ℕ) → List ℕ → Type 0) → Option
 IsScriptRead Gives source policy schemes events = IsFrom Gives source (λ script. ReadsScript policy schemes script events)
 
 module _ (h : Hosted) where
+  -- ---- the policy and the schemes: those of the samples, or of files
+
   abbrev pub IsPolicyOf : Option Documents → Tables → Type 0
   IsPolicyOf None policy = ReadsPolicy POLICY.now policy
   IsPolicyOf (Some d) policy = IsFrom h.gives (Some d.policy.now) (λ bytes. ReadsPolicy bytes policy)
 
-  abbrev pub AreSchemesOf : Option Documents → Tables → Schemes → Type 0
-  AreSchemesOf None policy schemes = ReadsSchemes policy SCHEMES.now schemes
-  AreSchemesOf (Some d) policy schemes = IsFrom h.gives (Some d.schemes.now) (λ bytes. ReadsSchemes policy bytes schemes)
+  abbrev pub AreSchemesOf : Option Documents → Tables → SchemesFile → Type 0
+  AreSchemesOf None policy file = ReadsSchemes policy SCHEMES.now file.version file.schemes
+  AreSchemesOf (Some d) policy file = IsFrom h.gives (Some d.schemes.now) (λ bytes. ReadsSchemes policy bytes file.version file.schemes)
 
   -- ---- runs
 
@@ -103,52 +104,52 @@ module _ (h : Hosted) where
   -- ---- tasks
 
   -- what a command other than a run prints on standard output, what it tells on standard error, and how it ends
-  abbrev pub Prints : Tables → Schemes → Task → List ℕ → List ℕ → Ending → Type 0
-  Prints policy schemes ShowPolicy text told end = (text ≡ lattice.canon_of policy ++ scheme.canon_of policy schemes) × (told ≡ []) × (end ≡ Well)
-  Prints policy schemes (Run files) text told end = ⊥
-  Prints policy schemes (Certify transactions) text told end = IsCertified h.gives policy schemes transactions.now text told end
-  Prints policy schemes (Check transactions certificates) text told end = IsChecked h.gives policy schemes transactions.now certificates.now text told end
+  abbrev pub Prints : Tables → SchemesFile → Task → List ℕ → List ℕ → Ending → Type 0
+  Prints policy file ShowPolicy text told end = (text ≡ lattice.canon_of policy ++ scheme.canon_of policy file.version file.schemes) × (told ≡ []) × (end ≡ Well)
+  Prints policy file (Run files) text told end = ⊥
+  Prints policy file (Certify transactions) text told end = IsCertified h.gives policy file.schemes transactions.now text told end
+  Prints policy file (Check transactions certificates) text told end = IsChecked h.gives policy file.schemes transactions.now certificates.now text told end
 
   -- a task is done; a run tells nothing
-  abbrev pub IsTaskDone : Tables → Schemes → Option ℕ → Task → (List ℕ → Type 0) → (List ℕ → Type 0) → Ending → Type 0
-  IsTaskDone policy schemes reader (Run files) Wrote Told end = (end ≡ Well) × Told [] × Runs policy schemes reader files Wrote (Ok tt)
-  IsTaskDone policy schemes reader ShowPolicy Wrote Told end = IsPrinted (Prints policy schemes ShowPolicy) Wrote Told end
-  IsTaskDone policy schemes reader (Certify transactions) Wrote Told end = IsPrinted (Prints policy schemes (Certify transactions)) Wrote Told end
-  IsTaskDone policy schemes reader (Check transactions certificates) Wrote Told end = IsPrinted (Prints policy schemes (Check transactions certificates)) Wrote Told end
+  abbrev pub IsTaskDone : Tables → SchemesFile → Option ℕ → Task → (List ℕ → Type 0) → (List ℕ → Type 0) → Ending → Type 0
+  IsTaskDone policy file reader (Run files) Wrote Told end = (end ≡ Well) × Told [] × Runs policy file.schemes reader files Wrote (Ok tt)
+  IsTaskDone policy file reader ShowPolicy Wrote Told end = IsPrinted (Prints policy file ShowPolicy) Wrote Told end
+  IsTaskDone policy file reader (Certify transactions) Wrote Told end = IsPrinted (Prints policy file (Certify transactions)) Wrote Told end
+  IsTaskDone policy file reader (Check transactions certificates) Wrote Told end = IsPrinted (Prints policy file (Check transactions certificates)) Wrote Told end
 
   -- a run ended so; no other task is one
-  abbrev pub IsRunOf : Tables → Schemes → Option ℕ → Task → (List ℕ → Type 0) → Result (Unit {0}) RunFault → Type 0
-  IsRunOf policy schemes reader (Run files) Wrote end = Runs policy schemes reader files Wrote end
-  IsRunOf policy schemes reader ShowPolicy Wrote end = ⊥
-  IsRunOf policy schemes reader (Certify transactions) Wrote end = ⊥
-  IsRunOf policy schemes reader (Check transactions certificates) Wrote end = ⊥
+  abbrev pub IsRunOf : Tables → SchemesFile → Option ℕ → Task → (List ℕ → Type 0) → Result (Unit {0}) RunFault → Type 0
+  IsRunOf policy file reader (Run files) Wrote end = Runs policy file.schemes reader files Wrote end
+  IsRunOf policy file reader ShowPolicy Wrote end = ⊥
+  IsRunOf policy file reader (Certify transactions) Wrote end = ⊥
+  IsRunOf policy file reader (Check transactions certificates) Wrote end = ⊥
 
   -- What was written where a task is given up: of a run that stopped, the lines up to there; of one whose store was not closed, all;
   -- where the output was not taken, a first part of it; and else nothing.
-  abbrev pub IsTaskGivenUp : Tables → Schemes → Option ℕ → Task → (List ℕ → Type 0) → Refusal → Type 0
-  IsTaskGivenUp policy schemes reader task Wrote (refusals.Run fault) = IsRunOf policy schemes reader task Wrote (Err fault)
-  IsTaskGivenUp policy schemes reader task Wrote refusals.NotClosed = IsRunOf policy schemes reader task Wrote (Ok tt)
-  IsTaskGivenUp policy schemes reader task Wrote refusals.Output = IsPrintedInPart (Prints policy schemes task) Wrote
-  IsTaskGivenUp policy schemes reader task Wrote refusal = Wrote []
+  abbrev pub IsTaskGivenUp : Tables → SchemesFile → Option ℕ → Task → (List ℕ → Type 0) → Refusal → Type 0
+  IsTaskGivenUp policy file reader task Wrote (refusals.Run fault) = IsRunOf policy file reader task Wrote (Err fault)
+  IsTaskGivenUp policy file reader task Wrote refusals.NotClosed = IsRunOf policy file reader task Wrote (Ok tt)
+  IsTaskGivenUp policy file reader task Wrote refusals.Output = IsPrintedInPart (Prints policy file task) Wrote
+  IsTaskGivenUp policy file reader task Wrote refusal = Wrote []
 
   -- ---- jobs
 
   -- under the policy and the schemes, and, where a reader is named, for it alone
-  pub record IsUnder (job : Job) (Does : Tables → Schemes → Option ℕ → Task → Type 0) : Type 0 where
+  pub record IsUnder (job : Job) (Does : Tables → SchemesFile → Option ℕ → Task → Type 0) : Type 0 where
     pub policy : Tables
-    pub schemes : Schemes
+    pub file : SchemesFile
     pub reader : Option ℕ
     pub policy_is : IsPolicyOf job.documents policy
-    pub schemes_are : AreSchemesOf job.documents policy schemes
+    pub schemes_are : AreSchemesOf job.documents policy file
     pub reader_is : IsReader policy job.task reader
-    pub does : Does policy schemes reader job.task
+    pub does : Does policy file reader job.task
 
   abbrev pub IsDone : Job → (List ℕ → Type 0) → (List ℕ → Type 0) → Ending → Type 0
-  IsDone job Wrote Told end = IsUnder job (λ policy schemes reader task. IsTaskDone policy schemes reader task Wrote Told end)
+  IsDone job Wrote Told end = IsUnder job (λ policy file reader task. IsTaskDone policy file reader task Wrote Told end)
 
   -- it is given up before anything is written, or as its task is
   abbrev pub IsGivenUp : Job → (List ℕ → Type 0) → Refusal → Type 0
-  IsGivenUp job Wrote refusal = (IsBefore refusal × Wrote []) ⊎ IsUnder job (λ policy schemes reader task. IsTaskGivenUp policy schemes reader task Wrote refusal)
+  IsGivenUp job Wrote refusal = (IsBefore refusal × Wrote []) ⊎ IsUnder job (λ policy file reader task. IsTaskGivenUp policy file reader task Wrote refusal)
 
   -- ---- command lines
 

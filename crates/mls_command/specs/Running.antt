@@ -12,6 +12,7 @@ use Rattle.mls_machine.specs.Observation.{heard, PassesOnlyReleasesDown, ShowsOn
 use Rattle.mls_machine.specs.Laws.{KeepsIntegrity}
 use Rattle.mls_sessions.specs.declared.cause.RunCause.TheVariants.{Write}
 use Rattle.mls_sessions.specs.declared.cause.RunFault.{RunFault}
+use Rattle.mls_sessions.specs.Run.{IsFaultOf}
 use Rattle.mls_sessions.specs.World.{world_at, IsSound}
 use Rattle.mls_command.specs.declared.refusal.Refusal.{Refusal}
 use Rattle.mls_command.specs.declared.refusal.Refusal.TheVariants as refusals
@@ -34,14 +35,14 @@ pub record IsCutOff (Wrote : List ℕ → Type 0) (text : List ℕ) : Type 0 whe
   pub written : Wrote part
   pub whole : part ++ rest ≡ text
 
--- the lines before the event that stopped the run, and of its own a first part, which is empty unless the writer failed
+-- the lines before the event that stopped the run, which is one of them, and of its own a first part, which is empty unless the writer failed
 pub record IsStopped (site : Site) (reader : Option ℕ) (first : Content) (es : List Event) (Wrote : List ℕ → Type 0) (fault : RunFault) : Type 0 where
   pub part : List ℕ
   pub rest : List ℕ
   pub written : Wrote (output site reader first (take (fault.event - 1) es) ++ part)
   pub whole : (output site reader first (take (fault.event - 1) es) ++ part) ++ rest ≡ output site reader first (take fault.event es)
   pub none : fault.cause ≢ Write → part ≡ []
-  pub last : fault.event ≤ length es
+  pub is : IsFaultOf es fault
 
 -- what is written of a run that ended, or stopped
 abbrev pub IsWritten : Site → Option ℕ → Content → List Event → (List ℕ → Type 0) → Result (Unit {0}) RunFault → Type 0

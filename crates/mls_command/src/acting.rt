@@ -1,6 +1,5 @@
 //! What the program does with its words.
 ghost use Rattle.std.specs.Prelude.{◌≡◌, ◌<◌, length, IfOk, IfErr, OnErr};
-ghost use Rattle.std.specs.List.{AllByRecursion};
 ghost use Rattle.std.specs.Option.{IfSome};
 ghost use Rattle.mls_scheme.specs.Scheme.{AreUnder};
 ghost use Rattle.clap.specs.Words.{Text};
@@ -8,7 +7,6 @@ ghost use Rattle.std.specs.Prelude.{List};
 ghost use Rattle.mls_command.specs.Hosting.{hosted, IsAppended, IsTold};
 ghost use Rattle.mls_command.specs.Words.{texts_of, Asks};
 ghost use Rattle.mls_command.specs.Refusal.{IsBefore};
-ghost use Rattle.mls_command.specs.Inputs.{IsReader};
 ghost use Rattle.mls_command.specs.Acting.{IsPolicyOf, AreSchemesOf, IsTaskDone, IsTaskGivenUp, IsDone, IsGivenUp, IsAnswered};
 
 use crate::certifying::certified;
@@ -23,7 +21,7 @@ use crate::samples;
 use crate::showing::texts;
 use crate::words::{Documents, Job, Task, job_of};
 use mls_lattice::{LabelNo, Policy};
-use mls_scheme::Schemes;
+use mls_scheme::SchemesFile;
 use std::alloc::Global;
 use std::io::Write;
 
@@ -51,16 +49,16 @@ fn schemes_of<H: Host>(
     host: &H,
     policy: &Policy,
     documents: Option<Documents>,
-) -> Result<Schemes, Refusal>
+) -> Result<SchemesFile, Refusal>
     ensures schemes { IfOk result (AreSchemesOf (hosted H.gives H.keeps H.is_honest host.now host.now) documents.entry policy.now) }
-    ensures under { IfOk result (AreUnder (length policy.now.labels)) }
+    ensures under { IfOk result (λ file. AreUnder (length policy.now.labels) file.schemes) }
     ensures before { IfErr result IsBefore }
 {
     match documents {
-        None => Ok(Schemes::read(alloc, policy, samples::SCHEMES.as_bytes())?),
+        None => Ok(SchemesFile::read(alloc, policy, samples::SCHEMES.as_bytes())?),
         Some(files) => {
             let bytes = input_of(alloc, host, Role::Schemes, Some(files.schemes))?;
-            Ok(Schemes::read(alloc, policy, &bytes)?)
+            Ok(SchemesFile::read(alloc, policy, &bytes)?)
         }
     }
 }
@@ -70,33 +68,34 @@ fn perform_task<H: Host, W: Write, E: Write>(
     alloc: Global,
     host: &mut H,
     policy: &Policy,
-    schemes: &Schemes,
+    file: &SchemesFile,
     reader: Option<LabelNo>,
     task: Task,
     out: &mut W,
     err: &mut Errors<E>,
 ) -> Result<Ending, Refusal>
-    requires under { AreUnder (length policy.now.labels) schemes.now }
+    requires under { AreUnder (length policy.now.labels) file.now.schemes }
     requires declared { IfSome reader (λ c. c < length policy.now.labels) }
-    ensures done { IfOk result (IsTaskDone (hosted H.gives H.keeps H.is_honest host.old host.new) policy.now schemes.now reader
+    ensures done { IfOk result (IsTaskDone (hosted H.gives H.keeps H.is_honest host.old host.new) policy.now file.now reader
         task.entry (IsAppended W.contents out.old out.new) (IsTold E.contents err.old err.new)) }
-    ensures given_up { IfErr result (IsTaskGivenUp (hosted H.gives H.keeps H.is_honest host.old host.new) policy.now schemes.now
+    ensures given_up { IfErr result (IsTaskGivenUp (hosted H.gives H.keeps H.is_honest host.old host.new) policy.now file.now
         reader task.entry (IsAppended W.contents out.old out.new)) }
     ensures quiet { OnErr result (err.new ≡ err.old) }
 {
     match task {
-        Task::ShowPolicy => texts(alloc, policy, schemes)?.print(out, err),
+        Task::ShowPolicy => texts(alloc, policy, file)?.print(out, err),
         Task::Run(files) => {
-            run_files(alloc, host, policy, schemes, files, reader, out)?;
+            run_files(alloc, host, policy, file, files, reader, out)?;
             Ok(Ending::Well)
         }
         Task::Certify { transactions } => {
-            certified(alloc, host, policy, schemes, transactions)?.print(out, err)
+            certified(alloc, host, policy, &file.schemes, transactions)?.print(out, err)
         }
         Task::Check {
             transactions,
             certificates,
         } => {
+            let schemes = &file.schemes;
             let listing = checked(alloc, host, policy, schemes, transactions, certificates)?;
             listing.print(out, err)
         }
@@ -119,8 +118,8 @@ fn perform<H: Host, W: Write, E: Write>(
 {
     let policy = policy_of(alloc, host, job.documents)?;
     let reader = reader_of(&policy, job.task.at())?;
-    let schemes = schemes_of(alloc, host, &policy, job.documents)?;
-    perform_task(alloc, host, &policy, &schemes, reader, job.task, out, err)
+    let file = schemes_of(alloc, host, &policy, job.documents)?;
+    perform_task(alloc, host, &policy, &file, reader, job.task, out, err)
 }
 
 /// Does a job, and answers the exit status.

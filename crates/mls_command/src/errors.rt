@@ -12,8 +12,8 @@ use std::io::Write;
 /// written whole unless `has_failed`.
 #[derive(Drop)]
 pub struct Errors<E: Write> {
-    pub writer: E,
-    pub has_failed: bool,
+    writer: E,
+    has_failed: bool,
 }
 
 impl<E: Write> Errors<E> {
@@ -25,6 +25,17 @@ impl<E: Write> Errors<E> {
             writer,
             has_failed: false,
         }
+    }
+
+    /// The writer.
+    pub fn into_writer(self) -> E
+        ensures { result ≡ self.writer }
+    {
+        let Errors {
+            writer,
+            has_failed: _,
+        } = self;
+        writer
     }
 
     /// Tells a text.

@@ -7,7 +7,7 @@ ghost use Rattle.mls_fragments.specs.Finding.{IsSoundContent};
 use mls_filterview::Base;
 use mls_fragments::OpenFault;
 use mls_lattice::Policy;
-use mls_scheme::Schemes;
+use mls_scheme::SchemesFile;
 use std::alloc::Global;
 use std::io::{ErrorKind, Read};
 
@@ -54,11 +54,11 @@ pub trait Host {
         alloc: Global,
         path: &str,
         policy: &Policy,
-        schemes: &Schemes,
+        file: &SchemesFile,
     ) -> Result<Self::Store, OpenFault>
-        requires under { AreUnder (length policy.now.labels) schemes.now }
+        requires under { AreUnder (length policy.now.labels) file.now.schemes }
         ensures idle { IfOk result (λ b. (Self.Store.Base.state b).begun ≡ false) }
-        ensures sound { IfOk result (λ b. IsSoundContent policy.now schemes.now (Self.Store.Base.state b).now) }
+        ensures sound { IfOk result (λ b. IsSoundContent policy.now file.now.schemes (Self.Store.Base.state b).now) }
         ensures kept { IfOk result (λ b. Self.Store.Base.is_clean b → keeps self.old path.now (Self.Store.Base.state b).now) };
 
     /// Takes the store at a path back, with what a run left in it, and closes it.

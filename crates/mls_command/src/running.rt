@@ -22,7 +22,7 @@ use crate::words::RunFiles;
 use mls_filterview::Base;
 use mls_fragments::SqlBase;
 use mls_lattice::{Items, LabelNo, Policy};
-use mls_scheme::Schemes;
+use mls_scheme::{Schemes, SchemesFile};
 use mls_script::{Event, script};
 use mls_sessions::{Engine, RunFault, Stored, run_to};
 use std::alloc::Global;
@@ -80,25 +80,34 @@ pub fn run_on<B: Base, W: Write>(
 fn run_in_memory<W: Write>(
     alloc: Global,
     policy: &Policy,
-    schemes: &Schemes,
+    file: &SchemesFile,
     stored: Items<Stored>,
     events: &[Event],
     reader: Option<LabelNo>,
     out: &mut W,
 ) -> Result<(), Refusal>
-    requires under { AreUnder (length policy.now.labels) schemes.now }
-    requires read { AreRead (site_of policy.now schemes.now stored) }
-    requires certified { AreCertified (site_of policy.now schemes.now stored) }
-    requires fits { EventsFit (site_of policy.now schemes.now stored) events.now }
+    requires under { AreUnder (length policy.now.labels) file.now.schemes }
+    requires read { AreRead (site_of policy.now file.now.schemes stored) }
+    requires certified { AreCertified (site_of policy.now file.now.schemes stored) }
+    requires fits { EventsFit (site_of policy.now file.now.schemes stored) events.now }
     requires declared { IfSome reader (λ c. c < length policy.now.labels) }
-    ensures { IsRunEnd (λ end. (left : Content) × IsRun (site_of policy.now schemes.now stored) reader events.now
+    ensures { IsRunEnd (λ end. (left : Content) × IsRun (site_of policy.now file.now.schemes stored) reader events.now
         (IsAppended W.contents out.old out.new) end no_content left) (IsAppended W.contents out.old out.new []) result }
 {
-    let base = match SqlBase::open_memory(alloc, policy, schemes) {
+    let base = match SqlBase::open_memory(alloc, policy, file) {
         Ok(base) => base,
         Err(fault) => return Err(Refusal::Store(fault)),
     };
-    let (outcome, left) = run_on(alloc, policy, schemes, stored, base, events, reader, out);
+    let (outcome, left) = run_on(
+        alloc,
+        policy,
+        &file.schemes,
+        stored,
+        base,
+        events,
+        reader,
+        out,
+    );
     let _connection = left.into_connection();
     ended(outcome, Ok(()))
 }
@@ -109,26 +118,35 @@ fn run_in_store<H: Host, W: Write>(
     host: &mut H,
     path: &str,
     policy: &Policy,
-    schemes: &Schemes,
+    file: &SchemesFile,
     stored: Items<Stored>,
     events: &[Event],
     reader: Option<LabelNo>,
     out: &mut W,
 ) -> Result<(), Refusal>
-    requires under { AreUnder (length policy.now.labels) schemes.now }
-    requires read { AreRead (site_of policy.now schemes.now stored) }
-    requires certified { AreCertified (site_of policy.now schemes.now stored) }
-    requires fits { EventsFit (site_of policy.now schemes.now stored) events.now }
+    requires under { AreUnder (length policy.now.labels) file.now.schemes }
+    requires read { AreRead (site_of policy.now file.now.schemes stored) }
+    requires certified { AreCertified (site_of policy.now file.now.schemes stored) }
+    requires fits { EventsFit (site_of policy.now file.now.schemes stored) events.now }
     requires declared { IfSome reader (λ c. c < length policy.now.labels) }
     ensures { IsRunEnd (λ end. H.is_honest host.new → (first : Content) × (left : Content) × H.keeps host.old path.now first × H.keeps host.new path.now left
-        × IsRun (site_of policy.now schemes.now stored) reader events.now (IsAppended W.contents out.old out.new) end first left)
+        × IsRun (site_of policy.now file.now.schemes stored) reader events.now (IsAppended W.contents out.old out.new) end first left)
         (IsAppended W.contents out.old out.new []) result }
 {
-    let base = match host.store(alloc, path, policy, schemes) {
+    let base = match host.store(alloc, path, policy, file) {
         Ok(base) => base,
         Err(fault) => return Err(Refusal::Store(fault)),
     };
-    let (outcome, left) = run_on(alloc, policy, schemes, stored, base, events, reader, out);
+    let (outcome, left) = run_on(
+        alloc,
+        policy,
+        &file.schemes,
+        stored,
+        base,
+        events,
+        reader,
+        out,
+    );
     let closed = host.keep(path, left);
     ended(outcome, closed)
 }
@@ -139,28 +157,24 @@ fn run_events<H: Host, W: Write>(
     host: &mut H,
     store: Option<&str>,
     policy: &Policy,
-    schemes: &Schemes,
+    file: &SchemesFile,
     stored: Items<Stored>,
     events: &[Event],
     reader: Option<LabelNo>,
     out: &mut W,
 ) -> Result<(), Refusal>
-    requires under { AreUnder (length policy.now.labels) schemes.now }
-    requires read { AreRead (site_of policy.now schemes.now stored) }
-    requires certified { AreCertified (site_of policy.now schemes.now stored) }
-    requires fits { EventsFit (site_of policy.now schemes.now stored) events.now }
+    requires under { AreUnder (length policy.now.labels) file.now.schemes }
+    requires read { AreRead (site_of policy.now file.now.schemes stored) }
+    requires certified { AreCertified (site_of policy.now file.now.schemes stored) }
+    requires fits { EventsFit (site_of policy.now file.now.schemes stored) events.now }
     requires declared { IfSome reader (λ c. c < length policy.now.labels) }
     ensures { IsRunEnd (IsRunFrom (hosted H.gives H.keeps H.is_honest host.old host.new) (option_map (λ p. p.now) store.entry)
-        (site_of policy.now schemes.now stored) reader events.now (IsAppended W.contents out.old out.new))
+        (site_of policy.now file.now.schemes stored) reader events.now (IsAppended W.contents out.old out.new))
         (IsAppended W.contents out.old out.new []) result }
 {
     match store {
-        None => run_in_memory(alloc, policy, schemes, stored, events, reader, out),
-        Some(path) => {
-            run_in_store(
-                alloc, host, path, policy, schemes, stored, events, reader, out,
-            )
-        }
+        None => run_in_memory(alloc, policy, file, stored, events, reader, out),
+        Some(path) => { run_in_store(alloc, host, path, policy, file, stored, events, reader, out) }
     }
 }
 
@@ -185,26 +199,26 @@ pub(crate) fn run_files<H: Host, W: Write>(
     alloc: Global,
     host: &mut H,
     policy: &Policy,
-    schemes: &Schemes,
+    file: &SchemesFile,
     files: RunFiles,
     reader: Option<LabelNo>,
     out: &mut W,
 ) -> Result<(), Refusal>
-    requires under { AreUnder (length policy.now.labels) schemes.now }
+    requires under { AreUnder (length policy.now.labels) file.now.schemes }
     requires declared { IfSome reader (λ c. c < length policy.now.labels) }
-    ensures done { OnOk result (Runs (hosted H.gives H.keeps H.is_honest host.old host.new) policy.now schemes.now reader files.entry
+    ensures done { OnOk result (Runs (hosted H.gives H.keeps H.is_honest host.old host.new) policy.now file.now.schemes reader files.entry
         (IsAppended W.contents out.old out.new) (Ok tt)) }
-    ensures given_up { IfErr result (IsTaskGivenUp (hosted H.gives H.keeps H.is_honest host.old host.new) policy.now schemes.now reader
+    ensures given_up { IfErr result (IsTaskGivenUp (hosted H.gives H.keeps H.is_honest host.old host.new) policy.now file.now reader
         (Run files.entry) (IsAppended W.contents out.old out.new)) }
 {
-    let stored = stored_files(alloc, host, policy, schemes, files)?;
-    let events = script_of(alloc, host, policy, schemes, files.script)?;
+    let stored = stored_files(alloc, host, policy, &file.schemes, files)?;
+    let events = script_of(alloc, host, policy, &file.schemes, files.script)?;
     run_events(
         alloc,
         host,
         files.store,
         policy,
-        schemes,
+        file,
         stored,
         &events,
         reader,

@@ -8,16 +8,16 @@ ghost use Rattle.mls_command.specs.declared.ending.Ending.TheVariants.{Well};
 use crate::ending::Ending;
 use crate::listing::Listing;
 use mls_lattice::Policy;
-use mls_scheme::Schemes;
+use mls_scheme::SchemesFile;
 use std::alloc::{AllocError, Global};
 
 /// The canonical texts of a policy and its schemes.
-fn texts_of(alloc: Global, policy: &Policy, schemes: &Schemes) -> Result<Vec<u8>, AllocError>
-    requires { AreUnder (length policy.now.labels) schemes.now }
-    ensures { IfOk result (λ text. text.items ≡ lattice.canon_of policy.now ++ scheme.canon_of policy.now schemes.now) }
+fn texts_of(alloc: Global, policy: &Policy, file: &SchemesFile) -> Result<Vec<u8>, AllocError>
+    requires { AreUnder (length policy.now.labels) file.now.schemes }
+    ensures { IfOk result (λ text. text.items ≡ lattice.canon_of policy.now ++ scheme.canon_of policy.now file.now.version file.now.schemes) }
 {
     let mut text = policy.canon(alloc)?;
-    text.append(&mut schemes.canon(alloc, policy)?)?;
+    text.append(&mut file.canon(alloc, policy)?)?;
     Ok(text)
 }
 
@@ -25,14 +25,14 @@ fn texts_of(alloc: Global, policy: &Policy, schemes: &Schemes) -> Result<Vec<u8>
 pub(crate) fn texts(
     alloc: Global,
     policy: &Policy,
-    schemes: &Schemes,
+    file: &SchemesFile,
 ) -> Result<Listing, AllocError>
-    requires { AreUnder (length policy.now.labels) schemes.now }
-    ensures text { IfOk result (λ l. l.text.items ≡ lattice.canon_of policy.now ++ scheme.canon_of policy.now schemes.now) }
+    requires { AreUnder (length policy.now.labels) file.now.schemes }
+    ensures text { IfOk result (λ l. l.text.items ≡ lattice.canon_of policy.now ++ scheme.canon_of policy.now file.now.version file.now.schemes) }
     ensures told { IfOk result (λ l. string_bytes l.told ≡ []) }
     ensures end { IfOk result (λ l. l.ending ≡ Well) }
 {
-    let text = texts_of(alloc, policy, schemes)?;
+    let text = texts_of(alloc, policy, file)?;
     Ok(Listing {
         text,
         told: String::new(alloc),

@@ -17,7 +17,7 @@ use std::alloc::{AllocError, Global};
 
 const ABOUT: &str = "A relational database whose elements have security levels, proved";
 
-const VERSION: &str = "1.0.0 (stores of version 1)";
+const VERSION: &str = "1.1.0 (stores of versions 1 and 2)";
 
 const EXAMPLE: &str = "\
 Without any words mldb runs the script on standard input under a sample policy and schemes.

@@ -40,8 +40,8 @@ no_entries : entries (empty {X = List Element} {R = place_cmp}) ≡ []
 no_entries = nil_from_length (entries (empty {R = place_cmp})) (sym (len-entries empty) ∙ len-empty place_cmp (List Element))
 
 -- a new store holds no content
-pub holds_none : (lattice schemes : List ℕ) → Holds (described lattice schemes) no_content
-holds_none lattice schemes = record {
+pub holds_none : (version : ℕ) (lattice schemes : List ℕ) → Holds (described version lattice schemes) no_content
+holds_none version lattice schemes = record {
   tables = λ rel. record {
     nodes = IsPermutation-same _ _ (ap (λ es. map (node_row rel) (map node_of es)) no_entries);
     cells = IsPermutation-same _ _ (ap (λ es. map (cell_row rel) (flat_map cells_of es)) no_entries);

@@ -229,7 +229,7 @@ at_each P none [] h rel = none
 at_each P none (es ∷ tables) h zero = h 0 (omega arith)
 at_each P none (es ∷ tables) h (suc rel) = at_each P none tables (λ r l. h (suc r) (omega (arith, l))) rel
 
-none_sorted : IsStrictlySortedBy place_cmp (keys_of {K = Place} {X = List Element} [])
+pub none_sorted : IsStrictlySortedBy place_cmp (keys_of {K = Place} {X = List Element} [])
 unfolding IsStrictlySortedBy
 none_sorted = tt
 
@@ -276,10 +276,12 @@ finds ls schemes rows tables audit made content nodes cells listed t all =
     (IsPermutation-trans _ _ _ cells (IsPermutation-sym _ _ all.1.0))
     (IsPermutation-trans _ _ _ listed (IsPermutation-sym _ _ all.1.1))
 
+-- what holds of tables by their numbers holds of each
+pub tables_each : {B : Type 0} (P : Entries → Type 0) (f : B → Entries) (tables : List B) → ((rel : ℕ) → rel < length (map f tables) → P (slice_index_or (map f tables) rel []))
+    → AllByRecursion (λ t. P (f t)) tables
+tables_each P f [] h = tt
+tables_each P f (t ∷ tables) h = (h 0 (omega arith), tables_each P f tables (λ rel l. h (suc rel) (omega (arith, l))))
+
 -- the tables found are spelled
 pub tables_spelled : {B : Type 0} (f : B → Entries) (nodes : List NodeRow) (cells : List CellRow) (tables : List B) → AreAssembled nodes cells (map f tables) → AllByRecursion (λ t. AllByRecursion IsSpelledEntry (f t)) tables
-tables_spelled f nodes cells tables made = each f tables (λ i l. spelled_entries i nodes cells (slice_index_or (map f tables) i []) (made i l))
-  where
-    each : {B : Type 0} (f : B → Entries) (tables : List B) → ((i : ℕ) → i < length (map f tables) → AllByRecursion IsSpelledEntry (slice_index_or (map f tables) i [])) → AllByRecursion (λ t. AllByRecursion IsSpelledEntry (f t)) tables
-    each f [] h = tt
-    each f (t ∷ tables) h = (h 0 (omega arith), each f tables (λ i l. h (suc i) (omega (arith, l))))
+tables_spelled f nodes cells tables made = tables_each (AllByRecursion IsSpelledEntry) f tables (λ rel l. spelled_entries rel nodes cells (slice_index_or (map f tables) rel []) (made rel l))

@@ -4,6 +4,8 @@ pub mod CallLemmas
 pub mod DroppingLemmas
 pub mod FindingLemmas
 pub mod KnownLemmas
+pub mod WithinLemmas
+pub mod MigratingLemmas
 pub mod NotedLemmas
 pub mod ReadingLemmas
 pub mod RowLemmas

@@ -43,8 +43,8 @@ noted_as rows n changes is last holds = record {
 }
 
 -- a new store holds nothing
-pub noted_none : (lattice schemes : List ℕ) (rows : Tables) (n : Noted) → rows ≡ described lattice schemes → n.content.changes ≡ [] → n.last ≡ pos 0 → IsNoted rows n
-noted_none lattice schemes rows n is changes last = noted_as rows n [] changes last (subst (λ t. Holds t (content_of [])) (sym is) (holds_none lattice schemes))
+pub noted_none : (version : ℕ) (lattice schemes : List ℕ) (rows : Tables) (n : Noted) → rows ≡ described version lattice schemes → n.content.changes ≡ [] → n.last ≡ pos 0 → IsNoted rows n
+noted_none version lattice schemes rows n is changes last = noted_as rows n [] changes last (subst (λ t. Holds t (content_of [])) (sym is) (holds_none version lattice schemes))
 
 -- the note with one change more
 module _ (t u : Tables) (here new : Noted) (was : IsNoted t here) where

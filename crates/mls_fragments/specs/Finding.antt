@@ -1,7 +1,8 @@
 -- What the rows of a store hold.
-use Rattle.std.specs.Prelude.{◌≡◌, ℕ, suc, ◌<◌, nat_eq, List, [], ◌∷◌, ◌++◌, map, length, slice_index_or, Option, IfSome, IsPermutation}
-use Rattle.std.specs.List.{AllByRecursion, filter, flat_map}
+use Rattle.std.specs.Prelude.{◌≡◌, ℕ, suc, ◌<◌, Bool, ◌&&◌, nat_eq, nat_lt, List, [], ◌∷◌, ◌++◌, map, length, slice_index_or, Option, Some, IfSome, IsPermutation}
+use Rattle.std.specs.List.{AllByRecursion, filter, flat_map, list_all}
 use Rattle.std.specs.List.Sorted.{IsStrictlySortedBy}
+use Rattle.std.specs.FinMap.{get}
 use Rattle.std.specs.Map.{lookup, keys_of}
 use Rattle.std.specs.BTreeMap.{is_at}
 use Rattle.mls_lattice.specs.Labels.{Labels}
@@ -11,12 +12,12 @@ use Rattle.mls_scheme.specs.declared.tuple.Element.{Element}
 use Rattle.mls_scheme.specs.declared.place.Place.{Place}
 use Rattle.mls_scheme.specs.Spelling.{HasSpelling, IsSpelledKey}
 use Rattle.mls_scheme.specs.Scheme.{Schemes, scheme_of}
-use Rattle.mls_scheme.specs.Table.{place_cmp}
+use Rattle.mls_scheme.specs.Table.{place_cmp, Table}
 use Rattle.mls_filterview.specs.declared.fragment.Node.{Node}
 use Rattle.mls_filterview.specs.declared.fragment.Cell.{Cell}
 use Rattle.mls_filterview.specs.Fragment.{node_of, cells_of}
 use Rattle.mls_filterview.specs.Assembly.{CellPlace, AreValues, AreRows}
-use Rattle.mls_filterview.specs.Stored.{IsContent, AreContent}
+use Rattle.mls_filterview.specs.Stored.{Occurs, IsContent, AreContent}
 use Rattle.mls_audit.specs.Spelling.{IsEntryOf}
 use Rattle.mls_filterview.specs.Content.{Content}
 use Rattle.mls_statements.specs.declared.rows.NodeRow.{NodeRow}
@@ -78,6 +79,22 @@ AreTables ls schemes tables = (rel : ℕ) → rel < length tables → IsContent 
 pub record IsSoundContent (policy : Policy) (schemes : Schemes) (c : Content) : Type 0 where
   pub content : AreContent (labels_of policy) schemes c.db
   pub entries : AllByRecursion (IsEntryOf (length policy.labels)) c.audit
+
+-- ---- stores of older schemes
+
+-- whether the classes of a tuple are among the first labels
+abbrev pub is_within : ℕ → NodeRow → Bool
+is_within labels r = nat_lt r.kclass labels && list_all (λ m. nat_lt m labels) r.pattern
+
+-- so are those of all tuples of a table
+abbrev pub AreWithin : ℕ → Table → Type 0
+AreWithin labels T = (p : Place) (es : List Element) → get T p ≡ Some es → (m : ℕ) → Occurs p es m → m < labels
+
+-- sound content in which the first labels alone occur
+pub record IsSoundWithin (policy : Policy) (schemes : Schemes) (labels : ℕ) (c : Content) : Type 0 where
+  pub content : AreContent (labels_of policy) schemes c.db
+  pub classes : (rel : ℕ) → AreWithin labels (c.db rel)
+  pub entries : AllByRecursion (IsEntryOf labels) c.audit
 
 -- what is found
 abbrev pub content_found : Found → Content

@@ -31,7 +31,6 @@ abbrev pub adopting_fault : AdoptFault → OpenFault
 adopting_fault adopt.Store = Store
 adopting_fault adopt.Memory = Memory
 adopting_fault adopt.BadRows = BadRows
-adopting_fault adopt.OtherTexts = OtherPolicy
 
 -- why rows hold nothing
 abbrev pub finding_fault : RowFault → OpenFault

@@ -1,5 +1,5 @@
 -- Stores that are opened, and that are not.
-use Rattle.std.specs.Prelude.{◌≡◌, ◌≢◌, ◌⊎◌, false, IsTrue}
+use Rattle.std.specs.Prelude.{◌≡◌, ◌≢◌, ◌⊎◌, ℕ, false, List, [], ◌∷◌, IsTrue}
 use Rattle.sqlite.specs.Effect.{Database, IsDatabase}
 use Rattle.sqlite.specs.State.{State, HasCleanDisk}
 use Rattle.sqlite.specs.Files.{HoldsDatabase, AreFoundIn, file_state}
@@ -11,10 +11,11 @@ use Rattle.sqlite_trees.specs.Tree.{Trees}
 use Rattle.mls_lattice.specs.Canon as lattice
 use Rattle.mls_lattice.specs.Policy.{Tables as Policy}
 use Rattle.mls_scheme.specs.Canon as scheme
-use Rattle.mls_scheme.specs.Scheme.{Schemes}
+use Rattle.mls_scheme.specs.declared.file.SchemesFile.{SchemesFile}
 use Rattle.mls_filterview.specs.Content.{Content, no_content}
-use Rattle.mls_statements.specs.Adopting.{IsAdoptable, HasOtherTexts, IsDescribedBy}
-use Rattle.mls_statements.specs.Rows.{tables_of}
+use Rattle.mls_statements.specs.declared.rows.MetaRow.{MetaRow}
+use Rattle.mls_statements.specs.Adopting.{IsDescribed, HasDescription, HasReadRows}
+use Rattle.mls_statements.specs.Rows.{Tables, first_meta, tables_of}
 use Rattle.mls_statements.specs.Schema.{no_schema}
 use Rattle.mls_statements.specs.Store.{IsClean}
 use Rattle.mls_fragments.specs.Based.{BaseState, state_of}
@@ -22,6 +23,7 @@ use Rattle.mls_fragments.specs.declared.open_fault.OpenFault.{OpenFault}
 use Rattle.mls_fragments.specs.declared.open_fault.OpenFault.TheVariants.{OtherPolicy, BadRows}
 use Rattle.mls_fragments.specs.Finding.{IsSoundContent}
 use Rattle.mls_fragments.specs.Holding.{Holds}
+use Rattle.mls_fragments.specs.Migrating.{HasTexts, IsExtended, IsOther, IsSoundBefore, IsWidenedContent}
 
 -- the connection that comes back has no transaction begun, and its store has committed what it had committed, or what it
 -- showed, which is the same outside a transaction
@@ -34,12 +36,30 @@ pub record IsHandedBack (old new : State) : Type 0 where
 abbrev pub IsRefused : State → State → Type 0
 IsRefused old new = HasCleanDisk new → IsHandedBack old new
 
--- the four tables, each row of which reads, hold content of the stored form and entries of declared labels
-pub record IsOpenable (policy : Policy) (schemes : Schemes) (db : Database) : Type 0 where
-  pub tables : IsAdoptable db
-  pub content : Content
-  pub holds : Holds (tables_of db.trees) content
-  pub sound : IsSoundContent policy schemes content
+-- ---- stores of the four tables
+
+-- every row reads, and they hold content that is sound
+abbrev pub HoldsSound : (Content → Type 0) → Database → Type 0
+HoldsSound Sound db = HasReadRows db × ((c : Content) × Holds (tables_of db.trees) c × Sound c)
+
+-- What a store has becomes a base's tables and content: its own, under its own texts, or, under texts that extend them, its own
+-- content with each relation widened.
+pub data IsTaken (policy : Policy) (file : SchemesFile) (db : Database) (t : Tables) (c : Content) : Type 0 where
+  as_it_is : (m : MetaRow) → IsDescribed m db → HasTexts policy file m → t ≡ tables_of db.trees → IsTaken policy file db t c
+  widened : (m : MetaRow) (labels : ℕ) (counts : List ℕ) (before : Content) → IsDescribed m db → IsExtended policy file m labels counts
+      → Holds (tables_of db.trees) before → IsSoundBefore policy file.schemes labels counts before → IsWidenedContent file.schemes counts before c
+      → t.meta ≡ first_meta 2 (lattice.lattice_of policy) (scheme.canon_of policy file.version file.schemes) ∷ [] → IsTaken policy file db t c
+
+-- the store is described, by texts of others
+abbrev pub IsOfOthers : Policy → SchemesFile → Database → Type 0
+IsOfOthers policy file db = (m : MetaRow) × IsDescribed m db × IsOther policy file m
+
+-- the tables or their description are bad; or the rows are, of a store of these texts or of older ones
+pub data IsBad (policy : Policy) (file : SchemesFile) (db : Database) : Type 0 where
+  not_described : ¬ HasDescription db → IsBad policy file db
+  not_sound : (m : MetaRow) → IsDescribed m db → HasTexts policy file m → ¬ HoldsSound (IsSoundContent policy file.schemes) db → IsBad policy file db
+  not_sound_before : (m : MetaRow) (labels : ℕ) (counts : List ℕ) → IsDescribed m db → IsExtended policy file m labels counts
+      → ¬ HoldsSound (IsSoundBefore policy file.schemes labels counts) db → IsBad policy file db
 
 -- ---- stores in files
 
@@ -49,28 +69,27 @@ pub record IsFoundIn (start : Image) (db : Database) : Type 0 where
   pub reads : AreFoundIn start db.trees
   pub sound : IsDatabase db
 
--- a base over what the files held: an empty one over a new store, and else one whose content is what the rows hold
-pub record IsOverFiles (policy : Policy) (schemes : Schemes) (start : Image) (b : BaseState) : Type 0 where
+-- a base over what the files held: an empty one over a new store, and else one whose content is what the rows held, widened or not
+pub record IsOverFiles (policy : Policy) (file : SchemesFile) (start : Image) (b : BaseState) : Type 0 where
   pub db : Database
   pub found : IsClean b.tables → IsFoundIn start db
   pub new : db.schema ≡ no_schema → (state_of b).now ≡ no_content
-  pub rows : db.schema ≢ no_schema → IsClean b.tables → b.tables.now ≡ tables_of db.trees
-  pub described : IsClean b.tables → IsDescribedBy (lattice.lattice_of policy) (scheme.canon_of policy schemes) b.tables.now
+  pub taken : db.schema ≢ no_schema → IsClean b.tables → IsTaken policy file db b.tables.now (state_of b).now
   pub holds : IsClean b.tables → Holds b.tables.now (state_of b).now
 
 -- the content that files held: that of a base over them, whose store is clean
 pub record IsContentIn (start : Image) (c : Content) : Type 0 where
   pub policy : Policy
-  pub schemes : Schemes
+  pub file : SchemesFile
   pub base : BaseState
   pub clean : IsClean base.tables
-  pub over : IsOverFiles policy schemes start base
+  pub over : IsOverFiles policy file start base
   pub is : (state_of base).now ≡ c
 
 -- what the files held is refused, and left as it was
-pub record AreFilesRefused {D : Type 0} {g : Ghosts D} (policy : Policy) (schemes : Schemes) (start : Image) (e : OpenFault) (left : Held (FileStore D g)) : Type 0 where
+pub record AreFilesRefused {D : Type 0} {g : Ghosts D} (policy : Policy) (file : SchemesFile) (start : Image) (e : OpenFault) (left : Held (FileStore D g)) : Type 0 where
   pub was : Held (FileStore D g)
   pub found : HasCleanDisk (file_state was) → IsFoundIn start (file_state was).now
-  pub texts : HasCleanDisk (file_state left) → e ≡ OtherPolicy → HasOtherTexts (lattice.lattice_of policy) (scheme.canon_of policy schemes) (file_state was).now
-  pub bad : HasCleanDisk (file_state left) → e ≡ BadRows → ¬ IsOpenable policy schemes (file_state was).now
+  pub texts : HasCleanDisk (file_state left) → e ≡ OtherPolicy → IsOfOthers policy file (file_state was).now
+  pub bad : HasCleanDisk (file_state left) → e ≡ BadRows → IsBad policy file (file_state was).now
   pub refused : IsRefused (file_state was) (file_state left)

@@ -48,7 +48,7 @@ impl<S: Alter> SqlBase<S> {
     /// A base over a new store.
     pub(crate) fn over_new(alloc: Global, store: TableStore<S>) -> SqlBase<S>
         requires mode { store.begun ≡ false }
-        requires new { IsClean store → (lattice : List ℕ) × (schemes : List ℕ) × (store.now ≡ described lattice schemes) × (store.kept ≡ store.now) }
+        requires new { IsClean store → (version : ℕ) × (lattice : List ℕ) × (schemes : List ℕ) × (store.now ≡ described version lattice schemes) × (store.kept ≡ store.now) }
         ensures content { state_of result ≡ record { now = no_content; kept = no_content; begun = false } }
         ensures tables { result.tables ≡ store }
     {

@@ -49,7 +49,7 @@ fn push_cells(
 }
 
 /// The rows of the nodes of tables.
-fn node_rows(alloc: Global, tables: &[Rows]) -> Result<Vec<NodeRow>, RowFault>
+pub(crate) fn node_rows(alloc: Global, tables: &[Rows]) -> Result<Vec<NodeRow>, RowFault>
     requires few { length tables.now ≤ 256 }
     requires spelled { AllByRecursion (λ t. AllByRecursion IsSpelledEntry t.entries) tables.now }
     ensures rows { IfOk result (λ rows. rows.items ≡ node_rows 0 (map (λ t. t.entries) tables.now)) }
@@ -63,7 +63,7 @@ fn node_rows(alloc: Global, tables: &[Rows]) -> Result<Vec<NodeRow>, RowFault>
 }
 
 /// The rows of the cells of tables.
-fn cell_rows(alloc: Global, tables: &[Rows]) -> Result<Vec<CellRow>, RowFault>
+pub(crate) fn cell_rows(alloc: Global, tables: &[Rows]) -> Result<Vec<CellRow>, RowFault>
     requires few { length tables.now ≤ 256 }
     requires spelled { AllByRecursion (λ t. AllByRecursion IsSpelledEntry t.entries) tables.now }
     ensures rows { IfOk result (λ rows. rows.items ≡ cell_rows 0 (map (λ t. t.entries) tables.now)) }

@@ -1,13 +1,16 @@
 //! What the rows of a store hold: the tuples of each relation, put together and asked for the stored form, and the entries.
-ghost use Rattle.std.specs.Prelude.{◌≡◌, ◌↔◌, ◌≤◌, ℕ, List, pos, length, map, IsTrue, IfOk, IfErr, OnOk, IsPermutation};
-ghost use Rattle.std.specs.List.{AllByRecursion};
+ghost use Rattle.std.specs.Prelude.{◌≡◌, ◌↔◌, ◌≤◌, ℕ, List, pos, length, map, nat_lt, IsTrue, IfOk, IfErr, OnOk, IsPermutation};
+ghost use Rattle.std.specs.List.{AllByRecursion, list_all};
+ghost use Rattle.std.specs.List.Sorted.{IsStrictlySortedBy};
+ghost use Rattle.std.specs.Map.{keys_of};
 ghost use Rattle.mls_lattice.specs.Policy.{labels_of};
-ghost use Rattle.mls_scheme.specs.Scheme.{AreUnder};
+ghost use Rattle.mls_scheme.specs.Scheme.{AreSchemes, AreUnder};
+ghost use Rattle.mls_scheme.specs.Table.{place_cmp};
 ghost use Rattle.mls_audit.specs.Spelling.{IsEntryOf};
 ghost use Rattle.mls_filterview.specs.Content.{Content};
 ghost use Rattle.mls_statements.specs.Adopting.{AreAll};
 ghost use Rattle.mls_statements.specs.Rows.{Tables, numbered};
-ghost use Rattle.mls_fragments.specs.Finding.{IsMemory, IsNodeRow, IsCellRow, IsAssembled, AreAssembled, AreTables, IsSoundContent, content_found};
+ghost use Rattle.mls_fragments.specs.Finding.{IsMemory, IsNodeRow, IsCellRow, IsAssembled, AreAssembled, AreTables, IsSpelledEntry, is_within, IsSoundWithin, content_found};
 ghost use Rattle.mls_fragments.specs.Holding.{Holds};
 
 use crate::comparing::have_rows;
@@ -74,26 +77,26 @@ fn are_content(
     Ok(true)
 }
 
-/// Refuses bytes that are no entry of a declared label.
-fn check_entry(alloc: Global, policy: &Policy, bytes: &[u8]) -> Result<(), RowFault>
-    ensures found { OnOk result (IsEntryOf (length policy.now.labels) bytes.now) }
-    ensures only { IsEntryOf (length policy.now.labels) bytes.now → IfErr result IsMemory }
+/// Refuses bytes that are no entry of one of the first labels.
+fn check_entry(alloc: Global, labels: usize, bytes: &[u8]) -> Result<(), RowFault>
+    ensures found { OnOk result (IsEntryOf labels bytes.now) }
+    ensures only { IsEntryOf labels bytes.now → IfErr result IsMemory }
 {
     let label = entry_of(alloc, bytes)?.label();
-    if label.index() < policy.label_count() {
+    if label.index() < labels {
         Ok(())
     } else {
         Err(RowFault::BadRow)
     }
 }
 
-/// Refuses rows with bytes that are no entry of a declared label.
-fn check_entries(alloc: Global, policy: &Policy, rows: &[AuditRow]) -> Result<(), RowFault>
-    ensures found { OnOk result (AllByRecursion (λ r. IsEntryOf (length policy.now.labels) r.bytes) rows.now) }
-    ensures only { AllByRecursion (λ r. IsEntryOf (length policy.now.labels) r.bytes) rows.now → IfErr result IsMemory }
+/// Refuses rows with bytes that are no entry of one of the first labels.
+fn check_entries(alloc: Global, labels: usize, rows: &[AuditRow]) -> Result<(), RowFault>
+    ensures found { OnOk result (AllByRecursion (λ r. IsEntryOf labels r.bytes) rows.now) }
+    ensures only { AllByRecursion (λ r. IsEntryOf labels r.bytes) rows.now → IfErr result IsMemory }
 {
     for row in rows {
-        check_entry(alloc, policy, &row.bytes)?;
+        check_entry(alloc, labels, &row.bytes)?;
     }
     Ok(())
 }
@@ -101,19 +104,50 @@ fn check_entries(alloc: Global, policy: &Policy, rows: &[AuditRow]) -> Result<()
 /// The entries of rows whose numbers are 1, 2, .. up to their count.
 fn entries_of(
     alloc: Global,
-    policy: &Policy,
+    labels: usize,
     mut rows: Vec<AuditRow>,
 ) -> Result<Items<Items<u8>>, RowFault>
     ensures numbered { IfOk result (λ entries. IsPermutation (numbered 1 entries) rows.items) }
-    ensures entries { IfOk result (AllByRecursion (IsEntryOf (length policy.now.labels))) }
-    ensures only { (list : List (List ℕ)) → IsPermutation (numbered 1 list) rows.items → AllByRecursion (IsEntryOf (length policy.now.labels)) list → IfErr result IsMemory }
+    ensures entries { IfOk result (AllByRecursion (IsEntryOf labels)) }
+    ensures only { (list : List (List ℕ)) → IsPermutation (numbered 1 list) rows.items → AllByRecursion (IsEntryOf labels) list → IfErr result IsMemory }
 {
     rows.sort()?;
     if !are_numbered(&rows) {
         return Err(RowFault::BadRow);
     }
-    check_entries(alloc, policy, &rows)?;
+    check_entries(alloc, labels, &rows)?;
     entries_in(alloc, rows)
+}
+
+/// Whether classes are among the first labels.
+fn are_declared(labels: usize, classes: &[u8]) -> bool
+    ensures { result ≡ list_all (λ m. nat_lt m labels) classes.now }
+{
+    for &class in classes {
+        if class as usize >= labels {
+            return false;
+        }
+    }
+    true
+}
+
+/// Whether the classes of a tuple are.
+fn is_within(labels: usize, node: &NodeRow) -> bool
+    ensures { result ≡ is_within labels node.now }
+{
+    (node.kclass as usize) < labels && are_declared(labels, &node.pattern)
+}
+
+/// Whether the classes of all tuples are.
+fn are_within(labels: usize, nodes: &[NodeRow]) -> bool
+    ensures { result ≡ list_all (is_within labels) nodes.now }
+{
+    for node in nodes {
+        if !is_within(labels, node) {
+            return false;
+        }
+    }
+    true
 }
 
 /// What a store's rows hold.
@@ -127,17 +161,23 @@ pub(crate) struct Found {
     pub last: i64,
 }
 
-/// What rows hold, where that is content of the stored form and entries of declared labels.
+/// What rows hold, where that is content of the stored form whose classes are among the first labels, and entries of such
+/// labels.
 pub(crate) fn find(
     alloc: Global,
     policy: &Policy,
     schemes: &Schemes,
+    labels: usize,
     rows: AllRows,
 ) -> Result<Found, RowFault>
     requires under { AreUnder (length policy.now.labels) schemes.now }
     ensures held { IfOk result (λ f. (t : Tables) → AreAll t rows → Holds t (content_found f)) }
-    ensures sound { IfOk result (λ f. IsSoundContent policy.now schemes.now (content_found f)) }
-    ensures only { (t : Tables) → AreAll t rows → (c : Content) → Holds t c → IsSoundContent policy.now schemes.now c → IfErr result IsMemory }
+    ensures sound { IfOk result (λ f. IsSoundWithin policy.now schemes.now labels (content_found f)) }
+    ensures spelled { IfOk result (λ f. AllByRecursion (λ t. AllByRecursion IsSpelledEntry t.entries) f.tables.items) }
+    ensures sorted { IfOk result (λ f. AllByRecursion (λ t. IsStrictlySortedBy place_cmp (keys_of t.entries)) f.tables.items) }
+    ensures count { IfOk result (λ f. length f.tables.items ≡ length schemes.now) }
+    ensures valid { OnOk result (AreSchemes schemes.now) }
+    ensures only { (t : Tables) → AreAll t rows → (c : Content) → Holds t c → IsSoundWithin policy.now schemes.now labels c → IfErr result IsMemory }
     ensures last { IfOk result (λ f. f.last ≡ pos (length f.entries)) }
 {
     let AllRows {
@@ -147,6 +187,9 @@ pub(crate) fn find(
     } = rows;
     // for how many labels there are
     let _labels = policy.label_count();
+    if !are_within(labels, &nodes) {
+        return Err(RowFault::BadRow);
+    }
     let tables = tables_of(alloc, schemes.count(), &nodes, &cells)?;
     if !are_content(alloc, policy, schemes, &tables)? {
         return Err(RowFault::BadRow);
@@ -154,7 +197,7 @@ pub(crate) fn find(
     if !have_rows(alloc, &tables, nodes, cells)? {
         return Err(RowFault::BadRow);
     }
-    let entries = entries_of(alloc, policy, entries)?;
+    let entries = entries_of(alloc, labels, entries)?;
     let Ok(last) = i64::try_from(entries.len()) else {
         return Err(RowFault::Memory);
     };

@@ -5,6 +5,7 @@ mod base;
 mod comparing;
 mod entity;
 mod finding;
+mod migrating;
 mod noted;
 mod open_fault;
 mod opening;

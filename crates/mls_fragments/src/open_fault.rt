@@ -80,7 +80,6 @@ impl From<AdoptFault> for OpenFault {
             AdoptFault::Store => OpenFault::Store,
             AdoptFault::Memory => OpenFault::Memory,
             AdoptFault::BadRows => OpenFault::BadRows,
-            AdoptFault::OtherTexts => OpenFault::OtherPolicy,
         }
     }
 }

@@ -1,29 +1,34 @@
 //! Stores that are opened.
-ghost use Rattle.std.specs.Prelude.{◌≡◌, ◌≢◌, ◌⊎◌, false, length, string_bytes, None, IsTrue, IfOk, IfErr, IfSome, OnOk};
+ghost use Rattle.std.specs.Prelude.{◌≡◌, ◌≢◌, ◌⊎◌, ◌≤◌, false, [], ◌∷◌, length, map, string_bytes, None, IsTrue, IfOk, IfErr, IfSome, OnOk, OnErr};
 ghost use Rattle.sqlite.specs.State.{HasCleanDisk, KeepsCommit};
+ghost use Rattle.std.specs.List.{AllByRecursion};
 ghost use Rattle.sqlite.specs.Held.{state};
 ghost use Rattle.mls_lattice.specs.Canon as lattice;
 ghost use Rattle.mls_scheme.specs.Scheme.{AreUnder};
 ghost use Rattle.mls_scheme.specs.Canon as scheme;
-ghost use Rattle.mls_filterview.specs.Content.{no_content};
-ghost use Rattle.mls_statements.specs.Adopting.{HasOtherTexts, IsDescribedBy};
-ghost use Rattle.mls_statements.specs.Rows.{described, tables_of};
+ghost use Rattle.mls_lattice.specs.Version.{version_number, later};
+ghost use Rattle.mls_filterview.specs.Content.{Content, no_content};
+ghost use Rattle.mls_statements.specs.Rows.{described, first_meta, is_meta_row, tables_of};
+ghost use Rattle.mls_statements.specs.Statements.{AreRows, HasSettled, IsRewritten};
 ghost use Rattle.mls_statements.specs.Schema.{no_schema, schema};
 ghost use Rattle.mls_statements.specs.Store.{IsClean};
 ghost use Rattle.mls_fragments.specs.Based.{state_of};
-ghost use Rattle.mls_fragments.specs.Finding.{IsSoundContent};
+ghost use Rattle.mls_fragments.specs.Finding.{IsSoundContent, IsSpelledEntry, node_rows, cell_rows};
 ghost use Rattle.mls_fragments.specs.Holding.{Holds};
 ghost use Rattle.sqlite.specs.Files.{file_state};
 ghost use Rattle.sqlite.specs.WalFiles.{image_at};
-ghost use Rattle.mls_fragments.specs.Opening.{IsRefused, IsOpenable, IsFoundIn, IsOverFiles, IsContentIn, AreFilesRefused};
+ghost use Rattle.mls_fragments.specs.Migrating.{IsBefore, IsSoundBefore, IsWidenedContent};
+ghost use Rattle.mls_fragments.specs.Opening.{IsRefused, HoldsSound, IsTaken, IsOfOthers, IsBad, IsFoundIn, IsOverFiles, IsContentIn, AreFilesRefused};
 
 use crate::base::SqlBase;
-use crate::finding::find;
+use crate::comparing::{cell_rows, node_rows};
+use crate::finding::{Found, find};
+use crate::migrating::{Older, Standing, find_widened, standing_of};
 use crate::open_fault::OpenFault;
-use mls_lattice::Policy;
-use mls_scheme::Schemes;
+use mls_lattice::{Policy, Version};
+use mls_scheme::{Schemes, SchemesFile};
 use mls_statements::statements::creation::has_nothing;
-use mls_statements::{TableStore, read_store};
+use mls_statements::{TableStore, read_description, read_store, rewrite_store};
 use sqlite::{Alter, Connection, Error, ErrorCode, FileFrom, FileStore, MemStore, Start};
 use std::alloc::{AllocError, Global};
 
@@ -31,14 +36,14 @@ use std::alloc::{AllocError, Global};
 fn texts_of(
     alloc: Global,
     policy: &Policy,
-    schemes: &Schemes,
+    file: &SchemesFile,
 ) -> Result<(String, String), AllocError>
-    requires under { AreUnder (length policy.now.labels) schemes.now }
+    requires under { AreUnder (length policy.now.labels) file.now.schemes }
     ensures lattice { IfOk result (λ texts. string_bytes texts.0 ≡ lattice.lattice_of policy.now) }
-    ensures schemes { IfOk result (λ texts. string_bytes texts.1 ≡ scheme.canon_of policy.now schemes.now) }
+    ensures schemes { IfOk result (λ texts. string_bytes texts.1 ≡ scheme.canon_of policy.now file.now.version file.now.schemes) }
 {
     let lattice = String::from_utf8(policy.lattice_text(alloc)?).unwrap();
-    let schemes = String::from_utf8(schemes.canon(alloc, policy)?).unwrap();
+    let schemes = String::from_utf8(file.canon(alloc, policy)?).unwrap();
     Ok((lattice, schemes))
 }
 
@@ -46,87 +51,183 @@ fn texts_of(
 fn created<S: Alter>(
     alloc: Global,
     conn: Connection<S>,
-    lattice: &str,
-    schemes: &str,
+    version: Version,
+    texts: &(String, String),
 ) -> Result<SqlBase<S>, (OpenFault, Connection<S>)>
     requires nothing { HasCleanDisk (state S.Store conn) → (state S.Store conn).now.schema ≡ no_schema }
     ensures content { IfOk result (λ b. state_of b ≡ record { now = no_content; kept = no_content; begun = false }) }
-    ensures described { IfOk result (λ b. IsClean b.tables → b.tables.now ≡ described lattice.now schemes.now) }
+    ensures described { IfOk result (λ b. IsClean b.tables → b.tables.now ≡ described (version_number version) (string_bytes texts.now.0) (string_bytes texts.now.1)) }
     ensures clean { IfOk result (λ b. IsClean b.tables → HasCleanDisk (state S.Store conn)) }
     ensures fault { IfErr result (λ e. (e.0 ≡ OpenFault.Store) ⊎ (e.0 ≡ OpenFault.Memory)) }
     ensures refused { IfErr result (λ e. IsRefused (state S.Store conn) (state S.Store e.1)) }
     ensures kept { IfErr result (λ e. HasCleanDisk (state S.Store e.1) → KeepsCommit (state S.Store conn) (state S.Store e.1)) }
 {
-    match TableStore::create(alloc, conn, lattice, schemes) {
+    match TableStore::create(alloc, conn, version.number() as u32, &texts.0, &texts.1) {
         Ok(store) => Ok(SqlBase::over_new(alloc, store)),
         Err((fault, conn)) => Err((OpenFault::from(fault), conn)),
     }
 }
 
-/// A base over the four tables of a connection's store, which these texts describe.
-fn opened<S: Alter>(
+/// A base over the rows of a store of this policy and these schemes.
+fn taken<S: Alter>(
     alloc: Global,
     mut conn: Connection<S>,
     policy: &Policy,
     schemes: &Schemes,
-    texts: &(String, String),
 ) -> Result<SqlBase<S>, (OpenFault, Connection<S>)>
     requires under { AreUnder (length policy.now.labels) schemes.now }
+    requires described { HasCleanDisk (state S.Store conn) → AreRows is_meta_row ((state S.Store conn).now.trees 5) }
     ensures rows { IfOk result (λ b. IsClean b.tables → b.tables.now ≡ tables_of (state S.Store conn).now.trees) }
-    ensures described { IfOk result (λ b. IsClean b.tables → IsDescribedBy (string_bytes texts.now.0) (string_bytes texts.now.1) b.tables.now) }
+    ensures holds { IfOk result (λ b. IsClean b.tables → Holds b.tables.now (state_of b).now) }
     ensures sound { IfOk result (λ b. IsSoundContent policy.now schemes.now (state_of b).now) }
     ensures mode { IfOk result (λ b. (state_of b).begun ≡ false) }
-    ensures schema { OnOk result ((state S.Store conn).now.schema ≡ schema) }
     ensures clean { IfOk result (λ b. IsClean b.tables → HasCleanDisk (state S.Store conn)) }
     ensures refused { IfErr result (λ e. IsRefused (state S.Store conn) (state S.Store e.1)) }
-    ensures policy { IfErr result (λ e. HasCleanDisk (state S.Store e.1) → e.0 ≡ OpenFault.OtherPolicy → HasOtherTexts (string_bytes texts.now.0) (string_bytes texts.now.1) (state S.Store conn).now) }
-    ensures bad { IfErr result (λ e. HasCleanDisk (state S.Store e.1) → e.0 ≡ OpenFault.BadRows → ¬ IsOpenable policy.now schemes.now (state S.Store conn).now) }
+    ensures texts { IfErr result (λ e. e.0 ≢ OpenFault.OtherPolicy) }
+    ensures bad { IfErr result (λ e. HasCleanDisk (state S.Store e.1) → e.0 ≡ OpenFault.BadRows → ¬ HoldsSound (IsSoundContent policy.now schemes.now) (state S.Store conn).now) }
 {
-    let rows = match read_store(&mut conn, alloc, &texts.0, &texts.1) {
+    let rows = match read_store(&mut conn, alloc) {
         Ok(rows) => rows,
         Err(fault) => return Err((OpenFault::from(fault), conn)),
     };
-    match find(alloc, policy, schemes, rows) {
+    match find(alloc, policy, schemes, policy.label_count(), rows) {
         Ok(found) => Ok(SqlBase::over_found(alloc, TableStore::over(alloc, conn), &found)),
         Err(fault) => Err((OpenFault::from(fault), conn)),
     }
 }
 
+/// Gives a store the rows of what was found in it and these texts, in one transaction. Its version is 2 then.
+fn rewritten<S: Alter>(
+    alloc: Global,
+    conn: &mut Connection<S>,
+    found: &Found,
+    texts: &(String, String),
+) -> Result<(), OpenFault>
+    requires few { length found.now.tables.items ≤ 256 }
+    requires spelled { AllByRecursion (λ t. AllByRecursion IsSpelledEntry t.entries) found.now.tables.items }
+    requires settled { HasCleanDisk (state S.Store conn.old) → HasSettled (state S.Store conn.old) }
+    ensures rewritten { HasCleanDisk (state S.Store conn.new) → OnOk result (IsRewritten (node_rows 0 (map (λ t. t.entries) found.now.tables.items))
+        (cell_rows 0 (map (λ t. t.entries) found.now.tables.items)) 2 (string_bytes texts.now.0) (string_bytes texts.now.1) (state S.Store conn.old) (state S.Store conn.new)) }
+    ensures fault { IfErr result (λ e. (e ≡ OpenFault.Store) ⊎ (e ≡ OpenFault.Memory)) }
+    ensures refused { OnErr result (IsRefused (state S.Store conn.old) (state S.Store conn.new)) }
+    ensures clean { HasCleanDisk (state S.Store conn.new) → HasCleanDisk (state S.Store conn.old) }
+{
+    let nodes = node_rows(alloc, &found.tables)?;
+    let cells = cell_rows(alloc, &found.tables)?;
+    rewrite_store(conn, &nodes, &cells, 2, &texts.0, &texts.1)?;
+    Ok(())
+}
+
+/// A base over a store of an older policy or older schemes, whose relations are widened and which gets these texts, in one
+/// transaction.
+fn migrated<S: Alter>(
+    alloc: Global,
+    mut conn: Connection<S>,
+    policy: &Policy,
+    schemes: &Schemes,
+    texts: &(String, String),
+    older: &Older,
+) -> Result<SqlBase<S>, (OpenFault, Connection<S>)>
+    requires under { AreUnder (length policy.now.labels) schemes.now }
+    requires before { IsBefore policy.now schemes.now older.now.labels older.now.counts.items }
+    requires described { HasCleanDisk (state S.Store conn) → AreRows is_meta_row ((state S.Store conn).now.trees 5) }
+    ensures widened { IfOk result (λ b. IsClean b.tables → (c : Content) × Holds (tables_of (state S.Store conn).now.trees) c
+        × IsSoundBefore policy.now schemes.now older.now.labels older.now.counts.items c × IsWidenedContent schemes.now older.now.counts.items c (state_of b).now) }
+    ensures described { IfOk result (λ b. IsClean b.tables → b.tables.now.meta ≡ first_meta 2 (string_bytes texts.now.0) (string_bytes texts.now.1) ∷ []) }
+    ensures holds { IfOk result (λ b. IsClean b.tables → Holds b.tables.now (state_of b).now) }
+    ensures sound { IfOk result (λ b. IsSoundContent policy.now schemes.now (state_of b).now) }
+    ensures mode { IfOk result (λ b. (state_of b).begun ≡ false) }
+    ensures clean { IfOk result (λ b. IsClean b.tables → HasCleanDisk (state S.Store conn)) }
+    ensures refused { IfErr result (λ e. IsRefused (state S.Store conn) (state S.Store e.1)) }
+    ensures texts { IfErr result (λ e. e.0 ≢ OpenFault.OtherPolicy) }
+    ensures bad { IfErr result (λ e. HasCleanDisk (state S.Store e.1) → e.0 ≡ OpenFault.BadRows
+        → ¬ HoldsSound (IsSoundBefore policy.now schemes.now older.now.labels older.now.counts.items) (state S.Store conn).now) }
+{
+    let rows = match read_store(&mut conn, alloc) {
+        Ok(rows) => rows,
+        Err(fault) => return Err((OpenFault::from(fault), conn)),
+    };
+    let found = match find_widened(alloc, policy, schemes, older, rows) {
+        Ok(found) => found,
+        Err(fault) => return Err((OpenFault::from(fault), conn)),
+    };
+    match rewritten(alloc, &mut conn, &found, texts) {
+        Ok(()) => Ok(SqlBase::over_found(alloc, TableStore::over(alloc, conn), &found)),
+        Err(fault) => Err((fault, conn)),
+    }
+}
+
+/// A base over the four tables of a connection's store, as its description says.
+fn opened<S: Alter>(
+    alloc: Global,
+    mut conn: Connection<S>,
+    policy: &Policy,
+    file: &SchemesFile,
+    texts: &(String, String),
+) -> Result<SqlBase<S>, (OpenFault, Connection<S>)>
+    requires under { AreUnder (length policy.now.labels) file.now.schemes }
+    requires lattice { string_bytes texts.now.0 ≡ lattice.lattice_of policy.now }
+    requires schemes { string_bytes texts.now.1 ≡ scheme.canon_of policy.now file.now.version file.now.schemes }
+    ensures taken { IfOk result (λ b. IsClean b.tables → IsTaken policy.now file.now (state S.Store conn).now b.tables.now (state_of b).now) }
+    ensures holds { IfOk result (λ b. IsClean b.tables → Holds b.tables.now (state_of b).now) }
+    ensures sound { IfOk result (λ b. IsSoundContent policy.now file.now.schemes (state_of b).now) }
+    ensures mode { IfOk result (λ b. (state_of b).begun ≡ false) }
+    ensures schema { OnOk result ((state S.Store conn).now.schema ≡ schema) }
+    ensures clean { IfOk result (λ b. IsClean b.tables → HasCleanDisk (state S.Store conn)) }
+    ensures refused { IfErr result (λ e. IsRefused (state S.Store conn) (state S.Store e.1)) }
+    ensures policy { IfErr result (λ e. HasCleanDisk (state S.Store e.1) → e.0 ≡ OpenFault.OtherPolicy → IsOfOthers policy.now file.now (state S.Store conn).now) }
+    ensures bad { IfErr result (λ e. HasCleanDisk (state S.Store e.1) → e.0 ≡ OpenFault.BadRows → IsBad policy.now file.now (state S.Store conn).now) }
+{
+    let described = match read_description(&mut conn, alloc) {
+        Ok(described) => described,
+        Err(fault) => return Err((OpenFault::from(fault), conn)),
+    };
+    match standing_of(alloc, policy, file, texts, &described) {
+        Ok(Some(Standing::Same)) => taken(alloc, conn, policy, &file.schemes),
+        Ok(Some(Standing::Older(older))) => {
+            migrated(alloc, conn, policy, &file.schemes, texts, &older)
+        }
+        Ok(None) => Err((OpenFault::OtherPolicy, conn)),
+        Err(_) => Err((OpenFault::Memory, conn)),
+    }
+}
+
 impl<S: Alter> SqlBase<S> {
     /// A base over the store of a connection. A store that has no table, index or view gets the four tables and the row that
-    /// describes it, in one transaction. Of a store with the four tables all rows are read, in one transaction; users and the
-    /// matrix of rights are not compared. Every other store is refused as BadRows. An `Err` hands the connection back.
+    /// describes it, in one transaction. Of a store with the four tables all rows are read; users and the matrix of rights are not
+    /// compared. One of an older policy or older schemes, which these extend in version 2, is migrated in one transaction: its tuples
+    /// get null at their key class for each new attribute. Every other store is refused as BadRows. An `Err` hands the connection
+    /// back.
     pub fn adopt(
         alloc: Global,
         conn: Connection<S>,
         policy: &Policy,
-        schemes: &Schemes,
+        file: &SchemesFile,
     ) -> Result<SqlBase<S>, (OpenFault, Connection<S>)>
-        requires under { AreUnder (length policy.now.labels) schemes.now }
+        requires under { AreUnder (length policy.now.labels) file.now.schemes }
         requires outside { HasCleanDisk (state S.Store conn) → IsTrue (state S.Store conn).is_open → (state S.Store conn).in_transaction ≡ false }
         ensures new { (state S.Store conn).now.schema ≡ no_schema → IfOk result (λ b. (state_of b ≡ record { now = no_content; kept = no_content; begun = false })
-            × (IsClean b.tables → b.tables.now ≡ described (lattice.lattice_of policy.now) (scheme.canon_of policy.now schemes.now))) }
-        ensures rows { (state S.Store conn).now.schema ≢ no_schema → IfOk result (λ b. IsClean b.tables → b.tables.now ≡ tables_of (state S.Store conn).now.trees) }
-        ensures described { IfOk result (λ b. IsClean b.tables → IsDescribedBy (lattice.lattice_of policy.now) (scheme.canon_of policy.now schemes.now) b.tables.now) }
+            × (IsClean b.tables → b.tables.now ≡ described (version_number (later policy.now.version file.now.version)) (lattice.lattice_of policy.now) (scheme.canon_of policy.now file.now.version file.now.schemes))) }
+        ensures taken { (state S.Store conn).now.schema ≢ no_schema → IfOk result (λ b. IsClean b.tables → IsTaken policy.now file.now (state S.Store conn).now b.tables.now (state_of b).now) }
         ensures holds { IfOk result (λ b. IsClean b.tables → Holds b.tables.now (state_of b).now) }
-        ensures sound { IfOk result (λ b. IsSoundContent policy.now schemes.now (state_of b).now) }
+        ensures sound { IfOk result (λ b. IsSoundContent policy.now file.now.schemes (state_of b).now) }
         ensures mode { IfOk result (λ b. (state_of b).begun ≡ false) }
         ensures clean { IfOk result (λ b. IsClean b.tables → HasCleanDisk (state S.Store conn)) }
         ensures schema { OnOk result (((state S.Store conn).now.schema ≡ no_schema) ⊎ ((state S.Store conn).now.schema ≡ schema)) }
-        ensures policy { IfErr result (λ e. HasCleanDisk (state S.Store e.1) → e.0 ≡ OpenFault.OtherPolicy → HasOtherTexts (lattice.lattice_of policy.now) (scheme.canon_of policy.now schemes.now) (state S.Store conn).now) }
-        ensures bad { IfErr result (λ e. HasCleanDisk (state S.Store e.1) → e.0 ≡ OpenFault.BadRows → ¬ IsOpenable policy.now schemes.now (state S.Store conn).now) }
+        ensures policy { IfErr result (λ e. HasCleanDisk (state S.Store e.1) → e.0 ≡ OpenFault.OtherPolicy → IsOfOthers policy.now file.now (state S.Store conn).now) }
+        ensures bad { IfErr result (λ e. HasCleanDisk (state S.Store e.1) → e.0 ≡ OpenFault.BadRows → IsBad policy.now file.now (state S.Store conn).now) }
         ensures made { (state S.Store conn).now.schema ≡ no_schema → IfErr result (λ e. (e.0 ≡ OpenFault.Store) ⊎ (e.0 ≡ OpenFault.Memory)) }
         ensures refused { IfErr result (λ e. IsRefused (state S.Store conn) (state S.Store e.1)) }
         ensures kept { (state S.Store conn).now.schema ≡ no_schema → IfErr result (λ e. HasCleanDisk (state S.Store e.1) → KeepsCommit (state S.Store conn) (state S.Store e.1)) }
     {
-        let texts = match texts_of(alloc, policy, schemes) {
+        let texts = match texts_of(alloc, policy, file) {
             Ok(texts) => texts,
             Err(_) => return Err((OpenFault::Memory, conn)),
         };
         if has_nothing(&conn) {
-            return created(alloc, conn, &texts.0, &texts.1);
+            return created(alloc, conn, policy.version().later(file.version), &texts);
         }
-        opened(alloc, conn, policy, schemes, &texts)
+        opened(alloc, conn, policy, file, &texts)
     }
 }
 
@@ -135,16 +236,16 @@ impl SqlBase<MemStore> {
     pub fn open_memory(
         alloc: Global,
         policy: &Policy,
-        schemes: &Schemes,
+        file: &SchemesFile,
     ) -> Result<SqlBase<MemStore>, OpenFault>
-        requires under { AreUnder (length policy.now.labels) schemes.now }
+        requires under { AreUnder (length policy.now.labels) file.now.schemes }
         ensures content { IfOk result (λ b. state_of b ≡ record { now = no_content; kept = no_content; begun = false }) }
-        ensures described { IfOk result (λ b. IsClean b.tables → b.tables.now ≡ described (lattice.lattice_of policy.now) (scheme.canon_of policy.now schemes.now)) }
+        ensures described { IfOk result (λ b. IsClean b.tables → b.tables.now ≡ described (version_number (later policy.now.version file.now.version)) (lattice.lattice_of policy.now) (scheme.canon_of policy.now file.now.version file.now.schemes)) }
         ensures policy { IfErr result (λ e. e ≢ OpenFault.OtherPolicy) }
         ensures rows { IfErr result (λ e. e ≢ OpenFault.BadRows) }
     {
         let conn = Connection::open_in_memory(alloc)?;
-        match SqlBase::adopt(alloc, conn, policy, schemes) {
+        match SqlBase::adopt(alloc, conn, policy, file) {
             Ok(base) => Ok(base),
             Err((fault, _)) => Err(fault),
         }
@@ -186,23 +287,23 @@ impl<F: Start> SqlBase<FileStore<FileFrom<F>>> {
         path: &str,
         start: F,
         policy: &Policy,
-        schemes: &Schemes,
+        file: &SchemesFile,
     ) -> Result<
         SqlBase<FileStore<FileFrom<F>>>,
         (OpenFault, Option<Connection<FileStore<FileFrom<F>>>>),
     >
-        requires under { AreUnder (length policy.now.labels) schemes.now }
-        ensures over { IfOk result (IsOverFiles policy.now schemes.now (image_at F.Start)) }
-        ensures sound { IfOk result (λ b. IsSoundContent policy.now schemes.now (state_of b).now) }
+        requires under { AreUnder (length policy.now.labels) file.now.schemes }
+        ensures over { IfOk result (IsOverFiles policy.now file.now (image_at F.Start)) }
+        ensures sound { IfOk result (λ b. IsSoundContent policy.now file.now.schemes (state_of b).now) }
         ensures mode { IfOk result (λ b. (state_of b).begun ≡ false) }
         ensures unopened { IfErr result (λ e. e.1 ≡ None → (e.0 ≡ OpenFault.Store) ⊎ (e.0 ≡ OpenFault.Memory)) }
-        ensures refused { IfErr result (λ e. IfSome e.1 (AreFilesRefused policy.now schemes.now (image_at F.Start) e.0)) }
+        ensures refused { IfErr result (λ e. IfSome e.1 (AreFilesRefused policy.now file.now (image_at F.Start) e.0)) }
     {
         let conn = match connected(rt, path, start) {
             Ok(conn) => conn,
             Err(fault) => return Err((fault, None)),
         };
-        match SqlBase::adopt(rt.alloc(), conn, policy, schemes) {
+        match SqlBase::adopt(rt.alloc(), conn, policy, file) {
             Ok(base) => Ok(base),
             Err((fault, conn)) => Err((fault, Some(conn))),
         }
@@ -214,14 +315,14 @@ impl<F: Start> SqlBase<FileStore<FileFrom<F>>> {
         path: &str,
         start: F,
         policy: &Policy,
-        schemes: &Schemes,
+        file: &SchemesFile,
     ) -> Result<SqlBase<FileStore<FileFrom<F>>>, OpenFault>
-        requires under { AreUnder (length policy.now.labels) schemes.now }
+        requires under { AreUnder (length policy.now.labels) file.now.schemes }
         ensures content { IfOk result (λ b. IsClean b.tables → IsContentIn (image_at F.Start) (state_of b).now) }
-        ensures sound { IfOk result (λ b. IsSoundContent policy.now schemes.now (state_of b).now) }
+        ensures sound { IfOk result (λ b. IsSoundContent policy.now file.now.schemes (state_of b).now) }
         ensures mode { IfOk result (λ b. (state_of b).begun ≡ false) }
     {
-        match SqlBase::open_from(rt, path, start, policy, schemes) {
+        match SqlBase::open_from(rt, path, start, policy, file) {
             Ok(base) => Ok(base),
             Err((fault, _)) => Err(fault),
         }

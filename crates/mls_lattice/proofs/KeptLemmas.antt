@@ -14,6 +14,7 @@ use Rattle.std.proofs.lemmas.List.Quantifiers.{position-Some}
 use Rattle.std.proofs.lemmas.Map.Keys.{IsDistinct-push}
 use Rattle.toml.specs.Data.{Data, Items, no_items, item, Members}
 use Rattle.mls_lattice.specs.declared.fault.PolicyFault.TheVariants.{UnknownName}
+use Rattle.mls_lattice.specs.declared.version.Version.{Version}
 use Rattle.mls_lattice.specs.declared.tables.User.{User}
 use Rattle.mls_lattice.specs.declared.tables.Right.{Right}
 use Rattle.mls_lattice.specs.Lattice.{Pair, same_pair}
@@ -236,12 +237,12 @@ policy-kept document p says = record {
 }
 
 -- a policy that reading gives part by part
-pub policy-read : (document : Members) (v : Unit {0}) (levels categories : List Name) (labels : List Named) (users : List User) (matrix : List Right)
-    → version_at document ≡ Ok v → levels_at document ≡ Ok levels → categories_at document ≡ Ok categories → labels_at levels categories document ≡ Ok labels
+pub policy-read : (document : Members) (version : Version) (levels categories : List Name) (labels : List Named) (users : List User) (matrix : List Right)
+    → version_at document ≡ Ok version → levels_at document ≡ Ok levels → categories_at document ≡ Ok categories → labels_at levels categories document ≡ Ok labels
     → users_at labels document ≡ Ok users → matrix_at users document ≡ Ok matrix
-    → IsPolicy (record { levels = levels; categories = categories; labels = labels; users = users; matrix = matrix })
+    → IsPolicy (record { version = version; levels = levels; categories = categories; labels = labels; users = users; matrix = matrix })
 unfolding policy_at
-policy-read document v levels categories labels users matrix version l c b u m =
-    let p : Tables = record { levels = levels; categories = categories; labels = labels; users = users; matrix = matrix } in
-    let read : policy_at document ≡ Ok p = rw (version, l, c, b, u, m) refl in
+policy-read document version levels categories labels users matrix v l c b u m =
+    let p : Tables = record { version = version; levels = levels; categories = categories; labels = labels; users = users; matrix = matrix } in
+    let read : policy_at document ≡ Ok p = rw (v, l, c, b, u, m) refl in
     policy-kept document p (says_found document p read)

@@ -14,3 +14,4 @@ pub mod KeptLemmas
 pub mod AsciiLemmas
 pub mod NameLemmas
 pub mod NamedLemmas
+pub mod ExtendingLemmas

@@ -88,7 +88,7 @@ name-never d = never-then _ _ _ (text-never d) (λ text. never-test _ (is_name t
 
 pub version-never : (m : Members) → IsNever NotToml (version_at m)
 unfolding version_at
-version-never m = never-then _ _ _ (wanted-never (codes "version") m) (λ d. never-then _ _ _ (integer-never d) (λ n. never-test _ (int_eq n (pos 1)) _ _ tt kind))
+version-never m = never-then _ _ _ (wanted-never (codes "version") m) (λ d. never-then _ _ _ (integer-never d) (λ n. never-test _ (int_eq n (pos 1)) _ _ tt (never-test _ (int_eq n (pos 2)) _ _ tt kind)))
 
 pub name_field-never : (key : List ℕ) (m : Members) → IsNever NotToml (name_field key m)
 name_field-never key m = never-then _ _ _ (wanted-never key m) name-never

@@ -22,7 +22,7 @@ says_found document p e =
     let b = bind_ok (labels_at l.0 c.0 document) _ p c.2 in
     let u = bind_ok (users_at b.0 document) _ p b.2 in
     let m = bind_ok (matrix_at u.0 document) _ p u.2 in
-    let made : Tables = record { levels = l.0; categories = c.0; labels = b.0; users = u.0; matrix = m.0 } in
+    let made : Tables = record { version = v.0; levels = l.0; categories = c.0; labels = b.0; users = u.0; matrix = m.0 } in
     let levels = required_found new_name_at SaysName (λ x. is_some (as_str x)) (codes "levels") document 16 new_name_found l.0 l.1 in
     let categories = optional_rows_found new_name_at SaysName (λ x. is_some (as_str x)) (codes "categories") document 32 new_name_found c.0 c.1 in
     let labels = required_found (label_at l.0 c.0) (SaysLabel l.0 c.0) (λ x. is_some (as_table x)) (codes "label") document 64 (label_found l.0 c.0) b.0 b.1 in
@@ -68,7 +68,7 @@ matrix_again document p h = optional_rows_again (right_at p.users) (SaysRight p.
 pub says_again : (document : Members) (p : Tables) → Says document p → policy_at document ≡ Ok p
 unfolding policy_at
 says_again document p h =
-    rw (version_again document h.version, levels_again document p h, categories_again document p h, labels_again document p h, users_again document p h, matrix_again document p h) refl
+    rw (version_again document p.version h.version, levels_again document p h, categories_again document p h, labels_again document p h, users_again document p h, matrix_again document p h) refl
 
 pub exact : ReadingIsExact
 exact document p = (says_found document p, says_again document p)

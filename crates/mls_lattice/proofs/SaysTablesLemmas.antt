@@ -1,5 +1,5 @@
 -- Table by table: the rows that reading gives are those that the items say.
-use Rattle.std.proofs.Common.{◌≡◌, ℕ, Bool, true, ◌==◌, List, [], ◌∷◌, ◌++◌, append_assoc, is_some, false, map, codes, pos, Option, None, Some, Ok, refl, sym, ap, ◌∙◌, subst, bit_and}
+use Rattle.std.proofs.Common.{◌≡◌, ℕ, ℤ, Bool, true, cond, ◌==◌, List, [], ◌∷◌, ◌++◌, append_assoc, is_some, false, map, codes, pos, Option, None, Some, Ok, Err, refl, sym, ap, ◌∙◌, subst, bit_and}
 use Rattle.std.specs.Prelude.{position}
 use Rattle.std.specs.Int.RustNames.{bit_or}
 use Rattle.std.specs.List.{list_any}
@@ -13,10 +13,13 @@ use Rattle.std.specs.FinSet.{nat_cmp-IsAntisymmetric}
 use Rattle.std.proofs.lemmas.Cmp.{nat_cmp_total}
 use Rattle.toml.specs.Data.{Data, Items, no_items, item, Members, get_member, integer, array, table, as_str, as_integer, as_table}
 use Rattle.mls_lattice.specs.declared.fault.PolicyFault.TheVariants.{MissingField, WrongKind, Repeated, UnknownName, EmptyInterval}
+use Rattle.mls_lattice.specs.declared.version.Version.{Version}
+use Rattle.mls_lattice.specs.declared.version.Version.TheVariants.{One, Two}
 use Rattle.mls_lattice.specs.declared.tables.User.{User}
 use Rattle.mls_lattice.specs.declared.tables.Right.{Right}
 use Rattle.mls_lattice.specs.Lattice.{Categories, Pair, same_pair}
 use Rattle.mls_lattice.specs.Labels.{below}
+use Rattle.mls_lattice.specs.Version.{version_number}
 use Rattle.mls_lattice.specs.Policy.{Name, Named, is_entry}
 use Rattle.mls_lattice.specs.Reading.{wanted, text_at, integer_at, table_at, name_at, name_field, texts_at, optional, version_at}
 use Rattle.mls_lattice.specs.PolicyReading.{once, place_in, label_place, user_place, new_name_at, more_categories, value_at, label_at, label_name_at, interval_at, trusted_at, user_at, mode_of, more_modes, right_at}
@@ -271,15 +274,22 @@ right_kind users before d r h = rw h.is_table refl
 
 -- ---- all of it
 
-pub version_found : (document : Members) (u : Unit {0}) → version_at document ≡ Ok u → get_member (codes "version") document ≡ Some (integer (pos 1))
-unfolding version_at
-version_found document u e =
-    let a = bind_ok (wanted (codes "version") document) _ u e in
-    let b = bind_ok (integer_at a.0) _ u a.2 in
-    let c = pass_ok (int_eq b.0 (pos 1)) WrongKind (Ok tt) u b.2 in
-    found_ok (get_member (codes "version") document) MissingField a.0 a.1
-    ∙ ap (λ (d : Data). Some d) (integer_from_as_integer a.0 b.0 (found_ok (as_integer a.0) WrongKind b.0 b.1) ∙ ap integer ((Decides-int_eq b.0 (pos 1)).0 c.0))
+numbered : (one two : Bool) (n : ℤ) (v : Version) → (one ≡ true → n ≡ pos 1) → (two ≡ true → n ≡ pos 2)
+    → cond one (Ok One) (cond two (Ok Two) (Err WrongKind)) ≡ Ok v → n ≡ pos (version_number v)
+numbered true two n v first second e = first refl ∙ ap (λ (x : Version). pos (version_number x)) (ok_is One v e)
+numbered false true n v first second e = second refl ∙ ap (λ (x : Version). pos (version_number x)) (ok_is Two v e)
+numbered false false n v first second e = absurd cc
 
-pub version_again : (document : Members) → get_member (codes "version") document ≡ Some (integer (pos 1)) → version_at document ≡ Ok tt
+pub version_found : (document : Members) (v : Version) → version_at document ≡ Ok v → get_member (codes "version") document ≡ Some (integer (pos (version_number v)))
 unfolding version_at
-version_again document e = rw e refl
+version_found document v e =
+    let a = bind_ok (wanted (codes "version") document) _ v e in
+    let b = bind_ok (integer_at a.0) _ v a.2 in
+    let n = numbered (int_eq b.0 (pos 1)) (int_eq b.0 (pos 2)) b.0 v (λ is. (Decides-int_eq b.0 (pos 1)).0 is) (λ is. (Decides-int_eq b.0 (pos 2)).0 is) b.2 in
+    found_ok (get_member (codes "version") document) MissingField a.0 a.1
+    ∙ ap (λ (d : Data). Some d) (integer_from_as_integer a.0 b.0 (found_ok (as_integer a.0) WrongKind b.0 b.1) ∙ ap integer n)
+
+pub version_again : (document : Members) (v : Version) → get_member (codes "version") document ≡ Some (integer (pos (version_number v))) → version_at document ≡ Ok v
+unfolding version_at
+version_again document One e = rw e refl
+version_again document Two e = rw e refl

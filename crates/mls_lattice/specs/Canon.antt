@@ -6,6 +6,7 @@ use Rattle.std.specs.FinSet as set
 use Rattle.mls_lattice.specs.declared.tables.User.{User}
 use Rattle.mls_lattice.specs.declared.tables.Right.{Right}
 use Rattle.mls_lattice.specs.Lattice.{Categories}
+use Rattle.mls_lattice.specs.Version.{version_text}
 use Rattle.mls_lattice.specs.Policy.{Name, Named, Tables}
 
 -- the names of a level, of a label and of a user by number
@@ -64,4 +65,4 @@ right_line users r = codes "matrix " ++ user_name users r.user ++ spaced r.objec
 
 abbrev pub canon_of : Tables → List ℕ
 canon_of p =
-    codes "policy 1\n" ++ lattice_of p ++ flat_map (user_line p.labels) p.users ++ flat_map (right_line p.users) p.matrix
+    codes "policy " ++ version_text p.version ++ codes "\n" ++ lattice_of p ++ flat_map (user_line p.labels) p.users ++ flat_map (right_line p.users) p.matrix

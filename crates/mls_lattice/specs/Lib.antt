@@ -1,5 +1,6 @@
 pub mod Fault
 pub mod Name
+pub mod Version
 pub mod Lattice
 pub mod Labels
 pub mod Policy
@@ -8,3 +9,4 @@ pub mod PolicyReading
 pub mod Canon
 pub mod Says
 pub mod ReadsPolicy
+pub mod Extending

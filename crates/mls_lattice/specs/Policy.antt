@@ -1,4 +1,4 @@
--- What a policy is: its levels, categories, labels and users, and the matrix of rights.
+-- What a policy is: its version, levels, categories, labels and users, and the matrix of rights.
 use Rattle.std.specs.Prelude.{◌≡◌, ℕ, ◌<◌, ◌≤◌, Bool, true, ◌&&◌, List, [], ◌∷◌, map, length, if◌then◌else◌, nat_eq}
 use Rattle.std.specs.Option.{IfSome}
 use Rattle.std.specs.List.{AllByRecursion, IsDistinct}
@@ -6,6 +6,7 @@ use Rattle.std.specs.Str.{bytes_eq}
 use Rattle.mls_lattice.specs.Lattice.{Pair, pair_of}
 use Rattle.mls_lattice.specs.Labels.{Labels, AreDistinct, below}
 use Rattle.mls_lattice.specs.Name.{is_name}
+use Rattle.mls_lattice.specs.declared.version.Version.{Version}
 use Rattle.mls_lattice.specs.declared.tables.NamedLabel.{NamedLabel}
 use Rattle.mls_lattice.specs.declared.tables.User.{User}
 use Rattle.mls_lattice.specs.declared.tables.Right.{Right}
@@ -21,6 +22,7 @@ pub record Named : Type 0 where
 
 -- all that a policy says, in the order of its file
 pub record Tables : Type 0 where
+  pub version : Version
   pub levels : List Name
   pub categories : List Name
   pub labels : List Named

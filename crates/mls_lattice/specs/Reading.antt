@@ -4,6 +4,8 @@ use Rattle.std.specs.Ordering.{int_eq}
 use Rattle.toml.specs.Data.{Data, Items, no_items, item, Members, get_member, as_str, as_integer, as_array, as_table}
 use Rattle.mls_lattice.specs.declared.fault.PolicyFault.{PolicyFault}
 use Rattle.mls_lattice.specs.declared.fault.PolicyFault.TheVariants.{MissingField, WrongKind, TooMany, BadName, Memory}
+use Rattle.mls_lattice.specs.declared.version.Version.{Version}
+use Rattle.mls_lattice.specs.declared.version.Version.TheVariants.{One, Two}
 use Rattle.mls_lattice.specs.Name.{is_name}
 
 -- one step after another, up to the first fault
@@ -40,12 +42,12 @@ table_at d = ok_or (as_table d) WrongKind
 abbrev pub name_at : Data → Result (List ℕ) PolicyFault
 name_at d = text_at d >>= λ text. if is_name text then Ok text else Err BadName
 
--- the version is 1
-unfoldable pub version_at : Members → Result (Unit {0}) PolicyFault
+-- the version, which is 1 or 2
+unfoldable pub version_at : Members → Result Version PolicyFault
 version_at document = do
   d ← wanted (codes "version") document
   n ← integer_at d
-  if int_eq n (pos 1) then Ok tt else Err WrongKind
+  if int_eq n (pos 1) then Ok One else if int_eq n (pos 2) then Ok Two else Err WrongKind
 
 -- the name at a key
 abbrev pub name_field : List ℕ → Members → Result (List ℕ) PolicyFault

@@ -10,6 +10,7 @@ use Rattle.mls_lattice.specs.declared.tables.Right.{Right}
 use Rattle.mls_lattice.specs.Lattice.{Pair, same_pair}
 use Rattle.mls_lattice.specs.Labels.{below}
 use Rattle.mls_lattice.specs.Name.{is_name}
+use Rattle.mls_lattice.specs.Version.{version_number}
 use Rattle.mls_lattice.specs.Policy.{Name, Named, Tables, is_entry}
 use Rattle.mls_lattice.specs.PolicyReading.{mode_of}
 
@@ -131,7 +132,7 @@ MayHaveRows Says key document rows = (ds : Items) × MayHaveItems key document d
 
 -- the document is that of the policy
 pub record Says (document : Members) (p : Tables) : Type 0 where
-  pub version : get_member (codes "version") document ≡ Some (integer (pos 1))
+  pub version : get_member (codes "version") document ≡ Some (integer (pos (version_number p.version)))
   pub levels : HasRows SaysName (codes "levels") document p.levels
   pub some_level : 0 < length p.levels
   pub few_levels : length p.levels ≤ 16

@@ -1,7 +1,8 @@
 //! The lines of the canonical text.
-ghost use Rattle.std.specs.Prelude.{◌≡◌, ◌++◌, ◌<◌, ◌≤◌, OnOk, length, map, string_bytes};
+ghost use Rattle.std.specs.Prelude.{◌≡◌, ◌++◌, ◌<◌, ◌≤◌, OnOk, codes, length, map, string_bytes};
 ghost use Rattle.std.specs.List.{flat_map, AllByRecursion};
 ghost use Rattle.mls_lattice.specs.Lattice.{cats_of, pair_of};
+ghost use Rattle.mls_lattice.specs.Version.{version_text};
 ghost use Rattle.mls_lattice.specs.Policy.{named, HasLevel, IsCleared, HasUser};
 ghost use Rattle.mls_lattice.specs.Canon.{label_name, user_name, spaced, names_of, level_line, category_line, label_line, interval_text, user_line, word_if, modes_text, right_line};
 
@@ -10,6 +11,7 @@ use crate::modes::Modes;
 use crate::number::{LabelNo, UserNo};
 use crate::tables::{NamedLabel, Right, User};
 use crate::text::Str;
+use crate::version::Version;
 use bitflags::Flags;
 use std::alloc::AllocError;
 
@@ -28,6 +30,14 @@ pub(crate) fn user_name(users: &[User], user: UserNo) -> &str
     ensures { result.now ≡ user_name users.now user }
 {
     users[user.index()].name.as_str()
+}
+
+/// Writes the first line, which has the version.
+pub(crate) fn version_to(text: &mut String, version: Version) -> Result<(), AllocError>
+    ensures { OnOk result (string_bytes text.new ≡ string_bytes text.old ++ codes "policy " ++ version_text version ++ codes "\n") }
+{
+    let word = version.word();
+    writeln!(text, "policy {word}")
 }
 
 /// Writes the lines of the levels.
@@ -68,7 +78,7 @@ fn names_to(text: &mut String, categories: &[Str], label: Label) -> Result<(), A
 }
 
 /// Writes the line of a label.
-fn label_to(
+pub(crate) fn label_to(
     text: &mut String,
     levels: &[Str],
     categories: &[Str],

@@ -7,6 +7,7 @@ ghost use Rattle.mls_lattice.specs.Reading.{Gives, wanted, text_at, integer_at, 
 
 use crate::fault::PolicyFault;
 use crate::name::is_name;
+use crate::version::Version;
 use toml::{Table, Value};
 
 /// The value at a key.
@@ -37,15 +38,15 @@ pub fn integer_of(value: &Value) -> Result<i64, PolicyFault>
     value.as_integer().ok_or(PolicyFault::WrongKind)
 }
 
-/// The version, which is 1.
+/// The version, which is 1 or 2.
 #[tactic(auto, unfolding(crate::specs::Reading::version_at))]
-pub fn version_of(document: &Table) -> Result<(), PolicyFault>
+pub fn version_of(document: &Table) -> Result<Version, PolicyFault>
     ensures { Gives (λ v. v) result (version_at (table_view document.now)) }
 {
-    if integer_of(wanted(document, "version")?)? == 1 {
-        Ok(())
-    } else {
-        Err(PolicyFault::WrongKind)
+    match integer_of(wanted(document, "version")?)? {
+        1 => Ok(Version::One),
+        2 => Ok(Version::Two),
+        _ => Err(PolicyFault::WrongKind),
     }
 }
 

@@ -4,10 +4,12 @@
 ghost use Rattle.mls_lattice.specs.Lattice.{IsOrder, IsLeastUpperBound, IsGreatestLowerBound};
 ghost use Rattle.mls_lattice.specs.Labels.{IsOrderByNumber};
 ghost use Rattle.mls_lattice.specs.ReadsPolicy.{ReadingIsExact, SaysOne};
+ghost use Rattle.mls_lattice.specs.Extending.{OldLabelsAreOne};
 
 mod canon;
 /// The fields of a document: schemes are read by them too.
 pub mod document;
+mod extending;
 mod fault;
 mod items;
 mod label;
@@ -21,6 +23,7 @@ mod policy;
 mod tables;
 mod text;
 mod users;
+mod version;
 
 pub use fault::PolicyFault;
 pub use items::Items;
@@ -30,6 +33,7 @@ pub use name::{is_name, is_name_byte, is_reserved};
 pub use number::{LabelNo, UserNo};
 pub use policy::Policy;
 pub use text::{Str, ascii_text, digits_len};
+pub use version::Version;
 
 /// Dominance is an order.
 pub fn dominance_is_an_order()
@@ -59,4 +63,9 @@ pub fn reading_is_exact()
 /// A document is that of one policy at most.
 pub fn a_document_says_one_policy()
     ensures { SaysOne }
+{}
+
+/// A text is that of one number of old labels at most.
+pub fn old_labels_are_one()
+    ensures { OldLabelsAreOne }
 {}

@@ -1,4 +1,4 @@
-ghost use Rattle.std.specs.Prelude.{◌≡◌, true, ◌≢◌, ◌↔◌, ◌<◌, ◌≤◌, length, map, position, slice_get, Some, IfSome, IfOk, IfErr, option_map, IsUtf8};
+ghost use Rattle.std.specs.Prelude.{◌≡◌, true, ◌≢◌, ◌↔◌, ◌<◌, ◌≤◌, ℕ, IsTrue, length, map, position, slice_get, Some, None, IfSome, IfOk, IfErr, option_map, IsUtf8};
 ghost use Rattle.std.specs.List.{IsDistinct};
 ghost use Rattle.std.specs.Str.{bytes_eq};
 ghost use Rattle.mls_lattice.specs.Lattice.{pair_of};
@@ -6,6 +6,7 @@ ghost use Rattle.mls_lattice.specs.Labels.{label_of, below, AreDistinct};
 ghost use Rattle.mls_lattice.specs.Name.{is_name};
 ghost use Rattle.mls_lattice.specs.Policy.{Tables, labels_of, modes_in, IsPolicy};
 ghost use Rattle.mls_lattice.specs.Canon.{label_name, user_name, canon_of, lattice_of};
+ghost use Rattle.mls_lattice.specs.Extending.{Extends};
 ghost use Rattle.mls_lattice.specs.Reading.{Gives};
 ghost use Rattle.mls_lattice.specs.PolicyReading.{levels_at, categories_at, policy_at};
 ghost use Rattle.mls_lattice.specs.ReadsPolicy.{IsDocument, ReadsPolicy, HasFault};
@@ -13,9 +14,10 @@ ghost use Rattle.toml.specs.Data.{Members};
 ghost use Rattle.toml.specs.View.{table_view};
 
 use crate::canon::{
-    categories_to, label_name, labels_to, levels_to, matrix_to, user_name, users_to,
+    categories_to, label_name, labels_to, levels_to, matrix_to, user_name, users_to, version_to,
 };
 use crate::document::{at_most, optional_texts, some_of, texts_of, version_of, wanted};
+use crate::extending::{labels_before, names_before};
 use crate::fault::PolicyFault;
 use crate::items::Items;
 use crate::label::Label;
@@ -27,13 +29,15 @@ use crate::number::{LabelNo, UserNo};
 use crate::tables::{NamedLabel, Right, User};
 use crate::text::Str;
 use crate::users::{position_of_user, users_of};
+use crate::version::Version;
 use std::alloc::{AllocError, Global};
 use std::marker::Model;
 use toml::Table;
 
-/// Levels, categories, labels, users and rights, as a policy file declares them.
+/// Version, levels, categories, labels, users and rights, as a policy file declares them.
 #[derive(Drop)]
 pub struct Policy {
+    version: Version,
     levels: Items<Str>,
     categories: Items<Str>,
     labels: Items<NamedLabel>,
@@ -51,9 +55,9 @@ impl Model for Policy {
 
     ghost coded = { Prim.hlevel (codes, pair_code) };
 
-    ghost view = { λ a. record { levels = a.levels; categories = a.categories; labels = map named a.labels; users = a.users; matrix = a.matrix } };
+    ghost view = { λ a. record { version = a.version; levels = a.levels; categories = a.categories; labels = map named a.labels; users = a.users; matrix = a.matrix } };
 
-    ghost invariant = { λ a. IsPolicy (record { levels = a.levels; categories = a.categories; labels = map named a.labels; users = a.users; matrix = a.matrix }) };
+    ghost invariant = { λ a. IsPolicy (record { version = a.version; levels = a.levels; categories = a.categories; labels = map named a.labels; users = a.users; matrix = a.matrix }) };
 }
 
 impl Policy {
@@ -77,11 +81,19 @@ impl Policy {
         }
     }
 
+    /// The version of the file.
+    pub fn version(&self) -> Version
+        ensures { result ≡ self.now.version }
+    {
+        self.version
+    }
+
     /// The canonical text: the form in which policies are compared, which is no TOML document.
     pub fn canon(&self, alloc: Global) -> Result<Vec<u8>, AllocError>
         ensures { IfOk result (λ text. text.items ≡ canon_of self.now) }
     {
-        let mut text = String::from_str(alloc, "policy 1\n")?;
+        let mut text = String::new(alloc);
+        version_to(&mut text, self.version)?;
         levels_to(&mut text, &self.levels)?;
         categories_to(&mut text, &self.categories)?;
         labels_to(&mut text, &self.levels, &self.categories, &self.labels)?;
@@ -100,6 +112,34 @@ impl Policy {
         categories_to(&mut text, &self.categories)?;
         labels_to(&mut text, &self.levels, &self.categories, &self.labels)?;
         Ok(text.into_bytes())
+    }
+
+    /// How many labels the old lattice of a text has, if this one extends it: they are the first labels here.
+    pub fn labels_before(&self, alloc: Global, old: &[u8]) -> Result<Option<usize>, AllocError>
+        ensures found { IfOk result (λ o. IfSome o (Extends self.now old.now)) }
+        ensures none { IfOk result (λ o. o ≡ None → (k : ℕ) → Extends self.now old.now k → ⊥) }
+    {
+        let (levels, rest) = names_before(alloc, "level ", &self.levels, old)?;
+        let (_, rest) = names_before(alloc, "category ", &self.categories, rest)?;
+        let (labels, rest) = labels_before(
+            alloc,
+            &self.levels,
+            &self.categories,
+            &self.labels,
+            rest,
+        )?;
+        if levels > 0 && labels > 0 && rest.is_empty() {
+            Ok(Some(labels))
+        } else {
+            Ok(None)
+        }
+    }
+
+    /// Whether this policy extends the lattice of an old text.
+    pub fn extends(&self, alloc: Global, old: &[u8]) -> Result<bool, AllocError>
+        ensures { IfOk result (λ b. IsTrue b ↔ ((k : ℕ) × Extends self.now old.now k)) }
+    {
+        Ok(self.labels_before(alloc, old)?.is_some())
     }
 
     /// How many labels are declared. What holds of every policy is told here too.
@@ -227,13 +267,14 @@ fn categories_of(alloc: Global, document: &Table) -> Result<Vec<Str>, PolicyFaul
 fn policy_of(alloc: Global, document: &Table) -> Result<Policy, PolicyFault>
     ensures { Gives (λ p. p) result (policy_at (table_view document.now)) }
 {
-    version_of(document)?;
+    let version = version_of(document)?;
     let levels = levels_of(alloc, document)?;
     let categories = categories_of(alloc, document)?;
     let labels = labels_of(alloc, &levels, &categories, document)?;
     let users = users_of(alloc, &labels, document)?;
     let matrix = matrix_of(alloc, &users, document)?;
     Ok(Policy {
+        version,
         levels: Items::from(levels),
         categories: Items::from(categories),
         labels: Items::from(labels),

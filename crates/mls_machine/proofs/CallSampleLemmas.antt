@@ -7,6 +7,7 @@ use Rattle.std.specs.Str.{bytes_eq}
 use Rattle.std.specs.Fmt.{digits}
 use Rattle.std.specs.FinMap.{empty}
 use Rattle.mls_lattice.specs.declared.tables.Right.{Right}
+use Rattle.mls_lattice.specs.declared.version.Version.TheVariants.{One}
 use Rattle.mls_lattice.specs.Lattice.{Pair}
 use Rattle.mls_lattice.specs.Labels.{Labels, below}
 use Rattle.mls_lattice.specs.Policy.{Name, Tables, modes_in}
@@ -52,6 +53,7 @@ module _ (u s : Pair) (rights : List Right) (k : Certified) (is : k.tx ≡ pass)
 
   abbrev policy : Tables
   policy = record {
+    version = One;
     levels = [];
     categories = [];
     labels = record { name = codes "U"; value = u } ∷ record { name = codes "S"; value = s } ∷ [];

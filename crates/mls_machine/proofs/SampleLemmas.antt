@@ -5,6 +5,7 @@ use Rattle.std.specs.List.{list_any}
 use Rattle.std.specs.Fmt.{digits}
 use Rattle.std.specs.FinMap.{empty}
 use Rattle.mls_lattice.specs.declared.tables.Right.{Right}
+use Rattle.mls_lattice.specs.declared.version.Version.TheVariants.{One}
 use Rattle.mls_lattice.specs.Lattice.{Pair}
 use Rattle.mls_lattice.specs.Labels.{Labels, below}
 use Rattle.mls_lattice.specs.Policy.{Name, Tables, modes_in}
@@ -32,6 +33,7 @@ module _ (u s h : Pair) (rights : List Right) where
 
   abbrev policy : Tables
   policy = record {
+    version = One;
     levels = [];
     categories = [];
     labels = record { name = codes "U"; value = u } ∷ record { name = codes "S"; value = s } ∷ record { name = codes "H"; value = h } ∷ [];

@@ -1,5 +1,5 @@
 -- The lines of attributes, one after another.
-use Rattle.std.proofs.Common.{◌≡◌, ℕ, zero, suc, ◌+◌, ◌<◌, List, [], ◌∷◌, ◌++◌, take, slice_get, option_map, Option, Some, None, sym, ap, ◌∙◌, subst}
+use Rattle.std.proofs.Common.{◌≡◌, ℕ, zero, suc, ◌+◌, ◌<◌, List, [], ◌∷◌, ◌++◌, length, get_or, take, slice_get, option_map, Option, Some, None, sym, ap, ◌∙◌, subst}
 use Rattle.std.specs.List.{flat_map, AllByRecursion}
 use Rattle.std.proofs.lemmas.List.{flat_map_more, take_more}
 use Rattle.std.proofs.lemmas.Option.{slice_get_within, get_or_from_slice_get, same_Some, none-some}
@@ -23,6 +23,15 @@ lines_more f attributes k name c start e g =
     let a = attribute_named name c in
     flat_map_more f start (take k attributes) a
     ∙ ap (λ xs. start ++ flat_map f xs) (sym (take_more attributes k a (slice_get_within attributes k a here) ∙ ap (λ x. take k attributes ++ x ∷ []) (get_or_from_slice_get attributes k a a here)))
+
+-- the attribute of a place, from its name and the rest
+pub attribute_there : (attributes : List Attribute) (k : ℕ) (name : Name) (c : Column)
+    → option_map (λ a. a.name) (slice_get attributes k) ≡ Some name → option_map column_of (slice_get attributes k) ≡ Some c
+    → (attribute_named name c ≡ get_or attributes k (attribute_named name c)) × (k < length attributes)
+attribute_there attributes k name c e g =
+    let a = attribute_named name c in
+    let here = whole (slice_get attributes k) name c e g in
+    (sym (get_or_from_slice_get attributes k a a here), slice_get_within attributes k a here)
 
 -- what is kept of an attribute speaks of labels that there are
 pub column_among : (n : ℕ) (attributes : List Attribute) (k : ℕ) (c : Column) → AllByRecursion (IsAmongLabels n) attributes → option_map column_of (slice_get attributes k) ≡ Some c → (c.low < n) × (c.high < n)

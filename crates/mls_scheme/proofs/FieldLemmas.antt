@@ -9,6 +9,8 @@ use Rattle.mls_lattice.specs.declared.fault.PolicyFault.{PolicyFault}
 use Rattle.mls_lattice.specs.declared.fault.PolicyFault.TheVariants as policy
 use Rattle.mls_lattice.specs.Name.{is_name}
 use Rattle.mls_lattice.specs.Policy.{Name, Tables}
+use Rattle.mls_lattice.specs.declared.version.Version.{Version}
+use Rattle.mls_lattice.specs.Version.{version_number}
 use Rattle.mls_lattice.specs.Reading.{◌>>=◌, wanted, text_at, version_at, table_at, name_at, tables_at, optional, items_len, all_items, at_most, some_of}
 use Rattle.mls_lattice.proofs.ReadingLemmas.{bind_ok, guard_ok, found_ok, string_from_as_str}
 use Rattle.mls_lattice.proofs.SaysLemmas.{field_found, field_again, kind_found as array_of_kind_found, most_found, most_again}
@@ -70,11 +72,11 @@ label_found p key fields label e =
 pub label_again : (p : Tables) (key : Name) (fields : Members) (label : ℕ) → NamesLabel p (get_member key fields) label → label_field p.labels key fields ≡ Ok label
 label_again p key fields label h = rw (name_again key fields h.name h.field_is h.named, h.declared) refl
 
-pub version_found : (document : Members) → lift (version_at document) ≡ Ok tt → get_member (codes "version") document ≡ Some (integer (pos 1))
-version_found document e = policy_version_found document tt (lift_ok (version_at document) tt e)
+pub version_found : (document : Members) (v : Version) → lift (version_at document) ≡ Ok v → get_member (codes "version") document ≡ Some (integer (pos (version_number v)))
+version_found document v e = policy_version_found document v (lift_ok (version_at document) v e)
 
-pub version_again : (document : Members) → get_member (codes "version") document ≡ Some (integer (pos 1)) → lift (version_at document) ≡ Ok tt
-version_again document e = ap lift (policy_version_again document e)
+pub version_again : (document : Members) (v : Version) → get_member (codes "version") document ≡ Some (integer (pos (version_number v))) → lift (version_at document) ≡ Ok v
+version_again document v e = ap lift (policy_version_again document v e)
 
 -- ---- lists of tables
 

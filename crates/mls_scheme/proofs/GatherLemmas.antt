@@ -104,7 +104,7 @@ module _ {A : Type 0} (name_of : A → Name) where
   past s a [] new p = p.0
   past s a (x ∷ xs) new p = past s a xs new p.1
 
-  fresh : (xs : List A) (a : A) (new : List A) → IsDistinct bytes_eq (map name_of (xs ++ a ∷ new)) → has xs (name_of a) ≡ false
+  pub fresh : (xs : List A) (a : A) (new : List A) → IsDistinct bytes_eq (map name_of (xs ++ a ∷ new)) → has xs (name_of a) ≡ false
   fresh [] a new h = refl
   fresh (x ∷ xs) a new h =
       let head = IsDistinct-head bytes_eq (name_of x) (map name_of (xs ++ a ∷ new)) h in

@@ -11,3 +11,5 @@ pub mod NeverLemmas
 pub mod SchemeLemmas
 pub mod SchemeNameLemmas
 pub mod CanonLemmas
+pub mod ExtendingLemmas
+pub mod OlderLemmas

@@ -129,4 +129,4 @@ pub schemes-never : (p : Tables) (document : Members) → IsNever NotToml (schem
 unfolding schemes_at
 schemes-never p document =
     never-then _ _ _ (lifted _ (version-never document)) (λ version. never-then _ _ _ (relation_items-never document) (λ tables.
-    gathered (scheme_at p) (scheme-never p) [] tables))
+    never-then _ _ _ (gathered (scheme_at p) (scheme-never p) [] tables) (λ schemes. tt)))

@@ -9,6 +9,7 @@ use Rattle.toml.specs.Data.{Data, array, table, Items, no_items, Members, get_me
 use Rattle.mls_lattice.specs.Labels.{below}
 use Rattle.mls_lattice.specs.Policy.{Name, Tables, AreNames, labels_of}
 use Rattle.mls_lattice.specs.ReadsPolicy.{IsDocument}
+use Rattle.mls_lattice.specs.declared.version.Version.{Version}
 use Rattle.mls_lattice.specs.Reading.{◌>>=◌, version_at, table_at, items_len}
 use Rattle.mls_lattice.proofs.ReadingLemmas.{ok_is, bind_ok, pass_ok}
 use Rattle.mls_lattice.proofs.ReadsPolicyLemmas.{one_document}
@@ -291,9 +292,9 @@ each_valid p [] (s ∷ schemes) h = absurd h
 each_valid p (t ∷ ts) [] h = absurd h
 each_valid p (t ∷ ts) (s ∷ schemes) h = (h.0.valid, each_valid p ts schemes h.1)
 
-relations_says : (p : Tables) (document : Members) (ds : Items) (schemes : Schemes) → lift (version_at document) ≡ Ok tt → relation_items document ≡ Ok ds → gather (scheme_at p) [] ds ≡ Ok schemes → Says p document schemes
+relations_says : (p : Tables) (document : Members) (v : Version) (ds : Items) (schemes : Schemes) → lift (version_at document) ≡ Ok v → relation_items document ≡ Ok ds → gather (scheme_at p) [] ds ≡ Ok schemes → Says p document v schemes
 unfolding IsDistinct
-relations_says p document ds schemes version text e =
+relations_says p document v ds schemes version text e =
     let r = relation_found document ds text in
     let g = gather_found (scheme_at p) (SaysRelation p) IsNewRelation (scheme_step p) [] ds schemes e in
     let same : g.new ≡ schemes = sym g.parts in
@@ -302,7 +303,7 @@ relations_says p document ds schemes version text e =
     let some = r.some in
     let few = r.few in
     record {
-      version = version_found document version;
+      version = version_found document v version;
       tables = g.tables;
       relation = r.field_is ∙ ap (λ (x : Items). Some (array x)) g.text;
       relations = relations;
@@ -314,29 +315,34 @@ relations_says p document ds schemes version text e =
       };
     }
 
-pub says_found : (p : Tables) (document : Members) (schemes : Schemes) → schemes_at p document ≡ Ok schemes → Says p document schemes
+pub says_found : (p : Tables) (document : Members) (f : Version × Schemes) → schemes_at p document ≡ Ok f → Says p document f.0 f.1
 unfolding schemes_at
-says_found p document schemes e =
-    let v = bind_ok (lift (version_at document)) _ schemes e in
-    let r = bind_ok (relation_items document) _ schemes v.2 in
-    relations_says p document r.0 schemes v.1 r.1 r.2
+says_found p document f e =
+    let v = bind_ok (lift (version_at document)) _ f e in
+    let r = bind_ok (relation_items document) _ f v.2 in
+    let g = bind_ok (gather (scheme_at p) [] r.0) _ f r.2 in
+    let same : (v.0, g.0) ≡ f = ok_is (v.0, g.0) f g.2 in
+    subst (λ (x : Version × Schemes). Says p document x.0 x.1) same (relations_says p document v.0 r.0 g.0 v.1 r.1 g.1)
 
-pub says_again : (p : Tables) (document : Members) (schemes : Schemes) → Says p document schemes → schemes_at p document ≡ Ok schemes
+pub says_again : (p : Tables) (document : Members) (v : Version) (schemes : Schemes) → Says p document v schemes → schemes_at p document ≡ Ok (v, schemes)
 unfolding schemes_at
-says_again p document schemes s =
+says_again p document v schemes s =
     let len : items_len (tables_of s.tables) ≡ length schemes = items_len-tables_of (SaysRelation p) s.tables schemes s.relations in
     let some = s.valid.some in
     let few = s.valid.few in
-    rw (version_again document s.version, relation_again document s.tables s.relation (omega arith) (omega arith))
-    (gather_again (scheme_at p) (SaysRelation p) IsNewRelation (scheme_step_again p) [] s.tables schemes s.relations (distinct_again (λ (x : Scheme). x.name) [] [] schemes s.valid.distinct))
+    rw (
+      version_again document v s.version,
+      relation_again document s.tables s.relation (omega arith) (omega arith),
+      gather_again (scheme_at p) (SaysRelation p) IsNewRelation (scheme_step_again p) [] s.tables schemes s.relations (distinct_again (λ (x : Scheme). x.name) [] [] schemes s.valid.distinct),
+    ) refl
 
 -- ---- what the code asks and promises
 
 pub scheme_valid : (p : Tables) (fields : Members) (s : Scheme) → name_field (codes "name") fields ≡ Ok s.name → attributes_at p fields ≡ Ok (s.keys, s.others) → IsScheme s
 scheme_valid p fields s name attributes = (parts_says p fields s name (attributes_found p fields s attributes)).valid
 
-pub schemes_valid : (p : Tables) (document : Members) (ds : Items) (schemes : Schemes) → lift (version_at document) ≡ Ok tt → relation_items document ≡ Ok ds → gather (scheme_at p) [] ds ≡ Ok schemes → AreSchemes schemes
-schemes_valid p document ds schemes version text e = (relations_says p document ds schemes version text e).valid
+pub schemes_valid : (p : Tables) (document : Members) (v : Version) (ds : Items) (schemes : Schemes) → lift (version_at document) ≡ Ok v → relation_items document ≡ Ok ds → gather (scheme_at p) [] ds ≡ Ok schemes → AreSchemes schemes
+schemes_valid p document v ds schemes version text e = (relations_says p document v ds schemes version text e).valid
 
 among : (p : Tables) (fields : Members) (a : Attribute) → SaysAttribute p fields a → IsAmongLabels (length p.labels) a
 among p fields a s = record { low = position_within (λ l. bytes_eq l.name s.low.name) p.labels a.low s.low.declared; high = position_within (λ l. bytes_eq l.name s.high.name) p.labels a.high s.high.declared }
@@ -369,43 +375,40 @@ all_have_intervals p (t ∷ ts) (s ∷ schemes) h =
 
 -- ---- the clauses of the reader
 
-pub read_found : (p : Tables) (bytes : List ℕ) (document : Members) (r : Result Schemes SchemeFault) → IsDocument bytes document → Gives (λ s. s) r (schemes_at p document) → IfOk r (ReadsSchemes p bytes)
-read_found p bytes document (Ok s) is given = (document, is, says_found p document s given)
-read_found p bytes document (Err e) is given = tt
+module _ {F : Type 0} (file : F → Version × Schemes) (p : Tables) (document : Members) where
+  pub read_found : (bytes : List ℕ) (r : Result F SchemeFault) → IsDocument bytes document → Gives file r (schemes_at p document) → IfOk r (λ f. ReadsSchemes p bytes (file f).0 (file f).1)
+  read_found bytes (Ok f) is given = (document, is, says_found p document (file f) given)
+  read_found bytes (Err e) is given = tt
 
-pub read_under : (p : Tables) (document : Members) (r : Result Schemes SchemeFault) → Gives (λ s. s) r (schemes_at p document) → IfOk r (AreUnder (length p.labels))
-read_under p document (Ok s) given = let says = says_found p document s given in all_under p says.tables s says.relations
-read_under p document (Err e) given = tt
+  pub read_under : (r : Result F SchemeFault) → Gives file r (schemes_at p document) → IfOk r (λ f. AreUnder (length p.labels) (file f).1)
+  read_under (Ok f) given = let says = says_found p document (file f) given in all_under p says.tables (file f).1 says.relations
+  read_under (Err e) given = tt
 
-pub read_intervals : (p : Tables) (document : Members) (r : Result Schemes SchemeFault) → Gives (λ s. s) r (schemes_at p document) → IfOk r (HaveIntervals (labels_of p))
-read_intervals p document (Ok s) given = let says = says_found p document s given in all_have_intervals p says.tables s says.relations
-read_intervals p document (Err e) given = tt
+  pub read_intervals : (r : Result F SchemeFault) → Gives file r (schemes_at p document) → IfOk r (λ f. HaveIntervals (labels_of p) (file f).1)
+  read_intervals (Ok f) given = let says = says_found p document (file f) given in all_have_intervals p says.tables (file f).1 says.relations
+  read_intervals (Err e) given = tt
 
-pub read_refused : (p : Tables) (bytes : List ℕ) (document : Members) (r : Result Schemes SchemeFault) → IsDocument bytes document → Gives (λ s. s) r (schemes_at p document)
-    → IfErr r (λ e. e ≢ Memory → (s : Schemes) → ReadsSchemes p bytes s → ⊥)
-read_refused p bytes document (Ok s) is given = tt
-read_refused p bytes document (Err e) is given = λ other s (read, is_read, says).
-    let ok : schemes_at p document ≡ Ok s = ap (schemes_at p) (one_document bytes document read is is_read) ∙ says_again p read s says in
-    let err : schemes_at p document ≡ Err e = given other in
-    absurd cc
+  pub read_refused : (bytes : List ℕ) (r : Result F SchemeFault) → IsDocument bytes document → Gives file r (schemes_at p document)
+      → IfErr r (λ e. e ≢ Memory → (v : Version) (s : Schemes) → ReadsSchemes p bytes v s → ⊥)
+  read_refused bytes (Ok f) is given = tt
+  read_refused bytes (Err e) is given = λ other v s (read, is_read, says).
+      let ok : schemes_at p document ≡ Ok (v, s) = ap (schemes_at p) (one_document bytes document read is is_read) ∙ says_again p read v s says in
+      let err : schemes_at p document ≡ Err e = given other in
+      absurd cc
 
-pub read_first : (p : Tables) (bytes : List ℕ) (document : Members) (r : Result Schemes SchemeFault) → IsDocument bytes document → Gives (λ s. s) r (schemes_at p document)
-    → IfErr r (λ e. e ≢ Memory → (d : Members) → IsDocument bytes d → schemes_at p d ≡ Err e)
-read_first p bytes document (Ok s) is given = tt
-read_first p bytes document (Err e) is given = λ other d is_read. ap (schemes_at p) (one_document bytes d document is_read is) ∙ given other
+  pub read_first : (bytes : List ℕ) (r : Result F SchemeFault) → IsDocument bytes document → Gives file r (schemes_at p document)
+      → IfErr r (λ e. e ≢ Memory → (d : Members) → IsDocument bytes d → schemes_at p d ≡ Err e)
+  read_first bytes (Ok f) is given = tt
+  read_first bytes (Err e) is given = λ other d is_read. ap (schemes_at p) (one_document bytes d document is_read is) ∙ given other
 
-pub read_not_toml : (bytes : List ℕ) (document : Members) (r : Result Schemes SchemeFault) → IsDocument bytes document → IfErr r (λ e. e ≢ NotToml)
+pub read_not_toml : {F : Type 0} (bytes : List ℕ) (document : Members) (r : Result F SchemeFault) → IsDocument bytes document → IfErr r (λ e. e ≢ NotToml)
     → IfErr r (λ e. e ≢ Memory → (e ≡ NotToml) ↔ ((d : Members) → IsDocument bytes d → ⊥))
-read_not_toml bytes document (Ok s) is other = tt
+read_not_toml bytes document (Ok f) is other = tt
 read_not_toml bytes document (Err e) is other = λ _. (λ same. absurd (other same), λ none. absurd (none document is))
 
 pub says_once : SaysOnce
-says_once p bytes s t (d, is, says) (e, is_too, says_too) =
-    let a : schemes_at p d ≡ Ok s = says_again p d s says in
-    let b : schemes_at p d ≡ Ok t = ap (schemes_at p) (one_document bytes d e is is_too) ∙ says_again p e t says_too in
-    let both : Ok s ≡ Ok t = sym a ∙ b in
-    ap (λ (r : Result Schemes SchemeFault). or_none r) both
-  where
-    or_none : Result Schemes SchemeFault → Schemes
-    or_none (Ok x) = x
-    or_none (Err f) = []
+says_once p bytes v w s t (d, is, says) (e, is_too, says_too) =
+    let a : schemes_at p d ≡ Ok (v, s) = says_again p d v s says in
+    let b : schemes_at p d ≡ Ok (w, t) = ap (schemes_at p) (one_document bytes d e is is_too) ∙ says_again p e w t says_too in
+    let both : (v, s) ≡ (w, t) = ok_is (v, s) (w, t) (sym a ∙ b) in
+    (ap (λ (f : Version × Schemes). f.0) both, ap (λ (f : Version × Schemes). f.1) both)

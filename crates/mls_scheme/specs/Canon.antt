@@ -3,6 +3,8 @@ use Rattle.std.specs.Prelude.{ℕ, List, [], ◌∷◌, ◌++◌, codes}
 use Rattle.std.specs.List.{flat_map}
 use Rattle.mls_lattice.specs.Policy.{Name, Tables}
 use Rattle.mls_lattice.specs.Canon.{label_name}
+use Rattle.mls_lattice.specs.Version.{version_text}
+use Rattle.mls_lattice.specs.declared.version.Version.{Version}
 use Rattle.mls_scheme.specs.Scheme.{Attribute, Scheme, Schemes}
 use Rattle.mls_scheme.specs.Document.{kind_word}
 
@@ -16,9 +18,16 @@ line_of (word ∷ next ∷ words) = word ++ (codes " " ++ line_of (next ∷ word
 abbrev pub attribute_line : Tables → Name → Attribute → List ℕ
 attribute_line p word a = line_of (word ∷ a.name ∷ kind_word a.kind ∷ label_name p.labels a.low ∷ label_name p.labels a.high ∷ [])
 
-abbrev pub relation_lines : Tables → Scheme → List ℕ
-relation_lines p s =
-    line_of (codes "relation" ∷ s.name ∷ []) ++ flat_map (attribute_line p (codes "key")) s.keys ++ flat_map (attribute_line p (codes "attribute")) s.others
+-- the name of a relation, and its key
+abbrev pub head_lines : Tables → Scheme → List ℕ
+head_lines p s = line_of (codes "relation" ∷ s.name ∷ []) ++ flat_map (attribute_line p (codes "key")) s.keys
 
-abbrev pub canon_of : Tables → Schemes → List ℕ
-canon_of p schemes = codes "schemes 1\n" ++ flat_map (relation_lines p) schemes
+abbrev pub relation_lines : Tables → Scheme → List ℕ
+relation_lines p s = head_lines p s ++ flat_map (attribute_line p (codes "attribute")) s.others
+
+-- what a text of schemes begins with
+abbrev pub first_line : Version → List ℕ
+first_line v = codes "schemes " ++ version_text v ++ codes "\n"
+
+abbrev pub canon_of : Tables → Version → Schemes → List ℕ
+canon_of p v schemes = first_line v ++ flat_map (relation_lines p) schemes

@@ -7,6 +7,8 @@ use Rattle.mls_lattice.specs.Labels.{below}
 use Rattle.mls_lattice.specs.Name.{is_name}
 use Rattle.mls_lattice.specs.Policy.{Name, Tables, labels_of}
 use Rattle.mls_lattice.specs.ReadsPolicy.{IsDocument}
+use Rattle.mls_lattice.specs.Version.{version_number}
+use Rattle.mls_lattice.specs.declared.version.Version.{Version}
 use Rattle.mls_scheme.specs.declared.value.Kind.{Kind}
 use Rattle.mls_scheme.specs.declared.value.Kind.TheVariants.{Int, Text}
 use Rattle.mls_scheme.specs.Scheme.{Attribute, Scheme, Schemes, IsScheme, AreSchemes}
@@ -50,17 +52,18 @@ pub record SaysRelation (p : Tables) (fields : Members) (s : Scheme) : Type 0 wh
   pub others : AllZip (SaysAttribute p) other_tables s.others
   pub valid : IsScheme s
 
-pub record Says (p : Tables) (document : Members) (schemes : Schemes) : Type 0 where
-  pub version : get_member (codes "version") document ≡ Some (integer (pos 1))
+pub record Says (p : Tables) (document : Members) (v : Version) (schemes : Schemes) : Type 0 where
+  pub version : get_member (codes "version") document ≡ Some (integer (pos (version_number v)))
   pub tables : List Members
   pub relation : HoldsTables (get_member (codes "relation") document) tables
   pub relations : AllZip (SaysRelation p) tables schemes
   pub valid : AreSchemes schemes
 
--- the bytes are the text of schemes, under a policy
-abbrev pub ReadsSchemes : Tables → List ℕ → Schemes → Type 0
-ReadsSchemes p bytes schemes = (document : Members) × IsDocument bytes document × Says p document schemes
+-- the bytes are the text of schemes of a version, under a policy
+abbrev pub ReadsSchemes : Tables → List ℕ → Version → Schemes → Type 0
+ReadsSchemes p bytes v schemes = (document : Members) × IsDocument bytes document × Says p document v schemes
 
--- a text says at most one list of schemes
+-- a text says at most one list of schemes, of one version
 abbrev pub SaysOnce : Type 0
-SaysOnce = (p : Tables) (bytes : List ℕ) (s t : Schemes) → ReadsSchemes p bytes s → ReadsSchemes p bytes t → s ≡ t
+SaysOnce =
+    (p : Tables) (bytes : List ℕ) (v w : Version) (s t : Schemes) → ReadsSchemes p bytes v s → ReadsSchemes p bytes w t → (v ≡ w) × (s ≡ t)

@@ -12,3 +12,4 @@ pub mod PlaceOrder
 pub mod Spelling
 pub mod KeyReading
 pub mod KeyWords
+pub mod Extending

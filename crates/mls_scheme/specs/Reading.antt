@@ -6,6 +6,7 @@ use Rattle.toml.specs.Data.{Data, Items, no_items, item, Members, get_member}
 use Rattle.mls_lattice.specs.declared.fault.PolicyFault.{PolicyFault}
 use Rattle.mls_lattice.specs.Labels.{below}
 use Rattle.mls_lattice.specs.Policy.{Name, Tables, Named, labels_of}
+use Rattle.mls_lattice.specs.declared.version.Version.{Version}
 use Rattle.mls_lattice.specs.Reading.{◌>>=◌, GivesUnless, wanted, text_at, version_at, table_at, name_at, tables_at, optional, items_len, at_most, some_of}
 use Rattle.mls_scheme.specs.declared.fault.SchemeFault.{SchemeFault}
 use Rattle.mls_scheme.specs.declared.fault.SchemeFault.TheVariants.{Repeated, UnknownName, EmptyInterval, Memory, NoKey, KeyIntervals}
@@ -124,8 +125,9 @@ unfoldable pub relation_items : Members → Result Items SchemeFault
 relation_items document = lift (wanted (codes "relation") document >>= tables_at >>= some_of 16)
 
 -- all that a document says
-unfoldable pub schemes_at : Tables → Members → Result Schemes SchemeFault
+unfoldable pub schemes_at : Tables → Members → Result (Version × Schemes) SchemeFault
 schemes_at p document = do
   version ← lift (version_at document)
   tables ← relation_items document
-  gather (scheme_at p) [] tables
+  schemes ← gather (scheme_at p) [] tables
+  Ok (version, schemes)

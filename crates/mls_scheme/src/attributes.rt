@@ -1,13 +1,13 @@
-ghost use Rattle.std.specs.Prelude.{◌≡◌, ◌==◌, ◌<◌, ◌++◌, [], ◌∷◌, false, length, position, slice_get, string_bytes, Some, IfErr, IfSome, OnOk, option_map};
+ghost use Rattle.std.specs.Prelude.{◌≡◌, ◌==◌, ◌<◌, ◌≤◌, ◌++◌, [], ◌∷◌, false, length, map, take, position, slice_get, string_bytes, Some, IfOk, IfSome, OnOk, option_map};
+ghost use Rattle.std.specs.List.{IsDistinct};
 ghost use Rattle.std.specs.Str.{bytes_eq};
 ghost use Rattle.mls_scheme.specs.Scheme.{attribute_of, column_of};
 ghost use Rattle.mls_scheme.specs.Reading.{has_attribute};
 
-use crate::fault::SchemeFault;
 use crate::value::Kind;
 use indexmap::IndexMap;
 use mls_lattice::LabelNo;
-use std::alloc::Global;
+use std::alloc::{AllocError, Global};
 use std::marker::Model;
 
 /// What is said of an attribute beside its name: low and high are the ends of the interval of its classes.
@@ -90,13 +90,26 @@ impl Attributes {
     }
 
     /// One attribute more, of a new name.
-    pub(crate) fn push(&mut self, attribute: (String, Column)) -> Result<(), SchemeFault>
+    pub(crate) fn push(&mut self, attribute: (String, Column)) -> Result<(), AllocError>
         requires { has_attribute self.old (string_bytes attribute.0) ≡ false }
-        ensures pushed { OnOk result (self.new ≡ self.old ++ attribute_of attribute ∷ []) }
-        ensures memory { IfErr result (λ e. e ≡ SchemeFault.Memory) }
+        ensures { OnOk result (self.new ≡ self.old ++ attribute_of attribute ∷ []) }
     {
         let (name, column) = attribute;
         self.map.insert(name, column)?;
         Ok(())
+    }
+
+    /// A copy of the first so many attributes.
+    pub(crate) fn first(&self, alloc: Global, count: usize) -> Result<Attributes, AllocError>
+        requires within { count ≤ length self.now }
+        requires distinct { IsDistinct bytes_eq (map (λ a. a.name) self.now) }
+        ensures { IfOk result (λ a. a ≡ take count self.now) }
+    {
+        let mut first = Attributes::new(alloc);
+        for place in 0..count {
+            let name = String::from_str(alloc, self.name(place))?;
+            first.push((name, self.get(place)))?;
+        }
+        Ok(first)
     }
 }

@@ -2,7 +2,7 @@
 ghost use Rattle.std.specs.Prelude.{◌≡◌, ◌<◌, ◌++◌, length, string_bytes, OnOk};
 ghost use Rattle.std.specs.List.{AllByRecursion, flat_map};
 ghost use Rattle.mls_scheme.specs.Scheme.{IsAmongLabels, IsUnder, AreUnder, attribute_named};
-ghost use Rattle.mls_scheme.specs.Canon.{attribute_line, relation_lines};
+ghost use Rattle.mls_scheme.specs.Canon.{attribute_line, head_lines, relation_lines};
 
 use crate::attributes::{Attributes, Column};
 use crate::scheme::Scheme;
@@ -10,7 +10,7 @@ use mls_lattice::Policy;
 use std::alloc::AllocError;
 
 /// Writes the line of an attribute.
-fn attribute_to(
+pub(crate) fn attribute_to(
     text: &mut String,
     policy: &Policy,
     word: &str,
@@ -50,14 +50,22 @@ fn attributes_to(
     Ok(())
 }
 
+/// Writes the first line of a relation, and those of its key.
+pub(crate) fn head_to(text: &mut String, policy: &Policy, scheme: &Scheme) -> Result<(), AllocError>
+    requires { IsUnder (length policy.now.labels) scheme.now }
+    ensures { OnOk result (string_bytes text.new ≡ string_bytes text.old ++ head_lines policy.now scheme.now) }
+{
+    let name = scheme.name();
+    writeln!(text, "relation {name}")?;
+    attributes_to(text, policy, "key", scheme.keys())
+}
+
 /// Writes the lines of a relation.
 fn relation_to(text: &mut String, policy: &Policy, scheme: &Scheme) -> Result<(), AllocError>
     requires { IsUnder (length policy.now.labels) scheme.now }
     ensures { OnOk result (string_bytes text.new ≡ string_bytes text.old ++ relation_lines policy.now scheme.now) }
 {
-    let name = scheme.name();
-    writeln!(text, "relation {name}")?;
-    attributes_to(text, policy, "key", scheme.keys())?;
+    head_to(text, policy, scheme)?;
     attributes_to(text, policy, "attribute", scheme.others())
 }
 

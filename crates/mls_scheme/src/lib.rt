@@ -2,13 +2,16 @@
 #![tactic(auto)]
 
 ghost use Rattle.mls_scheme.specs.Document.{SaysOnce};
+ghost use Rattle.mls_scheme.specs.Extending.{OldCountsAreOne};
 ghost use Rattle.mls_scheme.specs.Order.{AreOrdered};
 ghost use Rattle.mls_scheme.specs.Spelling.{AreUnambiguous};
 
 mod attributes;
 mod canon;
+mod extending;
 mod fault;
 mod fields;
+mod file;
 mod fits;
 mod key_fault;
 mod key_reading;
@@ -22,6 +25,7 @@ mod value;
 
 pub use attributes::{Attributes, Column};
 pub use fault::SchemeFault;
+pub use file::SchemesFile;
 pub use fits::{fits_kind, in_interval};
 pub use key_fault::KeyFault;
 pub use key_reading::{key_of, value_of};
@@ -42,7 +46,12 @@ pub fn spellings_are_unambiguous()
     ensures { AreUnambiguous }
 {}
 
-/// A text says at most one list of schemes under a policy.
+/// A text is what schemes extend with one number of attributes for each relation.
+pub fn old_counts_are_one()
+    ensures { OldCountsAreOne }
+{}
+
+/// A text says at most one list of schemes, of one version, under a policy.
 pub fn texts_say_schemes_once()
     ensures { SaysOnce }
 {}

@@ -9,6 +9,7 @@ use crate::fault::SchemeFault;
 use crate::fields::{
     fields_of, key_items, kind_in, label_field, name_field, other_items, relation_items, text_field,
 };
+use crate::file::SchemesFile;
 use crate::scheme::{Scheme, Schemes};
 use mls_lattice::document::version_of;
 use mls_lattice::{Policy, Str};
@@ -188,10 +189,13 @@ pub(crate) fn schemes_of(
     alloc: Global,
     policy: &Policy,
     document: &Table,
-) -> Result<Schemes, SchemeFault>
-    ensures { Gives (λ s. s) result (schemes_at policy.now (table_view document.now)) }
+) -> Result<SchemesFile, SchemeFault>
+    ensures { Gives (λ f. (f.version, f.schemes)) result (schemes_at policy.now (table_view document.now)) }
 {
-    version_of(document)?;
+    let version = version_of(document)?;
     let relations = relations_in(alloc, policy, relation_items(document)?)?;
-    Ok(Schemes::new(relations))
+    Ok(SchemesFile {
+        version,
+        schemes: Schemes::new(relations),
+    })
 }

@@ -1,18 +1,12 @@
-ghost use Rattle.std.specs.Prelude.{◌≡◌, ◌≢◌, ◌↔◌, ◌<◌, List, length, position, Err, IfOk, IfErr, IfSome, IsUtf8};
+ghost use Rattle.std.specs.Prelude.{◌≡◌, ◌<◌, ◌≤◌, ℕ, List, length, position, None, IfOk, IfSome};
+ghost use Rattle.std.specs.List.{AllZip};
 ghost use Rattle.std.specs.Str.{bytes_eq};
-ghost use Rattle.toml.specs.Data.{Members};
-ghost use Rattle.mls_lattice.specs.ReadsPolicy.{IsDocument};
-ghost use Rattle.mls_scheme.specs.Scheme.{Scheme as Relation, scheme_of, IsScheme, AreSchemes, AreUnder, HaveIntervals};
-ghost use Rattle.mls_lattice.specs.Policy.{labels_of};
-ghost use Rattle.mls_scheme.specs.Reading.{schemes_at};
-ghost use Rattle.mls_scheme.specs.Document.{ReadsSchemes};
-ghost use Rattle.mls_scheme.specs.Canon.{canon_of};
+ghost use Rattle.mls_scheme.specs.Scheme.{Scheme as Relation, scheme_of, IsScheme, AreSchemes, AreUnder};
+ghost use Rattle.mls_scheme.specs.Extending.{scheme_before, schemes_before, Extends};
 
 use crate::attributes::Attributes;
-use crate::canon::relations_to;
-use crate::fault::SchemeFault;
+use crate::extending::{after_first, relations_before};
 use crate::number::RelNo;
-use crate::reading::schemes_of;
 use mls_lattice::{Items, Policy, Str};
 use std::alloc::{AllocError, Global};
 use std::marker::Model;
@@ -65,6 +59,18 @@ impl Scheme {
     {
         &self.others
     }
+
+    /// A copy with the first so many of the attributes outside the key.
+    pub fn before(&self, alloc: Global, count: usize) -> Result<Scheme, AllocError>
+        requires { count ≤ length self.now.others }
+        ensures { IfOk result (λ s. s ≡ scheme_before count self.now) }
+    {
+        let name = Str::copy_of(alloc, self.name())?;
+        let keys = self.keys();
+        let keys = keys.first(alloc, keys.len())?;
+        let others = self.others().first(alloc, count)?;
+        Ok(Scheme::new(name, keys, others))
+    }
 }
 
 /// The relations, in the order of their file.
@@ -92,6 +98,13 @@ impl Schemes {
         Schemes {
             relations: Items::from(relations),
         }
+    }
+
+    /// The relations, in the order of their file.
+    pub(crate) fn relations(&self) -> &[Scheme]
+        ensures { result.now ≡ self.now }
+    {
+        &self.relations
     }
 
     /// How many relations there are.
@@ -125,39 +138,51 @@ impl Schemes {
         scheme
     }
 
-    /// Reads the schemes of a TOML document, whose labels are those of a policy.
-    ///
-    /// `NotToml` where the bytes are no document or not UTF-8, else the first fault in the order of the fields. `Memory` may
-    /// stand in place of any answer.
-    pub fn read(alloc: Global, policy: &Policy, bytes: &[u8]) -> Result<Schemes, SchemeFault>
-        // What is read is what the bytes say.
-        ensures found { IfOk result (ReadsSchemes policy.now bytes.now) }
-        ensures under { IfOk result (AreUnder (length policy.now.labels)) }
-        ensures intervals { IfOk result (HaveIntervals (labels_of policy.now)) }
-        // Unless memory runs out, nothing that says schemes is refused, and the fault is the first of the document.
-        ensures refused { IfErr result (λ e. e ≢ SchemeFault.Memory → (s : List Relation) → ReadsSchemes policy.now bytes.now s → ⊥) }
-        ensures first { IfErr result
-            (λ e. e ≢ SchemeFault.Memory → (document : Members) → IsDocument bytes.now document → schemes_at policy.now document ≡ Err e) }
-        ensures not_toml { IfErr result
-            (λ e. e ≢ SchemeFault.Memory → (e ≡ SchemeFault.NotToml) ↔ ((document : Members) → IsDocument bytes.now document → ⊥)) }
+    /// How many attributes outside its key each relation had in older schemes that these extend: those relations with these keys,
+    /// and later attributes whose classes may be all that the key may have. They are given as their canonical text.
+    pub fn extends(
+        &self,
+        alloc: Global,
+        policy: &Policy,
+        old: &[u8],
+    ) -> Result<Option<Vec<usize>>, AllocError>
+        requires { AreUnder (length policy.now.labels) self.now }
+        ensures found { IfOk result (λ o. IfSome o (λ counts. Extends policy.now self.now old.now counts.items)) }
+        ensures none { IfOk result (λ o. o ≡ None → (counts : List ℕ) → Extends policy.now self.now old.now counts → ⊥) }
     {
-        match toml::table_from_slice(alloc, bytes) {
-            Ok(document) => schemes_of(alloc, policy, &document),
-            Err(e) if e.is_memory() => Err(SchemeFault::Memory),
-            Err(_) => Err(SchemeFault::NotToml),
+        match after_first(old) {
+            Some(rest) => relations_before(alloc, policy, &self.relations, rest),
+            None => Ok(None),
         }
     }
 
-    /// The canonical text, whose labels are those of a policy. It is no TOML document.
-    pub fn canon(&self, alloc: Global, policy: &Policy) -> Result<Vec<u8>, AllocError>
-        requires { AreUnder (length policy.now.labels) self.now }
-        ensures text { IfOk result (λ text. text.items ≡ canon_of policy.now self.now) }
-        ensures unicode { IfOk result (λ text. IsUtf8 text.items) }
+    /// A copy in which each relation has the first so many of its attributes outside the key.
+    pub fn before(&self, alloc: Global, counts: &[usize]) -> Result<Schemes, AllocError>
+        requires { AllZip (λ n s. n ≤ length s.others) counts.now self.now }
+        ensures { IfOk result (λ s. s ≡ schemes_before counts.now self.now) }
     {
-        let mut text = String::from_str(alloc, "schemes 1\n")?;
-        relations_to(&mut text, policy, &self.relations)?;
-        Ok(text.into_bytes())
+        // for what holds of these schemes
+        let _count = self.count();
+        let older = relations_of(alloc, self.relations(), counts)?;
+        Ok(Schemes::new(older))
     }
+}
+
+/// Copies of relations, each with the first so many of its attributes outside the key.
+fn relations_of(
+    alloc: Global,
+    relations: &[Scheme],
+    counts: &[usize],
+) -> Result<Vec<Scheme>, AllocError>
+    requires { AllZip (λ n s. n ≤ length s.others) counts.now relations.now }
+    ensures { IfOk result (λ v. v.items ≡ schemes_before counts.now relations.now) }
+{
+    let mut older = Vec::new(alloc);
+    for (place, scheme) in relations.iter().enumerate() {
+        let copy = scheme.before(alloc, counts[place])?;
+        older.push(copy)?;
+    }
+    Ok(older)
 }
 
 fn position_of(relations: &[Scheme], name: &str) -> Option<usize>

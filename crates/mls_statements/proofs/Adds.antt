@@ -47,8 +47,9 @@ cast_cell id c same = rw (same, cast_int (pos c.rel), cast_int (pos c.kclass), c
 cast_entry : (number : ℤ) (bytes : List ℕ) → cast_row audit (Int number ∷ Null ∷ Blob bytes ∷ []) ≡ Int number ∷ Null ∷ Blob bytes ∷ []
 cast_entry number bytes = rw (cast_int number, cast_null)
 
-cast_meta : (lattice schemes : List ℕ) → cast_row meta (Int (pos 1) ∷ Null ∷ Int (pos 1) ∷ Text lattice ∷ Text schemes ∷ []) ≡ Int (pos 1) ∷ Null ∷ Int (pos 1) ∷ Text lattice ∷ Text schemes ∷ []
-cast_meta lattice schemes = rw (cast_int (pos 1), cast_null)
+cast_meta : (version : ℕ) (lattice schemes : List ℕ)
+    → cast_row meta (Int (pos 1) ∷ Null ∷ Int (pos version) ∷ Text lattice ∷ Text schemes ∷ []) ≡ Int (pos 1) ∷ Null ∷ Int (pos version) ∷ Text lattice ∷ Text schemes ∷ []
+cast_meta version lattice schemes = rw (cast_int (pos 1), cast_null, cast_int (pos version))
 
 -- ---- each table
 
@@ -87,13 +88,14 @@ module _ (old new : State) (ready : IsReady old.now) where
   adds_entry a (Err e) h = tt
   adds_entry a (Ok count) h = entry_put a (adds old new schema ready.0 add_entry 2 audit refl (λ olds news. refl) (audit_values a) count h audit_terms 3 add_entry_is)
 
-  meta_put : (lattice schemes : List ℕ) → Puts meta (Int (pos 1) ∷ Null ∷ Int (pos 1) ∷ Text lattice ∷ Text schemes ∷ []) → Changes (AddsMeta (first_meta lattice schemes)) old new
-  meta_put lattice schemes did =
-      let put = added is_meta_row meta_of schema old.now.trees new.now.trees meta ready.1.1.1.1 (Int (pos 1) ∷ Null ∷ Int (pos 1) ∷ Text lattice ∷ Text schemes ∷ []) (cast_meta lattice schemes) refl did.1 in
+  meta_put : (version : ℕ) (lattice schemes : List ℕ) → Puts meta (Int (pos 1) ∷ Null ∷ Int (pos version) ∷ Text lattice ∷ Text schemes ∷ []) → Changes (AddsMeta (first_meta version lattice schemes)) old new
+  meta_put version lattice schemes did =
+      let put = added is_meta_row meta_of schema old.now.trees new.now.trees meta ready.1.1.1.1 (Int (pos 1) ∷ Null ∷ Int (pos version) ∷ Text lattice ∷ Text schemes ∷ []) (cast_meta version lattice schemes) refl did.1 in
       let all = meta_changed old.now new.now did.0 ready put.0 did.1.tables in
       record { ready = all.0; rows = (all.1, put.1); next = did.2 }
 
-  pub adds_meta : (lattice schemes : List ℕ) (r : Result ℕ Error) → Executes add_meta (Text lattice ∷ Text schemes ∷ []) old new r → OnOk r (Changes (AddsMeta (first_meta lattice schemes)) old new)
-  adds_meta lattice schemes (Err e) h = tt
-  adds_meta lattice schemes (Ok count) h =
-      meta_put lattice schemes (adds old new schema ready.0 add_meta 3 meta refl (λ olds news. refl) (Text lattice ∷ Text schemes ∷ []) count h meta_terms 5 add_meta_is)
+  pub adds_meta : (version : ℕ) (lattice schemes : List ℕ) (r : Result ℕ Error) → Executes add_meta (Int (pos version) ∷ Text lattice ∷ Text schemes ∷ []) old new r
+      → OnOk r (Changes (AddsMeta (first_meta version lattice schemes)) old new)
+  adds_meta version lattice schemes (Err e) h = tt
+  adds_meta version lattice schemes (Ok count) h =
+      meta_put version lattice schemes (adds old new schema ready.0 add_meta 3 meta refl (λ olds news. refl) (Int (pos version) ∷ Text lattice ∷ Text schemes ∷ []) count h meta_terms 5 add_meta_is)

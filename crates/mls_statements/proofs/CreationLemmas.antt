@@ -17,13 +17,13 @@ made_ready db made =
     let meta : db.trees 5 ≡ [] = made.1.1.1.1.0 in
     ((made.0, (rw nodes (tt, tt), (rw cells (tt, tt), (rw audit (tt, tt), rw meta (tt, tt))))), rw (nodes, cells, audit, meta) refl)
 
-module _ (made added end : State) (lattice schemes : List ℕ) (is : IsMade schema made.now) (adds : Changes (AddsMeta (first_meta lattice schemes)) made added) where
-  new_store : Commits added end → IsNewStore lattice schemes end
+module _ (made added end : State) (version : ℕ) (lattice schemes : List ℕ) (is : IsMade schema made.now) (adds : Changes (AddsMeta (first_meta version lattice schemes)) made added) where
+  new_store : Commits added end → IsNewStore version lattice schemes end
   new_store commits =
       let empty = (made_ready made.now is).1 in
       let now = tables_of added.now.trees in
-      let one : now.meta ≡ first_meta lattice schemes ∷ [] = one_permutation (first_meta lattice schemes) now.meta (subst (λ (t : Tables). IsPermutation (first_meta lattice schemes ∷ t.meta) now.meta) empty adds.rows.1) in
-      let all : now ≡ described lattice schemes = adds.rows.0 ∙ (ap (λ (t : Tables). record t { meta = now.meta }) empty ∙ ap (λ ms. record no_rows { meta = ms }) one) in
+      let one : now.meta ≡ first_meta version lattice schemes ∷ [] = one_permutation (first_meta version lattice schemes) now.meta (subst (λ (t : Tables). IsPermutation (first_meta version lattice schemes ∷ t.meta) now.meta) empty adds.rows.1) in
+      let all : now ≡ described version lattice schemes = adds.rows.0 ∙ (ap (λ (t : Tables). record t { meta = now.meta }) empty ∙ ap (λ ms. record no_rows { meta = ms }) one) in
       record {
         settled = record {
           is_open = commits.0.is_open;
@@ -34,6 +34,6 @@ module _ (made added end : State) (lattice schemes : List ℕ) (is : IsMade sche
         rows = ap (λ (db : Database). tables_of db.trees) commits.0.now_is ∙ all;
       }
 
-  pub stored : (r : Result ℕ Error) → OnOk r (Commits added end) → OnOk r (IsNewStore lattice schemes end)
+  pub stored : (r : Result ℕ Error) → OnOk r (Commits added end) → OnOk r (IsNewStore version lattice schemes end)
   stored (Err e) h = tt
   stored (Ok count) h = new_store h

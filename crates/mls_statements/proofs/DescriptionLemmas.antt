@@ -1,14 +1,15 @@
 -- What the rows that were shown of the table of meta say of the store's description.
-use Rattle.std.proofs.Common.{◌≡◌, ℕ, ℤ, pos, List, [], ◌∷◌, map, true, Ok, Err, Result, OnOk, IfErr, IsPermutation, subst}
+use Rattle.std.proofs.Common.{◌≡◌, ℕ, pos, List, [], ◌∷◌, map, true, Ok, Err, Result, OnOk, IfOk, IfErr, IsPermutation, refl, subst, ◌∙◌}
 use Rattle.std.specs.List.{AllByRecursion}
 use Rattle.sqlite_value.specs.Order.{Row}
+use Rattle.sqlite.specs.Effect.{Database}
 use Rattle.sqlite.proofs.Callers.{one_permutation}
 use Rattle.mls_statements.specs.declared.rows.MetaRow.{MetaRow}
 use Rattle.mls_statements.specs.declared.adopting.AdoptFault.{AdoptFault}
-use Rattle.mls_statements.specs.declared.adopting.AdoptFault.TheVariants.{BadRows, OtherTexts}
-use Rattle.mls_statements.specs.Rows.{first_meta, meta_of, is_meta_row, meta_columns, shown_meta, shows_meta}
+use Rattle.mls_statements.specs.declared.adopting.AdoptFault.TheVariants.{BadRows}
+use Rattle.mls_statements.specs.Rows.{tables_of, meta_of, is_meta_row, meta_columns, shown_meta, shows_meta}
 use Rattle.mls_statements.specs.Statements.{AreRows}
-use Rattle.mls_statements.specs.Adopting.{ReadsMeta}
+use Rattle.mls_statements.specs.Adopting.{ReadsMeta, Blames, IsVersion, IsDescription, IsDescribedBy}
 use Rattle.mls_statements.proofs.WholeRows.{all_shown, items_shown, one_item, one_row}
 
 module _ (rows found : List Row) (same : IsPermutation (map meta_columns rows) found) where
@@ -19,22 +20,18 @@ module _ (rows found : List Row) (same : IsPermutation (map meta_columns rows) f
   from_table : (m : MetaRow) → map meta_of rows ≡ m ∷ [] → map shown_meta found ≡ m ∷ []
   from_table m one = one_permutation m (map shown_meta found) (subst (λ xs. IsPermutation xs (map shown_meta found)) one (items_shown meta_columns rows found same shown_meta))
 
-  module _ {A : Type 0} (lattice schemes : List ℕ) where
-    pub described : (result : Result A AdoptFault) → OnOk result (AllByRecursion (λ r. shows_meta r ≡ true) found) → OnOk result ((id : ℤ) × (map shown_meta found ≡ record (first_meta lattice schemes) { id = id } ∷ []))
-        → OnOk result (AreRows is_meta_row rows × ((id : ℤ) × (map meta_of rows ≡ record (first_meta lattice schemes) { id = id } ∷ [])))
-    described (Err e) whole one = tt
-    described (Ok a) whole one =
-        let m = record (first_meta lattice schemes) { id = one.0 } in
-        (one_row meta_columns shown_meta rows found same m one.1 shows_meta is_meta_row (λ r h. h) whole, (one.0, to_table m one.1))
+  -- where the one row that was shown is of version 1 or 2, it describes the store
+  pub described : {P : Type 0} → P → (result : Result MetaRow AdoptFault) → OnOk result (AllByRecursion (λ r. shows_meta r ≡ true) found)
+      → IfOk result (λ m. (map shown_meta found ≡ m ∷ []) × IsVersion m.version) → IfOk result (λ m. P × (AreRows is_meta_row rows × ((map meta_of rows ≡ m ∷ []) × IsVersion m.version)))
+  described has (Err e) whole one = tt
+  described has (Ok m) whole one = (has, (one_row meta_columns shown_meta rows found same m one.0 shows_meta is_meta_row (λ r h. h) whole, (to_table m one.0, one.1)))
 
-    pub described_badly : (result : Result A AdoptFault)
-        → IfErr result (λ e. e ≡ BadRows → AllByRecursion ReadsMeta found → ¬ ((m : MetaRow) × (map shown_meta found ≡ m ∷ []) × (m.version ≡ pos 1)))
-        → IfErr result (λ e. e ≡ BadRows → ¬ (((m : MetaRow) × ((map meta_of rows ≡ m ∷ []) × (m.version ≡ pos 1))) × AllByRecursion ReadsMeta (map meta_columns rows)))
-    described_badly (Ok a) bad = tt
-    described_badly (Err e) bad = λ is it. bad is (all_shown meta_columns rows found same ReadsMeta it.1) (it.0.0, from_table it.0.0 it.0.1.0, it.0.1.1)
+  pub described_badly : (result : Result MetaRow AdoptFault) → IfErr result (λ e. e ≡ BadRows → AllByRecursion ReadsMeta found → ¬ ((m : MetaRow) × (map shown_meta found ≡ m ∷ []) × IsVersion m.version))
+      → IfErr result (Blames (((m : MetaRow) × ((map meta_of rows ≡ m ∷ []) × IsVersion m.version)) × AllByRecursion ReadsMeta (map meta_columns rows)))
+  described_badly (Ok m) bad = tt
+  described_badly (Err e) bad = λ is it. bad is (all_shown meta_columns rows found same ReadsMeta it.1) (it.0.0, from_table it.0.0 it.0.1.0, it.0.1.1)
 
-    pub described_else : {P : Type 0} → P → (result : Result A AdoptFault)
-        → IfErr result (λ e. e ≡ OtherTexts → (m : MetaRow) × (map shown_meta found ≡ m ∷ []) × (m.version ≡ pos 1) × (¬ ((m.lattice ≡ lattice) × (m.schemes ≡ schemes))))
-        → IfErr result (λ e. e ≡ OtherTexts → P × ((m : MetaRow) × ((map meta_of rows ≡ m ∷ []) × (m.version ≡ pos 1)) × (¬ ((m.lattice ≡ lattice) × (m.schemes ≡ schemes)))))
-    described_else has (Ok a) other = tt
-    described_else has (Err e) other = λ is. let it = other is in (has, (it.0, (to_table it.0 it.1, it.2), it.3))
+-- the row that was found has a version and both texts
+pub described_by : (m : MetaRow) (db : Database) (version : ℕ) (lattice schemes : List ℕ) → IsDescription m db → m.version ≡ pos version → m.lattice ≡ lattice → m.schemes ≡ schemes
+    → IsDescribedBy version lattice schemes (tables_of db.trees)
+described_by m db version lattice schemes one of_version of_lattice of_schemes = (m.id, one.0 ∙ rw (← of_version, ← of_lattice, ← of_schemes) refl)

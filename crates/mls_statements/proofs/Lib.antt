@@ -1,5 +1,7 @@
 pub mod Adds
 pub mod ApartRows
+pub mod ChangeLemmas
+pub mod Clears
 pub mod Creates
 pub mod CreationLemmas
 pub mod DecodeLemmas

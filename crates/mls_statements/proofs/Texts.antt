@@ -5,6 +5,7 @@ use Rattle.sqlite_tied.specs.Compute.{everything}
 use Rattle.sqlite.specs.Schema.{Schema}
 use Rattle.sqlite.specs.Table.{Table}
 use Rattle.sqlite.specs.Term.{Term, lit, col, op2}
+use Rattle.sqlite.specs.Query.{Query}
 use Rattle.sqlite_sql.specs.declared.ops.BinaryOp.TheVariants.{Compare}
 use Rattle.sqlite_sql.specs.declared.ops.CompareOp.TheVariants.{Eq}
 use Rattle.sqlite.specs.Collation.TheVariants.{Binary}
@@ -96,10 +97,10 @@ unfolding understood everything
 add_entry_is = (refl, (refl, refl))
 
 abbrev pub meta_terms : List Term
-meta_terms = lit (Int (pos 1)) ∷ lit Null ∷ lit (Int (pos 1)) ∷ col 0 0 ∷ col 0 1 ∷ []
+meta_terms = lit (Int (pos 1)) ∷ lit Null ∷ col 0 0 ∷ col 0 1 ∷ col 0 2 ∷ []
 
 abbrev pub add_meta : List ℕ
-add_meta = codes "INSERT INTO meta (id, version, lattice, schemes) VALUES (1, 1, ?1, ?2)"
+add_meta = codes "INSERT INTO meta (id, version, lattice, schemes) VALUES (1, ?1, ?2, ?3)"
 
 pub add_meta_is : Means schema add_meta (Insert 3 (Values meta_terms 5))
 unfolding understood everything
@@ -141,6 +142,33 @@ set_cell = codes "UPDATE cell SET value = ?6 WHERE rel = ?1 AND ent = ?2 AND kcl
 pub set_cell_is : Means schema set_cell (Update 1 (alone (rows_by 2 by_cell set_terms)))
 unfolding understood everything
 set_cell_is = (refl, (refl, refl))
+
+-- ---- tables are cleared
+
+-- every row of a tree, as the statement finds it
+abbrev pub every : ℕ → Query
+every tree = rows_by tree [] (col 1 0 ∷ [])
+
+abbrev pub clear_nodes : List ℕ
+clear_nodes = codes "DELETE FROM node"
+
+pub clear_nodes_is : Means schema clear_nodes (Delete 0 (alone (every 0)))
+unfolding understood everything
+clear_nodes_is = (refl, (refl, refl))
+
+abbrev pub clear_cells : List ℕ
+clear_cells = codes "DELETE FROM cell"
+
+pub clear_cells_is : Means schema clear_cells (Delete 1 (alone (every 2)))
+unfolding understood everything
+clear_cells_is = (refl, (refl, refl))
+
+abbrev pub clear_meta : List ℕ
+clear_meta = codes "DELETE FROM meta"
+
+pub clear_meta_is : Means schema clear_meta (Delete 3 (alone (every 5)))
+unfolding understood everything
+clear_meta_is = (refl, (refl, refl))
 
 -- ---- rows are shown
 

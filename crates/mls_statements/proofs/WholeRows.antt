@@ -20,7 +20,7 @@ use Rattle.sqlite.specs.declared.error.Error.{Error}
 use Rattle.sqlite.specs.declared.error.Error.TheVariants.{SqliteFailure}
 use Rattle.sqlite.proofs.Callers.{one_permutation}
 use Rattle.mls_statements.specs.declared.adopting.AdoptFault.{AdoptFault}
-use Rattle.mls_statements.specs.declared.adopting.AdoptFault.TheVariants.{BadRows, OtherTexts}
+use Rattle.mls_statements.specs.declared.adopting.AdoptFault.TheVariants.{BadRows}
 use Rattle.mls_statements.specs.Statements.{IsApart, AreRows}
 use Rattle.mls_statements.specs.Adopting.{IsInteger, HaveIds, Refutes, Blames, AreRising}
 use Rattle.mls_statements.proofs.ApartRows.{other_way, swapped}
@@ -144,14 +144,11 @@ module _ {X : Type 0} (columns : Row → Row) (at : ℕ) (place : (r : Row) → 
       let all = subst (λ r. IfOk r (λ _. AllByRecursion (λ r. shows r ≡ true) found)) is whole in
       (are_rows columns rows found same at place shows is_row fits all up, subst (IsPermutation (map (λ r. show (columns r)) rows)) (sym items) (items_shown columns rows found same show))
 
-  pub read_badly : (Reads : Row → Type 0) (result : Result (Vec X Global) AdoptFault) → IfErr read (Refutes (AllByRecursion Reads found)) → IfErr result (λ e. e ≢ OtherTexts)
+  pub read_badly : (Reads : Row → Type 0) (result : Result (Vec X Global) AdoptFault) → IfErr read (Refutes (AllByRecursion Reads found))
       → IfErr result (λ e. e ≡ BadRows → HaveIds at found → (error : Error) × (read ≡ Err error) × (error ≢ SqliteFailure OutOfMemory))
       → IfErr result (Blames (AllByRecursion Reads (map columns rows) × HaveIds at (map columns rows)))
-  read_badly Reads (Ok xs) refused texts bad = tt
-  read_badly Reads (Err e) refused texts bad = (
-    texts,
-    λ is all.
-        let why = bad is (all_shown columns rows found same (λ r. IsInteger (column r at)) all.1) in
-        let no = subst (λ r. IfErr r (Refutes (AllByRecursion Reads found))) why.1 refused in
-        no why.2 (all_shown columns rows found same Reads all.0),
-  )
+  read_badly Reads (Ok xs) refused bad = tt
+  read_badly Reads (Err e) refused bad = λ is all.
+      let why = bad is (all_shown columns rows found same (λ r. IsInteger (column r at)) all.1) in
+      let no = subst (λ r. IfErr r (Refutes (AllByRecursion Reads found))) why.1 refused in
+      no why.2 (all_shown columns rows found same Reads all.0)

@@ -1,5 +1,5 @@
 -- Which tables are adopted, and what is read of them.
-use Rattle.std.specs.Prelude.{◌≡◌, ◌≢◌, ℕ, ◌^◌, ◌<◌, ℤ, pos, true, int_lt, List, [], ◌∷◌, map, IsUtf8, IsPermutation}
+use Rattle.std.specs.Prelude.{◌≡◌, ◌≢◌, ◌⊎◌, ℕ, ◌^◌, ◌<◌, ℤ, pos, true, false, int_lt, List, [], ◌∷◌, map, IsTrue, IsUtf8, IsPermutation}
 use Rattle.std.specs.List.{AllByRecursion}
 use Rattle.sqlite_value.specs.declared.value.Value.{Value}
 use Rattle.sqlite_value.specs.declared.value.Value.TheVariants.{Int, Text, Blob}
@@ -15,8 +15,8 @@ use Rattle.sqlite.specs.State.{State}
 use Rattle.mls_statements.specs.declared.rows.MetaRow.{MetaRow}
 use Rattle.mls_statements.specs.declared.adopting.AllRows.{AllRows}
 use Rattle.mls_statements.specs.declared.adopting.AdoptFault.{AdoptFault}
-use Rattle.mls_statements.specs.declared.adopting.AdoptFault.TheVariants.{BadRows, OtherTexts}
-use Rattle.mls_statements.specs.Rows.{Tables, tables_of, first_meta, meta_of, node_columns, cell_columns, audit_columns, meta_columns, is_node_row, is_cell_row, is_audit_row}
+use Rattle.mls_statements.specs.declared.adopting.AdoptFault.TheVariants.{BadRows}
+use Rattle.mls_statements.specs.Rows.{Tables, tables_of, first_meta, meta_of, node_columns, cell_columns, audit_columns, meta_columns, is_node_row, is_cell_row, is_audit_row, is_meta_row}
 use Rattle.mls_statements.specs.Schema.{schema}
 use Rattle.mls_statements.specs.Statements.{AreRows, HasSettled}
 
@@ -60,7 +60,7 @@ Refutes P e = e ≢ SqliteFailure OutOfMemory → ¬ P
 
 -- rows are called bad only where they are
 abbrev pub Blames : Type 0 → AdoptFault → Type 0
-Blames P e = (e ≢ OtherTexts) × (e ≡ BadRows → ¬ P)
+Blames P e = e ≡ BadRows → ¬ P
 
 -- ---- what is adopted
 
@@ -74,9 +74,12 @@ AreCells rows = AllByRecursion ReadsCell rows × HaveIds 6 rows
 abbrev pub AreEntries : List Row → Type 0
 AreEntries rows = AllByRecursion ReadsEntry rows × HaveIds 0 rows
 
--- one row describes the store, of version 1
+abbrev pub IsVersion : ℤ → Type 0
+IsVersion v = (v ≡ pos 1) ⊎ (v ≡ pos 2)
+
+-- one row describes the store, of version 1 or 2
 abbrev pub IsDescription : MetaRow → Database → Type 0
-IsDescription m db = (map meta_of (db.trees 5) ≡ m ∷ []) × (m.version ≡ pos 1)
+IsDescription m db = (map meta_of (db.trees 5) ≡ m ∷ []) × IsVersion m.version
 
 abbrev pub IsReadDescription : Database → Type 0
 IsReadDescription db = ((m : MetaRow) × IsDescription m db) × AllByRecursion ReadsMeta (map meta_columns (db.trees 5))
@@ -84,7 +87,15 @@ IsReadDescription db = ((m : MetaRow) × IsDescription m db) × AllByRecursion R
 abbrev pub AreRead : Database → Type 0
 AreRead db = AreNodes (map node_columns (db.trees 0)) × (AreCells (map cell_columns (db.trees 2)) × AreEntries (map audit_columns (db.trees 4)))
 
--- the database is the four tables, of version 1, and every row reads
+-- the database is the four tables, and one row describes it, which reads
+abbrev pub HasDescription : Database → Type 0
+HasDescription db = (db.schema ≡ schema) × IsReadDescription db
+
+-- the database is the four tables, and every row of the three others reads
+abbrev pub HasReadRows : Database → Type 0
+HasReadRows db = (db.schema ≡ schema) × AreRead db
+
+-- the database is the four tables, and every row reads
 abbrev pub IsAdoptable : Database → Type 0
 IsAdoptable db = (db.schema ≡ schema) × (IsReadDescription db × AreRead db)
 
@@ -93,9 +104,13 @@ abbrev pub HasOtherTexts : List ℕ → List ℕ → Database → Type 0
 HasOtherTexts lattice schemes db =
     (db.schema ≡ schema) × ((m : MetaRow) × IsDescription m db × (¬ ((m.lattice ≡ lattice) × (m.schemes ≡ schemes))))
 
--- the one row of version 1, under any number, has both texts
-abbrev pub IsDescribedBy : List ℕ → List ℕ → Tables → Type 0
-IsDescribedBy lattice schemes t = (id : ℤ) × (t.meta ≡ record (first_meta lattice schemes) { id = id } ∷ [])
+-- the one row, under any number, has this version and both texts
+abbrev pub IsDescribedBy : ℕ → List ℕ → List ℕ → Tables → Type 0
+IsDescribedBy version lattice schemes t = (id : ℤ) × (t.meta ≡ record (first_meta version lattice schemes) { id = id } ∷ [])
+
+-- the database is the four tables, and this is the one row that describes it
+abbrev pub IsDescribed : MetaRow → Database → Type 0
+IsDescribed m db = (db.schema ≡ schema) × (AreRows is_meta_row (db.trees 5) × IsDescription m db)
 
 -- the rows of the three other tables are what they should be
 abbrev pub HaveRows : Database → Type 0
@@ -105,9 +120,15 @@ HaveRows db = AreRows is_node_row (db.trees 0) × (AreRows is_cell_row (db.trees
 abbrev pub AreAll : Tables → AllRows → Type 0
 AreAll t rows = IsPermutation t.nodes rows.nodes.items × (IsPermutation t.cells rows.cells.items × IsPermutation t.audit rows.entries.items)
 
+-- a transaction that changed nothing was begun and committed
+pub record HasRead (old new : State) : Type 0 where
+  pub is_open : IsTrue new.is_open
+  pub mode : new.in_transaction ≡ false
+  pub same : new.now ≡ old.now
+  pub committed : new.committed ≡ old.now
+
 -- the tables were read in one transaction, which is committed
-pub record IsAdopted (lattice schemes : List ℕ) (old new : State) (rows : AllRows) : Type 0 where
+pub record IsAdopted (old new : State) (rows : AllRows) : Type 0 where
   pub settled : HasSettled new
   pub same : new.now ≡ old.now
-  pub described : IsDescribedBy lattice schemes (tables_of old.now.trees)
   pub all : AreAll (tables_of old.now.trees) rows

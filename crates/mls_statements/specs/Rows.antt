@@ -58,12 +58,12 @@ are_numbered n [] = true
 are_numbered n (a ∷ more) = int_eq a.number n && are_numbered (n +ℤ pos 1) more
 
 -- the row of a new store
-abbrev pub first_meta : List ℕ → List ℕ → MetaRow
-first_meta lattice schemes = record { id = pos 1; version = pos 1; lattice = lattice; schemes = schemes }
+abbrev pub first_meta : ℕ → List ℕ → List ℕ → MetaRow
+first_meta version lattice schemes = record { id = pos 1; version = pos version; lattice = lattice; schemes = schemes }
 
 -- a new store: one row that describes it
-abbrev pub described : List ℕ → List ℕ → Tables
-described lattice schemes = record no_rows { meta = first_meta lattice schemes ∷ [] }
+abbrev pub described : ℕ → List ℕ → List ℕ → Tables
+described version lattice schemes = record no_rows { meta = first_meta version lattice schemes ∷ [] }
 
 -- ---- rows as SQL has them: the rowid, and then the columns
 

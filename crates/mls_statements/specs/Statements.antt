@@ -1,5 +1,5 @@
 -- What the statements do to the four tables.
-use Rattle.std.specs.Prelude.{◌≡◌, ◌⊎◌, ℕ, Bool, true, false, not, if◌then◌else◌, List, [], ◌∷◌, filter, IsTrue, IsPermutation}
+use Rattle.std.specs.Prelude.{◌≡◌, ◌⊎◌, ℕ, Bool, true, false, not, if◌then◌else◌, List, [], ◌∷◌, ◌++◌, filter, IsTrue, IsPermutation}
 use Rattle.std.specs.List.{AllByRecursion}
 use Rattle.std.specs.Ordering.{is_eq}
 use Rattle.sqlite_value.specs.Order.{Row, value_cmp}
@@ -10,7 +10,7 @@ use Rattle.mls_statements.specs.declared.rows.NodeRow.{NodeRow}
 use Rattle.mls_statements.specs.declared.rows.CellRow.{CellRow}
 use Rattle.mls_statements.specs.declared.rows.AuditRow.{AuditRow}
 use Rattle.mls_statements.specs.declared.rows.MetaRow.{MetaRow}
-use Rattle.mls_statements.specs.Rows.{Tables, tables_of, described, is_node, is_cell, is_cell_in, is_node_row, is_cell_row, is_audit_row, is_meta_row}
+use Rattle.mls_statements.specs.Rows.{Tables, tables_of, described, first_meta, is_node, is_cell, is_cell_in, is_node_row, is_cell_row, is_audit_row, is_meta_row}
 use Rattle.mls_statements.specs.Schema.{schema}
 
 -- no two rows have one rowid
@@ -54,6 +54,34 @@ AddsEntry a old new = (new ≡ record old { audit = new.audit }) × IsPermutatio
 abbrev pub AddsMeta : MetaRow → Tables → Tables → Type 0
 AddsMeta m old new = (new ≡ record old { meta = new.meta }) × IsPermutation (m ∷ old.meta) new.meta
 
+abbrev pub AddsNodes : List NodeRow → Tables → Tables → Type 0
+AddsNodes ns old new = (new ≡ record old { nodes = new.nodes }) × IsPermutation (ns ++ old.nodes) new.nodes
+
+abbrev pub AddsCells : List CellRow → Tables → Tables → Type 0
+AddsCells cs old new = (new ≡ record old { cells = new.cells }) × IsPermutation (cs ++ old.cells) new.cells
+
+-- ---- tables are cleared
+
+abbrev pub ClearsNodes : Tables → Tables → Type 0
+ClearsNodes old new = new ≡ record old { nodes = [] }
+
+abbrev pub ClearsCells : Tables → Tables → Type 0
+ClearsCells old new = new ≡ record old { cells = [] }
+
+abbrev pub ClearsMeta : Tables → Tables → Type 0
+ClearsMeta old new = new ≡ record old { meta = [] }
+
+-- the entries alone stay
+abbrev pub ClearsStore : Tables → Tables → Type 0
+ClearsStore old new = new ≡ record old { nodes = []; cells = []; meta = [] }
+
+-- the nodes and the cells are these, in any order, one row describes the store, and the entries stay
+pub record Rewrites (nodes : List NodeRow) (cells : List CellRow) (version : ℕ) (lattice schemes : List ℕ) (old new : Tables) : Type 0 where
+  pub nodes_are : IsPermutation nodes new.nodes
+  pub cells_are : IsPermutation cells new.cells
+  pub audit : new.audit ≡ old.audit
+  pub meta : new.meta ≡ first_meta version lattice schemes ∷ []
+
 -- ---- what becomes of the connection
 
 -- the change goes on, or was made and committed at once
@@ -78,6 +106,18 @@ pub record Begins (old new : State) : Type 0 where
   pub committed : new.committed ≡ old.committed
   pub mode : new.in_transaction ≡ true
 
+-- a change of the four tables is begun
+pub record IsWithin (s : State) : Type 0 where
+  pub is_open : IsTrue s.is_open
+  pub mode : s.in_transaction ≡ true
+  pub ready : IsReady s.now
+
+-- statements that are done in a change, which goes on
+pub record GoesOn (Rows : Tables → Tables → Type 0) (old new : State) : Type 0 where
+  pub within : IsWithin new
+  pub rows : Rows (tables_of old.now.trees) (tables_of new.now.trees)
+  pub committed : new.committed ≡ old.committed
+
 -- an open connection shows the four tables, and has committed them
 pub record HasSettled (s : State) : Type 0 where
   pub is_open : IsTrue s.is_open
@@ -86,9 +126,14 @@ pub record HasSettled (s : State) : Type 0 where
   pub settled : s.now ≡ s.committed
 
 -- a store that was made, and is committed
-pub record IsNewStore (lattice schemes : List ℕ) (s : State) : Type 0 where
+pub record IsNewStore (version : ℕ) (lattice schemes : List ℕ) (s : State) : Type 0 where
   pub settled : HasSettled s
-  pub rows : tables_of s.now.trees ≡ described lattice schemes
+  pub rows : tables_of s.now.trees ≡ described version lattice schemes
+
+-- a store that was rewritten, and is committed
+pub record IsRewritten (nodes : List NodeRow) (cells : List CellRow) (version : ℕ) (lattice schemes : List ℕ) (old new : State) : Type 0 where
+  pub settled : HasSettled new
+  pub rows : Rewrites nodes cells version lattice schemes (tables_of old.now.trees) (tables_of new.now.trees)
 
 -- nothing was done, or the transaction was undone
 abbrev pub IsEnded : State → State → Type 0

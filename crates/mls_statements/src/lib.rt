@@ -5,12 +5,14 @@ mod adopting;
 mod decode;
 mod failures;
 mod remembered;
+mod rewriting;
 mod rows;
 /// The statements, each over any connection.
 pub mod statements;
 mod store;
 
-pub use adopting::{AdoptFault, AllRows, read_store};
+pub use adopting::{AdoptFault, AllRows, read_description, read_store};
 pub use decode::{are_numbered, cells_from, entries_from, meta_from, nodes_from};
+pub use rewriting::rewrite_store;
 pub use rows::{AuditRow, CellRow, MetaRow, NodeRow};
 pub use store::{StoreFault, TableStore};

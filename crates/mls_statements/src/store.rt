@@ -72,7 +72,11 @@ fn blame(count: &mut Failures, error: Error) -> StoreFault
 }
 
 /// Ends the change after a failed call, if it has not ended, and says why the call failed.
-fn fall<S: Alter>(conn: &mut Connection<S>, failures: &mut Failures, error: Error) -> StoreFault
+pub(crate) fn fall<S: Alter>(
+    conn: &mut Connection<S>,
+    failures: &mut Failures,
+    error: Error,
+) -> StoreFault
     ensures clean { HasCleanDisk (state S.Store conn.new) → HasCleanDisk (state S.Store conn.old) }
     ensures ended { HasCleanDisk (state S.Store conn.new) → HasEnded (state S.Store conn.old) (state S.Store conn.new) }
     ensures count { failures.old.count ≤ failures.new.count }
@@ -103,21 +107,22 @@ fn fail<S: Alter>(
 }
 
 impl<S: Alter> TableStore<S> {
-    /// Makes a new store in a database that has nothing, described by two texts. An `Err` hands the connection back, with
+    /// Makes a new store in a database that has nothing, described by a version and two texts. An `Err` hands the connection back, with
     /// what it had.
     pub fn create(
         alloc: Global,
         mut conn: Connection<S>,
+        version: u32,
         lattice: &str,
         schemes: &str,
     ) -> Result<TableStore<S>, (StoreFault, Connection<S>)>
         requires nothing { HasCleanDisk (state S.Store conn) → (state S.Store conn).now.schema ≡ no_schema }
-        ensures made { IfOk result (λ t. IsClean t → (t.now ≡ described lattice.now schemes.now) × (t.kept ≡ t.now)) }
+        ensures made { IfOk result (λ t. IsClean t → (t.now ≡ described version lattice.now schemes.now) × (t.kept ≡ t.now)) }
         ensures mode { IfOk result (λ t. t.begun ≡ false) }
         ensures clean { IfOk result (λ t. IsClean t → HasCleanDisk (state S.Store conn)) }
         ensures refused { IfErr result (λ e. HasCleanDisk (state S.Store e.1) → HasCleanDisk (state S.Store conn) × HasEnded (state S.Store conn) (state S.Store e.1)) }
     {
-        match creation::create_store(&mut conn, lattice, schemes) {
+        match creation::create_store(&mut conn, version, lattice, schemes) {
             Ok(_) => Ok(TableStore::over(alloc, conn)),
             Err(error) => Err((fall(&mut conn, &mut Failures::new(), error), conn)),
         }

@@ -29,7 +29,7 @@ pub fn written_over<R: Files + AllocGlobal>(
     let status = act(rt.alloc(), words, &mut desk, &mut out, &mut err);
     let written = Written {
         out: out.bytes,
-        err: err.writer,
+        err: err.into_writer(),
         status,
     };
     (written, desk.left)

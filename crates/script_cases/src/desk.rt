@@ -3,7 +3,7 @@ use crate::most;
 use mls_command::{CloseFault, Host, HostFault, MOST_BYTES, read_whole};
 use mls_fragments::{OpenFault, SqlBase};
 use mls_lattice::Policy;
-use mls_scheme::Schemes;
+use mls_scheme::SchemesFile;
 use sqlite::{Connection, MemStore};
 use std::alloc::{AllocError, Global};
 use std::fs;
@@ -108,13 +108,13 @@ impl<'a, R: Files> Host for Desk<'a, R> {
         alloc: Global,
         path: &str,
         policy: &Policy,
-        schemes: &Schemes,
+        file: &SchemesFile,
     ) -> Result<SqlBase<MemStore>, OpenFault> {
         let conn = self.connection(alloc, path)?;
         if !conn.is_autocommit() {
             return Err(OpenFault::Store);
         }
-        match SqlBase::adopt(alloc, conn, policy, schemes) {
+        match SqlBase::adopt(alloc, conn, policy, file) {
             Ok(base) => Ok(base),
             Err((fault, conn)) => {
                 self.left = Some(conn);

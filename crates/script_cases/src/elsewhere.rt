@@ -30,7 +30,7 @@ fn written_over_lists<R: Files + AllocGlobal>(rt: &R, words: &[&str], script: &[
     let status = act(rt.alloc(), words, &mut lists, &mut out, &mut err);
     Written {
         out,
-        err: err.writer,
+        err: err.into_writer(),
         status,
     }
 }

@@ -3,7 +3,7 @@ use crate::desk::file_of;
 use mls_command::{CloseFault, Host, HostFault, read_whole};
 use mls_fragments::OpenFault;
 use mls_lattice::Policy;
-use mls_scheme::Schemes;
+use mls_scheme::SchemesFile;
 use mls_updates::ListBase;
 use std::alloc::Global;
 use std::rt::Files;
@@ -38,7 +38,7 @@ impl<'a, R: Files> Host for Lists<'a, R> {
         alloc: Global,
         path: &str,
         policy: &Policy,
-        schemes: &Schemes,
+        file: &SchemesFile,
     ) -> Result<ListBase, OpenFault> {
         Ok(ListBase::new(alloc))
     }

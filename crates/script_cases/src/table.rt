@@ -19,7 +19,7 @@ pub enum Table {
     Samples,
 }
 
-pub const TABLES: [(&str, Table); 12] = [
+pub const TABLES: [(&str, Table); 13] = [
     ("script_faults.txt", Table::Faults),
     ("prefixes.txt", Table::Prefixes),
     ("scripts.txt", Table::Scripts),
@@ -31,6 +31,7 @@ pub const TABLES: [(&str, Table); 12] = [
     ("certifying.txt", Table::Commands),
     ("limits.txt", Table::Counts),
     ("stores.txt", Table::Stores),
+    ("migrations.txt", Table::Stores),
     ("samples.txt", Table::Samples),
 ];
 

@@ -1,11 +1,8 @@
 //! Stores that are opened again.
-ghost use Rattle.std.specs.Prelude.{length};
-ghost use Rattle.mls_scheme.specs.Scheme.{AreUnder};
-
-use crate::disks::{Medium, empty_files};
+use crate::disks::{Copies, Medium};
 use crate::narrow::Narrow;
 use crate::runs::Task;
-use crate::site::Site;
+use crate::site::{Names, Site};
 use crate::stores::{do_and_close, do_in};
 use case_tables::{Case, Told, case_at, joined, text_of};
 use sqlite::Files;
@@ -21,9 +18,7 @@ fn tell_script<D: Medium>(
     files: Files<D>,
     closes: bool,
     out: &mut Told,
-) -> Files<D>
-    requires under { AreUnder (length site.now.policy.labels) site.now.schemes }
-{
+) -> Files<D> {
     let mut replies = Narrow::new(alloc, u64::MAX);
     let task = Task::Run(script);
     let (outcome, files) = if closes {
@@ -38,7 +33,7 @@ fn tell_script<D: Medium>(
     files
 }
 
-/// The words of a head: which files, how they are left, and the policy.
+/// The words of a head: which files, how they are left, and the policy and schemes.
 fn words_of(head: &str) -> Option<(&str, &str, &str)> {
     let (first, rest) = head.split_once(' ')?;
     let (last, policy) = rest.split_once(' ')?;
@@ -55,24 +50,24 @@ fn tell_case<D: Medium, R: FileSystem + AllocGlobal>(
     let Some((first, last, policy)) = words_of(case.head) else {
         return Ok(files);
     };
-    let site = Site::read(rt, policy, "transactions.txt", "certificates.txt")?;
+    let site = Site::read(rt, Names::of(policy))?;
     let script = joined(rt.alloc(), case.body)?;
     let files = if first == "new" {
-        empty_files(rt.alloc())
+        Copies::none(rt.alloc()).files(rt.alloc())?
     } else {
         files
     };
     Ok(tell_script(rt.alloc(), &site, &script, files, last == "closed", out))
 }
 
-/// Tells what scripts print over the store in files, each over what the one before left: a case is `FIRST LAST POLICY`, and its script
-/// below.
+/// Tells what scripts print over the store in files, each over what the one before left: a case is `FIRST LAST POLICY` or
+/// `FIRST LAST POLICY SCHEMES`, and its script below.
 pub fn tell_lines<D: Medium, R: FileSystem + AllocGlobal>(
     rt: &R,
     lines: &[&str],
     out: &mut Told,
 ) -> io::Result<()> {
-    let mut files = empty_files::<D>(rt.alloc());
+    let mut files = Copies::none(rt.alloc()).files::<D>(rt.alloc())?;
     for at in 0..lines.len() {
         if let Some(case) = case_at(&lines[at..]) {
             files = tell_case(rt, &case, files, out)?;

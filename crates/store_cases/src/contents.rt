@@ -1,7 +1,4 @@
 //! What bases hold, as texts.
-ghost use Rattle.std.specs.Prelude.{length};
-ghost use Rattle.mls_scheme.specs.Scheme.{AreUnder};
-
 use crate::narrow::Narrow;
 use crate::runs::{End, Task, do_task};
 use crate::site::Site;
@@ -18,21 +15,10 @@ pub fn probed(alloc: Global, out: &Narrow) -> Option<String> {
     String::from_str(alloc, content).ok()
 }
 
-/// The lines of a script and the probe as one script.
-fn script_of(alloc: Global, lines: &[&str], probe: &str) -> Option<String> {
-    let mut text = Told::new(alloc);
-    for line in lines {
-        text.push_line(line);
-    }
-    text.push(probe);
-    text.finish().ok()
-}
-
 /// What a base over lists holds after a script.
-fn content_after(alloc: Global, site: &Site, lines: &[&str], probe: &str) -> Option<String>
-    requires under { AreUnder (length site.now.policy.labels) site.now.schemes }
-{
-    let text = script_of(alloc, lines, probe)?;
+pub fn content_of(alloc: Global, site: &Site, script: &str, probe: &str) -> Option<String> {
+    let mut text = String::from_str(alloc, script).ok()?;
+    text.push_str(probe).ok()?;
     let mut out = Narrow::new(alloc, u64::MAX);
     let base = ListBase::new(alloc);
     let (end, _base) = do_task(alloc, site, Task::Run(&text), base, &mut out);
@@ -43,29 +29,23 @@ fn content_after(alloc: Global, site: &Site, lines: &[&str], probe: &str) -> Opt
 }
 
 /// What a base over lists holds before a script, and after each of its lines.
-pub fn contents_of(alloc: Global, site: &Site, lines: &[&str], probe: &str) -> Option<Vec<String>>
-    requires under { AreUnder (length site.now.policy.labels) site.now.schemes }
-{
+pub fn contents_of(alloc: Global, site: &Site, lines: &[&str], probe: &str) -> Option<Vec<String>> {
+    let mut script = Told::new(alloc);
     let mut contents = Vec::new(alloc);
-    for count in 0..lines.len() {
+    contents.push(content_of(alloc, site, "", probe)?).ok()?;
+    for line in lines {
+        script.push_line(line);
         contents
-            .push(content_after(alloc, site, &lines[..count], probe)?)
+            .push(content_of(alloc, site, &script.text, probe)?)
             .ok()?;
     }
-    contents
-        .push(content_after(alloc, site, lines, probe)?)
-        .ok()?;
     Some(contents)
 }
 
 /// What a base over lists holds before a script and after it.
-pub fn ends_of(alloc: Global, site: &Site, lines: &[&str], probe: &str) -> Option<Vec<String>>
-    requires under { AreUnder (length site.now.policy.labels) site.now.schemes }
-{
+pub fn ends_of(alloc: Global, site: &Site, script: &str, probe: &str) -> Option<Vec<String>> {
     let mut contents = Vec::new(alloc);
-    contents.push(content_after(alloc, site, &[], probe)?).ok()?;
-    contents
-        .push(content_after(alloc, site, lines, probe)?)
-        .ok()?;
+    contents.push(content_of(alloc, site, "", probe)?).ok()?;
+    contents.push(content_of(alloc, site, script, probe)?).ok()?;
     Some(contents)
 }

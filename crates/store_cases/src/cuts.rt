@@ -1,26 +1,20 @@
 //! Stores whose logs are cut short.
-ghost use Rattle.std.specs.Prelude.{length};
-ghost use Rattle.mls_scheme.specs.Scheme.{AreUnder};
-
-use crate::disks::{Medium, empty_files};
+use crate::disks::{Copies, Medium};
 use crate::narrow::Narrow;
-use crate::site::Site;
 use crate::stops::{Plan, content_in};
 use crate::stores::do_in;
 use case_tables::Told;
-use sqlite::Files;
 use std::alloc::{AllocError, Global};
 use std::io;
 
 /// The log is cut after so many bytes, and after twice as many, and so on.
 const STEP: usize = 500;
 
-/// The files with a first part of the log.
-fn files_cut<D: Medium>(alloc: Global, files: &Files<D>, length: usize) -> io::Result<Files<D>> {
-    let log = files.log.bytes();
-    let log = D::holding(alloc, &log[..length.min(log.len())])?;
-    let db = D::holding(alloc, files.db.bytes())?;
-    Ok(Files { log, db })
+/// The first part of the log, and the database file.
+fn cut(alloc: Global, copies: &Copies, length: usize) -> Result<Copies, AllocError> {
+    let log = copies.log[..length.min(copies.log.len())].to_vec(alloc)?;
+    let db = copies.db.clone()?;
+    Ok(Copies { log, db })
 }
 
 /// The first place of a content, or the place behind all.
@@ -39,19 +33,14 @@ fn place_of(contents: &[String], found: &Option<String>) -> usize {
 /// How many of the parts of the log leave each of the contents, and how many none of them.
 fn counts_of<D: Medium>(
     alloc: Global,
-    site: &Site,
     plan: &Plan<'_>,
-    files: &Files<D>,
-) -> Result<Vec<usize>, AllocError>
-    requires under { AreUnder (length site.now.policy.labels) site.now.schemes }
-{
+    copies: &Copies,
+) -> Result<Vec<usize>, AllocError> {
     let mut counts = Vec::new(alloc);
     counts.resize(plan.contents.len().saturating_add(1), 0usize)?;
-    for part in 0..files.log.bytes().len() / STEP {
-        let found = match files_cut(alloc, files, part.saturating_mul(STEP)) {
-            Ok(files) => content_in(alloc, site, plan.probe, files),
-            Err(_) => None,
-        };
+    for part in 0..copies.log.len() / STEP {
+        let part = cut(alloc, copies, part.saturating_mul(STEP))?;
+        let found = content_in::<D>(alloc, plan, &part);
         if let Some(count) = counts.get_mut(place_of(plan.contents, &found)) {
             *count = count.saturating_add(1);
         }
@@ -67,23 +56,11 @@ fn name_at<'a>(names: &[&'a str], place: usize) -> &'a str {
 }
 
 /// Tells what is found after a task whose store is not closed, where its log is cut short: how many of the parts leave what is after an event.
-pub fn tell_cuts<D: Medium>(
-    alloc: Global,
-    site: &Site,
-    plan: &Plan<'_>,
-    out: &mut Told,
-) -> Result<(), AllocError>
-    requires under { AreUnder (length site.now.policy.labels) site.now.schemes }
-{
+pub fn tell_cuts<D: Medium>(alloc: Global, plan: &Plan<'_>, out: &mut Told) -> io::Result<()> {
     let mut replies = Narrow::new(alloc, u64::MAX);
-    let (_, files) = do_in(
-        alloc,
-        site,
-        plan.task,
-        empty_files::<D>(alloc),
-        &mut replies,
-    );
-    let counts = counts_of(alloc, site, plan, &files)?;
+    let files = plan.start.files::<D>(alloc)?;
+    let (_, files) = do_in(alloc, plan.site, plan.task, files, &mut replies);
+    let counts = counts_of::<D>(alloc, plan, &Copies::of(alloc, &files)?)?;
     for (place, count) in counts.iter().enumerate() {
         if *count > 0 {
             let is_content = place < plan.contents.len();

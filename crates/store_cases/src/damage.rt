@@ -1,47 +1,38 @@
 //! Stores that are damaged, and how they are refused.
-ghost use Rattle.std.specs.Prelude.{length};
-ghost use Rattle.mls_scheme.specs.Scheme.{AreUnder};
-
-use crate::disks::{Medium, empty_files};
+use crate::disks::{Copies, Medium};
 use crate::narrow::Narrow;
 use crate::runs::Task;
-use crate::site::Site;
-use crate::stores::{Outcome, do_and_close, do_in, execute_in};
+use crate::site::{Names, Site};
+use crate::stores::{do_in, execute_in, made};
 use case_tables::{Case, Told, case_at, joined};
 use sqlite::Files;
 use std::alloc::{AllocError, Global};
 use std::rt::Files as FileSystem;
 use std::{fs, io};
 
-/// The bytes of the log and of the database file.
-fn copies_of<D: Medium>(alloc: Global, files: &Files<D>) -> Result<(Vec<u8>, Vec<u8>), AllocError> {
-    let log = files.log.bytes().to_vec(alloc)?;
-    let db = files.db.bytes().to_vec(alloc)?;
-    Ok((log, db))
-}
-
 /// What differs of files from their copies.
-fn change_of<D: Medium>(files: &Files<D>, copies: &(Vec<u8>, Vec<u8>)) -> &'static str {
-    if files.db.bytes() != copies.1.as_slice() {
+fn change_of<D: Medium>(files: &Files<D>, copies: &Copies) -> &'static str {
+    if files.db.bytes() != copies.db.as_slice() {
         return "file changed";
     }
-    if files.log.bytes() != copies.0.as_slice() {
+    if files.log.bytes() != copies.log.as_slice() {
         return "log changed";
     }
     "unchanged"
 }
 
 /// The closed files of a new store, after a script and then the statements of a case.
-fn damaged<D: Medium>(alloc: Global, site: &Site, script: &str, sql: &str) -> Option<Files<D>>
-    requires under { AreUnder (length site.now.policy.labels) site.now.schemes }
-{
-    let files = empty_files(alloc);
-    let mut out = Narrow::new(alloc, u64::MAX);
-    let (_, files) = do_and_close(alloc, site, Task::Run(script), files, &mut out);
-    match execute_in(alloc, files, sql) {
+fn damaged<D: Medium>(
+    alloc: Global,
+    site: &Site,
+    script: &str,
+    sql: &str,
+) -> io::Result<Option<Files<D>>> {
+    let files = made(alloc, site, script)?;
+    Ok(match execute_in(alloc, files, sql) {
         (true, files) => Some(files),
         (false, _) => None,
-    }
+    })
 }
 
 /// Tells how a store is opened or refused, and what of its files is changed by that.
@@ -50,10 +41,8 @@ fn tell_opening<D: Medium>(
     site: &Site,
     files: Files<D>,
     out: &mut Told,
-) -> Result<Files<D>, AllocError>
-    requires under { AreUnder (length site.now.policy.labels) site.now.schemes }
-{
-    let copies = copies_of(alloc, &files)?;
+) -> Result<Files<D>, AllocError> {
+    let copies = Copies::of(alloc, &files)?;
     let mut replies = Narrow::new(alloc, u64::MAX);
     let (outcome, files) = do_in(alloc, site, Task::Run(""), files, &mut replies);
     outcome.tell(out);
@@ -68,9 +57,7 @@ fn tell_openings<D: Medium>(
     site: &Site,
     files: Files<D>,
     out: &mut Told,
-) -> Result<(), AllocError>
-    requires under { AreUnder (length site.now.policy.labels) site.now.schemes }
-{
+) -> Result<(), AllocError> {
     let files = tell_opening(alloc, site, files, out)?;
     out.push("; ");
     let _files = tell_opening(alloc, site, files, out)?;
@@ -78,22 +65,21 @@ fn tell_openings<D: Medium>(
     Ok(())
 }
 
-/// Tells how the store of a case is refused: a case is `POLICY: title`, and the statements that damage the store below.
+/// Tells how the store of a case is refused: a case is `POLICY: title` or `POLICY SCHEMES: title`, and the
+/// statements that damage the store below.
 fn tell_case<D: Medium, R: FileSystem + AllocGlobal>(
     rt: &R,
     site: &Site,
     script: &str,
     case: &Case<'_>,
     out: &mut Told,
-) -> io::Result<()>
-    requires under { AreUnder (length site.now.policy.labels) site.now.schemes }
-{
-    let Some((policy, _)) = case.head.split_once(':') else {
+) -> io::Result<()> {
+    let Some((files, _)) = case.head.split_once(':') else {
         return Ok(());
     };
-    let other = Site::read(rt, policy, "transactions.txt", "certificates.txt")?;
+    let other = Site::read(rt, Names::of(files))?;
     let sql = joined(rt.alloc(), case.body)?;
-    match damaged::<D>(rt.alloc(), site, script, &sql) {
+    match damaged::<D>(rt.alloc(), site, script, &sql)? {
         Some(files) => tell_openings(rt.alloc(), &other, files, out)?,
         None => out.push("not made: "),
     }
@@ -107,7 +93,7 @@ pub fn tell_lines<D: Medium, R: FileSystem + AllocGlobal>(
     lines: &[&str],
     out: &mut Told,
 ) -> io::Result<()> {
-    let site = Site::read(rt, "policy.toml", "transactions.txt", "certificates.txt")?;
+    let site = Site::read(rt, Names::of("policy.toml"))?;
     let script = fs::read_to_string(rt, "damage.script")?;
     for at in 0..lines.len() {
         if let Some(case) = case_at(&lines[at..]) {

@@ -1,33 +1,32 @@
 //! Disks in memory that stop.
 use sqlite::Files;
 use sqlite_disk::{Crash, Disk, Fuse, Memory};
-use std::alloc::Global;
+use std::alloc::{AllocError, Global};
 use std::io::{self, Error, ErrorKind};
 
 /// A disk that stops, and what is found of it afterwards.
 pub trait Medium: Crash + Drop {
-    /// An empty disk, which stops after so many calls.
-    fn stopping(alloc: Global, calls: u64) -> Self;
-
-    /// A disk that holds these bytes, and does not stop.
-    fn holding(alloc: Global, bytes: &[u8]) -> io::Result<Self>;
+    /// A disk that holds these bytes, all of them synced, and stops after so many calls.
+    fn holding(alloc: Global, bytes: &[u8], calls: u64) -> io::Result<Self>;
 
     /// The bytes that were written.
     fn bytes(&self) -> &[u8];
 }
 
-impl Medium for Fuse<Memory> {
-    fn stopping(alloc: Global, calls: u64) -> Fuse<Memory> {
-        Fuse::new(Memory::new(alloc), calls)
+/// A file in memory with these bytes, all of them synced.
+fn memory_of(alloc: Global, bytes: &[u8]) -> io::Result<Memory> {
+    let mut memory = Memory::new(alloc);
+    if !memory.may_be_used() {
+        return Err(Error::from(ErrorKind::InvalidData));
     }
+    memory.write_at(0, bytes)?;
+    memory.sync()?;
+    Ok(memory)
+}
 
-    fn holding(alloc: Global, bytes: &[u8]) -> io::Result<Fuse<Memory>> {
-        let mut memory = Memory::new(alloc);
-        if !memory.may_be_used() {
-            return Err(Error::from(ErrorKind::InvalidData));
-        }
-        memory.write_at(0, bytes)?;
-        Ok(Fuse::new(memory, u64::MAX))
+impl Medium for Fuse<Memory> {
+    fn holding(alloc: Global, bytes: &[u8], calls: u64) -> io::Result<Fuse<Memory>> {
+        Ok(Fuse::new(memory_of(alloc, bytes)?, calls))
     }
 
     fn bytes(&self) -> &[u8] {
@@ -35,10 +34,38 @@ impl Medium for Fuse<Memory> {
     }
 }
 
-/// The files of a store that is yet to be made, which do not stop.
-pub fn empty_files<D: Medium>(alloc: Global) -> Files<D> {
-    Files {
-        log: D::stopping(alloc, u64::MAX),
-        db: D::stopping(alloc, u64::MAX),
+/// The bytes of the two files of a store.
+#[derive(Drop)]
+pub struct Copies {
+    pub log: Vec<u8>,
+    pub db: Vec<u8>,
+}
+
+impl Copies {
+    /// Those of a store that is yet to be made.
+    pub fn none(alloc: Global) -> Copies {
+        Copies {
+            log: Vec::new(alloc),
+            db: Vec::new(alloc),
+        }
+    }
+
+    /// What was written to files.
+    pub fn of<D: Medium>(alloc: Global, files: &Files<D>) -> Result<Copies, AllocError> {
+        let log = files.log.bytes().to_vec(alloc)?;
+        let db = files.db.bytes().to_vec(alloc)?;
+        Ok(Copies { log, db })
+    }
+
+    /// Files with these bytes, which stop after so many calls of the log or of the database file.
+    pub fn fused<D: Medium>(&self, alloc: Global, log: u64, db: u64) -> io::Result<Files<D>> {
+        let log = D::holding(alloc, &self.log, log)?;
+        let db = D::holding(alloc, &self.db, db)?;
+        Ok(Files { log, db })
+    }
+
+    /// Files with these bytes, which do not stop.
+    pub fn files<D: Medium>(&self, alloc: Global) -> io::Result<Files<D>> {
+        self.fused(alloc, u64::MAX, u64::MAX)
     }
 }

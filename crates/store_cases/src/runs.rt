@@ -1,6 +1,5 @@
 //! Runs over a base.
-ghost use Rattle.std.specs.Prelude.{◌≡◌, false, length};
-ghost use Rattle.mls_scheme.specs.Scheme.{AreUnder};
+ghost use Rattle.std.specs.Prelude.{◌≡◌, false};
 ghost use Rattle.mls_lattice.specs.Policy.{labels_of};
 ghost use Rattle.mls_filterview.specs.Stored.{AreContent};
 ghost use Rattle.mls_fragments.specs.Finding.{IsSoundContent};
@@ -60,16 +59,12 @@ fn run_script<B: Base>(
     base: B,
     out: &mut Narrow,
 ) -> (End, B)
-    requires under { AreUnder (length site.now.policy.labels) site.now.schemes }
     requires idle { (B.state base).begun ≡ false }
-    requires sound { B.is_clean base → IsSoundContent site.now.policy site.now.schemes (B.state base).now }
+    requires sound { B.is_clean base → IsSoundContent site.now.policy site.now.file.schemes (B.state base).now }
     ensures { (B.state result.1).begun ≡ false }
 {
-    let Site {
-        policy,
-        schemes,
-        ..
-    } = site;
+    let policy = &site.policy;
+    let schemes = &site.file.schemes;
     let transactions = site.transactions.as_bytes();
     let certificates = site.certificates.as_bytes();
     let Ok(stored) = stored_from(alloc, policy, schemes, transactions, certificates) else {
@@ -84,9 +79,8 @@ fn run_script<B: Base>(
 
 /// Evaluates the first of these transactions, which takes no arguments.
 fn evaluate_first<B: Base>(alloc: Global, site: &Site, stored: &[Stored], base: &mut B) -> End
-    requires under { AreUnder (length site.now.policy.labels) site.now.schemes }
-    requires read { AreRead (site_of site.now.policy site.now.schemes stored.now) }
-    requires content { B.is_clean base.old → AreContent (labels_of site.now.policy) site.now.schemes (B.state base.old).now.db }
+    requires read { AreRead (site_of site.now.policy site.now.file.schemes stored.now) }
+    requires content { B.is_clean base.old → AreContent (labels_of site.now.policy) site.now.file.schemes (B.state base.old).now.db }
 {
     let [Stored::Certified(certified), ..] = stored else {
         return End::Failed;
@@ -94,7 +88,14 @@ fn evaluate_first<B: Base>(alloc: Global, site: &Site, stored: &[Stored], base: 
     if !certified.tx().params().is_empty() {
         return End::Failed;
     }
-    match evaluate(alloc, base, &site.policy, &site.schemes, certified, &[]) {
+    match evaluate(
+        alloc,
+        base,
+        &site.policy,
+        &site.file.schemes,
+        certified,
+        &[],
+    ) {
         Ok(_) => End::Whole,
         Err(_) => End::Stopped {
             event: 1,
@@ -105,9 +106,8 @@ fn evaluate_first<B: Base>(alloc: Global, site: &Site, stored: &[Stored], base: 
 
 /// Evaluates the first of the stored transactions over a base.
 fn evaluate_on<B: Base>(alloc: Global, site: &Site, base: B) -> (End, B)
-    requires under { AreUnder (length site.now.policy.labels) site.now.schemes }
     requires idle { (B.state base).begun ≡ false }
-    requires sound { B.is_clean base → IsSoundContent site.now.policy site.now.schemes (B.state base).now }
+    requires sound { B.is_clean base → IsSoundContent site.now.policy site.now.file.schemes (B.state base).now }
     ensures { (B.state result.1).begun ≡ false }
 {
     let mut base = base;
@@ -116,7 +116,7 @@ fn evaluate_on<B: Base>(alloc: Global, site: &Site, base: B) -> (End, B)
     let Ok(stored) = stored_from(
         alloc,
         &site.policy,
-        &site.schemes,
+        &site.file.schemes,
         transactions,
         certificates,
     ) else {
@@ -135,9 +135,8 @@ pub fn do_task<B: Base>(
     base: B,
     out: &mut Narrow,
 ) -> (End, B)
-    requires under { AreUnder (length site.now.policy.labels) site.now.schemes }
     requires idle { (B.state base).begun ≡ false }
-    requires sound { B.is_clean base → IsSoundContent site.now.policy site.now.schemes (B.state base).now }
+    requires sound { B.is_clean base → IsSoundContent site.now.policy site.now.file.schemes (B.state base).now }
     ensures { (B.state result.1).begun ≡ false }
 {
     match task {

@@ -1,10 +1,10 @@
 //! What all cases are run under.
-ghost use Rattle.std.specs.Prelude.{length, IfOk};
+ghost use Rattle.std.specs.Prelude.{length};
+ghost use Rattle.std.proofs.Props.{props};
 ghost use Rattle.mls_scheme.specs.Scheme.{AreUnder};
 
 use mls_lattice::Policy;
-use mls_scheme::Schemes;
-use std::alloc::AllocError;
+use mls_scheme::SchemesFile;
 use std::fs;
 use std::io::{self, Error, ErrorKind};
 use std::rt::Files;
@@ -13,9 +13,32 @@ use std::rt::Files;
 #[derive(Drop)]
 pub struct Site {
     pub policy: Policy,
-    pub schemes: Schemes,
+    pub file: SchemesFile,
     pub transactions: String,
     pub certificates: String,
+    ghost under: { AreUnder (length policy.labels) file.schemes } by { Prim.hlevel props },
+}
+
+/// The names of the files of a site.
+#[derive(Clone, Copy)]
+pub struct Names<'a> {
+    pub policy: &'a str,
+    pub schemes: &'a str,
+    pub transactions: &'a str,
+    pub certificates: &'a str,
+}
+
+impl<'a> Names<'a> {
+    /// Those of a case: `POLICY` or `POLICY SCHEMES`.
+    pub fn of(case: &'a str) -> Names<'a> {
+        let (policy, schemes) = case.split_once(' ').unwrap_or((case, "schemes.toml"));
+        Names {
+            policy,
+            schemes,
+            transactions: "transactions.txt",
+            certificates: "certificates.txt",
+        }
+    }
 }
 
 fn unread() -> Error {
@@ -24,27 +47,20 @@ fn unread() -> Error {
 
 impl Site {
     /// Reads the files.
-    pub fn read<R: Files + AllocGlobal>(
-        rt: &R,
-        policy: &str,
-        transactions: &str,
-        certificates: &str,
-    ) -> io::Result<Site>
-        ensures { IfOk result (λ s. AreUnder (length s.policy.labels) s.schemes) }
-    {
-        let policy = fs::read_to_string(rt, policy)?;
-        let schemes = fs::read_to_string(rt, "schemes.toml")?;
-        let transactions = fs::read_to_string(rt, transactions)?;
-        let certificates = fs::read_to_string(rt, certificates)?;
+    pub fn read<R: Files + AllocGlobal>(rt: &R, names: Names<'_>) -> io::Result<Site> {
+        let policy = fs::read_to_string(rt, names.policy)?;
+        let schemes = fs::read_to_string(rt, names.schemes)?;
+        let transactions = fs::read_to_string(rt, names.transactions)?;
+        let certificates = fs::read_to_string(rt, names.certificates)?;
         let Ok(policy) = Policy::read(rt.alloc(), policy.as_bytes()) else {
             return Err(unread());
         };
-        let Ok(schemes) = Schemes::read(rt.alloc(), &policy, schemes.as_bytes()) else {
+        let Ok(file) = SchemesFile::read(rt.alloc(), &policy, schemes.as_bytes()) else {
             return Err(unread());
         };
         Ok(Site {
             policy,
-            schemes,
+            file,
             transactions,
             certificates,
         })

@@ -1,12 +1,9 @@
 //! The tables of stops.
-ghost use Rattle.std.specs.Prelude.{length};
-ghost use Rattle.mls_scheme.specs.Scheme.{AreUnder};
-
 use crate::contents::{contents_of, ends_of};
 use crate::cuts::tell_cuts;
-use crate::disks::Medium;
+use crate::disks::{Copies, Medium};
 use crate::runs::Task;
-use crate::site::Site;
+use crate::site::{Names, Site};
 use crate::stops::{Plan, Series, tell_series};
 use case_tables::{Told, case_at};
 use std::alloc::{AllocError, Global};
@@ -21,26 +18,23 @@ fn series_of<'a>(line: &'a str) -> Series<'a> {
 }
 
 /// Tells the series of a table.
-fn tell_lines<D: Medium>(
+pub fn tell_plan<D: Medium>(
     alloc: Global,
-    site: &Site,
     plan: &Plan<'_>,
     lines: &[&str],
     out: &mut Told,
-)
-    requires under { AreUnder (length site.now.policy.labels) site.now.schemes }
-{
+) -> io::Result<()> {
     for at in 0..lines.len() {
         if let Some(case) = case_at(&lines[at..]) {
             out.push_line(case.head);
             if case.head == "cut" {
-                let growth = tell_cuts::<D>(alloc, site, plan, out);
-                out.note(growth);
+                tell_cuts::<D>(alloc, plan, out)?;
             } else {
-                tell_series::<D>(alloc, site, plan, series_of(case.head), out);
+                tell_series::<D>(alloc, plan, series_of(case.head), out)?;
             }
         }
     }
+    Ok(())
 }
 
 /// The names of the places: the opening, the lines of a script, and the closing.
@@ -54,7 +48,7 @@ fn names_of<'a>(alloc: Global, lines: &[&'a str]) -> Result<Vec<&'a str>, AllocE
     Ok(names)
 }
 
-/// Tells the series of a table, of stops of the run of a script.
+/// Tells the series of a table, of stops of the run of a script over a new store.
 fn tell_run<D: Medium>(
     alloc: Global,
     site: &Site,
@@ -62,9 +56,7 @@ fn tell_run<D: Medium>(
     probe: &str,
     lines: &[&str],
     out: &mut Told,
-) -> Result<(), AllocError>
-    requires under { AreUnder (length site.now.policy.labels) site.now.schemes }
-{
+) -> io::Result<()> {
     let events: Vec<&str> = script.lines().collect(alloc)?;
     let names = names_of(alloc, &events)?;
     let Some(contents) = contents_of(alloc, site, &events, probe) else {
@@ -72,19 +64,22 @@ fn tell_run<D: Medium>(
         return Ok(());
     };
     let plan = Plan {
+        site,
+        earlier: None,
+        start: &Copies::none(alloc),
         task: Task::Run(script),
         names: &names,
         contents: &contents,
         probe,
     };
-    tell_lines::<D>(alloc, site, &plan, lines, out);
-    Ok(())
+    tell_plan::<D>(alloc, &plan, lines, out)
 }
 
 /// The names of the places of an evaluation.
 const PLACES: [&str; 3] = ["opening", "evaluation", "closing"];
 
-/// Tells the series of a table, of stops of the evaluation of a transaction, which leaves what the events of a script leave.
+/// Tells the series of a table, of stops of the evaluation of a transaction over a new store, which leaves what the events of a script
+/// leave.
 fn tell_evaluation<D: Medium>(
     alloc: Global,
     site: &Site,
@@ -92,22 +87,21 @@ fn tell_evaluation<D: Medium>(
     probe: &str,
     lines: &[&str],
     out: &mut Told,
-) -> Result<(), AllocError>
-    requires under { AreUnder (length site.now.policy.labels) site.now.schemes }
-{
-    let events: Vec<&str> = script.lines().collect(alloc)?;
-    let Some(contents) = ends_of(alloc, site, &events, probe) else {
+) -> io::Result<()> {
+    let Some(contents) = ends_of(alloc, site, script, probe) else {
         out.push_line("no contents");
         return Ok(());
     };
     let plan = Plan {
+        site,
+        earlier: None,
+        start: &Copies::none(alloc),
         task: Task::Evaluate,
         names: &PLACES,
         contents: &contents,
         probe,
     };
-    tell_lines::<D>(alloc, site, &plan, lines, out);
-    Ok(())
+    tell_plan::<D>(alloc, &plan, lines, out)
 }
 
 /// Tells the stops of runs.
@@ -116,11 +110,10 @@ pub fn tell_runs<D: Medium, R: Files + AllocGlobal>(
     lines: &[&str],
     out: &mut Told,
 ) -> io::Result<()> {
-    let site = Site::read(rt, "policy.toml", "transactions.txt", "certificates.txt")?;
+    let site = Site::read(rt, Names::of("policy.toml"))?;
     let script = fs::read_to_string(rt, "stops.script")?;
     let probe = fs::read_to_string(rt, "probe.script")?;
-    tell_run::<D>(rt.alloc(), &site, &script, &probe, lines, out)?;
-    Ok(())
+    tell_run::<D>(rt.alloc(), &site, &script, &probe, lines, out)
 }
 
 /// Tells the stops of evaluations.
@@ -131,12 +124,13 @@ pub fn tell_evaluations<D: Medium, R: Files + AllocGlobal>(
 ) -> io::Result<()> {
     let site = Site::read(
         rt,
-        "policy.toml",
-        "pair.transactions.txt",
-        "pair.certificates.txt",
+        Names {
+            transactions: "pair.transactions.txt",
+            certificates: "pair.certificates.txt",
+            ..Names::of("policy.toml")
+        },
     )?;
     let script = fs::read_to_string(rt, "evaluation.script")?;
     let probe = fs::read_to_string(rt, "probe.script")?;
-    tell_evaluation::<D>(rt.alloc(), &site, &script, &probe, lines, out)?;
-    Ok(())
+    tell_evaluation::<D>(rt.alloc(), &site, &script, &probe, lines, out)
 }

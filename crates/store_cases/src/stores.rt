@@ -1,9 +1,9 @@
 //! Tasks over stores.
-ghost use Rattle.std.specs.Prelude.{◌≡◌, false, length, IfOk};
-ghost use Rattle.mls_scheme.specs.Scheme.{AreUnder};
+ghost use Rattle.std.specs.Prelude.{◌≡◌, false, IfOk};
 ghost use Rattle.mls_fragments.specs.Based.{state_of};
 ghost use Rattle.mls_fragments.specs.Finding.{IsSoundContent};
 
+use crate::disks::{Copies, Medium};
 use crate::narrow::Narrow;
 use crate::runs::{End, Task, do_task};
 use crate::site::Site;
@@ -12,6 +12,7 @@ use mls_fragments::{OpenFault, SqlBase};
 use sqlite::{Alter, Connection, FileStore, Files, Options};
 use sqlite_disk::Disk;
 use std::alloc::Global;
+use std::io;
 
 /// Room for the few pages of these stores, since each opening makes all of it; and the log is copied into the database file soon.
 fn options() -> Options {
@@ -43,14 +44,13 @@ fn adopted<S: Alter>(
     site: &Site,
     conn: Connection<S>,
 ) -> Result<SqlBase<S>, (OpenFault, Connection<S>)>
-    requires under { AreUnder (length site.now.policy.labels) site.now.schemes }
     ensures mode { IfOk result (λ b. (state_of b).begun ≡ false) }
-    ensures sound { IfOk result (λ b. IsSoundContent site.now.policy site.now.schemes (state_of b).now) }
+    ensures sound { IfOk result (λ b. IsSoundContent site.now.policy site.now.file.schemes (state_of b).now) }
 {
     if !conn.is_autocommit() {
         return Err((OpenFault::Store, conn));
     }
-    SqlBase::adopt(alloc, conn, &site.policy, &site.schemes)
+    SqlBase::adopt(alloc, conn, &site.policy, &site.file)
 }
 
 /// Gives the files back as they are.
@@ -119,9 +119,7 @@ fn do_over<S: Alter + Drop>(
     task: Task<'_>,
     conn: Connection<S>,
     out: &mut Narrow,
-) -> (Outcome, Connection<S>)
-    requires under { AreUnder (length site.now.policy.labels) site.now.schemes }
-{
+) -> (Outcome, Connection<S>) {
     match adopted(alloc, site, conn) {
         Ok(base) => {
             let (end, base) = do_task(alloc, site, task, base, out);
@@ -138,9 +136,7 @@ fn done_in<D: Disk + Drop>(
     task: Task<'_>,
     files: Files<D>,
     out: &mut Narrow,
-) -> Result<(Outcome, Connection<FileStore<D>>), Files<D>>
-    requires under { AreUnder (length site.now.policy.labels) site.now.schemes }
-{
+) -> Result<(Outcome, Connection<FileStore<D>>), Files<D>> {
     let conn = opened(alloc, files)?;
     Ok(do_over(alloc, site, task, conn, out))
 }
@@ -152,9 +148,7 @@ pub fn do_in<D: Disk + Drop>(
     task: Task<'_>,
     files: Files<D>,
     out: &mut Narrow,
-) -> (Outcome, Files<D>)
-    requires under { AreUnder (length site.now.policy.labels) site.now.schemes }
-{
+) -> (Outcome, Files<D>) {
     match done_in(alloc, site, task, files, out) {
         Ok((outcome, conn)) => (outcome, left(conn)),
         Err(files) => (Outcome::Unopened, files),
@@ -168,9 +162,7 @@ pub fn do_and_close<D: Disk + Drop>(
     task: Task<'_>,
     files: Files<D>,
     out: &mut Narrow,
-) -> (Outcome, Files<D>)
-    requires under { AreUnder (length site.now.policy.labels) site.now.schemes }
-{
+) -> (Outcome, Files<D>) {
     match done_in(alloc, site, task, files, out) {
         Ok((Outcome::Ended(End::Whole), conn)) => match closed(conn) {
             (true, files) => (Outcome::Ended(End::Whole), files),
@@ -179,4 +171,12 @@ pub fn do_and_close<D: Disk + Drop>(
         Ok((outcome, conn)) => (outcome, left(conn)),
         Err(files) => (Outcome::Unopened, files),
     }
+}
+
+/// The closed files of a new store, after a script.
+pub fn made<D: Medium>(alloc: Global, site: &Site, script: &str) -> io::Result<Files<D>> {
+    let files = Copies::none(alloc).files(alloc)?;
+    let mut out = Narrow::new(alloc, u64::MAX);
+    let (_, files) = do_and_close(alloc, site, Task::Run(script), files, &mut out);
+    Ok(files)
 }

@@ -1,7 +1,6 @@
 //! The tables, in the order in which they are told.
 use crate::disks::Medium;
-use crate::site::Site;
-use crate::{again, damage, stopping};
+use crate::{again, damage, migrations, stopping};
 use case_tables::Told;
 use std::rt::Files;
 use std::{fs, io};
@@ -13,12 +12,14 @@ pub enum Table {
     Evaluations,
     Damage,
     Again,
+    Migrations,
 }
 
-pub const TABLES: [(&str, Table); 4] = [
+pub const TABLES: [(&str, Table); 5] = [
     ("again.txt", Table::Again),
     ("damage.txt", Table::Damage),
     ("evaluations.txt", Table::Evaluations),
+    ("migrations.txt", Table::Migrations),
     ("stops.txt", Table::Stops),
 ];
 
@@ -37,6 +38,7 @@ pub fn told<D: Medium, R: Files + AllocGlobal>(
         Table::Stops => stopping::tell_runs::<D, R>(rt, &lines, &mut out)?,
         Table::Evaluations => stopping::tell_evaluations::<D, R>(rt, &lines, &mut out)?,
         Table::Damage => damage::tell_lines::<D, R>(rt, &lines, &mut out)?,
+        Table::Migrations => migrations::tell_lines::<D, R>(rt, &lines, &mut out)?,
         Table::Again => again::tell_lines::<D, R>(rt, &lines, &mut out)?,
     }
     Ok(out.finish()?)

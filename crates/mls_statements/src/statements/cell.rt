@@ -1,10 +1,10 @@
 ghost use Rattle.std.specs.Prelude.{◌≡◌, map, filter, IsTrue, IfOk, OnOk, OnErr, IsPermutation};
-ghost use Rattle.sqlite.specs.State.{HasCleanDisk, IsUnchanged};
+ghost use Rattle.sqlite.specs.State.{HasCleanDisk, IsUnchanged, KeepsCommit};
 ghost use Rattle.sqlite.specs.Held.{state};
 ghost use Rattle.mls_statements.specs.declared.rows.CellRow.{CellRow as SpecCell};
 ghost use Rattle.mls_statements.specs.Rows.{tables_of, is_cell_at, is_cell_of, cell_values, cell_columns};
 ghost use Rattle.mls_statements.specs.Schema.{schema};
-ghost use Rattle.mls_statements.specs.Statements.{IsReady, Changes, AddsCell, SetsCell, DropsCells, IsOne, has_key_of, IsEnded};
+ghost use Rattle.mls_statements.specs.Statements.{IsReady, Changes, AddsCell, AddsCells, ClearsCells, SetsCell, DropsCells, IsOne, has_key_of, IsEnded, IsWithin, GoesOn};
 
 use crate::decode::cells_from;
 use crate::rows::CellRow;
@@ -28,6 +28,27 @@ pub fn add_cell<S: Alter>(conn: &mut Connection<S>, cell: &CellRow) -> Result<us
             cell.value.as_slice()
         ],
     )
+}
+
+/// Adds cells, in a change.
+pub fn add_cells<S: Alter>(conn: &mut Connection<S>, cells: &[CellRow]) -> Result<(), Error>
+    ensures added { HasCleanDisk (state S.Store conn.new) → IsWithin (state S.Store conn.old) → OnOk result (GoesOn (AddsCells cells.now) (state S.Store conn.old) (state S.Store conn.new)) }
+    ensures err { HasCleanDisk (state S.Store conn.new) → IsWithin (state S.Store conn.old) → OnErr result (KeepsCommit (state S.Store conn.old) (state S.Store conn.new)) }
+    ensures clean { HasCleanDisk (state S.Store conn.new) → HasCleanDisk (state S.Store conn.old) }
+{
+    for cell in cells {
+        add_cell(conn, cell)?;
+    }
+    Ok(())
+}
+
+/// Drops every cell.
+pub fn clear_cells<S: Alter>(conn: &mut Connection<S>) -> Result<usize, Error>
+    ensures cleared { HasCleanDisk (state S.Store conn.new) → IsReady (state S.Store conn.old).now → OnOk result (Changes ClearsCells (state S.Store conn.old) (state S.Store conn.new)) }
+    ensures err { HasCleanDisk (state S.Store conn.new) → OnErr result (IsEnded (state S.Store conn.old) (state S.Store conn.new)) }
+    ensures clean { HasCleanDisk (state S.Store conn.new) → HasCleanDisk (state S.Store conn.old) }
+{
+    conn.execute("DELETE FROM cell", &[])
 }
 
 /// Gives the one cell with the key of `cell` its value.

@@ -79,15 +79,16 @@ fn create_tables<S: Alter>(conn: &mut Connection<S>) -> Result<usize, Error>
 /// Makes the four tables and the row that describes the store, in one transaction, in a database that has nothing.
 pub fn create_store<S: Alter>(
     conn: &mut Connection<S>,
+    version: u32,
     lattice: &str,
     schemes: &str,
 ) -> Result<usize, Error>
-    ensures made { HasCleanDisk (state S.Store conn.new) → (state S.Store conn.old).now.schema ≡ no_schema → OnOk result (IsNewStore lattice.now schemes.now (state S.Store conn.new)) }
+    ensures made { HasCleanDisk (state S.Store conn.new) → (state S.Store conn.old).now.schema ≡ no_schema → OnOk result (IsNewStore version lattice.now schemes.now (state S.Store conn.new)) }
     ensures err { HasCleanDisk (state S.Store conn.new) → (state S.Store conn.old).now.schema ≡ no_schema → OnErr result (KeepsCommit (state S.Store conn.old) (state S.Store conn.new)) }
     ensures clean { HasCleanDisk (state S.Store conn.new) → HasCleanDisk (state S.Store conn.old) }
 {
     change::begin(conn)?;
     create_tables(conn)?;
-    meta::add_meta(conn, lattice, schemes)?;
+    meta::add_meta(conn, version, lattice, schemes)?;
     change::commit(conn)
 }

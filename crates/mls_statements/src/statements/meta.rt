@@ -3,24 +3,34 @@ ghost use Rattle.sqlite.specs.State.{HasCleanDisk, IsUnchanged};
 ghost use Rattle.sqlite.specs.Held.{state};
 ghost use Rattle.mls_statements.specs.Rows.{meta_columns, first_meta};
 ghost use Rattle.mls_statements.specs.Schema.{schema};
-ghost use Rattle.mls_statements.specs.Statements.{IsReady, Changes, AddsMeta, IsEnded};
+ghost use Rattle.mls_statements.specs.Statements.{IsReady, Changes, AddsMeta, ClearsMeta, IsEnded};
 
 use sqlite::{Alter, Connection, Error, Row, params};
 
-/// Adds the row that describes the store, of version 1.
+/// Adds the row that describes the store.
 pub fn add_meta<S: Alter>(
     conn: &mut Connection<S>,
+    version: u32,
     lattice: &str,
     schemes: &str,
 ) -> Result<usize, Error>
-    ensures added { HasCleanDisk (state S.Store conn.new) → IsReady (state S.Store conn.old).now → OnOk result (Changes (AddsMeta (first_meta lattice.now schemes.now)) (state S.Store conn.old) (state S.Store conn.new)) }
+    ensures added { HasCleanDisk (state S.Store conn.new) → IsReady (state S.Store conn.old).now → OnOk result (Changes (AddsMeta (first_meta version lattice.now schemes.now)) (state S.Store conn.old) (state S.Store conn.new)) }
     ensures err { HasCleanDisk (state S.Store conn.new) → OnErr result (IsEnded (state S.Store conn.old) (state S.Store conn.new)) }
     ensures clean { HasCleanDisk (state S.Store conn.new) → HasCleanDisk (state S.Store conn.old) }
 {
     conn.execute(
-        "INSERT INTO meta (id, version, lattice, schemes) VALUES (1, 1, ?1, ?2)",
-        params![lattice, schemes],
+        "INSERT INTO meta (id, version, lattice, schemes) VALUES (1, ?1, ?2, ?3)",
+        params![version, lattice, schemes],
     )
+}
+
+/// Drops every row that describes the store.
+pub fn clear_meta<S: Alter>(conn: &mut Connection<S>) -> Result<usize, Error>
+    ensures cleared { HasCleanDisk (state S.Store conn.new) → IsReady (state S.Store conn.old).now → OnOk result (Changes ClearsMeta (state S.Store conn.old) (state S.Store conn.new)) }
+    ensures err { HasCleanDisk (state S.Store conn.new) → OnErr result (IsEnded (state S.Store conn.old) (state S.Store conn.new)) }
+    ensures clean { HasCleanDisk (state S.Store conn.new) → HasCleanDisk (state S.Store conn.old) }
+{
+    conn.execute("DELETE FROM meta", &[])
 }
 
 /// Every row that describes the store, with its four columns, in a database of the four tables.

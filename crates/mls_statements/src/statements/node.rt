@@ -1,9 +1,9 @@
 ghost use Rattle.std.specs.Prelude.{◌≡◌, map, filter, IsTrue, IfOk, OnOk, OnErr, IsPermutation};
-ghost use Rattle.sqlite.specs.State.{HasCleanDisk, IsUnchanged};
+ghost use Rattle.sqlite.specs.State.{HasCleanDisk, IsUnchanged, KeepsCommit};
 ghost use Rattle.sqlite.specs.Held.{state};
 ghost use Rattle.mls_statements.specs.Rows.{tables_of, is_node_at, is_node_of, node_values, node_columns};
 ghost use Rattle.mls_statements.specs.Schema.{schema};
-ghost use Rattle.mls_statements.specs.Statements.{IsReady, Changes, AddsNode, DropsNode, IsEnded};
+ghost use Rattle.mls_statements.specs.Statements.{IsReady, Changes, AddsNode, AddsNodes, ClearsNodes, DropsNode, IsEnded, IsWithin, GoesOn};
 
 use crate::decode::nodes_from;
 use crate::rows::NodeRow;
@@ -26,6 +26,27 @@ pub fn add_node<S: Alter>(conn: &mut Connection<S>, node: &NodeRow) -> Result<us
             node.pattern.as_slice()
         ],
     )
+}
+
+/// Adds nodes, in a change.
+pub fn add_nodes<S: Alter>(conn: &mut Connection<S>, nodes: &[NodeRow]) -> Result<(), Error>
+    ensures added { HasCleanDisk (state S.Store conn.new) → IsWithin (state S.Store conn.old) → OnOk result (GoesOn (AddsNodes nodes.now) (state S.Store conn.old) (state S.Store conn.new)) }
+    ensures err { HasCleanDisk (state S.Store conn.new) → IsWithin (state S.Store conn.old) → OnErr result (KeepsCommit (state S.Store conn.old) (state S.Store conn.new)) }
+    ensures clean { HasCleanDisk (state S.Store conn.new) → HasCleanDisk (state S.Store conn.old) }
+{
+    for node in nodes {
+        add_node(conn, node)?;
+    }
+    Ok(())
+}
+
+/// Drops every node.
+pub fn clear_nodes<S: Alter>(conn: &mut Connection<S>) -> Result<usize, Error>
+    ensures cleared { HasCleanDisk (state S.Store conn.new) → IsReady (state S.Store conn.old).now → OnOk result (Changes ClearsNodes (state S.Store conn.old) (state S.Store conn.new)) }
+    ensures err { HasCleanDisk (state S.Store conn.new) → OnErr result (IsEnded (state S.Store conn.old) (state S.Store conn.new)) }
+    ensures clean { HasCleanDisk (state S.Store conn.new) → HasCleanDisk (state S.Store conn.old) }
+{
+    conn.execute("DELETE FROM node", &[])
 }
 
 /// Drops the node at a key.

@@ -1,5 +1,5 @@
 //! Whole tables, whose rows are all read, and found to differ in their rowids.
-ghost use Rattle.std.specs.Prelude.{◌≡◌, ◌≢◌, ◌↔◌, ℤ, pos, true, [], ◌∷◌, map, IsTrue, IfOk, IfErr, OnOk, OnErr, IsPermutation};
+ghost use Rattle.std.specs.Prelude.{◌≡◌, ◌≢◌, true, [], ◌∷◌, map, IfOk, IfErr, OnOk, OnErr, IsPermutation};
 ghost use Rattle.std.specs.List.{AllByRecursion};
 ghost use Rattle.sqlite.specs.State.{HasCleanDisk, IsUnchanged, KeepsCommit};
 ghost use Rattle.sqlite.specs.Held.{state};
@@ -7,10 +7,10 @@ ghost use Rattle.sqlite.specs.declared.error.Error.{Error as SqlError};
 ghost use Rattle.sqlite.specs.declared.error.Error.TheVariants.{SqliteFailure};
 ghost use Rattle.sqlite.specs.declared.error.ErrorCode.TheVariants.{OutOfMemory};
 ghost use Rattle.mls_statements.specs.declared.rows.MetaRow.{MetaRow as SpecMeta};
-ghost use Rattle.mls_statements.specs.Rows.{tables_of, first_meta, shown_meta, shows_meta, node_columns, cell_columns, audit_columns, is_node_row, is_cell_row, is_audit_row, is_meta_row};
+ghost use Rattle.mls_statements.specs.Rows.{tables_of, shown_meta, shows_meta, node_columns, cell_columns, audit_columns, is_node_row, is_cell_row, is_audit_row};
 ghost use Rattle.mls_statements.specs.Schema.{schema};
 ghost use Rattle.mls_statements.specs.Statements.{AreRows};
-ghost use Rattle.mls_statements.specs.Adopting.{Blames, HaveIds, AreNodes, AreCells, AreEntries, ReadsMeta, IsReadDescription, IsDescribedBy, HasOtherTexts, AreRising};
+ghost use Rattle.mls_statements.specs.Adopting.{Blames, HaveIds, AreNodes, AreCells, AreEntries, ReadsMeta, IsVersion, IsReadDescription, IsDescribed, AreRising};
 
 use crate::adopting::AdoptFault;
 use crate::decode::{cells_from, entries_from, meta_from, nodes_from, rowids_rise};
@@ -39,7 +39,6 @@ fn tested<T: Drop>(
 ) -> Result<Vec<T>, AdoptFault>
     ensures read { IfOk result (λ xs. read ≡ Ok xs) }
     ensures rise { OnOk result (AreRising at rows.now) }
-    ensures texts { IfErr result (λ e. e ≢ AdoptFault.OtherTexts) }
     ensures bad { IfErr result (λ e. e ≡ AdoptFault.BadRows → HaveIds at rows.now → (error : SqlError) × (read ≡ Err error) × (error ≢ SqliteFailure OutOfMemory)) }
 {
     test_rowids(rows, at)?;
@@ -91,59 +90,45 @@ pub fn entries<S: Alter>(
     }
 }
 
-fn has_texts(row: &MetaRow, lattice: &str, schemes: &str) -> bool
-    ensures { IsTrue result ↔ ((row.now.lattice ≡ lattice.now) × (row.now.schemes ≡ schemes.now)) }
+/// The one row, where there is one and its version is 1 or 2.
+fn one_description(mut found: Vec<MetaRow>) -> Result<MetaRow, AdoptFault>
+    ensures ok { IfOk result (λ m. (found.items ≡ m ∷ []) × IsVersion m.version) }
+    ensures bad { OnErr result (¬ ((m : SpecMeta) × (found.items ≡ m ∷ []) × IsVersion m.version)) }
 {
-    row.lattice.as_str() == lattice && row.schemes.as_str() == schemes
-}
-
-/// Tests that the rows are one, of version 1 and of these two texts.
-fn test_meta(found: &[MetaRow], lattice: &str, schemes: &str) -> Result<(), AdoptFault>
-    ensures ok { OnOk result ((id : ℤ) × (found.now ≡ record (first_meta lattice.now schemes.now) { id = id } ∷ [])) }
-    ensures bad { IfErr result (λ e. e ≡ AdoptFault.BadRows → ¬ ((m : SpecMeta) × (found.now ≡ m ∷ []) × (m.version ≡ pos 1))) }
-    ensures other { IfErr result (λ e. e ≡ AdoptFault.OtherTexts → (m : SpecMeta) × (found.now ≡ m ∷ []) × (m.version ≡ pos 1) × (¬ ((m.lattice ≡ lattice.now) × (m.schemes ≡ schemes.now)))) }
-{
-    let [row] = found else {
+    let Some(row) = found.pop() else {
         return Err(AdoptFault::BadRows);
     };
-    if row.version != 1 {
+    if !found.is_empty() {
         return Err(AdoptFault::BadRows);
     }
-    if !has_texts(row, lattice, schemes) {
-        return Err(AdoptFault::OtherTexts);
+    match row.version {
+        1 | 2 => Ok(row),
+        _ => Err(AdoptFault::BadRows),
     }
-    Ok(())
 }
 
-/// Tests that rows, as a query showed them, are one, of version 1 and of these two texts.
-fn test_shown(alloc: Global, rows: &[Row], lattice: &str, schemes: &str) -> Result<(), AdoptFault>
-    ensures ok { OnOk result ((id : ℤ) × (map shown_meta rows.now ≡ record (first_meta lattice.now schemes.now) { id = id } ∷ [])) }
+/// The same of rows as a query showed them.
+fn shown_description(alloc: Global, rows: &[Row]) -> Result<MetaRow, AdoptFault>
+    ensures ok { IfOk result (λ m. (map shown_meta rows.now ≡ m ∷ []) × IsVersion m.version) }
     ensures whole { OnOk result (AllByRecursion (λ r. shows_meta r ≡ true) rows.now) }
-    ensures bad { IfErr result (λ e. e ≡ AdoptFault.BadRows → AllByRecursion ReadsMeta rows.now → ¬ ((m : SpecMeta) × (map shown_meta rows.now ≡ m ∷ []) × (m.version ≡ pos 1))) }
-    ensures other { IfErr result (λ e. e ≡ AdoptFault.OtherTexts → (m : SpecMeta) × (map shown_meta rows.now ≡ m ∷ []) × (m.version ≡ pos 1) × (¬ ((m.lattice ≡ lattice.now) × (m.schemes ≡ schemes.now)))) }
+    ensures bad { IfErr result (λ e. e ≡ AdoptFault.BadRows → AllByRecursion ReadsMeta rows.now → ¬ ((m : SpecMeta) × (map shown_meta rows.now ≡ m ∷ []) × IsVersion m.version)) }
 {
     match meta_from(alloc, rows) {
-        Ok(found) => test_meta(&found, lattice, schemes),
+        Ok(found) => one_description(found),
         Err(error) => Err(AdoptFault::of_row(error)),
     }
 }
 
-/// Tests that one row describes the store, of version 1 and of these two texts.
-pub fn test_description<S: Alter>(
-    conn: &mut Connection<S>,
-    alloc: Global,
-    lattice: &str,
-    schemes: &str,
-) -> Result<(), AdoptFault>
-    ensures described { HasCleanDisk (state S.Store conn.new) → (state S.Store conn.old).now.schema ≡ schema → OnOk result (AreRows is_meta_row ((state S.Store conn.old).now.trees 5) × IsDescribedBy lattice.now schemes.now (tables_of (state S.Store conn.old).now.trees)) }
+/// The one row of version 1 or 2 that describes the store.
+pub fn description<S: Alter>(conn: &mut Connection<S>, alloc: Global) -> Result<MetaRow, AdoptFault>
+    ensures described { HasCleanDisk (state S.Store conn.new) → (state S.Store conn.old).now.schema ≡ schema → IfOk result (λ m. IsDescribed m (state S.Store conn.old).now) }
     ensures same { HasCleanDisk (state S.Store conn.new) → (state S.Store conn.old).now.schema ≡ schema → OnOk result (IsUnchanged (state S.Store conn.old) (state S.Store conn.new)) }
     ensures err { HasCleanDisk (state S.Store conn.new) → (state S.Store conn.old).now.schema ≡ schema → OnErr result (KeepsCommit (state S.Store conn.old) (state S.Store conn.new)) }
-    ensures bad { HasCleanDisk (state S.Store conn.new) → (state S.Store conn.old).now.schema ≡ schema → IfErr result (λ e. e ≡ AdoptFault.BadRows → ¬ IsReadDescription (state S.Store conn.old).now) }
-    ensures other { HasCleanDisk (state S.Store conn.new) → (state S.Store conn.old).now.schema ≡ schema → IfErr result (λ e. e ≡ AdoptFault.OtherTexts → HasOtherTexts lattice.now schemes.now (state S.Store conn.old).now) }
+    ensures bad { HasCleanDisk (state S.Store conn.new) → (state S.Store conn.old).now.schema ≡ schema → IfErr result (Blames (IsReadDescription (state S.Store conn.old).now)) }
     ensures clean { HasCleanDisk (state S.Store conn.new) → HasCleanDisk (state S.Store conn.old) }
 {
     match meta::all_meta(conn) {
-        Ok(rows) => test_shown(alloc, &rows, lattice, schemes),
+        Ok(rows) => shown_description(alloc, &rows),
         Err(error) => Err(AdoptFault::of_store(error)),
     }
 }

@@ -11,17 +11,17 @@ returns-in_err-policy-clause-given_up g c = job_before (hosted g.H.Host.gives g.
 pub returns-in_err-reader-clause-given_up : goal.returns-in_err-reader-clause-given_up
 returns-in_err-reader-clause-given_up g c = job_before (hosted g.H.Host.gives g.H.Host.keeps g.H.Host.is_honest c.args.host.now c.args.host.now) c.args.job (IsAppended g.W.Write.contents c.args.out.now c.args.out.now) c.from_residual-in_err-reader.result (search rules) (Appends-nil _)
 
-pub returns-in_err-schemes-clause-given_up : goal.returns-in_err-schemes-clause-given_up
-returns-in_err-schemes-clause-given_up g c = job_before (hosted g.H.Host.gives g.H.Host.keeps g.H.Host.is_honest c.args.host.now c.args.host.now) c.args.job (IsAppended g.W.Write.contents c.args.out.now c.args.out.now) c.from_residual-in_err-schemes.result (search rules) (Appends-nil _)
+pub returns-in_err-file-clause-given_up : goal.returns-in_err-file-clause-given_up
+returns-in_err-file-clause-given_up g c = job_before (hosted g.H.Host.gives g.H.Host.keeps g.H.Host.is_honest c.args.host.now c.args.host.now) c.args.job (IsAppended g.W.Write.contents c.args.out.now c.args.out.now) c.from_residual-in_err-file.result (search rules) (Appends-nil _)
 
 pub returns-clause-done : goal.returns-clause-done
 returns-clause-done g c =
-    job_done (hosted g.H.Host.gives g.H.Host.keeps g.H.Host.is_honest c.args.host.now c.perform_task.new.host) c.args.job (IsAppended g.W.Write.contents c.args.out.now c.perform_task.new.out) c.in_ok-policy.policy c.in_ok-schemes.schemes c.in_ok-reader.reader
-    c.in_ok-policy.ensures.policy c.in_ok-schemes.ensures.schemes (option_map (λ p. p.now) c.at.result) c.at.ensures c.in_ok-reader.ensures.named
+    job_done (hosted g.H.Host.gives g.H.Host.keeps g.H.Host.is_honest c.args.host.now c.perform_task.new.host) c.args.job (IsAppended g.W.Write.contents c.args.out.now c.perform_task.new.out) c.in_ok-policy.policy c.in_ok-file.file c.in_ok-reader.reader
+    c.in_ok-policy.ensures.policy c.in_ok-file.ensures.schemes (option_map (λ p. p.now) c.at.result) c.at.ensures c.in_ok-reader.ensures.named
     (IsTold g.E.Write.contents c.args.err.now c.perform_task.new.err) c.perform_task.result c.perform_task.ensures.done
 
 pub returns-clause-given_up : goal.returns-clause-given_up
 returns-clause-given_up g c =
-    job_given_up (hosted g.H.Host.gives g.H.Host.keeps g.H.Host.is_honest c.args.host.now c.perform_task.new.host) c.args.job (IsAppended g.W.Write.contents c.args.out.now c.perform_task.new.out) c.in_ok-policy.policy c.in_ok-schemes.schemes c.in_ok-reader.reader
-    c.in_ok-policy.ensures.policy c.in_ok-schemes.ensures.schemes (option_map (λ p. p.now) c.at.result) c.at.ensures c.in_ok-reader.ensures.named
+    job_given_up (hosted g.H.Host.gives g.H.Host.keeps g.H.Host.is_honest c.args.host.now c.perform_task.new.host) c.args.job (IsAppended g.W.Write.contents c.args.out.now c.perform_task.new.out) c.in_ok-policy.policy c.in_ok-file.file c.in_ok-reader.reader
+    c.in_ok-policy.ensures.policy c.in_ok-file.ensures.schemes (option_map (λ p. p.now) c.at.result) c.at.ensures c.in_ok-reader.ensures.named
     c.perform_task.result c.perform_task.ensures.given_up

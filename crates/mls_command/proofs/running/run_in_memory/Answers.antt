@@ -11,14 +11,14 @@ use Rattle.mls_command.proofs.RunningLemmas.{none_sound, ended_so}
 use Rattle.mls_command.proofs.running.run_in_memory.Goals as goal
 
 pub run_on-outcome-requires-clause-sound : goal.run_on-outcome-requires-clause-sound
-run_on-outcome-requires-clause-sound g c = λ _. none_sound (site_of c.args.policy.now c.args.schemes.now c.args.stored) _ c.in-Ok.ensures.content
+run_on-outcome-requires-clause-sound g c = λ _. none_sound (site_of c.args.policy.now c.args.file.now.schemes c.args.stored) _ c.in-Ok.ensures.content
 
 pub returns-in-Err : goal.returns-in-Err
 returns-in-Err g c = Appends-nil _
 
 pub returns : goal.returns
 returns g c =
-    let at = site_of c.args.policy.now c.args.schemes.now c.args.stored in
+    let at = site_of c.args.policy.now c.args.file.now.schemes c.args.stored in
     let left = (state_of c.run_on-outcome.result.1).now in
     let before = g.W.Write.contents c.args.out.now in
     let after = g.W.Write.contents c.run_on-outcome.new.out in

@@ -13,7 +13,7 @@ returns-in-Err g c = Appends-nil _
 
 pub returns : goal.returns
 returns g c =
-    let at = site_of c.args.policy.now c.args.schemes.now c.args.stored in
+    let at = site_of c.args.policy.now c.args.file.now.schemes c.args.stored in
     let before = g.W.Write.contents c.args.out.now in
     let after = g.W.Write.contents c.run_on-outcome.new.out in
     let Runs : Result (Unit {0}) RunFault → Type 0 = λ end. g.H.Host.is_honest c.keep-closed.new.self → (first : Content) × (left : Content)

@@ -1,4 +1,4 @@
-use Rattle.std.proofs.Common.{◌≡◌, ◌∙◌, map, filter, subst, ap, IsPermutation, rules}
+use Rattle.std.proofs.Common.{◌≡◌, map, filter, subst, ap, IsPermutation, rules}
 use Rattle.std.specs.Prelude.{nat_eq}
 use Rattle.mls_scheme.specs.Spelling.{key_spelling}
 use Rattle.mls_statements.specs.Rows.{is_node, is_cell_in}

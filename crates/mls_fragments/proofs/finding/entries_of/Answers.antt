@@ -1,4 +1,4 @@
-use Rattle.std.proofs.Common.{◌≡◌, true, true≢false, sym, ap, subst, ◌∙◌, pos, length, rules, IsPermutation}
+use Rattle.std.proofs.Common.{◌≡◌, true, true≢false, sym, ap, subst, ◌∙◌, pos, rules, IsPermutation}
 use Rattle.std.specs.List.{AllByRecursion}
 use Rattle.std.proofs.lemmas.Result.{IfOk-weaker}
 use Rattle.mls_audit.specs.Spelling.{IsEntryOf}
@@ -15,7 +15,7 @@ returns-then-not-are_numbered-clause-only c list same all =
 pub returns-in_err-check_entries-clause-only : goal.returns-in_err-check_entries-clause-only
 returns-in_err-check_entries-clause-only c list same all =
     let rows = sorted_entries list _ _ same c.in_ok-sort.ensures.permutation c.in_ok-sort.ensures.sorted in
-    let each = subst (AllByRecursion (λ r. IsEntryOf (length c.args.policy.now.labels) r.bytes)) (sym (c.deref-2.ensures.value ∙ rows)) (each_text (IsEntryOf (length c.args.policy.now.labels)) 1 list all) in
+    let each = subst (AllByRecursion (λ r. IsEntryOf c.args.labels r.bytes)) (sym (c.deref-2.ensures.value ∙ rows)) (each_text (IsEntryOf c.args.labels) 1 list all) in
     let memory = c.in_err-check_entries.ensures.only each in
     search rules
 
@@ -26,7 +26,7 @@ returns-clause-numbered c =
 
 pub returns-clause-entries : goal.returns-clause-entries
 returns-clause-entries c =
-    let declared = IsEntryOf (length c.args.policy.now.labels) in
+    let declared = IsEntryOf c.args.labels in
     let each = subst (AllByRecursion (λ r. declared r.bytes)) c.deref-2.ensures.value c.in_ok-check_entries.ensures.found in
     IfOk-weaker c.entries_in.result _ _ (λ entries is. subst (AllByRecursion declared) (sym is) (each_row declared _ each)) c.entries_in.ensures.found
 

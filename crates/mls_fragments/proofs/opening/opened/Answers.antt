@@ -1,45 +1,62 @@
-use Rattle.std.proofs.Common.{◌≡◌, inr, refl, sym, ap, subst₂, ◌∙◌, arith}
-use Rattle.std.proofs.lemmas.Grind.{common_steps}
-use Rattle.sqlite.specs.Held.{state}
-use Rattle.mls_statements.specs.declared.adopting.AdoptFault.{AdoptFault}
-use Rattle.mls_statements.specs.declared.adopting.AdoptFault.TheVariants as adopt
-use Rattle.mls_statements.specs.Adopting.{HasOtherTexts}
-use Rattle.mls_fragments.specs.declared.open_fault.OpenFault.TheVariants.{OtherPolicy}
-use Rattle.mls_fragments.specs.OpenFault.{adopting_fault, finding_fault}
+use Rattle.std.proofs.Common.{◌≡◌, ap, subst, subst₂, ◌∙◌, [], ◌∷◌, Result, Ok, Err, IfOk, IfErr, IfSome}
+use Rattle.sqlite.specs.Effect.{Database}
+use Rattle.mls_statements.specs.Rows.{first_meta, tables_of}
+use Rattle.mls_fragments.specs.Finding.{IsSoundContent}
+use Rattle.mls_fragments.specs.Holding.{Holds}
+use Rattle.mls_fragments.specs.Migrating.{IsStanding, IsSoundBefore}
+use Rattle.mls_fragments.specs.Opening.{HoldsSound, as_it_is, widened, not_sound, not_sound_before}
 use Rattle.mls_fragments.proofs.opening.opened.Goals as goal
 
-only_texts : (f : AdoptFault) → adopting_fault f ≡ OtherPolicy → f ≡ adopt.OtherTexts
-only_texts adopt.Store e = absurd cc
-only_texts adopt.Memory e = absurd cc
-only_texts adopt.BadRows e = absurd cc
-only_texts adopt.OtherTexts e = refl
+ok_both : {A E : Type 0} (r : Result A E) (P Q R : A → Type 0) → ((a : A) → P a → Q a → R a) → IfOk r P → IfOk r Q → IfOk r R
+ok_both (Ok a) P Q R f p q = f a p q
+ok_both (Err e) P Q R f p q = tt
 
-pub returns-in-Err-clause-policy : goal.returns-in-Err-clause-policy
-returns-in-Err-clause-policy g c clean other =
-    subst₂ (λ lattice schemes. HasOtherTexts lattice schemes (state g.S.Store c.args.conn).now) c.deref.ensures c.deref-2.ensures
-    (c.in-Err.ensures.other clean (only_texts c.in-Err.fault (sym c.from.ensures ∙ other)))
+ok_three : {A E : Type 0} (r : Result A E) (P Q R S : A → Type 0) → ((a : A) → P a → Q a → R a → S a) → IfOk r P → IfOk r Q → IfOk r R → IfOk r S
+ok_three (Ok a) P Q R S f p q o = f a p q o
+ok_three (Err e) P Q R S f p q o = tt
 
-pub returns-in-Err-find-clause-refused : goal.returns-in-Err-find-clause-refused
-returns-in-Err-find-clause-refused g c clean =
-    let adopted = c.in-Ok.ensures.adopted clean in
-    record {
-      clean = c.in-Ok.ensures.clean clean;
-      mode = λ here. adopted.settled.mode;
-      was_open = λ here. c.in-Ok.ensures.open clean;
-      committed = λ here. inr (sym adopted.settled.settled ∙ adopted.same);
-    }
+err_both : {A E : Type 0} (r : Result A E) (P Q R : E → Type 0) → ((e : E) → P e → Q e → R e) → IfErr r P → IfErr r Q → IfErr r R
+err_both (Ok a) P Q R f p q = tt
+err_both (Err e) P Q R f p q = f e p q
 
-pub returns-in-Err-find-clause-bad : goal.returns-in-Err-find-clause-bad
-returns-in-Err-find-clause-bad g c clean bad openable =
-    let adopted = c.in-Ok.ensures.adopted clean in
-    let memory = c.in-Err-find.ensures.only _ adopted.all openable.content openable.holds openable.sound in
-    absurd (let e = sym (ap finding_fault memory) ∙ (sym c.from-in-Err-find.ensures ∙ bad) in cc)
+pub returns-in-Ok-Some-Same-clause-taken : goal.returns-in-Ok-Some-Same-clause-taken
+returns-in-Ok-Some-Same-clause-taken g c =
+    let standing = IsStanding c.args.policy.now c.args.file.now c.in-Ok.described in
+    let texts = subst standing c.in-Ok-Some-Same.field-0-0-is (subst (λ o. IfSome o standing) c.in-Ok-Some-Same.field-0-is c.in-Ok-Some-Same.ensures.found) in
+    ok_both c.taken.result _ _ _ (λ b rows disk clean.
+    as_it_is c.in-Ok.described (c.in-Ok.ensures.described (disk clean)) texts (rows clean ∙ ap (λ (db : Database). tables_of db.trees) (c.in-Ok.ensures.read (disk clean)).same))
+    c.taken.ensures.rows c.taken.ensures.clean
 
-pub returns-in-Err-clause-refused : goal.returns-in-Err-clause-refused
-returns-in-Err-clause-refused g c = grind (arith, common_steps)
+pub returns-in-Ok-Some-Same-clause-bad : goal.returns-in-Ok-Some-Same-clause-bad
+returns-in-Ok-Some-Same-clause-bad g c =
+    let standing = IsStanding c.args.policy.now c.args.file.now c.in-Ok.described in
+    let texts = subst standing c.in-Ok-Some-Same.field-0-0-is (subst (λ o. IfSome o standing) c.in-Ok-Some-Same.field-0-is c.in-Ok-Some-Same.ensures.found) in
+    err_both c.taken.result _ _ _ (λ e bad refused clean is.
+    let disk = (refused clean).clean in
+    not_sound c.in-Ok.described (c.in-Ok.ensures.described disk) texts
+    (subst (λ (db : Database). ¬ HoldsSound (IsSoundContent c.args.policy.now c.args.file.now.schemes) db) (c.in-Ok.ensures.read disk).same (bad clean is)))
+    c.taken.ensures.bad c.taken.ensures.refused
 
-pub returns-in-Err-clause-bad : goal.returns-in-Err-clause-bad
-returns-in-Err-clause-bad g c = grind (arith, common_steps)
+pub returns-in-Ok-Some-Older-clause-taken : goal.returns-in-Ok-Some-Older-clause-taken
+returns-in-Ok-Some-Older-clause-taken g c =
+    let standing = IsStanding c.args.policy.now c.args.file.now c.in-Ok.described in
+    let extended = subst standing c.in-Ok-Some-Older.field-0-0-is (subst (λ o. IfSome o standing) c.in-Ok-Some-Older.field-0-is c.in-Ok-Some-Older.ensures.found) in
+    let older = c.in-Ok-Some-Older.older in
+    ok_three c.migrated.result _ _ _ _ (λ b wide meta disk clean.
+    let w = wide clean in
+    let described = c.in-Ok.ensures.described (disk clean) in
+    widened c.in-Ok.described older.labels older.counts.items w.0 described extended
+    (subst (λ (db : Database). Holds (tables_of db.trees) w.0) (c.in-Ok.ensures.read (disk clean)).same w.1) w.2 w.3
+    (subst₂ (λ lattice schemes. b.tables.now.meta ≡ first_meta 2 lattice schemes ∷ []) c.requires.lattice c.requires.schemes (meta clean)))
+    c.migrated.ensures.widened c.migrated.ensures.described c.migrated.ensures.clean
 
-pub returns-in-Err-find-clause-policy : goal.returns-in-Err-find-clause-policy
-returns-in-Err-find-clause-policy g c = grind (arith, common_steps)
+pub returns-in-Ok-Some-Older-clause-bad : goal.returns-in-Ok-Some-Older-clause-bad
+returns-in-Ok-Some-Older-clause-bad g c =
+    let standing = IsStanding c.args.policy.now c.args.file.now c.in-Ok.described in
+    let extended = subst standing c.in-Ok-Some-Older.field-0-0-is (subst (λ o. IfSome o standing) c.in-Ok-Some-Older.field-0-is c.in-Ok-Some-Older.ensures.found) in
+    let older = c.in-Ok-Some-Older.older in
+    err_both c.migrated.result _ _ _ (λ e bad refused clean is.
+    let disk = (refused clean).clean in
+    not_sound_before c.in-Ok.described older.labels older.counts.items (c.in-Ok.ensures.described disk) extended
+    (subst (λ (db : Database). ¬ HoldsSound (IsSoundBefore c.args.policy.now c.args.file.now.schemes older.labels older.counts.items) db) (c.in-Ok.ensures.read disk).same (bad clean is)))
+    c.migrated.ensures.bad c.migrated.ensures.refused

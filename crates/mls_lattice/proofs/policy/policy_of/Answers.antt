@@ -15,4 +15,4 @@ invariant_of-result c =
     let read_users = rw c.deref-3.ensures.value at c.in_ok-users.ensures.reads in
     let read_matrix = rw c.deref-4.ensures.value at c.in_ok-matrix.ensures in
     rw (c.from.ensures, c.from-2.ensures, c.from-3.ensures, c.from-4.ensures, c.from-5.ensures)
-    (policy-read (table_view c.args.document.now) _ levels categories labels users matrix c.in_ok-version_of.ensures c.in_ok-levels.ensures.reads c.in_ok-categories.ensures.reads read_labels read_users read_matrix)
+    (policy-read (table_view c.args.document.now) _ levels categories labels users matrix c.in_ok-version.ensures c.in_ok-levels.ensures.reads c.in_ok-categories.ensures.reads read_labels read_users read_matrix)

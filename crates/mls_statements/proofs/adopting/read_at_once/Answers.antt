@@ -8,17 +8,11 @@ returns-in_err-map_err-clause-err g c = grind (arith, common_steps)
 pub returns-in_err-map_err-clause-bad : goal.returns-in_err-map_err-clause-bad
 returns-in_err-map_err-clause-bad g c = grind (arith, common_steps)
 
-pub returns-in_err-map_err-clause-other : goal.returns-in_err-map_err-clause-other
-returns-in_err-map_err-clause-other g c = grind (arith, common_steps)
-
 pub returns-in_err-rows-clause-err : goal.returns-in_err-rows-clause-err
 returns-in_err-rows-clause-err g c = grind (arith, common_steps)
 
 pub returns-in_err-rows-clause-bad : goal.returns-in_err-rows-clause-bad
 returns-in_err-rows-clause-bad g c = grind (arith, common_steps)
-
-pub returns-in_err-rows-clause-other : goal.returns-in_err-rows-clause-other
-returns-in_err-rows-clause-other g c = grind (arith, common_steps)
 
 pub returns-in_err-map_err-2-clause-err : goal.returns-in_err-map_err-2-clause-err
 returns-in_err-map_err-2-clause-err g c = grind (arith, common_steps)
@@ -26,11 +20,11 @@ returns-in_err-map_err-2-clause-err g c = grind (arith, common_steps)
 pub returns-in_err-map_err-2-clause-bad : goal.returns-in_err-map_err-2-clause-bad
 returns-in_err-map_err-2-clause-bad g c = grind (arith, common_steps)
 
-pub returns-in_err-map_err-2-clause-other : goal.returns-in_err-map_err-2-clause-other
-returns-in_err-map_err-2-clause-other g c = grind (arith, common_steps)
-
 pub returns-clause-open : goal.returns-clause-open
 returns-clause-open g c = grind (arith, common_steps)
 
-pub returns-clause-adopted : goal.returns-clause-adopted
-returns-clause-adopted g c = grind (arith, common_steps)
+pub returns-clause-rows : goal.returns-clause-rows
+returns-clause-rows g c = grind (arith, common_steps)
+
+pub returns-clause-read : goal.returns-clause-read
+returns-clause-read g c = grind (arith, common_steps)

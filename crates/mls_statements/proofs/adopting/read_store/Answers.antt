@@ -16,6 +16,3 @@ returns-in-Err-clause-ended g c = grind (arith, common_steps)
 
 pub returns-in-Err-clause-bad : goal.returns-in-Err-clause-bad
 returns-in-Err-clause-bad g c = grind (arith, common_steps)
-
-pub returns-in-Err-clause-other : goal.returns-in-Err-clause-other
-returns-in-Err-clause-other g c = grind (arith, common_steps)

@@ -1,10 +1,6 @@
-use Rattle.std.proofs.Common.{◌≡◌, ◌⊎◌, inl, inr, sym, subst, subst₂, ◌∙◌, IfOk, IfErr}
+use Rattle.std.proofs.Common.{◌≡◌, ◌⊎◌, inl, inr, sym, subst, ◌∙◌}
 use Rattle.std.proofs.lemmas.Result.{IfOk-weaker, IfErr-weaker}
-use Rattle.sqlite.specs.State.{HasCleanDisk}
-use Rattle.sqlite.specs.Held.{state}
-use Rattle.mls_statements.specs.Store.{IsClean}
 use Rattle.mls_filterview.specs.Content.{State}
-use Rattle.mls_statements.specs.Adopting.{HasOtherTexts, IsDescribedBy}
 use Rattle.mls_fragments.specs.declared.open_fault.OpenFault.{OpenFault}
 use Rattle.mls_fragments.specs.declared.open_fault.OpenFault.TheVariants.{Store, Memory, OtherPolicy, BadRows}
 use Rattle.mls_fragments.specs.Finding.{IsSoundContent}
@@ -22,7 +18,7 @@ not_bad f (inr a) b = absurd (let e = sym a ∙ b in cc)
 
 pub returns-then-has_nothing-clause-sound : goal.returns-then-has_nothing-clause-sound
 returns-then-has_nothing-clause-sound g c =
-    IfOk-weaker c.created.result _ _ (λ b is. subst (λ (s : State). IsSoundContent c.args.policy.now c.args.schemes.now s.now) (sym is) (nothing_sound c.args.policy.now c.args.schemes.now)) c.created.ensures.content
+    IfOk-weaker c.created.result _ _ (λ b is. subst (λ (s : State). IsSoundContent c.args.policy.now c.args.file.now.schemes s.now) (sym is) (nothing_sound c.args.policy.now c.args.file.now.schemes)) c.created.ensures.content
 
 pub returns-then-has_nothing-clause-policy : goal.returns-then-has_nothing-clause-policy
 returns-then-has_nothing-clause-policy g c = IfErr-weaker c.created.result _ _ (λ e is clean other. absurd (not_other e.0 is other)) c.created.ensures.fault
@@ -32,16 +28,6 @@ returns-then-has_nothing-clause-bad g c = IfErr-weaker c.created.result _ _ (λ 
 
 pub returns-then-has_nothing-clause-kept : goal.returns-then-has_nothing-clause-kept
 returns-then-has_nothing-clause-kept g c none = c.created.ensures.kept
-
-pub returns-clause-policy : goal.returns-clause-policy
-returns-clause-policy g c =
-    subst₂ (λ lattice schemes. IfErr c.opened.result (λ e. HasCleanDisk (state g.S.Store e.1) → e.0 ≡ OtherPolicy → HasOtherTexts lattice schemes (state g.S.Store c.args.conn).now))
-    c.in-Ok.ensures.lattice c.in-Ok.ensures.schemes c.opened.ensures.policy
-
-pub returns-clause-described : goal.returns-clause-described
-returns-clause-described g c =
-    subst₂ (λ lattice schemes. IfOk c.opened.result (λ b. IsClean b.tables → IsDescribedBy lattice schemes b.tables.now))
-    c.in-Ok.ensures.lattice c.in-Ok.ensures.schemes c.opened.ensures.described
 
 pub returns-clause-bad : goal.returns-clause-bad
 returns-clause-bad g c = c.opened.ensures.bad

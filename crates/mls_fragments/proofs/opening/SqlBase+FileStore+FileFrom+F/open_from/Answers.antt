@@ -8,8 +8,7 @@ returns-in-Ok-adopt-clause-over g c = record {
   db = (file_state c.in-Ok.conn).now;
   found = λ clean. c.in-Ok.ensures.found (c.in-Ok-adopt.ensures.clean clean);
   new = λ none. ap (λ (s : State). s.now) (c.in-Ok-adopt.ensures.new none).0;
-  rows = c.in-Ok-adopt.ensures.rows;
-  described = c.in-Ok-adopt.ensures.described;
+  taken = c.in-Ok-adopt.ensures.taken;
   holds = c.in-Ok-adopt.ensures.holds;
 }
 

@@ -4,7 +4,7 @@ use Rattle.mls_fragments.proofs.opening.SqlBase+FileStore+FileFrom+F.open_path.G
 pub returns-in-Ok-clause-content : goal.returns-in-Ok-clause-content
 returns-in-Ok-clause-content g c = λ clean. record {
   policy = c.args.policy.now;
-  schemes = c.args.schemes.now;
+  file = c.args.file.now;
   base = c.in-Ok.base;
   clean = clean;
   over = c.in-Ok.ensures.over;

@@ -12,7 +12,7 @@ returns-clause-made g c clean none =
     let begun = c.in_ok-begin.ensures.begun (c.in_ok-create_tables.ensures.clean made) in
     let tables = c.in_ok-create_tables.ensures.made made (ap (λ (db : Database). db.schema) begun.now ∙ none, tt) in
     let adds = c.in_ok-add_meta.ensures.added added (made_ready (state g.S.Store c.create_tables.new.conn).now tables.0).0 in
-    stored (state g.S.Store c.create_tables.new.conn) (state g.S.Store c.add_meta.new.conn) (state g.S.Store c.commit.new.conn) c.args.lattice.now c.args.schemes.now tables.0 adds c.commit.result (c.commit.ensures.committed clean)
+    stored (state g.S.Store c.create_tables.new.conn) (state g.S.Store c.add_meta.new.conn) (state g.S.Store c.commit.new.conn) c.args.version c.args.lattice.now c.args.schemes.now tables.0 adds c.commit.result (c.commit.ensures.committed clean)
 
 pub returns-in_err-begin-clause-err : goal.returns-in_err-begin-clause-err
 returns-in_err-begin-clause-err g c = grind (arith, common_steps)

@@ -14,7 +14,7 @@ returns-in-Ok-clause-rows g c clean has =
 pub returns-in-Ok-clause-bad : goal.returns-in-Ok-clause-bad
 returns-in-Ok-clause-bad g c clean has =
     read_badly audit_columns 0 (λ r. refl) ((state g.S.Store c.args.conn.now).now.trees 4) c.in-Ok.rows.items (c.in-Ok.ensures.found clean has) c.entries_from.result ReadsEntry c.tested.result
-    (rw c.deref-in-Ok.ensures.value at c.entries_from.ensures.refused) c.tested.ensures.texts (rw c.deref.ensures.value at c.tested.ensures.bad)
+    (rw c.deref-in-Ok.ensures.value at c.entries_from.ensures.refused) (rw c.deref.ensures.value at c.tested.ensures.bad)
 
 pub returns-in-Ok-clause-same : goal.returns-in-Ok-clause-same
 returns-in-Ok-clause-same g c = grind (arith, common_steps)

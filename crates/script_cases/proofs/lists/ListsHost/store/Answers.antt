@@ -8,4 +8,4 @@ pub returns-clause-idle : goal.returns-clause-idle
 returns-clause-idle g c = ap (λ (s : State). s.begun) c.new.ensures
 
 pub returns-clause-sound : goal.returns-clause-sound
-returns-clause-sound g c = subst (λ (s : State). IsSoundContent c.args.policy.now c.args.schemes.now s.now) (sym c.new.ensures) (nothing_sound c.args.policy.now c.args.schemes.now)
+returns-clause-sound g c = subst (λ (s : State). IsSoundContent c.args.policy.now c.args.file.now.schemes s.now) (sym c.new.ensures) (nothing_sound c.args.policy.now c.args.file.now.schemes)

@@ -1,0 +1,101 @@
+-- Content of older stores, widened: it is sound, and the rows of its tables hold it.
+use Rattle.std.proofs.Common.{◌≡◌, ℕ, zero, suc, ◌+◌, ◌<◌, ◌≤◌, List, [], ◌∷◌, ◌++◌, map, length, drop, refl, sym, ap, subst, ◌∙◌, arith}
+use Rattle.std.specs.Prelude.{slice_index_or, IfSome}
+use Rattle.std.specs.List.{AllByRecursion}
+use Rattle.std.specs.List.Sorted.{IsStrictlySortedBy}
+use Rattle.std.specs.Map.{keys_of}
+use Rattle.std.proofs.lemmas.List.{length-drop, take-append-drop, take_all}
+use Rattle.mls_lattice.specs.Policy.{Tables as Policy, labels_of}
+use Rattle.mls_scheme.specs.declared.tuple.Element.{Element}
+use Rattle.mls_scheme.specs.Spelling.{HasSpelling}
+use Rattle.mls_scheme.specs.Scheme.{Scheme, Schemes, scheme_of, IsUnder}
+use Rattle.mls_scheme.specs.Table.{place_cmp}
+use Rattle.mls_scheme.specs.Extending.{scheme_before, HadOthers}
+use Rattle.mls_audit.specs.Spelling.{IsEntryOf}
+use Rattle.mls_filterview.specs.Stored.{IsContent}
+use Rattle.mls_filterview.specs.Widen.{nulls, widened_entry, IsWidened}
+use Rattle.mls_filterview.proofs.WideningLemmas.{widening_keeps_content}
+use Rattle.mls_filterview.proofs.WidenedRowLemmas.{table_widened}
+use Rattle.mls_fragments.specs.Changes.{Entries, table_in}
+use Rattle.mls_fragments.specs.Finding.{IsSpelledEntry}
+use Rattle.mls_fragments.specs.Migrating.{more, wide_tables}
+
+-- ---- items by their numbers
+
+-- what holds of each table holds by number, and of none
+pub each_table : (P : Entries → Type 0) → P [] → (tables : List Entries) → AllByRecursion P tables → (rel : ℕ) → P (slice_index_or tables rel [])
+each_table P none [] h rel = none
+each_table P none (es ∷ tables) h zero = h.0
+each_table P none (es ∷ tables) h (suc rel) = each_table P none tables h.1 rel
+
+-- ---- entries of one relation
+
+keys_widened : (n : ℕ) (es : Entries) → keys_of (map (widened_entry n) es) ≡ keys_of es
+keys_widened n [] = refl
+keys_widened n (e ∷ es) = ap (λ ps. e.0 ∷ ps) (keys_widened n es)
+
+spelled_nulls : (n m : ℕ) → AllByRecursion (λ x. IfSome x.value HasSpelling) (nulls n m)
+spelled_nulls zero m = tt
+spelled_nulls (suc n) m = (tt, spelled_nulls n m)
+
+spelled_more : (n m : ℕ) (es : List Element) → AllByRecursion (λ x. IfSome x.value HasSpelling) es → AllByRecursion (λ x. IfSome x.value HasSpelling) (es ++ nulls n m)
+spelled_more n m [] h = spelled_nulls n m
+spelled_more n m (e ∷ es) h = (h.0, spelled_more n m es h.1)
+
+spelled_widened : (n : ℕ) (es : Entries) → AllByRecursion IsSpelledEntry es → AllByRecursion IsSpelledEntry (map (widened_entry n) es)
+spelled_widened n [] h = tt
+spelled_widened n (e ∷ es) h = ((h.0.0, spelled_more n e.0.key_class e.1 h.0.1), spelled_widened n es h.1)
+
+-- ---- all relations
+
+module _ (schemes : Schemes) (counts : List ℕ) where
+  entries_from : (k : ℕ) (tables : List Entries) (rel : ℕ) → slice_index_or (wide_tables schemes counts k tables) rel [] ≡ map (widened_entry (more schemes counts (k + rel))) (slice_index_or tables rel [])
+  entries_from k [] rel = refl
+  entries_from k (es ∷ tables) zero = ap (λ n. map (widened_entry (more schemes counts n)) es) (omega arith)
+  entries_from k (es ∷ tables) (suc rel) =
+      entries_from (suc k) tables rel ∙ ap (λ n. map (widened_entry (more schemes counts n)) (slice_index_or tables rel [])) (omega arith)
+
+  pub wide_length : (k : ℕ) (tables : List Entries) → length (wide_tables schemes counts k tables) ≡ length tables
+  wide_length k [] = refl
+  wide_length k (es ∷ tables) = ap suc (wide_length (suc k) tables)
+
+module _ (schemes : Schemes) (counts : List ℕ) (tables wide : List Entries) (are : wide ≡ wide_tables schemes counts 0 tables) where
+  entries_wide : (rel : ℕ) → slice_index_or wide rel [] ≡ map (widened_entry (more schemes counts rel)) (slice_index_or tables rel [])
+  entries_wide rel = ap (λ ws. slice_index_or ws rel []) are ∙ entries_from schemes counts 0 tables rel ∙ ap (λ n. map (widened_entry (more schemes counts n)) (slice_index_or tables rel [])) (omega arith)
+
+  module _ (sorted : (rel : ℕ) → IsStrictlySortedBy place_cmp (keys_of (slice_index_or tables rel []))) where
+    pub sorted_wide : (rel : ℕ) → IsStrictlySortedBy place_cmp (keys_of (slice_index_or wide rel []))
+    sorted_wide rel =
+        subst (IsStrictlySortedBy place_cmp) (sym (ap keys_of (entries_wide rel) ∙ keys_widened (more schemes counts rel) (slice_index_or tables rel []))) (sorted rel)
+
+    pub tables_wide : (rel : ℕ) → IsWidened (more schemes counts rel) (table_in tables rel) (table_in wide rel)
+    tables_wide rel = table_widened (more schemes counts rel) (slice_index_or tables rel []) (slice_index_or wide rel []) (sorted rel) (entries_wide rel)
+
+    -- a relation that is sound with fewer attributes is sound, widened
+    pub content_wide : (policy : Policy) (rel : ℕ) → rel < length schemes → 0 < length (scheme_of schemes rel).keys → HadOthers policy (slice_index_or counts rel 0) (scheme_of schemes rel)
+        → IsUnder (length (labels_of policy)) (scheme_before (slice_index_or counts rel 0) (scheme_of schemes rel))
+        → IsContent (labels_of policy) (scheme_before (slice_index_or counts rel 0) (scheme_of schemes rel)) (table_in tables rel)
+        → IsContent (labels_of policy) (scheme_of schemes rel) (table_in wide rel)
+    content_wide policy rel l some had under content =
+        let ls = labels_of policy in
+        let k = slice_index_or counts rel 0 in
+        let new = scheme_of schemes rel in
+        widening_keeps_content ls (length ls) (more schemes counts rel) (scheme_before k new) new (table_in tables rel) (table_in wide rel) some under
+        (record { keys = refl; more = drop k new.others; others = sym (take-append-drop k new.others); count = length-drop k new.others; around = had.1 })
+        (tables_wide rel)
+        (subst (λ xs. IsContent xs (scheme_before k new) (table_in tables rel)) (sym (take_all (length ls) ls (omega arith))) content)
+
+  pub spelled_wide : ((rel : ℕ) → AllByRecursion IsSpelledEntry (slice_index_or tables rel [])) → (rel : ℕ) → AllByRecursion IsSpelledEntry (slice_index_or wide rel [])
+  spelled_wide spelled rel = subst (AllByRecursion IsSpelledEntry) (sym (entries_wide rel)) (spelled_widened (more schemes counts rel) (slice_index_or tables rel []) (spelled rel))
+
+-- ---- relations and entries
+
+pub scheme_each : (P : Scheme → Type 0) (schemes : Schemes) → AllByRecursion P schemes → (rel : ℕ) → rel < length schemes → P (scheme_of schemes rel)
+scheme_each P [] h rel l = absurd (omega (arith, l))
+scheme_each P (s ∷ schemes) h zero l = h.0
+scheme_each P (s ∷ schemes) h (suc rel) l = scheme_each P schemes h.1 rel (omega (arith, l))
+
+-- an entry of one of some labels is one of more
+pub entries_more : (k n : ℕ) → k ≤ n → (audit : List (List ℕ)) → AllByRecursion (IsEntryOf k) audit → AllByRecursion (IsEntryOf n) audit
+entries_more k n few [] h = tt
+entries_more k n few (b ∷ audit) h = let d = h.0.declared in (record { entry = h.0.entry; spelled = h.0.spelled; declared = omega (arith, d, few); is = h.0.is }, entries_more k n few audit h.1)

@@ -1,0 +1,128 @@
+use Rattle.std.proofs.Common.{◌≡◌, ℕ, ◌<◌, ◌≤◌, [], length, map, rules, arith, refl, sym, ap, subst, ◌∙◌}
+use Rattle.std.specs.List.{AllByRecursion, AllZip}
+use Rattle.std.specs.List.Sorted.{IsStrictlySortedBy}
+use Rattle.std.specs.Map.{keys_of}
+use Rattle.std.specs.Prelude.{slice_index_or}
+use Rattle.std.proofs.lemmas.List.{length-map}
+use Rattle.sqlite_trees.proofs.ListLemmas.{all-map}
+use Rattle.mls_lattice.specs.Policy.{labels_of}
+use Rattle.mls_scheme.specs.Scheme.{Schemes, scheme_of, IsScheme, IsUnder, AreUnder}
+use Rattle.mls_scheme.specs.Table.{place_cmp}
+use Rattle.mls_scheme.specs.Extending.{scheme_before, schemes_before}
+use Rattle.mls_scheme.proofs.OlderLemmas.{before_under, before_at, before_long, extends_long, extends_few, extends_at}
+use Rattle.mls_filterview.specs.Stored.{IsContent}
+use Rattle.mls_fragments.specs.Changes.{table_in, found}
+use Rattle.mls_fragments.specs.Finding.{IsSpelledEntry, IsSoundWithin}
+use Rattle.mls_fragments.specs.Migrating.{wide_tables}
+use Rattle.mls_fragments.proofs.FindingLemmas.{none_sorted, tables_each, are_content, holds_found}
+use Rattle.mls_fragments.proofs.MigratingLemmas.{each_table, scheme_each, wide_length, sorted_wide, tables_wide, content_wide, spelled_wide, entries_more}
+use Rattle.mls_fragments.proofs.migrating.find_widened.Goals as goal
+
+pub before-requires : goal.before-requires
+before-requires c =
+    let b = c.requires.before in
+    subst (λ ns. AllZip (λ n s. n ≤ length s.others) ns c.args.schemes.now) (sym c.deref.ensures.value) (extends_few c.args.policy.now c.args.schemes.now b.text c.args.older.now.counts.items b.extends)
+
+pub find-requires : goal.find-requires
+find-requires c = record {
+  under = subst (AreUnder (length c.args.policy.now.labels)) (sym (c.in_ok-before.ensures ∙ ap (λ ns. schemes_before ns c.args.schemes.now) c.deref.ensures.value))
+      (before_under (length c.args.policy.now.labels) c.args.older.now.counts.items c.args.schemes.now c.requires.under);
+}
+
+pub returns-in_err-tables-clause-only : goal.returns-in_err-tables-clause-only
+returns-in_err-tables-clause-only c t all content holds sound =
+    let before = c.in_ok-before.ensures ∙ ap (λ ns. schemes_before ns c.args.schemes.now) c.deref.ensures.value in
+    let memory = c.in_err-tables.ensures.only t all content holds (subst (λ (ss : Schemes). IsSoundWithin c.args.policy.now ss c.args.older.now.labels content) (sym before) sound) in
+    search rules
+
+pub widened_tables-requires-clause-counts : goal.widened_tables-requires-clause-counts
+widened_tables-requires-clause-counts c =
+    let b = c.requires.before in
+    subst (λ ns. AllZip (λ n s. n ≤ length s.others) ns c.args.schemes.now) (sym c.deref-2.ensures.value) (extends_few c.args.policy.now c.args.schemes.now b.text c.args.older.now.counts.items b.extends)
+
+pub widened_tables-requires-clause-count : goal.widened_tables-requires-clause-count
+widened_tables-requires-clause-count c =
+    let b = c.requires.before in
+    c.in_ok-tables.ensures.count ∙ ap length (c.in_ok-before.ensures ∙ ap (λ ns. schemes_before ns c.args.schemes.now) c.deref.ensures.value)
+    ∙ before_long c.args.older.now.counts.items c.args.schemes.now (extends_long c.args.policy.now c.args.schemes.now b.text c.args.older.now.counts.items b.extends)
+
+-- ---- what is found
+
+pub returns-clause-sound : goal.returns-clause-sound
+returns-clause-sound c =
+    let policy = c.args.policy.now in
+    let ls = labels_of policy in
+    let schemes = c.args.schemes.now in
+    let counts = c.args.older.now.counts.items in
+    let b = c.requires.before in
+    let long = extends_long policy schemes b.text counts b.extends in
+    let tables = map (λ t. t.entries) c.in_ok-tables.field-0.tables.items in
+    let wide = map (λ t. t.entries) c.in_ok-widened_tables.field-0.items in
+    let before : c.in_ok-before.before ≡ schemes_before counts schemes = c.in_ok-before.ensures ∙ ap (λ ns. schemes_before ns schemes) c.deref.ensures.value in
+    let is : wide ≡ wide_tables schemes counts 0 tables = c.in_ok-widened_tables.ensures ∙ ap (λ ns. wide_tables schemes ns 0 tables) c.deref-2.ensures.value in
+    let sorted : (rel : ℕ) → IsStrictlySortedBy place_cmp (keys_of (slice_index_or tables rel []))
+    = each_table (λ es. IsStrictlySortedBy place_cmp (keys_of es)) none_sorted tables (all-map (λ es. IsStrictlySortedBy place_cmp (keys_of es)) (λ t. t.entries) c.in_ok-tables.field-0.tables.items c.in_ok-tables.ensures.sorted) in
+    let shorter : length c.in_ok-before.before ≡ length schemes = ap length before ∙ before_long counts schemes long in
+    let count : length wide ≡ length schemes
+    = ap length is ∙ wide_length schemes counts 0 tables ∙ length-map c.in_ok-tables.field-0.tables.items (λ t. t.entries) ∙ c.in_ok-tables.ensures.count ∙ shorter in
+    record {
+      content = are_content ls schemes wide (λ rel l.
+          let within : rel < length schemes = omega (arith, l, count) in
+          let at : scheme_of c.in_ok-before.before rel ≡ scheme_before (slice_index_or counts rel 0) (scheme_of schemes rel) = ap (λ (ss : Schemes). scheme_of ss rel) before ∙ before_at counts schemes rel long within in
+          content_wide schemes counts tables wide is sorted policy rel within
+          (subst (λ s. 0 < length s.keys) at (scheme_each IsScheme c.in_ok-before.before c.in_ok-tables.ensures.valid.each rel (omega (arith, within, shorter))).some_key)
+          (extends_at policy schemes b.text counts b.extends rel within)
+          (subst (λ n. IsUnder n (scheme_before (slice_index_or counts rel 0) (scheme_of schemes rel))) (sym (length-map policy.labels (λ l. l.value)))
+          (subst (IsUnder (length policy.labels)) (before_at counts schemes rel long within)
+          (scheme_each (IsUnder (length policy.labels)) (schemes_before counts schemes) (before_under (length policy.labels) counts schemes c.requires.under) rel (omega (arith, within, before_long counts schemes long)))))
+          (subst (λ s. IsContent ls s (table_in tables rel)) at (c.in_ok-tables.ensures.sound.content rel)));
+      entries = entries_more c.args.older.now.labels (length policy.labels) b.few_labels c.in_ok-tables.field-0.entries c.in_ok-tables.ensures.sound.entries;
+    }
+
+pub returns-clause-widened : goal.returns-clause-widened
+returns-clause-widened c =
+    let schemes = c.args.schemes.now in
+    let counts = c.args.older.now.counts.items in
+    let tables = map (λ t. t.entries) c.in_ok-tables.field-0.tables.items in
+    let wide = map (λ t. t.entries) c.in_ok-widened_tables.field-0.items in
+    let before : c.in_ok-before.before ≡ schemes_before counts schemes = c.in_ok-before.ensures ∙ ap (λ ns. schemes_before ns schemes) c.deref.ensures.value in
+    let is : wide ≡ wide_tables schemes counts 0 tables = c.in_ok-widened_tables.ensures ∙ ap (λ ns. wide_tables schemes ns 0 tables) c.deref-2.ensures.value in
+    let sorted : (rel : ℕ) → IsStrictlySortedBy place_cmp (keys_of (slice_index_or tables rel []))
+    = each_table (λ es. IsStrictlySortedBy place_cmp (keys_of es)) none_sorted tables (all-map (λ es. IsStrictlySortedBy place_cmp (keys_of es)) (λ t. t.entries) c.in_ok-tables.field-0.tables.items c.in_ok-tables.ensures.sorted) in (
+      found tables c.in_ok-tables.field-0.entries,
+      c.in_ok-tables.ensures.held,
+      subst (λ (ss : Schemes). IsSoundWithin c.args.policy.now ss c.args.older.now.labels (found tables c.in_ok-tables.field-0.entries)) before c.in_ok-tables.ensures.sound,
+      record { tables = tables_wide schemes counts tables wide is sorted; audit = refl },
+    )
+
+pub returns-clause-holds : goal.returns-clause-holds
+returns-clause-holds c t nodes cells listed =
+    let schemes = c.args.schemes.now in
+    let counts = c.args.older.now.counts.items in
+    let tables = map (λ t. t.entries) c.in_ok-tables.field-0.tables.items in
+    let wide = map (λ t. t.entries) c.in_ok-widened_tables.field-0.items in
+    let is : wide ≡ wide_tables schemes counts 0 tables = c.in_ok-widened_tables.ensures ∙ ap (λ ns. wide_tables schemes ns 0 tables) c.deref-2.ensures.value in
+    let sorted : (rel : ℕ) → IsStrictlySortedBy place_cmp (keys_of (slice_index_or tables rel []))
+    = each_table (λ es. IsStrictlySortedBy place_cmp (keys_of es)) none_sorted tables (all-map (λ es. IsStrictlySortedBy place_cmp (keys_of es)) (λ t. t.entries) c.in_ok-tables.field-0.tables.items c.in_ok-tables.ensures.sorted) in
+    let spelled : (rel : ℕ) → AllByRecursion IsSpelledEntry (slice_index_or tables rel [])
+    = each_table (AllByRecursion IsSpelledEntry) tt tables (all-map (AllByRecursion IsSpelledEntry) (λ t. t.entries) c.in_ok-tables.field-0.tables.items c.in_ok-tables.ensures.spelled) in
+    holds_found (labels_of c.args.policy.now) wide c.in_ok-tables.field-0.entries t (sorted_wide schemes counts tables wide is sorted) (spelled_wide schemes counts tables wide is spelled)
+    (λ rel. (length (scheme_of schemes rel).others, ((returns-clause-sound c).content rel).stored)) nodes cells listed
+
+pub returns-clause-spelled : goal.returns-clause-spelled
+returns-clause-spelled c =
+    let schemes = c.args.schemes.now in
+    let counts = c.args.older.now.counts.items in
+    let tables = map (λ t. t.entries) c.in_ok-tables.field-0.tables.items in
+    let wide = map (λ t. t.entries) c.in_ok-widened_tables.field-0.items in
+    let is : wide ≡ wide_tables schemes counts 0 tables = c.in_ok-widened_tables.ensures ∙ ap (λ ns. wide_tables schemes ns 0 tables) c.deref-2.ensures.value in
+    let spelled : (rel : ℕ) → AllByRecursion IsSpelledEntry (slice_index_or tables rel [])
+    = each_table (AllByRecursion IsSpelledEntry) tt tables (all-map (AllByRecursion IsSpelledEntry) (λ t. t.entries) c.in_ok-tables.field-0.tables.items c.in_ok-tables.ensures.spelled) in
+    tables_each (AllByRecursion IsSpelledEntry) (λ t. t.entries) c.in_ok-widened_tables.field-0.items (λ rel l. spelled_wide schemes counts tables wide is spelled rel)
+
+pub returns-clause-count : goal.returns-clause-count
+returns-clause-count c =
+    let tables = map (λ t. t.entries) c.in_ok-tables.field-0.tables.items in
+    let wide = ap length c.in_ok-widened_tables.ensures ∙ wide_length c.args.schemes.now c.deref-2.result.now 0 tables ∙ length-map c.in_ok-tables.field-0.tables.items (λ t. t.entries) ∙ c.in_ok-tables.ensures.count in
+    let few = c.in_ok-tables.ensures.valid.few in
+    omega (arith, wide, few, length-map c.in_ok-widened_tables.field-0.items (λ t. t.entries))

@@ -1,0 +1,67 @@
+-- Stores of older policies and schemes, and content under schemes with more attributes.
+use Rattle.std.specs.Prelude.{◌≡◌, ◌⊎◌, ℕ, suc, ◌-◌, ◌≤◌, List, [], ◌∷◌, length, map, slice_index_or}
+use Rattle.mls_lattice.specs.Policy.{Tables as Policy}
+use Rattle.mls_lattice.specs.declared.version.Version.TheVariants.{Two}
+use Rattle.mls_lattice.specs.Canon as lattice
+use Rattle.mls_lattice.specs.Extending as older_lattice
+use Rattle.mls_scheme.specs.declared.file.SchemesFile.{SchemesFile}
+use Rattle.mls_scheme.specs.Scheme.{Schemes, scheme_of}
+use Rattle.mls_scheme.specs.Canon as scheme
+use Rattle.mls_scheme.specs.Extending as older_schemes
+use Rattle.mls_filterview.specs.Content.{Content}
+use Rattle.mls_filterview.specs.Widen.{IsWidened, widened_entry}
+use Rattle.mls_statements.specs.declared.rows.MetaRow.{MetaRow}
+use Rattle.mls_fragments.specs.declared.migrating.Standing.{Standing}
+use Rattle.mls_fragments.specs.declared.migrating.Standing.TheVariants.{Same, Older}
+use Rattle.mls_fragments.specs.Changes.{Entries}
+use Rattle.mls_fragments.specs.Finding.{IsSoundWithin}
+
+-- ---- what the description of a store says to a policy and schemes
+
+-- both texts are theirs
+abbrev pub HasTexts : Policy → SchemesFile → MetaRow → Type 0
+HasTexts policy file m = (m.lattice ≡ lattice.lattice_of policy) × (m.schemes ≡ scheme.canon_of policy file.version file.schemes)
+
+-- Not both texts are theirs, and they extend both; where a text is not theirs, its file is of version 2. The store's labels are the
+-- first ones, and its relations have so many attributes outside their keys.
+pub record IsExtended (policy : Policy) (file : SchemesFile) (m : MetaRow) (labels : ℕ) (counts : List ℕ) : Type 0 where
+  pub other : ¬ HasTexts policy file m
+  pub labels_are : older_lattice.Extends policy m.lattice labels
+  pub policy_version : (m.lattice ≡ lattice.lattice_of policy) ⊎ (policy.version ≡ Two)
+  pub counts_are : older_schemes.Extends policy file.schemes m.schemes counts
+  pub file_version : (m.schemes ≡ scheme.canon_of policy file.version file.schemes) ⊎ (file.version ≡ Two)
+
+-- the store is of another policy or of other schemes
+pub record IsOther (policy : Policy) (file : SchemesFile) (m : MetaRow) : Type 0 where
+  pub other : ¬ HasTexts policy file m
+  pub not_older : (labels : ℕ) (counts : List ℕ) → ¬ IsExtended policy file m labels counts
+
+abbrev pub IsStanding : Policy → SchemesFile → MetaRow → Standing → Type 0
+IsStanding policy file m Same = HasTexts policy file m
+IsStanding policy file m (Older older) = IsExtended policy file m older.labels older.counts.items
+
+-- ---- content under more attributes
+
+-- the labels and the attributes of an older store are the first ones, by what its texts say
+pub record IsBefore (policy : Policy) (schemes : Schemes) (labels : ℕ) (counts : List ℕ) : Type 0 where
+  pub few_labels : labels ≤ length policy.labels
+  pub text : List ℕ
+  pub extends : older_schemes.Extends policy schemes text counts
+
+-- how many attributes a relation has behind the first so many
+abbrev pub more : Schemes → List ℕ → ℕ → ℕ
+more schemes counts rel = length (scheme_of schemes rel).others - slice_index_or counts rel 0
+
+-- content that an older store may have
+abbrev pub IsSoundBefore : Policy → Schemes → ℕ → List ℕ → Content → Type 0
+IsSoundBefore policy schemes labels counts = IsSoundWithin policy (older_schemes.schemes_before counts schemes) labels
+
+-- each relation is widened by its new attributes, and the audit list is the same
+pub record IsWidenedContent (schemes : Schemes) (counts : List ℕ) (old new : Content) : Type 0 where
+  pub tables : (rel : ℕ) → IsWidened (more schemes counts rel) (old.db rel) (new.db rel)
+  pub audit : new.audit ≡ old.audit
+
+-- tables of relations numbered from k, whose tuples are widened so
+abbrev pub wide_tables : Schemes → List ℕ → ℕ → List Entries → List Entries
+wide_tables schemes counts k [] = []
+wide_tables schemes counts k (es ∷ tables) = map (widened_entry (more schemes counts k)) es ∷ wide_tables schemes counts (suc k) tables

@@ -1,0 +1,152 @@
+//! Stores of older policies and schemes, whose content is widened.
+ghost use Rattle.std.specs.Prelude.{◌≡◌, ◌≤◌, ℕ, List, map, length, pos, string_bytes, None, IfOk, IfErr, IfSome, OnOk, OnErr, IsPermutation};
+ghost use Rattle.std.specs.List.{AllZip, AllByRecursion};
+ghost use Rattle.sqlite.specs.State.{HasCleanDisk};
+ghost use Rattle.sqlite.specs.Held.{state};
+ghost use Rattle.mls_lattice.specs.Policy.{labels_of};
+ghost use Rattle.mls_lattice.specs.Canon as lattice;
+ghost use Rattle.mls_lattice.specs.Extending as older_lattice;
+ghost use Rattle.mls_scheme.specs.Scheme.{AreUnder};
+ghost use Rattle.mls_scheme.specs.Canon as scheme;
+ghost use Rattle.mls_scheme.specs.Extending as older_schemes;
+ghost use Rattle.mls_filterview.specs.Content.{Content};
+ghost use Rattle.mls_statements.specs.Adopting.{AreAll};
+ghost use Rattle.mls_statements.specs.Rows.{Tables, numbered};
+ghost use Rattle.mls_fragments.specs.Finding.{IsMemory, IsSoundContent, IsSpelledEntry, content_found, node_rows, cell_rows};
+ghost use Rattle.mls_fragments.specs.Holding.{Holds};
+ghost use Rattle.mls_fragments.specs.Migrating.{IsStanding, IsOther, IsBefore, wide_tables, IsWidenedContent, IsSoundBefore};
+
+use crate::finding::{Found, find};
+use crate::reading::RowFault;
+use mls_filterview::{Rows, widened};
+use mls_lattice::{Policy, Version};
+use mls_scheme::{RelNo, Schemes, SchemesFile};
+use mls_statements::{AllRows, MetaRow};
+use std::alloc::{AllocError, Global};
+
+/// What a store of an older policy or older schemes has.
+#[derive(Drop)]
+pub struct Older {
+    /// How many of the policy's labels it knows: the first ones.
+    pub labels: usize,
+    /// How many attributes outside the key each of its relations has: the first ones.
+    pub counts: Vec<usize>,
+}
+
+/// How a store stands to a policy and schemes.
+#[derive(Drop)]
+pub enum Standing {
+    /// It is of them.
+    Same,
+    /// It is of older ones, which they extend.
+    Older(Older),
+}
+
+/// What a store of these texts has, if policy and schemes extend them.
+fn older_of(
+    alloc: Global,
+    policy: &Policy,
+    schemes: &Schemes,
+    found: &MetaRow,
+) -> Result<Option<Older>, AllocError>
+    requires under { AreUnder (length policy.now.labels) schemes.now }
+    ensures found { IfOk result (λ o. IfSome o (λ older. older_lattice.Extends policy.now found.now.lattice older.labels
+        × older_schemes.Extends policy.now schemes.now found.now.schemes older.counts.items)) }
+    ensures none { IfOk result (λ o. o ≡ None → (labels : ℕ) (counts : List ℕ) → older_lattice.Extends policy.now found.now.lattice labels
+        → older_schemes.Extends policy.now schemes.now found.now.schemes counts → ⊥) }
+{
+    let Some(labels) = policy.labels_before(alloc, found.lattice.as_str().as_bytes())? else {
+        return Ok(None);
+    };
+    let Some(counts) = schemes.extends(alloc, policy, found.schemes.as_str().as_bytes())? else {
+        return Ok(None);
+    };
+    Ok(Some(Older { labels, counts }))
+}
+
+/// How a store stands to a policy and schemes with these texts, if it is not of others.
+pub(crate) fn standing_of(
+    alloc: Global,
+    policy: &Policy,
+    file: &SchemesFile,
+    texts: &(String, String),
+    found: &MetaRow,
+) -> Result<Option<Standing>, AllocError>
+    requires under { AreUnder (length policy.now.labels) file.now.schemes }
+    requires lattice { string_bytes texts.now.0 ≡ lattice.lattice_of policy.now }
+    requires schemes { string_bytes texts.now.1 ≡ scheme.canon_of policy.now file.now.version file.now.schemes }
+    ensures found { IfOk result (λ o. IfSome o (IsStanding policy.now file.now found.now)) }
+    ensures none { IfOk result (λ o. o ≡ None → IsOther policy.now file.now found.now) }
+{
+    let is_same_lattice = found.lattice.as_str() == texts.0.as_str();
+    let are_same_schemes = found.schemes.as_str() == texts.1.as_str();
+    if is_same_lattice && are_same_schemes {
+        return Ok(Some(Standing::Same));
+    }
+    if !is_same_lattice && policy.version() != Version::Two {
+        return Ok(None);
+    }
+    if !are_same_schemes && file.version != Version::Two {
+        return Ok(None);
+    }
+    match older_of(alloc, policy, &file.schemes, found)? {
+        Some(older) => Ok(Some(Standing::Older(older))),
+        None => Ok(None),
+    }
+}
+
+/// The tables of relations, each widened by the attributes that its scheme has behind the first so many.
+fn widened_tables(
+    alloc: Global,
+    schemes: &Schemes,
+    counts: &[usize],
+    tables: Vec<Rows>,
+) -> Result<Vec<Rows>, AllocError>
+    requires counts { AllZip (λ n s. n ≤ length s.others) counts.now schemes.now }
+    requires count { length tables.items ≡ length schemes.now }
+    requires few { length tables.items ≤ 256 }
+    ensures { IfOk result (λ wide. map (λ t. t.entries) wide.items ≡ wide_tables schemes.now counts.now 0 (map (λ t. t.entries) tables.items)) }
+{
+    let mut wide = Vec::new(alloc);
+    let mut rel = 0;
+    for table in tables {
+        let scheme = schemes.scheme(RelNo::new(rel as u8));
+        wide.push(widened(alloc, table, scheme.others().len() - counts[rel])?)?;
+        rel += 1;
+    }
+    Ok(wide)
+}
+
+/// What the rows of an older store hold, with its relations widened.
+pub(crate) fn find_widened(
+    alloc: Global,
+    policy: &Policy,
+    schemes: &Schemes,
+    older: &Older,
+    rows: AllRows,
+) -> Result<Found, RowFault>
+    requires under { AreUnder (length policy.now.labels) schemes.now }
+    requires before { IsBefore policy.now schemes.now older.now.labels older.now.counts.items }
+    ensures widened { IfOk result (λ f. (c : Content) × ((t : Tables) → AreAll t rows → Holds t c) × IsSoundBefore policy.now schemes.now older.now.labels older.now.counts.items c
+        × IsWidenedContent schemes.now older.now.counts.items c (content_found f)) }
+    ensures sound { IfOk result (λ f. IsSoundContent policy.now schemes.now (content_found f)) }
+    ensures holds { IfOk result (λ f. (t : Tables) → IsPermutation (node_rows 0 (map (λ t. t.entries) f.tables.items)) t.nodes
+        → IsPermutation (cell_rows 0 (map (λ t. t.entries) f.tables.items)) t.cells → IsPermutation (numbered 1 f.entries) t.audit → Holds t (content_found f)) }
+    ensures listed { IfOk result (λ f. (t : Tables) → AreAll t rows → IsPermutation (numbered 1 f.entries) t.audit) }
+    ensures spelled { IfOk result (λ f. AllByRecursion (λ t. AllByRecursion IsSpelledEntry t.entries) f.tables.items) }
+    ensures count { IfOk result (λ f. length f.tables.items ≤ 256) }
+    ensures last { IfOk result (λ f. f.last ≡ pos (length f.entries)) }
+    ensures only { (t : Tables) → AreAll t rows → (c : Content) → Holds t c → IsSoundBefore policy.now schemes.now older.now.labels older.now.counts.items c → IfErr result IsMemory }
+{
+    let before = schemes.before(alloc, &older.counts)?;
+    let Found {
+        tables,
+        entries,
+        last,
+    } = find(alloc, policy, &before, older.labels, rows)?;
+    Ok(Found {
+        tables: widened_tables(alloc, schemes, &older.counts, tables)?,
+        entries,
+        last,
+    })
+}

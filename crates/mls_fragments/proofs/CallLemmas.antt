@@ -1,49 +1,54 @@
 -- Calls of the store that write, one after another.
-use Rattle.std.proofs.Common.{◌≡◌, ℕ, ◌+◌, ◌<◌, ◌≤◌, arith, List, [], ◌∷◌, ◌++◌, map, filter, not, length, take, get_or, Result, Ok, OnOk, IsPermutation, sym, ap, subst, ◌∙◌, append_assoc, add-one, take-suc}
-use Rattle.std.proofs.lemmas.List.{map-append}
-use Rattle.std.proofs.lemmas.List.Sorted.{IsPermutation-trans, IsPermutation-cons, IsPermutation-middle}
+use Rattle.std.proofs.Common.{◌≡◌, ℕ, List, [], ◌∷◌, ◌++◌, map, filter, not, Result, OnOk, IsPermutation, refl, sym, ap, subst₂, ◌∙◌}
+use Rattle.std.specs.Prelude.{IfSome}
+use Rattle.std.specs.List.{AllByRecursion}
 use Rattle.std.proofs.lemmas.Result.{on_ok_weaker}
 use Rattle.mls_scheme.specs.declared.place.Place.{Place}
-use Rattle.mls_scheme.specs.Spelling.{key_spelling}
+use Rattle.mls_scheme.specs.Spelling.{key_spelling, HasSpelling}
+use Rattle.mls_filterview.specs.declared.fragment.Node.{Node}
 use Rattle.mls_filterview.specs.declared.fragment.Cell.{Cell}
-use Rattle.mls_statements.specs.declared.rows.CellRow.{CellRow}
+use Rattle.mls_filterview.specs.Fragment.{IsCellOf}
+use Rattle.mls_statements.specs.declared.rows.NodeRow.{NodeRow}
+use Rattle.mls_statements.specs.declared.rows.OwnCell.{OwnCell}
 use Rattle.mls_statements.specs.declared.store.StoreFault.{StoreFault}
-use Rattle.mls_statements.specs.Rows.{Tables, is_cell_in}
-use Rattle.mls_statements.specs.Statements.{DropsNode, AddsCell, DropsCells}
-use Rattle.mls_statements.specs.Store.{TableState, IsClean, IsCall, Writes}
-use Rattle.mls_fragments.specs.Holding.{cell_row, AddsCells, DropsTuple}
-
--- steps that leave the rows of the last commit
-pub record Follows (old mid : TableState) : Type 0 where
-  pub clean : IsClean mid → IsClean old
-  pub count : old.failures ≤ mid.failures
-  pub kept : IsClean mid → mid.kept ≡ old.kept
-
-pub follows_next : {A : Type 0} (Rows : Tables → Tables → Type 0) (old mid new : TableState) (x : A) → Follows old mid → IsCall mid new (Ok x) → (IsClean new → Writes Rows mid new) → Follows old new
-follows_next Rows old mid new x h call wrote = record {
-  clean = λ c. h.clean (call.clean c);
-  count = (let m = h.count in let n = call.count in omega (arith, m, n));
-  kept = λ c. (wrote c).1 ∙ h.kept (call.clean c);
-}
+use Rattle.mls_statements.specs.Rows.{Tables, is_cell_in, cell_beside}
+use Rattle.mls_statements.specs.Statements.{AddsNode, DropsNode, AddsCells, DropsCells}
+use Rattle.mls_statements.specs.Store.{TableState, Writes}
+use Rattle.mls_fragments.specs.Holding.{node_row, cell_row, own_cell, value_bytes, AddsTuple, DropsTuple}
 
 -- ---- rows that are added
 
-adds_next : (cells : List CellRow) (c : CellRow) (s m t : Tables) → AddsCells cells s m → AddsCell c m t → AddsCells (cells ++ c ∷ []) s t
-adds_next cells c s m t first next = (
-  next.0 ∙ ap {A = Tables} (λ x. record x { cells = t.cells }) first.0,
-  subst (λ xs. IsPermutation xs t.cells) (sym (append_assoc cells (c ∷ []) s.cells))
-      (IsPermutation-trans _ _ _ (IsPermutation-middle cells c s.cells) (IsPermutation-trans _ _ _ (IsPermutation-cons c _ _ first.1) next.1)),
-)
+-- the cells of a tuple's class are those that stand beside its node
+pub beside_node : (rel : ℕ) (n : Node) (cells : List Cell) → AllByRecursion (IsCellOf n) cells → map (cell_beside (node_row rel n)) (map own_cell cells) ≡ map (cell_row rel) cells
+beside_node rel n [] are = refl
+beside_node rel n (c ∷ cells) are =
+    let same : cell_beside (node_row rel n) (own_cell c) ≡ cell_row rel c = λ i. record {
+      rel = rel;
+      ent = key_spelling (sym are.0.key i);
+      kclass = sym are.0.key_class i;
+      label = sym are.0.label i;
+      attr = c.attr;
+      value = value_bytes c.value;
+    } in
+    λ i. same i ∷ beside_node rel n cells are.1 i
 
--- the first cells, and the one after them
-pub writes_next : (rel : ℕ) (cells : List Cell) (i : ℕ) (x : Cell) (row : CellRow) (s m t : TableState) → i < length cells → x ≡ get_or cells i x → row ≡ cell_row rel x
-    → Writes (AddsCells (map (cell_row rel) (take i cells))) s m → Writes (AddsCell row) m t → Writes (AddsCells (map (cell_row rel) (take (i + 1) cells))) s t
-writes_next rel cells i x row s m t within is row_is first next =
-    let rows = map (cell_row rel) in
-    let last : cell_row rel (get_or cells i x) ≡ row = ap (cell_row rel) (sym is) ∙ sym row_is in
-    let all : rows (take (i + 1) cells) ≡ rows (take i cells) ++ row ∷ [] =
-    ap (λ n. rows (take n cells)) (add-one i) ∙ ap rows (take-suc cells i x within) ∙ map-append (cell_row rel) (take i cells) (get_or cells i x ∷ []) ∙ ap (λ r. rows (take i cells) ++ r ∷ []) last in
-    (subst (λ xs. AddsCells xs s.now t.now) (sym all) (adds_next (rows (take i cells)) row s.now m.now t.now first.0 next.0), next.1 ∙ first.1)
+pub own_spelled : (n : Node) (cells : List Cell) → AllByRecursion (IsCellOf n) cells → AllByRecursion (λ c. IfSome c.value HasSpelling) cells
+own_spelled n [] are = tt
+own_spelled n (c ∷ cells) are = (are.0.value, own_spelled n cells are.1)
+
+-- the node of a tuple, and then its cells
+pub adds_both : {B : Type 0} (rel : ℕ) (n : Node) (cells : List Cell) (node : NodeRow) (own : List OwnCell) (s m t : TableState) (result : Result B StoreFault) → node ≡ node_row rel n
+    → map (cell_beside node) own ≡ map (cell_row rel) cells
+    → Writes (AddsNode node) s m → OnOk result (Writes (AddsCells (map (cell_beside node) own)) m t) → OnOk result (Writes (AddsTuple (node_row rel n) (map (cell_row rel) cells)) s t)
+adds_both rel n cells node own s m t result is beside first =
+    on_ok_weaker result (λ next. (
+      record {
+        nodes = subst₂ (λ r (ns : List NodeRow). IsPermutation (r ∷ s.now.nodes) ns) is (sym (ap (λ (x : Tables). x.nodes) next.0.0)) first.0.1;
+        cells = subst₂ (λ cs ds. IsPermutation (cs ++ ds) t.now.cells) beside (ap (λ (x : Tables). x.cells) first.0.0) next.0.1;
+        rest = next.0.0 ∙ ap (λ (x : Tables). record x { cells = t.now.cells }) first.0.0 ∙ ap (λ ns. record s.now { nodes = ns; cells = t.now.cells }) (sym (ap (λ (x : Tables). x.nodes) next.0.0));
+      },
+      next.1 ∙ first.1,
+    ))
 
 -- ---- rows that are dropped
 

@@ -14,3 +14,5 @@ pub mod SettingLemmas
 pub mod ShownLemmas
 pub mod SortedLemmas
 pub mod WrittenLemmas
+pub mod OneContentLemmas
+pub mod AgainLemmas

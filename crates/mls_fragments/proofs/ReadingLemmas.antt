@@ -1,6 +1,6 @@
 -- What rows of one label show is its fragment, and what rows of one place show is what belongs to its entity.
-use Rattle.std.proofs.Common.{◌≡◌, ℕ, List, map, filter, Bool, true, false, ◌&&◌, refl, sym, subst, ◌∙◌, IsPermutation}
-use Rattle.std.specs.Prelude.{nat_eq, bytes_eq}
+use Rattle.std.proofs.Common.{◌≡◌, ℕ, List, map, filter, Bool, true, sym, subst, ◌∙◌, IsPermutation}
+use Rattle.std.specs.Prelude.{nat_eq}
 use Rattle.std.specs.List.{AllByRecursion}
 use Rattle.std.proofs.lemmas.Bool.{and_parts}
 use Rattle.sqlite_trees.proofs.ListLemmas.{filter-filter, IsPermutation-filter}
@@ -11,9 +11,9 @@ use Rattle.mls_filterview.specs.Fragment.{IsFragment, IsEntityPart}
 use Rattle.mls_filterview.specs.declared.fragment.Fragment.{Fragment}
 use Rattle.mls_statements.specs.declared.rows.NodeRow.{NodeRow}
 use Rattle.mls_statements.specs.declared.rows.CellRow.{CellRow}
-use Rattle.mls_statements.specs.Rows.{Tables, is_node_at, is_cell_at, is_node_of, is_cell_of, is_node, is_cell_in}
+use Rattle.mls_statements.specs.Rows.{Tables, is_node_at, is_cell_at, is_node, is_cell_in}
 use Rattle.mls_fragments.specs.Holding.{Holds, node_row, cell_row, IsSpelledNode, IsSpelledCell}
-use Rattle.mls_fragments.proofs.ShownLemmas.{filter_both, shows_fragment, shows_entity}
+use Rattle.mls_fragments.proofs.ShownLemmas.{shows_fragment, shows_entity}
 use Rattle.mls_fragments.proofs.WrittenLemmas.{filter_turned}
 
 -- what passes a test passes a weaker one too
@@ -21,11 +21,6 @@ passes : {R : Type 0} (p q : R → Bool) → ((r : R) → p r ≡ true → q r �
 passes p q weaker all rows shown same is =
     subst (IsPermutation (filter p all)) (sym is)
     (subst (λ xs. IsPermutation xs (filter q rows)) (filter_turned q p all ∙ filter-filter p q weaker all) (IsPermutation-filter q (filter p all) rows same))
-
-grouped : (a b c d : Bool) → ((a && (b && c)) && d) ≡ (a && (b && (c && d)))
-grouped true true c d = refl
-grouped true false c d = refl
-grouped false b c d = refl
 
 pub found_fragment : (t : Tables) (c : Content) (rel label : ℕ) (f : Fragment) (nodes : List NodeRow) (cells : List CellRow) → Holds t c
     → IsPermutation (filter (is_node_at rel label) t.nodes) nodes → IsPermutation (filter (is_cell_at rel label) t.cells) cells
@@ -44,16 +39,3 @@ found_entity t c rel p f nodes cells holds spelled some_nodes some_cells shown_n
     shows_entity t c rel p f holds spelled nodes_spelled cells_spelled
     (passes (is_node rel (key_spelling p.key) p.key_class p.class) (λ r. nat_eq r.rel rel) (λ r h. (and_parts _ _ h).0) t.nodes nodes (map (node_row rel) f.nodes) some_nodes shown_nodes)
     (passes (is_cell_in rel (key_spelling p.key) p.key_class p.class) (λ r. nat_eq r.rel rel) (λ r h. (and_parts _ _ h).0) t.cells cells (map (cell_row rel) f.cells) some_cells shown_cells)
-
--- rows of an entity, and of them those of a class
-pub nodes_left : (rel : ℕ) (ent : List ℕ) (kclass label : ℕ) (all rows : List NodeRow) → IsPermutation (filter (is_node_of rel ent kclass) all) rows → IsPermutation (filter (is_node rel ent kclass label) all) (filter (λ r. nat_eq r.label label) rows)
-nodes_left rel ent kclass label all rows h =
-    subst (λ xs. IsPermutation xs (filter (λ r. nat_eq r.label label) rows))
-    (filter_both (λ r. nat_eq r.label label) (is_node_of rel ent kclass) all ∙ (λ i. filter (λ r. grouped (nat_eq r.rel rel) (bytes_eq r.ent ent) (nat_eq r.kclass kclass) (nat_eq r.label label) i) all))
-    (IsPermutation-filter (λ r. nat_eq r.label label) _ rows h)
-
-pub cells_left : (rel : ℕ) (ent : List ℕ) (kclass label : ℕ) (all rows : List CellRow) → IsPermutation (filter (is_cell_of rel ent kclass) all) rows → IsPermutation (filter (is_cell_in rel ent kclass label) all) (filter (λ r. nat_eq r.label label) rows)
-cells_left rel ent kclass label all rows h =
-    subst (λ xs. IsPermutation xs (filter (λ r. nat_eq r.label label) rows))
-    (filter_both (λ r. nat_eq r.label label) (is_cell_of rel ent kclass) all ∙ (λ i. filter (λ r. grouped (nat_eq r.rel rel) (bytes_eq r.ent ent) (nat_eq r.kclass kclass) (nat_eq r.label label) i) all))
-    (IsPermutation-filter (λ r. nat_eq r.label label) _ rows h)

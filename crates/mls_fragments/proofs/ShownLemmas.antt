@@ -1,10 +1,10 @@
 -- The rows of a relation and a label show its fragment, and those of a place what belongs to its entity.
-use Rattle.std.proofs.Common.{◌≡◌, ℕ, Bool, true, false, cond, ◌&&◌, List, [], ◌∷◌, map, filter, flat_map, Option, Some, None, refl, sym, ap, ◌∙◌, subst, append-nil, IsPermutation}
+use Rattle.std.proofs.Common.{◌≡◌, ℕ, Bool, true, false, cond, ◌&&◌, List, [], ◌∷◌, map, filter, flat_map, Option, Some, None, refl, sym, ap, ◌∙◌, subst, append-nil, arith, IsPermutation}
 use Rattle.std.specs.Prelude.{nat_eq, IfSome}
 use Rattle.std.specs.List.{AllByRecursion}
 use Rattle.std.specs.FinMap.{entries}
 use Rattle.std.proofs.lemmas.Bool.{and_parts}
-use Rattle.std.proofs.lemmas.List.Sorted.{IsPermutation-trans}
+use Rattle.std.proofs.lemmas.List.Sorted.{IsPermutation-refl, IsPermutation-trans, length_permutation}
 use Rattle.sqlite_trees.proofs.ListLemmas.{filter-map, filter-filter, filter_same, all-map, all-permutation, pull_back, IsPermutation-filter}
 use Rattle.mls_scheme.specs.declared.value.Value.{Value}
 use Rattle.mls_scheme.specs.declared.value.Value.TheVariants.{Int, Text}
@@ -165,3 +165,15 @@ shows_entity t c rel p f holds spelled ns cs nodes cells =
     let T = c.db rel in
     let held = holds.tables rel in
     show_parts t rel T held (λ e. is_place e.0 p) f ns cs (IsPermutation-trans _ _ _ (there_nodes t rel p spelled T held) nodes) (IsPermutation-trans _ _ _ (there_cells t rel p spelled T held) cells)
+
+no_tuple : (rel : ℕ) (es : List Entry) → IsPermutation (map (node_row rel) (map node_of es)) [] → es ≡ []
+no_tuple rel [] none = refl
+no_tuple rel (e ∷ es) none = absurd (let long = length_permutation _ _ none in omega (arith, long))
+
+-- where a place has no node, it has no tuple, and so no cells
+pub shows_nothing : (t : Tables) (c : Content) (rel : ℕ) (p : Place) (f : Fragment) → Holds t c → IsSpelledKey p.key
+    → IsPermutation (filter (is_node rel (key_spelling p.key) p.key_class p.class) t.nodes) [] → f.nodes ≡ [] → f.cells ≡ [] → IsEntityPart (c.db rel) p f
+shows_nothing t c rel p f holds spelled none no_nodes no_cells =
+    let T = c.db rel in
+    let gone : at_place p T ≡ [] = no_tuple rel (at_place p T) (IsPermutation-trans _ _ _ (there_nodes t rel p spelled T (holds.tables rel)) none) in
+    record { nodes = rw (gone, no_nodes) (IsPermutation-refl []); cells = rw (gone, no_cells) (IsPermutation-refl []) }

@@ -15,6 +15,7 @@ use Rattle.mls_filterview.specs.Fragment.{node_of, cells_of, cell_at}
 use Rattle.mls_filterview.specs.Content.{Content}
 use Rattle.mls_statements.specs.declared.rows.NodeRow.{NodeRow}
 use Rattle.mls_statements.specs.declared.rows.CellRow.{CellRow}
+use Rattle.mls_statements.specs.declared.rows.OwnCell.{OwnCell}
 use Rattle.mls_statements.specs.Rows.{Tables, numbered, is_node, is_cell_in}
 
 -- a value's bytes, and 0 for null
@@ -28,6 +29,10 @@ node_row rel n = record { rel = rel; ent = key_spelling n.key; kclass = n.key_cl
 abbrev pub cell_row : ℕ → Cell → CellRow
 cell_row rel c =
     record { rel = rel; ent = key_spelling c.key; kclass = c.key_class; label = c.label; attr = c.attr; value = value_bytes c.value }
+
+-- a cell of a tuple's own class, beside the tuple's node
+abbrev pub own_cell : Cell → OwnCell
+own_cell c = record { attr = c.attr; value = value_bytes c.value }
 
 abbrev pub nodes_in : Table → List Node
 nodes_in T = map node_of (entries T)
@@ -63,9 +68,6 @@ IsSpelledCell c = IsSpelledKey c.key × IfSome c.value HasSpelling
 -- the row of a value at an attribute, of the entity and the class of a place
 abbrev pub value_row : ℕ → Place → ℕ → Option Value → CellRow
 value_row rel p attr v = cell_row rel (cell_at p attr (record { value = v; class = p.class }))
-
-abbrev pub AddsCells : List CellRow → Tables → Tables → Type 0
-AddsCells cells old new = (new ≡ record old { cells = new.cells }) × IsPermutation (cells ++ old.cells) new.cells
 
 -- a tuple's node and the elements of its class
 pub record AddsTuple (n : NodeRow) (own : List CellRow) (old new : Tables) : Type 0 where

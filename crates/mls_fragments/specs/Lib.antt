@@ -5,3 +5,5 @@ pub mod OpenFault
 pub mod Finding
 pub mod Migrating
 pub mod Opening
+pub mod OneContent
+pub mod Again

@@ -1,5 +1,5 @@
 //! What the tables hold of one entity.
-ghost use Rattle.std.specs.Prelude.{◌≡◌, filter, IfOk, IsPermutation, OnOk};
+ghost use Rattle.std.specs.Prelude.{◌≡◌, [], filter, IfOk, IsPermutation, OnOk};
 ghost use Rattle.mls_scheme.specs.Spelling.{IsSpelledKey};
 ghost use Rattle.mls_filterview.specs.Content.{Content};
 ghost use Rattle.mls_filterview.specs.Fragment.{IsEntityPart};
@@ -10,12 +10,13 @@ ghost use Rattle.mls_fragments.specs.Holding.{Holds};
 use crate::reading::{fragment_in, give_up};
 use crate::writing::ent_of;
 use mls_filterview::Fragment;
+use mls_lattice::Items;
 use mls_scheme::{Place, RelNo};
 use mls_statements::{CellRow, NodeRow, StoreFault, TableStore};
 use sqlite::Alter;
 use std::alloc::Global;
 
-/// The node at a place, as rows of its entity and class.
+/// The node at a place.
 fn nodes_at<S: Alter>(
     store: &mut TableStore<S>,
     rel: RelNo,
@@ -27,16 +28,15 @@ fn nodes_at<S: Alter>(
     ensures found { IsClean store.new → IfOk result (λ rows. IsPermutation (filter (is_node rel ent.now place.now.key_class place.now.class) store.old.now.nodes) rows.items) }
     ensures same { IsClean store.new → OnOk result (IsSame store.old store.new) }
 {
-    let mut rows = store.nodes_of(
+    store.nodes_of(
         u32::from(rel.byte()),
         ent,
         u32::from(place.key_class.byte()),
-    )?;
-    rows.retain(|row| row.label == u32::from(place.class.byte()));
-    Ok(rows)
+        u32::from(place.class.byte()),
+    )
 }
 
-/// The cells at a place, as rows of its entity and class.
+/// The cells at a place.
 fn cells_at<S: Alter>(
     store: &mut TableStore<S>,
     rel: RelNo,
@@ -48,16 +48,25 @@ fn cells_at<S: Alter>(
     ensures found { IsClean store.new → IfOk result (λ rows. IsPermutation (filter (is_cell_in rel ent.now place.now.key_class place.now.class) store.old.now.cells) rows.items) }
     ensures same { IsClean store.new → OnOk result (IsSame store.old store.new) }
 {
-    let mut rows = store.cells_of(
+    store.cells_of(
         u32::from(rel.byte()),
         ent,
         u32::from(place.key_class.byte()),
-    )?;
-    rows.retain(|row| row.label == u32::from(place.class.byte()));
-    Ok(rows)
+        u32::from(place.class.byte()),
+    )
 }
 
-/// What the class of a place holds of the place's entity.
+/// Nothing.
+fn nothing(alloc: Global) -> Fragment
+    ensures { (result.nodes ≡ []) × (result.cells ≡ []) }
+{
+    Fragment {
+        nodes: Items::from(Vec::new(alloc)),
+        cells: Items::from(Vec::new(alloc)),
+    }
+}
+
+/// What the class of a place holds of the place's entity. Where it has no node, it has no cells, and none are asked for.
 pub(crate) fn read_entity<S: Alter>(
     store: &mut TableStore<S>,
     alloc: Global,
@@ -75,6 +84,9 @@ pub(crate) fn read_entity<S: Alter>(
         Err(fault) => return Err(give_up(store, fault)),
     };
     let nodes = nodes_at(store, rel, place, &ent)?;
+    if nodes.is_empty() {
+        return Ok(nothing(alloc));
+    }
     let cells = cells_at(store, rel, place, &ent)?;
     match fragment_in(alloc, rel, &nodes, &cells) {
         Ok(fragment) => Ok(fragment),

@@ -1,10 +1,12 @@
 //! Content as the rows of a store, and a base over them.
 #![tactic(auto)]
 
+mod again;
 mod base;
 mod comparing;
 mod entity;
 mod finding;
+mod laws;
 mod migrating;
 mod noted;
 mod open_fault;
@@ -14,4 +16,8 @@ mod recalled;
 mod writing;
 
 pub use base::SqlBase;
+pub use laws::{
+    files_keep_one_content, given_back_is_taken, kept_is_taken, rows_hold_one_content,
+    sound_is_taken_as_it_was,
+};
 pub use open_fault::OpenFault;

@@ -10,7 +10,7 @@ ghost use Rattle.mls_lattice.specs.Version.{version_number, later};
 ghost use Rattle.mls_filterview.specs.Content.{Content, no_content};
 ghost use Rattle.mls_statements.specs.Rows.{described, first_meta, is_meta_row, tables_of};
 ghost use Rattle.mls_statements.specs.Statements.{AreRows, HasSettled, IsRewritten};
-ghost use Rattle.mls_statements.specs.Schema.{no_schema, schema};
+ghost use Rattle.mls_statements.specs.Schema.{no_schema, HasTables};
 ghost use Rattle.mls_statements.specs.Store.{IsClean};
 ghost use Rattle.mls_fragments.specs.Based.{state_of};
 ghost use Rattle.mls_fragments.specs.Finding.{IsSoundContent, IsSpelledEntry, node_rows, cell_rows};
@@ -172,7 +172,7 @@ fn opened<S: Alter>(
     ensures holds { IfOk result (λ b. IsClean b.tables → Holds b.tables.now (state_of b).now) }
     ensures sound { IfOk result (λ b. IsSoundContent policy.now file.now.schemes (state_of b).now) }
     ensures mode { IfOk result (λ b. (state_of b).begun ≡ false) }
-    ensures schema { OnOk result ((state S.Store conn).now.schema ≡ schema) }
+    ensures schema { OnOk result (HasTables (state S.Store conn).now.schema) }
     ensures clean { IfOk result (λ b. IsClean b.tables → HasCleanDisk (state S.Store conn)) }
     ensures refused { IfErr result (λ e. IsRefused (state S.Store conn) (state S.Store e.1)) }
     ensures policy { IfErr result (λ e. HasCleanDisk (state S.Store e.1) → e.0 ≡ OpenFault.OtherPolicy → IsOfOthers policy.now file.now (state S.Store conn).now) }
@@ -213,7 +213,7 @@ impl<S: Alter> SqlBase<S> {
         ensures sound { IfOk result (λ b. IsSoundContent policy.now file.now.schemes (state_of b).now) }
         ensures mode { IfOk result (λ b. (state_of b).begun ≡ false) }
         ensures clean { IfOk result (λ b. IsClean b.tables → HasCleanDisk (state S.Store conn)) }
-        ensures schema { OnOk result (((state S.Store conn).now.schema ≡ no_schema) ⊎ ((state S.Store conn).now.schema ≡ schema)) }
+        ensures schema { OnOk result (((state S.Store conn).now.schema ≡ no_schema) ⊎ HasTables (state S.Store conn).now.schema) }
         ensures policy { IfErr result (λ e. HasCleanDisk (state S.Store e.1) → e.0 ≡ OpenFault.OtherPolicy → IsOfOthers policy.now file.now (state S.Store conn).now) }
         ensures bad { IfErr result (λ e. HasCleanDisk (state S.Store e.1) → e.0 ≡ OpenFault.BadRows → IsBad policy.now file.now (state S.Store conn).now) }
         ensures made { (state S.Store conn).now.schema ≡ no_schema → IfErr result (λ e. (e.0 ≡ OpenFault.Store) ⊎ (e.0 ≡ OpenFault.Memory)) }
@@ -253,7 +253,7 @@ impl SqlBase<MemStore> {
 }
 
 /// Why the files of a store are not opened.
-fn fault_of(error: Error) -> OpenFault
+pub(crate) fn fault_of(error: Error) -> OpenFault
     ensures { (result ≡ OpenFault.Store) ⊎ (result ≡ OpenFault.Memory) }
 {
     match error {

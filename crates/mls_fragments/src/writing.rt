@@ -4,16 +4,17 @@ ghost use Rattle.std.specs.List.{AllByRecursion};
 ghost use Rattle.mls_scheme.specs.Spelling.{HasSpelling, IsSpelledKey, key_spelling};
 ghost use Rattle.mls_filterview.specs.Fragment.{IsCellOf};
 ghost use Rattle.mls_statements.specs.declared.rows.CellRow.{CellRow as SpecCell};
+ghost use Rattle.mls_statements.specs.Rows.{cell_beside};
 ghost use Rattle.mls_statements.specs.Statements.{SetsCell, AddsEntry, IsOne, has_key_of};
 ghost use Rattle.mls_statements.specs.Store.{IsClean, IsCall, Writes};
 ghost use Rattle.mls_fragments.specs.Finding.{IsMemory};
-ghost use Rattle.mls_fragments.specs.Holding.{node_row, cell_row, value_bytes, IsSpelledCell, value_row, AddsTuple, AddsCells, DropsTuple};
+ghost use Rattle.mls_fragments.specs.Holding.{node_row, cell_row, value_bytes, IsSpelledCell, value_row, own_cell, AddsTuple, DropsTuple};
 
 use crate::reading::{RowFault, give_up};
 use mls_filterview::{Cell, Node};
 use mls_lattice::{Items, LabelNo};
 use mls_scheme::{Place, RelNo, Value, key_bytes, value_bytes};
-use mls_statements::{AuditRow, CellRow, NodeRow, StoreFault, TableStore};
+use mls_statements::{AuditRow, CellRow, NodeRow, OwnCell, StoreFault, TableStore};
 use sqlite::Alter;
 use std::alloc::Global;
 
@@ -113,29 +114,54 @@ fn row_of_value(
     })
 }
 
-/// Adds the cells, in a change.
-fn add_cells<S: Alter>(
-    store: &mut TableStore<S>,
-    alloc: Global,
-    rel: RelNo,
-    cells: &[Cell],
-) -> Result<(), StoreFault>
-    requires begun { store.old.begun ≡ true }
-    requires spelled { AllByRecursion IsSpelledCell cells.now }
-    ensures call { IsCall store.old store.new result }
-    ensures mode { OnOk result (store.new.begun ≡ true) }
-    ensures done { IsClean store.new → OnOk result (Writes (AddsCells (map (cell_row rel) cells.now)) store.old store.new) }
+/// A cell of a tuple's own class, beside the tuple's node.
+fn own_of(alloc: Global, cell: &Cell) -> Result<OwnCell, RowFault>
+    requires { IfSome cell.now.value HasSpelling }
+    ensures made { IfOk result (λ own. own ≡ own_cell cell.now) }
 {
-    for cell in cells {
-        match row_of_cell(alloc, rel, cell) {
-            Ok(row) => store.add_cell(&row)?,
-            Err(fault) => return Err(give_up(store, fault)),
-        }
-    }
-    Ok(())
+    Ok(OwnCell {
+        attr: number_of(cell.attr)?,
+        value: bytes_of_value(alloc, &cell.value)?,
+    })
 }
 
-/// Adds a tuple, in a change: its node and the elements of its class.
+/// The cells of a tuple's own class, beside its node.
+fn own_cells(alloc: Global, cells: &[Cell]) -> Result<Vec<OwnCell>, RowFault>
+    requires { AllByRecursion (λ c. IfSome c.value HasSpelling) cells.now }
+    ensures made { IfOk result (λ own. own.items ≡ map own_cell cells.now) }
+{
+    let mut own = Vec::new(alloc);
+    for cell in cells {
+        own.push(own_of(alloc, cell)?)?;
+    }
+    Ok(own)
+}
+
+/// The rows of a tuple: its node, and beside it the elements of its class. The key is spelled once.
+#[derive(Drop)]
+struct TupleRows {
+    node: NodeRow,
+    own: Vec<OwnCell>,
+}
+
+fn rows_of_tuple(
+    alloc: Global,
+    rel: RelNo,
+    node: &Node,
+    cells: &[Cell],
+) -> Result<TupleRows, RowFault>
+    requires key { IsSpelledKey node.now.key }
+    requires cells { AllByRecursion (IsCellOf node.now) cells.now }
+    ensures node { IfOk result (λ rows. rows.node ≡ node_row rel node.now) }
+    ensures own { IfOk result (λ rows. map (cell_beside rows.node) rows.own.items ≡ map (cell_row rel) cells.now) }
+{
+    Ok(TupleRows {
+        node: row_of_node(alloc, rel, node)?,
+        own: own_cells(alloc, cells)?,
+    })
+}
+
+/// Adds a tuple, in a change: its node and the elements of its class, by two statements, or one where there are none.
 pub(crate) fn add_tuple<S: Alter>(
     store: &mut TableStore<S>,
     alloc: Global,
@@ -150,11 +176,13 @@ pub(crate) fn add_tuple<S: Alter>(
     ensures mode { OnOk result (store.new.begun ≡ true) }
     ensures done { IsClean store.new → OnOk result (Writes (AddsTuple (node_row rel node.now) (map (cell_row rel) cells.now)) store.old store.new) }
 {
-    match row_of_node(alloc, rel, node) {
-        Ok(row) => store.add_node(&row)?,
-        Err(fault) => return Err(give_up(store, fault)),
+    match rows_of_tuple(alloc, rel, node, cells) {
+        Ok(rows) => {
+            store.add_node(&rows.node)?;
+            store.add_cells(&rows.node, &rows.own)
+        }
+        Err(fault) => Err(give_up(store, fault)),
     }
-    add_cells(store, alloc, rel, cells)
 }
 
 /// Gives an element, which stands once, its value, in a change. `place` names the entity and the element's class.

@@ -1,14 +1,17 @@
 -- Statements that are done one after another in a change.
-use Rattle.std.proofs.Common.{◌≡◌, ℕ, ◌+◌, ◌<◌, List, [], ◌∷◌, ◌++◌, Ok, Err, Result, OnOk, length, take, get_or, sym, ap, subst, subst₂, ◌∙◌, IsPermutation, add-one, take-suc}
-use Rattle.std.proofs.lemmas.List.{append-nil, append_assoc}
-use Rattle.std.proofs.lemmas.List.Sorted.{IsPermutation-cons, IsPermutation-trans, IsPermutation-middle}
+use Rattle.std.proofs.Common.{◌≡◌, ℕ, ◌+◌, ◌<◌, pos, List, [], ◌∷◌, ◌++◌, map, Ok, Err, Result, OnOk, length, take, get_or, refl, sym, ap, subst, subst₂, ◌∙◌, IsPermutation, add-one, take-suc}
+use Rattle.std.proofs.lemmas.List.{append-nil, append_assoc, map-append}
+use Rattle.std.proofs.lemmas.Grind.{flat_map-append}
+use Rattle.std.proofs.lemmas.List.Sorted.{IsPermutation-refl, IsPermutation-cons, IsPermutation-trans, IsPermutation-middle, IsPermutation-append_left, IsPermutation-append_right, IsPermutation-append_comm}
+use Rattle.sqlite.specs.declared.types.Value.TheVariants.{Int, Blob}
 use Rattle.sqlite.specs.declared.error.Error.{Error}
 use Rattle.sqlite.specs.State.{State, HasCleanDisk}
 use Rattle.sqlite.proofs.Callers.{one_permutation}
 use Rattle.mls_statements.specs.declared.rows.NodeRow.{NodeRow}
 use Rattle.mls_statements.specs.declared.rows.CellRow.{CellRow}
+use Rattle.mls_statements.specs.declared.rows.OwnCell.{OwnCell}
 use Rattle.mls_statements.specs.declared.rows.MetaRow.{MetaRow}
-use Rattle.mls_statements.specs.Rows.{Tables, tables_of, first_meta}
+use Rattle.mls_statements.specs.Rows.{Tables, tables_of, first_meta, cell_beside, class_values, own_values}
 use Rattle.mls_statements.specs.Statements.{IsReady, Changes, IsWithin, GoesOn, AddsNode, AddsNodes, AddsCell, AddsCells, AddsMeta, ClearsStore, Rewrites}
 
 -- a statement that is done in a change
@@ -49,10 +52,32 @@ next_cell cs i x within is a b c before now = (
   subst (λ all. IsPermutation (all ++ a.cells) c.cells) (sym (up_to cs i x within is)) (one_more (take i cs) a.cells b.cells c.cells x before.1 now.1),
 )
 
+-- several at once
+pub next_cells : (done more : List CellRow) (a b c : Tables) → AddsCells done a b → AddsCells more b c → AddsCells (done ++ more) a c
+next_cells done more a b c before now = (
+  now.0 ∙ ap (λ (t : Tables). record t { cells = c.cells }) before.0,
+  IsPermutation-trans ((done ++ more) ++ a.cells) (more ++ (done ++ a.cells)) c.cells
+      (subst (IsPermutation ((done ++ more) ++ a.cells)) (append_assoc more done a.cells) (IsPermutation-append_left a.cells (done ++ more) (more ++ done) (IsPermutation-append_comm done more)))
+      (IsPermutation-trans (more ++ (done ++ a.cells)) (more ++ b.cells) c.cells (IsPermutation-append_right more (done ++ a.cells) b.cells before.1) now.1),
+)
+
+-- cells beside a node
+pub next_own : (n : NodeRow) (done more : List OwnCell) (a b c : Tables) → AddsCells (map (cell_beside n) done) a b → AddsCells (map (cell_beside n) more) b c → AddsCells (map (cell_beside n) (done ++ more)) a c
+next_own n done more a b c before now =
+    subst (λ cs. AddsCells cs a c) (sym (map-append (cell_beside n) done more)) (next_cells (map (cell_beside n) done) (map (cell_beside n) more) a b c before now)
+
+-- what a statement that adds cells beside a node is given
+pub own_next : (n : NodeRow) (cs : List OwnCell) (i : ℕ) (c : OwnCell) → i < length cs → c ≡ get_or cs i c
+    → own_values n (take (i + 1) cs) ≡ own_values n (take i cs) ++ Int (pos c.attr) ∷ Blob c.value ∷ []
+own_next n cs i c within is = ap (own_values n) (up_to cs i c within is) ∙ ap (λ vs. class_values n.rel n.ent n.kclass n.label ++ vs) (flat_map-append (λ c. Int (pos c.attr) ∷ Blob c.value ∷ []) (take i cs) (c ∷ []))
+
 -- ---- what a loop of such statements has done so far
 
 abbrev pub IsSoFar : (Tables → Tables → Type 0) → State → State → Type 0
 IsSoFar Rows first s = (HasCleanDisk s → HasCleanDisk first) × (HasCleanDisk s → IsWithin first → GoesOn Rows first s)
+
+pub nothing_yet : (s : State) → IsSoFar (AddsCells []) s s
+nothing_yet s = (λ clean. clean, λ clean within. record { within = within; rows = (refl, IsPermutation-refl (tables_of s.now.trees).cells); committed = refl })
 
 module _ {Before Now : Tables → Tables → Type 0} (first old new : State) (before : IsSoFar Before first old) (clean : HasCleanDisk new → HasCleanDisk old) where
   -- one statement more is done

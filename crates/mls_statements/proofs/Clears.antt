@@ -21,52 +21,52 @@ use Rattle.mls_statements.proofs.Texts.{every, clear_nodes, clear_nodes_is, clea
 use Rattle.mls_statements.proofs.PlainWrites.{drops}
 use Rattle.mls_statements.proofs.QueryAnswers.{passes, answered}
 use Rattle.mls_statements.proofs.TableEdits.{dropped}
+use Rattle.mls_statements.proofs.SchemaLemmas.{at_rest}
 use Rattle.mls_statements.proofs.ReadyLemmas.{nodes_changed, cells_changed, meta_changed}
 
 none_left : {X : Type 0} (xs : List X) → filter (λ x. not true) xs ≡ []
 none_left [] = refl
 none_left (x ∷ xs) = none_left xs
 
-module _ (old new : State) where
+module _ (old new : State) (ready : IsReady old.now) where
   -- the rows that a statement shows are taken out of their table
   abbrev TakesOut : Table → Row → Type 0
   TakesOut table params =
-      (new.now.schema ≡ schema) × (rows : List Row) × IsAnswer (every table.tree) (overlay old.now.trees []) params rows × Applies schema Enforced old.now.trees (edit_of old.now.trees table (ids_of rows) Given 0 []) new.now.trees × IsNext old new
+      (new.now.schema ≡ schema ready.0.others) × (rows : List Row) × IsAnswer (every table.tree) (overlay old.now.trees []) params rows × Applies (schema ready.0.others) Enforced old.now.trees (edit_of old.now.trees table (ids_of rows) Given 0 []) new.now.trees × IsNext old new
 
   cleared : {X : Type 0} (is_row : Row → Bool) (read : Row → X) (table : Table) → ((r : Row) → is_row r ≡ true → is_int (rowid r) ≡ true) → overlay old.now.trees [] table.tree ≡ old.now.trees table.tree
       → AreRows is_row (old.now.trees table.tree) → TakesOut table [] → AreRows is_row (new.now.trees table.tree) × (map read (new.now.trees table.tree) ≡ [])
   cleared is_row read table ids plain are did =
-      let left = dropped is_row read schema old.now.trees new.now.trees table are ids (passes [] []) (λ x. true) (λ r h. refl) did.1
+      let left = dropped is_row read (schema ready.0.others) old.now.trees new.now.trees table are ids (passes [] []) (λ x. true) (λ r h. refl) did.1
       (answered table.tree [] (col 1 0 ∷ []) [] old.now.trees [] did.1 plain did.2) did.3 in
       (left.0, left.1 ∙ none_left (map read (old.now.trees table.tree)))
 
-  module _ (ready : IsReady old.now) where
-    nodes_cleared : TakesOut node [] → Changes ClearsNodes old new
-    nodes_cleared did =
-        let left = cleared is_node_row node_of node (λ r h. (and_parts _ _ h).0) refl ready.1.0 did in
-        let all = nodes_changed old.now new.now did.0 ready left.0 did.3.tables in
-        record { ready = all.0; rows = all.1 ∙ ap (λ ns. record (tables_of old.now.trees) { nodes = ns }) left.1; next = did.4 }
+  nodes_cleared : TakesOut node [] → Changes ClearsNodes old new
+  nodes_cleared did =
+      let left = cleared is_node_row node_of node (λ r h. (and_parts _ _ h).0) refl ready.1.0 did in
+      let all = nodes_changed old.now new.now ready did.0 left.0 did.3.tables in
+      record { ready = all.0; rows = all.1 ∙ ap (λ ns. record (tables_of old.now.trees) { nodes = ns }) left.1; next = did.4 }
 
-    pub clears_nodes : (r : Result ℕ Error) → Executes clear_nodes [] old new r → OnOk r (Changes ClearsNodes old new)
-    clears_nodes (Err e) h = tt
-    clears_nodes (Ok count) h = nodes_cleared (drops old new schema ready.0 clear_nodes 0 node refl (λ olds news. refl) [] count h (every 0) clear_nodes_is)
+  pub clears_nodes : (r : Result ℕ Error) → Executes clear_nodes [] old new r → OnOk r (Changes ClearsNodes old new)
+  clears_nodes (Err e) h = tt
+  clears_nodes (Ok count) h = nodes_cleared (drops old new (schema ready.0.others) ready.0.is clear_nodes 0 node refl (at_rest ready.0.others ready.0.apart node.tree) [] count h (every 0) (clear_nodes_is ready.0.others))
 
-    cells_cleared : TakesOut cell [] → Changes ClearsCells old new
-    cells_cleared did =
-        let left = cleared is_cell_row cell_of cell (λ r h. (and_parts _ _ h).0) refl ready.1.1.0 did in
-        let all = cells_changed old.now new.now did.0 ready left.0 did.3.tables in
-        record { ready = all.0; rows = all.1 ∙ ap (λ cs. record (tables_of old.now.trees) { cells = cs }) left.1; next = did.4 }
+  cells_cleared : TakesOut cell [] → Changes ClearsCells old new
+  cells_cleared did =
+      let left = cleared is_cell_row cell_of cell (λ r h. (and_parts _ _ h).0) refl ready.1.1.0 did in
+      let all = cells_changed old.now new.now ready did.0 left.0 did.3.tables in
+      record { ready = all.0; rows = all.1 ∙ ap (λ cs. record (tables_of old.now.trees) { cells = cs }) left.1; next = did.4 }
 
-    pub clears_cells : (r : Result ℕ Error) → Executes clear_cells [] old new r → OnOk r (Changes ClearsCells old new)
-    clears_cells (Err e) h = tt
-    clears_cells (Ok count) h = cells_cleared (drops old new schema ready.0 clear_cells 1 cell refl (λ olds news. refl) [] count h (every 2) clear_cells_is)
+  pub clears_cells : (r : Result ℕ Error) → Executes clear_cells [] old new r → OnOk r (Changes ClearsCells old new)
+  clears_cells (Err e) h = tt
+  clears_cells (Ok count) h = cells_cleared (drops old new (schema ready.0.others) ready.0.is clear_cells 1 cell refl (at_rest ready.0.others ready.0.apart cell.tree) [] count h (every 2) (clear_cells_is ready.0.others))
 
-    meta_cleared : TakesOut meta [] → Changes ClearsMeta old new
-    meta_cleared did =
-        let left = cleared is_meta_row meta_of meta (λ r h. (and_parts _ _ h).0) refl ready.1.1.1.1 did in
-        let all = meta_changed old.now new.now did.0 ready left.0 did.3.tables in
-        record { ready = all.0; rows = all.1 ∙ ap (λ ms. record (tables_of old.now.trees) { meta = ms }) left.1; next = did.4 }
+  meta_cleared : TakesOut meta [] → Changes ClearsMeta old new
+  meta_cleared did =
+      let left = cleared is_meta_row meta_of meta (λ r h. (and_parts _ _ h).0) refl ready.1.1.1.1 did in
+      let all = meta_changed old.now new.now ready did.0 left.0 did.3.tables in
+      record { ready = all.0; rows = all.1 ∙ ap (λ ms. record (tables_of old.now.trees) { meta = ms }) left.1; next = did.4 }
 
-    pub clears_meta : (r : Result ℕ Error) → Executes clear_meta [] old new r → OnOk r (Changes ClearsMeta old new)
-    clears_meta (Err e) h = tt
-    clears_meta (Ok count) h = meta_cleared (drops old new schema ready.0 clear_meta 3 meta refl (λ olds news. refl) [] count h (every 5) clear_meta_is)
+  pub clears_meta : (r : Result ℕ Error) → Executes clear_meta [] old new r → OnOk r (Changes ClearsMeta old new)
+  clears_meta (Err e) h = tt
+  clears_meta (Ok count) h = meta_cleared (drops old new (schema ready.0.others) ready.0.is clear_meta 3 meta refl (at_rest ready.0.others ready.0.apart meta.tree) [] count h (every 5) (clear_meta_is ready.0.others))

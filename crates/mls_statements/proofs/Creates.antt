@@ -11,7 +11,7 @@ use Rattle.sqlite.specs.Does.{Tally, lacks_sequence}
 use Rattle.sqlite.specs.Effect.{Database}
 use Rattle.sqlite.specs.State.{State, Writes, Executes}
 use Rattle.sqlite.proofs.Callers.{runs_as}
-use Rattle.mls_statements.specs.Schema.{IsMade, no_schema, with_node, with_cell, with_audit, schema, node, cell, audit, meta}
+use Rattle.mls_statements.specs.Schema.{IsMade, no_schema, with_node, with_cell, with_audit, no_others, schema, node, cell, audit, meta}
 use Rattle.mls_statements.specs.Statements.{IsNext}
 use Rattle.mls_statements.proofs.Texts.{MakesTable, create_node, create_node_is, create_cell, create_cell_is, create_audit, create_audit_is, create_meta, create_meta_is}
 use Rattle.mls_statements.proofs.EditParts.{went, same_value}
@@ -69,7 +69,7 @@ module _ (old new : State) where
       let before = still_empty with_cell.tables old.now.trees new.now.trees it.others was.1 in
       ((it.schema_is, (before.0, (before.1.0, (it.empty, tt)))), it.next)
 
-  pub makes_meta : (r : Result ℕ Error) → IsMade with_audit old.now → Executes create_meta [] old new r → OnOk r (IsMade schema new.now × IsNext old new)
+  pub makes_meta : (r : Result ℕ Error) → IsMade with_audit old.now → Executes create_meta [] old new r → OnOk r (IsMade (schema no_others) new.now × IsNext old new)
   makes_meta (Err e) was h = tt
   makes_meta (Ok count) was h =
       let it = made with_audit create_meta meta create_meta_is refl old new count was.0 h in

@@ -4,20 +4,20 @@ use Rattle.sqlite.specs.Effect.{Database}
 use Rattle.sqlite.specs.State.{State, Commits}
 use Rattle.sqlite.specs.declared.error.Error.{Error}
 use Rattle.sqlite.proofs.Callers.{one_permutation}
-use Rattle.mls_statements.specs.Schema.{IsMade, schema}
+use Rattle.mls_statements.specs.Schema.{IsMade, no_others, schema}
 use Rattle.mls_statements.specs.Rows.{Tables, tables_of, no_rows, first_meta, described}
 use Rattle.mls_statements.specs.Statements.{IsReady, Changes, AddsMeta, IsNewStore}
 
 -- tables without a row are ready
-pub made_ready : (db : Database) → IsMade schema db → IsReady db × (tables_of db.trees ≡ no_rows)
+pub made_ready : (db : Database) → IsMade (schema no_others) db → IsReady db × (tables_of db.trees ≡ no_rows)
 made_ready db made =
     let nodes : db.trees 0 ≡ [] = made.1.0 in
     let cells : db.trees 2 ≡ [] = made.1.1.0 in
     let audit : db.trees 4 ≡ [] = made.1.1.1.0 in
     let meta : db.trees 5 ≡ [] = made.1.1.1.1.0 in
-    ((made.0, (rw nodes (tt, tt), (rw cells (tt, tt), (rw audit (tt, tt), rw meta (tt, tt))))), rw (nodes, cells, audit, meta) refl)
+    ((record { others = no_others; apart = record { tables = refl; indexes = refl }; is = made.0 }, (rw nodes (tt, tt), (rw cells (tt, tt), (rw audit (tt, tt), rw meta (tt, tt))))), rw (nodes, cells, audit, meta) refl)
 
-module _ (made added end : State) (version : ℕ) (lattice schemes : List ℕ) (is : IsMade schema made.now) (adds : Changes (AddsMeta (first_meta version lattice schemes)) made added) where
+module _ (made added end : State) (version : ℕ) (lattice schemes : List ℕ) (is : IsMade (schema no_others) made.now) (adds : Changes (AddsMeta (first_meta version lattice schemes)) made added) where
   new_store : Commits added end → IsNewStore version lattice schemes end
   new_store commits =
       let empty = (made_ready made.now is).1 in

@@ -23,13 +23,14 @@ use Rattle.sqlite_rules.specs.Calls.{ids_of}
 use Rattle.sqlite_rules.proofs.TableLemmas.{int_is}
 use Rattle.mls_statements.specs.declared.rows.CellRow.{CellRow}
 use Rattle.mls_statements.specs.Schema.{schema, node, cell}
-use Rattle.mls_statements.specs.Rows.{node_of, is_node_row, is_node, cell_of, is_cell_row, is_cell_in, cell_values, tables_of, blob_in}
+use Rattle.mls_statements.specs.Rows.{node_of, is_node_row, is_node, cell_of, is_cell_row, is_cell_in, class_values, cell_values, tables_of, blob_in}
 use Rattle.mls_statements.specs.Statements.{IsReady, IsNext, Changes, DropsNode, DropsCells, SetsCell, IsOne, has_key_of}
 use Rattle.mls_statements.proofs.Texts.{by_class, by_cell, set_terms, drop_node, drop_node_is, drop_cells, drop_cells_is, set_cell, set_cell_is}
 use Rattle.mls_statements.proofs.PlainWrites.{drops, sets}
 use Rattle.mls_statements.proofs.QueryAnswers.{rows_by, passes, answered}
 use Rattle.mls_statements.proofs.TableRows.{filtered}
 use Rattle.mls_statements.proofs.TableEdits.{dropped, replaced}
+use Rattle.mls_statements.proofs.SchemaLemmas.{at_rest}
 use Rattle.mls_statements.proofs.ReadyLemmas.{nodes_changed, cells_changed}
 use Rattle.mls_statements.proofs.ValueTests.{node_parts, cell_parts, node_in_class, cell_in_class, cell_at_key, nat_is, blob_is}
 use Rattle.mls_statements.proofs.Adds.{cast_int, cast_cell}
@@ -40,15 +41,11 @@ node_id r h = (node_parts r h).id
 cell_id : (r : Row) → is_cell_row r ≡ true → is_int (rowid r) ≡ true
 cell_id r h = (cell_parts r h).id
 
--- the values of the keys of tuples' own classes
-abbrev class_values : ℕ → List ℕ → ℕ → ℕ → Row
-class_values rel ent kclass label = Int (pos rel) ∷ Blob ent ∷ Int (pos kclass) ∷ Int (pos label) ∷ []
-
 module _ (old new : State) (ready : IsReady old.now) where
   -- the rows that a statement shows are taken out of their table, and parts of them put in
   abbrev Moves : Table → ℕ → (List Row → List Row) → Query → Row → Type 0
   Moves table from put q params =
-      (new.now.schema ≡ schema) × (rows : List Row) × IsAnswer q (overlay old.now.trees []) params rows × Applies schema Enforced old.now.trees (edit_of old.now.trees table (ids_of rows) Given from (put rows)) new.now.trees × IsNext old new
+      (new.now.schema ≡ schema ready.0.others) × (rows : List Row) × IsAnswer q (overlay old.now.trees []) params rows × Applies (schema ready.0.others) Enforced old.now.trees (edit_of old.now.trees table (ids_of rows) Given from (put rows)) new.now.trees × IsNext old new
 
   abbrev nothing : List Row → List Row
   nothing rows = []
@@ -56,30 +53,30 @@ module _ (old new : State) (ready : IsReady old.now) where
   node_dropped : (rel : ℕ) (ent : List ℕ) (kclass label : ℕ) → Moves node 0 nothing (rows_by 0 by_class (col 1 0 ∷ [])) (class_values rel ent kclass label) → Changes (DropsNode rel ent kclass label) old new
   node_dropped rel ent kclass label did =
       let params = class_values rel ent kclass label in
-      let left = dropped is_node_row node_of schema old.now.trees new.now.trees node ready.1.0 node_id (passes by_class params) (is_node rel ent kclass label) (node_in_class rel ent kclass label) did.1
+      let left = dropped is_node_row node_of (schema ready.0.others) old.now.trees new.now.trees node ready.1.0 node_id (passes by_class params) (is_node rel ent kclass label) (node_in_class rel ent kclass label) did.1
       (answered 0 by_class (col 1 0 ∷ []) [] old.now.trees params did.1 refl did.2) did.3 in
-      let all = nodes_changed old.now new.now did.0 ready left.0 did.3.tables in
+      let all = nodes_changed old.now new.now ready did.0 left.0 did.3.tables in
       record { ready = all.0; rows = all.1 ∙ ap (λ ns. record (tables_of old.now.trees) { nodes = ns }) left.1; next = did.4 }
 
   pub drops_node : (rel : ℕ) (ent : List ℕ) (kclass label : ℕ) (r : Result ℕ Error) → Executes drop_node (class_values rel ent kclass label) old new r
       → OnOk r (Changes (DropsNode rel ent kclass label) old new)
   drops_node rel ent kclass label (Err e) h = tt
   drops_node rel ent kclass label (Ok count) h =
-      node_dropped rel ent kclass label (drops old new schema ready.0 drop_node 0 node refl (λ olds news. refl) (class_values rel ent kclass label) count h (rows_by 0 by_class (col 1 0 ∷ [])) drop_node_is)
+      node_dropped rel ent kclass label (drops old new (schema ready.0.others) ready.0.is drop_node 0 node refl (at_rest ready.0.others ready.0.apart node.tree) (class_values rel ent kclass label) count h (rows_by 0 by_class (col 1 0 ∷ [])) (drop_node_is ready.0.others))
 
   cells_dropped : (rel : ℕ) (ent : List ℕ) (kclass label : ℕ) → Moves cell 0 nothing (rows_by 2 by_class (col 1 0 ∷ [])) (class_values rel ent kclass label) → Changes (DropsCells rel ent kclass label) old new
   cells_dropped rel ent kclass label did =
       let params = class_values rel ent kclass label in
-      let left = dropped is_cell_row cell_of schema old.now.trees new.now.trees cell ready.1.1.0 cell_id (passes by_class params) (is_cell_in rel ent kclass label) (cell_in_class rel ent kclass label) did.1
+      let left = dropped is_cell_row cell_of (schema ready.0.others) old.now.trees new.now.trees cell ready.1.1.0 cell_id (passes by_class params) (is_cell_in rel ent kclass label) (cell_in_class rel ent kclass label) did.1
       (answered 2 by_class (col 1 0 ∷ []) [] old.now.trees params did.1 refl did.2) did.3 in
-      let all = cells_changed old.now new.now did.0 ready left.0 did.3.tables in
+      let all = cells_changed old.now new.now ready did.0 left.0 did.3.tables in
       record { ready = all.0; rows = all.1 ∙ ap (λ cs. record (tables_of old.now.trees) { cells = cs }) left.1; next = did.4 }
 
   pub drops_cells : (rel : ℕ) (ent : List ℕ) (kclass label : ℕ) (r : Result ℕ Error) → Executes drop_cells (class_values rel ent kclass label) old new r
       → OnOk r (Changes (DropsCells rel ent kclass label) old new)
   drops_cells rel ent kclass label (Err e) h = tt
   drops_cells rel ent kclass label (Ok count) h =
-      cells_dropped rel ent kclass label (drops old new schema ready.0 drop_cells 1 cell refl (λ olds news. refl) (class_values rel ent kclass label) count h (rows_by 2 by_class (col 1 0 ∷ [])) drop_cells_is)
+      cells_dropped rel ent kclass label (drops old new (schema ready.0.others) ready.0.is drop_cells 1 cell refl (at_rest ready.0.others ready.0.apart cell.tree) (class_values rel ent kclass label) count h (rows_by 2 by_class (col 1 0 ∷ [])) (drop_cells_is ready.0.others))
 
 -- ---- a cell is set
 
@@ -143,14 +140,14 @@ module _ (old new : State) (ready : IsReady old.now) where
   cell_set x was one did =
       let found = found_row x was (old.now.trees 2) ready.1.1.0.1 one in
       let id = id_in (rowid found.0) in
-      let step = subst (λ some. Applies schema Enforced old.now.trees (edit_of old.now.trees cell (ids_of some) Given 1 some) new.now.trees)
+      let step = subst (λ some. Applies (schema ready.0.others) Enforced old.now.trees (edit_of old.now.trees cell (ids_of some) Given 1 some) new.now.trees)
       (shown_row x (old.now.trees 2) did.1 found.0 found.1 (answered 2 by_cell set_terms [] old.now.trees (cell_values x) did.1 refl did.2)) did.3 in
-      let put = replaced is_cell_row cell_of schema old.now.trees new.now.trees cell ready.1.1.0 cell_id (passes by_cell (cell_values x)) (has_key_of x) (cell_at_key x) found.0 id (cell_values x) found.1.one refl
+      let put = replaced is_cell_row cell_of (schema ready.0.others) old.now.trees new.now.trees cell ready.1.1.0 cell_id (passes by_cell (cell_values x)) (has_key_of x) (cell_at_key x) found.0 id (cell_values x) found.1.one refl
       (cast_cell (Int id) x (cast_int id)) refl step in
-      let all = cells_changed old.now new.now did.0 ready put.0 did.3.tables in
+      let all = cells_changed old.now new.now ready did.0 put.0 did.3.tables in
       record { ready = all.0; rows = (all.1, put.1); next = did.4 }
 
   pub sets_cell : (x was : CellRow) (r : Result ℕ Error) → IsOne (has_key_of x) (tables_of old.now.trees).cells was → Executes set_cell (cell_values x) old new r
       → OnOk r (Changes (SetsCell x) old new)
   sets_cell x was (Err e) one h = tt
-  sets_cell x was (Ok count) one h = cell_set x was one (sets old new schema ready.0 set_cell 1 cell refl (λ olds news. refl) (cell_values x) count h (rows_by 2 by_cell set_terms) set_cell_is)
+  sets_cell x was (Ok count) one h = cell_set x was one (sets old new (schema ready.0.others) ready.0.is set_cell 1 cell refl (at_rest ready.0.others ready.0.apart cell.tree) (cell_values x) count h (rows_by 2 by_cell set_terms) (set_cell_is ready.0.others))

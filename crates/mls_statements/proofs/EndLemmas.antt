@@ -1,5 +1,5 @@
 -- What calls leave of a connection, whatever their texts, and where changes begin and end.
-use Rattle.std.proofs.Common.{◌≡◌, inl, inr, ℕ, List, [], false, Option, Some, None, Ok, Err, Result, IsTrue, OnOk, OnErr, IfOk, IfErr, Vec, codes, length, refl, sym, ap, subst, subst₂, true≢false, ◌∙◌}
+use Rattle.std.proofs.Common.{◌≡◌, inl, inr, ℕ, List, [], true, false, if◌then◌else◌, Option, Some, None, Ok, Err, Result, IsTrue, OnOk, OnErr, IfOk, IfErr, Vec, codes, length, refl, sym, ap, subst, subst₂, true≢false, ◌∙◌}
 use Rattle.std.specs.declared.alloc.Global.{Global}
 use Rattle.std.proofs.lemmas.Bool.{cases_Bool}
 use Rattle.sqlite.specs.Order.{Row}
@@ -8,11 +8,14 @@ use Rattle.sqlite.specs.Clock.{timed}
 use Rattle.sqlite.specs.Command.{Command}
 use Rattle.sqlite.specs.Command.TheVariants.{Begin, Commit, Rollback}
 use Rattle.sqlite.specs.Listing.{understood}
-use Rattle.sqlite.specs.State.{State, IsUnchanged, IsRolledBack, Executes, ExecutesIn, IsNotRun, IsNoStatement, RunsAlone, shows_rows, Shown, ShowsRows, FailsToQuery, FailsToShow, Commits, Writes}
+use Rattle.sqlite.specs.State.{State, IsUnchanged, IsRolledBack, KeepsCommit, Executes, ExecutesIn, IsNotRun, IsNoStatement, RunsAlone, shows_rows, Shown, ShowsRows, FailsToQuery, FailsToShow, Commits, Writes}
 use Rattle.sqlite.specs.declared.error.Error.{Error}
 use Rattle.sqlite.proofs.Callers.{runs_as, IsPlain, command_of}
 use Rattle.sqlite_resolve.specs.declared.compiled.Compiled.{Compiled}
 use Rattle.sqlite_schema.specs.declared.command.Returning.{Returning}
+use Rattle.sqlite.specs.Effect.{Database}
+use Rattle.mls_statements.specs.Adopting.{HasRead}
+use Rattle.mls_statements.specs.Schema.{HasTables}
 use Rattle.mls_statements.specs.Statements.{IsNext, IsEnded, Begins}
 use Rattle.mls_statements.proofs.Texts.{begin_is, commit_is, rollback_is, rollback_whole, IsWhole}
 
@@ -37,6 +40,15 @@ unfolding FailsToQuery IsNotRun
 fails_ended old new sql params e (inl (inl refused)) = inl refused.1
 fails_ended old new sql params e (inl (inr failed)) = inr failed.3
 fails_ended old new sql params e (inr h) = fails_show old new sql h.0 _ e h.0.returning h.2
+
+-- so what was committed is kept
+pub keeps : (old new : State) → IsEnded old new → KeepsCommit old new
+keeps old new (inl same) = record { was_open = λ _. same.0.was_open; committed = λ _. same.0.committed_is }
+keeps old new (inr undone) = record { was_open = undone.was_open; committed = λ shows. (undone.undone shows).1 }
+
+pub ended_keeps : (old new : State) (r : Result ℕ Error) → OnErr r (IsEnded old new) → OnErr r (KeepsCommit old new)
+ended_keeps old new (Ok count) h = tt
+ended_keeps old new (Err e) h = keeps old new h
 
 -- so it is of a query
 pub query_ended : (old new : State) (sql : List ℕ) (params : Row) (r : Result (Vec Row Global) Error) → IfErr r (FailsToQuery sql params old new) → OnErr r (IsEnded old new)
@@ -114,3 +126,31 @@ module _ (old new : State) where
   undone (Err e) begun (inr h) =
       let known = sym h.1.is in
       undone_alone e h.0 _ (ap command_of known ∙ (rollback_is old.now.schema).0) (subst IsPlain (sym known) (rollback_is old.now.schema).1).0 begun h.2
+
+-- ---- transactions
+
+-- what was read between BEGIN and COMMIT was there before
+module _ (old begun read end : State) (begins : Begins old begun) where
+  pub tables_begun : HasTables old.now.schema → HasTables begun.now.schema
+  tables_begun has = subst (λ (db : Database). HasTables db.schema) (sym begins.now) has
+
+  pub has_read : IsUnchanged begun read → Commits read end → HasRead old end
+  has_read same done = record {
+    is_open = done.0.is_open;
+    mode = done.0.mode;
+    same = done.0.now_is ∙ (same.0.now_is ∙ begins.now);
+    committed = done.0.committed_is ∙ (same.0.now_is ∙ begins.now);
+  }
+
+-- a change that was begun, went on, and ended with an error has committed nothing
+pub nothing_kept : (old first made added end : State) (r : Result ℕ Error) → Begins old first → IsNext first made → IsNext made added → OnErr r (IsEnded added end) → OnErr r (KeepsCommit old end)
+nothing_kept old first made added end (Ok count) begins makes adds h = tt
+nothing_kept old first made added end (Err e) begins makes adds h =
+    let in_change : made.in_transaction ≡ true = makes.mode ∙ begins.mode in
+    let as_made : made.committed ≡ first.committed = makes.committed ∙ ap (λ on. if on then first.committed else made.now) begins.mode in
+    let as_added : added.committed ≡ made.committed = adds.committed ∙ ap (λ on. if on then made.committed else added.now) in_change in
+    let same = as_added ∙ (as_made ∙ begins.committed) in
+    elim h [
+      | inl nothing ↦ record { was_open = λ o. begins.was_open; committed = λ o. nothing.0.committed_is ∙ same }
+      | inr rolled ↦ record { was_open = λ o. begins.was_open; committed = λ o. (rolled.undone o).1 ∙ same }
+    ]

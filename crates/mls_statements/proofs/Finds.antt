@@ -2,7 +2,7 @@
 use Rattle.std.proofs.Common.{◌≡◌, ℕ, pos, List, [], ◌∷◌, ◌++◌, map, filter, codes, Ok, Err, Result, IfOk, Vec, Bool, true, refl, ap, subst, IsPermutation}
 use Rattle.std.specs.declared.alloc.Global.{Global}
 use Rattle.sqlite_value.specs.Order.{Row}
-use Rattle.sqlite.specs.declared.types.Value.TheVariants.{Null, Int, Blob}
+use Rattle.sqlite.specs.declared.types.Value.TheVariants.{Null, Int}
 use Rattle.sqlite.specs.declared.error.Error.{Error}
 use Rattle.sqlite.specs.Term.{Term, col, eval_all}
 use Rattle.sqlite.specs.Command.TheVariants.{Select}
@@ -12,23 +12,23 @@ use Rattle.sqlite_value.specs.declared.keys.Key.{Key}
 use Rattle.sqlite_value.specs.Keys.{ascending}
 use Rattle.sqlite.specs.Collation.TheVariants.{Binary}
 use Rattle.sqlite.proofs.Callers.{reads_as}
-use Rattle.mls_statements.specs.Schema.{schema}
-use Rattle.mls_statements.specs.Rows.{tables_of, node_columns, cell_columns, audit_columns, meta_columns, is_node_at, is_node_of, node_values, node_of, is_node_row, is_cell_at, is_cell_of, cell_values, cell_of, is_cell_row}
+use Rattle.mls_statements.specs.Schema.{Others, HasTables, schema}
+use Rattle.mls_statements.specs.Rows.{tables_of, node_columns, cell_columns, audit_columns, meta_columns, is_node_at, is_node, node_values, node_of, is_node_row, is_cell_at, is_cell_in, class_values, cell_values, cell_of, is_cell_row}
 use Rattle.mls_statements.specs.Statements.{IsReady}
 use Rattle.mls_statements.proofs.EditParts.{alone}
 use Rattle.mls_statements.proofs.QueryAnswers.{rows_sorted, passes, answered}
 use Rattle.mls_statements.proofs.TableRows.{answers}
-use Rattle.mls_statements.proofs.ValueTests.{node_at_label, node_of_entity, node_shows, cell_at_label, cell_of_entity, cell_shows}
-use Rattle.mls_statements.proofs.Texts.{Asks, by_label, by_entity, node_names, node_shown, nodes_at, nodes_at_is, nodes_of, nodes_of_is, cell_names, cell_shown, cells_at, cells_at_is, cells_of, cells_of_is, audit_names, audit_shown, meta_names, all_nodes, all_nodes_is, all_cells, all_cells_is, all_entries, all_entries_is, all_meta, all_meta_is}
+use Rattle.mls_statements.proofs.ValueTests.{node_at_label, node_in_class, node_shows, cell_at_label, cell_in_class, cell_shows}
+use Rattle.mls_statements.proofs.Texts.{Asks, by_label, by_class, node_names, node_shown, nodes_at, nodes_at_is, nodes_of, nodes_of_is, cell_names, cell_shown, cells_at, cells_at_is, cells_of, cells_of_is, audit_names, audit_shown, meta_names, all_nodes, all_nodes_is, all_cells, all_cells_is, all_entries, all_entries_is, all_meta, all_meta_is}
 
 abbrev Found : Type 0
 Found = Result (Vec Row Global) Error
 
-module _ (old new : State) (sql : List ℕ) (params : Row) (tree : ℕ) (terms project : List Term) (names : List (List ℕ))
-    (order : List (Term × Key)) (asks : Asks schema sql (Select (alone (rows_sorted tree terms project order)) names)) (plain : overlay old.now.trees [] tree ≡ old.now.trees tree)
-    (has : old.now.schema ≡ schema) where
+module _ (old new : State) (o : Others) (sql : List ℕ) (params : Row) (tree : ℕ) (terms project : List Term) (names : List (List ℕ))
+    (order : List (Term × Key)) (asks : Asks (schema o) sql (Select (alone (rows_sorted tree terms project order)) names)) (plain : overlay old.now.trees [] tree ≡ old.now.trees tree)
+    (has : old.now.schema ≡ schema o) where
   pub found : (rows : List Row) → Shown sql params old new rows → IsPermutation (map (λ r. eval_all project (params ∷ r ∷ [])) (filter (passes terms params) (old.now.trees tree))) rows
-  found rows h = answered tree terms project order old.now.trees params rows plain ((reads_as sql params old new schema has _ asks.0 asks.1 asks.2 rows h).answer Null)
+  found rows h = answered tree terms project order old.now.trees params rows plain ((reads_as sql params old new (schema o) has _ asks.0 asks.1 asks.2 rows h).answer Null)
 
 module _ (old new : State) (ready : IsReady old.now) where
   pub finds_nodes_at : (rel label : ℕ) (r : Found) → IfOk r (λ rows. Shown nodes_at (Int (pos rel) ∷ Int (pos label) ∷ []) old new rows.items)
@@ -37,15 +37,15 @@ module _ (old new : State) (ready : IsReady old.now) where
   finds_nodes_at rel label (Ok rows) h =
       let params = Int (pos rel) ∷ Int (pos label) ∷ [] in
       answers is_node_row node_of (passes by_label params) (is_node_at rel label) _ node_values (node_at_label rel label) (node_shows params) (old.now.trees 0) rows.items ready.1.0.1
-      (found old new nodes_at params 0 by_label node_shown node_names [] nodes_at_is refl ready.0 rows.items h)
+      (found old new ready.0.others nodes_at params 0 by_label node_shown node_names [] (nodes_at_is ready.0.others) refl ready.0.is rows.items h)
 
-  pub finds_nodes_of : (rel : ℕ) (ent : List ℕ) (kclass : ℕ) (r : Found) → IfOk r (λ rows. Shown nodes_of (Int (pos rel) ∷ Blob ent ∷ Int (pos kclass) ∷ []) old new rows.items)
-      → IfOk r (λ rows. IsPermutation (map node_values (filter (is_node_of rel ent kclass) (tables_of old.now.trees).nodes)) rows.items)
-  finds_nodes_of rel ent kclass (Err e) h = tt
-  finds_nodes_of rel ent kclass (Ok rows) h =
-      let params = Int (pos rel) ∷ Blob ent ∷ Int (pos kclass) ∷ [] in
-      answers is_node_row node_of (passes by_entity params) (is_node_of rel ent kclass) _ node_values (node_of_entity rel ent kclass) (node_shows params) (old.now.trees 0) rows.items ready.1.0.1
-      (found old new nodes_of params 0 by_entity node_shown node_names [] nodes_of_is refl ready.0 rows.items h)
+  pub finds_nodes_of : (rel : ℕ) (ent : List ℕ) (kclass label : ℕ) (r : Found) → IfOk r (λ rows. Shown nodes_of (class_values rel ent kclass label) old new rows.items)
+      → IfOk r (λ rows. IsPermutation (map node_values (filter (is_node rel ent kclass label) (tables_of old.now.trees).nodes)) rows.items)
+  finds_nodes_of rel ent kclass label (Err e) h = tt
+  finds_nodes_of rel ent kclass label (Ok rows) h =
+      let params = class_values rel ent kclass label in
+      answers is_node_row node_of (passes by_class params) (is_node rel ent kclass label) _ node_values (node_in_class rel ent kclass label) (node_shows params) (old.now.trees 0) rows.items ready.1.0.1
+      (found old new ready.0.others nodes_of params 0 by_class node_shown node_names [] (nodes_of_is ready.0.others) refl ready.0.is rows.items h)
 
   pub finds_cells_at : (rel label : ℕ) (r : Found) → IfOk r (λ rows. Shown cells_at (Int (pos rel) ∷ Int (pos label) ∷ []) old new rows.items)
       → IfOk r (λ rows. IsPermutation (map cell_values (filter (is_cell_at rel label) (tables_of old.now.trees).cells)) rows.items)
@@ -53,15 +53,15 @@ module _ (old new : State) (ready : IsReady old.now) where
   finds_cells_at rel label (Ok rows) h =
       let params = Int (pos rel) ∷ Int (pos label) ∷ [] in
       answers is_cell_row cell_of (passes by_label params) (is_cell_at rel label) _ cell_values (cell_at_label rel label) (cell_shows params) (old.now.trees 2) rows.items ready.1.1.0.1
-      (found old new cells_at params 2 by_label cell_shown cell_names [] cells_at_is refl ready.0 rows.items h)
+      (found old new ready.0.others cells_at params 2 by_label cell_shown cell_names [] (cells_at_is ready.0.others) refl ready.0.is rows.items h)
 
-  pub finds_cells_of : (rel : ℕ) (ent : List ℕ) (kclass : ℕ) (r : Found) → IfOk r (λ rows. Shown cells_of (Int (pos rel) ∷ Blob ent ∷ Int (pos kclass) ∷ []) old new rows.items)
-      → IfOk r (λ rows. IsPermutation (map cell_values (filter (is_cell_of rel ent kclass) (tables_of old.now.trees).cells)) rows.items)
-  finds_cells_of rel ent kclass (Err e) h = tt
-  finds_cells_of rel ent kclass (Ok rows) h =
-      let params = Int (pos rel) ∷ Blob ent ∷ Int (pos kclass) ∷ [] in
-      answers is_cell_row cell_of (passes by_entity params) (is_cell_of rel ent kclass) _ cell_values (cell_of_entity rel ent kclass) (cell_shows params) (old.now.trees 2) rows.items ready.1.1.0.1
-      (found old new cells_of params 2 by_entity cell_shown cell_names [] cells_of_is refl ready.0 rows.items h)
+  pub finds_cells_of : (rel : ℕ) (ent : List ℕ) (kclass label : ℕ) (r : Found) → IfOk r (λ rows. Shown cells_of (class_values rel ent kclass label) old new rows.items)
+      → IfOk r (λ rows. IsPermutation (map cell_values (filter (is_cell_in rel ent kclass label) (tables_of old.now.trees).cells)) rows.items)
+  finds_cells_of rel ent kclass label (Err e) h = tt
+  finds_cells_of rel ent kclass label (Ok rows) h =
+      let params = class_values rel ent kclass label in
+      answers is_cell_row cell_of (passes by_class params) (is_cell_in rel ent kclass label) _ cell_values (cell_in_class rel ent kclass label) (cell_shows params) (old.now.trees 2) rows.items ready.1.1.0.1
+      (found old new ready.0.others cells_of params 2 by_class cell_shown cell_names [] (cells_of_is ready.0.others) refl ready.0.is rows.items h)
 
 -- ---- whole tables, where only the schema is known
 
@@ -72,23 +72,23 @@ whole : (rows : List Row) (p : Row → Bool) → ((r : Row) → p r ≡ true) �
 whole [] p each = refl
 whole (r ∷ rows) p each = rw (each r) (ap (λ rs. r ∷ rs) (whole rows p each))
 
-module _ (old new : State) (has : old.now.schema ≡ schema) where
+module _ (old new : State) (has : HasTables old.now.schema) where
   module _ (sql : List ℕ) (tree : ℕ) (project : List Term) (names : List (List ℕ)) (order : List (Term × Key))
-      (asks : Asks schema sql (Select (alone (rows_sorted tree [] project order)) names)) (plain : overlay old.now.trees [] tree ≡ old.now.trees tree) where
+      (asks : Asks (schema has.others) sql (Select (alone (rows_sorted tree [] project order)) names)) (plain : overlay old.now.trees [] tree ≡ old.now.trees tree) where
     pub finds_all : (r : Found) → IfOk r (λ rows. Shown sql [] old new rows.items) → IfOk r (λ rows. IsPermutation (map (λ r. eval_all project ([] ∷ r ∷ [])) (old.now.trees tree)) rows.items)
     finds_all (Err e) h = tt
     finds_all (Ok rows) h =
         subst (λ some. IsPermutation (map (λ r. eval_all project ([] ∷ r ∷ [])) some) rows.items) (whole (old.now.trees tree) (passes [] []) (λ r. refl))
-        (found old new sql [] tree [] project names order asks plain has rows.items h)
+        (found old new has.others sql [] tree [] project names order asks plain has.is rows.items h)
 
   pub finds_nodes : (r : Found) → IfOk r (λ rows. Shown all_nodes [] old new rows.items) → IfOk r (λ rows. IsPermutation (map node_columns (old.now.trees 0)) rows.items)
-  finds_nodes = finds_all all_nodes 0 (node_shown ++ col 1 0 ∷ []) (node_names ++ codes "rowid" ∷ []) by_rowid all_nodes_is refl
+  finds_nodes = finds_all all_nodes 0 (node_shown ++ col 1 0 ∷ []) (node_names ++ codes "rowid" ∷ []) by_rowid (all_nodes_is has.others) refl
 
   pub finds_cells : (r : Found) → IfOk r (λ rows. Shown all_cells [] old new rows.items) → IfOk r (λ rows. IsPermutation (map cell_columns (old.now.trees 2)) rows.items)
-  finds_cells = finds_all all_cells 2 (cell_shown ++ col 1 0 ∷ []) (cell_names ++ codes "rowid" ∷ []) by_rowid all_cells_is refl
+  finds_cells = finds_all all_cells 2 (cell_shown ++ col 1 0 ∷ []) (cell_names ++ codes "rowid" ∷ []) by_rowid (all_cells_is has.others) refl
 
   pub finds_entries : (r : Found) → IfOk r (λ rows. Shown all_entries [] old new rows.items) → IfOk r (λ rows. IsPermutation (map audit_columns (old.now.trees 4)) rows.items)
-  finds_entries = finds_all all_entries 4 audit_shown audit_names by_rowid all_entries_is refl
+  finds_entries = finds_all all_entries 4 audit_shown audit_names by_rowid (all_entries_is has.others) refl
 
   pub finds_meta : (r : Found) → IfOk r (λ rows. Shown all_meta [] old new rows.items) → IfOk r (λ rows. IsPermutation (map meta_columns (old.now.trees 5)) rows.items)
-  finds_meta = finds_all all_meta 5 (col 1 0 ∷ col 1 2 ∷ col 1 3 ∷ col 1 4 ∷ []) meta_names [] all_meta_is refl
+  finds_meta = finds_all all_meta 5 (col 1 0 ∷ col 1 2 ∷ col 1 3 ∷ col 1 4 ∷ []) meta_names [] (all_meta_is has.others) refl

@@ -1,7 +1,7 @@
 -- What an edit makes of the rows of its table, whichever table it is.
-use Rattle.std.proofs.Common.{◌≡◌, ℤ, List, [], ◌∷◌, map, filter, not, ◌&&◌, Bool, true, false, refl, sym, ap, subst, subst₂, ◌∙◌, IsPermutation}
-use Rattle.std.proofs.lemmas.Bool.{not-true}
-use Rattle.std.proofs.lemmas.List.Sorted.{IsPermutation-map, IsPermutation-refl}
+use Rattle.std.proofs.Common.{◌≡◌, ℤ, List, [], ◌∷◌, ◌++◌, map, filter, not, ◌&&◌, Bool, true, false, refl, sym, ap, subst, subst₂, ◌∙◌, IsPermutation}
+use Rattle.std.proofs.lemmas.Bool.{not-true, and_parts}
+use Rattle.std.proofs.lemmas.List.Sorted.{IsPermutation-map, IsPermutation-refl, IsPermutation-sym, IsPermutation-trans, IsPermutation-middle, IsPermutation-append_right}
 use Rattle.sqlite_value.specs.Order.{Row, column}
 use Rattle.sqlite.specs.declared.types.Value.TheVariants.{Int}
 use Rattle.sqlite.specs.Tree.{Trees, rowid, put_row}
@@ -11,7 +11,7 @@ use Rattle.sqlite.specs.Rowids.TheVariants.{Chosen, Given}
 use Rattle.sqlite_schema.specs.declared.schema.Keys.TheVariants.{Enforced}
 use Rattle.sqlite_trees.specs.View.{is_int}
 use Rattle.sqlite_rules.specs.Cast.{cast_row}
-use Rattle.sqlite_rules.specs.Edit.{Applies, edit_of, is_taken, without_all, with_rowid, id_in}
+use Rattle.sqlite_rules.specs.Edit.{Applies, edit_of, is_taken, are_fresh, put_all, numbered, without_all, with_rowid, id_in}
 use Rattle.sqlite_rules.specs.Calls.{ids_of}
 use Rattle.mls_statements.specs.Statements.{IsApart, AreRows}
 use Rattle.mls_statements.proofs.RowLists.{AreKeyed, removed}
@@ -46,6 +46,35 @@ module _ {X : Type 0} (is_row : Row → Bool) (read : Row → X) (schema : Schem
       (subst (λ r. next table.tree ≡ put_row (with_rowid Chosen (trees table.tree) r) (trees table.tree)) same step.rows)
       (subst (λ r. (not (is_taken (trees table.tree) (with_rowid Chosen (trees table.tree) r)) && true) ≡ true) same step.fresh)
       fits are
+
+  -- rows are added, whose columns are of their kinds, and which are read back whatever rowids they get
+  module _ (row : X → Row) (casts : (x : X) → cast_row table (row x) ≡ row x) (fits : (rows : List Row) (x : X) → is_row (with_rowid Chosen rows (row x)) ≡ true)
+      (reads : (rows : List Row) (x : X) → read (with_rowid Chosen rows (row x)) ≡ x) where
+    cast_each : (xs : List X) → map (cast_row table) (map row xs) ≡ map row xs
+    cast_each [] = refl
+    cast_each (x ∷ xs) = rw (casts x) (ap (λ rs. row x ∷ rs) (cast_each xs))
+
+    put_each : (rows : List Row) (xs : List X) → AreRows is_row rows → are_fresh rows (numbered Chosen rows (map row xs)) ≡ true
+        → AreRows is_row (put_all rows (numbered Chosen rows (map row xs))) × IsPermutation (xs ++ map read rows) (map read (put_all rows (numbered Chosen rows (map row xs))))
+    put_each rows [] have fresh = (have, IsPermutation-refl (map read rows))
+    put_each rows (x ∷ xs) have fresh =
+        let new = with_rowid Chosen rows (row x) in
+        let now = put_row new rows in
+        let parts = and_parts _ _ fresh in
+        let one = puts is_row read rows new (not-true _ parts.0) (fits rows x) have in
+        let rest = put_each now xs one.0 parts.1 in
+        let more : IsPermutation (x ∷ map read rows) (map read now) = rw (reads rows x) at one.1 in (
+          rest.0,
+          IsPermutation-trans (x ∷ (xs ++ map read rows)) (xs ++ x ∷ map read rows) (map read (put_all now (numbered Chosen now (map row xs)))) (IsPermutation-sym (xs ++ x ∷ map read rows) (x ∷ (xs ++ map read rows)) (IsPermutation-middle xs x (map read rows)))
+              (IsPermutation-trans (xs ++ x ∷ map read rows) (xs ++ map read now) (map read (put_all now (numbered Chosen now (map row xs)))) (IsPermutation-append_right xs (x ∷ map read rows) (map read now) more) rest.1),
+        )
+
+    pub added_each : (xs : List X) → Applies schema Enforced trees (edit_of trees table [] Chosen 0 (map row xs)) next
+        → AreRows is_row (next table.tree) × IsPermutation (xs ++ map read (trees table.tree)) (map read (next table.tree))
+    added_each xs step =
+        let rows = trees table.tree in
+        let all = put_each rows xs are (subst (λ rs. are_fresh rows (numbered Chosen rows rs) ≡ true) (cast_each xs) step.fresh) in
+        subst (λ after. AreRows is_row after × IsPermutation (xs ++ map read rows) (map read after)) (sym (step.rows ∙ ap (λ rs. put_all rows (numbered Chosen rows rs)) (cast_each xs))) all
 
   module _ (ids : (r : Row) → is_row r ≡ true → is_int (rowid r) ≡ true) (p : Row → Bool) (test : X → Bool) (tests : (r : Row) → is_row r ≡ true → p r ≡ test (read r)) where
     -- the rows that do not pass a test, as items

@@ -1,5 +1,6 @@
 -- What the texts of the statements mean over the four tables.
-use Rattle.std.proofs.Common.{◌≡◌, ℕ, pos, List, [], ◌∷◌, ◌++◌, codes, false, Ok, Err, Result, length, ◌≤◌, lit≤, refl}
+use Rattle.std.proofs.Common.{◌≡◌, ℕ, suc, ◌<◌, zero, ◌+◌, ◌/◌, pos, take, ◌*◌, ◌-◌, subst, arith, List, [], ◌∷◌, ◌++◌, codes, false, Ok, Err, Result, length, ◌≤◌, lit≤, refl}
+use Rattle.std.specs.Prelude.{⊤}
 use Rattle.sqlite.specs.Compile.{table_defined_by}
 use Rattle.sqlite_tied.specs.Compute.{everything}
 use Rattle.sqlite.specs.Schema.{Schema}
@@ -18,7 +19,8 @@ use Rattle.sqlite.specs.Listing.{understood, reads_listing}
 use Rattle.sqlite.proofs.Callers.{IsPlain, command_of, statement_of}
 use Rattle.sqlite_resolve.specs.declared.compiled.Compiled.{Compiled}
 use Rattle.sqlite_resolve.specs.declared.error.CompileError.{CompileError}
-use Rattle.mls_statements.specs.Schema.{no_schema, with_node, with_cell, with_audit, schema, node, cell, audit, meta}
+use Rattle.mls_statements.specs.declared.statements.cell.TheConstants.{ADD_CELLS}
+use Rattle.mls_statements.specs.Schema.{Others, no_schema, with_node, with_cell, with_audit, schema, node, cell, audit, meta}
 use Rattle.mls_statements.proofs.EditParts.{alone}
 use Rattle.mls_statements.proofs.QueryAnswers.{rows_by, rows_sorted}
 
@@ -72,9 +74,9 @@ node_terms = lit Null ∷ col 0 0 ∷ col 0 1 ∷ col 0 2 ∷ col 0 3 ∷ col 0 
 abbrev pub add_node : List ℕ
 add_node = codes "INSERT INTO node (rel, ent, kclass, label, pattern) VALUES (?1, ?2, ?3, ?4, ?5)"
 
-pub add_node_is : Means schema add_node (Insert 0 (Values node_terms 6))
+pub add_node_is : (o : Others) → Means (schema o) add_node (Insert 0 (Values node_terms 6))
 unfolding understood everything
-add_node_is = (refl, (refl, refl))
+add_node_is o = (refl, (refl, refl))
 
 abbrev pub cell_terms : List Term
 cell_terms = lit Null ∷ col 0 0 ∷ col 0 1 ∷ col 0 2 ∷ col 0 3 ∷ col 0 4 ∷ col 0 5 ∷ []
@@ -82,9 +84,41 @@ cell_terms = lit Null ∷ col 0 0 ∷ col 0 1 ∷ col 0 2 ∷ col 0 3 ∷ col 0 
 abbrev pub add_cell : List ℕ
 add_cell = codes "INSERT INTO cell (rel, ent, kclass, label, attr, value) VALUES (?1, ?2, ?3, ?4, ?5, ?6)"
 
-pub add_cell_is : Means schema add_cell (Insert 1 (Values cell_terms 7))
+pub add_cell_is : (o : Others) → Means (schema o) add_cell (Insert 1 (Values cell_terms 7))
 unfolding understood everything
-add_cell_is = (refl, (refl, refl))
+add_cell_is o = (refl, (refl, refl))
+
+-- the same of cells beside one node: the key, and then two parameters a cell
+abbrev pub own_terms : ℕ → ℕ → List Term
+own_terms at zero = []
+own_terms at (suc count) = lit Null ∷ col 0 0 ∷ col 0 1 ∷ col 0 2 ∷ col 0 3 ∷ col 0 at ∷ col 0 (suc at) ∷ own_terms (suc (suc at)) count
+
+-- the text adds so many cells
+abbrev pub AddsOwn : List ℕ → ℕ → Type 0
+AddsOwn text count = ((o : Others) → Means (schema o) text (Insert 1 (Values (own_terms 4 count) 7))) × (length (own_terms 4 count) / 7 ≡ count)
+
+-- the statement that adds so many
+abbrev pub add_own : ℕ → List ℕ
+add_own count = take (61 + 24 * count) ADD_CELLS.now
+
+-- so does each, from a count on
+abbrev AddEach : ℕ → ℕ → Type 0
+AddEach count zero = ⊤
+AddEach count (suc more) = AddsOwn (add_own count) count × AddEach (suc count) more
+
+add_each_is : AddEach 1 15
+unfolding understood everything
+add_each_is = (((λ o. (refl, (refl, refl))), refl), (((λ o. (refl, (refl, refl))), refl), (((λ o. (refl, (refl, refl))), refl), (((λ o. (refl, (refl, refl))), refl), (((λ o. (refl, (refl, refl))), refl), (((λ o. (refl, (refl, refl))), refl), (((λ o. (refl, (refl, refl))), refl), (((λ o. (refl, (refl, refl))), refl), (((λ o. (refl, (refl, refl))), refl), (((λ o. (refl, (refl, refl))), refl), (((λ o. (refl, (refl, refl))), refl), (((λ o. (refl, (refl, refl))), refl), (((λ o. (refl, (refl, refl))), refl), (((λ o. (refl, (refl, refl))), refl), (((λ o. (refl, (refl, refl))), refl), tt)))))))))))))))
+
+one_of : (count more at : ℕ) → AddEach count more → at < more → AddsOwn (add_own (count + at)) (count + at)
+one_of count zero at adds within = absurd (omega (arith, within))
+one_of count (suc more) zero adds within = subst (λ n. AddsOwn (add_own n) n) (omega arith) adds.0
+one_of count (suc more) (suc at) adds within = subst (λ n. AddsOwn (add_own n) n) (omega arith) (one_of (suc count) more at adds.1 (omega (arith, within)))
+
+pub add_own_is : (count : ℕ) → 0 < count → count ≤ 15 → AddsOwn (add_own count) count
+add_own_is count some few =
+    let first : 1 + (count - 1) ≡ count = omega (arith, some) in
+    subst (λ n. AddsOwn (add_own n) n) first (one_of 1 15 (count - 1) add_each_is (omega (arith, some, few)))
 
 abbrev pub audit_terms : List Term
 audit_terms = col 0 0 ∷ lit Null ∷ col 0 1 ∷ []
@@ -92,9 +126,9 @@ audit_terms = col 0 0 ∷ lit Null ∷ col 0 1 ∷ []
 abbrev pub add_entry : List ℕ
 add_entry = codes "INSERT INTO audit (number, bytes) VALUES (?1, ?2)"
 
-pub add_entry_is : Means schema add_entry (Insert 2 (Values audit_terms 3))
+pub add_entry_is : (o : Others) → Means (schema o) add_entry (Insert 2 (Values audit_terms 3))
 unfolding understood everything
-add_entry_is = (refl, (refl, refl))
+add_entry_is o = (refl, (refl, refl))
 
 abbrev pub meta_terms : List Term
 meta_terms = lit (Int (pos 1)) ∷ lit Null ∷ col 0 0 ∷ col 0 1 ∷ col 0 2 ∷ []
@@ -102,9 +136,9 @@ meta_terms = lit (Int (pos 1)) ∷ lit Null ∷ col 0 0 ∷ col 0 1 ∷ col 0 2 
 abbrev pub add_meta : List ℕ
 add_meta = codes "INSERT INTO meta (id, version, lattice, schemes) VALUES (1, ?1, ?2, ?3)"
 
-pub add_meta_is : Means schema add_meta (Insert 3 (Values meta_terms 5))
+pub add_meta_is : (o : Others) → Means (schema o) add_meta (Insert 3 (Values meta_terms 5))
 unfolding understood everything
-add_meta_is = (refl, (refl, refl))
+add_meta_is o = (refl, (refl, refl))
 
 -- ---- rows are dropped and set
 
@@ -118,16 +152,16 @@ by_class = same 1 0 ∷ same 2 1 ∷ same 3 2 ∷ same 4 3 ∷ []
 abbrev pub drop_node : List ℕ
 drop_node = codes "DELETE FROM node WHERE rel = ?1 AND ent = ?2 AND kclass = ?3 AND label = ?4"
 
-pub drop_node_is : Means schema drop_node (Delete 0 (alone (rows_by 0 by_class (col 1 0 ∷ []))))
+pub drop_node_is : (o : Others) → Means (schema o) drop_node (Delete 0 (alone (rows_by 0 by_class (col 1 0 ∷ []))))
 unfolding understood everything
-drop_node_is = (refl, (refl, refl))
+drop_node_is o = (refl, (refl, refl))
 
 abbrev pub drop_cells : List ℕ
 drop_cells = codes "DELETE FROM cell WHERE rel = ?1 AND ent = ?2 AND kclass = ?3 AND label = ?4"
 
-pub drop_cells_is : Means schema drop_cells (Delete 1 (alone (rows_by 2 by_class (col 1 0 ∷ []))))
+pub drop_cells_is : (o : Others) → Means (schema o) drop_cells (Delete 1 (alone (rows_by 2 by_class (col 1 0 ∷ []))))
 unfolding understood everything
-drop_cells_is = (refl, (refl, refl))
+drop_cells_is o = (refl, (refl, refl))
 
 abbrev pub by_cell : List Term
 by_cell = same 1 0 ∷ same 2 1 ∷ same 3 2 ∷ same 4 3 ∷ same 5 4 ∷ []
@@ -139,9 +173,9 @@ set_terms = col 1 0 ∷ col 1 0 ∷ col 1 1 ∷ col 1 2 ∷ col 1 3 ∷ col 1 4 
 abbrev pub set_cell : List ℕ
 set_cell = codes "UPDATE cell SET value = ?6 WHERE rel = ?1 AND ent = ?2 AND kclass = ?3 AND label = ?4 AND attr = ?5"
 
-pub set_cell_is : Means schema set_cell (Update 1 (alone (rows_by 2 by_cell set_terms)))
+pub set_cell_is : (o : Others) → Means (schema o) set_cell (Update 1 (alone (rows_by 2 by_cell set_terms)))
 unfolding understood everything
-set_cell_is = (refl, (refl, refl))
+set_cell_is o = (refl, (refl, refl))
 
 -- ---- tables are cleared
 
@@ -152,23 +186,23 @@ every tree = rows_by tree [] (col 1 0 ∷ [])
 abbrev pub clear_nodes : List ℕ
 clear_nodes = codes "DELETE FROM node"
 
-pub clear_nodes_is : Means schema clear_nodes (Delete 0 (alone (every 0)))
+pub clear_nodes_is : (o : Others) → Means (schema o) clear_nodes (Delete 0 (alone (every 0)))
 unfolding understood everything
-clear_nodes_is = (refl, (refl, refl))
+clear_nodes_is o = (refl, (refl, refl))
 
 abbrev pub clear_cells : List ℕ
 clear_cells = codes "DELETE FROM cell"
 
-pub clear_cells_is : Means schema clear_cells (Delete 1 (alone (every 2)))
+pub clear_cells_is : (o : Others) → Means (schema o) clear_cells (Delete 1 (alone (every 2)))
 unfolding understood everything
-clear_cells_is = (refl, (refl, refl))
+clear_cells_is o = (refl, (refl, refl))
 
 abbrev pub clear_meta : List ℕ
 clear_meta = codes "DELETE FROM meta"
 
-pub clear_meta_is : Means schema clear_meta (Delete 3 (alone (every 5)))
+pub clear_meta_is : (o : Others) → Means (schema o) clear_meta (Delete 3 (alone (every 5)))
 unfolding understood everything
-clear_meta_is = (refl, (refl, refl))
+clear_meta_is o = (refl, (refl, refl))
 
 -- ---- rows are shown
 
@@ -184,19 +218,16 @@ by_label = same 1 0 ∷ same 4 1 ∷ []
 abbrev pub nodes_at : List ℕ
 nodes_at = codes "SELECT rel, ent, kclass, label, pattern FROM node WHERE rel = ?1 AND label = ?2"
 
-pub nodes_at_is : Asks schema nodes_at (Select (alone (rows_by 0 by_label node_shown)) node_names)
+pub nodes_at_is : (o : Others) → Asks (schema o) nodes_at (Select (alone (rows_by 0 by_label node_shown)) node_names)
 unfolding understood everything
-nodes_at_is = (refl, (refl, refl), refl)
-
-abbrev pub by_entity : List Term
-by_entity = same 1 0 ∷ same 2 1 ∷ same 3 2 ∷ []
+nodes_at_is o = (refl, (refl, refl), refl)
 
 abbrev pub nodes_of : List ℕ
-nodes_of = codes "SELECT rel, ent, kclass, label, pattern FROM node WHERE rel = ?1 AND ent = ?2 AND kclass = ?3"
+nodes_of = codes "SELECT rel, ent, kclass, label, pattern FROM node WHERE rel = ?1 AND ent = ?2 AND kclass = ?3 AND label = ?4"
 
-pub nodes_of_is : Asks schema nodes_of (Select (alone (rows_by 0 by_entity node_shown)) node_names)
+pub nodes_of_is : (o : Others) → Asks (schema o) nodes_of (Select (alone (rows_by 0 by_class node_shown)) node_names)
 unfolding understood everything
-nodes_of_is = (refl, (refl, refl), refl)
+nodes_of_is o = (refl, (refl, refl), refl)
 
 abbrev pub cell_names : List (List ℕ)
 cell_names = codes "rel" ∷ codes "ent" ∷ codes "kclass" ∷ codes "label" ∷ codes "attr" ∷ codes "value" ∷ []
@@ -207,16 +238,16 @@ cell_shown = col 1 1 ∷ col 1 2 ∷ col 1 3 ∷ col 1 4 ∷ col 1 5 ∷ col 1 6
 abbrev pub cells_at : List ℕ
 cells_at = codes "SELECT rel, ent, kclass, label, attr, value FROM cell WHERE rel = ?1 AND label = ?2"
 
-pub cells_at_is : Asks schema cells_at (Select (alone (rows_by 2 by_label cell_shown)) cell_names)
+pub cells_at_is : (o : Others) → Asks (schema o) cells_at (Select (alone (rows_by 2 by_label cell_shown)) cell_names)
 unfolding understood everything
-cells_at_is = (refl, (refl, refl), refl)
+cells_at_is o = (refl, (refl, refl), refl)
 
 abbrev pub cells_of : List ℕ
-cells_of = codes "SELECT rel, ent, kclass, label, attr, value FROM cell WHERE rel = ?1 AND ent = ?2 AND kclass = ?3"
+cells_of = codes "SELECT rel, ent, kclass, label, attr, value FROM cell WHERE rel = ?1 AND ent = ?2 AND kclass = ?3 AND label = ?4"
 
-pub cells_of_is : Asks schema cells_of (Select (alone (rows_by 2 by_entity cell_shown)) cell_names)
+pub cells_of_is : (o : Others) → Asks (schema o) cells_of (Select (alone (rows_by 2 by_class cell_shown)) cell_names)
 unfolding understood everything
-cells_of_is = (refl, (refl, refl), refl)
+cells_of_is o = (refl, (refl, refl), refl)
 
 abbrev pub audit_names : List (List ℕ)
 audit_names = codes "number" ∷ codes "bytes" ∷ []
@@ -230,30 +261,30 @@ meta_names = codes "id" ∷ codes "version" ∷ codes "lattice" ∷ codes "schem
 abbrev pub all_nodes : List ℕ
 all_nodes = codes "SELECT rel, ent, kclass, label, pattern, rowid FROM node ORDER BY rowid"
 
-pub all_nodes_is : Asks schema all_nodes (Select (alone (rows_sorted 0 [] (node_shown ++ col 1 0 ∷ []) ((col 1 0, ascending Binary) ∷ []))) (node_names ++ codes "rowid" ∷ []))
+pub all_nodes_is : (o : Others) → Asks (schema o) all_nodes (Select (alone (rows_sorted 0 [] (node_shown ++ col 1 0 ∷ []) ((col 1 0, ascending Binary) ∷ []))) (node_names ++ codes "rowid" ∷ []))
 unfolding understood everything
-all_nodes_is = (refl, (refl, refl), refl)
+all_nodes_is o = (refl, (refl, refl), refl)
 
 abbrev pub all_cells : List ℕ
 all_cells = codes "SELECT rel, ent, kclass, label, attr, value, rowid FROM cell ORDER BY rowid"
 
-pub all_cells_is : Asks schema all_cells (Select (alone (rows_sorted 2 [] (cell_shown ++ col 1 0 ∷ []) ((col 1 0, ascending Binary) ∷ []))) (cell_names ++ codes "rowid" ∷ []))
+pub all_cells_is : (o : Others) → Asks (schema o) all_cells (Select (alone (rows_sorted 2 [] (cell_shown ++ col 1 0 ∷ []) ((col 1 0, ascending Binary) ∷ []))) (cell_names ++ codes "rowid" ∷ []))
 unfolding understood everything
-all_cells_is = (refl, (refl, refl), refl)
+all_cells_is o = (refl, (refl, refl), refl)
 
 abbrev pub all_entries : List ℕ
 all_entries = codes "SELECT number, bytes FROM audit ORDER BY number"
 
-pub all_entries_is : Asks schema all_entries (Select (alone (rows_sorted 4 [] audit_shown ((col 1 0, ascending Binary) ∷ []))) audit_names)
+pub all_entries_is : (o : Others) → Asks (schema o) all_entries (Select (alone (rows_sorted 4 [] audit_shown ((col 1 0, ascending Binary) ∷ []))) audit_names)
 unfolding understood everything
-all_entries_is = (refl, (refl, refl), refl)
+all_entries_is o = (refl, (refl, refl), refl)
 
 abbrev pub all_meta : List ℕ
 all_meta = codes "SELECT id, version, lattice, schemes FROM meta"
 
-pub all_meta_is : Asks schema all_meta (Select (alone (rows_by 5 [] (col 1 0 ∷ col 1 2 ∷ col 1 3 ∷ col 1 4 ∷ []))) meta_names)
+pub all_meta_is : (o : Others) → Asks (schema o) all_meta (Select (alone (rows_by 5 [] (col 1 0 ∷ col 1 2 ∷ col 1 3 ∷ col 1 4 ∷ []))) meta_names)
 unfolding understood everything
-all_meta_is = (refl, (refl, refl), refl)
+all_meta_is o = (refl, (refl, refl), refl)
 
 -- ---- changes begin and end, whatever the schema
 

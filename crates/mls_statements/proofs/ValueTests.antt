@@ -18,10 +18,10 @@ use Rattle.sqlite.specs.Ops.{binary, is_true}
 use Rattle.sqlite_sql.specs.declared.ops.BinaryOp.TheVariants.{Compare}
 use Rattle.sqlite_sql.specs.declared.ops.CompareOp.TheVariants.{Eq}
 use Rattle.sqlite.specs.Collation.TheVariants.{Binary}
-use Rattle.mls_statements.specs.Rows.{nat_in, blob_in, is_nat, is_blob, node_of, is_node_row, cell_of, is_cell_row, audit_of, is_audit_row, node_values, cell_values, audit_values, is_node_at, is_node_of, is_node, is_cell_at, is_cell_of, is_cell_in, is_cell}
+use Rattle.mls_statements.specs.Rows.{nat_in, blob_in, is_nat, is_blob, node_of, is_node_row, cell_of, is_cell_row, audit_of, is_audit_row, node_values, cell_values, audit_values, is_node_at, is_node, is_cell_at, is_cell_in, is_cell, class_values}
 use Rattle.mls_statements.specs.declared.rows.CellRow.{CellRow}
 use Rattle.mls_statements.proofs.QueryAnswers.{passes, equals_int, equals_blob}
-use Rattle.mls_statements.proofs.Texts.{by_class, by_cell, by_label, by_entity, node_shown, cell_shown, audit_shown}
+use Rattle.mls_statements.proofs.Texts.{by_class, by_cell, by_label, node_shown, cell_shown, audit_shown}
 
 pub nat_is : (v : Value) → is_nat v ≡ true → v ≡ Int (pos (nat_in v))
 nat_is Null h = absurd (true≢false (sym h))
@@ -94,13 +94,13 @@ cell_parts r h =
 -- ---- the tests of the statements
 
 pub node_in_class : (rel : ℕ) (ent : List ℕ) (kclass label : ℕ) (r : Row) → is_node_row r ≡ true
-    → passes by_class (Int (pos rel) ∷ Blob ent ∷ Int (pos kclass) ∷ Int (pos label) ∷ []) r ≡ is_node rel ent kclass label (node_of r)
+    → passes by_class (class_values rel ent kclass label) r ≡ is_node rel ent kclass label (node_of r)
 node_in_class rel ent kclass label r h =
     let c = node_parts r h in
     rw (same_nat (column r 1) rel c.rel, same_blob (column r 2) ent c.ent, same_nat (column r 3) kclass c.kclass, same_nat (column r 4) label c.label, and_true (nat_eq (nat_in (column r 4)) label))
 
 pub cell_in_class : (rel : ℕ) (ent : List ℕ) (kclass label : ℕ) (r : Row) → is_cell_row r ≡ true
-    → passes by_class (Int (pos rel) ∷ Blob ent ∷ Int (pos kclass) ∷ Int (pos label) ∷ []) r ≡ is_cell_in rel ent kclass label (cell_of r)
+    → passes by_class (class_values rel ent kclass label) r ≡ is_cell_in rel ent kclass label (cell_of r)
 cell_in_class rel ent kclass label r h =
     let c = cell_parts r h in
     rw (same_nat (column r 1) rel c.rel, same_blob (column r 2) ent c.ent, same_nat (column r 3) kclass c.kclass, same_nat (column r 4) label c.label, and_true (nat_eq (nat_in (column r 4)) label))
@@ -117,12 +117,6 @@ pub node_at_label : (rel label : ℕ) (r : Row) → is_node_row r ≡ true
 node_at_label rel label r h =
     let c = node_parts r h in rw (same_nat (column r 1) rel c.rel, same_nat (column r 4) label c.label, and_true (nat_eq (nat_in (column r 4)) label))
 
-pub node_of_entity : (rel : ℕ) (ent : List ℕ) (kclass : ℕ) (r : Row) → is_node_row r ≡ true
-    → passes by_entity (Int (pos rel) ∷ Blob ent ∷ Int (pos kclass) ∷ []) r ≡ is_node_of rel ent kclass (node_of r)
-node_of_entity rel ent kclass r h =
-    let c = node_parts r h in
-    rw (same_nat (column r 1) rel c.rel, same_blob (column r 2) ent c.ent, same_nat (column r 3) kclass c.kclass, and_true (nat_eq (nat_in (column r 3)) kclass))
-
 pub node_shows : (params r : Row) → is_node_row r ≡ true → eval_all node_shown (params ∷ r ∷ []) ≡ node_values (node_of r)
 node_shows params r h =
     let c = node_parts r h in
@@ -132,12 +126,6 @@ pub cell_at_label : (rel label : ℕ) (r : Row) → is_cell_row r ≡ true
     → (passes by_label (Int (pos rel) ∷ Int (pos label) ∷ []) r ≡ is_cell_at rel label (cell_of r))
 cell_at_label rel label r h =
     let c = cell_parts r h in rw (same_nat (column r 1) rel c.rel, same_nat (column r 4) label c.label, and_true (nat_eq (nat_in (column r 4)) label))
-
-pub cell_of_entity : (rel : ℕ) (ent : List ℕ) (kclass : ℕ) (r : Row) → is_cell_row r ≡ true
-    → passes by_entity (Int (pos rel) ∷ Blob ent ∷ Int (pos kclass) ∷ []) r ≡ is_cell_of rel ent kclass (cell_of r)
-cell_of_entity rel ent kclass r h =
-    let c = cell_parts r h in
-    rw (same_nat (column r 1) rel c.rel, same_blob (column r 2) ent c.ent, same_nat (column r 3) kclass c.kclass, and_true (nat_eq (nat_in (column r 3)) kclass))
 
 pub cell_shows : (params r : Row) → is_cell_row r ≡ true → eval_all cell_shown (params ∷ r ∷ []) ≡ cell_values (cell_of r)
 cell_shows params r h =

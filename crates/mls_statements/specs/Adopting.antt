@@ -17,7 +17,7 @@ use Rattle.mls_statements.specs.declared.adopting.AllRows.{AllRows}
 use Rattle.mls_statements.specs.declared.adopting.AdoptFault.{AdoptFault}
 use Rattle.mls_statements.specs.declared.adopting.AdoptFault.TheVariants.{BadRows}
 use Rattle.mls_statements.specs.Rows.{Tables, tables_of, first_meta, meta_of, node_columns, cell_columns, audit_columns, meta_columns, is_node_row, is_cell_row, is_audit_row, is_meta_row}
-use Rattle.mls_statements.specs.Schema.{schema}
+use Rattle.mls_statements.specs.Schema.{HasTables}
 use Rattle.mls_statements.specs.Statements.{AreRows, HasSettled}
 
 -- ---- rows that read as what their tables are for, as queries show them
@@ -87,30 +87,30 @@ IsReadDescription db = ((m : MetaRow) × IsDescription m db) × AllByRecursion R
 abbrev pub AreRead : Database → Type 0
 AreRead db = AreNodes (map node_columns (db.trees 0)) × (AreCells (map cell_columns (db.trees 2)) × AreEntries (map audit_columns (db.trees 4)))
 
--- the database is the four tables, and one row describes it, which reads
+-- the database has the four tables, and one row describes it, which reads
 abbrev pub HasDescription : Database → Type 0
-HasDescription db = (db.schema ≡ schema) × IsReadDescription db
+HasDescription db = HasTables db.schema × IsReadDescription db
 
--- the database is the four tables, and every row of the three others reads
+-- the database has the four tables, and every row of the three others reads
 abbrev pub HasReadRows : Database → Type 0
-HasReadRows db = (db.schema ≡ schema) × AreRead db
+HasReadRows db = HasTables db.schema × AreRead db
 
--- the database is the four tables, and every row reads
+-- the database has the four tables, and every row reads
 abbrev pub IsAdoptable : Database → Type 0
-IsAdoptable db = (db.schema ≡ schema) × (IsReadDescription db × AreRead db)
+IsAdoptable db = HasTables db.schema × (IsReadDescription db × AreRead db)
 
 -- the store is described, but not by both of these texts
 abbrev pub HasOtherTexts : List ℕ → List ℕ → Database → Type 0
 HasOtherTexts lattice schemes db =
-    (db.schema ≡ schema) × ((m : MetaRow) × IsDescription m db × (¬ ((m.lattice ≡ lattice) × (m.schemes ≡ schemes))))
+    HasTables db.schema × ((m : MetaRow) × IsDescription m db × (¬ ((m.lattice ≡ lattice) × (m.schemes ≡ schemes))))
 
 -- the one row, under any number, has this version and both texts
 abbrev pub IsDescribedBy : ℕ → List ℕ → List ℕ → Tables → Type 0
 IsDescribedBy version lattice schemes t = (id : ℤ) × (t.meta ≡ record (first_meta version lattice schemes) { id = id } ∷ [])
 
--- the database is the four tables, and this is the one row that describes it
+-- the database has the four tables, and this is the one row that describes it
 abbrev pub IsDescribed : MetaRow → Database → Type 0
-IsDescribed m db = (db.schema ≡ schema) × (AreRows is_meta_row (db.trees 5) × IsDescription m db)
+IsDescribed m db = HasTables db.schema × (AreRows is_meta_row (db.trees 5) × IsDescription m db)
 
 -- the rows of the three other tables are what they should be
 abbrev pub HaveRows : Database → Type 0

@@ -1,5 +1,6 @@
 -- What the rows of the four tables are, as plain data.
-use Rattle.std.specs.Prelude.{ℕ, ◌+◌, ℤ, ◌+ℤ◌, pos, Bool, true, false, ◌&&◌, nat_eq, bytes_eq, List, [], ◌∷◌, map}
+use Rattle.std.specs.Prelude.{ℕ, ◌+◌, ℤ, ◌+ℤ◌, pos, Bool, true, false, ◌&&◌, nat_eq, bytes_eq, List, [], ◌∷◌, ◌++◌, map}
+use Rattle.std.specs.List.{flat_map}
 use Rattle.std.specs.Ordering.{int_eq}
 use Rattle.sqlite_value.specs.declared.value.Value.{Value}
 use Rattle.sqlite_value.specs.declared.value.Value.TheVariants.{Int, Text, Blob}
@@ -9,6 +10,7 @@ use Rattle.sqlite_trees.specs.View.{is_int}
 use Rattle.sqlite_rules.specs.Edit.{id_in}
 use Rattle.mls_statements.specs.declared.rows.NodeRow.{NodeRow}
 use Rattle.mls_statements.specs.declared.rows.CellRow.{CellRow}
+use Rattle.mls_statements.specs.declared.rows.OwnCell.{OwnCell}
 use Rattle.mls_statements.specs.declared.rows.AuditRow.{AuditRow}
 use Rattle.mls_statements.specs.declared.rows.MetaRow.{MetaRow}
 
@@ -27,17 +29,11 @@ no_rows = record { nodes = []; cells = []; audit = []; meta = [] }
 abbrev pub is_node_at : ℕ → ℕ → NodeRow → Bool
 is_node_at rel label n = nat_eq n.rel rel && nat_eq n.label label
 
-abbrev pub is_node_of : ℕ → List ℕ → ℕ → NodeRow → Bool
-is_node_of rel ent kclass n = nat_eq n.rel rel && (bytes_eq n.ent ent && nat_eq n.kclass kclass)
-
 abbrev pub is_node : ℕ → List ℕ → ℕ → ℕ → NodeRow → Bool
 is_node rel ent kclass label n = nat_eq n.rel rel && (bytes_eq n.ent ent && (nat_eq n.kclass kclass && nat_eq n.label label))
 
 abbrev pub is_cell_at : ℕ → ℕ → CellRow → Bool
 is_cell_at rel label c = nat_eq c.rel rel && nat_eq c.label label
-
-abbrev pub is_cell_of : ℕ → List ℕ → ℕ → CellRow → Bool
-is_cell_of rel ent kclass c = nat_eq c.rel rel && (bytes_eq c.ent ent && nat_eq c.kclass kclass)
 
 -- the cells of one tuple's own class
 abbrev pub is_cell_in : ℕ → List ℕ → ℕ → ℕ → CellRow → Bool
@@ -46,6 +42,10 @@ is_cell_in rel ent kclass label c = nat_eq c.rel rel && (bytes_eq c.ent ent && (
 abbrev pub is_cell : ℕ → List ℕ → ℕ → ℕ → ℕ → CellRow → Bool
 is_cell rel ent kclass label attr c =
     nat_eq c.rel rel && (bytes_eq c.ent ent && (nat_eq c.kclass kclass && (nat_eq c.label label && nat_eq c.attr attr)))
+
+-- the row of a cell that stands beside its tuple's node
+abbrev pub cell_beside : NodeRow → OwnCell → CellRow
+cell_beside n c = record { rel = n.rel; ent = n.ent; kclass = n.kclass; label = n.label; attr = c.attr; value = c.value }
 
 -- the entries of a list, numbered from k
 abbrev pub numbered : ℕ → List (List ℕ) → List AuditRow
@@ -136,6 +136,14 @@ audit_values a = Int a.number ∷ Blob a.bytes ∷ []
 
 abbrev pub meta_values : MetaRow → Row
 meta_values m = Int m.id ∷ Int m.version ∷ Text m.lattice ∷ Text m.schemes ∷ []
+
+-- the key of a tuple's own class
+abbrev pub class_values : ℕ → List ℕ → ℕ → ℕ → Row
+class_values rel ent kclass label = Int (pos rel) ∷ Blob ent ∷ Int (pos kclass) ∷ Int (pos label) ∷ []
+
+-- the key of a node, and the attribute and the value of each cell beside it
+abbrev pub own_values : NodeRow → List OwnCell → Row
+own_values n cs = class_values n.rel n.ent n.kclass n.label ++ flat_map (λ c. Int (pos c.attr) ∷ Blob c.value ∷ []) cs
 
 -- every column of a row that is in a table, with the rowid last where it is not a column
 abbrev pub node_columns : Row → Row

@@ -1,6 +1,6 @@
 -- The four tables, as SQL defines them.
-use Rattle.std.specs.Prelude.{◌≡◌, true, false, [], ◌∷◌, Some, None, codes, List, ℕ}
-use Rattle.std.specs.List.{AllByRecursion}
+use Rattle.std.specs.Prelude.{◌≡◌, ◌==◌, nat_lt, Bool, true, false, [], ◌∷◌, length, take, drop, Some, None, codes, List, ℕ}
+use Rattle.std.specs.List.{AllByRecursion, list_all}
 use Rattle.sqlite.specs.declared.types.Value.TheVariants.{Null}
 use Rattle.sqlite.specs.Collation.TheVariants.{Binary}
 use Rattle.sqlite.specs.Table.{Table}
@@ -83,13 +83,44 @@ with_cell = created with_node cell
 abbrev pub with_audit : Schema
 with_audit = created with_cell audit
 
--- the whole schema
-abbrev pub schema : Schema
-schema = record {
-  tables = node ∷ cell ∷ audit ∷ meta ∷ [];
-  indexes = key_index (codes "sqlite_autoindex_node_1") 1 0 (1 ∷ 2 ∷ 3 ∷ 4 ∷ []) ∷ key_index (codes "sqlite_autoindex_cell_1") 3 2 (1 ∷ 2 ∷ 3 ∷ 5 ∷ 4 ∷ []) ∷ [];
+-- the tables and indexes that a store has behind ours
+pub record Others : Type 0 where
+  pub tables : List Table
+  pub indexes : List Index
+
+abbrev pub no_others : Others
+no_others = record { tables = []; indexes = [] }
+
+-- the whole schema: the four tables with their indexes, and then others
+abbrev pub schema : Others → Schema
+schema others = record {
+  tables = node ∷ cell ∷ audit ∷ meta ∷ others.tables;
+  indexes = key_index (codes "sqlite_autoindex_node_1") 1 0 (1 ∷ 2 ∷ 3 ∷ 4 ∷ []) ∷ key_index (codes "sqlite_autoindex_cell_1") 3 2 (1 ∷ 2 ∷ 3 ∷ 5 ∷ 4 ∷ []) ∷ others.indexes;
   views = [];
 }
+
+abbrev pub has_no_reference : Table → Bool
+has_no_reference t = length t.references == 0
+
+abbrev pub is_on_others : Index → Bool
+is_on_others i = nat_lt 5 i.table
+
+-- none of the others has a foreign key, and none is an index on ours
+pub record AreApart (others : Others) : Type 0 where
+  pub tables : list_all has_no_reference others.tables ≡ true
+  pub indexes : list_all is_on_others others.indexes ≡ true
+
+-- the four tables come first, and no other object is on them
+pub record HasTables (s : Schema) : Type 0 where
+  pub others : Others
+  pub apart : AreApart others
+  pub is : s ≡ schema others
+
+-- the same, by its parts
+abbrev pub BeginsWithTables : Schema → Type 0
+BeginsWithTables s =
+    (s.views ≡ []) × ((take 2 s.indexes ≡ (schema no_others).indexes) × ((list_all is_on_others (drop 2 s.indexes) ≡ true)
+    × ((take 4 s.tables ≡ (schema no_others).tables) × (list_all has_no_reference (drop 4 s.tables) ≡ true))))
 
 -- the database has the tables of a schema, without a row
 abbrev pub IsMade : Schema → Database → Type 0

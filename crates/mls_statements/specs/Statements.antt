@@ -11,7 +11,7 @@ use Rattle.mls_statements.specs.declared.rows.CellRow.{CellRow}
 use Rattle.mls_statements.specs.declared.rows.AuditRow.{AuditRow}
 use Rattle.mls_statements.specs.declared.rows.MetaRow.{MetaRow}
 use Rattle.mls_statements.specs.Rows.{Tables, tables_of, described, first_meta, is_node, is_cell, is_cell_in, is_node_row, is_cell_row, is_audit_row, is_meta_row}
-use Rattle.mls_statements.specs.Schema.{schema}
+use Rattle.mls_statements.specs.Schema.{HasTables}
 
 -- no two rows have one rowid
 abbrev pub IsApart : List Row → Type 0
@@ -21,10 +21,10 @@ IsApart = IsAscending (λ a b. is_eq (value_cmp (rowid a) (rowid b)) ≡ false)
 abbrev pub AreRows : (Row → Bool) → List Row → Type 0
 AreRows is_row rows = IsApart rows × AllByRecursion (λ r. is_row r ≡ true) rows
 
--- the database is the four tables, and their rows are what they should be
+-- the database has the four tables, and their rows are what they should be
 abbrev pub IsReady : Database → Type 0
 IsReady db =
-    (db.schema ≡ schema)
+    HasTables db.schema
     × (AreRows is_node_row (db.trees 0) × (AreRows is_cell_row (db.trees 2) × (AreRows is_audit_row (db.trees 4) × AreRows is_meta_row (db.trees 5))))
 
 -- ---- what becomes of the rows

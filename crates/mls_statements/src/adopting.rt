@@ -5,7 +5,7 @@ ghost use Rattle.sqlite.specs.Held.{state};
 ghost use Rattle.sqlite.specs.declared.error.Error.TheVariants.{SqliteFailure};
 ghost use Rattle.sqlite.specs.declared.error.ErrorCode.TheVariants.{OutOfMemory};
 ghost use Rattle.mls_statements.specs.Rows.{tables_of, is_meta_row};
-ghost use Rattle.mls_statements.specs.Schema.{schema};
+ghost use Rattle.mls_statements.specs.Schema.{HasTables};
 ghost use Rattle.mls_statements.specs.Statements.{AreRows};
 ghost use Rattle.mls_statements.specs.Store.{HasEnded};
 ghost use Rattle.mls_statements.specs.Adopting.{Blames, AreRead, HaveRows, HasReadRows, IsReadDescription, HasDescription, IsDescribed, HasRead, AreAll, IsAdopted};
@@ -60,10 +60,10 @@ pub struct AllRows {
 
 /// Every row, in a database of the four tables.
 fn read_rows<S: Alter>(conn: &mut Connection<S>, alloc: Global) -> Result<AllRows, AdoptFault>
-    ensures rows { HasCleanDisk (state S.Store conn.new) → (state S.Store conn.old).now.schema ≡ schema → IfOk result (λ rows. HaveRows (state S.Store conn.old).now × AreAll (tables_of (state S.Store conn.old).now.trees) rows) }
-    ensures same { HasCleanDisk (state S.Store conn.new) → (state S.Store conn.old).now.schema ≡ schema → OnOk result (IsUnchanged (state S.Store conn.old) (state S.Store conn.new)) }
-    ensures err { HasCleanDisk (state S.Store conn.new) → (state S.Store conn.old).now.schema ≡ schema → OnErr result (KeepsCommit (state S.Store conn.old) (state S.Store conn.new)) }
-    ensures bad { HasCleanDisk (state S.Store conn.new) → (state S.Store conn.old).now.schema ≡ schema → IfErr result (Blames (AreRead (state S.Store conn.old).now)) }
+    ensures rows { HasCleanDisk (state S.Store conn.new) → HasTables (state S.Store conn.old).now.schema → IfOk result (λ rows. HaveRows (state S.Store conn.old).now × AreAll (tables_of (state S.Store conn.old).now.trees) rows) }
+    ensures same { HasCleanDisk (state S.Store conn.new) → HasTables (state S.Store conn.old).now.schema → OnOk result (IsUnchanged (state S.Store conn.old) (state S.Store conn.new)) }
+    ensures err { HasCleanDisk (state S.Store conn.new) → HasTables (state S.Store conn.old).now.schema → OnErr result (KeepsCommit (state S.Store conn.old) (state S.Store conn.new)) }
+    ensures bad { HasCleanDisk (state S.Store conn.new) → HasTables (state S.Store conn.old).now.schema → IfErr result (Blames (AreRead (state S.Store conn.old).now)) }
     ensures clean { HasCleanDisk (state S.Store conn.new) → HasCleanDisk (state S.Store conn.old) }
 {
     let nodes = whole::nodes(conn, alloc)?;
@@ -79,10 +79,10 @@ fn read_rows<S: Alter>(conn: &mut Connection<S>, alloc: Global) -> Result<AllRow
 /// The same, in one transaction.
 fn read_at_once<S: Alter>(conn: &mut Connection<S>, alloc: Global) -> Result<AllRows, AdoptFault>
     ensures open { HasCleanDisk (state S.Store conn.new) → OnOk result (IsTrue (state S.Store conn.old).is_open) }
-    ensures rows { HasCleanDisk (state S.Store conn.new) → (state S.Store conn.old).now.schema ≡ schema → IfOk result (λ rows. HaveRows (state S.Store conn.old).now × AreAll (tables_of (state S.Store conn.old).now.trees) rows) }
-    ensures read { HasCleanDisk (state S.Store conn.new) → (state S.Store conn.old).now.schema ≡ schema → OnOk result (HasRead (state S.Store conn.old) (state S.Store conn.new)) }
-    ensures err { HasCleanDisk (state S.Store conn.new) → (state S.Store conn.old).now.schema ≡ schema → OnErr result (KeepsCommit (state S.Store conn.old) (state S.Store conn.new)) }
-    ensures bad { HasCleanDisk (state S.Store conn.new) → (state S.Store conn.old).now.schema ≡ schema → IfErr result (Blames (AreRead (state S.Store conn.old).now)) }
+    ensures rows { HasCleanDisk (state S.Store conn.new) → HasTables (state S.Store conn.old).now.schema → IfOk result (λ rows. HaveRows (state S.Store conn.old).now × AreAll (tables_of (state S.Store conn.old).now.trees) rows) }
+    ensures read { HasCleanDisk (state S.Store conn.new) → HasTables (state S.Store conn.old).now.schema → OnOk result (HasRead (state S.Store conn.old) (state S.Store conn.new)) }
+    ensures err { HasCleanDisk (state S.Store conn.new) → HasTables (state S.Store conn.old).now.schema → OnErr result (KeepsCommit (state S.Store conn.old) (state S.Store conn.new)) }
+    ensures bad { HasCleanDisk (state S.Store conn.new) → HasTables (state S.Store conn.old).now.schema → IfErr result (Blames (AreRead (state S.Store conn.old).now)) }
     ensures clean { HasCleanDisk (state S.Store conn.new) → HasCleanDisk (state S.Store conn.old) }
 {
     change::begin(conn).map_err(AdoptFault::of_store)?;
@@ -93,7 +93,7 @@ fn read_at_once<S: Alter>(conn: &mut Connection<S>, alloc: Global) -> Result<All
 
 /// The same, in any database.
 fn read_database<S: Alter>(conn: &mut Connection<S>, alloc: Global) -> Result<AllRows, AdoptFault>
-    ensures schema { OnOk result ((state S.Store conn.old).now.schema ≡ schema) }
+    ensures schema { OnOk result (HasTables (state S.Store conn.old).now.schema) }
     ensures open { HasCleanDisk (state S.Store conn.new) → OnOk result (IsTrue (state S.Store conn.old).is_open) }
     ensures rows { HasCleanDisk (state S.Store conn.new) → IfOk result (λ rows. HaveRows (state S.Store conn.old).now × AreAll (tables_of (state S.Store conn.old).now.trees) rows) }
     ensures read { HasCleanDisk (state S.Store conn.new) → OnOk result (HasRead (state S.Store conn.old) (state S.Store conn.new)) }
@@ -111,7 +111,7 @@ fn read_database<S: Alter>(conn: &mut Connection<S>, alloc: Global) -> Result<Al
 /// afterwards.
 pub fn read_store<S: Alter>(conn: &mut Connection<S>, alloc: Global) -> Result<AllRows, AdoptFault>
     requires described { HasCleanDisk (state S.Store conn.old) → AreRows is_meta_row ((state S.Store conn.old).now.trees 5) }
-    ensures schema { OnOk result ((state S.Store conn.old).now.schema ≡ schema) }
+    ensures schema { OnOk result (HasTables (state S.Store conn.old).now.schema) }
     ensures open { HasCleanDisk (state S.Store conn.new) → OnOk result (IsTrue (state S.Store conn.old).is_open) }
     ensures adopted { HasCleanDisk (state S.Store conn.new) → IfOk result (IsAdopted (state S.Store conn.old) (state S.Store conn.new)) }
     ensures ended { HasCleanDisk (state S.Store conn.new) → OnErr result (HasEnded (state S.Store conn.old) (state S.Store conn.new)) }
@@ -133,10 +133,10 @@ fn describe_at_once<S: Alter>(
     alloc: Global,
 ) -> Result<MetaRow, AdoptFault>
     ensures open { HasCleanDisk (state S.Store conn.new) → OnOk result (IsTrue (state S.Store conn.old).is_open) }
-    ensures described { HasCleanDisk (state S.Store conn.new) → (state S.Store conn.old).now.schema ≡ schema → IfOk result (λ m. IsDescribed m (state S.Store conn.old).now) }
-    ensures read { HasCleanDisk (state S.Store conn.new) → (state S.Store conn.old).now.schema ≡ schema → OnOk result (HasRead (state S.Store conn.old) (state S.Store conn.new)) }
-    ensures err { HasCleanDisk (state S.Store conn.new) → (state S.Store conn.old).now.schema ≡ schema → OnErr result (KeepsCommit (state S.Store conn.old) (state S.Store conn.new)) }
-    ensures bad { HasCleanDisk (state S.Store conn.new) → (state S.Store conn.old).now.schema ≡ schema → IfErr result (Blames (IsReadDescription (state S.Store conn.old).now)) }
+    ensures described { HasCleanDisk (state S.Store conn.new) → HasTables (state S.Store conn.old).now.schema → IfOk result (λ m. IsDescribed m (state S.Store conn.old).now) }
+    ensures read { HasCleanDisk (state S.Store conn.new) → HasTables (state S.Store conn.old).now.schema → OnOk result (HasRead (state S.Store conn.old) (state S.Store conn.new)) }
+    ensures err { HasCleanDisk (state S.Store conn.new) → HasTables (state S.Store conn.old).now.schema → OnErr result (KeepsCommit (state S.Store conn.old) (state S.Store conn.new)) }
+    ensures bad { HasCleanDisk (state S.Store conn.new) → HasTables (state S.Store conn.old).now.schema → IfErr result (Blames (IsReadDescription (state S.Store conn.old).now)) }
     ensures clean { HasCleanDisk (state S.Store conn.new) → HasCleanDisk (state S.Store conn.old) }
 {
     change::begin(conn).map_err(AdoptFault::of_store)?;
@@ -150,7 +150,7 @@ fn describe_database<S: Alter>(
     conn: &mut Connection<S>,
     alloc: Global,
 ) -> Result<MetaRow, AdoptFault>
-    ensures schema { OnOk result ((state S.Store conn.old).now.schema ≡ schema) }
+    ensures schema { OnOk result (HasTables (state S.Store conn.old).now.schema) }
     ensures open { HasCleanDisk (state S.Store conn.new) → OnOk result (IsTrue (state S.Store conn.old).is_open) }
     ensures described { HasCleanDisk (state S.Store conn.new) → IfOk result (λ m. IsDescribed m (state S.Store conn.old).now) }
     ensures read { HasCleanDisk (state S.Store conn.new) → OnOk result (HasRead (state S.Store conn.old) (state S.Store conn.new)) }
@@ -170,7 +170,7 @@ pub fn read_description<S: Alter>(
     conn: &mut Connection<S>,
     alloc: Global,
 ) -> Result<MetaRow, AdoptFault>
-    ensures schema { OnOk result ((state S.Store conn.old).now.schema ≡ schema) }
+    ensures schema { OnOk result (HasTables (state S.Store conn.old).now.schema) }
     ensures open { HasCleanDisk (state S.Store conn.new) → OnOk result (IsTrue (state S.Store conn.old).is_open) }
     ensures described { HasCleanDisk (state S.Store conn.new) → IfOk result (λ m. IsDescribed m (state S.Store conn.old).now) }
     ensures read { HasCleanDisk (state S.Store conn.new) → OnOk result (HasRead (state S.Store conn.old) (state S.Store conn.new)) }

@@ -14,5 +14,5 @@ mod store;
 pub use adopting::{AdoptFault, AllRows, read_description, read_store};
 pub use decode::{are_numbered, cells_from, entries_from, meta_from, nodes_from};
 pub use rewriting::rewrite_store;
-pub use rows::{AuditRow, CellRow, MetaRow, NodeRow};
+pub use rows::{AuditRow, CellRow, MetaRow, NodeRow, OwnCell};
 pub use store::{StoreFault, TableStore};

@@ -32,6 +32,15 @@ pub struct CellRow {
     pub value: Items<u8>,
 }
 
+/// A cell of a tuple's own class, beside the tuple's node, which has its key.
+#[derive(Drop)]
+pub struct OwnCell {
+    /// The attribute's number among those that are not of the key.
+    pub attr: u32,
+    /// The value, as bytes.
+    pub value: Items<u8>,
+}
+
 /// A row of the audit table.
 #[derive(PartialEq, Eq, PartialOrd, Ord, Drop)]
 pub struct AuditRow {

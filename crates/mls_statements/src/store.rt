@@ -1,16 +1,16 @@
-ghost use Rattle.std.specs.Prelude.{◌≡◌, ◌≢◌, ◌⊎◌, ◌+◌, ◌<◌, ◌≤◌, true, false, filter, ℕ, List, IsTrue, IfOk, IfErr, OnOk, IsPermutation};
+ghost use Rattle.std.specs.Prelude.{◌≡◌, ◌≢◌, ◌⊎◌, ◌+◌, ◌<◌, ◌≤◌, true, false, map, filter, ℕ, List, IsTrue, IfOk, IfErr, OnOk, IsPermutation};
 ghost use Rattle.sqlite.specs.State.{HasCleanDisk};
 ghost use Rattle.sqlite.specs.Held.{state};
 ghost use Rattle.mls_statements.specs.declared.rows.CellRow.{CellRow as SpecCell};
-ghost use Rattle.mls_statements.specs.Rows.{Tables, tables_of, described, is_node_at, is_node_of, is_cell_at, is_cell_of, numbered};
+ghost use Rattle.mls_statements.specs.Rows.{Tables, tables_of, described, is_node_at, is_node, is_cell_at, is_cell_in, cell_beside, numbered};
 ghost use Rattle.mls_statements.specs.Schema.{no_schema};
-ghost use Rattle.mls_statements.specs.Statements.{IsReady, AddsNode, DropsNode, AddsCell, SetsCell, DropsCells, AddsEntry, IsOne, has_key_of, HasSettled};
+ghost use Rattle.mls_statements.specs.Statements.{IsReady, AddsNode, DropsNode, AddsCells, SetsCell, DropsCells, AddsEntry, IsOne, has_key_of, HasSettled};
 ghost use Rattle.mls_statements.specs.Store.{IsClean, IsFault, IsCall, Writes, IsSame, HasEnded};
 
 use crate::decode::are_numbered;
 use crate::failures::Failures;
 use crate::remembered::Remembered;
-use crate::rows::{AuditRow, CellRow, NodeRow};
+use crate::rows::{AuditRow, CellRow, NodeRow, OwnCell};
 use crate::statements::{audit, cell, change, creation, node};
 use sqlite::{Alter, Connection, Error, ErrorCode};
 use std::alloc::Global;
@@ -283,33 +283,34 @@ impl<S: Alter> TableStore<S> {
         }
     }
 
-    /// The nodes of one entity.
+    /// The node at a key, where there is one.
     pub fn nodes_of(
         &mut self,
         rel: u32,
         ent: &[u8],
         kclass: u32,
+        label: u32,
     ) -> Result<Vec<NodeRow>, StoreFault>
         ensures call { IsCall self.old self.new result }
         ensures mode { OnOk result (self.new.begun ≡ self.old.begun) }
-        ensures found { IsClean self.new → IfOk result (λ rows. IsPermutation (filter (is_node_of rel ent.now kclass) self.old.now.nodes) rows.items) }
+        ensures found { IsClean self.new → IfOk result (λ rows. IsPermutation (filter (is_node rel ent.now kclass label) self.old.now.nodes) rows.items) }
         ensures same { IsClean self.new → OnOk result (IsSame self.old self.new) }
     {
-        match node::read_nodes_of(&mut self.conn, self.alloc, rel, ent, kclass) {
+        match node::read_nodes_of(&mut self.conn, self.alloc, rel, ent, kclass, label) {
             Ok(rows) => Ok(rows),
             Err(error) => Err(fail(&mut self.conn, &mut self.begun, &mut self.failures, error)),
         }
     }
 
-    /// Adds a cell.
-    pub fn add_cell(&mut self, cell: &CellRow) -> Result<(), StoreFault>
+    /// Adds the cells of a tuple's own class beside its node.
+    pub fn add_cells(&mut self, node: &NodeRow, cells: &[OwnCell]) -> Result<(), StoreFault>
         requires begun { self.old.begun ≡ true }
         ensures call { IsCall self.old self.new result }
         ensures mode { OnOk result (self.new.begun ≡ true) }
-        ensures done { IsClean self.new → OnOk result (Writes (AddsCell cell.now) self.old self.new) }
+        ensures done { IsClean self.new → OnOk result (Writes (AddsCells (map (cell_beside node.now) cells.now)) self.old self.new) }
     {
-        match cell::add_cell(&mut self.conn, cell) {
-            Ok(_) => Ok(()),
+        match cell::add_own(&mut self.conn, self.alloc, node, cells) {
+            Ok(()) => Ok(()),
             Err(error) => Err(fail(&mut self.conn, &mut self.begun, &mut self.failures, error)),
         }
     }
@@ -360,19 +361,20 @@ impl<S: Alter> TableStore<S> {
         }
     }
 
-    /// The cells of one entity.
+    /// The cells of one tuple's own class.
     pub fn cells_of(
         &mut self,
         rel: u32,
         ent: &[u8],
         kclass: u32,
+        label: u32,
     ) -> Result<Vec<CellRow>, StoreFault>
         ensures call { IsCall self.old self.new result }
         ensures mode { OnOk result (self.new.begun ≡ self.old.begun) }
-        ensures found { IsClean self.new → IfOk result (λ rows. IsPermutation (filter (is_cell_of rel ent.now kclass) self.old.now.cells) rows.items) }
+        ensures found { IsClean self.new → IfOk result (λ rows. IsPermutation (filter (is_cell_in rel ent.now kclass label) self.old.now.cells) rows.items) }
         ensures same { IsClean self.new → OnOk result (IsSame self.old self.new) }
     {
-        match cell::read_cells_of(&mut self.conn, self.alloc, rel, ent, kclass) {
+        match cell::read_cells_of(&mut self.conn, self.alloc, rel, ent, kclass, label) {
             Ok(rows) => Ok(rows),
             Err(error) => Err(fail(&mut self.conn, &mut self.begun, &mut self.failures, error)),
         }

@@ -2,7 +2,7 @@ ghost use Rattle.std.specs.Prelude.{◌≡◌, map, IsTrue, IfOk, OnOk, OnErr, I
 ghost use Rattle.sqlite.specs.State.{HasCleanDisk, IsUnchanged};
 ghost use Rattle.sqlite.specs.Held.{state};
 ghost use Rattle.mls_statements.specs.Rows.{tables_of, audit_columns};
-ghost use Rattle.mls_statements.specs.Schema.{schema};
+ghost use Rattle.mls_statements.specs.Schema.{HasTables};
 ghost use Rattle.mls_statements.specs.Statements.{IsReady, Changes, AddsEntry, IsEnded};
 
 use crate::decode::entries_from;
@@ -24,9 +24,9 @@ pub fn add_entry<S: Alter>(conn: &mut Connection<S>, entry: &AuditRow) -> Result
 
 /// Every entry, as a row of its two columns, in a database of the four tables.
 pub fn all_entries<S: Alter>(conn: &mut Connection<S>) -> Result<Vec<Row>, Error>
-    ensures found { HasCleanDisk (state S.Store conn.new) → (state S.Store conn.old).now.schema ≡ schema → IfOk result (λ rows. IsPermutation (map audit_columns ((state S.Store conn.old).now.trees 4)) rows.items) }
+    ensures found { HasCleanDisk (state S.Store conn.new) → HasTables (state S.Store conn.old).now.schema → IfOk result (λ rows. IsPermutation (map audit_columns ((state S.Store conn.old).now.trees 4)) rows.items) }
     ensures open { HasCleanDisk (state S.Store conn.new) → OnOk result (IsTrue (state S.Store conn.old).is_open) }
-    ensures same { HasCleanDisk (state S.Store conn.new) → (state S.Store conn.old).now.schema ≡ schema → OnOk result (IsUnchanged (state S.Store conn.old) (state S.Store conn.new)) }
+    ensures same { HasCleanDisk (state S.Store conn.new) → HasTables (state S.Store conn.old).now.schema → OnOk result (IsUnchanged (state S.Store conn.old) (state S.Store conn.new)) }
     ensures err { HasCleanDisk (state S.Store conn.new) → OnErr result (IsEnded (state S.Store conn.old) (state S.Store conn.new)) }
     ensures clean { HasCleanDisk (state S.Store conn.new) → HasCleanDisk (state S.Store conn.old) }
 {

@@ -1,15 +1,22 @@
-ghost use Rattle.std.specs.Prelude.{◌≡◌, map, filter, IsTrue, IfOk, OnOk, OnErr, IsPermutation};
+ghost use Rattle.std.specs.Prelude.{◌≡◌, ◌<◌, ◌≤◌, ◌+◌, ◌*◌, length, take, map, filter, IsTrue, IfOk, OnOk, OnErr, IsPermutation};
 ghost use Rattle.sqlite.specs.State.{HasCleanDisk, IsUnchanged, KeepsCommit};
 ghost use Rattle.sqlite.specs.Held.{state};
+ghost use Rattle.sqlite.specs.Values.{bound};
 ghost use Rattle.mls_statements.specs.declared.rows.CellRow.{CellRow as SpecCell};
-ghost use Rattle.mls_statements.specs.Rows.{tables_of, is_cell_at, is_cell_of, cell_values, cell_columns};
-ghost use Rattle.mls_statements.specs.Schema.{schema};
+ghost use Rattle.mls_statements.specs.Rows.{tables_of, is_cell_at, is_cell_in, cell_beside, own_values, cell_values, cell_columns};
+ghost use Rattle.mls_statements.specs.Schema.{HasTables};
 ghost use Rattle.mls_statements.specs.Statements.{IsReady, Changes, AddsCell, AddsCells, ClearsCells, SetsCell, DropsCells, IsOne, has_key_of, IsEnded, IsWithin, GoesOn};
 
 use crate::decode::cells_from;
-use crate::rows::CellRow;
+use crate::rows::{CellRow, NodeRow, OwnCell};
+use sqlite::types::{ToSql, ValueRef};
 use sqlite::{Alter, Connection, Error, Row, params};
-use std::alloc::Global;
+use std::alloc::{AllocError, Global};
+
+/// The statement that adds 15 cells of one entity and class: four parameters are the key, and each cell has two more. Its first
+/// 61 + 24 n bytes are the statement that adds n of them.
+const ADD_CELLS: &str =
+    "INSERT INTO cell (rel, ent, kclass, label, attr, value) VALUES (?1, ?2, ?3, ?4, ?, ?), (?1, ?2, ?3, ?4, ?, ?), (?1, ?2, ?3, ?4, ?, ?), (?1, ?2, ?3, ?4, ?, ?), (?1, ?2, ?3, ?4, ?, ?), (?1, ?2, ?3, ?4, ?, ?), (?1, ?2, ?3, ?4, ?, ?), (?1, ?2, ?3, ?4, ?, ?), (?1, ?2, ?3, ?4, ?, ?), (?1, ?2, ?3, ?4, ?, ?), (?1, ?2, ?3, ?4, ?, ?), (?1, ?2, ?3, ?4, ?, ?), (?1, ?2, ?3, ?4, ?, ?), (?1, ?2, ?3, ?4, ?, ?), (?1, ?2, ?3, ?4, ?, ?)";
 
 /// Adds a cell.
 pub fn add_cell<S: Alter>(conn: &mut Connection<S>, cell: &CellRow) -> Result<usize, Error>
@@ -38,6 +45,70 @@ pub fn add_cells<S: Alter>(conn: &mut Connection<S>, cells: &[CellRow]) -> Resul
 {
     for cell in cells {
         add_cell(conn, cell)?;
+    }
+    Ok(())
+}
+
+/// The statement that adds so many cells of one entity and class.
+fn adding(count: usize) -> &'static str
+    requires some { 0 < count }
+    requires few { count ≤ 15 }
+    ensures { result.now ≡ take (61 + 24 * count) ADD_CELLS.now }
+{
+    &ADD_CELLS[..61 + 24 * count]
+}
+
+/// What the statement that adds cells beside a node is given.
+fn params_of<'a>(
+    alloc: Global,
+    node: &'a NodeRow,
+    cells: &'a [OwnCell],
+) -> Result<Vec<ValueRef<'a>>, AllocError>
+    requires { length cells.now ≤ 15 }
+    ensures { IfOk result (λ params. bound params.items ≡ own_values node.now cells.now) }
+{
+    let mut params = Vec::with_capacity(alloc, 4 + 2 * cells.len())?;
+    params.push(node.rel.to_sql())?;
+    params.push(node.ent.as_slice().to_sql())?;
+    params.push(node.kclass.to_sql())?;
+    params.push(node.label.to_sql())?;
+    for cell in cells {
+        params.push(cell.attr.to_sql())?;
+        params.push(cell.value.as_slice().to_sql())?;
+    }
+    Ok(params)
+}
+
+/// Adds some cells beside a node, by one statement.
+fn add_some<S: Alter>(
+    conn: &mut Connection<S>,
+    alloc: Global,
+    node: &NodeRow,
+    cells: &[OwnCell],
+) -> Result<usize, Error>
+    requires some { 0 < length cells.now }
+    requires few { length cells.now ≤ 15 }
+    ensures added { HasCleanDisk (state S.Store conn.new) → IsReady (state S.Store conn.old).now → OnOk result (Changes (AddsCells (map (cell_beside node.now) cells.now)) (state S.Store conn.old) (state S.Store conn.new)) }
+    ensures err { HasCleanDisk (state S.Store conn.new) → OnErr result (KeepsCommit (state S.Store conn.old) (state S.Store conn.new)) }
+    ensures clean { HasCleanDisk (state S.Store conn.new) → HasCleanDisk (state S.Store conn.old) }
+{
+    let params = params_of(alloc, node, cells)?;
+    conn.execute(adding(cells.len()), &params)
+}
+
+/// Adds the cells of a tuple's own class beside its node, in a change.
+pub fn add_own<S: Alter>(
+    conn: &mut Connection<S>,
+    alloc: Global,
+    node: &NodeRow,
+    cells: &[OwnCell],
+) -> Result<(), Error>
+    ensures added { HasCleanDisk (state S.Store conn.new) → IsWithin (state S.Store conn.old) → OnOk result (GoesOn (AddsCells (map (cell_beside node.now) cells.now)) (state S.Store conn.old) (state S.Store conn.new)) }
+    ensures err { HasCleanDisk (state S.Store conn.new) → IsWithin (state S.Store conn.old) → OnErr result (KeepsCommit (state S.Store conn.old) (state S.Store conn.new)) }
+    ensures clean { HasCleanDisk (state S.Store conn.new) → HasCleanDisk (state S.Store conn.old) }
+{
+    for some in cells.chunks(15) {
+        add_some(conn, alloc, node, some)?;
     }
     Ok(())
 }
@@ -102,30 +173,31 @@ pub fn cells_at<S: Alter>(conn: &mut Connection<S>, rel: u32, label: u32) -> Res
     )
 }
 
-/// The cells of one entity, as rows of their six columns.
+/// The cells of one tuple's own class, as rows of their six columns.
 pub fn cells_of<S: Alter>(
     conn: &mut Connection<S>,
     rel: u32,
     ent: &[u8],
     kclass: u32,
+    label: u32,
 ) -> Result<Vec<Row>, Error>
-    ensures found { HasCleanDisk (state S.Store conn.new) → IsReady (state S.Store conn.old).now → IfOk result (λ rows. IsPermutation (map cell_values (filter (is_cell_of rel ent.now kclass) (tables_of (state S.Store conn.old).now.trees).cells)) rows.items) }
+    ensures found { HasCleanDisk (state S.Store conn.new) → IsReady (state S.Store conn.old).now → IfOk result (λ rows. IsPermutation (map cell_values (filter (is_cell_in rel ent.now kclass label) (tables_of (state S.Store conn.old).now.trees).cells)) rows.items) }
     ensures open { HasCleanDisk (state S.Store conn.new) → OnOk result (IsTrue (state S.Store conn.old).is_open) }
     ensures same { HasCleanDisk (state S.Store conn.new) → IsReady (state S.Store conn.old).now → OnOk result (IsUnchanged (state S.Store conn.old) (state S.Store conn.new)) }
     ensures err { HasCleanDisk (state S.Store conn.new) → OnErr result (IsEnded (state S.Store conn.old) (state S.Store conn.new)) }
     ensures clean { HasCleanDisk (state S.Store conn.new) → HasCleanDisk (state S.Store conn.old) }
 {
     conn.query_all(
-        "SELECT rel, ent, kclass, label, attr, value FROM cell WHERE rel = ?1 AND ent = ?2 AND kclass = ?3",
-        params![rel, ent, kclass],
+        "SELECT rel, ent, kclass, label, attr, value FROM cell WHERE rel = ?1 AND ent = ?2 AND kclass = ?3 AND label = ?4",
+        params![rel, ent, kclass, label],
     )
 }
 
 /// Every row of the table of cells, with its rowid last, in a database of the four tables.
 pub fn all_cells<S: Alter>(conn: &mut Connection<S>) -> Result<Vec<Row>, Error>
-    ensures found { HasCleanDisk (state S.Store conn.new) → (state S.Store conn.old).now.schema ≡ schema → IfOk result (λ rows. IsPermutation (map cell_columns ((state S.Store conn.old).now.trees 2)) rows.items) }
+    ensures found { HasCleanDisk (state S.Store conn.new) → HasTables (state S.Store conn.old).now.schema → IfOk result (λ rows. IsPermutation (map cell_columns ((state S.Store conn.old).now.trees 2)) rows.items) }
     ensures open { HasCleanDisk (state S.Store conn.new) → OnOk result (IsTrue (state S.Store conn.old).is_open) }
-    ensures same { HasCleanDisk (state S.Store conn.new) → (state S.Store conn.old).now.schema ≡ schema → OnOk result (IsUnchanged (state S.Store conn.old) (state S.Store conn.new)) }
+    ensures same { HasCleanDisk (state S.Store conn.new) → HasTables (state S.Store conn.old).now.schema → OnOk result (IsUnchanged (state S.Store conn.old) (state S.Store conn.new)) }
     ensures err { HasCleanDisk (state S.Store conn.new) → OnErr result (IsEnded (state S.Store conn.old) (state S.Store conn.new)) }
     ensures clean { HasCleanDisk (state S.Store conn.new) → HasCleanDisk (state S.Store conn.old) }
 {
@@ -151,19 +223,20 @@ pub fn read_cells_at<S: Alter>(
     cells_from(alloc, &cells_at(conn, rel, label)?)
 }
 
-/// The cells of one entity.
+/// The cells of one tuple's own class.
 pub fn read_cells_of<S: Alter>(
     conn: &mut Connection<S>,
     alloc: Global,
     rel: u32,
     ent: &[u8],
     kclass: u32,
+    label: u32,
 ) -> Result<Vec<CellRow>, Error>
-    ensures found { HasCleanDisk (state S.Store conn.new) → IsReady (state S.Store conn.old).now → IfOk result (λ found. IsPermutation (filter (is_cell_of rel ent.now kclass) (tables_of (state S.Store conn.old).now.trees).cells) found.items) }
+    ensures found { HasCleanDisk (state S.Store conn.new) → IsReady (state S.Store conn.old).now → IfOk result (λ found. IsPermutation (filter (is_cell_in rel ent.now kclass label) (tables_of (state S.Store conn.old).now.trees).cells) found.items) }
     ensures open { HasCleanDisk (state S.Store conn.new) → OnOk result (IsTrue (state S.Store conn.old).is_open) }
     ensures same { HasCleanDisk (state S.Store conn.new) → IsReady (state S.Store conn.old).now → OnOk result (IsUnchanged (state S.Store conn.old) (state S.Store conn.new)) }
     ensures err { HasCleanDisk (state S.Store conn.new) → (IsTrue (state S.Store conn.old).is_open → IsReady (state S.Store conn.old).now) → OnErr result (IsEnded (state S.Store conn.old) (state S.Store conn.new)) }
     ensures clean { HasCleanDisk (state S.Store conn.new) → HasCleanDisk (state S.Store conn.old) }
 {
-    cells_from(alloc, &cells_of(conn, rel, ent, kclass)?)
+    cells_from(alloc, &cells_of(conn, rel, ent, kclass, label)?)
 }

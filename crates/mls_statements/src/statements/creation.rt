@@ -1,7 +1,7 @@
 ghost use Rattle.std.specs.Prelude.{◌≡◌, ◌↔◌, false, IsTrue, OnOk, OnErr};
 ghost use Rattle.sqlite.specs.State.{HasCleanDisk, KeepsCommit};
 ghost use Rattle.sqlite.specs.Held.{state};
-ghost use Rattle.mls_statements.specs.Schema.{IsMade, no_schema, with_node, with_cell, with_audit, schema};
+ghost use Rattle.mls_statements.specs.Schema.{IsMade, no_schema, with_node, with_cell, with_audit, no_others, schema};
 ghost use Rattle.mls_statements.specs.Rows.{tables_of, described};
 ghost use Rattle.mls_statements.specs.Statements.{IsReady, IsNext, IsEnded, IsNewStore};
 
@@ -54,7 +54,7 @@ pub fn create_audit<S: Alter>(conn: &mut Connection<S>) -> Result<usize, Error>
 
 /// Makes the table that describes the store, the last of the four.
 pub fn create_meta<S: Alter>(conn: &mut Connection<S>) -> Result<usize, Error>
-    ensures made { HasCleanDisk (state S.Store conn.new) → IsMade with_audit (state S.Store conn.old).now → OnOk result (IsMade schema (state S.Store conn.new).now × IsNext (state S.Store conn.old) (state S.Store conn.new)) }
+    ensures made { HasCleanDisk (state S.Store conn.new) → IsMade with_audit (state S.Store conn.old).now → OnOk result (IsMade (schema no_others) (state S.Store conn.new).now × IsNext (state S.Store conn.old) (state S.Store conn.new)) }
     ensures err { HasCleanDisk (state S.Store conn.new) → OnErr result (IsEnded (state S.Store conn.old) (state S.Store conn.new)) }
     ensures clean { HasCleanDisk (state S.Store conn.new) → HasCleanDisk (state S.Store conn.old) }
 {
@@ -66,7 +66,7 @@ pub fn create_meta<S: Alter>(conn: &mut Connection<S>) -> Result<usize, Error>
 
 /// Makes the four tables in a database that has nothing, in a transaction.
 fn create_tables<S: Alter>(conn: &mut Connection<S>) -> Result<usize, Error>
-    ensures made { HasCleanDisk (state S.Store conn.new) → IsMade no_schema (state S.Store conn.old).now → OnOk result (IsMade schema (state S.Store conn.new).now × IsNext (state S.Store conn.old) (state S.Store conn.new)) }
+    ensures made { HasCleanDisk (state S.Store conn.new) → IsMade no_schema (state S.Store conn.old).now → OnOk result (IsMade (schema no_others) (state S.Store conn.new).now × IsNext (state S.Store conn.old) (state S.Store conn.new)) }
     ensures err { HasCleanDisk (state S.Store conn.new) → IsMade no_schema (state S.Store conn.old).now → IsTrue (state S.Store conn.old).in_transaction → OnErr result (KeepsCommit (state S.Store conn.old) (state S.Store conn.new)) }
     ensures clean { HasCleanDisk (state S.Store conn.new) → HasCleanDisk (state S.Store conn.old) }
 {

@@ -1,8 +1,9 @@
-//! Whether a database is the four tables.
-ghost use Rattle.std.specs.Prelude.{◌≡◌, ◌↔◌, true, false, [], ◌∷◌, None, Some, map, IsTrue};
+//! Whether a database has the four tables.
+ghost use Rattle.std.specs.Prelude.{◌≡◌, ◌↔◌, true, false, [], ◌∷◌, None, Some, map, take, drop, IsTrue};
+ghost use Rattle.std.specs.List.{list_all};
 ghost use Rattle.sqlite.specs.Held.{state};
 ghost use Rattle.sqlite_value.specs.Keys.{plain};
-ghost use Rattle.mls_statements.specs.Schema.{needed, by_rowid, by_index, node, cell, audit, meta, schema, key_index, HasNoRules, IsByRowid, IsByIndex};
+ghost use Rattle.mls_statements.specs.Schema.{needed, by_rowid, by_index, node, cell, audit, meta, no_others, schema, has_no_reference, is_on_others, BeginsWithTables, HasTables, key_index, HasNoRules, IsByRowid, IsByIndex};
 
 use sqlite::{Alter, Connection};
 use sqlite_schema::code::Terms;
@@ -163,10 +164,11 @@ fn is_meta(table: &Table) -> bool
     is_rowid_table(table, "meta", 5, &columns)
 }
 
+/// Whether the four tables come first.
 fn are_tables(tables: &[Table]) -> bool
-    ensures { IsTrue result ↔ (tables.now ≡ schema.tables) }
+    ensures { IsTrue result ↔ (take 4 tables.now ≡ (schema no_others).tables) }
 {
-    let [node, cell, audit, meta] = tables else {
+    let [node, cell, audit, meta, ..] = tables else {
         return false;
     };
     is_node(node) && is_cell(cell) && is_audit(audit) && is_meta(meta)
@@ -183,27 +185,51 @@ fn is_index(index: &Index, name: &str, tree: u32, table: u32, places: &[usize]) 
         && index.is_unique
 }
 
+/// Whether the indexes of their keys come first.
 fn are_indexes(indexes: &[Index]) -> bool
-    ensures { IsTrue result ↔ (indexes.now ≡ schema.indexes) }
+    ensures { IsTrue result ↔ (take 2 indexes.now ≡ (schema no_others).indexes) }
 {
-    let [node, cell] = indexes else {
+    let [node, cell, ..] = indexes else {
         return false;
     };
     is_index(node, "sqlite_autoindex_node_1", 1, 0, &[1, 2, 3, 4])
         && is_index(cell, "sqlite_autoindex_cell_1", 3, 2, &[1, 2, 3, 5, 4])
 }
 
+fn has_no_reference(table: &Table) -> bool
+    ensures { result ≡ has_no_reference table.now }
+{
+    table.references.as_slice().is_empty()
+}
+
+/// Whether no table behind the four has a foreign key.
+fn refer_to_nothing(tables: &[Table]) -> bool
+    ensures { result ≡ list_all has_no_reference (drop 4 tables.now) }
+{
+    tables.iter().skip(4).all(|table| has_no_reference(table))
+}
+
+/// Whether no index behind the two is on one of the four tables.
+fn are_on_others(indexes: &[Index]) -> bool
+    ensures { result ≡ list_all is_on_others (drop 2 indexes.now) }
+{
+    indexes.iter().skip(2).all(|index| index.table > 5)
+}
+
 fn is_whole(found: &Schema) -> bool
-    ensures { IsTrue result ↔ (found.now ≡ schema) }
+    ensures { IsTrue result ↔ BeginsWithTables found.now }
 {
     found.views.is_empty()
         && are_indexes(found.indexes.as_slice())
+        && are_on_others(found.indexes.as_slice())
         && are_tables(found.tables.as_slice())
+        && refer_to_nothing(found.tables.as_slice())
 }
 
-/// Whether the database has the four tables, and no other table, index or view.
+/// Whether the database has the four tables, made before any other, with no other index on them, and no view. Other tables may stand
+/// behind them that have no foreign keys.
 pub fn has_tables<S: Alter>(conn: &Connection<S>) -> bool
-    ensures { IsTrue result ↔ ((state S.Store conn.now).now.schema ≡ schema) }
+    ensures { IsTrue result ↔ HasTables (state S.Store conn.now).now.schema }
 {
     is_whole(conn.schema())
 }

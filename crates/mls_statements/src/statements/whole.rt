@@ -8,7 +8,7 @@ ghost use Rattle.sqlite.specs.declared.error.Error.TheVariants.{SqliteFailure};
 ghost use Rattle.sqlite.specs.declared.error.ErrorCode.TheVariants.{OutOfMemory};
 ghost use Rattle.mls_statements.specs.declared.rows.MetaRow.{MetaRow as SpecMeta};
 ghost use Rattle.mls_statements.specs.Rows.{tables_of, shown_meta, shows_meta, node_columns, cell_columns, audit_columns, is_node_row, is_cell_row, is_audit_row};
-ghost use Rattle.mls_statements.specs.Schema.{schema};
+ghost use Rattle.mls_statements.specs.Schema.{HasTables};
 ghost use Rattle.mls_statements.specs.Statements.{AreRows};
 ghost use Rattle.mls_statements.specs.Adopting.{Blames, HaveIds, AreNodes, AreCells, AreEntries, ReadsMeta, IsVersion, IsReadDescription, IsDescribed, AreRising};
 
@@ -47,10 +47,10 @@ fn tested<T: Drop>(
 
 /// Every node.
 pub fn nodes<S: Alter>(conn: &mut Connection<S>, alloc: Global) -> Result<Vec<NodeRow>, AdoptFault>
-    ensures rows { HasCleanDisk (state S.Store conn.new) → (state S.Store conn.old).now.schema ≡ schema → IfOk result (λ rows. AreRows is_node_row ((state S.Store conn.old).now.trees 0) × IsPermutation (tables_of (state S.Store conn.old).now.trees).nodes rows.items) }
-    ensures same { HasCleanDisk (state S.Store conn.new) → (state S.Store conn.old).now.schema ≡ schema → OnOk result (IsUnchanged (state S.Store conn.old) (state S.Store conn.new)) }
-    ensures err { HasCleanDisk (state S.Store conn.new) → (state S.Store conn.old).now.schema ≡ schema → OnErr result (KeepsCommit (state S.Store conn.old) (state S.Store conn.new)) }
-    ensures bad { HasCleanDisk (state S.Store conn.new) → (state S.Store conn.old).now.schema ≡ schema → IfErr result (Blames (AreNodes (map node_columns ((state S.Store conn.old).now.trees 0)))) }
+    ensures rows { HasCleanDisk (state S.Store conn.new) → HasTables (state S.Store conn.old).now.schema → IfOk result (λ rows. AreRows is_node_row ((state S.Store conn.old).now.trees 0) × IsPermutation (tables_of (state S.Store conn.old).now.trees).nodes rows.items) }
+    ensures same { HasCleanDisk (state S.Store conn.new) → HasTables (state S.Store conn.old).now.schema → OnOk result (IsUnchanged (state S.Store conn.old) (state S.Store conn.new)) }
+    ensures err { HasCleanDisk (state S.Store conn.new) → HasTables (state S.Store conn.old).now.schema → OnErr result (KeepsCommit (state S.Store conn.old) (state S.Store conn.new)) }
+    ensures bad { HasCleanDisk (state S.Store conn.new) → HasTables (state S.Store conn.old).now.schema → IfErr result (Blames (AreNodes (map node_columns ((state S.Store conn.old).now.trees 0)))) }
     ensures clean { HasCleanDisk (state S.Store conn.new) → HasCleanDisk (state S.Store conn.old) }
 {
     match node::all_nodes(conn) {
@@ -61,10 +61,10 @@ pub fn nodes<S: Alter>(conn: &mut Connection<S>, alloc: Global) -> Result<Vec<No
 
 /// Every cell.
 pub fn cells<S: Alter>(conn: &mut Connection<S>, alloc: Global) -> Result<Vec<CellRow>, AdoptFault>
-    ensures rows { HasCleanDisk (state S.Store conn.new) → (state S.Store conn.old).now.schema ≡ schema → IfOk result (λ rows. AreRows is_cell_row ((state S.Store conn.old).now.trees 2) × IsPermutation (tables_of (state S.Store conn.old).now.trees).cells rows.items) }
-    ensures same { HasCleanDisk (state S.Store conn.new) → (state S.Store conn.old).now.schema ≡ schema → OnOk result (IsUnchanged (state S.Store conn.old) (state S.Store conn.new)) }
-    ensures err { HasCleanDisk (state S.Store conn.new) → (state S.Store conn.old).now.schema ≡ schema → OnErr result (KeepsCommit (state S.Store conn.old) (state S.Store conn.new)) }
-    ensures bad { HasCleanDisk (state S.Store conn.new) → (state S.Store conn.old).now.schema ≡ schema → IfErr result (Blames (AreCells (map cell_columns ((state S.Store conn.old).now.trees 2)))) }
+    ensures rows { HasCleanDisk (state S.Store conn.new) → HasTables (state S.Store conn.old).now.schema → IfOk result (λ rows. AreRows is_cell_row ((state S.Store conn.old).now.trees 2) × IsPermutation (tables_of (state S.Store conn.old).now.trees).cells rows.items) }
+    ensures same { HasCleanDisk (state S.Store conn.new) → HasTables (state S.Store conn.old).now.schema → OnOk result (IsUnchanged (state S.Store conn.old) (state S.Store conn.new)) }
+    ensures err { HasCleanDisk (state S.Store conn.new) → HasTables (state S.Store conn.old).now.schema → OnErr result (KeepsCommit (state S.Store conn.old) (state S.Store conn.new)) }
+    ensures bad { HasCleanDisk (state S.Store conn.new) → HasTables (state S.Store conn.old).now.schema → IfErr result (Blames (AreCells (map cell_columns ((state S.Store conn.old).now.trees 2)))) }
     ensures clean { HasCleanDisk (state S.Store conn.new) → HasCleanDisk (state S.Store conn.old) }
 {
     match cell::all_cells(conn) {
@@ -78,10 +78,10 @@ pub fn entries<S: Alter>(
     conn: &mut Connection<S>,
     alloc: Global,
 ) -> Result<Vec<AuditRow>, AdoptFault>
-    ensures rows { HasCleanDisk (state S.Store conn.new) → (state S.Store conn.old).now.schema ≡ schema → IfOk result (λ rows. AreRows is_audit_row ((state S.Store conn.old).now.trees 4) × IsPermutation (tables_of (state S.Store conn.old).now.trees).audit rows.items) }
-    ensures same { HasCleanDisk (state S.Store conn.new) → (state S.Store conn.old).now.schema ≡ schema → OnOk result (IsUnchanged (state S.Store conn.old) (state S.Store conn.new)) }
-    ensures err { HasCleanDisk (state S.Store conn.new) → (state S.Store conn.old).now.schema ≡ schema → OnErr result (KeepsCommit (state S.Store conn.old) (state S.Store conn.new)) }
-    ensures bad { HasCleanDisk (state S.Store conn.new) → (state S.Store conn.old).now.schema ≡ schema → IfErr result (Blames (AreEntries (map audit_columns ((state S.Store conn.old).now.trees 4)))) }
+    ensures rows { HasCleanDisk (state S.Store conn.new) → HasTables (state S.Store conn.old).now.schema → IfOk result (λ rows. AreRows is_audit_row ((state S.Store conn.old).now.trees 4) × IsPermutation (tables_of (state S.Store conn.old).now.trees).audit rows.items) }
+    ensures same { HasCleanDisk (state S.Store conn.new) → HasTables (state S.Store conn.old).now.schema → OnOk result (IsUnchanged (state S.Store conn.old) (state S.Store conn.new)) }
+    ensures err { HasCleanDisk (state S.Store conn.new) → HasTables (state S.Store conn.old).now.schema → OnErr result (KeepsCommit (state S.Store conn.old) (state S.Store conn.new)) }
+    ensures bad { HasCleanDisk (state S.Store conn.new) → HasTables (state S.Store conn.old).now.schema → IfErr result (Blames (AreEntries (map audit_columns ((state S.Store conn.old).now.trees 4)))) }
     ensures clean { HasCleanDisk (state S.Store conn.new) → HasCleanDisk (state S.Store conn.old) }
 {
     match audit::all_entries(conn) {
@@ -121,10 +121,10 @@ fn shown_description(alloc: Global, rows: &[Row]) -> Result<MetaRow, AdoptFault>
 
 /// The one row of version 1 or 2 that describes the store.
 pub fn description<S: Alter>(conn: &mut Connection<S>, alloc: Global) -> Result<MetaRow, AdoptFault>
-    ensures described { HasCleanDisk (state S.Store conn.new) → (state S.Store conn.old).now.schema ≡ schema → IfOk result (λ m. IsDescribed m (state S.Store conn.old).now) }
-    ensures same { HasCleanDisk (state S.Store conn.new) → (state S.Store conn.old).now.schema ≡ schema → OnOk result (IsUnchanged (state S.Store conn.old) (state S.Store conn.new)) }
-    ensures err { HasCleanDisk (state S.Store conn.new) → (state S.Store conn.old).now.schema ≡ schema → OnErr result (KeepsCommit (state S.Store conn.old) (state S.Store conn.new)) }
-    ensures bad { HasCleanDisk (state S.Store conn.new) → (state S.Store conn.old).now.schema ≡ schema → IfErr result (Blames (IsReadDescription (state S.Store conn.old).now)) }
+    ensures described { HasCleanDisk (state S.Store conn.new) → HasTables (state S.Store conn.old).now.schema → IfOk result (λ m. IsDescribed m (state S.Store conn.old).now) }
+    ensures same { HasCleanDisk (state S.Store conn.new) → HasTables (state S.Store conn.old).now.schema → OnOk result (IsUnchanged (state S.Store conn.old) (state S.Store conn.new)) }
+    ensures err { HasCleanDisk (state S.Store conn.new) → HasTables (state S.Store conn.old).now.schema → OnErr result (KeepsCommit (state S.Store conn.old) (state S.Store conn.new)) }
+    ensures bad { HasCleanDisk (state S.Store conn.new) → HasTables (state S.Store conn.old).now.schema → IfErr result (Blames (IsReadDescription (state S.Store conn.old).now)) }
     ensures clean { HasCleanDisk (state S.Store conn.new) → HasCleanDisk (state S.Store conn.old) }
 {
     match meta::all_meta(conn) {

@@ -1,9 +1,12 @@
-use Rattle.std.proofs.Common.{◌≡◌, map, filter, subst, ap, IsPermutation, rules}
+use Rattle.std.proofs.Common.{◌≡◌, ◌∙◌, [], sym, map, filter, subst, ap, IsPermutation, rules}
 use Rattle.std.specs.Prelude.{nat_eq}
+use Rattle.std.proofs.lemmas.Bool.Decides.{Decides-eqb}
+use Rattle.std.proofs.lemmas.List.{nil_from_length}
 use Rattle.mls_scheme.specs.Spelling.{key_spelling}
 use Rattle.mls_statements.specs.Rows.{is_node, is_cell_in}
 use Rattle.mls_fragments.specs.Holding.{node_row, cell_row}
 use Rattle.mls_fragments.proofs.ReadingLemmas.{found_entity}
+use Rattle.mls_fragments.proofs.ShownLemmas.{shows_nothing}
 use Rattle.mls_fragments.proofs.entity.read_entity.Goals as goal
 
 pub returns-in-Ok-fragment_in-clause-found : goal.returns-in-Ok-fragment_in-clause-found
@@ -25,3 +28,11 @@ returns-in-Ok-fragment_in-clause-found g c clean content holds =
     (subst (λ xs. map (node_row rel) f.nodes ≡ filter (λ r. nat_eq r.rel rel) xs) c.deref-4.ensures.value c.in-Ok-fragment_in.ensures.nodes)
     (subst (λ xs. map (cell_row rel) f.cells ≡ filter (λ r. nat_eq r.rel rel) xs) c.deref-5.ensures.value c.in-Ok-fragment_in.ensures.cells)
     c.in-Ok-fragment_in.ensures.spelled.0 c.in-Ok-fragment_in.ensures.spelled.1
+
+pub returns-then-is_empty-clause-found : goal.returns-then-is_empty-clause-found
+returns-then-is_empty-clause-found g c clean content holds =
+    let p = c.args.place.now in
+    let key : c.deref-2.result.now ≡ key_spelling p.key = search rules in
+    let none : c.in_ok-nodes.nodes.items ≡ [] = nil_from_length c.in_ok-nodes.nodes.items (sym c.in_ok-nodes.nodes.ok.0 ∙ (Decides-eqb c.in_ok-nodes.nodes.len 0).0 (sym c.is_empty.ensures ∙ c.if-is_empty.true)) in
+    let some = subst (λ e. IsPermutation (filter (is_node c.args.rel e p.key_class p.class) c.args.store.now.now.nodes) c.in_ok-nodes.nodes.items) key (c.in_ok-nodes.ensures.found clean) in
+    shows_nothing c.args.store.now.now content c.args.rel p c.nothing.result holds c.requires.key (subst (IsPermutation (filter (is_node c.args.rel (key_spelling p.key) p.key_class p.class) c.args.store.now.now.nodes)) none some) c.nothing.ensures.0 c.nothing.ensures.1

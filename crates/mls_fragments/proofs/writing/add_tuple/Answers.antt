@@ -1,15 +1,10 @@
-use Rattle.std.proofs.Common.{arith}
-use Rattle.std.proofs.lemmas.Grind.{common_steps}
+use Rattle.std.proofs.Common.{◌≡◌, map, sym, subst}
+use Rattle.mls_statements.specs.Rows.{cell_beside}
+use Rattle.mls_fragments.specs.Holding.{cell_row}
+use Rattle.mls_fragments.proofs.CallLemmas.{adds_both}
 use Rattle.mls_fragments.proofs.writing.add_tuple.Goals as goal
 
-pub returns-in_err-add_node-in-Ok-clause-call : goal.returns-in_err-add_node-in-Ok-clause-call
-returns-in_err-add_node-in-Ok-clause-call g c = grind (arith, common_steps)
-
-pub returns-in-Err-clause-call : goal.returns-in-Err-clause-call
-returns-in-Err-clause-call g c = grind (arith, common_steps)
-
-pub returns-clause-call : goal.returns-clause-call
-returns-clause-call g c = grind (arith, common_steps)
-
-pub returns-clause-done : goal.returns-clause-done
-returns-clause-done g c = grind (arith, common_steps)
+pub returns-in_ok-add_node-in-Ok-clause-done : goal.returns-in_ok-add_node-in-Ok-clause-done
+returns-in_ok-add_node-in-Ok-clause-done g c clean =
+    adds_both c.args.rel c.args.node.now c.args.cells.now c.in-Ok.rows.node c.deref.result.now c.args.store.now c.add_node.new.self c.add_cells.new.self c.add_cells.result
+    c.in-Ok.ensures.node (subst (λ own. map (cell_beside c.in-Ok.rows.node) own ≡ map (cell_row c.args.rel) c.args.cells.now) (sym c.deref.ensures.value) c.in-Ok.ensures.own) (c.in_ok-add_node-in-Ok.ensures.done (c.add_cells.ensures.call.clean clean)) (c.add_cells.ensures.done clean)

@@ -9,7 +9,7 @@ pub returns-clause-found : goal.returns-clause-found
 returns-clause-found g c clean has = finds_entries (state g.S.Store c.args.conn.now) (state g.S.Store c.query_all.new.self) has c.query_all.result (c.query_all.ensures.ok clean)
 
 pub returns-clause-same : goal.returns-clause-same
-returns-clause-same g c clean has = unchanged (state g.S.Store c.args.conn.now) (state g.S.Store c.query_all.new.self) schema all_entries _ c.query_all.result has all_entries_is.1 (c.query_all.ensures.ok clean)
+returns-clause-same g c clean has = unchanged (state g.S.Store c.args.conn.now) (state g.S.Store c.query_all.new.self) (schema has.others) all_entries _ c.query_all.result has.is (all_entries_is has.others).1 (c.query_all.ensures.ok clean)
 
 pub returns-clause-err : goal.returns-clause-err
 returns-clause-err g c clean = query_ended (state g.S.Store c.args.conn.now) (state g.S.Store c.query_all.new.self) _ _ c.query_all.result (c.query_all.ensures.err clean)

@@ -11,7 +11,7 @@ returns-clause-found g c clean ready =
     (rw (c.params-to_sql.ensures, c.params-to_sql-2.ensures) at (c.query_all.ensures.ok clean))
 
 pub returns-clause-same : goal.returns-clause-same
-returns-clause-same g c clean ready = unchanged (state g.S.Store c.args.conn.now) (state g.S.Store c.query_all.new.self) schema cells_at _ c.query_all.result ready.0 cells_at_is.1 (c.query_all.ensures.ok clean)
+returns-clause-same g c clean ready = unchanged (state g.S.Store c.args.conn.now) (state g.S.Store c.query_all.new.self) (schema ready.0.others) cells_at _ c.query_all.result ready.0.is (cells_at_is ready.0.others).1 (c.query_all.ensures.ok clean)
 
 pub returns-clause-err : goal.returns-clause-err
 returns-clause-err g c clean = query_ended (state g.S.Store c.args.conn.now) (state g.S.Store c.query_all.new.self) _ _ c.query_all.result (c.query_all.ensures.err clean)

@@ -1,0 +1,104 @@
+//! Bases over the two files of a store, which are closed and opened again.
+ghost use Rattle.std.specs.Prelude.{◌≡◌, ◌⊎◌, false, not, length, IsTrue, IfOk, IfErr};
+ghost use Rattle.sqlite.specs.Effect.{IsDatabase};
+ghost use Rattle.sqlite.specs.Files.{image_of, file_state};
+ghost use Rattle.sqlite.specs.Held.{state};
+ghost use Rattle.sqlite.specs.State.{HasCleanDisk};
+ghost use Rattle.sqlite.specs.WalReads.{AreClean};
+ghost use Rattle.mls_scheme.specs.Scheme.{AreUnder};
+ghost use Rattle.mls_statements.specs.Store.{IsClean};
+ghost use Rattle.mls_fragments.specs.Again.{AreKept, IsFoundUnder};
+ghost use Rattle.mls_fragments.specs.Based.{state_of};
+ghost use Rattle.mls_fragments.specs.Finding.{IsSoundContent};
+ghost use Rattle.mls_fragments.specs.Opening.{IsFoundIn};
+
+use crate::base::SqlBase;
+use crate::open_fault::OpenFault;
+use crate::opening::fault_of;
+use mls_lattice::Policy;
+use mls_scheme::SchemesFile;
+use sqlite::{Alter, Connection, Error, FileStore, Files, Options};
+use sqlite_disk::Disk;
+use std::alloc::Global;
+
+/// Whether a connection has committed all that it shows, which is a database where it is open.
+fn is_settled<S: Alter>(conn: &Connection<S>) -> bool
+    ensures value { result ≡ not (state S.Store conn.now).in_transaction }
+    ensures settled { IsTrue result → IsTrue (state S.Store conn.now).is_open → (state S.Store conn.now).now ≡ (state S.Store conn.now).committed }
+    ensures sound { IsTrue (state S.Store conn.now).is_open → IsDatabase (state S.Store conn.now).now }
+{
+    // for what it says of the database
+    let _schema = conn.schema();
+    conn.is_autocommit()
+}
+
+/// A connection to the store in files, which is made where the database file is empty.
+fn connected<D: Disk + Drop>(
+    alloc: Global,
+    files: Files<D>,
+    options: Options,
+) -> Result<Connection<FileStore<D>>, (OpenFault, Files<D>)>
+    ensures found { IfOk result (λ c. HasCleanDisk (file_state c) → IsFoundIn (image_of D.Disk files) (file_state c).now) }
+    ensures clean { IfOk result (λ c. HasCleanDisk (file_state c) → AreClean D.Disk files.log files.db) }
+    ensures idle { IfOk result (λ c. c.in_transaction ≡ false) }
+    ensures fault { IfErr result (λ e. (e.0 ≡ OpenFault.Store) ⊎ (e.0 ≡ OpenFault.Memory)) }
+{
+    if !files.may_be_used() {
+        return Err((OpenFault::Store, files));
+    }
+    match Connection::open_files(alloc, files, options) {
+        Ok(conn) => Ok(conn),
+        Err((error, left)) => Err((fault_of(error), left.into_files())),
+    }
+}
+
+/// Gives the files of a store back as they are.
+fn left<D: Disk + Drop>(conn: Connection<FileStore<D>>) -> Files<D> {
+    conn.into_store().close()
+}
+
+impl<D: Disk + Drop> SqlBase<FileStore<D>> {
+    /// A base over the store in the files of a disk, as `adopt` opens it. An `Err` gives the files back.
+    pub fn open_files(
+        alloc: Global,
+        files: Files<D>,
+        options: Options,
+        policy: &Policy,
+        file: &SchemesFile,
+    ) -> Result<SqlBase<FileStore<D>>, (OpenFault, Files<D>)>
+        requires under { AreUnder (length policy.now.labels) file.now.schemes }
+        ensures clean { IfOk result (λ b. IsClean b.tables → AreClean D.Disk files.log files.db) }
+        ensures found { IfOk result (λ b. IsClean b.tables → IsFoundUnder policy.now file.now (image_of D.Disk files) (state_of b).now) }
+        ensures sound { IfOk result (λ b. IsSoundContent policy.now file.now.schemes (state_of b).now) }
+        ensures mode { IfOk result (λ b. (state_of b).begun ≡ false) }
+    {
+        let conn = match connected(alloc, files, options) {
+            Ok(conn) => conn,
+            Err(refused) => return Err(refused),
+        };
+        match SqlBase::adopt(alloc, conn, policy, file) {
+            Ok(base) => Ok(base),
+            Err((fault, conn)) => Err((fault, left(conn))),
+        }
+    }
+
+    /// Closes the files: the database file alone then holds what was committed, also after a crash. Where that fails, the log holds the
+    /// rest.
+    pub fn close_files(self) -> Result<Files<D>, (OpenFault, Files<D>)>
+        requires begun { (state_of self).begun ≡ false }
+        ensures usable { IfOk result (λ files. IsTrue (D.Disk.is_usable files.log) × IsTrue (D.Disk.is_usable files.db)) }
+        ensures clean { IfOk result (λ files. AreClean D.Disk files.log files.db → IsClean self.tables) }
+        ensures was_clean { IfErr result (λ e. AreClean D.Disk e.1.log e.1.db → IsClean self.tables) }
+        ensures kept { IfOk result (λ files. AreClean D.Disk files.log files.db → AreKept D.Disk files (state_of self).now) }
+        ensures fault { IfErr result (λ e. (e.0 ≡ OpenFault.Store) ⊎ (e.0 ≡ OpenFault.Memory)) }
+    {
+        let conn = self.into_connection();
+        // for what it says of the last commit
+        let _settled = is_settled(&conn);
+        let closed: Result<Files<D>, (Error, FileStore<D>)> = conn.close_files();
+        match closed {
+            Ok(files) => Ok(files),
+            Err((error, store)) => Err((fault_of(error), store.close())),
+        }
+    }
+}

@@ -20,6 +20,7 @@ use Rattle.mls_script.specs.declared.event.Command.{Command}
 use Rattle.mls_script.specs.declared.event.Command.TheVariants as commands
 use Rattle.mls_machine.specs.declared.reply.Denial.{Denial}
 use Rattle.mls_machine.specs.declared.reply.Denial.TheVariants.{Ds, Ss, Star, Trust, Arguments}
+use Rattle.mls_machine.specs.declared.reply.Reply.TheVariants.{Ran}
 use Rattle.mls_machine.specs.declared.stored.Stored.{Stored}
 use Rattle.mls_machine.specs.declared.stored.Stored.TheVariants.{Certified, Plain}
 use Rattle.mls_machine.specs.Stored.{tx_of}
@@ -27,7 +28,7 @@ use Rattle.mls_machine.specs.Site.{Site, site_labels}
 use Rattle.mls_machine.specs.Denying.{first_denial, clearance_of, trusted_of, exceed, execute_mode, lacks_on, lie_outside, stored_named, are_wrong_at, fitted, call_denials}
 use Rattle.mls_machine.specs.Machine.{World, Step, unless, denial_entry, denied, call_entries, called, call_step, step_at, step}
 use Rattle.mls_machine.specs.Output.{line, call_texts, item_lines, reply_lines}
-use Rattle.mls_machine.specs.Observation.{AreStored, params_of, blanked, shown, glimpse, IsBelowCeiling, IsNoCall, out, released_in}
+use Rattle.mls_machine.specs.Observation.{AreStored, params_of, blanked, shown, glimpse, IsBelowCeiling, IsNoCall, out, released_in, reply_shown}
 use Rattle.mls_machine.proofs.LowLemmas.{LowAgree}
 use Rattle.mls_machine.proofs.DenyingLemmas.{may_run}
 use Rattle.mls_machine.proofs.CalledLemmas.{certified_of, WhereCalled, IsSafe}
@@ -40,6 +41,7 @@ pub record StepsAlike (site : Site) (c : ℕ) (e x : Event) (s t : Step) : Type 
   pub world : LowAgree (site_labels site) c s.world t.world
   pub lines : out (site_labels site) c (reply_lines site e s.reply) ≡ out (site_labels site) c (reply_lines site x t.reply)
   pub released : seen_items (site_labels site) c (released_in s.reply) ≡ seen_items (site_labels site) c (released_in t.reply)
+  pub reply : reply_shown (site_labels site) c s.reply ≡ reply_shown (site_labels site) c t.reply
 
 -- or what they release to c tells them apart, which is where c is not above all that the call can read
 abbrev pub SplitOrAlike : Site → ℕ → Event → Event → Step → Step → Type 0
@@ -101,6 +103,7 @@ module _ (site : Site) (distinct : AreDistinct (site_labels site)) (c : ℕ) (v 
       world = record { tables = h.tables; sessions = h.sessions; entries = alike_entries site c v w e sees h (denial_entry site e user denial ∷ []) };
       lines = refl;
       released = refl;
+      reply = refl;
     })
 
     same_entries : (user : ℕ) (items others : List Item) → seen_items (site_labels site) c items ≡ seen_items (site_labels site) c others
@@ -136,6 +139,7 @@ module _ (site : Site) (distinct : AreDistinct (site_labels site)) (c : ℕ) (v 
                 (lines_seen ls c site.policy first s.emitted s.released ∙ (λ i. lines_of site.policy e (x.emitted i) (x.released i)) ∙ sym (lines_seen ls c site.policy second t.emitted t.released))
                 ∙ sym (filter-append (λ l. below ls l.label c) (map (line site.policy e e.level) (call_texts (commands.Call name vs))) (item_lines site.policy second (called site w second user name tx ws).reply));
             released = x.released;
+            reply = λ i. Ran (record { emitted = x.emitted i; released = x.released i });
           })
         ]
 
@@ -155,7 +159,7 @@ module _ (site : Site) (distinct : AreDistinct (site_labels site)) (c : ℕ) (v 
 
     calls_at : IfSome (certified_of (stored_named site.stored name)) (IsSafe site) → Same (stored_named site.stored name)
         → (session : Option ℕ) → Alike (step_at site v first (commands.Call name vs) session) (step_at site w second (commands.Call name ws) session)
-    calls_at safe same None = inr (record { world = h; lines = refl; released = refl })
+    calls_at safe same None = inr (record { world = h; lines = refl; released = refl; reply = refl })
     calls_at safe same (Some user) = both_calls user (stored_named site.stored name) refl safe same
 
     call_steps : WhereCalled site (IsSafe site) (commands.Call name vs) → Same (stored_named site.stored name) → Alike (step site v first) (step site w second)
@@ -198,6 +202,7 @@ module _ (site : Site) (distinct : AreDistinct (site_labels site)) (c : ℕ) (v 
         world = s.world;
         lines = ap (λ r. out (site_labels site) c (reply_lines site (twin e a) r)) s.reply;
         released = ap (λ r. seen_items (site_labels site) c (released_in r)) s.reply;
+        reply = ap (reply_shown (site_labels site) c) s.reply;
       })
 
   from_plain : (a b : Command) → IsNoCall a → sh a ≡ sh b → Pair a b

@@ -10,6 +10,7 @@ pub mod HiddenLemmas
 pub mod AlikeLemmas
 pub mod CallLemmas
 pub mod RunLemmas
+pub mod HistoryLemmas
 pub mod LineLemmas
 pub mod SampleLemmas
 pub mod CallSampleLemmas

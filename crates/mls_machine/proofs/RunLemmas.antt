@@ -14,13 +14,14 @@ use Rattle.mls_script.specs.declared.event.Event.{Event}
 use Rattle.mls_script.specs.declared.event.Command.{Command}
 use Rattle.mls_script.specs.declared.event.Command.TheVariants as commands
 use Rattle.mls_script.specs.Event.{EventFits}
+use Rattle.mls_machine.specs.declared.reply.Reply.{Reply}
 use Rattle.mls_machine.specs.declared.stored.Stored.{Stored}
 use Rattle.mls_machine.specs.declared.stored.Stored.TheVariants.{Certified, Plain}
 use Rattle.mls_machine.specs.Stored.{WhereCertified, IsCertifiedUnder, IsMadeUnder}
 use Rattle.mls_machine.specs.Site.{Site, site_labels}
 use Rattle.mls_machine.specs.Machine.{World, step, end_of}
 use Rattle.mls_machine.specs.Output.{Line, reply_lines, run_lines, printed}
-use Rattle.mls_machine.specs.Observation.{AreStored, EventsFit, AreRead, AreSecure, AreCertified, AreMadeUnder, IsNoCall, HaveNoCall, shown, glimpse, seen, AgreeAt, EndAlike, IsBelowCeiling, AreBelowCeiling, out, released_in, run_released, released_to, PassesOnlyReleasesDown, ShowsOnlyReleases}
+use Rattle.mls_machine.specs.Observation.{AreStored, EventsFit, AreRead, AreSecure, AreCertified, AreMadeUnder, IsNoCall, HaveNoCall, shown, glimpse, seen, AgreeAt, EndAlike, IsBelowCeiling, AreBelowCeiling, out, released_in, run_released, released_to, reply_shown, replies_shown, PassesOnlyReleasesDown, ShowsOnlyReleases}
 use Rattle.mls_machine.specs.Laws.{LowRunsAreAlike, SecureRunsAreAlike, AcceptedRunsAreAlike}
 use Rattle.mls_machine.proofs.CalledLemmas.{WhereCalled, CallsRead, IsSafe, all_safe, no_call, weaker}
 use Rattle.mls_machine.proofs.KeepingLemmas.{step_stored, first_fit}
@@ -90,6 +91,14 @@ module _ (site : Site) (distinct : AreDistinct (site_labels site)) (c : ℕ) whe
   unfolding end_of
   end_next w e es = refl
 
+  abbrev replies_of : World → List Event → List Reply
+  replies_of w es = replies_shown site c w es
+
+  -- the reply to an event at a level that c sees, and at another none
+  replies_next : (w : World) (e : Event) (es : List Event) (b : Bool) → Sees e b → replies_of w (e ∷ es) ≡ cond b (reply_shown (site_labels site) c (step site w e).reply ∷ []) [] ++ replies_of (next w e) es
+  unfolding replies_shown
+  replies_next w e es b h = ap (λ x. cond x (reply_shown (site_labels site) c (step site w e).reply ∷ []) [] ++ replies_of (next w e) es) h
+
   abbrev sees : List Event → List Event
   sees es = seen site c es
 
@@ -115,6 +124,7 @@ module _ (site : Site) (distinct : AreDistinct (site_labels site)) (c : ℕ) whe
 
   record Ends (v w : World) (es fs : List Event) : Type 0 where
     pub out : out_of v es ≡ out_of w fs
+    pub replies : replies_of v es ≡ replies_of w fs
     pub world : LowAgree (site_labels site) c (end_of site v es) (end_of site w fs)
 
   -- what is asked of releases
@@ -124,12 +134,14 @@ module _ (site : Site) (distinct : AreDistinct (site_labels site)) (c : ℕ) whe
   hidden_first : (v w : World) (e : Event) (es fs : List Event) → Sees e false → AreStored site v.db → IsGood e → Ends (next v e) w es fs → Ends v w (e ∷ es) fs
   hidden_first v w e es fs h sv good r = record {
     out = out_hidden v e es h sv good ∙ r.out;
+    replies = replies_next v e es false h ∙ r.replies;
     world = subst (λ x. LowAgree (site_labels site) c x (end_of site w fs)) (sym (end_next v e es)) r.world;
   }
 
   hidden_second : (v w : World) (e : Event) (es fs : List Event) → Sees e false → AreStored site w.db → IsGood e → Ends v (next w e) es fs → Ends v w es (e ∷ fs)
   hidden_second v w e es fs h sw good r = record {
     out = r.out ∙ sym (out_hidden w e fs h sw good);
+    replies = r.replies ∙ sym (replies_next w e fs false h);
     world = subst (λ x. LowAgree (site_labels site) c (end_of site v es) x) (sym (end_next w e fs)) r.world;
   }
 
@@ -139,8 +151,8 @@ module _ (site : Site) (distinct : AreDistinct (site_labels site)) (c : ℕ) whe
 
   -- only hidden events
   hidden_rest : (v w : World) (fs : List Event) → AreGood fs → AreStored site w.db → LowAgree (site_labels site) c v w → [] ≡ sees fs → Ends v w [] fs
-  unfolding run_lines end_of
-  hidden_rest v w [] gf sw h none = record { out = refl; world = h }
+  unfolding run_lines replies_shown end_of
+  hidden_rest v w [] gf sw h none = record { out = refl; replies = refl; world = h }
   hidden_rest v w (x ∷ fs) gf sw h none =
       elim (cases_Bool (below (site_labels site) x.level c)) [
         | inl b ↦ absurd (not_nil (glimpse site c x) (sees fs) (sym (none ∙ sees_next x fs true b)))
@@ -191,7 +203,11 @@ module _ (site : Site) (distinct : AreDistinct (site_labels site)) (c : ℕ) whe
         | inl s ↦ absurd (no_split v w e x es fs rel b s)
         | inr a ↦
             let r = claim fs (next v e) (next w x) ges gfs (stored_next v e sv ge) (stored_next w x sw gx) a.world same (rest_alike v w e x es fs b a rel) in
-            record { out = out_next v e es ∙ (λ i. a.lines i ++ r.out i) ∙ sym (out_next w x fs); world = r.world }
+            record {
+              out = out_next v e es ∙ (λ i. a.lines i ++ r.out i) ∙ sym (out_next w x fs);
+              replies = replies_next v e es true b ∙ (λ i. a.reply i ∷ r.replies i) ∙ sym (replies_next w x fs true (ap (λ y. below (site_labels site) y.level c) (sym g) ∙ b));
+              world = r.world;
+            }
       ]
 
   -- the first run is at an event that c sees, and the second goes on to one
@@ -230,7 +246,7 @@ module _ (site : Site) (distinct : AreDistinct (site_labels site)) (c : ℕ) whe
   unfolding Claim
   ends_alike v w es fs ge gf sv sw agree same rel =
       let r = interleaved es fs v w ge gf sv sw (to_low site distinct c v w sv sw agree) same rel in
-      record { out = r.out; worlds = from_low site c (end_of site v es) (end_of site w fs) (stored_end v es sv ge) (stored_end w fs sw gf) r.world }
+      record { out = r.out; replies = r.replies; worlds = from_low site c (end_of site v es) (end_of site w fs) (stored_end v es sv ge) (stored_end w fs sw gf) r.world }
 
 -- ---- the laws
 
@@ -243,7 +259,7 @@ secure_alike site distinct read secure v es sv fits c w fs sw ff agree same rel 
     ends_alike site distinct c v w es fs (all_good site distinct c read secure es fits) (all_good site distinct c read secure fs ff) sv sw agree same rel
 
 -- where the rules hold under certificates, the transactions are secure
-certified_secure : (site : Site) → AreDistinct (site_labels site) → AreCertified site → AreSecure site
+pub certified_secure : (site : Site) → AreDistinct (site_labels site) → AreCertified site → AreSecure site
 certified_secure site distinct = each site.stored
   where
     each : (stored : List Stored) → AllByRecursion (IsCertifiedUnder site.policy) stored → AllByRecursion (WhereCertified (Secure site.policy)) stored
@@ -278,7 +294,7 @@ plain_good site distinct c [] fits plain = tt
 plain_good site distinct c (e ∷ es) fits plain = (record { fits = fits.0; safe = no_call site (IsSafe site) e.command plain.0 }, plain_good site distinct c es fits.1 plain.1)
 
 -- no call reads anything
-plain_ceilings : (site : Site) (c : ℕ) (es : List Event) → HaveNoCall es → AreBelowCeiling site c es
+pub plain_ceilings : (site : Site) (c : ℕ) (es : List Event) → HaveNoCall es → AreBelowCeiling site c es
 plain_ceilings site c [] plain = tt
 plain_ceilings site c (e ∷ es) plain =
     elim (below (site_labels site) e.level c) as (λ b. AllByRecursion (λ f. IsBelowCeiling site c f.command) (map (glimpse site c) (cond b (e ∷ filter (λ f. below (site_labels site) f.level c) es) (filter (λ f. below (site_labels site) f.level c) es)))) [

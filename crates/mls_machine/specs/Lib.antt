@@ -6,3 +6,4 @@ pub mod Machine
 pub mod Output
 pub mod Observation
 pub mod Laws
+pub mod History

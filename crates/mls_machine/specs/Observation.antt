@@ -118,6 +118,20 @@ run_released site w (e ∷ es) = released_in (step site w e).reply ++ run_releas
 abbrev pub released_to : Site → ℕ → World → List Event → List Item
 released_to site c w es = seen_items (site_labels site) c (run_released site w es)
 
+-- ---- replies
+
+-- what c sees of a reply: of a call, the items whose labels it dominates
+abbrev pub reply_shown : Labels → ℕ → Reply → Reply
+reply_shown ls c (Ran run) = Ran (record { emitted = seen_items ls c run.emitted; released = seen_items ls c run.released })
+reply_shown ls c reply = reply
+
+-- what c sees of the replies of a run from w: of those at levels that it dominates, in order
+unfoldable pub replies_shown : Site → ℕ → World → List Event → List Reply
+replies_shown site c w [] = []
+replies_shown site c w (e ∷ es) =
+    (if below (site_labels site) e.level c then reply_shown (site_labels site) c (step site w e).reply ∷ [] else [])
+    ++ replies_shown site c (step site w e).world es
+
 -- ---- worlds
 
 -- two worlds look alike to c: the view of each relation, the sessions of levels that c dominates, and the entries of
@@ -129,9 +143,10 @@ pub record AgreeAt (ls : Labels) (c : ℕ) (v w : World) : Type 0 where
 
 -- ---- runs
 
--- two runs show the same lines to c, and end in worlds that look alike to it
+-- two runs show the same lines to c, and the same replies, and end in worlds that look alike to it
 pub record EndAlike (site : Site) (c : ℕ) (v w : World) (es fs : List Event) : Type 0 where
   pub out : out (site_labels site) c (run_lines site v es) ≡ out (site_labels site) c (run_lines site w fs)
+  pub replies : replies_shown site c v es ≡ replies_shown site c w fs
   pub worlds : AgreeAt (site_labels site) c (end_of site v es) (end_of site w fs)
 
 -- no information flows down in a run: at each level c, a run without calls from any other world of the stored form that

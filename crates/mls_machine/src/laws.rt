@@ -1,4 +1,5 @@
 //! The laws of the machine, each the contract of a function.
+ghost use Rattle.mls_machine.specs.History.{HistoriesKeepIntegrity, LowHistoriesAreAlike, SecureHistoriesAreAlike, AcceptedHistoriesAreAlike, HistoriesPassWhatRunsPass, HistoriesShowOnlyReleases};
 ghost use Rattle.mls_machine.specs.Laws.{RefusalsChangeNothing, DenialsAndCallsAreEntered, RunsKeepIntegrity, LowRunsAreAlike, SecureRunsAreAlike, AcceptedRunsAreAlike};
 
 /// A command that is denied, a view, an audit, and a write that is refused leave the database and the sessions as they
@@ -35,4 +36,38 @@ pub fn secure_runs_are_alike()
 /// The same where the rules of certificates hold: the checker's word is enough.
 pub fn accepted_runs_are_alike()
     ensures { AcceptedRunsAreAlike }
+{}
+
+/// So of a history of runs, where users, rights and stored transactions may change from run to run: each database on the
+/// way of each run has the four integrity properties.
+pub fn histories_keep_integrity()
+    ensures { HistoriesKeepIntegrity }
+{}
+
+/// Two histories without calls, at the same sites run by run, from worlds that look alike to a level, over events of which
+/// it sees the same, show it the same lines run by run and end in worlds that look alike to it.
+pub fn low_histories_are_alike()
+    ensures { LowHistoriesAreAlike }
+{}
+
+/// Where the transactions with certificates are secure, information flows down in a history by releases alone: two
+/// histories show a level the same if run by run they also release the same to it, or if it dominates all that the calls
+/// that it sees can read.
+pub fn secure_histories_are_alike()
+    ensures { SecureHistoriesAreAlike }
+{}
+
+/// The same where the rules of certificates hold: the checker's word is enough.
+pub fn accepted_histories_are_alike()
+    ensures { AcceptedHistoriesAreAlike }
+{}
+
+/// A history passes nothing down but what is released where each of its runs does so from the world that it begins in.
+pub fn histories_pass_what_runs_pass()
+    ensures { HistoriesPassWhatRunsPass }
+{}
+
+/// So of the bytes that one reader is shown.
+pub fn histories_show_only_releases()
+    ensures { HistoriesShowOnlyReleases }
 {}

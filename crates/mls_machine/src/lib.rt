@@ -6,8 +6,10 @@ mod reply;
 mod stored;
 
 pub use laws::{
-    accepted_runs_are_alike, denials_and_calls_are_entered, low_runs_are_alike,
-    refusals_change_nothing, runs_keep_integrity, secure_runs_are_alike,
+    accepted_histories_are_alike, accepted_runs_are_alike, denials_and_calls_are_entered,
+    histories_keep_integrity, histories_pass_what_runs_pass, histories_show_only_releases,
+    low_histories_are_alike, low_runs_are_alike, refusals_change_nothing, runs_keep_integrity,
+    secure_histories_are_alike, secure_runs_are_alike,
 };
 pub use reply::{Denial, Reply};
 pub use stored::Stored;

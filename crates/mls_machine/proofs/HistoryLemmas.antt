@@ -1,0 +1,160 @@
+-- Histories, as a level sees them: each run by the law of runs, and what it leaves by the next.
+use Rattle.std.proofs.Common.{◌≡◌, ℕ, List, [], ◌∷◌, map, refl, sym, ap, ◌∙◌, subst, inr, ◌⊎◌}
+use Rattle.std.specs.Bool.{⊤}
+use Rattle.std.specs.List.{AllByRecursion, AllZip}
+use Rattle.std.proofs.lemmas.Simd.{map-map}
+use Rattle.mls_lattice.specs.Labels.{Labels, AreDistinct}
+use Rattle.mls_scheme.specs.Table.{Database}
+use Rattle.mls_scheme.specs.Scheme.{Schemes}
+use Rattle.mls_meaning.specs.Secure as secure
+use Rattle.mls_script.specs.declared.event.Event.{Event}
+use Rattle.mls_machine.specs.Site.{Site, site_labels}
+use Rattle.mls_machine.specs.Machine.{World, end_of}
+use Rattle.mls_machine.specs.Output.{run_lines, printed}
+use Rattle.mls_machine.specs.Observation.{AreStored, EventsFit, AreSecure, AreCertified, HaveNoCall, AgreeAt, EndAlike, seen, released_to, AreBelowCeiling, out, replies_shown}
+use Rattle.mls_machine.specs.History.{RunAt, settled, run_end, history_end, history_lines, history_replies, KeepsIntegrityInHistory, LookAlike, ReleaseAlike, HistoriesEndAlike, HistoryFits, HistoryHasNoCall, IsSiteUnder, IsHistoryUnder, EachPassesOnlyReleasesDown, HistoriesKeepIntegrity, LowHistoriesAreAlike, SecureHistoriesAreAlike, AcceptedHistoriesAreAlike, HistoriesPassWhatRunsPass, HistoriesShowOnlyReleases}
+use Rattle.mls_machine.proofs.KeepingLemmas.{run_stored, all_calls_read, keep_integrity}
+use Rattle.mls_machine.proofs.RunLemmas.{secure_alike, certified_secure, runs_alike, plain_ceilings}
+
+settled_alike : {ls : Labels} {c : ℕ} {v w : World} → AgreeAt ls c v w → AgreeAt ls c (settled v) (settled w)
+settled_alike h = record { views = h.views; sessions = λ l n b. refl; entries = h.entries }
+
+-- what two runs release to c is the same, or c dominates all that the calls that it sees can read
+abbrev ReleaseSame : Site → ℕ → World → List Event → World → RunAt → Type 0
+ReleaseSame site c v es w s = (released_to site c v es ≡ released_to s.site c w s.events) ⊎ AreBelowCeiling site c es
+
+-- a run from v passes nothing down but what it releases, to any other run of which so much is known
+abbrev Passes : (List Event → Type 0) → World → RunAt → Type 0
+Passes Other v r =
+    (c : ℕ) (w : World) (fs : List Event) → AreStored r.site w.db → EventsFit r.site fs → Other fs
+    → AgreeAt (site_labels r.site) c v w → seen r.site c r.events ≡ seen r.site c fs
+    → ReleaseSame r.site c v r.events w (record { site = r.site; events = fs })
+    → EndAlike r.site c v w r.events fs
+
+abbrev EachPasses : (List Event → Type 0) → World → List RunAt → Type 0
+EachPasses Other v [] = ⊤
+EachPasses Other v (r ∷ rs) = Passes Other v r × EachPasses Other (run_end v r) rs
+
+-- nothing is known of it
+abbrev Any : List Event → Type 0
+Any fs = ⊤
+
+any_other : (ss : List RunAt) → AllByRecursion (λ s. Any s.events) ss
+any_other [] = tt
+any_other (s ∷ ss) = (tt, any_other ss)
+
+module _ (ls : Labels) (schemes : Schemes) (distinct : AreDistinct ls) where
+  -- ---- one run under the labels and the schemes
+
+  module _ (site : Site) (under : IsSiteUnder ls schemes site) where
+    distinct_at : AreDistinct (site_labels site)
+    distinct_at = subst AreDistinct (sym under.labels) distinct
+
+    stored_at : (db : Database) → secure.AreStored ls schemes db → AreStored site db
+    stored_at db h = subst (λ l. secure.AreStored l site.schemes db) (sym under.labels) (subst (λ s. secure.AreStored ls s db) (sym under.relations) h)
+
+    stored_back : (db : Database) → AreStored site db → secure.AreStored ls schemes db
+    stored_back db h = subst (λ s. secure.AreStored ls s db) under.relations (subst (λ l. secure.AreStored l site.schemes db) under.labels h)
+
+    stored_end : (w : World) (es : List Event) → EventsFit site es → secure.AreStored ls schemes w.db → secure.AreStored ls schemes (end_of site w es).db
+    stored_end w es fits h = stored_back _ (run_stored site distinct_at w es (stored_at w.db h) fits (all_calls_read site distinct_at under.read es))
+
+  -- ---- two runs
+
+  record RunsEnd (c : ℕ) (v w : World) (r s : RunAt) : Type 0 where
+    pub lines : out ls c (run_lines r.site v r.events) ≡ out ls c (run_lines s.site w s.events)
+    pub replies : replies_shown r.site c v r.events ≡ replies_shown s.site c w s.events
+    pub world : AgreeAt ls c (run_end v r) (run_end w s)
+
+  runs_end : (Other : List Event → Type 0) (c : ℕ) (r s : RunAt) (v w : World) → IsSiteUnder ls schemes r.site → LookAlike c r s → Passes Other v r
+      → secure.AreStored ls schemes w.db → EventsFit s.site s.events → Other s.events → AgreeAt ls c v w → ReleaseSame r.site c v r.events w s → RunsEnd c v w r s
+  runs_end Other c r s v w under look passes sw fits other agree released =
+      let end = passes c w s.events (stored_at r.site under w.db sw) (subst (λ x. EventsFit x s.events) (sym look.site) fits) other
+      (subst (λ l. AgreeAt l c v w) (sym under.labels) agree)
+      look.events
+      (subst (λ x. ReleaseSame r.site c v r.events w (record { site = x; events = s.events })) (sym look.site) released) in
+      record {
+        lines = ap (λ l. out l c (run_lines r.site v r.events)) (sym under.labels) ∙ end.out ∙ (λ i. out (under.labels i) c (run_lines (look.site i) w s.events));
+        replies = end.replies ∙ (λ i. replies_shown (look.site i) c w s.events);
+        world = settled_alike
+            (subst (λ x. AgreeAt ls c (end_of r.site v r.events) (end_of x w s.events)) look.site
+            (subst (λ l. AgreeAt l c (end_of r.site v r.events) (end_of r.site w s.events)) under.labels end.worlds));
+      }
+
+  -- ---- run by run
+
+  alike : (Other : List Event → Type 0) (c : ℕ) (rs ss : List RunAt) (v w : World) → IsHistoryUnder ls schemes rs → EachPasses Other v rs
+      → secure.AreStored ls schemes w.db → HistoryFits ss → AllByRecursion (λ s. Other s.events) ss
+      → AgreeAt ls c v w → AllZip (LookAlike c) rs ss → ReleaseAlike c v w rs ss → HistoriesEndAlike ls c v w rs ss
+  unfolding history_end history_lines history_replies
+  alike Other c [] [] v w under passes sw fits other agree look released = record { lines = refl; replies = refl; worlds = agree }
+  alike Other c [] (s ∷ ss) v w under passes sw fits other agree look released = absurd look
+  alike Other c (r ∷ rs) [] v w under passes sw fits other agree look released = absurd look
+  alike Other c (r ∷ rs) (s ∷ ss) v w under passes sw fits other agree look released =
+      let end = runs_end Other c r s v w under.0 look.0 passes.0 sw fits.0 other.0 agree released.0 in
+      let left = stored_end s.site (subst (IsSiteUnder ls schemes) look.0.site under.0) w s.events fits.0 sw in
+      let rest = alike Other c rs ss (run_end v r) (run_end w s) under.1 passes.1 left fits.1 other.1 end.world look.1 released.1 in
+      record { lines = λ i. end.lines i ∷ rest.lines i; replies = λ i. end.replies i ∷ rest.replies i; worlds = rest.worlds }
+
+  -- ---- what is known of each run
+
+  secure_pass : (v : World) (rs : List RunAt) → secure.AreStored ls schemes v.db → IsHistoryUnder ls schemes rs → HistoryFits rs → AllByRecursion (λ r. AreSecure r.site) rs → EachPasses Any v rs
+  secure_pass v [] sv under fits safe = tt
+  secure_pass v (r ∷ rs) sv under fits safe = (
+    (λ c w fs sw ff other agree same released.
+        secure_alike r.site (distinct_at r.site under.0) under.0.read safe.0 v r.events (stored_at r.site under.0 v.db sv) fits.0 c w fs sw ff agree same released),
+    secure_pass (run_end v r) rs (stored_end r.site under.0 v r.events fits.0 sv) under.1 fits.1 safe.1,
+  )
+
+  plain_pass : (v : World) (rs : List RunAt) → secure.AreStored ls schemes v.db → IsHistoryUnder ls schemes rs → HistoryFits rs → HistoryHasNoCall rs → EachPasses HaveNoCall v rs
+  plain_pass v [] sv under fits plain = tt
+  plain_pass v (r ∷ rs) sv under fits plain = (
+    (λ c w fs sw ff other agree same released.
+        runs_alike r.site (distinct_at r.site under.0) v r.events (stored_at r.site under.0 v.db sv) fits.0 plain.0 c w fs sw ff other agree same),
+    plain_pass (run_end v r) rs (stored_end r.site under.0 v r.events fits.0 sv) under.1 fits.1 plain.1,
+  )
+
+  any_pass : (v : World) (rs : List RunAt) → EachPassesOnlyReleasesDown v rs → EachPasses Any v rs
+  any_pass v [] passes = tt
+  any_pass v (r ∷ rs) passes = ((λ c w fs sw ff other agree same released. passes.0 c w fs sw ff agree same released), any_pass (run_end v r) rs passes.1)
+
+  all_secure : (rs : List RunAt) → IsHistoryUnder ls schemes rs → AllByRecursion (λ r. AreCertified r.site) rs → AllByRecursion (λ r. AreSecure r.site) rs
+  all_secure [] under certified = tt
+  all_secure (r ∷ rs) under certified = (certified_secure r.site (distinct_at r.site under.0) certified.0, all_secure rs under.1 certified.1)
+
+  integrity : (v : World) (rs : List RunAt) → secure.AreStored ls schemes v.db → IsHistoryUnder ls schemes rs → HistoryFits rs → KeepsIntegrityInHistory v rs
+  integrity v [] sv under fits = tt
+  integrity v (r ∷ rs) sv under fits = (
+    keep_integrity r.site (distinct_at r.site under.0) under.0.read v r.events (stored_at r.site under.0 v.db sv) fits.0,
+    integrity (run_end v r) rs (stored_end r.site under.0 v r.events fits.0 sv) under.1 fits.1,
+  )
+
+-- no call reads anything
+plain_release : (c : ℕ) (v w : World) (rs ss : List RunAt) → HistoryHasNoCall rs → ReleaseAlike c v w rs ss
+plain_release c v w [] ss plain = tt
+plain_release c v w (r ∷ rs) [] plain = tt
+plain_release c v w (r ∷ rs) (s ∷ ss) plain = (inr (plain_ceilings r.site c r.events plain.0), plain_release c (run_end v r) (run_end w s) rs ss plain.1)
+
+-- ---- the laws
+
+pub histories_keep : HistoriesKeepIntegrity
+histories_keep ls schemes distinct v rs sv under fits = integrity ls schemes distinct v rs sv under fits
+
+pub low_histories : LowHistoriesAreAlike
+low_histories ls schemes distinct v rs sv under fits plain c w ss sw other_fits other agree look =
+    alike ls schemes distinct HaveNoCall c rs ss v w under (plain_pass ls schemes distinct v rs sv under fits plain) sw other_fits other agree look (plain_release c v w rs ss plain)
+
+pub secure_histories : SecureHistoriesAreAlike
+secure_histories ls schemes distinct v rs sv under fits safe c w ss sw other_fits agree look released =
+    alike ls schemes distinct Any c rs ss v w under (secure_pass ls schemes distinct v rs sv under fits safe) sw other_fits (any_other ss) agree look released
+
+pub accepted_histories : AcceptedHistoriesAreAlike
+accepted_histories ls schemes distinct v rs sv under fits certified = secure_histories ls schemes distinct v rs sv under fits (all_secure ls schemes distinct rs under certified)
+
+pub histories_pass : HistoriesPassWhatRunsPass
+histories_pass ls schemes distinct v rs under passes c w ss sw other_fits agree look released =
+    alike ls schemes distinct Any c rs ss v w under (any_pass ls schemes distinct v rs passes) sw other_fits (any_other ss) agree look released
+
+pub histories_show : HistoriesShowOnlyReleases
+histories_show ls schemes v rs passes c w ss sw fits agree look released =
+    sym (map-map printed (out ls c) (history_lines v rs)) ∙ ap (map printed) (passes c w ss sw fits agree look released).lines ∙ map-map printed (out ls c) (history_lines w ss)

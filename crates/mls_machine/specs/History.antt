@@ -1,0 +1,149 @@
+-- Histories: runs one after another over one database, each at its own site. Between runs no session is left.
+use Rattle.std.specs.Prelude.{◌≡◌, ℕ, List, [], ◌∷◌, map, Option, Some, ◌⊎◌, ⊤}
+use Rattle.std.specs.List.{AllByRecursion, AllZip}
+use Rattle.mls_lattice.specs.Labels.{Labels, AreDistinct}
+use Rattle.mls_scheme.specs.Scheme.{Schemes}
+use Rattle.mls_meaning.specs.Secure.{AreStored}
+use Rattle.mls_script.specs.declared.event.Event.{Event}
+use Rattle.mls_machine.specs.declared.reply.Reply.{Reply}
+use Rattle.mls_machine.specs.Site.{Site, site_labels}
+use Rattle.mls_machine.specs.Machine.{World, no_sessions, end_of}
+use Rattle.mls_machine.specs.Output.{Line, run_lines, printed}
+use Rattle.mls_machine.specs.Observation.{EventsFit, AreRead, AreSecure, AreCertified, HaveNoCall, AgreeAt, seen, released_to, AreBelowCeiling, out, heard, replies_shown, PassesOnlyReleasesDown}
+use Rattle.mls_machine.specs.Laws.{KeepsIntegrity}
+
+-- events at a site: users, rights and stored transactions may change from run to run
+pub record RunAt : Type 0 where
+  pub site : Site
+  pub events : List Event
+
+-- ---- what histories do
+
+-- the world without its sessions
+abbrev pub settled : World → World
+settled w = record w { sessions = no_sessions }
+
+-- what a run leaves for the next
+abbrev pub run_end : World → RunAt → World
+run_end w r = settled (end_of r.site w r.events)
+
+unfoldable pub history_end : World → List RunAt → World
+history_end w [] = w
+history_end w (r ∷ rs) = history_end (run_end w r) rs
+
+-- the lines of each run
+unfoldable pub history_lines : World → List RunAt → List (List Line)
+history_lines w [] = []
+history_lines w (r ∷ rs) = run_lines r.site w r.events ∷ history_lines (run_end w r) rs
+
+-- what c sees of the replies of each run
+unfoldable pub history_replies : ℕ → World → List RunAt → List (List Reply)
+history_replies c w [] = []
+history_replies c w (r ∷ rs) = replies_shown r.site c w r.events ∷ history_replies c (run_end w r) rs
+
+-- the bytes of each run, or those of the lines that a reader may see
+abbrev pub history_bytes : Labels → Option ℕ → World → List RunAt → List (List ℕ)
+history_bytes ls reader w rs = map (λ lines. printed (heard ls reader lines)) (history_lines w rs)
+
+-- each database on the way of each run has the four integrity properties
+abbrev pub KeepsIntegrityInHistory : World → List RunAt → Type 0
+KeepsIntegrityInHistory w [] = ⊤
+KeepsIntegrityInHistory w (r ∷ rs) = KeepsIntegrity r.site w r.events × KeepsIntegrityInHistory (run_end w r) rs
+
+-- ---- what a level sees of them
+
+-- two runs at one site, and c sees the same of their events
+pub record LookAlike (c : ℕ) (r s : RunAt) : Type 0 where
+  pub site : r.site ≡ s.site
+  pub events : seen r.site c r.events ≡ seen r.site c s.events
+
+-- run by run two histories release the same to c, or c dominates all that the calls that it sees can read
+abbrev pub ReleaseAlike : ℕ → World → World → List RunAt → List RunAt → Type 0
+ReleaseAlike c v w [] ss = ⊤
+ReleaseAlike c v w (r ∷ rs) [] = ⊤
+ReleaseAlike c v w (r ∷ rs) (s ∷ ss) =
+    ((released_to r.site c v r.events ≡ released_to s.site c w s.events) ⊎ AreBelowCeiling r.site c r.events) × ReleaseAlike c (run_end v r) (run_end w s) rs ss
+
+-- two histories show the same lines to c run by run, and the same replies, and end in worlds that look alike to it
+pub record HistoriesEndAlike (ls : Labels) (c : ℕ) (v w : World) (rs ss : List RunAt) : Type 0 where
+  pub lines : map (out ls c) (history_lines v rs) ≡ map (out ls c) (history_lines w ss)
+  pub replies : history_replies c v rs ≡ history_replies c w ss
+  pub worlds : AgreeAt ls c (history_end v rs) (history_end w ss)
+
+abbrev pub HistoryFits : List RunAt → Type 0
+HistoryFits = AllByRecursion (λ r. EventsFit r.site r.events)
+
+abbrev pub HistoryHasNoCall : List RunAt → Type 0
+HistoryHasNoCall = AllByRecursion (λ r. HaveNoCall r.events)
+
+module _ (ls : Labels) (schemes : Schemes) where
+  -- a site of these labels and schemes
+  pub record IsSiteUnder (site : Site) : Type 0 where
+    pub labels : site_labels site ≡ ls
+    pub relations : site.schemes ≡ schemes
+    pub read : AreRead site
+
+  abbrev pub IsHistoryUnder : List RunAt → Type 0
+  IsHistoryUnder = AllByRecursion (λ r. IsSiteUnder r.site)
+
+  -- no information flows down in a history but what is released: at each level c, a history from any other world of the
+  -- stored form that looks alike to c, at the same sites, over any events of which c sees the same, shows c the same, run by
+  -- run, if run by run it also releases the same to c, or if c dominates all that the calls that it sees can read
+  abbrev pub PassesOnlyReleasesDownInHistory : World → List RunAt → Type 0
+  PassesOnlyReleasesDownInHistory v rs =
+      (c : ℕ) (w : World) (ss : List RunAt) → AreStored ls schemes w.db → HistoryFits ss
+      → AgreeAt ls c v w → AllZip (LookAlike c) rs ss → ReleaseAlike c v w rs ss
+      → HistoriesEndAlike ls c v w rs ss
+
+  -- and without calls none at all
+  abbrev pub PassesNothingDownInHistory : World → List RunAt → Type 0
+  PassesNothingDownInHistory v rs =
+      (c : ℕ) (w : World) (ss : List RunAt) → AreStored ls schemes w.db → HistoryFits ss → HistoryHasNoCall ss
+      → AgreeAt ls c v w → AllZip (LookAlike c) rs ss
+      → HistoriesEndAlike ls c v w rs ss
+
+  -- what a history prints for c passes nothing down but what is released: its bytes are the same for any other such history
+  abbrev pub ShowsOnlyReleasesInHistory : ℕ → World → List RunAt → Type 0
+  ShowsOnlyReleasesInHistory c v rs =
+      (w : World) (ss : List RunAt) → AreStored ls schemes w.db → HistoryFits ss
+      → AgreeAt ls c v w → AllZip (LookAlike c) rs ss → ReleaseAlike c v w rs ss
+      → history_bytes ls (Some c) v rs ≡ history_bytes ls (Some c) w ss
+
+-- each run of a history passes nothing down but what it releases, from the world that it begins in
+abbrev pub EachPassesOnlyReleasesDown : World → List RunAt → Type 0
+EachPassesOnlyReleasesDown w [] = ⊤
+EachPassesOnlyReleasesDown w (r ∷ rs) = PassesOnlyReleasesDown r.site w r.events × EachPassesOnlyReleasesDown (run_end w r) rs
+
+-- ---- laws
+
+abbrev pub HistoriesKeepIntegrity : Type 0
+HistoriesKeepIntegrity =
+    (ls : Labels) (schemes : Schemes) → AreDistinct ls → (v : World) (rs : List RunAt) → AreStored ls schemes v.db → IsHistoryUnder ls schemes rs → HistoryFits rs
+    → KeepsIntegrityInHistory v rs
+
+abbrev pub LowHistoriesAreAlike : Type 0
+LowHistoriesAreAlike =
+    (ls : Labels) (schemes : Schemes) → AreDistinct ls → (v : World) (rs : List RunAt) → AreStored ls schemes v.db → IsHistoryUnder ls schemes rs → HistoryFits rs
+    → HistoryHasNoCall rs → PassesNothingDownInHistory ls schemes v rs
+
+abbrev pub SecureHistoriesAreAlike : Type 0
+SecureHistoriesAreAlike =
+    (ls : Labels) (schemes : Schemes) → AreDistinct ls → (v : World) (rs : List RunAt) → AreStored ls schemes v.db → IsHistoryUnder ls schemes rs → HistoryFits rs
+    → AllByRecursion (λ r. AreSecure r.site) rs → PassesOnlyReleasesDownInHistory ls schemes v rs
+
+abbrev pub AcceptedHistoriesAreAlike : Type 0
+AcceptedHistoriesAreAlike =
+    (ls : Labels) (schemes : Schemes) → AreDistinct ls → (v : World) (rs : List RunAt) → AreStored ls schemes v.db → IsHistoryUnder ls schemes rs → HistoryFits rs
+    → AllByRecursion (λ r. AreCertified r.site) rs → PassesOnlyReleasesDownInHistory ls schemes v rs
+
+-- a history passes no more than its runs
+abbrev pub HistoriesPassWhatRunsPass : Type 0
+HistoriesPassWhatRunsPass =
+    (ls : Labels) (schemes : Schemes) → AreDistinct ls → (v : World) (rs : List RunAt) → IsHistoryUnder ls schemes rs
+    → EachPassesOnlyReleasesDown v rs → PassesOnlyReleasesDownInHistory ls schemes v rs
+
+-- a level that is shown the same lines is shown the same bytes
+abbrev pub HistoriesShowOnlyReleases : Type 0
+HistoriesShowOnlyReleases =
+    (ls : Labels) (schemes : Schemes) (v : World) (rs : List RunAt) → PassesOnlyReleasesDownInHistory ls schemes v rs
+    → (c : ℕ) → ShowsOnlyReleasesInHistory ls schemes c v rs

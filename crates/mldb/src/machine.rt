@@ -5,7 +5,7 @@ ghost use Rattle.mls_filterview.specs.Content.{Content};
 ghost use Rattle.mls_fragments.specs.Finding.{IsSoundContent};
 
 use crate::private;
-use mls_command::{CloseFault, Host, HostFault, read_whole};
+use mls_command::{CloseFault, Host, HostFault, LinesOf, read_whole};
 use mls_filterview::Base;
 use mls_fragments::{OpenFault, SqlBase};
 use mls_lattice::Policy;
@@ -13,7 +13,7 @@ use mls_scheme::SchemesFile;
 use sqlite::{FileFrom, FileStore, Start};
 use std::alloc::Global;
 use std::fs;
-use std::io::ErrorKind;
+use std::io::{ErrorKind, Input, IsTerminal};
 use std::snapshot::Snapshot;
 
 /// What opens the stores at paths as bases, and closes them.
@@ -95,6 +95,8 @@ impl<'a, B: Base + Drop, O: Opens<B> + Drop> Host for Machine<'a, B, O> {
 
     type Store = B;
 
+    type Lines = LinesOf<<HostRuntime as Input>::Reader>;
+
     fn file(&self, alloc: Global, path: &str) -> Result<Vec<u8>, HostFault> {
         match fs::open(self.rt, path) {
             Ok(file) => read_whole(alloc, file),
@@ -105,6 +107,14 @@ impl<'a, B: Base + Drop, O: Opens<B> + Drop> Host for Machine<'a, B, O> {
 
     fn input(&self, alloc: Global) -> Result<Vec<u8>, HostFault> {
         read_whole(alloc, self.rt.reader())
+    }
+
+    fn lines(&self) -> LinesOf<<HostRuntime as Input>::Reader> {
+        LinesOf::new(self.rt.reader())
+    }
+
+    fn is_terminal(&self) -> bool {
+        self.rt.stdin().is_terminal()
     }
 
     fn store(

@@ -1,7 +1,6 @@
 -- Tasks and jobs: what is done, and what is given up.
-use Rattle.std.proofs.Common.{◌≡◌, ℕ, List, [], Option, Some, None, Result, Ok, Err, IfOk, IfErr, OnOk, OnErr, false, ◌⊎◌, inl, inr, refl, sym, subst}
+use Rattle.std.proofs.Common.{◌≡◌, ℕ, List, [], Option, Result, Ok, Err, IfOk, IfErr, OnOk, OnErr, inl, inr, refl, sym, subst}
 use Rattle.std.specs.Prelude.{option_map}
-use Rattle.std.specs.Borrow.{Bor}
 use Rattle.std.proofs.KnownBytes.{Appends-nil}
 use Rattle.mls_script.specs.declared.event.Event.{Event}
 use Rattle.mls_machine.specs.declared.stored.Stored.{Stored}
@@ -10,57 +9,66 @@ use Rattle.mls_command.specs.declared.words.Job.{Job}
 use Rattle.mls_command.specs.declared.ending.Ending.{Ending}
 use Rattle.mls_command.specs.declared.ending.Ending.TheVariants.{Well}
 use Rattle.mls_command.specs.declared.errors.Errors.{Errors}
-use Rattle.mls_command.specs.Inputs.{AreStoredFrom, IsNamed, IsReader, at_of}
+use Rattle.mls_command.specs.Inputs.{AreStoredFrom, IsReader}
 use Rattle.mls_lattice.specs.Policy.{Tables}
 use Rattle.mls_scheme.specs.declared.file.SchemesFile.{SchemesFile}
 use Rattle.mls_command.specs.declared.words.RunFiles.{RunFiles}
+use Rattle.mls_command.specs.declared.words.ShellFiles.{ShellFiles}
 use Rattle.mls_command.specs.declared.words.Task.{Task}
 use Rattle.mls_command.specs.declared.words.Task.TheVariants as tasks
 use Rattle.mls_command.specs.declared.refusal.Refusal.{Refusal}
-use Rattle.mls_command.specs.declared.refusal.Refusal.TheVariants.{Unreadable, TooLong, Policy, Reader, Schemes as OfSchemes, Transactions, Certificates, Script, Store, Run, NotClosed, Output, Memory}
+use Rattle.mls_command.specs.declared.refusal.Refusal.TheVariants.{Unreadable, TooLong, Policy, Reader, Label, User, Schemes as OfSchemes, Transactions, Certificates, Script, Store, Run, NotClosed, Output, Memory}
 use Rattle.mls_command.specs.Hosting.{Hosted, IsTold}
 use Rattle.mls_command.specs.Refusal.{IsBefore}
 use Rattle.mls_command.specs.Running.{site_of, IsCutOff, IsRunEnd}
-use Rattle.mls_command.specs.Acting.{IsPolicyOf, AreSchemesOf, IsScriptRead, IsRunFrom, Runs, Prints, IsTaskDone, IsTaskGivenUp, IsDone, IsGivenUp}
-use Rattle.mls_command.proofs.RunningLemmas.{end_weaker}
+use Rattle.mls_command.specs.Acting.{IsPolicyOf, AreSchemesOf, IsScriptRead, IsRunFrom, Runs, Answers, Prints, IsTaskDone, IsRunOf, IsTaskGivenUp, IsDone, IsGivenUp}
+use Rattle.mls_command.proofs.RunningLemmas.{end_weaker, not_begun}
 
-module _ (h : Hosted) (policy : Tables) (file : SchemesFile) (reader : Option ℕ) (Wrote : List ℕ → Type 0) where
+module _ (h : Hosted) (policy : Tables) (file : SchemesFile) (reader : Option ℕ) (Wrote Told : List ℕ → Type 0) where
   -- before anything is written
-  pub task_before : (task : Task) (refusal : Refusal) → IsBefore refusal → Wrote [] → IsTaskGivenUp h policy file reader task Wrote refusal
-  task_before task (Unreadable r) b w = w
-  task_before task (TooLong r) b w = w
-  task_before task (Policy f) b w = w
-  task_before task Reader b w = w
-  task_before task (OfSchemes f) b w = w
-  task_before task (Transactions f) b w = w
-  task_before task (Certificates f) b w = w
-  task_before task (Script f) b w = w
-  task_before task (Store f) b w = w
-  task_before task (Run f) b w = absurd b
-  task_before task NotClosed b w = absurd b
-  task_before task Output b w = absurd b
-  task_before task Memory b w = w
+  pub task_before : (task : Task) (refusal : Refusal) → IsBefore refusal → Told [] → Wrote [] → IsTaskGivenUp h policy file reader task Wrote Told refusal
+  task_before task (Unreadable r) b t w = (t, w)
+  task_before task (TooLong r) b t w = (t, w)
+  task_before task (Policy f) b t w = (t, w)
+  task_before task Reader b t w = (t, w)
+  task_before task Label b t w = (t, w)
+  task_before task User b t w = (t, w)
+  task_before task (OfSchemes f) b t w = (t, w)
+  task_before task (Transactions f) b t w = (t, w)
+  task_before task (Certificates f) b t w = (t, w)
+  task_before task (Script f) b t w = (t, w)
+  task_before task (Store f) b t w = (t, w)
+  task_before task (Run f) b t w = absurd b
+  task_before task NotClosed b t w = absurd b
+  task_before task Output b t w = absurd b
+  task_before task Memory b t w = (t, w)
 
   -- as its run was
-  pub run_given_up : (files : RunFiles) (refusal : Refusal) → IsRunEnd (Runs h policy file.schemes reader files Wrote) (Wrote []) (Err refusal)
-      → IsTaskGivenUp h policy file reader (tasks.Run files) Wrote refusal
-  run_given_up files (Unreadable r) k = k
-  run_given_up files (TooLong r) k = k
-  run_given_up files (Policy f) k = k
-  run_given_up files Reader k = k
-  run_given_up files (OfSchemes f) k = k
-  run_given_up files (Transactions f) k = k
-  run_given_up files (Certificates f) k = k
-  run_given_up files (Script f) k = k
-  run_given_up files (Store f) k = k
-  run_given_up files (Run f) k = k
-  run_given_up files NotClosed k = k
-  run_given_up files Output k = absurd k
-  run_given_up files Memory k = k
+  pub run_given_up : (files : RunFiles) (refusal : Refusal) → Told [] → IsRunEnd (Runs h policy file.schemes reader files Wrote) (Wrote []) (Err refusal)
+      → IsTaskGivenUp h policy file reader (tasks.Run files) Wrote Told refusal
+  run_given_up files (Unreadable r) t k = (t, k)
+  run_given_up files (TooLong r) t k = (t, k)
+  run_given_up files (Policy f) t k = (t, k)
+  run_given_up files Reader t k = (t, k)
+  run_given_up files Label t k = (t, k)
+  run_given_up files User t k = (t, k)
+  run_given_up files (OfSchemes f) t k = (t, k)
+  run_given_up files (Transactions f) t k = (t, k)
+  run_given_up files (Certificates f) t k = (t, k)
+  run_given_up files (Script f) t k = (t, k)
+  run_given_up files (Store f) t k = (t, k)
+  run_given_up files (Run f) t k = (t, k)
+  run_given_up files NotClosed t k = (t, k)
+  run_given_up files Output t k = absurd k
+  run_given_up files Memory t k = (t, k)
 
 -- nothing was told
 pub told_nothing : {E : Type 0} (contents : E → Option (List ℕ)) (e : Errors E) → IsTold contents e e []
 told_nothing contents e = λ well. (well, Appends-nil (contents e.writer))
+
+pub quiet_told : {A F E : Type 0} (contents : E → Option (List ℕ)) (old new : Errors E) (r : Result A F) → OnErr r (new ≡ old) → OnErr r (IsTold contents old new [])
+quiet_told contents old new (Ok a) h = tt
+quiet_told contents old new (Err x) h = subst (λ e. IsTold contents old e []) (sym h) (told_nothing contents old)
 
 module _ (h : Hosted) (policy : Tables) (file : SchemesFile) (reader : Option ℕ) (Wrote : List ℕ → Type 0) where
   -- ---- runs
@@ -91,43 +99,101 @@ module _ (h : Hosted) (policy : Tables) (file : SchemesFile) (reader : Option �
   run_done files (Err e) k = tt
 
   pub run_stopped : (files : RunFiles) (r : Result (Unit {0}) Refusal) → IsRunEnd (Runs h policy file.schemes reader files Wrote) (Wrote []) r
-      → IfErr r (IsTaskGivenUp h policy file reader (tasks.Run files) Wrote)
+      → IfErr r (λ e. IsRunEnd (Runs h policy file.schemes reader files Wrote) (Wrote []) (Err e))
   run_stopped files (Ok u) k = tt
-  run_stopped files (Err e) k = run_given_up h policy file reader Wrote files e k
+  run_stopped files (Err e) k = k
+
+  pub run_not_begun : (files : RunFiles) (r : Result (Unit {0}) Refusal) → IfErr r IsBefore → Wrote [] → IfErr r (λ e. IsRunEnd (Runs h policy file.schemes reader files Wrote) (Wrote []) (Err e))
+  run_not_begun files (Ok u) b w = tt
+  run_not_begun files (Err e) b w = not_begun (Runs h policy file.schemes reader files Wrote) (Wrote []) e b w
 
   -- ---- tasks
 
-  pub before_given_up : {A : Type 0} (task : Task) (r : Result A Refusal) → IfErr r IsBefore → Wrote [] → IfErr r (IsTaskGivenUp h policy file reader task Wrote)
-  before_given_up task (Ok a) b w = tt
-  before_given_up task (Err e) b w = task_before h policy file reader Wrote task e b w
+  pub before_given_up : {A : Type 0} (Told : List ℕ → Type 0) (task : Task) (r : Result A Refusal) → IfErr r IsBefore → Told [] → Wrote [] → IfErr r (IsTaskGivenUp h policy file reader task Wrote Told)
+  before_given_up Told task (Ok a) b t w = tt
+  before_given_up Told task (Err e) b t w = task_before h policy file reader Wrote Told task e b t w
+
+  pub run_task_given_up : {A : Type 0} (Told : List ℕ → Type 0) (task : Task) (files : RunFiles) → task ≡ tasks.Run files → Told [] → (r : Result A Refusal)
+      → IfErr r (λ e. IsRunEnd (Runs h policy file.schemes reader files Wrote) (Wrote []) (Err e)) → IfErr r (IsTaskGivenUp h policy file reader task Wrote Told)
+  run_task_given_up Told task files is told (Ok a) k = tt
+  run_task_given_up Told task files is told (Err e) k = subst (λ (t : Task). IsTaskGivenUp h policy file reader t Wrote Told e) (sym is) (run_given_up h policy file reader Wrote Told files e told k)
 
   pub run_task_done : (Told : List ℕ → Type 0) (task : Task) (files : RunFiles) → task ≡ tasks.Run files → Told [] → Runs h policy file.schemes reader files Wrote (Ok tt)
       → IsTaskDone h policy file reader task Wrote Told Well
   run_task_done Told task files is told runs = subst (λ (t : Task). IsTaskDone h policy file reader t Wrote Told Well) (sym is) (refl, told, runs)
 
-  pub print_given_up : (task same : Task) → same ≡ task → (text told : List ℕ) (end : Ending) → Prints h policy file task text told end → (r : Result Ending Refusal)
-      → IfErr r (λ e. e ≡ Output) → OnErr r (IsCutOff Wrote text) → IfErr r (IsTaskGivenUp h policy file reader same Wrote)
-  print_given_up task same is text told end prints (Ok e) out part = tt
-  print_given_up task same is text told end prints (Err e) out part =
-      subst (λ (x : Refusal). IsTaskGivenUp h policy file reader same Wrote x) (sym out)
-      (record { text = text; told = told; end = end; prints = subst (λ (t : Task). Prints h policy file t text told end) (sym is) prints; is_cut_off = part })
+  pub print_given_up : (Told : List ℕ → Type 0) (task same : Task) → same ≡ task → (text told : List ℕ) (end : Ending) → Prints h policy file task text told end → (r : Result Ending Refusal)
+      → IfErr r (λ e. e ≡ Output) → OnErr r (IsCutOff Wrote text) → OnErr r (Told []) → IfErr r (IsTaskGivenUp h policy file reader same Wrote Told)
+  print_given_up Told task same is text told end prints (Ok e) out part quiet = tt
+  print_given_up Told task same is text told end prints (Err e) out part quiet =
+      subst (λ (x : Refusal). IsTaskGivenUp h policy file reader same Wrote Told x) (sym out)
+      (quiet, record { text = text; told = told; end = end; prints = subst (λ (t : Task). Prints h policy file t text told end) (sym is) prints; is_cut_off = part })
 
 -- ---- jobs
 
 module _ (h : Hosted) (job : Job) (Wrote : List ℕ → Type 0) where
-  pub job_before : {A : Type 0} (r : Result A Refusal) → IfErr r IsBefore → Wrote [] → IfErr r (IsGivenUp h job Wrote)
-  job_before (Ok a) b w = tt
-  job_before (Err e) b w = inl (b, w)
+  pub job_before : {A : Type 0} (Told : List ℕ → Type 0) (r : Result A Refusal) → IfErr r IsBefore → Told [] → Wrote [] → IfErr r (IsGivenUp h job Wrote Told)
+  job_before Told (Ok a) b t w = tt
+  job_before Told (Err e) b t w = inl (b, t, w)
 
   module _ (policy : Tables) (file : SchemesFile) (reader : Option ℕ) (policy_is : IsPolicyOf h job.documents policy) (schemes_are : AreSchemesOf h job.documents policy file)
-      (at : Option (List ℕ)) (at_is : at ≡ at_of job.task) (named : IsNamed policy at reader) where
-    reader_is : IsReader policy job.task reader
-    reader_is = subst (λ (o : Option (List ℕ)). IsNamed policy o reader) at_is named
+      (reader_is : IsReader policy job.task reader) (Told : List ℕ → Type 0) where
+    pub job_done : (r : Result Ending Refusal) → IfOk r (IsTaskDone h policy file reader job.task Wrote Told) → IfOk r (IsDone h job Wrote Told)
+    job_done (Ok end) k = record { policy = policy; file = file; reader = reader; policy_is = policy_is; schemes_are = schemes_are; reader_is = reader_is; does = k }
+    job_done (Err e) k = tt
 
-    pub job_done : (Told : List ℕ → Type 0) (r : Result Ending Refusal) → IfOk r (IsTaskDone h policy file reader job.task Wrote Told) → IfOk r (IsDone h job Wrote Told)
-    job_done Told (Ok end) k = record { policy = policy; file = file; reader = reader; policy_is = policy_is; schemes_are = schemes_are; reader_is = reader_is; does = k }
-    job_done Told (Err e) k = tt
-
-    pub job_given_up : (r : Result Ending Refusal) → IfErr r (IsTaskGivenUp h policy file reader job.task Wrote) → IfErr r (IsGivenUp h job Wrote)
+    pub job_given_up : (r : Result Ending Refusal) → IfErr r (IsTaskGivenUp h policy file reader job.task Wrote Told) → IfErr r (IsGivenUp h job Wrote Told)
     job_given_up (Ok end) k = tt
     job_given_up (Err e) k = inr (record { policy = policy; file = file; reader = reader; policy_is = policy_is; schemes_are = schemes_are; reader_is = reader_is; does = k })
+
+-- ---- more is told
+
+module _ (h : Hosted) (Wrote Told More : List ℕ → Type 0) (f : (text : List ℕ) → Told text → More text) where
+  shell_told : (policy : Tables) (file : SchemesFile) (reader : Option ℕ) (files : ShellFiles) (end : Result Ending RunFault)
+      → Answers h policy file.schemes reader files Wrote Told end → Answers h policy file.schemes reader files Wrote More end
+  shell_told policy file reader files end k = λ clean. let x = k clean in record {
+    stored = x.stored;
+    level = x.level;
+    has_prompt = x.has_prompt;
+    before = x.before;
+    after = x.after;
+    first = x.first;
+    left = x.left;
+    stored_are = x.stored_are;
+    level_is = x.level_is;
+    given = x.given;
+    first_is = x.first_is;
+    left_is = x.left_is;
+    shell = record { turns = x.shell.turns; run_end = x.shell.run_end; talk = x.shell.talk; told = f _ x.shell.told; written = x.shell.written; ended = x.shell.ended; run = x.shell.run };
+  }
+
+  run_told : (policy : Tables) (file : SchemesFile) (reader : Option ℕ) (task : Task) (end : Result (Unit {0}) RunFault)
+      → IsRunOf h policy file reader task Wrote Told end → IsRunOf h policy file reader task Wrote More end
+  run_told policy file reader tasks.ShowPolicy end k = k
+  run_told policy file reader (tasks.Run files) end k = (f [] k.0, k.1)
+  run_told policy file reader (tasks.Shell files) (Ok u) k = (k.0, shell_told policy file reader files (Ok k.0) k.1)
+  run_told policy file reader (tasks.Shell files) (Err fault) k = shell_told policy file reader files (Err fault) k
+  run_told policy file reader (tasks.Certify transactions) end k = k
+  run_told policy file reader (tasks.Check transactions certificates) end k = k
+
+  task_told : (policy : Tables) (file : SchemesFile) (reader : Option ℕ) (task : Task) (r : Refusal)
+      → IsTaskGivenUp h policy file reader task Wrote Told r → IsTaskGivenUp h policy file reader task Wrote More r
+  task_told policy file reader task (Unreadable r) k = (f [] k.0, k.1)
+  task_told policy file reader task (TooLong r) k = (f [] k.0, k.1)
+  task_told policy file reader task (Policy x) k = (f [] k.0, k.1)
+  task_told policy file reader task Reader k = (f [] k.0, k.1)
+  task_told policy file reader task Label k = (f [] k.0, k.1)
+  task_told policy file reader task User k = (f [] k.0, k.1)
+  task_told policy file reader task (OfSchemes x) k = (f [] k.0, k.1)
+  task_told policy file reader task (Transactions x) k = (f [] k.0, k.1)
+  task_told policy file reader task (Certificates x) k = (f [] k.0, k.1)
+  task_told policy file reader task (Script x) k = (f [] k.0, k.1)
+  task_told policy file reader task (Store x) k = (f [] k.0, k.1)
+  task_told policy file reader task (Run fault) k = run_told policy file reader task (Err fault) k
+  task_told policy file reader task NotClosed k = run_told policy file reader task (Ok tt) k
+  task_told policy file reader task Output k = (f [] k.0, k.1)
+  task_told policy file reader task Memory k = (f [] k.0, k.1)
+
+  pub given_up_told : (job : Job) (r : Refusal) → IsGivenUp h job Wrote Told r → IsGivenUp h job Wrote More r
+  given_up_told job r (inl k) = inl (k.0, f [] k.1, k.2)
+  given_up_told job r (inr u) = inr (record { policy = u.policy; file = u.file; reader = u.reader; policy_is = u.policy_is; schemes_are = u.schemes_are; reader_is = u.reader_is; does = task_told u.policy u.file u.reader job.task r u.does })

@@ -3,3 +3,9 @@ pub mod StoringLemmas
 pub mod CertifyingLemmas
 pub mod ActingLemmas
 pub mod WordsLemmas
+pub mod InTurnLemmas
+pub mod TypingLemmas
+pub mod ShellLemmas
+pub mod TalkLemmas
+pub mod ShellEndLemmas
+pub mod HistoryLemmas

@@ -1,5 +1,5 @@
 -- Runs over a content: the lines of their events, what they leave, and how they end.
-use Rattle.std.proofs.Common.{refl, ◌≡◌, ℕ, ◌≤◌, List, [], ◌++◌, Option, Some, None, false, Result, Ok, Err, OnOk, IfErr, IfSome, take, ◌∙◌, ap, sym, subst, inl, inr}
+use Rattle.std.proofs.Common.{refl, ◌≡◌, ℕ, List, [], Option, Some, None, false, Result, Ok, Err, OnOk, IfErr, IfSome, take, sym, subst}
 use Rattle.std.specs.Prelude.{option_map}
 use Rattle.std.specs.Borrow.{Bor}
 use Rattle.std.specs.Io.KnownBytes.{Appends}
@@ -7,7 +7,7 @@ use Rattle.mls_filterview.specs.Content.{Content, State, no_content}
 use Rattle.mls_fragments.specs.Finding.{IsSoundContent}
 use Rattle.mls_script.specs.declared.event.Event.{Event}
 use Rattle.mls_machine.specs.Site.{Site}
-use Rattle.mls_machine.specs.Machine.{World, Sessions, end_of}
+use Rattle.mls_machine.specs.Machine.{World, Sessions}
 use Rattle.mls_machine.specs.Observation.{PassesOnlyReleasesDown, ShowsOnlyReleases}
 use Rattle.mls_machine.specs.Laws.{KeepsIntegrity}
 use Rattle.mls_machine.proofs.RunLemmas.{shows_only_releases}
@@ -17,7 +17,7 @@ use Rattle.mls_sessions.specs.Run.{IsWhole, IsStopped as IsHalted, IsFaultOf}
 use Rattle.mls_sessions.proofs.StartLemmas.{no_content_sound}
 use Rattle.mls_command.specs.declared.host.CloseFault.{CloseFault}
 use Rattle.mls_command.specs.declared.refusal.Refusal.{Refusal}
-use Rattle.mls_command.specs.declared.refusal.Refusal.TheVariants.{Unreadable, TooLong, Policy, Reader, Schemes, Transactions, Certificates, Script, Store, Run, NotClosed, Output, Memory}
+use Rattle.mls_command.specs.declared.refusal.Refusal.TheVariants.{Unreadable, TooLong, Policy, Reader, Label, User, Schemes, Transactions, Certificates, Script, Store, Run, NotClosed, Output, Memory}
 use Rattle.mls_command.specs.Refusal.{IsBefore, ended}
 use Rattle.mls_command.specs.Running.{first_world, IsRun, IsRunEnd}
 use Rattle.mls_command.specs.Hosting.{Hosted}
@@ -79,6 +79,8 @@ module _ (Runs : Result (Unit {0}) RunFault → Type 0) (Nothing : Type 0) where
   not_begun (TooLong r) b h = h
   not_begun (Policy f) b h = h
   not_begun Reader b h = h
+  not_begun Label b h = h
+  not_begun User b h = h
   not_begun (Schemes f) b h = h
   not_begun (Transactions f) b h = h
   not_begun (Certificates f) b h = h
@@ -99,6 +101,8 @@ module _ (Runs : Result (Unit {0}) RunFault → Type 0) (Nothing : Type 0) where
   end_weaker More f (Err (TooLong r)) h = h
   end_weaker More f (Err (Policy x)) h = h
   end_weaker More f (Err Reader) h = h
+  end_weaker More f (Err Label) h = h
+  end_weaker More f (Err User) h = h
   end_weaker More f (Err (Schemes x)) h = h
   end_weaker More f (Err (Transactions x)) h = h
   end_weaker More f (Err (Certificates x)) h = h

@@ -1,5 +1,5 @@
 -- What comes of a command line, by what its host gives.
-use Rattle.std.specs.Prelude.{◌≡◌, ℕ, List, [], ◌++◌, Option, Some, None, option_map, Result, Ok, Err, ◌⊎◌, ⊤}
+use Rattle.std.specs.Prelude.{◌≡◌, ℕ, List, [], ◌++◌, Option, Some, None, option_map, IfSome, Bool, Result, Ok, Err, ◌⊎◌, ⊤}
 use Rattle.mls_lattice.specs.Policy.{Tables}
 use Rattle.mls_lattice.specs.ReadsPolicy.{ReadsPolicy}
 use Rattle.mls_lattice.specs.Canon as lattice
@@ -17,8 +17,11 @@ use Rattle.mls_command.specs.declared.samples.TheConstants.{POLICY, SCHEMES}
 use Rattle.mls_command.specs.declared.words.Job.{Job}
 use Rattle.mls_command.specs.declared.words.Documents.{Documents}
 use Rattle.mls_command.specs.declared.words.Task.{Task}
-use Rattle.mls_command.specs.declared.words.Task.TheVariants.{ShowPolicy, Run, Certify, Check}
+use Rattle.mls_command.specs.declared.words.Task.TheVariants.{ShowPolicy, Run, Shell, Certify, Check}
 use Rattle.mls_command.specs.declared.words.RunFiles.{RunFiles}
+use Rattle.mls_command.specs.declared.words.ShellFiles.{ShellFiles}
+use Rattle.mls_command.specs.declared.seat.Seat.{Seat}
+use Rattle.mls_command.specs.declared.host.CloseFault.{CloseFault}
 use Rattle.mls_command.specs.declared.usage.Usage.{Usage}
 use Rattle.mls_command.specs.declared.ending.Ending.{Ending}
 use Rattle.mls_command.specs.declared.ending.Ending.TheVariants.{Well}
@@ -31,6 +34,7 @@ use Rattle.mls_command.specs.Inputs.{IsFrom, IsReader, AreStoredFrom}
 use Rattle.mls_command.specs.Refusal.{refusal_text, refusal_status, IsBefore}
 use Rattle.mls_command.specs.Ending.{ending_status}
 use Rattle.mls_command.specs.Running.{IsCutOff, IsRun, site_of}
+use Rattle.mls_command.specs.Shell.{IsShell}
 use Rattle.mls_command.specs.Certifying.{IsCertified}
 use Rattle.mls_command.specs.Checking.{IsChecked}
 
@@ -53,6 +57,10 @@ pub record IsPrintedInPart (Prints : List ℕ → List ℕ → Ending → Type 0
 -- the events of a script
 abbrev pub IsScriptRead : (Option (List ℕ) → List ℕ → Type 0) → Option (List ℕ) → Tables → Schemes → List Event → Type 0
 IsScriptRead Gives source policy schemes events = IsFrom Gives source (λ script. ReadsScript policy schemes script events)
+
+-- who sits at a shell, by its words
+abbrev pub seat_of : ShellFiles → ℕ → Bool → Seat
+seat_of files level has_prompt = record { level = level; label = files.label.now; user = files.user.now; has_prompt = has_prompt }
 
 module _ (h : Hosted) where
   -- ---- the policy and the schemes: those of the samples, or of files
@@ -101,36 +109,66 @@ module _ (h : Hosted) where
   abbrev pub Runs : Tables → Schemes → Option ℕ → RunFiles → (List ℕ → Type 0) → Result (Unit {0}) RunFault → Type 0
   Runs policy schemes reader files Wrote end = IsClean (option_map (λ p. p.now) files.store) → IsScriptRun policy schemes reader files Wrote end
 
+  -- ---- shells
+
+  -- what is typed is answered, from what a store kept to what it keeps
+  abbrev pub IsShellFrom : Option (List ℕ) → Site → Seat → Option (List ℕ) → Option (List ℕ) → (List ℕ → Type 0) → (List ℕ → Type 0) → Result Ending RunFault → Type 0
+  IsShellFrom store site seat before after Wrote Told end =
+      IsClean store → (first : Content) × (left : Content) × BeginsWith store first × IsKeptAt store left × IsShell h.echo site seat before after Wrote Told end first left
+
+  -- the lines of the standard input are answered, at a label for a user
+  pub record IsShellRun (policy : Tables) (schemes : Schemes) (reader : Option ℕ) (files : ShellFiles) (Wrote Told : List ℕ → Type 0) (end : Result Ending RunFault) : Type 0 where
+    pub stored : List Stored
+    pub level : ℕ
+    pub has_prompt : Bool
+    pub before : Option (List ℕ)
+    pub after : Option (List ℕ)
+    pub first : Content
+    pub left : Content
+    pub stored_are : AreStoredFrom h.gives (option_map (λ p. p.now) files.transactions) (option_map (λ p. p.now) files.certificates) policy schemes stored
+    pub level_is : reader ≡ Some level
+    pub given : IfSome before (h.gives None)
+    pub first_is : BeginsWith (option_map (λ p. p.now) files.store) first
+    pub left_is : IsKeptAt (option_map (λ p. p.now) files.store) left
+    pub shell : IsShell h.echo (site_of policy schemes stored) (seat_of files level has_prompt) before after Wrote Told end first left
+
+  abbrev pub Answers : Tables → Schemes → Option ℕ → ShellFiles → (List ℕ → Type 0) → (List ℕ → Type 0) → Result Ending RunFault → Type 0
+  Answers policy schemes reader files Wrote Told end = IsClean (option_map (λ p. p.now) files.store) → IsShellRun policy schemes reader files Wrote Told end
+
   -- ---- tasks
 
-  -- what a command other than a run prints on standard output, what it tells on standard error, and how it ends
+  -- what a command other than a run or a shell prints on standard output, what it tells on standard error, and how it ends
   abbrev pub Prints : Tables → SchemesFile → Task → List ℕ → List ℕ → Ending → Type 0
   Prints policy file ShowPolicy text told end = (text ≡ lattice.canon_of policy ++ scheme.canon_of policy file.version file.schemes) × (told ≡ []) × (end ≡ Well)
   Prints policy file (Run files) text told end = ⊥
+  Prints policy file (Shell files) text told end = ⊥
   Prints policy file (Certify transactions) text told end = IsCertified h.gives policy file.schemes transactions.now text told end
   Prints policy file (Check transactions certificates) text told end = IsChecked h.gives policy file.schemes transactions.now certificates.now text told end
 
   -- a task is done; a run tells nothing
   abbrev pub IsTaskDone : Tables → SchemesFile → Option ℕ → Task → (List ℕ → Type 0) → (List ℕ → Type 0) → Ending → Type 0
   IsTaskDone policy file reader (Run files) Wrote Told end = (end ≡ Well) × Told [] × Runs policy file.schemes reader files Wrote (Ok tt)
+  IsTaskDone policy file reader (Shell files) Wrote Told end = Answers policy file.schemes reader files Wrote Told (Ok end)
   IsTaskDone policy file reader ShowPolicy Wrote Told end = IsPrinted (Prints policy file ShowPolicy) Wrote Told end
   IsTaskDone policy file reader (Certify transactions) Wrote Told end = IsPrinted (Prints policy file (Certify transactions)) Wrote Told end
   IsTaskDone policy file reader (Check transactions certificates) Wrote Told end = IsPrinted (Prints policy file (Check transactions certificates)) Wrote Told end
 
-  -- a run ended so; no other task is one
-  abbrev pub IsRunOf : Tables → SchemesFile → Option ℕ → Task → (List ℕ → Type 0) → Result (Unit {0}) RunFault → Type 0
-  IsRunOf policy file reader (Run files) Wrote end = Runs policy file.schemes reader files Wrote end
-  IsRunOf policy file reader ShowPolicy Wrote end = ⊥
-  IsRunOf policy file reader (Certify transactions) Wrote end = ⊥
-  IsRunOf policy file reader (Check transactions certificates) Wrote end = ⊥
+  -- a run or a shell ended so; no other task is one
+  abbrev pub IsRunOf : Tables → SchemesFile → Option ℕ → Task → (List ℕ → Type 0) → (List ℕ → Type 0) → Result (Unit {0}) RunFault → Type 0
+  IsRunOf policy file reader (Run files) Wrote Told end = Told [] × Runs policy file.schemes reader files Wrote end
+  IsRunOf policy file reader (Shell files) Wrote Told (Ok _) = (end : Ending) × Answers policy file.schemes reader files Wrote Told (Ok end)
+  IsRunOf policy file reader (Shell files) Wrote Told (Err fault) = Answers policy file.schemes reader files Wrote Told (Err fault)
+  IsRunOf policy file reader ShowPolicy Wrote Told end = ⊥
+  IsRunOf policy file reader (Certify transactions) Wrote Told end = ⊥
+  IsRunOf policy file reader (Check transactions certificates) Wrote Told end = ⊥
 
-  -- What was written where a task is given up: of a run that stopped, the lines up to there; of one whose store was not closed, all;
-  -- where the output was not taken, a first part of it; and else nothing.
-  abbrev pub IsTaskGivenUp : Tables → SchemesFile → Option ℕ → Task → (List ℕ → Type 0) → Refusal → Type 0
-  IsTaskGivenUp policy file reader task Wrote (refusals.Run fault) = IsRunOf policy file reader task Wrote (Err fault)
-  IsTaskGivenUp policy file reader task Wrote refusals.NotClosed = IsRunOf policy file reader task Wrote (Ok tt)
-  IsTaskGivenUp policy file reader task Wrote refusals.Output = IsPrintedInPart (Prints policy file task) Wrote
-  IsTaskGivenUp policy file reader task Wrote refusal = Wrote []
+  -- What was written, and what was told before the refusal, where a task is given up: of a run or a shell that stopped, what it was up to
+  -- there; of one whose store was not closed, all; where the output was not taken, a first part of it; and else nothing.
+  abbrev pub IsTaskGivenUp : Tables → SchemesFile → Option ℕ → Task → (List ℕ → Type 0) → (List ℕ → Type 0) → Refusal → Type 0
+  IsTaskGivenUp policy file reader task Wrote Told (refusals.Run fault) = IsRunOf policy file reader task Wrote Told (Err fault)
+  IsTaskGivenUp policy file reader task Wrote Told refusals.NotClosed = IsRunOf policy file reader task Wrote Told (Ok tt)
+  IsTaskGivenUp policy file reader task Wrote Told refusals.Output = Told [] × IsPrintedInPart (Prints policy file task) Wrote
+  IsTaskGivenUp policy file reader task Wrote Told refusal = Told [] × Wrote []
 
   -- ---- jobs
 
@@ -148,14 +186,29 @@ module _ (h : Hosted) where
   IsDone job Wrote Told end = IsUnder job (λ policy file reader task. IsTaskDone policy file reader task Wrote Told end)
 
   -- it is given up before anything is written, or as its task is
-  abbrev pub IsGivenUp : Job → (List ℕ → Type 0) → Refusal → Type 0
-  IsGivenUp job Wrote refusal = (IsBefore refusal × Wrote []) ⊎ IsUnder job (λ policy file reader task. IsTaskGivenUp policy file reader task Wrote refusal)
+  abbrev pub IsGivenUp : Job → (List ℕ → Type 0) → (List ℕ → Type 0) → Refusal → Type 0
+  IsGivenUp job Wrote Told refusal = (IsBefore refusal × Told [] × Wrote []) ⊎ IsUnder job (λ policy file reader task. IsTaskGivenUp policy file reader task Wrote Told refusal)
 
   -- ---- command lines
 
   -- What came of the words: a job is done, or given up for a reason that is told, or they ask for none. Each has its status.
   pub data IsAnswered (words : List Text) (Wrote Told : List ℕ → Type 0) (status : ℕ) : Type 0 where
     done : (job : Job) (end : Ending) → Asks words job → IsDone job Wrote Told end → status ≡ ending_status end → IsAnswered words Wrote Told status
-    given_up : (job : Job) (refusal : Refusal) → Asks words job → IsGivenUp job Wrote refusal → Told (refusal_text refusal) → status ≡ refusal_status refusal
-        → IsAnswered words Wrote Told status
+    given_up : (job : Job) (refusal : Refusal) → Asks words job → IsGivenUp job Wrote (λ told. Told (told ++ refusal_text refusal)) refusal
+        → status ≡ refusal_status refusal → IsAnswered words Wrote Told status
     not_asked : (usage : Usage) → AskNothing words usage → Wrote [] → Told (usage_text usage) → status ≡ usage_status usage → IsAnswered words Wrote Told status
+
+-- ---- how a shell ends whose store was closed, or not
+
+abbrev pub shell_ended : Result Ending RunFault → Result (Unit {0}) CloseFault → Result Ending Refusal
+shell_ended (Err fault) closed = Err (refusals.Run fault)
+shell_ended (Ok ending) (Err fault) = Err refusals.NotClosed
+shell_ended (Ok ending) (Ok _) = Ok ending
+
+-- what holds of a shell that ended, or was given up at a fault; it is whole where its store was not closed; and else nothing was said
+abbrev pub IsShellEnd : (Result Ending RunFault → Type 0) → Type 0 → Result Ending Refusal → Type 0
+IsShellEnd Runs Nothing (Ok ending) = Runs (Ok ending)
+IsShellEnd Runs Nothing (Err (refusals.Run fault)) = Runs (Err fault)
+IsShellEnd Runs Nothing (Err refusals.NotClosed) = (ending : Ending) × Runs (Ok ending)
+IsShellEnd Runs Nothing (Err refusals.Output) = ⊥
+IsShellEnd Runs Nothing (Err refusal) = Nothing

@@ -10,13 +10,14 @@ use Rattle.mls_certificate.specs.Reading.{Block}
 use Rattle.mls_certificate.specs.Spelling.{IsFile, file_text}
 use Rattle.mls_machine.specs.declared.stored.Stored.{Stored}
 use Rattle.mls_command.specs.declared.words.Task.{Task}
-use Rattle.mls_command.specs.declared.words.Task.TheVariants.{ShowPolicy, Run, Certify, Check}
+use Rattle.mls_command.specs.declared.words.Task.TheVariants.{ShowPolicy, Run, Shell, Certify, Check}
 use Rattle.mls_command.specs.Storing.{AreStoredWith}
 
--- the name of the label for which alone a run prints
+-- the name of the label for which alone a task prints
 abbrev pub at_of : Task → Option (List ℕ)
 at_of ShowPolicy = None
 at_of (Run files) = option_map (λ p. p.now) files.at
+at_of (Shell files) = Some files.label.now
 at_of (Certify transactions) = None
 at_of (Check transactions certificates) = None
 

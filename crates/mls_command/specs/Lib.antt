@@ -1,4 +1,5 @@
 pub mod Hosting
+pub mod Typing
 pub mod Inputs
 pub mod Storing
 pub mod Certifying
@@ -7,4 +8,7 @@ pub mod Running
 pub mod Refusal
 pub mod Words
 pub mod Ending
+pub mod Shell
 pub mod Acting
+pub mod InTurn
+pub mod History

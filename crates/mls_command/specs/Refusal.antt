@@ -29,7 +29,7 @@ use Rattle.mls_command.specs.declared.host.HostFault.TheVariants as host
 use Rattle.mls_command.specs.declared.refusal.Role.{Role}
 use Rattle.mls_command.specs.declared.refusal.Role.TheVariants as role
 use Rattle.mls_command.specs.declared.refusal.Refusal.{Refusal}
-use Rattle.mls_command.specs.declared.refusal.Refusal.TheVariants.{Unreadable, TooLong, Policy, Reader, Schemes, Transactions, Certificates, Script, Store, Run, NotClosed, Output, Memory}
+use Rattle.mls_command.specs.declared.refusal.Refusal.TheVariants.{Unreadable, TooLong, Policy, Reader, Label, User, Schemes, Transactions, Certificates, Script, Store, Run, NotClosed, Output, Memory}
 
 abbrev pub role_word : Role → List ℕ
 role_word role.Policy = codes "policy"
@@ -97,6 +97,8 @@ refusal_text (Unreadable r) = input_text r (codes "unreadable")
 refusal_text (TooLong r) = input_text r (codes "too long")
 refusal_text (Policy f) = fault_text role.Policy (policy_faults.code_of f) (policy_faults.word_of f)
 refusal_text Reader = codes "mldb: at: 23 UnknownName\n"
+refusal_text Label = codes "mldb: label: 23 UnknownName\n"
+refusal_text User = codes "mldb: user: 22 Expected\n"
 refusal_text (Schemes f) = fault_text role.Schemes (scheme_faults.code_of f) (scheme_faults.word_of f)
 refusal_text (Transactions f) = text_fault_text f
 refusal_text (Certificates f) = cert_fault_text f
@@ -134,6 +136,8 @@ refusal_status (Unreadable r) = 2
 refusal_status (TooLong r) = 2
 refusal_status (Policy f) = policy_status f
 refusal_status Reader = 2
+refusal_status Label = 2
+refusal_status User = 2
 refusal_status (Schemes f) = scheme_status f
 refusal_status (Transactions f) = text_status f.cause
 refusal_status (Certificates f) = cert_status f.cause

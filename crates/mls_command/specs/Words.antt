@@ -1,12 +1,11 @@
 -- What the words of a command line ask for, and what is said where they ask for nothing.
-use Rattle.std.specs.Prelude.{◌≡◌, ℕ, ◌<◌, ◌≤◌, true, false, List, [], ◌∷◌, map, length, codes, string_bytes, Option, Some, None, option_map, ◌⊎◌, ⊤}
+use Rattle.std.specs.Prelude.{◌≡◌, ℕ, ◌<◌, ◌≤◌, true, false, List, map, length, codes, string_bytes, Option, Some, None, option_map, ◌⊎◌, ⊤}
 use Rattle.std.specs.Borrow.{Bor}
 use Rattle.clap.specs.Words.{App, Row, Rule, Text, first_of, new_app, new_rule, subcommand_of, takes, with_rule, with_subcommand}
 use Rattle.mls_command.specs.declared.words.Job.{Job}
 use Rattle.mls_command.specs.declared.words.Documents.{Documents}
 use Rattle.mls_command.specs.declared.words.Task.{Task}
-use Rattle.mls_command.specs.declared.words.Task.TheVariants.{ShowPolicy, Run, Certify, Check}
-use Rattle.mls_command.specs.declared.words.RunFiles.{RunFiles}
+use Rattle.mls_command.specs.declared.words.Task.TheVariants.{ShowPolicy, Run, Shell, Certify, Check}
 use Rattle.mls_command.specs.declared.usage.Usage.{Usage}
 use Rattle.mls_command.specs.declared.usage.Usage.TheVariants as usage
 use Rattle.mls_command.specs.Refusal.{memory_text}
@@ -34,6 +33,11 @@ with_stored c = with_rule (with_rule c (option (codes "transactions"))) (option 
 abbrev pub run : App
 run = with_rule (with_documents (with_stored (with_rule (with_rule (new_app (codes "run")) (option (codes "at"))) (option (codes "store"))))) (place (codes "SCRIPT"))
 
+abbrev pub shell : App
+shell =
+    let named = with_documents (with_stored (with_rule (new_app (codes "shell")) (option (codes "store")))) in
+    with_rule (with_rule named (place (codes "LABEL"))) (place (codes "USER"))
+
 abbrev pub show_policy : App
 show_policy = with_documents (new_app (codes "show-policy"))
 
@@ -48,7 +52,7 @@ program = let top = new_app (codes "mldb") in record top { top = record top.top 
 
 -- a command of its own for each task
 abbrev pub command_line : App
-command_line = with_subcommand (with_subcommand (with_subcommand (with_subcommand program run.top) show_policy.top) certify.top) check.top
+command_line = with_subcommand (with_subcommand (with_subcommand (with_subcommand (with_subcommand program run.top) shell.top) show_policy.top) certify.top) check.top
 
 -- ---- jobs
 
@@ -66,6 +70,13 @@ IsTask name rows (Run files) =
     × (option_map (λ p. p.now) files.transactions ≡ first_of (codes "transactions") rows)
     × (option_map (λ p. p.now) files.certificates ≡ first_of (codes "certificates") rows)
     × (option_map (λ p. p.now) files.script ≡ first_of (codes "SCRIPT") rows)
+IsTask name rows (Shell files) =
+    (name ≡ codes "shell")
+    × (option_map (λ p. p.now) files.store ≡ first_of (codes "store") rows)
+    × (option_map (λ p. p.now) files.transactions ≡ first_of (codes "transactions") rows)
+    × (option_map (λ p. p.now) files.certificates ≡ first_of (codes "certificates") rows)
+    × (Some files.label.now ≡ first_of (codes "LABEL") rows)
+    × (Some files.user.now ≡ first_of (codes "USER") rows)
 IsTask name rows (Certify transactions) = (name ≡ codes "certify") × (Some transactions.now ≡ first_of (codes "TRANSACTIONS") rows)
 IsTask name rows (Check transactions certificates) =
     (name ≡ codes "check") × (Some transactions.now ≡ first_of (codes "TRANSACTIONS") rows) × (Some certificates.now ≡ first_of (codes "CERTIFICATES") rows)

@@ -18,6 +18,7 @@ use crate::inputs::{input_of, reader_of};
 use crate::refusal::{Refusal, Role};
 use crate::running::run_files;
 use crate::samples;
+use crate::shells::shell_files;
 use crate::showing::texts;
 use crate::words::{Documents, Job, Task, job_of};
 use mls_lattice::{LabelNo, Policy};
@@ -31,7 +32,7 @@ fn policy_of<H: Host>(
     host: &H,
     documents: Option<Documents>,
 ) -> Result<Policy, Refusal>
-    ensures policy { IfOk result (IsPolicyOf (hosted H.gives H.keeps H.is_honest host.now host.now) documents.entry) }
+    ensures policy { IfOk result (IsPolicyOf (hosted H.gives H.keeps H.is_honest H.Lines.echo host.now host.now) documents.entry) }
     ensures before { IfErr result IsBefore }
 {
     match documents {
@@ -50,7 +51,7 @@ fn schemes_of<H: Host>(
     policy: &Policy,
     documents: Option<Documents>,
 ) -> Result<SchemesFile, Refusal>
-    ensures schemes { IfOk result (AreSchemesOf (hosted H.gives H.keeps H.is_honest host.now host.now) documents.entry policy.now) }
+    ensures schemes { IfOk result (AreSchemesOf (hosted H.gives H.keeps H.is_honest H.Lines.echo host.now host.now) documents.entry policy.now) }
     ensures under { IfOk result (λ file. AreUnder (length policy.now.labels) file.schemes) }
     ensures before { IfErr result IsBefore }
 {
@@ -76,11 +77,10 @@ fn perform_task<H: Host, W: Write, E: Write>(
 ) -> Result<Ending, Refusal>
     requires under { AreUnder (length policy.now.labels) file.now.schemes }
     requires declared { IfSome reader (λ c. c < length policy.now.labels) }
-    ensures done { IfOk result (IsTaskDone (hosted H.gives H.keeps H.is_honest host.old host.new) policy.now file.now reader
+    ensures done { IfOk result (IsTaskDone (hosted H.gives H.keeps H.is_honest H.Lines.echo host.old host.new) policy.now file.now reader
         task.entry (IsAppended W.contents out.old out.new) (IsTold E.contents err.old err.new)) }
-    ensures given_up { IfErr result (IsTaskGivenUp (hosted H.gives H.keeps H.is_honest host.old host.new) policy.now file.now
-        reader task.entry (IsAppended W.contents out.old out.new)) }
-    ensures quiet { OnErr result (err.new ≡ err.old) }
+    ensures given_up { IfErr result (IsTaskGivenUp (hosted H.gives H.keeps H.is_honest H.Lines.echo host.old host.new) policy.now file.now
+        reader task.entry (IsAppended W.contents out.old out.new) (IsTold E.contents err.old err.new)) }
 {
     match task {
         Task::ShowPolicy => texts(alloc, policy, file)?.print(out, err),
@@ -88,6 +88,7 @@ fn perform_task<H: Host, W: Write, E: Write>(
             run_files(alloc, host, policy, file, files, reader, out)?;
             Ok(Ending::Well)
         }
+        Task::Shell(files) => shell_files(alloc, host, policy, file, files, reader, out, err),
         Task::Certify { transactions } => {
             certified(alloc, host, policy, &file.schemes, transactions)?.print(out, err)
         }
@@ -110,14 +111,13 @@ fn perform<H: Host, W: Write, E: Write>(
     out: &mut W,
     err: &mut Errors<E>,
 ) -> Result<Ending, Refusal>
-    ensures done { IfOk result (IsDone (hosted H.gives H.keeps H.is_honest host.old host.new) job.entry
+    ensures done { IfOk result (IsDone (hosted H.gives H.keeps H.is_honest H.Lines.echo host.old host.new) job.entry
         (IsAppended W.contents out.old out.new) (IsTold E.contents err.old err.new)) }
-    ensures given_up { IfErr result (IsGivenUp (hosted H.gives H.keeps H.is_honest host.old host.new) job.entry
-        (IsAppended W.contents out.old out.new)) }
-    ensures quiet { OnErr result (err.new ≡ err.old) }
+    ensures given_up { IfErr result (IsGivenUp (hosted H.gives H.keeps H.is_honest H.Lines.echo host.old host.new) job.entry
+        (IsAppended W.contents out.old out.new) (IsTold E.contents err.old err.new)) }
 {
     let policy = policy_of(alloc, host, job.documents)?;
-    let reader = reader_of(&policy, job.task.at())?;
+    let reader = reader_of(&policy, job.task)?;
     let file = schemes_of(alloc, host, &policy, job.documents)?;
     perform_task(alloc, host, &policy, &file, reader, job.task, out, err)
 }
@@ -130,7 +130,7 @@ fn finish<H: Host, W: Write, E: Write>(
     out: &mut W,
     err: &mut Errors<E>,
 ) -> u8
-    ensures { (words : List Text) → Asks words job.entry → IsAnswered (hosted H.gives H.keeps H.is_honest host.old host.new) words
+    ensures { (words : List Text) → Asks words job.entry → IsAnswered (hosted H.gives H.keeps H.is_honest H.Lines.echo host.old host.new) words
         (IsAppended W.contents out.old out.new) (IsTold E.contents err.old err.new) result }
 {
     match perform(alloc, job, host, out, err) {
@@ -142,8 +142,8 @@ fn finish<H: Host, W: Write, E: Write>(
     }
 }
 
-/// Does what the words ask for, and answers the exit status: 0 all well, 1 a transaction has no certificate or none that holds, 2 an
-/// input or the command line was refused, 3 store, writing or memory. Files are read in the order policy, schemes, transactions,
+/// Does what the words ask for, and answers the exit status: 0 all well, 1 a transaction has no certificate or none that holds, or a
+/// shell's opening was denied or a line of it refused, 2 an input or the command line was refused, 3 store, writing or memory. Files are read in the order policy, schemes, transactions,
 /// certificates, script, store, and nothing runs before all were accepted.
 pub fn act<H: Host, W: Write, E: Write>(
     alloc: Global,
@@ -152,7 +152,7 @@ pub fn act<H: Host, W: Write, E: Write>(
     out: &mut W,
     err: &mut Errors<E>,
 ) -> u8
-    ensures { IsAnswered (hosted H.gives H.keeps H.is_honest host.old host.new) (texts_of words.now)
+    ensures { IsAnswered (hosted H.gives H.keeps H.is_honest H.Lines.echo host.old host.new) (texts_of words.now)
         (IsAppended W.contents out.old out.new) (IsTold E.contents err.old err.new) result }
 {
     match job_of(alloc, words) {

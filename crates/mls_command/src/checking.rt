@@ -1,15 +1,14 @@
 //! Certificates are checked against the transactions of their names.
-ghost use Rattle.std.specs.Prelude.{◌≡◌, ◌↔◌, ◌++◌, if◌then◌else◌, Some, string_bytes, IfOk, IfErr, OnOk};
+ghost use Rattle.std.specs.Prelude.{◌≡◌, ◌↔◌, ◌++◌, Some, string_bytes, IfOk, IfErr, OnOk};
 ghost use Rattle.std.specs.List.{flat_map, list_any};
 ghost use Rattle.mls_certcheck.specs.Rules.{Rules, claim};
 ghost use Rattle.mls_certificate.specs.declared.cert.Certificate.{Certificate as SpecCertificate};
 ghost use Rattle.mls_command.specs.Storing.{cert_named};
 ghost use Rattle.mls_command.specs.declared.checking.Verdict.TheVariants.{Yes};
-ghost use Rattle.mls_command.specs.declared.ending.Ending.TheVariants.{Well, Refused};
 ghost use Rattle.mls_command.specs.Checking.{verdict_of, verdict_text, line_of, is_refused, IsChecked};
 ghost use Rattle.mls_command.specs.Refusal.{IsBefore};
 
-use crate::ending::Ending;
+use crate::ending::ending_if;
 use crate::host::Host;
 use crate::inputs::{certificates_in, transactions_in};
 use crate::listing::Listing;
@@ -95,16 +94,6 @@ fn verdicts_of(
     Ok(Verdicts { text, refused })
 }
 
-fn ending_of(refused: bool) -> Ending
-    ensures { result ≡ (if refused then Refused else Well) }
-{
-    if refused {
-        Ending::Refused
-    } else {
-        Ending::Well
-    }
-}
-
 /// For each transaction of a file whether the first certificate of its name in another file holds for it.
 pub(crate) fn checked<H: Host>(
     alloc: Global,
@@ -123,6 +112,6 @@ pub(crate) fn checked<H: Host>(
     Ok(Listing {
         text: verdicts.text.into_bytes(),
         told: String::new(alloc),
-        ending: ending_of(verdicts.refused),
+        ending: ending_if(verdicts.refused),
     })
 }

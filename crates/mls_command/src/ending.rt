@@ -1,6 +1,6 @@
 //! How a command ends that is not refused.
 ghost use Rattle.std.specs.Prelude.{◌≡◌};
-ghost use Rattle.mls_command.specs.Ending.{ending_status};
+ghost use Rattle.mls_command.specs.Ending.{ending_status, ending_if};
 
 /// What is said of the transactions that a command looks at.
 #[derive(Clone, Copy)]
@@ -20,5 +20,16 @@ impl Ending {
             Ending::Well => 0,
             Ending::Refused => 1,
         }
+    }
+}
+
+/// How a command ends that refused something, or nothing.
+pub(crate) fn ending_if(refused: bool) -> Ending
+    ensures { result ≡ ending_if refused }
+{
+    if refused {
+        Ending::Refused
+    } else {
+        Ending::Well
     }
 }

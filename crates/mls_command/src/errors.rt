@@ -12,8 +12,8 @@ use std::io::Write;
 /// written whole unless `has_failed`.
 #[derive(Drop)]
 pub struct Errors<E: Write> {
-    writer: E,
-    has_failed: bool,
+    pub(crate) writer: E,
+    pub(crate) has_failed: bool,
 }
 
 impl<E: Write> Errors<E> {

@@ -1,9 +1,11 @@
 //! What a command asks of the machine that it runs on.
 ghost use Rattle.std.specs.Prelude.{◌≡◌, ◌≤◌, ◌↔◌, ℕ, false, List, Option, Some, None, length, IfOk};
+ghost use Rattle.std.specs.Option.{IfSome};
 ghost use Rattle.mls_scheme.specs.Scheme.{AreUnder};
 ghost use Rattle.mls_filterview.specs.Content.{Content};
 ghost use Rattle.mls_fragments.specs.Finding.{IsSoundContent};
 
+use crate::typing::TypedLines;
 use mls_filterview::Base;
 use mls_fragments::OpenFault;
 use mls_lattice::Policy;
@@ -40,6 +42,9 @@ pub trait Host {
     /// Where the content of a store is worked on.
     type Store: Base;
 
+    /// What a shell reads.
+    type Lines: TypedLines + Drop;
+
     /// The bytes of a file, which a path names.
     fn file(&self, alloc: Global, path: &str) -> Result<Vec<u8>, HostFault>
         ensures { IfOk result (λ bytes. gives self.now (Some path.now) bytes.items) };
@@ -47,6 +52,13 @@ pub trait Host {
     /// The bytes of the standard input.
     fn input(&self, alloc: Global) -> Result<Vec<u8>, HostFault>
         ensures { IfOk result (λ bytes. gives self.now None bytes.items) };
+
+    /// The lines of the standard input.
+    fn lines(&self) -> Self::Lines
+        ensures { IfSome (Self.Lines.remaining result) (gives self.now None) };
+
+    /// Whether somebody types them at a terminal.
+    fn is_terminal(&self) -> bool;
 
     /// Opens the store at a path, which is made where there is none.
     fn store(

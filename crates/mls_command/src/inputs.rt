@@ -4,11 +4,12 @@ ghost use Rattle.std.specs.Option.{IfSome};
 ghost use Rattle.std.specs.List.{AllByRecursion};
 ghost use Rattle.mls_scheme.specs.Scheme.{AreUnder};
 ghost use Rattle.mls_translang.specs.Fits.{IsReadUnder};
-ghost use Rattle.mls_command.specs.Inputs.{IsNamed, AreToldIn, AreBlocksIn, AreTransactionsFrom, AreCertificatesFrom};
+ghost use Rattle.mls_command.specs.Inputs.{IsReader, AreToldIn, AreBlocksIn, AreTransactionsFrom, AreCertificatesFrom};
 ghost use Rattle.mls_command.specs.Refusal.{IsBefore};
 
 use crate::host::Host;
 use crate::refusal::{Refusal, Role};
+use crate::words::Task;
 use mls_certificate::{Certificate, certs_read};
 use mls_lattice::{Items, LabelNo, Policy, Str};
 use mls_parser::parse;
@@ -36,17 +37,27 @@ pub(crate) fn input_of<H: Host>(
     }
 }
 
-/// The label of a name for which alone a run prints, if one is named.
-pub(crate) fn reader_of(policy: &Policy, at: Option<&str>) -> Result<Option<LabelNo>, Refusal>
-    ensures named { IfOk result (IsNamed policy.now (option_map (λ p. p.now) at.entry)) }
+/// Why a task has no reader.
+fn no_reader(task: Task) -> Refusal
+    ensures { IsBefore result }
+{
+    match task {
+        Task::Shell(_) => Refusal::Label,
+        _ => Refusal::Reader,
+    }
+}
+
+/// The label of the name for which alone a task prints, if it names one.
+pub(crate) fn reader_of(policy: &Policy, task: Task) -> Result<Option<LabelNo>, Refusal>
+    ensures named { IfOk result (IsReader policy.now task.entry) }
     ensures declared { IfOk result (λ reader. IfSome reader (λ c. c < length policy.now.labels)) }
     ensures before { IfErr result IsBefore }
 {
-    match at {
+    match task.at() {
         None => Ok(None),
         Some(name) => match policy.label(name) {
             Some(label) => Ok(Some(label)),
-            None => Err(Refusal::Reader),
+            None => Err(no_reader(task)),
         },
     }
 }

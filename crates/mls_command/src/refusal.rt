@@ -48,6 +48,10 @@ pub enum Refusal {
     Policy(PolicyFault),
     /// The policy has no label of the name for which alone a run is to print.
     Reader,
+    /// It has none of the name at which a shell is to be.
+    Label,
+    /// What stands for the user of a shell is no name.
+    User,
     Schemes(SchemeFault),
     Transactions(TextFault),
     Certificates(CertFault),
@@ -203,6 +207,8 @@ impl Refusal {
             Refusal::TooLong(role) => tell_input(err, *role, "too long"),
             Refusal::Policy(fault) => tell_fault(err, Role::Policy, fault.code(), fault.word()),
             Refusal::Reader => err.write_all(b"mldb: at: 23 UnknownName\n"),
+            Refusal::Label => err.write_all(b"mldb: label: 23 UnknownName\n"),
+            Refusal::User => err.write_all(b"mldb: user: 22 Expected\n"),
             Refusal::Schemes(fault) => tell_fault(err, Role::Schemes, fault.code(), fault.word()),
             Refusal::Transactions(fault) => tell_text(err, fault),
             Refusal::Certificates(fault) => tell_cert(err, fault),

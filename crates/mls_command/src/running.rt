@@ -1,5 +1,5 @@
 //! Scripts that are run over a database: over an empty one in memory, or over that of a store.
-ghost use Rattle.std.specs.Prelude.{◌≡◌, ◌<◌, [], false, length, option_map, Ok, IfOk, IfErr, OnOk};
+ghost use Rattle.std.specs.Prelude.{◌≡◌, ◌<◌, [], false, length, option_map, Ok, Err, IfOk, IfErr, OnOk};
 ghost use Rattle.std.specs.List.{AllByRecursion};
 ghost use Rattle.std.specs.Option.{IfSome};
 ghost use Rattle.mls_scheme.specs.Scheme.{AreUnder};
@@ -11,8 +11,7 @@ ghost use Rattle.mls_command.specs.Hosting.{hosted, IsAppended};
 ghost use Rattle.mls_command.specs.Inputs.{AreStoredFrom};
 ghost use Rattle.mls_command.specs.Refusal.{IsBefore};
 ghost use Rattle.mls_command.specs.Running.{site_of, IsRun, IsRunEnd};
-ghost use Rattle.mls_command.specs.declared.words.Task.TheVariants.{Run};
-ghost use Rattle.mls_command.specs.Acting.{IsRunFrom, IsScriptRead, Runs, IsTaskGivenUp};
+ghost use Rattle.mls_command.specs.Acting.{IsRunFrom, IsScriptRead, Runs};
 
 use crate::host::Host;
 use crate::inputs::{certificates_of, input_of, transactions_of};
@@ -28,23 +27,24 @@ use mls_sessions::{Engine, RunFault, Stored, run_to};
 use std::alloc::Global;
 use std::io::Write;
 
-/// What a run stores.
+/// What a run or a shell stores.
 #[tactic(auto, using(crate::proofs::StoringLemmas::stored_read))]
-fn stored_files<H: Host>(
+pub(crate) fn stored_files<H: Host>(
     alloc: Global,
     host: &H,
     policy: &Policy,
     schemes: &Schemes,
-    files: RunFiles,
+    transactions: Option<&str>,
+    certificates: Option<&str>,
 ) -> Result<Items<Stored>, Refusal>
-    ensures from { IfOk result (AreStoredFrom (H.gives host.now) (option_map (λ p. p.now) files.entry.transactions)
-        (option_map (λ p. p.now) files.entry.certificates) policy.now schemes.now) }
+    ensures from { IfOk result (AreStoredFrom (H.gives host.now) (option_map (λ p. p.now) transactions.entry)
+        (option_map (λ p. p.now) certificates.entry) policy.now schemes.now) }
     ensures read { IfOk result (λ ss. AreRead (site_of policy.now schemes.now ss)) }
     ensures certified { IfOk result (λ ss. AreCertified (site_of policy.now schemes.now ss)) }
     ensures before { IfErr result IsBefore }
 {
-    let txs = transactions_of(alloc, host, policy, schemes, files.transactions)?;
-    let blocks = certificates_of(alloc, host, files.certificates)?;
+    let txs = transactions_of(alloc, host, policy, schemes, transactions)?;
+    let blocks = certificates_of(alloc, host, certificates)?;
     Ok(stored_of(alloc, policy, txs, &blocks)?)
 }
 
@@ -168,7 +168,7 @@ fn run_events<H: Host, W: Write>(
     requires certified { AreCertified (site_of policy.now file.now.schemes stored) }
     requires fits { EventsFit (site_of policy.now file.now.schemes stored) events.now }
     requires declared { IfSome reader (λ c. c < length policy.now.labels) }
-    ensures { IsRunEnd (IsRunFrom (hosted H.gives H.keeps H.is_honest host.old host.new) (option_map (λ p. p.now) store.entry)
+    ensures { IsRunEnd (IsRunFrom (hosted H.gives H.keeps H.is_honest H.Lines.echo host.old host.new) (option_map (λ p. p.now) store.entry)
         (site_of policy.now file.now.schemes stored) reader events.now (IsAppended W.contents out.old out.new))
         (IsAppended W.contents out.old out.new []) result }
 {
@@ -206,12 +206,19 @@ pub(crate) fn run_files<H: Host, W: Write>(
 ) -> Result<(), Refusal>
     requires under { AreUnder (length policy.now.labels) file.now.schemes }
     requires declared { IfSome reader (λ c. c < length policy.now.labels) }
-    ensures done { OnOk result (Runs (hosted H.gives H.keeps H.is_honest host.old host.new) policy.now file.now.schemes reader files.entry
+    ensures done { OnOk result (Runs (hosted H.gives H.keeps H.is_honest H.Lines.echo host.old host.new) policy.now file.now.schemes reader files.entry
         (IsAppended W.contents out.old out.new) (Ok tt)) }
-    ensures given_up { IfErr result (IsTaskGivenUp (hosted H.gives H.keeps H.is_honest host.old host.new) policy.now file.now reader
-        (Run files.entry) (IsAppended W.contents out.old out.new)) }
+    ensures given_up { IfErr result (λ e. IsRunEnd (Runs (hosted H.gives H.keeps H.is_honest H.Lines.echo host.old host.new) policy.now file.now.schemes reader files.entry
+        (IsAppended W.contents out.old out.new)) (IsAppended W.contents out.old out.new []) (Err e)) }
 {
-    let stored = stored_files(alloc, host, policy, &file.schemes, files)?;
+    let stored = stored_files(
+        alloc,
+        host,
+        policy,
+        &file.schemes,
+        files.transactions,
+        files.certificates,
+    )?;
     let events = script_of(alloc, host, policy, &file.schemes, files.script)?;
     run_events(
         alloc,

@@ -8,7 +8,7 @@ ghost use Rattle.mls_command.specs.declared.words.Task.TheVariants.{Run};
 ghost use Rattle.mls_command.specs.declared.words.Job.{Job as SpecJob};
 ghost use Rattle.mls_command.specs.declared.usage.Usage.TheVariants.{Memory};
 ghost use Rattle.mls_command.specs.Inputs.{at_of};
-ghost use Rattle.mls_command.specs.Words.{texts_of, place, option, with_stored, run, show_policy, certify, check, program, command_line, IsTask, IsCommand, IsCommandOf, Asks, AskNothing};
+ghost use Rattle.mls_command.specs.Words.{texts_of, place, option, with_stored, run, shell, show_policy, certify, check, program, command_line, IsTask, IsCommand, IsCommandOf, Asks, AskNothing};
 
 use crate::usage::Usage;
 use clap::error::ErrorKind;
@@ -25,7 +25,7 @@ Without any words mldb runs the script on standard input under a sample policy a
 Example:
   mldb run samples/policy.toml samples/schemes.toml samples/first.script
 
-Status: 0 all well; 1 certify or check refused a transaction; 2 an input or the command line was refused;
+Status: 0 all well; 1 certify, check or a shell refused something; 2 an input or the command line was refused;
 3 store, writing or memory.
 ";
 
@@ -44,6 +44,18 @@ Example:
   mldb show-policy samples/policy.toml samples/schemes.toml
 
 Status: 0 all well; 2 an input was refused; 3 writing or memory.
+";
+
+const SHELL_NOTES: &str = "\
+Opens a session for USER at LABEL, and reads its commands from standard input, one a line, without the names of level and session.
+Each is answered before the next is read, by the lines that LABEL may see. A line that is refused is told on standard error, and the
+shell goes on. It ends at `close`, or at the end of the input; `help` on a line of its own lists the commands.
+
+Example:
+  mldb shell --store fleet.db samples/policy.toml samples/schemes.toml U ann
+
+Status: 0 all well; 1 the opening was denied or a line was refused; 2 an input or a word was refused, and nothing ran;
+3 store, writing or memory.
 ";
 
 const CERTIFY_NOTES: &str = "\
@@ -75,6 +87,10 @@ const CERTIFICATES: &str = "Their certificates";
 
 const SCRIPT: &str = "The commands of the sessions, one a line";
 
+const LABEL: &str = "The level of the session";
+
+const USER: &str = "The user, who gives the session its name";
+
 const AT: &str = "Prints only the lines that this label dominates";
 
 const STORE: &str =
@@ -95,6 +111,17 @@ pub struct RunFiles<'a> {
     pub script: Option<&'a str>,
 }
 
+/// The names of a shell: the files of the store, the transactions and the certificates, where they are given; and the label and the user of
+/// its session.
+#[derive(Clone, Copy)]
+pub struct ShellFiles<'a> {
+    pub store: Option<&'a str>,
+    pub transactions: Option<&'a str>,
+    pub certificates: Option<&'a str>,
+    pub label: &'a str,
+    pub user: &'a str,
+}
+
 /// What is done under a policy and schemes, with files that are each named by a path.
 #[derive(Clone, Copy)]
 pub enum Task<'a> {
@@ -102,6 +129,8 @@ pub enum Task<'a> {
     ShowPolicy,
     /// A script is run.
     Run(RunFiles<'a>),
+    /// Commands are typed.
+    Shell(ShellFiles<'a>),
     /// Transactions get their certificates.
     Certify {
         transactions: &'a str,
@@ -114,12 +143,13 @@ pub enum Task<'a> {
 }
 
 impl<'a> Task<'a> {
-    /// The name of the label for which alone it prints.
+    /// The name of the label for which alone it prints, if there is one: of a shell, its session's.
     pub fn at(self) -> Option<&'a str>
         ensures { option_map (λ p. p.now) result ≡ at_of self.entry }
     {
         match self {
             Task::Run(files) => files.at,
+            Task::Shell(files) => Some(files.label),
             _ => None,
         }
     }
@@ -233,6 +263,23 @@ fn run_command<'a>(alloc: Global) -> Result<Command<'a>, AllocError>
     with_place(alloc, run, "SCRIPT", SCRIPT)
 }
 
+fn shell_command<'a>(alloc: Global) -> Result<Command<'a>, AllocError>
+    ensures app { IfOk result (λ c. app_of c ≡ shell) }
+    ensures local { IfOk result (λ c. (fields_of c).has_globals ≡ false) }
+{
+    let about = "Answers commands as they are typed";
+    let shell = with_option(
+        alloc,
+        bare(alloc, "shell", about, SHELL_NOTES),
+        "store",
+        "FILE",
+        STORE,
+    )?;
+    let shell = with_documents(alloc, with_stored(alloc, shell)?)?;
+    let shell = with_place(alloc, shell, "LABEL", LABEL)?;
+    with_place(alloc, shell, "USER", USER)
+}
+
 fn show_command<'a>(alloc: Global) -> Result<Command<'a>, AllocError>
     ensures app { IfOk result (λ c. app_of c ≡ show_policy) }
     ensures local { IfOk result (λ c. (fields_of c).has_globals ≡ false) }
@@ -275,6 +322,7 @@ fn command_line<'a>(alloc: Global) -> Result<Command<'a>, AllocError>
     ensures { IfOk result (λ c. app_of c ≡ command_line) }
 {
     let line = program(alloc).subcommand(run_command(alloc)?)?;
+    let line = line.subcommand(shell_command(alloc)?)?;
     let line = line.subcommand(show_command(alloc)?)?;
     let line = line.subcommand(certify_command(alloc)?)?;
     line.subcommand(check_command(alloc)?)
@@ -295,7 +343,7 @@ fn said(alloc: Global, error: &Error) -> Usage
 
 /// What is said of words that name no command with its paths, all of which the parser has refused before.
 fn no_command(alloc: Global) -> Usage {
-    match String::from_str(alloc, "mldb: run | show-policy | certify | check\n") {
+    match String::from_str(alloc, "mldb: run | shell | show-policy | certify | check\n") {
         Ok(text) => Usage::Text(text),
         Err(_) => Usage::Memory,
     }
@@ -317,6 +365,22 @@ fn run_files<'a>(run: &ArgMatches<'a>) -> RunFiles<'a>
         transactions: value_of(run, "transactions"),
         certificates: value_of(run, "certificates"),
         script: value_of(run, "SCRIPT"),
+    }
+}
+
+fn shell_task<'a>(matches: &ArgMatches<'a>) -> Option<Task<'a>>
+    ensures some { IfSome result (IsTask (codes "shell") (rows_of (found_of matches.now))) }
+    ensures none { result ≡ None → (task : SpecTask) → IsTask (codes "shell") (rows_of (found_of matches.now)) task → ⊥ }
+{
+    match (value_of(matches, "LABEL"), value_of(matches, "USER")) {
+        (Some(label), Some(user)) => Some(Task::Shell(ShellFiles {
+            store: value_of(matches, "store"),
+            transactions: value_of(matches, "transactions"),
+            certificates: value_of(matches, "certificates"),
+            label,
+            user,
+        })),
+        _ => None,
     }
 }
 
@@ -352,6 +416,7 @@ fn task_of<'a>(name: &str, matches: &ArgMatches<'a>) -> Option<Task<'a>>
 {
     match name {
         "run" => Some(Task::Run(run_files(matches))),
+        "shell" => shell_task(matches),
         "show-policy" => Some(Task::ShowPolicy),
         "certify" => certify_task(matches),
         "check" => check_task(matches),

@@ -1,5 +1,5 @@
 //! The machine of sessions over a base.
-ghost use Rattle.std.specs.Prelude.{◌≡◌, false, length, Some, None, IfOk};
+ghost use Rattle.std.specs.Prelude.{◌≡◌, false, length, Some, None, is_some, IfOk};
 ghost use Rattle.mls_scheme.specs.Scheme.{AreUnder};
 ghost use Rattle.mls_script.specs.Event.{EventFits};
 ghost use Rattle.mls_machine.specs.Machine.{no_sessions, step};
@@ -13,7 +13,7 @@ use crate::change::{Deed, alter, change};
 use crate::looking::{audit, look};
 use crate::views::Views;
 use mls_filterview::{Base, BaseFault};
-use mls_lattice::{Items, Policy, UserNo};
+use mls_lattice::{Items, LabelNo, Policy, UserNo};
 use mls_machine::{Reply, Stored};
 use mls_monitor::{Rules, Session, close, denial_of, open, user_of};
 use mls_scheme::Schemes;
@@ -76,6 +76,13 @@ impl<'a, B: Base> Engine<'a, B> {
             views: _,
         } = self;
         base
+    }
+
+    /// Whether the session of a level and a name is open.
+    pub fn is_open(&self, level: LabelNo, name: &str) -> bool
+        ensures { result ≡ is_some ((world_of B.state self.now).sessions level name.now) }
+    {
+        user_of(&self.sessions, level, name).is_some()
     }
 
     /// Answers an event whose session is not open. It asks nothing of the base.

@@ -1,23 +1,22 @@
 use Rattle.std.proofs.Common.{rules}
 use Rattle.std.proofs.KnownBytes.{Appends-nil}
 use Rattle.mls_command.specs.Hosting.{hosted, IsAppended}
-use Rattle.mls_command.specs.declared.words.Task.TheVariants.{Run}
-use Rattle.mls_command.proofs.ActingLemmas.{script_run, run_done, run_stopped, before_given_up}
+use Rattle.mls_command.proofs.ActingLemmas.{script_run, run_done, run_stopped, run_not_begun}
 use Rattle.mls_command.proofs.running.run_files.Goals as goal
 
 pub returns-in_err-stored-clause-given_up : goal.returns-in_err-stored-clause-given_up
 returns-in_err-stored-clause-given_up g c =
-    before_given_up (hosted g.H.Host.gives g.H.Host.keeps g.H.Host.is_honest c.args.host.now c.args.host.now) c.args.policy.now c.args.file.now c.args.reader
-    (IsAppended g.W.Write.contents c.args.out.now c.args.out.now) (Run c.args.files) c.from_residual.result (search rules) (Appends-nil _)
+    run_not_begun (hosted g.H.Host.gives g.H.Host.keeps g.H.Host.is_honest g.H.Lines.TypedLines.echo c.args.host.now c.args.host.now) c.args.policy.now c.args.file.now c.args.reader
+    (IsAppended g.W.Write.contents c.args.out.now c.args.out.now) c.args.files c.from_residual.result (search rules) (Appends-nil _)
 
 pub returns-in_err-events-clause-given_up : goal.returns-in_err-events-clause-given_up
 returns-in_err-events-clause-given_up g c =
-    before_given_up (hosted g.H.Host.gives g.H.Host.keeps g.H.Host.is_honest c.args.host.now c.args.host.now) c.args.policy.now c.args.file.now c.args.reader
-    (IsAppended g.W.Write.contents c.args.out.now c.args.out.now) (Run c.args.files) c.from_residual-in_err-events.result (search rules) (Appends-nil _)
+    run_not_begun (hosted g.H.Host.gives g.H.Host.keeps g.H.Host.is_honest g.H.Lines.TypedLines.echo c.args.host.now c.args.host.now) c.args.policy.now c.args.file.now c.args.reader
+    (IsAppended g.W.Write.contents c.args.out.now c.args.out.now) c.args.files c.from_residual-in_err-events.result (search rules) (Appends-nil _)
 
 pub returns-clause-done : goal.returns-clause-done
 returns-clause-done g c =
-    let h = hosted g.H.Host.gives g.H.Host.keeps g.H.Host.is_honest c.args.host.now c.run_events.new.host in
+    let h = hosted g.H.Host.gives g.H.Host.keeps g.H.Host.is_honest g.H.Lines.TypedLines.echo c.args.host.now c.run_events.new.host in
     let wrote = IsAppended g.W.Write.contents c.args.out.now c.run_events.new.out in
     run_done h c.args.policy.now c.args.file.now c.args.reader wrote c.args.files c.run_events.result
     (script_run h c.args.policy.now c.args.file.now c.args.reader wrote c.args.files c.in_ok-stored.stored c.deref.result.now c.in_ok-stored.ensures.from
@@ -26,7 +25,7 @@ returns-clause-done g c =
 
 pub returns-clause-given_up : goal.returns-clause-given_up
 returns-clause-given_up g c =
-    let h = hosted g.H.Host.gives g.H.Host.keeps g.H.Host.is_honest c.args.host.now c.run_events.new.host in
+    let h = hosted g.H.Host.gives g.H.Host.keeps g.H.Host.is_honest g.H.Lines.TypedLines.echo c.args.host.now c.run_events.new.host in
     let wrote = IsAppended g.W.Write.contents c.args.out.now c.run_events.new.out in
     run_stopped h c.args.policy.now c.args.file.now c.args.reader wrote c.args.files c.run_events.result
     (script_run h c.args.policy.now c.args.file.now c.args.reader wrote c.args.files c.in_ok-stored.stored c.deref.result.now c.in_ok-stored.ensures.from

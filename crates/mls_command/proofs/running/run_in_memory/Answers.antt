@@ -1,4 +1,4 @@
-use Rattle.std.proofs.Common.{◌≡◌, List, ℕ, [], Result, Ok, sym, subst}
+use Rattle.std.proofs.Common.{[], Result, Ok, sym, subst}
 use Rattle.std.proofs.KnownBytes.{Appends-nil}
 use Rattle.sqlite.proofs.Callers.{memory_is_clean}
 use Rattle.std.specs.Io.KnownBytes.{Appends}

@@ -1,4 +1,4 @@
-use Rattle.std.proofs.Common.{List, [], Result, sym, subst}
+use Rattle.std.proofs.Common.{[], Result, sym, subst}
 use Rattle.std.proofs.KnownBytes.{Appends-nil}
 use Rattle.std.specs.Io.KnownBytes.{Appends}
 use Rattle.mls_filterview.specs.Content.{Content}

@@ -1,11 +1,10 @@
 use Rattle.std.proofs.Common.{◌≡◌, false, sym, ap, subst, ◌∙◌}
 use Rattle.mls_machine.specs.Site.{Site}
-use Rattle.mls_machine.specs.Machine.{World}
 use Rattle.mls_machine.specs.Observation.{EventsFit}
 use Rattle.mls_sessions.specs.World.{world_at, IsSound}
 use Rattle.mls_sessions.specs.Engine.{world_of}
 use Rattle.mls_monitor.specs.Sessions.{site_of, sessions_of}
-use Rattle.mls_command.specs.Running.{first_world, site_of as site_for, IsRun}
+use Rattle.mls_command.specs.Running.{first_world, site_of as site_for}
 use Rattle.mls_command.proofs.RunningLemmas.{IsEngineRun, run_at}
 use Rattle.mls_command.proofs.running.run_on.Goals as goal
 

@@ -1,0 +1,35 @@
+//! Who sits at a shell, and what becomes of a line.
+use mls_lattice::{Items, LabelNo, Str};
+use mls_script::{Event, ScriptFault};
+use mls_sessions::RunCause;
+
+/// Who sits at a shell: a user, at a level. The session has the name of the user.
+#[derive(Drop)]
+pub struct Seat {
+    pub level: LabelNo,
+    /// The name of the level.
+    pub label: Str,
+    pub user: Str,
+    /// Whether a prompt is shown before each line.
+    pub has_prompt: bool,
+}
+
+/// What becomes of a line.
+#[derive(Drop)]
+pub(crate) enum Fate {
+    /// There is none: the lines are over.
+    Over,
+    /// It says nothing.
+    Blank,
+    /// It asks which commands there are.
+    Help,
+    /// It tells events of the session.
+    Said(Items<Event>),
+    /// It tells none.
+    Refused(ScriptFault),
+    TooLong,
+    /// It was not read, nor will another be.
+    Unreadable,
+    /// It was not read or understood, for a cause that ends the shell.
+    Lost(RunCause),
+}

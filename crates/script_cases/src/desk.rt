@@ -1,12 +1,13 @@
 //! A machine whose files are those of `data/`, but for a script and some files of many bytes, and whose stores are in memory.
 use crate::most;
-use mls_command::{CloseFault, Host, HostFault, MOST_BYTES, read_whole};
+use mls_command::{CloseFault, Host, HostFault, LinesOf, MOST_BYTES, read_whole};
 use mls_fragments::{OpenFault, SqlBase};
 use mls_lattice::Policy;
 use mls_scheme::SchemesFile;
 use sqlite::{Connection, MemStore};
 use std::alloc::{AllocError, Global};
 use std::fs;
+use std::io::Cursor;
 use std::rt::Files;
 
 /// So many empty lines, read as a file is.
@@ -60,6 +61,13 @@ pub fn file_of<R: Files>(
     }
 }
 
+/// The lines of what is typed, or of a first part where there is no memory for all.
+pub fn lines_of(alloc: Global, typed: &[u8]) -> LinesOf<Cursor<Vec<u8>>> {
+    let mut bytes = Vec::new(alloc);
+    let _all = bytes.extend_from_slice(typed);
+    LinesOf::new(Cursor::new(bytes))
+}
+
 /// `script` is the script, which is the standard input too. Of the stores `new` is one, `left` is what the last run left, `table` has
 /// a table of somebody else's, and no other can be opened.
 #[derive(Drop)]
@@ -81,7 +89,7 @@ impl<'a, R: Files> Desk<'a, R> {
     }
 }
 
-impl<'a, R: Files> Host for Desk<'a, R> {
+impl<'a, R: Files + AllocGlobal> Host for Desk<'a, R> {
     ghost use Rattle.std.specs.Option.{IfSome};
     ghost use Rattle.sqlite.specs.State.{HasCleanDisk};
     ghost use Rattle.sqlite.specs.Held.{state};
@@ -95,12 +103,22 @@ impl<'a, R: Files> Host for Desk<'a, R> {
 
     type Store = SqlBase<MemStore>;
 
+    type Lines = LinesOf<Cursor<Vec<u8>>>;
+
     fn file(&self, alloc: Global, path: &str) -> Result<Vec<u8>, HostFault> {
         file_of(self.rt, self.script, alloc, path)
     }
 
     fn input(&self, alloc: Global) -> Result<Vec<u8>, HostFault> {
         read_whole(alloc, self.script)
+    }
+
+    fn lines(&self) -> LinesOf<Cursor<Vec<u8>>> {
+        lines_of(self.rt.alloc(), self.script)
+    }
+
+    fn is_terminal(&self) -> bool {
+        false
     }
 
     fn store(

@@ -1,11 +1,12 @@
 //! A machine with the files of a desk, whose stores are lists.
-use crate::desk::file_of;
-use mls_command::{CloseFault, Host, HostFault, read_whole};
+use crate::desk::{file_of, lines_of};
+use mls_command::{CloseFault, Host, HostFault, LinesOf, read_whole};
 use mls_fragments::OpenFault;
 use mls_lattice::Policy;
 use mls_scheme::SchemesFile;
 use mls_updates::ListBase;
 use std::alloc::Global;
+use std::io::Cursor;
 use std::rt::Files;
 
 /// Each store is a new one, and what a run leaves in it is not kept.
@@ -15,7 +16,7 @@ pub struct Lists<'a, R: Files> {
     pub script: &'a [u8],
 }
 
-impl<'a, R: Files> Host for Lists<'a, R> {
+impl<'a, R: Files + AllocGlobal> Host for Lists<'a, R> {
     // Any bytes and any content: what a file has is known to nobody before it is read.
     ghost gives = { λ _ _ _. Unit {0} };
 
@@ -25,12 +26,22 @@ impl<'a, R: Files> Host for Lists<'a, R> {
 
     type Store = ListBase;
 
+    type Lines = LinesOf<Cursor<Vec<u8>>>;
+
     fn file(&self, alloc: Global, path: &str) -> Result<Vec<u8>, HostFault> {
         file_of(self.rt, self.script, alloc, path)
     }
 
     fn input(&self, alloc: Global) -> Result<Vec<u8>, HostFault> {
         read_whole(alloc, self.script)
+    }
+
+    fn lines(&self) -> LinesOf<Cursor<Vec<u8>>> {
+        lines_of(self.rt.alloc(), self.script)
+    }
+
+    fn is_terminal(&self) -> bool {
+        true
     }
 
     fn store(

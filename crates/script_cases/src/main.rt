@@ -9,6 +9,7 @@ mod lists;
 mod most;
 mod narrow;
 mod samples;
+mod shells;
 mod stores;
 mod table;
 mod worlds;

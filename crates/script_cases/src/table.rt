@@ -1,5 +1,5 @@
 //! The tables, in the order in which they are told.
-use crate::{commands, counts, samples, stores, worlds};
+use crate::{commands, counts, samples, shells, stores, worlds};
 use case_tables::{Case, Told, case_at};
 use std::alloc::AllocError;
 use std::rt::Files;
@@ -16,10 +16,11 @@ pub enum Table {
     Calls,
     Counts,
     Stores,
+    Shells,
     Samples,
 }
 
-pub const TABLES: [(&str, Table); 13] = [
+pub const TABLES: [(&str, Table); 14] = [
     ("script_faults.txt", Table::Faults),
     ("prefixes.txt", Table::Prefixes),
     ("scripts.txt", Table::Scripts),
@@ -32,6 +33,7 @@ pub const TABLES: [(&str, Table); 13] = [
     ("limits.txt", Table::Counts),
     ("stores.txt", Table::Stores),
     ("migrations.txt", Table::Stores),
+    ("shells.txt", Table::Shells),
     ("samples.txt", Table::Samples),
 ];
 
@@ -48,6 +50,7 @@ pub fn told<R: Files + AllocGlobal>(
     out.push_line(file);
     match table {
         Table::Stores => stores::tell_all(rt, &lines, &mut out),
+        Table::Shells => shells::tell_all(rt, &lines, &mut out),
         _ => tell_cases(rt, table, &lines, &mut out),
     }
     out.finish()
@@ -73,6 +76,6 @@ fn tell_case<R: Files + AllocGlobal>(rt: &R, table: Table, case: &Case<'_>, out:
         Table::Counts => counts::tell(rt, case, out),
         Table::Samples => samples::tell(rt, case, out),
         // Each of these goes on with what the one before it left.
-        Table::Stores => {}
+        Table::Stores | Table::Shells => {}
     }
 }

@@ -1,5 +1,6 @@
 -- What runs begin with.
-use Rattle.std.proofs.Common.{◌≡◌, false, [], sym, subst}
+use Rattle.std.proofs.Common.{◌≡◌, false, List, [], ◌∷◌, ◌++◌, sym, subst}
+use Rattle.std.specs.List.{AllByRecursion}
 use Rattle.mls_lattice.specs.Policy.{Tables}
 use Rattle.mls_scheme.specs.Scheme.{Schemes}
 use Rattle.mls_filterview.specs.Content.{State, no_content}
@@ -12,3 +13,8 @@ pub none_sound : (policy : Tables) (schemes : Schemes) (s : State) → s ≡ rec
 none_sound policy schemes s none =
     let sound = no_content_sound (site_of policy schemes []) in
     subst (λ (x : State). IsSoundContent policy schemes x.now) (sym none) (record { content = sound.content; entries = sound.entries })
+
+-- what holds of each item holds with one more
+pub all_more : {X : Type 0} (P : X → Type 0) (xs : List X) (x : X) → AllByRecursion P xs → P x → AllByRecursion P (xs ++ x ∷ [])
+all_more P [] x h p = (p, tt)
+all_more P (y ∷ xs) x h p = (h.0, all_more P xs x h.1 p)

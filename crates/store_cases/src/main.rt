@@ -8,6 +8,7 @@ mod counts;
 mod cuts;
 mod damage;
 mod disks;
+mod histories;
 mod migrations;
 mod narrow;
 mod runs;

@@ -15,7 +15,7 @@ use std::alloc::Global;
 use std::io;
 
 /// Room for the few pages of these stores, since each opening makes all of it; and the log is copied into the database file soon.
-fn options() -> Options {
+pub fn options() -> Options {
     Options {
         cache_pages: 8,
         spill_pages: 8,

@@ -1,6 +1,6 @@
 //! The tables, in the order in which they are told.
 use crate::disks::Medium;
-use crate::{again, damage, migrations, stopping};
+use crate::{again, damage, histories, migrations, stopping};
 use case_tables::Told;
 use std::rt::Files;
 use std::{fs, io};
@@ -12,13 +12,15 @@ pub enum Table {
     Evaluations,
     Damage,
     Again,
+    Histories,
     Migrations,
 }
 
-pub const TABLES: [(&str, Table); 5] = [
+pub const TABLES: [(&str, Table); 6] = [
     ("again.txt", Table::Again),
     ("damage.txt", Table::Damage),
     ("evaluations.txt", Table::Evaluations),
+    ("histories.txt", Table::Histories),
     ("migrations.txt", Table::Migrations),
     ("stops.txt", Table::Stops),
 ];
@@ -40,6 +42,7 @@ pub fn told<D: Medium, R: Files + AllocGlobal>(
         Table::Damage => damage::tell_lines::<D, R>(rt, &lines, &mut out)?,
         Table::Migrations => migrations::tell_lines::<D, R>(rt, &lines, &mut out)?,
         Table::Again => again::tell_lines::<D, R>(rt, &lines, &mut out)?,
+        Table::Histories => histories::tell_lines::<D, R>(rt, &lines, &mut out)?,
     }
     Ok(out.finish()?)
 }

@@ -1,0 +1,185 @@
+//! Two histories of runs over stores in files, and what a level is shown of them.
+ghost use Rattle.std.specs.Prelude.{◌<◌, ◌≤◌, length, IfOk};
+ghost use Rattle.std.specs.List.{AllByRecursion};
+ghost use Rattle.std.specs.Option.{IfSome};
+ghost use Rattle.mls_command.specs.History.{IsPrepared};
+
+use crate::disks::{Copies, Medium};
+use crate::narrow::Narrow;
+use crate::site::{Names, Site};
+use crate::stores::options;
+use case_tables::{Case, Told, case_at, inner, text_of};
+use mls_command::{HistoryFault, Run, run_history, stored_from};
+use mls_lattice::LabelNo;
+use mls_script::script;
+use std::alloc::{AllocError, Global};
+use std::io;
+use std::rt::Files as FileSystem;
+
+/// The event of a line for a history, without its mark, if the line is for it: of two with a bar between, that of the history.
+fn event_of<'a>(line: &'a str, history: &str) -> Option<&'a str> {
+    let (mark, event) = line.split_once(' ')?;
+    if mark != "=" && mark != history {
+        return None;
+    }
+    match event.split_once(" | ") {
+        Some((first, second)) => Some(if history == "1" { first } else { second }),
+        None => Some(event),
+    }
+}
+
+/// The script of the lines of a run for a history.
+fn script_of(alloc: Global, lines: &[&str], history: &str) -> Result<String, AllocError> {
+    let mut text = Told::new(alloc);
+    for line in lines {
+        if let Some(event) = event_of(inner(line), history) {
+            text.push_line(event);
+        }
+    }
+    text.finish()
+}
+
+/// The place of the first line that ends a run.
+fn first_end(lines: &[&str]) -> usize
+    ensures { result ≤ length lines.now }
+{
+    for (at, line) in lines.iter().enumerate() {
+        if inner(line) == "--" {
+            return at;
+        }
+    }
+    lines.len()
+}
+
+/// A run over the lines of a case up to the next end of a run.
+fn run_of(alloc: Global, site: &Site, lines: &[&str], history: &str) -> Option<Run>
+    ensures { IfSome result (IsPrepared site.now.policy site.now.file.schemes) }
+{
+    let text = script_of(alloc, &lines[..first_end(lines)], history).ok()?;
+    let policy = &site.policy;
+    let schemes = &site.file.schemes;
+    let transactions = site.transactions.as_bytes();
+    let certificates = site.certificates.as_bytes();
+    let Ok(stored) = stored_from(alloc, policy, schemes, transactions, certificates) else {
+        return None;
+    };
+    let Ok(events) = script(alloc, policy, schemes, text.as_bytes()) else {
+        return None;
+    };
+    Some(Run { stored, events })
+}
+
+/// Whether a run begins at a line of a case.
+fn begins_run(lines: &[&str], at: usize) -> bool
+    requires { at < length lines.now }
+{
+    at == 0 || inner(lines[at - 1]) == "--"
+}
+
+/// The runs of a case for a history.
+#[tactic(auto, using(crate::proofs::StartLemmas::all_more))]
+fn runs_of(alloc: Global, site: &Site, lines: &[&str], history: &str) -> Option<Vec<Run>>
+    ensures { IfSome result (λ runs. AllByRecursion (IsPrepared site.now.policy site.now.file.schemes) runs.items) }
+{
+    let mut runs = Vec::new(alloc);
+    for at in 0..lines.len() {
+        if begins_run(lines, at) {
+            runs.push(run_of(alloc, site, &lines[at..], history)?).ok()?;
+        }
+    }
+    Some(runs)
+}
+
+/// Tells how a history ends.
+fn tell_end(outcome: Result<(), HistoryFault>, out: &mut Told) {
+    match outcome {
+        Ok(()) => out.push_line("all well"),
+        Err(fault) => {
+            out.push("broken off at run ");
+            out.push_count(fault.run);
+            out.push("\n");
+        }
+    }
+}
+
+/// The level that a case names, if the policy has it.
+fn level_of(site: &Site, head: &str) -> Option<LabelNo>
+    ensures { IfSome result (λ c. c < length site.now.policy.labels) }
+{
+    let (name, _) = head.split_once(':')?;
+    site.policy.label(name)
+}
+
+/// What a level is shown of a history over a new store, and how that ends.
+fn shown<D: Medium>(
+    alloc: Global,
+    site: &Site,
+    level: LabelNo,
+    lines: &[&str],
+    history: &str,
+) -> io::Result<String>
+    requires { level < length site.now.policy.labels }
+{
+    let mut told = Told::new(alloc);
+    let Some(runs) = runs_of(alloc, site, lines, history) else {
+        told.push_line("no runs");
+        return Ok(told.finish()?);
+    };
+    let files = Copies::none(alloc).files::<D>(alloc)?;
+    let mut replies = Narrow::new(alloc, u64::MAX);
+    let policy = &site.policy;
+    let file = &site.file;
+    let reader = Some(level);
+    let (outcome, _) = run_history(
+        alloc,
+        policy,
+        file,
+        runs,
+        files,
+        options(),
+        reader,
+        &mut replies,
+    );
+    tell_end(outcome, &mut told);
+    told.push(text_of(&replies.bytes));
+    Ok(told.finish()?)
+}
+
+/// Tells a case.
+fn tell_case<D: Medium>(
+    alloc: Global,
+    site: &Site,
+    case: &Case<'_>,
+    out: &mut Told,
+) -> io::Result<()> {
+    out.push_line(case.head);
+    let Some(level) = level_of(site, case.head) else {
+        out.push_line("  no level");
+        return Ok(());
+    };
+    let first = shown::<D>(alloc, site, level, case.body, "1")?;
+    let second = shown::<D>(alloc, site, level, case.body, "2")?;
+    out.push_indented(&first);
+    if first.as_str() == second.as_str() {
+        out.push_line("  the same");
+    } else {
+        out.push_line("  other");
+        out.push_indented(&second);
+    }
+    Ok(())
+}
+
+/// Tells what levels are shown of two histories: a case is `LEVEL: title`, and the events of both below.
+pub fn tell_lines<D: Medium, R: FileSystem + AllocGlobal>(
+    rt: &R,
+    lines: &[&str],
+    out: &mut Told,
+) -> io::Result<()> {
+    let site = Site::read(rt, Names::of("policy.toml"))?;
+    for at in 0..lines.len() {
+        if let Some(case) = case_at(&lines[at..]) {
+            tell_case::<D>(rt.alloc(), &site, &case, out)?;
+        }
+    }
+    Ok(())
+}

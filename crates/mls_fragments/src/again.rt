@@ -1,5 +1,6 @@
 //! Bases over the two files of a store, which are closed and opened again.
 ghost use Rattle.std.specs.Prelude.{◌≡◌, ◌⊎◌, false, not, length, IsTrue, IfOk, IfErr};
+ghost use Rattle.sqlite.specs.Closing.{IsCopied};
 ghost use Rattle.sqlite.specs.Effect.{IsDatabase};
 ghost use Rattle.sqlite.specs.Files.{image_of, file_state};
 ghost use Rattle.sqlite.specs.Held.{state};
@@ -17,7 +18,7 @@ use crate::open_fault::OpenFault;
 use crate::opening::fault_of;
 use mls_lattice::Policy;
 use mls_scheme::SchemesFile;
-use sqlite::{Alter, Connection, Error, FileStore, Files, Options};
+use sqlite::{Alter, Connection, FileStore, Files, Options};
 use sqlite_disk::Disk;
 use std::alloc::Global;
 
@@ -55,6 +56,21 @@ fn connected<D: Disk + Drop>(
 /// Gives the files of a store back as they are.
 fn left<D: Disk + Drop>(conn: Connection<FileStore<D>>) -> Files<D> {
     conn.into_store().close()
+}
+
+/// Closes a connection to a store in files: the database file alone then holds the last commit, also after a crash.
+fn files_closed<D: Disk + Drop>(
+    conn: Connection<FileStore<D>>,
+) -> Result<Files<D>, (OpenFault, Files<D>)>
+    ensures usable { IfOk result (λ files. IsTrue (D.Disk.is_usable files.log) × IsTrue (D.Disk.is_usable files.db)) }
+    ensures copied { IfOk result (λ files. AreClean D.Disk files.log files.db → IsCopied conn files) }
+    ensures was_clean { IfErr result (λ e. AreClean D.Disk e.1.log e.1.db → HasCleanDisk (file_state conn)) }
+    ensures fault { IfErr result (λ e. (e.0 ≡ OpenFault.Store) ⊎ (e.0 ≡ OpenFault.Memory)) }
+{
+    match conn.close_files() {
+        Ok(files) => Ok(files),
+        Err((error, store)) => Err((fault_of(error), store.close())),
+    }
 }
 
 impl<D: Disk + Drop> SqlBase<FileStore<D>> {
@@ -95,10 +111,9 @@ impl<D: Disk + Drop> SqlBase<FileStore<D>> {
         let conn = self.into_connection();
         // for what it says of the last commit
         let _settled = is_settled(&conn);
-        let closed: Result<Files<D>, (Error, FileStore<D>)> = conn.close_files();
-        match closed {
+        match files_closed(conn) {
             Ok(files) => Ok(files),
-            Err((error, store)) => Err((fault_of(error), store.close())),
+            Err(refused) => Err(refused),
         }
     }
 }

@@ -1,6 +1,5 @@
-use Rattle.std.proofs.Common.{arith}
 use Rattle.mls_fragments.specs.Based.{state_of}
-use Rattle.mls_fragments.proofs.AgainLemmas.{settled_in, clean_store, closed_keep}
+use Rattle.mls_fragments.proofs.AgainLemmas.{settled_in, closed_keep}
 use Rattle.mls_fragments.proofs.again.SqlBase+FileStore+D.close_files.Goals as goal
 
 pub returns-in-Ok-clause-clean : goal.returns-in-Ok-clause-clean
@@ -15,7 +14,4 @@ returns-in-Ok-clause-kept g c clean =
     (c.is_settled-settled.ensures.sound copied.was_open) held.0 held.1 c.in-Ok.files copied
 
 pub returns-in-Err-clause-was_clean : goal.returns-in-Err-clause-was_clean
-returns-in-Err-clause-was_clean g c clean =
-    let rises = c.in-Err.ensures.err.0.quiet.clean in
-    let now = clean_store c.in-Err.store c.close.result c.close.ensures clean in
-    c.into_connection-conn.ensures.clean (omega (arith, rises, now))
+returns-in-Err-clause-was_clean g c clean = c.into_connection-conn.ensures.clean (c.in-Err.ensures.was_clean clean)

@@ -27,13 +27,13 @@ use Rattle.mls_scheme.specs.declared.place.Place.{Place}
 use Rattle.mls_scheme.specs.Extending.{schemes_before, HadOthers}
 use Rattle.mls_scheme.specs.Scheme.{Schemes, scheme_of}
 use Rattle.mls_scheme.proofs.OrderLemmas.{place_exact, place_total}
-use Rattle.mls_filterview.specs.Content.{Content}
+use Rattle.mls_filterview.specs.Content.{Content, no_content}
 use Rattle.mls_filterview.specs.Widen.{nulls}
-use Rattle.mls_statements.specs.Rows.{tables_of}
+use Rattle.mls_statements.specs.Rows.{Tables, tables_of}
 use Rattle.mls_statements.specs.Schema.{HasTables, no_schema, schema}
 use Rattle.mls_statements.specs.Statements.{IsReady}
 use Rattle.mls_statements.specs.Store.{IsClean}
-use Rattle.mls_fragments.specs.Again.{IsKeptIn, nothing, rows, IsKeptAlone, AreKept, IsTakenFrom, as_it_was, widened, GivenBackIsTaken, KeptIsTaken, FilesKeepOneContent, SoundIsTakenAsItWas}
+use Rattle.mls_fragments.specs.Again.{IsHeldBy, no_tables, four_tables, IsTakenOf, DatabaseHoldsOneContent, KeptIsHeld, IsKeptIn, nothing, rows, IsKeptAlone, AreKept, IsTakenFrom, as_it_was, widened, GivenBackIsTaken, KeptIsTaken, FilesKeepOneContent, SoundIsTakenAsItWas}
 use Rattle.mls_fragments.specs.Based.{BaseState, state_of}
 use Rattle.mls_fragments.specs.Finding.{IsSoundContent}
 use Rattle.mls_fragments.specs.Holding.{Holds}
@@ -41,6 +41,26 @@ use Rattle.mls_fragments.specs.Migrating.{more, IsSoundBefore, IsWidenedContent}
 use Rattle.mls_fragments.specs.Opening as opening
 use Rattle.mls_fragments.specs.Opening.{IsTaken, IsFoundIn, IsOverFiles}
 use Rattle.mls_fragments.proofs.OneContentLemmas.{one_content}
+
+-- ---- what a database holds
+
+-- what has the four tables is not empty
+has_some : (db : Database) → HasTables db.schema → db.schema ≢ no_schema
+has_some db ours bare = let four = ap (λ x. x.tables) (sym ours.is ∙ bare) in absurd cc
+
+pub one_held : DatabaseHoldsOneContent
+one_held db c d (no_tables bare is) (no_tables bare' is') = is ∙ sym is'
+one_held db c d (no_tables bare is) (four_tables ours holds) = absurd (has_some db ours bare)
+one_held db c d (four_tables ours holds) (no_tables bare is) = absurd (has_some db ours bare)
+one_held db c d (four_tables ours holds) (four_tables ours' holds') = one_content (tables_of db.trees) c d holds holds'
+
+-- of one without an object nothing is taken
+pub none_taken : (policy : Policy) (file : SchemesFile) (db : Database) (now : Content) → db.schema ≡ no_schema → now ≡ no_content → IsTakenOf (IsHeldBy db) policy file now
+none_taken policy file db now bare is = (now, no_tables bare is, as_it_was refl)
+
+pub some_taken : (policy : Policy) (file : SchemesFile) (db : Database) (t : Tables) (now : Content) → HasTables db.schema → IsTaken policy file db t now → Holds t now → IsTakenOf (IsHeldBy db) policy file now
+some_taken policy file db t now ours (opening.as_it_is m described texts same) holds = (now, four_tables ours (subst (λ u. Holds u now) same holds), as_it_was refl)
+some_taken policy file db t now ours (opening.widened m labels counts old described extended was sound wide meta) holds = (old, four_tables ours was, widened m labels counts extended sound wide)
 
 -- ---- over one database
 
@@ -119,6 +139,16 @@ one_of image found finds c d (rows db held ours sound holds) (rows db' held' our
 
 pub one_kept : FilesKeepOneContent
 one_kept policy file image c d now kept also found = one_of image found.over.db (found.over.found found.clean) c d kept also
+
+held_of : (image : Image) (found : Database) → IsFoundIn image found → (c d : Content) → IsKeptIn image c → IsHeldBy found d → c ≡ d
+held_of image found finds c d (nothing empty is) (no_tables bare is') = is ∙ sym is'
+held_of image found finds c d (nothing empty is) (four_tables ours holds) = absurd (has_some found ours (found_none image found finds empty))
+held_of image found finds c d (rows db held ours sound holds) (no_tables bare is) = absurd (not_without db found ours sound finds.sound (same_trees image found finds db held) bare)
+held_of image found finds c d (rows db held ours sound holds) (four_tables theirs holds') =
+    one_content (tables_of found.trees) c d (subst (λ ts. Holds (tables_of ts) c) (sym (same_trees image found finds db held)) holds) holds'
+
+pub kept_held : KeptIsHeld
+kept_held image c d kept held = held_of image held.0 held.1 c d kept held.2
 
 -- ---- widening of what is sound already
 

@@ -11,13 +11,28 @@ use Rattle.mls_scheme.specs.declared.file.SchemesFile.{SchemesFile}
 use Rattle.mls_filterview.specs.Content.{Content, no_content}
 use Rattle.mls_statements.specs.declared.rows.MetaRow.{MetaRow}
 use Rattle.mls_statements.specs.Rows.{Tables, tables_of}
-use Rattle.mls_statements.specs.Schema.{HasTables}
+use Rattle.mls_statements.specs.Schema.{HasTables, no_schema}
 use Rattle.mls_statements.specs.Store.{IsClean}
 use Rattle.mls_fragments.specs.Based.{BaseState, state_of}
 use Rattle.mls_fragments.specs.Finding.{IsSoundContent}
 use Rattle.mls_fragments.specs.Holding.{Holds}
 use Rattle.mls_fragments.specs.Migrating.{IsExtended, IsSoundBefore, IsWidenedContent}
-use Rattle.mls_fragments.specs.Opening.{IsTaken, IsOverFiles}
+use Rattle.mls_fragments.specs.Opening.{IsTaken, IsFoundIn, IsOverFiles}
+
+-- ---- what is held
+
+-- the content that a database holds: none where it has no object, and else what the rows of the four tables hold
+pub data IsHeldBy (db : Database) (c : Content) : Type 0 where
+  no_tables : db.schema ≡ no_schema → c ≡ no_content → IsHeldBy db c
+  four_tables : HasTables db.schema → Holds (tables_of db.trees) c → IsHeldBy db c
+
+-- and that files held: so does the database that is found in them
+abbrev pub IsHeldIn : Image → Content → Type 0
+IsHeldIn image c = (db : Database) × IsFoundIn image db × IsHeldBy db c
+
+-- a database holds one content
+abbrev pub DatabaseHoldsOneContent : Type 0
+DatabaseHoldsOneContent = (db : Database) (c d : Content) → IsHeldBy db c → IsHeldBy db d → c ≡ d
 
 -- ---- what files keep
 
@@ -51,6 +66,10 @@ pub data IsTakenFrom (policy : Policy) (file : SchemesFile) (before now : Conten
   widened : (m : MetaRow) (labels : ℕ) (counts : List ℕ) → IsExtended policy file m labels counts
       → IsSoundBefore policy file.schemes labels counts before → IsWidenedContent file.schemes counts before now → IsTakenFrom policy file before now
 
+-- what is taken of some content that was held
+abbrev pub IsTakenOf : (Content → Type 0) → Policy → SchemesFile → Content → Type 0
+IsTakenOf WasHeld policy file now = (before : Content) × WasHeld before × IsTakenFrom policy file before now
+
 -- what is taken of a store whose rows hold a content, as those of a connection that a base gave back
 abbrev pub GivenBackIsTaken : Type 0
 GivenBackIsTaken =
@@ -68,6 +87,10 @@ abbrev pub FilesKeepOneContent : Type 0
 FilesKeepOneContent =
     (policy : Policy) (file : SchemesFile) (image : Image) (c d now : Content)
     → IsKeptIn image c → IsKeptIn image d → IsFoundUnder policy file image now → c ≡ d
+
+-- what files keep is all that they hold
+abbrev pub KeptIsHeld : Type 0
+KeptIsHeld = (image : Image) (c d : Content) → IsKeptIn image c → IsHeldIn image d → c ≡ d
 
 -- content that is sound under a policy and schemes is taken as it was
 abbrev pub SoundIsTakenAsItWas : Type 0

@@ -77,15 +77,6 @@ pub record IsOverFiles (policy : Policy) (file : SchemesFile) (start : Image) (b
   pub taken : db.schema ≢ no_schema → IsClean b.tables → IsTaken policy file db b.tables.now (state_of b).now
   pub holds : IsClean b.tables → Holds b.tables.now (state_of b).now
 
--- the content that files held: that of a base over them, whose store is clean
-pub record IsContentIn (start : Image) (c : Content) : Type 0 where
-  pub policy : Policy
-  pub file : SchemesFile
-  pub base : BaseState
-  pub clean : IsClean base.tables
-  pub over : IsOverFiles policy file start base
-  pub is : (state_of base).now ≡ c
-
 -- what the files held is refused, and left as it was
 pub record AreFilesRefused {D : Type 0} {g : Ghosts D} (policy : Policy) (file : SchemesFile) (start : Image) (e : OpenFault) (left : Held (FileStore D g)) : Type 0 where
   pub was : Held (FileStore D g)

@@ -18,7 +18,8 @@ ghost use Rattle.mls_fragments.specs.Holding.{Holds};
 ghost use Rattle.sqlite.specs.Files.{file_state};
 ghost use Rattle.sqlite.specs.WalFiles.{image_at};
 ghost use Rattle.mls_fragments.specs.Migrating.{IsBefore, IsSoundBefore, IsWidenedContent};
-ghost use Rattle.mls_fragments.specs.Opening.{IsRefused, HoldsSound, IsTaken, IsOfOthers, IsBad, IsFoundIn, IsOverFiles, IsContentIn, AreFilesRefused};
+ghost use Rattle.mls_fragments.specs.Opening.{IsRefused, HoldsSound, IsTaken, IsOfOthers, IsBad, IsFoundIn, IsOverFiles, AreFilesRefused};
+ghost use Rattle.mls_fragments.specs.Again.{IsHeldBy, IsHeldIn, IsTakenOf};
 
 use crate::base::SqlBase;
 use crate::comparing::{cell_rows, node_rows};
@@ -210,6 +211,7 @@ impl<S: Alter> SqlBase<S> {
             × (IsClean b.tables → b.tables.now ≡ described (version_number (later policy.now.version file.now.version)) (lattice.lattice_of policy.now) (scheme.canon_of policy.now file.now.version file.now.schemes))) }
         ensures taken { (state S.Store conn).now.schema ≢ no_schema → IfOk result (λ b. IsClean b.tables → IsTaken policy.now file.now (state S.Store conn).now b.tables.now (state_of b).now) }
         ensures holds { IfOk result (λ b. IsClean b.tables → Holds b.tables.now (state_of b).now) }
+        ensures content { IfOk result (λ b. IsClean b.tables → IsTakenOf (IsHeldBy (state S.Store conn).now) policy.now file.now (state_of b).now) }
         ensures sound { IfOk result (λ b. IsSoundContent policy.now file.now.schemes (state_of b).now) }
         ensures mode { IfOk result (λ b. (state_of b).begun ≡ false) }
         ensures clean { IfOk result (λ b. IsClean b.tables → HasCleanDisk (state S.Store conn)) }
@@ -294,6 +296,7 @@ impl<F: Start> SqlBase<FileStore<FileFrom<F>>> {
     >
         requires under { AreUnder (length policy.now.labels) file.now.schemes }
         ensures over { IfOk result (IsOverFiles policy.now file.now (image_at F.Start)) }
+        ensures content { IfOk result (λ b. IsClean b.tables → IsTakenOf (IsHeldIn (image_at F.Start)) policy.now file.now (state_of b).now) }
         ensures sound { IfOk result (λ b. IsSoundContent policy.now file.now.schemes (state_of b).now) }
         ensures mode { IfOk result (λ b. (state_of b).begun ≡ false) }
         ensures unopened { IfErr result (λ e. e.1 ≡ None → (e.0 ≡ OpenFault.Store) ⊎ (e.0 ≡ OpenFault.Memory)) }
@@ -318,7 +321,7 @@ impl<F: Start> SqlBase<FileStore<FileFrom<F>>> {
         file: &SchemesFile,
     ) -> Result<SqlBase<FileStore<FileFrom<F>>>, OpenFault>
         requires under { AreUnder (length policy.now.labels) file.now.schemes }
-        ensures content { IfOk result (λ b. IsClean b.tables → IsContentIn (image_at F.Start) (state_of b).now) }
+        ensures content { IfOk result (λ b. IsClean b.tables → IsTakenOf (IsHeldIn (image_at F.Start)) policy.now file.now (state_of b).now) }
         ensures sound { IfOk result (λ b. IsSoundContent policy.now file.now.schemes (state_of b).now) }
         ensures mode { IfOk result (λ b. (state_of b).begun ≡ false) }
     {

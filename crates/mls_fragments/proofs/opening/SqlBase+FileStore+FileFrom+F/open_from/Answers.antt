@@ -12,6 +12,11 @@ returns-in-Ok-adopt-clause-over g c = record {
   holds = c.in-Ok-adopt.ensures.holds;
 }
 
+pub returns-in-Ok-adopt-clause-content : goal.returns-in-Ok-adopt-clause-content
+returns-in-Ok-adopt-clause-content g c = λ clean.
+    let taken = c.in-Ok-adopt.ensures.content clean in
+    (taken.0, ((file_state c.in-Ok.conn).now, c.in-Ok.ensures.found (c.in-Ok-adopt.ensures.clean clean), taken.1), taken.2)
+
 pub returns-in-Err-adopt-clause-refused : goal.returns-in-Err-adopt-clause-refused
 returns-in-Err-adopt-clause-refused g c = record {
   was = c.in-Ok.conn;

@@ -1,6 +1,5 @@
 -- Tasks and jobs: what is done, and what is given up.
 use Rattle.std.proofs.Common.{◌≡◌, ℕ, List, [], Option, Result, Ok, Err, IfOk, IfErr, OnOk, OnErr, inl, inr, refl, sym, subst}
-use Rattle.std.specs.Prelude.{option_map}
 use Rattle.std.proofs.KnownBytes.{Appends-nil}
 use Rattle.mls_script.specs.declared.event.Event.{Event}
 use Rattle.mls_machine.specs.declared.stored.Stored.{Stored}
@@ -9,7 +8,7 @@ use Rattle.mls_command.specs.declared.words.Job.{Job}
 use Rattle.mls_command.specs.declared.ending.Ending.{Ending}
 use Rattle.mls_command.specs.declared.ending.Ending.TheVariants.{Well}
 use Rattle.mls_command.specs.declared.errors.Errors.{Errors}
-use Rattle.mls_command.specs.Inputs.{AreStoredFrom, IsReader}
+use Rattle.mls_command.specs.Inputs.{named, AreStoredFrom, IsScriptFrom, IsPolicyOf, AreSchemesOf, IsReader}
 use Rattle.mls_lattice.specs.Policy.{Tables}
 use Rattle.mls_scheme.specs.declared.file.SchemesFile.{SchemesFile}
 use Rattle.mls_command.specs.declared.words.RunFiles.{RunFiles}
@@ -19,14 +18,17 @@ use Rattle.mls_command.specs.declared.words.Task.TheVariants as tasks
 use Rattle.mls_command.specs.declared.refusal.Refusal.{Refusal}
 use Rattle.mls_command.specs.declared.refusal.Refusal.TheVariants.{Unreadable, TooLong, Policy, Reader, Label, User, Schemes as OfSchemes, Transactions, Certificates, Script, Store, Run, NotClosed, Output, Memory}
 use Rattle.mls_command.specs.Hosting.{Hosted, IsTold}
-use Rattle.mls_command.specs.Refusal.{IsBefore}
-use Rattle.mls_command.specs.Running.{site_of, IsCutOff, IsRunEnd}
-use Rattle.mls_command.specs.Acting.{IsPolicyOf, AreSchemesOf, IsScriptRead, IsRunFrom, Runs, Answers, Prints, IsTaskDone, IsRunOf, IsTaskGivenUp, IsDone, IsGivenUp}
+use Rattle.mls_command.specs.Refusal.{IsBefore, IsEnd}
+use Rattle.mls_command.specs.Printing.{IsCutOff}
+use Rattle.mls_command.specs.Running.{site_of}
+use Rattle.mls_command.specs.ScriptRun.{IsRunFrom, IsScriptRun}
+use Rattle.mls_command.specs.ShellRun.{IsShellRun}
+use Rattle.mls_command.specs.Acting.{Prints, IsTaskDone, IsRunOf, IsTaskGivenUp, IsDone, IsGivenUp}
 use Rattle.mls_command.proofs.RunningLemmas.{end_weaker, not_begun}
 
 module _ (h : Hosted) (policy : Tables) (file : SchemesFile) (reader : Option ℕ) (Wrote Told : List ℕ → Type 0) where
   -- before anything is written
-  pub task_before : (task : Task) (refusal : Refusal) → IsBefore refusal → Told [] → Wrote [] → IsTaskGivenUp h policy file reader task Wrote Told refusal
+  pub task_before : (task : Task) (refusal : Refusal) → IsBefore refusal → Told [] → Wrote [] → IsTaskGivenUp h policy file reader Wrote Told task refusal
   task_before task (Unreadable r) b t w = (t, w)
   task_before task (TooLong r) b t w = (t, w)
   task_before task (Policy f) b t w = (t, w)
@@ -44,8 +46,8 @@ module _ (h : Hosted) (policy : Tables) (file : SchemesFile) (reader : Option �
   task_before task Memory b t w = (t, w)
 
   -- as its run was
-  pub run_given_up : (files : RunFiles) (refusal : Refusal) → Told [] → IsRunEnd (Runs h policy file.schemes reader files Wrote) (Wrote []) (Err refusal)
-      → IsTaskGivenUp h policy file reader (tasks.Run files) Wrote Told refusal
+  pub run_given_up : (files : RunFiles) (refusal : Refusal) → Told [] → IsEnd (IsScriptRun h policy file reader files Wrote) (Wrote []) (Err refusal)
+      → IsTaskGivenUp h policy file reader Wrote Told (tasks.Run files) refusal
   run_given_up files (Unreadable r) t k = (t, k)
   run_given_up files (TooLong r) t k = (t, k)
   run_given_up files (Policy f) t k = (t, k)
@@ -58,7 +60,7 @@ module _ (h : Hosted) (policy : Tables) (file : SchemesFile) (reader : Option �
   run_given_up files (Script f) t k = (t, k)
   run_given_up files (Store f) t k = (t, k)
   run_given_up files (Run f) t k = (t, k)
-  run_given_up files NotClosed t k = (t, k)
+  run_given_up files NotClosed t k = (Well, (refl, t, k.1))
   run_given_up files Output t k = absurd k
   run_given_up files Memory t k = (t, k)
 
@@ -75,74 +77,64 @@ module _ (h : Hosted) (policy : Tables) (file : SchemesFile) (reader : Option �
 
   -- the events of a script, over what is stored
   pub script_run : (files : RunFiles) (stored : List Stored) (events : List Event)
-      → AreStoredFrom h.gives (option_map (λ p. p.now) files.transactions) (option_map (λ p. p.now) files.certificates) policy file.schemes stored
-      → IsScriptRead h.gives (option_map (λ p. p.now) files.script) policy file.schemes events
-      → (r : Result (Unit {0}) Refusal) → IsRunEnd (IsRunFrom h (option_map (λ p. p.now) files.store) (site_of policy file.schemes stored) reader events Wrote) (Wrote []) r
-      → IsRunEnd (Runs h policy file.schemes reader files Wrote) (Wrote []) r
+      → AreStoredFrom h.gives (named files.transactions) (named files.certificates) policy file.schemes stored
+      → IsScriptFrom h.gives (named files.script) policy file.schemes events
+      → (r : Result (Unit {0}) Refusal) → IsEnd (IsRunFrom h file (named files.store) (site_of policy file.schemes stored) reader events Wrote) (Wrote []) r
+      → IsEnd (IsScriptRun h policy file reader files Wrote) (Wrote []) r
   script_run files stored events stored_are events_are r run =
-      let f : (end : Result (Unit {0}) RunFault) → IsRunFrom h (option_map (λ p. p.now) files.store) (site_of policy file.schemes stored) reader events Wrote end → Runs h policy file.schemes reader files Wrote end
-      = λ end k. λ clean. let x = k clean in record {
-        stored = stored;
-        events = events;
-        first = x.0;
-        left = x.1;
-        stored_are = stored_are;
-        events_are = events_are;
-        first_is = x.2;
-        left_is = x.3;
-        run = x.4;
-      } in
-      end_weaker (IsRunFrom h (option_map (λ p. p.now) files.store) (site_of policy file.schemes stored) reader events Wrote) (Wrote []) (Runs h policy file.schemes reader files Wrote) f r run
+      let f : (end : Result (Unit {0}) RunFault) → IsRunFrom h file (named files.store) (site_of policy file.schemes stored) reader events Wrote end → IsScriptRun h policy file reader files Wrote end
+      = λ end k. record { stored = stored; events = events; stored_are = stored_are; events_are = events_are; run = k } in
+      end_weaker (IsRunFrom h file (named files.store) (site_of policy file.schemes stored) reader events Wrote) (Wrote []) (IsScriptRun h policy file reader files Wrote) f r run
 
-  pub run_done : (files : RunFiles) (r : Result (Unit {0}) Refusal) → IsRunEnd (Runs h policy file.schemes reader files Wrote) (Wrote []) r → OnOk r (Runs h policy file.schemes reader files Wrote (Ok tt))
+  pub run_done : (files : RunFiles) (r : Result (Unit {0}) Refusal) → IsEnd (IsScriptRun h policy file reader files Wrote) (Wrote []) r → OnOk r (IsScriptRun h policy file reader files Wrote (Ok tt))
   run_done files (Ok u) k = k
   run_done files (Err e) k = tt
 
-  pub run_stopped : (files : RunFiles) (r : Result (Unit {0}) Refusal) → IsRunEnd (Runs h policy file.schemes reader files Wrote) (Wrote []) r
-      → IfErr r (λ e. IsRunEnd (Runs h policy file.schemes reader files Wrote) (Wrote []) (Err e))
+  pub run_stopped : (files : RunFiles) (r : Result (Unit {0}) Refusal) → IsEnd (IsScriptRun h policy file reader files Wrote) (Wrote []) r
+      → IfErr r (λ e. IsEnd (IsScriptRun h policy file reader files Wrote) (Wrote []) (Err e))
   run_stopped files (Ok u) k = tt
   run_stopped files (Err e) k = k
 
-  pub run_not_begun : (files : RunFiles) (r : Result (Unit {0}) Refusal) → IfErr r IsBefore → Wrote [] → IfErr r (λ e. IsRunEnd (Runs h policy file.schemes reader files Wrote) (Wrote []) (Err e))
+  pub run_not_begun : (files : RunFiles) (r : Result (Unit {0}) Refusal) → IfErr r IsBefore → Wrote [] → IfErr r (λ e. IsEnd (IsScriptRun h policy file reader files Wrote) (Wrote []) (Err e))
   run_not_begun files (Ok u) b w = tt
-  run_not_begun files (Err e) b w = not_begun (Runs h policy file.schemes reader files Wrote) (Wrote []) e b w
+  run_not_begun files (Err e) b w = not_begun (IsScriptRun h policy file reader files Wrote) (Wrote []) e b w
 
   -- ---- tasks
 
-  pub before_given_up : {A : Type 0} (Told : List ℕ → Type 0) (task : Task) (r : Result A Refusal) → IfErr r IsBefore → Told [] → Wrote [] → IfErr r (IsTaskGivenUp h policy file reader task Wrote Told)
+  pub before_given_up : {A : Type 0} (Told : List ℕ → Type 0) (task : Task) (r : Result A Refusal) → IfErr r IsBefore → Told [] → Wrote [] → IfErr r (IsTaskGivenUp h policy file reader Wrote Told task)
   before_given_up Told task (Ok a) b t w = tt
   before_given_up Told task (Err e) b t w = task_before h policy file reader Wrote Told task e b t w
 
   pub run_task_given_up : {A : Type 0} (Told : List ℕ → Type 0) (task : Task) (files : RunFiles) → task ≡ tasks.Run files → Told [] → (r : Result A Refusal)
-      → IfErr r (λ e. IsRunEnd (Runs h policy file.schemes reader files Wrote) (Wrote []) (Err e)) → IfErr r (IsTaskGivenUp h policy file reader task Wrote Told)
+      → IfErr r (λ e. IsEnd (IsScriptRun h policy file reader files Wrote) (Wrote []) (Err e)) → IfErr r (IsTaskGivenUp h policy file reader Wrote Told task)
   run_task_given_up Told task files is told (Ok a) k = tt
-  run_task_given_up Told task files is told (Err e) k = subst (λ (t : Task). IsTaskGivenUp h policy file reader t Wrote Told e) (sym is) (run_given_up h policy file reader Wrote Told files e told k)
+  run_task_given_up Told task files is told (Err e) k = subst (λ (t : Task). IsTaskGivenUp h policy file reader Wrote Told t e) (sym is) (run_given_up h policy file reader Wrote Told files e told k)
 
-  pub run_task_done : (Told : List ℕ → Type 0) (task : Task) (files : RunFiles) → task ≡ tasks.Run files → Told [] → Runs h policy file.schemes reader files Wrote (Ok tt)
-      → IsTaskDone h policy file reader task Wrote Told Well
-  run_task_done Told task files is told runs = subst (λ (t : Task). IsTaskDone h policy file reader t Wrote Told Well) (sym is) (refl, told, runs)
+  pub run_task_done : (Told : List ℕ → Type 0) (task : Task) (files : RunFiles) → task ≡ tasks.Run files → Told [] → IsScriptRun h policy file reader files Wrote (Ok tt)
+      → IsTaskDone h policy file reader Wrote Told task Well
+  run_task_done Told task files is told runs = subst (λ (t : Task). IsTaskDone h policy file reader Wrote Told t Well) (sym is) (refl, told, runs)
 
   pub print_given_up : (Told : List ℕ → Type 0) (task same : Task) → same ≡ task → (text told : List ℕ) (end : Ending) → Prints h policy file task text told end → (r : Result Ending Refusal)
-      → IfErr r (λ e. e ≡ Output) → OnErr r (IsCutOff Wrote text) → OnErr r (Told []) → IfErr r (IsTaskGivenUp h policy file reader same Wrote Told)
+      → IfErr r (λ e. e ≡ Output) → OnErr r (IsCutOff Wrote text) → OnErr r (Told []) → IfErr r (IsTaskGivenUp h policy file reader Wrote Told same)
   print_given_up Told task same is text told end prints (Ok e) out part quiet = tt
   print_given_up Told task same is text told end prints (Err e) out part quiet =
-      subst (λ (x : Refusal). IsTaskGivenUp h policy file reader same Wrote Told x) (sym out)
+      subst (λ (x : Refusal). IsTaskGivenUp h policy file reader Wrote Told same x) (sym out)
       (quiet, record { text = text; told = told; end = end; prints = subst (λ (t : Task). Prints h policy file t text told end) (sym is) prints; is_cut_off = part })
 
 -- ---- jobs
 
 module _ (h : Hosted) (job : Job) (Wrote : List ℕ → Type 0) where
-  pub job_before : {A : Type 0} (Told : List ℕ → Type 0) (r : Result A Refusal) → IfErr r IsBefore → Told [] → Wrote [] → IfErr r (IsGivenUp h job Wrote Told)
+  pub job_before : {A : Type 0} (Told : List ℕ → Type 0) (r : Result A Refusal) → IfErr r IsBefore → Told [] → Wrote [] → IfErr r (IsGivenUp h Wrote Told job)
   job_before Told (Ok a) b t w = tt
   job_before Told (Err e) b t w = inl (b, t, w)
 
-  module _ (policy : Tables) (file : SchemesFile) (reader : Option ℕ) (policy_is : IsPolicyOf h job.documents policy) (schemes_are : AreSchemesOf h job.documents policy file)
+  module _ (policy : Tables) (file : SchemesFile) (reader : Option ℕ) (policy_is : IsPolicyOf h.gives job.documents policy) (schemes_are : AreSchemesOf h.gives job.documents policy file)
       (reader_is : IsReader policy job.task reader) (Told : List ℕ → Type 0) where
-    pub job_done : (r : Result Ending Refusal) → IfOk r (IsTaskDone h policy file reader job.task Wrote Told) → IfOk r (IsDone h job Wrote Told)
+    pub job_done : (r : Result Ending Refusal) → IfOk r (IsTaskDone h policy file reader Wrote Told job.task) → IfOk r (IsDone h Wrote Told job)
     job_done (Ok end) k = record { policy = policy; file = file; reader = reader; policy_is = policy_is; schemes_are = schemes_are; reader_is = reader_is; does = k }
     job_done (Err e) k = tt
 
-    pub job_given_up : (r : Result Ending Refusal) → IfErr r (IsTaskGivenUp h policy file reader job.task Wrote Told) → IfErr r (IsGivenUp h job Wrote Told)
+    pub job_given_up : (r : Result Ending Refusal) → IfErr r (IsTaskGivenUp h policy file reader Wrote Told job.task) → IfErr r (IsGivenUp h Wrote Told job)
     job_given_up (Ok end) k = tt
     job_given_up (Err e) k = inr (record { policy = policy; file = file; reader = reader; policy_is = policy_is; schemes_are = schemes_are; reader_is = reader_is; does = k })
 
@@ -150,34 +142,36 @@ module _ (h : Hosted) (job : Job) (Wrote : List ℕ → Type 0) where
 
 module _ (h : Hosted) (Wrote Told More : List ℕ → Type 0) (f : (text : List ℕ) → Told text → More text) where
   shell_told : (policy : Tables) (file : SchemesFile) (reader : Option ℕ) (files : ShellFiles) (end : Result Ending RunFault)
-      → Answers h policy file.schemes reader files Wrote Told end → Answers h policy file.schemes reader files Wrote More end
-  shell_told policy file reader files end k = λ clean. let x = k clean in record {
+      → IsShellRun h policy file reader files Wrote Told end → IsShellRun h policy file reader files Wrote More end
+  shell_told policy file reader files end x = record {
     stored = x.stored;
     level = x.level;
     has_prompt = x.has_prompt;
     before = x.before;
     after = x.after;
-    first = x.first;
-    left = x.left;
     stored_are = x.stored_are;
     level_is = x.level_is;
     given = x.given;
-    first_is = x.first_is;
-    left_is = x.left_is;
-    shell = record { turns = x.shell.turns; run_end = x.shell.run_end; talk = x.shell.talk; told = f _ x.shell.told; written = x.shell.written; ended = x.shell.ended; run = x.shell.run };
+    shell = λ clean. let o = x.shell clean in let k = o.leads in record {
+      first = o.first;
+      left = o.left;
+      begins = o.begins;
+      kept = o.kept;
+      leads = record { turns = k.turns; run_end = k.run_end; talk = k.talk; told = f _ k.told; written = k.written; ended = k.ended; run = k.run };
+    };
   }
 
-  run_told : (policy : Tables) (file : SchemesFile) (reader : Option ℕ) (task : Task) (end : Result (Unit {0}) RunFault)
-      → IsRunOf h policy file reader task Wrote Told end → IsRunOf h policy file reader task Wrote More end
+  run_told : (policy : Tables) (file : SchemesFile) (reader : Option ℕ) (task : Task) (end : Result Ending RunFault)
+      → IsRunOf h policy file reader Wrote Told task end → IsRunOf h policy file reader Wrote More task end
   run_told policy file reader tasks.ShowPolicy end k = k
-  run_told policy file reader (tasks.Run files) end k = (f [] k.0, k.1)
-  run_told policy file reader (tasks.Shell files) (Ok u) k = (k.0, shell_told policy file reader files (Ok k.0) k.1)
-  run_told policy file reader (tasks.Shell files) (Err fault) k = shell_told policy file reader files (Err fault) k
+  run_told policy file reader (tasks.Run files) (Ok end) k = (k.0, f [] k.1, k.2)
+  run_told policy file reader (tasks.Run files) (Err fault) k = (f [] k.0, k.1)
+  run_told policy file reader (tasks.Shell files) end k = shell_told policy file reader files end k
   run_told policy file reader (tasks.Certify transactions) end k = k
   run_told policy file reader (tasks.Check transactions certificates) end k = k
 
   task_told : (policy : Tables) (file : SchemesFile) (reader : Option ℕ) (task : Task) (r : Refusal)
-      → IsTaskGivenUp h policy file reader task Wrote Told r → IsTaskGivenUp h policy file reader task Wrote More r
+      → IsTaskGivenUp h policy file reader Wrote Told task r → IsTaskGivenUp h policy file reader Wrote More task r
   task_told policy file reader task (Unreadable r) k = (f [] k.0, k.1)
   task_told policy file reader task (TooLong r) k = (f [] k.0, k.1)
   task_told policy file reader task (Policy x) k = (f [] k.0, k.1)
@@ -190,10 +184,10 @@ module _ (h : Hosted) (Wrote Told More : List ℕ → Type 0) (f : (text : List 
   task_told policy file reader task (Script x) k = (f [] k.0, k.1)
   task_told policy file reader task (Store x) k = (f [] k.0, k.1)
   task_told policy file reader task (Run fault) k = run_told policy file reader task (Err fault) k
-  task_told policy file reader task NotClosed k = run_told policy file reader task (Ok tt) k
+  task_told policy file reader task NotClosed k = (k.0, run_told policy file reader task (Ok k.0) k.1)
   task_told policy file reader task Output k = (f [] k.0, k.1)
   task_told policy file reader task Memory k = (f [] k.0, k.1)
 
-  pub given_up_told : (job : Job) (r : Refusal) → IsGivenUp h job Wrote Told r → IsGivenUp h job Wrote More r
+  pub given_up_told : (job : Job) (r : Refusal) → IsGivenUp h Wrote Told job r → IsGivenUp h Wrote More job r
   given_up_told job r (inl k) = inl (k.0, f [] k.1, k.2)
   given_up_told job r (inr u) = inr (record { policy = u.policy; file = u.file; reader = u.reader; policy_is = u.policy_is; schemes_are = u.schemes_are; reader_is = u.reader_is; does = task_told u.policy u.file u.reader job.task r u.does })

@@ -7,7 +7,11 @@ use Rattle.mls_lattice.specs.Policy.{Tables, labels_of}
 use Rattle.mls_lattice.specs.ReadsPolicy.{ReadsPolicy}
 use Rattle.mls_lattice.proofs.KeptLemmas.{policy-kept}
 use Rattle.mls_scheme.specs.Scheme.{Schemes}
+use Rattle.mls_scheme.specs.declared.file.SchemesFile.{SchemesFile}
 use Rattle.mls_filterview.specs.Content.{Content}
+use Rattle.mls_filterview.specs.Stored.{AreContent}
+use Rattle.mls_fragments.specs.Finding.{IsSoundContent}
+use Rattle.mls_fragments.proofs.AgainLemmas.{sound_is_taken}
 use Rattle.mls_translang.specs.Tx.{Tx}
 use Rattle.mls_translang.specs.Fits.{IsReadUnder}
 use Rattle.mls_script.specs.declared.event.Event.{Event}
@@ -21,13 +25,12 @@ use Rattle.mls_machine.specs.History.{settled, run_end, history_end, history_lin
 use Rattle.mls_machine.proofs.KeepingLemmas.{first_integrity}
 use Rattle.mls_machine.proofs.HistoryLemmas.{histories_pass}
 use Rattle.mls_sessions.specs.declared.cause.RunFault.{RunFault}
-use Rattle.mls_sessions.specs.World.{entries_in}
+use Rattle.mls_sessions.specs.World.{entries_in, IsSound}
 use Rattle.mls_command.specs.declared.words.Documents.{Documents}
-use Rattle.mls_command.specs.Hosting.{Hosted}
-use Rattle.mls_command.specs.Inputs.{AreTransactionsFrom, AreStoredFrom}
+use Rattle.mls_command.specs.Hosting.{Hosted, IsTakenOf, BeginsWith, IsKeptAt}
+use Rattle.mls_command.specs.Inputs.{named, AreTransactionsFrom, AreStoredFrom, IsPolicyOf}
 use Rattle.mls_command.specs.Running.{site_of, first_world, output, standing, IsLeftBy}
-use Rattle.mls_command.specs.Acting.{IsPolicyOf, BeginsWith, IsKeptAt}
-use Rattle.mls_command.specs.InTurn.{run_at, IsHistory, AreInTurn, RunsAreInTurn}
+use Rattle.mls_command.specs.InTurn.{run_at, IsHistory, AreInTurn, KeepsOne, RunsAreInTurn}
 use Rattle.mls_command.proofs.StoringLemmas.{stored_read}
 
 -- ---- up to where a run ended or stopped
@@ -57,9 +60,9 @@ are_read gives transactions certificates policy schemes stored h =
 read_distinct : (bytes : List ℕ) (policy : Tables) → ReadsPolicy bytes policy → AreDistinct (labels_of policy)
 read_distinct bytes policy h = (policy-kept h.0 policy h.2).distinct
 
-policy_distinct : (h : Hosted) (documents : Option Documents) (policy : Tables) → IsPolicyOf h documents policy → AreDistinct (labels_of policy)
-policy_distinct h None policy read = read_distinct _ policy read
-policy_distinct h (Some d) policy read = read_distinct _ policy read.2
+policy_distinct : (gives : Option (List ℕ) → List ℕ → Type 0) (documents : Option Documents) (policy : Tables) → IsPolicyOf gives documents policy → AreDistinct (labels_of policy)
+policy_distinct gives None policy read = read_distinct _ policy read
+policy_distinct gives (Some d) policy read = read_distinct _ policy read.2
 
 -- ---- worlds between runs
 
@@ -75,33 +78,51 @@ left_world site first left es h = ap settled (sym h.1)
 
 -- ---- a store that keeps one content
 
-begins_at : (h : Hosted) (store : Option (List ℕ)) (path : List ℕ) (c : Content) → store ≡ Some path → BeginsWith h store c → h.kept path c
-begins_at h store path c e b = subst (λ o. BeginsWith h o c) e b
+begins_at : (h : Hosted) (policy : Tables) (file : SchemesFile) (store : Option (List ℕ)) (path : List ℕ) (c : Content) → store ≡ Some path → BeginsWith h policy file store c → IsTakenOf (h.kept path) policy file c
+begins_at h policy file store path c e b = subst (λ o. BeginsWith h policy file o c) e b
 
 kept_at : (h : Hosted) (store : Option (List ℕ)) (path : List ℕ) (c : Content) → store ≡ Some path → IsKeptAt h store c → h.keeps path c
 kept_at h store path c e b = subst (λ o. IsKeptAt h o c) e b
 
+-- what is sound is so under the same labels and schemes
+sound_later : (policy later : Tables) (schemes same : Schemes) (stored : List Stored) (c : Content) → labels_of later ≡ labels_of policy → same ≡ schemes
+    → IsSound (site_of policy schemes stored) c → IsSoundContent later same c
+sound_later policy later schemes same stored c labels relations sound = record {
+  content = subst (λ ss. AreContent (labels_of later) ss c.db) (sym relations) (subst (λ ls. AreContent ls schemes c.db) (sym labels) sound.content);
+  entries = let e : length later.labels ≡ length policy.labels = sym (same_count policy later labels) in rw e sound.entries;
+}
+
+-- and is taken as it was left
+taken_again : (h k : Hosted) (path : List ℕ) → KeepsOne h k path → (later : Tables) (again : SchemesFile) (left first : Content) → IsSoundContent later again.schemes left
+    → h.keeps path left → IsTakenOf (k.kept path) later again first → left ≡ first
+taken_again h k path one later again left first sound kept taken =
+    let same : left ≡ taken.0 = one left taken.0 kept taken.1 in
+    same ∙ sym (sound_is_taken later again taken.0 first (subst (IsSoundContent later again.schemes) same sound) taken.2)
+
 pub in_turn : (h : Hosted) (W : List ℕ → Type 0) (k : Hosted) (V : List ℕ → Type 0) → RunsAreInTurn h W k V
 unfolding history_end history_lines
-in_turn h W k V path one documents policy later schemes read labels reader other files others at there end stop x y =
+in_turn h W k V path one documents policy later file again read labels relations reader other files others at there end stop x y was is =
     let ls = labels_of policy in
-    let r = run_at policy schemes x.stored x.events end in
-    let s = run_at later schemes y.stored y.events stop in
-    let v = first_world r.site x.first in
-    let same : x.left ≡ y.first = one x.left y.first (kept_at h _ path x.left at x.left_is) (begins_at k _ path y.first there y.first_is) in
-    let next : run_end v r ≡ first_world s.site y.first
-    = left_world r.site x.first x.left r.events x.run.left_by ∙ (λ i. world_with (same_count policy later labels i) (same i)) in
-    let passes : EachPassesOnlyReleasesDown v (r ∷ s ∷ []) = (passes_standing r.site v x.events x.run.secret end, (subst (λ w. PassesOnlyReleasesDown s.site w s.events) (sym next) (passes_standing s.site _ y.events y.run.secret stop), tt)) in
-    let under : IsHistoryUnder ls schemes (r ∷ s ∷ []) = (
-      record { labels = refl; relations = refl; read = are_read h.gives _ _ policy schemes x.stored x.stored_are },
-      (record { labels = labels; relations = refl; read = are_read k.gives _ _ later schemes y.stored y.stored_are }, tt),
+    let a = x.run was in
+    let b = y.run is in
+    let r = run_at policy file.schemes x.stored x.events end in
+    let s = run_at later again.schemes y.stored y.events stop in
+    let v = first_world r.site a.first in
+    let sound = sound_later policy later file.schemes again.schemes x.stored a.left labels relations a.leads.sound in
+    let same : a.left ≡ b.first = taken_again h k path one later again a.left b.first sound (kept_at h _ path a.left at a.kept) (begins_at k later again _ path b.first there b.begins) in
+    let next : run_end v r ≡ first_world s.site b.first
+    = left_world r.site a.first a.left r.events a.leads.left_by ∙ (λ i. world_with (same_count policy later labels i) (same i)) in
+    let passes : EachPassesOnlyReleasesDown v (r ∷ s ∷ []) = (passes_standing r.site v x.events a.leads.secret end, (subst (λ w. PassesOnlyReleasesDown s.site w s.events) (sym next) (passes_standing s.site _ y.events b.leads.secret stop), tt)) in
+    let under : IsHistoryUnder ls file.schemes (r ∷ s ∷ []) = (
+      record { labels = refl; relations = refl; read = are_read h.gives _ _ policy file.schemes x.stored x.stored_are },
+      (record { labels = labels; relations = relations; read = are_read k.gives _ _ later again.schemes y.stored y.stored_are }, tt),
     ) in
     record {
       one = same;
       history = record {
-        left_by = ap (λ w. run_end w s) next ∙ left_world s.site y.first y.left s.events y.run.left_by;
-        integrity = (keeps_standing r.site v x.events x.run.integrity end, (subst (λ w. KeepsIntegrity s.site w s.events) (sym next) (keeps_standing s.site _ y.events y.run.integrity stop), tt));
-        secret = histories_pass ls schemes (policy_distinct h documents policy read) v (r ∷ s ∷ []) under passes;
+        left_by = ap (λ w. run_end w s) next ∙ left_world s.site b.first b.left s.events b.leads.left_by;
+        integrity = (keeps_standing r.site v x.events a.leads.integrity end, (subst (λ w. KeepsIntegrity s.site w s.events) (sym next) (keeps_standing s.site _ y.events b.leads.integrity stop), tt));
+        secret = histories_pass ls file.schemes (policy_distinct h.gives documents policy read) v (r ∷ s ∷ []) under passes;
       };
-      written = λ reader. λ i. output r.site reader x.first r.events ∷ printed (heard (sym labels i) reader (run_lines s.site (next i) s.events)) ∷ [];
+      written = λ reader. λ i. output r.site reader a.first r.events ∷ printed (heard (sym labels i) reader (run_lines s.site (next i) s.events)) ∷ [];
     }

@@ -1,10 +1,10 @@
 -- Runs over a content: the lines of their events, what they leave, and how they end.
 use Rattle.std.proofs.Common.{refl, ◌≡◌, ℕ, List, [], Option, Some, None, false, Result, Ok, Err, OnOk, IfErr, IfSome, take, sym, subst}
-use Rattle.std.specs.Prelude.{option_map}
 use Rattle.std.specs.Borrow.{Bor}
 use Rattle.std.specs.Io.KnownBytes.{Appends}
 use Rattle.mls_filterview.specs.Content.{Content, State, no_content}
 use Rattle.mls_fragments.specs.Finding.{IsSoundContent}
+use Rattle.mls_scheme.specs.declared.file.SchemesFile.{SchemesFile}
 use Rattle.mls_script.specs.declared.event.Event.{Event}
 use Rattle.mls_machine.specs.Site.{Site}
 use Rattle.mls_machine.specs.Machine.{World, Sessions}
@@ -18,10 +18,11 @@ use Rattle.mls_sessions.proofs.StartLemmas.{no_content_sound}
 use Rattle.mls_command.specs.declared.host.CloseFault.{CloseFault}
 use Rattle.mls_command.specs.declared.refusal.Refusal.{Refusal}
 use Rattle.mls_command.specs.declared.refusal.Refusal.TheVariants.{Unreadable, TooLong, Policy, Reader, Label, User, Schemes, Transactions, Certificates, Script, Store, Run, NotClosed, Output, Memory}
-use Rattle.mls_command.specs.Refusal.{IsBefore, ended}
-use Rattle.mls_command.specs.Running.{first_world, IsRun, IsRunEnd}
+use Rattle.mls_command.specs.Refusal.{IsBefore, ended, IsEnd}
+use Rattle.mls_command.specs.Running.{first_world, IsRun}
 use Rattle.mls_command.specs.Hosting.{Hosted}
-use Rattle.mls_command.specs.Acting.{IsRunFrom}
+use Rattle.mls_command.specs.Inputs.{named}
+use Rattle.mls_command.specs.ScriptRun.{IsRunFrom}
 
 -- content that is sound under a policy and schemes is sound at their site
 pub sound_at : (site : Site) (c : Content) → IsSoundContent site.policy site.schemes c → IsSound site c
@@ -64,17 +65,17 @@ run_at site reader sessions first left es before after (Err fault) sound h = rec
   shown = shown_to site reader (first_world site first) es h.secret;
 }
 
--- ---- how runs end
+-- ---- how runs and shells end
 
-module _ (Runs : Result (Unit {0}) RunFault → Type 0) (Nothing : Type 0) where
-  -- a run that ended, or stopped, over a store that was closed, or not
-  pub ended_so : (outcome : Result (Unit {0}) RunFault) (closed : Result (Unit {0}) CloseFault) → Runs outcome → IsRunEnd Runs Nothing (ended outcome closed)
+module _ {A : Type 0} (Ends : Result A RunFault → Type 0) (Nothing : Type 0) where
+  -- one that ended, or stopped, over a store that was closed, or not
+  pub ended_so : (outcome : Result A RunFault) (closed : Result (Unit {0}) CloseFault) → Ends outcome → IsEnd Ends Nothing (ended outcome closed)
   ended_so (Err fault) closed h = h
-  ended_so (Ok u) (Err e) h = h
-  ended_so (Ok u) (Ok v) h = h
+  ended_so (Ok end) (Err e) h = (end, h)
+  ended_so (Ok end) (Ok v) h = h
 
   -- one that did not begin
-  pub not_begun : (refusal : Refusal) → IsBefore refusal → Nothing → IsRunEnd Runs Nothing (Err refusal)
+  pub not_begun : (refusal : Refusal) → IsBefore refusal → Nothing → IsEnd Ends Nothing (Err refusal)
   not_begun (Unreadable r) b h = h
   not_begun (TooLong r) b h = h
   not_begun (Policy f) b h = h
@@ -91,11 +92,10 @@ module _ (Runs : Result (Unit {0}) RunFault → Type 0) (Nothing : Type 0) where
   not_begun Output b h = absurd b
   not_begun Memory b h = h
 
-  pub end_weaker : (More : Result (Unit {0}) RunFault → Type 0) → ((end : Result (Unit {0}) RunFault) → Runs end → More end) → (r : Result (Unit {0}) Refusal)
-      → IsRunEnd Runs Nothing r → IsRunEnd More Nothing r
-  end_weaker More f (Ok u) h = f (Ok tt) h
+  pub end_weaker : (More : Result A RunFault → Type 0) → ((end : Result A RunFault) → Ends end → More end) → (r : Result A Refusal) → IsEnd Ends Nothing r → IsEnd More Nothing r
+  end_weaker More f (Ok end) h = f (Ok end) h
   end_weaker More f (Err (Run fault)) h = f (Err fault) h
-  end_weaker More f (Err NotClosed) h = f (Ok tt) h
+  end_weaker More f (Err NotClosed) h = (h.0, f (Ok h.0) h.1)
   end_weaker More f (Err Output) h = absurd h
   end_weaker More f (Err (Unreadable r)) h = h
   end_weaker More f (Err (TooLong r)) h = h
@@ -112,17 +112,17 @@ module _ (Runs : Result (Unit {0}) RunFault → Type 0) (Nothing : Type 0) where
 
 -- ---- where runs begin
 
-module _ (h : Hosted) (site : Site) (reader : Option ℕ) (es : List Event) (Wrote : List ℕ → Type 0) (store : Option (Bor (List ℕ))) (r : Result (Unit {0}) Refusal) where
+module _ (h : Hosted) (file : SchemesFile) (site : Site) (reader : Option ℕ) (es : List Event) (Wrote : List ℕ → Type 0) (store : Option (Bor (List ℕ))) (r : Result (Unit {0}) Refusal) where
   -- with nothing
-  pub from_memory : store ≡ None → IsRunEnd (λ end. (left : Content) × IsRun site reader es Wrote end no_content left) (Wrote []) r
-      → IsRunEnd (IsRunFrom h (option_map (λ p. p.now) store) site reader es Wrote) (Wrote []) r
+  pub from_memory : store ≡ None → IsEnd (λ end. (left : Content) × IsRun site reader es Wrote end no_content left) (Wrote []) r
+      → IsEnd (IsRunFrom h file (named store) site reader es Wrote) (Wrote []) r
   from_memory none run =
-      let f : (end : Result (Unit {0}) RunFault) → ((left : Content) × IsRun site reader es Wrote end no_content left) → IsRunFrom h None site reader es Wrote end
-      = λ end k. λ clean. (no_content, k.0, refl, tt, k.1) in
-      subst (λ (s : Option (Bor (List ℕ))). IsRunEnd (IsRunFrom h (option_map (λ p. p.now) s) site reader es Wrote) (Wrote []) r) (sym none)
-      (end_weaker (λ end. (left : Content) × IsRun site reader es Wrote end no_content left) (Wrote []) (IsRunFrom h None site reader es Wrote) f r run)
+      let f : (end : Result (Unit {0}) RunFault) → ((left : Content) × IsRun site reader es Wrote end no_content left) → IsRunFrom h file None site reader es Wrote end
+      = λ end k. λ clean. record { first = no_content; left = k.0; begins = refl; kept = tt; leads = k.1 } in
+      subst (λ (s : Option (Bor (List ℕ))). IsEnd (IsRunFrom h file (named s) site reader es Wrote) (Wrote []) r) (sym none)
+      (end_weaker (λ end. (left : Content) × IsRun site reader es Wrote end no_content left) (Wrote []) (IsRunFrom h file None site reader es Wrote) f r run)
 
   -- with what a store kept
-  pub from_store : (path : Bor (List ℕ)) → store ≡ Some path → IsRunEnd (IsRunFrom h (Some path.now) site reader es Wrote) (Wrote []) r
-      → IsRunEnd (IsRunFrom h (option_map (λ p. p.now) store) site reader es Wrote) (Wrote []) r
-  from_store path some run = subst (λ (s : Option (Bor (List ℕ))). IsRunEnd (IsRunFrom h (option_map (λ p. p.now) s) site reader es Wrote) (Wrote []) r) (sym some) run
+  pub from_store : (path : Bor (List ℕ)) → store ≡ Some path → IsEnd (IsRunFrom h file (Some path.now) site reader es Wrote) (Wrote []) r
+      → IsEnd (IsRunFrom h file (named store) site reader es Wrote) (Wrote []) r
+  from_store path some run = subst (λ (s : Option (Bor (List ℕ))). IsEnd (IsRunFrom h file (named s) site reader es Wrote) (Wrote []) r) (sym some) run

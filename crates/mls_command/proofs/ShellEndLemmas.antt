@@ -1,6 +1,6 @@
 -- Shells over stores: where they begin, and how they end.
 use Rattle.std.proofs.Common.{◌≡◌, ℕ, ◌<◌, length, true, ◌∷◌, Bool, List, [], Option, Some, None, Result, Ok, Err, IfOk, IfErr, refl, sym, subst}
-use Rattle.std.specs.Prelude.{option_map, IfSome}
+use Rattle.std.specs.Prelude.{IfSome}
 use Rattle.std.specs.Borrow.{Bor}
 use Rattle.std.specs.Io.KnownBytes.{Appends}
 use Rattle.mls_filterview.specs.Content.{Content, no_content}
@@ -18,18 +18,19 @@ use Rattle.mls_machine.proofs.RunLemmas.{first_accepted_alike}
 use Rattle.mls_sessions.specs.World.{world_at, IsSound}
 use Rattle.mls_sessions.specs.declared.cause.RunFault.{RunFault}
 use Rattle.mls_command.specs.declared.ending.Ending.{Ending}
-use Rattle.mls_command.specs.declared.host.CloseFault.{CloseFault}
 use Rattle.mls_command.specs.declared.seat.Seat.{Seat}
 use Rattle.mls_command.specs.declared.words.ShellFiles.{ShellFiles}
 use Rattle.mls_command.specs.declared.words.Task.TheVariants as tasks
 use Rattle.mls_command.specs.declared.refusal.Refusal.{Refusal}
 use Rattle.mls_command.specs.declared.refusal.Refusal.TheVariants.{Unreadable, TooLong, Policy, Reader, Label, User, Schemes as OfSchemes, Transactions, Certificates, Script, Store, Run, NotClosed, Output, Memory}
 use Rattle.mls_command.specs.Hosting.{Hosted}
-use Rattle.mls_command.specs.Inputs.{AreStoredFrom}
+use Rattle.mls_command.specs.Inputs.{named, AreStoredFrom}
+use Rattle.mls_command.specs.Refusal.{IsEnd}
 use Rattle.mls_command.specs.Running.{site_of, first_world}
 use Rattle.mls_command.specs.Shell.{opening, events_in, IsConversation, IsShell}
-use Rattle.mls_command.proofs.RunningLemmas.{run_at}
-use Rattle.mls_command.specs.Acting.{IsShellFrom, seat_of, Answers, IsShellEnd, shell_ended, IsTaskDone, IsTaskGivenUp}
+use Rattle.mls_command.specs.ShellRun.{seat_of, IsShellFrom, IsShellRun}
+use Rattle.mls_command.specs.Acting.{IsTaskDone, IsTaskGivenUp}
+use Rattle.mls_command.proofs.RunningLemmas.{run_at, end_weaker}
 
 pub opening_fits : (site : Site) (seat : Seat) → seat.level < length site.policy.labels → is_name seat.user ≡ true → EventsFit site (opening seat ∷ [])
 opening_fits site seat level name = (record { level = level; session = name; command = name }, tt)
@@ -55,83 +56,53 @@ shell_at echo site seat sessions first left before after was is Told end distinc
           (record { ok = a.whole; err = a.stopped; fault = a.fault; integrity = keep_integrity site distinct read w es stored k.fits; secret = first_accepted_alike site distinct read certified w es stored k.fits });
     }
 
-module _ (Runs : Result Ending RunFault → Type 0) (Nothing : Type 0) where
-  -- a shell over a store that was closed, or not
-  pub shell_ended_so : (outcome : Result Ending RunFault) (closed : Result (Unit {0}) CloseFault) → Runs outcome → IsShellEnd Runs Nothing (shell_ended outcome closed)
-  shell_ended_so (Err fault) closed h = h
-  shell_ended_so (Ok ending) (Err e) h = (ending, h)
-  shell_ended_so (Ok ending) (Ok v) h = h
-
-  pub shell_weaker : (More : Result Ending RunFault → Type 0) → ((end : Result Ending RunFault) → Runs end → More end) → (r : Result Ending Refusal)
-      → IsShellEnd Runs Nothing r → IsShellEnd More Nothing r
-  shell_weaker More f (Ok ending) h = f (Ok ending) h
-  shell_weaker More f (Err (Run fault)) h = f (Err fault) h
-  shell_weaker More f (Err NotClosed) h = (h.0, f (Ok h.0) h.1)
-  shell_weaker More f (Err Output) h = absurd h
-  shell_weaker More f (Err (Unreadable r)) h = h
-  shell_weaker More f (Err (TooLong r)) h = h
-  shell_weaker More f (Err (Policy x)) h = h
-  shell_weaker More f (Err Reader) h = h
-  shell_weaker More f (Err Label) h = h
-  shell_weaker More f (Err User) h = h
-  shell_weaker More f (Err (OfSchemes x)) h = h
-  shell_weaker More f (Err (Transactions x)) h = h
-  shell_weaker More f (Err (Certificates x)) h = h
-  shell_weaker More f (Err (Script x)) h = h
-  shell_weaker More f (Err (Store x)) h = h
-  shell_weaker More f (Err Memory) h = h
-
 -- ---- where shells begin
 
-module _ (h : Hosted) (site : Site) (seat : Seat) (before after : Option (List ℕ)) (Wrote Told : List ℕ → Type 0) (Nothing : Type 0) (store : Option (Bor (List ℕ))) (r : Result Ending Refusal) where
+module _ (h : Hosted) (file : SchemesFile) (site : Site) (seat : Seat) (before after : Option (List ℕ)) (Wrote Told : List ℕ → Type 0) (Nothing : Type 0) (store : Option (Bor (List ℕ))) (r : Result Ending Refusal) where
   -- with nothing
-  pub shell_from_memory : store ≡ None → IsShellEnd (λ end. (left : Content) × IsShell h.echo site seat before after Wrote Told end no_content left) Nothing r
-      → IsShellEnd (IsShellFrom h (option_map (λ p. p.now) store) site seat before after Wrote Told) Nothing r
+  pub shell_from_memory : store ≡ None → IsEnd (λ end. (left : Content) × IsShell h.echo site seat before after Wrote Told end no_content left) Nothing r
+      → IsEnd (IsShellFrom h file (named store) site seat before after Wrote Told) Nothing r
   shell_from_memory none shell =
-      let f : (end : Result Ending RunFault) → ((left : Content) × IsShell h.echo site seat before after Wrote Told end no_content left) → IsShellFrom h None site seat before after Wrote Told end
-      = λ end k. λ clean. (no_content, k.0, refl, tt, k.1) in
-      subst (λ (s : Option (Bor (List ℕ))). IsShellEnd (IsShellFrom h (option_map (λ p. p.now) s) site seat before after Wrote Told) Nothing r) (sym none)
-      (shell_weaker (λ end. (left : Content) × IsShell h.echo site seat before after Wrote Told end no_content left) Nothing (IsShellFrom h None site seat before after Wrote Told) f r shell)
+      let f : (end : Result Ending RunFault) → ((left : Content) × IsShell h.echo site seat before after Wrote Told end no_content left) → IsShellFrom h file None site seat before after Wrote Told end
+      = λ end k. λ clean. record { first = no_content; left = k.0; begins = refl; kept = tt; leads = k.1 } in
+      subst (λ (s : Option (Bor (List ℕ))). IsEnd (IsShellFrom h file (named s) site seat before after Wrote Told) Nothing r) (sym none)
+      (end_weaker (λ end. (left : Content) × IsShell h.echo site seat before after Wrote Told end no_content left) Nothing (IsShellFrom h file None site seat before after Wrote Told) f r shell)
 
   -- with what a store kept
-  pub shell_from_store : (path : Bor (List ℕ)) → store ≡ Some path → IsShellEnd (IsShellFrom h (Some path.now) site seat before after Wrote Told) Nothing r
-      → IsShellEnd (IsShellFrom h (option_map (λ p. p.now) store) site seat before after Wrote Told) Nothing r
-  shell_from_store path some shell = subst (λ (s : Option (Bor (List ℕ))). IsShellEnd (IsShellFrom h (option_map (λ p. p.now) s) site seat before after Wrote Told) Nothing r) (sym some) shell
+  pub shell_from_store : (path : Bor (List ℕ)) → store ≡ Some path → IsEnd (IsShellFrom h file (Some path.now) site seat before after Wrote Told) Nothing r
+      → IsEnd (IsShellFrom h file (named store) site seat before after Wrote Told) Nothing r
+  shell_from_store path some shell = subst (λ (s : Option (Bor (List ℕ))). IsEnd (IsShellFrom h file (named s) site seat before after Wrote Told) Nothing r) (sym some) shell
 
 -- ---- tasks
 
 module _ (h : Hosted) (policy : Tables) (file : SchemesFile) (reader : Option ℕ) (files : ShellFiles) (Wrote Told : List ℕ → Type 0)
     (stored : List Stored) (level : ℕ) (has_prompt : Bool) (before after : Option (List ℕ))
-    (stored_are : AreStoredFrom h.gives (option_map (λ p. p.now) files.transactions) (option_map (λ p. p.now) files.certificates) policy file.schemes stored)
+    (stored_are : AreStoredFrom h.gives (named files.transactions) (named files.certificates) policy file.schemes stored)
     (level_is : reader ≡ Some level) (given : IfSome before (h.gives None)) where
   abbrev Shells : Result Ending RunFault → Type 0
-  Shells = IsShellFrom h (option_map (λ p. p.now) files.store) (site_of policy file.schemes stored) (seat_of files level has_prompt) before after Wrote Told
+  Shells = IsShellFrom h file (named files.store) (site_of policy file.schemes stored) (seat_of files level has_prompt) before after Wrote Told
 
-  shell_answers : (end : Result Ending RunFault) → Shells end → Answers h policy file.schemes reader files Wrote Told end
-  shell_answers end k = λ clean. let x = k clean in record {
+  shell_run : (end : Result Ending RunFault) → Shells end → IsShellRun h policy file reader files Wrote Told end
+  shell_run end k = record {
     stored = stored;
     level = level;
     has_prompt = has_prompt;
     before = before;
     after = after;
-    first = x.0;
-    left = x.1;
     stored_are = stored_are;
     level_is = level_is;
     given = given;
-    first_is = x.2;
-    left_is = x.3;
-    shell = x.4;
+    shell = k;
   }
 
-  pub shell_done : (r : Result Ending Refusal) → IsShellEnd Shells (Wrote [] × Told []) r → IfOk r (IsTaskDone h policy file reader (tasks.Shell files) Wrote Told)
-  shell_done (Ok ending) k = shell_answers (Ok ending) k
+  pub shell_done : (r : Result Ending Refusal) → IsEnd Shells (Wrote [] × Told []) r → IfOk r (IsTaskDone h policy file reader Wrote Told (tasks.Shell files))
+  shell_done (Ok ending) k = shell_run (Ok ending) k
   shell_done (Err e) k = tt
 
-  pub shell_given_up : (r : Result Ending Refusal) → IsShellEnd Shells (Wrote [] × Told []) r → IfErr r (IsTaskGivenUp h policy file reader (tasks.Shell files) Wrote Told)
+  pub shell_given_up : (r : Result Ending Refusal) → IsEnd Shells (Wrote [] × Told []) r → IfErr r (IsTaskGivenUp h policy file reader Wrote Told (tasks.Shell files))
   shell_given_up (Ok ending) k = tt
-  shell_given_up (Err (Run fault)) k = shell_answers (Err fault) k
-  shell_given_up (Err NotClosed) k = (k.0, shell_answers (Ok k.0) k.1)
+  shell_given_up (Err (Run fault)) k = shell_run (Err fault) k
+  shell_given_up (Err NotClosed) k = (k.0, shell_run (Ok k.0) k.1)
   shell_given_up (Err Output) k = absurd k
   shell_given_up (Err (Unreadable r)) k = (k.1, k.0)
   shell_given_up (Err (TooLong r)) k = (k.1, k.0)

@@ -1,8 +1,9 @@
 -- Two runs over one store, one after the other.
-use Rattle.std.specs.Prelude.{◌≡◌, ℕ, List, [], ◌∷◌, Option, Some, option_map, Result}
+use Rattle.std.specs.Prelude.{◌≡◌, ℕ, List, [], ◌∷◌, Option, Some, Result}
 use Rattle.mls_lattice.specs.Labels.{Labels}
 use Rattle.mls_lattice.specs.Policy.{Tables, labels_of}
 use Rattle.mls_scheme.specs.Scheme.{Schemes}
+use Rattle.mls_scheme.specs.declared.file.SchemesFile.{SchemesFile}
 use Rattle.mls_filterview.specs.Content.{Content}
 use Rattle.mls_script.specs.declared.event.Event.{Event}
 use Rattle.mls_machine.specs.declared.stored.Stored.{Stored}
@@ -11,9 +12,10 @@ use Rattle.mls_machine.specs.History.{RunAt, history_end, history_bytes, KeepsIn
 use Rattle.mls_sessions.specs.declared.cause.RunFault.{RunFault}
 use Rattle.mls_command.specs.declared.words.Documents.{Documents}
 use Rattle.mls_command.specs.declared.words.RunFiles.{RunFiles}
-use Rattle.mls_command.specs.Hosting.{Hosted}
+use Rattle.mls_command.specs.Hosting.{Hosted, IsClean}
+use Rattle.mls_command.specs.Inputs.{named, IsPolicyOf}
 use Rattle.mls_command.specs.Running.{site_of, first_world, output, standing}
-use Rattle.mls_command.specs.Acting.{IsPolicyOf, IsScriptRun}
+use Rattle.mls_command.specs.ScriptRun.{IsScriptRun}
 
 -- a run up to where it ended or stopped
 abbrev pub run_at : Tables → Schemes → List Stored → List Event → Result (Unit {0}) RunFault → RunAt
@@ -34,15 +36,21 @@ pub record AreInTurn (ls : Labels) (schemes : Schemes) (r s : RunAt) (first left
   pub history : IsHistory ls schemes (r ∷ s ∷ []) (first_world r.site first) (first_world s.site last)
   pub written : (reader : Option ℕ) → history_bytes ls reader (first_world r.site first) (r ∷ s ∷ []) ≡ output r.site reader first r.events ∷ output s.site reader next s.events ∷ []
 
+-- Two scripts are run over the store at one path, which is clean. The labels and the schemes are the same; users, rights and transactions
+-- may differ.
+abbrev pub AreRunsInTurn : Hosted → (List ℕ → Type 0) → Hosted → (List ℕ → Type 0) → List ℕ → Type 0
+AreRunsInTurn h W k V path =
+    (documents : Option Documents) (policy later : Tables) (file again : SchemesFile) → IsPolicyOf h.gives documents policy
+    → labels_of later ≡ labels_of policy → again.schemes ≡ file.schemes
+    → (reader other : Option ℕ) (files others : RunFiles) → named files.store ≡ Some path → named others.store ≡ Some path
+    → (end stop : Result (Unit {0}) RunFault) (x : IsScriptRun h policy file reader files W end) (y : IsScriptRun k later again other others V stop)
+    → (was : IsClean h (named files.store)) (is : IsClean k (named others.store))
+    → AreInTurn (labels_of policy) file.schemes (run_at policy file.schemes x.stored x.events end) (run_at later again.schemes y.stored y.events stop)
+    (x.run was).first (x.run was).left (y.run is).first (y.run is).left
+
 -- the store at a path keeps one content at most between two commands
 abbrev pub KeepsOne : Hosted → Hosted → List ℕ → Type 0
 KeepsOne h k path = (c d : Content) → h.keeps path c → k.kept path d → c ≡ d
 
--- Two scripts are run over the store at one path. The labels and the schemes are the same; users, rights and transactions may differ.
 abbrev pub RunsAreInTurn : Hosted → (List ℕ → Type 0) → Hosted → (List ℕ → Type 0) → Type 0
-RunsAreInTurn h W k V =
-    (path : List ℕ) → KeepsOne h k path
-    → (documents : Option Documents) (policy later : Tables) (schemes : Schemes) → IsPolicyOf h documents policy → labels_of later ≡ labels_of policy
-    → (reader other : Option ℕ) (files others : RunFiles) → option_map (λ p. p.now) files.store ≡ Some path → option_map (λ p. p.now) others.store ≡ Some path
-    → (end stop : Result (Unit {0}) RunFault) (x : IsScriptRun h policy schemes reader files W end) (y : IsScriptRun k later schemes other others V stop)
-    → AreInTurn (labels_of policy) schemes (run_at policy schemes x.stored x.events end) (run_at later schemes y.stored y.events stop) x.first x.left y.first y.left
+RunsAreInTurn h W k V = (path : List ℕ) → KeepsOne h k path → AreRunsInTurn h W k V path

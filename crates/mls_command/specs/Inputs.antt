@@ -1,22 +1,34 @@
 -- What is read from the inputs that a host gives: a file by its path, and the standard input.
 use Rattle.std.specs.Prelude.{◌≡◌, ℕ, List, [], Option, Some, None, option_map}
 use Rattle.std.specs.List.{position}
+use Rattle.std.specs.Borrow.{Bor}
 use Rattle.std.specs.Str.{bytes_eq}
 use Rattle.mls_lattice.specs.Policy.{Tables}
+use Rattle.mls_lattice.specs.ReadsPolicy.{ReadsPolicy}
 use Rattle.mls_scheme.specs.Scheme.{Schemes}
+use Rattle.mls_scheme.specs.declared.file.SchemesFile.{SchemesFile}
+use Rattle.mls_scheme.specs.Document.{ReadsSchemes}
+use Rattle.mls_script.specs.declared.event.Event.{Event}
+use Rattle.mls_script.specs.Script.{ReadsScript}
 use Rattle.mls_translang.specs.Tx.{Tx}
 use Rattle.mls_translang.specs.Tells.{Tells}
 use Rattle.mls_certificate.specs.Reading.{Block}
 use Rattle.mls_certificate.specs.Spelling.{IsFile, file_text}
 use Rattle.mls_machine.specs.declared.stored.Stored.{Stored}
+use Rattle.mls_command.specs.declared.samples.TheConstants.{POLICY, SCHEMES}
+use Rattle.mls_command.specs.declared.words.Documents.{Documents}
 use Rattle.mls_command.specs.declared.words.Task.{Task}
 use Rattle.mls_command.specs.declared.words.Task.TheVariants.{ShowPolicy, Run, Shell, Certify, Check}
 use Rattle.mls_command.specs.Storing.{AreStoredWith}
 
+-- what a word names, if it is there
+abbrev pub named : Option (Bor (List ℕ)) → Option (List ℕ)
+named = option_map (λ p. p.now)
+
 -- the name of the label for which alone a task prints
 abbrev pub at_of : Task → Option (List ℕ)
 at_of ShowPolicy = None
-at_of (Run files) = option_map (λ p. p.now) files.at
+at_of (Run files) = named files.at
 at_of (Shell files) = Some files.label.now
 at_of (Certify transactions) = None
 at_of (Check transactions certificates) = None
@@ -34,6 +46,19 @@ module _ (Gives : Option (List ℕ) → List ℕ → Type 0) where
   -- the host gives bytes there that say so
   abbrev pub IsFrom : Option (List ℕ) → (List ℕ → Type 0) → Type 0
   IsFrom source Says = (bytes : List ℕ) × Gives source bytes × Says bytes
+
+  -- the policy and the schemes: those of the samples, or of files
+  abbrev pub IsPolicyOf : Option Documents → Tables → Type 0
+  IsPolicyOf None policy = ReadsPolicy POLICY.now policy
+  IsPolicyOf (Some d) policy = IsFrom (Some d.policy.now) (λ bytes. ReadsPolicy bytes policy)
+
+  abbrev pub AreSchemesOf : Option Documents → Tables → SchemesFile → Type 0
+  AreSchemesOf None policy file = ReadsSchemes policy SCHEMES.now file.version file.schemes
+  AreSchemesOf (Some d) policy file = IsFrom (Some d.schemes.now) (λ bytes. ReadsSchemes policy bytes file.version file.schemes)
+
+  -- the events of a script
+  abbrev pub IsScriptFrom : Option (List ℕ) → Tables → Schemes → List Event → Type 0
+  IsScriptFrom source policy schemes events = IsFrom source (λ script. ReadsScript policy schemes script events)
 
   abbrev pub AreToldIn : List ℕ → Tables → Schemes → List Tx → Type 0
   AreToldIn path policy schemes txs = IsFrom (Some path) (λ bytes. Tells policy schemes bytes txs)

@@ -4,11 +4,14 @@ pub mod Inputs
 pub mod Storing
 pub mod Certifying
 pub mod Checking
+pub mod Printing
 pub mod Running
 pub mod Refusal
 pub mod Words
 pub mod Ending
 pub mod Shell
+pub mod ScriptRun
+pub mod ShellRun
 pub mod Acting
 pub mod InTurn
 pub mod History

@@ -157,8 +157,19 @@ IsBefore NotClosed = ⊥
 IsBefore Output = ⊥
 IsBefore refusal = ⊤
 
--- how a run ended whose store was closed, or not
-abbrev pub ended : Result (Unit {0}) RunFault → Result (Unit {0}) CloseFault → Result (Unit {0}) Refusal
-ended (Err fault) closed = Err (Run fault)
-ended (Ok _) (Err fault) = Err NotClosed
-ended (Ok _) (Ok _) = Ok tt
+-- ---- over a store
+
+module _ {A : Type 0} where
+  -- how a run or a shell ended whose store was closed, or not
+  abbrev pub ended : Result A RunFault → Result (Unit {0}) CloseFault → Result A Refusal
+  ended (Err fault) closed = Err (Run fault)
+  ended (Ok end) (Err fault) = Err NotClosed
+  ended (Ok end) (Ok _) = Ok end
+
+  -- what holds of one that ended, or was given up at a fault; it is whole where its store was not closed; and else nothing was written
+  abbrev pub IsEnd : (Result A RunFault → Type 0) → Type 0 → Result A Refusal → Type 0
+  IsEnd Ends Nothing (Ok end) = Ends (Ok end)
+  IsEnd Ends Nothing (Err (Run fault)) = Ends (Err fault)
+  IsEnd Ends Nothing (Err NotClosed) = (end : A) × Ends (Ok end)
+  IsEnd Ends Nothing (Err Output) = ⊥
+  IsEnd Ends Nothing (Err refusal) = Nothing

@@ -14,8 +14,6 @@ use Rattle.mls_sessions.specs.declared.cause.RunCause.TheVariants.{Write}
 use Rattle.mls_sessions.specs.declared.cause.RunFault.{RunFault}
 use Rattle.mls_sessions.specs.Run.{IsFaultOf}
 use Rattle.mls_sessions.specs.World.{world_at, IsSound}
-use Rattle.mls_command.specs.declared.refusal.Refusal.{Refusal}
-use Rattle.mls_command.specs.declared.refusal.Refusal.TheVariants as refusals
 
 abbrev pub site_of : Tables → Schemes → List Stored → Site
 site_of policy schemes stored = record { policy = policy; schemes = schemes; stored = stored }
@@ -27,13 +25,6 @@ first_world site c = world_at site no_sessions c
 -- the lines of the replies to these events, or those of them that a reader may see
 abbrev pub output : Site → Option ℕ → Content → List Event → List ℕ
 output site reader first es = printed (heard (site_labels site) reader (run_lines site (first_world site first) es))
-
--- a first part of a text is written
-pub record IsCutOff (Wrote : List ℕ → Type 0) (text : List ℕ) : Type 0 where
-  pub part : List ℕ
-  pub rest : List ℕ
-  pub written : Wrote part
-  pub whole : part ++ rest ≡ text
 
 -- the lines before the event that stopped the run, which is one of them, and of its own a first part, which is empty unless the writer failed
 pub record IsStopped (site : Site) (reader : Option ℕ) (first : Content) (es : List Event) (Wrote : List ℕ → Type 0) (fault : RunFault) : Type 0 where
@@ -70,11 +61,3 @@ pub record IsRun (site : Site) (reader : Option ℕ) (es : List Event) (Wrote : 
   pub secret : (n : ℕ) → PassesOnlyReleasesDown site (first_world site first) (take n es)
   -- and so the bytes that a reader is shown are the same
   pub shown : IfSome reader (λ c. (n : ℕ) → ShowsOnlyReleases site c (first_world site first) (take n es))
-
--- what holds of a run that ended, or was given up at a fault; it is whole where its store was not closed; and else nothing was written
-abbrev pub IsRunEnd : (Result (Unit {0}) RunFault → Type 0) → Type 0 → Result (Unit {0}) Refusal → Type 0
-IsRunEnd Runs Nothing (Ok _) = Runs (Ok tt)
-IsRunEnd Runs Nothing (Err (refusals.Run fault)) = Runs (Err fault)
-IsRunEnd Runs Nothing (Err refusals.NotClosed) = Runs (Ok tt)
-IsRunEnd Runs Nothing (Err refusals.Output) = ⊥
-IsRunEnd Runs Nothing (Err refusal) = Nothing

@@ -6,8 +6,9 @@ ghost use Rattle.clap.specs.Words.{Text};
 ghost use Rattle.std.specs.Prelude.{List};
 ghost use Rattle.mls_command.specs.Hosting.{hosted, IsAppended, IsTold};
 ghost use Rattle.mls_command.specs.Words.{texts_of, Asks};
+ghost use Rattle.mls_command.specs.Inputs.{IsPolicyOf, AreSchemesOf};
 ghost use Rattle.mls_command.specs.Refusal.{IsBefore};
-ghost use Rattle.mls_command.specs.Acting.{IsPolicyOf, AreSchemesOf, IsTaskDone, IsTaskGivenUp, IsDone, IsGivenUp, IsAnswered};
+ghost use Rattle.mls_command.specs.Acting.{IsTaskDone, IsTaskGivenUp, IsDone, IsGivenUp, IsAnswered};
 
 use crate::certifying::certified;
 use crate::checking::checked;
@@ -32,7 +33,7 @@ fn policy_of<H: Host>(
     host: &H,
     documents: Option<Documents>,
 ) -> Result<Policy, Refusal>
-    ensures policy { IfOk result (IsPolicyOf (hosted H.gives H.keeps H.is_honest H.Lines.echo host.now host.now) documents.entry) }
+    ensures policy { IfOk result (IsPolicyOf (H.gives host.now) documents.entry) }
     ensures before { IfErr result IsBefore }
 {
     match documents {
@@ -51,7 +52,7 @@ fn schemes_of<H: Host>(
     policy: &Policy,
     documents: Option<Documents>,
 ) -> Result<SchemesFile, Refusal>
-    ensures schemes { IfOk result (AreSchemesOf (hosted H.gives H.keeps H.is_honest H.Lines.echo host.now host.now) documents.entry policy.now) }
+    ensures schemes { IfOk result (AreSchemesOf (H.gives host.now) documents.entry policy.now) }
     ensures under { IfOk result (λ file. AreUnder (length policy.now.labels) file.schemes) }
     ensures before { IfErr result IsBefore }
 {
@@ -78,9 +79,9 @@ fn perform_task<H: Host, W: Write, E: Write>(
     requires under { AreUnder (length policy.now.labels) file.now.schemes }
     requires declared { IfSome reader (λ c. c < length policy.now.labels) }
     ensures done { IfOk result (IsTaskDone (hosted H.gives H.keeps H.is_honest H.Lines.echo host.old host.new) policy.now file.now reader
-        task.entry (IsAppended W.contents out.old out.new) (IsTold E.contents err.old err.new)) }
+        (IsAppended W.contents out.old out.new) (IsTold E.contents err.old err.new) task.entry) }
     ensures given_up { IfErr result (IsTaskGivenUp (hosted H.gives H.keeps H.is_honest H.Lines.echo host.old host.new) policy.now file.now
-        reader task.entry (IsAppended W.contents out.old out.new) (IsTold E.contents err.old err.new)) }
+        reader (IsAppended W.contents out.old out.new) (IsTold E.contents err.old err.new) task.entry) }
 {
     match task {
         Task::ShowPolicy => texts(alloc, policy, file)?.print(out, err),
@@ -111,10 +112,10 @@ fn perform<H: Host, W: Write, E: Write>(
     out: &mut W,
     err: &mut Errors<E>,
 ) -> Result<Ending, Refusal>
-    ensures done { IfOk result (IsDone (hosted H.gives H.keeps H.is_honest H.Lines.echo host.old host.new) job.entry
-        (IsAppended W.contents out.old out.new) (IsTold E.contents err.old err.new)) }
-    ensures given_up { IfErr result (IsGivenUp (hosted H.gives H.keeps H.is_honest H.Lines.echo host.old host.new) job.entry
-        (IsAppended W.contents out.old out.new) (IsTold E.contents err.old err.new)) }
+    ensures done { IfOk result (IsDone (hosted H.gives H.keeps H.is_honest H.Lines.echo host.old host.new)
+        (IsAppended W.contents out.old out.new) (IsTold E.contents err.old err.new) job.entry) }
+    ensures given_up { IfErr result (IsGivenUp (hosted H.gives H.keeps H.is_honest H.Lines.echo host.old host.new)
+        (IsAppended W.contents out.old out.new) (IsTold E.contents err.old err.new) job.entry) }
 {
     let policy = policy_of(alloc, host, job.documents)?;
     let reader = reader_of(&policy, job.task)?;

@@ -4,6 +4,7 @@ ghost use Rattle.std.specs.Option.{IfSome};
 ghost use Rattle.mls_scheme.specs.Scheme.{AreUnder};
 ghost use Rattle.mls_filterview.specs.Content.{Content};
 ghost use Rattle.mls_fragments.specs.Finding.{IsSoundContent};
+ghost use Rattle.mls_command.specs.Hosting.{IsTakenOf};
 
 use crate::typing::TypedLines;
 use mls_filterview::Base;
@@ -60,7 +61,8 @@ pub trait Host {
     /// Whether somebody types them at a terminal.
     fn is_terminal(&self) -> bool;
 
-    /// Opens the store at a path, which is made where there is none.
+    /// Opens the store at a path, which is made where there is none. What it kept is taken as it was, or, where these files are later
+    /// ones than its own, with its relations widened.
     fn store(
         &mut self,
         alloc: Global,
@@ -71,7 +73,7 @@ pub trait Host {
         requires under { AreUnder (length policy.now.labels) file.now.schemes }
         ensures idle { IfOk result (λ b. (Self.Store.Base.state b).begun ≡ false) }
         ensures sound { IfOk result (λ b. IsSoundContent policy.now file.now.schemes (Self.Store.Base.state b).now) }
-        ensures kept { IfOk result (λ b. Self.Store.Base.is_clean b → keeps self.old path.now (Self.Store.Base.state b).now) };
+        ensures kept { IfOk result (λ b. Self.Store.Base.is_clean b → IsTakenOf (keeps self.old path.now) policy.now file.now (Self.Store.Base.state b).now) };
 
     /// Takes the store at a path back, with what a run left in it, and closes it.
     fn keep(&mut self, path: &str, store: Self::Store) -> Result<(), CloseFault>

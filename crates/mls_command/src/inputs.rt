@@ -1,10 +1,10 @@
 //! Files, read as what a command takes them for.
-ghost use Rattle.std.specs.Prelude.{◌<◌, length, Some, option_map, IfOk, IfErr};
+ghost use Rattle.std.specs.Prelude.{◌<◌, length, Some, IfOk, IfErr};
 ghost use Rattle.std.specs.Option.{IfSome};
 ghost use Rattle.std.specs.List.{AllByRecursion};
 ghost use Rattle.mls_scheme.specs.Scheme.{AreUnder};
 ghost use Rattle.mls_translang.specs.Fits.{IsReadUnder};
-ghost use Rattle.mls_command.specs.Inputs.{IsReader, AreToldIn, AreBlocksIn, AreTransactionsFrom, AreCertificatesFrom};
+ghost use Rattle.mls_command.specs.Inputs.{named, IsReader, AreToldIn, AreBlocksIn, AreTransactionsFrom, AreCertificatesFrom};
 ghost use Rattle.mls_command.specs.Refusal.{IsBefore};
 
 use crate::host::Host;
@@ -24,7 +24,7 @@ pub(crate) fn input_of<H: Host>(
     role: Role,
     path: Option<&str>,
 ) -> Result<Vec<u8>, Refusal>
-    ensures given { IfOk result (λ bytes. H.gives host.now (option_map (λ p. p.now) path.entry) bytes.items) }
+    ensures given { IfOk result (λ bytes. H.gives host.now (named path.entry) bytes.items) }
     ensures before { IfErr result IsBefore }
 {
     let given = match path {
@@ -86,7 +86,7 @@ pub(crate) fn transactions_of<H: Host>(
     schemes: &Schemes,
     path: Option<&str>,
 ) -> Result<Items<Tx>, Refusal>
-    ensures told { IfOk result (AreTransactionsFrom (H.gives host.now) (option_map (λ p. p.now) path.entry) policy.now schemes.now) }
+    ensures told { IfOk result (AreTransactionsFrom (H.gives host.now) (named path.entry) policy.now schemes.now) }
     ensures ok { IfOk result (AllByRecursion (IsReadUnder policy.now schemes.now)) }
     ensures before { IfErr result IsBefore }
 {
@@ -115,7 +115,7 @@ pub(crate) fn certificates_of<H: Host>(
     host: &H,
     path: Option<&str>,
 ) -> Result<Vec<(Str, Certificate)>, Refusal>
-    ensures blocks { IfOk result (λ blocks. AreCertificatesFrom (H.gives host.now) (option_map (λ p. p.now) path.entry) blocks.items) }
+    ensures blocks { IfOk result (λ blocks. AreCertificatesFrom (H.gives host.now) (named path.entry) blocks.items) }
     ensures before { IfErr result IsBefore }
 {
     match path {

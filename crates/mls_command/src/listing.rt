@@ -1,7 +1,7 @@
 //! What a command other than a run prints on standard output, and tells on standard error.
 ghost use Rattle.std.specs.Prelude.{◌≡◌, string_bytes, IfOk, IfErr, OnErr};
 ghost use Rattle.mls_command.specs.Hosting.{IsAppended, IsTold};
-ghost use Rattle.mls_command.specs.Running.{IsCutOff};
+ghost use Rattle.mls_command.specs.Printing.{IsCutOff};
 
 use crate::ending::Ending;
 use crate::errors::Errors;

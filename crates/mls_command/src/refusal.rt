@@ -227,17 +227,17 @@ impl Refusal {
     }
 }
 
-/// How a run ended whose store was closed, or not.
-pub(crate) fn ended(
-    outcome: Result<(), RunFault>,
+/// How a run or a shell ended whose store was closed, or not.
+pub(crate) fn ended<T: Drop>(
+    outcome: Result<T, RunFault>,
     closed: Result<(), CloseFault>,
-) -> Result<(), Refusal>
+) -> Result<T, Refusal>
     ensures { result ≡ ended outcome closed }
 {
     match (outcome, closed) {
         (Err(fault), _) => Err(Refusal::Run(fault)),
-        (Ok(()), Err(_)) => Err(Refusal::NotClosed),
-        (Ok(()), Ok(())) => Ok(()),
+        (Ok(_), Err(_)) => Err(Refusal::NotClosed),
+        (Ok(end), Ok(())) => Ok(end),
     }
 }
 

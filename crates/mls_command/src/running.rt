@@ -1,5 +1,5 @@
 //! Scripts that are run over a database: over an empty one in memory, or over that of a store.
-ghost use Rattle.std.specs.Prelude.{◌≡◌, ◌<◌, [], false, length, option_map, Ok, Err, IfOk, IfErr, OnOk};
+ghost use Rattle.std.specs.Prelude.{◌≡◌, ◌<◌, [], false, length, Some, Ok, Err, IfOk, IfErr, OnOk};
 ghost use Rattle.std.specs.List.{AllByRecursion};
 ghost use Rattle.std.specs.Option.{IfSome};
 ghost use Rattle.mls_scheme.specs.Scheme.{AreUnder};
@@ -8,10 +8,10 @@ ghost use Rattle.mls_script.specs.Event.{EventFits};
 ghost use Rattle.mls_machine.specs.Observation.{EventsFit, AreRead, AreCertified};
 ghost use Rattle.mls_sessions.specs.World.{IsSound};
 ghost use Rattle.mls_command.specs.Hosting.{hosted, IsAppended};
-ghost use Rattle.mls_command.specs.Inputs.{AreStoredFrom};
-ghost use Rattle.mls_command.specs.Refusal.{IsBefore};
-ghost use Rattle.mls_command.specs.Running.{site_of, IsRun, IsRunEnd};
-ghost use Rattle.mls_command.specs.Acting.{IsRunFrom, IsScriptRead, Runs};
+ghost use Rattle.mls_command.specs.Inputs.{named, AreStoredFrom, IsScriptFrom};
+ghost use Rattle.mls_command.specs.Refusal.{IsBefore, IsEnd};
+ghost use Rattle.mls_command.specs.Running.{site_of, IsRun};
+ghost use Rattle.mls_command.specs.ScriptRun.{IsRunFrom, IsScriptRun};
 
 use crate::host::Host;
 use crate::inputs::{certificates_of, input_of, transactions_of};
@@ -37,8 +37,7 @@ pub(crate) fn stored_files<H: Host>(
     transactions: Option<&str>,
     certificates: Option<&str>,
 ) -> Result<Items<Stored>, Refusal>
-    ensures from { IfOk result (AreStoredFrom (H.gives host.now) (option_map (λ p. p.now) transactions.entry)
-        (option_map (λ p. p.now) certificates.entry) policy.now schemes.now) }
+    ensures from { IfOk result (AreStoredFrom (H.gives host.now) (named transactions.entry) (named certificates.entry) policy.now schemes.now) }
     ensures read { IfOk result (λ ss. AreRead (site_of policy.now schemes.now ss)) }
     ensures certified { IfOk result (λ ss. AreCertified (site_of policy.now schemes.now ss)) }
     ensures before { IfErr result IsBefore }
@@ -91,7 +90,7 @@ fn run_in_memory<W: Write>(
     requires certified { AreCertified (site_of policy.now file.now.schemes stored) }
     requires fits { EventsFit (site_of policy.now file.now.schemes stored) events.now }
     requires declared { IfSome reader (λ c. c < length policy.now.labels) }
-    ensures { IsRunEnd (λ end. (left : Content) × IsRun (site_of policy.now file.now.schemes stored) reader events.now
+    ensures { IsEnd (λ end. (left : Content) × IsRun (site_of policy.now file.now.schemes stored) reader events.now
         (IsAppended W.contents out.old out.new) end no_content left) (IsAppended W.contents out.old out.new []) result }
 {
     let base = match SqlBase::open_memory(alloc, policy, file) {
@@ -129,8 +128,8 @@ fn run_in_store<H: Host, W: Write>(
     requires certified { AreCertified (site_of policy.now file.now.schemes stored) }
     requires fits { EventsFit (site_of policy.now file.now.schemes stored) events.now }
     requires declared { IfSome reader (λ c. c < length policy.now.labels) }
-    ensures { IsRunEnd (λ end. H.is_honest host.new → (first : Content) × (left : Content) × H.keeps host.old path.now first × H.keeps host.new path.now left
-        × IsRun (site_of policy.now file.now.schemes stored) reader events.now (IsAppended W.contents out.old out.new) end first left)
+    ensures { IsEnd (IsRunFrom (hosted H.gives H.keeps H.is_honest H.Lines.echo host.old host.new) file.now (Some path.now)
+        (site_of policy.now file.now.schemes stored) reader events.now (IsAppended W.contents out.old out.new))
         (IsAppended W.contents out.old out.new []) result }
 {
     let base = match host.store(alloc, path, policy, file) {
@@ -168,7 +167,7 @@ fn run_events<H: Host, W: Write>(
     requires certified { AreCertified (site_of policy.now file.now.schemes stored) }
     requires fits { EventsFit (site_of policy.now file.now.schemes stored) events.now }
     requires declared { IfSome reader (λ c. c < length policy.now.labels) }
-    ensures { IsRunEnd (IsRunFrom (hosted H.gives H.keeps H.is_honest H.Lines.echo host.old host.new) (option_map (λ p. p.now) store.entry)
+    ensures { IsEnd (IsRunFrom (hosted H.gives H.keeps H.is_honest H.Lines.echo host.old host.new) file.now (named store.entry)
         (site_of policy.now file.now.schemes stored) reader events.now (IsAppended W.contents out.old out.new))
         (IsAppended W.contents out.old out.new []) result }
 {
@@ -186,7 +185,7 @@ fn script_of<H: Host>(
     schemes: &Schemes,
     path: Option<&str>,
 ) -> Result<Vec<Event>, Refusal>
-    ensures read { IfOk result (λ events. IsScriptRead (H.gives host.now) (option_map (λ p. p.now) path.entry) policy.now schemes.now events.items) }
+    ensures read { IfOk result (λ events. IsScriptFrom (H.gives host.now) (named path.entry) policy.now schemes.now events.items) }
     ensures fits { IfOk result (λ events. AllByRecursion (EventFits policy.now schemes.now) events.items) }
     ensures before { IfErr result IsBefore }
 {
@@ -206,10 +205,10 @@ pub(crate) fn run_files<H: Host, W: Write>(
 ) -> Result<(), Refusal>
     requires under { AreUnder (length policy.now.labels) file.now.schemes }
     requires declared { IfSome reader (λ c. c < length policy.now.labels) }
-    ensures done { OnOk result (Runs (hosted H.gives H.keeps H.is_honest H.Lines.echo host.old host.new) policy.now file.now.schemes reader files.entry
+    ensures done { OnOk result (IsScriptRun (hosted H.gives H.keeps H.is_honest H.Lines.echo host.old host.new) policy.now file.now reader files.entry
         (IsAppended W.contents out.old out.new) (Ok tt)) }
-    ensures given_up { IfErr result (λ e. IsRunEnd (Runs (hosted H.gives H.keeps H.is_honest H.Lines.echo host.old host.new) policy.now file.now.schemes reader files.entry
-        (IsAppended W.contents out.old out.new)) (IsAppended W.contents out.old out.new []) (Err e)) }
+    ensures given_up { IfErr result (λ e. IsEnd (IsScriptRun (hosted H.gives H.keeps H.is_honest H.Lines.echo host.old host.new) policy.now file.now
+        reader files.entry (IsAppended W.contents out.old out.new)) (IsAppended W.contents out.old out.new []) (Err e)) }
 {
     let stored = stored_files(
         alloc,

@@ -1,21 +1,24 @@
 //! Shells over a database: over an empty one in memory, or over that of a store.
-ghost use Rattle.std.specs.Prelude.{◌≡◌, ◌<◌, ◌∷◌, [], true, length, option_map, IfOk, IfErr};
+ghost use Rattle.std.specs.Prelude.{◌≡◌, ◌<◌, ◌∷◌, [], true, length, Some, IfOk, IfErr};
 ghost use Rattle.std.specs.Option.{IfSome};
 ghost use Rattle.mls_lattice.specs.Name.{is_name};
 ghost use Rattle.mls_scheme.specs.Scheme.{AreUnder};
 ghost use Rattle.mls_filterview.specs.Content.{Content, no_content};
 ghost use Rattle.mls_machine.specs.Observation.{AreRead, AreCertified};
 ghost use Rattle.mls_command.specs.Hosting.{hosted, IsAppended, IsTold};
+ghost use Rattle.mls_command.specs.declared.words.Task.TheVariants.{Shell};
+ghost use Rattle.mls_command.specs.Inputs.{named};
+ghost use Rattle.mls_command.specs.Refusal.{IsEnd};
 ghost use Rattle.mls_command.specs.Running.{site_of};
 ghost use Rattle.mls_command.specs.Shell.{opening, IsShell};
-ghost use Rattle.mls_command.specs.declared.words.Task.TheVariants.{Shell};
-ghost use Rattle.mls_command.specs.Acting.{seat_of, IsShellFrom, IsShellEnd, shell_ended, IsTaskDone, IsTaskGivenUp};
+ghost use Rattle.mls_command.specs.ShellRun.{seat_of, IsShellFrom};
+ghost use Rattle.mls_command.specs.Acting.{IsTaskDone, IsTaskGivenUp};
 
 use crate::ending::Ending;
 use crate::errors::Errors;
-use crate::host::{CloseFault, Host};
+use crate::host::Host;
 use crate::reading::opening;
-use crate::refusal::Refusal;
+use crate::refusal::{Refusal, ended};
 use crate::running::stored_files;
 use crate::seat::Seat;
 use crate::shell::shell_on;
@@ -25,23 +28,9 @@ use mls_fragments::SqlBase;
 use mls_lattice::{Items, LabelNo, Policy, Str, is_name};
 use mls_scheme::SchemesFile;
 use mls_script::Event;
-use mls_sessions::{RunFault, Stored};
+use mls_sessions::Stored;
 use std::alloc::{AllocError, Global};
 use std::io::Write;
-
-/// How a shell ended whose store was closed, or not.
-fn shell_ended(
-    outcome: Result<Ending, RunFault>,
-    closed: Result<(), CloseFault>,
-) -> Result<Ending, Refusal>
-    ensures { result ≡ shell_ended outcome closed }
-{
-    match (outcome, closed) {
-        (Err(fault), _) => Err(Refusal::Run(fault)),
-        (Ok(_), Err(_)) => Err(Refusal::NotClosed),
-        (Ok(ending), Ok(())) => Ok(ending),
-    }
-}
 
 /// A shell over an empty database in memory.
 fn shell_in_memory<L: TypedLines, W: Write, E: Write>(
@@ -61,7 +50,7 @@ fn shell_in_memory<L: TypedLines, W: Write, E: Write>(
     requires level { seat.now.level < length policy.now.labels }
     requires user { is_name seat.now.user ≡ true }
     requires first { first.now ≡ opening seat.now ∷ [] }
-    ensures { IsShellEnd (λ end. (left : Content) × IsShell L.echo (site_of policy.now file.now.schemes stored) seat.now (L.remaining lines.old) (L.remaining lines.new)
+    ensures { IsEnd (λ end. (left : Content) × IsShell L.echo (site_of policy.now file.now.schemes stored) seat.now (L.remaining lines.old) (L.remaining lines.new)
         (IsAppended W.contents out.old out.new) (IsTold E.contents err.old err.new) end no_content left)
         (IsAppended W.contents out.old out.new [] × IsTold E.contents err.old err.new []) result }
 {
@@ -74,7 +63,7 @@ fn shell_in_memory<L: TypedLines, W: Write, E: Write>(
         alloc, policy, schemes, stored, base, seat, first, lines, out, err,
     );
     let _connection = left.into_connection();
-    shell_ended(outcome, Ok(()))
+    ended(outcome, Ok(()))
 }
 
 /// A shell over the database in a store of the host.
@@ -97,9 +86,9 @@ fn shell_in_store<H: Host, L: TypedLines, W: Write, E: Write>(
     requires level { seat.now.level < length policy.now.labels }
     requires user { is_name seat.now.user ≡ true }
     requires first { first.now ≡ opening seat.now ∷ [] }
-    ensures { IsShellEnd (λ end. H.is_honest host.new → (first : Content) × (left : Content) × H.keeps host.old path.now first × H.keeps host.new path.now left
-        × IsShell L.echo (site_of policy.now file.now.schemes stored) seat.now (L.remaining lines.old) (L.remaining lines.new)
-        (IsAppended W.contents out.old out.new) (IsTold E.contents err.old err.new) end first left)
+    ensures { IsEnd (IsShellFrom (hosted H.gives H.keeps H.is_honest L.echo host.old host.new) file.now (Some path.now)
+        (site_of policy.now file.now.schemes stored) seat.now (L.remaining lines.old) (L.remaining lines.new)
+        (IsAppended W.contents out.old out.new) (IsTold E.contents err.old err.new))
         (IsAppended W.contents out.old out.new [] × IsTold E.contents err.old err.new []) result }
 {
     let base = match host.store(alloc, path, policy, file) {
@@ -111,7 +100,7 @@ fn shell_in_store<H: Host, L: TypedLines, W: Write, E: Write>(
         alloc, policy, schemes, stored, base, seat, first, lines, out, err,
     );
     let closed = host.keep(path, left);
-    shell_ended(outcome, closed)
+    ended(outcome, closed)
 }
 
 /// A shell over the database in a store of the host, or over an empty one in memory.
@@ -134,7 +123,7 @@ fn shell_over<H: Host, L: TypedLines, W: Write, E: Write>(
     requires level { seat.now.level < length policy.now.labels }
     requires user { is_name seat.now.user ≡ true }
     requires first { first.now ≡ opening seat.now ∷ [] }
-    ensures { IsShellEnd (IsShellFrom (hosted H.gives H.keeps H.is_honest L.echo host.old host.new) (option_map (λ p. p.now) store.entry)
+    ensures { IsEnd (IsShellFrom (hosted H.gives H.keeps H.is_honest L.echo host.old host.new) file.now (named store.entry)
         (site_of policy.now file.now.schemes stored) seat.now (L.remaining lines.old) (L.remaining lines.new)
         (IsAppended W.contents out.old out.new) (IsTold E.contents err.old err.new))
         (IsAppended W.contents out.old out.new [] × IsTold E.contents err.old err.new []) result }
@@ -180,9 +169,9 @@ pub(crate) fn shell_files<H: Host, W: Write, E: Write>(
     requires under { AreUnder (length policy.now.labels) file.now.schemes }
     requires declared { IfSome reader (λ c. c < length policy.now.labels) }
     ensures done { IfOk result (IsTaskDone (hosted H.gives H.keeps H.is_honest H.Lines.echo host.old host.new) policy.now file.now reader
-        (Shell files.entry) (IsAppended W.contents out.old out.new) (IsTold E.contents err.old err.new)) }
+        (IsAppended W.contents out.old out.new) (IsTold E.contents err.old err.new) (Shell files.entry)) }
     ensures given_up { IfErr result (IsTaskGivenUp (hosted H.gives H.keeps H.is_honest H.Lines.echo host.old host.new) policy.now file.now reader
-        (Shell files.entry) (IsAppended W.contents out.old out.new) (IsTold E.contents err.old err.new)) }
+        (IsAppended W.contents out.old out.new) (IsTold E.contents err.old err.new) (Shell files.entry)) }
 {
     let Some(level) = reader else {
         return Err(Refusal::Label);

@@ -60,10 +60,10 @@ returns-in_ok-texts-in-ShowPolicy-clause-given_up g c =
 
 pub returns-in-Shell-clause-done : goal.returns-in-Shell-clause-done
 returns-in-Shell-clause-done g c =
-    subst (λ task. IfOk c.shell_files.result (IsTaskDone (hosted g.H.Host.gives g.H.Host.keeps g.H.Host.is_honest g.H.Lines.TypedLines.echo c.args.host.now c.shell_files.new.host) c.args.policy.now c.args.file.now c.args.reader task
-    (IsAppended g.W.Write.contents c.args.out.now c.shell_files.new.out) (IsTold g.E.Write.contents c.args.err.now c.shell_files.new.err))) (sym c.in-Shell.is) c.shell_files.ensures.done
+    subst (λ task. IfOk c.shell_files.result (IsTaskDone (hosted g.H.Host.gives g.H.Host.keeps g.H.Host.is_honest g.H.Lines.TypedLines.echo c.args.host.now c.shell_files.new.host) c.args.policy.now c.args.file.now c.args.reader
+    (IsAppended g.W.Write.contents c.args.out.now c.shell_files.new.out) (IsTold g.E.Write.contents c.args.err.now c.shell_files.new.err) task)) (sym c.in-Shell.is) c.shell_files.ensures.done
 
 pub returns-in-Shell-clause-given_up : goal.returns-in-Shell-clause-given_up
 returns-in-Shell-clause-given_up g c =
-    subst (λ task. IfErr c.shell_files.result (IsTaskGivenUp (hosted g.H.Host.gives g.H.Host.keeps g.H.Host.is_honest g.H.Lines.TypedLines.echo c.args.host.now c.shell_files.new.host) c.args.policy.now c.args.file.now c.args.reader task
-    (IsAppended g.W.Write.contents c.args.out.now c.shell_files.new.out) (IsTold g.E.Write.contents c.args.err.now c.shell_files.new.err))) (sym c.in-Shell.is) c.shell_files.ensures.given_up
+    subst (λ task. IfErr c.shell_files.result (IsTaskGivenUp (hosted g.H.Host.gives g.H.Host.keeps g.H.Host.is_honest g.H.Lines.TypedLines.echo c.args.host.now c.shell_files.new.host) c.args.policy.now c.args.file.now c.args.reader
+    (IsAppended g.W.Write.contents c.args.out.now c.shell_files.new.out) (IsTold g.E.Write.contents c.args.err.now c.shell_files.new.err) task)) (sym c.in-Shell.is) c.shell_files.ensures.given_up

@@ -6,7 +6,8 @@ use Rattle.mls_filterview.specs.Content.{State, Content, no_content}
 use Rattle.mls_fragments.specs.Based.{state_of}
 use Rattle.mls_sessions.specs.declared.cause.RunFault.{RunFault}
 use Rattle.mls_command.specs.declared.refusal.Refusal.{Refusal}
-use Rattle.mls_command.specs.Running.{site_of, IsRun, IsRunEnd}
+use Rattle.mls_command.specs.Refusal.{IsEnd}
+use Rattle.mls_command.specs.Running.{site_of, IsRun}
 use Rattle.mls_command.proofs.RunningLemmas.{none_sound, ended_so}
 use Rattle.mls_command.proofs.running.run_in_memory.Goals as goal
 
@@ -25,5 +26,5 @@ returns g c =
     let run = c.run_on-outcome.ensures.run (c.into_connection-connection.ensures.clean (memory_is_clean c.into_connection-connection.result)) in
     let Runs : Result (Unit {0}) RunFault → Type 0 = λ end. (last : Content) × IsRun at c.args.reader c.args.events.now (Appends before after) end no_content last in
     let ran : Runs c.run_on-outcome.result.0 = (left, subst (λ (x : State). IsRun at c.args.reader c.args.events.now (Appends before after) c.run_on-outcome.result.0 x.now left) c.in-Ok.ensures.content run) in
-    subst (λ (r : Result (Unit {0}) Refusal). IsRunEnd Runs (Appends before after []) r) (sym c.ended.ensures)
+    subst (λ (r : Result (Unit {0}) Refusal). IsEnd Runs (Appends before after []) r) (sym c.ended.ensures)
     (ended_so Runs (Appends before after []) c.run_on-outcome.result.0 (Ok tt) ran)

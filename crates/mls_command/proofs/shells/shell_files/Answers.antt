@@ -1,7 +1,8 @@
 use Rattle.std.proofs.Common.{[], subst}
-use Rattle.std.specs.Prelude.{option_map}
 use Rattle.mls_command.specs.Running.{site_of}
-use Rattle.mls_command.specs.Acting.{IsShellFrom, IsShellEnd}
+use Rattle.mls_command.specs.Inputs.{named}
+use Rattle.mls_command.specs.Refusal.{IsEnd}
+use Rattle.mls_command.specs.ShellRun.{IsShellFrom}
 use Rattle.mls_command.specs.Hosting.{hosted, IsAppended, IsTold}
 use Rattle.mls_command.proofs.ShellEndLemmas.{shell_done, shell_given_up}
 use Rattle.mls_command.proofs.shells.shell_files.Goals as goal
@@ -12,7 +13,7 @@ returns-clause-done g c =
     (IsAppended g.W.Write.contents c.args.out.now c.shell_over.new.out) (IsTold g.E.Write.contents c.args.err.now c.shell_over.new.err)
     c.in_ok-stored.stored c.in-Some.level c.is_terminal.result (g.H.Lines.TypedLines.remaining c.lines-lines.result) (g.H.Lines.TypedLines.remaining c.shell_over.new.lines)
     c.in_ok-stored.ensures.from c.in-Some.is c.lines-lines.ensures c.shell_over.result
-    (subst (λ seat. IsShellEnd (IsShellFrom (hosted g.H.Host.gives g.H.Host.keeps g.H.Host.is_honest g.H.Lines.TypedLines.echo c.args.host.now c.shell_over.new.host) (option_map (λ p. p.now) c.args.files.store) (site_of c.args.policy.now c.args.file.now.schemes c.in_ok-stored.stored)
+    (subst (λ seat. IsEnd (IsShellFrom (hosted g.H.Host.gives g.H.Host.keeps g.H.Host.is_honest g.H.Lines.TypedLines.echo c.args.host.now c.shell_over.new.host) c.args.file.now (named c.args.files.store) (site_of c.args.policy.now c.args.file.now.schemes c.in_ok-stored.stored)
     seat (g.H.Lines.TypedLines.remaining c.lines-lines.result) (g.H.Lines.TypedLines.remaining c.shell_over.new.lines) (IsAppended g.W.Write.contents c.args.out.now c.shell_over.new.out) (IsTold g.E.Write.contents c.args.err.now c.shell_over.new.err))
     (IsAppended g.W.Write.contents c.args.out.now c.shell_over.new.out [] × IsTold g.E.Write.contents c.args.err.now c.shell_over.new.err []) c.shell_over.result) c.in_ok-seat.ensures c.shell_over.ensures)
 
@@ -22,6 +23,6 @@ returns-clause-given_up g c =
     (IsAppended g.W.Write.contents c.args.out.now c.shell_over.new.out) (IsTold g.E.Write.contents c.args.err.now c.shell_over.new.err)
     c.in_ok-stored.stored c.in-Some.level c.is_terminal.result (g.H.Lines.TypedLines.remaining c.lines-lines.result) (g.H.Lines.TypedLines.remaining c.shell_over.new.lines)
     c.in_ok-stored.ensures.from c.in-Some.is c.lines-lines.ensures c.shell_over.result
-    (subst (λ seat. IsShellEnd (IsShellFrom (hosted g.H.Host.gives g.H.Host.keeps g.H.Host.is_honest g.H.Lines.TypedLines.echo c.args.host.now c.shell_over.new.host) (option_map (λ p. p.now) c.args.files.store) (site_of c.args.policy.now c.args.file.now.schemes c.in_ok-stored.stored)
+    (subst (λ seat. IsEnd (IsShellFrom (hosted g.H.Host.gives g.H.Host.keeps g.H.Host.is_honest g.H.Lines.TypedLines.echo c.args.host.now c.shell_over.new.host) c.args.file.now (named c.args.files.store) (site_of c.args.policy.now c.args.file.now.schemes c.in_ok-stored.stored)
     seat (g.H.Lines.TypedLines.remaining c.lines-lines.result) (g.H.Lines.TypedLines.remaining c.shell_over.new.lines) (IsAppended g.W.Write.contents c.args.out.now c.shell_over.new.out) (IsTold g.E.Write.contents c.args.err.now c.shell_over.new.err))
     (IsAppended g.W.Write.contents c.args.out.now c.shell_over.new.out [] × IsTold g.E.Write.contents c.args.err.now c.shell_over.new.err []) c.shell_over.result) c.in_ok-seat.ensures c.shell_over.ensures)

@@ -9,10 +9,9 @@ use Rattle.mls_command.specs.declared.refusal.Refusal.{Refusal}
 use Rattle.mls_command.specs.Hosting.{IsAppended, IsTold}
 use Rattle.mls_command.specs.Running.{site_of}
 use Rattle.mls_command.specs.Shell.{IsShell}
-use Rattle.mls_command.specs.Acting.{IsShellEnd}
-use Rattle.mls_command.proofs.RunningLemmas.{none_sound}
+use Rattle.mls_command.specs.Refusal.{IsEnd}
+use Rattle.mls_command.proofs.RunningLemmas.{none_sound, ended_so}
 use Rattle.mls_command.proofs.ActingLemmas.{told_nothing}
-use Rattle.mls_command.proofs.ShellEndLemmas.{shell_ended_so}
 use Rattle.mls_command.proofs.shells.shell_in_memory.Goals as goal
 
 pub shell_on-outcome-requires-clause-sound : goal.shell_on-outcome-requires-clause-sound
@@ -31,5 +30,5 @@ returns g c =
     let Runs : Result Ending RunFault → Type 0 = λ end. (last : Content) × IsShell g.L.TypedLines.echo at c.args.seat.now (g.L.TypedLines.remaining c.args.lines.now) (g.L.TypedLines.remaining c.shell_on-outcome.new.lines) Wrote Told end no_content last in
     let ran : Runs c.shell_on-outcome.result.0 =
     (left, subst (λ (x : State). IsShell g.L.TypedLines.echo at c.args.seat.now (g.L.TypedLines.remaining c.args.lines.now) (g.L.TypedLines.remaining c.shell_on-outcome.new.lines) Wrote Told c.shell_on-outcome.result.0 x.now left) c.in-Ok.ensures.content shell) in
-    subst (λ (r : Result Ending Refusal). IsShellEnd Runs (Wrote [] × Told []) r) (sym c.shell_ended.ensures)
-    (shell_ended_so Runs (Wrote [] × Told []) c.shell_on-outcome.result.0 (Ok tt) ran)
+    subst (λ (r : Result Ending Refusal). IsEnd Runs (Wrote [] × Told []) r) (sym c.ended.ensures)
+    (ended_so Runs (Wrote [] × Told []) c.shell_on-outcome.result.0 (Ok tt) ran)

@@ -2,6 +2,7 @@
 ghost use Rattle.std.specs.Prelude.{◌≡◌, false, length, IfOk, MatchOption};
 ghost use Rattle.mls_scheme.specs.Scheme.{AreUnder};
 ghost use Rattle.mls_filterview.specs.Content.{Content};
+ghost use Rattle.mls_fragments.specs.Again.{IsTakenOf};
 ghost use Rattle.mls_fragments.specs.Finding.{IsSoundContent};
 
 use crate::private;
@@ -26,7 +27,7 @@ pub trait Opens<B: Base> {
         requires under { AreUnder (length policy.now.labels) file.now.schemes }
         ensures idle { IfOk result (λ b. (B.state b).begun ≡ false) }
         ensures sound { IfOk result (λ b. IsSoundContent policy.now file.now.schemes (B.state b).now) }
-        ensures held { IfOk result (λ b. B.is_clean b → holds self.old (B.state b).now) };
+        ensures held { IfOk result (λ b. B.is_clean b → IsTakenOf (holds self.old) policy.now file.now (B.state b).now) };
 
     /// Closes the store of a base.
     fn close(&mut self, store: B) -> Result<(), CloseFault>
@@ -42,9 +43,9 @@ pub struct FilesOf<'a, F: Start> {
 
 impl<'a, F: Start> Opens<SqlBase<FileStore<FileFrom<F>>>> for FilesOf<'a, F> {
     ghost use Rattle.sqlite.specs.WalFiles.{image_at};
-    ghost use Rattle.mls_fragments.specs.Opening.{IsContentIn};
+    ghost use Rattle.mls_fragments.specs.Again.{IsHeldIn};
 
-    ghost holds = { λ _ c. IsContentIn (image_at F.Start) c };
+    ghost holds = { λ _ c. IsHeldIn (image_at F.Start) c };
 
     fn open(
         &mut self,
@@ -87,7 +88,7 @@ impl<'a, B: Base + Drop, O: Opens<B> + Drop> Host for Machine<'a, B, O> {
     // Any bytes: what a file has is known to nobody before it is read.
     ghost gives = { λ _ _ _. ⊤ };
 
-    // What the files held; and after a run, what the base held over them that was taken back.
+    // What the files held, before anything of it was taken; and after a run, what the base held over them that was taken back.
     ghost keeps = { λ m path c. MatchOption m.left (O.holds m.stores c) (λ l. (B.state l.value).now ≡ c) };
 
     // The base that was taken back is clean.
@@ -124,10 +125,10 @@ impl<'a, B: Base + Drop, O: Opens<B> + Drop> Host for Machine<'a, B, O> {
         policy: &Policy,
         file: &SchemesFile,
     ) -> Result<B, OpenFault> {
-        if self.left.is_some() {
-            return Err(OpenFault::Store);
+        match &self.left {
+            Some(_) => Err(OpenFault::Store),
+            None => self.stores.open(path, policy, file),
         }
-        self.stores.open(path, policy, file)
     }
 
     fn keep(&mut self, path: &str, store: B) -> Result<(), CloseFault> {

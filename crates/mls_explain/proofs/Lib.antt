@@ -1,0 +1,2 @@
+pub mod TellingLemmas
+pub mod WalkLemmas

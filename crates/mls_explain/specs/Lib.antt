@@ -1,0 +1,7 @@
+pub mod Numbering
+pub mod Naming
+pub mod Reads
+pub mod Causes
+pub mod Lines
+pub mod Walk
+pub mod Explaining

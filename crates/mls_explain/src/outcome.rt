@@ -1,0 +1,53 @@
+//! What came of the least labels of a transaction.
+ghost use Rattle.std.specs.Prelude.{◌≡◌, IfOk};
+ghost use Rattle.mls_certificate.specs.declared.cert.Version.TheVariants as version;
+ghost use Rattle.mls_explain.specs.Explaining.{IsOutcome, NonePasses, has_labels};
+
+use mls_certcheck::Rule;
+use mls_certificate::Certificate;
+use mls_labeller::{LabelFault, label_tx, label_tx2};
+use mls_lattice::Policy;
+use mls_translang::Tx;
+use std::alloc::{AllocError, Global};
+
+/// The least labels, where they pass, or the first rule that those of version 2 break and the number of its statement.
+#[derive(Drop)]
+pub(crate) enum Outcome {
+    Labelled(Certificate),
+    Refused { stmt: usize, rule: Rule },
+}
+
+impl Outcome {
+    /// Whether there are labels.
+    pub(crate) fn has_labels(&self) -> bool
+        ensures { result ≡ has_labels self.now }
+    {
+        match self {
+            Outcome::Labelled(_) => true,
+            Outcome::Refused { .. } => false,
+        }
+    }
+}
+
+/// What comes of version 2, where no certificate of version 1 passes.
+fn second_of(alloc: Global, policy: &Policy, tx: &Tx) -> Result<Outcome, AllocError>
+    requires { NonePasses version.First policy.now tx.now }
+    ensures { IfOk result (IsOutcome policy.now tx.now) }
+{
+    match label_tx2(alloc, policy, tx) {
+        Ok(cert) => Ok(Outcome::Labelled(Certificate::Two(cert))),
+        Err(LabelFault::NoLabels { stmt, rule }) => Ok(Outcome::Refused { stmt, rule }),
+        Err(LabelFault::Memory) => Err(AllocError),
+    }
+}
+
+/// What comes of the least labels: version 1 where its certificates pass, else version 2.
+pub(crate) fn outcome_of(alloc: Global, policy: &Policy, tx: &Tx) -> Result<Outcome, AllocError>
+    ensures { IfOk result (IsOutcome policy.now tx.now) }
+{
+    match label_tx(alloc, policy, tx) {
+        Ok(cert) => Ok(Outcome::Labelled(Certificate::One(cert))),
+        Err(LabelFault::NoLabels { .. }) => second_of(alloc, policy, tx),
+        Err(LabelFault::Memory) => Err(AllocError),
+    }
+}

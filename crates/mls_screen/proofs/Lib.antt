@@ -1,0 +1,3 @@
+pub mod EscapingLemmas
+pub mod TableSteps
+pub mod HarmlessLemmas

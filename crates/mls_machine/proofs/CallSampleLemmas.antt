@@ -24,6 +24,7 @@ use Rattle.mls_script.specs.declared.event.Event.{Event}
 use Rattle.mls_script.specs.declared.event.Command.{Command}
 use Rattle.mls_script.specs.declared.event.Command.TheVariants.{Open, Audit, Call}
 use Rattle.mls_machine.specs.declared.stored.Stored.TheVariants as stored
+use Rattle.mls_machine.specs.declared.form.Form.TheVariants.{Lines}
 use Rattle.mls_machine.specs.declared.reply.Denial.{Denial}
 use Rattle.mls_machine.specs.declared.reply.Denial.TheVariants.{UnknownTransaction, NotCertified, Ds, Ss, Star, Trust, Arguments}
 use Rattle.mls_machine.specs.declared.reply.Reply.TheVariants.{Opened, Ran, Entries}
@@ -118,9 +119,9 @@ module _ (u s : Pair) (rights : List Right) (k : Certified) (is : k.tx ≡ pass)
   found : (name : Name) → find (λ x. bytes_eq (tx_of x).name name) (stored.Certified k ∷ []) ≡ cond (bytes_eq (codes "Pass") name) (Some (stored.Certified k)) None
   found name = λ i. cond (bytes_eq (is i).name name) (Some (stored.Certified k)) None
 
-  next : (w : World) (e : Event) (es : List Event) (t : Step) → step site w e ≡ t → run_lines site w (e ∷ es) ≡ reply_lines site e t.reply ++ run_lines site t.world es
+  next : (w : World) (e : Event) (es : List Event) (t : Step) → step site w e ≡ t → run_lines Lines site w (e ∷ es) ≡ reply_lines site e t.reply ++ run_lines Lines site t.world es
   unfolding run_lines
-  next w e es t h = ap (λ (x : Step). reply_lines site e x.reply ++ run_lines site x.world es) h
+  next w e es t h = ap (λ (x : Step). reply_lines site e x.reply ++ run_lines Lines site x.world es) h
 
   module _ (u-u : below ls 0 0 ≡ true) (u-s : below ls 0 1 ≡ true) (s-s : below ls 1 1 ≡ true) (executes : modes_in rights 0 (codes "Pass") ≡ 1) where
     opening : Bool → Step
@@ -153,7 +154,7 @@ module _ (u s : Pair) (rights : List Right) (k : Certified) (is : k.tx ≡ pass)
     unfolding step shown
     tom_audits = λ i. record { world = done_call.world; reply = Entries (shown (u-u i) all_entries) }
 
-    each_item_has_its_label : printed (run_lines site start (opens ∷ call_of no_args ∷ call_of a_text ∷ audits ∷ [])) ≡
+    each_item_has_its_label : printed (run_lines Lines site start (opens ∷ call_of no_args ∷ call_of a_text ∷ audits ∷ [])) ≡
         codes "U U/t opened tom\nU U/t denied 40 Arguments\nU U/t called Pass\nS U/t emit null\nU U/t release null\nU U/t audit\nU U/t entry U denied tom t 40\nU U/t entry U called tom t Pass\nU U/t entry U released tom t null\n"
     unfolding run_lines digits
     each_item_has_its_label = ap printed (

@@ -37,7 +37,7 @@ use Rattle.mls_machine.proofs.ItemLemmas.{lines_of, lines_seen, entries_of, entr
 
 -- ---- lines
 
-hidden_lines : (ls : Labels) (c : ℕ) (p : Tables) (e : Event) (label : ℕ) → below ls label c ≡ false → (texts : List (List ℕ)) → out ls c (map (line p e label) texts) ≡ []
+pub hidden_lines : (ls : Labels) (c : ℕ) (p : Tables) (e : Event) (label : ℕ) → below ls label c ≡ false → (texts : List (List ℕ)) → out ls c (map (line p e label) texts) ≡ []
 hidden_lines ls c p e label h [] = refl
 hidden_lines ls c p e label h (text ∷ texts) =
     ap (λ b. cond b (line p e label text ∷ out ls c (map (line p e label) texts)) (out ls c (map (line p e label) texts))) h ∙ hidden_lines ls c p e label h texts

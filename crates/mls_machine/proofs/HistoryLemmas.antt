@@ -8,6 +8,7 @@ use Rattle.mls_scheme.specs.Table.{Database}
 use Rattle.mls_scheme.specs.Scheme.{Schemes}
 use Rattle.mls_meaning.specs.Secure as secure
 use Rattle.mls_script.specs.declared.event.Event.{Event}
+use Rattle.mls_machine.specs.declared.form.Form.{Form}
 use Rattle.mls_machine.specs.Site.{Site, site_labels}
 use Rattle.mls_machine.specs.Machine.{World, end_of}
 use Rattle.mls_machine.specs.Output.{run_lines, printed}
@@ -62,7 +63,7 @@ module _ (ls : Labels) (schemes : Schemes) (distinct : AreDistinct ls) where
   -- ---- two runs
 
   record RunsEnd (c : ℕ) (v w : World) (r s : RunAt) : Type 0 where
-    pub lines : out ls c (run_lines r.site v r.events) ≡ out ls c (run_lines s.site w s.events)
+    pub lines : (form : Form) → out ls c (run_lines form r.site v r.events) ≡ out ls c (run_lines form s.site w s.events)
     pub replies : replies_shown r.site c v r.events ≡ replies_shown s.site c w s.events
     pub world : AgreeAt ls c (run_end v r) (run_end w s)
 
@@ -74,7 +75,7 @@ module _ (ls : Labels) (schemes : Schemes) (distinct : AreDistinct ls) where
       look.events
       (subst (λ x. ReleaseSame r.site c v r.events w (record { site = x; events = s.events })) (sym look.site) released) in
       record {
-        lines = ap (λ l. out l c (run_lines r.site v r.events)) (sym under.labels) ∙ end.out ∙ (λ i. out (under.labels i) c (run_lines (look.site i) w s.events));
+        lines = λ form. ap (λ l. out l c (run_lines form r.site v r.events)) (sym under.labels) ∙ end.out form ∙ (λ i. out (under.labels i) c (run_lines form (look.site i) w s.events));
         replies = end.replies ∙ (λ i. replies_shown (look.site i) c w s.events);
         world = settled_alike
             (subst (λ x. AgreeAt ls c (end_of r.site v r.events) (end_of x w s.events)) look.site
@@ -87,14 +88,14 @@ module _ (ls : Labels) (schemes : Schemes) (distinct : AreDistinct ls) where
       → secure.AreStored ls schemes w.db → HistoryFits ss → AllByRecursion (λ s. Other s.events) ss
       → AgreeAt ls c v w → AllZip (LookAlike c) rs ss → ReleaseAlike c v w rs ss → HistoriesEndAlike ls c v w rs ss
   unfolding history_end history_lines history_replies
-  alike Other c [] [] v w under passes sw fits other agree look released = record { lines = refl; replies = refl; worlds = agree }
+  alike Other c [] [] v w under passes sw fits other agree look released = record { lines = λ form. refl; replies = refl; worlds = agree }
   alike Other c [] (s ∷ ss) v w under passes sw fits other agree look released = absurd look
   alike Other c (r ∷ rs) [] v w under passes sw fits other agree look released = absurd look
   alike Other c (r ∷ rs) (s ∷ ss) v w under passes sw fits other agree look released =
       let end = runs_end Other c r s v w under.0 look.0 passes.0 sw fits.0 other.0 agree released.0 in
       let left = stored_end s.site (subst (IsSiteUnder ls schemes) look.0.site under.0) w s.events fits.0 sw in
       let rest = alike Other c rs ss (run_end v r) (run_end w s) under.1 passes.1 left fits.1 other.1 end.world look.1 released.1 in
-      record { lines = λ i. end.lines i ∷ rest.lines i; replies = λ i. end.replies i ∷ rest.replies i; worlds = rest.worlds }
+      record { lines = λ form. λ i. end.lines form i ∷ rest.lines form i; replies = λ i. end.replies i ∷ rest.replies i; worlds = rest.worlds }
 
   -- ---- what is known of each run
 
@@ -156,5 +157,5 @@ histories_pass ls schemes distinct v rs under passes c w ss sw other_fits agree 
     alike ls schemes distinct Any c rs ss v w under (any_pass ls schemes distinct v rs passes) sw other_fits (any_other ss) agree look released
 
 pub histories_show : HistoriesShowOnlyReleases
-histories_show ls schemes v rs passes c w ss sw fits agree look released =
-    sym (map-map printed (out ls c) (history_lines v rs)) ∙ ap (map printed) (passes c w ss sw fits agree look released).lines ∙ map-map printed (out ls c) (history_lines w ss)
+histories_show ls schemes v rs passes c form w ss sw fits agree look released =
+    sym (map-map printed (out ls c) (history_lines form v rs)) ∙ ap (map printed) ((passes c w ss sw fits agree look released).lines form) ∙ map-map printed (out ls c) (history_lines form w ss)

@@ -9,8 +9,10 @@ pub mod ItemLemmas
 pub mod HiddenLemmas
 pub mod AlikeLemmas
 pub mod CallLemmas
+pub mod FormLemmas
 pub mod RunLemmas
 pub mod HistoryLemmas
 pub mod LineLemmas
+pub mod ScreenLemmas
 pub mod SampleLemmas
 pub mod CallSampleLemmas

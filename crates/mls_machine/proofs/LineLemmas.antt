@@ -6,10 +6,12 @@ use Rattle.std.proofs.lemmas.List.Elements.{filter-append}
 use Rattle.std.proofs.lemmas.Grind.{flat_map-append}
 use Rattle.mls_lattice.specs.Labels.{Labels, below}
 use Rattle.mls_script.specs.declared.event.Event.{Event}
+use Rattle.mls_machine.specs.declared.form.Form.{Form}
+use Rattle.mls_machine.specs.declared.form.Audience.{Audience}
 use Rattle.mls_machine.specs.Site.{Site, site_labels}
 use Rattle.mls_machine.specs.Machine.{World, step, end_of}
-use Rattle.mls_machine.specs.Output.{Line, reply_lines, run_lines, printed}
-use Rattle.mls_machine.specs.Observation.{heard}
+use Rattle.mls_machine.specs.Output.{Line, reply_lines_in, run_lines, printed}
+use Rattle.mls_machine.specs.Observation.{heard, reply_shows, run_shows}
 
 -- what a reader hears of some lines and then of others
 heard-append : (ls : Labels) (reader : Option ℕ) (xs ys : List Line) → heard ls reader (xs ++ ys) ≡ heard ls reader xs ++ heard ls reader ys
@@ -29,13 +31,13 @@ module _ (site : Site) where
   end_of-snoc w [] e = refl
   end_of-snoc w (d ∷ es) e = end_of-snoc (step site w d).world es e
 
-  run_lines-snoc : (w : World) (es : List Event) (e : Event)
-      → run_lines site w (es ++ e ∷ []) ≡ run_lines site w es ++ reply_lines site e (step site (end_of site w es) e).reply
+  run_lines-snoc : (form : Form) (w : World) (es : List Event) (e : Event)
+      → run_lines form site w (es ++ e ∷ []) ≡ run_lines form site w es ++ reply_lines_in form site e (step site (end_of site w es) e).reply
   unfolding end_of run_lines
-  run_lines-snoc w [] e = append-nil (reply_lines site e (step site w e).reply)
-  run_lines-snoc w (d ∷ es) e =
-      let first = reply_lines site d (step site w d).reply in
-      ap (λ l. first ++ l) (run_lines-snoc (step site w d).world es e) ∙ sym (append_assoc first _ _)
+  run_lines-snoc form w [] e = append-nil (reply_lines_in form site e (step site w e).reply)
+  run_lines-snoc form w (d ∷ es) e =
+      let first = reply_lines_in form site d (step site w d).reply in
+      ap (λ l. first ++ l) (run_lines-snoc form (step site w d).world es e) ∙ sym (append_assoc first _ _)
 
   module _ (w : World) (es : List Event) (i : ℕ) (e : Event) (within : i < length es) (is : get_or es i e ≡ e) where
     more : take (i + 1) es ≡ take i es ++ e ∷ []
@@ -44,11 +46,10 @@ module _ (site : Site) where
     pub end_more : end_of site w (take (i + 1) es) ≡ (step site (end_of site w (take i es)) e).world
     end_more = ap (end_of site w) more ∙ end_of-snoc w (take i es) e
 
-    pub lines_more : run_lines site w (take (i + 1) es) ≡ run_lines site w (take i es) ++ reply_lines site e (step site (end_of site w (take i es)) e).reply
-    lines_more = ap (run_lines site w) more ∙ run_lines-snoc w (take i es) e
+    pub lines_more : (form : Form) → run_lines form site w (take (i + 1) es) ≡ run_lines form site w (take i es) ++ reply_lines_in form site e (step site (end_of site w (take i es)) e).reply
+    lines_more form = ap (run_lines form site w) more ∙ run_lines-snoc form w (take i es) e
 
-    pub printed_more : (reader : Option ℕ) → printed (heard (site_labels site) reader (run_lines site w (take (i + 1) es)))
-        ≡ printed (heard (site_labels site) reader (run_lines site w (take i es))) ++ printed (heard (site_labels site) reader (reply_lines site e (step site (end_of site w (take i es)) e).reply))
-    printed_more reader =
-        ap (λ l. printed (heard (site_labels site) reader l)) lines_more
-        ∙ printed-append (site_labels site) reader (run_lines site w (take i es)) (reply_lines site e (step site (end_of site w (take i es)) e).reply)
+    pub printed_more : (a : Audience) → run_shows site a w (take (i + 1) es) ≡ run_shows site a w (take i es) ++ reply_shows site a e (step site (end_of site w (take i es)) e).reply
+    printed_more a =
+        ap (λ l. printed (heard (site_labels site) a.reader l)) (lines_more a.form)
+        ∙ printed-append (site_labels site) a.reader (run_lines a.form site w (take i es)) (reply_lines_in a.form site e (step site (end_of site w (take i es)) e).reply)

@@ -14,13 +14,14 @@ use Rattle.mls_script.specs.declared.event.Event.{Event}
 use Rattle.mls_script.specs.declared.event.Command.{Command}
 use Rattle.mls_script.specs.declared.event.Command.TheVariants as commands
 use Rattle.mls_script.specs.Event.{EventFits}
+use Rattle.mls_machine.specs.declared.form.Form.{Form}
 use Rattle.mls_machine.specs.declared.reply.Reply.{Reply}
 use Rattle.mls_machine.specs.declared.stored.Stored.{Stored}
 use Rattle.mls_machine.specs.declared.stored.Stored.TheVariants.{Certified, Plain}
 use Rattle.mls_machine.specs.Stored.{WhereCertified, IsCertifiedUnder, IsMadeUnder}
 use Rattle.mls_machine.specs.Site.{Site, site_labels}
 use Rattle.mls_machine.specs.Machine.{World, step, end_of}
-use Rattle.mls_machine.specs.Output.{Line, reply_lines, run_lines, printed}
+use Rattle.mls_machine.specs.Output.{Line, reply_lines_in, run_lines, printed}
 use Rattle.mls_machine.specs.Observation.{AreStored, EventsFit, AreRead, AreSecure, AreCertified, AreMadeUnder, IsNoCall, HaveNoCall, shown, glimpse, seen, AgreeAt, EndAlike, IsBelowCeiling, AreBelowCeiling, out, released_in, run_released, released_to, reply_shown, replies_shown, PassesOnlyReleasesDown, ShowsOnlyReleases}
 use Rattle.mls_machine.specs.Laws.{LowRunsAreAlike, SecureRunsAreAlike, AcceptedRunsAreAlike}
 use Rattle.mls_machine.proofs.CalledLemmas.{WhereCalled, CallsRead, IsSafe, all_safe, no_call, weaker}
@@ -28,6 +29,7 @@ use Rattle.mls_machine.proofs.KeepingLemmas.{step_stored, first_fit}
 use Rattle.mls_machine.proofs.LowLemmas.{LowAgree, lows_trans, lows_sym, to_low, from_low}
 use Rattle.mls_machine.proofs.HiddenLemmas.{Silent, hidden_step}
 use Rattle.mls_machine.proofs.CallLemmas.{StepsAlike, seen_steps}
+use Rattle.mls_machine.proofs.FormLemmas.{seen_in, hidden_in}
 
 parts_head : (x y : Event) (xs ys : List Event) → x ∷ xs ≡ y ∷ ys → x ≡ y
 parts_head x y xs ys e = cc
@@ -73,12 +75,12 @@ module _ (site : Site) (distinct : AreDistinct (site_labels site)) (c : ℕ) whe
 
   -- ---- one event more
 
-  abbrev out_of : World → List Event → List Line
-  out_of w es = out (site_labels site) c (run_lines site w es)
+  abbrev out_of : Form → World → List Event → List Line
+  out_of form w es = out (site_labels site) c (run_lines form site w es)
 
-  out_next : (w : World) (e : Event) (es : List Event) → out_of w (e ∷ es) ≡ out (site_labels site) c (reply_lines site e (step site w e).reply) ++ out_of (next w e) es
+  out_next : (form : Form) (w : World) (e : Event) (es : List Event) → out_of form w (e ∷ es) ≡ out (site_labels site) c (reply_lines_in form site e (step site w e).reply) ++ out_of form (next w e) es
   unfolding run_lines
-  out_next w e es = filter-append (λ l. below (site_labels site) l.label c) (reply_lines site e (step site w e).reply) (run_lines site (next w e) es)
+  out_next form w e es = filter-append (λ l. below (site_labels site) l.label c) (reply_lines_in form site e (step site w e).reply) (run_lines form site (next w e) es)
 
   abbrev released_of : World → List Event → List Item
   released_of w es = released_to site c w es
@@ -114,8 +116,8 @@ module _ (site : Site) (distinct : AreDistinct (site_labels site)) (c : ℕ) whe
   hush : (w : World) (e : Event) → Sees e false → AreStored site w.db → IsGood e → Silent site c w e (step site w e)
   hush w e h sw good = hidden_step site distinct c w sw e h good.safe
 
-  out_hidden : (w : World) (e : Event) (es : List Event) → Sees e false → AreStored site w.db → IsGood e → out_of w (e ∷ es) ≡ out_of (next w e) es
-  out_hidden w e es h sw good = out_next w e es ∙ ap (λ xs. xs ++ out_of (next w e) es) (hush w e h sw good).lines
+  out_hidden : (form : Form) (w : World) (e : Event) (es : List Event) → Sees e false → AreStored site w.db → IsGood e → out_of form w (e ∷ es) ≡ out_of form (next w e) es
+  out_hidden form w e es h sw good = out_next form w e es ∙ ap (λ xs. xs ++ out_of form (next w e) es) (hidden_in site c e h (step site w e).reply (hush w e h sw good).lines form)
 
   released_hidden : (w : World) (e : Event) (es : List Event) → Sees e false → AreStored site w.db → IsGood e → released_of w (e ∷ es) ≡ released_of (next w e) es
   released_hidden w e es h sw good = released_next w e es ∙ ap (λ xs. xs ++ released_of (next w e) es) (hush w e h sw good).released
@@ -123,7 +125,7 @@ module _ (site : Site) (distinct : AreDistinct (site_labels site)) (c : ℕ) whe
   -- ---- two runs that end alike
 
   record Ends (v w : World) (es fs : List Event) : Type 0 where
-    pub out : out_of v es ≡ out_of w fs
+    pub out : (form : Form) → out_of form v es ≡ out_of form w fs
     pub replies : replies_of v es ≡ replies_of w fs
     pub world : LowAgree (site_labels site) c (end_of site v es) (end_of site w fs)
 
@@ -133,14 +135,14 @@ module _ (site : Site) (distinct : AreDistinct (site_labels site)) (c : ℕ) whe
 
   hidden_first : (v w : World) (e : Event) (es fs : List Event) → Sees e false → AreStored site v.db → IsGood e → Ends (next v e) w es fs → Ends v w (e ∷ es) fs
   hidden_first v w e es fs h sv good r = record {
-    out = out_hidden v e es h sv good ∙ r.out;
+    out = λ form. out_hidden form v e es h sv good ∙ r.out form;
     replies = replies_next v e es false h ∙ r.replies;
     world = subst (λ x. LowAgree (site_labels site) c x (end_of site w fs)) (sym (end_next v e es)) r.world;
   }
 
   hidden_second : (v w : World) (e : Event) (es fs : List Event) → Sees e false → AreStored site w.db → IsGood e → Ends v (next w e) es fs → Ends v w es (e ∷ fs)
   hidden_second v w e es fs h sw good r = record {
-    out = r.out ∙ sym (out_hidden w e fs h sw good);
+    out = λ form. r.out form ∙ sym (out_hidden form w e fs h sw good);
     replies = r.replies ∙ sym (replies_next w e fs false h);
     world = subst (λ x. LowAgree (site_labels site) c (end_of site v es) x) (sym (end_next w e fs)) r.world;
   }
@@ -152,7 +154,7 @@ module _ (site : Site) (distinct : AreDistinct (site_labels site)) (c : ℕ) whe
   -- only hidden events
   hidden_rest : (v w : World) (fs : List Event) → AreGood fs → AreStored site w.db → LowAgree (site_labels site) c v w → [] ≡ sees fs → Ends v w [] fs
   unfolding run_lines replies_shown end_of
-  hidden_rest v w [] gf sw h none = record { out = refl; replies = refl; world = h }
+  hidden_rest v w [] gf sw h none = record { out = λ form. refl; replies = refl; world = h }
   hidden_rest v w (x ∷ fs) gf sw h none =
       elim (cases_Bool (below (site_labels site) x.level c)) [
         | inl b ↦ absurd (not_nil (glimpse site c x) (sees fs) (sym (none ∙ sees_next x fs true b)))
@@ -202,10 +204,13 @@ module _ (site : Site) (distinct : AreDistinct (site_labels site)) (c : ℕ) whe
       elim (seen_steps site distinct c v w sv sw h e b x ge.safe g) [
         | inl s ↦ absurd (no_split v w e x es fs rel b s)
         | inr a ↦
+            let also = ap (λ y. below (site_labels site) y.level c) (sym g) ∙ b in
             let r = claim fs (next v e) (next w x) ges gfs (stored_next v e sv ge) (stored_next w x sw gx) a.world same (rest_alike v w e x es fs b a rel) in
             record {
-              out = out_next v e es ∙ (λ i. a.lines i ++ r.out i) ∙ sym (out_next w x fs);
-              replies = replies_next v e es true b ∙ (λ i. a.reply i ∷ r.replies i) ∙ sym (replies_next w x fs true (ap (λ y. below (site_labels site) y.level c) (sym g) ∙ b));
+              out = λ form. out_next form v e es
+                  ∙ (λ i. (seen_in site c e b (step site v e).reply form ∙ (λ j. reply_lines_in form site (g j) (a.reply j)) ∙ sym (seen_in site c x also (step site w x).reply form)) i ++ r.out form i)
+                  ∙ sym (out_next form w x fs);
+              replies = replies_next v e es true b ∙ (λ i. a.reply i ∷ r.replies i) ∙ sym (replies_next w x fs true also);
               world = r.world;
             }
       ]
@@ -285,7 +290,7 @@ first_accepted_alike site distinct read certified v es sv fits n = accepted_alik
 
 -- the lines that a level is shown are the same, and so are their bytes
 pub shows_only_releases : (site : Site) (c : ℕ) (v : World) (es : List Event) → PassesOnlyReleasesDown site v es → ShowsOnlyReleases site c v es
-shows_only_releases site c v es passes w fs sw ff agree same rel = ap printed (passes c w fs sw ff agree same rel).out
+shows_only_releases site c v es passes form w fs sw ff agree same rel = ap printed ((passes c w fs sw ff agree same rel).out form)
 
 -- ---- without calls
 

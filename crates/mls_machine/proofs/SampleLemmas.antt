@@ -15,6 +15,7 @@ use Rattle.mls_script.specs.declared.event.Event.{Event}
 use Rattle.mls_script.specs.declared.event.Command.{Command}
 use Rattle.mls_script.specs.declared.event.Command.TheVariants.{Open, Audit, View}
 use Rattle.mls_machine.specs.Site.{Site}
+use Rattle.mls_machine.specs.declared.form.Form.TheVariants.{Lines}
 use Rattle.mls_machine.specs.declared.reply.Denial.TheVariants.{Ds, Ss, Star}
 use Rattle.mls_machine.specs.declared.reply.Reply.TheVariants.{Opened, Entries}
 use Rattle.mls_machine.specs.Denying.{first_denial, read_mode, write_mode}
@@ -105,9 +106,9 @@ module _ (u s h : Pair) (rights : List Right) where
   abbrev auditing : List Entry → Step
   auditing es = record { world = denied_b.world; reply = Entries es }
 
-  next : (w : World) (e : Event) (es : List Event) (s : Step) → step site w e ≡ s → run_lines site w (e ∷ es) ≡ reply_lines site e s.reply ++ run_lines site s.world es
+  next : (w : World) (e : Event) (es : List Event) (s : Step) → step site w e ≡ s → run_lines Lines site w (e ∷ es) ≡ reply_lines site e s.reply ++ run_lines Lines site s.world es
   unfolding run_lines
-  next w e es s h = ap (λ (x : Step). reply_lines site e x.reply ++ run_lines site x.world es) h
+  next w e es s h = ap (λ (x : Step). reply_lines site e x.reply ++ run_lines Lines site x.world es) h
 
   module _ (u-u : below ls 0 0 ≡ true) (u-s : below ls 0 1 ≡ true) (u-h : below ls 0 2 ≡ true) (s-u : below ls 1 0 ≡ false) (s-s : below ls 1 1 ≡ true) (s-h : below ls 1 2 ≡ true) (h-s : below ls 2 1 ≡ false)
       (tom-reads : modes_in rights 0 (codes "SOD") ≡ 2) (bob-writes : modes_in rights 1 (codes "SOD") ≡ 8) where
@@ -135,7 +136,7 @@ module _ (u s h : Pair) (rights : List Right) where
     unfolding step
     bob_audits = λ i. auditing (shown (u-s i) (s-s i))
 
-    each_sees_its_own_denials : printed (run_lines site start script) ≡
+    each_sees_its_own_denials : printed (run_lines Lines site start script) ≡
         codes "U U/t opened tom\nS S/b opened bob\nU U/t denied 38 Star\nS S/b denied 37 Ss\nU U/t audit\nU U/t entry U denied tom t 38\nS S/b audit\nS S/b entry U denied tom t 38\nS S/b entry S denied bob b 37\n"
     unfolding run_lines digits
     each_sees_its_own_denials = ap printed (

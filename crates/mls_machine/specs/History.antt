@@ -1,15 +1,17 @@
 -- Histories: runs one after another over one database, each at its own site. Between runs no session is left.
-use Rattle.std.specs.Prelude.{◌≡◌, ℕ, List, [], ◌∷◌, map, Option, Some, ◌⊎◌, ⊤}
+use Rattle.std.specs.Prelude.{◌≡◌, ℕ, List, [], ◌∷◌, map, ◌⊎◌, ⊤}
 use Rattle.std.specs.List.{AllByRecursion, AllZip}
 use Rattle.mls_lattice.specs.Labels.{Labels, AreDistinct}
 use Rattle.mls_scheme.specs.Scheme.{Schemes}
 use Rattle.mls_meaning.specs.Secure.{AreStored}
 use Rattle.mls_script.specs.declared.event.Event.{Event}
+use Rattle.mls_machine.specs.declared.form.Form.{Form}
+use Rattle.mls_machine.specs.declared.form.Audience.{Audience}
 use Rattle.mls_machine.specs.declared.reply.Reply.{Reply}
 use Rattle.mls_machine.specs.Site.{Site, site_labels}
 use Rattle.mls_machine.specs.Machine.{World, no_sessions, end_of}
 use Rattle.mls_machine.specs.Output.{Line, run_lines, printed}
-use Rattle.mls_machine.specs.Observation.{EventsFit, AreRead, AreSecure, AreCertified, HaveNoCall, AgreeAt, seen, released_to, AreBelowCeiling, out, heard, replies_shown, PassesOnlyReleasesDown}
+use Rattle.mls_machine.specs.Observation.{EventsFit, AreRead, AreSecure, AreCertified, HaveNoCall, AgreeAt, seen, released_to, AreBelowCeiling, out, heard, reader_of, replies_shown, PassesOnlyReleasesDown}
 use Rattle.mls_machine.specs.Laws.{KeepsIntegrity}
 
 -- events at a site: users, rights and stored transactions may change from run to run
@@ -32,18 +34,18 @@ history_end w [] = w
 history_end w (r ∷ rs) = history_end (run_end w r) rs
 
 -- the lines of each run
-unfoldable pub history_lines : World → List RunAt → List (List Line)
-history_lines w [] = []
-history_lines w (r ∷ rs) = run_lines r.site w r.events ∷ history_lines (run_end w r) rs
+unfoldable pub history_lines : Form → World → List RunAt → List (List Line)
+history_lines form w [] = []
+history_lines form w (r ∷ rs) = run_lines form r.site w r.events ∷ history_lines form (run_end w r) rs
 
 -- what c sees of the replies of each run
 unfoldable pub history_replies : ℕ → World → List RunAt → List (List Reply)
 history_replies c w [] = []
 history_replies c w (r ∷ rs) = replies_shown r.site c w r.events ∷ history_replies c (run_end w r) rs
 
--- the bytes of each run, or those of the lines that a reader may see
-abbrev pub history_bytes : Labels → Option ℕ → World → List RunAt → List (List ℕ)
-history_bytes ls reader w rs = map (λ lines. printed (heard ls reader lines)) (history_lines w rs)
+-- the bytes of each run that an audience is shown
+abbrev pub history_bytes : Labels → Audience → World → List RunAt → List (List ℕ)
+history_bytes ls a w rs = map (λ lines. printed (heard ls a.reader lines)) (history_lines a.form w rs)
 
 -- each database on the way of each run has the four integrity properties
 abbrev pub KeepsIntegrityInHistory : World → List RunAt → Type 0
@@ -64,9 +66,9 @@ ReleaseAlike c v w (r ∷ rs) [] = ⊤
 ReleaseAlike c v w (r ∷ rs) (s ∷ ss) =
     ((released_to r.site c v r.events ≡ released_to s.site c w s.events) ⊎ AreBelowCeiling r.site c r.events) × ReleaseAlike c (run_end v r) (run_end w s) rs ss
 
--- two histories show the same lines to c run by run, and the same replies, and end in worlds that look alike to it
+-- two histories show the same lines to c run by run, in each form, and the same replies, and end in worlds that look alike to it
 pub record HistoriesEndAlike (ls : Labels) (c : ℕ) (v w : World) (rs ss : List RunAt) : Type 0 where
-  pub lines : map (out ls c) (history_lines v rs) ≡ map (out ls c) (history_lines w ss)
+  pub lines : (form : Form) → map (out ls c) (history_lines form v rs) ≡ map (out ls c) (history_lines form w ss)
   pub replies : history_replies c v rs ≡ history_replies c w ss
   pub worlds : AgreeAt ls c (history_end v rs) (history_end w ss)
 
@@ -102,12 +104,13 @@ module _ (ls : Labels) (schemes : Schemes) where
       → AgreeAt ls c v w → AllZip (LookAlike c) rs ss
       → HistoriesEndAlike ls c v w rs ss
 
-  -- what a history prints for c passes nothing down but what is released: its bytes are the same for any other such history
+  -- what a history prints for c, in either form, passes nothing down but what is released: its bytes are the same for any
+  -- other such history
   abbrev pub ShowsOnlyReleasesInHistory : ℕ → World → List RunAt → Type 0
   ShowsOnlyReleasesInHistory c v rs =
-      (w : World) (ss : List RunAt) → AreStored ls schemes w.db → HistoryFits ss
+      (form : Form) (w : World) (ss : List RunAt) → AreStored ls schemes w.db → HistoryFits ss
       → AgreeAt ls c v w → AllZip (LookAlike c) rs ss → ReleaseAlike c v w rs ss
-      → history_bytes ls (Some c) v rs ≡ history_bytes ls (Some c) w ss
+      → history_bytes ls (reader_of c form) v rs ≡ history_bytes ls (reader_of c form) w ss
 
 -- each run of a history passes nothing down but what it releases, from the world that it begins in
 abbrev pub EachPassesOnlyReleasesDown : World → List RunAt → Type 0

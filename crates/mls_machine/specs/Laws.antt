@@ -1,5 +1,6 @@
 -- The laws of the machine: refusals change nothing, runs keep integrity, and no information flows down but by releases.
 use Rattle.std.specs.Prelude.{◌≡◌, ℕ, false, List, [], ◌∷◌, ◌++◌, take, Option, Some, ⊤}
+use Rattle.mls_screen.specs.Screen.{IsHarmless}
 use Rattle.mls_lattice.specs.Labels.{AreDistinct}
 use Rattle.mls_lattice.specs.Policy.{Name}
 use Rattle.mls_scheme.specs.declared.value.Value.{Value}
@@ -11,6 +12,7 @@ use Rattle.mls_meaning.specs.Throughout.{Throughout}
 use Rattle.mls_script.specs.declared.event.Event.{Event}
 use Rattle.mls_script.specs.declared.event.Command.{Command}
 use Rattle.mls_script.specs.declared.event.Command.TheVariants.{Call}
+use Rattle.mls_machine.specs.declared.form.Form.TheVariants.{Table}
 use Rattle.mls_machine.specs.declared.reply.Reply.{Reply}
 use Rattle.mls_machine.specs.declared.reply.Reply.TheVariants.{Opened, Closed, Rows, Wrote, Ran, Entries, Denied}
 use Rattle.mls_machine.specs.declared.stored.Stored.{Stored}
@@ -18,7 +20,7 @@ use Rattle.mls_machine.specs.Stored.{tx_of}
 use Rattle.mls_machine.specs.Site.{Site, site_labels}
 use Rattle.mls_machine.specs.Denying.{stored_named, fitted}
 use Rattle.mls_machine.specs.Machine.{World, denial_entry, call_entries, step, end_of}
-use Rattle.mls_machine.specs.Observation.{AreStored, EventsFit, HaveNoCall, AreRead, AreSecure, AreCertified, PassesNothingDown, PassesOnlyReleasesDown}
+use Rattle.mls_machine.specs.Observation.{AreStored, EventsFit, HaveNoCall, AreRead, AreSecure, AreCertified, PassesNothingDown, PassesOnlyReleasesDown, run_shows}
 
 -- a denial, the rows of a view, the entries of an audit, or a write that is refused
 abbrev pub ChangesNothing : Reply → Type 0
@@ -76,3 +78,7 @@ abbrev pub AcceptedRunsAreAlike : Type 0
 AcceptedRunsAreAlike =
     (site : Site) → AreDistinct (site_labels site) → AreRead site → AreCertified site
     → (v : World) (es : List Event) → AreStored site v.db → EventsFit site es → PassesOnlyReleasesDown site v es
+
+-- what a run shows as a table has no control character but line feeds
+abbrev pub TablesAreHarmless : Type 0
+TablesAreHarmless = (site : Site) (reader : Option ℕ) (w : World) (es : List Event) → IsHarmless (run_shows site (record { reader = reader; form = Table }) w es)

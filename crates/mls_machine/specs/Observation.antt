@@ -18,6 +18,9 @@ use Rattle.mls_script.specs.declared.event.Event.{Event}
 use Rattle.mls_script.specs.declared.event.Command.{Command}
 use Rattle.mls_script.specs.declared.event.Command.TheVariants.{Call}
 use Rattle.mls_script.specs.Event.{EventFits}
+use Rattle.mls_machine.specs.declared.form.Form.{Form}
+use Rattle.mls_machine.specs.declared.form.Form.TheVariants.{Lines}
+use Rattle.mls_machine.specs.declared.form.Audience.{Audience}
 use Rattle.mls_machine.specs.declared.reply.Reply.{Reply}
 use Rattle.mls_machine.specs.declared.reply.Reply.TheVariants.{Ran}
 use Rattle.mls_machine.specs.declared.stored.Stored.{Stored}
@@ -25,7 +28,7 @@ use Rattle.mls_machine.specs.Stored.{tx_of, WhereCertified, IsCertifiedUnder, Is
 use Rattle.mls_machine.specs.Site.{Site, site_labels, site_scheme}
 use Rattle.mls_machine.specs.Denying.{stored_named}
 use Rattle.mls_machine.specs.Machine.{World, step, end_of}
-use Rattle.mls_machine.specs.Output.{Line, run_lines, printed}
+use Rattle.mls_machine.specs.Output.{Line, reply_lines_in, run_lines, printed}
 
 -- ---- what a run begins with
 
@@ -105,6 +108,21 @@ abbrev pub heard : Labels → Option ℕ → List Line → List Line
 heard ls None lines = lines
 heard ls (Some c) lines = out ls c lines
 
+-- the bytes that an audience is shown of a reply, and of a run
+abbrev pub reply_shows : Site → Audience → Event → Reply → List ℕ
+reply_shows site a e r = printed (heard (site_labels site) a.reader (reply_lines_in a.form site e r))
+
+abbrev pub run_shows : Site → Audience → World → List Event → List ℕ
+run_shows site a w es = printed (heard (site_labels site) a.reader (run_lines a.form site w es))
+
+-- all lines, for no one reader
+abbrev pub everyone : Audience
+everyone = record { reader = None; form = Lines }
+
+-- a reader of this label
+abbrev pub reader_of : ℕ → Form → Audience
+reader_of c form = record { reader = Some c; form = form }
+
 abbrev pub released_in : Reply → List Item
 released_in (Ran run) = run.released
 released_in reply = []
@@ -143,9 +161,9 @@ pub record AgreeAt (ls : Labels) (c : ℕ) (v w : World) : Type 0 where
 
 -- ---- runs
 
--- two runs show the same lines to c, and the same replies, and end in worlds that look alike to it
+-- two runs show the same lines to c in each form, and the same replies, and end in worlds that look alike to it
 pub record EndAlike (site : Site) (c : ℕ) (v w : World) (es fs : List Event) : Type 0 where
-  pub out : out (site_labels site) c (run_lines site v es) ≡ out (site_labels site) c (run_lines site w fs)
+  pub out : (form : Form) → out (site_labels site) c (run_lines form site v es) ≡ out (site_labels site) c (run_lines form site w fs)
   pub replies : replies_shown site c v es ≡ replies_shown site c w fs
   pub worlds : AgreeAt (site_labels site) c (end_of site v es) (end_of site w fs)
 
@@ -166,10 +184,11 @@ PassesOnlyReleasesDown site v es =
     → (released_to site c v es ≡ released_to site c w fs) ⊎ AreBelowCeiling site c es
     → EndAlike site c v w es fs
 
--- what a run prints for c passes nothing down but what is released: its bytes are the same for any other such run
+-- what a run prints for c, in either form, passes nothing down but what is released: its bytes are the same for any other
+-- such run
 abbrev pub ShowsOnlyReleases : Site → ℕ → World → List Event → Type 0
 ShowsOnlyReleases site c v es =
-    (w : World) (fs : List Event) → AreStored site w.db → EventsFit site fs
+    (form : Form) (w : World) (fs : List Event) → AreStored site w.db → EventsFit site fs
     → AgreeAt (site_labels site) c v w → seen site c es ≡ seen site c fs
     → (released_to site c v es ≡ released_to site c w fs) ⊎ AreBelowCeiling site c es
-    → printed (out (site_labels site) c (run_lines site v es)) ≡ printed (out (site_labels site) c (run_lines site w fs))
+    → run_shows site (reader_of c form) v es ≡ run_shows site (reader_of c form) w fs

@@ -3,6 +3,8 @@ use Rattle.std.specs.Prelude.{ℕ, if◌then◌else◌, List, [], ◌∷◌, ◌
 use Rattle.std.specs.List.{flat_map, AllByRecursion}
 use Rattle.std.specs.Fmt.{decimal, signed_decimal}
 use Rattle.mls_tokens.specs.Writing.{printable, quoted}
+use Rattle.mls_screen.specs.Screen.{escaped}
+use Rattle.mls_screen.specs.Table.{wider, padded, ruled}
 use Rattle.mls_lattice.specs.Lattice.{Pair, same_pair}
 use Rattle.mls_lattice.specs.Policy.{Name, Named, Tables, labels_of}
 use Rattle.mls_lattice.specs.Canon.{label_name, user_name}
@@ -20,6 +22,8 @@ use Rattle.mls_meaning.specs.Meaning.{Item}
 use Rattle.mls_script.specs.declared.event.Event.{Event}
 use Rattle.mls_script.specs.declared.event.Command.{Command}
 use Rattle.mls_script.specs.declared.event.Command.TheVariants as commands
+use Rattle.mls_machine.specs.declared.form.Form.{Form}
+use Rattle.mls_machine.specs.declared.form.Form.TheVariants.{Lines, Table}
 use Rattle.mls_machine.specs.declared.reply.Denial.{Denial}
 use Rattle.mls_machine.specs.declared.reply.Reply.{Reply}
 use Rattle.mls_machine.specs.declared.reply.Reply.TheVariants.{Opened, Closed, Rows, Wrote, Ran, Entries, Denied}
@@ -63,6 +67,48 @@ abbrev pub view_texts : Site → Command → List Tuple → List (List ℕ)
 view_texts site (commands.View rel label) tuples = heading site.policy (scheme_of site.schemes rel) label ∷ map (row_text site.policy) tuples
 view_texts site command tuples = []
 
+-- ---- rows as a table
+
+-- a value and its class
+abbrev pub table_cell : List Named → ℕ → Option Value → List ℕ
+table_cell labels class v = escaped (cell_text v ++ codes " " ++ label_name labels class)
+
+abbrev pub tuple_cells : Tables → Tuple → List (List ℕ)
+tuple_cells p t = map (λ v. table_cell p.labels t.key_class (Some v)) t.key ++ map (λ e. table_cell p.labels e.class e.value) t.elements
+
+abbrev pub name_cells : Scheme → List (List ℕ)
+name_cells s = map (λ a. a.name) s.keys ++ map (λ a. a.name) s.others
+
+-- the widths of columns that have room for the cells of these tuples too
+abbrev pub widths_with : Tables → List ℕ → List Tuple → List ℕ
+widths_with p widths [] = widths
+widths_with p widths (t ∷ ts) = widths_with p (wider widths 0 (tuple_cells p t)) ts
+
+abbrev pub table_widths : Tables → Scheme → List Tuple → List ℕ
+table_widths p s tuples = widths_with p (wider [] 0 (name_cells s)) tuples
+
+abbrev pub table_title : Tables → Scheme → ℕ → List ℕ
+table_title p s label = codes "view " ++ s.name ++ codes " at " ++ label_name p.labels label ++ codes ":"
+
+-- the names of the attributes, and a rule below them
+abbrev pub table_names : Scheme → List ℕ → List ℕ
+table_names s widths = padded widths 0 (name_cells s) ++ codes "class"
+
+abbrev pub table_rule : List ℕ → List ℕ
+table_rule widths = flat_map ruled widths ++ codes "-----"
+
+-- the cells of a tuple, and its class
+abbrev pub table_row : Tables → List ℕ → Tuple → List ℕ
+table_row p widths t = padded widths 0 (tuple_cells p t) ++ name_of p.labels (tuple_class (labels_of p) t)
+
+abbrev pub table_of : Tables → Scheme → ℕ → List ℕ → List Tuple → List (List ℕ)
+table_of p s label widths tuples = table_title p s label ∷ table_names s widths ∷ table_rule widths ∷ map (table_row p widths) tuples
+
+-- the texts of a table, which answers a view and nothing else
+abbrev pub table_texts : Site → Command → List Tuple → List (List ℕ)
+table_texts site (commands.View rel label) tuples = table_of site.policy (scheme_of site.schemes rel) label (table_widths site.policy (scheme_of site.schemes rel) tuples) tuples
+table_texts site command tuples = []
+
 -- ---- entries
 
 -- the label, what was done, the user and the session
@@ -97,6 +143,11 @@ reply_texts site command (Ran run) = call_texts command
 reply_texts site command (Entries es) = codes "audit" ∷ map (entry_text site.policy) es
 reply_texts site command (Denied d) = denial_text d ∷ []
 
+-- the same with a table for a view
+abbrev pub texts_in_table : Site → Command → Reply → List (List ℕ)
+texts_in_table site command (Rows tuples) = table_texts site command tuples
+texts_in_table site command r = reply_texts site command r
+
 -- ---- lines
 
 -- a line without its end, and the label that may see it
@@ -120,14 +171,25 @@ abbrev pub item_lines : Tables → Event → Reply → List Line
 item_lines p e (Ran run) = map (item_line p e (codes "emit ")) run.emitted ++ map (item_line p e (codes "release ")) run.released
 item_lines p e reply = []
 
--- the lines of a reply: those at the level of the session, and then its items
+-- the lines of a reply: those at the level of the session, with these texts, and then its items
+abbrev pub lines_with : Site → Event → List (List ℕ) → Reply → List Line
+lines_with site e texts r = map (line site.policy e e.level) texts ++ item_lines site.policy e r
+
 abbrev pub reply_lines : Site → Event → Reply → List Line
-reply_lines site e r = map (line site.policy e e.level) (reply_texts site e.command r) ++ item_lines site.policy e r
+reply_lines site e r = lines_with site e (reply_texts site e.command r) r
+
+-- a line for a screen, of the same label
+abbrev pub escaped_line : Line → Line
+escaped_line l = record { label = l.label; text = escaped l.text }
+
+abbrev pub reply_lines_in : Form → Site → Event → Reply → List Line
+reply_lines_in Lines site e r = reply_lines site e r
+reply_lines_in Table site e r = map escaped_line (lines_with site e (texts_in_table site e.command r) r)
 
 -- the lines of a run from w
-unfoldable pub run_lines : Site → World → List Event → List Line
-run_lines site w [] = []
-run_lines site w (e ∷ es) = reply_lines site e (step site w e).reply ++ run_lines site (step site w e).world es
+unfoldable pub run_lines : Form → Site → World → List Event → List Line
+run_lines form site w [] = []
+run_lines form site w (e ∷ es) = reply_lines_in form site e (step site w e).reply ++ run_lines form site (step site w e).world es
 
 -- the bytes of lines, each with its end
 abbrev pub printed : List Line → List ℕ

@@ -1,6 +1,6 @@
 //! The laws of the machine, each the contract of a function.
 ghost use Rattle.mls_machine.specs.History.{HistoriesKeepIntegrity, LowHistoriesAreAlike, SecureHistoriesAreAlike, AcceptedHistoriesAreAlike, HistoriesPassWhatRunsPass, HistoriesShowOnlyReleases};
-ghost use Rattle.mls_machine.specs.Laws.{RefusalsChangeNothing, DenialsAndCallsAreEntered, RunsKeepIntegrity, LowRunsAreAlike, SecureRunsAreAlike, AcceptedRunsAreAlike};
+ghost use Rattle.mls_machine.specs.Laws.{RefusalsChangeNothing, DenialsAndCallsAreEntered, RunsKeepIntegrity, LowRunsAreAlike, SecureRunsAreAlike, AcceptedRunsAreAlike, TablesAreHarmless};
 
 /// A command that is denied, a view, an audit, and a write that is refused leave the database and the sessions as they
 /// were.
@@ -70,4 +70,9 @@ pub fn histories_pass_what_runs_pass()
 /// So of the bytes that one reader is shown.
 pub fn histories_show_only_releases()
     ensures { HistoriesShowOnlyReleases }
+{}
+
+/// What a run shows as a table has no control character but line feeds, whatever is stored.
+pub fn tables_are_harmless()
+    ensures { TablesAreHarmless }
 {}

@@ -1,3 +1,5 @@
 pub mod KnownLemmas
 pub mod PrintingSteps
 pub mod ShownLemmas
+pub mod TableSteps
+pub mod ShowingLemmas

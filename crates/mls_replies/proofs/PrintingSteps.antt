@@ -21,11 +21,13 @@ use Rattle.mls_meaning.specs.Meaning.{Item}
 use Rattle.mls_script.specs.declared.event.Event.{Event}
 use Rattle.mls_script.specs.declared.event.Command.{Command}
 use Rattle.mls_script.specs.declared.event.Command.TheVariants as commands
+use Rattle.mls_machine.specs.declared.form.Form.{Form}
+use Rattle.mls_machine.specs.declared.form.Form.TheVariants.{Lines, Table}
 use Rattle.mls_machine.specs.declared.reply.Reply.{Reply}
 use Rattle.mls_machine.specs.declared.reply.Reply.TheVariants.{Opened, Closed, Rows, Wrote, Ran, Entries, Denied}
 use Rattle.mls_machine.specs.declared.stored.Stored.{Stored}
 use Rattle.mls_machine.specs.Site.{Site, site_scheme}
-use Rattle.mls_machine.specs.Output.{Line, name_of, cell_text, front, line, item_line, item_lines, heading, row_text, entry_text, view_texts, call_texts, reply_texts, reply_lines, printed}
+use Rattle.mls_machine.specs.Output.{Line, name_of, cell_text, front, line, item_line, item_lines, heading, row_text, entry_text, view_texts, call_texts, reply_texts, reply_lines, reply_lines_in, lines_with, escaped_line, table_texts, texts_in_table, printed}
 use Rattle.mls_replies.specs.Under.{site_under}
 
 abbrev no_label : Named
@@ -188,5 +190,16 @@ same_texts p s stored command (Ran run) = refl
 same_texts p s stored command (Entries es) = refl
 same_texts p s stored command (Denied d) = refl
 
-pub lines_under : (site : Site) (e : Event) (r : Reply) → reply_lines (site_under site.policy site.schemes) e r ≡ reply_lines site e r
-lines_under site e r = ap (λ texts. map (line site.policy e e.level) texts ++ item_lines site.policy e r) (same_texts site.policy site.schemes site.stored e.command r)
+same_tables : (p : Tables) (s : Schemes) (stored : List Stored) (command : Command) (tuples : List Tuple)
+    → table_texts (site_under p s) command tuples ≡ table_texts (record { policy = p; schemes = s; stored = stored }) command tuples
+same_tables p s stored (commands.View rel label) tuples = refl
+same_tables p s stored command tuples = refl
+
+same_in_table : (p : Tables) (s : Schemes) (stored : List Stored) (command : Command) (r : Reply)
+    → texts_in_table (site_under p s) command r ≡ texts_in_table (record { policy = p; schemes = s; stored = stored }) command r
+same_in_table p s stored command (Rows tuples) = same_tables p s stored command tuples
+same_in_table p s stored command r = same_texts p s stored command r
+
+pub lines_under : (form : Form) (site : Site) (e : Event) (r : Reply) → reply_lines_in form (site_under site.policy site.schemes) e r ≡ reply_lines_in form site e r
+lines_under Lines site e r = ap (λ texts. lines_with site e texts r) (same_texts site.policy site.schemes site.stored e.command r)
+lines_under Table site e r = ap (λ texts. map escaped_line (lines_with site e texts r)) (same_in_table site.policy site.schemes site.stored e.command r)

@@ -22,7 +22,7 @@ module _ (site : Site) (e : Event) (c : ℕ) where
 
   -- ---- lines at the level of the session: all of them, or none
 
-  texts_seen : (b : Bool) → below ls e.level c ≡ b → (texts : List (List ℕ)) → out ls c (on_level texts) ≡ cond b (on_level texts) []
+  pub texts_seen : (b : Bool) → below ls e.level c ≡ b → (texts : List (List ℕ)) → out ls c (on_level texts) ≡ cond b (on_level texts) []
   texts_seen true h [] = refl
   texts_seen false h [] = refl
   texts_seen true h (t ∷ texts) =

@@ -1,5 +1,6 @@
--- What a reader may see of an item.
-use Rattle.std.specs.Prelude.{ℕ, List, [], ◌∷◌}
+-- What a reader may see of a level and of an item.
+use Rattle.std.specs.Prelude.{ℕ, Bool, true, List, [], ◌∷◌, Option, Some, None}
+use Rattle.mls_lattice.specs.Labels.{Labels, below}
 use Rattle.mls_lattice.specs.Policy.{Tables, labels_of}
 use Rattle.mls_meaning.specs.Meaning.{Item}
 use Rattle.mls_script.specs.declared.event.Event.{Event}
@@ -9,3 +10,8 @@ use Rattle.mls_machine.specs.Observation.{out}
 -- the bytes of its line, or nothing where the reader doesn't dominate its label
 unfoldable pub seen_item : Tables → Event → ℕ → List ℕ → Item → List ℕ
 seen_item p e reader deed item = printed (out (labels_of p) reader (item_line p e deed item ∷ []))
+
+-- whether the reader dominates a level, or there is none
+abbrev pub hears : Labels → Option ℕ → ℕ → Bool
+hears ls None level = true
+hears ls (Some c) level = below ls level c

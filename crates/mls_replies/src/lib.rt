@@ -1,4 +1,5 @@
-//! Replies as bytes: the lines that a session is answered, those that a reader may see, and whether a reply can be printed.
+//! Replies as bytes: the lines that a session is answered, those that a reader may see, a view as a table, and whether a
+//! reply can be printed.
 #![tactic(auto)]
 
 mod known;
@@ -6,8 +7,11 @@ mod printing;
 mod printing_items;
 mod printing_rows;
 mod replies;
+mod showing;
 mod shown;
+mod table;
 
 pub use known::is_known;
 pub use replies::reply_bytes;
+pub use showing::shown_to;
 pub use shown::shown_bytes;

@@ -58,7 +58,7 @@ fn push_elements(
 
 /// The name of the first label of a value, or nothing.
 #[tactic(auto, using(crate::proofs::PrintingSteps::naming))]
-fn name_of(policy: &Policy, class: Label) -> &str
+pub(crate) fn name_of(policy: &Policy, class: Label) -> &str
     ensures { result.now ≡ name_of policy.now.labels (pair_of class) }
 {
     for number in 0..policy.label_count() {

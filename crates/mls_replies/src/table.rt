@@ -1,0 +1,343 @@
+//! A view as a table.
+ghost use Rattle.std.specs.Prelude.{◌≡◌, ◌<◌, ◌++◌, map, length, codes, OnOk, IfOk, Some, []};
+ghost use Rattle.std.specs.List.{flat_map, AllByRecursion};
+ghost use Rattle.mls_lattice.specs.Canon.{label_name};
+ghost use Rattle.mls_scheme.specs.Tuple.{HasClassesBelow};
+ghost use Rattle.mls_screen.specs.Screen.{escaped};
+ghost use Rattle.mls_screen.specs.Table.{wider, padded};
+ghost use Rattle.mls_replies.specs.Under.{site_under};
+ghost use Rattle.mls_machine.specs.Output.{front, table_cell, tuple_cells, name_cells, widths_with, table_title, table_names, table_rule, table_row, table_widths, table_texts, CommandIsKnown};
+
+use crate::printing::{push_cell, push_front, push_value};
+use crate::printing_rows::name_of;
+use mls_lattice::{Items, LabelNo, Policy};
+use mls_scheme::{Attributes, Element, Scheme, Schemes, Tuple, Value, tuple_class};
+use mls_screen::{escape, push_row, push_rule, wider};
+use mls_script::{Command, Event};
+use mls_tokens::push_str;
+use std::alloc::{AllocError, Global};
+
+// ---- cells
+
+/// A cell, from the text of its value and its class.
+fn cell_of(
+    alloc: Global,
+    value: Vec<u8>,
+    policy: &Policy,
+    class: LabelNo,
+) -> Result<Items<u8>, AllocError>
+    requires { class < length policy.now.labels }
+    ensures { IfOk result (λ cell. cell ≡ escaped (value.items ++ codes " " ++ label_name policy.now.labels class)) }
+{
+    let mut text = value;
+    push_str(&mut text, " ")?;
+    push_str(&mut text, policy.name(class))?;
+    Ok(Items::from(escape(alloc, &text)?))
+}
+
+fn key_cell(
+    alloc: Global,
+    policy: &Policy,
+    class: LabelNo,
+    value: &Value,
+) -> Result<Items<u8>, AllocError>
+    requires { class < length policy.now.labels }
+    ensures { IfOk result (λ cell. cell ≡ table_cell policy.now.labels class (Some value.now)) }
+{
+    let mut text = Vec::new(alloc);
+    push_value(alloc, &mut text, value)?;
+    cell_of(alloc, text, policy, class)
+}
+
+fn element_cell(alloc: Global, policy: &Policy, element: &Element) -> Result<Items<u8>, AllocError>
+    requires { element.now.class < length policy.now.labels }
+    ensures { IfOk result (λ cell. cell ≡ table_cell policy.now.labels element.now.class element.now.value) }
+{
+    let mut text = Vec::new(alloc);
+    push_cell(alloc, &mut text, &element.value)?;
+    cell_of(alloc, text, policy, element.class)
+}
+
+fn push_key_cells(
+    alloc: Global,
+    cells: &mut Vec<Items<u8>>,
+    policy: &Policy,
+    class: LabelNo,
+    key: &[Value],
+) -> Result<(), AllocError>
+    requires { class < length policy.now.labels }
+    ensures { OnOk result (cells.new.items ≡ cells.old.items ++ map (λ v. table_cell policy.now.labels class (Some v)) key.now) }
+{
+    for value in key {
+        let cell = key_cell(alloc, policy, class, value)?;
+        cells.push(cell)?;
+    }
+    Ok(())
+}
+
+fn push_element_cells(
+    alloc: Global,
+    cells: &mut Vec<Items<u8>>,
+    policy: &Policy,
+    elements: &[Element],
+) -> Result<(), AllocError>
+    requires { AllByRecursion (λ e. e.class < length policy.now.labels) elements.now }
+    ensures { OnOk result (cells.new.items ≡ cells.old.items ++ map (λ e. table_cell policy.now.labels e.class e.value) elements.now) }
+{
+    for element in elements {
+        let cell = element_cell(alloc, policy, element)?;
+        cells.push(cell)?;
+    }
+    Ok(())
+}
+
+/// The cells of a tuple: its values, each with its class.
+fn tuple_cells(alloc: Global, policy: &Policy, tuple: &Tuple) -> Result<Vec<Items<u8>>, AllocError>
+    requires { HasClassesBelow (length policy.now.labels) tuple.now }
+    ensures { IfOk result (λ cells. cells.items ≡ tuple_cells policy.now tuple.now) }
+{
+    let mut cells = Vec::new(alloc);
+    push_key_cells(alloc, &mut cells, policy, tuple.key_class, &tuple.key)?;
+    push_element_cells(alloc, &mut cells, policy, &tuple.elements)?;
+    Ok(cells)
+}
+
+fn name_cell(alloc: Global, name: &str) -> Result<Items<u8>, AllocError>
+    ensures { IfOk result (λ cell. cell ≡ name.now) }
+{
+    let mut text = Vec::new(alloc);
+    push_str(&mut text, name)?;
+    Ok(Items::from(text))
+}
+
+fn push_name_cells(
+    alloc: Global,
+    cells: &mut Vec<Items<u8>>,
+    attributes: &Attributes,
+) -> Result<(), AllocError>
+    ensures { OnOk result (cells.new.items ≡ cells.old.items ++ map (λ a. a.name) attributes.now) }
+{
+    for place in 0..attributes.len() {
+        let cell = name_cell(alloc, attributes.name(place))?;
+        cells.push(cell)?;
+    }
+    Ok(())
+}
+
+/// The cells of the heading: the names of the attributes.
+fn name_cells(alloc: Global, scheme: &Scheme) -> Result<Vec<Items<u8>>, AllocError>
+    ensures { IfOk result (λ cells. cells.items ≡ name_cells scheme.now) }
+{
+    let mut cells = Vec::new(alloc);
+    push_name_cells(alloc, &mut cells, scheme.keys())?;
+    push_name_cells(alloc, &mut cells, scheme.others())?;
+    Ok(cells)
+}
+
+// ---- columns
+
+/// How wide columns are that have room for the cells of a tuple too.
+fn widened(
+    alloc: Global,
+    policy: &Policy,
+    widths: &[usize],
+    tuple: &Tuple,
+) -> Result<Vec<usize>, AllocError>
+    requires { HasClassesBelow (length policy.now.labels) tuple.now }
+    ensures { IfOk result (λ wide. wide.items ≡ wider widths.now 0 (tuple_cells policy.now tuple.now)) }
+{
+    let cells = tuple_cells(alloc, policy, tuple)?;
+    wider(alloc, widths, &cells)
+}
+
+/// How wide the columns of a table are.
+#[tactic(auto, using(crate::proofs::TableSteps::widths_steps))]
+fn widths_of(
+    alloc: Global,
+    policy: &Policy,
+    names: &[Items<u8>],
+    tuples: &[Tuple],
+) -> Result<Vec<usize>, AllocError>
+    requires { AllByRecursion (HasClassesBelow (length policy.now.labels)) tuples.now }
+    ensures { IfOk result (λ widths. widths.items ≡ widths_with policy.now (wider [] 0 names.now) tuples.now) }
+{
+    let mut widths = wider(alloc, &[], names)?;
+    for tuple in tuples {
+        widths = widened(alloc, policy, &widths, tuple)?;
+    }
+    Ok(widths)
+}
+
+// ---- lines
+
+fn push_title(
+    text: &mut Vec<u8>,
+    policy: &Policy,
+    scheme: &Scheme,
+    label: LabelNo,
+) -> Result<(), AllocError>
+    requires { label < length policy.now.labels }
+    ensures { OnOk result (text.new.items ≡ text.old.items ++ table_title policy.now scheme.now label) }
+{
+    push_str(text, "view ")?;
+    push_str(text, scheme.name())?;
+    push_str(text, " at ")?;
+    push_str(text, policy.name(label))?;
+    push_str(text, ":")
+}
+
+fn push_title_line(
+    text: &mut Vec<u8>,
+    policy: &Policy,
+    scheme: &Scheme,
+    event: &Event,
+    label: LabelNo,
+) -> Result<(), AllocError>
+    requires level { event.now.level < length policy.now.labels }
+    requires label { label < length policy.now.labels }
+    ensures { OnOk result (text.new.items ≡ text.old.items ++ (front policy.now event.now event.now.level ++ table_title policy.now scheme.now label ++ codes "\n")) }
+{
+    push_front(text, policy, event, event.level)?;
+    push_title(text, policy, scheme, label)?;
+    push_str(text, "\n")?;
+    Ok(())
+}
+
+fn push_names_line(
+    text: &mut Vec<u8>,
+    policy: &Policy,
+    event: &Event,
+    names: &[Items<u8>],
+    widths: &[usize],
+) -> Result<(), AllocError>
+    requires { event.now.level < length policy.now.labels }
+    ensures { OnOk result (text.new.items ≡ text.old.items ++ (front policy.now event.now event.now.level ++ (padded widths.now 0 names.now ++ codes "class") ++ codes "\n")) }
+{
+    push_front(text, policy, event, event.level)?;
+    push_row(text, widths, names)?;
+    push_str(text, "class")?;
+    push_str(text, "\n")?;
+    Ok(())
+}
+
+fn push_rule_line(
+    text: &mut Vec<u8>,
+    policy: &Policy,
+    event: &Event,
+    widths: &[usize],
+) -> Result<(), AllocError>
+    requires { event.now.level < length policy.now.labels }
+    ensures { OnOk result (text.new.items ≡ text.old.items ++ (front policy.now event.now event.now.level ++ table_rule widths.now ++ codes "\n")) }
+{
+    push_front(text, policy, event, event.level)?;
+    push_rule(text, widths)?;
+    push_str(text, "-----")?;
+    push_str(text, "\n")?;
+    Ok(())
+}
+
+/// Appends the cells of a tuple and its class.
+fn push_tuple(
+    alloc: Global,
+    text: &mut Vec<u8>,
+    policy: &Policy,
+    widths: &[usize],
+    tuple: &Tuple,
+) -> Result<(), AllocError>
+    requires { HasClassesBelow (length policy.now.labels) tuple.now }
+    ensures { OnOk result (text.new.items ≡ text.old.items ++ table_row policy.now widths.now tuple.now) }
+{
+    let cells = tuple_cells(alloc, policy, tuple)?;
+    push_row(text, widths, &cells)?;
+    push_str(text, name_of(policy, tuple_class(policy, tuple)))
+}
+
+fn push_tuples(
+    alloc: Global,
+    text: &mut Vec<u8>,
+    policy: &Policy,
+    event: &Event,
+    widths: &[usize],
+    tuples: &[Tuple],
+) -> Result<(), AllocError>
+    requires level { event.now.level < length policy.now.labels }
+    requires classes { AllByRecursion (HasClassesBelow (length policy.now.labels)) tuples.now }
+    ensures { OnOk result (text.new.items ≡ text.old.items ++ flat_map (λ t. front policy.now event.now event.now.level ++ table_row policy.now widths.now t ++ codes "\n") tuples.now) }
+{
+    for tuple in tuples {
+        push_front(text, policy, event, event.level)?;
+        push_tuple(alloc, text, policy, widths, tuple)?;
+        push_str(text, "\n")?;
+    }
+    Ok(())
+}
+
+/// Appends the lines of a view as a table.
+fn push_table(
+    alloc: Global,
+    text: &mut Vec<u8>,
+    policy: &Policy,
+    scheme: &Scheme,
+    event: &Event,
+    label: LabelNo,
+    tuples: &[Tuple],
+) -> Result<(), AllocError>
+    requires level { event.now.level < length policy.now.labels }
+    requires label { label < length policy.now.labels }
+    requires classes { AllByRecursion (HasClassesBelow (length policy.now.labels)) tuples.now }
+    ensures { OnOk result (text.new.items ≡ text.old.items
+        ++ ((front policy.now event.now event.now.level ++ table_title policy.now scheme.now label ++ codes "\n")
+        ++ ((front policy.now event.now event.now.level ++ table_names scheme.now (table_widths policy.now scheme.now tuples.now) ++ codes "\n")
+        ++ ((front policy.now event.now event.now.level ++ table_rule (table_widths policy.now scheme.now tuples.now) ++ codes "\n")
+        ++ flat_map (λ t. front policy.now event.now event.now.level ++ table_row policy.now (table_widths policy.now scheme.now tuples.now) t ++ codes "\n") tuples.now)))) }
+{
+    let names = name_cells(alloc, scheme)?;
+    let widths = widths_of(alloc, policy, &names, tuples)?;
+    push_title_line(text, policy, scheme, event, label)?;
+    push_names_line(text, policy, event, &names, &widths)?;
+    push_rule_line(text, policy, event, &widths)?;
+    push_tuples(alloc, text, policy, event, &widths, tuples)
+}
+
+/// Appends the lines of rows, which answer a view and nothing else.
+fn push_answer(
+    alloc: Global,
+    text: &mut Vec<u8>,
+    policy: &Policy,
+    schemes: &Schemes,
+    event: &Event,
+    tuples: &[Tuple],
+) -> Result<(), AllocError>
+    requires level { event.now.level < length policy.now.labels }
+    requires command { CommandIsKnown (site_under policy.now schemes.now) event.now.command }
+    requires classes { AllByRecursion (HasClassesBelow (length policy.now.labels)) tuples.now }
+    ensures { OnOk result (text.new.items ≡ text.old.items ++ flat_map (λ t. front policy.now event.now event.now.level ++ t ++ codes "\n")
+        (table_texts (site_under policy.now schemes.now) event.now.command tuples.now)) }
+{
+    match &event.command {
+        Command::View { rel, label } => {
+            let scheme = schemes.scheme(*rel);
+            push_table(alloc, text, policy, scheme, event, *label, tuples)
+        }
+        _ => Ok(()),
+    }
+}
+
+/// The lines of a view as a table.
+pub(crate) fn table_bytes(
+    alloc: Global,
+    policy: &Policy,
+    schemes: &Schemes,
+    event: &Event,
+    tuples: &[Tuple],
+) -> Result<Vec<u8>, AllocError>
+    requires level { event.now.level < length policy.now.labels }
+    requires command { CommandIsKnown (site_under policy.now schemes.now) event.now.command }
+    requires classes { AllByRecursion (HasClassesBelow (length policy.now.labels)) tuples.now }
+    ensures { IfOk result (λ text. text.items ≡ flat_map (λ t. front policy.now event.now event.now.level ++ t ++ codes "\n")
+        (table_texts (site_under policy.now schemes.now) event.now.command tuples.now)) }
+{
+    let mut text = Vec::new(alloc);
+    push_answer(alloc, &mut text, policy, schemes, event, tuples)?;
+    Ok(text)
+}

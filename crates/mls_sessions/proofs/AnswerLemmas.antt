@@ -10,11 +10,12 @@ use Rattle.mls_filterview.specs.Calls.{IsServed}
 use Rattle.mls_filterview.specs.Content.{State}
 use Rattle.mls_script.specs.declared.event.Event.{Event}
 use Rattle.mls_script.specs.Event.{EventFits}
+use Rattle.mls_machine.specs.declared.form.Audience.{Audience}
 use Rattle.mls_machine.specs.declared.reply.Reply.{Reply}
 use Rattle.mls_machine.specs.Site.{Site, site_labels}
 use Rattle.mls_machine.specs.Machine.{World, step, end_of}
-use Rattle.mls_machine.specs.Output.{reply_lines, run_lines, printed, ReplyIsKnown}
-use Rattle.mls_machine.specs.Observation.{AreStored, EventsFit, heard}
+use Rattle.mls_machine.specs.Output.{run_lines, ReplyIsKnown}
+use Rattle.mls_machine.specs.Observation.{AreStored, EventsFit, reply_shows, run_shows}
 use Rattle.mls_machine.proofs.LineLemmas.{nothing_heard, end_more, printed_more}
 use Rattle.mls_machine.proofs.ReplyLemmas.{step_known}
 use Rattle.mls_sessions.specs.declared.cause.RunCause.{RunCause}
@@ -28,37 +29,37 @@ use Rattle.mls_sessions.proofs.StepLemmas.{entries_known}
 
 -- ---- one event
 
-module _ {B : Type 0} (state : B → State) (old new : Engine B) (reader : Option ℕ) (event : Event) (a b : Option (List ℕ)) where
+module _ {B : Type 0} (state : B → State) (old new : Engine B) (audience : Audience) (event : Event) (a b : Option (List ℕ)) where
   abbrev first : World
   first = world_of state old
 
-  pub halted_before : (cause : RunCause) → world_of state new ≡ first → IsHalted (site old) reader first event a a (world_of state new) cause false
+  pub halted_before : (cause : RunCause) → world_of state new ≡ first → IsHalted (site old) audience first event a a (world_of state new) cause false
   halted_before cause h = record {
-    reply = record { part = []; rest = answer_text (site old) reader first event a a first; appends = Appends-nil a; whole = refl };
+    reply = record { part = []; rest = answer_text (site old) audience first event a a first; appends = Appends-nil a; whole = refl };
     none = λ x. refl;
     world = h;
   }
 
   module _ (r : Reply) (h : IsStep state old (step (site old) first event) new r) where
-    pub halted_unprinted : (cause : RunCause) → IsHalted (site old) reader first event a a (world_of state new) cause true
+    pub halted_unprinted : (cause : RunCause) → IsHalted (site old) audience first event a a (world_of state new) cause true
     halted_unprinted cause = record {
-      reply = record { part = []; rest = answer_text (site old) reader first event a a first; appends = Appends-nil a; whole = refl };
+      reply = record { part = []; rest = answer_text (site old) audience first event a a first; appends = Appends-nil a; whole = refl };
       none = λ x. refl;
       world = h.world;
     }
 
-    module _ (kept : new.rules ≡ old.rules) (bytes : List ℕ) (is : bytes ≡ printed (heard (site_labels (site new)) reader (reply_lines (site new) event r))) where
-      text_is : bytes ≡ answer_text (site old) reader first event a b first
-      text_is = is ∙ (λ i. printed (heard (site_labels (site_of (kept i))) reader (reply_lines (site_of (kept i)) event (h.reply i))))
+    module _ (kept : new.rules ≡ old.rules) (bytes : List ℕ) (is : bytes ≡ reply_shows (site new) audience event r) where
+      text_is : bytes ≡ answer_text (site old) audience first event a b first
+      text_is = is ∙ (λ i. reply_shows (site_of (kept i)) audience event (h.reply i))
 
-      pub halted_unwritten : IsPart a b bytes → IsHalted (site old) reader first event a b (world_of state new) Write true
+      pub halted_unwritten : IsPart a b bytes → IsHalted (site old) audience first event a b (world_of state new) Write true
       halted_unwritten p = record {
         reply = record { part = p.part; rest = p.rest; appends = p.appends; whole = p.whole ∙ text_is };
         none = λ x. absurd (x refl);
         world = h.world;
       }
 
-      pub answered : Appends a b bytes → IsAnswered (site old) reader first event a b (world_of state new)
+      pub answered : Appends a b bytes → IsAnswered (site old) audience first event a b (world_of state new)
       answered p = record { bytes = subst (Appends a b) text_is p; world = h.world }
 
 pub stored_at : {B : Type 0} (state : B → State) (is_clean : B → Type 0) (e : Engine B) → IsReady state is_clean e → is_clean e.base → AreStored (site e) (world_of state e).db
@@ -88,24 +89,24 @@ only_store faults.Begun h k = absurd (h.1 refl)
 -- ---- a run up to an event
 
 -- the first i events are answered
-pub record Running {B : Type 0} (state : B → State) (is_clean : B → Type 0) (failures : B → ℕ) (reader : Option ℕ) (es : List Event) (first : Engine B) (start : Option (List ℕ)) (i : ℕ) (now : Engine B) (held : Option (List ℕ)) : Type 0 where
+pub record Running {B : Type 0} (state : B → State) (is_clean : B → Type 0) (failures : B → ℕ) (audience : Audience) (es : List Event) (first : Engine B) (start : Option (List ℕ)) (i : ℕ) (now : Engine B) (held : Option (List ℕ)) : Type 0 where
   pub clean : is_clean now.base → is_clean first.base
   pub count : failures first.base ≤ failures now.base
   pub kept : IsKept state is_clean first now
-  pub bytes : is_clean now.base → Appends start held (printed_to (site first) reader (world_of state first) es i)
+  pub bytes : is_clean now.base → Appends start held (printed_to (site first) audience (world_of state first) es i)
   pub world : is_clean now.base → world_of state now ≡ world_after (site first) (world_of state first) es i
 
 moved : (P : Site → World → Type 0) (p q : Site) (v w : World) → p ≡ q → v ≡ w → P p v → P q w
 moved P p q v w a b h = subst (λ x. P x w) a (subst (P p) b h)
 
-module _ {B : Type 0} (state : B → State) (is_clean : B → Type 0) (failures : B → ℕ) (reader : Option ℕ) (es : List Event) (first : Engine B) (start : Option (List ℕ)) where
-  pub running_start : IsReady state is_clean first → Running state is_clean failures reader es first start 0 first start
+module _ {B : Type 0} (state : B → State) (is_clean : B → Type 0) (failures : B → ℕ) (audience : Audience) (es : List Event) (first : Engine B) (start : Option (List ℕ)) where
+  pub running_start : IsReady state is_clean first → Running state is_clean failures audience es first start 0 first start
   unfolding end_of run_lines
   running_start ready = record {
     clean = λ c. c;
     count = omega arith;
     kept = record { rules = refl; ready = ready };
-    bytes = λ c. subst (Appends start start) (sym (nothing_heard (site_labels (site first)) reader)) (Appends-nil start);
+    bytes = λ c. subst (Appends start start) (sym (nothing_heard (site_labels (site first)) audience.reader)) (Appends-nil start);
     world = λ c. refl;
   }
 
@@ -113,36 +114,36 @@ module _ {B : Type 0} (state : B → State) (is_clean : B → Type 0) (failures 
   w = world_of state first
 
   abbrev to : ℕ → List ℕ
-  to = printed_to (site first) reader w es
+  to = printed_to (site first) audience w es
 
   abbrev at : ℕ → World
   at = world_after (site first) w es
 
-  pub running_whole : (i : ℕ) (now : Engine B) (held : Option (List ℕ)) → Running state is_clean failures reader es first start i now held → length es ≤ i → is_clean now.base
-      → IsWhole (site first) reader w es start held (world_of state now)
+  pub running_whole : (i : ℕ) (now : Engine B) (held : Option (List ℕ)) → Running state is_clean failures audience es first start i now held → length es ≤ i → is_clean now.base
+      → IsWhole (site first) audience w es start held (world_of state now)
   running_whole i now held r l c =
       let all = take_all i es l in
       record {
-        bytes = subst (λ x. Appends start held (printed (heard (site_labels (site first)) reader (run_lines (site first) w x)))) all (r.bytes c);
+        bytes = subst (λ x. Appends start held (run_shows (site first) audience w x)) all (r.bytes c);
         world = r.world c ∙ ap (end_of (site first) w) all;
       }
 
-  module _ (i : ℕ) (now : Engine B) (held : Option (List ℕ)) (r : Running state is_clean failures reader es first start i now held)
+  module _ (i : ℕ) (now : Engine B) (held : Option (List ℕ)) (r : Running state is_clean failures audience es first start i now held)
       (e : Event) (within : i < length es) (is : get_or es i e ≡ e) (new : Engine B) (after : Option (List ℕ)) (clean : is_clean new.base → is_clean now.base) where
     same_site : site now ≡ site first
     same_site = ap site_of r.kept.rules
 
     pub running_more : failures now.base ≤ failures new.base → IsKept state is_clean now new
-        → (is_clean new.base → IsAnswered (site now) reader (world_of state now) e held after (world_of state new))
-        → Running state is_clean failures reader es first start (i + 1) new after
+        → (is_clean new.base → IsAnswered (site now) audience (world_of state now) e held after (world_of state new))
+        → Running state is_clean failures audience es first start (i + 1) new after
     running_more count kept answer =
-        let h : is_clean new.base → IsAnswered (site first) reader (at i) e held after (world_of state new) =
-        λ c. moved (λ p v. IsAnswered p reader v e held after (world_of state new)) (site now) (site first) (world_of state now) (at i) same_site (r.world (clean c)) (answer c) in
+        let h : is_clean new.base → IsAnswered (site first) audience (at i) e held after (world_of state new) =
+        λ c. moved (λ p v. IsAnswered p audience v e held after (world_of state new)) (site now) (site first) (world_of state now) (at i) same_site (r.world (clean c)) (answer c) in
         record {
           clean = λ c. r.clean (clean c);
           count = least r.count count;
           kept = record { rules = kept.rules ∙ r.kept.rules; ready = kept.ready };
-          bytes = λ c. subst (Appends start after) (sym (printed_more (site first) w es i e within is reader)) (Appends-trans start held after (to i) _ (r.bytes (clean c)) (h c).bytes);
+          bytes = λ c. subst (Appends start after) (sym (printed_more (site first) w es i e within is audience)) (Appends-trans start held after (to i) _ (r.bytes (clean c)) (h c).bytes);
           world = λ c. (h c).world ∙ sym (end_more (site first) w es i e within is);
         }
       where
@@ -156,17 +157,17 @@ module _ {B : Type 0} (state : B → State) (is_clean : B → Type 0) (failures 
         same : i ≡ i + 1 - 1
         same = omega arith
 
-    pub running_stopped : (cause : RunCause) (done : Bool) → (is_clean new.base → IsHalted (site now) reader (world_of state now) e held after (world_of state new) cause done) → is_clean new.base
-        → IsStopped (site first) reader w es start after (world_of state new) (record { event = i + 1; cause = cause; done = done })
+    pub running_stopped : (cause : RunCause) (done : Bool) → (is_clean new.base → IsHalted (site now) audience (world_of state now) e held after (world_of state new) cause done) → is_clean new.base
+        → IsStopped (site first) audience w es start after (world_of state new) (record { event = i + 1; cause = cause; done = done })
     running_stopped cause done halt c =
-        let h : IsHalted (site first) reader (at i) e held after (world_of state new) cause done =
-        moved (λ p v. IsHalted p reader v e held after (world_of state new) cause done) (site now) (site first) (world_of state now) (at i) same_site (r.world (clean c)) (halt c) in
+        let h : IsHalted (site first) audience (at i) e held after (world_of state new) cause done =
+        moved (λ p v. IsHalted p audience v e held after (world_of state new) cause done) (site now) (site first) (world_of state now) (at i) same_site (r.world (clean c)) (halt c) in
         record {
           part = h.reply.part;
           rest = h.reply.rest;
           bytes = subst (λ n. Appends start after (to n ++ h.reply.part)) same (Appends-trans start held after (to i) h.reply.part (r.bytes (clean c)) h.reply.appends);
           reply = ap (λ n. (to n ++ h.reply.part) ++ h.reply.rest) (sym same) ∙ append_assoc (to i) h.reply.part h.reply.rest ∙ ap (λ l. to i ++ l) h.reply.whole
-              ∙ sym (printed_more (site first) w es i e within is reader);
+              ∙ sym (printed_more (site first) w es i e within is audience);
           none = h.none;
           world = left done h.world;
         }

@@ -1,11 +1,11 @@
--- What a run writes for a reader, or for all, and where a run that stops leaves things.
+-- What a run writes for an audience, and where a run that stops leaves things.
 use Rattle.std.specs.Prelude.{◌≡◌, ◌≢◌, ℕ, ◌-◌, ◌≤◌, if◌then◌else◌, Bool, true, List, [], ◌++◌, length, take, Option}
 use Rattle.std.specs.Io.KnownBytes.{Appends}
 use Rattle.mls_script.specs.declared.event.Event.{Event}
-use Rattle.mls_machine.specs.Site.{Site, site_labels}
+use Rattle.mls_machine.specs.declared.form.Audience.{Audience}
+use Rattle.mls_machine.specs.Site.{Site}
 use Rattle.mls_machine.specs.Machine.{World, step, end_of}
-use Rattle.mls_machine.specs.Output.{reply_lines, run_lines, printed}
-use Rattle.mls_machine.specs.Observation.{heard}
+use Rattle.mls_machine.specs.Observation.{reply_shows, run_shows}
 use Rattle.mls_sessions.specs.declared.cause.RunCause.{RunCause}
 use Rattle.mls_sessions.specs.declared.cause.RunCause.TheVariants.{Write}
 use Rattle.mls_sessions.specs.declared.cause.RunFault.{RunFault}
@@ -14,15 +14,15 @@ use Rattle.mls_sessions.specs.declared.cause.RunFault.{RunFault}
 abbrev pub world_after : Site → World → List Event → ℕ → World
 world_after site w es n = end_of site w (take n es)
 
--- a run from w, of which the lines are written whose labels the reader dominates, or all
-module _ (site : Site) (reader : Option ℕ) (w : World) (es : List Event) where
+-- a run from w, of which the lines are written whose labels the reader dominates, or all, in the audience's form
+module _ (site : Site) (audience : Audience) (w : World) (es : List Event) where
   -- what the first n events print
   abbrev pub printed_to : ℕ → List ℕ
-  printed_to n = printed (heard (site_labels site) reader (run_lines site w (take n es)))
+  printed_to n = run_shows site audience w (take n es)
 
   -- all events are answered: what is written is these lines of the replies, and nothing else
   pub record IsWhole (before after : Option (List ℕ)) (new : World) : Type 0 where
-    pub bytes : Appends before after (printed (heard (site_labels site) reader (run_lines site w es)))
+    pub bytes : Appends before after (run_shows site audience w es)
     pub world : new ≡ end_of site w es
 
   -- a run that stopped at an event, by its number from 1: the replies before it are written whole, and of its own reply
@@ -50,10 +50,10 @@ pub record IsPart (before after : Option (List ℕ)) (bytes : List ℕ) : Type 0
   pub appends : Appends before after part
   pub whole : part ++ rest ≡ bytes
 
-module _ (site : Site) (reader : Option ℕ) (w : World) (event : Event) (before after : Option (List ℕ)) (new : World) where
+module _ (site : Site) (audience : Audience) (w : World) (event : Event) (before after : Option (List ℕ)) (new : World) where
   -- what its reply prints
   abbrev pub answer_text : List ℕ
-  answer_text = printed (heard (site_labels site) reader (reply_lines site event (step site w event).reply))
+  answer_text = reply_shows site audience event (step site w event).reply
 
   -- an event was answered, and its reply is written whole
   pub record IsAnswered : Type 0 where

@@ -1,14 +1,12 @@
 //! Runs: events answered in order, and their replies written, whole or what one reader may see of them.
-ghost use Rattle.std.specs.Prelude.{◌≡◌, ◌≢◌, ℕ, ◌≤◌, ◌<◌, true, length, take, Some, None, IfOk, IfErr, OnOk, OnErr};
+ghost use Rattle.std.specs.Prelude.{◌≡◌, ◌≢◌, ℕ, ◌≤◌, ◌<◌, true, length, take, IfOk, IfErr, OnOk, OnErr};
 ghost use Rattle.std.specs.Option.{IfSome};
 ghost use Rattle.mls_script.specs.Event.{EventFits};
-ghost use Rattle.mls_machine.specs.Output.{reply_lines, printed, ReplyIsKnown, CanBePrinted};
-ghost use Rattle.mls_machine.specs.Site.{site_labels};
-ghost use Rattle.mls_machine.specs.Observation.{EventsFit, PassesOnlyReleasesDown, heard};
+ghost use Rattle.mls_machine.specs.Output.{ReplyIsKnown};
+ghost use Rattle.mls_machine.specs.Observation.{EventsFit, PassesOnlyReleasesDown, reply_shows, everyone};
 ghost use Rattle.mls_machine.specs.Laws.{KeepsIntegrity};
 ghost use Rattle.mls_monitor.specs.Sessions.{site_of};
 ghost use Rattle.mls_replies.specs.Known.{HasKnownNumbers};
-ghost use Rattle.mls_replies.specs.Under.{site_under};
 ghost use Rattle.mls_sessions.specs.Engine.{site, world_of, IsReady, IsKept};
 ghost use Rattle.mls_sessions.specs.Run.{IsWhole, IsStopped, IsFaultOf, IsAnswered, IsHalted};
 
@@ -16,12 +14,10 @@ use crate::cause::{RunCause, RunFault, cause_of};
 use crate::engine::Engine;
 use crate::writing::write_whole;
 use mls_filterview::Base;
-use mls_lattice::LabelNo;
-use mls_machine::Reply;
+use mls_machine::{Audience, Form, Reply};
 use mls_monitor::Rules;
-use mls_replies::{is_known, reply_bytes, shown_bytes};
+use mls_replies::{is_known, shown_to};
 use mls_script::Event;
-use std::alloc::AllocError;
 use std::io::Write;
 
 /// Why an event stops a run, and whether its change stands.
@@ -31,72 +27,54 @@ struct Stop {
     done: bool,
 }
 
-/// The lines of a reply whose labels the reader dominates, or all where there is no reader.
-fn heard_bytes(
-    rules: &Rules,
-    event: &Event,
-    reply: &Reply,
-    reader: &Option<LabelNo>,
-) -> Result<Vec<u8>, AllocError>
-    requires printable { CanBePrinted (site_under rules.now.policy.now rules.now.schemes.now) event.now reply.now }
-    requires reader { IfSome reader.now (λ c. c < length rules.now.policy.now.labels) }
-    ensures { IfOk result (λ v. v.items ≡ printed (heard (site_labels (site_of rules.now)) reader.now
-        (reply_lines (site_under rules.now.policy.now rules.now.schemes.now) event.now reply.now))) }
-{
-    match reader {
-        None => reply_bytes(rules.alloc, rules.policy, rules.schemes, event, reply),
-        Some(label) => shown_bytes(
-            rules.alloc,
-            rules.policy,
-            rules.schemes,
-            event,
-            reply,
-            *label,
-        ),
-    }
-}
-
-/// The lines of the reply to an event that the reader may see, or all where there is no reader. `Store` is the cause
-/// where a class is not declared, as may be over a store that gives other content than was written.
+/// The lines of the reply to an event that the audience is shown. `Store` is the cause where a class is not declared, as
+/// may be over a store that gives other content than was written.
 fn text_of(
     rules: &Rules,
     event: &Event,
     reply: &Reply,
-    reader: &Option<LabelNo>,
+    audience: &Audience,
 ) -> Result<Vec<u8>, RunCause>
     requires fits { EventFits rules.now.policy.now rules.now.schemes.now event.now }
     requires known { HasKnownNumbers rules.now.policy.now reply.now }
-    requires reader { IfSome reader.now (λ c. c < length rules.now.policy.now.labels) }
-    ensures done { IfOk result (λ v. v.items ≡ printed (heard (site_labels (site_of rules.now)) reader.now (reply_lines (site_of rules.now) event.now reply.now))) }
+    requires reader { IfSome audience.now.reader (λ c. c < length rules.now.policy.now.labels) }
+    ensures done { IfOk result (λ v. v.items ≡ reply_shows (site_of rules.now) audience.now event.now reply.now) }
     ensures failed { ReplyIsKnown rules.now.policy.now reply.now → IfErr result (λ c. c ≡ RunCause.Memory) }
     ensures write { IfErr result (λ c. c ≢ RunCause.Write) }
 {
     if !is_known(rules.policy, reply) {
         return Err(RunCause::Store);
     }
-    match heard_bytes(rules, event, reply, reader) {
+    match shown_to(
+        rules.alloc,
+        rules.policy,
+        rules.schemes,
+        event,
+        reply,
+        *audience,
+    ) {
         Ok(bytes) => Ok(bytes),
         Err(_) => Err(RunCause::Memory),
     }
 }
 
-/// Answers one event, and writes the lines of the reply that the reader may see. Where there are none, nothing is asked of
+/// Answers one event, and writes the lines of the reply that the audience is shown. Where there are none, nothing is asked of
 /// the writer.
 fn answer<B: Base, W: Write>(
     engine: &mut Engine<B>,
     event: &Event,
-    reader: &Option<LabelNo>,
+    audience: &Audience,
     out: &mut W,
 ) -> Result<(), Stop>
     requires ready { IsReady B.state B.is_clean engine.old }
     requires fits { EventFits (site engine.old).policy (site engine.old).schemes event.now }
-    requires reader { IfSome reader.now (λ c. c < length (site engine.old).policy.labels) }
+    requires reader { IfSome audience.now.reader (λ c. c < length (site engine.old).policy.labels) }
     ensures clean { B.is_clean engine.new.base → B.is_clean engine.old.base }
     ensures count { B.failures engine.old.base ≤ B.failures engine.new.base }
     ensures kept { IsKept B.state B.is_clean engine.old engine.new }
-    ensures done { B.is_clean engine.new.base → OnOk result (IsAnswered (site engine.old) reader.now (world_of B.state engine.old) event.now
+    ensures done { B.is_clean engine.new.base → OnOk result (IsAnswered (site engine.old) audience.now (world_of B.state engine.old) event.now
         (W.contents out.old) (W.contents out.new) (world_of B.state engine.new)) }
-    ensures stopped { B.is_clean engine.new.base → IfErr result (λ s. IsHalted (site engine.old) reader.now (world_of B.state engine.old) event.now
+    ensures stopped { B.is_clean engine.new.base → IfErr result (λ s. IsHalted (site engine.old) audience.now (world_of B.state engine.old) event.now
         (W.contents out.old) (W.contents out.new) (world_of B.state engine.new) s.cause s.done) }
     ensures write { IfErr result (λ s. s.cause ≡ RunCause.Write → s.done ≡ true) }
     ensures store { B.is_clean engine.new.base → IfErr result (λ s. s.cause ≡ RunCause.Store → B.failures engine.old.base < B.failures engine.new.base) }
@@ -110,7 +88,7 @@ fn answer<B: Base, W: Write>(
             });
         }
     };
-    let bytes = match text_of(&engine.rules, event, &reply, reader) {
+    let bytes = match text_of(&engine.rules, event, &reply, audience) {
         Ok(bytes) => bytes,
         Err(cause) => return Err(Stop { cause, done: true }),
     };
@@ -123,30 +101,30 @@ fn answer<B: Base, W: Write>(
     }
 }
 
-/// Answers events in order, and writes of the reply of each, before the next begins, the lines whose labels the reader
-/// dominates, or all lines where there is no reader.
+/// Answers events in order, and writes of the reply of each, before the next begins, what the audience is shown: the lines
+/// whose labels its reader dominates, or all lines where it has none, in its form.
 ///
 /// The first event that fails stops it: `Store` where the store fails, `Memory` where a growth is refused, `Write` where
 /// the writer refuses. That it stopped, and where, is not decided by what the reader sees.
 ///
-/// What a level is shown passes nothing down to it but what calls release: the lines whose labels it dominates are the same
-/// for any second world that looks alike to it and any second list of events of which it sees the same, and so is what it
+/// What a level is shown passes nothing down to it but what calls release: the lines whose labels it dominates are the
+/// same, in each form, for any second world that looks alike to it and any second list of events of which it sees the same, and so is what it
 /// sees of the end, where the runs release the same to it, or where it dominates all that the calls that it sees can read.
 pub fn run_to<B: Base, W: Write>(
     engine: &mut Engine<B>,
     events: &[Event],
-    reader: Option<LabelNo>,
+    audience: Audience,
     out: &mut W,
 ) -> Result<(), RunFault>
     requires ready { IsReady B.state B.is_clean engine.old }
     requires fits { EventsFit (site engine.old) events.now }
-    requires reader { IfSome reader (λ c. c < length (site engine.old).policy.labels) }
+    requires reader { IfSome audience.reader (λ c. c < length (site engine.old).policy.labels) }
     ensures clean { B.is_clean engine.new.base → B.is_clean engine.old.base }
     ensures count { B.failures engine.old.base ≤ B.failures engine.new.base }
     ensures kept { IsKept B.state B.is_clean engine.old engine.new }
-    ensures ok { B.is_clean engine.new.base → OnOk result (IsWhole (site engine.old) reader (world_of B.state engine.old) events.now
+    ensures ok { B.is_clean engine.new.base → OnOk result (IsWhole (site engine.old) audience (world_of B.state engine.old) events.now
         (W.contents out.old) (W.contents out.new) (world_of B.state engine.new)) }
-    ensures err { B.is_clean engine.new.base → IfErr result (IsStopped (site engine.old) reader (world_of B.state engine.old) events.now
+    ensures err { B.is_clean engine.new.base → IfErr result (IsStopped (site engine.old) audience (world_of B.state engine.old) events.now
         (W.contents out.old) (W.contents out.new) (world_of B.state engine.new)) }
     ensures fault { IfErr result (IsFaultOf events.now) }
     // Over a clean store, Store comes only where a call of it failed.
@@ -156,9 +134,9 @@ pub fn run_to<B: Base, W: Write>(
     // No information flows down but what is released: over all events, and over the first n of them.
     ensures secret { B.is_clean engine.new.base → (n : ℕ) → PassesOnlyReleasesDown (site engine.old) (world_of B.state engine.old) (take n events.now) }
 {
-    let reader = &reader;
+    let audience = &audience;
     for (place, event) in events.iter().enumerate() {
-        if let Err(stop) = answer(engine, event, reader, out) {
+        if let Err(stop) = answer(engine, event, audience, out) {
             return Err(RunFault {
                 event: place + 1,
                 cause: stop.cause,
@@ -169,7 +147,7 @@ pub fn run_to<B: Base, W: Write>(
     Ok(())
 }
 
-/// Answers events in order, and writes the reply of each before the next begins: [`run_to`] for no one reader.
+/// Answers events in order, and writes the lines of the reply of each before the next begins: [`run_to`] for no one reader.
 pub fn run<B: Base, W: Write>(
     engine: &mut Engine<B>,
     events: &[Event],
@@ -180,14 +158,18 @@ pub fn run<B: Base, W: Write>(
     ensures clean { B.is_clean engine.new.base → B.is_clean engine.old.base }
     ensures count { B.failures engine.old.base ≤ B.failures engine.new.base }
     ensures kept { IsKept B.state B.is_clean engine.old engine.new }
-    ensures ok { B.is_clean engine.new.base → OnOk result (IsWhole (site engine.old) None (world_of B.state engine.old) events.now
+    ensures ok { B.is_clean engine.new.base → OnOk result (IsWhole (site engine.old) everyone (world_of B.state engine.old) events.now
         (W.contents out.old) (W.contents out.new) (world_of B.state engine.new)) }
-    ensures err { B.is_clean engine.new.base → IfErr result (IsStopped (site engine.old) None (world_of B.state engine.old) events.now
+    ensures err { B.is_clean engine.new.base → IfErr result (IsStopped (site engine.old) everyone (world_of B.state engine.old) events.now
         (W.contents out.old) (W.contents out.new) (world_of B.state engine.new)) }
     ensures fault { IfErr result (IsFaultOf events.now) }
     ensures store { B.is_clean engine.new.base → IfErr result (λ f. f.cause ≡ RunCause.Store → B.failures engine.old.base < B.failures engine.new.base) }
     ensures integrity { B.is_clean engine.new.base → KeepsIntegrity (site engine.old) (world_of B.state engine.old) events.now }
     ensures secret { B.is_clean engine.new.base → (n : ℕ) → PassesOnlyReleasesDown (site engine.old) (world_of B.state engine.old) (take n events.now) }
 {
-    run_to(engine, events, None, out)
+    let everyone = Audience {
+        reader: None,
+        form: Form::Lines,
+    };
+    run_to(engine, events, everyone, out)
 }

@@ -3,10 +3,10 @@ use Rattle.mls_sessions.proofs.AnswerLemmas.{halted_before, halted_unprinted, re
 use Rattle.mls_sessions.proofs.running.answer.Goals as goal
 
 pub returns-in-Err-clause-stopped : goal.returns-in-Err-clause-stopped
-returns-in-Err-clause-stopped g c = λ h. halted_before g.B.Base.state c.args.engine.now c.step.new.self c.args.reader.now c.args.event.now (g.W.Write.contents c.args.out.now) (g.W.Write.contents c.args.out.now) c.cause_of.result (c.in-Err.ensures.turn.fault.same h)
+returns-in-Err-clause-stopped g c = λ h. halted_before g.B.Base.state c.args.engine.now c.step.new.self c.args.audience.now c.args.event.now (g.W.Write.contents c.args.out.now) (g.W.Write.contents c.args.out.now) c.cause_of.result (c.in-Err.ensures.turn.fault.same h)
 
 pub returns-in-Err-text_of-clause-stopped : goal.returns-in-Err-text_of-clause-stopped
-returns-in-Err-text_of-clause-stopped g c = λ h. halted_unprinted g.B.Base.state c.args.engine.now c.step.new.self c.args.reader.now c.args.event.now (g.W.Write.contents c.args.out.now) (g.W.Write.contents c.args.out.now) c.in-Ok.reply (c.in-Ok.ensures.done h) c.in-Err-text_of.cause
+returns-in-Err-text_of-clause-stopped g c = λ h. halted_unprinted g.B.Base.state c.args.engine.now c.step.new.self c.args.audience.now c.args.event.now (g.W.Write.contents c.args.out.now) (g.W.Write.contents c.args.out.now) c.in-Ok.reply (c.in-Ok.ensures.done h) c.in-Err-text_of.cause
 
 pub returns-in-Err-clause-store : goal.returns-in-Err-clause-store
 returns-in-Err-clause-store g c = λ h k. c.in-Err.ensures.turn.fault.store (only_store c.in-Err.fault c.in-Err.ensures.turn.fault.served (sym c.cause_of.ensures ∙ k))

@@ -6,15 +6,15 @@ use Rattle.mls_sessions.proofs.AnswerLemmas.{running_start, running_more, runnin
 use Rattle.mls_sessions.proofs.running.run_to.Goals as goal
 
 pub loop-place-init : goal.loop-place-init
-loop-place-init g c = running_start g.B.Base.state g.B.Base.is_clean g.B.Base.failures c.args.reader c.args.events.now c.args.engine.now (g.W.Write.contents c.args.out.now) c.requires.ready
+loop-place-init g c = running_start g.B.Base.state g.B.Base.is_clean g.B.Base.failures c.args.audience c.args.events.now c.args.engine.now (g.W.Write.contents c.args.out.now) c.requires.ready
 
 pub returns-in-Err-clause-err : goal.returns-in-Err-clause-err
-returns-in-Err-clause-err g c = λ h. running_stopped g.B.Base.state g.B.Base.is_clean g.B.Base.failures c.args.reader c.args.events.now c.args.engine.now (g.W.Write.contents c.args.out.now)
+returns-in-Err-clause-err g c = λ h. running_stopped g.B.Base.state g.B.Base.is_clean g.B.Base.failures c.args.audience c.args.events.now c.args.engine.now (g.W.Write.contents c.args.out.now)
     c.loop-place.place c.loop-place.engine (g.W.Write.contents c.loop-place.out) c.loop-place.invariant c.index-events-place.result c.loop-place-test.true (search rules)
     c.answer.new.engine (g.W.Write.contents c.answer.new.out) c.answer.ensures.clean c.in-Err.stop.cause c.in-Err.stop.done c.in-Err.ensures.stopped h
 
 pub loop-place-preserved : goal.loop-place-preserved
-loop-place-preserved g c = running_more g.B.Base.state g.B.Base.is_clean g.B.Base.failures c.args.reader c.args.events.now c.args.engine.now (g.W.Write.contents c.args.out.now)
+loop-place-preserved g c = running_more g.B.Base.state g.B.Base.is_clean g.B.Base.failures c.args.audience c.args.events.now c.args.engine.now (g.W.Write.contents c.args.out.now)
     c.loop-place.place c.loop-place.engine (g.W.Write.contents c.loop-place.out) c.loop-place.invariant c.index-events-place.result c.loop-place-test.true (search rules)
     c.answer.new.engine (g.W.Write.contents c.answer.new.out) c.answer.ensures.clean c.answer.ensures.count c.answer.ensures.kept (search rules)
 

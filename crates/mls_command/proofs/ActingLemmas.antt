@@ -21,7 +21,7 @@ use Rattle.mls_command.specs.Hosting.{Hosted, IsTold}
 use Rattle.mls_command.specs.Refusal.{IsBefore, IsEnd}
 use Rattle.mls_command.specs.Printing.{IsCutOff}
 use Rattle.mls_command.specs.Running.{site_of}
-use Rattle.mls_command.specs.ScriptRun.{IsRunFrom, IsScriptRun}
+use Rattle.mls_command.specs.ScriptRun.{audience_of, IsRunFrom, IsScriptRun}
 use Rattle.mls_command.specs.ShellRun.{IsShellRun}
 use Rattle.mls_command.specs.Acting.{Prints, IsTaskDone, IsRunOf, IsTaskGivenUp, IsDone, IsGivenUp}
 use Rattle.mls_command.proofs.RunningLemmas.{end_weaker, not_begun}
@@ -79,12 +79,12 @@ module _ (h : Hosted) (policy : Tables) (file : SchemesFile) (reader : Option �
   pub script_run : (files : RunFiles) (stored : List Stored) (events : List Event)
       → AreStoredFrom h.gives (named files.transactions) (named files.certificates) policy file.schemes stored
       → IsScriptFrom h.gives (named files.script) policy file.schemes events
-      → (r : Result (Unit {0}) Refusal) → IsEnd (IsRunFrom h file (named files.store) (site_of policy file.schemes stored) reader events Wrote) (Wrote []) r
+      → (r : Result (Unit {0}) Refusal) → IsEnd (IsRunFrom h file (named files.store) (site_of policy file.schemes stored) (audience_of reader files) events Wrote) (Wrote []) r
       → IsEnd (IsScriptRun h policy file reader files Wrote) (Wrote []) r
   script_run files stored events stored_are events_are r run =
-      let f : (end : Result (Unit {0}) RunFault) → IsRunFrom h file (named files.store) (site_of policy file.schemes stored) reader events Wrote end → IsScriptRun h policy file reader files Wrote end
+      let f : (end : Result (Unit {0}) RunFault) → IsRunFrom h file (named files.store) (site_of policy file.schemes stored) (audience_of reader files) events Wrote end → IsScriptRun h policy file reader files Wrote end
       = λ end k. record { stored = stored; events = events; stored_are = stored_are; events_are = events_are; run = k } in
-      end_weaker (IsRunFrom h file (named files.store) (site_of policy file.schemes stored) reader events Wrote) (Wrote []) (IsScriptRun h policy file reader files Wrote) f r run
+      end_weaker (IsRunFrom h file (named files.store) (site_of policy file.schemes stored) (audience_of reader files) events Wrote) (Wrote []) (IsScriptRun h policy file reader files Wrote) f r run
 
   pub run_done : (files : RunFiles) (r : Result (Unit {0}) Refusal) → IsEnd (IsScriptRun h policy file reader files Wrote) (Wrote []) r → OnOk r (IsScriptRun h policy file reader files Wrote (Ok tt))
   run_done files (Ok u) k = k

@@ -18,6 +18,7 @@ use Rattle.mls_fragments.specs.Finding.{IsSoundContent}
 use Rattle.mls_fragments.proofs.AgainLemmas.{kept_is_taken, sound_is_taken}
 use Rattle.mls_meaning.specs.Secure.{AreStored}
 use Rattle.mls_script.specs.declared.event.Event.{Event}
+use Rattle.mls_machine.specs.declared.form.Audience.{Audience}
 use Rattle.mls_machine.specs.Site.{Site}
 use Rattle.mls_machine.specs.Machine.{World}
 use Rattle.mls_machine.specs.Output.{run_lines, printed}
@@ -38,27 +39,27 @@ unfolding history_end
 end_more w [] r = refl
 end_more w (s ∷ rs) r = end_more (run_end w s) rs r
 
-bytes_more : (ls : Labels) (reader : Option ℕ) (w : World) (rs : List RunAt) (r : RunAt)
-    → concat (history_bytes ls reader w (rs ++ r ∷ [])) ≡ concat (history_bytes ls reader w rs) ++ printed (heard ls reader (run_lines r.site (history_end w rs) r.events))
+bytes_more : (ls : Labels) (audience : Audience) (w : World) (rs : List RunAt) (r : RunAt)
+    → concat (history_bytes ls audience w (rs ++ r ∷ [])) ≡ concat (history_bytes ls audience w rs) ++ printed (heard ls audience.reader (run_lines audience.form r.site (history_end w rs) r.events))
 unfolding history_end history_lines
-bytes_more ls reader w [] r = append-nil (printed (heard ls reader (run_lines r.site w r.events)))
-bytes_more ls reader w (s ∷ rs) r =
-    let here = printed (heard ls reader (run_lines s.site w s.events)) in
-    ap (λ l. here ++ l) (bytes_more ls reader (run_end w s) rs r) ∙ sym (append_assoc here (concat (history_bytes ls reader (run_end w s) rs)) (printed (heard ls reader (run_lines r.site (history_end (run_end w s) rs) r.events))))
+bytes_more ls audience w [] r = append-nil (printed (heard ls audience.reader (run_lines audience.form r.site w r.events)))
+bytes_more ls audience w (s ∷ rs) r =
+    let here = printed (heard ls audience.reader (run_lines audience.form s.site w s.events)) in
+    ap (λ l. here ++ l) (bytes_more ls audience (run_end w s) rs r) ∙ sym (append_assoc here (concat (history_bytes ls audience (run_end w s) rs)) (printed (heard ls audience.reader (run_lines audience.form r.site (history_end (run_end w s) rs) r.events))))
 
-bytes_none : (ls : Labels) (reader : Option ℕ) (w : World) → concat (history_bytes ls reader w []) ≡ []
+bytes_none : (ls : Labels) (audience : Audience) (w : World) → concat (history_bytes ls audience w []) ≡ []
 unfolding history_lines
-bytes_none ls reader w = refl
+bytes_none ls audience w = refl
 
 end_none : (w : World) → history_end w [] ≡ w
 unfolding history_end
 end_none w = refl
 
 -- what is written of a run may be told of otherwise
-told : (site : Site) (reader : Option ℕ) (es : List Event) (P Q : List ℕ → Type 0) (end : Result (Unit {0}) RunFault) (first left : Content) → ((bs : List ℕ) → P bs → Q bs)
-    → IsRun site reader es P end first left → IsRun site reader es Q end first left
-told site reader es P Q (Ok u) first left f h = record { written = f _ h.written; left_by = h.left_by; sound = h.sound; integrity = h.integrity; secret = h.secret; shown = h.shown }
-told site reader es P Q (Err fault) first left f h = record {
+told : (site : Site) (audience : Audience) (es : List Event) (P Q : List ℕ → Type 0) (end : Result (Unit {0}) RunFault) (first left : Content) → ((bs : List ℕ) → P bs → Q bs)
+    → IsRun site audience es P end first left → IsRun site audience es Q end first left
+told site audience es P Q (Ok u) first left f h = record { written = f _ h.written; left_by = h.left_by; sound = h.sound; integrity = h.integrity; secret = h.secret; shown = h.shown }
+told site audience es P Q (Err fault) first left f h = record {
   written = record { part = h.written.part; rest = h.written.rest; written = f _ h.written.written; whole = h.written.whole; none = h.written.none; is = h.written.is };
   left_by = h.left_by;
   sound = h.sound;
@@ -91,7 +92,7 @@ module _ (policy : Tables) (schemes : Schemes) where
   stored_of : (c : Content) → IsSoundContent policy schemes c → AreStored (labels_of policy) schemes c.db
   stored_of c sound = λ rel. (sound.content rel).stored
 
-  module _ (distinct : AreDistinct (labels_of policy)) (reader : Option ℕ) where
+  module _ (distinct : AreDistinct (labels_of policy)) (audience : Audience) where
     secret_of : (runs : List Run) (first : Content) → Prepared runs → IsSoundContent policy schemes first → PassesOnlyReleasesDownInHistory (labels_of policy) schemes (world_of policy first) (runs_at runs)
     secret_of runs first h sound =
         accepted_histories (labels_of policy) schemes distinct (world_of policy first) (runs_at runs) (stored_of first sound) (under runs h) (fit runs h) (certified runs h)
@@ -103,8 +104,8 @@ module _ (policy : Tables) (schemes : Schemes) where
 
     -- a history is known by its bytes and by what it leaves
     history_is : (runs : List Run) (Wrote : List ℕ → Type 0) (first left : Content) → Prepared runs → IsSoundContent policy schemes first
-        → Wrote (concat (history_bytes (labels_of policy) reader (world_of policy first) (runs_at runs))) → world_of policy left ≡ history_end (world_of policy first) (runs_at runs)
-        → IsSoundContent policy schemes left → IsHistoryRun policy schemes reader (runs_at runs) Wrote first left
+        → Wrote (concat (history_bytes (labels_of policy) audience (world_of policy first) (runs_at runs))) → world_of policy left ≡ history_end (world_of policy first) (runs_at runs)
+        → IsSoundContent policy schemes left → IsHistoryRun policy schemes audience (runs_at runs) Wrote first left
     history_is runs Wrote first left h sound wrote leaves sound_left = record {
       begins = sound;
       written = wrote;
@@ -114,70 +115,70 @@ module _ (policy : Tables) (schemes : Schemes) where
         secret = secret_of runs first h sound;
       };
       sound = sound_left;
-      shown = shown_of reader runs first h sound;
+      shown = shown_of audience.reader runs first h sound;
     }
 
-    no_runs : (Wrote : List ℕ → Type 0) (first : Content) → IsSoundContent policy schemes first → Wrote [] → IsHistoryRun policy schemes reader [] Wrote first first
+    no_runs : (Wrote : List ℕ → Type 0) (first : Content) → IsSoundContent policy schemes first → Wrote [] → IsHistoryRun policy schemes audience [] Wrote first first
     no_runs Wrote first sound wrote =
-        history_is [] Wrote first first tt sound (subst Wrote (sym (bytes_none (labels_of policy) reader (world_of policy first))) wrote) (sym (end_none (world_of policy first))) sound
+        history_is [] Wrote first first tt sound (subst Wrote (sym (bytes_none (labels_of policy) audience (world_of policy first))) wrote) (sym (end_none (world_of policy first))) sound
 
-    more_runs : (runs : List Run) (run : Run) (a b c : Option (List ℕ)) (first mid left : Content) → Prepared (runs ++ run ∷ []) → IsHistoryRun policy schemes reader (runs_at runs) (Appends a b) first mid
-        → IsRun (site_of policy schemes run.stored) reader run.events.items (Appends b c) (Ok tt) mid left → IsHistoryRun policy schemes reader (runs_at (runs ++ run ∷ [])) (Appends a c) first left
+    more_runs : (runs : List Run) (run : Run) (a b c : Option (List ℕ)) (first mid left : Content) → Prepared (runs ++ run ∷ []) → IsHistoryRun policy schemes audience (runs_at runs) (Appends a b) first mid
+        → IsRun (site_of policy schemes run.stored) audience run.events.items (Appends b c) (Ok tt) mid left → IsHistoryRun policy schemes audience (runs_at (runs ++ run ∷ [])) (Appends a c) first left
     more_runs runs run a b c first mid left prepared h r =
         let ls = labels_of policy in
         let w = world_of policy first in
         let site = site_of policy schemes run.stored in
         let split : runs_at (runs ++ run ∷ []) ≡ runs_at runs ++ run_of policy schemes run ∷ [] = map-append (run_of policy schemes) runs (run ∷ []) in
-        let bytes = ap (λ rs. concat (history_bytes ls reader w rs)) split ∙ bytes_more ls reader w (runs_at runs) (run_of policy schemes run)
-        ∙ ap (λ v. concat (history_bytes ls reader w (runs_at runs)) ++ printed (heard ls reader (run_lines site v run.events.items))) h.history.left_by in
+        let bytes = ap (λ rs. concat (history_bytes ls audience w rs)) split ∙ bytes_more ls audience w (runs_at runs) (run_of policy schemes run)
+        ∙ ap (λ v. concat (history_bytes ls audience w (runs_at runs)) ++ printed (heard ls audience.reader (run_lines audience.form site v run.events.items))) h.history.left_by in
         let leaves : world_of policy left ≡ history_end w (runs_at (runs ++ run ∷ [])) =
         ap settled r.left_by.1 ∙ ap (λ v. run_end v (run_of policy schemes run)) (sym h.history.left_by) ∙ sym (end_more w (runs_at runs) (run_of policy schemes run)) ∙ ap (history_end w) (sym split) in
         history_is (runs ++ run ∷ []) (Appends a c) first left prepared h.begins
-        (subst (Appends a c) (sym bytes) (Appends-trans a b c (concat (history_bytes ls reader w (runs_at runs))) (output site reader mid run.events.items) h.written r.written))
+        (subst (Appends a c) (sym bytes) (Appends-trans a b c (concat (history_bytes ls audience w (runs_at runs))) (output site audience mid run.events.items) h.written r.written))
         leaves (record { content = r.sound.content; entries = r.sound.entries })
 
 -- ---- over files
 
-module _ {D : Type 0} (g : Ghosts D) (policy : Tables) (file : SchemesFile) (reader : Option ℕ) (distinct : AreDistinct (labels_of policy)) (start : Files D) where
+module _ {D : Type 0} (g : Ghosts D) (policy : Tables) (file : SchemesFile) (audience : Audience) (distinct : AreDistinct (labels_of policy)) (start : Files D) where
   -- whole runs end with what is found for the next
-  reached : (rs : List RunAt) (Wrote : List ℕ → Type 0) (mid : Files D) → IsHistoryOver g policy file reader start rs Wrote mid
+  reached : (rs : List RunAt) (Wrote : List ℕ → Type 0) (mid : Files D) → IsHistoryOver g policy file audience start rs Wrote mid
       → (next : Content) → AreClean g mid.log mid.db → IsFoundUnder policy file (image_of g mid) next → IsSoundContent policy file.schemes next
-      → (first : Content) × AreClean g start.log start.db × IsFoundUnder policy file (image_of g start) first × IsHistoryRun policy file.schemes reader rs Wrote first next
+      → (first : Content) × AreClean g start.log start.db × IsFoundUnder policy file (image_of g start) first × IsHistoryRun policy file.schemes audience rs Wrote first next
   reached rs Wrote mid (none empty wrote same) next clean found sound = (
     next,
     subst (λ (f : Files D). AreClean g f.log f.db) same clean,
     subst (λ (f : Files D). IsFoundUnder policy file (image_of g f) next) same found,
-    subst (λ xs. IsHistoryRun policy file.schemes reader xs Wrote next next) (sym empty) (no_runs policy file.schemes distinct reader Wrote next sound wrote),
+    subst (λ xs. IsHistoryRun policy file.schemes audience xs Wrote next next) (sym empty) (no_runs policy file.schemes distinct audience Wrote next sound wrote),
   )
   reached rs Wrote mid (some first left before at h kept) next clean found sound =
       let same : next ≡ left = sound_is_taken policy file left next h.sound (kept_is_taken policy file (image_of g mid) left next kept.seen.both found) in (
         first,
         before,
         at,
-        subst (IsHistoryRun policy file.schemes reader rs Wrote first) (sym same) h,
+        subst (IsHistoryRun policy file.schemes audience rs Wrote first) (sym same) h,
       )
 
   module _ (runs : List Run) (run : Run) (prepared : AllByRecursion (IsPrepared policy file.schemes) (runs ++ run ∷ [])) (a b c : Option (List ℕ)) (mid now : Files D)
-      (over : AreClean g mid.log mid.db → IsHistoryOver g policy file reader start (runs_at policy file.schemes runs) (Appends a b) mid) where
+      (over : AreClean g mid.log mid.db → IsHistoryOver g policy file audience start (runs_at policy file.schemes runs) (Appends a b) mid) where
     abbrev At : RunAt
     At = run_of policy file.schemes run
 
     -- a whole run more
-    pub over_more : ComesTo g (IsRunOver g policy file reader mid At (Appends b c)) (Appends b c []) now (Ok tt) → AreClean g now.log now.db
-        → IsHistoryOver g policy file reader start (runs_at policy file.schemes (runs ++ run ∷ [])) (Appends a c) now
+    pub over_more : ComesTo g (IsRunOver g policy file audience mid At (Appends b c)) (Appends b c []) now (Ok tt) → AreClean g now.log now.db
+        → IsHistoryOver g policy file audience start (runs_at policy file.schemes (runs ++ run ∷ [])) (Appends a c) now
     over_more ended clean =
         let e = ended clean in
         let r = e.1 in
         let so = reached (runs_at policy file.schemes runs) (Appends a b) mid (over r.clean) r.first r.clean r.found r.begins in
-        some so.0 e.0 so.1 so.2 (more_runs policy file.schemes distinct reader runs run a b c so.0 r.first e.0 prepared so.3 r.run) e.2
+        some so.0 e.0 so.1 so.2 (more_runs policy file.schemes distinct audience runs run a b c so.0 r.first e.0 prepared so.3 r.run) e.2
 
     -- or one that is not whole
-    run_to : (end : Result (Unit {0}) RunFault) (left : Content) → IsRunOver g policy file reader mid At (Appends b c) end left
-        → IsHistoryTo g policy file reader start (runs_at policy file.schemes runs) At (Appends a c) end left
+    run_to : (end : Result (Unit {0}) RunFault) (left : Content) → IsRunOver g policy file audience mid At (Appends b c) end left
+        → IsHistoryTo g policy file audience start (runs_at policy file.schemes runs) At (Appends a c) end left
     run_to end left r =
         let rs = runs_at policy file.schemes runs in
         let so = reached rs (Appends a b) mid (over r.clean) r.first r.clean r.found r.begins in
-        let bytes = concat (history_bytes (labels_of policy) reader (world_of policy so.0) rs) in
+        let bytes = concat (history_bytes (labels_of policy) audience (world_of policy so.0) rs) in
         let h = so.3 in
         record {
           first = so.0;
@@ -185,18 +186,18 @@ module _ {D : Type 0} (g : Ghosts D) (policy : Tables) (file : SchemesFile) (rea
           bytes = bytes;
           found = so.2;
           before = record { begins = h.begins; written = refl; history = h.history; sound = h.sound; shown = h.shown };
-          run = told At.site reader At.events (Appends b c) (λ part. Appends a c (bytes ++ part)) end r.first left (λ part wrote. Appends-trans a b c bytes part h.written wrote) r.run;
+          run = told At.site audience At.events (Appends b c) (λ part. Appends a c (bytes ++ part)) end r.first left (λ part wrote. Appends-trans a b c bytes part h.written wrote) r.run;
         }
 
-    pub broken_off : (cause : HistoryCause) → ComesTo g (IsRunOver g policy file reader mid At (Appends b c)) (Appends b c []) now (Err cause)
-        → IsBrokenOff g policy file reader start (runs_at policy file.schemes runs) At (Appends a c) now cause
+    pub broken_off : (cause : HistoryCause) → ComesTo g (IsRunOver g policy file audience mid At (Appends b c)) (Appends b c []) now (Err cause)
+        → IsBrokenOff g policy file audience start (runs_at policy file.schemes runs) At (Appends a c) now cause
     broken_off (Unopened fault) wrote = (mid, λ clean. retold (over clean))
       where
-        retold : IsHistoryOver g policy file reader start (runs_at policy file.schemes runs) (Appends a b) mid → IsHistoryOver g policy file reader start (runs_at policy file.schemes runs) (Appends a c) mid
+        retold : IsHistoryOver g policy file audience start (runs_at policy file.schemes runs) (Appends a b) mid → IsHistoryOver g policy file audience start (runs_at policy file.schemes runs) (Appends a c) mid
         retold (none empty w same) = none empty (Appends-trans a b c [] [] w wrote) same
         retold (some first left before at h kept) = some first left before at (record {
           begins = h.begins;
-          written = subst (Appends a c) (append-nil (concat (history_bytes (labels_of policy) reader (world_of policy first) (runs_at policy file.schemes runs)))) (Appends-trans a b c _ [] h.written wrote);
+          written = subst (Appends a c) (append-nil (concat (history_bytes (labels_of policy) audience (world_of policy first) (runs_at policy file.schemes runs)))) (Appends-trans a b c _ [] h.written wrote);
           history = h.history;
           sound = h.sound;
           shown = h.shown;
@@ -230,41 +231,41 @@ front P [] y ys h = (h.0, tt)
 front P (x ∷ xs) y ys h = (h.0, front P xs y ys h.1)
 
 -- some of the runs are done, and the others are to come
-pub record Goes {D : Type 0} (g : Ghosts D) (policy : Tables) (file : SchemesFile) (reader : Option ℕ) (runs : List Run) (start : Files D) (before : Option (List ℕ)) (done rest : List Run) (number : ℕ) (now : Files D) (after : Option (List ℕ)) : Type 0 where
+pub record Goes {D : Type 0} (g : Ghosts D) (policy : Tables) (file : SchemesFile) (audience : Audience) (runs : List Run) (start : Files D) (before : Option (List ℕ)) (done rest : List Run) (number : ℕ) (now : Files D) (after : Option (List ℕ)) : Type 0 where
   pub all : done ++ rest ≡ runs
   pub count : number ≡ length done
-  pub over : AreClean g now.log now.db → IsHistoryOver g policy file reader start (runs_at policy file.schemes done) (Appends before after) now
+  pub over : AreClean g now.log now.db → IsHistoryOver g policy file audience start (runs_at policy file.schemes done) (Appends before after) now
 
-module _ {D : Type 0} (g : Ghosts D) (policy : Tables) (file : SchemesFile) (reader : Option ℕ) (runs : List Run) (start : Files D) (before : Option (List ℕ)) where
-  pub goes_first : Goes g policy file reader runs start before [] runs 0 start before
+module _ {D : Type 0} (g : Ghosts D) (policy : Tables) (file : SchemesFile) (audience : Audience) (runs : List Run) (start : Files D) (before : Option (List ℕ)) where
+  pub goes_first : Goes g policy file audience runs start before [] runs 0 start before
   goes_first = record { all = refl; count = refl; over = λ clean. none refl (Appends-nil before) refl }
 
-  pub goes_whole : (done rest : List Run) (number : ℕ) (now : Files D) (after : Option (List ℕ)) → Goes g policy file reader runs start before done rest number now after → rest ≡ []
-      → AreClean g now.log now.db → IsHistoryOver g policy file reader start (runs_at policy file.schemes runs) (Appends before after) now
+  pub goes_whole : (done rest : List Run) (number : ℕ) (now : Files D) (after : Option (List ℕ)) → Goes g policy file audience runs start before done rest number now after → rest ≡ []
+      → AreClean g now.log now.db → IsHistoryOver g policy file audience start (runs_at policy file.schemes runs) (Appends before after) now
   goes_whole done rest number now after h empty clean =
-      subst (λ rs. IsHistoryOver g policy file reader start (runs_at policy file.schemes rs) (Appends before after) now) (sym (append-nil done) ∙ ap (λ rs. done ++ rs) (sym empty) ∙ h.all) (h.over clean)
+      subst (λ rs. IsHistoryOver g policy file audience start (runs_at policy file.schemes rs) (Appends before after) now) (sym (append-nil done) ∙ ap (λ rs. done ++ rs) (sym empty) ∙ h.all) (h.over clean)
 
   module _ (distinct : AreDistinct (labels_of policy)) (prepared : AllByRecursion (IsPrepared policy file.schemes) runs) (done rest : List Run) (run : Run) (number : ℕ) (mid now : Files D) (after last : Option (List ℕ))
-      (h : Goes g policy file reader runs start before done (run ∷ rest) number mid after) where
+      (h : Goes g policy file audience runs start before done (run ∷ rest) number mid after) where
     ready : AllByRecursion (IsPrepared policy file.schemes) (done ++ run ∷ [])
     ready = front (IsPrepared policy file.schemes) done run rest (subst (AllByRecursion (IsPrepared policy file.schemes)) (sym h.all) prepared)
 
     abbrev Comes : Result (Unit {0}) HistoryCause → Type 0
-    Comes = ComesTo g (IsRunOver g policy file reader mid (run_of policy file.schemes run) (Appends after last)) (Appends after last []) now
+    Comes = ComesTo g (IsRunOver g policy file audience mid (run_of policy file.schemes run) (Appends after last)) (Appends after last []) now
 
-    pub goes_more : Comes (Ok tt) → Goes g policy file reader runs start before (done ++ run ∷ []) rest (number + 1) now last
+    pub goes_more : Comes (Ok tt) → Goes g policy file audience runs start before (done ++ run ∷ []) rest (number + 1) now last
     goes_more comes = record {
       all = append_assoc done (run ∷ []) rest ∙ h.all;
       count = ap (λ n. n + 1) h.count ∙ sym (length-append done (run ∷ []));
-      over = over_more g policy file reader distinct start done run ready before after last mid now h.over comes;
+      over = over_more g policy file audience distinct start done run ready before after last mid now h.over comes;
     }
 
-    pub goes_broken : (cause : HistoryCause) → Comes (Err cause) → IsHistoryFault g policy file reader start (runs_at policy file.schemes runs) (Appends before last) now (record { run = number + 1; cause = cause })
+    pub goes_broken : (cause : HistoryCause) → Comes (Err cause) → IsHistoryFault g policy file audience start (runs_at policy file.schemes runs) (Appends before last) now (record { run = number + 1; cause = cause })
     goes_broken cause comes = record {
       before = runs_at policy file.schemes done;
       run = run_of policy file.schemes run;
       after = runs_at policy file.schemes rest;
       all = ap (runs_at policy file.schemes) (sym h.all) ∙ map-append (run_of policy file.schemes) done (run ∷ rest);
       number = omega (arith, h.count, length-map done (run_of policy file.schemes));
-      broken = broken_off g policy file reader distinct start done run ready before after last mid now h.over cause comes;
+      broken = broken_off g policy file audience distinct start done run ready before after last mid now h.over cause comes;
     }

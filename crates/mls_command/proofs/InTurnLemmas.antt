@@ -124,5 +124,5 @@ in_turn h W k V path one documents policy later file again read labels relations
         integrity = (keeps_standing r.site v x.events a.leads.integrity end, (subst (λ w. KeepsIntegrity s.site w s.events) (sym next) (keeps_standing s.site _ y.events b.leads.integrity stop), tt));
         secret = histories_pass ls file.schemes (policy_distinct h.gives documents policy read) v (r ∷ s ∷ []) under passes;
       };
-      written = λ reader. λ i. output r.site reader a.first r.events ∷ printed (heard (sym labels i) reader (run_lines s.site (next i) s.events)) ∷ [];
+      written = λ audience. λ i. output r.site audience a.first r.events ∷ printed (heard (sym labels i) audience.reader (run_lines audience.form s.site (next i) s.events)) ∷ [];
     }

@@ -6,6 +6,7 @@ use Rattle.mls_filterview.specs.Content.{Content, State, no_content}
 use Rattle.mls_fragments.specs.Finding.{IsSoundContent}
 use Rattle.mls_scheme.specs.declared.file.SchemesFile.{SchemesFile}
 use Rattle.mls_script.specs.declared.event.Event.{Event}
+use Rattle.mls_machine.specs.declared.form.Audience.{Audience}
 use Rattle.mls_machine.specs.Site.{Site}
 use Rattle.mls_machine.specs.Machine.{World, Sessions}
 use Rattle.mls_machine.specs.Observation.{PassesOnlyReleasesDown, ShowsOnlyReleases}
@@ -33,9 +34,9 @@ pub none_sound : (site : Site) (s : State) → s ≡ record { now = no_content; 
 none_sound site s none = subst (λ (x : State). IsSound site x.now) (sym none) (no_content_sound site)
 
 -- what an engine's run comes to: its lines, its last world, and what is proved of it
-pub record IsEngineRun (site : Site) (reader : Option ℕ) (v : World) (es : List Event) (before after : Option (List ℕ)) (new : World) (r : Result (Unit {0}) RunFault) : Type 0 where
-  pub ok : OnOk r (IsWhole site reader v es before after new)
-  pub err : IfErr r (IsHalted site reader v es before after new)
+pub record IsEngineRun (site : Site) (audience : Audience) (v : World) (es : List Event) (before after : Option (List ℕ)) (new : World) (r : Result (Unit {0}) RunFault) : Type 0 where
+  pub ok : OnOk r (IsWhole site audience v es before after new)
+  pub err : IfErr r (IsHalted site audience v es before after new)
   pub fault : IfErr r (IsFaultOf es)
   pub integrity : KeepsIntegrity site v es
   pub secret : (n : ℕ) → PassesOnlyReleasesDown site v (take n es)
@@ -45,24 +46,24 @@ shown_to site None v es secret = tt
 shown_to site (Some c) v es secret = λ n. shows_only_releases site c v (take n es) (secret n)
 
 -- over a base that holds a content at first and another at last
-pub run_at : (site : Site) (reader : Option ℕ) (sessions : Sessions) (first left : Content) (es : List Event) (before after : Option (List ℕ)) (r : Result (Unit {0}) RunFault)
-    → IsSound site left → IsEngineRun site reader (first_world site first) es before after (world_at site sessions left) r
-    → IsRun site reader es (Appends before after) r first left
-run_at site reader sessions first left es before after (Ok u) sound h = record {
+pub run_at : (site : Site) (audience : Audience) (sessions : Sessions) (first left : Content) (es : List Event) (before after : Option (List ℕ)) (r : Result (Unit {0}) RunFault)
+    → IsSound site left → IsEngineRun site audience (first_world site first) es before after (world_at site sessions left) r
+    → IsRun site audience es (Appends before after) r first left
+run_at site audience sessions first left es before after (Ok u) sound h = record {
   written = h.ok.bytes;
   left_by = (sessions, h.ok.world);
   sound = sound;
   integrity = h.integrity;
   secret = h.secret;
-  shown = shown_to site reader (first_world site first) es h.secret;
+  shown = shown_to site audience.reader (first_world site first) es h.secret;
 }
-run_at site reader sessions first left es before after (Err fault) sound h = record {
+run_at site audience sessions first left es before after (Err fault) sound h = record {
   written = record { part = h.err.part; rest = h.err.rest; written = h.err.bytes; whole = h.err.reply; none = h.err.none; is = h.fault };
   left_by = (sessions, h.err.world);
   sound = sound;
   integrity = h.integrity;
   secret = h.secret;
-  shown = shown_to site reader (first_world site first) es h.secret;
+  shown = shown_to site audience.reader (first_world site first) es h.secret;
 }
 
 -- ---- how runs and shells end
@@ -112,17 +113,17 @@ module _ {A : Type 0} (Ends : Result A RunFault → Type 0) (Nothing : Type 0) w
 
 -- ---- where runs begin
 
-module _ (h : Hosted) (file : SchemesFile) (site : Site) (reader : Option ℕ) (es : List Event) (Wrote : List ℕ → Type 0) (store : Option (Bor (List ℕ))) (r : Result (Unit {0}) Refusal) where
+module _ (h : Hosted) (file : SchemesFile) (site : Site) (audience : Audience) (es : List Event) (Wrote : List ℕ → Type 0) (store : Option (Bor (List ℕ))) (r : Result (Unit {0}) Refusal) where
   -- with nothing
-  pub from_memory : store ≡ None → IsEnd (λ end. (left : Content) × IsRun site reader es Wrote end no_content left) (Wrote []) r
-      → IsEnd (IsRunFrom h file (named store) site reader es Wrote) (Wrote []) r
+  pub from_memory : store ≡ None → IsEnd (λ end. (left : Content) × IsRun site audience es Wrote end no_content left) (Wrote []) r
+      → IsEnd (IsRunFrom h file (named store) site audience es Wrote) (Wrote []) r
   from_memory none run =
-      let f : (end : Result (Unit {0}) RunFault) → ((left : Content) × IsRun site reader es Wrote end no_content left) → IsRunFrom h file None site reader es Wrote end
+      let f : (end : Result (Unit {0}) RunFault) → ((left : Content) × IsRun site audience es Wrote end no_content left) → IsRunFrom h file None site audience es Wrote end
       = λ end k. λ clean. record { first = no_content; left = k.0; begins = refl; kept = tt; leads = k.1 } in
-      subst (λ (s : Option (Bor (List ℕ))). IsEnd (IsRunFrom h file (named s) site reader es Wrote) (Wrote []) r) (sym none)
-      (end_weaker (λ end. (left : Content) × IsRun site reader es Wrote end no_content left) (Wrote []) (IsRunFrom h file None site reader es Wrote) f r run)
+      subst (λ (s : Option (Bor (List ℕ))). IsEnd (IsRunFrom h file (named s) site audience es Wrote) (Wrote []) r) (sym none)
+      (end_weaker (λ end. (left : Content) × IsRun site audience es Wrote end no_content left) (Wrote []) (IsRunFrom h file None site audience es Wrote) f r run)
 
   -- with what a store kept
-  pub from_store : (path : Bor (List ℕ)) → store ≡ Some path → IsEnd (IsRunFrom h file (Some path.now) site reader es Wrote) (Wrote []) r
-      → IsEnd (IsRunFrom h file (named store) site reader es Wrote) (Wrote []) r
-  from_store path some run = subst (λ (s : Option (Bor (List ℕ))). IsEnd (IsRunFrom h file (named s) site reader es Wrote) (Wrote []) r) (sym some) run
+  pub from_store : (path : Bor (List ℕ)) → store ≡ Some path → IsEnd (IsRunFrom h file (Some path.now) site audience es Wrote) (Wrote []) r
+      → IsEnd (IsRunFrom h file (named store) site audience es Wrote) (Wrote []) r
+  from_store path some run = subst (λ (s : Option (Bor (List ℕ))). IsEnd (IsRunFrom h file (named s) site audience es Wrote) (Wrote []) r) (sym some) run

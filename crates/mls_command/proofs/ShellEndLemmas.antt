@@ -27,7 +27,7 @@ use Rattle.mls_command.specs.Hosting.{Hosted}
 use Rattle.mls_command.specs.Inputs.{named, AreStoredFrom}
 use Rattle.mls_command.specs.Refusal.{IsEnd}
 use Rattle.mls_command.specs.Running.{site_of, first_world}
-use Rattle.mls_command.specs.Shell.{opening, events_in, IsConversation, IsShell}
+use Rattle.mls_command.specs.Shell.{audience_at, opening, events_in, IsConversation, IsShell}
 use Rattle.mls_command.specs.ShellRun.{seat_of, IsShellFrom, IsShellRun}
 use Rattle.mls_command.specs.Acting.{IsTaskDone, IsTaskGivenUp}
 use Rattle.mls_command.proofs.RunningLemmas.{run_at, end_weaker}
@@ -52,7 +52,7 @@ shell_at echo site seat sessions first left before after was is Told end distinc
       written = k.written;
       ended = k.ended;
       run = λ silent. let a = k.run silent in
-          run_at site (Some seat.level) sessions first left es was is k.run_end sound_left
+          run_at site (audience_at seat) sessions first left es was is k.run_end sound_left
           (record { ok = a.whole; err = a.stopped; fault = a.fault; integrity = keep_integrity site distinct read w es stored k.fits; secret = first_accepted_alike site distinct read certified w es stored k.fits });
     }
 

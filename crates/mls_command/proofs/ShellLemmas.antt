@@ -8,17 +8,19 @@ use Rattle.std.proofs.lemmas.List.{length-append}
 use Rattle.std.proofs.lemmas.List.Folds.{list_any-append}
 use Rattle.std.proofs.Math.Seq.{take-append-add}
 use Rattle.mls_script.specs.declared.event.Event.{Event}
+use Rattle.mls_machine.specs.declared.form.Form.{Form}
+use Rattle.mls_machine.specs.declared.form.Audience.{Audience}
 use Rattle.mls_machine.specs.Site.{Site, site_labels}
 use Rattle.mls_machine.specs.Machine.{World, step, end_of}
-use Rattle.mls_machine.specs.Output.{reply_lines, run_lines, printed}
-use Rattle.mls_machine.specs.Observation.{heard}
+use Rattle.mls_machine.specs.Output.{reply_lines_in, run_lines, printed}
+use Rattle.mls_machine.specs.Observation.{heard, run_shows}
 use Rattle.mls_machine.proofs.LineLemmas.{printed-append, nothing_heard}
 use Rattle.mls_sessions.specs.declared.cause.RunFault.{RunFault}
 use Rattle.mls_sessions.specs.Run.{IsWhole, IsStopped, IsFaultOf, printed_to, world_after}
 use Rattle.mls_lattice.specs.Policy.{Tables}
 use Rattle.mls_scheme.specs.Scheme.{Schemes}
 use Rattle.mls_command.specs.declared.seat.Seat.{Seat}
-use Rattle.mls_command.specs.Shell.{Turn, IsTurn, whole, long, cut, events_of, events_in, opening, is_open, is_refused, prompt_of, told_of, told_from, answers, dialogue, after_opening, transcript, AreWhileOpen, has_refused, IsSilent}
+use Rattle.mls_command.specs.Shell.{Turn, IsTurn, whole, long, cut, events_of, events_in, opening, audience_at, is_open, is_refused, prompt_of, told_of, told_from, answers, dialogue, after_opening, transcript, AreWhileOpen, has_refused, IsSilent}
 
 -- ---- events
 
@@ -28,40 +30,40 @@ module _ (site : Site) where
   end_of-append w [] fs = refl
   end_of-append w (e ∷ es) fs = end_of-append (step site w e).world es fs
 
-  run_lines-append : (w : World) (es fs : List Event) → run_lines site w (es ++ fs) ≡ run_lines site w es ++ run_lines site (end_of site w es) fs
+  run_lines-append : (form : Form) (w : World) (es fs : List Event) → run_lines form site w (es ++ fs) ≡ run_lines form site w es ++ run_lines form site (end_of site w es) fs
   unfolding end_of run_lines
-  run_lines-append w [] fs = refl
-  run_lines-append w (e ∷ es) fs =
-      let first = reply_lines site e (step site w e).reply in
-      ap (λ l. first ++ l) (run_lines-append (step site w e).world es fs) ∙ sym (append_assoc first _ _)
+  run_lines-append form w [] fs = refl
+  run_lines-append form w (e ∷ es) fs =
+      let first = reply_lines_in form site e (step site w e).reply in
+      ap (λ l. first ++ l) (run_lines-append form (step site w e).world es fs) ∙ sym (append_assoc first _ _)
 
-  module _ (reader : Option ℕ) where
+  module _ (audience : Audience) where
     -- what is printed of events
     abbrev prints : World → List Event → List ℕ
-    prints w es = printed (heard (site_labels site) reader (run_lines site w es))
+    prints w es = run_shows site audience w es
 
     pub prints-append : (w : World) (es fs : List Event) → prints w (es ++ fs) ≡ prints w es ++ prints (end_of site w es) fs
     prints-append w es fs =
-        ap (λ l. printed (heard (site_labels site) reader l)) (run_lines-append w es fs)
-        ∙ printed-append (site_labels site) reader (run_lines site w es) (run_lines site (end_of site w es) fs)
+        ap (λ l. printed (heard (site_labels site) audience.reader l)) (run_lines-append audience.form w es fs)
+        ∙ printed-append (site_labels site) audience.reader (run_lines audience.form site w es) (run_lines audience.form site (end_of site w es) fs)
 
     pub prints-none : (w : World) → prints w [] ≡ []
     unfolding run_lines
-    prints-none w = nothing_heard (site_labels site) reader
+    prints-none w = nothing_heard (site_labels site) audience.reader
 
-    pub nothing_done : (w : World) (a : Option (List ℕ)) → IsWhole site reader w [] a a w
+    pub nothing_done : (w : World) (a : Option (List ℕ)) → IsWhole site audience w [] a a w
     unfolding end_of
     nothing_done w a = record { bytes = subst (Appends a a) (sym (prints-none w)) (Appends-nil a); world = refl }
 
     -- events that are answered behind others
     module _ (w : World) (es fs : List Event) (a b c : Option (List ℕ)) (first : Appends a b (prints w es)) (new : World) where
-      pub whole_more : IsWhole site reader (end_of site w es) fs b c new → IsWhole site reader w (es ++ fs) a c new
+      pub whole_more : IsWhole site audience (end_of site w es) fs b c new → IsWhole site audience w (es ++ fs) a c new
       whole_more h = record {
         bytes = subst (Appends a c) (sym (prints-append w es fs)) (Appends-trans a b c (prints w es) (prints (end_of site w es) fs) first h.bytes);
         world = h.world ∙ sym (end_of-append w es fs);
       }
 
-      to_more : (n : ℕ) → printed_to site reader w (es ++ fs) (length es + n) ≡ prints w es ++ printed_to site reader (end_of site w es) fs n
+      to_more : (n : ℕ) → printed_to site audience w (es ++ fs) (length es + n) ≡ prints w es ++ printed_to site audience (end_of site w es) fs n
       to_more n = ap (prints w) (take-append-add es fs n) ∙ prints-append w es (take n fs)
 
       at_more : (n : ℕ) → world_after site (end_of site w es) fs n ≡ world_after site w (es ++ fs) (length es + n)
@@ -75,11 +77,11 @@ module _ (site : Site) where
         left true h = h ∙ at_more f.event
         left false h = h ∙ at_more (f.event - 1) ∙ ap (world_after site w (es ++ fs)) less
 
-        pub stopped_more : IsStopped site reader (end_of site w es) fs b c new f → IsStopped site reader w (es ++ fs) a c new (record { event = length es + f.event; cause = f.cause; done = f.done })
+        pub stopped_more : IsStopped site audience (end_of site w es) fs b c new f → IsStopped site audience w (es ++ fs) a c new (record { event = length es + f.event; cause = f.cause; done = f.done })
         stopped_more h =
-            let inner = printed_to site reader (end_of site w es) fs (f.event - 1) in
-            let front : printed_to site reader w (es ++ fs) ((length es + f.event) - 1) ++ h.part ≡ prints w es ++ (inner ++ h.part) =
-            ap (λ n. printed_to site reader w (es ++ fs) n ++ h.part) (sym less) ∙ ap (λ l. l ++ h.part) (to_more (f.event - 1)) ∙ append_assoc (prints w es) inner h.part in
+            let inner = printed_to site audience (end_of site w es) fs (f.event - 1) in
+            let front : printed_to site audience w (es ++ fs) ((length es + f.event) - 1) ++ h.part ≡ prints w es ++ (inner ++ h.part) =
+            ap (λ n. printed_to site audience w (es ++ fs) n ++ h.part) (sym less) ∙ ap (λ l. l ++ h.part) (to_more (f.event - 1)) ∙ append_assoc (prints w es) inner h.part in
             record {
               part = h.part;
               rest = h.rest;
@@ -150,7 +152,7 @@ told-snoc seat n (x ∷ ts) t =
 
 module _ (site : Site) (seat : Seat) where
   answers-append : (w : World) (es fs : List Event) → answers site seat w (es ++ fs) ≡ answers site seat w es ++ answers site seat (end_of site w es) fs
-  answers-append w es fs = prints-append site (Some seat.level) w es fs
+  answers-append w es fs = prints-append site (audience_at seat) w es fs
 
   dialogue-snoc : (w : World) (ts : List Turn) (t : Turn)
       → dialogue site seat w (ts ++ t ∷ []) ≡ dialogue site seat w ts ++ (t.shown ++ answers site seat (end_of site w (events_in ts)) (events_of t.fate))
@@ -200,7 +202,7 @@ module _ (site : Site) (seat : Seat) where
 
   quiet : (w : World) (ts : List Turn) → AllByRecursion (λ (t : Turn). t.shown ≡ []) ts → dialogue site seat w ts ≡ answers site seat w (events_in ts)
   unfolding dialogue
-  quiet w [] h = sym (prints-none site (Some seat.level) w)
+  quiet w [] h = sym (prints-none site (audience_at seat) w)
   quiet w (x ∷ ts) h =
       let v = end_of site w (events_of x.fate) in
       ap (λ l. (l ++ answers site seat w (events_of x.fate)) ++ dialogue site seat v ts) h.0

@@ -6,6 +6,7 @@ use Rattle.std.specs.Io.KnownBytes.{Appends, Consumes, IsAtEnd}
 use Rattle.std.proofs.KnownBytes.{Appends-nil, Appends-trans, Consumes-nil, Consumes-trans}
 use Rattle.mls_filterview.specs.Content.{State}
 use Rattle.mls_script.specs.declared.event.Event.{Event}
+use Rattle.mls_machine.specs.declared.form.Audience.{Audience}
 use Rattle.mls_machine.specs.Site.{Site}
 use Rattle.mls_machine.specs.Machine.{World, end_of}
 use Rattle.mls_machine.specs.Observation.{EventsFit}
@@ -23,7 +24,7 @@ use Rattle.mls_command.specs.declared.seat.Fate.{Fate}
 use Rattle.mls_command.specs.declared.seat.Fate.TheVariants as fates
 use Rattle.mls_command.specs.Ending.{ending_if}
 use Rattle.mls_command.specs.Hosting.{IsTold}
-use Rattle.mls_command.specs.Shell.{Turn, IsTurn, events_of, events_in, opening, is_open, is_refused, is_last, is_failed, prompt_of, told_of, told_from, answers, after_opening, transcript, AreWhileOpen, has_refused, IsSilent, FateFits, IsTalk, IsEndOf, IsAnswered, IsFollowed, IsRead, IsConversation}
+use Rattle.mls_command.specs.Shell.{audience_at, Turn, IsTurn, events_of, events_in, opening, is_open, is_refused, is_last, is_failed, prompt_of, told_of, told_from, answers, after_opening, transcript, AreWhileOpen, has_refused, IsSilent, FateFits, IsTalk, IsEndOf, IsAnswered, IsFollowed, IsRead, IsConversation}
 use Rattle.mls_command.proofs.ShellLemmas.{nothing_done, whole_more, stopped_more, fault_more, all-snoc, all-append, length-snoc, events-snoc, lines-snoc, told-snoc, world-snoc, transcript-snoc, while_open-snoc, refused-snoc, silent_turn, silent_lines, any-snoc}
 
 pub told_more : {E : Type 0} (contents : E → Option (List ℕ)) (a b c : Errors E) (s t : List ℕ) → IsTold contents a b s → IsTold contents b c t → IsTold contents a c (s ++ t)
@@ -33,9 +34,9 @@ pub told_none : {E : Type 0} (contents : E → Option (List ℕ)) (a : Errors E)
 told_none contents a = λ well. (well, Appends-nil (contents a.writer))
 
 -- the events of a line are answered
-pub followed_whole : (at : Site) (level : ℕ) (w : World) (es : List Event) (was is : Option (List ℕ)) (new : World) (line : ℕ)
-    → IsFollowed at level w es was is new line (Ok tt) → IsWhole at (Some level) w es was is new
-followed_whole at level w es was is new line h = subst (λ (r : Result (Unit {0}) RunFault). OnOk r (IsWhole at (Some level) w es was is new)) h.ok h.answered.whole
+pub followed_whole : (at : Site) (audience : Audience) (w : World) (es : List Event) (was is : Option (List ℕ)) (new : World) (line : ℕ)
+    → IsFollowed at audience w es was is new line (Ok tt) → IsWhole at audience w es was is new
+followed_whole at audience w es was is new line h = subst (λ (r : Result (Unit {0}) RunFault). OnOk r (IsWhole at audience w es was is new)) h.ok h.answered.whole
 
 ok_where : (r e : Result (Unit {0}) RunFault) → e ≡ Ok tt → OnOk r (e ≡ Ok tt)
 ok_where (Ok u) e h = h
@@ -46,19 +47,19 @@ nothing_where (Ok u) = tt
 nothing_where (Err f) = tt
 
 -- no events are answered
-followed_nothing : (at : Site) (level : ℕ) (w : World) (es : List Event) (a : Option (List ℕ)) (line : ℕ) (r : Result (Unit {0}) RunFault) → es ≡ [] → IfErr r (λ fault. fault.event ≡ line)
-    → IsFollowed at level w es a a w line r
-followed_nothing at level w es a line r none is = record {
+followed_nothing : (at : Site) (audience : Audience) (w : World) (es : List Event) (a : Option (List ℕ)) (line : ℕ) (r : Result (Unit {0}) RunFault) → es ≡ [] → IfErr r (λ fault. fault.event ≡ line)
+    → IsFollowed at audience w es a a w line r
+followed_nothing at audience w es a line r none is = record {
   end = Ok tt;
-  answered = record { whole = subst (λ (es : List Event). IsWhole at (Some level) w es a a w) (sym none) (nothing_done at (Some level) w a); stopped = tt; fault = tt };
+  answered = record { whole = subst (λ (es : List Event). IsWhole at audience w es a a w) (sym none) (nothing_done at audience w a); stopped = tt; fault = tt };
   ok = ok_where r (Ok tt) refl;
   line = is;
   cause = nothing_where r;
 }
 
-pub followed_lost : (at : Site) (level : ℕ) (w : World) (fate : Fate) (a : Option (List ℕ)) (line : ℕ) (cause : RunCause) → fate ≡ fates.Lost cause
-    → IsFollowed at level w (events_of fate) a a w line (Err (record { event = line; cause = cause; done = false }))
-followed_lost at level w fate a line cause is = followed_nothing at level w (events_of fate) a line _ (ap events_of is) refl
+pub followed_lost : (at : Site) (audience : Audience) (w : World) (fate : Fate) (a : Option (List ℕ)) (line : ℕ) (cause : RunCause) → fate ≡ fates.Lost cause
+    → IsFollowed at audience w (events_of fate) a a w line (Err (record { event = line; cause = cause; done = false }))
+followed_lost at audience w fate a line cause is = followed_nothing at audience w (events_of fate) a line _ (ap events_of is) refl
 
 no_events : (fate : Fate) → ((events : List Event) → fate ≡ fates.Said events → ⊥) → events_of fate ≡ []
 no_events fates.Over h = refl
@@ -70,9 +71,9 @@ no_events fates.TooLong h = refl
 no_events fates.Unreadable h = refl
 no_events (fates.Lost cause) h = refl
 
-pub followed_none : (at : Site) (level : ℕ) (w : World) (fate : Fate) (a : Option (List ℕ)) (line : ℕ) → ((events : List Event) → fate ≡ fates.Said events → ⊥)
-    → IsFollowed at level w (events_of fate) a a w line (Ok tt)
-followed_none at level w fate a line h = followed_nothing at level w (events_of fate) a line (Ok tt) (no_events fate h) tt
+pub followed_none : (at : Site) (audience : Audience) (w : World) (fate : Fate) (a : Option (List ℕ)) (line : ℕ) → ((events : List Event) → fate ≡ fates.Said events → ⊥)
+    → IsFollowed at audience w (events_of fate) a a w line (Ok tt)
+followed_none at audience w fate a line h = followed_nothing at audience w (events_of fate) a line (Ok tt) (no_events fate h) tt
 
 fate_fits : (at : Site) (fate : Fate) → FateFits at.policy at.schemes fate → EventsFit at (events_of fate)
 fate_fits at fates.Over h = tt
@@ -149,14 +150,14 @@ module _ {B E : Type 0} (state : B → State) (is_clean : B → Type 0) (content
   pub record Opened (now : Engine B) (is : Option (List ℕ)) (refused : Bool) : Type 0 where
     pub clean : is_clean now.base → is_clean first.base
     pub kept : IsKept state is_clean first now
-    pub followed : is_clean now.base → IsFollowed at seat.level w (opening seat ∷ []) was is (world_of state now) 0 (Ok tt)
+    pub followed : is_clean now.base → IsFollowed at (audience_at seat) w (opening seat ∷ []) was is (world_of state now) 0 (Ok tt)
     pub refused_is : refused ≡ not (is_open seat (world_of state now))
 
   pub so_far_start : (now : Engine B) (is : Option (List ℕ)) (refused : Bool) → Opened now is refused → SoFar 0 now quiet given is refused
   unfolding told_from Rattle.mls_command.specs.Shell.dialogue AreWhileOpen
   so_far_start now is refused h =
-      let done : is_clean now.base → IsWhole at (Some seat.level) w (opening seat ∷ []) was is (world_of state now) =
-      λ c. followed_whole at seat.level w (opening seat ∷ []) was is (world_of state now) 0 (h.followed c) in
+      let done : is_clean now.base → IsWhole at (audience_at seat) w (opening seat ∷ []) was is (world_of state now) =
+      λ c. followed_whole at (audience_at seat) w (opening seat ∷ []) was is (world_of state now) 0 (h.followed c) in
       record {
         turns = [];
         count_is = refl;
@@ -226,18 +227,18 @@ module _ {B E : Type 0} (state : B → State) (is_clean : B → Type 0) (content
         kept_now = record { rules = kept.rules ∙ s.kept.rules; ready = kept.ready }
 
         -- the events of the line, from the world up to here
-        moved : {r : Result (Unit {0}) RunFault} → (c : is_clean new.base) → IsFollowed (site now) seat.level (world_of state now) (events_of fate) shown after (world_of state new) (count + 1) r
-            → IsFollowed at seat.level (end_of at w (opening seat ∷ events_in s.turns)) (events_of turn.fate) shown after (world_of state new) (count + 1) r
+        moved : {r : Result (Unit {0}) RunFault} → (c : is_clean new.base) → IsFollowed (site now) (audience_at seat) (world_of state now) (events_of fate) shown after (world_of state new) (count + 1) r
+            → IsFollowed at (audience_at seat) (end_of at w (opening seat ∷ events_in s.turns)) (events_of turn.fate) shown after (world_of state new) (count + 1) r
         moved {r} c h =
-            subst (λ (x : Fate). IsFollowed at seat.level (end_of at w (opening seat ∷ events_in s.turns)) (events_of x) shown after (world_of state new) (count + 1) r) (sym l.read.same)
-            (subst (λ (u : World). IsFollowed at seat.level u (events_of fate) shown after (world_of state new) (count + 1) r) (s.world (clean c))
-            (subst (λ (p : Site). IsFollowed p seat.level (world_of state now) (events_of fate) shown after (world_of state new) (count + 1) r) same_site h))
+            subst (λ (x : Fate). IsFollowed at (audience_at seat) (end_of at w (opening seat ∷ events_in s.turns)) (events_of x) shown after (world_of state new) (count + 1) r) (sym l.read.same)
+            (subst (λ (u : World). IsFollowed at (audience_at seat) u (events_of fate) shown after (world_of state new) (count + 1) r) (s.world (clean c))
+            (subst (λ (p : Site). IsFollowed p (audience_at seat) (world_of state now) (events_of fate) shown after (world_of state new) (count + 1) r) same_site h))
 
-        pub so_far_more : (is_clean new.base → IsFollowed (site now) seat.level (world_of state now) (events_of fate) shown after (world_of state new) (count + 1) (Ok tt))
+        pub so_far_more : (is_clean new.base → IsFollowed (site now) (audience_at seat) (world_of state now) (events_of fate) shown after (world_of state new) (count + 1) (Ok tt))
             → SoFar (count + 1) new said over after (refused || is_refused fate)
         so_far_more h =
-            let done : is_clean new.base → IsWhole at (Some seat.level) (end_of at w (opening seat ∷ events_in s.turns)) (events_of turn.fate) shown after (world_of state new) =
-            λ c. followed_whole at seat.level (end_of at w (opening seat ∷ events_in s.turns)) (events_of turn.fate) shown after (world_of state new) (count + 1) (moved c (h c)) in
+            let done : is_clean new.base → IsWhole at (audience_at seat) (end_of at w (opening seat ∷ events_in s.turns)) (events_of turn.fate) shown after (world_of state new) =
+            λ c. followed_whole at (audience_at seat) (end_of at w (opening seat ∷ events_in s.turns)) (events_of turn.fate) shown after (world_of state new) (count + 1) (moved c (h c)) in
             record {
               turns = turns;
               count_is = count_now;
@@ -257,14 +258,14 @@ module _ {B E : Type 0} (state : B → State) (is_clean : B → Type 0) (content
 
         -- a shell that is given up at the line
         pub broken : EventsFit at (opening seat ∷ []) → (fault : RunFault) → (c : is_clean new.base)
-            → IsFollowed (site now) seat.level (world_of state now) (events_of fate) shown after (world_of state new) (count + 1) (Err fault)
+            → IsFollowed (site now) (audience_at seat) (world_of state now) (events_of fate) shown after (world_of state new) (count + 1) (Err fault)
             → IsConversation echo at seat w (world_of state new) given over was after (IsTold contents quiet said) (Err fault)
         broken opens fault c h =
             let k = moved c h in
             let world = end_of at w (opening seat ∷ events_in s.turns) in
             let es = (opening seat ∷ events_in s.turns) ++ events_of turn.fate in
             let same : es ≡ opening seat ∷ events_in turns = ap (λ (l : List Event). opening seat ∷ l) (sym (events-snoc s.turns turn)) in
-            let silent : IsSilent echo → IsWhole at (Some seat.level) w (opening seat ∷ events_in s.turns) was shown world =
+            let silent : IsSilent echo → IsWhole at (audience_at seat) w (opening seat ∷ events_in s.turns) was shown world =
             λ q. record {
               bytes = subst (Appends was shown) (append-nil _) (Appends-trans was is shown (answers at seat w (opening seat ∷ events_in s.turns)) []
                   (subst (Appends was is) (silent_lines at seat echo at.policy at.schemes w s.turns q s.each) (s.written (clean c)))
@@ -279,7 +280,7 @@ module _ {B E : Type 0} (state : B → State) (is_clean : B → Type 0) (content
               written = tt;
               ended = record { line = k.line ∙ sym count_now; cause = later_cause k.end fault k.cause };
               fits = (opens.0, fits_now);
-              run = λ q. subst (λ (es : List Event). IsAnswered at seat.level w es was after (world_of state new) (later k.end)) same (later_answered k.end (silent q) k.answered);
+              run = λ q. subst (λ (es : List Event). IsAnswered at (audience_at seat) w es was after (world_of state new) (later k.end)) same (later_answered k.end (silent q) k.answered);
             }
           where
             later : Result (Unit {0}) RunFault → Result (Unit {0}) RunFault
@@ -290,25 +291,25 @@ module _ {B E : Type 0} (state : B → State) (is_clean : B → Type 0) (content
             later_cause (Ok u) fault h = tt
             later_cause (Err f) fault h = h
 
-            later_answered : (end : Result (Unit {0}) RunFault) → IsWhole at (Some seat.level) w (opening seat ∷ events_in s.turns) was shown (end_of at w (opening seat ∷ events_in s.turns))
-                → IsAnswered at seat.level (end_of at w (opening seat ∷ events_in s.turns)) (events_of turn.fate) shown after (world_of state new) end
-                → IsAnswered at seat.level w ((opening seat ∷ events_in s.turns) ++ events_of turn.fate) was after (world_of state new) (later end)
+            later_answered : (end : Result (Unit {0}) RunFault) → IsWhole at (audience_at seat) w (opening seat ∷ events_in s.turns) was shown (end_of at w (opening seat ∷ events_in s.turns))
+                → IsAnswered at (audience_at seat) (end_of at w (opening seat ∷ events_in s.turns)) (events_of turn.fate) shown after (world_of state new) end
+                → IsAnswered at (audience_at seat) w ((opening seat ∷ events_in s.turns) ++ events_of turn.fate) was after (world_of state new) (later end)
             later_answered (Ok u) first h = record {
-              whole = whole_more at (Some seat.level) w (opening seat ∷ events_in s.turns) (events_of turn.fate) was shown after first.bytes (world_of state new) h.whole;
+              whole = whole_more at (audience_at seat) w (opening seat ∷ events_in s.turns) (events_of turn.fate) was shown after first.bytes (world_of state new) h.whole;
               stopped = tt;
               fault = tt;
             }
             later_answered (Err f) first h = record {
               whole = tt;
-              stopped = stopped_more at (Some seat.level) w (opening seat ∷ events_in s.turns) (events_of turn.fate) was shown after first.bytes (world_of state new) f h.fault h.stopped;
-              fault = fault_more at (Some seat.level) w (opening seat ∷ events_in s.turns) (events_of turn.fate) was shown after first.bytes (world_of state new) f h.fault;
+              stopped = stopped_more at (audience_at seat) w (opening seat ∷ events_in s.turns) (events_of turn.fate) was shown after first.bytes (world_of state new) f h.fault h.stopped;
+              fault = fault_more at (audience_at seat) w (opening seat ∷ events_in s.turns) (events_of turn.fate) was shown after first.bytes (world_of state new) f h.fault;
             }
 
   -- ---- how a shell ends
 
   module _ (opens : EventsFit at (opening seat ∷ [])) where
     -- it is given up at the opening
-    pub broken_first : (new : Engine B) (after : Option (List ℕ)) (fault : RunFault) → IsFollowed at seat.level w (opening seat ∷ []) was after (world_of state new) 0 (Err fault)
+    pub broken_first : (new : Engine B) (after : Option (List ℕ)) (fault : RunFault) → IsFollowed at (audience_at seat) w (opening seat ∷ []) was after (world_of state new) 0 (Err fault)
         → IsConversation echo at seat w (world_of state new) given given was after (IsTold contents quiet quiet) (Err fault)
     unfolding told_from AreWhileOpen
     broken_first new after fault h = record {
@@ -323,7 +324,7 @@ module _ {B E : Type 0} (state : B → State) (is_clean : B → Type 0) (content
     }
 
     module _ (count : ℕ) (now : Engine B) (err : Errors E) (left is : Option (List ℕ)) (refused : Bool) (s : SoFar count now err left is refused) (c : is_clean now.base) where
-      all_answered : IsSilent echo → IsAnswered at seat.level w (opening seat ∷ events_in s.turns) was is (world_of state now) (Ok tt)
+      all_answered : IsSilent echo → IsAnswered at (audience_at seat) w (opening seat ∷ events_in s.turns) was is (world_of state now) (Ok tt)
       all_answered q = record {
         whole = record { bytes = subst (Appends was is) (silent_lines at seat echo at.policy at.schemes w s.turns q s.each) (s.written c); world = s.world c };
         stopped = tt;
@@ -361,7 +362,7 @@ module _ {B E : Type 0} (state : B → State) (is_clean : B → Type 0) (content
     pub over_last : (count : ℕ) (now : Engine B) (err : Errors E) (left is : Option (List ℕ)) (refused : Bool) (s : SoFar count now err left is refused)
         (fate : Fate) (asked said : Errors E) (past shown : Option (List ℕ)) (l : Line count now err left is refused s fate asked said past shown)
         (new : Engine B) (after : Option (List ℕ)) (clean : is_clean new.base → is_clean now.base) (kept : IsKept state is_clean now new)
-        → (is_clean new.base → IsFollowed (site now) seat.level (world_of state now) (events_of fate) shown after (world_of state new) (count + 1) (Ok tt))
+        → (is_clean new.base → IsFollowed (site now) (audience_at seat) (world_of state now) (events_of fate) shown after (world_of state new) (count + 1) (Ok tt))
         → is_last fate ≡ true → is_clean new.base
         → IsConversation echo at seat w (world_of state new) given past was after (IsTold contents quiet said) (Ok (ending_if (refused || is_refused fate)))
     unfolding so_far_more

@@ -1,5 +1,5 @@
 -- What a history of runs over the files of one store writes, what it begins with and what it leaves.
-use Rattle.std.specs.Prelude.{◌≡◌, ℕ, suc, List, [], ◌∷◌, ◌++◌, length, Option, IfSome, Result, Ok, Err}
+use Rattle.std.specs.Prelude.{◌≡◌, ℕ, suc, List, [], ◌∷◌, ◌++◌, length, IfSome, Result, Ok, Err}
 use Rattle.std.specs.List.{concat}
 use Rattle.sqlite_disk.specs.declared.Disk.{Ghosts}
 use Rattle.sqlite_disk.specs.declared.Files.{Files}
@@ -11,6 +11,7 @@ use Rattle.mls_scheme.specs.declared.file.SchemesFile.{SchemesFile}
 use Rattle.mls_filterview.specs.Content.{Content}
 use Rattle.mls_fragments.specs.Again.{AreKept, IsFoundUnder}
 use Rattle.mls_fragments.specs.Finding.{IsSoundContent}
+use Rattle.mls_machine.specs.declared.form.Audience.{Audience}
 use Rattle.mls_machine.specs.Machine.{World, no_sessions}
 use Rattle.mls_machine.specs.Observation.{AreRead, AreCertified, EventsFit}
 use Rattle.mls_machine.specs.History.{RunAt, history_bytes, ShowsOnlyReleasesInHistory}
@@ -47,16 +48,16 @@ world_of policy c = record { db = c.db; sessions = no_sessions; audit = entries_
 -- ---- histories of whole runs
 
 -- from one content to another
-pub record IsHistoryRun (policy : Tables) (schemes : Schemes) (reader : Option ℕ) (rs : List RunAt) (Wrote : List ℕ → Type 0) (first left : Content) : Type 0 where
+pub record IsHistoryRun (policy : Tables) (schemes : Schemes) (audience : Audience) (rs : List RunAt) (Wrote : List ℕ → Type 0) (first left : Content) : Type 0 where
   pub begins : IsSoundContent policy schemes first
-  -- the lines of all runs, or those of them that a reader may see
-  pub written : Wrote (concat (history_bytes (labels_of policy) reader (world_of policy first) rs))
+  -- what an audience is shown of all runs
+  pub written : Wrote (concat (history_bytes (labels_of policy) audience (world_of policy first) rs))
   -- what is left; each database on the way has the four integrity properties; no information flows down but what is released
   pub history : IsHistory (labels_of policy) schemes rs (world_of policy first) (world_of policy left)
   -- a next run may begin with what is left
   pub sound : IsSoundContent policy schemes left
   -- the bytes that a reader is shown are the same for any other such history
-  pub shown : IfSome reader (λ c. ShowsOnlyReleasesInHistory (labels_of policy) schemes c (world_of policy first) rs)
+  pub shown : IfSome audience.reader (λ c. ShowsOnlyReleasesInHistory (labels_of policy) schemes c (world_of policy first) rs)
 
 -- ---- over the files of a store, which are closed and opened between runs
 
@@ -68,20 +69,20 @@ ComesTo g Over Unmade now (Err (Unopened fault)) = Unmade
 ComesTo g Over Unmade now (Err (Stopped fault)) = AreClean g now.log now.db → (left : Content) × Over (Err fault) left × AreKept g now left
 ComesTo g Over Unmade now (Err NotClosed) = AreClean g now.log now.db → (end : Result (Unit {0}) RunFault) × (left : Content) × Over end left
 
-module _ {D : Type 0} (g : Ghosts D) (policy : Tables) (file : SchemesFile) (reader : Option ℕ) where
+module _ {D : Type 0} (g : Ghosts D) (policy : Tables) (file : SchemesFile) (audience : Audience) where
   -- a run from what is found in the files
   pub record IsRunOver (start : Files D) (r : RunAt) (Wrote : List ℕ → Type 0) (end : Result (Unit {0}) RunFault) (left : Content) : Type 0 where
     pub first : Content
     pub clean : AreClean g start.log start.db
     pub found : IsFoundUnder policy file (image_of g start) first
     pub begins : IsSoundContent policy file.schemes first
-    pub run : IsRun r.site reader r.events Wrote end first left
+    pub run : IsRun r.site audience r.events Wrote end first left
 
   -- whole runs, if there are any: from what is found in the files at first to what they keep
   pub data IsHistoryOver (start : Files D) (rs : List RunAt) (Wrote : List ℕ → Type 0) (now : Files D) : Type 0 where
     none : rs ≡ [] → Wrote [] → now ≡ start → IsHistoryOver start rs Wrote now
     some : (first left : Content) → AreClean g start.log start.db → IsFoundUnder policy file (image_of g start) first
-        → IsHistoryRun policy file.schemes reader rs Wrote first left → AreKept g now left → IsHistoryOver start rs Wrote now
+        → IsHistoryRun policy file.schemes audience rs Wrote first left → AreKept g now left → IsHistoryOver start rs Wrote now
 
   -- whole runs, and then one from what they leave that ended or stopped
   pub record IsHistoryTo (start : Files D) (rs : List RunAt) (r : RunAt) (Wrote : List ℕ → Type 0) (end : Result (Unit {0}) RunFault) (left : Content) : Type 0 where
@@ -89,8 +90,8 @@ module _ {D : Type 0} (g : Ghosts D) (policy : Tables) (file : SchemesFile) (rea
     pub last : Content
     pub bytes : List ℕ
     pub found : IsFoundUnder policy file (image_of g start) first
-    pub before : IsHistoryRun policy file.schemes reader rs (λ written. bytes ≡ written) first last
-    pub run : IsRun r.site reader r.events (λ part. Wrote (bytes ++ part)) end last left
+    pub before : IsHistoryRun policy file.schemes audience rs (λ written. bytes ≡ written) first last
+    pub run : IsRun r.site audience r.events (λ part. Wrote (bytes ++ part)) end last left
 
   -- a run after others, for which the store was not opened, or that is not whole, or after which the store was not closed
   abbrev pub IsBrokenOff : Files D → List RunAt → RunAt → (List ℕ → Type 0) → Files D → HistoryCause → Type 0

@@ -7,6 +7,7 @@ use Rattle.mls_scheme.specs.declared.file.SchemesFile.{SchemesFile}
 use Rattle.mls_filterview.specs.Content.{Content}
 use Rattle.mls_script.specs.declared.event.Event.{Event}
 use Rattle.mls_machine.specs.declared.stored.Stored.{Stored}
+use Rattle.mls_machine.specs.declared.form.Audience.{Audience}
 use Rattle.mls_machine.specs.Machine.{World}
 use Rattle.mls_machine.specs.History.{RunAt, history_end, history_bytes, KeepsIntegrityInHistory, PassesOnlyReleasesDownInHistory}
 use Rattle.mls_sessions.specs.declared.cause.RunFault.{RunFault}
@@ -34,7 +35,7 @@ pub record AreInTurn (ls : Labels) (schemes : Schemes) (r s : RunAt) (first left
   -- the second begins with what the first left
   pub one : left ≡ next
   pub history : IsHistory ls schemes (r ∷ s ∷ []) (first_world r.site first) (first_world s.site last)
-  pub written : (reader : Option ℕ) → history_bytes ls reader (first_world r.site first) (r ∷ s ∷ []) ≡ output r.site reader first r.events ∷ output s.site reader next s.events ∷ []
+  pub written : (audience : Audience) → history_bytes ls audience (first_world r.site first) (r ∷ s ∷ []) ≡ output r.site audience first r.events ∷ output s.site audience next s.events ∷ []
 
 -- Two scripts are run over the store at one path, which is clean. The labels and the schemes are the same; users, rights and transactions
 -- may differ.

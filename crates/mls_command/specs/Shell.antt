@@ -15,10 +15,10 @@ use Rattle.mls_script.specs.declared.fault.ScriptCause.TheVariants.{Expected}
 use Rattle.mls_script.specs.Fault as faults
 use Rattle.mls_script.specs.Event.{EventFits}
 use Rattle.mls_script.specs.Reading.{script_at}
-use Rattle.mls_machine.specs.Site.{Site, site_labels}
+use Rattle.mls_machine.specs.declared.form.Audience.{Audience}
+use Rattle.mls_machine.specs.Site.{Site}
 use Rattle.mls_machine.specs.Machine.{World, end_of}
-use Rattle.mls_machine.specs.Output.{run_lines, printed}
-use Rattle.mls_machine.specs.Observation.{EventsFit, heard}
+use Rattle.mls_machine.specs.Observation.{EventsFit, run_shows, reader_of}
 use Rattle.mls_sessions.specs.declared.cause.RunFault.{RunFault}
 use Rattle.mls_sessions.specs.declared.cause.RunCause.TheVariants.{Memory}
 use Rattle.mls_sessions.specs.Run.{IsWhole, IsStopped, IsFaultOf}
@@ -28,7 +28,7 @@ use Rattle.mls_command.specs.declared.seat.Seat.{Seat}
 use Rattle.mls_command.specs.declared.seat.Fate.{Fate}
 use Rattle.mls_command.specs.declared.seat.Fate.TheVariants.{Over, Blank, Help, Said, Refused, TooLong, Unreadable, Lost}
 use Rattle.mls_command.specs.Ending.{ending_if}
-use Rattle.mls_command.specs.Running.{first_world, IsRun}
+use Rattle.mls_command.specs.Running.{first_world, form_of, IsRun}
 
 -- ---- who sits there
 
@@ -38,6 +38,10 @@ prefix_of seat = seat.label ++ codes " " ++ seat.user ++ codes " "
 
 abbrev pub prompt_of : Seat → List ℕ
 prompt_of seat = if seat.has_prompt then seat.label ++ codes " " ++ seat.user ++ codes "> " else []
+
+-- its level, which is shown tables where somebody types at a terminal
+abbrev pub audience_at : Seat → Audience
+audience_at seat = reader_of seat.level (form_of seat.has_prompt)
 
 abbrev pub opening : Seat → Event
 opening seat = record { level = seat.level; session = seat.user; command = Open seat.user }
@@ -144,7 +148,7 @@ events_in = flat_map (λ t. events_of t.fate)
 module _ (site : Site) (seat : Seat) where
   -- what the session's level sees of the replies to events
   abbrev pub answers : World → List Event → List ℕ
-  answers w es = printed (heard (site_labels site) (Some seat.level) (run_lines site w es))
+  answers w es = run_shows site (audience_at seat) w es
 
   -- each line as it is shown, and right behind it its answers
   unfoldable pub dialogue : World → List Turn → List ℕ
@@ -211,20 +215,20 @@ module _ (echo : List ℕ → List ℕ) (site : Site) (seat : Seat) where
     pub told : Told (told_from seat 1 turns)
     pub written : OnOk end (Wrote (transcript site seat (first_world site first) turns))
     pub ended : IsEndOf (first_world site first) turns after run_end end
-    pub run : IsSilent echo → IsRun site (Some seat.level) (opening seat ∷ events_in turns) Wrote run_end first left
+    pub run : IsSilent echo → IsRun site (audience_at seat) (opening seat ∷ events_in turns) Wrote run_end first left
 
 -- ---- between two lines
 
 -- events are answered from w, or not all are, for a fault that the shell tells of
-pub record IsAnswered (site : Site) (level : ℕ) (w : World) (es : List Event) (was is : Option (List ℕ)) (new : World) (end : Result (Unit {0}) RunFault) : Type 0 where
-  pub whole : OnOk end (IsWhole site (Some level) w es was is new)
-  pub stopped : IfErr end (IsStopped site (Some level) w es was is new)
+pub record IsAnswered (site : Site) (audience : Audience) (w : World) (es : List Event) (was is : Option (List ℕ)) (new : World) (end : Result (Unit {0}) RunFault) : Type 0 where
+  pub whole : OnOk end (IsWhole site audience w es was is new)
+  pub stopped : IfErr end (IsStopped site audience w es was is new)
   pub fault : IfErr end (IsFaultOf es)
 
 -- at a line the shell goes on, or is given up
-pub record IsFollowed (site : Site) (level : ℕ) (w : World) (es : List Event) (was is : Option (List ℕ)) (new : World) (number : ℕ) (r : Result (Unit {0}) RunFault) : Type 0 where
+pub record IsFollowed (site : Site) (audience : Audience) (w : World) (es : List Event) (was is : Option (List ℕ)) (new : World) (number : ℕ) (r : Result (Unit {0}) RunFault) : Type 0 where
   pub end : Result (Unit {0}) RunFault
-  pub answered : IsAnswered site level w es was is new end
+  pub answered : IsAnswered site audience w es was is new end
   pub ok : OnOk r (end ≡ Ok tt)
   pub line : IfErr r (λ fault. fault.event ≡ number)
   pub cause : IfErr r (λ fault. IfErr end (λ f. (f.cause ≡ fault.cause) × (f.done ≡ fault.done)))
@@ -247,4 +251,4 @@ pub record IsConversation (echo : List ℕ → List ℕ) (site : Site) (seat : S
   pub written : OnOk end (Appends was is (transcript site seat w turns))
   pub ended : IsEndOf echo site seat w turns after run_end end
   pub fits : EventsFit site (opening seat ∷ events_in turns)
-  pub run : IsSilent echo → IsAnswered site seat.level w (opening seat ∷ events_in turns) was is new run_end
+  pub run : IsSilent echo → IsAnswered site (audience_at seat) w (opening seat ∷ events_in turns) was is new run_end

@@ -1,7 +1,9 @@
 -- What the words of a command line ask for, and what is said where they ask for nothing.
-use Rattle.std.specs.Prelude.{◌≡◌, ℕ, ◌<◌, ◌≤◌, true, false, List, map, length, codes, string_bytes, Option, Some, None, option_map, ◌⊎◌, ⊤}
+use Rattle.std.specs.Prelude.{◌≡◌, ℕ, ◌<◌, ◌≤◌, Bool, true, false, List, map, length, codes, string_bytes, Option, Some, None, option_map, ◌⊎◌, ⊤}
 use Rattle.std.specs.Borrow.{Bor}
+use Rattle.std.specs.Str.{bytes_eq}
 use Rattle.clap.specs.Words.{App, Row, Rule, Text, first_of, new_app, new_rule, subcommand_of, takes, with_rule, with_subcommand}
+use Rattle.clap.specs.declared.builder.action.ArgAction.TheVariants.{SetTrue}
 use Rattle.mls_command.specs.declared.words.Job.{Job}
 use Rattle.mls_command.specs.declared.words.Documents.{Documents}
 use Rattle.mls_command.specs.declared.words.Task.{Task}
@@ -22,6 +24,10 @@ place id = record (new_rule id) { required = true }
 abbrev pub option : Text → Rule
 option id = record (new_rule id) { long = Some id; value_names = 1 }
 
+-- an option without one
+abbrev pub flag : Text → Rule
+flag id = record (new_rule id) { long = Some id; action = Some SetTrue }
+
 -- the policy and the schemes
 abbrev pub with_documents : App → App
 with_documents c = with_rule (with_rule c (place (codes "POLICY"))) (place (codes "SCHEMES"))
@@ -31,7 +37,7 @@ abbrev pub with_stored : App → App
 with_stored c = with_rule (with_rule c (option (codes "transactions"))) (option (codes "certificates"))
 
 abbrev pub run : App
-run = with_rule (with_documents (with_stored (with_rule (with_rule (new_app (codes "run")) (option (codes "at"))) (option (codes "store"))))) (place (codes "SCRIPT"))
+run = with_rule (with_documents (with_stored (with_rule (with_rule (with_rule (new_app (codes "run")) (flag (codes "table"))) (option (codes "at"))) (option (codes "store"))))) (place (codes "SCRIPT"))
 
 abbrev pub shell : App
 shell =
@@ -58,7 +64,12 @@ command_line = with_subcommand (with_subcommand (with_subcommand (with_subcomman
 
 -- the job of a run of the samples, with the script on the standard input
 abbrev pub samples : Job
-samples = record { documents = None; task = Run (record { at = None; store = None; transactions = None; certificates = None; script = None }) }
+samples = record { documents = None; task = Run (record { is_table = false; at = None; store = None; transactions = None; certificates = None; script = None }) }
+
+-- a flag is among the words
+abbrev pub is_on : Option Text → Bool
+is_on None = false
+is_on (Some t) = bytes_eq t (codes "true")
 
 -- a task, by the name of its command and the values of its arguments
 abbrev pub IsTask : Text → List Row → Task → Type 0
@@ -70,6 +81,7 @@ IsTask name rows (Run files) =
     × (option_map (λ p. p.now) files.transactions ≡ first_of (codes "transactions") rows)
     × (option_map (λ p. p.now) files.certificates ≡ first_of (codes "certificates") rows)
     × (option_map (λ p. p.now) files.script ≡ first_of (codes "SCRIPT") rows)
+    × (files.is_table ≡ is_on (first_of (codes "table") rows))
 IsTask name rows (Shell files) =
     (name ≡ codes "shell")
     × (option_map (λ p. p.now) files.store ≡ first_of (codes "store") rows)

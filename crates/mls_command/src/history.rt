@@ -13,7 +13,8 @@ ghost use Rattle.mls_command.specs.Running.{site_of, IsRun};
 
 use crate::running::run_on;
 use mls_fragments::{OpenFault, SqlBase};
-use mls_lattice::{Items, LabelNo, Policy};
+use mls_lattice::{Items, Policy};
+use mls_machine::Audience;
 use mls_scheme::SchemesFile;
 use mls_script::Event;
 use mls_sessions::{RunFault, Stored};
@@ -64,34 +65,31 @@ fn run_and_close<D: Disk + Drop, W: Write>(
     file: &SchemesFile,
     run: Run,
     base: SqlBase<FileStore<D>>,
-    reader: Option<LabelNo>,
+    audience: Audience,
     out: &mut W,
 ) -> (Result<(), HistoryCause>, Files<D>)
     requires under { AreUnder (length policy.now.labels) file.now.schemes }
     requires prepared { IsPrepared policy.now file.now.schemes run }
-    requires declared { IfSome reader (λ c. c < length policy.now.labels) }
+    requires declared { IfSome audience.reader (λ c. c < length policy.now.labels) }
     requires idle { (state_of base).begun ≡ false }
     requires sound { IsSoundContent policy.now file.now.schemes (state_of base).now }
-    ensures { ComesTo D.Disk (λ end left. IsClean base.tables × IsRun (site_of policy.now file.now.schemes run.stored) reader run.events.items
+    ensures { ComesTo D.Disk (λ end left. IsClean base.tables × IsRun (site_of policy.now file.now.schemes run.stored) audience run.events.items
         (IsAppended W.contents out.old out.new) end (state_of base).now left) ⊥ result.1 result.0 }
 {
     let Run { stored, events } = run;
     let schemes = &file.schemes;
-    let (outcome, left) = run_on(alloc, policy, schemes, stored, base, &events, reader, out);
+    let (outcome, left) = run_on(alloc, policy, schemes, stored, base, &events, audience, out);
     match left.close_files() {
         Ok(files) => (ended(outcome), files),
         Err((_, files)) => (Err(HistoryCause::NotClosed), files),
     }
 }
 
-/// The reader, again.
-fn same_reader(reader: &Option<LabelNo>) -> Option<LabelNo>
-    ensures { result ≡ reader.now }
+/// The audience, again.
+fn same_audience(audience: &Audience) -> Audience
+    ensures { result ≡ audience.now }
 {
-    match reader {
-        Some(label) => Some(*label),
-        None => None,
-    }
+    *audience
 }
 
 /// Answers the events of a run over the store in files, which is opened and closed for it.
@@ -102,23 +100,23 @@ fn run_over<D: Disk + Drop, W: Write>(
     run: Run,
     files: Files<D>,
     options: Options,
-    reader: &Option<LabelNo>,
+    audience: &Audience,
     out: &mut W,
 ) -> (Result<(), HistoryCause>, Files<D>)
     requires under { AreUnder (length policy.now.labels) file.now.schemes }
     requires prepared { IsPrepared policy.now file.now.schemes run }
-    requires declared { IfSome reader.now (λ c. c < length policy.now.labels) }
-    ensures { ComesTo D.Disk (IsRunOver D.Disk policy.now file.now reader.now files (run_of policy.now file.now.schemes run) (IsAppended W.contents out.old out.new))
+    requires declared { IfSome audience.now.reader (λ c. c < length policy.now.labels) }
+    ensures { ComesTo D.Disk (IsRunOver D.Disk policy.now file.now audience.now files (run_of policy.now file.now.schemes run) (IsAppended W.contents out.old out.new))
         (IsAppended W.contents out.old out.new []) result.1 result.0 }
 {
     match SqlBase::open_files(alloc, files, options, policy, file) {
-        Ok(base) => run_and_close(alloc, policy, file, run, base, same_reader(reader), out),
+        Ok(base) => run_and_close(alloc, policy, file, run, base, same_audience(audience), out),
         Err((fault, files)) => (Err(HistoryCause::Unopened(fault)), files),
     }
 }
 
-/// Answers a history of runs over the store in files, which is opened and closed for each run; for a reader alone where there is one.
-/// A fault breaks the history off. The files come back as they are then.
+/// Answers a history of runs over the store in files, which is opened and closed for each run, for an audience. A
+/// fault breaks the history off. The files come back as they are then.
 pub fn run_history<D: Disk + Drop, W: Write>(
     alloc: Global,
     policy: &Policy,
@@ -126,15 +124,15 @@ pub fn run_history<D: Disk + Drop, W: Write>(
     runs: Vec<Run>,
     files: Files<D>,
     options: Options,
-    reader: Option<LabelNo>,
+    audience: Audience,
     out: &mut W,
 ) -> (Result<(), HistoryFault>, Files<D>)
     requires under { AreUnder (length policy.now.labels) file.now.schemes }
     requires prepared { AllByRecursion (IsPrepared policy.now file.now.schemes) runs.items }
-    requires declared { IfSome reader (λ c. c < length policy.now.labels) }
+    requires declared { IfSome audience.reader (λ c. c < length policy.now.labels) }
     ensures whole { OnOk result.0 (AreClean D.Disk result.1.log result.1.db
-        → IsHistoryOver D.Disk policy.now file.now reader files (map (run_of policy.now file.now.schemes) runs.items) (IsAppended W.contents out.old out.new) result.1) }
-    ensures broken { IfErr result.0 (IsHistoryFault D.Disk policy.now file.now reader files (map (run_of policy.now file.now.schemes) runs.items)
+        → IsHistoryOver D.Disk policy.now file.now audience files (map (run_of policy.now file.now.schemes) runs.items) (IsAppended W.contents out.old out.new) result.1) }
+    ensures broken { IfErr result.0 (IsHistoryFault D.Disk policy.now file.now audience files (map (run_of policy.now file.now.schemes) runs.items)
         (IsAppended W.contents out.old out.new) result.1) }
 {
     // for what holds of every policy
@@ -143,7 +141,7 @@ pub fn run_history<D: Disk + Drop, W: Write>(
     let mut number = 0;
     for run in runs {
         number += 1;
-        let (outcome, files) = run_over(alloc, policy, file, run, left, options, &reader, out);
+        let (outcome, files) = run_over(alloc, policy, file, run, left, options, &audience, out);
         left = files;
         if let Err(cause) = outcome {
             return (Err(HistoryFault { run: number, cause }), left);

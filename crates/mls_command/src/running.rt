@@ -10,7 +10,7 @@ ghost use Rattle.mls_sessions.specs.World.{IsSound};
 ghost use Rattle.mls_command.specs.Hosting.{hosted, IsAppended};
 ghost use Rattle.mls_command.specs.Inputs.{named, AreStoredFrom, IsScriptFrom};
 ghost use Rattle.mls_command.specs.Refusal.{IsBefore, IsEnd};
-ghost use Rattle.mls_command.specs.Running.{site_of, IsRun};
+ghost use Rattle.mls_command.specs.Running.{site_of, form_of, IsRun};
 ghost use Rattle.mls_command.specs.ScriptRun.{IsRunFrom, IsScriptRun};
 
 use crate::host::Host;
@@ -21,6 +21,7 @@ use crate::words::RunFiles;
 use mls_filterview::Base;
 use mls_fragments::SqlBase;
 use mls_lattice::{Items, LabelNo, Policy};
+use mls_machine::{Audience, Form};
 use mls_scheme::{Schemes, SchemesFile};
 use mls_script::{Event, script};
 use mls_sessions::{Engine, RunFault, Stored, run_to};
@@ -47,7 +48,7 @@ pub(crate) fn stored_files<H: Host>(
     Ok(stored_of(alloc, policy, txs, &blocks)?)
 }
 
-/// Answers events over a base, for a reader alone where there is one, and gives the base back.
+/// Answers events over a base, for an audience, and gives the base back.
 pub fn run_on<B: Base, W: Write>(
     alloc: Global,
     policy: &Policy,
@@ -55,23 +56,23 @@ pub fn run_on<B: Base, W: Write>(
     stored: Items<Stored>,
     base: B,
     events: &[Event],
-    reader: Option<LabelNo>,
+    audience: Audience,
     out: &mut W,
 ) -> (Result<(), RunFault>, B)
     requires under { AreUnder (length policy.now.labels) schemes.now }
     requires read { AreRead (site_of policy.now schemes.now stored) }
     requires certified { AreCertified (site_of policy.now schemes.now stored) }
     requires fits { EventsFit (site_of policy.now schemes.now stored) events.now }
-    requires declared { IfSome reader (λ c. c < length policy.now.labels) }
+    requires declared { IfSome audience.reader (λ c. c < length policy.now.labels) }
     requires idle { (B.state base).begun ≡ false }
     requires sound { B.is_clean base → IsSound (site_of policy.now schemes.now stored) (B.state base).now }
     ensures clean { B.is_clean result.1 → B.is_clean base }
     ensures idle { (B.state result.1).begun ≡ false }
-    ensures run { B.is_clean result.1 → IsRun (site_of policy.now schemes.now stored) reader events.now
+    ensures run { B.is_clean result.1 → IsRun (site_of policy.now schemes.now stored) audience events.now
         (IsAppended W.contents out.old out.new) result.0 (B.state base).now (B.state result.1).now }
 {
     let mut engine = Engine::new(alloc, base, policy, schemes, stored);
-    let outcome = run_to(&mut engine, events, reader, out);
+    let outcome = run_to(&mut engine, events, audience, out);
     (outcome, engine.finish())
 }
 
@@ -82,15 +83,15 @@ fn run_in_memory<W: Write>(
     file: &SchemesFile,
     stored: Items<Stored>,
     events: &[Event],
-    reader: Option<LabelNo>,
+    audience: Audience,
     out: &mut W,
 ) -> Result<(), Refusal>
     requires under { AreUnder (length policy.now.labels) file.now.schemes }
     requires read { AreRead (site_of policy.now file.now.schemes stored) }
     requires certified { AreCertified (site_of policy.now file.now.schemes stored) }
     requires fits { EventsFit (site_of policy.now file.now.schemes stored) events.now }
-    requires declared { IfSome reader (λ c. c < length policy.now.labels) }
-    ensures { IsEnd (λ end. (left : Content) × IsRun (site_of policy.now file.now.schemes stored) reader events.now
+    requires declared { IfSome audience.reader (λ c. c < length policy.now.labels) }
+    ensures { IsEnd (λ end. (left : Content) × IsRun (site_of policy.now file.now.schemes stored) audience events.now
         (IsAppended W.contents out.old out.new) end no_content left) (IsAppended W.contents out.old out.new []) result }
 {
     let base = match SqlBase::open_memory(alloc, policy, file) {
@@ -104,7 +105,7 @@ fn run_in_memory<W: Write>(
         stored,
         base,
         events,
-        reader,
+        audience,
         out,
     );
     let _connection = left.into_connection();
@@ -120,16 +121,16 @@ fn run_in_store<H: Host, W: Write>(
     file: &SchemesFile,
     stored: Items<Stored>,
     events: &[Event],
-    reader: Option<LabelNo>,
+    audience: Audience,
     out: &mut W,
 ) -> Result<(), Refusal>
     requires under { AreUnder (length policy.now.labels) file.now.schemes }
     requires read { AreRead (site_of policy.now file.now.schemes stored) }
     requires certified { AreCertified (site_of policy.now file.now.schemes stored) }
     requires fits { EventsFit (site_of policy.now file.now.schemes stored) events.now }
-    requires declared { IfSome reader (λ c. c < length policy.now.labels) }
+    requires declared { IfSome audience.reader (λ c. c < length policy.now.labels) }
     ensures { IsEnd (IsRunFrom (hosted H.gives H.keeps H.is_honest H.Lines.echo host.old host.new) file.now (Some path.now)
-        (site_of policy.now file.now.schemes stored) reader events.now (IsAppended W.contents out.old out.new))
+        (site_of policy.now file.now.schemes stored) audience events.now (IsAppended W.contents out.old out.new))
         (IsAppended W.contents out.old out.new []) result }
 {
     let base = match host.store(alloc, path, policy, file) {
@@ -143,7 +144,7 @@ fn run_in_store<H: Host, W: Write>(
         stored,
         base,
         events,
-        reader,
+        audience,
         out,
     );
     let closed = host.keep(path, left);
@@ -159,22 +160,33 @@ fn run_events<H: Host, W: Write>(
     file: &SchemesFile,
     stored: Items<Stored>,
     events: &[Event],
-    reader: Option<LabelNo>,
+    audience: Audience,
     out: &mut W,
 ) -> Result<(), Refusal>
     requires under { AreUnder (length policy.now.labels) file.now.schemes }
     requires read { AreRead (site_of policy.now file.now.schemes stored) }
     requires certified { AreCertified (site_of policy.now file.now.schemes stored) }
     requires fits { EventsFit (site_of policy.now file.now.schemes stored) events.now }
-    requires declared { IfSome reader (λ c. c < length policy.now.labels) }
+    requires declared { IfSome audience.reader (λ c. c < length policy.now.labels) }
     ensures { IsEnd (IsRunFrom (hosted H.gives H.keeps H.is_honest H.Lines.echo host.old host.new) file.now (named store.entry)
-        (site_of policy.now file.now.schemes stored) reader events.now (IsAppended W.contents out.old out.new))
+        (site_of policy.now file.now.schemes stored) audience events.now (IsAppended W.contents out.old out.new))
         (IsAppended W.contents out.old out.new []) result }
 {
     match store {
-        None => run_in_memory(alloc, policy, file, stored, events, reader, out),
-        Some(path) => { run_in_store(alloc, host, path, policy, file, stored, events, reader, out) }
+        None => run_in_memory(alloc, policy, file, stored, events, audience, out),
+        Some(path) => {
+            run_in_store(
+                alloc, host, path, policy, file, stored, events, audience, out,
+            )
+        }
     }
+}
+
+/// A table, where it is asked for.
+pub(crate) fn form_of(is_table: bool) -> Form
+    ensures { result ≡ form_of is_table }
+{
+    if is_table { Form::Table } else { Form::Lines }
 }
 
 /// The script of a file, or of the standard input.
@@ -219,6 +231,10 @@ pub(crate) fn run_files<H: Host, W: Write>(
         files.certificates,
     )?;
     let events = script_of(alloc, host, policy, &file.schemes, files.script)?;
+    let audience = Audience {
+        reader,
+        form: form_of(files.is_table),
+    };
     run_events(
         alloc,
         host,
@@ -227,7 +243,7 @@ pub(crate) fn run_files<H: Host, W: Write>(
         file,
         stored,
         &events,
-        reader,
+        audience,
         out,
     )
 }

@@ -10,7 +10,7 @@ pub struct Seat {
     /// The name of the level.
     pub label: Str,
     pub user: Str,
-    /// Whether a prompt is shown before each line.
+    /// Whether somebody types at a terminal: a prompt is shown before each line, and views as tables.
     pub has_prompt: bool,
 }
 

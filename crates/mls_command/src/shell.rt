@@ -7,20 +7,32 @@ ghost use Rattle.mls_sessions.specs.Engine.{site, world_of, IsReady, IsKept};
 ghost use Rattle.mls_sessions.specs.World.{IsSound};
 ghost use Rattle.mls_command.specs.Hosting.{IsAppended, IsTold};
 ghost use Rattle.mls_command.specs.Running.{site_of};
-ghost use Rattle.mls_command.specs.Shell.{opening, told_of, events_of, is_refused, is_last, FateFits, IsFollowed, IsConversation, IsShell};
+ghost use Rattle.mls_command.specs.Shell.{opening, audience_at, told_of, events_of, is_refused, is_last, FateFits, IsFollowed, IsConversation, IsShell};
 
 use crate::ending::{Ending, ending_if};
 use crate::errors::Errors;
 use crate::reading::next_fate;
+use crate::running::form_of;
 use crate::seat::{Fate, Seat};
 use crate::typing::TypedLines;
 use mls_filterview::Base;
 use mls_lattice::{Items, Policy};
+use mls_machine::Audience;
 use mls_scheme::Schemes;
 use mls_script::Event;
 use mls_sessions::{Engine, RunCause, RunFault, Stored, run_to};
 use std::alloc::Global;
 use std::io::Write;
+
+/// Its level, which is shown tables where somebody types at a terminal.
+fn audience_at(seat: &Seat) -> Audience
+    ensures { result ≡ audience_at seat.now }
+{
+    Audience {
+        reader: Some(seat.level),
+        form: form_of(seat.has_prompt),
+    }
+}
 
 /// Answers the events of a line, for the level of the session alone. A fault is told as one of the line.
 fn answer<B: Base, W: Write>(
@@ -35,10 +47,10 @@ fn answer<B: Base, W: Write>(
     requires level { seat.now.level < length (site engine.old).policy.labels }
     ensures clean { B.is_clean engine.new.base → B.is_clean engine.old.base }
     ensures kept { IsKept B.state B.is_clean engine.old engine.new }
-    ensures followed { B.is_clean engine.new.base → IsFollowed (site engine.old) seat.now.level (world_of B.state engine.old) events.now
+    ensures followed { B.is_clean engine.new.base → IsFollowed (site engine.old) (audience_at seat.now) (world_of B.state engine.old) events.now
         (W.contents out.old) (W.contents out.new) (world_of B.state engine.new) line result }
 {
-    match run_to(engine, events, Some(seat.level), out) {
+    match run_to(engine, events, audience_at(seat), out) {
         Ok(()) => Ok(()),
         Err(fault) => Err(RunFault {
             event: line,
@@ -61,7 +73,7 @@ fn follow<B: Base, W: Write>(
     requires level { seat.now.level < length (site engine.old).policy.labels }
     ensures clean { B.is_clean engine.new.base → B.is_clean engine.old.base }
     ensures kept { IsKept B.state B.is_clean engine.old engine.new }
-    ensures followed { B.is_clean engine.new.base → IsFollowed (site engine.old) seat.now.level (world_of B.state engine.old) (events_of fate.now)
+    ensures followed { B.is_clean engine.new.base → IsFollowed (site engine.old) (audience_at seat.now) (world_of B.state engine.old) (events_of fate.now)
         (W.contents out.old) (W.contents out.new) (world_of B.state engine.new) line result }
 {
     match fate {

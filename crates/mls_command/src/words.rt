@@ -8,11 +8,11 @@ ghost use Rattle.mls_command.specs.declared.words.Task.TheVariants.{Run};
 ghost use Rattle.mls_command.specs.declared.words.Job.{Job as SpecJob};
 ghost use Rattle.mls_command.specs.declared.usage.Usage.TheVariants.{Memory};
 ghost use Rattle.mls_command.specs.Inputs.{at_of};
-ghost use Rattle.mls_command.specs.Words.{texts_of, place, option, with_stored, run, shell, show_policy, certify, check, program, command_line, IsTask, IsCommand, IsCommandOf, Asks, AskNothing};
+ghost use Rattle.mls_command.specs.Words.{texts_of, place, option, flag, is_on, with_stored, run, shell, show_policy, certify, check, program, command_line, IsTask, IsCommand, IsCommandOf, Asks, AskNothing};
 
 use crate::usage::Usage;
 use clap::error::ErrorKind;
-use clap::{Arg, ArgMatches, Command, Error};
+use clap::{Arg, ArgAction, ArgMatches, Command, Error};
 use std::alloc::{AllocError, Global};
 
 const ABOUT: &str = "A relational database whose elements have security levels, proved";
@@ -93,6 +93,8 @@ const USER: &str = "The user, who gives the session its name";
 
 const AT: &str = "Prints only the lines that this label dominates";
 
+const TABLE: &str = "Prints views as tables, for a screen";
+
 const STORE: &str =
     "The database, which the run goes on with; without it the run begins with an empty one, in memory";
 
@@ -100,10 +102,11 @@ const STORED_TRANSACTIONS: &str = "The stored transactions, which the script can
 
 const STORED_CERTIFICATES: &str = "Their certificates: without one that holds, no call is allowed";
 
-/// The names of a run: the label for which alone it prints, and the files of the store, the transactions and the certificates, where
+/// The names of a run: whether it prints tables; the label for which alone it prints, and the files of the store, the transactions and the certificates, where
 /// they are given; and the script, which is else on standard input.
 #[derive(Clone, Copy)]
 pub struct RunFiles<'a> {
+    pub is_table: bool,
     pub at: Option<&'a str>,
     pub store: Option<&'a str>,
     pub transactions: Option<&'a str>,
@@ -173,6 +176,7 @@ pub struct Job<'a> {
 const SAMPLES: Job<'static> = Job {
     documents: None,
     task: Task::Run(RunFiles {
+        is_table: false,
         at: None,
         store: None,
         transactions: None,
@@ -221,6 +225,24 @@ fn with_option<'a>(
     )
 }
 
+/// With an option that has no value.
+fn with_flag<'a>(
+    alloc: Global,
+    command: Command<'a>,
+    name: &'a str,
+    help: &'a str,
+) -> Result<Command<'a>, AllocError>
+    ensures app { IfOk result (λ c. app_of c ≡ with_rule (app_of command.entry) (flag name.entry.now)) }
+    ensures local { (fields_of command.entry).has_globals ≡ false → IfOk result (λ c. (fields_of c).has_globals ≡ false) }
+{
+    command.arg(
+        Arg::new(alloc, name)
+            .help(help)
+            .long(name)
+            .action(ArgAction::SetTrue),
+    )
+}
+
 /// With the files of the policy and the schemes.
 fn with_documents<'a>(alloc: Global, command: Command<'a>) -> Result<Command<'a>, AllocError>
     ensures app { IfOk result (λ c. app_of c ≡ with_rule (with_rule (app_of command.entry) (place (codes "POLICY"))) (place (codes "SCHEMES"))) }
@@ -241,9 +263,10 @@ fn with_stored<'a>(alloc: Global, run: Command<'a>) -> Result<Command<'a>, Alloc
 
 /// With the options of a run.
 fn with_options<'a>(alloc: Global, run: Command<'a>) -> Result<Command<'a>, AllocError>
-    ensures app { IfOk result (λ c. app_of c ≡ with_stored (with_rule (with_rule (app_of run.entry) (option (codes "at"))) (option (codes "store")))) }
+    ensures app { IfOk result (λ c. app_of c ≡ with_stored (with_rule (with_rule (with_rule (app_of run.entry) (flag (codes "table"))) (option (codes "at"))) (option (codes "store")))) }
     ensures local { (fields_of run.entry).has_globals ≡ false → IfOk result (λ c. (fields_of c).has_globals ≡ false) }
 {
+    let run = with_flag(alloc, run, "table", TABLE)?;
     let run = with_option(alloc, run, "at", "LABEL", AT)?;
     let run = with_option(alloc, run, "store", "FILE", STORE)?;
     with_stored(alloc, run)
@@ -356,10 +379,21 @@ fn value_of<'a>(matches: &ArgMatches<'a>, name: &str) -> Option<&'a str>
     matches.get_str(name)
 }
 
+/// Whether a flag is among the words, by its value.
+fn is_on(value: Option<&str>) -> bool
+    ensures { result ≡ is_on (option_map (λ p. p.now) value.entry) }
+{
+    match value {
+        Some(text) => text == "true",
+        None => false,
+    }
+}
+
 fn run_files<'a>(run: &ArgMatches<'a>) -> RunFiles<'a>
     ensures { IsTask (codes "run") (rows_of (found_of run.now)) (Run result) }
 {
     RunFiles {
+        is_table: is_on(value_of(run, "table")),
         at: value_of(run, "at"),
         store: value_of(run, "store"),
         transactions: value_of(run, "transactions"),

@@ -14,10 +14,10 @@ returns-in-Ok g c =
     let wrote = IsAppended g.W.Write.contents c.args.out.now c.run_on-outcome.new.out in
     let first = (state_of c.args.base).now in
     let left = (state_of c.run_on-outcome.result.1).now in
-    let Over : Result (Unit {0}) RunFault → Content → Type 0 = λ end last. IsClean c.args.base.tables × IsRun at c.args.reader c.args.run.events.items wrote end first last in
+    let Over : Result (Unit {0}) RunFault → Content → Type 0 = λ end last. IsClean c.args.base.tables × IsRun at c.args.audience c.args.run.events.items wrote end first last in
     let over : IsClean c.run_on-outcome.result.1.tables → Over c.run_on-outcome.result.0 left = λ was. (
       c.run_on-outcome.ensures.clean was,
-      subst (λ es. IsRun at c.args.reader es wrote c.run_on-outcome.result.0 first left) c.deref.ensures.value (c.run_on-outcome.ensures.run was),
+      subst (λ es. IsRun at c.args.audience es wrote c.run_on-outcome.result.0 first left) c.deref.ensures.value (c.run_on-outcome.ensures.run was),
     ) in
     closed_run g.D.Disk Over c.in-Ok.files c.run_on-outcome.result.0 c.ended.result left c.ended.ensures (λ clean. over (c.in-Ok.ensures.clean clean)) c.in-Ok.ensures.kept
 
@@ -32,6 +32,6 @@ returns g c clean =
       left,
       (
         c.run_on-outcome.ensures.clean was,
-        subst (λ es. IsRun at c.args.reader es wrote c.run_on-outcome.result.0 first left) c.deref.ensures.value (c.run_on-outcome.ensures.run was),
+        subst (λ es. IsRun at c.args.audience es wrote c.run_on-outcome.result.0 first left) c.deref.ensures.value (c.run_on-outcome.ensures.run was),
       ),
     )

@@ -17,7 +17,7 @@ returns g c =
     let h = hosted g.H.Host.gives g.H.Host.keeps g.H.Host.is_honest g.H.Lines.TypedLines.echo c.args.host.now c.keep-closed.new.self in
     let Wrote = IsAppended g.W.Write.contents c.args.out.now c.run_on-outcome.new.out in
     let Runs : Result (Unit {0}) RunFault → Type 0
-    = IsRunFrom h c.args.file.now (Some c.args.path.now) (site_of c.args.policy.now c.args.file.now.schemes c.args.stored) c.args.reader c.args.events.now Wrote in
+    = IsRunFrom h c.args.file.now (Some c.args.path.now) (site_of c.args.policy.now c.args.file.now.schemes c.args.stored) c.args.audience c.args.events.now Wrote in
     let ran : Runs c.run_on-outcome.result.0 = λ honest.
     let clean = c.keep-closed.ensures.honest.0 honest in
     record { first = _; left = _; begins = c.in-Ok.ensures.kept (c.run_on-outcome.ensures.clean clean); kept = c.keep-closed.ensures.kept honest; leads = c.run_on-outcome.ensures.run clean } in

@@ -4,7 +4,7 @@ use Rattle.mls_monitor.specs.Sessions.{site_of}
 use Rattle.mls_sessions.specs.Engine.{site, world_of}
 use Rattle.mls_command.specs.Ending.{ending_if}
 use Rattle.mls_command.specs.Hosting.{IsTold}
-use Rattle.mls_command.specs.Shell.{IsFollowed, IsConversation}
+use Rattle.mls_command.specs.Shell.{audience_at, IsFollowed, IsConversation}
 use Rattle.mls_command.proofs.TalkLemmas.{SoFar, Line, so_far_start, so_far_more, broken, broken_first, over, over_last, worn_out, fits_at, level_at, read_at, carried}
 use Rattle.mls_command.proofs.shell.converse.Goals as goal
 
@@ -13,7 +13,7 @@ returns-in_err-answer-clause-conversation g c = λ clean.
     carried (λ r. IsConversation g.L.TypedLines.echo (site c.args.engine.now) c.args.seat.now (world_of g.B.Base.state c.args.engine.now) (world_of g.B.Base.state c.answer.new.engine) (g.L.TypedLines.remaining c.args.lines.now) (g.L.TypedLines.remaining c.args.lines.now) (g.W.Write.contents c.args.out.now) (g.W.Write.contents c.answer.new.out) (IsTold g.E.Write.contents c.args.err.now c.args.err.now) r)
     c.from_residual.result c.in_err-answer.field-0.0 c.from_residual.ensures.1
     (broken_first g.B.Base.state g.B.Base.is_clean g.E.Write.contents g.L.TypedLines.echo c.args.seat.now c.args.engine.now c.args.err.now (g.L.TypedLines.remaining c.args.lines.now) (g.W.Write.contents c.args.out.now) c.requires.fits c.answer.new.engine (g.W.Write.contents c.answer.new.out) c.in_err-answer.field-0.0
-    (subst (λ es. IsFollowed (site c.args.engine.now) c.args.seat.now.level (world_of g.B.Base.state c.args.engine.now) es (g.W.Write.contents c.args.out.now) (g.W.Write.contents c.answer.new.out) (world_of g.B.Base.state c.answer.new.engine) 0 (Err c.in_err-answer.field-0.0)) c.requires.first (c.in_err-answer.ensures.followed clean)))
+    (subst (λ es. IsFollowed (site c.args.engine.now) (audience_at c.args.seat.now) (world_of g.B.Base.state c.args.engine.now) es (g.W.Write.contents c.args.out.now) (g.W.Write.contents c.answer.new.out) (world_of g.B.Base.state c.answer.new.engine) 0 (Err c.in_err-answer.field-0.0)) c.requires.first (c.in_err-answer.ensures.followed clean)))
 
 pub loop-before-init : goal.loop-before-init
 loop-before-init g c =
@@ -21,7 +21,7 @@ loop-before-init g c =
     (record {
       clean = c.answer.ensures.clean;
       kept = c.answer.ensures.kept;
-      followed = λ clean. subst (λ es. IsFollowed (site c.args.engine.now) c.args.seat.now.level (world_of g.B.Base.state c.args.engine.now) es (g.W.Write.contents c.args.out.now) (g.W.Write.contents c.answer.new.out) (world_of g.B.Base.state c.answer.new.engine) 0 (Ok tt)) c.requires.first (c.in_ok-answer.ensures.followed clean);
+      followed = λ clean. subst (λ es. IsFollowed (site c.args.engine.now) (audience_at c.args.seat.now) (world_of g.B.Base.state c.args.engine.now) es (g.W.Write.contents c.args.out.now) (g.W.Write.contents c.answer.new.out) (world_of g.B.Base.state c.answer.new.engine) 0 (Ok tt)) c.requires.first (c.in_ok-answer.ensures.followed clean);
       refused_is = ap not (c.is_open-refused.ensures ∙ ap (λ n. is_some ((world_of g.B.Base.state c.answer.new.engine).sessions c.args.seat.now.level n)) c.as_str.ensures);
     })
 

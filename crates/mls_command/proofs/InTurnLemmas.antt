@@ -10,6 +10,7 @@ use Rattle.mls_scheme.specs.Scheme.{Schemes}
 use Rattle.mls_scheme.specs.declared.file.SchemesFile.{SchemesFile}
 use Rattle.mls_filterview.specs.Content.{Content}
 use Rattle.mls_filterview.specs.Stored.{AreContent}
+use Rattle.mls_fragments.specs.Again.{IsTakenOf}
 use Rattle.mls_fragments.specs.Finding.{IsSoundContent}
 use Rattle.mls_fragments.proofs.AgainLemmas.{sound_is_taken}
 use Rattle.mls_translang.specs.Tx.{Tx}
@@ -27,7 +28,7 @@ use Rattle.mls_machine.proofs.HistoryLemmas.{histories_pass}
 use Rattle.mls_sessions.specs.declared.cause.RunFault.{RunFault}
 use Rattle.mls_sessions.specs.World.{entries_in, IsSound}
 use Rattle.mls_command.specs.declared.words.Documents.{Documents}
-use Rattle.mls_command.specs.Hosting.{Hosted, IsTakenOf, BeginsWith, IsKeptAt}
+use Rattle.mls_command.specs.Hosting.{Hosted, BeginsWith, IsKeptAt}
 use Rattle.mls_command.specs.Inputs.{named, AreTransactionsFrom, AreStoredFrom, IsPolicyOf}
 use Rattle.mls_command.specs.Running.{site_of, first_world, output, standing, IsLeftBy}
 use Rattle.mls_command.specs.InTurn.{run_at, IsHistory, AreInTurn, KeepsOne, RunsAreInTurn}

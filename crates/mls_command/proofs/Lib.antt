@@ -4,6 +4,7 @@ pub mod CertifyingLemmas
 pub mod ActingLemmas
 pub mod WordsLemmas
 pub mod InTurnLemmas
+pub mod MemoryLemmas
 pub mod TypingLemmas
 pub mod ShellLemmas
 pub mod TalkLemmas

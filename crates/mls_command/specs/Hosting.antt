@@ -4,7 +4,7 @@ use Rattle.std.specs.Io.KnownBytes.{Appends}
 use Rattle.mls_lattice.specs.Policy.{Tables}
 use Rattle.mls_scheme.specs.declared.file.SchemesFile.{SchemesFile}
 use Rattle.mls_filterview.specs.Content.{Content, no_content}
-use Rattle.mls_fragments.specs.Again.{IsTakenFrom}
+use Rattle.mls_fragments.specs.Again.{IsTakenOf}
 use Rattle.mls_command.specs.declared.errors.Errors.{Errors}
 
 -- A host before and after a command: which bytes it gives for the file at a path, and, with no path, for the standard input; which
@@ -22,10 +22,6 @@ module _ {Host : Type 0} (gives : Host → Option (List ℕ) → List ℕ → Ty
   hosted old new = record { gives = gives old; kept = keeps old; keeps = keeps new; is_honest = is_honest new; echo = echo }
 
 -- ---- stores
-
--- what is taken, under a policy and schemes, of a content that was kept
-abbrev pub IsTakenOf : (Content → Type 0) → Tables → SchemesFile → Content → Type 0
-IsTakenOf WasKept policy file now = (before : Content) × WasKept before × IsTakenFrom policy file before now
 
 module _ (h : Hosted) where
   -- without a path it begins with nothing; with one, with what is taken of what the store there kept

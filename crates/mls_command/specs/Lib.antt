@@ -14,4 +14,5 @@ pub mod ScriptRun
 pub mod ShellRun
 pub mod Acting
 pub mod InTurn
+pub mod Memory
 pub mod History

@@ -3,8 +3,8 @@ ghost use Rattle.std.specs.Prelude.{◌≡◌, ◌≤◌, ◌↔◌, ℕ, false,
 ghost use Rattle.std.specs.Option.{IfSome};
 ghost use Rattle.mls_scheme.specs.Scheme.{AreUnder};
 ghost use Rattle.mls_filterview.specs.Content.{Content};
+ghost use Rattle.mls_fragments.specs.Again.{IsTakenOf};
 ghost use Rattle.mls_fragments.specs.Finding.{IsSoundContent};
-ghost use Rattle.mls_command.specs.Hosting.{IsTakenOf};
 
 use crate::typing::TypedLines;
 use mls_filterview::Base;

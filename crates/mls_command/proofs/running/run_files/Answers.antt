@@ -1,6 +1,11 @@
-use Rattle.std.proofs.Common.{rules}
+use Rattle.std.proofs.Common.{rules, subst, []}
 use Rattle.std.proofs.KnownBytes.{Appends-nil}
+use Rattle.mls_machine.specs.declared.form.Form.{Form}
 use Rattle.mls_command.specs.Hosting.{hosted, IsAppended}
+use Rattle.mls_command.specs.Inputs.{named}
+use Rattle.mls_command.specs.Refusal.{IsEnd}
+use Rattle.mls_command.specs.Running.{site_of}
+use Rattle.mls_command.specs.ScriptRun.{IsRunFrom}
 use Rattle.mls_command.proofs.ActingLemmas.{script_run, run_done, run_stopped, run_not_begun}
 use Rattle.mls_command.proofs.running.run_files.Goals as goal
 
@@ -21,7 +26,10 @@ returns-clause-done g c =
     run_done h c.args.policy.now c.args.file.now c.args.reader wrote c.args.files c.run_events.result
     (script_run h c.args.policy.now c.args.file.now c.args.reader wrote c.args.files c.in_ok-stored.stored c.deref.result.now c.in_ok-stored.ensures.from
     (rw c.deref.ensures.value c.in_ok-events.ensures.read)
-    c.run_events.result c.run_events.ensures)
+    c.run_events.result (subst
+    (λ (f : Form). IsEnd (IsRunFrom h c.args.file.now (named c.args.files.store) (site_of c.args.policy.now c.args.file.now.schemes c.in_ok-stored.stored)
+    (record { reader = c.args.reader; form = f }) c.deref.result.now wrote) (wrote []) c.run_events.result)
+    c.form_of.ensures c.run_events.ensures))
 
 pub returns-clause-given_up : goal.returns-clause-given_up
 returns-clause-given_up g c =
@@ -30,4 +38,7 @@ returns-clause-given_up g c =
     run_stopped h c.args.policy.now c.args.file.now c.args.reader wrote c.args.files c.run_events.result
     (script_run h c.args.policy.now c.args.file.now c.args.reader wrote c.args.files c.in_ok-stored.stored c.deref.result.now c.in_ok-stored.ensures.from
     (rw c.deref.ensures.value c.in_ok-events.ensures.read)
-    c.run_events.result c.run_events.ensures)
+    c.run_events.result (subst
+    (λ (f : Form). IsEnd (IsRunFrom h c.args.file.now (named c.args.files.store) (site_of c.args.policy.now c.args.file.now.schemes c.in_ok-stored.stored)
+    (record { reader = c.args.reader; form = f }) c.deref.result.now wrote) (wrote []) c.run_events.result)
+    c.form_of.ensures c.run_events.ensures))

@@ -11,6 +11,7 @@ use crate::stores::options;
 use case_tables::{Case, Told, case_at, inner, text_of};
 use mls_command::{HistoryFault, Run, run_history, stored_from};
 use mls_lattice::LabelNo;
+use mls_machine::{Audience, Form};
 use mls_script::script;
 use std::alloc::{AllocError, Global};
 use std::io;
@@ -129,7 +130,10 @@ fn shown<D: Medium>(
     let mut replies = Narrow::new(alloc, u64::MAX);
     let policy = &site.policy;
     let file = &site.file;
-    let reader = Some(level);
+    let audience = Audience {
+        reader: Some(level),
+        form: Form::Lines,
+    };
     let (outcome, _) = run_history(
         alloc,
         policy,
@@ -137,7 +141,7 @@ fn shown<D: Medium>(
         runs,
         files,
         options(),
-        reader,
+        audience,
         &mut replies,
     );
     tell_end(outcome, &mut told);

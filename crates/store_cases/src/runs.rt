@@ -10,7 +10,7 @@ use crate::narrow::Narrow;
 use crate::site::Site;
 use mls_command::{run_on, stored_from};
 use mls_filterview::{Base, abandon};
-use mls_machine::Stored;
+use mls_machine::{Audience, Form, Stored};
 use mls_script::script;
 use mls_sessions::{RunCause, RunFault};
 use mls_trusted::evaluate;
@@ -73,7 +73,11 @@ fn run_script<B: Base>(
     let Ok(events) = script(alloc, policy, schemes, text.as_bytes()) else {
         return (End::Failed, base);
     };
-    let (outcome, left) = run_on(alloc, policy, schemes, stored, base, &events, None, out);
+    let everyone = Audience {
+        reader: None,
+        form: Form::Lines,
+    };
+    let (outcome, left) = run_on(alloc, policy, schemes, stored, base, &events, everyone, out);
     (end_of(outcome), left)
 }
 

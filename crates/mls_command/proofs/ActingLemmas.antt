@@ -16,7 +16,7 @@ use Rattle.mls_command.specs.declared.words.ShellFiles.{ShellFiles}
 use Rattle.mls_command.specs.declared.words.Task.{Task}
 use Rattle.mls_command.specs.declared.words.Task.TheVariants as tasks
 use Rattle.mls_command.specs.declared.refusal.Refusal.{Refusal}
-use Rattle.mls_command.specs.declared.refusal.Refusal.TheVariants.{Unreadable, TooLong, Policy, Reader, Label, User, Schemes as OfSchemes, Transactions, Certificates, Script, Store, Run, NotClosed, Output, Memory}
+use Rattle.mls_command.specs.declared.refusal.Refusal.TheVariants.{Unreadable, TooLong, Policy, Reader, Label, User, Name, Schemes as OfSchemes, Transactions, Certificates, Script, Store, Run, NotClosed, Output, Memory}
 use Rattle.mls_command.specs.Hosting.{Hosted, IsTold}
 use Rattle.mls_command.specs.Refusal.{IsBefore, IsEnd}
 use Rattle.mls_command.specs.Printing.{IsCutOff}
@@ -35,6 +35,7 @@ module _ (h : Hosted) (policy : Tables) (file : SchemesFile) (reader : Option �
   task_before task Reader b t w = (t, w)
   task_before task Label b t w = (t, w)
   task_before task User b t w = (t, w)
+  task_before task Name b t w = (t, w)
   task_before task (OfSchemes f) b t w = (t, w)
   task_before task (Transactions f) b t w = (t, w)
   task_before task (Certificates f) b t w = (t, w)
@@ -54,6 +55,7 @@ module _ (h : Hosted) (policy : Tables) (file : SchemesFile) (reader : Option �
   run_given_up files Reader t k = (t, k)
   run_given_up files Label t k = (t, k)
   run_given_up files User t k = (t, k)
+  run_given_up files Name t k = (t, k)
   run_given_up files (OfSchemes f) t k = (t, k)
   run_given_up files (Transactions f) t k = (t, k)
   run_given_up files (Certificates f) t k = (t, k)
@@ -169,6 +171,7 @@ module _ (h : Hosted) (Wrote Told More : List ℕ → Type 0) (f : (text : List 
   run_told policy file reader (tasks.Shell files) end k = shell_told policy file reader files end k
   run_told policy file reader (tasks.Certify transactions) end k = k
   run_told policy file reader (tasks.Check transactions certificates) end k = k
+  run_told policy file reader (tasks.Explain transactions name) end k = k
 
   task_told : (policy : Tables) (file : SchemesFile) (reader : Option ℕ) (task : Task) (r : Refusal)
       → IsTaskGivenUp h policy file reader Wrote Told task r → IsTaskGivenUp h policy file reader Wrote More task r
@@ -178,6 +181,7 @@ module _ (h : Hosted) (Wrote Told More : List ℕ → Type 0) (f : (text : List 
   task_told policy file reader task Reader k = (f [] k.0, k.1)
   task_told policy file reader task Label k = (f [] k.0, k.1)
   task_told policy file reader task User k = (f [] k.0, k.1)
+  task_told policy file reader task Name k = (f [] k.0, k.1)
   task_told policy file reader task (OfSchemes x) k = (f [] k.0, k.1)
   task_told policy file reader task (Transactions x) k = (f [] k.0, k.1)
   task_told policy file reader task (Certificates x) k = (f [] k.0, k.1)

@@ -18,7 +18,7 @@ use Rattle.mls_sessions.specs.Run.{IsWhole, IsStopped as IsHalted, IsFaultOf}
 use Rattle.mls_sessions.proofs.StartLemmas.{no_content_sound}
 use Rattle.mls_command.specs.declared.host.CloseFault.{CloseFault}
 use Rattle.mls_command.specs.declared.refusal.Refusal.{Refusal}
-use Rattle.mls_command.specs.declared.refusal.Refusal.TheVariants.{Unreadable, TooLong, Policy, Reader, Label, User, Schemes, Transactions, Certificates, Script, Store, Run, NotClosed, Output, Memory}
+use Rattle.mls_command.specs.declared.refusal.Refusal.TheVariants.{Unreadable, TooLong, Policy, Reader, Label, User, Name, Schemes, Transactions, Certificates, Script, Store, Run, NotClosed, Output, Memory}
 use Rattle.mls_command.specs.Refusal.{IsBefore, ended, IsEnd}
 use Rattle.mls_command.specs.Running.{first_world, IsRun}
 use Rattle.mls_command.specs.Hosting.{Hosted}
@@ -83,6 +83,7 @@ module _ {A : Type 0} (Ends : Result A RunFault → Type 0) (Nothing : Type 0) w
   not_begun Reader b h = h
   not_begun Label b h = h
   not_begun User b h = h
+  not_begun Name b h = h
   not_begun (Schemes f) b h = h
   not_begun (Transactions f) b h = h
   not_begun (Certificates f) b h = h
@@ -104,6 +105,7 @@ module _ {A : Type 0} (Ends : Result A RunFault → Type 0) (Nothing : Type 0) w
   end_weaker More f (Err Reader) h = h
   end_weaker More f (Err Label) h = h
   end_weaker More f (Err User) h = h
+  end_weaker More f (Err Name) h = h
   end_weaker More f (Err (Schemes x)) h = h
   end_weaker More f (Err (Transactions x)) h = h
   end_weaker More f (Err (Certificates x)) h = h

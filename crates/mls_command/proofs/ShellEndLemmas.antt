@@ -22,7 +22,7 @@ use Rattle.mls_command.specs.declared.seat.Seat.{Seat}
 use Rattle.mls_command.specs.declared.words.ShellFiles.{ShellFiles}
 use Rattle.mls_command.specs.declared.words.Task.TheVariants as tasks
 use Rattle.mls_command.specs.declared.refusal.Refusal.{Refusal}
-use Rattle.mls_command.specs.declared.refusal.Refusal.TheVariants.{Unreadable, TooLong, Policy, Reader, Label, User, Schemes as OfSchemes, Transactions, Certificates, Script, Store, Run, NotClosed, Output, Memory}
+use Rattle.mls_command.specs.declared.refusal.Refusal.TheVariants.{Unreadable, TooLong, Policy, Reader, Label, User, Name, Schemes as OfSchemes, Transactions, Certificates, Script, Store, Run, NotClosed, Output, Memory}
 use Rattle.mls_command.specs.Hosting.{Hosted}
 use Rattle.mls_command.specs.Inputs.{named, AreStoredFrom}
 use Rattle.mls_command.specs.Refusal.{IsEnd}
@@ -110,6 +110,7 @@ module _ (h : Hosted) (policy : Tables) (file : SchemesFile) (reader : Option â„
   shell_given_up (Err Reader) k = (k.1, k.0)
   shell_given_up (Err Label) k = (k.1, k.0)
   shell_given_up (Err User) k = (k.1, k.0)
+  shell_given_up (Err Name) k = (k.1, k.0)
   shell_given_up (Err (OfSchemes x)) k = (k.1, k.0)
   shell_given_up (Err (Transactions x)) k = (k.1, k.0)
   shell_given_up (Err (Certificates x)) k = (k.1, k.0)

@@ -8,7 +8,7 @@ use Rattle.mls_scheme.specs.Canon as scheme
 use Rattle.mls_sessions.specs.declared.cause.RunFault.{RunFault}
 use Rattle.mls_command.specs.declared.words.Job.{Job}
 use Rattle.mls_command.specs.declared.words.Task.{Task}
-use Rattle.mls_command.specs.declared.words.Task.TheVariants.{ShowPolicy, Run, Shell, Certify, Check}
+use Rattle.mls_command.specs.declared.words.Task.TheVariants.{ShowPolicy, Run, Shell, Certify, Check, Explain}
 use Rattle.mls_command.specs.declared.usage.Usage.{Usage}
 use Rattle.mls_command.specs.declared.ending.Ending.{Ending}
 use Rattle.mls_command.specs.declared.ending.Ending.TheVariants.{Well}
@@ -16,7 +16,7 @@ use Rattle.mls_command.specs.declared.refusal.Refusal.{Refusal}
 use Rattle.mls_command.specs.declared.refusal.Refusal.TheVariants as refusals
 use Rattle.mls_command.specs.Hosting.{Hosted}
 use Rattle.mls_command.specs.Words.{Asks, AskNothing, usage_text, usage_status}
-use Rattle.mls_command.specs.Inputs.{IsPolicyOf, AreSchemesOf, IsReader}
+use Rattle.mls_command.specs.Inputs.{named, IsPolicyOf, AreSchemesOf, IsReader}
 use Rattle.mls_command.specs.Refusal.{refusal_text, refusal_status, IsBefore}
 use Rattle.mls_command.specs.Ending.{ending_status}
 use Rattle.mls_command.specs.Printing.{IsPrinted, IsPrintedInPart}
@@ -24,6 +24,7 @@ use Rattle.mls_command.specs.ScriptRun.{IsScriptRun}
 use Rattle.mls_command.specs.ShellRun.{IsShellRun}
 use Rattle.mls_command.specs.Certifying.{IsCertified}
 use Rattle.mls_command.specs.Checking.{IsChecked}
+use Rattle.mls_command.specs.Explaining.{IsExplained}
 
 module _ (h : Hosted) where
   -- ---- tasks
@@ -33,6 +34,7 @@ module _ (h : Hosted) where
   Prints policy file ShowPolicy text told end = (text ≡ lattice.canon_of policy ++ scheme.canon_of policy file.version file.schemes) × (told ≡ []) × (end ≡ Well)
   Prints policy file (Certify transactions) text told end = IsCertified h.gives policy file.schemes transactions.now text told end
   Prints policy file (Check transactions certificates) text told end = IsChecked h.gives policy file.schemes transactions.now certificates.now text told end
+  Prints policy file (Explain transactions name) text told end = IsExplained h.gives policy file.schemes transactions.now (named name) text told end
   Prints policy file task text told end = ⊥
 
   -- `Wrote`: what was written on standard output; `Told`: what was told on standard error

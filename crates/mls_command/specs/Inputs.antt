@@ -18,7 +18,7 @@ use Rattle.mls_machine.specs.declared.stored.Stored.{Stored}
 use Rattle.mls_command.specs.declared.samples.TheConstants.{POLICY, SCHEMES}
 use Rattle.mls_command.specs.declared.words.Documents.{Documents}
 use Rattle.mls_command.specs.declared.words.Task.{Task}
-use Rattle.mls_command.specs.declared.words.Task.TheVariants.{ShowPolicy, Run, Shell, Certify, Check}
+use Rattle.mls_command.specs.declared.words.Task.TheVariants.{ShowPolicy, Run, Shell, Certify, Check, Explain}
 use Rattle.mls_command.specs.Storing.{AreStoredWith}
 
 -- what a word names, if it is there
@@ -32,6 +32,7 @@ at_of (Run files) = named files.at
 at_of (Shell files) = Some files.label.now
 at_of (Certify transactions) = None
 at_of (Check transactions certificates) = None
+at_of (Explain transactions name) = None
 
 -- none without a name; with one, the label of the name
 abbrev pub IsNamed : Tables → Option (List ℕ) → Option ℕ → Type 0

@@ -9,6 +9,7 @@ pub mod Running
 pub mod Refusal
 pub mod Words
 pub mod Ending
+pub mod Explaining
 pub mod Shell
 pub mod ScriptRun
 pub mod ShellRun

@@ -29,7 +29,7 @@ use Rattle.mls_command.specs.declared.host.HostFault.TheVariants as host
 use Rattle.mls_command.specs.declared.refusal.Role.{Role}
 use Rattle.mls_command.specs.declared.refusal.Role.TheVariants as role
 use Rattle.mls_command.specs.declared.refusal.Refusal.{Refusal}
-use Rattle.mls_command.specs.declared.refusal.Refusal.TheVariants.{Unreadable, TooLong, Policy, Reader, Label, User, Schemes, Transactions, Certificates, Script, Store, Run, NotClosed, Output, Memory}
+use Rattle.mls_command.specs.declared.refusal.Refusal.TheVariants.{Unreadable, TooLong, Policy, Reader, Label, User, Name, Schemes, Transactions, Certificates, Script, Store, Run, NotClosed, Output, Memory}
 
 abbrev pub role_word : Role → List ℕ
 role_word role.Policy = codes "policy"
@@ -99,6 +99,7 @@ refusal_text (Policy f) = fault_text role.Policy (policy_faults.code_of f) (poli
 refusal_text Reader = codes "mldb: at: 23 UnknownName\n"
 refusal_text Label = codes "mldb: label: 23 UnknownName\n"
 refusal_text User = codes "mldb: user: 22 Expected\n"
+refusal_text Name = codes "mldb: name: 23 UnknownName\n"
 refusal_text (Schemes f) = fault_text role.Schemes (scheme_faults.code_of f) (scheme_faults.word_of f)
 refusal_text (Transactions f) = text_fault_text f
 refusal_text (Certificates f) = cert_fault_text f
@@ -138,6 +139,7 @@ refusal_status (Policy f) = policy_status f
 refusal_status Reader = 2
 refusal_status Label = 2
 refusal_status User = 2
+refusal_status Name = 2
 refusal_status (Schemes f) = scheme_status f
 refusal_status (Transactions f) = text_status f.cause
 refusal_status (Certificates f) = cert_status f.cause

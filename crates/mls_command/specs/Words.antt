@@ -7,7 +7,7 @@ use Rattle.clap.specs.declared.builder.action.ArgAction.TheVariants.{SetTrue}
 use Rattle.mls_command.specs.declared.words.Job.{Job}
 use Rattle.mls_command.specs.declared.words.Documents.{Documents}
 use Rattle.mls_command.specs.declared.words.Task.{Task}
-use Rattle.mls_command.specs.declared.words.Task.TheVariants.{ShowPolicy, Run, Shell, Certify, Check}
+use Rattle.mls_command.specs.declared.words.Task.TheVariants.{ShowPolicy, Run, Shell, Certify, Check, Explain}
 use Rattle.mls_command.specs.declared.usage.Usage.{Usage}
 use Rattle.mls_command.specs.declared.usage.Usage.TheVariants as usage
 use Rattle.mls_command.specs.Refusal.{memory_text}
@@ -53,12 +53,16 @@ certify = with_rule (with_documents (new_app (codes "certify"))) (place (codes "
 abbrev pub check : App
 check = with_rule (with_rule (with_documents (new_app (codes "check"))) (place (codes "TRANSACTIONS"))) (place (codes "CERTIFICATES"))
 
+abbrev pub explain : App
+explain = with_rule (with_rule (with_documents (new_app (codes "explain"))) (place (codes "TRANSACTIONS"))) (new_rule (codes "NAME"))
+
 abbrev pub program : App
 program = let top = new_app (codes "mldb") in record top { top = record top.top { subcommand_required = true; has_version = true } }
 
 -- a command of its own for each task
 abbrev pub command_line : App
-command_line = with_subcommand (with_subcommand (with_subcommand (with_subcommand (with_subcommand program run.top) shell.top) show_policy.top) certify.top) check.top
+command_line =
+    with_subcommand (with_subcommand (with_subcommand (with_subcommand (with_subcommand (with_subcommand program run.top) shell.top) show_policy.top) certify.top) check.top) explain.top
 
 -- ---- jobs
 
@@ -92,6 +96,8 @@ IsTask name rows (Shell files) =
 IsTask name rows (Certify transactions) = (name ≡ codes "certify") × (Some transactions.now ≡ first_of (codes "TRANSACTIONS") rows)
 IsTask name rows (Check transactions certificates) =
     (name ≡ codes "check") × (Some transactions.now ≡ first_of (codes "TRANSACTIONS") rows) × (Some certificates.now ≡ first_of (codes "CERTIFICATES") rows)
+IsTask name rows (Explain transactions only) =
+    (name ≡ codes "explain") × (Some transactions.now ≡ first_of (codes "TRANSACTIONS") rows) × (option_map (λ p. p.now) only ≡ first_of (codes "NAME") rows)
 
 -- it is done under the files that are named
 pub record IsCommand (name : Text) (rows : List Row) (job : Job) : Type 0 where

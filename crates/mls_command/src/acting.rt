@@ -14,6 +14,7 @@ use crate::certifying::certified;
 use crate::checking::checked;
 use crate::ending::Ending;
 use crate::errors::Errors;
+use crate::explaining::explained;
 use crate::host::Host;
 use crate::inputs::{input_of, reader_of};
 use crate::refusal::{Refusal, Role};
@@ -100,6 +101,9 @@ fn perform_task<H: Host, W: Write, E: Write>(
             let schemes = &file.schemes;
             let listing = checked(alloc, host, policy, schemes, transactions, certificates)?;
             listing.print(out, err)
+        }
+        Task::Explain { transactions, name } => {
+            explained(alloc, host, policy, &file.schemes, transactions, name)?.print(out, err)
         }
     }
 }

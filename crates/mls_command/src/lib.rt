@@ -6,6 +6,7 @@ mod certifying;
 mod checking;
 mod ending;
 mod errors;
+mod explaining;
 mod help;
 mod history;
 mod host;

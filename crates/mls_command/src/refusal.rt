@@ -52,6 +52,8 @@ pub enum Refusal {
     Label,
     /// What stands for the user of a shell is no name.
     User,
+    /// No transaction has the name of the one that is to be explained.
+    Name,
     Schemes(SchemeFault),
     Transactions(TextFault),
     Certificates(CertFault),
@@ -209,6 +211,7 @@ impl Refusal {
             Refusal::Reader => err.write_all(b"mldb: at: 23 UnknownName\n"),
             Refusal::Label => err.write_all(b"mldb: label: 23 UnknownName\n"),
             Refusal::User => err.write_all(b"mldb: user: 22 Expected\n"),
+            Refusal::Name => err.write_all(b"mldb: name: 23 UnknownName\n"),
             Refusal::Schemes(fault) => tell_fault(err, Role::Schemes, fault.code(), fault.word()),
             Refusal::Transactions(fault) => tell_text(err, fault),
             Refusal::Certificates(fault) => tell_cert(err, fault),

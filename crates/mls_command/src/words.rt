@@ -1,14 +1,14 @@
 //! The command line.
 ghost use Rattle.std.specs.Prelude.{◌≡◌, ◌⊎◌, false, Some, None, codes, option_map, IfOk, IfErr};
 ghost use Rattle.std.specs.Option.{IfSome};
-ghost use Rattle.clap.specs.Words.{app_of, first_of, found_of, kind_of, new_app, rows_of, subcommand_of, subcommand_rows_of, with_rule};
+ghost use Rattle.clap.specs.Words.{app_of, first_of, found_of, kind_of, new_app, new_rule, rows_of, subcommand_of, subcommand_rows_of, with_rule};
 ghost use Rattle.clap.specs.declared.builder.command.Command.TheViews.{out-Command as fields_of};
 ghost use Rattle.mls_command.specs.declared.words.Task.{Task as SpecTask};
 ghost use Rattle.mls_command.specs.declared.words.Task.TheVariants.{Run};
 ghost use Rattle.mls_command.specs.declared.words.Job.{Job as SpecJob};
 ghost use Rattle.mls_command.specs.declared.usage.Usage.TheVariants.{Memory};
 ghost use Rattle.mls_command.specs.Inputs.{at_of};
-ghost use Rattle.mls_command.specs.Words.{texts_of, place, option, flag, is_on, with_stored, run, shell, show_policy, certify, check, program, command_line, IsTask, IsCommand, IsCommandOf, Asks, AskNothing};
+ghost use Rattle.mls_command.specs.Words.{texts_of, place, option, flag, is_on, with_stored, run, shell, show_policy, certify, check, explain, program, command_line, IsTask, IsCommand, IsCommandOf, Asks, AskNothing};
 
 use crate::usage::Usage;
 use clap::error::ErrorKind;
@@ -25,7 +25,7 @@ Without any words mldb runs the script on standard input under a sample policy a
 Example:
   mldb run samples/policy.toml samples/schemes.toml samples/first.script
 
-Status: 0 all well; 1 certify, check or a shell refused something; 2 an input or the command line was refused;
+Status: 0 all well; 1 certify, check, explain or a shell refused something; 2 an input or the command line was refused;
 3 store, writing or memory.
 ";
 
@@ -77,6 +77,16 @@ Example:
 Status: 0 all hold; 1 one does not; 2 an input was refused; 3 writing or memory.
 ";
 
+const EXPLAIN_NOTES: &str = "\
+Prints each transaction with a number in front of each statement, and its least labels by name, as certify finds them; where it has
+none, the statement and the rule that even the least labels break, and why.
+
+Example:
+  mldb explain samples/policy.toml samples/schemes.toml samples/transactions.txt Count
+
+Status: 0 all have labels; 1 one has none; 2 an input or the name was refused; 3 writing or memory.
+";
+
 const POLICY: &str = "The policy: levels, labels, users and rights (TOML)";
 
 const SCHEMES: &str = "The relations (TOML)";
@@ -90,6 +100,8 @@ const SCRIPT: &str = "The commands of the sessions, one a line";
 const LABEL: &str = "The level of the session";
 
 const USER: &str = "The user, who gives the session its name";
+
+const NAME: &str = "The transaction that is explained; without it all are";
 
 const AT: &str = "Prints only the lines that this label dominates";
 
@@ -142,6 +154,11 @@ pub enum Task<'a> {
     Check {
         transactions: &'a str,
         certificates: &'a str,
+    },
+    /// Transactions, or the one of a name, are explained.
+    Explain {
+        transactions: &'a str,
+        name: Option<&'a str>,
     },
 }
 
@@ -204,6 +221,19 @@ fn with_place<'a>(
     ensures local { (fields_of command.entry).has_globals ≡ false → IfOk result (λ c. (fields_of c).has_globals ≡ false) }
 {
     command.arg(Arg::new(alloc, name).help(help).required(true))
+}
+
+/// With an argument that stands in its place, and may be left out.
+fn with_last_place<'a>(
+    alloc: Global,
+    command: Command<'a>,
+    name: &'a str,
+    help: &'a str,
+) -> Result<Command<'a>, AllocError>
+    ensures app { IfOk result (λ c. app_of c ≡ with_rule (app_of command.entry) (new_rule name.entry.now)) }
+    ensures local { (fields_of command.entry).has_globals ≡ false → IfOk result (λ c. (fields_of c).has_globals ≡ false) }
+{
+    command.arg(Arg::new(alloc, name).help(help))
 }
 
 /// With an option that has a value.
@@ -330,6 +360,16 @@ fn check_command<'a>(alloc: Global) -> Result<Command<'a>, AllocError>
     with_place(alloc, check, "CERTIFICATES", CERTIFICATES)
 }
 
+fn explain_command<'a>(alloc: Global) -> Result<Command<'a>, AllocError>
+    ensures app { IfOk result (λ c. app_of c ≡ explain) }
+    ensures local { IfOk result (λ c. (fields_of c).has_globals ≡ false) }
+{
+    let about = "Says why a transaction has the labels that it has, or none";
+    let explain = with_documents(alloc, bare(alloc, "explain", about, EXPLAIN_NOTES))?;
+    let explain = with_place(alloc, explain, "TRANSACTIONS", TRANSACTIONS)?;
+    with_last_place(alloc, explain, "NAME", NAME)
+}
+
 /// The program without its commands.
 fn program<'a>(alloc: Global) -> Command<'a>
     ensures { app_of result ≡ program }
@@ -348,7 +388,8 @@ fn command_line<'a>(alloc: Global) -> Result<Command<'a>, AllocError>
     let line = line.subcommand(shell_command(alloc)?)?;
     let line = line.subcommand(show_command(alloc)?)?;
     let line = line.subcommand(certify_command(alloc)?)?;
-    line.subcommand(check_command(alloc)?)
+    let line = line.subcommand(check_command(alloc)?)?;
+    line.subcommand(explain_command(alloc)?)
 }
 
 /// What the parser says of words that it refuses.
@@ -366,7 +407,10 @@ fn said(alloc: Global, error: &Error) -> Usage
 
 /// What is said of words that name no command with its paths, all of which the parser has refused before.
 fn no_command(alloc: Global) -> Usage {
-    match String::from_str(alloc, "mldb: run | shell | show-policy | certify | check\n") {
+    match String::from_str(
+        alloc,
+        "mldb: run | shell | show-policy | certify | check | explain\n",
+    ) {
         Ok(text) => Usage::Text(text),
         Err(_) => Usage::Memory,
     }
@@ -444,6 +488,19 @@ fn check_task<'a>(matches: &ArgMatches<'a>) -> Option<Task<'a>>
     }
 }
 
+fn explain_task<'a>(matches: &ArgMatches<'a>) -> Option<Task<'a>>
+    ensures some { IfSome result (IsTask (codes "explain") (rows_of (found_of matches.now))) }
+    ensures none { result ≡ None → (task : SpecTask) → IsTask (codes "explain") (rows_of (found_of matches.now)) task → ⊥ }
+{
+    match value_of(matches, "TRANSACTIONS") {
+        Some(transactions) => Some(Task::Explain {
+            transactions,
+            name: value_of(matches, "NAME"),
+        }),
+        None => None,
+    }
+}
+
 fn task_of<'a>(name: &str, matches: &ArgMatches<'a>) -> Option<Task<'a>>
     ensures some { IfSome result (IsTask name.now (rows_of (found_of matches.now))) }
     ensures none { result ≡ None → (task : SpecTask) → IsTask name.now (rows_of (found_of matches.now)) task → ⊥ }
@@ -454,6 +511,7 @@ fn task_of<'a>(name: &str, matches: &ArgMatches<'a>) -> Option<Task<'a>>
         "show-policy" => Some(Task::ShowPolicy),
         "certify" => certify_task(matches),
         "check" => check_task(matches),
+        "explain" => explain_task(matches),
         _ => None,
     }
 }

@@ -1,6 +1,6 @@
 use Rattle.std.proofs.Common.{rules, string_bytes, IfOk, IfErr, sym, subst}
 use Rattle.std.proofs.KnownBytes.{Appends-nil}
-use Rattle.mls_command.specs.declared.words.Task.TheVariants.{ShowPolicy, Certify, Check}
+use Rattle.mls_command.specs.declared.words.Task.TheVariants.{ShowPolicy, Certify, Check, Explain}
 use Rattle.mls_command.specs.Hosting.{hosted, IsAppended, IsTold}
 use Rattle.mls_command.specs.Acting.{IsTaskDone, IsTaskGivenUp}
 use Rattle.mls_command.proofs.ActingLemmas.{told_nothing, quiet_told, before_given_up, run_task_done, run_task_given_up, print_given_up}
@@ -15,6 +15,11 @@ pub returns-in_err-certified-in-Certify-clause-given_up : goal.returns-in_err-ce
 returns-in_err-certified-in-Certify-clause-given_up g c =
     before_given_up (hosted g.H.Host.gives g.H.Host.keeps g.H.Host.is_honest g.H.Lines.TypedLines.echo c.args.host.now c.args.host.now) c.args.policy.now c.args.file.now c.args.reader
     (IsAppended g.W.Write.contents c.args.out.now c.args.out.now) (IsTold g.E.Write.contents c.args.err.now c.args.err.now) c.args.task c.from_residual-in_err-certified-in-Certify.result (search rules) (told_nothing g.E.Write.contents c.args.err.now) (Appends-nil _)
+
+pub returns-in_err-explained-in-Explain-clause-given_up : goal.returns-in_err-explained-in-Explain-clause-given_up
+returns-in_err-explained-in-Explain-clause-given_up g c =
+    before_given_up (hosted g.H.Host.gives g.H.Host.keeps g.H.Host.is_honest g.H.Lines.TypedLines.echo c.args.host.now c.args.host.now) c.args.policy.now c.args.file.now c.args.reader
+    (IsAppended g.W.Write.contents c.args.out.now c.args.out.now) (IsTold g.E.Write.contents c.args.err.now c.args.err.now) c.args.task c.from_residual-in_err-explained-in-Explain.result (search rules) (told_nothing g.E.Write.contents c.args.err.now) (Appends-nil _)
 
 pub returns-in_err-listing-in-Check-clause-given_up : goal.returns-in_err-listing-in-Check-clause-given_up
 returns-in_err-listing-in-Check-clause-given_up g c =
@@ -40,6 +45,14 @@ returns-in_ok-certified-in-Certify-clause-given_up g c =
     (IsAppended g.W.Write.contents c.args.out.now c.print-in-Certify.new.out) (IsTold g.E.Write.contents c.args.err.now c.print-in-Certify.new.err) (Certify c.in-Certify.transactions) c.args.task c.in-Certify.is l.text.items (string_bytes l.told) l.ending
     c.in_ok-certified-in-Certify.ensures.listing c.print-in-Certify.result c.print-in-Certify.ensures.refused c.print-in-Certify.ensures.part
     (quiet_told g.E.Write.contents c.args.err.now c.print-in-Certify.new.err c.print-in-Certify.result c.print-in-Certify.ensures.quiet)
+
+pub returns-in_ok-explained-in-Explain-clause-given_up : goal.returns-in_ok-explained-in-Explain-clause-given_up
+returns-in_ok-explained-in-Explain-clause-given_up g c =
+    let l = c.in_ok-explained-in-Explain.field-0 in
+    print_given_up (hosted g.H.Host.gives g.H.Host.keeps g.H.Host.is_honest g.H.Lines.TypedLines.echo c.args.host.now c.args.host.now) c.args.policy.now c.args.file.now c.args.reader
+    (IsAppended g.W.Write.contents c.args.out.now c.print-in-Explain.new.out) (IsTold g.E.Write.contents c.args.err.now c.print-in-Explain.new.err) (Explain c.in-Explain.transactions c.in-Explain.name) c.args.task c.in-Explain.is l.text.items (string_bytes l.told) l.ending
+    c.in_ok-explained-in-Explain.ensures.listing c.print-in-Explain.result c.print-in-Explain.ensures.refused c.print-in-Explain.ensures.part
+    (quiet_told g.E.Write.contents c.args.err.now c.print-in-Explain.new.err c.print-in-Explain.result c.print-in-Explain.ensures.quiet)
 
 pub returns-in_ok-listing-in-Check-clause-given_up : goal.returns-in_ok-listing-in-Check-clause-given_up
 returns-in_ok-listing-in-Check-clause-given_up g c =

@@ -1,9 +1,9 @@
 //! Whole commands: what they write, and how they end.
-use crate::desk::Desk;
+use crate::desk::{machine_for, store_named, store_word};
 use crate::elsewhere::told_by;
 use crate::narrow::Narrow;
 use case_tables::{Case, Told, joined, text_of, unfolded};
-use mls_command::{Errors, act};
+use mls_command::{Errors, MemoryHost, act};
 use sqlite::{Connection, MemStore};
 use std::rt::Files;
 
@@ -15,7 +15,25 @@ pub struct Written {
     pub status: u8,
 }
 
-/// What a command writes with a script, which is its standard input too, over the store that the last run left, and what it leaves.
+/// What a command writes on a machine.
+fn written_on<R: AllocGlobal>(
+    rt: &R,
+    words: &[&str],
+    machine: &mut MemoryHost<'_, R>,
+    out: Narrow,
+) -> Written {
+    let mut out = out;
+    let mut err = Errors::new(Vec::new(rt.alloc()));
+    let status = act(rt.alloc(), words, machine, &mut out, &mut err);
+    Written {
+        out: out.bytes,
+        err: err.into_writer(),
+        status,
+    }
+}
+
+/// What a command writes with a script, which is its standard input too, and the last store that was opened: of the stores `left` is
+/// the one before.
 pub fn written_over<R: Files + AllocGlobal>(
     rt: &R,
     words: &[&str],
@@ -23,16 +41,20 @@ pub fn written_over<R: Files + AllocGlobal>(
     out: Narrow,
     left: Option<Connection<MemStore>>,
 ) -> (Written, Option<Connection<MemStore>>) {
-    let mut out = out;
-    let mut err = Errors::new(Vec::new(rt.alloc()));
-    let mut desk = Desk { rt, script, left };
-    let status = act(rt.alloc(), words, &mut desk, &mut out, &mut err);
-    let written = Written {
-        out: out.bytes,
-        err: err.into_writer(),
-        status,
+    let name = store_word(words);
+    if name == "left" {
+        let mut machine = machine_for(rt, words, script, left);
+        let written = written_on(rt, words, &mut machine, out);
+        return (written, machine.store);
+    }
+    let mut machine = machine_for(rt, words, script, store_named(rt.alloc(), name));
+    let written = written_on(rt, words, &mut machine, out);
+    let last = if machine.was_opened {
+        machine.store
+    } else {
+        left
     };
-    (written, desk.left)
+    (written, last)
 }
 
 /// What a command writes with a script, which is its standard input too, over the store that the last run left.

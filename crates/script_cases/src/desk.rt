@@ -1,9 +1,8 @@
-//! A machine whose files are those of `data/`, but for a script and some files of many bytes, and whose stores are in memory.
+//! Machines in memory, whose files are those of `data/`, but for a script and some files of many bytes.
 use crate::most;
-use mls_command::{CloseFault, Host, HostFault, LinesOf, MOST_BYTES, read_whole};
-use mls_fragments::{OpenFault, SqlBase};
-use mls_lattice::Policy;
-use mls_scheme::SchemesFile;
+use mls_command::{HeldFile, HostFault, LinesOf, MOST_BYTES, MemoryHost, read_whole};
+use mls_fragments::OpenFault;
+use mls_lattice::{Items, Str};
 use sqlite::{Connection, MemStore};
 use std::alloc::{AllocError, Global};
 use std::fs;
@@ -68,81 +67,66 @@ pub fn lines_of(alloc: Global, typed: &[u8]) -> LinesOf<Cursor<Vec<u8>>> {
     LinesOf::new(Cursor::new(bytes))
 }
 
-/// `script` is the script, which is the standard input too. Of the stores `new` is one, `left` is what the last run left, `table` has
-/// a table of somebody else's, and no other can be opened.
-#[derive(Drop)]
-pub struct Desk<'a, R: Files> {
-    pub rt: &'a R,
-    pub script: &'a [u8],
-    pub left: Option<Connection<MemStore>>,
+/// What a word names: it may stand behind the name of its option.
+fn name_in<'a>(word: &'a str) -> &'a str {
+    word.split_once('=').map_or(word, |parts| parts.1)
 }
 
-impl<'a, R: Files> Desk<'a, R> {
-    /// The connection to a store, which is not inside a transaction.
-    fn connection(&mut self, alloc: Global, path: &str) -> Result<Connection<MemStore>, OpenFault> {
-        match path {
-            "new" => Ok(Connection::open_in_memory(alloc)?),
-            "table" => store_with_table(alloc),
-            "left" => self.left.take().ok_or(OpenFault::Store),
-            _ => Err(OpenFault::Store),
-        }
+/// Reads a file, unless there is no memory for its name.
+fn add_file<R: Files>(
+    rt: &R,
+    script: &[u8],
+    alloc: Global,
+    name: &str,
+    files: &mut Vec<HeldFile>,
+) -> Result<(), AllocError> {
+    let bytes = match file_of(rt, script, alloc, name) {
+        Ok(bytes) => Ok(Items::from(bytes)),
+        Err(fault) => Err(fault),
+    };
+    let name = Str::copy_of(alloc, name)?;
+    files.push(HeldFile { name, bytes })?;
+    Ok(())
+}
+
+/// A machine in memory with the files that the words of a command name. The script is its standard input.
+pub fn machine_for<'a, R: Files + AllocGlobal>(
+    rt: &'a R,
+    words: &[&str],
+    script: &'a [u8],
+    store: Option<Connection<MemStore>>,
+) -> MemoryHost<'a, R> {
+    let mut files = Vec::new(rt.alloc());
+    for word in words {
+        // Without memory a file is lacking, which the command tells.
+        let _lacking = add_file(rt, script, rt.alloc(), name_in(word), &mut files);
+    }
+    MemoryHost {
+        rt,
+        files,
+        input: script,
+        store,
+        was_opened: false,
     }
 }
 
-impl<'a, R: Files + AllocGlobal> Host for Desk<'a, R> {
-    ghost use Rattle.std.specs.Option.{IfSome};
-    ghost use Rattle.sqlite.specs.State.{HasCleanDisk};
-    ghost use Rattle.sqlite.specs.Held.{state};
-
-    // Any bytes and any content: what a file has is known to nobody before it is read.
-    ghost gives = { λ _ _ _. Unit {0} };
-
-    ghost keeps = { λ _ _ _. Unit {0} };
-
-    ghost is_honest = { λ _. Unit {0} };
-
-    type Store = SqlBase<MemStore>;
-
-    type Lines = LinesOf<Cursor<Vec<u8>>>;
-
-    fn file(&self, alloc: Global, path: &str) -> Result<Vec<u8>, HostFault> {
-        file_of(self.rt, self.script, alloc, path)
-    }
-
-    fn input(&self, alloc: Global) -> Result<Vec<u8>, HostFault> {
-        read_whole(alloc, self.script)
-    }
-
-    fn lines(&self) -> LinesOf<Cursor<Vec<u8>>> {
-        lines_of(self.rt.alloc(), self.script)
-    }
-
-    fn is_terminal(&self) -> bool {
-        false
-    }
-
-    fn store(
-        &mut self,
-        alloc: Global,
-        path: &str,
-        policy: &Policy,
-        file: &SchemesFile,
-    ) -> Result<SqlBase<MemStore>, OpenFault> {
-        let conn = self.connection(alloc, path)?;
-        if !conn.is_autocommit() {
-            return Err(OpenFault::Store);
-        }
-        match SqlBase::adopt(alloc, conn, policy, file) {
-            Ok(base) => Ok(base),
-            Err((fault, conn)) => {
-                self.left = Some(conn);
-                Err(fault)
+/// The word behind `--store`.
+pub fn store_word<'a>(words: &[&'a str]) -> &'a str {
+    for pair in words.windows(2) {
+        if let [option, name] = pair {
+            if *option == "--store" {
+                return *name;
             }
         }
     }
+    ""
+}
 
-    fn keep(&mut self, path: &str, store: SqlBase<MemStore>) -> Result<(), CloseFault> {
-        self.left = Some(store.into_connection());
-        Ok(())
+/// A store in memory: `new` is one, and `table` has a table of somebody else's. No other is made.
+pub fn store_named(alloc: Global, name: &str) -> Option<Connection<MemStore>> {
+    match name {
+        "new" => Connection::open_in_memory(alloc).ok(),
+        "table" => store_with_table(alloc).ok(),
+        _ => None,
     }
 }

@@ -1,7 +1,8 @@
-use Rattle.std.proofs.Common.{ap, sym, subst}
+use Rattle.std.proofs.Common.{ap, refl, sym, subst}
 use Rattle.mls_filterview.specs.Content.{State}
 use Rattle.mls_fragments.specs.Finding.{IsSoundContent}
 use Rattle.mls_fragments.proofs.FindingLemmas.{nothing_sound}
+use Rattle.mls_fragments.specs.Again.{as_it_was}
 use Rattle.script_cases.proofs.lists.ListsHost.store.Goals as goal
 
 pub returns-clause-idle : goal.returns-clause-idle
@@ -9,3 +10,6 @@ returns-clause-idle g c = ap (λ (s : State). s.begun) c.new.ensures
 
 pub returns-clause-sound : goal.returns-clause-sound
 returns-clause-sound g c = subst (λ (s : State). IsSoundContent c.args.policy.now c.args.file.now.schemes s.now) (sym c.new.ensures) (nothing_sound c.args.policy.now c.args.file.now.schemes)
+
+pub returns-clause-kept : goal.returns-clause-kept
+returns-clause-kept g c = λ clean. (_, tt, as_it_was refl)

@@ -20,7 +20,7 @@ pub enum Table {
     Samples,
 }
 
-pub const TABLES: [(&str, Table); 14] = [
+pub const TABLES: [(&str, Table); 15] = [
     ("script_faults.txt", Table::Faults),
     ("prefixes.txt", Table::Prefixes),
     ("scripts.txt", Table::Scripts),
@@ -30,6 +30,7 @@ pub const TABLES: [(&str, Table); 14] = [
     ("calls.txt", Table::Calls),
     ("options.txt", Table::Commands),
     ("certifying.txt", Table::Commands),
+    ("explaining.txt", Table::Commands),
     ("limits.txt", Table::Counts),
     ("stores.txt", Table::Stores),
     ("migrations.txt", Table::Stores),

@@ -29,7 +29,7 @@ fn typed_in(alloc: Global, body: &[&str]) -> Result<Vec<u8>, AllocError> {
     Ok(typed)
 }
 
-/// What a command writes whose lines are not shown.
+/// What a command writes whose lines are not shown, at a terminal.
 fn written_quietly<R: Files + AllocGlobal>(rt: &R, words: &[&str], script: &[u8]) -> Written {
     let mut out = Vec::new(rt.alloc());
     let mut err = Errors::new(Vec::new(rt.alloc()));
@@ -54,7 +54,8 @@ fn script_of(alloc: Global, label: &str, user: &str, typed: &str) -> Result<Stri
     Ok(script)
 }
 
-/// What there is to tell of a shell that refuses nothing: nothing where a run of its script writes the same for its level.
+/// What there is to tell of a shell at a terminal that refuses nothing: nothing where a run of its script that prints tables writes the
+/// same for its level.
 fn told_of_run<R: Files + AllocGlobal>(
     rt: &R,
     words: &[&str],
@@ -65,7 +66,9 @@ fn told_of_run<R: Files + AllocGlobal>(
     };
     let shell = written_quietly(rt, words, typed);
     let script = script_of(rt.alloc(), label, user, text_of(typed))?;
-    let run = ["mldb", "run", "--at", label, policy, schemes, "script"];
+    let run = [
+        "mldb", "run", "--table", "--at", label, policy, schemes, "script",
+    ];
     let run = written_quietly(rt, &run, script.as_bytes());
     if shell.status != 0 || shell.out.as_slice() == run.out.as_slice() {
         return Ok("");

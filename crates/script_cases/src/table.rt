@@ -20,7 +20,7 @@ pub enum Table {
     Samples,
 }
 
-pub const TABLES: [(&str, Table); 15] = [
+pub const TABLES: [(&str, Table); 16] = [
     ("script_faults.txt", Table::Faults),
     ("prefixes.txt", Table::Prefixes),
     ("scripts.txt", Table::Scripts),
@@ -29,6 +29,7 @@ pub const TABLES: [(&str, Table); 15] = [
     ("worlds.txt", Table::Worlds),
     ("calls.txt", Table::Calls),
     ("options.txt", Table::Commands),
+    ("tables.txt", Table::Commands),
     ("certifying.txt", Table::Commands),
     ("explaining.txt", Table::Commands),
     ("limits.txt", Table::Counts),

@@ -23,3 +23,4 @@ pub mod Texts
 pub mod ValueTests
 pub mod WholeRows
 pub mod WholeSchema
+pub mod PatternLemmas

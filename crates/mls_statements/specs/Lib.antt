@@ -3,3 +3,4 @@ pub mod Rows
 pub mod Schema
 pub mod Statements
 pub mod Store
+pub mod Pattern

@@ -5,6 +5,7 @@ ghost use Rattle.sqlite_value.specs.Order.{column};
 ghost use Rattle.sqlite_trees.specs.View.{is_int};
 ghost use Rattle.sqlite_rules.specs.Edit.{id_in};
 ghost use Rattle.mls_statements.specs.Rows.{nat_in, blob_in, text_in, is_nat, is_blob, is_text, shown_node, shows_node, shown_cell, shows_cell, shown_entry, shows_entry, shown_meta, shows_meta, are_numbered};
+ghost use Rattle.mls_statements.specs.Pattern.{shown_bytes};
 ghost use Rattle.mls_statements.specs.Adopting.{IsNumber, IsInteger, IsBytes, IsText, ReadsNode, ReadsCell, ReadsEntry, ReadsMeta, HaveIds, Refutes, AreRising};
 
 use crate::rows::{AuditRow, CellRow, MetaRow, NodeRow};
@@ -69,6 +70,17 @@ pub fn nodes_from(alloc: Global, rows: &[Row]) -> Result<Vec<NodeRow>, Error>
     let mut found = Vec::new(alloc);
     for row in rows {
         found.push(node_from(row)?)?;
+    }
+    Ok(found)
+}
+
+/// The bytes that each row shows.
+pub(crate) fn bytes_from(alloc: Global, rows: &[Row]) -> Result<Vec<Items<u8>>, Error>
+    ensures { IfOk result (λ found. found.items ≡ map shown_bytes rows.now) }
+{
+    let mut found = Vec::new(alloc);
+    for row in rows {
+        found.push(bytes_at(row, 0)?)?;
     }
     Ok(found)
 }

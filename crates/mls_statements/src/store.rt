@@ -12,6 +12,7 @@ use crate::failures::Failures;
 use crate::remembered::Remembered;
 use crate::rows::{AuditRow, CellRow, NodeRow, OwnCell};
 use crate::statements::{audit, cell, change, creation, node};
+use mls_lattice::Items;
 use sqlite::{Alter, Connection, Error, ErrorCode};
 use std::alloc::Global;
 use std::marker::Model;
@@ -298,6 +299,25 @@ impl<S: Alter> TableStore<S> {
     {
         match node::read_nodes_of(&mut self.conn, self.alloc, rel, ent, kclass, label) {
             Ok(rows) => Ok(rows),
+            Err(error) => Err(fail(&mut self.conn, &mut self.begun, &mut self.failures, error)),
+        }
+    }
+
+    /// The pattern of the node at a key, where there is one.
+    pub fn patterns_of(
+        &mut self,
+        rel: u32,
+        ent: &[u8],
+        kclass: u32,
+        label: u32,
+    ) -> Result<Vec<Items<u8>>, StoreFault>
+        ensures call { IsCall self.old self.new result }
+        ensures mode { OnOk result (self.new.begun ≡ self.old.begun) }
+        ensures found { IsClean self.new → IfOk result (λ patterns. IsPermutation (map (λ n. n.pattern) (filter (is_node rel ent.now kclass label) self.old.now.nodes)) patterns.items) }
+        ensures same { IsClean self.new → OnOk result (IsSame self.old self.new) }
+    {
+        match node::read_patterns_of(&mut self.conn, self.alloc, rel, ent, kclass, label) {
+            Ok(patterns) => Ok(patterns),
             Err(error) => Err(fail(&mut self.conn, &mut self.begun, &mut self.failures, error)),
         }
     }

@@ -2,11 +2,13 @@ ghost use Rattle.std.specs.Prelude.{◌≡◌, map, filter, IsTrue, IfOk, OnOk, 
 ghost use Rattle.sqlite.specs.State.{HasCleanDisk, IsUnchanged, KeepsCommit};
 ghost use Rattle.sqlite.specs.Held.{state};
 ghost use Rattle.mls_statements.specs.Rows.{tables_of, is_node_at, is_node, node_values, node_columns};
+ghost use Rattle.mls_statements.specs.Pattern.{pattern_values};
 ghost use Rattle.mls_statements.specs.Schema.{HasTables};
 ghost use Rattle.mls_statements.specs.Statements.{IsReady, Changes, AddsNode, AddsNodes, ClearsNodes, DropsNode, IsEnded, IsWithin, GoesOn};
 
-use crate::decode::nodes_from;
+use crate::decode::{bytes_from, nodes_from};
 use crate::rows::NodeRow;
+use mls_lattice::Items;
 use sqlite::{Alter, Connection, Error, Row, params};
 use std::alloc::Global;
 
@@ -101,6 +103,26 @@ pub fn nodes_of<S: Alter>(
     )
 }
 
+/// The pattern of the node at a key, as rows of that column.
+pub fn patterns_of<S: Alter>(
+    conn: &mut Connection<S>,
+    rel: u32,
+    ent: &[u8],
+    kclass: u32,
+    label: u32,
+) -> Result<Vec<Row>, Error>
+    ensures found { HasCleanDisk (state S.Store conn.new) → IsReady (state S.Store conn.old).now → IfOk result (λ rows. IsPermutation (map pattern_values (filter (is_node rel ent.now kclass label) (tables_of (state S.Store conn.old).now.trees).nodes)) rows.items) }
+    ensures open { HasCleanDisk (state S.Store conn.new) → OnOk result (IsTrue (state S.Store conn.old).is_open) }
+    ensures same { HasCleanDisk (state S.Store conn.new) → IsReady (state S.Store conn.old).now → OnOk result (IsUnchanged (state S.Store conn.old) (state S.Store conn.new)) }
+    ensures err { HasCleanDisk (state S.Store conn.new) → OnErr result (IsEnded (state S.Store conn.old) (state S.Store conn.new)) }
+    ensures clean { HasCleanDisk (state S.Store conn.new) → HasCleanDisk (state S.Store conn.old) }
+{
+    conn.query_all(
+        "SELECT pattern FROM node WHERE rel = ?1 AND ent = ?2 AND kclass = ?3 AND label = ?4",
+        params![rel, ent, kclass, label],
+    )
+}
+
 /// Every row of the table of nodes, with its rowid last, in a database of the four tables.
 pub fn all_nodes<S: Alter>(conn: &mut Connection<S>) -> Result<Vec<Row>, Error>
     ensures found { HasCleanDisk (state S.Store conn.new) → HasTables (state S.Store conn.old).now.schema → IfOk result (λ rows. IsPermutation (map node_columns ((state S.Store conn.old).now.trees 0)) rows.items) }
@@ -147,4 +169,22 @@ pub fn read_nodes_of<S: Alter>(
     ensures clean { HasCleanDisk (state S.Store conn.new) → HasCleanDisk (state S.Store conn.old) }
 {
     nodes_from(alloc, &nodes_of(conn, rel, ent, kclass, label)?)
+}
+
+/// The pattern of the node at a key, where there is one.
+pub fn read_patterns_of<S: Alter>(
+    conn: &mut Connection<S>,
+    alloc: Global,
+    rel: u32,
+    ent: &[u8],
+    kclass: u32,
+    label: u32,
+) -> Result<Vec<Items<u8>>, Error>
+    ensures found { HasCleanDisk (state S.Store conn.new) → IsReady (state S.Store conn.old).now → IfOk result (λ found. IsPermutation (map (λ n. n.pattern) (filter (is_node rel ent.now kclass label) (tables_of (state S.Store conn.old).now.trees).nodes)) found.items) }
+    ensures open { HasCleanDisk (state S.Store conn.new) → OnOk result (IsTrue (state S.Store conn.old).is_open) }
+    ensures same { HasCleanDisk (state S.Store conn.new) → IsReady (state S.Store conn.old).now → OnOk result (IsUnchanged (state S.Store conn.old) (state S.Store conn.new)) }
+    ensures err { HasCleanDisk (state S.Store conn.new) → (IsTrue (state S.Store conn.old).is_open → IsReady (state S.Store conn.old).now) → OnErr result (IsEnded (state S.Store conn.old) (state S.Store conn.new)) }
+    ensures clean { HasCleanDisk (state S.Store conn.new) → HasCleanDisk (state S.Store conn.old) }
+{
+    bytes_from(alloc, &patterns_of(conn, rel, ent, kclass, label)?)
 }

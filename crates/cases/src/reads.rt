@@ -82,6 +82,14 @@ impl Base for Broken {
         Err(BaseFault::Memory)
     }
 
+    fn pattern(
+        &mut self,
+        _rel: RelNo,
+        _place: &Place,
+    ) -> Result<Option<Items<LabelNo>>, BaseFault> {
+        Err(BaseFault::Memory)
+    }
+
     fn add(&mut self, _rel: RelNo, _node: Node, _cells: &[Cell]) -> Result<(), BaseFault> {
         Err(BaseFault::NotBegun)
     }

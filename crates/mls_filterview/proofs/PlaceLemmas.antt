@@ -20,7 +20,7 @@ use Rattle.mls_filterview.proofs.AmongLemmas.{among_filter, filter_among, among_
 use Rattle.mls_filterview.proofs.EntryLemmas.{Entry, among_entries, entries_among, sorted_filter, so_true, same_lists}
 
 -- a tuple, or none, as a list
-abbrev tuples : Place → Option (List Element) → List Entry
+abbrev pub tuples : Place → Option (List Element) → List Entry
 tuples p None = []
 tuples p (Some es) = (p, es) ∷ []
 
@@ -56,10 +56,10 @@ module _ (T : Table) (p : Place) where
 
 -- ---- one item in any order
 
-nil_permuted : {X : Type 0} (ys : List X) → IsPermutation [] ys → ys ≡ []
+pub nil_permuted : {X : Type 0} (ys : List X) → IsPermutation [] ys → ys ≡ []
 nil_permuted ys h = nil_from_length ys (length_permutation [] ys h)
 
-one_permuted : {X : Type 0} (x : X) (ys : List X) → IsPermutation (x ∷ []) ys → ys ≡ x ∷ []
+pub one_permuted : {X : Type 0} (x : X) (ys : List X) → IsPermutation (x ∷ []) ys → ys ≡ x ∷ []
 one_permuted x [] h = absurd (let n = length_permutation (x ∷ []) [] h in cc)
 one_permuted x (y ∷ []) h = ap (λ z. z ∷ []) (elim ((among_permutation (x ∷ []) (y ∷ []) h y).1 (inl refl)) [ inl q ↦ q | inr r ↦ absurd r ])
 one_permuted x (y ∷ z ∷ ys) h = absurd (let n = length_permutation (x ∷ []) (y ∷ z ∷ ys) h in cc)

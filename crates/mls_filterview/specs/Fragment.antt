@@ -22,9 +22,13 @@ of_class m T = filter (λ e. nat_eq e.0.class m) (entries T)
 abbrev pub at_place : Place → Table → List (Place × List Element)
 at_place p T = filter (λ e. eq_by_cmp place_cmp e.0 p) (entries T)
 
+-- the pattern of a tuple
+abbrev pub classes : List Element → List ℕ
+classes es = map (λ e. e.class) es
+
 -- a tuple without its values
 abbrev pub node_of : Place × List Element → Node
-node_of e = record { key = e.0.key; key_class = e.0.key_class; label = e.0.class; pattern = map (λ x. x.class) e.1 }
+node_of e = record { key = e.0.key; key_class = e.0.key_class; label = e.0.class; pattern = classes e.1 }
 
 abbrev pub cell_at : Place → ℕ → Element → Cell
 cell_at p i e = record { key = p.key; key_class = p.key_class; attr = i; label = e.class; value = e.value }
@@ -56,7 +60,7 @@ place_of_node n = record { key = n.key; key_class = n.key_class; class = n.label
 -- the node and the cells of its label are those of a tuple with the elements es, whose other elements the entity's tuples
 -- of their classes have
 pub record IsMadeOf (T : Table) (n : Node) (cells : List Cell) (es : List Element) : Type 0 where
-  pub pattern : n.pattern ≡ map (λ e. e.class) es
+  pub pattern : n.pattern ≡ classes es
   pub own : cells ≡ cells_from 0 (place_of_node n) es
   pub others : (i : ℕ) → i < length es → (at es i).class ≢ n.label → (fs : List Element) × (get T (with_class (place_of_node n) (at es i).class) ≡ Some fs) × (at fs i ≡ at es i) × (i < length fs)
 

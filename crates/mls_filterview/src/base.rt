@@ -1,13 +1,14 @@
 //! Where content is kept.
 ghost use Rattle.std.specs.Prelude.{◌≡◌, ◌≢◌, ◌↔◌, ◌<◌, ◌≤◌, ℕ, List, false, true, IfOk, IfErr, IfSome, IsErrOf, OnOk, Ok, None};
 ghost use Rattle.std.specs.List.{AllByRecursion};
+ghost use Rattle.std.specs.Option.{option_map};
 ghost use Rattle.std.specs.FinMap.{get, insert, remove};
 ghost use Rattle.mls_scheme.specs.declared.tuple.Element.{Element as SpecElement};
 ghost use Rattle.mls_scheme.specs.Table.{change};
 ghost use Rattle.mls_scheme.specs.Spelling.{HasSpelling, IsSpelledKey};
 ghost use Rattle.mls_filterview.specs.Content.{State, begun_change, committed, ended, failed, with_relation, with_entry};
 ghost use Rattle.mls_filterview.specs.Calls.{IsCall, IsServed};
-ghost use Rattle.mls_filterview.specs.Fragment.{IsFragment, IsEntityPart, IsMadeOf, place_of_node, HasCell, set_in, IsAlone, IsCellOf};
+ghost use Rattle.mls_filterview.specs.Fragment.{IsFragment, IsEntityPart, classes, IsMadeOf, place_of_node, HasCell, set_in, IsAlone, IsCellOf};
 
 use crate::fragment::{Cell, Fragment, Node};
 use mls_lattice::{Items, LabelNo};
@@ -109,6 +110,15 @@ pub trait Base {
         ensures served { IfErr result IsServed }
         ensures mode { OnOk result ((state self.new).begun ≡ (state self.old).begun) }
         ensures found { is_clean self.new → IfOk result (IsEntityPart ((state self.old).now.db rel) place.now) }
+        ensures same { is_clean self.new → OnOk result (state self.new ≡ state self.old) };
+
+    /// The classes of the elements of the tuple at a place, where there is one. Nothing of the tuple is read but its node.
+    fn pattern(&mut self, rel: RelNo, place: &Place) -> Result<Option<Items<LabelNo>>, BaseFault>
+        requires key { IsSpelledKey place.now.key }
+        ensures call { IsCall is_clean failures state self.old self.new result }
+        ensures served { IfErr result IsServed }
+        ensures mode { OnOk result ((state self.new).begun ≡ (state self.old).begun) }
+        ensures found { is_clean self.new → IfOk result (λ pattern. pattern ≡ option_map classes (get ((state self.old).now.db rel) place.now)) }
         ensures same { is_clean self.new → OnOk result (state self.new ≡ state self.old) };
 
     /// Adds a tuple: its node, and the cells of its class in the order of attributes. `NotBegun` where no change is begun.

@@ -33,7 +33,7 @@ pub use laws::{
 };
 pub use recovering::is_content;
 pub use rule::{Broken, Rule};
-pub use splitting::{add_cells, cells_of, node_of, nodes_of};
+pub use splitting::{add_cells, cells_of, classes_of, node_of, nodes_of};
 pub use subsumption::subsumes;
 pub use viewing::view;
 pub use widening::{are_below, widened};

@@ -1,7 +1,7 @@
 //! Tuples taken apart into nodes and cells.
 ghost use Rattle.std.specs.Prelude.{◌≡◌, ◌++◌, IfOk, OnOk, map};
 ghost use Rattle.std.specs.List.{flat_map};
-ghost use Rattle.mls_filterview.specs.Fragment.{node_of, cells_of};
+ghost use Rattle.mls_filterview.specs.Fragment.{classes, node_of, cells_of};
 
 use crate::assembly::Rows;
 use crate::fragment::{Cell, Node};
@@ -10,26 +10,25 @@ use mls_scheme::{Element, Place, copy_key};
 use std::alloc::{AllocError, Global};
 
 /// The classes of elements.
-fn classes_of(alloc: Global, elements: &[Element]) -> Result<Vec<LabelNo>, AllocError>
-    ensures { IfOk result (λ v. v.items ≡ map (λ e. e.class) elements.now) }
+pub fn classes_of(alloc: Global, elements: &[Element]) -> Result<Items<LabelNo>, AllocError>
+    ensures { IfOk result (λ pattern. pattern ≡ classes elements.now) }
 {
     let mut classes = Vec::new(alloc);
     for element in elements {
         classes.push(element.class)?;
     }
-    Ok(classes)
+    Ok(Items::from(classes))
 }
 
 /// The node of the tuple at a place.
 pub fn node_of(alloc: Global, place: &Place, elements: &[Element]) -> Result<Node, AllocError>
     ensures { IfOk result (λ n. n ≡ node_of (place.now, elements.now)) }
 {
-    let pattern = classes_of(alloc, elements)?;
     Ok(Node {
         key: copy_key(&place.key)?,
         key_class: place.key_class,
         label: place.class,
-        pattern: Items::from(pattern),
+        pattern: classes_of(alloc, elements)?,
     })
 }
 

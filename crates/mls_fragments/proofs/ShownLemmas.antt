@@ -1,14 +1,16 @@
 -- The rows of a relation and a label show its fragment, and those of a place what belongs to its entity.
 use Rattle.std.proofs.Common.{◌≡◌, ℕ, Bool, true, false, cond, ◌&&◌, List, [], ◌∷◌, map, filter, flat_map, Option, Some, None, refl, sym, ap, ◌∙◌, subst, append-nil, arith, IsPermutation}
-use Rattle.std.specs.Prelude.{nat_eq, IfSome}
+use Rattle.std.specs.Prelude.{nat_eq, IfSome, slice_get}
 use Rattle.std.specs.List.{AllByRecursion}
-use Rattle.std.specs.FinMap.{entries}
+use Rattle.std.specs.Option.{option_map}
+use Rattle.std.specs.FinMap.{get, entries}
 use Rattle.std.proofs.lemmas.Bool.{and_parts}
-use Rattle.std.proofs.lemmas.List.Sorted.{IsPermutation-refl, IsPermutation-trans, length_permutation}
+use Rattle.std.proofs.lemmas.List.Sorted.{IsPermutation-refl, IsPermutation-map, IsPermutation-trans, length_permutation}
 use Rattle.sqlite_trees.proofs.ListLemmas.{filter-map, filter-filter, filter_same, all-map, all-permutation, pull_back, IsPermutation-filter}
 use Rattle.mls_scheme.specs.declared.value.Value.{Value}
 use Rattle.mls_scheme.specs.declared.value.Value.TheVariants.{Int, Text}
 use Rattle.mls_scheme.specs.Spelling.{key_spelling, value_spelling, HasSpelling, IsSpelledKey}
+use Rattle.mls_scheme.specs.declared.tuple.Element.{Element}
 use Rattle.mls_scheme.specs.declared.place.Place.{Place}
 use Rattle.mls_scheme.specs.Table.{Table}
 use Rattle.mls_scheme.proofs.KeyLemmas.{unambiguous}
@@ -17,11 +19,13 @@ use Rattle.mls_filterview.specs.declared.fragment.Node.{Node}
 use Rattle.mls_filterview.specs.declared.fragment.Cell.{Cell}
 use Rattle.mls_filterview.specs.declared.fragment.Fragment.{Fragment}
 use Rattle.mls_filterview.specs.Content.{Content}
-use Rattle.mls_filterview.specs.Fragment.{ArePartsOf, IsFragment, IsEntityPart, of_class, at_place, node_of, cells_of}
+use Rattle.mls_filterview.specs.Fragment.{ArePartsOf, IsFragment, IsEntityPart, of_class, at_place, classes, node_of, cells_of}
 use Rattle.mls_filterview.specs.View.{IsAmong}
 use Rattle.mls_filterview.proofs.AmongLemmas.{each_among, among_filter, among_flat_map}
 use Rattle.mls_filterview.proofs.EntryLemmas.{Entry, among_entries}
 use Rattle.mls_filterview.proofs.FragmentLemmas.{cell_found}
+use Rattle.mls_filterview.proofs.PlaceLemmas.{tuples, at_place-get, nil_permuted, one_permuted}
+use Rattle.mls_statements.specs.declared.rows.NodeRow.{NodeRow}
 use Rattle.mls_statements.specs.Rows.{Tables, is_node_at, is_cell_at, is_node, is_cell_in}
 use Rattle.mls_fragments.specs.Holding.{Holds, HoldsTable, IsSpelledNode, IsSpelledCell, value_bytes, node_row, cell_row}
 use Rattle.mls_fragments.proofs.WrittenLemmas.{filter_each, spelled_keys, entity_test, place_test, cells_where}
@@ -165,6 +169,22 @@ shows_entity t c rel p f holds spelled ns cs nodes cells =
     let T = c.db rel in
     let held = holds.tables rel in
     show_parts t rel T held (λ e. is_place e.0 p) f ns cs (IsPermutation-trans _ _ _ (there_nodes t rel p spelled T held) nodes) (IsPermutation-trans _ _ _ (there_cells t rel p spelled T held) cells)
+
+-- the node at a place shows the pattern of the tuple there
+pattern_there : (rel : ℕ) (p : Place) (o : Option (List Element)) (patterns : List (List ℕ))
+    → IsPermutation (map (λ n. n.pattern) (map (node_row rel) (map node_of (tuples p o)))) patterns → slice_get patterns 0 ≡ option_map classes o
+pattern_there rel p None patterns h = ap (λ l. slice_get l 0) (nil_permuted patterns h)
+pattern_there rel p (Some es) patterns h = ap (λ l. slice_get l 0) (one_permuted (classes es) patterns h)
+
+pub shows_pattern : (t : Tables) (c : Content) (rel : ℕ) (p : Place) → Holds t c → IsSpelledKey p.key → (patterns : List (List ℕ))
+    → IsPermutation (map (λ n. n.pattern) (filter (is_node rel (key_spelling p.key) p.key_class p.class) t.nodes)) patterns
+    → slice_get patterns 0 ≡ option_map classes (get (c.db rel) p)
+shows_pattern t c rel p holds spelled patterns h =
+    let T = c.db rel in
+    let there = IsPermutation-map (λ (n : NodeRow). n.pattern) _ _ (there_nodes t rel p spelled T (holds.tables rel)) in
+    pattern_there rel p (get T p) patterns
+    (subst (λ (es : List Entry). IsPermutation (map (λ (n : NodeRow). n.pattern) (map (node_row rel) (map node_of es))) patterns) (at_place-get T p)
+    (IsPermutation-trans _ _ _ there h))
 
 no_tuple : (rel : ℕ) (es : List Entry) → IsPermutation (map (node_row rel) (map node_of es)) [] → es ≡ []
 no_tuple rel [] none = refl

@@ -10,7 +10,7 @@ ghost use Rattle.mls_fragments.specs.Based.{state_of};
 ghost use Rattle.mls_fragments.specs.Finding.{content_found};
 ghost use Rattle.mls_fragments.specs.Holding.{Holds};
 
-use crate::entity::read_entity;
+use crate::entity::{read_entity, read_pattern};
 use crate::finding::Found;
 use crate::noted::{Noted, fall};
 use crate::reading::{read_entries, read_fragment};
@@ -156,6 +156,13 @@ impl<S: Alter> Base for SqlBase<S> {
     fn entity(&mut self, rel: RelNo, place: &Place) -> Result<Fragment, BaseFault> {
         match read_entity(&mut self.store, self.alloc, rel, place) {
             Ok(fragment) => Ok(fragment),
+            Err(fault) => Err(fall(&mut self.now, &self.kept, fault)),
+        }
+    }
+
+    fn pattern(&mut self, rel: RelNo, place: &Place) -> Result<Option<Items<LabelNo>>, BaseFault> {
+        match read_pattern(&mut self.store, self.alloc, rel, place) {
+            Ok(pattern) => Ok(pattern),
             Err(fault) => Err(fall(&mut self.now, &self.kept, fault)),
         }
     }

@@ -1,16 +1,18 @@
 //! What the tables hold of one entity.
-ghost use Rattle.std.specs.Prelude.{◌≡◌, [], filter, IfOk, IsPermutation, OnOk};
+ghost use Rattle.std.specs.Prelude.{◌≡◌, [], map, filter, slice_get, IfOk, IsPermutation, OnOk};
+ghost use Rattle.std.specs.Option.{option_map};
+ghost use Rattle.std.specs.FinMap.{get};
 ghost use Rattle.mls_scheme.specs.Spelling.{IsSpelledKey};
 ghost use Rattle.mls_filterview.specs.Content.{Content};
-ghost use Rattle.mls_filterview.specs.Fragment.{IsEntityPart};
+ghost use Rattle.mls_filterview.specs.Fragment.{IsEntityPart, classes};
 ghost use Rattle.mls_statements.specs.Rows.{is_node, is_cell_in};
 ghost use Rattle.mls_statements.specs.Store.{IsClean, IsCall, IsSame};
 ghost use Rattle.mls_fragments.specs.Holding.{Holds};
 
-use crate::reading::{fragment_in, give_up};
+use crate::reading::{RowFault, fragment_in, give_up, pattern_in};
 use crate::writing::ent_of;
 use mls_filterview::Fragment;
-use mls_lattice::Items;
+use mls_lattice::{Items, LabelNo};
 use mls_scheme::{Place, RelNo};
 use mls_statements::{CellRow, NodeRow, StoreFault, TableStore};
 use sqlite::Alter;
@@ -90,6 +92,60 @@ pub(crate) fn read_entity<S: Alter>(
     let cells = cells_at(store, rel, place, &ent)?;
     match fragment_in(alloc, rel, &nodes, &cells) {
         Ok(fragment) => Ok(fragment),
+        Err(fault) => Err(give_up(store, fault)),
+    }
+}
+
+/// The pattern of the node at a place.
+fn patterns_at<S: Alter>(
+    store: &mut TableStore<S>,
+    rel: RelNo,
+    place: &Place,
+    ent: &[u8],
+) -> Result<Vec<Items<u8>>, StoreFault>
+    ensures call { IsCall store.old store.new result }
+    ensures mode { OnOk result (store.new.begun ≡ store.old.begun) }
+    ensures found { IsClean store.new → IfOk result (λ patterns. IsPermutation (map (λ n. n.pattern) (filter (is_node rel ent.now place.now.key_class place.now.class) store.old.now.nodes)) patterns.items) }
+    ensures same { IsClean store.new → OnOk result (IsSame store.old store.new) }
+{
+    store.patterns_of(
+        u32::from(rel.byte()),
+        ent,
+        u32::from(place.key_class.byte()),
+        u32::from(place.class.byte()),
+    )
+}
+
+/// The classes that the first of these patterns names.
+fn first_in(alloc: Global, patterns: &[Items<u8>]) -> Result<Option<Items<LabelNo>>, RowFault>
+    ensures { IfOk result (λ pattern. pattern ≡ slice_get patterns.now 0) }
+{
+    match patterns.first() {
+        Some(first) => Ok(Some(pattern_in(alloc, first)?)),
+        None => Ok(None),
+    }
+}
+
+/// The classes of the elements of the tuple at a place, where there is one. Its node is looked up, and no key is read.
+pub(crate) fn read_pattern<S: Alter>(
+    store: &mut TableStore<S>,
+    alloc: Global,
+    rel: RelNo,
+    place: &Place,
+) -> Result<Option<Items<LabelNo>>, StoreFault>
+    requires key { IsSpelledKey place.now.key }
+    ensures call { IsCall store.old store.new result }
+    ensures mode { OnOk result (store.new.begun ≡ store.old.begun) }
+    ensures found { IsClean store.new → (c : Content) → Holds store.old.now c → IfOk result (λ pattern. pattern ≡ option_map classes (get (c.db rel) place.now)) }
+    ensures same { IsClean store.new → OnOk result (IsSame store.old store.new) }
+{
+    let ent = match ent_of(alloc, &place.key) {
+        Ok(ent) => ent,
+        Err(fault) => return Err(give_up(store, fault)),
+    };
+    let patterns = patterns_at(store, rel, place, &ent)?;
+    match first_in(alloc, &patterns) {
+        Ok(pattern) => Ok(pattern),
         Err(fault) => Err(give_up(store, fault)),
     }
 }

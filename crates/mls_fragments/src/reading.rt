@@ -89,7 +89,7 @@ fn key_in(alloc: Global, bytes: &[u8]) -> Result<Items<Value>, RowFault>
     Ok(Items::from(key_of(alloc, bytes)?))
 }
 
-fn pattern_in(alloc: Global, bytes: &[u8]) -> Result<Items<LabelNo>, RowFault>
+pub(crate) fn pattern_in(alloc: Global, bytes: &[u8]) -> Result<Items<LabelNo>, RowFault>
     ensures found { IfOk result (λ pattern. pattern ≡ bytes.now) }
     ensures only { IfErr result IsMemory }
 {

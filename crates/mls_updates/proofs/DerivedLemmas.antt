@@ -11,8 +11,7 @@ use Rattle.mls_scheme.specs.declared.place.Place.{Place}
 use Rattle.mls_scheme.specs.Tuple.{at}
 use Rattle.mls_scheme.specs.Table.{Table}
 use Rattle.mls_filterview.specs.Stored.{IsStored, IsStoredTuple, with_class}
-use Rattle.mls_filterview.specs.Fragment.{cell_at, cells_from, cells_of, node_of, IsMadeOf}
-use Rattle.mls_updates.specs.Finding.{classes}
+use Rattle.mls_filterview.specs.Fragment.{classes, cell_at, cells_from, cells_of, node_of, IsMadeOf}
 use Rattle.mls_updates.specs.Steps.{outline}
 use Rattle.mls_updates.specs.Writes.{Sets, set_element, derived}
 use Rattle.mls_updates.proofs.SetLemmas.{IsSet, length-derived, derived_cases}

@@ -18,7 +18,7 @@ use Rattle.mls_updates.specs.declared.outcome.Outcome.TheVariants.{KeyNull}
 use Rattle.mls_updates.specs.Outcome.{is_done}
 use Rattle.mls_updates.specs.Writes.{Key, Sets, Insert, Update, Delete, first_refusal, has_null, place, root, derived, update_in, is_above, written, root_refusals, own_refusals, below_refusals, drop_refusals, update_own, update_below}
 use Rattle.mls_updates.specs.Calls.{IsLeft, IsWritten, classes_below}
-use Rattle.mls_updates.specs.Finding.{classes}
+use Rattle.mls_filterview.specs.Fragment.{classes}
 use Rattle.mls_updates.proofs.PatternLemmas.{found_pattern}
 use Rattle.mls_updates.proofs.StateLemmas.{same_state}
 

@@ -8,7 +8,6 @@ pub mod SampleLemmas
 pub mod RowsLemmas
 pub mod FragmentLemmas
 pub mod IntervalLemmas
-pub mod FindingLemmas
 pub mod KeyLemmas
 pub mod CallLemmas
 pub mod DropLemmas

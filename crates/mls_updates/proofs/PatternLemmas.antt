@@ -1,12 +1,12 @@
 -- The pattern of a tuple that was found.
 use Rattle.std.proofs.Common.{◌≡◌, ℕ, zero, suc, not, List, [], ◌∷◌, Option, Some, None, refl, sym, ap, ◌∙◌}
-use Rattle.std.specs.Prelude.{nat_eq, slice_index_or}
+use Rattle.std.specs.Prelude.{is_some, nat_eq, slice_index_or}
 use Rattle.std.specs.List.{list_any}
 use Rattle.std.specs.Option.{option_map, unwrap_or}
 use Rattle.std.proofs.lemmas.Option.{none-some, same_Some}
 use Rattle.mls_scheme.specs.declared.tuple.Element.{Element}
 use Rattle.mls_scheme.specs.Tuple.{at}
-use Rattle.mls_updates.specs.Finding.{classes}
+use Rattle.mls_filterview.specs.Fragment.{classes}
 use Rattle.mls_updates.specs.Writes.{Sets}
 
 -- ---- classes by number
@@ -24,6 +24,10 @@ found_pattern (Some es) xs h = (es, refl, same_Some xs (classes es) h)
 pub none_found : (o : Option (List Element)) → None ≡ option_map classes o → o ≡ None
 none_found None h = refl
 none_found (Some es) h = absurd (none-some (classes es) h)
+
+pub some_found : (o : Option (List Element)) → is_some (option_map classes o) ≡ is_some o
+some_found None = refl
+some_found (Some es) = refl
 
 pattern_class : (o : Option (List Element)) (xs : List ℕ) → Some xs ≡ option_map classes o → (i : ℕ) → slice_index_or xs i 0 ≡ (at (unwrap_or o []) i).class
 pattern_class o xs h i = let r = found_pattern o xs h in ap (λ ys. slice_index_or ys i 0) r.2 ∙ class_of r.0 i ∙ sym (ap (λ k. (at (unwrap_or k []) i).class) r.1)

@@ -10,7 +10,7 @@ use Rattle.mls_scheme.specs.Table.{change}
 use Rattle.mls_filterview.specs.Content.{State, with_relation}
 use Rattle.mls_updates.specs.declared.outcome.Outcome.{Outcome}
 use Rattle.mls_filterview.specs.Stored.{with_class}
-use Rattle.mls_updates.specs.Finding.{classes}
+use Rattle.mls_filterview.specs.Fragment.{classes}
 use Rattle.mls_updates.specs.Writes.{Sets, Write, Written, written, write, first_refusal, root_refusals, drop_refusals, own_refusals, below_refusals, root, derived, update_in, is_above}
 
 -- from s, a call answered o and left t: the outcome and the table of a relation are these

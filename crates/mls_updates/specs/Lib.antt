@@ -4,5 +4,4 @@ pub mod Laws
 pub mod Rows
 pub mod States
 pub mod Calls
-pub mod Finding
 pub mod Steps

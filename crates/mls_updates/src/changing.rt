@@ -10,7 +10,6 @@ ghost use Rattle.mls_filterview.specs.Calls.{IsCall, IsServed};
 ghost use Rattle.mls_updates.specs.Calls.{IsChanged};
 
 use crate::deciding::own_outcome;
-use crate::finding::pattern_at;
 use crate::outcome::Outcome;
 use crate::setting::set_each;
 use mls_filterview::{Base, BaseFault};
@@ -37,7 +36,7 @@ pub(crate) fn update_own<B: Base>(
     ensures mode { OnOk result ((B.state base.new).begun ≡ true) }
     ensures done { B.is_clean base.new → IfOk result (λ o. (scheme : Scheme) → IsChanged (labels_of policy.now) scheme rel place.now sets.now (B.state base.old) (B.state base.new) o) }
 {
-    let found = pattern_at(base, rel, place)?;
+    let found = base.pattern(rel, place)?;
     let outcome = own_outcome(policy, place, sets, &found);
     if !outcome.is_done() {
         return Ok(outcome);

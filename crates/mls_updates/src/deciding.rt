@@ -6,7 +6,7 @@ ghost use Rattle.mls_lattice.specs.Labels.{below};
 ghost use Rattle.mls_lattice.specs.Policy.{labels_of};
 ghost use Rattle.mls_scheme.specs.Scheme.{Scheme as SpecScheme, IsUnder};
 ghost use Rattle.mls_scheme.specs.declared.tuple.Element.{Element as SpecElement};
-ghost use Rattle.mls_updates.specs.Finding.{classes};
+ghost use Rattle.mls_filterview.specs.Fragment.{classes};
 ghost use Rattle.mls_updates.specs.Outcome.{is_done};
 ghost use Rattle.mls_updates.specs.Writes.{first_refusal, root_refusals, own_refusals, below_refusals, drop_refusals};
 

@@ -98,6 +98,13 @@ impl Base for ListBase {
         }
     }
 
+    fn pattern(&mut self, rel: RelNo, place: &Place) -> Result<Option<Items<LabelNo>>, BaseFault> {
+        match self.held.rows.pattern(self.alloc, rel, place) {
+            Ok(pattern) => Ok(pattern),
+            Err(_) => Err(self.fail()),
+        }
+    }
+
     fn add(&mut self, rel: RelNo, node: Node, cells: &[Cell]) -> Result<(), BaseFault> {
         if !self.is_begun() {
             return Err(BaseFault::NotBegun);

@@ -9,7 +9,7 @@ ghost use Rattle.mls_filterview.specs.Stored.{IsStored, with_class};
 ghost use Rattle.mls_updates.specs.Calls.{IsDerived, classes_below};
 
 use crate::deciding::below_outcome;
-use crate::finding::{has_tuple, pattern_at};
+use crate::finding::has_tuple;
 use crate::outcome::Outcome;
 use crate::outline::add_outline;
 use mls_filterview::{Base, BaseFault};
@@ -42,7 +42,7 @@ fn pattern_below<B: Base>(
     if !policy.dominates(w, place.class) {
         return Ok(None);
     }
-    pattern_at(base, rel, place)
+    base.pattern(rel, place)
 }
 
 /// Adds a tuple at a place: that of class `from`, of which the classes were found, with the named attributes new.

@@ -1,14 +1,14 @@
 //! The tuples that a base holds.
 ghost use Rattle.std.specs.Prelude.{◌≡◌, ◌++◌, ◌∷◌, [], IfOk, OnOk, OnErr, map, None};
-ghost use Rattle.std.specs.Option.{option_map_or};
+ghost use Rattle.std.specs.Option.{option_map, option_map_or};
 ghost use Rattle.std.specs.FinMap.{get};
-ghost use Rattle.mls_filterview.specs.Fragment.{IsFragment, IsEntityPart, node_of, cells_of};
+ghost use Rattle.mls_filterview.specs.Fragment.{IsFragment, IsEntityPart, classes, node_of, cells_of};
 ghost use Rattle.mls_filterview.specs.Assembly.{elements_from};
 ghost use Rattle.mls_updates.specs.Rows.{entry_of, table_of, nodes_of, cells_in, held_in, found_at, set_row, without};
 
 use crate::making;
 use crate::row::Row;
-use mls_filterview::{Cell, Fragment, Node};
+use mls_filterview::{Cell, Fragment, Node, classes_of};
 use mls_lattice::{Items, LabelNo};
 use mls_scheme::{Element, Place, RelNo, Value};
 use std::alloc::{AllocError, Global};
@@ -77,6 +77,18 @@ impl Rows {
         ensures { IfOk result (IsEntityPart (table_of self.now rel) place.now) }
     {
         entity_of(alloc, &self.vec, rel, place)
+    }
+
+    /// The classes of the elements of the tuple at a place, if there is one.
+    pub(crate) fn pattern(
+        &self,
+        alloc: Global,
+        rel: RelNo,
+        place: &Place,
+    ) -> Result<Option<Items<LabelNo>>, AllocError>
+        ensures { IfOk result (λ pattern. pattern ≡ option_map classes (get (table_of self.now rel) place.now)) }
+    {
+        pattern_of(alloc, &self.vec, rel, place)
     }
 
     /// The elements of a new tuple.
@@ -198,6 +210,23 @@ fn entity_of(alloc: Global, rows: &[Row], rel: RelNo, place: &Place) -> Result<F
         nodes: Items::from(Vec::new(alloc)),
         cells: Items::from(Vec::new(alloc)),
     })
+}
+
+/// The classes of the elements of the tuple of a relation at a place, if there is one.
+fn pattern_of(
+    alloc: Global,
+    rows: &[Row],
+    rel: RelNo,
+    place: &Place,
+) -> Result<Option<Items<LabelNo>>, AllocError>
+    ensures { IfOk result (λ pattern. pattern ≡ option_map classes (found_at rel place.now rows.now)) }
+{
+    for row in rows {
+        if row.is_at(rel, place) {
+            return Ok(Some(classes_of(alloc, &row.elements)?));
+        }
+    }
+    Ok(None)
 }
 
 /// The rows with the value of a cell set.

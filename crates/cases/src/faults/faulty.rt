@@ -166,6 +166,13 @@ impl<B: Base> Base for Faulty<B> {
         self.base.entity(rel, place)
     }
 
+    fn pattern(&mut self, rel: RelNo, place: &Place) -> Result<Option<Items<LabelNo>>, BaseFault> {
+        if self.is_due() {
+            return Err(self.fail());
+        }
+        self.base.pattern(rel, place)
+    }
+
     fn add(&mut self, rel: RelNo, node: Node, cells: &[Cell]) -> Result<(), BaseFault> {
         if !self.is_begun() {
             return Err(BaseFault::NotBegun);

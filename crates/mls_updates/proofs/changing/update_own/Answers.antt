@@ -17,7 +17,7 @@ use Rattle.mls_updates.proofs.changing.update_own.Goals as goal
 pub returns-then-not-is_done-clause-done : goal.returns-then-not-is_done-clause-done
 returns-then-not-is_done-clause-done g c = λ clean scheme.
     let s = g.B.Base.state c.args.base.now in
-    left_same c.args.rel s (g.B.Base.state c.pattern_at.new.base) c.own_outcome-outcome.result _ _
+    left_same c.args.rel s (g.B.Base.state c.pattern.new.self) c.own_outcome-outcome.result _ _
     (c.own_outcome-outcome.ensures scheme (get (s.now.db c.args.rel) c.args.place.now) (c.in_ok-found.ensures.found clean)) (sym c.if-not-is_done.ensures) (c.in_ok-found.ensures.same clean)
 
 pub set_each-requires-clause-there : goal.set_each-requires-clause-there

@@ -6,7 +6,7 @@ use Rattle.std.proofs.lemmas.List.{length-map}
 use Rattle.mls_lattice.specs.Policy.{labels_of}
 use Rattle.mls_filterview.specs.Content.{with_relation}
 use Rattle.mls_filterview.specs.Stored.{with_class}
-use Rattle.mls_updates.specs.Finding.{classes}
+use Rattle.mls_filterview.specs.Fragment.{classes}
 use Rattle.mls_updates.specs.Outcome.{is_done}
 use Rattle.mls_updates.specs.Writes.{derived, below_refusals}
 use Rattle.mls_updates.proofs.DerivedLemmas.{outline_made, made_alike}

@@ -4,7 +4,7 @@ use Rattle.std.specs.FinMap.{get}
 use Rattle.std.proofs.lemmas.Result.{IfOk-weaker}
 use Rattle.mls_lattice.specs.Labels.{below}
 use Rattle.mls_lattice.specs.Policy.{labels_of}
-use Rattle.mls_updates.specs.Finding.{classes}
+use Rattle.mls_filterview.specs.Fragment.{classes}
 use Rattle.mls_updates.proofs.raising.pattern_below.Goals as goal
 
 pub returns-then-not-dominates-clause-found : goal.returns-then-not-dominates-clause-found
@@ -31,4 +31,4 @@ returns-clause-found g c = λ clean.
     let o = option_map classes (get ((g.B.Base.state c.args.base.now).now.db c.args.rel) p) in
     let low = sym c.if-not-dominates.ensures.order in
     let up = sym c.if-not-dominates-2.ensures.order in
-    IfOk-weaker c.pattern_at.result (λ pattern. pattern ≡ o) _ (λ pattern e. e ∙ sym (λ i. cond (low i && up i) o None)) (c.pattern_at.ensures.found clean)
+    IfOk-weaker c.pattern.result (λ pattern. pattern ≡ o) _ (λ pattern e. e ∙ sym (λ i. cond (low i && up i) o None)) (c.pattern.ensures.found clean)

@@ -1,7 +1,8 @@
 -- What the checker's answer says.
-use Rattle.std.proofs.Common.{◌≡◌, ℕ, zero, suc, ◌+◌, ◌<◌, Bool, true, false, ◌&&◌, List, [], ◌∷◌, drop, Some, Result, Ok, Err, refl, sym, ap, ◌∙◌, arith}
+use Rattle.std.proofs.Common.{◌≡◌, ℕ, zero, suc, ◌+◌, ◌<◌, Bool, true, false, cond, ◌&&◌, List, [], ◌∷◌, drop, Some, Result, Ok, Err, refl, sym, ap, ◌∙◌, arith}
 use Rattle.std.specs.Prelude.{◌↔◌, IfOk, option_map, slice_get}
 use Rattle.std.specs.List.{flat_map, list_all}
+use Rattle.mls_lattice.specs.Lattice.{Pair, ◌⊑◌}
 use Rattle.mls_lattice.specs.Labels.{AreDistinct}
 use Rattle.mls_lattice.specs.Policy.{Name, Tables, labels_of}
 use Rattle.mls_translang.specs.declared.tx.Parameter.{Parameter}
@@ -9,10 +10,15 @@ use Rattle.mls_translang.specs.Tree.{Block}
 use Rattle.mls_translang.specs.Tx.{Tx}
 use Rattle.mls_meaning.specs.Secure.{Secure}
 use Rattle.mls_certificate.specs.declared.cert.Certificate.{Certificate}
-use Rattle.mls_certcheck.specs.Rules.{Claim, Rules, all_places, claim}
-use Rattle.mls_certcheck.specs.Checks.{verdict, tests_at, all_below, First}
-use Rattle.mls_certcheck.specs.Walk.{Says, walked}
+use Rattle.mls_certcheck.specs.Lines.{by, variables, within_ends, all_places}
+use Rattle.mls_certcheck.specs.Rules.{Claim, Rules, after, claim}
+use Rattle.mls_certcheck.specs.Checks.{is_over, holds, verdict, unless, all_below, First}
+use Rattle.mls_certcheck.specs.Walk.{Says, all_lines, walked}
+use Rattle.mls_certcheck.specs.declared.flow.Slot.TheVariants.{Statement}
+use Rattle.mls_certcheck.specs.declared.flow.Source.TheVariants.{Held, Declared}
+use Rattle.mls_certcheck.specs.declared.flow.Flow.TheVariants.{Within, Under}
 use Rattle.mls_certcheck.specs.declared.refusal.Refusal.{Refusal}
+use Rattle.mls_certcheck.specs.declared.refusal.Rule.{Rule}
 use Rattle.mls_certcheck.proofs.RulesLemmas.{rules_from_first, first_from_rules}
 use Rattle.mls_certcheck.proofs.WalkLemmas.{walk_is_err, walk_is_ok}
 use Rattle.mls_certcheck.proofs.LawLemmas.{secure_rules}
@@ -27,10 +33,10 @@ pub says_secure : (policy : Tables) → AreDistinct (labels_of policy) → (tx :
 says_secure policy distinct tx cert (Ok u) h = secure_rules policy distinct tx cert (rules_from_first (claim policy tx cert) h)
 says_secure policy distinct tx cert (Err e) h = tt
 
-pub body_err : (c : Claim) (rows : List ℕ) (b : Block) (e : Refusal) → rows ≡ [] → b ≡ c.tx.body → walked c 1 0 0 rows b ≡ Err e → verdict (flat_map (tests_at c) (all_places c)) ≡ Err e
+pub body_err : (c : Claim) (rows : List ℕ) (b : Block) (e : Refusal) → rows ≡ [] → b ≡ c.tx.body → walked c 1 0 0 rows b ≡ Err e → verdict c (all_lines c (all_places c.tx)) ≡ Err e
 body_err c rows b e none whole h = walk_is_err c 1 0 0 [] c.tx.body e ((λ i. walked c 1 0 0 (sym none i) (sym whole i)) ∙ h)
 
-pub body_ok : (c : Claim) (rows : List ℕ) (b : Block) (m : ℕ) → rows ≡ [] → b ≡ c.tx.body → walked c 1 0 0 rows b ≡ Ok m → verdict (flat_map (tests_at c) (all_places c)) ≡ Ok tt
+pub body_ok : (c : Claim) (rows : List ℕ) (b : Block) (m : ℕ) → rows ≡ [] → b ≡ c.tx.body → walked c 1 0 0 rows b ≡ Ok m → verdict c (all_lines c (all_places c.tx)) ≡ Ok tt
 body_ok c rows b m none whole h = walk_is_ok c 1 0 0 [] c.tx.body m ((λ i. walked c 1 0 0 (sym none i) (sym whole i)) ∙ h)
 
 -- ---- a loop over parameters
@@ -60,3 +66,23 @@ below_fails (suc n) p i within fails =
     let earlier : i < n → all_below n p ≡ false = λ lt. below_fails n p i lt fails in
     let last : i ≡ n → p n ≡ false = λ e. ap p (sym e) ∙ fails in
     grind (arith, earlier, last, within)
+
+pub under_fails : (c : Claim) (p : Pair) (n count i : ℕ) → i < count → (after c n i ⊑ p) ≡ false → is_over c p (variables n count) ≡ false
+under_fails c p n zero i within fails = absurd (omega (arith, within))
+under_fails c p n (suc count) i within fails =
+    let earlier : i < count → is_over c p (variables n count) ≡ false = λ lt. under_fails c p n count i lt fails in
+    let last : i ≡ count → (after c n count ⊑ p) ≡ false = λ e. ap (λ j. after c n j ⊑ p) (sym e) ∙ fails in
+    grind (arith, earlier, last, within)
+
+-- ---- the lines of parameters
+
+pub parameters_told : (c : Claim) (r : Rule) (ps : List (Name × Parameter)) → verdict c (by 0 r (flat_map (λ p. within_ends p.1.label) ps)) ≡ unless (list_all (λ p. list_all (holds c) (within_ends p.1.label)) ps) 0 r
+parameters_told c r [] = refl
+parameters_told c r (p ∷ ps) =
+    let more : verdict c (by 0 r (flat_map (λ p. within_ends p.1.label) ps)) ≡ unless (list_all (λ p. list_all (holds c) (within_ends p.1.label)) ps) 0 r = parameters_told c r ps in
+    told (holds c (Within p.1.label (Held (Statement 0) ∷ []))) (holds c (Under (Declared p.1.label ∷ []))) _ (list_all (λ p. list_all (holds c) (within_ends p.1.label)) ps) more
+  where
+    told : (a b : Bool) (m : Result (Unit {0}) Refusal) (d : Bool) → m ≡ unless d 0 r → cond a (cond b m (Err (record { stmt = 0; rule = r }))) (Err (record { stmt = 0; rule = r })) ≡ unless ((a && (b && true)) && d) 0 r
+    told true true m d h = h
+    told true false m d h = refl
+    told false b m d h = refl

@@ -30,8 +30,9 @@ use Rattle.mls_meaning.specs.Secure.{AreStored, seen_items, Split}
 use Rattle.mls_meaning.proofs.KeepingLemmas.{Extends, cond_kept, for_each_kept, perform_stored, block_stored, block_extends}
 use Rattle.mls_certificate.specs.declared.cert.Certificate.{Certificate}
 use Rattle.mls_certcheck.specs.Place.{Plain, directs, last, places}
-use Rattle.mls_certcheck.specs.Rules.{Claim, claim, hi, pc, lab, after, param_label, target, Keeps}
-use Rattle.mls_certcheck.proofs.RulesLemmas.{PlaceRules}
+use Rattle.mls_certcheck.specs.Lines.{target}
+use Rattle.mls_certcheck.specs.Rules.{Claim, claim, hi, pc, after, param_label}
+use Rattle.mls_certcheck.proofs.LineLemmas.{lab, Keeps, Obeys, assigned, write_operands, release_value, release_target, emit_value, branch_body, branch_one, branch_other, loop_body, loop_begin, loop_turn}
 use Rattle.mls_certcheck.proofs.PlaceLemmas.{unseen_above, seen_under, below-⊑, BlockObeys, HasNoMore}
 use Rattle.mls_certcheck.proofs.QuietLemmas.{Agrees, Quiet, agrees_on, quiet_then, quiet_both, quiet_keeps, keeps_seen, seen_not, rest_seen, quiet_write, quiet_block}
 use Rattle.mls_certcheck.proofs.ScopeLemmas.{EnvironmentsAgree, eval_same, value_same, write_same}
@@ -98,13 +99,13 @@ module _ (policy : Tables) (distinct : AreDistinct (labels_of policy)) (tx : Tx)
   level = label_of ls c
 
   -- a variable but the target
-  rest_same : (n a b : ℕ) (loops : List ℕ) (stmt : Stmt) (s t : Progress) → PlaceRules k (record { number = n; around = a; before = b; rows = loops; node = Plain stmt }) → Agrees k c b s t
+  rest_same : (n a b : ℕ) (loops : List ℕ) (stmt : Stmt) (s t : Progress) → Obeys k (record { number = n; around = a; before = b; rows = loops; node = Plain stmt }) → Agrees k c b s t
       → (i : ℕ) → (target stmt ≡ Some i → ⊥) → after k n i ⊑ level ≡ true → s.vars i ≡ t.vars i
   rest_same n a b loops stmt s t h g i other l = g.values i (rest_seen policy distinct tx cert none schemes args c n a b loops stmt h i other l)
 
   -- a write of equal operands at a label that c sees
   seen_write : (n a b : ℕ) (loops : List ℕ) (rel w : ℕ) (writing : Writing) (v wr : Write) (outcome : Option ℕ) (s t : Progress)
-      → PlaceRules k (record { number = n; around = a; before = b; rows = loops; node = Plain (Write_at rel w writing outcome) }) → v ≡ wr → label_of ls w ⊑ level ≡ true → Agrees k c b s t
+      → Obeys k (record { number = n; around = a; before = b; rows = loops; node = Plain (Write_at rel w writing outcome) }) → v ≡ wr → label_of ls w ⊑ level ≡ true → Agrees k c b s t
       → Agrees k c n (do_write ls schemes args rel w v outcome s) (do_write ls schemes brgs rel w wr outcome t)
   seen_write n at b loops rel w writing v wr outcome s t h e seen a = record {
     tables = λ r. elim (nat_eq r rel) as (λ b. low ls c (cond b (new v s).table (s.db r)) ≡ low ls c (cond b (new wr t).table (t.db r))) [
@@ -149,7 +150,7 @@ module _ (policy : Tables) (distinct : AreDistinct (labels_of policy)) (tx : Tx)
   -- ---- releases
 
   module _ (n a b : ℕ) (loops : List ℕ) (rs qs : List Tuple) (e : Expr) (to into : ℕ) (s t : Progress)
-      (h : PlaceRules (claim policy tx cert) (record { number = n; around = a; before = b; rows = loops; node = Plain (Release e to into) }))
+      (h : Obeys (claim policy tx cert) (record { number = n; around = a; before = b; rows = loops; node = Plain (Release e to into) }))
       (envs : EnvironmentsAgree (claim policy tx cert) c b loops (environment args rs s) (environment brgs qs t)) (g : Agrees (claim policy tx cert) c b s t) where
     abbrev v : Option Value
     v = value_in (environment args rs s) e
@@ -188,12 +189,12 @@ module _ (policy : Tables) (distinct : AreDistinct (labels_of policy)) (tx : Tx)
         elim (cases_Bool (label_of ls to ⊑ level)) [
           | inr out ↦ inr (record {
             tables = g.tables;
-            values = set_same k c n into v w s.vars t.vars others (λ l. absurd (true≢false (sym l ∙ unseen_above level (label_of ls to) (after k n into) h.own.release.target out)));
+            values = set_same k c n into v w s.vars t.vars others (λ l. absurd (true≢false (sym l ∙ unseen_above level (label_of ls to) (after k n into) (release_target k n a b loops e to into h) out)));
             emitted = g.emitted;
             released = seen_not ls c s.released (to, v) out ∙ g.released ∙ sym (seen_not ls c t.released (to, w) out);
           })
           | inl seen ↦ elim (cases_Bool (hi k ⊑ level)) [
-            | inl under ↦ equal (value_same k c b loops (environment args rs s) (environment brgs qs t) envs e (seen_under level (lab k b loops e) (hi k) h.own.release.value under))
+            | inl under ↦ equal (value_same k c b loops (environment args rs s) (environment brgs qs t) envs e (seen_under level (lab k b loops e) (hi k) (release_value k n a b loops e to into h) under))
             | inr above ↦ elim (cases_Bool (same v w)) [
               | inl eq ↦ equal (same_value-true v w eq)
               | inr ne ↦ inl (above, apart seen ne)
@@ -203,7 +204,7 @@ module _ (policy : Tables) (distinct : AreDistinct (labels_of policy)) (tx : Tx)
 
   -- ---- statements
 
-  related_stmt : (n a b : ℕ) (loops : List ℕ) (rs qs : List Tuple) (stmt : Stmt) (s t : Progress) → PlaceRules k (record { number = n; around = a; before = b; rows = loops; node = Plain stmt })
+  related_stmt : (n a b : ℕ) (loops : List ℕ) (rs qs : List Tuple) (stmt : Stmt) (s t : Progress) → Obeys k (record { number = n; around = a; before = b; rows = loops; node = Plain stmt })
       → EnvironmentsAgree k c b loops (environment args rs s) (environment brgs qs t) → AreStored ls schemes s.db → AreStored ls schemes t.db → Agrees k c b s t
       → Related k c n (perform ls schemes args rs stmt s) (perform ls schemes brgs qs stmt t)
   unfolding perform
@@ -211,13 +212,13 @@ module _ (policy : Tables) (distinct : AreDistinct (labels_of policy)) (tx : Tx)
     tables = g.tables;
     values = set_same k c n x (value_in (environment args rs s) e) (value_in (environment brgs qs t) e) s.vars t.vars (λ i other. rest_same n a b loops (Assign x e) s t h g i (λ f. other (let same : x ≡ i = cc in sym same)))
         (λ l. value_same k c b loops (environment args rs s) (environment brgs qs t) envs e
-        (seen_under level (lab k b loops e) (after k n x) (Dominates-trans _ _ _ h.own.assignment (join-right (pc k n) (lab k b loops e))) l));
+        (seen_under level (lab k b loops e) (after k n x) (Dominates-trans _ _ _ (assigned k n a b loops x e h) (join-right (pc k n) (lab k b loops e))) l));
     emitted = g.emitted;
     released = g.released;
   })
   related_stmt n a b loops rs qs (Write_at rel w writing outcome) s t h envs p q g =
       elim (cases_Bool (label_of ls w ⊑ level)) [
-        | inl seen ↦ inr (seen_write n a b loops rel w writing _ _ outcome s t h (write_same k c b loops (environment args rs s) (environment brgs qs t) envs (label_of ls w) seen writing h.own.write.operands) seen g)
+        | inl seen ↦ inr (seen_write n a b loops rel w writing _ _ outcome s t h (write_same k c b loops (environment args rs s) (environment brgs qs t) envs (label_of ls w) seen writing (write_operands k n a b loops rel w writing outcome h)) seen g)
         | inr out ↦ inr (quiet_both (quiet_write policy distinct tx cert none schemes args c n a b loops rel w writing _ outcome s h out p)
             (quiet_write policy distinct tx cert none schemes brgs c n a b loops rel w writing _ outcome t h out q) g)
       ]
@@ -228,7 +229,7 @@ module _ (policy : Tables) (distinct : AreDistinct (labels_of policy)) (tx : Tx)
         values = λ i l. rest_same n a b loops (Emit e label) s t h g i (λ f. absurd cc) l;
         emitted = elim (cases_Bool (label_of ls label ⊑ level)) [
           | inl seen ↦
-              (let eq = value_same k c b loops (environment args rs s) (environment brgs qs t) envs e (seen_under level (lab k b loops e) (label_of ls label) h.own.emit.value seen) in
+              (let eq = value_same k c b loops (environment args rs s) (environment brgs qs t) envs e (seen_under level (lab k b loops e) (label_of ls label) (emit_value k n a b loops e label h) seen) in
               seen_item s.emitted t.emitted _ _ g.emitted (λ i. (label, eq i)))
           | inr out ↦ seen_not ls c s.emitted _ out ∙ g.emitted ∙ sym (seen_not ls c t.emitted _ out)
         ];
@@ -264,12 +265,12 @@ module _ (policy : Tables) (distinct : AreDistinct (labels_of policy)) (tx : Tx)
   related_block scope (If guard one other rest) n a b loops h f rs qs ar s t p q g =
       let l = lab k b loops guard in
       let m : Pair = join (pc k n) l in
-      let later = every_back (PlaceRules k) _ (places (n + 1) n b loops one) _ h.1 refl in
-      let obeys_1 = every_front (PlaceRules k) _ (places (n + 1) n b loops one) _ h.1 refl in
-      let obeys_2 = every_front (PlaceRules k) _ (places (n + 1 + statements one) n b loops other) _ later refl in
-      let obeys_3 = every_back (PlaceRules k) _ (places (n + 1 + statements one) n b loops other) _ later refl in
-      let above_1 = every_front (λ j. Dominates (pc k j) m) _ (directs (n + 1) one) _ h.0.own.branch.body refl in
-      let above_2 = every_back (λ j. Dominates (pc k j) m) _ (directs (n + 1) one) _ h.0.own.branch.body refl in
+      let later = every_back (Obeys k) _ (places (n + 1) n b loops one) _ h.1 refl in
+      let obeys_1 = every_front (Obeys k) _ (places (n + 1) n b loops one) _ h.1 refl in
+      let obeys_2 = every_front (Obeys k) _ (places (n + 1 + statements one) n b loops other) _ later refl in
+      let obeys_3 = every_back (Obeys k) _ (places (n + 1 + statements one) n b loops other) _ later refl in
+      let above_1 = every_front (λ j. Dominates (pc k j) m) _ (directs (n + 1) one) _ (branch_body k n a b loops guard one other h.0) refl in
+      let above_2 = every_back (λ j. Dominates (pc k j) m) _ (directs (n + 1) one) _ (branch_body k n a b loops guard one other h.0) refl in
       let v = holds_in (environment args rs s) guard in
       let w = holds_in (environment brgs qs t) guard in
       let s' = cond v (run_1 one rs s) (run_1 other rs s) in
@@ -281,26 +282,26 @@ module _ (policy : Tables) (distinct : AreDistinct (labels_of policy)) (tx : Tx)
             let e : v ≡ w = ap is_true (eval_same k c b loops (environment args rs s) (environment brgs qs t) (environments b loops rs qs s t ar g) guard seen) in
             subst (λ x. Related k c n s' (cond x (run_2 one qs t) (run_2 other qs t))) e
             (elim v as (λ x. Related k c n (cond x (run_1 one rs s) (run_1 other rs s)) (cond x (run_2 one qs t) (run_2 other qs t))) [
-              | true ↦ related_keeps k c (last b (n + 1) one) n _ _ none h.0.own.branch.ends.0 (related_block scope one (n + 1) n b loops obeys_1 f.1 rs qs ar s t p q g)
-              | false ↦ related_keeps k c (last b (n + 1 + statements one) other) n _ _ none h.0.own.branch.ends.1.0 (related_block scope other (n + 1 + statements one) n b loops obeys_2 f.2 rs qs ar s t p q g)
+              | true ↦ related_keeps k c (last b (n + 1) one) n _ _ none (branch_one k n a b loops guard one other h.0) (related_block scope one (n + 1) n b loops obeys_1 f.1 rs qs ar s t p q g)
+              | false ↦ related_keeps k c (last b (n + 1 + statements one) other) n _ _ none (branch_other k n a b loops guard one other h.0) (related_block scope other (n + 1 + statements one) n b loops obeys_2 f.2 rs qs ar s t p q g)
             ])
         | inr out ↦
             let inner : m ⊑ level ≡ false = unseen_above level l m (join-right (pc k n) l) out in
             inr (quiet_both
             (cond_kept (Quiet k c b n s) v _ _
-            (quiet_then (quiet_block policy distinct tx cert none schemes args c scope one (n + 1) n b loops m obeys_1 above_1 f.1 inner rs s p) (quiet_keeps k c (last b (n + 1) one) n _ none h.0.own.branch.ends.0))
-            (quiet_then (quiet_block policy distinct tx cert none schemes args c scope other (n + 1 + statements one) n b loops m obeys_2 above_2 f.2 inner rs s p) (quiet_keeps k c (last b (n + 1 + statements one) other) n _ none h.0.own.branch.ends.1.0)))
+            (quiet_then (quiet_block policy distinct tx cert none schemes args c scope one (n + 1) n b loops m obeys_1 above_1 f.1 inner rs s p) (quiet_keeps k c (last b (n + 1) one) n _ none (branch_one k n a b loops guard one other h.0)))
+            (quiet_then (quiet_block policy distinct tx cert none schemes args c scope other (n + 1 + statements one) n b loops m obeys_2 above_2 f.2 inner rs s p) (quiet_keeps k c (last b (n + 1 + statements one) other) n _ none (branch_other k n a b loops guard one other h.0))))
             (cond_kept (Quiet k c b n t) w _ _
-            (quiet_then (quiet_block policy distinct tx cert none schemes brgs c scope one (n + 1) n b loops m obeys_1 above_1 f.1 inner qs t q) (quiet_keeps k c (last b (n + 1) one) n _ none h.0.own.branch.ends.0))
-            (quiet_then (quiet_block policy distinct tx cert none schemes brgs c scope other (n + 1 + statements one) n b loops m obeys_2 above_2 f.2 inner qs t q) (quiet_keeps k c (last b (n + 1 + statements one) other) n _ none h.0.own.branch.ends.1.0)))
+            (quiet_then (quiet_block policy distinct tx cert none schemes brgs c scope one (n + 1) n b loops m obeys_1 above_1 f.1 inner qs t q) (quiet_keeps k c (last b (n + 1) one) n _ none (branch_one k n a b loops guard one other h.0)))
+            (quiet_then (quiet_block policy distinct tx cert none schemes brgs c scope other (n + 1 + statements one) n b loops m obeys_2 above_2 f.2 inner qs t q) (quiet_keeps k c (last b (n + 1 + statements one) other) n _ none (branch_other k n a b loops guard one other h.0))))
             g)
       ] in
       related_on k c n _ s' t' _ _ (block_extends ls schemes args rest rs s') (block_extends ls schemes brgs rest qs t')
       (related_block scope rest (n + (1 + statements one + statements other)) a n loops obeys_3 f.3 rs qs ar s' t' p' q') middle
   related_block scope (For name rel label body rest) n a b loops h f rs qs ar s t p q g =
       let m : Pair = join (pc k n) (label_of ls label) in
-      let obeys_1 = every_front (PlaceRules k) _ (places (n + 1) n n (label ∷ loops) body) _ h.1 refl in
-      let obeys_2 = every_back (PlaceRules k) _ (places (n + 1) n n (label ∷ loops) body) _ h.1 refl in
+      let obeys_1 = every_front (Obeys k) _ (places (n + 1) n n (label ∷ loops) body) _ h.1 refl in
+      let obeys_2 = every_back (Obeys k) _ (places (n + 1) n n (label ∷ loops) body) _ h.1 refl in
       let rows_1 = rows ls label (s.db rel) in
       let rows_2 = rows ls label (t.db rel) in
       let inside = in_loop scope name rel in
@@ -317,17 +318,17 @@ module _ (policy : Tables) (distinct : AreDistinct (labels_of policy)) (tx : Tx)
             let e : rows_1 ≡ rows_2 = rows_under ls c label (s.db rel) (t.db rel) (g.tables rel) (below-⊑ ls label c true seen) in
             subst (λ xs. Related k c n s' (for_each f2 xs t)) e
             (related_each f1 f2 k1 k2 (λ row u. block_extends ls schemes args body (row ∷ rs) u) (λ row u. block_extends ls schemes brgs body (row ∷ qs) u)
-            n (λ row u v x y z. related_keeps k c (last n (n + 1) body) n _ _ none h.0.own.row_loop.ends.1.0
+            n (λ row u v x y z. related_keeps k c (last n (n + 1) body) n _ _ none (loop_turn k n a b loops label body h.0)
             (related_block inside body (n + 1) n n (label ∷ loops) obeys_1 f.2 (row ∷ rs) (row ∷ qs) (push_row loops label row rs qs ar) u v x y z))
-            rows_1 s t p q (related_keeps k c b n s t none h.0.own.row_loop.ends.0 (inr g)))
+            rows_1 s t p q (related_keeps k c b n s t none (loop_begin k n a b loops label body h.0) (inr g)))
         | inr out ↦
             let inner : m ⊑ level ≡ false = unseen_above level (label_of ls label) m (join-right (pc k n) (label_of ls label)) out in
             let x = for_each_kept (λ u. Quiet k c b n s u × AreStored ls schemes u.db) f1
-            (λ row u z. (quiet_then z.0 (quiet_then (quiet_block policy distinct tx cert none schemes args c inside body (n + 1) n n (label ∷ loops) m obeys_1 h.0.own.row_loop.body f.2 inner (row ∷ rs) u z.1) (quiet_keeps k c (last n (n + 1) body) n _ none h.0.own.row_loop.ends.1.0)), k1 row u z.1))
-            rows_1 s (quiet_keeps k c b n s none h.0.own.row_loop.ends.0, p) in
+            (λ row u z. (quiet_then z.0 (quiet_then (quiet_block policy distinct tx cert none schemes args c inside body (n + 1) n n (label ∷ loops) m obeys_1 (loop_body k n a b loops label body h.0) f.2 inner (row ∷ rs) u z.1) (quiet_keeps k c (last n (n + 1) body) n _ none (loop_turn k n a b loops label body h.0))), k1 row u z.1))
+            rows_1 s (quiet_keeps k c b n s none (loop_begin k n a b loops label body h.0), p) in
             let y = for_each_kept (λ u. Quiet k c b n t u × AreStored ls schemes u.db) f2
-            (λ row u z. (quiet_then z.0 (quiet_then (quiet_block policy distinct tx cert none schemes brgs c inside body (n + 1) n n (label ∷ loops) m obeys_1 h.0.own.row_loop.body f.2 inner (row ∷ qs) u z.1) (quiet_keeps k c (last n (n + 1) body) n _ none h.0.own.row_loop.ends.1.0)), k2 row u z.1))
-            rows_2 t (quiet_keeps k c b n t none h.0.own.row_loop.ends.0, q) in
+            (λ row u z. (quiet_then z.0 (quiet_then (quiet_block policy distinct tx cert none schemes brgs c inside body (n + 1) n n (label ∷ loops) m obeys_1 (loop_body k n a b loops label body h.0) f.2 inner (row ∷ qs) u z.1) (quiet_keeps k c (last n (n + 1) body) n _ none (loop_turn k n a b loops label body h.0))), k2 row u z.1))
+            rows_2 t (quiet_keeps k c b n t none (loop_begin k n a b loops label body h.0), q) in
             inr (quiet_both x.0 y.0 g)
       ] in
       related_on k c n _ s' t' _ _ (block_extends ls schemes args rest rs s') (block_extends ls schemes brgs rest qs t')

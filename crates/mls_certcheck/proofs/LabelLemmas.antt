@@ -1,16 +1,30 @@
 -- Labels, by place and by number.
-use Rattle.std.proofs.Common.{◌≡◌, ℕ, zero, suc, ◌-◌, ◌<◌, ◌≤◌, Bool, List, [], length, map, get_or, refl, sym, ap, ◌∙◌, arith}
+use Rattle.std.proofs.Common.{◌≡◌, ℕ, zero, suc, ◌-◌, ◌<◌, ◌≤◌, Bool, true, false, ◌&&◌, List, [], ◌∷◌, ◌++◌, length, map, get_or, refl, sym, ap, ◌∙◌, subst, arith}
 use Rattle.std.specs.Prelude.{◌↔◌, IsTrue}
+use Rattle.std.specs.FinSet as set
+use Rattle.std.specs.Ordering.{nat_cmp}
+use Rattle.std.specs.List.{list_all}
 use Rattle.std.specs.Cmp.{both_ways}
-use Rattle.std.proofs.lemmas.List.{get_or_default, get_or-map, get_or_past, length-map}
+use Rattle.std.proofs.lemmas.Bool.{true≢false, and_from, and_parts}
+use Rattle.std.proofs.lemmas.List.{get_or_default, get_or-map, get_or_past, length-map, map-append}
+use Rattle.std.proofs.lemmas.List.Folds.{list_all-append}
 use Rattle.mls_lattice.specs.declared.label.Label.{Label}
 use Rattle.mls_certificate.specs.declared.cert.Cert2.{Cert2}
 use Rattle.mls_certificate.specs.declared.cert.Certificate.TheVariants.{Two}
-use Rattle.mls_certcheck.specs.Rules.{row_after}
-use Rattle.mls_lattice.specs.Lattice.{Pair, Dominates, ◌⊑◌, bottom, cats_of, cats_below, pair_of}
+use Rattle.mls_translang.specs.Tree.{Expr}
+use Rattle.mls_certcheck.specs.Lines.{names}
+use Rattle.mls_certcheck.specs.Rules.{Claim, pc, row_after, slot_label, source_label}
+use Rattle.mls_certcheck.specs.Checks.{is_over, holds}
+use Rattle.mls_certcheck.specs.Walk.{IsJoin}
+use Rattle.mls_certcheck.specs.declared.flow.Slot.{Slot}
+use Rattle.mls_certcheck.specs.declared.flow.Slot.TheVariants.{Statement}
+use Rattle.mls_certcheck.specs.declared.flow.Source.{Source}
+use Rattle.mls_certcheck.specs.declared.flow.Source.TheVariants.{Held, Declared}
+use Rattle.mls_certcheck.specs.declared.flow.Flow.TheVariants.{Into}
+use Rattle.mls_lattice.specs.Lattice.{Pair, Dominates, ◌⊑◌, join, bottom, cats_of, cats_below, pair_of}
 use Rattle.mls_lattice.specs.Labels.{label_of}
 use Rattle.mls_lattice.specs.Policy.{Tables, labels_of}
-use Rattle.mls_lattice.proofs.LatticeLemmas.{⊑-Dominates, Dominates-⊑}
+use Rattle.mls_lattice.proofs.LatticeLemmas.{⊑-Dominates, Dominates-⊑, Dominates-trans, join-left, join-right, join-least}
 
 pub bottom_pair : pair_of (record { rank = 0; cats = 0 }) ≡ bottom
 unfolding cats_of cats_below
@@ -49,3 +63,53 @@ row_first cert zero first = refl
 row_first cert (suc n) first = absurd (omega (arith, first))
 
 pub ruleset row_places = (row_here, row_none, row_first)
+
+-- ---- joins
+
+-- every label dominates the lowest
+pub above_bottom : (p : Pair) → Dominates p bottom
+above_bottom p = record { rank = omega arith; cats = λ j h. absurd (true≢false (sym h ∙ set.contains-empty nat_cmp j)) }
+
+-- a join flows where both do
+join_flows : (p q r : Pair) → (join p q ⊑ r) ≡ (p ⊑ r && q ⊑ r)
+join_flows p q r =
+    both_ways (join p q ⊑ r) (p ⊑ r && q ⊑ r)
+    (λ h. let d = ⊑-Dominates (join p q) r h in
+    and_from _ _ (Dominates-⊑ p r (Dominates-trans r (join p q) p d (join-left p q))) (Dominates-⊑ q r (Dominates-trans r (join p q) q d (join-right p q))))
+    (λ h. let k = and_parts _ _ h in Dominates-⊑ (join p q) r (join-least p q r (⊑-Dominates p r k.0) (⊑-Dominates q r k.1)))
+
+module _ (c : Claim) where
+  pub over_both : (q : Pair) (ss ts : List Source) → is_over c q (ss ++ ts) ≡ (is_over c q ss && is_over c q ts)
+  over_both q ss ts = list_all-append (λ s. source_label c s ⊑ q) ss ts
+
+  pub join_none : (p : Pair) → p ≡ bottom → IsJoin c [] p
+  join_none p e = record { flows = λ q. Dominates-⊑ p q (subst (Dominates q) (sym e) (above_bottom q)) }
+
+  pub join_one : (s : Source) (p : Pair) → p ≡ source_label c s → IsJoin c (s ∷ []) p
+  join_one s p e = record { flows = λ q. ap (λ x. x ⊑ q) e ∙ and_true (source_label c s ⊑ q) }
+    where
+      and_true : (b : Bool) → b ≡ (b && true)
+      and_true true = refl
+      and_true false = refl
+
+  pub join_both : (ss ts : List Source) (p q r : Pair) → IsJoin c ss p → IsJoin c ts q → r ≡ join p q → IsJoin c (ss ++ ts) r
+  join_both ss ts p q r h k e = record { flows = λ x. ap (λ y. y ⊑ x) e ∙ join_flows p q x ∙ (λ i. h.flows x i && k.flows x i) ∙ sym (over_both x ss ts) }
+
+  -- the join of sources flows to slots
+  pub join_into : (ss : List Source) (p : Pair) → IsJoin c ss p → (ts : List Slot) → list_all (λ t. p ⊑ slot_label c t) ts ≡ holds c (Into ts ss)
+  join_into ss p h ts = λ i. list_all (λ t. h.flows (slot_label c t) i) ts
+
+  -- what flows into the statements of a branch, and of a loop
+  pub branch_flows : (n b : ℕ) (rows : List ℕ) (e : Expr) (p l : Pair) (one other : List ℕ) → IsJoin c (names b rows e) l → p ≡ join (pc c n) l
+      → (list_all (λ t. p ⊑ slot_label c t) (map (λ m. Statement m) one) && list_all (λ t. p ⊑ slot_label c t) (map (λ m. Statement m) other)) ≡ holds c (Into (map (λ m. Statement m) (one ++ other)) (Held (Statement n) ∷ names b rows e))
+  branch_flows n b rows e p l one other h is =
+      sym (list_all-append (λ t. p ⊑ slot_label c t) (map (λ m. Statement m) one) (map (λ m. Statement m) other))
+      ∙ ap (list_all (λ t. p ⊑ slot_label c t)) (sym (map-append (λ m. Statement m) one other))
+      ∙ join_into (Held (Statement n) ∷ names b rows e) p (join_both (Held (Statement n) ∷ []) (names b rows e) (pc c n) l p (join_one (Held (Statement n)) (pc c n) refl) h is) (map (λ m. Statement m) (one ++ other))
+
+  pub loop_flows : (n label : ℕ) (p : Pair) (inner : List ℕ) → p ≡ join (pc c n) (label_of c.labels label)
+      → list_all (λ t. p ⊑ slot_label c t) (map (λ m. Statement m) inner) ≡ holds c (Into (map (λ m. Statement m) inner) (Held (Statement n) ∷ Declared label ∷ []))
+  loop_flows n label p inner is =
+      join_into (Held (Statement n) ∷ Declared label ∷ []) p (join_both (Held (Statement n) ∷ []) (Declared label ∷ []) (pc c n) (label_of c.labels label) p (join_one (Held (Statement n)) (pc c n) refl) (join_one (Declared label) (label_of c.labels label) refl) is) (map (λ m. Statement m) inner)
+
+pub ruleset joins = (join_none, join_one, join_both)

@@ -1,8 +1,10 @@
+pub mod EachLemmas
 pub mod RowLemmas
 pub mod LabelLemmas
 pub mod WalkLemmas
 pub mod RulesLemmas
 pub mod CheckLemmas
+pub mod LineLemmas
 pub mod PlaceLemmas
 pub mod QuietLemmas
 pub mod ScopeLemmas

@@ -1,36 +1,125 @@
 -- A certificate of version 1 as one of version 2.
-use Rattle.std.proofs.Common.{◌≡◌, ℕ, zero, suc, ◌+◌, ◌<◌, ◌≤◌, List, [], ◌∷◌, ◌++◌, length, map, Option, Some, None, refl, sym, ap, ◌∙◌, subst, inl, inr, arith}
-use Rattle.std.proofs.Recursive.{every_front, every_back}
+use Rattle.std.proofs.Common.{◌≡◌, ℕ, zero, suc, ◌+◌, ◌<◌, ◌≤◌, List, [], ◌∷◌, length, map, Option, Some, None, refl, sym, ap, ◌∙◌, subst, inl, inr, arith}
 use Rattle.std.specs.Prelude.{nat_lt, slice_index_or}
-use Rattle.std.specs.Option.{IfSome}
-use Rattle.std.specs.List.{AllByRecursion}
+use Rattle.std.specs.List.{flat_map, AllByRecursion}
 use Rattle.std.proofs.lemmas.Bool.{cases_Bool, ltb-true, ltb-false}
 use Rattle.std.proofs.lemmas.List.{get_or_past}
 use Rattle.mls_lattice.specs.declared.label.Label.{Label}
-use Rattle.mls_lattice.specs.Lattice.{Pair, Dominates, join, bottom, pair_of}
+use Rattle.mls_lattice.specs.Lattice.{Pair, Dominates, bottom, pair_of}
 use Rattle.mls_lattice.specs.Labels.{label_of}
-use Rattle.mls_lattice.specs.Policy.{Tables}
-use Rattle.mls_lattice.proofs.LatticeLemmas.{Dominates-refl, Dominates-trans, join-left, join-right, join-least}
-use Rattle.mls_translang.specs.Tree.{Expr, Known, Null, Var, Param, Field, No, Op, Assign, Write_at, Release, Emit, Block, End, Do, If, For, statements}
+use Rattle.mls_lattice.specs.Policy.{Name, Tables}
+use Rattle.mls_lattice.proofs.LatticeLemmas.{Dominates-refl, Dominates-trans}
+use Rattle.mls_translang.specs.Tree.{Writing, Inserting, Updating, Deleting, Stmt, Assign, Write_at, Release, Emit, Block, End, Do, If, For, statements}
+use Rattle.mls_translang.specs.declared.tx.Parameter.{Parameter as Given}
 use Rattle.mls_translang.specs.Tx.{Tx}
 use Rattle.mls_certificate.specs.declared.cert.Cert.{Cert}
 use Rattle.mls_certificate.specs.declared.cert.Cert2.{Cert2}
 use Rattle.mls_certificate.specs.declared.cert.Certificate.TheVariants.{One, Two}
 use Rattle.mls_certcheck.specs.Place.{Node, Plain, Branching, Looping, Place, places}
-use Rattle.mls_certcheck.specs.Rules.{Claim, claim, after, pc, lab, own_row, AreUnder, Keeps, operands}
+use Rattle.mls_certcheck.specs.Lines.{Line, by, outcome_flows, write, order, rest, within_ends, stmt_lines, own_lines, lines_at, tx_lines, all_places, lines}
+use Rattle.mls_certcheck.specs.Rules.{Claim, claim, hi, after, pc, slot_label, source_label, IsOver, Holds}
 use Rattle.mls_certcheck.specs.Laws.{IsLift, FlatCertificatesLift}
-use Rattle.mls_certcheck.proofs.RulesLemmas.{OwnRules, PlaceRules, all_map, rules_of, rules_everywhere}
-use Rattle.mls_certcheck.proofs.PlaceLemmas.{BlockObeys, above_bottom}
-
-all_append : {A : Type 0} (P : A → Type 0) (xs ys : List A) → AllByRecursion P xs → AllByRecursion P ys → AllByRecursion P (xs ++ ys)
-all_append P [] ys h k = k
-all_append P (x ∷ xs) ys h k = (h.0, all_append P xs ys h.1 k)
+use Rattle.mls_certcheck.specs.declared.flow.Slot.{Slot}
+use Rattle.mls_certcheck.specs.declared.flow.Slot.TheVariants.{Variable, Statement}
+use Rattle.mls_certcheck.specs.declared.flow.Source.{Source}
+use Rattle.mls_certcheck.specs.declared.flow.Source.TheVariants.{Held, Parameter, Declared}
+use Rattle.mls_certcheck.specs.declared.flow.Flow.{Flow}
+use Rattle.mls_certcheck.specs.declared.flow.Flow.TheVariants.{Into, Kept, Within, Under}
+use Rattle.mls_certcheck.specs.declared.refusal.Rule.{Rule}
+use Rattle.mls_certcheck.proofs.EachLemmas.{all_both, all_map, all_zip, each_flat}
+use Rattle.mls_certcheck.proofs.LabelLemmas.{above_bottom}
 
 -- rows that are all one
 same_row : (row : List Label) (rows : List (List Label)) (n : ℕ) → AllByRecursion (λ r. r ≡ row) rows → n < length rows → slice_index_or rows n [] ≡ row
 same_row row [] n h lt = absurd (omega (arith, lt))
 same_row row (r ∷ rows) zero h lt = h.0
 same_row row (r ∷ rows) (suc n) h lt = same_row row rows n h.1 (omega (arith, lt))
+
+-- ---- each line bounds what holds after a statement that there is
+
+-- one of so many statements
+record IsNumber (count n : ℕ) : Type 0 where
+  pub least : 1 ≤ n
+  pub most : n ≤ count
+
+abbrev IsAfter : ℕ → Slot → Type 0
+IsAfter count (Variable n x) = IsNumber count n
+IsAfter count (Statement n) = Unit {0}
+
+abbrev Bounds : ℕ → Flow → Type 0
+Bounds count (Into targets sources) = AllByRecursion (IsAfter count) targets
+Bounds count (Kept m n but) = IsNumber count n
+Bounds count (Within limit sources) = Unit {0}
+Bounds count (Under sources) = Unit {0}
+
+module _ (count : ℕ) where
+  abbrev BoundsOf : Line → Type 0
+  BoundsOf l = Bounds count l.flow
+
+  by_each : (n : ℕ) (r : Rule) (fs : List Flow) → AllByRecursion (Bounds count) fs → AllByRecursion BoundsOf (by n r fs)
+  by_each n r [] h = tt
+  by_each n r (f ∷ fs) h = (h.0, by_each n r fs h.1)
+
+  statements_after : (ms : List ℕ) → AllByRecursion (IsAfter count) (map (λ m. Statement m) ms)
+  statements_after [] = tt
+  statements_after (m ∷ ms) = (tt, statements_after ms)
+
+  module _ (n : ℕ) (is : IsNumber count n) where
+    ends_bound : (ms : List ℕ) → AllByRecursion (Bounds count) (map (λ m. Kept m n None) ms)
+    ends_bound [] = tt
+    ends_bound (m ∷ ms) = (is, ends_bound ms)
+
+    outcome_bounds : (w : ℕ) (o : Option ℕ) → AllByRecursion (Bounds count) (outcome_flows n w o)
+    outcome_bounds w None = tt
+    outcome_bounds w (Some x) = ((is, tt), tt)
+
+    order_bounds : (w : ℕ) (writing : Writing) → AllByRecursion BoundsOf (order n w writing)
+    order_bounds w (Inserting key values) = tt
+    order_bounds w (Updating key key_class from sets) = (tt, (tt, tt))
+    order_bounds w (Deleting key key_class) = (tt, tt)
+
+    stmt_bounds : (b : ℕ) (rows : List ℕ) (stmt : Stmt) → AllByRecursion BoundsOf (stmt_lines n b rows stmt)
+    stmt_bounds b rows (Assign x e) = ((is, tt), tt)
+    stmt_bounds b rows (Write_at rel w writing outcome) =
+        all_both BoundsOf (write n b rows w writing outcome) (order n w writing) (tt, (tt, by_each n _ (outcome_flows n w outcome) (outcome_bounds w outcome))) (order_bounds w writing)
+    stmt_bounds b rows (Release e to into) = (tt, (tt, ((is, tt), tt)))
+    stmt_bounds b rows (Emit e label) = (tt, (tt, tt))
+
+    own_bounds : (b : ℕ) (rows : List ℕ) (node : Node) → AllByRecursion BoundsOf (own_lines n b rows node)
+    own_bounds b rows (Plain stmt) = all_both BoundsOf (stmt_lines n b rows stmt) (rest n b stmt) (stmt_bounds b rows stmt) (is, tt)
+    own_bounds b rows (Branching guard inner ends) = (statements_after inner, by_each n _ (map (λ m. Kept m n None) ends) (ends_bound ends))
+    own_bounds b rows (Looping label inner ends) = (tt, (statements_after inner, by_each n _ (map (λ m. Kept m n None) ends) (ends_bound ends)))
+
+  abbrev IsPlace : Place → Type 0
+  IsPlace p = IsNumber count p.number
+
+  are_places : (block : Block) (n a b : ℕ) (rows : List ℕ) → 1 ≤ n → n + statements block ≤ count + 1 → AllByRecursion IsPlace (places n a b rows block)
+  are_places End n a b rows least most = tt
+  are_places (Do stmt rest) n a b rows least most = (record { least = least; most = omega (arith, most) }, are_places rest (n + 1) a n rows (omega (arith, least)) (omega (arith, most)))
+  are_places (If guard one other rest) n a b rows least most = (
+    record { least = least; most = omega (arith, most) },
+    all_both IsPlace (places (n + 1) n b rows one) _ (are_places one (n + 1) n b rows (omega (arith, least)) (omega (arith, most)))
+        (all_both IsPlace (places (n + 1 + statements one) n b rows other) _ (are_places other (n + 1 + statements one) n b rows (omega (arith, least)) (omega (arith, most)))
+        (are_places rest (n + (1 + statements one + statements other)) a n rows (omega (arith, least)) (omega (arith, most)))),
+  )
+  are_places (For row rel label body rest) n a b rows least most = (
+    record { least = least; most = omega (arith, most) },
+    all_both IsPlace (places (n + 1) n n (label ∷ rows) body) _ (are_places body (n + 1) n n (label ∷ rows) (omega (arith, least)) (omega (arith, most)))
+        (are_places rest (n + (1 + statements body)) a n rows (omega (arith, least)) (omega (arith, most))),
+  )
+
+  lines_bound : (tx : Tx) → statements tx.body ≡ count → AllByRecursion BoundsOf (lines tx)
+  lines_bound tx all =
+      all_both BoundsOf (tx_lines tx) (flat_map (lines_at (length tx.vars)) (all_places tx))
+      (tt, by_each 0 _ (flat_map (λ p. within_ends p.1.label) tx.params) (each_flat (Bounds count) (λ p. within_ends p.1.label) tx.params (ends tx.params)))
+      (each_flat BoundsOf (lines_at (length tx.vars)) (all_places tx) (all_map IsPlace (λ p. AllByRecursion BoundsOf (lines_at (length tx.vars) p)) (λ p is. (tt, ((tt, tt), own_bounds p.number is p.before p.rows p.node)))
+      (all_places tx) (are_places tx.body 1 0 0 [] (omega arith) (omega (arith, all)))))
+    where
+      ends : (ps : List (Name × Given)) → AllByRecursion (λ p. AllByRecursion (Bounds count) (within_ends p.1.label)) ps
+      ends [] = tt
+      ends (p ∷ ps) = ((tt, (tt, tt)), ends ps)
+
+-- ---- the labels of both
 
 module _ (policy : Tables) (tx : Tx) (one : Cert) (two : Cert2) (lift : IsLift one two) where
   abbrev k : Claim
@@ -39,18 +128,9 @@ module _ (policy : Tables) (tx : Tx) (one : Cert) (two : Cert2) (lift : IsLift o
   abbrev j : Claim
   j = claim policy tx (Two two)
 
-  -- a statement that has a row
-  pub record IsNumber (n : ℕ) : Type 0 where
-    pub least : 1 ≤ n
-    pub most : n ≤ length two.rows
-
-  own_same : (n : ℕ) → IsNumber n → own_row (Two two) n ≡ one.var_labels
-  own_same zero h = absurd (omega (arith, h.least))
-  own_same (suc n) h = same_row one.var_labels two.rows n lift.rows (omega (arith, h.most))
-
-  after_same : (n x : ℕ) → IsNumber n → after j n x ≡ after k n x
+  after_same : (n x : ℕ) → IsNumber (length two.rows) n → after j n x ≡ after k n x
   after_same zero x h = absurd (omega (arith, h.least))
-  after_same (suc n) x h = ap (λ row. slice_index_or (map pair_of row) x bottom) (own_same (suc n) h)
+  after_same (suc n) x h = ap (λ row. slice_index_or (map pair_of row) x bottom) (same_row one.var_labels two.rows n lift.rows (omega (arith, h.most)))
 
   after_under : (n x : ℕ) → Dominates (after k n x) (after j n x)
   after_under zero x = above_bottom (after k zero x)
@@ -58,7 +138,7 @@ module _ (policy : Tables) (tx : Tx) (one : Cert) (two : Cert2) (lift : IsLift o
       elim (cases_Bool (nat_lt n (length two.rows))) [
         | inl t ↦
             (let within = ltb-true n (length two.rows) t in
-            let is : IsNumber (suc n) = record { least = omega arith; most = omega (arith, within) } in
+            let is : IsNumber (length two.rows) (suc n) = record { least = omega arith; most = omega (arith, within) } in
             subst (λ p. Dominates (after k (suc n) x) p) (sym (after_same (suc n) x is)) (Dominates-refl (after k (suc n) x)))
         | inr f ↦
             (let past : slice_index_or two.rows n [] ≡ [] = get_or_past two.rows n [] (ltb-false n (length two.rows) f) in
@@ -69,147 +149,26 @@ module _ (policy : Tables) (tx : Tx) (one : Cert) (two : Cert2) (lift : IsLift o
   pc_same zero = refl
   pc_same (suc n) = ap (λ labels. slice_index_or (map pair_of labels) n bottom) lift.pcs
 
-  lab_under : (b : ℕ) (rows : List ℕ) (e : Expr) → Dominates (lab k b rows e) (lab j b rows e)
-  lab_under b rows (Known v) = Dominates-refl bottom
-  lab_under b rows Null = Dominates-refl bottom
-  lab_under b rows (Var x) = after_under b x
-  lab_under b rows (Param i) = Dominates-refl _
-  lab_under b rows (Field depth i) = Dominates-refl _
-  lab_under b rows (No e) = lab_under b rows e
-  lab_under b rows (Op op e f) =
-      join-least (lab j b rows e) (lab j b rows f) (lab k b rows (Op op e f)) (Dominates-trans _ _ _ (join-left (lab k b rows e) (lab k b rows f)) (lab_under b rows e))
-      (Dominates-trans _ _ _ (join-right (lab k b rows e) (lab k b rows f)) (lab_under b rows f))
+  slot_same : (t : Slot) → IsAfter (length two.rows) t → slot_label j t ≡ slot_label k t
+  slot_same (Variable n x) is = after_same n x is
+  slot_same (Statement n) is = pc_same n
 
-  -- ---- what is said of labels of the one is said of labels of the other
+  source_under : (s : Source) → Dominates (source_label k s) (source_label j s)
+  source_under (Held (Variable n x)) = after_under n x
+  source_under (Held (Statement n)) = subst (λ p. Dominates (pc k n) p) (sym (pc_same n)) (Dominates-refl (pc k n))
+  source_under (Parameter i) = Dominates-refl _
+  source_under (Declared label) = Dominates-refl _
 
-  after_over : (n x : ℕ) (p : Pair) → IsNumber n → Dominates (after k n x) p → Dominates (after j n x) p
-  after_over n x p is h = subst (λ q. Dominates q p) (sym (after_same n x is)) h
+  over_lifts : (p q : Pair) (ss : List Source) → q ≡ p → IsOver k p ss → IsOver j q ss
+  over_lifts p q ss e h =
+      subst (λ r. IsOver j r ss) (sym e) (all_map (λ s. Dominates p (source_label k s)) (λ s. Dominates p (source_label j s)) (λ s d. Dominates-trans p (source_label k s) (source_label j s) d (source_under s)) ss h)
 
-  pc_under : (n : ℕ) (p : Pair) → Dominates p (pc k n) → Dominates p (pc j n)
-  pc_under n p h = subst (λ q. Dominates p q) (sym (pc_same n)) h
-
-  pc_over : (n : ℕ) (p : Pair) → Dominates (pc k n) p → Dominates (pc j n) p
-  pc_over n p h = subst (λ q. Dominates q p) (sym (pc_same n)) h
-
-  lab_below : (b : ℕ) (rows : List ℕ) (e : Expr) (p : Pair) → Dominates p (lab k b rows e) → Dominates p (lab j b rows e)
-  lab_below b rows e p h = Dominates-trans p (lab k b rows e) (lab j b rows e) h (lab_under b rows e)
-
-  keeps_over : (m n : ℕ) → IsNumber n → Keeps k m n → Keeps j m n
-  keeps_over m n is h x lt = after_over n x (after j m x) is (Dominates-trans _ _ _ (h x lt) (after_under m x))
-
-  ends_over : (n : ℕ) (ends : List ℕ) → IsNumber n → AllByRecursion (λ m. Keeps k m n) ends → AllByRecursion (λ m. Keeps j m n) ends
-  ends_over n ends is h = all_map (λ m. Keeps k m n) (λ m. Keeps j m n) (λ m. keeps_over m n is) ends h
-
-  -- a join with the label of the statement itself
-  joined : (n : ℕ) (q r s : Pair) → Dominates s (join (pc k n) q) → Dominates q r → Dominates s (join (pc j n) r)
-  joined n q r s h d =
-      join-least (pc j n) r s (pc_under n s (Dominates-trans _ _ _ h (join-left (pc k n) q))) (Dominates-trans _ _ _ h (Dominates-trans _ _ _ (join-right (pc k n) q) d))
-
-  inner_over : (n : ℕ) (q r : Pair) (inner : List ℕ) → Dominates q r → AllByRecursion (λ m. Dominates (pc k m) (join (pc k n) q)) inner → AllByRecursion (λ m. Dominates (pc j m) (join (pc j n) r)) inner
-  inner_over n q r inner d h = all_map (λ m. Dominates (pc k m) (join (pc k n) q)) (λ m. Dominates (pc j m) (join (pc j n) r)) (λ m g. pc_over m _ (joined n q r (pc k m) g d)) inner h
-
-  outcome_over : (n : ℕ) (outcome : Option ℕ) (p : Pair) → IsNumber n → IfSome outcome (λ x. Dominates (after k n x) p) → IfSome outcome (λ x. Dominates (after j n x) p)
-  outcome_over n None p is h = tt
-  outcome_over n (Some x) p is h = after_over n x p is h
-
-  -- ---- statements
-
-  own_lift : (n b : ℕ) (rows : List ℕ) (node : Node) → IsNumber n → OwnRules k n b rows node → OwnRules j n b rows node
-  own_lift n b rows (Plain (Assign x e)) is h = record {
-    assignment = after_over n x _ is (joined n (lab k b rows e) (lab j b rows e) (after k n x) h.assignment (lab_under b rows e));
-    branch = tt;
-    row_loop = tt;
-    write = tt;
-    order = tt;
-    release = tt;
-    emit = tt;
-    rest = λ y lt other. after_over n y _ is (Dominates-trans _ _ _ (h.rest y lt other) (after_under b y));
-  }
-  own_lift n b rows (Plain (Write_at rel w writing outcome)) is h = record {
-    assignment = tt;
-    branch = tt;
-    row_loop = tt;
-    write = record {
-      context = pc_under n (label_of k.labels w) h.write.context;
-      operands = all_map (λ e. Dominates (label_of k.labels w) (lab k b rows e)) (λ e. Dominates (label_of k.labels w) (lab j b rows e)) (λ e g. lab_below b rows e _ g) (operands writing) h.write.operands;
-      ceiling = h.write.ceiling;
-      into = outcome_over n outcome (label_of k.labels w) is h.write.into;
-    };
-    order = h.order;
-    release = tt;
-    emit = tt;
-    rest = λ y lt other. after_over n y _ is (Dominates-trans _ _ _ (h.rest y lt other) (after_under b y));
-  }
-  own_lift n b rows (Plain (Release e to into)) is h = record {
-    assignment = tt;
-    branch = tt;
-    row_loop = tt;
-    write = tt;
-    order = tt;
-    release = record { context = pc_under n (label_of k.labels to) h.release.context; value = lab_below b rows e _ h.release.value; target = after_over n into _ is h.release.target };
-    emit = tt;
-    rest = λ y lt other. after_over n y _ is (Dominates-trans _ _ _ (h.rest y lt other) (after_under b y));
-  }
-  own_lift n b rows (Plain (Emit e label)) is h = record {
-    assignment = tt;
-    branch = tt;
-    row_loop = tt;
-    write = tt;
-    order = tt;
-    release = tt;
-    emit = record { context = pc_under n (label_of k.labels label) h.emit.context; value = lab_below b rows e _ h.emit.value; ceiling = h.emit.ceiling };
-    rest = λ y lt other. after_over n y _ is (Dominates-trans _ _ _ (h.rest y lt other) (after_under b y));
-  }
-  own_lift n b rows (Branching guard inner ends) is h = record {
-    assignment = tt;
-    branch = record { body = inner_over n (lab k b rows guard) (lab j b rows guard) inner (lab_under b rows guard) h.branch.body; ends = ends_over n ends is h.branch.ends };
-    row_loop = tt;
-    write = tt;
-    order = tt;
-    release = tt;
-    emit = tt;
-    rest = tt;
-  }
-  own_lift n b rows (Looping label inner ends) is h = record {
-    assignment = tt;
-    branch = tt;
-    row_loop = record { ceiling = h.row_loop.ceiling; body = inner_over n (label_of k.labels label) (label_of k.labels label) inner (Dominates-refl _) h.row_loop.body; ends = ends_over n ends is h.row_loop.ends };
-    write = tt;
-    order = tt;
-    release = tt;
-    emit = tt;
-    rest = tt;
-  }
-
-  module _ (under : AreUnder (claim policy tx (One one)) one.var_labels) where
-    place_lift : (p : Place) → IsNumber p.number → PlaceRules k p → PlaceRules j p
-    place_lift p is h = record {
-      ceiling = (pc_under p.number _ h.ceiling.0, subst (λ row. AreUnder j row) (sym (own_same p.number is)) under);
-      context = pc_over p.number _ (pc_under p.around _ h.context);
-      own = own_lift p.number p.before p.rows p.node is h.own;
-    }
-
-    lift_block : (block : Block) (n a b : ℕ) (rows : List ℕ) → 1 ≤ n → n + statements block ≤ length two.rows + 1 → BlockObeys k n a b rows block → BlockObeys j n a b rows block
-    lift_block End n a b rows least most h = tt
-    lift_block (Do stmt rest) n a b rows least most h =
-        (place_lift _ (record { least = least; most = omega (arith, most) }) h.0, lift_block rest (n + 1) a n rows (omega (arith, least)) (omega (arith, most)) h.1)
-    lift_block (If guard first other rest) n a b rows least most h =
-        let later = every_back (PlaceRules k) _ (places (n + 1) n b rows first) _ h.1 refl in
-        let obeys_1 = every_front (PlaceRules k) _ (places (n + 1) n b rows first) _ h.1 refl in
-        let obeys_2 = every_front (PlaceRules k) _ (places (n + 1 + statements first) n b rows other) _ later refl in
-        let obeys_3 = every_back (PlaceRules k) _ (places (n + 1 + statements first) n b rows other) _ later refl in (
-          place_lift _ (record { least = least; most = omega (arith, most) }) h.0,
-          all_append (PlaceRules j) (places (n + 1) n b rows first) _ (lift_block first (n + 1) n b rows (omega (arith, least)) (omega (arith, most)) obeys_1)
-              (all_append (PlaceRules j) (places (n + 1 + statements first) n b rows other) _ (lift_block other (n + 1 + statements first) n b rows (omega (arith, least)) (omega (arith, most)) obeys_2)
-              (lift_block rest (n + (1 + statements first + statements other)) a n rows (omega (arith, least)) (omega (arith, most)) obeys_3)),
-        )
-    lift_block (For name rel label body rest) n a b rows least most h =
-        let obeys_1 = every_front (PlaceRules k) _ (places (n + 1) n n (label ∷ rows) body) _ h.1 refl in
-        let obeys_2 = every_back (PlaceRules k) _ (places (n + 1) n n (label ∷ rows) body) _ h.1 refl in (
-          place_lift _ (record { least = least; most = omega (arith, most) }) h.0,
-          all_append (PlaceRules j) (places (n + 1) n n (label ∷ rows) body) _ (lift_block body (n + 1) n n (label ∷ rows) (omega (arith, least)) (omega (arith, most)) obeys_1)
-              (lift_block rest (n + (1 + statements body)) a n rows (omega (arith, least)) (omega (arith, most)) obeys_2),
-        )
+  flow_lifts : (f : Flow) → Bounds (length two.rows) f → Holds k f → Holds j f
+  flow_lifts (Into ts ss) is h =
+      all_zip (IsAfter (length two.rows)) (λ t. IsOver k (slot_label k t) ss) (λ t. IsOver j (slot_label j t) ss) (λ t at g. over_lifts (slot_label k t) (slot_label j t) ss (slot_same t at) g) ts is h
+  flow_lifts (Kept m n but) is h = λ x lt other. subst (λ p. Dominates p (after j m x)) (sym (after_same n x is)) (Dominates-trans _ _ _ (h x lt other) (after_under m x))
+  flow_lifts (Within limit ss) is h = over_lifts (label_of k.labels limit) (label_of k.labels limit) ss refl h
+  flow_lifts (Under ss) is h = over_lifts (hi k) (hi k) ss refl h
 
 pub lift_rules : FlatCertificatesLift
 lift_rules policy tx one two lift rules =
@@ -217,5 +176,8 @@ lift_rules policy tx one two lift rules =
     let j = claim policy tx (Two two) in
     let pcs : length two.pc_labels ≡ statements tx.body = ap length lift.pcs ∙ rules.stmt_count in
     let rows : length two.rows ≡ statements tx.body = lift.count ∙ pcs in
-    rules_of j (lift_block policy tx one two lift rules.var_ceiling tx.body 1 0 0 [] (omega arith) (omega (arith, rows)) (rules_everywhere k rules))
-    (all_map (λ row. row ≡ one.var_labels) (λ row. length row ≡ length tx.vars) (λ row e. ap length e ∙ rules.var_count.0) two.rows lift.rows) (rows, pcs) tt rules.params
+    record {
+      var_count = all_map (λ row. row ≡ one.var_labels) (λ row. length row ≡ length tx.vars) (λ row e. ap length e ∙ rules.var_count.0) two.rows lift.rows;
+      stmt_count = (rows, pcs);
+      lines = all_zip (BoundsOf (length two.rows)) (λ l. Holds k l.flow) (λ l. Holds j l.flow) (λ l. flow_lifts policy tx one two lift l.flow) (lines tx) (lines_bound (length two.rows) tx (sym rows)) rules.lines;
+    }

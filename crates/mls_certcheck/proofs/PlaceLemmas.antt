@@ -1,8 +1,6 @@
 -- What the rules say of a block, statement by statement.
 use Rattle.std.proofs.Common.{◌≡◌, ℕ, zero, suc, ◌+◌, ◌<◌, ◌≤◌, Bool, true, false, List, [], ◌∷◌, length, map, refl, sym, ◌∙◌, subst, inl, inr, arith}
 use Rattle.std.proofs.Recursive.{every_back}
-use Rattle.std.specs.FinSet as set
-use Rattle.std.specs.Ordering.{nat_cmp}
 use Rattle.std.specs.List.{AllByRecursion}
 use Rattle.std.specs.Prelude.{nat_lt, slice_index_or}
 use Rattle.std.proofs.lemmas.Bool.{true≢false, false_from_ne_true, cases_Bool, ltb-true, ltb-false}
@@ -14,9 +12,10 @@ use Rattle.mls_lattice.proofs.LatticeLemmas.{⊑-Dominates, Dominates-⊑, Domin
 use Rattle.mls_translang.specs.Tree.{Block, End, Do, If, For, statements}
 use Rattle.mls_certificate.specs.declared.cert.Certificate.{Certificate}
 use Rattle.mls_certificate.specs.declared.cert.Certificate.TheVariants.{One, Two}
-use Rattle.mls_certcheck.specs.Place.{directs, places}
+use Rattle.mls_certcheck.specs.Place.{Plain, directs, branching, looping, places}
 use Rattle.mls_certcheck.specs.Rules.{Claim, pc, after, var_rows, row_after}
-use Rattle.mls_certcheck.proofs.RulesLemmas.{PlaceRules}
+use Rattle.mls_certcheck.proofs.LabelLemmas.{above_bottom}
+use Rattle.mls_certcheck.proofs.LineLemmas.{Obeys, runs_in}
 
 -- ---- labels that c does not dominate
 
@@ -34,16 +33,12 @@ pub ⊑-below : (ls : Labels) (a c : ℕ) (b : Bool) → below ls a c ≡ b → 
 unfolding below
 ⊑-below ls a c b h = h
 
--- every label dominates the lowest
-pub above_bottom : (p : Pair) → Dominates p bottom
-above_bottom p = record { rank = omega arith; cats = λ j h. absurd (true≢false (sym h ∙ set.contains-empty nat_cmp j)) }
-
 -- ---- statements
 
 module _ (k : Claim) where
   -- the rules hold at each statement of a block, the first of which is n, in the statement a, after the statement b, and in these loops
   abbrev pub BlockObeys : ℕ → ℕ → ℕ → List ℕ → Block → Type 0
-  BlockObeys n a b rows block = AllByRecursion (PlaceRules k) (places n a b rows block)
+  BlockObeys n a b rows block = AllByRecursion (Obeys k) (places n a b rows block)
 
   -- the label of each of its own statements dominates l
   abbrev pub AreAbove : Pair → ℕ → Block → Type 0
@@ -52,14 +47,14 @@ module _ (k : Claim) where
   -- its own statements run only where what is around it runs
   pub around_above : (block : Block) (n a b : ℕ) (rows : List ℕ) → BlockObeys n a b rows block → AreAbove (pc k a) n block
   around_above End n a b rows h = tt
-  around_above (Do stmt rest) n a b rows h = (h.0.context, around_above rest (n + 1) a n rows h.1)
+  around_above (Do stmt rest) n a b rows h = (runs_in k n a b rows (Plain stmt) h.0, around_above rest (n + 1) a n rows h.1)
   around_above (If guard one other rest) n a b rows h = (
-    h.0.context,
+    runs_in k n a b rows (branching n b guard one other) h.0,
     around_above rest (n + (1 + statements one + statements other)) a n rows
-        (every_back (PlaceRules k) _ (places (n + 1 + statements one) n b rows other) _ (every_back (PlaceRules k) _ (places (n + 1) n b rows one) _ h.1 refl) refl),
+        (every_back (Obeys k) _ (places (n + 1 + statements one) n b rows other) _ (every_back (Obeys k) _ (places (n + 1) n b rows one) _ h.1 refl) refl),
   )
   around_above (For row rel label body rest) n a b rows h =
-      (h.0.context, around_above rest (n + (1 + statements body)) a n rows (every_back (PlaceRules k) _ (places (n + 1) n n (label ∷ rows) body) _ h.1 refl))
+      (runs_in k n a b rows (looping n b label body) h.0, around_above rest (n + (1 + statements body)) a n rows (every_back (Obeys k) _ (places (n + 1) n n (label ∷ rows) body) _ h.1 refl))
 
 -- ---- variables
 

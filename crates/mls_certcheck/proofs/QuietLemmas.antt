@@ -27,8 +27,9 @@ use Rattle.mls_meaning.specs.Secure.{AreStored, seen_items}
 use Rattle.mls_meaning.proofs.KeepingLemmas.{cond_kept, for_each_kept, perform_stored, block_stored}
 use Rattle.mls_certificate.specs.declared.cert.Certificate.{Certificate}
 use Rattle.mls_certcheck.specs.Place.{Plain, directs, last, places}
-use Rattle.mls_certcheck.specs.Rules.{Claim, claim, pc, lab, after, target, Keeps}
-use Rattle.mls_certcheck.proofs.RulesLemmas.{PlaceRules}
+use Rattle.mls_certcheck.specs.Lines.{target}
+use Rattle.mls_certcheck.specs.Rules.{Claim, claim, pc, after}
+use Rattle.mls_certcheck.proofs.LineLemmas.{lab, Keeps, Obeys, rests, assigned, write_context, write_into, release_context, release_target, emit_context, branch_body, branch_one, branch_other, loop_body, loop_begin, loop_turn}
 use Rattle.mls_certcheck.proofs.PlaceLemmas.{unseen_above, seen_under, below-⊑, BlockObeys, AreAbove, HasNoMore, keeps_all}
 
 -- two runs look alike to c so far: the low tuples, the variables of labels that it dominates after the statement n, and the items
@@ -107,9 +108,9 @@ module _ (policy : Tables) (distinct : AreDistinct (labels_of policy)) (tx : Tx)
   level = label_of ls c
 
   -- a variable but the target, after a statement
-  pub rest_seen : (n a b : ℕ) (loops : List ℕ) (stmt : Stmt) → PlaceRules k (record { number = n; around = a; before = b; rows = loops; node = Plain stmt })
+  pub rest_seen : (n a b : ℕ) (loops : List ℕ) (stmt : Stmt) → Obeys k (record { number = n; around = a; before = b; rows = loops; node = Plain stmt })
       → (i : ℕ) → (target stmt ≡ Some i → ⊥) → after k n i ⊑ level ≡ true → after k b i ⊑ level ≡ true
-  rest_seen n a b loops stmt h i other v = seen_under level (after k b i) (after k n i) (keeps_all k none b n i (λ lt. h.own.rest i lt other)) v
+  rest_seen n a b loops stmt h i other v = seen_under level (after k b i) (after k n i) (keeps_all k none b n i (λ lt. rests k n a b loops stmt h i lt other)) v
 
   -- a target that is not seen
   not_target : (n : ℕ) (t : Option ℕ) → IfSome t (λ x. after k n x ⊑ level ≡ false) → (i : ℕ) → after k n i ⊑ level ≡ true → t ≡ Some i → ⊥
@@ -117,7 +118,7 @@ module _ (policy : Tables) (distinct : AreDistinct (labels_of policy)) (tx : Tx)
   not_target n (Some x) h i v e = let same : x ≡ i = cc in true≢false (sym v ∙ ap (λ j. after k n j ⊑ level) (sym same) ∙ h)
 
   -- so all variables that are seen stay
-  stays : (n a b : ℕ) (loops : List ℕ) (stmt : Stmt) → PlaceRules k (record { number = n; around = a; before = b; rows = loops; node = Plain stmt })
+  stays : (n a b : ℕ) (loops : List ℕ) (stmt : Stmt) → Obeys k (record { number = n; around = a; before = b; rows = loops; node = Plain stmt })
       → IfSome (target stmt) (λ x. after k n x ⊑ level ≡ false) → IsSeenBefore k c b n
   stays n a b loops stmt h out i v = rest_seen n a b loops stmt h i (not_target n (target stmt) out i v) v
 
@@ -126,10 +127,10 @@ module _ (policy : Tables) (distinct : AreDistinct (labels_of policy)) (tx : Tx)
   outcome_out n w (Some x) h out = unseen_above level (label_of ls w) (after k n x) h out
 
   pub quiet_write : (n a b : ℕ) (loops : List ℕ) (rel w : ℕ) (writing : Writing) (wr : Write) (outcome : Option ℕ) (s : Progress)
-      → PlaceRules k (record { number = n; around = a; before = b; rows = loops; node = Plain (Write_at rel w writing outcome) }) → label_of ls w ⊑ level ≡ false → AreStored ls schemes s.db
+      → Obeys k (record { number = n; around = a; before = b; rows = loops; node = Plain (Write_at rel w writing outcome) }) → label_of ls w ⊑ level ≡ false → AreStored ls schemes s.db
       → Quiet k c b n s (do_write ls schemes args rel w wr outcome s)
   quiet_write n a b loops rel w writing wr outcome s h out stored =
-      let hidden = outcome_out n w outcome h.own.write.into out in
+      let hidden = outcome_out n w outcome (write_into k n a b loops rel w writing outcome h) out in
       record {
         seen = stays n a b loops (Write_at rel w writing outcome) h hidden;
         same = record {
@@ -144,20 +145,20 @@ module _ (policy : Tables) (distinct : AreDistinct (labels_of policy)) (tx : Tx)
       }
 
   -- a statement whose label c does not dominate
-  quiet_stmt : (n a b : ℕ) (loops : List ℕ) (around : List Tuple) (stmt : Stmt) (s : Progress) → PlaceRules k (record { number = n; around = a; before = b; rows = loops; node = Plain stmt }) → pc k n ⊑ level ≡ false → AreStored ls schemes s.db
+  quiet_stmt : (n a b : ℕ) (loops : List ℕ) (around : List Tuple) (stmt : Stmt) (s : Progress) → Obeys k (record { number = n; around = a; before = b; rows = loops; node = Plain stmt }) → pc k n ⊑ level ≡ false → AreStored ls schemes s.db
       → Quiet k c b n s (perform ls schemes args around stmt s)
   unfolding perform
   quiet_stmt n a b loops around (Assign x e) s h out stored =
-      let hidden : after k n x ⊑ level ≡ false = unseen_above level (pc k n) (after k n x) (Dominates-trans _ _ _ h.own.assignment (join-left (pc k n) (lab k b loops e))) out in
+      let hidden : after k n x ⊑ level ≡ false = unseen_above level (pc k n) (after k n x) (Dominates-trans _ _ _ (assigned k n a b loops x e h) (join-left (pc k n) (lab k b loops e))) out in
       record {
         seen = stays n a b loops (Assign x e) h hidden;
         same = record { tables = λ r. refl; values = λ i v. sym (set_not x i _ s.vars (λ same. not_target n (Some x) hidden i v (ap Some (sym same)))); emitted = refl; released = refl };
       }
   quiet_stmt n a b loops around (Write_at rel w writing outcome) s h out stored =
-      quiet_write n a b loops rel w writing (write_in (environment args around s) writing) outcome s h (unseen_above level (pc k n) (label_of ls w) h.own.write.context out) stored
+      quiet_write n a b loops rel w writing (write_in (environment args around s) writing) outcome s h (unseen_above level (pc k n) (label_of ls w) (write_context k n a b loops rel w writing outcome h) out) stored
   quiet_stmt n a b loops around (Release e to into) s h out stored =
-      let below_to : label_of ls to ⊑ level ≡ false = unseen_above level (pc k n) (label_of ls to) h.own.release.context out in
-      let hidden : after k n into ⊑ level ≡ false = unseen_above level (label_of ls to) (after k n into) h.own.release.target below_to in
+      let below_to : label_of ls to ⊑ level ≡ false = unseen_above level (pc k n) (label_of ls to) (release_context k n a b loops e to into h) out in
+      let hidden : after k n into ⊑ level ≡ false = unseen_above level (label_of ls to) (after k n into) (release_target k n a b loops e to into h) below_to in
       record {
         seen = stays n a b loops (Release e to into) h hidden;
         same = record {
@@ -172,7 +173,7 @@ module _ (policy : Tables) (distinct : AreDistinct (labels_of policy)) (tx : Tx)
     same = record {
       tables = λ r. refl;
       values = λ i v. refl;
-      emitted = sym (seen_not ls c s.emitted _ (unseen_above level (pc k n) (label_of ls label) h.own.emit.context out));
+      emitted = sym (seen_not ls c s.emitted _ (unseen_above level (pc k n) (label_of ls label) (emit_context k n a b loops e label h) out));
       released = refl;
     };
   }
@@ -188,30 +189,30 @@ module _ (policy : Tables) (distinct : AreDistinct (labels_of policy)) (tx : Tx)
   quiet_block scope (If guard one other rest) n a b loops l h above f out around s stored =
       let m : Pair = join (pc k n) (lab k b loops guard) in
       let inner : m ⊑ level ≡ false = unseen_above level (pc k n) m (join-left (pc k n) (lab k b loops guard)) (unseen_above level l (pc k n) above.0 out) in
-      let later = every_back (PlaceRules k) _ (places (n + 1) n b loops one) _ h.1 refl in
-      let obeys_1 = every_front (PlaceRules k) _ (places (n + 1) n b loops one) _ h.1 refl in
-      let obeys_2 = every_front (PlaceRules k) _ (places (n + 1 + statements one) n b loops other) _ later refl in
-      let obeys_3 = every_back (PlaceRules k) _ (places (n + 1 + statements one) n b loops other) _ later refl in
-      let above_1 = every_front (λ j. Dominates (pc k j) m) _ (directs (n + 1) one) _ h.0.own.branch.body refl in
-      let above_2 = every_back (λ j. Dominates (pc k j) m) _ (directs (n + 1) one) _ h.0.own.branch.body refl in
+      let later = every_back (Obeys k) _ (places (n + 1) n b loops one) _ h.1 refl in
+      let obeys_1 = every_front (Obeys k) _ (places (n + 1) n b loops one) _ h.1 refl in
+      let obeys_2 = every_front (Obeys k) _ (places (n + 1 + statements one) n b loops other) _ later refl in
+      let obeys_3 = every_back (Obeys k) _ (places (n + 1 + statements one) n b loops other) _ later refl in
+      let above_1 = every_front (λ j. Dominates (pc k j) m) _ (directs (n + 1) one) _ (branch_body k n a b loops guard one other h.0) refl in
+      let above_2 = every_back (λ j. Dominates (pc k j) m) _ (directs (n + 1) one) _ (branch_body k n a b loops guard one other h.0) refl in
       let d = holds_in (environment args around s) guard in
       quiet_then
       (cond_kept (Quiet k c b n s) d _ _
-      (quiet_then (quiet_block scope one (n + 1) n b loops m obeys_1 above_1 f.1 inner around s stored) (quiet_keeps k c (last b (n + 1) one) n _ none h.0.own.branch.ends.0))
-      (quiet_then (quiet_block scope other (n + 1 + statements one) n b loops m obeys_2 above_2 f.2 inner around s stored) (quiet_keeps k c (last b (n + 1 + statements one) other) n _ none h.0.own.branch.ends.1.0)))
+      (quiet_then (quiet_block scope one (n + 1) n b loops m obeys_1 above_1 f.1 inner around s stored) (quiet_keeps k c (last b (n + 1) one) n _ none (branch_one k n a b loops guard one other h.0)))
+      (quiet_then (quiet_block scope other (n + 1 + statements one) n b loops m obeys_2 above_2 f.2 inner around s stored) (quiet_keeps k c (last b (n + 1 + statements one) other) n _ none (branch_other k n a b loops guard one other h.0))))
       (quiet_block scope rest (n + (1 + statements one + statements other)) a n loops l obeys_3 above.1 f.3 out around _
       (cond_kept (λ t. AreStored ls schemes t.db) d _ _ (block_stored policy schemes tx.hi distinct args scope one f.1 around s stored) (block_stored policy schemes tx.hi distinct args scope other f.2 around s stored)))
   quiet_block scope (For name rel label body rest) n a b loops l h above f out around s stored =
       let m : Pair = join (pc k n) (label_of ls label) in
       let inner : m ⊑ level ≡ false = unseen_above level (pc k n) m (join-left (pc k n) (label_of ls label)) (unseen_above level l (pc k n) above.0 out) in
-      let obeys_1 = every_front (PlaceRules k) _ (places (n + 1) n n (label ∷ loops) body) _ h.1 refl in
-      let obeys_2 = every_back (PlaceRules k) _ (places (n + 1) n n (label ∷ loops) body) _ h.1 refl in
+      let obeys_1 = every_front (Obeys k) _ (places (n + 1) n n (label ∷ loops) body) _ h.1 refl in
+      let obeys_2 = every_back (Obeys k) _ (places (n + 1) n n (label ∷ loops) body) _ h.1 refl in
       let looped = for_each_kept (λ t. Quiet k c b n s t × AreStored ls schemes t.db) (λ row t. run_block ls schemes args body (row ∷ around) t)
       (λ row t p. (
         quiet_then p.0
-            (quiet_then (quiet_block (in_loop scope name rel) body (n + 1) n n (label ∷ loops) m obeys_1 h.0.own.row_loop.body f.2 inner (row ∷ around) t p.1)
-            (quiet_keeps k c (last n (n + 1) body) n _ none h.0.own.row_loop.ends.1.0)),
+            (quiet_then (quiet_block (in_loop scope name rel) body (n + 1) n n (label ∷ loops) m obeys_1 (loop_body k n a b loops label body h.0) f.2 inner (row ∷ around) t p.1)
+            (quiet_keeps k c (last n (n + 1) body) n _ none (loop_turn k n a b loops label body h.0))),
         block_stored policy schemes tx.hi distinct args (in_loop scope name rel) body f.2 (row ∷ around) t p.1,
       ))
-      (rows ls label (s.db rel)) s (quiet_keeps k c b n s none h.0.own.row_loop.ends.0, stored) in
+      (rows ls label (s.db rel)) s (quiet_keeps k c b n s none (loop_begin k n a b loops label body h.0), stored) in
       quiet_then looped.0 (quiet_block scope rest (n + (1 + statements body)) a n loops l obeys_2 above.1 f.3 out around _ looped.1)

@@ -1,6 +1,5 @@
 -- How the walk goes from statement to statement.
 use Rattle.std.proofs.Common.{◌≡◌, ℕ, suc, ◌+◌, ◌<◌, ◌≤◌, true, false, cond, List, [], ◌∷◌, ◌++◌, length, drop, get_or, Result, Ok, Err, refl, sym, ap, ◌∙◌, append_assoc, arith, add-zero}
-use Rattle.std.specs.List.{flat_map}
 use Rattle.std.proofs.lemmas.List.{append-nil}
 use Rattle.std.proofs.Math.Seq.{drop-cons}
 use Rattle.std.proofs.Math.ListN.{drop_of_length-le}
@@ -12,32 +11,33 @@ use Rattle.mls_translang.specs.Blocks.{block_of}
 use Rattle.mls_translang.specs.declared.block.Stmt.{Stmt}
 use Rattle.mls_translang.specs.declared.block.Stmt.TheVariants as stmt
 use Rattle.mls_certcheck.specs.Place.{Node, Place, Plain, branching, looping, last, places}
+use Rattle.mls_certcheck.specs.Lines.{Line, own_lines, lines_at}
 use Rattle.mls_certcheck.specs.Rules.{Claim}
-use Rattle.mls_certcheck.specs.Checks.{Test, verdict, own_tests, tests_at}
-use Rattle.mls_certcheck.specs.Walk.{entry_tests, branch_tests, loop_tests, plain_tests, walked}
+use Rattle.mls_certcheck.specs.Checks.{holds, verdict}
+use Rattle.mls_certcheck.specs.Walk.{entry_lines, branch_lines, loop_lines, plain_lines, all_lines, walked}
 use Rattle.mls_certcheck.specs.declared.refusal.Refusal.{Refusal}
 
--- ---- tests, one list after another
+-- ---- lines, one list after another
 
-pub verdict-append : (ts us : List Test) → verdict (ts ++ us) ≡ (verdict ts >>= λ _. verdict us)
-verdict-append [] us = refl
-verdict-append (t ∷ ts) us =
-    let more : verdict (ts ++ us) ≡ (verdict ts >>= λ _. verdict us) = verdict-append ts us in
-    elim t.0 as (λ b. cond b (verdict (ts ++ us)) (Err t.1) ≡ (cond b (verdict ts) (Err t.1) >>= λ _. verdict us)) [ true ↦ more | false ↦ refl ]
+pub verdict-append : (c : Claim) (ls ms : List Line) → verdict c (ls ++ ms) ≡ (verdict c ls >>= λ _. verdict c ms)
+verdict-append c [] ms = refl
+verdict-append c (l ∷ ls) ms =
+    let more : verdict c (ls ++ ms) ≡ (verdict c ls >>= λ _. verdict c ms) = verdict-append c ls ms in
+    elim (holds c l.flow) as (λ b. cond b (verdict c (ls ++ ms)) (Err l.refusal) ≡ (cond b (verdict c ls) (Err l.refusal) >>= λ _. verdict c ms)) [ true ↦ more | false ↦ refl ]
 
-pub verdict_err : (ts us : List Test) (e : Refusal) → verdict ts ≡ Err e → verdict (ts ++ us) ≡ Err e
-verdict_err ts us e h = verdict-append ts us ∙ ap (λ (r : Result (Unit {0}) Refusal). r >>= λ _. verdict us) h
+pub verdict_err : (c : Claim) (ls ms : List Line) (e : Refusal) → verdict c ls ≡ Err e → verdict c (ls ++ ms) ≡ Err e
+verdict_err c ls ms e h = verdict-append c ls ms ∙ ap (λ (r : Result (Unit {0}) Refusal). r >>= λ _. verdict c ms) h
 
-pub verdict_ok : (ts us : List Test) → verdict ts ≡ Ok tt → verdict (ts ++ us) ≡ verdict us
-verdict_ok ts us h = verdict-append ts us ∙ ap (λ (r : Result (Unit {0}) Refusal). r >>= λ _. verdict us) h
+pub verdict_ok : (c : Claim) (ls ms : List Line) → verdict c ls ≡ Ok tt → verdict c (ls ++ ms) ≡ verdict c ms
+verdict_ok c ls ms h = verdict-append c ls ms ∙ ap (λ (r : Result (Unit {0}) Refusal). r >>= λ _. verdict c ms) h
 
 pub ruleset verdict_more = (verdict_err, verdict_ok)
 
 abbrev pub all_of : Claim → List Place → Result (Unit {0}) Refusal
-all_of c ps = verdict (flat_map (tests_at c) ps)
+all_of c ps = verdict c (all_lines c ps)
 
 all_of-append : (c : Claim) (ps qs : List Place) → all_of c (ps ++ qs) ≡ (all_of c ps >>= λ _. all_of c qs)
-all_of-append c ps qs = ap verdict (flat_map-append (tests_at c) ps qs) ∙ verdict-append (flat_map (tests_at c) ps) (flat_map (tests_at c) qs)
+all_of-append c ps qs = ap (verdict c) (flat_map-append (lines_at (length c.tx.vars)) ps qs) ∙ verdict-append c (all_lines c ps) (all_lines c qs)
 
 -- ---- one block after another
 
@@ -111,7 +111,7 @@ places-then n around before rows (For row rel label body rest) d =
     let z = places (n + (1 + statements body + statements rest)) around k rows d in
     ap (λ (ps : List Place). record { number = n; around = around; before = before; rows = rows; node = looping n before label body } ∷ ps) (ap (λ (ps : List Place). a ++ ps) after ∙ sym (append_assoc a r z))
 
--- ---- what an answer says of the tests
+-- ---- what an answer says of the lines
 
 bind_is_err : (r : Result (Unit {0}) Refusal) (k : ℕ) (e : Refusal) → (r >>= λ _. Ok k) ≡ Err e → r ≡ Err e
 bind_is_err (Ok u) k e h = absurd cc
@@ -173,25 +173,25 @@ depth_first s rest =
     let e = ap depth (first_then s rest) in
     (omega (arith, e, h.0), omega (arith, e, h.1))
 
--- ---- one statement: first the tests that don't ask what it is, then those that do, then what is inside
+-- ---- one statement: first the lines that don't ask what it is, then those that do, then what is inside
 
 module _ (c : Claim) (p : Place) (ps : List Place) where
-  place_split : all_of c (p ∷ ps) ≡ (verdict (entry_tests c p.number p.around) >>= λ _. (verdict (own_tests c p.number p.before p.rows p.node) >>= λ _. all_of c ps))
+  place_split : all_of c (p ∷ ps) ≡ (verdict c (entry_lines (length c.tx.vars) p.number p.around) >>= λ _. (verdict c (own_lines p.number p.before p.rows p.node) >>= λ _. all_of c ps))
   place_split =
-      verdict-append (entry_tests c p.number p.around) (own_tests c p.number p.before p.rows p.node ++ flat_map (tests_at c) ps)
-      ∙ ap (λ (r : Result (Unit {0}) Refusal). verdict (entry_tests c p.number p.around) >>= λ _. r) (verdict-append (own_tests c p.number p.before p.rows p.node) (flat_map (tests_at c) ps))
+      verdict-append c (entry_lines (length c.tx.vars) p.number p.around) (own_lines p.number p.before p.rows p.node ++ all_lines c ps)
+      ∙ ap (λ (r : Result (Unit {0}) Refusal). verdict c (entry_lines (length c.tx.vars) p.number p.around) >>= λ _. r) (verdict-append c (own_lines p.number p.before p.rows p.node) (all_lines c ps))
 
-  head_err : (e : Refusal) → verdict (entry_tests c p.number p.around) ≡ Err e → all_of c (p ∷ ps) ≡ Err e
-  head_err e h = place_split ∙ ap (λ (r : Result (Unit {0}) Refusal). r >>= λ _. (verdict (own_tests c p.number p.before p.rows p.node) >>= λ _. all_of c ps)) h
+  head_err : (e : Refusal) → verdict c (entry_lines (length c.tx.vars) p.number p.around) ≡ Err e → all_of c (p ∷ ps) ≡ Err e
+  head_err e h = place_split ∙ ap (λ (r : Result (Unit {0}) Refusal). r >>= λ _. (verdict c (own_lines p.number p.before p.rows p.node) >>= λ _. all_of c ps)) h
 
-  module _ (entered : verdict (entry_tests c p.number p.around) ≡ Ok tt) where
-    past_entry : all_of c (p ∷ ps) ≡ (verdict (own_tests c p.number p.before p.rows p.node) >>= λ _. all_of c ps)
-    past_entry = place_split ∙ ap (λ (r : Result (Unit {0}) Refusal). r >>= λ _. (verdict (own_tests c p.number p.before p.rows p.node) >>= λ _. all_of c ps)) entered
+  module _ (entered : verdict c (entry_lines (length c.tx.vars) p.number p.around) ≡ Ok tt) where
+    past_entry : all_of c (p ∷ ps) ≡ (verdict c (own_lines p.number p.before p.rows p.node) >>= λ _. all_of c ps)
+    past_entry = place_split ∙ ap (λ (r : Result (Unit {0}) Refusal). r >>= λ _. (verdict c (own_lines p.number p.before p.rows p.node) >>= λ _. all_of c ps)) entered
 
-    own_err : (e : Refusal) → verdict (own_tests c p.number p.before p.rows p.node) ≡ Err e → all_of c (p ∷ ps) ≡ Err e
+    own_err : (e : Refusal) → verdict c (own_lines p.number p.before p.rows p.node) ≡ Err e → all_of c (p ∷ ps) ≡ Err e
     own_err e h = past_entry ∙ ap (λ (r : Result (Unit {0}) Refusal). r >>= λ _. all_of c ps) h
 
-    own_ok : verdict (own_tests c p.number p.before p.rows p.node) ≡ Ok tt → all_of c (p ∷ ps) ≡ all_of c ps
+    own_ok : verdict c (own_lines p.number p.before p.rows p.node) ≡ Ok tt → all_of c (p ∷ ps) ≡ all_of c ps
     own_ok h = past_entry ∙ ap (λ (r : Result (Unit {0}) Refusal). r >>= λ _. all_of c ps) h
 
 pub ruleset block_steps = (walk_none, walk_err, walk_more, walk_number, statements_first, depth_first)
@@ -205,7 +205,7 @@ abbrev then_number : Result (Unit {0}) Refusal → ℕ → Result ℕ Refusal
 then_number r k = r >>= λ _. Ok k
 
 module _ (c : Claim) (n around before : ℕ) (rows : List ℕ) where
-  pub enter_err : (s : Stmt) (e : Refusal) → verdict (entry_tests c n around) ≡ Err e → walked c n around before rows (block_of (s ∷ [])) ≡ Err e
+  pub enter_err : (s : Stmt) (e : Refusal) → verdict c (entry_lines (length c.tx.vars) n around) ≡ Err e → walked c n around before rows (block_of (s ∷ [])) ≡ Err e
   unfolding walked
   enter_err (stmt.Assign x value) e h = ap (λ (r : Result (Unit {0}) Refusal). then_number r (n + 1)) (head_err c (placed n around before rows (Plain (Assign x value))) [] e h)
   enter_err (stmt.If guard one other) e h = ap (λ (r : Result (Unit {0}) Refusal). then_number r (n + statements (If guard one other End))) (head_err c (placed n around before rows (branching n before guard one other)) _ e h)
@@ -216,7 +216,7 @@ module _ (c : Claim) (n around before : ℕ) (rows : List ℕ) where
   enter_err (stmt.Release value to into) e h = ap (λ (r : Result (Unit {0}) Refusal). then_number r (n + 1)) (head_err c (placed n around before rows (Plain (Release value to into))) [] e h)
   enter_err (stmt.Emit value label) e h = ap (λ (r : Result (Unit {0}) Refusal). then_number r (n + 1)) (head_err c (placed n around before rows (Plain (Emit value label))) [] e h)
 
-  module _ (s : Stmt) (entered : verdict (entry_tests c n around) ≡ Ok tt) where
+  module _ (s : Stmt) (entered : verdict c (entry_lines (length c.tx.vars) n around) ≡ Ok tt) where
     -- what the answer to a statement is, once it is known which
     abbrev answer : Stmt → Result ℕ Refusal
     answer t = walked c n around before rows (block_of (t ∷ []))
@@ -233,11 +233,11 @@ module _ (c : Claim) (n around before : ℕ) (rows : List ℕ) where
       abbrev others : List Place
       others = places (n + 1 + statements one) n before rows other
 
-      pub if_err : (e : Refusal) → verdict (branch_tests c n before rows guard one other) ≡ Err e → answer s ≡ Err e
+      pub if_err : (e : Refusal) → verdict c (branch_lines n before rows guard one other) ≡ Err e → answer s ≡ Err e
       unfolding walked
       if_err e h = ap answer is ∙ ap (λ (r : Result (Unit {0}) Refusal). then_number r (n + statements (If guard one other End))) (own_err c branch (ones ++ (others ++ [])) entered e h)
 
-      pub if_one : (e : Refusal) → verdict (branch_tests c n before rows guard one other) ≡ Ok tt → walked c (n + 1) n before rows one ≡ Err e → answer s ≡ Err e
+      pub if_one : (e : Refusal) → verdict c (branch_lines n before rows guard one other) ≡ Ok tt → walked c (n + 1) n before rows one ≡ Err e → answer s ≡ Err e
       unfolding walked
       if_one e h first =
           let bad = bind_is_err (all_of c ones) (n + 1 + statements one) e first in
@@ -246,7 +246,7 @@ module _ (c : Claim) (n around before : ℕ) (rows : List ℕ) where
           own_ok c branch (ones ++ (others ++ [])) entered h ∙ all_of-append c ones (others ++ []) ∙ ap (λ (r : Result (Unit {0}) Refusal). r >>= λ _. all_of c (others ++ [])) bad
           )
 
-      pub if_other : (m : ℕ) → verdict (branch_tests c n before rows guard one other) ≡ Ok tt → walked c (n + 1) n before rows one ≡ Ok m → answer s ≡ walked c m n before rows other
+      pub if_other : (m : ℕ) → verdict c (branch_lines n before rows guard one other) ≡ Ok tt → walked c (n + 1) n before rows one ≡ Ok m → answer s ≡ walked c m n before rows other
       unfolding walked
       if_other m h first =
           let good = bind_is_ok (all_of c ones) (n + 1 + statements one) m first in
@@ -264,11 +264,11 @@ module _ (c : Claim) (n around before : ℕ) (rows : List ℕ) where
       abbrev inners : List Place
       inners = places (n + 1) n (turn n before) (label ∷ rows) body
 
-      pub for_err : (e : Refusal) → verdict (loop_tests c n before label body) ≡ Err e → answer s ≡ Err e
+      pub for_err : (e : Refusal) → verdict c (loop_lines n before label body) ≡ Err e → answer s ≡ Err e
       unfolding walked
       for_err e h = ap answer is ∙ ap (λ (r : Result (Unit {0}) Refusal). then_number r (n + statements (For row rel label body End))) (own_err c loop (inners ++ []) entered e h)
 
-      pub for_body : (inside : List ℕ) → inside ≡ label ∷ rows → verdict (loop_tests c n before label body) ≡ Ok tt → answer s ≡ walked c (n + 1) n (turn n before) inside body
+      pub for_body : (inside : List ℕ) → inside ≡ label ∷ rows → verdict c (loop_lines n before label body) ≡ Ok tt → answer s ≡ walked c (n + 1) n (turn n before) inside body
       unfolding walked
       for_body inside more h =
           let end : n + (1 + statements body + 0) ≡ n + 1 + statements body = omega arith in
@@ -277,16 +277,16 @@ module _ (c : Claim) (n around before : ℕ) (rows : List ℕ) where
 
   -- ---- a statement with none inside
 
-  module _ (entered : verdict (entry_tests c n around) ≡ Ok tt) where
-    do_err : (s : Simple) (e : Refusal) → verdict (own_tests c n before rows (Plain s)) ≡ Err e → walked c n around before rows (Do s End) ≡ Err e
+  module _ (entered : verdict c (entry_lines (length c.tx.vars) n around) ≡ Ok tt) where
+    do_err : (s : Simple) (e : Refusal) → verdict c (own_lines n before rows (Plain s)) ≡ Err e → walked c n around before rows (Do s End) ≡ Err e
     unfolding walked
     do_err s e h = ap (λ (r : Result (Unit {0}) Refusal). then_number r (n + 1)) (own_err c (placed n around before rows (Plain s)) [] entered e h)
 
-    do_ok : (s : Simple) → verdict (own_tests c n before rows (Plain s)) ≡ Ok tt → walked c n around before rows (Do s End) ≡ Ok (n + 1)
+    do_ok : (s : Simple) → verdict c (own_lines n before rows (Plain s)) ≡ Ok tt → walked c n around before rows (Do s End) ≡ Ok (n + 1)
     unfolding walked
     do_ok s h = ap (λ (r : Result (Unit {0}) Refusal). then_number r (n + 1)) (own_ok c (placed n around before rows (Plain s)) [] entered h)
 
-    pub plain_err : (s : Stmt) (not_if : (guard : Expr) (one other : Block) → s ≡ stmt.If guard one other → ⊥) (not_for : (row : List ℕ) (rel label : ℕ) (body : Block) → s ≡ stmt.For row rel label body → ⊥) (e : Refusal) → verdict (plain_tests c n before rows (block_of (s ∷ []))) ≡ Err e → walked c n around before rows (block_of (s ∷ [])) ≡ Err e
+    pub plain_err : (s : Stmt) (not_if : (guard : Expr) (one other : Block) → s ≡ stmt.If guard one other → ⊥) (not_for : (row : List ℕ) (rel label : ℕ) (body : Block) → s ≡ stmt.For row rel label body → ⊥) (e : Refusal) → verdict c (plain_lines n before rows (block_of (s ∷ []))) ≡ Err e → walked c n around before rows (block_of (s ∷ [])) ≡ Err e
     plain_err (stmt.Assign x value) not_if not_for e h = do_err (Assign x value) e h
     plain_err (stmt.If guard one other) not_if not_for e h = absurd (not_if guard one other refl)
     plain_err (stmt.For row rel label body) not_if not_for e h = absurd (not_for row rel label body refl)
@@ -296,7 +296,7 @@ module _ (c : Claim) (n around before : ℕ) (rows : List ℕ) where
     plain_err (stmt.Release value to into) not_if not_for e h = do_err (Release value to into) e h
     plain_err (stmt.Emit value label) not_if not_for e h = do_err (Emit value label) e h
 
-    pub plain_ok : (s : Stmt) (not_if : (guard : Expr) (one other : Block) → s ≡ stmt.If guard one other → ⊥) (not_for : (row : List ℕ) (rel label : ℕ) (body : Block) → s ≡ stmt.For row rel label body → ⊥) → verdict (plain_tests c n before rows (block_of (s ∷ []))) ≡ Ok tt → walked c n around before rows (block_of (s ∷ [])) ≡ Ok (n + 1)
+    pub plain_ok : (s : Stmt) (not_if : (guard : Expr) (one other : Block) → s ≡ stmt.If guard one other → ⊥) (not_for : (row : List ℕ) (rel label : ℕ) (body : Block) → s ≡ stmt.For row rel label body → ⊥) → verdict c (plain_lines n before rows (block_of (s ∷ []))) ≡ Ok tt → walked c n around before rows (block_of (s ∷ [])) ≡ Ok (n + 1)
     plain_ok (stmt.Assign x value) not_if not_for h = do_ok (Assign x value) h
     plain_ok (stmt.If guard one other) not_if not_for h = absurd (not_if guard one other refl)
     plain_ok (stmt.For row rel label body) not_if not_for h = absurd (not_for row rel label body refl)

@@ -1,5 +1,6 @@
 pub mod Refusal
 pub mod Place
+pub mod Lines
 pub mod Rules
 pub mod Checks
 pub mod Rows

@@ -3,9 +3,11 @@ ghost use Rattle.std.specs.Prelude.{◌≡◌, ◌≤◌, map, slice_index, slic
 ghost use Rattle.mls_lattice.specs.Lattice.{bottom, pair_of, ◌⊑◌};
 ghost use Rattle.mls_lattice.specs.Labels.{label_of};
 ghost use Rattle.mls_certificate.specs.declared.cert.Certificate.TheVariants.{Two};
-ghost use Rattle.mls_certcheck.specs.Rules.{hi, pc, after, param_label, lab, pc_labels, row_after, own_row, tx_row};
+ghost use Rattle.mls_certcheck.specs.Lines.{names};
+ghost use Rattle.mls_certcheck.specs.Rules.{hi, pc, after, param_label, pc_labels, row_after};
+ghost use Rattle.mls_certcheck.specs.Checks.{is_over};
 ghost use Rattle.mls_certcheck.specs.Rows.{rows_of};
-ghost use Rattle.mls_certcheck.specs.Walk.{claim_of};
+ghost use Rattle.mls_certcheck.specs.Walk.{IsJoin, claim_of};
 
 use crate::here::Here;
 use mls_certificate::{Cert2, Certificate};
@@ -107,26 +109,6 @@ impl Checker<'_> {
         }
     }
 
-    /// The row that a statement has in the certificate.
-    pub(crate) fn own_row(&self, number: usize) -> &[Label]
-        ensures { result.now ≡ own_row self.now.cert.now number }
-    {
-        match self.cert {
-            Certificate::One(_) => &[],
-            Certificate::Two(cert) => row_of(cert, number),
-        }
-    }
-
-    /// The row that the transaction itself has in the certificate.
-    pub(crate) fn tx_row(&self) -> &[Label]
-        ensures { result.now ≡ tx_row self.now.cert.now }
-    {
-        match self.cert {
-            Certificate::One(cert) => cert.var_labels.as_slice(),
-            Certificate::Two(_) => &[],
-        }
-    }
-
     /// The label of a variable after a statement.
     pub(crate) fn after(&self, number: usize, place: usize) -> Label
         ensures { pair_of result ≡ after (claim_of self.now) number place }
@@ -153,10 +135,11 @@ impl Checker<'_> {
         self.declared(self.parameter_no(place))
     }
 
-    /// The join of the labels of the names in an expression.
+    /// The join of the labels of the names in an expression: it flows just where each of them does.
+    #[tactic(auto, using(crate::proofs::LabelLemmas::joins))]
     pub(crate) fn label(&self, here: &Here, expr: &Expr) -> Label
         requires { here.now.rows.count ≤ 16 }
-        ensures { pair_of result ≡ lab (claim_of self.now) here.now.before (rows_of here.now.rows) expr.now }
+        ensures { IsJoin (claim_of self.now) (names here.now.before (rows_of here.now.rows) expr.now) (pair_of result) }
     {
         match &expr.term {
             Term::Known(_) | Term::Null => lowest(),
@@ -166,5 +149,13 @@ impl Checker<'_> {
             Term::Not(expr) => self.label(here, expr),
             Term::Op(_, left, right) => self.label(here, left).join(self.label(here, right)),
         }
+    }
+
+    /// Whether each name in an expression may flow to a label.
+    pub(crate) fn names_flow(&self, here: &Here, expr: &Expr, to: Label) -> bool
+        requires { here.now.rows.count ≤ 16 }
+        ensures { result ≡ is_over (claim_of self.now) (pair_of to) (names here.now.before (rows_of here.now.rows) expr.now) }
+    {
+        flows(self.label(here, expr), to)
     }
 }

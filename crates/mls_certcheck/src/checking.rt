@@ -1,18 +1,19 @@
 //! The checker: it walks over the statements once.
 ghost use Rattle.std.specs.Prelude.{◌≡◌, ◌↔◌, Ok, IfOk, length, nat_eq};
-ghost use Rattle.std.specs.List.{flat_map, list_all};
+ghost use Rattle.std.specs.List.{list_all};
 ghost use Rattle.mls_translang.specs.Tree.{statements};
 ghost use Rattle.mls_meaning.specs.Secure.{Secure};
-ghost use Rattle.mls_certcheck.specs.Rules.{Rules, all_places, claim, var_rows};
-ghost use Rattle.mls_certcheck.specs.Checks.{First, are_under, counts, param_holds, tests_at, tx_tests, verdict};
-ghost use Rattle.mls_certcheck.specs.Walk.{claim_of, Says};
+ghost use Rattle.mls_certcheck.specs.Lines.{all_places, tx_lines, within_ends};
+ghost use Rattle.mls_certcheck.specs.Rules.{Rules, claim, var_rows};
+ghost use Rattle.mls_certcheck.specs.Checks.{First, count_verdict, counts, holds, verdict};
+ghost use Rattle.mls_certcheck.specs.Walk.{all_lines, claim_of, Says};
 
 use crate::checker::{Checker, flows};
 use crate::here::Here;
 use crate::refusal::{Refusal, Rule};
 use crate::rows::Rows;
 use mls_certificate::Certificate;
-use mls_lattice::{Label, LabelNo, Policy};
+use mls_lattice::{LabelNo, Policy};
 use mls_translang::{Tx, statements};
 
 impl Checker<'_> {
@@ -39,23 +40,15 @@ impl Checker<'_> {
         }
     }
 
-    /// Whether no label lies above the ceiling.
-    pub(crate) fn are_under(&self, labels: &[Label]) -> bool
-        ensures { result ≡ are_under (claim_of self.now) labels.now }
-    {
-        let hi = self.hi();
-        labels.iter().all(|label| flows(*label, hi))
-    }
-
     fn parameter_holds(&self, label: LabelNo) -> bool
-        ensures { result ≡ param_holds (claim_of self.now) label }
+        ensures { result ≡ list_all (holds (claim_of self.now)) (within_ends label) }
     {
         let label = self.declared(label);
-        flows(self.declared(self.tx.lo()), label) && flows(label, self.hi())
+        flows(self.pc(0), label) && flows(label, self.hi())
     }
 
     fn parameters_hold(&self) -> bool
-        ensures { result ≡ list_all (λ p. param_holds (claim_of self.now) p.1.label) self.now.tx.now.params }
+        ensures { result ≡ list_all (λ p. list_all (holds (claim_of self.now)) (within_ends p.1.label)) self.now.tx.now.params }
     {
         let params = self.tx.params();
         for place in 0..params.len() {
@@ -66,20 +59,26 @@ impl Checker<'_> {
         true
     }
 
-    /// The rules of the transaction itself.
-    fn heads(&self) -> Result<(), Refusal>
-        ensures { Says result (verdict (tx_tests (claim_of self.now))) }
+    /// As many labels as it takes.
+    fn counted(&self) -> Result<(), Refusal>
+        ensures { Says result (count_verdict (claim_of self.now)) }
     {
         Refusal::unless(self.rows_count(), 0, Rule::VarCount)?;
-        Refusal::unless(self.stmts_count(), 0, Rule::StmtCount)?;
-        let under = self.are_under(self.tx_row());
-        Refusal::unless(under, 0, Rule::AboveCeiling)?;
+        Refusal::unless(self.stmts_count(), 0, Rule::StmtCount)
+    }
+
+    /// The rules of the transaction itself.
+    #[tactic(auto, using(crate::proofs::CheckLemmas::parameters_told))]
+    fn heads(&self) -> Result<(), Refusal>
+        ensures { Says result (verdict (claim_of self.now) (tx_lines self.now.tx.now)) }
+    {
+        Refusal::unless(self.are_under(0), 0, Rule::AboveCeiling)?;
         Refusal::unless(self.parameters_hold(), 0, Rule::Context)
     }
 
     /// The rules of all statements.
     fn body(&self) -> Result<(), Refusal>
-        ensures { Says result (verdict (flat_map (tests_at (claim_of self.now)) (all_places (claim_of self.now)))) }
+        ensures { Says result (verdict (claim_of self.now) (all_lines (claim_of self.now) (all_places self.now.tx.now))) }
     {
         let start = Here {
             number: 1,
@@ -90,9 +89,11 @@ impl Checker<'_> {
         Ok(())
     }
 
+    #[tactic(auto, using(crate::proofs::WalkLemmas::verdict_more))]
     fn verdict(&self) -> Result<(), Refusal>
         ensures { Says result (First (claim_of self.now)) }
     {
+        self.counted()?;
         self.heads()?;
         self.body()
     }

@@ -1,11 +1,13 @@
 //! Whether variables keep what they hold: their labels after one statement flow to those after another.
-ghost use Rattle.std.specs.Prelude.{◌≡◌, ◌<◌, ◌+◌, ◌^◌, ◌||◌, ◌∷◌, []};
+ghost use Rattle.std.specs.Prelude.{◌≡◌, ◌<◌, ◌+◌, ◌^◌, ◌||◌, length};
 ghost use Rattle.mls_lattice.specs.Lattice.{◌⊑◌};
 ghost use Rattle.mls_translang.specs.Tree.{statements};
 ghost use Rattle.mls_certcheck.specs.Place.{last};
-ghost use Rattle.mls_certcheck.specs.Rules.{after};
-ghost use Rattle.mls_certcheck.specs.Checks.{all_keep, is_target, keeps, rest_keeps};
+ghost use Rattle.mls_certcheck.specs.Lines.{variables};
+ghost use Rattle.mls_certcheck.specs.Rules.{after, hi};
+ghost use Rattle.mls_certcheck.specs.Checks.{holds, is_over, is_target};
 ghost use Rattle.mls_certcheck.specs.Walk.{claim_of};
+ghost use Rattle.mls_certcheck.specs.declared.flow.Flow.TheVariants.{Kept};
 
 use crate::checker::{Checker, flows};
 use mls_translang::Block;
@@ -34,36 +36,31 @@ fn is_target(target: Option<u8>, place: usize) -> bool
 }
 
 impl Checker<'_> {
-    fn keeps(&self, earlier: usize, later: usize) -> bool
-        ensures { result ≡ keeps (claim_of self.now) earlier later }
+    fn kept(&self, from: usize, to: usize, but: Option<u8>, place: usize) -> bool
+        ensures { result ≡ (is_target but place || after (claim_of self.now) from place ⊑ after (claim_of self.now) to place) }
+    {
+        is_target(but, place) || flows(self.after(from, place), self.after(to, place))
+    }
+
+    /// Whether variables (but one) keep what they hold.
+    pub(crate) fn keeps(&self, from: usize, to: usize, but: Option<u8>) -> bool
+        ensures { result ≡ holds (claim_of self.now) (Kept from to but) }
     {
         for place in 0..self.tx.vars().len() {
-            if !flows(self.after(earlier, place), self.after(later, place)) {
+            if !self.kept(from, to, but, place) {
                 return false;
             }
         }
         true
     }
 
-    /// Whether variables keep what they hold after each of two statements.
-    pub(crate) fn both_keep(&self, one: usize, other: usize, later: usize) -> bool
-        ensures { result ≡ all_keep (claim_of self.now) later (one ∷ other ∷ []) }
+    /// Whether no variable lies above the ceiling after a statement.
+    pub(crate) fn are_under(&self, number: usize) -> bool
+        ensures { result ≡ is_over (claim_of self.now) (hi (claim_of self.now)) (variables number (length self.now.tx.now.vars)) }
     {
-        self.keeps(one, later) && self.keeps(other, later)
-    }
-
-    fn rests(&self, later: usize, earlier: usize, target: Option<u8>, place: usize) -> bool
-        ensures { result ≡ (is_target target place || after (claim_of self.now) earlier place ⊑ after (claim_of self.now) later place) }
-    {
-        is_target(target, place) || flows(self.after(earlier, place), self.after(later, place))
-    }
-
-    /// Whether variables keep what they hold, but for a target.
-    pub(crate) fn rest_keeps(&self, later: usize, earlier: usize, target: Option<u8>) -> bool
-        ensures { result ≡ rest_keeps (claim_of self.now) later earlier target }
-    {
+        let hi = self.hi();
         for place in 0..self.tx.vars().len() {
-            if !self.rests(later, earlier, target, place) {
+            if !flows(self.after(number, place), hi) {
                 return false;
             }
         }

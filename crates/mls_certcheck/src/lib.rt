@@ -4,6 +4,7 @@
 mod certified;
 mod checker;
 mod checking;
+mod flow;
 mod here;
 mod keeping;
 mod laws;
@@ -14,5 +15,6 @@ mod walk;
 
 pub use certified::Certified;
 pub use checking::check;
+pub use flow::{Flow, Slot, Source};
 pub use laws::{flat_certificates_lift, rules_make_secure};
 pub use refusal::{Refusal, Rule};

@@ -1,13 +1,16 @@
 //! The rules of what a statement is.
 ghost use Rattle.std.specs.Prelude.{◌≡◌, ◌<◌, ◌≤◌, ◌+◌, ◌^◌, ◌&&◌, map};
-ghost use Rattle.mls_lattice.specs.Lattice.{join, pair_of, ◌⊑◌};
+ghost use Rattle.std.specs.List.{flat_map, list_all};
+ghost use Rattle.mls_lattice.specs.Lattice.{pair_of, ◌⊑◌};
 ghost use Rattle.mls_lattice.specs.Labels.{label_of};
 ghost use Rattle.mls_translang.specs.Tree.{Assign, Write_at, Inserting, Updating, Deleting, Release, Emit, statements};
 ghost use Rattle.mls_certcheck.specs.Place.{directs};
-ghost use Rattle.mls_certcheck.specs.Rules.{hi, pc};
-ghost use Rattle.mls_certcheck.specs.Checks.{verdict, stmt_tests, inner_dominate, operands_hold, outcome_holds};
+ghost use Rattle.mls_certcheck.specs.Lines.{names, outcome_flows, stmt_lines};
+ghost use Rattle.mls_certcheck.specs.Rules.{hi, pc, slot_label};
+ghost use Rattle.mls_certcheck.specs.Checks.{holds, is_over, verdict};
 ghost use Rattle.mls_certcheck.specs.Rows.{rows_of};
 ghost use Rattle.mls_certcheck.specs.Walk.{claim_of, Says};
+ghost use Rattle.mls_certcheck.specs.declared.flow.Slot.TheVariants.{Statement};
 
 use crate::checker::{Checker, flows};
 use crate::here::Here;
@@ -16,10 +19,10 @@ use mls_lattice::{Label, LabelNo};
 use mls_translang::{Block, Expr};
 
 impl Checker<'_> {
-    /// Whether the label of each of a block's own statements dominates a label.
+    /// Whether a label flows to each of a block's own statements.
     pub(crate) fn inner_dominate(&self, bound: Label, first: usize, block: &Block) -> bool
         requires { first + statements block.now < 2 ^ 63 }
-        ensures { result ≡ inner_dominate (claim_of self.now) (pair_of bound) (directs first block.now) }
+        ensures { result ≡ list_all (λ t. pair_of bound ⊑ slot_label (claim_of self.now) t) (map (λ m. Statement m) (directs first block.now)) }
     {
         let mut number = first;
         for stmt in block.stmts() {
@@ -31,66 +34,56 @@ impl Checker<'_> {
         true
     }
 
-    fn operands_hold(&self, here: &Here, w: LabelNo, operands: &[Expr]) -> bool
+    /// Whether each name in these operands may flow to a label.
+    #[tactic(auto, using(crate::proofs::LabelLemmas::over_both))]
+    fn operands_flow(&self, here: &Here, operands: &[Expr], to: Label) -> bool
         requires { here.now.rows.count ≤ 16 }
-        ensures { result ≡ operands_hold (claim_of self.now) here.now.before (rows_of here.now.rows) w operands.now }
+        ensures { result ≡ is_over (claim_of self.now) (pair_of to) (flat_map (names here.now.before (rows_of here.now.rows)) operands.now) }
     {
-        let w = self.declared(w);
-        operands
-            .iter()
-            .all(|operand| flows(self.label(here, operand), w))
-    }
-
-    fn sets_hold(&self, here: &Here, w: LabelNo, sets: &[(u8, Expr)]) -> bool
-        requires { here.now.rows.count ≤ 16 }
-        ensures { result ≡ operands_hold (claim_of self.now) here.now.before (rows_of here.now.rows) w (map (λ s. s.1) sets.now) }
-    {
-        let w = self.declared(w);
-        for set in sets {
-            if !flows(self.label(here, &set.1), w) {
+        for operand in operands {
+            if !self.names_flow(here, operand, to) {
                 return false;
             }
         }
         true
     }
 
-    fn outcome_holds(&self, number: usize, w: LabelNo, outcome: Option<u8>) -> bool
-        ensures { result ≡ outcome_holds (claim_of self.now) number w outcome }
+    #[tactic(auto, using(crate::proofs::LabelLemmas::over_both))]
+    fn sets_flow(&self, here: &Here, sets: &[(u8, Expr)], to: Label) -> bool
+        requires { here.now.rows.count ≤ 16 }
+        ensures { result ≡ is_over (claim_of self.now) (pair_of to) (flat_map (names here.now.before (rows_of here.now.rows)) (map (λ s. s.1) sets.now)) }
     {
-        match outcome {
-            None => true,
-            Some(place) => flows(self.declared(w), self.after(number, usize::from(place))),
+        for set in sets {
+            if !self.names_flow(here, &set.1, to) {
+                return false;
+            }
         }
-    }
-
-    /// Whether a write may stand at a label, by the labels of its operands.
-    fn write_holds(&self, number: usize, w: LabelNo, operands: bool, outcome: Option<u8>) -> bool
-        ensures { result ≡ (pc (claim_of self.now) number ⊑ label_of (claim_of self.now).labels w && operands
-            && label_of (claim_of self.now).labels w ⊑ hi (claim_of self.now) && outcome_holds (claim_of self.now) number w outcome) }
-    {
-        if !flows(self.pc(number), self.declared(w)) {
-            return false;
-        }
-        if !operands {
-            return false;
-        }
-        if !flows(self.declared(w), self.hi()) {
-            return false;
-        }
-        self.outcome_holds(number, w, outcome)
+        true
     }
 
     /// The rule of an assignment.
     pub(crate) fn assigns(&self, here: &Here, variable: u8, value: &Expr) -> Result<(), Refusal>
         requires { here.now.rows.count ≤ 16 }
-        ensures { Says result (verdict (stmt_tests (claim_of self.now) here.now.number here.now.before (rows_of here.now.rows) (Assign variable value.now))) }
+        ensures { Says result (verdict (claim_of self.now) (stmt_lines here.now.number here.now.before (rows_of here.now.rows) (Assign variable value.now))) }
     {
-        let source = self.pc(here.number).join(self.label(here, value));
-        Refusal::unless(
-            flows(source, self.after(here.number, usize::from(variable))),
-            here.number,
-            Rule::Assignment,
-        )
+        let into = self.after(here.number, usize::from(variable));
+        let holds = flows(self.pc(here.number), into) && self.names_flow(here, value, into);
+        Refusal::unless(holds, here.number, Rule::Assignment)
+    }
+
+    /// Whether what a write takes in, beside its operands, and what it gives out flow only where they may.
+    fn write_holds(&self, number: usize, w: LabelNo, operands: bool, outcome: Option<u8>) -> bool
+        ensures { result ≡ (pc (claim_of self.now) number ⊑ label_of (claim_of self.now).labels w && operands
+            && label_of (claim_of self.now).labels w ⊑ hi (claim_of self.now) && list_all (holds (claim_of self.now)) (outcome_flows number w outcome)) }
+    {
+        let at = self.declared(w);
+        if !flows(self.pc(number), at) || !operands || !flows(at, self.hi()) {
+            return false;
+        }
+        match outcome {
+            None => true,
+            Some(place) => flows(at, self.after(number, usize::from(place))),
+        }
     }
 
     /// The rules of an insert.
@@ -103,9 +96,10 @@ impl Checker<'_> {
         outcome: Option<u8>,
     ) -> Result<(), Refusal>
         requires { here.now.rows.count ≤ 16 }
-        ensures { Says result (verdict (stmt_tests (claim_of self.now) here.now.number here.now.before (rows_of here.now.rows) (Write_at 0 w (Inserting key.now values.now) outcome))) }
+        ensures { Says result (verdict (claim_of self.now) (stmt_lines here.now.number here.now.before (rows_of here.now.rows) (Write_at 0 w (Inserting key.now values.now) outcome))) }
     {
-        let operands = self.operands_hold(here, w, key) && self.operands_hold(here, w, values);
+        let at = self.declared(w);
+        let operands = self.operands_flow(here, key, at) && self.operands_flow(here, values, at);
         let holds = self.write_holds(here.number, w, operands, outcome);
         Refusal::unless(holds, here.number, Rule::Write)
     }
@@ -128,11 +122,12 @@ impl Checker<'_> {
         outcome: Option<u8>,
     ) -> Result<(), Refusal>
         requires { here.now.rows.count ≤ 16 }
-        ensures { Says result (verdict (stmt_tests (claim_of self.now) here.now.number here.now.before (rows_of here.now.rows)
+        ensures { Says result (verdict (claim_of self.now) (stmt_lines here.now.number here.now.before (rows_of here.now.rows)
             (Write_at 0 classes.2 (Updating key.now classes.0 classes.1 sets.now) outcome))) }
     {
         let (key_class, from, w) = classes;
-        let operands = self.operands_hold(here, w, key) && self.sets_hold(here, w, sets);
+        let at = self.declared(w);
+        let operands = self.operands_flow(here, key, at) && self.sets_flow(here, sets, at);
         let holds = self.write_holds(here.number, w, operands, outcome);
         Refusal::unless(holds, here.number, Rule::Write)?;
         let ordered = self.update_is_ordered(key_class, from, w);
@@ -149,23 +144,24 @@ impl Checker<'_> {
         outcome: Option<u8>,
     ) -> Result<(), Refusal>
         requires { here.now.rows.count ≤ 16 }
-        ensures { Says result (verdict (stmt_tests (claim_of self.now) here.now.number here.now.before (rows_of here.now.rows) (Write_at 0 w (Deleting key.now key_class) outcome))) }
+        ensures { Says result (verdict (claim_of self.now) (stmt_lines here.now.number here.now.before (rows_of here.now.rows) (Write_at 0 w (Deleting key.now key_class) outcome))) }
     {
-        let operands = self.operands_hold(here, w, key);
+        let at = self.declared(w);
+        let operands = self.operands_flow(here, key, at);
         let holds = self.write_holds(here.number, w, operands, outcome);
         Refusal::unless(holds, here.number, Rule::Write)?;
-        let ordered = flows(self.declared(key_class), self.declared(w));
+        let ordered = flows(self.declared(key_class), at);
         Refusal::unless(ordered, here.number, Rule::Order)
     }
 
     /// The rules of an emission.
     pub(crate) fn emits(&self, here: &Here, value: &Expr, label: LabelNo) -> Result<(), Refusal>
         requires { here.now.rows.count ≤ 16 }
-        ensures { Says result (verdict (stmt_tests (claim_of self.now) here.now.number here.now.before (rows_of here.now.rows) (Emit value.now label))) }
+        ensures { Says result (verdict (claim_of self.now) (stmt_lines here.now.number here.now.before (rows_of here.now.rows) (Emit value.now label))) }
     {
         let target = self.declared(label);
         let holds = flows(self.pc(here.number), target)
-            && flows(self.label(here, value), target)
+            && self.names_flow(here, value, target)
             && flows(target, self.hi());
         Refusal::unless(holds, here.number, Rule::Emit)
     }
@@ -179,11 +175,11 @@ impl Checker<'_> {
         into: u8,
     ) -> Result<(), Refusal>
         requires { here.now.rows.count ≤ 16 }
-        ensures { Says result (verdict (stmt_tests (claim_of self.now) here.now.number here.now.before (rows_of here.now.rows) (Release value.now to into))) }
+        ensures { Says result (verdict (claim_of self.now) (stmt_lines here.now.number here.now.before (rows_of here.now.rows) (Release value.now to into))) }
     {
         let lower = self.declared(to);
         let holds = flows(self.pc(here.number), lower)
-            && flows(self.label(here, value), self.hi())
+            && self.names_flow(here, value, self.hi())
             && flows(lower, self.after(here.number, usize::from(into)));
         Refusal::unless(holds, here.number, Rule::Release)
     }

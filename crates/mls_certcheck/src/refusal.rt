@@ -1,5 +1,5 @@
-ghost use Rattle.std.specs.Prelude.{◌≡◌, ◌∷◌, []};
-ghost use Rattle.mls_certcheck.specs.Checks.{verdict, test};
+ghost use Rattle.std.specs.Prelude.{◌≡◌};
+ghost use Rattle.mls_certcheck.specs.Checks.{unless};
 ghost use Rattle.mls_certcheck.specs.Refusal.{text_of};
 
 /// A rule of certificates.
@@ -63,7 +63,7 @@ pub struct Refusal {
 impl Refusal {
     /// Ok where a rule holds at a statement.
     pub(crate) fn unless(holds: bool, stmt: usize, rule: Rule) -> Result<(), Refusal>
-        ensures { result ≡ verdict (test holds stmt rule ∷ []) }
+        ensures { result ≡ unless holds stmt rule }
     {
         if holds {
             Ok(())

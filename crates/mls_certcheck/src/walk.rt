@@ -1,11 +1,16 @@
 //! The walk over the statements, which names the first rule that is broken.
-ghost use Rattle.std.specs.Prelude.{◌<◌, ◌≤◌, ◌+◌, ◌^◌, ◌∷◌, []};
+ghost use Rattle.std.specs.Prelude.{◌≡◌, ◌<◌, ◌≤◌, ◌+◌, ◌^◌, ◌∷◌, ◌++◌, [], length, map};
 ghost use Rattle.mls_translang.specs.Tree.{statements};
 ghost use Rattle.mls_translang.specs.Tx.{depth};
 ghost use Rattle.mls_translang.specs.Blocks.{block_of};
-ghost use Rattle.mls_certcheck.specs.Checks.{verdict};
+ghost use Rattle.mls_certcheck.specs.Place.{directs};
+ghost use Rattle.mls_certcheck.specs.Lines.{names};
+ghost use Rattle.mls_certcheck.specs.Checks.{holds, verdict};
 ghost use Rattle.mls_certcheck.specs.Rows.{rows_of};
-ghost use Rattle.mls_certcheck.specs.Walk.{claim_of, Says, entry_tests, doing_tests, leaving_tests, plain_tests, branch_tests, loop_tests, walked};
+ghost use Rattle.mls_certcheck.specs.Walk.{claim_of, Says, entry_lines, doing_lines, leaving_lines, plain_lines, branch_lines, loop_lines, walked};
+ghost use Rattle.mls_certcheck.specs.declared.flow.Slot.TheVariants.{Statement};
+ghost use Rattle.mls_certcheck.specs.declared.flow.Source.TheVariants.{Held, Declared};
+ghost use Rattle.mls_certcheck.specs.declared.flow.Flow.TheVariants.{Into};
 
 use crate::checker::{Checker, flows};
 use crate::here::Here;
@@ -17,48 +22,68 @@ use mls_translang::{Block, Expr, Stmt};
 impl Checker<'_> {
     /// The rules of every statement: the ceiling, and what is around it.
     fn enters(&self, number: usize, around: usize) -> Result<(), Refusal>
-        ensures { Says result (verdict (entry_tests (claim_of self.now) number around)) }
+        ensures { Says result (verdict (claim_of self.now) (entry_lines (length self.now.tx.now.vars) number around)) }
     {
         let own = self.pc(number);
-        let under = flows(own, self.hi()) && self.are_under(self.own_row(number));
+        let under = flows(own, self.hi()) && self.are_under(number);
         Refusal::unless(under, number, Rule::AboveCeiling)?;
         Refusal::unless(flows(self.pc(around), own), number, Rule::Context)
+    }
+
+    /// Whether the guard of a branch may flow into its statements.
+    fn guards(&self, here: &Here, guard: &Expr, one: &Block, other: &Block) -> bool
+        requires rows { here.now.rows.count ≤ 16 }
+        requires few { here.now.number + statements one.now + statements other.now + 1 < 2 ^ 63 }
+        ensures { result ≡ holds (claim_of self.now) (Into (map (λ m. Statement m) (directs (here.now.number + 1) one.now ++ directs (here.now.number + 1 + statements one.now) other.now))
+            (Held (Statement here.now.number) ∷ names here.now.before (rows_of here.now.rows) guard.now)) }
+    {
+        let bound = self.pc(here.number).join(self.label(here, guard));
+        let second = here.number + 1 + one.statements();
+        self.inner_dominate(bound, here.number + 1, one)
+            && self.inner_dominate(bound, second, other)
     }
 
     /// The rule of a branch.
     fn branches(&self, here: &Here, guard: &Expr, one: &Block, other: &Block) -> Result<(), Refusal>
         requires rows { here.now.rows.count ≤ 16 }
         requires few { here.now.number + statements one.now + statements other.now + 1 < 2 ^ 63 }
-        ensures { Says result (verdict (branch_tests (claim_of self.now) here.now.number here.now.before (rows_of here.now.rows) guard.now one.now other.now)) }
+        ensures { Says result (verdict (claim_of self.now) (branch_lines here.now.number here.now.before (rows_of here.now.rows) guard.now one.now other.now)) }
     {
-        let bound = self.pc(here.number).join(self.label(here, guard));
         let second = here.number + 1 + one.statements();
         let one_end = last(here.before, here.number + 1, one);
         let other_end = last(here.before, second, other);
-        let holds = self.inner_dominate(bound, here.number + 1, one)
-            && self.inner_dominate(bound, second, other)
-            && self.both_keep(one_end, other_end, here.number);
+        let holds = self.guards(here, guard, one, other)
+            && self.keeps(one_end, here.number, None)
+            && self.keeps(other_end, here.number, None);
         Refusal::unless(holds, here.number, Rule::Branch)
+    }
+
+    /// Whether which rows there are may flow into the statements of a loop.
+    fn turns(&self, number: usize, label: LabelNo, body: &Block) -> bool
+        requires { number + statements body.now + 1 < 2 ^ 63 }
+        ensures { result ≡ holds (claim_of self.now) (Into (map (λ m. Statement m) (directs (number + 1) body.now)) (Held (Statement number) ∷ Declared label ∷ [])) }
+    {
+        let bound = self.pc(number).join(self.declared(label));
+        self.inner_dominate(bound, number + 1, body)
     }
 
     /// The rule of a loop.
     fn loops(&self, here: &Here, label: LabelNo, body: &Block) -> Result<(), Refusal>
         requires { here.now.number + statements body.now + 1 < 2 ^ 63 }
-        ensures { Says result (verdict (loop_tests (claim_of self.now) here.now.number here.now.before label body.now)) }
+        ensures { Says result (verdict (claim_of self.now) (loop_lines here.now.number here.now.before label body.now)) }
     {
-        let rows = self.declared(label);
-        let bound = self.pc(here.number).join(rows);
         let end = last(here.number, here.number + 1, body);
-        let holds = flows(rows, self.hi())
-            && self.inner_dominate(bound, here.number + 1, body)
-            && self.both_keep(here.before, end, here.number);
+        let holds = flows(self.declared(label), self.hi())
+            && self.turns(here.number, label, body)
+            && self.keeps(here.before, here.number, None)
+            && self.keeps(end, here.number, None);
         Refusal::unless(holds, here.number, Rule::RowLoop)
     }
 
     /// The rules of what a statement does that has none inside.
     fn doing(&self, here: &Here, stmt: &Stmt) -> Result<(), Refusal>
         requires { here.now.rows.count ≤ 16 }
-        ensures { Says result (verdict (doing_tests (claim_of self.now) here.now.number here.now.before (rows_of here.now.rows) (block_of (stmt.now ∷ [])))) }
+        ensures { Says result (verdict (claim_of self.now) (doing_lines here.now.number here.now.before (rows_of here.now.rows) (block_of (stmt.now ∷ [])))) }
     {
         match stmt {
             Stmt::Assign { variable, value } => self.assigns(here, *variable, value),
@@ -93,7 +118,7 @@ impl Checker<'_> {
 
     /// The rule of what such a statement leaves as it was.
     fn leaving(&self, here: &Here, stmt: &Stmt) -> Result<(), Refusal>
-        ensures { Says result (verdict (leaving_tests (claim_of self.now) here.now.number here.now.before (block_of (stmt.now ∷ [])))) }
+        ensures { Says result (verdict (claim_of self.now) (leaving_lines here.now.number here.now.before (block_of (stmt.now ∷ [])))) }
     {
         let target = match stmt {
             Stmt::Assign { variable, .. } => Some(*variable),
@@ -104,7 +129,7 @@ impl Checker<'_> {
             Stmt::Emit { .. } => None,
             _ => return Ok(()),
         };
-        let holds = self.rest_keeps(here.number, here.before, target);
+        let holds = self.keeps(here.before, here.number, target);
         Refusal::unless(holds, here.number, Rule::Rest)
     }
 
@@ -112,7 +137,7 @@ impl Checker<'_> {
     #[tactic(auto, using(crate::proofs::WalkLemmas::verdict_more))]
     fn plain(&self, here: &Here, stmt: &Stmt) -> Result<(), Refusal>
         requires { here.now.rows.count ≤ 16 }
-        ensures { Says result (verdict (plain_tests (claim_of self.now) here.now.number here.now.before (rows_of here.now.rows) (block_of (stmt.now ∷ [])))) }
+        ensures { Says result (verdict (claim_of self.now) (plain_lines here.now.number here.now.before (rows_of here.now.rows) (block_of (stmt.now ∷ [])))) }
     {
         self.doing(here, stmt)?;
         self.leaving(here, stmt)

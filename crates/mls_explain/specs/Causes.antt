@@ -5,7 +5,7 @@ use Rattle.mls_lattice.specs.Policy.{Tables}
 use Rattle.mls_translang.specs.Tree.{Writing, Inserting, Updating, Deleting, Stmt, Assign, Write_at, Release, Emit}
 use Rattle.mls_translang.specs.Tx.{Tx}
 use Rattle.mls_certcheck.specs.Place.{Node, Plain, Branching, Looping}
-use Rattle.mls_certcheck.specs.Rules.{operands}
+use Rattle.mls_certcheck.specs.Lines.{operands}
 use Rattle.mls_certcheck.specs.declared.refusal.Rule.{Rule}
 use Rattle.mls_certcheck.specs.declared.refusal.Rule.TheVariants as rule
 use Rattle.mls_explain.specs.Reads.{label_text, is_under, not_over, reads, all_read, over_ceiling}

@@ -1,5 +1,4 @@
 pub mod WalkLemmas
-pub mod EachLemmas
 pub mod FlowLemmas
 pub mod SlotLemmas
 pub mod RoomLemmas

@@ -10,8 +10,8 @@ use Rattle.mls_certificate.specs.declared.cert.Certificate.TheVariants.{One}
 use Rattle.mls_labeller.specs.Rising.{rows_of, certificate, HasSlot, put}
 use Rattle.mls_certificate.specs.declared.cert.Version.{Version}
 use Rattle.mls_certificate.specs.declared.cert.Version.TheVariants as version
-use Rattle.mls_labeller.specs.declared.flow.Slot.TheVariants.{Variable}
-use Rattle.mls_labeller.proofs.EachLemmas.{all_both}
+use Rattle.mls_certcheck.specs.declared.flow.Slot.TheVariants.{Variable}
+use Rattle.mls_certcheck.proofs.EachLemmas.{all_both}
 use Rattle.mls_labeller.proofs.RiseLemmas.{row_there}
 
 -- which row is that of a statement

@@ -5,25 +5,25 @@ use Rattle.std.proofs.lemmas.Bool.{cases_eq, true≢false}
 use Rattle.std.proofs.lemmas.List.{map-set, length-map, length-set, length-replicate, get_or-set_same, get_or-set_other, get_or_past}
 use Rattle.mls_lattice.specs.declared.label.Label.{Label}
 use Rattle.mls_lattice.specs.Lattice.{Pair, Dominates, join, bottom, pair_of}
+use Rattle.mls_lattice.specs.Policy.{labels_of}
 use Rattle.mls_lattice.proofs.LatticeLemmas.{Dominates-refl, Dominates-trans, join-left, join-right, join-least}
 use Rattle.mls_certificate.specs.declared.cert.Cert.{Cert}
 use Rattle.mls_certificate.specs.declared.cert.Cert2.{Cert2}
 use Rattle.mls_certificate.specs.declared.cert.Certificate.{Certificate}
 use Rattle.mls_certificate.specs.declared.cert.Certificate.TheVariants.{One, Two}
-use Rattle.mls_certcheck.proofs.LabelLemmas.{label_here}
-use Rattle.mls_certcheck.specs.Rules.{Claim, claim, after, pc}
-use Rattle.mls_certcheck.proofs.PlaceLemmas.{above_bottom}
-use Rattle.mls_labeller.specs.Least.{IsOf, slot_label, source_label, Pours, Holds, Below}
+use Rattle.mls_certcheck.proofs.LabelLemmas.{above_bottom, label_here}
+use Rattle.mls_certcheck.specs.Rules.{Claim, claim, after, pc, slot_label, source_label, Holds}
+use Rattle.mls_labeller.specs.Least.{IsOf, Below}
 use Rattle.mls_certificate.specs.declared.cert.Version.{Version}
 use Rattle.mls_certificate.specs.declared.cert.Version.TheVariants as version
 use Rattle.mls_labeller.specs.Rising.{certificate, HasSlot, HasCounts, AreLowest, IsLowest, put, room_of, room_in, room, IsJoin, Over, Each, Keeps, KeepsBelow, Rises}
-use Rattle.mls_labeller.specs.declared.flow.Slot.{Slot}
-use Rattle.mls_labeller.specs.declared.flow.Slot.TheVariants.{Variable, Statement}
-use Rattle.mls_labeller.specs.declared.flow.Flow.TheVariants.{Kept}
-use Rattle.mls_labeller.specs.declared.flow.Source.{Source}
-use Rattle.mls_labeller.specs.declared.flow.Source.TheVariants.{Held, Parameter, Declared}
+use Rattle.mls_certcheck.specs.declared.flow.Slot.{Slot}
+use Rattle.mls_certcheck.specs.declared.flow.Slot.TheVariants.{Variable, Statement}
+use Rattle.mls_certcheck.specs.declared.flow.Flow.TheVariants.{Into, Kept}
+use Rattle.mls_certcheck.specs.declared.flow.Source.{Source}
 use Rattle.mls_labeller.specs.declared.least.Labeller.{Labeller}
-use Rattle.mls_labeller.proofs.EachLemmas.{all_both, all_front, all_back, all_map, all_at, all_set}
+use Rattle.mls_certcheck.proofs.EachLemmas.{all_both, all_front, all_back, all_map, all_at, all_set}
+use Rattle.mls_labeller.proofs.FlowLemmas.{slot_falls, source_falls}
 use Rattle.mls_labeller.proofs.RoomLemmas.{room_less, sum_less}
 
 pub dominates_same : (p q r s : Pair) → p ≡ r → q ≡ s → Dominates p q → Dominates r s
@@ -152,20 +152,11 @@ module _ (k : Labeller) where
     room = λ e. absurd (true≢false (sym e));
   }
 
-  slot_below : (x y : Certificate) → Below (at x) (at y) → (t : Slot) → Dominates (slot_label (at y) t) (slot_label (at x) t)
-  slot_below x y b (Variable n i) = b.vars n i
-  slot_below x y b (Statement n) = b.stmts n
-
-  source_below : (x y : Certificate) → Below (at x) (at y) → (s : Source) → Dominates (source_label (at y) s) (source_label (at x) s)
-  source_below x y b (Held t) = slot_below x y b t
-  source_below x y b (Parameter i) = Dominates-refl _
-  source_below x y b (Declared label) = Dominates-refl _
-
   -- what is over the bound is over the raised label
   over_raised : (x y : Certificate) (t : Slot) (p : Pair) (new : Label) → pair_of new ≡ join (slot_label (at x) t) p → Below (at x) (at y) → Over p (at y) t → Dominates (slot_label (at y) t) (pair_of new)
   over_raised x y t p new is below holds =
       let q = slot_label (at y) t in
-      subst (Dominates q) (sym is) (join-least (slot_label (at x) t) p q (slot_below x y below t) holds)
+      subst (Dominates q) (sym is) (join-least (slot_label (at x) t) p q (slot_falls (labels_of k.policy.now) k.tx.now x y below t) holds)
 
   -- ---- one label of version 1
 
@@ -352,9 +343,9 @@ module _ (k : Labeller) where
 
   over_joined : (x y : Certificate) (ss : List Source) (p : Pair) → IsJoin (at x) ss p → Below (at x) (at y) → (q : Pair) → AllByRecursion (λ s. Dominates q (source_label (at y) s)) ss → Dominates q p
   over_joined x y ss p j below q h =
-      j.least q (all_map (λ s. Dominates q (source_label (at y) s)) (λ s. Dominates q (source_label (at x) s)) (λ s g. Dominates-trans q (source_label (at y) s) (source_label (at x) s) g (source_below x y below s)) ss h)
+      j.least q (all_map (λ s. Dominates q (source_label (at y) s)) (λ s. Dominates q (source_label (at x) s)) (λ s g. Dominates-trans q (source_label (at y) s) (source_label (at x) s) g (source_falls (labels_of k.policy.now) k.tx.now x y below s)) ss h)
 
-  pub rises_pour : (ts : List Slot) (ss : List Source) (p : Pair) (x y : Certificate) (r : Bool) → IsJoin (at x) ss p → Rises k (Each (Over p) ts) x y r → Rises k (λ c. Pours c ts ss) x y r
+  pub rises_pour : (ts : List Slot) (ss : List Source) (p : Pair) (x y : Certificate) (r : Bool) → IsJoin (at x) ss p → Rises k (Each (Over p) ts) x y r → Rises k (λ c. Holds c (Into ts ss)) x y r
   rises_pour ts ss p x y r j h = record {
     version = h.version;
     counts = h.counts;

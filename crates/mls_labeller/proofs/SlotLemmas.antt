@@ -1,5 +1,6 @@
 -- Every lower bound is on a variable or a statement that there is.
-use Rattle.std.proofs.Common.{◌≡◌, ◌+◌, ℕ, zero, suc, ◌<◌, ◌≤◌, List, [], ◌∷◌, ◌++◌, length, map, Some, None, refl, arith}
+use Rattle.std.proofs.Common.{◌≡◌, ◌+◌, ℕ, zero, suc, ◌<◌, ◌≤◌, List, [], ◌∷◌, ◌++◌, length, map, Option, Some, None, refl, sym, subst, arith}
+use Rattle.std.specs.Option.{IfSome}
 use Rattle.std.specs.List.{AllByRecursion}
 use Rattle.mls_translang.specs.Tree.{Stmt, Assign, Write_at, Release, Emit, Block, End, Do, If, For, statements}
 use Rattle.mls_translang.specs.Scope.{Scope, in_loop}
@@ -7,14 +8,16 @@ use Rattle.mls_translang.specs.Tx.{Tx, IsTx, BlockIsOwn, StmtIsOwn, scope_of}
 use Rattle.mls_certificate.specs.declared.cert.Certificate.{Certificate}
 use Rattle.mls_certificate.specs.declared.cert.Certificate.TheVariants.{One, Two}
 use Rattle.mls_certcheck.specs.Place.{Place, Plain, directs, last, places}
-use Rattle.mls_certcheck.specs.Rules.{target}
-use Rattle.mls_labeller.specs.Flows.{kept, stmt_flows, own_flows, flows_at, flows}
+use Rattle.mls_certcheck.specs.Lines.{target, outcome_flows, all_places}
+use Rattle.mls_labeller.specs.Flows.{flows}
+use Rattle.mls_labeller.specs.Walk.{stmt_flows, own_flows, flows_at, block_flows}
 use Rattle.mls_labeller.specs.Rising.{HasSlot, HasFlow, HasCounts}
-use Rattle.mls_labeller.specs.declared.flow.Slot.{Slot}
-use Rattle.mls_labeller.specs.declared.flow.Slot.TheVariants.{Variable, Statement}
-use Rattle.mls_labeller.specs.declared.flow.Flow.{Flow}
-use Rattle.mls_labeller.specs.declared.flow.Flow.TheVariants.{Into, Kept}
-use Rattle.mls_labeller.proofs.EachLemmas.{all_both, all_map, all_at, each_flat}
+use Rattle.mls_certcheck.specs.declared.flow.Slot.{Slot}
+use Rattle.mls_certcheck.specs.declared.flow.Slot.TheVariants.{Variable, Statement}
+use Rattle.mls_certcheck.specs.declared.flow.Flow.{Flow}
+use Rattle.mls_certcheck.specs.declared.flow.Flow.TheVariants.{Into, Kept, Within, Under}
+use Rattle.mls_certcheck.proofs.EachLemmas.{all_both, all_map, all_at, each_flat}
+use Rattle.mls_labeller.proofs.WalkLemmas.{write_flows, plain_split, flows_whole}
 
 directs_within : (n : ℕ) (b : Block) → AllByRecursion (λ m. (n ≤ m) × (m < n + statements b)) (directs n b)
 directs_within n End = tt
@@ -54,7 +57,7 @@ module _ (vars total : ℕ) (x : Certificate) (counts : HasCounts vars total x) 
   has_map (m ∷ ms) h = (h.0, has_map ms h.1)
 
   -- all variables after a statement
-  has_kept : (n : ℕ) → 0 < n → n ≤ total → (ms : List ℕ) → AllByRecursion Has (map (λ m. kept m n None) ms)
+  has_kept : (n : ℕ) → 0 < n → n ≤ total → (ms : List ℕ) → AllByRecursion Has (map (λ m. Kept m n None) ms)
   has_kept n low high [] = tt
   has_kept n low high (m ∷ ms) = (λ i lt. has_variable n i low high lt, has_kept n low high ms)
 
@@ -62,15 +65,20 @@ module _ (vars total : ℕ) (x : Certificate) (counts : HasCounts vars total x) 
     known : (i : ℕ) → i < length s.vars → HasSlot x (Variable n i)
     known i h = has_variable n i low high (omega (arith, h, count))
 
+    has_outcome : (w : ℕ) (o : Option ℕ) → IfSome o (λ i. i < length s.vars) → AllByRecursion Has (outcome_flows n w o)
+    has_outcome w None h = tt
+    has_outcome w (Some i) h = ((known i h, tt), tt)
+
     has_stmt : (b : ℕ) (rows : List ℕ) (stmt : Stmt) → StmtIsOwn s stmt → AllByRecursion Has (stmt_flows n b rows stmt)
     has_stmt b rows (Assign i e) h = ((known i h.0, tt), tt)
-    has_stmt b rows (Write_at rel w writing None) h = tt
-    has_stmt b rows (Write_at rel w writing (Some i)) h = ((known i h.1, tt), tt)
+    has_stmt b rows (Write_at rel w writing outcome) h = subst (AllByRecursion Has) (sym (write_flows n b rows rel w writing outcome)) (has_outcome w outcome h.1)
     has_stmt b rows (Release e to into) h = ((known into h.1, tt), tt)
     has_stmt b rows (Emit e label) h = tt
 
     has_own : (b : ℕ) (rows : List ℕ) (stmt : Stmt) → StmtIsOwn s stmt → AllByRecursion Has (own_flows n b rows (Plain stmt))
-    has_own b rows stmt h = all_both Has (stmt_flows n b rows stmt) (kept b n (target stmt) ∷ []) (has_stmt b rows stmt h) (λ i lt. has_variable n i low high lt, tt)
+    has_own b rows stmt h =
+        subst (AllByRecursion Has) (sym (plain_split n b rows stmt))
+        (all_both Has (stmt_flows n b rows stmt) (Kept b n (target stmt) ∷ []) (has_stmt b rows stmt h) (λ i lt. has_variable n i low high lt, tt))
 
   abbrev HasAt : Place → Type 0
   HasAt p = AllByRecursion Has (flows_at p)
@@ -96,10 +104,13 @@ module _ (vars total : ℕ) (x : Certificate) (counts : HasCounts vars total x) 
       )
 
 pub flows_have_slots : (tx : Tx) → IsTx tx → (x : Certificate) → HasCounts (length tx.vars) (statements tx.body) x → AllByRecursion (HasFlow (length tx.vars) x) (flows tx)
+unfolding block_flows
 flows_have_slots tx is x counts =
-    each_flat (HasFlow (length tx.vars) x) flows_at (places 1 0 0 [] tx.body)
-    (has_places (length tx.vars) (statements tx.body) x counts (scope_of tx) refl 1 0 0 [] tx.body (omega arith) (omega arith) is.own)
+    subst (AllByRecursion (HasFlow (length tx.vars) x)) (flows_whole tx) (each_flat (HasFlow (length tx.vars) x) flows_at (all_places tx)
+    (has_places (length tx.vars) (statements tx.body) x counts (scope_of tx) refl 1 0 0 [] tx.body (omega arith) (omega arith) is.own))
 
 pub flow_has : (vars : ℕ) (x y : Certificate) → ((t : Slot) → HasSlot x t → HasSlot y t) → (f : Flow) → HasFlow vars x f → HasFlow vars y f
 flow_has vars x y has (Into targets sources) h = all_map (HasSlot x) (HasSlot y) has targets h
 flow_has vars x y has (Kept m n but) h = λ i lt. has (Variable n i) (h i lt)
+flow_has vars x y has (Within limit sources) h = h
+flow_has vars x y has (Under sources) h = h

@@ -1,20 +1,25 @@
 -- How the walk goes from statement to statement.
-use Rattle.std.proofs.Common.{◌≡◌, ℕ, suc, ◌+◌, ◌<◌, List, [], ◌∷◌, ◌++◌, length, drop, get_or, map, refl, sym, ap, ◌∙◌, append_assoc, arith}
+use Rattle.std.proofs.Common.{◌≡◌, ℕ, suc, ◌+◌, ◌<◌, List, [], ◌∷◌, ◌++◌, length, drop, get_or, map, Option, Some, None, refl, sym, ap, ◌∙◌, append_assoc, arith}
 use Rattle.std.specs.List.{flat_map}
 use Rattle.std.proofs.lemmas.List.{append-nil, map-append}
 use Rattle.std.proofs.lemmas.Grind.{flat_map-append}
 use Rattle.std.proofs.Math.Seq.{drop-cons}
-use Rattle.mls_translang.specs.Tree.{Expr, Stmt as Simple, Assign, Write_at, Inserting, Updating, Deleting, Release, Emit, Block, End, Do, If, For, statements}
+use Rattle.mls_translang.specs.Tree.{Expr, Stmt as Simple, Writing, Assign, Write_at, Inserting, Updating, Deleting, Release, Emit, Block, End, Do, If, For, statements}
+use Rattle.mls_translang.specs.Tx.{Tx}
 use Rattle.mls_translang.specs.Blocks.{block_of}
 use Rattle.mls_translang.specs.declared.block.Stmt.{Stmt}
 use Rattle.mls_translang.specs.declared.block.Stmt.TheVariants as stmt
 use Rattle.mls_certcheck.specs.Place.{Place, Plain, directs, last, branching, looping, places}
-use Rattle.mls_labeller.specs.Flows.{flow, own_flows, flows_at}
-use Rattle.mls_labeller.specs.Walk.{own_slots, block_flows, plain_flows, if_flows, for_flows}
-use Rattle.mls_labeller.specs.declared.flow.Slot.{Slot}
-use Rattle.mls_labeller.specs.declared.flow.Slot.TheVariants.{Statement}
-use Rattle.mls_labeller.specs.declared.flow.Source.TheVariants.{Held}
-use Rattle.mls_labeller.specs.declared.flow.Flow.{Flow}
+use Rattle.mls_certcheck.specs.Lines.{by, target, outcome_flows, within_ends, stmt_lines, rest as rest_lines, lines_at, tx_lines, all_places}
+use Rattle.mls_labeller.specs.Flows.{raising, flows_in, flows}
+use Rattle.mls_labeller.specs.Walk.{own_slots, stmt_flows, own_flows, flows_at, block_flows, plain_flows, if_flows, for_flows}
+use Rattle.mls_certcheck.specs.declared.flow.Slot.{Slot}
+use Rattle.mls_certcheck.specs.declared.flow.Slot.TheVariants.{Statement}
+use Rattle.mls_certcheck.specs.declared.flow.Source.TheVariants.{Held}
+use Rattle.mls_certcheck.specs.declared.flow.Flow.{Flow}
+use Rattle.mls_certcheck.specs.declared.flow.Flow.TheVariants.{Into, Kept}
+use Rattle.mls_certcheck.specs.declared.refusal.Rule.{Rule}
+use Rattle.mls_certcheck.specs.declared.refusal.Rule.TheVariants as rule
 
 -- ---- lists, one behind another
 
@@ -123,11 +128,39 @@ pub block_done : (n around b : ℕ) (rows : List ℕ) (out : List Flow) → out 
 unfolding block_flows
 block_done n around b rows out = append-nil out
 
+-- the lines that raise labels are those of the statements
+flows_whole_at : (vars : ℕ) (ps : List Place) → flows_in (flat_map (lines_at vars) ps) ≡ flat_map flows_at ps
+flows_whole_at vars [] = refl
+flows_whole_at vars (p ∷ ps) = flat_map-append (λ l. raising l.flow) (lines_at vars p) (flat_map (lines_at vars) ps) ∙ ap (λ (l : List Flow). flows_at p ++ l) (flows_whole_at vars ps)
+
+ends_raise_none : {A : Type 0} (label : A → ℕ) (r : Rule) (xs : List A) → flows_in (by 0 r (flat_map (λ x. within_ends (label x)) xs)) ≡ []
+ends_raise_none label r [] = refl
+ends_raise_none label r (x ∷ xs) = ends_raise_none label r xs
+
+pub flows_whole : (tx : Tx) → block_flows 1 0 0 [] tx.body ≡ flows tx
+unfolding block_flows
+flows_whole tx =
+    let vars = length tx.vars in
+    sym (flat_map-append (λ l. raising l.flow) (tx_lines tx) (flat_map (lines_at vars) (all_places tx))
+    ∙ (λ i. ends_raise_none (λ p. p.1.label) rule.Context tx.params i ++ flows_whole_at vars (all_places tx) i))
+
 -- ---- one statement
+
+-- of a write, only the outcome is set
+pub write_flows : (n b : ℕ) (rows : List ℕ) (rel w : ℕ) (writing : Writing) (outcome : Option ℕ) → stmt_flows n b rows (Write_at rel w writing outcome) ≡ outcome_flows n w outcome
+write_flows n b rows rel w (Inserting key values) None = refl
+write_flows n b rows rel w (Inserting key values) (Some x) = refl
+write_flows n b rows rel w (Updating key key_class from sets) None = refl
+write_flows n b rows rel w (Updating key key_class from sets) (Some x) = refl
+write_flows n b rows rel w (Deleting key key_class) None = refl
+write_flows n b rows rel w (Deleting key key_class) (Some x) = refl
+
+pub plain_split : (n b : ℕ) (rows : List ℕ) (s : Simple) → own_flows n b rows (Plain s) ≡ stmt_flows n b rows s ++ Kept b n (target s) ∷ []
+plain_split n b rows s = flat_map-append (λ l. raising l.flow) (stmt_lines n b rows s) (rest_lines n b s)
 
 module _ (n around b : ℕ) (rows : List ℕ) where
   abbrev entry : List Flow
-  entry = flow (Statement n ∷ []) (Held (Statement around) ∷ []) ∷ []
+  entry = Into (Statement n ∷ []) (Held (Statement around) ∷ []) ∷ []
 
   if_whole : (guard : Expr) (one other : Block) → entry ++ if_flows n b rows guard one other ≡ block_flows n around b rows (If guard one other End)
   unfolding block_flows
@@ -159,8 +192,8 @@ module _ (n around b : ℕ) (rows : List ℕ) where
     for_put s row rel label body is h =
         behind out two three _ _ _ entered h (for_whole row rel label body) ∙ ap (λ (t : Stmt). out ++ block_flows n around b rows (block_of (t ∷ []))) (sym is)
 
-    do_put : (s : Simple) → three ≡ two ++ own_flows n b rows (Plain s) → three ≡ out ++ block_flows n around b rows (Do s End)
-    do_put s h = behind out two three _ _ _ entered h (do_whole s)
+    do_put : (s : Simple) → three ≡ two ++ (stmt_flows n b rows s ++ Kept b n (target s) ∷ []) → three ≡ out ++ block_flows n around b rows (Do s End)
+    do_put s h = behind out two three _ _ _ entered (h ∙ ap (λ (l : List Flow). two ++ l) (sym (plain_split n b rows s))) (do_whole s)
 
     pub plain_put : (s : Stmt) (not_if : (guard : Expr) (one other : Block) → s ≡ stmt.If guard one other → ⊥) (not_for : (row : List ℕ) (rel label : ℕ) (body : Block) → s ≡ stmt.For row rel label body → ⊥) → three ≡ two ++ plain_flows n b rows (block_of (s ∷ [])) → three ≡ out ++ block_flows n around b rows (block_of (s ∷ []))
     plain_put (stmt.Assign x value) not_if not_for h = do_put (Assign x value) h

@@ -1,23 +1,16 @@
 -- The least labels that meet the lower bounds.
-use Rattle.std.specs.Prelude.{◌≡◌, ℕ, ◌<◌, List, length, Some}
+use Rattle.std.specs.Prelude.{◌≡◌, ℕ, length}
 use Rattle.std.specs.List.{AllByRecursion}
-use Rattle.mls_lattice.specs.Lattice.{Pair, Dominates}
-use Rattle.mls_lattice.specs.Labels.{label_of}
+use Rattle.mls_lattice.specs.Lattice.{Dominates}
 use Rattle.mls_lattice.specs.Policy.{Tables}
 use Rattle.mls_translang.specs.Tree.{statements}
 use Rattle.mls_translang.specs.Tx.{Tx}
 use Rattle.mls_certificate.specs.declared.cert.Certificate.{Certificate}
 use Rattle.mls_certificate.specs.declared.cert.Certificate.TheVariants.{One, Two}
-use Rattle.mls_certcheck.specs.Rules.{Claim, claim, after, pc, param_label, var_rows, Counts}
+use Rattle.mls_certcheck.specs.Rules.{Claim, claim, after, pc, var_rows, Counts, Holds}
 use Rattle.mls_labeller.specs.Flows.{flows}
 use Rattle.mls_certificate.specs.declared.cert.Version.{Version}
 use Rattle.mls_certificate.specs.declared.cert.Version.TheVariants as version
-use Rattle.mls_labeller.specs.declared.flow.Slot.{Slot}
-use Rattle.mls_labeller.specs.declared.flow.Slot.TheVariants.{Variable, Statement}
-use Rattle.mls_labeller.specs.declared.flow.Source.{Source}
-use Rattle.mls_labeller.specs.declared.flow.Source.TheVariants.{Held, Parameter, Declared}
-use Rattle.mls_labeller.specs.declared.flow.Flow.{Flow}
-use Rattle.mls_labeller.specs.declared.flow.Flow.TheVariants.{Into, Kept}
 
 -- a certificate has this version
 abbrev pub IsOf : Version → Certificate → Type 0
@@ -27,29 +20,11 @@ IsOf version.Second (One cert) = ⊥
 IsOf version.Second (Two cert) = Unit {0}
 
 module _ (c : Claim) where
-  abbrev pub slot_label : Slot → Pair
-  slot_label (Variable n x) = after c n x
-  slot_label (Statement n) = pc c n
-
-  abbrev pub source_label : Source → Pair
-  source_label (Held slot) = slot_label slot
-  source_label (Parameter i) = param_label c i
-  source_label (Declared label) = label_of c.labels label
-
-  -- the label of each target dominates that of each source
-  abbrev pub Pours : List Slot → List Source → Type 0
-  Pours targets sources = AllByRecursion (λ t. AllByRecursion (λ s. Dominates (slot_label t) (source_label s)) sources) targets
-
-  -- so do labels of variables after a statement, where these are kept
-  abbrev pub Holds : Flow → Type 0
-  Holds (Into targets sources) = Pours targets sources
-  Holds (Kept m n but) = (x : ℕ) → x < length c.tx.vars → (but ≡ Some x → ⊥) → Dominates (after c n x) (after c m x)
-
   -- a label for each variable and statement, and each lower bound holds
   pub record Meets : Type 0 where
     pub var_count : AllByRecursion (λ row. length row ≡ length c.tx.vars) (var_rows c.cert)
     pub stmt_count : Counts (statements c.tx.body) c.cert
-    pub bounds : AllByRecursion Holds (flows c.tx)
+    pub bounds : AllByRecursion (Holds c) (flows c.tx)
 
 -- each label of the first is dominated by the label at the same place of the second
 pub record Below (c d : Claim) : Type 0 where

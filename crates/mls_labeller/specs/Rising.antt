@@ -6,15 +6,15 @@ use Rattle.mls_lattice.specs.Lattice.{Pair, Dominates, bottom, pair_of}
 use Rattle.mls_lattice.specs.declared.label.Label.{Label}
 use Rattle.mls_certificate.specs.declared.cert.Certificate.{Certificate}
 use Rattle.mls_certificate.specs.declared.cert.Certificate.TheVariants.{One, Two}
-use Rattle.mls_certcheck.specs.Rules.{Claim, claim, after, row_after, var_rows, pc_labels, Counts}
-use Rattle.mls_labeller.specs.Least.{IsOf, slot_label, source_label, Below}
+use Rattle.mls_certcheck.specs.Rules.{Claim, claim, after, row_after, var_rows, pc_labels, Counts, slot_label, IsOver}
+use Rattle.mls_labeller.specs.Least.{IsOf, Below}
 use Rattle.mls_certificate.specs.declared.cert.Version.{Version}
 use Rattle.mls_certificate.specs.declared.cert.Version.TheVariants as version
-use Rattle.mls_labeller.specs.declared.flow.Slot.{Slot}
-use Rattle.mls_labeller.specs.declared.flow.Slot.TheVariants.{Variable, Statement}
-use Rattle.mls_labeller.specs.declared.flow.Source.{Source}
-use Rattle.mls_labeller.specs.declared.flow.Flow.{Flow}
-use Rattle.mls_labeller.specs.declared.flow.Flow.TheVariants.{Into, Kept}
+use Rattle.mls_certcheck.specs.declared.flow.Slot.{Slot}
+use Rattle.mls_certcheck.specs.declared.flow.Slot.TheVariants.{Variable, Statement}
+use Rattle.mls_certcheck.specs.declared.flow.Source.{Source}
+use Rattle.mls_certcheck.specs.declared.flow.Flow.{Flow}
+use Rattle.mls_certcheck.specs.declared.flow.Flow.TheVariants.{Into, Kept, Within, Under}
 use Rattle.mls_labeller.specs.declared.labels.Labels.{Labels}
 use Rattle.mls_labeller.specs.declared.least.Labeller.{Labeller}
 
@@ -46,6 +46,8 @@ HasRow vars x n = (i : ℕ) → i < vars → HasSlot x (Variable n i)
 abbrev pub HasFlow : ℕ → Certificate → Flow → Type 0
 HasFlow vars x (Into targets sources) = HasSlots x targets
 HasFlow vars x (Kept m n but) = HasRow vars x n
+HasFlow vars x (Within limit sources) = ⊥
+HasFlow vars x (Under sources) = ⊥
 
 -- labels for so many variables and statements
 pub record HasCounts (v s : ℕ) (x : Certificate) : Type 0 where
@@ -80,8 +82,8 @@ room x = sum_by room_in (var_rows x) + room_in (pc_labels x)
 
 -- the least pair over the labels of sources
 pub record IsJoin (c : Claim) (sources : List Source) (p : Pair) : Type 0 where
-  pub above : AllByRecursion (λ s. Dominates p (source_label c s)) sources
-  pub least : (q : Pair) → AllByRecursion (λ s. Dominates q (source_label c s)) sources → Dominates q p
+  pub above : IsOver c p sources
+  pub least : (q : Pair) → IsOver c q sources → Dominates q p
 
 -- the label of a slot dominates the pair
 abbrev pub Over : Pair → Claim → Slot → Type 0

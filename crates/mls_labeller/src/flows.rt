@@ -3,12 +3,14 @@ ghost use Rattle.std.specs.Prelude.{◌≡◌, ◌<◌, ◌+◌, ◌^◌, ◌∷
 ghost use Rattle.mls_translang.specs.Tree.{statements};
 ghost use Rattle.mls_translang.specs.Blocks.{block_of};
 ghost use Rattle.mls_certcheck.specs.Place.{last};
-ghost use Rattle.mls_labeller.specs.Flows.{flow, flows, kept, outcome_flows};
+ghost use Rattle.mls_certcheck.specs.Lines.{outcome_flows};
+ghost use Rattle.mls_labeller.specs.Flows.{flows};
 ghost use Rattle.mls_labeller.specs.Walk.{own_slots, target_in, value_flows, plain_flows, block_flows, branch_flows, loop_flows, if_flows, for_flows};
-ghost use Rattle.mls_labeller.specs.declared.flow.Slot.TheVariants.{Variable};
+ghost use Rattle.mls_certcheck.specs.declared.flow.Slot.TheVariants.{Variable};
+ghost use Rattle.mls_certcheck.specs.declared.flow.Flow.TheVariants.{Into, Kept};
 
-use crate::flow::{Flow, Slot, Source};
 use crate::sources::{rows_inside, sources_of};
+use mls_certcheck::{Flow, Slot, Source};
 use mls_lattice::{Items, LabelNo};
 use mls_translang::{Block, Expr, Stmt, Tx};
 use std::alloc::{AllocError, Global};
@@ -29,7 +31,7 @@ fn flow_to(
     targets: Vec<Slot>,
     sources: Vec<Source>,
 ) -> Result<(), AllocError>
-    ensures { OnOk result (flows.new.items ≡ flows.old.items ++ flow targets.items sources.items ∷ []) }
+    ensures { OnOk result (flows.new.items ≡ flows.old.items ++ Into targets.items sources.items ∷ []) }
 {
     flows.push(Flow::Into {
         targets: Items::from(targets),
@@ -45,7 +47,7 @@ fn into_slot(
     target: Slot,
     sources: Vec<Source>,
 ) -> Result<(), AllocError>
-    ensures { OnOk result (flows.new.items ≡ flows.old.items ++ flow (target ∷ []) sources.items ∷ []) }
+    ensures { OnOk result (flows.new.items ≡ flows.old.items ++ Into (target ∷ []) sources.items ∷ []) }
 {
     let targets = vec![in alloc; target]?;
     flow_to(flows, targets, sources)
@@ -58,7 +60,7 @@ fn one_to(
     target: Slot,
     source: Source,
 ) -> Result<(), AllocError>
-    ensures { OnOk result (flows.new.items ≡ flows.old.items ++ flow (target ∷ []) (source ∷ []) ∷ []) }
+    ensures { OnOk result (flows.new.items ≡ flows.old.items ++ Into (target ∷ []) (source ∷ []) ∷ []) }
 {
     let sources = vec![in alloc; source]?;
     into_slot(alloc, flows, target, sources)
@@ -66,7 +68,7 @@ fn one_to(
 
 /// What variables (but one) hold after the one statement, they may hold after the other.
 fn keep(flows: &mut Vec<Flow>, from: usize, to: usize, but: Option<u8>) -> Result<(), AllocError>
-    ensures { OnOk result (flows.new.items ≡ flows.old.items ++ kept from to but ∷ []) }
+    ensures { OnOk result (flows.new.items ≡ flows.old.items ++ Kept from to but ∷ []) }
 {
     flows.push(Flow::Kept { from, to, but })?;
     Ok(())

@@ -5,14 +5,15 @@ ghost use Rattle.mls_lattice.specs.Lattice.{pair_of, bottom};
 ghost use Rattle.mls_lattice.specs.Labels.{label_of};
 ghost use Rattle.mls_lattice.specs.Policy.{labels_of};
 ghost use Rattle.mls_translang.specs.Tree.{statements};
-ghost use Rattle.mls_certcheck.specs.Rules.{claim, pc, param_label};
-ghost use Rattle.mls_labeller.specs.Flows.{flows as flows_in, kept};
-ghost use Rattle.mls_labeller.specs.Least.{slot_label, source_label, Pours, Holds, IsLeast};
+ghost use Rattle.mls_certcheck.specs.Rules.{claim, pc, param_label, slot_label, source_label, Holds};
+ghost use Rattle.mls_labeller.specs.Flows.{flows as flows_in};
+ghost use Rattle.mls_labeller.specs.Least.{IsLeast};
 ghost use Rattle.mls_labeller.specs.Rising.{cert_of, claim_at, HasSlot, HasSlots, HasRow, HasFlow, IsJoin, Over, Each, Keeps, Rises};
-ghost use Rattle.mls_labeller.specs.declared.flow.Slot.TheVariants.{Variable};
+ghost use Rattle.mls_certcheck.specs.declared.flow.Slot.TheVariants.{Variable};
+ghost use Rattle.mls_certcheck.specs.declared.flow.Flow.TheVariants.{Into, Kept};
 
-use crate::flow::{Flow, Slot, Source};
 use crate::labels::Labels;
+use mls_certcheck::{Flow, Slot, Source};
 use mls_certificate::Version;
 use mls_lattice::{Label, LabelNo, Policy};
 use mls_translang::{Tx, statements};
@@ -158,7 +159,7 @@ impl Labeller<'_> {
     /// Raises so the labels of all variables but one: false where they all were there.
     fn keep_all(&self, labels: &mut Labels, from: usize, to: usize, but: Option<u8>) -> bool
         requires { HasRow (length self.now.tx.now.vars) (cert_of labels.old) to }
-        ensures { Rises self.now (λ c. Holds c (kept from to but)) (cert_of labels.old) (cert_of labels.new) result }
+        ensures { Rises self.now (λ c. Holds c (Kept from to but)) (cert_of labels.old) (cert_of labels.new) result }
     {
         let mut rose = false;
         for place in 0..self.tx.vars().len() {
@@ -172,7 +173,7 @@ impl Labeller<'_> {
     /// Raises slots to the join of sources: false where they all were there.
     fn pour(&self, labels: &mut Labels, targets: &[Slot], sources: &[Source]) -> bool
         requires { HasSlots (cert_of labels.old) targets.now }
-        ensures { Rises self.now (λ c. Pours c targets.now sources.now) (cert_of labels.old) (cert_of labels.new) result }
+        ensures { Rises self.now (λ c. Holds c (Into targets.now sources.now)) (cert_of labels.old) (cert_of labels.new) result }
     {
         let low = self.joined(labels, sources);
         self.raise_all(labels, targets, low)
@@ -186,6 +187,7 @@ impl Labeller<'_> {
         match flow {
             Flow::Into { targets, sources } => self.pour(labels, targets, sources),
             Flow::Kept { from, to, but } => self.keep_all(labels, *from, *to, *but),
+            Flow::Within { .. } | Flow::Under { .. } => unreachable!(),
         }
     }
 

@@ -2,7 +2,6 @@
 #![tactic(auto)]
 
 mod fault;
-mod flow;
 mod flows;
 mod labelling;
 mod labels;

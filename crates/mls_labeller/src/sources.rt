@@ -1,10 +1,10 @@
 //! What flows out of expressions.
 ghost use Rattle.std.specs.Prelude.{◌≡◌, ◌∷◌, ◌++◌, IfOk, OnOk, slice_index};
-ghost use Rattle.mls_labeller.specs.Flows.{names};
-ghost use Rattle.mls_labeller.specs.declared.flow.Slot.TheVariants.{Statement};
-ghost use Rattle.mls_labeller.specs.declared.flow.Source.TheVariants.{Held};
+ghost use Rattle.mls_certcheck.specs.Lines.{names};
+ghost use Rattle.mls_certcheck.specs.declared.flow.Slot.TheVariants.{Statement};
+ghost use Rattle.mls_certcheck.specs.declared.flow.Source.TheVariants.{Held};
 
-use crate::flow::{Slot, Source};
+use mls_certcheck::{Slot, Source};
 use mls_lattice::LabelNo;
 use mls_translang::{Expr, Term};
 use std::alloc::{AllocError, Global};

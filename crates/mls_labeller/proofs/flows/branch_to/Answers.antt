@@ -2,9 +2,9 @@ use Rattle.std.proofs.Common.{◌≡◌, ◌+◌, [], ◌∷◌, ◌++◌, map, 
 use Rattle.std.proofs.lemmas.Result.{on_ok_weaker}
 use Rattle.mls_translang.specs.Tree.{statements}
 use Rattle.mls_certcheck.specs.Place.{directs, last}
-use Rattle.mls_labeller.specs.Flows.{flow, kept}
 use Rattle.mls_labeller.specs.Walk.{own_slots}
-use Rattle.mls_labeller.specs.declared.flow.Slot.TheVariants.{Statement}
+use Rattle.mls_certcheck.specs.declared.flow.Slot.TheVariants.{Statement}
+use Rattle.mls_certcheck.specs.declared.flow.Flow.TheVariants.{Into, Kept}
 use Rattle.mls_labeller.proofs.WalkLemmas.{behind, branch_slots}
 use Rattle.mls_labeller.proofs.flows.branch_to.Goals as goal
 
@@ -21,5 +21,5 @@ returns c =
     let end : c.last_of-2.result ≡ last c.args.before (n + 1 + statements one) other = c.last_of-2.ensures ∙ (λ i. last c.args.before (n + 1 + c.statements.ensures i) other) in
     let first = behind out c.flow_to.new.flows.items c.keep.new.flows.items _ _ _ c.in_ok-flow_to.ensures c.in_ok-keep.ensures refl in
     on_ok_weaker c.keep-2.result
-    (λ h. behind out c.keep.new.flows.items c.keep-2.new.flows.items _ _ _ first h refl ∙ (λ i. out ++ flow (slots i) (c.in_ok-sources.ensures i) ∷ kept (c.last_of.ensures i) n None ∷ kept (end i) n None ∷ []))
+    (λ h. behind out c.keep.new.flows.items c.keep-2.new.flows.items _ _ _ first h refl ∙ (λ i. out ++ Into (slots i) (c.in_ok-sources.ensures i) ∷ Kept (c.last_of.ensures i) n None ∷ Kept (end i) n None ∷ []))
     c.keep-2.ensures

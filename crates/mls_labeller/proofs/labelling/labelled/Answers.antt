@@ -17,7 +17,7 @@ use Rattle.mls_labeller.proofs.labelling.labelled.Goals as goal
 -- where the least labels break a rule, all of their version do
 none_passes : (v : Version) (p : Tables) (tx : Tx) (x : Certificate) → IsLeast v p tx x → (Rules (claim p tx x) → ⊥) → (other : Certificate) → IsOf v other → Rules (claim p tx other) → ⊥
 none_passes v p tx x least bad other is rules =
-    bad (lesser_obey (labels_of p) tx v x other (least.least other is (rules_meet (claim p tx other) rules)) least.version is least.meets rules)
+    bad (lesser_obey (labels_of p) tx x other (least.least other is (rules_meet (claim p tx other) rules)) least.meets rules)
 
 said : (v : Version) (p : Tables) (tx : Tx) (r : Result Certificate LabelFault) (stmt : ℕ) (rule : Rule) → IsErrAnd r (λ e. e ≡ NoLabels stmt rule) → ((other : Certificate) → IsOf v other → Rules (claim p tx other) → ⊥) → IfErr r (HasNone v p tx)
 said v p tx (Ok x) stmt rule h none = tt

@@ -1,7 +1,7 @@
 use Rattle.std.proofs.Common.{◌≡◌, ◌+◌, length, sym, ap, ◌∙◌, arith}
 use Rattle.std.proofs.lemmas.List.{length-map}
 use Rattle.mls_labeller.specs.Rising.{rows_of, AreLowest}
-use Rattle.mls_labeller.proofs.EachLemmas.{length_more}
+use Rattle.mls_certcheck.proofs.EachLemmas.{length_more}
 use Rattle.mls_labeller.proofs.PutLemmas.{each_row}
 use Rattle.mls_labeller.proofs.RiseLemmas.{lowest_labels, rows_for, all_lowest, times_length}
 use Rattle.mls_labeller.proofs.labels.Labels.all_of.Goals as goal

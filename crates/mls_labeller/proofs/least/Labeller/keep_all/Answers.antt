@@ -1,7 +1,7 @@
 use Rattle.std.proofs.Common.{◌≡◌, length, true, false, sym, ap, arith}
 use Rattle.std.proofs.lemmas.Bool.{true≢false}
 use Rattle.mls_labeller.specs.Rising.{cert_of}
-use Rattle.mls_labeller.specs.declared.flow.Slot.TheVariants.{Variable}
+use Rattle.mls_certcheck.specs.declared.flow.Slot.TheVariants.{Variable}
 use Rattle.mls_labeller.proofs.RiseLemmas.{keeps_more, rises_kept}
 use Rattle.mls_labeller.proofs.least.Labeller.keep_all.Goals as goal
 use Rattle.mls_labeller.proofs.least.Labeller.keep_all.Goals.{then-keep, else-keep}

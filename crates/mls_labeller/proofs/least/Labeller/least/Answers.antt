@@ -1,8 +1,7 @@
 use Rattle.std.proofs.Common.{◌≡◌, length, sym, ap, subst, ◌∙◌}
 use Rattle.std.specs.List.{AllByRecursion}
 use Rattle.mls_translang.specs.Tree.{statements}
-use Rattle.mls_certcheck.specs.Rules.{claim}
-use Rattle.mls_labeller.specs.Least.{Holds}
+use Rattle.mls_certcheck.specs.Rules.{claim, Holds}
 use Rattle.mls_labeller.specs.Rising.{cert_of, HasFlow, HasCounts}
 use Rattle.mls_labeller.proofs.RiseLemmas.{lowest_below}
 use Rattle.mls_labeller.proofs.SlotLemmas.{flows_have_slots}

@@ -1,7 +1,7 @@
 use Rattle.std.proofs.Common.{◌≡◌, ◌<◌, ◌^◌, true, refl, sym, subst, ap, ◌∙◌, arith}
 use Rattle.std.proofs.lemmas.Bool.{true≢false}
 use Rattle.mls_lattice.specs.Lattice.{Dominates, pair_of, join}
-use Rattle.mls_labeller.specs.Least.{slot_label}
+use Rattle.mls_certcheck.specs.Rules.{slot_label}
 use Rattle.mls_labeller.specs.Rising.{cert_of, claim_at, Over, Rises}
 use Rattle.mls_labeller.proofs.RiseLemmas.{rises, rises_not}
 use Rattle.mls_labeller.proofs.least.Labeller.raise.Goals as goal

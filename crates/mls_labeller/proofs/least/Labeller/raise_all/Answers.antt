@@ -3,8 +3,8 @@ use Rattle.std.proofs.lemmas.Bool.{true≢false}
 use Rattle.std.proofs.lemmas.List.{take_more}
 use Rattle.mls_lattice.specs.Lattice.{pair_of}
 use Rattle.mls_labeller.specs.Rising.{cert_of, HasSlot, Over, Each, Rises}
-use Rattle.mls_labeller.specs.declared.flow.Slot.TheVariants.{Variable}
-use Rattle.mls_labeller.proofs.EachLemmas.{all_at}
+use Rattle.mls_certcheck.specs.declared.flow.Slot.TheVariants.{Variable}
+use Rattle.mls_certcheck.proofs.EachLemmas.{all_at}
 use Rattle.mls_labeller.proofs.RiseLemmas.{rises_more}
 use Rattle.mls_labeller.proofs.least.Labeller.raise_all.Goals as goal
 use Rattle.mls_labeller.proofs.least.Labeller.raise_all.Goals.{then-raise, else-raise}

@@ -1,9 +1,9 @@
 use Rattle.std.proofs.Common.{◌≡◌, ◌+◌, ◌∷◌, [], ◌++◌, take, length, true, false, sym, ap, subst, ◌∙◌}
 use Rattle.std.proofs.lemmas.Bool.{true≢false}
 use Rattle.std.proofs.lemmas.List.{take_more}
-use Rattle.mls_labeller.specs.Least.{Holds}
+use Rattle.mls_certcheck.specs.Rules.{Holds}
 use Rattle.mls_labeller.specs.Rising.{cert_of, HasFlow, Each, Rises}
-use Rattle.mls_labeller.proofs.EachLemmas.{all_at}
+use Rattle.mls_certcheck.proofs.EachLemmas.{all_at}
 use Rattle.mls_labeller.proofs.RiseLemmas.{rises_more}
 use Rattle.mls_labeller.proofs.SlotLemmas.{flow_has}
 use Rattle.mls_labeller.proofs.least.Labeller.round.Goals as goal

@@ -1,5 +1,5 @@
 use Rattle.std.proofs.Common.{take}
-use Rattle.mls_labeller.specs.Least.{Holds}
+use Rattle.mls_certcheck.specs.Rules.{Holds}
 use Rattle.mls_labeller.specs.Rising.{cert_of, Each, Rises}
 use Rattle.mls_labeller.proofs.least.Labeller.round.Given as goal
 

@@ -111,6 +111,12 @@ places-then n around before rows (For row rel label body rest) d =
     let z = places (n + (1 + statements body + statements rest)) around k rows d in
     ap (λ (ps : List Place). record { number = n; around = around; before = before; rows = rows; node = looping n before label body } ∷ ps) (ap (λ (ps : List Place). a ++ ps) after ∙ sym (append_assoc a r z))
 
+-- the first statement of a block, and the rest
+pub places_first : (n around before : ℕ) (rows : List ℕ) (s : Stmt) (rest : List Stmt) → places n around before rows (block_of (s ∷ rest)) ≡ places n around before rows (block_of (s ∷ [])) ++ places (n + statements (block_of (s ∷ []))) around n rows (block_of rest)
+places_first n around before rows s rest =
+    ap (places n around before rows) (first_then s rest) ∙ places-then n around before rows (block_of (s ∷ [])) (block_of rest)
+    ∙ ap (λ (k : ℕ). places n around before rows (block_of (s ∷ [])) ++ places (n + statements (block_of (s ∷ []))) around k rows (block_of rest)) (last_one before n s)
+
 -- ---- what an answer says of the lines
 
 bind_is_err : (r : Result (Unit {0}) Refusal) (k : ℕ) (e : Refusal) → (r >>= λ _. Ok k) ≡ Err e → r ≡ Err e
@@ -308,7 +314,7 @@ module _ (c : Claim) (n around before : ℕ) (rows : List ℕ) where
 
 -- ---- the loop over the statements of a block
 
-drop_here : (items : List Stmt) (i : ℕ) (s : Stmt) → i < length items → s ≡ get_or items i s → drop i items ≡ s ∷ drop (i + 1) items
+pub drop_here : (items : List Stmt) (i : ℕ) (s : Stmt) → i < length items → s ≡ get_or items i s → drop i items ≡ s ∷ drop (i + 1) items
 drop_here items i s within is =
     let next : suc i ≡ i + 1 = omega arith in
     drop-cons items i s within ∙ (λ k. sym is k ∷ drop (next k) items)

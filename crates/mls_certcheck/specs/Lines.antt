@@ -52,6 +52,14 @@ target (Write_at rel w writing outcome) = outcome
 target (Release e to into) = Some into
 target (Emit e label) = None
 
+-- into statements
+abbrev pub into_each : List ℕ → List Source → Flow
+into_each inner sources = Into (map (λ m. Statement m) inner) sources
+
+-- what variables hold after each of these, they may hold after the statement n
+abbrev pub all_kept : ℕ → List ℕ → List Flow
+all_kept n ends = map (λ m. Kept m n None) ends
+
 -- ---- the rules of a statement: its own number is n, it begins after b, and the rows are those of the loops around
 
 -- ceiling (own): nothing lies above the upper end
@@ -69,12 +77,12 @@ assignment n b rows x e = by n rule.Assignment (Into (Variable n x ∷ []) (Held
 -- branch (Denning and Denning): into its statements flows the guard; variables keep what they hold at the end of each block
 abbrev pub branch : ℕ → ℕ → List ℕ → Expr → List ℕ → List ℕ → List Line
 branch n b rows guard inner ends =
-    by n rule.Branch (Into (map (λ m. Statement m) inner) (Held (Statement n) ∷ names b rows guard) ∷ map (λ m. Kept m n None) ends)
+    by n rule.Branch (into_each inner (Held (Statement n) ∷ names b rows guard) ∷ all_kept n ends)
 
--- loop (Denning and Denning): into its statements flows which rows there are; variables keep what they hold before it and after each turn
+-- loop (Denning and Denning): into its statements flows which rows there are; variables keep what they hold before and after each turn
 abbrev pub row_loop : ℕ → ℕ → List ℕ → List ℕ → List Line
 row_loop n label inner ends =
-    by n rule.RowLoop (Under (Declared label ∷ []) ∷ Into (map (λ m. Statement m) inner) (Held (Statement n) ∷ Declared label ∷ []) ∷ map (λ m. Kept m n None) ends)
+    by n rule.RowLoop (Under (Declared label ∷ []) ∷ into_each inner (Held (Statement n) ∷ Declared label ∷ []) ∷ all_kept n ends)
 
 -- what is seen at the label of a write flows into its outcome
 abbrev pub outcome_flows : ℕ → ℕ → Option ℕ → List Flow
@@ -128,7 +136,9 @@ lines_at vars p = ceiling vars p.number ++ (context p.number p.around ++ own_lin
 
 -- of the transaction itself
 abbrev pub tx_lines : Tx → List Line
-tx_lines tx = by 0 rule.AboveCeiling (Under (variables 0 (length tx.vars)) ∷ []) ++ by 0 rule.Context (flat_map (λ p. within_ends p.1.label) tx.params)
+tx_lines tx =
+    by 0 rule.AboveCeiling (Under (variables 0 (length tx.vars)) ∷ [])
+    ++ by 0 rule.Context (flat_map (λ p. within_ends p.1.label) tx.params)
 
 abbrev pub all_places : Tx → List Place
 all_places tx = places 1 0 0 [] tx.body

@@ -13,7 +13,7 @@ use crate::checker::{Checker, flows};
 use mls_translang::Block;
 
 /// The number of the last of a block's own statements, or that after which the block begins.
-pub(crate) fn last(before: usize, first: usize, block: &Block) -> usize
+pub fn last_number(before: usize, first: usize, block: &Block) -> usize
     requires { first + statements block.now < 2 ^ 63 }
     ensures { result ≡ last before first block.now }
 {

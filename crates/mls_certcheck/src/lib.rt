@@ -16,5 +16,6 @@ mod walk;
 pub use certified::Certified;
 pub use checking::check;
 pub use flow::{Flow, Slot, Source};
+pub use keeping::last_number;
 pub use laws::{flat_certificates_lift, rules_make_secure};
 pub use refusal::{Refusal, Rule};

@@ -14,7 +14,7 @@ ghost use Rattle.mls_certcheck.specs.declared.flow.Flow.TheVariants.{Into};
 
 use crate::checker::{Checker, flows};
 use crate::here::Here;
-use crate::keeping::last;
+use crate::keeping::last_number;
 use crate::refusal::{Refusal, Rule};
 use mls_lattice::LabelNo;
 use mls_translang::{Block, Expr, Stmt};
@@ -50,8 +50,8 @@ impl Checker<'_> {
         ensures { Says result (verdict (claim_of self.now) (branch_lines here.now.number here.now.before (rows_of here.now.rows) guard.now one.now other.now)) }
     {
         let second = here.number + 1 + one.statements();
-        let one_end = last(here.before, here.number + 1, one);
-        let other_end = last(here.before, second, other);
+        let one_end = last_number(here.before, here.number + 1, one);
+        let other_end = last_number(here.before, second, other);
         let holds = self.guards(here, guard, one, other)
             && self.keeps(one_end, here.number, None)
             && self.keeps(other_end, here.number, None);
@@ -72,7 +72,7 @@ impl Checker<'_> {
         requires { here.now.number + statements body.now + 1 < 2 ^ 63 }
         ensures { Says result (verdict (claim_of self.now) (loop_lines here.now.number here.now.before label body.now)) }
     {
-        let end = last(here.number, here.number + 1, body);
+        let end = last_number(here.number, here.number + 1, body);
         let holds = flows(self.declared(label), self.hi())
             && self.turns(here.number, label, body)
             && self.keeps(here.before, here.number, None)

@@ -1,16 +1,16 @@
 -- How the walk goes from statement to statement.
-use Rattle.std.proofs.Common.{◌≡◌, ℕ, suc, ◌+◌, ◌<◌, List, [], ◌∷◌, ◌++◌, length, drop, get_or, map, Option, Some, None, refl, sym, ap, ◌∙◌, append_assoc, arith}
+use Rattle.std.proofs.Common.{◌≡◌, ℕ, ◌+◌, ◌<◌, List, [], ◌∷◌, ◌++◌, length, drop, get_or, map, Option, Some, None, refl, sym, ap, ◌∙◌, append_assoc, arith}
 use Rattle.std.specs.List.{flat_map}
 use Rattle.std.proofs.lemmas.List.{append-nil, map-append}
 use Rattle.std.proofs.lemmas.Grind.{flat_map-append}
-use Rattle.std.proofs.Math.Seq.{drop-cons}
 use Rattle.mls_translang.specs.Tree.{Expr, Stmt as Simple, Writing, Assign, Write_at, Inserting, Updating, Deleting, Release, Emit, Block, End, Do, If, For, statements}
 use Rattle.mls_translang.specs.Tx.{Tx}
 use Rattle.mls_translang.specs.Blocks.{block_of}
 use Rattle.mls_translang.specs.declared.block.Stmt.{Stmt}
 use Rattle.mls_translang.specs.declared.block.Stmt.TheVariants as stmt
-use Rattle.mls_certcheck.specs.Place.{Place, Plain, directs, last, branching, looping, places}
+use Rattle.mls_certcheck.specs.Place.{Place, Plain, directs, branching, looping, places}
 use Rattle.mls_certcheck.specs.Lines.{by, target, outcome_flows, within_ends, stmt_lines, rest as rest_lines, lines_at, tx_lines, all_places}
+use Rattle.mls_certcheck.proofs.WalkLemmas.{drop_here, places_first}
 use Rattle.mls_labeller.specs.Flows.{raising, flows_in, flows}
 use Rattle.mls_labeller.specs.Walk.{own_slots, stmt_flows, own_flows, flows_at, block_flows, plain_flows, if_flows, for_flows}
 use Rattle.mls_certcheck.specs.declared.flow.Slot.{Slot}
@@ -45,64 +45,7 @@ directs-first n (stmt.Delete rel key key_class w outcome) rest = refl
 directs-first n (stmt.Release e to into) rest = refl
 directs-first n (stmt.Emit e label) rest = refl
 
-last-first : (b n : ℕ) (s : Stmt) (rest : List Stmt) → last b n (block_of (s ∷ rest)) ≡ last n (n + statements (block_of (s ∷ []))) (block_of rest)
-last-first b n (stmt.Assign x e) rest = refl
-last-first b n (stmt.If guard one other) rest =
-    let e : n + (1 + statements one + statements other) ≡ n + (1 + statements one + statements other + 0) = omega arith in
-    ap (λ (k : ℕ). last n k (block_of rest)) e
-last-first b n (stmt.For row rel label body) rest =
-    let e : n + (1 + statements body) ≡ n + (1 + statements body + 0) = omega arith in
-    ap (λ (k : ℕ). last n k (block_of rest)) e
-last-first b n (stmt.Insert rel key values w outcome) rest = refl
-last-first b n (stmt.Update rel key key_class from w sets outcome) rest = refl
-last-first b n (stmt.Delete rel key key_class w outcome) rest = refl
-last-first b n (stmt.Release e to into) rest = refl
-last-first b n (stmt.Emit e label) rest = refl
-
-places-first : (n around b : ℕ) (rows : List ℕ) (s : Stmt) (rest : List Stmt) → places n around b rows (block_of (s ∷ rest)) ≡ places n around b rows (block_of (s ∷ [])) ++ places (n + statements (block_of (s ∷ []))) around n rows (block_of rest)
-places-first n around b rows (stmt.Assign x e) rest = refl
-places-first n around b rows (stmt.If guard one other) rest =
-    let p = places (n + 1) n b rows one in
-    let q = places (n + 1 + statements one) n b rows other in
-    let r = places (n + (1 + statements one + statements other + 0)) around n rows (block_of rest) in
-    let e : n + (1 + statements one + statements other) ≡ n + (1 + statements one + statements other + 0) = omega arith in
-    ap (λ (ps : List Place). record { number = n; around = around; before = b; rows = rows; node = branching n b guard one other } ∷ ps)
-    (ap (λ (k : ℕ). p ++ (q ++ places k around n rows (block_of rest))) e ∙ ap (λ (l : List Place). p ++ (l ++ r)) (sym (append-nil q)) ∙ sym (append_assoc p (q ++ []) r))
-places-first n around b rows (stmt.For row rel label body) rest =
-    let p = places (n + 1) n n (label ∷ rows) body in
-    let r = places (n + (1 + statements body + 0)) around n rows (block_of rest) in
-    let e : n + (1 + statements body) ≡ n + (1 + statements body + 0) = omega arith in
-    ap (λ (ps : List Place). record { number = n; around = around; before = b; rows = rows; node = looping n b label body } ∷ ps)
-    (ap (λ (k : ℕ). p ++ places k around n rows (block_of rest)) e ∙ ap (λ (l : List Place). l ++ r) (sym (append-nil p)))
-places-first n around b rows (stmt.Insert rel key values w outcome) rest = refl
-places-first n around b rows (stmt.Update rel key key_class from w sets outcome) rest = refl
-places-first n around b rows (stmt.Delete rel key key_class w outcome) rest = refl
-places-first n around b rows (stmt.Release e to into) rest = refl
-places-first n around b rows (stmt.Emit e label) rest = refl
-
-statements-first : (s : Stmt) (rest : List Stmt) → statements (block_of (s ∷ rest)) ≡ statements (block_of (s ∷ [])) + statements (block_of rest)
-statements-first (stmt.Assign x e) rest = refl
-statements-first (stmt.If guard one other) rest = omega arith
-statements-first (stmt.For row rel label body) rest = omega arith
-statements-first (stmt.Insert rel key values w outcome) rest = refl
-statements-first (stmt.Update rel key key_class from w sets outcome) rest = refl
-statements-first (stmt.Delete rel key key_class w outcome) rest = refl
-statements-first (stmt.Release e to into) rest = refl
-statements-first (stmt.Emit e label) rest = refl
-
-drop_here : (items : List Stmt) (i : ℕ) (s : Stmt) → i < length items → s ≡ get_or items i s → drop i items ≡ s ∷ drop (i + 1) items
-drop_here items i s within is =
-    let next : suc i ≡ i + 1 = omega arith in
-    drop-cons items i s within ∙ (λ k. sym is k ∷ drop (next k) items)
-
 module _ (items : List Stmt) (i : ℕ) (s : Stmt) (within : i < length items) (is : s ≡ get_or items i s) where
-  pub split_statements : statements (block_of (drop i items)) ≡ statements (block_of (s ∷ [])) + statements (block_of (drop (i + 1) items))
-  split_statements = ap (λ (ss : List Stmt). statements (block_of ss)) (drop_here items i s within is) ∙ statements-first s (drop (i + 1) items)
-
-  pub last_more : (b n m all : ℕ) → m ≡ n + statements (block_of (s ∷ [])) → last b n (block_of (drop i items)) ≡ all → last n m (block_of (drop (i + 1) items)) ≡ all
-  last_more b n m all next whole =
-      ap (λ (k : ℕ). last n k (block_of (drop (i + 1) items))) next ∙ sym (last-first b n s (drop (i + 1) items)) ∙ ap (λ (ss : List Stmt). last b n (block_of ss)) (sym (drop_here items i s within is)) ∙ whole
-
   pub slots_more : (n m : ℕ) (out two all : List Slot) → m ≡ n + statements (block_of (s ∷ [])) → two ≡ out ++ Statement n ∷ [] → out ++ own_slots n (block_of (drop i items)) ≡ all → two ++ own_slots m (block_of (drop (i + 1) items)) ≡ all
   unfolding own_slots
   slots_more n m out two all next put whole =
@@ -115,7 +58,7 @@ module _ (items : List Stmt) (i : ℕ) (s : Stmt) (within : i < length items) (i
   block_more n m around b rows out two all next put whole =
       let a = block_flows n around b rows (block_of (s ∷ [])) in
       let x : block_flows n around b rows (block_of (drop i items)) ≡ a ++ block_flows (n + statements (block_of (s ∷ []))) around n rows (block_of (drop (i + 1) items)) =
-      ap (λ (ss : List Stmt). flat_map flows_at (places n around b rows (block_of ss))) (drop_here items i s within is) ∙ ap (flat_map flows_at) (places-first n around b rows s (drop (i + 1) items)) ∙ flat_map-append flows_at _ _ in
+      ap (λ (ss : List Stmt). flat_map flows_at (places n around b rows (block_of ss))) (drop_here items i s within is) ∙ ap (flat_map flows_at) (places_first n around b rows s (drop (i + 1) items)) ∙ flat_map-append flows_at _ _ in
       notes_more out two a _ _ all put (x ∙ ap (λ (k : ℕ). a ++ block_flows k around n rows (block_of (drop (i + 1) items))) (sym next)) whole
 
 -- ---- a whole block

@@ -2,7 +2,6 @@
 ghost use Rattle.std.specs.Prelude.{◌≡◌, ◌<◌, ◌+◌, ◌^◌, ◌∷◌, ◌++◌, [], IfOk, OnOk};
 ghost use Rattle.mls_translang.specs.Tree.{statements};
 ghost use Rattle.mls_translang.specs.Blocks.{block_of};
-ghost use Rattle.mls_certcheck.specs.Place.{last};
 ghost use Rattle.mls_certcheck.specs.Lines.{outcome_flows};
 ghost use Rattle.mls_labeller.specs.Flows.{flows};
 ghost use Rattle.mls_labeller.specs.Walk.{own_slots, target_in, value_flows, plain_flows, block_flows, branch_flows, loop_flows, if_flows, for_flows};
@@ -10,7 +9,7 @@ ghost use Rattle.mls_certcheck.specs.declared.flow.Slot.TheVariants.{Variable};
 ghost use Rattle.mls_certcheck.specs.declared.flow.Flow.TheVariants.{Into, Kept};
 
 use crate::sources::{rows_inside, sources_of};
-use mls_certcheck::{Flow, Slot, Source};
+use mls_certcheck::{Flow, Slot, Source, last_number};
 use mls_lattice::{Items, LabelNo};
 use mls_translang::{Block, Expr, Stmt, Tx};
 use std::alloc::{AllocError, Global};
@@ -74,20 +73,6 @@ fn keep(flows: &mut Vec<Flow>, from: usize, to: usize, but: Option<u8>) -> Resul
     Ok(())
 }
 
-/// The last of a block's own statements, the first of which has this number, or that after which the block begins.
-fn last_of(before: usize, first: usize, block: &Block) -> usize
-    requires { first + statements block.now < 2 ^ 63 }
-    ensures { result ≡ last before first block.now }
-{
-    let mut end = before;
-    let mut number = first;
-    for stmt in block.stmts() {
-        end = number;
-        number += stmt.statements();
-    }
-    end
-}
-
 /// Adds a block's own statements, the first of which has this number.
 fn own_slots(slots: &mut Vec<Slot>, first: usize, block: &Block) -> Result<(), AllocError>
     requires { first + statements block.now < 2 ^ 63 }
@@ -121,8 +106,8 @@ fn branch_to(
     own_slots(&mut targets, second, other)?;
     let sources = sources_of(alloc, number, before, rows, guard)?;
     flow_to(flows, targets, sources)?;
-    keep(flows, last_of(before, number + 1, one), number, None)?;
-    keep(flows, last_of(before, second, other), number, None)
+    keep(flows, last_number(before, number + 1, one), number, None)?;
+    keep(flows, last_number(before, second, other), number, None)
 }
 
 /// What flows into the statements of a loop, and what variables keep before it and at the end of each turn.
@@ -143,7 +128,7 @@ fn loop_to(
     let sources = vec![in alloc; pc, Source::Declared(label)]?;
     flow_to(flows, targets, sources)?;
     keep(flows, before, number, None)?;
-    keep(flows, last_of(number, number + 1, body), number, None)
+    keep(flows, last_number(number, number + 1, body), number, None)
 }
 
 /// What flows into the variable of a write's outcome.

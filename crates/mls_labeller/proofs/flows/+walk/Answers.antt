@@ -4,7 +4,8 @@ use Rattle.std.proofs.Math.ListN.{drop_of_length-le}
 use Rattle.mls_translang.specs.Tree.{statements}
 use Rattle.mls_translang.specs.Blocks.{block_of}
 use Rattle.mls_labeller.specs.Walk.{block_flows, branch_flows, loop_flows}
-use Rattle.mls_labeller.proofs.WalkLemmas.{behind, split_statements, block_more, block_done, if_put, for_put, plain_put}
+use Rattle.mls_certcheck.proofs.WalkLemmas.{split_statements}
+use Rattle.mls_labeller.proofs.WalkLemmas.{behind, block_more, block_done, if_put, for_put, plain_put}
 use Rattle.mls_labeller.proofs.flows.+walk.Goals as goal
 
 pub block_to-stmt_to-requires : goal.block_to-stmt_to-requires

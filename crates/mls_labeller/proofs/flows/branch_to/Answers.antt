@@ -18,8 +18,8 @@ returns c =
     c.in_ok-own_slots-2.ensures
     ∙ (λ i. (c.in_ok-own_slots.ensures ∙ (λ j. c.new-targets.ensures.items j ++ own_slots (n + 1) one)) i ++ own_slots (n + 1 + c.statements.ensures i) other)
     ∙ branch_slots n one other in
-    let end : c.last_of-2.result ≡ last c.args.before (n + 1 + statements one) other = c.last_of-2.ensures ∙ (λ i. last c.args.before (n + 1 + c.statements.ensures i) other) in
+    let end : c.last_number-2.result ≡ last c.args.before (n + 1 + statements one) other = c.last_number-2.ensures ∙ (λ i. last c.args.before (n + 1 + c.statements.ensures i) other) in
     let first = behind out c.flow_to.new.flows.items c.keep.new.flows.items _ _ _ c.in_ok-flow_to.ensures c.in_ok-keep.ensures refl in
     on_ok_weaker c.keep-2.result
-    (λ h. behind out c.keep.new.flows.items c.keep-2.new.flows.items _ _ _ first h refl ∙ (λ i. out ++ Into (slots i) (c.in_ok-sources.ensures i) ∷ Kept (c.last_of.ensures i) n None ∷ Kept (end i) n None ∷ []))
+    (λ h. behind out c.keep.new.flows.items c.keep-2.new.flows.items _ _ _ first h refl ∙ (λ i. out ++ Into (slots i) (c.in_ok-sources.ensures i) ∷ Kept (c.last_number.ensures i) n None ∷ Kept (end i) n None ∷ []))
     c.keep-2.ensures

@@ -15,5 +15,5 @@ returns c =
     c.in_ok-own_slots.ensures ∙ (λ i. c.new-targets.ensures.items i ++ own_slots (n + 1) c.args.body.now) ∙ loop_slots n c.args.body.now in
     let first = behind out c.flow_to.new.flows.items c.keep.new.flows.items _ _ _ c.in_ok-flow_to.ensures c.in_ok-keep.ensures refl in
     on_ok_weaker c.keep-2.result
-    (λ h. behind out c.keep.new.flows.items c.keep-2.new.flows.items _ _ _ first h refl ∙ (λ i. out ++ Into (slots i) (c.in_ok-sources.ensures.items i) ∷ Kept c.args.before n None ∷ Kept (c.last_of.ensures i) n None ∷ []))
+    (λ h. behind out c.keep.new.flows.items c.keep-2.new.flows.items _ _ _ first h refl ∙ (λ i. out ++ Into (slots i) (c.in_ok-sources.ensures.items i) ∷ Kept c.args.before n None ∷ Kept (c.last_number.ensures i) n None ∷ []))
     c.keep-2.ensures

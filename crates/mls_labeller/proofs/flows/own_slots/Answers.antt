@@ -2,7 +2,8 @@ use Rattle.std.proofs.Common.{◌≡◌, ◌+◌, ◌++◌, [], drop, sym, ap, �
 use Rattle.std.proofs.Math.ListN.{drop_of_length-le}
 use Rattle.mls_translang.specs.Blocks.{block_of}
 use Rattle.mls_labeller.specs.Walk.{own_slots}
-use Rattle.mls_labeller.proofs.WalkLemmas.{split_statements, slots_more, slots_done}
+use Rattle.mls_certcheck.proofs.WalkLemmas.{split_statements}
+use Rattle.mls_labeller.proofs.WalkLemmas.{slots_more, slots_done}
 use Rattle.mls_labeller.proofs.flows.own_slots.Goals as goal
 
 pub loop-stmt-preserved : goal.loop-stmt-preserved

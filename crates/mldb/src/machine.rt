@@ -6,11 +6,12 @@ ghost use Rattle.mls_fragments.specs.Again.{IsTakenOf};
 ghost use Rattle.mls_fragments.specs.Finding.{IsSoundContent};
 
 use crate::private;
-use mls_command::{CloseFault, Host, HostFault, LinesOf, read_whole};
 use mls_filterview::Base;
 use mls_fragments::{OpenFault, SqlBase};
+use mls_host::{CloseFault, Host, HostFault, read_whole};
 use mls_lattice::Policy;
 use mls_scheme::SchemesFile;
+use mls_typing::LinesOf;
 use sqlite::{FileFrom, FileStore, Start};
 use std::alloc::Global;
 use std::fs;

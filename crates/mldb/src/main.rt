@@ -5,9 +5,11 @@ mod machine;
 mod private;
 
 use crate::machine::{FilesOf, Machine, Opens};
-use mls_command::{Errors, Usage, act};
+use mls_command::act;
 use mls_filterview::Base;
 use mls_fragments::SqlBase;
+use mls_host::Errors;
+use mls_words::Usage;
 use sqlite::{FileFrom, FileStore, Start, Unknown};
 use std::io::ErrorKind;
 use std::process::ExitCode;

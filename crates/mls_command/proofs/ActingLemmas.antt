@@ -4,27 +4,29 @@ use Rattle.std.proofs.KnownBytes.{Appends-nil}
 use Rattle.mls_script.specs.declared.event.Event.{Event}
 use Rattle.mls_machine.specs.declared.stored.Stored.{Stored}
 use Rattle.mls_sessions.specs.declared.cause.RunFault.{RunFault}
-use Rattle.mls_command.specs.declared.words.Job.{Job}
-use Rattle.mls_command.specs.declared.ending.Ending.{Ending}
-use Rattle.mls_command.specs.declared.ending.Ending.TheVariants.{Well}
-use Rattle.mls_command.specs.declared.errors.Errors.{Errors}
-use Rattle.mls_command.specs.Inputs.{named, AreStoredFrom, IsScriptFrom, IsPolicyOf, AreSchemesOf, IsReader}
+use Rattle.mls_words.specs.declared.words.Job.{Job}
+use Rattle.mls_host.specs.declared.ending.Ending.{Ending}
+use Rattle.mls_host.specs.declared.ending.Ending.TheVariants.{Well}
+use Rattle.mls_host.specs.declared.errors.Errors.{Errors}
+use Rattle.mls_host.specs.Inputs.{AreStoredFrom, IsScriptFrom, IsPolicyOf, AreSchemesOf, IsReader}
+use Rattle.mls_words.specs.Words.{named}
 use Rattle.mls_lattice.specs.Policy.{Tables}
 use Rattle.mls_scheme.specs.declared.file.SchemesFile.{SchemesFile}
-use Rattle.mls_command.specs.declared.words.RunFiles.{RunFiles}
-use Rattle.mls_command.specs.declared.words.ShellFiles.{ShellFiles}
-use Rattle.mls_command.specs.declared.words.Task.{Task}
-use Rattle.mls_command.specs.declared.words.Task.TheVariants as tasks
-use Rattle.mls_command.specs.declared.refusal.Refusal.{Refusal}
-use Rattle.mls_command.specs.declared.refusal.Refusal.TheVariants.{Unreadable, TooLong, Policy, Reader, Label, User, Name, Schemes as OfSchemes, Transactions, Certificates, Script, Store, Run, NotClosed, Output, Memory}
-use Rattle.mls_command.specs.Hosting.{Hosted, IsTold}
-use Rattle.mls_command.specs.Refusal.{IsBefore, IsEnd}
-use Rattle.mls_command.specs.Printing.{IsCutOff}
-use Rattle.mls_command.specs.Running.{site_of}
-use Rattle.mls_command.specs.ScriptRun.{audience_of, IsRunFrom, IsScriptRun}
-use Rattle.mls_command.specs.ShellRun.{IsShellRun}
+use Rattle.mls_words.specs.declared.words.RunFiles.{RunFiles}
+use Rattle.mls_words.specs.declared.words.ShellFiles.{ShellFiles}
+use Rattle.mls_words.specs.declared.words.Task.{Task}
+use Rattle.mls_words.specs.declared.words.Task.TheVariants as tasks
+use Rattle.mls_host.specs.declared.refusal.Refusal.{Refusal}
+use Rattle.mls_host.specs.declared.refusal.Refusal.TheVariants.{Unreadable, TooLong, Policy, Reader, Label, User, Name, Schemes as OfSchemes, Transactions, Certificates, Script, Store, Run, NotClosed, Output, Memory}
+use Rattle.mls_host.specs.Hosting.{Hosted, IsTold}
+use Rattle.mls_host.specs.Refusal.{IsBefore, IsEnd}
+use Rattle.mls_listings.specs.Printing.{IsCutOff}
+use Rattle.mls_host.specs.Running.{site_of}
+use Rattle.mls_runs.specs.ScriptRun.{audience_of, IsRunFrom, IsScriptRun}
+use Rattle.mls_shells.specs.ShellRun.{IsShellRun}
+use Rattle.mls_host.proofs.HostingLemmas.{told_nothing}
 use Rattle.mls_command.specs.Acting.{Prints, IsTaskDone, IsRunOf, IsTaskGivenUp, IsDone, IsGivenUp}
-use Rattle.mls_command.proofs.RunningLemmas.{end_weaker, not_begun}
+use Rattle.mls_host.proofs.RunningLemmas.{end_weaker, not_begun}
 
 module _ (h : Hosted) (policy : Tables) (file : SchemesFile) (reader : Option ℕ) (Wrote Told : List ℕ → Type 0) where
   -- before anything is written
@@ -66,41 +68,31 @@ module _ (h : Hosted) (policy : Tables) (file : SchemesFile) (reader : Option �
   run_given_up files Output t k = absurd k
   run_given_up files Memory t k = (t, k)
 
--- nothing was told
-pub told_nothing : {E : Type 0} (contents : E → Option (List ℕ)) (e : Errors E) → IsTold contents e e []
-told_nothing contents e = λ well. (well, Appends-nil (contents e.writer))
+  -- as its shell was
+  pub shell_given_up : (files : ShellFiles) (refusal : Refusal) → IsEnd (IsShellRun h policy file reader files Wrote Told) (Wrote [] × Told []) (Err refusal)
+      → IsTaskGivenUp h policy file reader Wrote Told (tasks.Shell files) refusal
+  shell_given_up files (Run fault) k = k
+  shell_given_up files NotClosed k = k
+  shell_given_up files Output k = absurd k
+  shell_given_up files (Unreadable r) k = (k.1, k.0)
+  shell_given_up files (TooLong r) k = (k.1, k.0)
+  shell_given_up files (Policy x) k = (k.1, k.0)
+  shell_given_up files Reader k = (k.1, k.0)
+  shell_given_up files Label k = (k.1, k.0)
+  shell_given_up files User k = (k.1, k.0)
+  shell_given_up files Name k = (k.1, k.0)
+  shell_given_up files (OfSchemes x) k = (k.1, k.0)
+  shell_given_up files (Transactions x) k = (k.1, k.0)
+  shell_given_up files (Certificates x) k = (k.1, k.0)
+  shell_given_up files (Script x) k = (k.1, k.0)
+  shell_given_up files (Store x) k = (k.1, k.0)
+  shell_given_up files Memory k = (k.1, k.0)
 
 pub quiet_told : {A F E : Type 0} (contents : E → Option (List ℕ)) (old new : Errors E) (r : Result A F) → OnErr r (new ≡ old) → OnErr r (IsTold contents old new [])
 quiet_told contents old new (Ok a) h = tt
 quiet_told contents old new (Err x) h = subst (λ e. IsTold contents old e []) (sym h) (told_nothing contents old)
 
 module _ (h : Hosted) (policy : Tables) (file : SchemesFile) (reader : Option ℕ) (Wrote : List ℕ → Type 0) where
-  -- ---- runs
-
-  -- the events of a script, over what is stored
-  pub script_run : (files : RunFiles) (stored : List Stored) (events : List Event)
-      → AreStoredFrom h.gives (named files.transactions) (named files.certificates) policy file.schemes stored
-      → IsScriptFrom h.gives (named files.script) policy file.schemes events
-      → (r : Result (Unit {0}) Refusal) → IsEnd (IsRunFrom h file (named files.store) (site_of policy file.schemes stored) (audience_of reader files) events Wrote) (Wrote []) r
-      → IsEnd (IsScriptRun h policy file reader files Wrote) (Wrote []) r
-  script_run files stored events stored_are events_are r run =
-      let f : (end : Result (Unit {0}) RunFault) → IsRunFrom h file (named files.store) (site_of policy file.schemes stored) (audience_of reader files) events Wrote end → IsScriptRun h policy file reader files Wrote end
-      = λ end k. record { stored = stored; events = events; stored_are = stored_are; events_are = events_are; run = k } in
-      end_weaker (IsRunFrom h file (named files.store) (site_of policy file.schemes stored) (audience_of reader files) events Wrote) (Wrote []) (IsScriptRun h policy file reader files Wrote) f r run
-
-  pub run_done : (files : RunFiles) (r : Result (Unit {0}) Refusal) → IsEnd (IsScriptRun h policy file reader files Wrote) (Wrote []) r → OnOk r (IsScriptRun h policy file reader files Wrote (Ok tt))
-  run_done files (Ok u) k = k
-  run_done files (Err e) k = tt
-
-  pub run_stopped : (files : RunFiles) (r : Result (Unit {0}) Refusal) → IsEnd (IsScriptRun h policy file reader files Wrote) (Wrote []) r
-      → IfErr r (λ e. IsEnd (IsScriptRun h policy file reader files Wrote) (Wrote []) (Err e))
-  run_stopped files (Ok u) k = tt
-  run_stopped files (Err e) k = k
-
-  pub run_not_begun : (files : RunFiles) (r : Result (Unit {0}) Refusal) → IfErr r IsBefore → Wrote [] → IfErr r (λ e. IsEnd (IsScriptRun h policy file reader files Wrote) (Wrote []) (Err e))
-  run_not_begun files (Ok u) b w = tt
-  run_not_begun files (Err e) b w = not_begun (IsScriptRun h policy file reader files Wrote) (Wrote []) e b w
-
   -- ---- tasks
 
   pub before_given_up : {A : Type 0} (Told : List ℕ → Type 0) (task : Task) (r : Result A Refusal) → IfErr r IsBefore → Told [] → Wrote [] → IfErr r (IsTaskGivenUp h policy file reader Wrote Told task)
@@ -115,6 +107,11 @@ module _ (h : Hosted) (policy : Tables) (file : SchemesFile) (reader : Option �
   pub run_task_done : (Told : List ℕ → Type 0) (task : Task) (files : RunFiles) → task ≡ tasks.Run files → Told [] → IsScriptRun h policy file reader files Wrote (Ok tt)
       → IsTaskDone h policy file reader Wrote Told task Well
   run_task_done Told task files is told runs = subst (λ (t : Task). IsTaskDone h policy file reader Wrote Told t Well) (sym is) (refl, told, runs)
+
+  pub shell_task_given_up : {A : Type 0} (Told : List ℕ → Type 0) (task : Task) (files : ShellFiles) → task ≡ tasks.Shell files → (r : Result A Refusal)
+      → IfErr r (λ e. IsEnd (IsShellRun h policy file reader files Wrote Told) (Wrote [] × Told []) (Err e)) → IfErr r (IsTaskGivenUp h policy file reader Wrote Told task)
+  shell_task_given_up Told task files is (Ok a) k = tt
+  shell_task_given_up Told task files is (Err e) k = subst (λ (t : Task). IsTaskGivenUp h policy file reader Wrote Told t e) (sym is) (shell_given_up h policy file reader Wrote Told files e k)
 
   pub print_given_up : (Told : List ℕ → Type 0) (task same : Task) → same ≡ task → (text told : List ℕ) (end : Ending) → Prints h policy file task text told end → (r : Result Ending Refusal)
       → IfErr r (λ e. e ≡ Output) → OnErr r (IsCutOff Wrote text) → OnErr r (Told []) → IfErr r (IsTaskGivenUp h policy file reader Wrote Told same)

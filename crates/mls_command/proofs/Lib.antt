@@ -1,12 +1,1 @@
-pub mod RunningLemmas
-pub mod StoringLemmas
-pub mod CertifyingLemmas
 pub mod ActingLemmas
-pub mod WordsLemmas
-pub mod InTurnLemmas
-pub mod MemoryLemmas
-pub mod TypingLemmas
-pub mod ShellLemmas
-pub mod TalkLemmas
-pub mod ShellEndLemmas
-pub mod HistoryLemmas

@@ -6,25 +6,25 @@ use Rattle.mls_lattice.specs.Canon as lattice
 use Rattle.mls_scheme.specs.declared.file.SchemesFile.{SchemesFile}
 use Rattle.mls_scheme.specs.Canon as scheme
 use Rattle.mls_sessions.specs.declared.cause.RunFault.{RunFault}
-use Rattle.mls_command.specs.declared.words.Job.{Job}
-use Rattle.mls_command.specs.declared.words.Task.{Task}
-use Rattle.mls_command.specs.declared.words.Task.TheVariants.{ShowPolicy, Run, Shell, Certify, Check, Explain}
-use Rattle.mls_command.specs.declared.usage.Usage.{Usage}
-use Rattle.mls_command.specs.declared.ending.Ending.{Ending}
-use Rattle.mls_command.specs.declared.ending.Ending.TheVariants.{Well}
-use Rattle.mls_command.specs.declared.refusal.Refusal.{Refusal}
-use Rattle.mls_command.specs.declared.refusal.Refusal.TheVariants as refusals
-use Rattle.mls_command.specs.Hosting.{Hosted}
-use Rattle.mls_command.specs.Words.{Asks, AskNothing, usage_text, usage_status}
-use Rattle.mls_command.specs.Inputs.{named, IsPolicyOf, AreSchemesOf, IsReader}
-use Rattle.mls_command.specs.Refusal.{refusal_text, refusal_status, IsBefore}
-use Rattle.mls_command.specs.Ending.{ending_status}
-use Rattle.mls_command.specs.Printing.{IsPrinted, IsPrintedInPart}
-use Rattle.mls_command.specs.ScriptRun.{IsScriptRun}
-use Rattle.mls_command.specs.ShellRun.{IsShellRun}
-use Rattle.mls_command.specs.Certifying.{IsCertified}
-use Rattle.mls_command.specs.Checking.{IsChecked}
-use Rattle.mls_command.specs.Explaining.{IsExplained}
+use Rattle.mls_words.specs.declared.words.Job.{Job}
+use Rattle.mls_words.specs.declared.words.Task.{Task}
+use Rattle.mls_words.specs.declared.words.Task.TheVariants.{ShowPolicy, Run, Shell, Certify, Check, Explain}
+use Rattle.mls_words.specs.declared.usage.Usage.{Usage}
+use Rattle.mls_host.specs.declared.ending.Ending.{Ending}
+use Rattle.mls_host.specs.declared.ending.Ending.TheVariants.{Well}
+use Rattle.mls_host.specs.declared.refusal.Refusal.{Refusal}
+use Rattle.mls_host.specs.declared.refusal.Refusal.TheVariants as refusals
+use Rattle.mls_host.specs.Hosting.{Hosted}
+use Rattle.mls_words.specs.Words.{named, Asks, AskNothing, usage_text, usage_status}
+use Rattle.mls_host.specs.Inputs.{IsPolicyOf, AreSchemesOf, IsReader}
+use Rattle.mls_host.specs.Refusal.{refusal_text, refusal_status, IsBefore}
+use Rattle.mls_host.specs.Ending.{ending_status}
+use Rattle.mls_listings.specs.Printing.{IsPrinted, IsPrintedInPart}
+use Rattle.mls_runs.specs.ScriptRun.{IsScriptRun}
+use Rattle.mls_shells.specs.ShellRun.{IsShellRun}
+use Rattle.mls_listings.specs.Certifying.{IsCertified}
+use Rattle.mls_listings.specs.Checking.{IsChecked}
+use Rattle.mls_listings.specs.Explaining.{IsExplained}
 
 module _ (h : Hosted) where
   -- ---- tasks

@@ -3,7 +3,9 @@ use crate::desk::{machine_for, store_named, store_word};
 use crate::elsewhere::told_by;
 use crate::narrow::Narrow;
 use case_tables::{Case, Told, joined, text_of, unfolded};
-use mls_command::{Errors, MemoryHost, act};
+use mls_command::act;
+use mls_host::Errors;
+use mls_runs::MemoryHost;
 use sqlite::{Connection, MemStore};
 use std::rt::Files;
 

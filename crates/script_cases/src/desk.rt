@@ -1,8 +1,10 @@
 //! Machines in memory, whose files are those of `data/`, but for a script and some files of many bytes.
 use crate::most;
-use mls_command::{HeldFile, HostFault, LinesOf, MOST_BYTES, MemoryHost, read_whole};
 use mls_fragments::OpenFault;
+use mls_host::{HostFault, read_whole};
 use mls_lattice::{Items, Str};
+use mls_runs::{HeldFile, MemoryHost};
+use mls_typing::{LinesOf, MOST_BYTES};
 use sqlite::{Connection, MemStore};
 use std::alloc::{AllocError, Global};
 use std::fs;

@@ -3,7 +3,8 @@
 use crate::commands::{Written, written_after, written_over};
 use crate::lists::Lists;
 use crate::narrow::Narrow;
-use mls_command::{Errors, act};
+use mls_command::act;
+use mls_host::Errors;
 use std::alloc::{AllocError, Global};
 use std::rt::Files;
 

@@ -1,9 +1,10 @@
 //! A machine with the files of a desk, whose stores are lists.
 use crate::desk::{file_of, lines_of};
-use mls_command::{CloseFault, Host, HostFault, LinesOf, read_whole};
 use mls_fragments::OpenFault;
+use mls_host::{CloseFault, Host, HostFault, read_whole};
 use mls_lattice::Policy;
 use mls_scheme::SchemesFile;
+use mls_typing::LinesOf;
 use mls_updates::ListBase;
 use std::alloc::Global;
 use std::io::Cursor;

@@ -6,7 +6,7 @@ use Rattle.mls_scheme.specs.Scheme.{Schemes}
 use Rattle.mls_filterview.specs.Content.{State, no_content}
 use Rattle.mls_fragments.specs.Finding.{IsSoundContent}
 use Rattle.mls_sessions.proofs.StartLemmas.{no_content_sound}
-use Rattle.mls_command.specs.Running.{site_of}
+use Rattle.mls_host.specs.Running.{site_of}
 
 -- a base that holds nothing is sound
 pub none_sound : (policy : Tables) (schemes : Schemes) (s : State) → s ≡ record { now = no_content; kept = no_content; begun = false } → IsSoundContent policy schemes s.now

@@ -2,16 +2,17 @@
 ghost use Rattle.std.specs.Prelude.{◌<◌, ◌≤◌, length, IfOk};
 ghost use Rattle.std.specs.List.{AllByRecursion};
 ghost use Rattle.std.specs.Option.{IfSome};
-ghost use Rattle.mls_command.specs.History.{IsPrepared};
+ghost use Rattle.mls_runs.specs.History.{IsPrepared};
 
 use crate::disks::{Copies, Medium};
 use crate::narrow::Narrow;
 use crate::site::{Names, Site};
 use crate::stores::options;
 use case_tables::{Case, Told, case_at, inner, text_of};
-use mls_command::{HistoryFault, Run, run_history, stored_from};
+use mls_host::stored_from;
 use mls_lattice::LabelNo;
 use mls_machine::{Audience, Form};
+use mls_runs::{HistoryFault, Run, run_history};
 use mls_script::script;
 use std::alloc::{AllocError, Global};
 use std::io;

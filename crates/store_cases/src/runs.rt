@@ -4,13 +4,14 @@ ghost use Rattle.mls_lattice.specs.Policy.{labels_of};
 ghost use Rattle.mls_filterview.specs.Stored.{AreContent};
 ghost use Rattle.mls_fragments.specs.Finding.{IsSoundContent};
 ghost use Rattle.mls_machine.specs.Observation.{AreRead};
-ghost use Rattle.mls_command.specs.Running.{site_of};
+ghost use Rattle.mls_host.specs.Running.{site_of};
 
 use crate::narrow::Narrow;
 use crate::site::Site;
-use mls_command::{run_on, stored_from};
 use mls_filterview::{Base, abandon};
+use mls_host::stored_from;
 use mls_machine::{Audience, Form, Stored};
+use mls_runs::run_on;
 use mls_script::script;
 use mls_sessions::{RunCause, RunFault};
 use mls_trusted::evaluate;

@@ -1,5 +1,5 @@
 use Rattle.std.proofs.KnownBytes.{Appends-nil}
-use Rattle.mls_command.specs.Words.{texts_of}
+use Rattle.mls_words.specs.Words.{texts_of}
 use Rattle.mls_command.specs.Acting.{not_asked}
 use Rattle.mls_command.proofs.acting.act.Goals as goal
 

@@ -1,10 +1,10 @@
 -- finish
 use Rattle.std.proofs.Common.{◌++◌}
-use Rattle.mls_command.specs.Hosting.{hosted, IsAppended, IsTold}
-use Rattle.mls_command.specs.Refusal.{refusal_text}
+use Rattle.mls_host.specs.Hosting.{hosted, IsAppended, IsTold}
+use Rattle.mls_host.specs.Refusal.{refusal_text}
 use Rattle.mls_command.specs.Acting.{done, given_up}
 use Rattle.mls_command.proofs.ActingLemmas.{given_up_told}
-use Rattle.mls_command.proofs.TalkLemmas.{told_more}
+use Rattle.mls_host.proofs.HostingLemmas.{told_more}
 use Rattle.mls_command.proofs.acting.finish.Goals as goal
 
 pub returns-in-Ok : goal.returns-in-Ok

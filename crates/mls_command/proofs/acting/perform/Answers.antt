@@ -1,8 +1,9 @@
 -- perform
 use Rattle.std.proofs.Common.{rules}
 use Rattle.std.proofs.KnownBytes.{Appends-nil}
-use Rattle.mls_command.specs.Hosting.{hosted, IsAppended, IsTold}
-use Rattle.mls_command.proofs.ActingLemmas.{told_nothing, job_before, job_done, job_given_up}
+use Rattle.mls_host.specs.Hosting.{hosted, IsAppended, IsTold}
+use Rattle.mls_host.proofs.HostingLemmas.{told_nothing}
+use Rattle.mls_command.proofs.ActingLemmas.{job_before, job_done, job_given_up}
 use Rattle.mls_command.proofs.acting.perform.Goals as goal
 
 pub returns-in_err-policy-clause-given_up : goal.returns-in_err-policy-clause-given_up

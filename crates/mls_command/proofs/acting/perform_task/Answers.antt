@@ -1,9 +1,10 @@
-use Rattle.std.proofs.Common.{rules, string_bytes, IfOk, IfErr, sym, subst}
+use Rattle.std.proofs.Common.{rules, string_bytes, IfOk, sym, subst}
 use Rattle.std.proofs.KnownBytes.{Appends-nil}
-use Rattle.mls_command.specs.declared.words.Task.TheVariants.{ShowPolicy, Certify, Check, Explain}
-use Rattle.mls_command.specs.Hosting.{hosted, IsAppended, IsTold}
-use Rattle.mls_command.specs.Acting.{IsTaskDone, IsTaskGivenUp}
-use Rattle.mls_command.proofs.ActingLemmas.{told_nothing, quiet_told, before_given_up, run_task_done, run_task_given_up, print_given_up}
+use Rattle.mls_words.specs.declared.words.Task.TheVariants.{ShowPolicy, Certify, Check, Explain}
+use Rattle.mls_host.specs.Hosting.{hosted, IsAppended, IsTold}
+use Rattle.mls_command.specs.Acting.{IsTaskDone}
+use Rattle.mls_host.proofs.HostingLemmas.{told_nothing}
+use Rattle.mls_command.proofs.ActingLemmas.{quiet_told, before_given_up, run_task_done, run_task_given_up, print_given_up, shell_task_given_up}
 use Rattle.mls_command.proofs.acting.perform_task.Goals as goal
 
 pub returns-in_err-texts-in-ShowPolicy-clause-given_up : goal.returns-in_err-texts-in-ShowPolicy-clause-given_up
@@ -78,5 +79,6 @@ returns-in-Shell-clause-done g c =
 
 pub returns-in-Shell-clause-given_up : goal.returns-in-Shell-clause-given_up
 returns-in-Shell-clause-given_up g c =
-    subst (λ task. IfErr c.shell_files.result (IsTaskGivenUp (hosted g.H.Host.gives g.H.Host.keeps g.H.Host.is_honest g.H.Lines.TypedLines.echo c.args.host.now c.shell_files.new.host) c.args.policy.now c.args.file.now c.args.reader
-    (IsAppended g.W.Write.contents c.args.out.now c.shell_files.new.out) (IsTold g.E.Write.contents c.args.err.now c.shell_files.new.err) task)) (sym c.in-Shell.is) c.shell_files.ensures.given_up
+    shell_task_given_up (hosted g.H.Host.gives g.H.Host.keeps g.H.Host.is_honest g.H.Lines.TypedLines.echo c.args.host.now c.shell_files.new.host) c.args.policy.now c.args.file.now c.args.reader
+    (IsAppended g.W.Write.contents c.args.out.now c.shell_files.new.out) (IsTold g.E.Write.contents c.args.err.now c.shell_files.new.err) c.args.task c.in-Shell.files c.in-Shell.is
+    c.shell_files.result c.shell_files.ensures.given_up

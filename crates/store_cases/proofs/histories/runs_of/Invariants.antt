@@ -1,5 +1,5 @@
 use Rattle.std.specs.List.{AllByRecursion}
-use Rattle.mls_command.specs.History.{IsPrepared}
+use Rattle.mls_runs.specs.History.{IsPrepared}
 use Rattle.store_cases.proofs.histories.runs_of.Given as goal
 
 abbrev pub invariant-loop-at : goal.invariant-loop-at

@@ -1,5 +1,5 @@
-use Rattle.mls_command.specs.Running.{site_of}
-use Rattle.mls_command.proofs.RunningLemmas.{sound_at}
+use Rattle.mls_host.specs.Running.{site_of}
+use Rattle.mls_host.proofs.RunningLemmas.{sound_at}
 use Rattle.store_cases.proofs.runs.run_script.Goals as goal
 
 pub run_on-outcome-requires-clause-sound : goal.run_on-outcome-requires-clause-sound

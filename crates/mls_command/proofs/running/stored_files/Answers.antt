@@ -1,5 +1,0 @@
-use Rattle.mls_command.proofs.StoringLemmas.{stored_certified}
-use Rattle.mls_command.proofs.running.stored_files.Goals as goal
-
-pub returns-clause-certified : goal.returns-clause-certified
-returns-clause-certified g c = stored_certified c.args.policy.now c.args.schemes.now c.deref.result.now c.in_ok-txs.txs c.in_ok-stored_of.field-0 c.in_ok-stored_of.ensures

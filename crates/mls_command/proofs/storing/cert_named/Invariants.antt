@@ -1,6 +1,0 @@
-use Rattle.std.proofs.Common.{◌≡◌, drop}
-use Rattle.mls_command.specs.Storing.{cert_named}
-use Rattle.mls_command.proofs.storing.cert_named.Given as goal
-
-abbrev pub invariant-loop-block : goal.invariant-loop-block
-invariant-loop-block l = cert_named (drop l.block-index l.blocks) l.name ≡ cert_named l.blocks l.name

@@ -1,5 +1,0 @@
-use Rattle.mls_command.specs.Storing.{AreStoredWith}
-use Rattle.mls_command.proofs.storing.stored_of.Given as goal
-
-abbrev pub invariant-loop-tx : goal.invariant-loop-tx
-invariant-loop-tx l = AreStoredWith l.policy l.blocks l.yielded l.stored.items

@@ -1,0 +1,3 @@
+pub mod HostingLemmas
+pub mod RunningLemmas
+pub mod StoringLemmas

@@ -1,0 +1,109 @@
+-- Runs over a content: the lines of their events, what they leave, and how they end.
+use Rattle.std.proofs.Common.{refl, ◌≡◌, ℕ, List, [], Option, Some, None, false, Result, Ok, Err, OnOk, IfErr, IfSome, take, sym, subst}
+use Rattle.std.specs.Io.KnownBytes.{Appends}
+use Rattle.mls_filterview.specs.Content.{Content, State, no_content}
+use Rattle.mls_fragments.specs.Finding.{IsSoundContent}
+use Rattle.mls_script.specs.declared.event.Event.{Event}
+use Rattle.mls_machine.specs.declared.form.Audience.{Audience}
+use Rattle.mls_machine.specs.Site.{Site}
+use Rattle.mls_machine.specs.Machine.{World, Sessions}
+use Rattle.mls_machine.specs.Observation.{PassesOnlyReleasesDown, ShowsOnlyReleases}
+use Rattle.mls_machine.specs.Laws.{KeepsIntegrity}
+use Rattle.mls_machine.proofs.RunLemmas.{shows_only_releases}
+use Rattle.mls_sessions.specs.declared.cause.RunFault.{RunFault}
+use Rattle.mls_sessions.specs.World.{world_at, IsSound}
+use Rattle.mls_sessions.specs.Run.{IsWhole, IsStopped as IsHalted, IsFaultOf}
+use Rattle.mls_sessions.proofs.StartLemmas.{no_content_sound}
+use Rattle.mls_host.specs.declared.host.CloseFault.{CloseFault}
+use Rattle.mls_host.specs.declared.refusal.Refusal.{Refusal}
+use Rattle.mls_host.specs.declared.refusal.Refusal.TheVariants.{Unreadable, TooLong, Policy, Reader, Label, User, Name, Schemes, Transactions, Certificates, Script, Store, Run, NotClosed, Output, Memory}
+use Rattle.mls_host.specs.Refusal.{IsBefore, ended, IsEnd}
+use Rattle.mls_host.specs.Running.{first_world, IsRun}
+
+-- content that is sound under a policy and schemes is sound at their site
+pub sound_at : (site : Site) (c : Content) → IsSoundContent site.policy site.schemes c → IsSound site c
+sound_at site c sound = record { content = sound.content; entries = sound.entries }
+
+-- and so is none
+pub none_sound : (site : Site) (s : State) → s ≡ record { now = no_content; kept = no_content; begun = false } → IsSound site s.now
+none_sound site s none = subst (λ (x : State). IsSound site x.now) (sym none) (no_content_sound site)
+
+-- what an engine's run comes to: its lines, its last world, and what is proved of it
+pub record IsEngineRun (site : Site) (audience : Audience) (v : World) (es : List Event) (before after : Option (List ℕ)) (new : World) (r : Result (Unit {0}) RunFault) : Type 0 where
+  pub ok : OnOk r (IsWhole site audience v es before after new)
+  pub err : IfErr r (IsHalted site audience v es before after new)
+  pub fault : IfErr r (IsFaultOf es)
+  pub integrity : KeepsIntegrity site v es
+  pub secret : (n : ℕ) → PassesOnlyReleasesDown site v (take n es)
+
+shown_to : (site : Site) (reader : Option ℕ) (v : World) (es : List Event) → ((n : ℕ) → PassesOnlyReleasesDown site v (take n es)) → IfSome reader (λ c. (n : ℕ) → ShowsOnlyReleases site c v (take n es))
+shown_to site None v es secret = tt
+shown_to site (Some c) v es secret = λ n. shows_only_releases site c v (take n es) (secret n)
+
+-- over a base that holds a content at first and another at last
+pub run_at : (site : Site) (audience : Audience) (sessions : Sessions) (first left : Content) (es : List Event) (before after : Option (List ℕ)) (r : Result (Unit {0}) RunFault)
+    → IsSound site left → IsEngineRun site audience (first_world site first) es before after (world_at site sessions left) r
+    → IsRun site audience es (Appends before after) r first left
+run_at site audience sessions first left es before after (Ok u) sound h = record {
+  written = h.ok.bytes;
+  left_by = (sessions, h.ok.world);
+  sound = sound;
+  integrity = h.integrity;
+  secret = h.secret;
+  shown = shown_to site audience.reader (first_world site first) es h.secret;
+}
+run_at site audience sessions first left es before after (Err fault) sound h = record {
+  written = record { part = h.err.part; rest = h.err.rest; written = h.err.bytes; whole = h.err.reply; none = h.err.none; is = h.fault };
+  left_by = (sessions, h.err.world);
+  sound = sound;
+  integrity = h.integrity;
+  secret = h.secret;
+  shown = shown_to site audience.reader (first_world site first) es h.secret;
+}
+
+-- ---- how runs and shells end
+
+module _ {A : Type 0} (Ends : Result A RunFault → Type 0) (Nothing : Type 0) where
+  -- one that ended, or stopped, over a store that was closed, or not
+  pub ended_so : (outcome : Result A RunFault) (closed : Result (Unit {0}) CloseFault) → Ends outcome → IsEnd Ends Nothing (ended outcome closed)
+  ended_so (Err fault) closed h = h
+  ended_so (Ok end) (Err e) h = (end, h)
+  ended_so (Ok end) (Ok v) h = h
+
+  -- one that did not begin
+  pub not_begun : (refusal : Refusal) → IsBefore refusal → Nothing → IsEnd Ends Nothing (Err refusal)
+  not_begun (Unreadable r) b h = h
+  not_begun (TooLong r) b h = h
+  not_begun (Policy f) b h = h
+  not_begun Reader b h = h
+  not_begun Label b h = h
+  not_begun User b h = h
+  not_begun Name b h = h
+  not_begun (Schemes f) b h = h
+  not_begun (Transactions f) b h = h
+  not_begun (Certificates f) b h = h
+  not_begun (Script f) b h = h
+  not_begun (Store f) b h = h
+  not_begun (Run f) b h = absurd b
+  not_begun NotClosed b h = absurd b
+  not_begun Output b h = absurd b
+  not_begun Memory b h = h
+
+  pub end_weaker : (More : Result A RunFault → Type 0) → ((end : Result A RunFault) → Ends end → More end) → (r : Result A Refusal) → IsEnd Ends Nothing r → IsEnd More Nothing r
+  end_weaker More f (Ok end) h = f (Ok end) h
+  end_weaker More f (Err (Run fault)) h = f (Err fault) h
+  end_weaker More f (Err NotClosed) h = (h.0, f (Ok h.0) h.1)
+  end_weaker More f (Err Output) h = absurd h
+  end_weaker More f (Err (Unreadable r)) h = h
+  end_weaker More f (Err (TooLong r)) h = h
+  end_weaker More f (Err (Policy x)) h = h
+  end_weaker More f (Err Reader) h = h
+  end_weaker More f (Err Label) h = h
+  end_weaker More f (Err User) h = h
+  end_weaker More f (Err Name) h = h
+  end_weaker More f (Err (Schemes x)) h = h
+  end_weaker More f (Err (Transactions x)) h = h
+  end_weaker More f (Err (Certificates x)) h = h
+  end_weaker More f (Err (Script x)) h = h
+  end_weaker More f (Err (Store x)) h = h
+  end_weaker More f (Err Memory) h = h

@@ -1,0 +1,71 @@
+-- What is read from the inputs that a host gives: a file by its path, and the standard input.
+use Rattle.std.specs.Prelude.{◌≡◌, ℕ, List, [], Option, Some, None}
+use Rattle.std.specs.List.{position}
+use Rattle.std.specs.Str.{bytes_eq}
+use Rattle.mls_lattice.specs.Policy.{Tables}
+use Rattle.mls_lattice.specs.ReadsPolicy.{ReadsPolicy}
+use Rattle.mls_scheme.specs.Scheme.{Schemes}
+use Rattle.mls_scheme.specs.declared.file.SchemesFile.{SchemesFile}
+use Rattle.mls_scheme.specs.Document.{ReadsSchemes}
+use Rattle.mls_script.specs.declared.event.Event.{Event}
+use Rattle.mls_script.specs.Script.{ReadsScript}
+use Rattle.mls_translang.specs.Tx.{Tx}
+use Rattle.mls_translang.specs.Tells.{Tells}
+use Rattle.mls_certificate.specs.Reading.{Block}
+use Rattle.mls_certificate.specs.Spelling.{IsFile, file_text}
+use Rattle.mls_machine.specs.declared.stored.Stored.{Stored}
+use Rattle.mls_host.specs.declared.samples.TheConstants.{POLICY, SCHEMES}
+use Rattle.mls_words.specs.declared.words.Documents.{Documents}
+use Rattle.mls_words.specs.declared.words.Task.{Task}
+use Rattle.mls_words.specs.Words.{at_of}
+use Rattle.mls_host.specs.Storing.{AreStoredWith}
+
+-- none without a name; with one, the label of the name
+abbrev pub IsNamed : Tables → Option (List ℕ) → Option ℕ → Type 0
+IsNamed policy None reader = reader ≡ None
+IsNamed policy (Some name) reader = (label : ℕ) × (reader ≡ Some label) × (position (λ l. bytes_eq l.name name) policy.labels ≡ Some label)
+
+abbrev pub IsReader : Tables → Task → Option ℕ → Type 0
+IsReader policy task reader = IsNamed policy (at_of task) reader
+
+-- `Gives source bytes`: the host gives these bytes for the file at a path, or, with no path, for the standard input
+module _ (Gives : Option (List ℕ) → List ℕ → Type 0) where
+  -- the host gives bytes there that say so
+  abbrev pub IsFrom : Option (List ℕ) → (List ℕ → Type 0) → Type 0
+  IsFrom source Says = (bytes : List ℕ) × Gives source bytes × Says bytes
+
+  -- the policy and the schemes: those of the samples, or of files
+  abbrev pub IsPolicyOf : Option Documents → Tables → Type 0
+  IsPolicyOf None policy = ReadsPolicy POLICY.now policy
+  IsPolicyOf (Some d) policy = IsFrom (Some d.policy.now) (λ bytes. ReadsPolicy bytes policy)
+
+  abbrev pub AreSchemesOf : Option Documents → Tables → SchemesFile → Type 0
+  AreSchemesOf None policy file = ReadsSchemes policy SCHEMES.now file.version file.schemes
+  AreSchemesOf (Some d) policy file = IsFrom (Some d.schemes.now) (λ bytes. ReadsSchemes policy bytes file.version file.schemes)
+
+  -- the events of a script
+  abbrev pub IsScriptFrom : Option (List ℕ) → Tables → Schemes → List Event → Type 0
+  IsScriptFrom source policy schemes events = IsFrom source (λ script. ReadsScript policy schemes script events)
+
+  abbrev pub AreToldIn : List ℕ → Tables → Schemes → List Tx → Type 0
+  AreToldIn path policy schemes txs = IsFrom (Some path) (λ bytes. Tells policy schemes bytes txs)
+
+  abbrev pub AreBlocksIn : List ℕ → List Block → Type 0
+  AreBlocksIn path blocks = IsFrom (Some path) (λ bytes. IsFile blocks × (bytes ≡ file_text blocks))
+
+  -- none without a path
+  abbrev pub AreTransactionsFrom : Option (List ℕ) → Tables → Schemes → List Tx → Type 0
+  AreTransactionsFrom None policy schemes txs = txs ≡ []
+  AreTransactionsFrom (Some path) policy schemes txs = AreToldIn path policy schemes txs
+
+  abbrev pub AreCertificatesFrom : Option (List ℕ) → List Block → Type 0
+  AreCertificatesFrom None blocks = blocks ≡ []
+  AreCertificatesFrom (Some path) blocks = AreBlocksIn path blocks
+
+  -- the transactions of one file, each with the first certificate of its name in another where that holds for it
+  pub record AreStoredFrom (transactions certificates : Option (List ℕ)) (policy : Tables) (schemes : Schemes) (stored : List Stored) : Type 0 where
+    pub txs : List Tx
+    pub blocks : List Block
+    pub told : AreTransactionsFrom transactions policy schemes txs
+    pub certified : AreCertificatesFrom certificates blocks
+    pub each : AreStoredWith policy blocks txs stored

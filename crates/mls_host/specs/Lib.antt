@@ -1,0 +1,7 @@
+pub mod Hosting
+pub mod Refusal
+pub mod Ending
+pub mod Inputs
+pub mod Storing
+pub mod Running
+pub mod Telling

@@ -1,0 +1,16 @@
+-- What is told of lines that are typed.
+use Rattle.std.specs.Prelude.{ℕ, List, ◌++◌, codes}
+use Rattle.std.specs.Fmt.{decimal}
+use Rattle.mls_script.specs.declared.fault.ScriptCause.{ScriptCause}
+use Rattle.mls_script.specs.Fault as faults
+
+-- before a line: the level and the user of the session
+abbrev pub prompt_text : List ℕ → List ℕ → List ℕ
+prompt_text label user = label ++ codes " " ++ user ++ codes "> "
+
+abbrev pub line_told : ℕ → List ℕ → List ℕ
+line_told number word = codes "mldb: line " ++ decimal number ++ codes ": " ++ word ++ codes "\n"
+
+abbrev pub fault_told : ℕ → ℕ → ScriptCause → List ℕ
+fault_told number column cause =
+    codes "mldb: line " ++ decimal number ++ codes ": " ++ decimal (faults.code_of cause) ++ codes " " ++ faults.word_of cause ++ codes " at " ++ decimal column ++ codes "\n"

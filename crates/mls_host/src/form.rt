@@ -1,0 +1,12 @@
+//! The form of what is shown.
+ghost use Rattle.std.specs.Prelude.{◌≡◌};
+ghost use Rattle.mls_host.specs.Running.{form_of};
+
+use mls_machine::Form;
+
+/// A table, where it is asked for.
+pub fn form_of(is_table: bool) -> Form
+    ensures { result ≡ form_of is_table }
+{
+    if is_table { Form::Table } else { Form::Lines }
+}

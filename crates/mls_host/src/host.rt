@@ -1,0 +1,93 @@
+//! What a command asks of the machine that it runs on.
+ghost use Rattle.std.specs.Prelude.{◌≡◌, ◌≤◌, ◌↔◌, ℕ, false, List, Option, Some, None, length, IfOk};
+ghost use Rattle.std.specs.Option.{IfSome};
+ghost use Rattle.mls_scheme.specs.Scheme.{AreUnder};
+ghost use Rattle.mls_filterview.specs.Content.{Content};
+ghost use Rattle.mls_fragments.specs.Again.{IsTakenOf};
+ghost use Rattle.mls_fragments.specs.Finding.{IsSoundContent};
+
+use mls_filterview::Base;
+use mls_fragments::OpenFault;
+use mls_lattice::Policy;
+use mls_scheme::SchemesFile;
+use mls_typing::{MOST_BYTES, TypedLines};
+use std::alloc::Global;
+use std::io::{ErrorKind, Read};
+
+/// Why an input is not read.
+#[derive(Clone, Copy)]
+pub enum HostFault {
+    Unreadable,
+    TooLong,
+    Memory,
+}
+
+/// A store was not closed: what was committed is in its log alone.
+#[derive(Clone, Copy)]
+pub struct CloseFault;
+
+/// Where inputs come from, and where stores are.
+///
+/// Contracts see which bytes a host gives for the file at a path, and, with no path, for the standard input; which content the
+/// store at a path keeps; and that the store which it took back last was clean.
+pub trait Host {
+    ghost gives: { Self → Option (List ℕ) → List ℕ → Type 0 };
+
+    ghost keeps: { Self → List ℕ → Content → Type 0 };
+
+    ghost is_honest: { Self → Type 0 };
+
+    /// Where the content of a store is worked on.
+    type Store: Base;
+
+    /// What a shell reads.
+    type Lines: TypedLines + Drop;
+
+    /// The bytes of a file, which a path names.
+    fn file(&self, alloc: Global, path: &str) -> Result<Vec<u8>, HostFault>
+        ensures { IfOk result (λ bytes. gives self.now (Some path.now) bytes.items) };
+
+    /// The bytes of the standard input.
+    fn input(&self, alloc: Global) -> Result<Vec<u8>, HostFault>
+        ensures { IfOk result (λ bytes. gives self.now None bytes.items) };
+
+    /// The lines of the standard input.
+    fn lines(&self) -> Self::Lines
+        ensures { IfSome (Self.Lines.remaining result) (gives self.now None) };
+
+    /// Whether somebody types them at a terminal.
+    fn is_terminal(&self) -> bool;
+
+    /// Opens the store at a path, which is made where there is none. What it kept is taken as it was, or, where these files are later
+    /// ones than its own, with its relations widened.
+    fn store(
+        &mut self,
+        alloc: Global,
+        path: &str,
+        policy: &Policy,
+        file: &SchemesFile,
+    ) -> Result<Self::Store, OpenFault>
+        requires under { AreUnder (length policy.now.labels) file.now.schemes }
+        ensures idle { IfOk result (λ b. (Self.Store.Base.state b).begun ≡ false) }
+        ensures sound { IfOk result (λ b. IsSoundContent policy.now file.now.schemes (Self.Store.Base.state b).now) }
+        ensures kept { IfOk result (λ b. Self.Store.Base.is_clean b → IsTakenOf (keeps self.old path.now) policy.now file.now (Self.Store.Base.state b).now) };
+
+    /// Takes the store at a path back, with what a run left in it, and closes it.
+    fn keep(&mut self, path: &str, store: Self::Store) -> Result<(), CloseFault>
+        requires idle { (Self.Store.Base.state store).begun ≡ false }
+        ensures honest { is_honest self.new ↔ Self.Store.Base.is_clean store }
+        ensures kept { is_honest self.new → keeps self.new path.now (Self.Store.Base.state store).now };
+}
+
+/// All bytes of a reader, where they are at most `MOST_BYTES`.
+pub fn read_whole<R: Read + Drop>(alloc: Global, reader: R) -> Result<Vec<u8>, HostFault>
+    ensures { IfOk result (λ bytes. length bytes.items ≤ 1048576) }
+{
+    let mut bytes = Vec::new(alloc);
+    match reader.take(MOST_BYTES as u64 + 1).read_to_end(&mut bytes) {
+        Ok(_) if bytes.len() > MOST_BYTES => Err(HostFault::TooLong),
+        Ok(_) => Ok(bytes),
+        Err(e) if e.kind() == ErrorKind::OutOfMemory => Err(HostFault::Memory),
+        Err(_) => Err(HostFault::Unreadable),
+    }
+}

@@ -1,0 +1,126 @@
+//! Files, read as what a command takes them for.
+ghost use Rattle.std.specs.Prelude.{◌<◌, length, Some, IfOk, IfErr};
+ghost use Rattle.std.specs.Option.{IfSome};
+ghost use Rattle.std.specs.List.{AllByRecursion};
+ghost use Rattle.mls_scheme.specs.Scheme.{AreUnder};
+ghost use Rattle.mls_translang.specs.Fits.{IsReadUnder};
+ghost use Rattle.mls_host.specs.Inputs.{IsReader, AreToldIn, AreBlocksIn, AreTransactionsFrom, AreCertificatesFrom};
+ghost use Rattle.mls_words.specs.Words.{named};
+ghost use Rattle.mls_host.specs.Refusal.{IsBefore};
+
+use crate::host::Host;
+use crate::refusal::{Refusal, Role};
+use mls_certificate::{Certificate, certs_read};
+use mls_lattice::{Items, LabelNo, Policy, Str};
+use mls_parser::parse;
+use mls_scheme::Schemes;
+use mls_translang::Tx;
+use mls_words::Task;
+use std::alloc::Global;
+
+/// The bytes of a file, or, with no path, of the standard input.
+pub fn input_of<H: Host>(
+    alloc: Global,
+    host: &H,
+    role: Role,
+    path: Option<&str>,
+) -> Result<Vec<u8>, Refusal>
+    ensures given { IfOk result (λ bytes. H.gives host.now (named path.entry) bytes.items) }
+    ensures before { IfErr result IsBefore }
+{
+    let given = match path {
+        Some(path) => host.file(alloc, path),
+        None => host.input(alloc),
+    };
+    match given {
+        Ok(bytes) => Ok(bytes),
+        Err(fault) => Err(Refusal::of_input(role, fault)),
+    }
+}
+
+/// Why a task has no reader.
+fn no_reader(task: Task) -> Refusal
+    ensures { IsBefore result }
+{
+    match task {
+        Task::Shell(_) => Refusal::Label,
+        _ => Refusal::Reader,
+    }
+}
+
+/// The label of the name for which alone a task prints, if it names one.
+pub fn reader_of(policy: &Policy, task: Task) -> Result<Option<LabelNo>, Refusal>
+    ensures named { IfOk result (IsReader policy.now task.entry) }
+    ensures declared { IfOk result (λ reader. IfSome reader (λ c. c < length policy.now.labels)) }
+    ensures before { IfErr result IsBefore }
+{
+    match task.at() {
+        None => Ok(None),
+        Some(name) => match policy.label(name) {
+            Some(label) => Ok(Some(label)),
+            None => Err(no_reader(task)),
+        },
+    }
+}
+
+/// The transactions of a file.
+pub fn transactions_in<H: Host>(
+    alloc: Global,
+    host: &H,
+    policy: &Policy,
+    schemes: &Schemes,
+    path: &str,
+) -> Result<Items<Tx>, Refusal>
+    ensures told { IfOk result (AreToldIn (H.gives host.now) path.now policy.now schemes.now) }
+    ensures ok { IfOk result (AllByRecursion (IsReadUnder policy.now schemes.now)) }
+    ensures before { IfErr result IsBefore }
+{
+    let bytes = input_of(alloc, host, Role::Transactions, Some(path))?;
+    Ok(parse(alloc, policy, schemes, &bytes)?)
+}
+
+/// The transactions of a file, if one is named.
+pub(crate) fn transactions_of<H: Host>(
+    alloc: Global,
+    host: &H,
+    policy: &Policy,
+    schemes: &Schemes,
+    path: Option<&str>,
+) -> Result<Items<Tx>, Refusal>
+    ensures told { IfOk result (AreTransactionsFrom (H.gives host.now) (named path.entry) policy.now schemes.now) }
+    ensures ok { IfOk result (AllByRecursion (IsReadUnder policy.now schemes.now)) }
+    ensures before { IfErr result IsBefore }
+{
+    match path {
+        None => Ok(Items::from(Vec::new(alloc))),
+        Some(path) => transactions_in(alloc, host, policy, schemes, path),
+    }
+}
+
+/// The certificates of a file, with the names of their transactions.
+pub fn certificates_in<H: Host>(
+    alloc: Global,
+    host: &H,
+    path: &str,
+) -> Result<Vec<(Str, Certificate)>, Refusal>
+    ensures blocks { IfOk result (λ blocks. AreBlocksIn (H.gives host.now) path.now blocks.items) }
+    ensures before { IfErr result IsBefore }
+{
+    let bytes = input_of(alloc, host, Role::Certificates, Some(path))?;
+    Ok(certs_read(alloc, &bytes)?)
+}
+
+/// The certificates of a file, if one is named.
+pub(crate) fn certificates_of<H: Host>(
+    alloc: Global,
+    host: &H,
+    path: Option<&str>,
+) -> Result<Vec<(Str, Certificate)>, Refusal>
+    ensures blocks { IfOk result (λ blocks. AreCertificatesFrom (H.gives host.now) (named path.entry) blocks.items) }
+    ensures before { IfErr result IsBefore }
+{
+    match path {
+        None => Ok(Vec::new(alloc)),
+        Some(path) => certificates_in(alloc, host, path),
+    }
+}

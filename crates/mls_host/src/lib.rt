@@ -1,0 +1,20 @@
+//! What a command asks of the machine that it runs on, what it reads of inputs, and what it refuses.
+#![tactic(auto)]
+
+mod ending;
+mod errors;
+mod form;
+mod host;
+mod inputs;
+mod refusal;
+pub mod samples;
+mod storing;
+mod telling;
+
+pub use crate::ending::{Ending, ending_if};
+pub use crate::errors::Errors;
+pub use crate::form::form_of;
+pub use crate::host::{CloseFault, Host, HostFault, read_whole};
+pub use crate::inputs::{certificates_in, input_of, reader_of, transactions_in};
+pub use crate::refusal::{Refusal, Role, ended};
+pub use crate::storing::{cert_named, stored_files, stored_from};

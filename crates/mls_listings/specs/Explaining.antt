@@ -1,0 +1,34 @@
+-- What the command explain prints: what is told of each transaction of a file, or of the one of a name.
+use Rattle.std.specs.Prelude.{◌≡◌, ℕ, Bool, not, List, [], ◌∷◌, Option, None, Some, Contains}
+use Rattle.std.specs.List.{flat_map, list_any, AllZip}
+use Rattle.mls_lattice.specs.Policy.{Name, Tables}
+use Rattle.mls_scheme.specs.Scheme.{Schemes}
+use Rattle.mls_translang.specs.Tx.{Tx}
+use Rattle.mls_explain.specs.declared.explaining.Explained.{Explained}
+use Rattle.mls_explain.specs.Explaining.{Explains}
+use Rattle.mls_host.specs.declared.ending.Ending.{Ending}
+use Rattle.mls_host.specs.Ending.{ending_if}
+use Rattle.mls_host.specs.Inputs.{AreToldIn}
+
+-- all are chosen; or the one that has the name
+abbrev pub AreChosen : Option Name → List Tx → List Tx → Type 0
+AreChosen None txs chosen = chosen ≡ txs
+AreChosen (Some name) txs chosen = (tx : Tx) × (chosen ≡ tx ∷ []) × Contains txs tx × (tx.name ≡ name)
+
+abbrev pub AreExplained : Tables → Schemes → List Tx → List Explained → Type 0
+AreExplained policy schemes = AllZip (λ tx e. Explains policy schemes tx e.text.items e.labelled)
+
+abbrev pub lacks_labels : Explained → Bool
+lacks_labels e = not e.labelled
+
+-- what is told of the transactions of a file is printed, and nothing is told on standard error
+pub record IsExplained (Gives : Option (List ℕ) → List ℕ → Type 0) (policy : Tables) (schemes : Schemes) (path : List ℕ) (name : Option Name) (text told : List ℕ) (end : Ending) : Type 0 where
+  pub txs : List Tx
+  pub chosen : List Tx
+  pub explained : List Explained
+  pub txs_are : AreToldIn Gives path policy schemes txs
+  pub chosen_are : AreChosen name txs chosen
+  pub explained_are : AreExplained policy schemes chosen explained
+  pub text_is : text ≡ flat_map (λ e. e.text.items) explained
+  pub told_is : told ≡ []
+  pub end_is : end ≡ ending_if (list_any lacks_labels explained)

@@ -1,0 +1,4 @@
+pub mod Printing
+pub mod Certifying
+pub mod Checking
+pub mod Explaining

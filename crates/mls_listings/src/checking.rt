@@ -1,0 +1,113 @@
+//! Certificates are checked against the transactions of their names.
+ghost use Rattle.std.specs.Prelude.{◌≡◌, ◌↔◌, ◌++◌, Some, string_bytes, IfOk, IfErr, OnOk};
+ghost use Rattle.std.specs.List.{flat_map, list_any};
+ghost use Rattle.mls_certcheck.specs.Rules.{Rules, claim};
+ghost use Rattle.mls_certificate.specs.declared.cert.Certificate.{Certificate as SpecCertificate};
+ghost use Rattle.mls_host.specs.Storing.{cert_named};
+ghost use Rattle.mls_listings.specs.declared.checking.Verdict.TheVariants.{Yes};
+ghost use Rattle.mls_listings.specs.Checking.{verdict_of, verdict_text, line_of, is_refused, IsChecked};
+ghost use Rattle.mls_host.specs.Refusal.{IsBefore};
+
+use crate::listing::Listing;
+use mls_certcheck::{Refusal, check};
+use mls_certificate::Certificate;
+use mls_host::{Host, Refusal as Stop, cert_named, certificates_in, ending_if, transactions_in};
+use mls_lattice::{Policy, Str};
+use mls_scheme::Schemes;
+use mls_translang::Tx;
+use std::alloc::{AllocError, Global};
+
+/// What is said of a transaction and the first certificate of its name.
+#[derive(Clone, Copy)]
+pub(crate) enum Verdict {
+    Yes,
+    /// The first rule that is broken.
+    No(Refusal),
+    /// There is no certificate of that name.
+    Missing,
+}
+
+fn verdict_of(policy: &Policy, blocks: &[(Str, Certificate)], tx: &Tx) -> Verdict
+    ensures exact { result ≡ verdict_of policy.now blocks.now tx.now }
+    // Yes exactly where the rules hold under the first certificate of the name.
+    ensures yes { (cert : SpecCertificate) → cert_named blocks.now tx.now.name ≡ Some cert → (result ≡ Yes ↔ Rules (claim policy.now tx.now cert)) }
+{
+    match cert_named(blocks, tx.name()) {
+        None => Verdict::Missing,
+        Some(cert) => match check(policy, tx, cert) {
+            Ok(()) => Verdict::Yes,
+            Err(refusal) => Verdict::No(refusal),
+        },
+    }
+}
+
+fn verdict_to(text: &mut String, name: &str, verdict: Verdict) -> Result<(), AllocError>
+    ensures { OnOk result (string_bytes text.new ≡ string_bytes text.old ++ verdict_text name.now verdict) }
+{
+    match verdict {
+        Verdict::Yes => writeln!(text, "{name} yes"),
+        Verdict::No(Refusal { stmt, rule }) => {
+            let rule = rule.text();
+            writeln!(text, "{name} no {stmt} {rule}")
+        }
+        Verdict::Missing => writeln!(text, "{name} no certificate"),
+    }
+}
+
+fn is_refused(verdict: Verdict) -> bool
+    ensures { result ≡ is_refused verdict }
+{
+    match verdict {
+        Verdict::Yes => false,
+        Verdict::No(_) | Verdict::Missing => true,
+    }
+}
+
+/// What is told of transactions.
+#[derive(Drop)]
+pub(crate) struct Verdicts {
+    pub text: String,
+    pub refused: bool,
+}
+
+/// A line for each transaction, and whether one is refused.
+fn verdicts_of(
+    alloc: Global,
+    policy: &Policy,
+    blocks: &[(Str, Certificate)],
+    txs: &[Tx],
+) -> Result<Verdicts, AllocError>
+    ensures text { IfOk result (λ v. string_bytes v.text ≡ flat_map (line_of policy.now blocks.now) txs.now) }
+    ensures refused { IfOk result (λ v. v.refused ≡ list_any (λ tx. is_refused (verdict_of policy.now blocks.now tx)) txs.now) }
+{
+    let mut text = String::new(alloc);
+    let mut refused = false;
+    for tx in txs {
+        let verdict = verdict_of(policy, blocks, tx);
+        verdict_to(&mut text, tx.name(), verdict)?;
+        refused = refused | is_refused(verdict);
+    }
+    Ok(Verdicts { text, refused })
+}
+
+/// For each transaction of a file whether the first certificate of its name in another file holds for it.
+pub fn checked<H: Host>(
+    alloc: Global,
+    host: &H,
+    policy: &Policy,
+    schemes: &Schemes,
+    transactions: &str,
+    certificates: &str,
+) -> Result<Listing, Stop>
+    ensures listing { IfOk result (λ l. IsChecked (H.gives host.now) policy.now schemes.now transactions.now certificates.now l.text.items (string_bytes l.told) l.ending) }
+    ensures before { IfErr result IsBefore }
+{
+    let txs = transactions_in(alloc, host, policy, schemes, transactions)?;
+    let blocks = certificates_in(alloc, host, certificates)?;
+    let verdicts = verdicts_of(alloc, policy, &blocks, &txs)?;
+    Ok(Listing {
+        text: verdicts.text.into_bytes(),
+        told: String::new(alloc),
+        ending: ending_if(verdicts.refused),
+    })
+}

@@ -1,0 +1,104 @@
+//! What is told of transactions: their labels, or why they have none.
+ghost use Rattle.std.specs.Prelude.{◌≡◌, [], IfOk, IfErr, IfSome, string_bytes};
+ghost use Rattle.std.specs.List.{flat_map, list_any, AllByRecursion};
+ghost use Rattle.mls_translang.specs.Fits.{IsReadUnder};
+ghost use Rattle.mls_listings.specs.Explaining.{AreChosen, AreExplained, lacks_labels, IsExplained};
+ghost use Rattle.mls_host.specs.Ending.{ending_if};
+ghost use Rattle.mls_words.specs.Words.{named};
+ghost use Rattle.mls_host.specs.Refusal.{IsBefore};
+
+use crate::listing::Listing;
+use mls_explain::{Explained, explain};
+use mls_host::{Host, Refusal, ending_if, transactions_in};
+use mls_lattice::Policy;
+use mls_scheme::Schemes;
+use mls_translang::Tx;
+use std::alloc::{AllocError, Global};
+
+/// The transactions of a name, one at most, or all.
+fn chosen_of<'a>(txs: &'a [Tx], name: Option<&str>) -> Option<&'a [Tx]>
+    ensures { IfSome result (λ chosen. AreChosen (named name.entry) txs.now chosen.now) }
+{
+    let Some(name) = name else {
+        return Some(txs);
+    };
+    for (place, tx) in txs.iter().enumerate() {
+        if tx.name() == name {
+            return Some(&txs[place..place + 1]);
+        }
+    }
+    None
+}
+
+/// What is told of each transaction, in order.
+fn each_explained(
+    alloc: Global,
+    policy: &Policy,
+    schemes: &Schemes,
+    txs: &[Tx],
+) -> Result<Vec<Explained>, AllocError>
+    requires { AllByRecursion (IsReadUnder policy.now schemes.now) txs.now }
+    ensures { IfOk result (λ v. AreExplained policy.now schemes.now txs.now v.items) }
+{
+    let mut told = Vec::new(alloc);
+    for tx in txs {
+        let explained = explain(alloc, policy, schemes, tx)?;
+        told.push(explained)?;
+    }
+    Ok(told)
+}
+
+fn text_of(alloc: Global, explained: &[Explained]) -> Result<Vec<u8>, AllocError>
+    ensures { IfOk result (λ v. v.items ≡ flat_map (λ e. e.text.items) explained.now) }
+{
+    let mut text = Vec::new(alloc);
+    for one in explained {
+        text.extend_from_slice(&one.text)?;
+    }
+    Ok(text)
+}
+
+fn lacks_labels(one: &Explained) -> bool
+    ensures { result ≡ lacks_labels one.now }
+{
+    !one.labelled
+}
+
+fn lacks_some(explained: &[Explained]) -> bool
+    ensures { result ≡ list_any lacks_labels explained.now }
+{
+    explained.iter().any(|one| lacks_labels(one))
+}
+
+fn listing_of(alloc: Global, explained: &[Explained]) -> Result<Listing, AllocError>
+    ensures text { IfOk result (λ l. l.text.items ≡ flat_map (λ e. e.text.items) explained.now) }
+    ensures told { IfOk result (λ l. string_bytes l.told ≡ []) }
+    ensures end { IfOk result (λ l. l.ending ≡ ending_if (list_any lacks_labels explained.now)) }
+{
+    Ok(Listing {
+        text: text_of(alloc, explained)?,
+        told: String::new(alloc),
+        ending: ending_if(lacks_some(explained)),
+    })
+}
+
+/// The transactions of a file, or the one of a name, explained. `Name` where none has the name.
+pub fn explained<H: Host>(
+    alloc: Global,
+    host: &H,
+    policy: &Policy,
+    schemes: &Schemes,
+    transactions: &str,
+    name: Option<&str>,
+) -> Result<Listing, Refusal>
+    ensures listing { IfOk result (λ l. IsExplained (H.gives host.now) policy.now schemes.now transactions.now (named name.entry)
+        l.text.items (string_bytes l.told) l.ending) }
+    ensures before { IfErr result IsBefore }
+{
+    let txs = transactions_in(alloc, host, policy, schemes, transactions)?;
+    let Some(chosen) = chosen_of(&txs, name) else {
+        return Err(Refusal::Name);
+    };
+    let explained = each_explained(alloc, policy, schemes, chosen)?;
+    Ok(listing_of(alloc, &explained)?)
+}

@@ -1,0 +1,37 @@
+//! The canonical texts of a policy and its schemes.
+ghost use Rattle.std.specs.Prelude.{◌≡◌, ◌++◌, [], length, string_bytes, IfOk, IfErr};
+ghost use Rattle.mls_scheme.specs.Scheme.{AreUnder};
+ghost use Rattle.mls_lattice.specs.Canon as lattice;
+ghost use Rattle.mls_scheme.specs.Canon as scheme;
+ghost use Rattle.mls_host.specs.declared.ending.Ending.TheVariants.{Well};
+
+use crate::listing::Listing;
+use mls_host::Ending;
+use mls_lattice::Policy;
+use mls_scheme::SchemesFile;
+use std::alloc::{AllocError, Global};
+
+/// The canonical texts of a policy and its schemes.
+fn texts_of(alloc: Global, policy: &Policy, file: &SchemesFile) -> Result<Vec<u8>, AllocError>
+    requires { AreUnder (length policy.now.labels) file.now.schemes }
+    ensures { IfOk result (λ text. text.items ≡ lattice.canon_of policy.now ++ scheme.canon_of policy.now file.now.version file.now.schemes) }
+{
+    let mut text = policy.canon(alloc)?;
+    text.append(&mut file.canon(alloc, policy)?)?;
+    Ok(text)
+}
+
+/// The canonical texts, as they are printed.
+pub fn texts(alloc: Global, policy: &Policy, file: &SchemesFile) -> Result<Listing, AllocError>
+    requires { AreUnder (length policy.now.labels) file.now.schemes }
+    ensures text { IfOk result (λ l. l.text.items ≡ lattice.canon_of policy.now ++ scheme.canon_of policy.now file.now.version file.now.schemes) }
+    ensures told { IfOk result (λ l. string_bytes l.told ≡ []) }
+    ensures end { IfOk result (λ l. l.ending ≡ Well) }
+{
+    let text = texts_of(alloc, policy, file)?;
+    Ok(Listing {
+        text,
+        told: String::new(alloc),
+        ending: Ending::Well,
+    })
+}

@@ -1,0 +1,130 @@
+-- Two runs over one store are a history.
+use Rattle.std.proofs.Common.{◌≡◌, ℕ, ◌-◌, if◌then◌else◌, List, [], ◌∷◌, length, map, take, Option, Some, None, Result, Ok, Err, refl, sym, ap, ◌∙◌, subst, arith}
+use Rattle.std.specs.List.{AllByRecursion}
+use Rattle.std.proofs.lemmas.List.{length-map, take_all}
+use Rattle.mls_lattice.specs.Labels.{AreDistinct}
+use Rattle.mls_lattice.specs.Policy.{Tables, labels_of}
+use Rattle.mls_lattice.specs.ReadsPolicy.{ReadsPolicy}
+use Rattle.mls_lattice.proofs.KeptLemmas.{policy-kept}
+use Rattle.mls_scheme.specs.Scheme.{Schemes}
+use Rattle.mls_scheme.specs.declared.file.SchemesFile.{SchemesFile}
+use Rattle.mls_filterview.specs.Content.{Content}
+use Rattle.mls_filterview.specs.Stored.{AreContent}
+use Rattle.mls_fragments.specs.Again.{IsTakenOf}
+use Rattle.mls_fragments.specs.Finding.{IsSoundContent}
+use Rattle.mls_fragments.proofs.AgainLemmas.{sound_is_taken}
+use Rattle.mls_translang.specs.Tx.{Tx}
+use Rattle.mls_translang.specs.Fits.{IsReadUnder}
+use Rattle.mls_script.specs.declared.event.Event.{Event}
+use Rattle.mls_machine.specs.declared.stored.Stored.{Stored}
+use Rattle.mls_machine.specs.Site.{Site}
+use Rattle.mls_machine.specs.Machine.{World, no_sessions}
+use Rattle.mls_machine.specs.Output.{run_lines, printed}
+use Rattle.mls_machine.specs.Observation.{AreRead, PassesOnlyReleasesDown, heard}
+use Rattle.mls_machine.specs.Laws.{KeepsIntegrity}
+use Rattle.mls_machine.specs.History.{settled, run_end, history_end, history_lines, IsHistoryUnder, EachPassesOnlyReleasesDown}
+use Rattle.mls_machine.proofs.KeepingLemmas.{first_integrity}
+use Rattle.mls_machine.proofs.HistoryLemmas.{histories_pass}
+use Rattle.mls_sessions.specs.declared.cause.RunFault.{RunFault}
+use Rattle.mls_sessions.specs.World.{entries_in, IsSound}
+use Rattle.mls_words.specs.declared.words.Documents.{Documents}
+use Rattle.mls_host.specs.Hosting.{Hosted, BeginsWith, IsKeptAt}
+use Rattle.mls_host.specs.Inputs.{AreTransactionsFrom, AreStoredFrom, IsPolicyOf}
+use Rattle.mls_words.specs.Words.{named}
+use Rattle.mls_host.specs.Running.{site_of, first_world, output, standing, IsLeftBy}
+use Rattle.mls_runs.specs.InTurn.{run_at, IsHistory, AreInTurn, KeepsOne, RunsAreInTurn}
+use Rattle.mls_host.proofs.StoringLemmas.{stored_read}
+
+-- ---- up to where a run ended or stopped
+
+module _ (site : Site) (v : World) (es : List Event) where
+  passes_standing : ((n : ℕ) → PassesOnlyReleasesDown site v (take n es)) → (end : Result (Unit {0}) RunFault) → PassesOnlyReleasesDown site v (standing es end)
+  passes_standing secret (Ok u) = subst (PassesOnlyReleasesDown site v) (take_all (length es) es (omega arith)) (secret (length es))
+  passes_standing secret (Err fault) = secret (if fault.done then fault.event else fault.event - 1)
+
+  keeps_standing : KeepsIntegrity site v es → (end : Result (Unit {0}) RunFault) → KeepsIntegrity site v (standing es end)
+  keeps_standing k (Ok u) = k
+  keeps_standing k (Err fault) = first_integrity site v es k (if fault.done then fault.event else fault.event - 1)
+
+-- ---- what is stored was read
+
+transactions_read : (gives : Option (List ℕ) → List ℕ → Type 0) (path : Option (List ℕ)) (policy : Tables) (schemes : Schemes) (txs : List Tx) → AreTransactionsFrom gives path policy schemes txs → AllByRecursion (IsReadUnder policy schemes) txs
+transactions_read gives None policy schemes txs h = subst (AllByRecursion (IsReadUnder policy schemes)) (sym h) tt
+transactions_read gives (Some path) policy schemes txs h = h.2.read.each
+
+are_read : (gives : Option (List ℕ) → List ℕ → Type 0) (transactions certificates : Option (List ℕ)) (policy : Tables) (schemes : Schemes) (stored : List Stored)
+    → AreStoredFrom gives transactions certificates policy schemes stored → AreRead (site_of policy schemes stored)
+are_read gives transactions certificates policy schemes stored h =
+    stored_read policy schemes h.blocks h.txs stored (transactions_read gives transactions policy schemes h.txs h.told) h.each
+
+-- ---- the labels of a policy that was read differ
+
+read_distinct : (bytes : List ℕ) (policy : Tables) → ReadsPolicy bytes policy → AreDistinct (labels_of policy)
+read_distinct bytes policy h = (policy-kept h.0 policy h.2).distinct
+
+policy_distinct : (gives : Option (List ℕ) → List ℕ → Type 0) (documents : Option Documents) (policy : Tables) → IsPolicyOf gives documents policy → AreDistinct (labels_of policy)
+policy_distinct gives None policy read = read_distinct _ policy read
+policy_distinct gives (Some d) policy read = read_distinct _ policy read.2
+
+-- ---- worlds between runs
+
+same_count : (policy later : Tables) → labels_of later ≡ labels_of policy → length policy.labels ≡ length later.labels
+same_count policy later e = sym (length-map policy.labels (λ l. l.value)) ∙ ap length (sym e) ∙ length-map later.labels (λ l. l.value)
+
+abbrev world_with : ℕ → Content → World
+world_with count c = record { db = c.db; sessions = no_sessions; audit = entries_in count c.audit }
+
+-- what a run leaves, without its sessions
+left_world : (site : Site) (first left : Content) (es : List Event) → IsLeftBy site first es left → run_end (first_world site first) (record { site = site; events = es }) ≡ first_world site left
+left_world site first left es h = ap settled (sym h.1)
+
+-- ---- a store that keeps one content
+
+begins_at : (h : Hosted) (policy : Tables) (file : SchemesFile) (store : Option (List ℕ)) (path : List ℕ) (c : Content) → store ≡ Some path → BeginsWith h policy file store c → IsTakenOf (h.kept path) policy file c
+begins_at h policy file store path c e b = subst (λ o. BeginsWith h policy file o c) e b
+
+kept_at : (h : Hosted) (store : Option (List ℕ)) (path : List ℕ) (c : Content) → store ≡ Some path → IsKeptAt h store c → h.keeps path c
+kept_at h store path c e b = subst (λ o. IsKeptAt h o c) e b
+
+-- what is sound is so under the same labels and schemes
+sound_later : (policy later : Tables) (schemes same : Schemes) (stored : List Stored) (c : Content) → labels_of later ≡ labels_of policy → same ≡ schemes
+    → IsSound (site_of policy schemes stored) c → IsSoundContent later same c
+sound_later policy later schemes same stored c labels relations sound = record {
+  content = subst (λ ss. AreContent (labels_of later) ss c.db) (sym relations) (subst (λ ls. AreContent ls schemes c.db) (sym labels) sound.content);
+  entries = let e : length later.labels ≡ length policy.labels = sym (same_count policy later labels) in rw e sound.entries;
+}
+
+-- and is taken as it was left
+taken_again : (h k : Hosted) (path : List ℕ) → KeepsOne h k path → (later : Tables) (again : SchemesFile) (left first : Content) → IsSoundContent later again.schemes left
+    → h.keeps path left → IsTakenOf (k.kept path) later again first → left ≡ first
+taken_again h k path one later again left first sound kept taken =
+    let same : left ≡ taken.0 = one left taken.0 kept taken.1 in
+    same ∙ sym (sound_is_taken later again taken.0 first (subst (IsSoundContent later again.schemes) same sound) taken.2)
+
+pub in_turn : (h : Hosted) (W : List ℕ → Type 0) (k : Hosted) (V : List ℕ → Type 0) → RunsAreInTurn h W k V
+unfolding history_end history_lines
+in_turn h W k V path one documents policy later file again read labels relations reader other files others at there end stop x y was is =
+    let ls = labels_of policy in
+    let a = x.run was in
+    let b = y.run is in
+    let r = run_at policy file.schemes x.stored x.events end in
+    let s = run_at later again.schemes y.stored y.events stop in
+    let v = first_world r.site a.first in
+    let sound = sound_later policy later file.schemes again.schemes x.stored a.left labels relations a.leads.sound in
+    let same : a.left ≡ b.first = taken_again h k path one later again a.left b.first sound (kept_at h _ path a.left at a.kept) (begins_at k later again _ path b.first there b.begins) in
+    let next : run_end v r ≡ first_world s.site b.first
+    = left_world r.site a.first a.left r.events a.leads.left_by ∙ (λ i. world_with (same_count policy later labels i) (same i)) in
+    let passes : EachPassesOnlyReleasesDown v (r ∷ s ∷ []) = (passes_standing r.site v x.events a.leads.secret end, (subst (λ w. PassesOnlyReleasesDown s.site w s.events) (sym next) (passes_standing s.site _ y.events b.leads.secret stop), tt)) in
+    let under : IsHistoryUnder ls file.schemes (r ∷ s ∷ []) = (
+      record { labels = refl; relations = refl; read = are_read h.gives _ _ policy file.schemes x.stored x.stored_are },
+      (record { labels = labels; relations = relations; read = are_read k.gives _ _ later again.schemes y.stored y.stored_are }, tt),
+    ) in
+    record {
+      one = same;
+      history = record {
+        left_by = ap (λ w. run_end w s) next ∙ left_world s.site b.first b.left s.events b.leads.left_by;
+        integrity = (keeps_standing r.site v x.events a.leads.integrity end, (subst (λ w. KeepsIntegrity s.site w s.events) (sym next) (keeps_standing s.site _ y.events b.leads.integrity stop), tt));
+        secret = histories_pass ls file.schemes (policy_distinct h.gives documents policy read) v (r ∷ s ∷ []) under passes;
+      };
+      written = λ audience. λ i. output r.site audience a.first r.events ∷ printed (heard (sym labels i) audience.reader (run_lines audience.form s.site (next i) s.events)) ∷ [];
+    }

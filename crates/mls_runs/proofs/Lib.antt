@@ -1,0 +1,4 @@
+pub mod ScriptRunLemmas
+pub mod InTurnLemmas
+pub mod MemoryLemmas
+pub mod HistoryLemmas

@@ -1,0 +1,30 @@
+use Rattle.std.proofs.Common.{[], Result, Ok, sym, subst}
+use Rattle.std.proofs.KnownBytes.{Appends-nil}
+use Rattle.sqlite.proofs.Callers.{memory_is_clean}
+use Rattle.std.specs.Io.KnownBytes.{Appends}
+use Rattle.mls_filterview.specs.Content.{State, Content, no_content}
+use Rattle.mls_fragments.specs.Based.{state_of}
+use Rattle.mls_sessions.specs.declared.cause.RunFault.{RunFault}
+use Rattle.mls_host.specs.declared.refusal.Refusal.{Refusal}
+use Rattle.mls_host.specs.Refusal.{IsEnd}
+use Rattle.mls_host.specs.Running.{site_of, IsRun}
+use Rattle.mls_host.proofs.RunningLemmas.{none_sound, ended_so}
+use Rattle.mls_runs.proofs.running.run_in_memory.Goals as goal
+
+pub run_on-outcome-requires-clause-sound : goal.run_on-outcome-requires-clause-sound
+run_on-outcome-requires-clause-sound g c = λ _. none_sound (site_of c.args.policy.now c.args.file.now.schemes c.args.stored) _ c.in-Ok.ensures.content
+
+pub returns-in-Err : goal.returns-in-Err
+returns-in-Err g c = Appends-nil _
+
+pub returns : goal.returns
+returns g c =
+    let at = site_of c.args.policy.now c.args.file.now.schemes c.args.stored in
+    let left = (state_of c.run_on-outcome.result.1).now in
+    let before = g.W.Write.contents c.args.out.now in
+    let after = g.W.Write.contents c.run_on-outcome.new.out in
+    let run = c.run_on-outcome.ensures.run (c.into_connection-connection.ensures.clean (memory_is_clean c.into_connection-connection.result)) in
+    let Runs : Result (Unit {0}) RunFault → Type 0 = λ end. (last : Content) × IsRun at c.args.audience c.args.events.now (Appends before after) end no_content last in
+    let ran : Runs c.run_on-outcome.result.0 = (left, subst (λ (x : State). IsRun at c.args.audience c.args.events.now (Appends before after) c.run_on-outcome.result.0 x.now left) c.in-Ok.ensures.content run) in
+    subst (λ (r : Result (Unit {0}) Refusal). IsEnd Runs (Appends before after []) r) (sym c.ended.ensures)
+    (ended_so Runs (Appends before after []) c.run_on-outcome.result.0 (Ok tt) ran)

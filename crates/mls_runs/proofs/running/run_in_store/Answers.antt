@@ -1,0 +1,25 @@
+use Rattle.std.proofs.Common.{[], Result, Some, sym, subst}
+use Rattle.std.proofs.KnownBytes.{Appends-nil}
+use Rattle.mls_sessions.specs.declared.cause.RunFault.{RunFault}
+use Rattle.mls_host.specs.declared.refusal.Refusal.{Refusal}
+use Rattle.mls_host.specs.Hosting.{hosted, IsAppended}
+use Rattle.mls_host.specs.Refusal.{IsEnd}
+use Rattle.mls_host.specs.Running.{site_of}
+use Rattle.mls_runs.specs.ScriptRun.{IsRunFrom}
+use Rattle.mls_host.proofs.RunningLemmas.{ended_so}
+use Rattle.mls_runs.proofs.running.run_in_store.Goals as goal
+
+pub returns-in-Err : goal.returns-in-Err
+returns-in-Err g c = Appends-nil _
+
+pub returns : goal.returns
+returns g c =
+    let h = hosted g.H.Host.gives g.H.Host.keeps g.H.Host.is_honest g.H.Lines.TypedLines.echo c.args.host.now c.keep-closed.new.self in
+    let Wrote = IsAppended g.W.Write.contents c.args.out.now c.run_on-outcome.new.out in
+    let Runs : Result (Unit {0}) RunFault → Type 0
+    = IsRunFrom h c.args.file.now (Some c.args.path.now) (site_of c.args.policy.now c.args.file.now.schemes c.args.stored) c.args.audience c.args.events.now Wrote in
+    let ran : Runs c.run_on-outcome.result.0 = λ honest.
+    let clean = c.keep-closed.ensures.honest.0 honest in
+    record { first = _; left = _; begins = c.in-Ok.ensures.kept (c.run_on-outcome.ensures.clean clean); kept = c.keep-closed.ensures.kept honest; leads = c.run_on-outcome.ensures.run clean } in
+    subst (λ (r : Result (Unit {0}) Refusal). IsEnd Runs (Wrote []) r) (sym c.ended.ensures)
+    (ended_so Runs (Wrote []) c.run_on-outcome.result.0 c.keep-closed.result ran)

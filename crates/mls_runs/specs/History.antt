@@ -1,0 +1,108 @@
+-- What a history of runs over the files of one store writes, what it begins with and what it leaves.
+use Rattle.std.specs.Prelude.{◌≡◌, ℕ, suc, List, [], ◌∷◌, ◌++◌, length, IfSome, Result, Ok, Err}
+use Rattle.std.specs.List.{concat}
+use Rattle.sqlite_disk.specs.declared.Disk.{Ghosts}
+use Rattle.sqlite_disk.specs.declared.Files.{Files}
+use Rattle.sqlite.specs.Files.{image_of}
+use Rattle.sqlite.specs.WalReads.{AreClean}
+use Rattle.mls_lattice.specs.Policy.{Tables, labels_of}
+use Rattle.mls_scheme.specs.Scheme.{Schemes}
+use Rattle.mls_scheme.specs.declared.file.SchemesFile.{SchemesFile}
+use Rattle.mls_filterview.specs.Content.{Content}
+use Rattle.mls_fragments.specs.Again.{AreKept, IsFoundUnder}
+use Rattle.mls_fragments.specs.Finding.{IsSoundContent}
+use Rattle.mls_machine.specs.declared.form.Audience.{Audience}
+use Rattle.mls_machine.specs.Machine.{World, no_sessions}
+use Rattle.mls_machine.specs.Observation.{AreRead, AreCertified, EventsFit}
+use Rattle.mls_machine.specs.History.{RunAt, history_bytes, ShowsOnlyReleasesInHistory}
+use Rattle.mls_sessions.specs.World.{entries_in}
+use Rattle.mls_sessions.specs.declared.cause.RunFault.{RunFault}
+use Rattle.mls_runs.specs.declared.history.Run.{Run}
+use Rattle.mls_runs.specs.declared.history.HistoryCause.{HistoryCause}
+use Rattle.mls_runs.specs.declared.history.HistoryCause.TheVariants.{Unopened, Stopped, NotClosed}
+use Rattle.mls_runs.specs.declared.history.HistoryFault.{HistoryFault}
+use Rattle.mls_runs.specs.InTurn.{IsHistory}
+use Rattle.mls_host.specs.Running.{site_of, IsRun}
+
+-- ---- runs of a history
+
+module _ (policy : Tables) (schemes : Schemes) where
+  abbrev pub run_of : Run → RunAt
+  run_of run = record { site = site_of policy schemes run.stored; events = run.events.items }
+
+  -- what it stores was read and checked, and its events fit
+  pub record IsPrepared (run : Run) : Type 0 where
+    pub read : AreRead (site_of policy schemes run.stored)
+    pub certified : AreCertified (site_of policy schemes run.stored)
+    pub fits : EventsFit (site_of policy schemes run.stored) run.events.items
+
+-- why a run that stopped breaks its history off
+abbrev pub cause_of : Result (Unit {0}) RunFault → Result (Unit {0}) HistoryCause
+cause_of (Ok _) = Ok tt
+cause_of (Err fault) = Err (Stopped fault)
+
+-- the tuples and the entries of a content, and no session
+abbrev pub world_of : Tables → Content → World
+world_of policy c = record { db = c.db; sessions = no_sessions; audit = entries_in (length policy.labels) c.audit }
+
+-- ---- histories of whole runs
+
+-- from one content to another
+pub record IsHistoryRun (policy : Tables) (schemes : Schemes) (audience : Audience) (rs : List RunAt) (Wrote : List ℕ → Type 0) (first left : Content) : Type 0 where
+  pub begins : IsSoundContent policy schemes first
+  -- what an audience is shown of all runs
+  pub written : Wrote (concat (history_bytes (labels_of policy) audience (world_of policy first) rs))
+  -- what is left; each database on the way has the four integrity properties; no information flows down but what is released
+  pub history : IsHistory (labels_of policy) schemes rs (world_of policy first) (world_of policy left)
+  -- a next run may begin with what is left
+  pub sound : IsSoundContent policy schemes left
+  -- the bytes that a reader is shown are the same for any other such history
+  pub shown : IfSome audience.reader (λ c. ShowsOnlyReleasesInHistory (labels_of policy) schemes c (world_of policy first) rs)
+
+-- ---- over the files of a store, which are closed and opened between runs
+
+-- what comes of a run over files: it is whole, and they keep what it leaves; or the store was not opened for it; or it stopped; or
+-- it ended or stopped, and the store was not closed
+abbrev pub ComesTo : {D : Type 0} → Ghosts D → (Result (Unit {0}) RunFault → Content → Type 0) → Type 0 → Files D → Result (Unit {0}) HistoryCause → Type 0
+ComesTo g Over Unmade now (Ok _) = AreClean g now.log now.db → (left : Content) × Over (Ok tt) left × AreKept g now left
+ComesTo g Over Unmade now (Err (Unopened fault)) = Unmade
+ComesTo g Over Unmade now (Err (Stopped fault)) = AreClean g now.log now.db → (left : Content) × Over (Err fault) left × AreKept g now left
+ComesTo g Over Unmade now (Err NotClosed) = AreClean g now.log now.db → (end : Result (Unit {0}) RunFault) × (left : Content) × Over end left
+
+module _ {D : Type 0} (g : Ghosts D) (policy : Tables) (file : SchemesFile) (audience : Audience) where
+  -- a run from what is found in the files
+  pub record IsRunOver (start : Files D) (r : RunAt) (Wrote : List ℕ → Type 0) (end : Result (Unit {0}) RunFault) (left : Content) : Type 0 where
+    pub first : Content
+    pub clean : AreClean g start.log start.db
+    pub found : IsFoundUnder policy file (image_of g start) first
+    pub begins : IsSoundContent policy file.schemes first
+    pub run : IsRun r.site audience r.events Wrote end first left
+
+  -- whole runs, if there are any: from what is found in the files at first to what they keep
+  pub data IsHistoryOver (start : Files D) (rs : List RunAt) (Wrote : List ℕ → Type 0) (now : Files D) : Type 0 where
+    none : rs ≡ [] → Wrote [] → now ≡ start → IsHistoryOver start rs Wrote now
+    some : (first left : Content) → AreClean g start.log start.db → IsFoundUnder policy file (image_of g start) first
+        → IsHistoryRun policy file.schemes audience rs Wrote first left → AreKept g now left → IsHistoryOver start rs Wrote now
+
+  -- whole runs, and then one from what they leave that ended or stopped
+  pub record IsHistoryTo (start : Files D) (rs : List RunAt) (r : RunAt) (Wrote : List ℕ → Type 0) (end : Result (Unit {0}) RunFault) (left : Content) : Type 0 where
+    pub first : Content
+    pub last : Content
+    pub bytes : List ℕ
+    pub found : IsFoundUnder policy file (image_of g start) first
+    pub before : IsHistoryRun policy file.schemes audience rs (λ written. bytes ≡ written) first last
+    pub run : IsRun r.site audience r.events (λ part. Wrote (bytes ++ part)) end last left
+
+  -- a run after others, for which the store was not opened, or that is not whole, or after which the store was not closed
+  abbrev pub IsBrokenOff : Files D → List RunAt → RunAt → (List ℕ → Type 0) → Files D → HistoryCause → Type 0
+  IsBrokenOff start rs r Wrote now cause =
+      ComesTo g (IsHistoryTo start rs r Wrote) ((was : Files D) × (AreClean g was.log was.db → IsHistoryOver start rs Wrote was)) now (Err cause)
+
+  -- it is one of the runs, by its number from 1
+  pub record IsHistoryFault (start : Files D) (rs : List RunAt) (Wrote : List ℕ → Type 0) (now : Files D) (fault : HistoryFault) : Type 0 where
+    pub before : List RunAt
+    pub run : RunAt
+    pub after : List RunAt
+    pub all : rs ≡ before ++ run ∷ after
+    pub number : fault.run ≡ suc (length before)
+    pub broken : IsBrokenOff start before run Wrote now fault.cause

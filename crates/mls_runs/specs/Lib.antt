@@ -1,0 +1,4 @@
+pub mod ScriptRun
+pub mod InTurn
+pub mod Memory
+pub mod History

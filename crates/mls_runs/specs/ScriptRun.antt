@@ -1,0 +1,31 @@
+-- A script that is run, over a store or over nothing.
+use Rattle.std.specs.Prelude.{ℕ, List, Option, Result}
+use Rattle.mls_lattice.specs.Policy.{Tables}
+use Rattle.mls_scheme.specs.declared.file.SchemesFile.{SchemesFile}
+use Rattle.mls_script.specs.declared.event.Event.{Event}
+use Rattle.mls_machine.specs.declared.stored.Stored.{Stored}
+use Rattle.mls_machine.specs.declared.form.Audience.{Audience}
+use Rattle.mls_machine.specs.Site.{Site}
+use Rattle.mls_sessions.specs.declared.cause.RunFault.{RunFault}
+use Rattle.mls_words.specs.declared.words.RunFiles.{RunFiles}
+use Rattle.mls_host.specs.Hosting.{Hosted, IsClean, IsOver}
+use Rattle.mls_host.specs.Inputs.{AreStoredFrom, IsScriptFrom}
+use Rattle.mls_words.specs.Words.{named}
+use Rattle.mls_host.specs.Running.{IsRun, form_of, site_of}
+
+-- the reader, if one is named, and a table where the words ask for one
+abbrev pub audience_of : Option ℕ → RunFiles → Audience
+audience_of reader files = record { reader = reader; form = form_of files.is_table }
+
+module _ (h : Hosted) where
+  -- events are run over a store, where that is clean
+  abbrev pub IsRunFrom : SchemesFile → Option (List ℕ) → Site → Audience → List Event → (List ℕ → Type 0) → Result (Unit {0}) RunFault → Type 0
+  IsRunFrom file store site audience events Wrote end = IsClean h store → IsOver h site.policy file store (IsRun site audience events Wrote end)
+
+  -- the events of a script are run, over what is stored; the run ended, or stopped at a fault
+  pub record IsScriptRun (policy : Tables) (file : SchemesFile) (reader : Option ℕ) (files : RunFiles) (Wrote : List ℕ → Type 0) (end : Result (Unit {0}) RunFault) : Type 0 where
+    pub stored : List Stored
+    pub events : List Event
+    pub stored_are : AreStoredFrom h.gives (named files.transactions) (named files.certificates) policy file.schemes stored
+    pub events_are : IsScriptFrom h.gives (named files.script) policy file.schemes events
+    pub run : IsRunFrom file (named files.store) (site_of policy file.schemes stored) (audience_of reader files) events Wrote end

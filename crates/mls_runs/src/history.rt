@@ -1,0 +1,151 @@
+//! Histories: runs one after another over the files of one store, which are closed and opened between.
+ghost use Rattle.std.specs.Prelude.{◌≡◌, ◌<◌, [], false, length, map, IfErr, OnOk};
+ghost use Rattle.std.specs.List.{AllByRecursion};
+ghost use Rattle.std.specs.Option.{IfSome};
+ghost use Rattle.sqlite.specs.WalReads.{AreClean};
+ghost use Rattle.mls_scheme.specs.Scheme.{AreUnder};
+ghost use Rattle.mls_statements.specs.Store.{IsClean};
+ghost use Rattle.mls_fragments.specs.Based.{state_of};
+ghost use Rattle.mls_fragments.specs.Finding.{IsSoundContent};
+ghost use Rattle.mls_host.specs.Hosting.{IsAppended};
+ghost use Rattle.mls_runs.specs.History.{run_of, cause_of, IsPrepared, IsRunOver, ComesTo, IsHistoryOver, IsHistoryFault};
+ghost use Rattle.mls_host.specs.Running.{site_of, IsRun};
+
+use crate::running::run_on;
+use mls_fragments::{OpenFault, SqlBase};
+use mls_lattice::{Items, Policy};
+use mls_machine::Audience;
+use mls_scheme::SchemesFile;
+use mls_script::Event;
+use mls_sessions::{RunFault, Stored};
+use sqlite::{FileStore, Files, Options};
+use sqlite_disk::Disk;
+use std::alloc::Global;
+use std::io::Write;
+
+/// A run of a history: what it stores, and its events.
+#[derive(Drop)]
+pub struct Run {
+    pub stored: Items<Stored>,
+    pub events: Vec<Event>,
+}
+
+/// Why a history is broken off.
+#[derive(Clone, Copy)]
+pub enum HistoryCause {
+    /// The store was not opened for the run.
+    Unopened(OpenFault),
+    /// The run stopped. Its store was closed.
+    Stopped(RunFault),
+    /// The run ended, or stopped, and its store was not closed.
+    NotClosed,
+}
+
+/// Which run breaks a history off, from 1, and why.
+#[derive(Clone, Copy)]
+pub struct HistoryFault {
+    pub run: usize,
+    pub cause: HistoryCause,
+}
+
+/// Why a run that stopped breaks its history off.
+fn ended(outcome: Result<(), RunFault>) -> Result<(), HistoryCause>
+    ensures { result ≡ cause_of outcome }
+{
+    match outcome {
+        Ok(()) => Ok(()),
+        Err(fault) => Err(HistoryCause::Stopped(fault)),
+    }
+}
+
+/// Answers the events of a run over a base, and closes its files.
+fn run_and_close<D: Disk + Drop, W: Write>(
+    alloc: Global,
+    policy: &Policy,
+    file: &SchemesFile,
+    run: Run,
+    base: SqlBase<FileStore<D>>,
+    audience: Audience,
+    out: &mut W,
+) -> (Result<(), HistoryCause>, Files<D>)
+    requires under { AreUnder (length policy.now.labels) file.now.schemes }
+    requires prepared { IsPrepared policy.now file.now.schemes run }
+    requires declared { IfSome audience.reader (λ c. c < length policy.now.labels) }
+    requires idle { (state_of base).begun ≡ false }
+    requires sound { IsSoundContent policy.now file.now.schemes (state_of base).now }
+    ensures { ComesTo D.Disk (λ end left. IsClean base.tables × IsRun (site_of policy.now file.now.schemes run.stored) audience run.events.items
+        (IsAppended W.contents out.old out.new) end (state_of base).now left) ⊥ result.1 result.0 }
+{
+    let Run { stored, events } = run;
+    let schemes = &file.schemes;
+    let (outcome, left) = run_on(alloc, policy, schemes, stored, base, &events, audience, out);
+    match left.close_files() {
+        Ok(files) => (ended(outcome), files),
+        Err((_, files)) => (Err(HistoryCause::NotClosed), files),
+    }
+}
+
+/// The audience, again.
+fn same_audience(audience: &Audience) -> Audience
+    ensures { result ≡ audience.now }
+{
+    *audience
+}
+
+/// Answers the events of a run over the store in files, which is opened and closed for it.
+fn run_over<D: Disk + Drop, W: Write>(
+    alloc: Global,
+    policy: &Policy,
+    file: &SchemesFile,
+    run: Run,
+    files: Files<D>,
+    options: Options,
+    audience: &Audience,
+    out: &mut W,
+) -> (Result<(), HistoryCause>, Files<D>)
+    requires under { AreUnder (length policy.now.labels) file.now.schemes }
+    requires prepared { IsPrepared policy.now file.now.schemes run }
+    requires declared { IfSome audience.now.reader (λ c. c < length policy.now.labels) }
+    ensures { ComesTo D.Disk (IsRunOver D.Disk policy.now file.now audience.now files (run_of policy.now file.now.schemes run) (IsAppended W.contents out.old out.new))
+        (IsAppended W.contents out.old out.new []) result.1 result.0 }
+{
+    match SqlBase::open_files(alloc, files, options, policy, file) {
+        Ok(base) => run_and_close(alloc, policy, file, run, base, same_audience(audience), out),
+        Err((fault, files)) => (Err(HistoryCause::Unopened(fault)), files),
+    }
+}
+
+/// Answers a history of runs over the store in files, which is opened and closed for each run, for an audience. A
+/// fault breaks the history off. The files come back as they are then.
+pub fn run_history<D: Disk + Drop, W: Write>(
+    alloc: Global,
+    policy: &Policy,
+    file: &SchemesFile,
+    runs: Vec<Run>,
+    files: Files<D>,
+    options: Options,
+    audience: Audience,
+    out: &mut W,
+) -> (Result<(), HistoryFault>, Files<D>)
+    requires under { AreUnder (length policy.now.labels) file.now.schemes }
+    requires prepared { AllByRecursion (IsPrepared policy.now file.now.schemes) runs.items }
+    requires declared { IfSome audience.reader (λ c. c < length policy.now.labels) }
+    ensures whole { OnOk result.0 (AreClean D.Disk result.1.log result.1.db
+        → IsHistoryOver D.Disk policy.now file.now audience files (map (run_of policy.now file.now.schemes) runs.items) (IsAppended W.contents out.old out.new) result.1) }
+    ensures broken { IfErr result.0 (IsHistoryFault D.Disk policy.now file.now audience files (map (run_of policy.now file.now.schemes) runs.items)
+        (IsAppended W.contents out.old out.new) result.1) }
+{
+    // for what holds of every policy
+    let _labels = policy.label_count();
+    let mut left = files;
+    let mut number = 0;
+    for run in runs {
+        number += 1;
+        let (outcome, files) = run_over(alloc, policy, file, run, left, options, &audience, out);
+        left = files;
+        if let Err(cause) = outcome {
+            return (Err(HistoryFault { run: number, cause }), left);
+        }
+    }
+    (Ok(()), left)
+}

@@ -1,0 +1,12 @@
+//! Scripts that are run over a database: of a host, in memory, and one after another over the files of a store.
+#![tactic(auto)]
+
+mod history;
+mod memory;
+mod running;
+mod turns;
+
+pub use crate::history::{HistoryCause, HistoryFault, Run, run_history};
+pub use crate::memory::{HeldFile, InputCopy, MemoryHost, runs_in_memory_are_in_turn};
+pub use crate::running::{run_files, run_on};
+pub use crate::turns::runs_are_in_turn;

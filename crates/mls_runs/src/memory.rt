@@ -1,0 +1,158 @@
+//! A machine in memory, of which contracts know all: its files, its standard input, and one store.
+ghost use Rattle.std.specs.Prelude.{◌≡◌, Some, IfOk, IfSome, option_map};
+ghost use Rattle.mls_host.specs.Hosting.{IsAppended};
+ghost use Rattle.mls_runs.specs.Memory.{file_named, left_in, RunsInMemoryAreInTurn};
+
+use mls_fragments::{OpenFault, SqlBase};
+use mls_host::{CloseFault, Host, HostFault};
+use mls_lattice::{Items, Policy, Str};
+use mls_scheme::SchemesFile;
+use mls_typing::{LinesOf, MOST_BYTES};
+use sqlite::{Connection, MemStore};
+use std::alloc::Global;
+use std::io::{self, Cursor, Error, ErrorKind, Read, Write};
+
+/// A file of a machine in memory: its name, and its bytes or why they are not read.
+#[derive(Drop)]
+pub struct HeldFile {
+    pub name: Str,
+    pub bytes: Result<Items<u8>, HostFault>,
+}
+
+/// A machine in memory. Its one store is opened at each path; there is none while it is open, or where it was given none.
+#[derive(Drop)]
+pub struct MemoryHost<'a, R: AllocGlobal> {
+    /// Where memory comes from.
+    pub rt: &'a R,
+    pub files: Vec<HeldFile>,
+    pub input: &'a [u8],
+    pub store: Option<Connection<MemStore>>,
+    /// Whether the store was opened, also where it was refused then.
+    pub was_opened: bool,
+}
+
+/// A copy of bytes that is read; there is none where memory ran out, and each read fails.
+#[derive(Drop)]
+pub struct InputCopy {
+    bytes: Option<Cursor<Vec<u8>>>,
+}
+
+impl Read for InputCopy {
+    ghost use Rattle.mls_runs.specs.Memory.{left_in};
+
+    ghost remaining = { λ s. left_in (λ v. Some v.items) s.bytes };
+
+    fn read(&mut self, buf: &mut [u8]) -> io::Result<usize> {
+        match &mut self.bytes {
+            Some(cursor) => cursor.read(buf),
+            None => Err(Error::from(ErrorKind::OutOfMemory)),
+        }
+    }
+}
+
+/// A reader of a copy of bytes.
+fn reader_of(alloc: Global, bytes: &[u8]) -> InputCopy
+    ensures { IfSome (left_in (λ v. Some v.items) result.bytes) (λ left. bytes.now ≡ left) }
+{
+    let copied = match Vec::from_slice(alloc, bytes) {
+        Ok(copy) => Some(Cursor::new(copy)),
+        Err(_) => None,
+    };
+    InputCopy { bytes: copied }
+}
+
+/// The first file of a name.
+fn file_named<'a>(files: &'a [HeldFile], name: &str) -> Option<&'a HeldFile>
+    ensures { option_map (λ f. f.now) result ≡ file_named files.now name.now }
+{
+    for file in files {
+        if file.name.as_str() == name {
+            return Some(file);
+        }
+    }
+    None
+}
+
+/// A copy of bytes, which are as many as a file may have.
+fn copy_of(alloc: Global, bytes: &[u8]) -> Result<Vec<u8>, HostFault>
+    ensures { IfOk result (λ copy. copy.items ≡ bytes.now) }
+{
+    if bytes.len() > MOST_BYTES {
+        return Err(HostFault::TooLong);
+    }
+    match Vec::from_slice(alloc, bytes) {
+        Ok(copy) => Ok(copy),
+        Err(_) => Err(HostFault::Memory),
+    }
+}
+
+impl<'a, R: AllocGlobal> Host for MemoryHost<'a, R> {
+    ghost use Rattle.mls_runs.specs.Memory.{gives, keeps, is_honest};
+
+    ghost gives = { gives };
+
+    ghost keeps = { keeps };
+
+    ghost is_honest = { is_honest };
+
+    type Store = SqlBase<MemStore>;
+
+    type Lines = LinesOf<InputCopy>;
+
+    fn file(&self, alloc: Global, path: &str) -> Result<Vec<u8>, HostFault> {
+        let Some(file) = file_named(&self.files, path) else {
+            return Err(HostFault::Unreadable);
+        };
+        match &file.bytes {
+            Ok(bytes) => copy_of(alloc, bytes),
+            Err(fault) => Err(*fault),
+        }
+    }
+
+    fn input(&self, alloc: Global) -> Result<Vec<u8>, HostFault> {
+        copy_of(alloc, self.input)
+    }
+
+    fn lines(&self) -> LinesOf<InputCopy> {
+        LinesOf::new(reader_of(self.rt.alloc(), self.input))
+    }
+
+    fn is_terminal(&self) -> bool {
+        false
+    }
+
+    fn store(
+        &mut self,
+        alloc: Global,
+        path: &str,
+        policy: &Policy,
+        file: &SchemesFile,
+    ) -> Result<SqlBase<MemStore>, OpenFault> {
+        let Some(conn) = self.store.take() else {
+            return Err(OpenFault::Store);
+        };
+        self.was_opened = true;
+        if !conn.is_autocommit() {
+            self.store = Some(conn);
+            return Err(OpenFault::Store);
+        }
+        match SqlBase::adopt(alloc, conn, policy, file) {
+            Ok(base) => Ok(base),
+            Err((fault, conn)) => {
+                self.store = Some(conn);
+                Err(fault)
+            }
+        }
+    }
+
+    fn keep(&mut self, path: &str, store: SqlBase<MemStore>) -> Result<(), CloseFault> {
+        self.store = Some(store.into_connection());
+        Ok(())
+    }
+}
+
+/// Two runs of `act` over the store of a machine in memory are a history: the second begins with what the first left. It is
+/// `runs_are_in_turn` at this machine, which needs no premise there.
+pub fn runs_in_memory_are_in_turn<R: AllocGlobal, W: Write, V: Write>()
+    ensures { (first written : W) (second over : V) → RunsInMemoryAreInTurn R (IsAppended W.contents first written) (IsAppended V.contents second over) }
+{}

@@ -1,0 +1,220 @@
+//! Scripts that are run over a database: over an empty one in memory, or over that of a store.
+ghost use Rattle.std.specs.Prelude.{◌≡◌, ◌<◌, [], false, length, Some, Ok, Err, IfOk, IfErr, OnOk};
+ghost use Rattle.std.specs.List.{AllByRecursion};
+ghost use Rattle.std.specs.Option.{IfSome};
+ghost use Rattle.mls_scheme.specs.Scheme.{AreUnder};
+ghost use Rattle.mls_filterview.specs.Content.{Content, no_content};
+ghost use Rattle.mls_script.specs.Event.{EventFits};
+ghost use Rattle.mls_machine.specs.Observation.{EventsFit, AreRead, AreCertified};
+ghost use Rattle.mls_sessions.specs.World.{IsSound};
+ghost use Rattle.mls_host.specs.Hosting.{hosted, IsAppended};
+ghost use Rattle.mls_host.specs.Inputs.{AreStoredFrom, IsScriptFrom};
+ghost use Rattle.mls_words.specs.Words.{named};
+ghost use Rattle.mls_host.specs.Refusal.{IsBefore, IsEnd};
+ghost use Rattle.mls_host.specs.Running.{site_of, IsRun};
+ghost use Rattle.mls_runs.specs.ScriptRun.{IsRunFrom, IsScriptRun};
+
+use mls_filterview::Base;
+use mls_fragments::SqlBase;
+use mls_host::{Host, Refusal, Role, ended, form_of, input_of, stored_files};
+use mls_lattice::{Items, LabelNo, Policy};
+use mls_machine::Audience;
+use mls_scheme::{Schemes, SchemesFile};
+use mls_script::{Event, script};
+use mls_sessions::{Engine, RunFault, Stored, run_to};
+use mls_words::RunFiles;
+use std::alloc::Global;
+use std::io::Write;
+
+/// Answers events over a base, for an audience, and gives the base back.
+pub fn run_on<B: Base, W: Write>(
+    alloc: Global,
+    policy: &Policy,
+    schemes: &Schemes,
+    stored: Items<Stored>,
+    base: B,
+    events: &[Event],
+    audience: Audience,
+    out: &mut W,
+) -> (Result<(), RunFault>, B)
+    requires under { AreUnder (length policy.now.labels) schemes.now }
+    requires read { AreRead (site_of policy.now schemes.now stored) }
+    requires certified { AreCertified (site_of policy.now schemes.now stored) }
+    requires fits { EventsFit (site_of policy.now schemes.now stored) events.now }
+    requires declared { IfSome audience.reader (λ c. c < length policy.now.labels) }
+    requires idle { (B.state base).begun ≡ false }
+    requires sound { B.is_clean base → IsSound (site_of policy.now schemes.now stored) (B.state base).now }
+    ensures clean { B.is_clean result.1 → B.is_clean base }
+    ensures idle { (B.state result.1).begun ≡ false }
+    ensures run { B.is_clean result.1 → IsRun (site_of policy.now schemes.now stored) audience events.now
+        (IsAppended W.contents out.old out.new) result.0 (B.state base).now (B.state result.1).now }
+{
+    let mut engine = Engine::new(alloc, base, policy, schemes, stored);
+    let outcome = run_to(&mut engine, events, audience, out);
+    (outcome, engine.finish())
+}
+
+/// Answers events over an empty database in memory.
+fn run_in_memory<W: Write>(
+    alloc: Global,
+    policy: &Policy,
+    file: &SchemesFile,
+    stored: Items<Stored>,
+    events: &[Event],
+    audience: Audience,
+    out: &mut W,
+) -> Result<(), Refusal>
+    requires under { AreUnder (length policy.now.labels) file.now.schemes }
+    requires read { AreRead (site_of policy.now file.now.schemes stored) }
+    requires certified { AreCertified (site_of policy.now file.now.schemes stored) }
+    requires fits { EventsFit (site_of policy.now file.now.schemes stored) events.now }
+    requires declared { IfSome audience.reader (λ c. c < length policy.now.labels) }
+    ensures { IsEnd (λ end. (left : Content) × IsRun (site_of policy.now file.now.schemes stored) audience events.now
+        (IsAppended W.contents out.old out.new) end no_content left) (IsAppended W.contents out.old out.new []) result }
+{
+    let base = match SqlBase::open_memory(alloc, policy, file) {
+        Ok(base) => base,
+        Err(fault) => return Err(Refusal::Store(fault)),
+    };
+    let (outcome, left) = run_on(
+        alloc,
+        policy,
+        &file.schemes,
+        stored,
+        base,
+        events,
+        audience,
+        out,
+    );
+    let _connection = left.into_connection();
+    ended(outcome, Ok(()))
+}
+
+/// Answers events over the database in a store of the host.
+fn run_in_store<H: Host, W: Write>(
+    alloc: Global,
+    host: &mut H,
+    path: &str,
+    policy: &Policy,
+    file: &SchemesFile,
+    stored: Items<Stored>,
+    events: &[Event],
+    audience: Audience,
+    out: &mut W,
+) -> Result<(), Refusal>
+    requires under { AreUnder (length policy.now.labels) file.now.schemes }
+    requires read { AreRead (site_of policy.now file.now.schemes stored) }
+    requires certified { AreCertified (site_of policy.now file.now.schemes stored) }
+    requires fits { EventsFit (site_of policy.now file.now.schemes stored) events.now }
+    requires declared { IfSome audience.reader (λ c. c < length policy.now.labels) }
+    ensures { IsEnd (IsRunFrom (hosted H.gives H.keeps H.is_honest H.Lines.echo host.old host.new) file.now (Some path.now)
+        (site_of policy.now file.now.schemes stored) audience events.now (IsAppended W.contents out.old out.new))
+        (IsAppended W.contents out.old out.new []) result }
+{
+    let base = match host.store(alloc, path, policy, file) {
+        Ok(base) => base,
+        Err(fault) => return Err(Refusal::Store(fault)),
+    };
+    let (outcome, left) = run_on(
+        alloc,
+        policy,
+        &file.schemes,
+        stored,
+        base,
+        events,
+        audience,
+        out,
+    );
+    let closed = host.keep(path, left);
+    ended(outcome, closed)
+}
+
+/// Answers events over the database in a store of the host, or over an empty one in memory.
+fn run_events<H: Host, W: Write>(
+    alloc: Global,
+    host: &mut H,
+    store: Option<&str>,
+    policy: &Policy,
+    file: &SchemesFile,
+    stored: Items<Stored>,
+    events: &[Event],
+    audience: Audience,
+    out: &mut W,
+) -> Result<(), Refusal>
+    requires under { AreUnder (length policy.now.labels) file.now.schemes }
+    requires read { AreRead (site_of policy.now file.now.schemes stored) }
+    requires certified { AreCertified (site_of policy.now file.now.schemes stored) }
+    requires fits { EventsFit (site_of policy.now file.now.schemes stored) events.now }
+    requires declared { IfSome audience.reader (λ c. c < length policy.now.labels) }
+    ensures { IsEnd (IsRunFrom (hosted H.gives H.keeps H.is_honest H.Lines.echo host.old host.new) file.now (named store.entry)
+        (site_of policy.now file.now.schemes stored) audience events.now (IsAppended W.contents out.old out.new))
+        (IsAppended W.contents out.old out.new []) result }
+{
+    match store {
+        None => run_in_memory(alloc, policy, file, stored, events, audience, out),
+        Some(path) => {
+            run_in_store(
+                alloc, host, path, policy, file, stored, events, audience, out,
+            )
+        }
+    }
+}
+
+/// The script of a file, or of the standard input.
+fn script_of<H: Host>(
+    alloc: Global,
+    host: &H,
+    policy: &Policy,
+    schemes: &Schemes,
+    path: Option<&str>,
+) -> Result<Vec<Event>, Refusal>
+    ensures read { IfOk result (λ events. IsScriptFrom (H.gives host.now) (named path.entry) policy.now schemes.now events.items) }
+    ensures fits { IfOk result (λ events. AllByRecursion (EventFits policy.now schemes.now) events.items) }
+    ensures before { IfErr result IsBefore }
+{
+    let bytes = input_of(alloc, host, Role::Script, path)?;
+    Ok(script(alloc, policy, schemes, &bytes)?)
+}
+
+/// Runs a script, over the transactions and certificates of files, for a reader alone where there is one.
+pub fn run_files<H: Host, W: Write>(
+    alloc: Global,
+    host: &mut H,
+    policy: &Policy,
+    file: &SchemesFile,
+    files: RunFiles,
+    reader: Option<LabelNo>,
+    out: &mut W,
+) -> Result<(), Refusal>
+    requires under { AreUnder (length policy.now.labels) file.now.schemes }
+    requires declared { IfSome reader (λ c. c < length policy.now.labels) }
+    ensures done { OnOk result (IsScriptRun (hosted H.gives H.keeps H.is_honest H.Lines.echo host.old host.new) policy.now file.now reader files.entry
+        (IsAppended W.contents out.old out.new) (Ok tt)) }
+    ensures given_up { IfErr result (λ e. IsEnd (IsScriptRun (hosted H.gives H.keeps H.is_honest H.Lines.echo host.old host.new) policy.now file.now
+        reader files.entry (IsAppended W.contents out.old out.new)) (IsAppended W.contents out.old out.new []) (Err e)) }
+{
+    let stored = stored_files(
+        alloc,
+        host,
+        policy,
+        &file.schemes,
+        files.transactions,
+        files.certificates,
+    )?;
+    let events = script_of(alloc, host, policy, &file.schemes, files.script)?;
+    let audience = Audience {
+        reader,
+        form: form_of(files.is_table),
+    };
+    run_events(
+        alloc,
+        host,
+        files.store,
+        policy,
+        file,
+        stored,
+        &events,
+        audience,
+        out,
+    )
+}

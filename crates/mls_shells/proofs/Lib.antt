@@ -1,0 +1,4 @@
+pub mod ReadingLemmas
+pub mod ShellLemmas
+pub mod TalkLemmas
+pub mod ShellEndLemmas

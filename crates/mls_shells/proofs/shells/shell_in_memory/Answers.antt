@@ -1,0 +1,34 @@
+use Rattle.std.proofs.Common.{[], Result, Ok, sym, subst}
+use Rattle.std.proofs.KnownBytes.{Appends-nil}
+use Rattle.sqlite.proofs.Callers.{memory_is_clean}
+use Rattle.mls_filterview.specs.Content.{State, Content, no_content}
+use Rattle.mls_fragments.specs.Based.{state_of}
+use Rattle.mls_sessions.specs.declared.cause.RunFault.{RunFault}
+use Rattle.mls_host.specs.declared.ending.Ending.{Ending}
+use Rattle.mls_host.specs.declared.refusal.Refusal.{Refusal}
+use Rattle.mls_host.specs.Hosting.{IsAppended, IsTold}
+use Rattle.mls_host.specs.Running.{site_of}
+use Rattle.mls_shells.specs.Shell.{IsShell}
+use Rattle.mls_host.specs.Refusal.{IsEnd}
+use Rattle.mls_host.proofs.RunningLemmas.{none_sound, ended_so}
+use Rattle.mls_host.proofs.HostingLemmas.{told_nothing}
+use Rattle.mls_shells.proofs.shells.shell_in_memory.Goals as goal
+
+pub shell_on-outcome-requires-clause-sound : goal.shell_on-outcome-requires-clause-sound
+shell_on-outcome-requires-clause-sound g c = λ _. none_sound (site_of c.args.policy.now c.args.file.now.schemes c.args.stored) _ c.in-Ok.ensures.content
+
+pub returns-in-Err : goal.returns-in-Err
+returns-in-Err g c = (Appends-nil _, told_nothing g.E.Write.contents c.args.err.now)
+
+pub returns : goal.returns
+returns g c =
+    let at = site_of c.args.policy.now c.args.file.now.schemes c.args.stored in
+    let left = (state_of c.shell_on-outcome.result.1).now in
+    let Wrote = IsAppended g.W.Write.contents c.args.out.now c.shell_on-outcome.new.out in
+    let Told = IsTold g.E.Write.contents c.args.err.now c.shell_on-outcome.new.err in
+    let shell = c.shell_on-outcome.ensures.shell (c.into_connection-connection.ensures.clean (memory_is_clean c.into_connection-connection.result)) in
+    let Runs : Result Ending RunFault → Type 0 = λ end. (last : Content) × IsShell g.L.TypedLines.echo at c.args.seat.now (g.L.TypedLines.remaining c.args.lines.now) (g.L.TypedLines.remaining c.shell_on-outcome.new.lines) Wrote Told end no_content last in
+    let ran : Runs c.shell_on-outcome.result.0 =
+    (left, subst (λ (x : State). IsShell g.L.TypedLines.echo at c.args.seat.now (g.L.TypedLines.remaining c.args.lines.now) (g.L.TypedLines.remaining c.shell_on-outcome.new.lines) Wrote Told c.shell_on-outcome.result.0 x.now left) c.in-Ok.ensures.content shell) in
+    subst (λ (r : Result Ending Refusal). IsEnd Runs (Wrote [] × Told []) r) (sym c.ended.ensures)
+    (ended_so Runs (Wrote [] × Told []) c.shell_on-outcome.result.0 (Ok tt) ran)

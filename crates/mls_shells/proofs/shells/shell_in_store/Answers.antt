@@ -1,0 +1,29 @@
+use Rattle.std.proofs.Common.{[], Result, Some, sym, subst}
+use Rattle.std.proofs.KnownBytes.{Appends-nil}
+use Rattle.mls_sessions.specs.declared.cause.RunFault.{RunFault}
+use Rattle.mls_host.specs.declared.ending.Ending.{Ending}
+use Rattle.mls_host.specs.declared.refusal.Refusal.{Refusal}
+use Rattle.mls_host.specs.Hosting.{hosted, IsAppended, IsTold}
+use Rattle.mls_host.specs.Refusal.{IsEnd}
+use Rattle.mls_host.specs.Running.{site_of}
+use Rattle.mls_shells.specs.ShellRun.{IsShellFrom}
+use Rattle.mls_host.proofs.HostingLemmas.{told_nothing}
+use Rattle.mls_host.proofs.RunningLemmas.{ended_so}
+use Rattle.mls_shells.proofs.shells.shell_in_store.Goals as goal
+
+pub returns-in-Err : goal.returns-in-Err
+returns-in-Err g c = (Appends-nil _, told_nothing g.E.Write.contents c.args.err.now)
+
+pub returns : goal.returns
+returns g c =
+    let h = hosted g.H.Host.gives g.H.Host.keeps g.H.Host.is_honest g.L.TypedLines.echo c.args.host.now c.keep-closed.new.self in
+    let Wrote = IsAppended g.W.Write.contents c.args.out.now c.shell_on-outcome.new.out in
+    let Told = IsTold g.E.Write.contents c.args.err.now c.shell_on-outcome.new.err in
+    let Runs : Result Ending RunFault → Type 0
+    = IsShellFrom h c.args.file.now (Some c.args.path.now) (site_of c.args.policy.now c.args.file.now.schemes c.args.stored) c.args.seat.now
+    (g.L.TypedLines.remaining c.args.lines.now) (g.L.TypedLines.remaining c.shell_on-outcome.new.lines) Wrote Told in
+    let ran : Runs c.shell_on-outcome.result.0 = λ honest.
+    let clean = c.keep-closed.ensures.honest.0 honest in
+    record { first = _; left = _; begins = c.in-Ok.ensures.kept (c.shell_on-outcome.ensures.clean clean); kept = c.keep-closed.ensures.kept honest; leads = c.shell_on-outcome.ensures.shell clean } in
+    subst (λ (r : Result Ending Refusal). IsEnd Runs (Wrote [] × Told []) r) (sym c.ended.ensures)
+    (ended_so Runs (Wrote [] × Told []) c.shell_on-outcome.result.0 c.keep-closed.result ran)

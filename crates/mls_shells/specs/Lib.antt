@@ -1,0 +1,2 @@
+pub mod Shell
+pub mod ShellRun

@@ -1,0 +1,245 @@
+-- A shell: lines are typed, and each is answered before the next is read.
+use Rattle.std.specs.Prelude.{◌≡◌, ℕ, ◌+◌, ◌-◌, ◌≤◌, max, Bool, true, false, not, ◌&&◌, ◌||◌, if◌then◌else◌, nat_eq, List, [], ◌∷◌, ◌++◌, codes, length, Option, Some, is_some, IfErr, OnOk, Result, Ok, Err, ◌⊎◌, ⊤}
+use Rattle.std.specs.List.{AllByRecursion, flat_map, list_all, list_any}
+use Rattle.std.specs.Str.{bytes_eq}
+use Rattle.std.specs.Io.KnownBytes.{Appends, Consumes, IsAtEnd}
+use Rattle.mls_lattice.specs.Policy.{Tables}
+use Rattle.mls_scheme.specs.Scheme.{Schemes}
+use Rattle.mls_filterview.specs.Content.{Content}
+use Rattle.mls_script.specs.declared.event.Event.{Event}
+use Rattle.mls_script.specs.declared.event.Command.TheVariants.{Open}
+use Rattle.mls_script.specs.declared.fault.ScriptFault.{ScriptFault}
+use Rattle.mls_script.specs.declared.fault.ScriptCause.TheVariants.{Expected}
+use Rattle.mls_script.specs.Event.{EventFits}
+use Rattle.mls_script.specs.Reading.{script_at}
+use Rattle.mls_machine.specs.declared.form.Audience.{Audience}
+use Rattle.mls_machine.specs.Site.{Site}
+use Rattle.mls_machine.specs.Machine.{World, end_of}
+use Rattle.mls_machine.specs.Observation.{EventsFit, run_shows, reader_of}
+use Rattle.mls_sessions.specs.declared.cause.RunFault.{RunFault}
+use Rattle.mls_sessions.specs.declared.cause.RunCause.TheVariants.{Memory}
+use Rattle.mls_sessions.specs.Run.{IsWhole, IsStopped, IsFaultOf}
+use Rattle.mls_host.specs.declared.ending.Ending.{Ending}
+use Rattle.mls_shells.specs.declared.help.TheConstants.{HELP}
+use Rattle.mls_shells.specs.declared.seat.Seat.{Seat}
+use Rattle.mls_shells.specs.declared.seat.Fate.{Fate}
+use Rattle.mls_shells.specs.declared.seat.Fate.TheVariants.{Over, Blank, Help, Said, Refused, TooLong, Unreadable, Lost}
+use Rattle.mls_host.specs.Ending.{ending_if}
+use Rattle.mls_host.specs.Running.{first_world, form_of, IsRun}
+use Rattle.mls_host.specs.Telling.{prompt_text, line_told, fault_told}
+
+-- ---- who sits there
+
+-- the words that stand before each command in a script
+abbrev pub prefix_of : Seat → List ℕ
+prefix_of seat = seat.label ++ codes " " ++ seat.user ++ codes " "
+
+abbrev pub prompt_of : Seat → List ℕ
+prompt_of seat = if seat.has_prompt then prompt_text seat.label seat.user else []
+
+-- its level, which is shown tables where somebody types at a terminal
+abbrev pub audience_at : Seat → Audience
+audience_at seat = reader_of seat.level (form_of seat.has_prompt)
+
+abbrev pub opening : Seat → Event
+opening seat = record { level = seat.level; session = seat.user; command = Open seat.user }
+
+abbrev pub is_open : Seat → World → Bool
+is_open seat w = is_some (w.sessions seat.level seat.user)
+
+-- an event of the session
+abbrev pub is_own : Seat → Event → Bool
+is_own seat e = nat_eq e.level seat.level && bytes_eq e.session seat.user
+
+-- ---- what becomes of a line, whatever the database
+
+-- events, all of the session
+abbrev pub fate_of_events : Seat → List Event → Fate
+fate_of_events seat events = if list_all (is_own seat) events then Said events else Refused (record { line = 1; column = 1; cause = Expected })
+
+-- a line that is none behind the prefix is blank where by itself it tells nothing
+abbrev pub fate_of_fault : ScriptFault → Result (List Event) ScriptFault → Fate
+fate_of_fault fault (Ok []) = Blank
+fate_of_fault fault (Ok (e ∷ es)) = Refused fault
+fate_of_fault fault (Err alone) = Refused fault
+
+module _ (policy : Tables) (schemes : Schemes) (seat : Seat) where
+  abbrev pub fate_read : List ℕ → Result (List Event) ScriptFault → Fate
+  fate_read line (Ok events) = fate_of_events seat events
+  fate_read line (Err fault) = fate_of_fault fault (script_at policy schemes line)
+
+  abbrev pub fate_of : List ℕ → Fate
+  fate_of line =
+      if nat_eq (length line) 0 then Over
+      else (if bytes_eq line (codes "help\n") then Help else fate_read line (script_at policy schemes (prefix_of seat ++ line)))
+
+-- so it is, unless memory runs out
+abbrev pub Becomes : Fate → Fate → Type 0
+Becomes wanted fate = (fate ≡ wanted) ⊎ (fate ≡ Lost Memory)
+
+abbrev pub FateFits : Tables → Schemes → Fate → Type 0
+FateFits policy schemes (Said events) = AllByRecursion (EventFits policy schemes) events
+FateFits policy schemes fate = ⊤
+
+abbrev pub events_of : Fate → List Event
+events_of (Said events) = events
+events_of fate = []
+
+-- the column in what was typed
+abbrev pub column_of : Seat → ℕ → ℕ
+column_of seat column = max (column - length (prefix_of seat)) 1
+
+-- what is said of it on standard error
+abbrev pub told_of : Seat → ℕ → Fate → List ℕ
+told_of seat number Help = HELP.now
+told_of seat number (Refused fault) = fault_told number (column_of seat fault.column) fault.cause
+told_of seat number TooLong = line_told number (codes "too long")
+told_of seat number Unreadable = line_told number (codes "unreadable")
+told_of seat number fate = []
+
+abbrev pub is_refused : Fate → Bool
+is_refused (Refused fault) = true
+is_refused TooLong = true
+is_refused Unreadable = true
+is_refused fate = false
+
+-- no line is read behind it
+abbrev pub is_last : Fate → Bool
+is_last Over = true
+is_last Unreadable = true
+is_last fate = false
+
+abbrev pub is_failed : Fate → Bool
+is_failed Unreadable = true
+is_failed fate = false
+
+-- it was not read or understood whole
+abbrev pub IsCut : Fate → Type 0
+IsCut Unreadable = ⊤
+IsCut (Lost cause) = ⊤
+IsCut fate = ⊥
+
+-- ---- lines that are typed one after another
+
+-- a line, what the host shows of it when it is read, and what becomes of it
+pub record Turn : Type 0 where
+  pub line : List ℕ
+  pub shown : List ℕ
+  pub fate : Fate
+
+-- a line is shown and understood; it is too long; or it is not read or understood whole
+pub data IsTurn (echo : List ℕ → List ℕ) (policy : Tables) (schemes : Schemes) (seat : Seat) (t : Turn) : Type 0 where
+  whole : t.shown ≡ echo t.line → t.fate ≡ fate_of policy schemes seat t.line → IsTurn echo policy schemes seat t
+  long : 1048576 ≤ length t.line → t.shown ≡ [] → t.fate ≡ TooLong → IsTurn echo policy schemes seat t
+  cut : (line : List ℕ) (rest : List ℕ) → t.shown ++ rest ≡ echo line → IsCut t.fate → IsTurn echo policy schemes seat t
+
+abbrev pub events_in : List Turn → List Event
+events_in = flat_map (λ t. events_of t.fate)
+
+module _ (site : Site) (seat : Seat) where
+  -- what the session's level sees of the replies to events
+  abbrev pub answers : World → List Event → List ℕ
+  answers w es = run_shows site (audience_at seat) w es
+
+  -- each line as it is shown, and right behind it its answers
+  unfoldable pub dialogue : World → List Turn → List ℕ
+  dialogue w [] = []
+  dialogue w (t ∷ ts) = (t.shown ++ answers w (events_of t.fate)) ++ dialogue (end_of site w (events_of t.fate)) ts
+
+  -- each line is read while the session is open
+  unfoldable pub AreWhileOpen : World → List Turn → Type 0
+  AreWhileOpen w [] = ⊤
+  AreWhileOpen w (t ∷ ts) = (is_open seat w ≡ true) × AreWhileOpen (end_of site w (events_of t.fate)) ts
+
+  -- the world in which the first line is read
+  abbrev pub after_opening : World → World
+  after_opening w = end_of site w (opening seat ∷ [])
+
+  abbrev pub transcript : World → List Turn → List ℕ
+  transcript w turns = answers w (opening seat ∷ []) ++ dialogue (after_opening w) turns
+
+  -- the opening is denied, or a line is refused
+  abbrev pub has_refused : World → List Turn → Bool
+  has_refused w turns = not (is_open seat (after_opening w)) || list_any (λ t. is_refused t.fate) turns
+
+-- what is told, from the line of a number on: the prompt before each line, and what is said of it
+unfoldable pub told_from : Seat → ℕ → List Turn → List ℕ
+told_from seat number [] = []
+told_from seat number (t ∷ ts) = (prompt_of seat ++ told_of seat number t.fate) ++ told_from seat (number + 1) ts
+
+-- no line is shown
+abbrev pub IsSilent : (List ℕ → List ℕ) → Type 0
+IsSilent echo = (line : List ℕ) → echo line ≡ []
+
+-- ---- how a shell ends
+
+-- where the session is still open, all lines were read, or a read failed
+pub record IsWellEnded (site : Site) (seat : Seat) (w : World) (turns : List Turn) (left : Option (List ℕ)) (ending : Ending) : Type 0 where
+  pub status : ending ≡ ending_if (has_refused site seat w turns)
+  pub all : is_open seat (end_of site w (opening seat ∷ events_in turns)) ≡ true → IsAtEnd left ⊎ (list_any (λ t. is_failed t.fate) turns ≡ true)
+
+-- it is given up at the last line that was read, or, as at line 0, at the opening: at one of its events, or before them
+pub record IsGivenUpAt (turns : List Turn) (end : Result (Unit {0}) RunFault) (fault : RunFault) : Type 0 where
+  pub line : fault.event ≡ length turns
+  pub cause : IfErr end (λ f. (f.cause ≡ fault.cause) × (f.done ≡ fault.done))
+
+-- ---- the whole
+
+module _ (echo : List ℕ → List ℕ) (site : Site) (seat : Seat) where
+  -- lines are read, each while the session is open, none lost
+  pub record IsTalk (w : World) (before after : Option (List ℕ)) (turns : List Turn) : Type 0 where
+    pub each : AllByRecursion (IsTurn echo site.policy site.schemes seat) turns
+    pub read : Consumes before after (flat_map (λ t. t.line) turns)
+    pub opened : AreWhileOpen site seat (after_opening site seat w) turns
+
+  -- how the run of the events ends, by how the shell does
+  abbrev pub IsEndOf : World → List Turn → Option (List ℕ) → Result (Unit {0}) RunFault → Result Ending RunFault → Type 0
+  IsEndOf w turns left end (Ok ending) = (end ≡ Ok tt) × IsWellEnded site seat w turns left ending
+  IsEndOf w turns left end (Err fault) = IsGivenUpAt turns end fault
+
+  -- A shell over a content, which it leaves as another. Where the host shows nothing of the lines, it is the run of the opening and of
+  -- all events that are told, for the session's level alone, and writes what that writes.
+  pub record IsShell (before after : Option (List ℕ)) (Wrote Told : List ℕ → Type 0) (end : Result Ending RunFault) (first left : Content) : Type 0 where
+    pub turns : List Turn
+    pub run_end : Result (Unit {0}) RunFault
+    pub talk : IsTalk (first_world site first) before after turns
+    pub told : Told (told_from seat 1 turns)
+    pub written : OnOk end (Wrote (transcript site seat (first_world site first) turns))
+    pub ended : IsEndOf (first_world site first) turns after run_end end
+    pub run : IsSilent echo → IsRun site (audience_at seat) (opening seat ∷ events_in turns) Wrote run_end first left
+
+-- ---- between two lines
+
+-- events are answered from w, or not all are, for a fault that the shell tells of
+pub record IsAnswered (site : Site) (audience : Audience) (w : World) (es : List Event) (was is : Option (List ℕ)) (new : World) (end : Result (Unit {0}) RunFault) : Type 0 where
+  pub whole : OnOk end (IsWhole site audience w es was is new)
+  pub stopped : IfErr end (IsStopped site audience w es was is new)
+  pub fault : IfErr end (IsFaultOf es)
+
+-- at a line the shell goes on, or is given up
+pub record IsFollowed (site : Site) (audience : Audience) (w : World) (es : List Event) (was is : Option (List ℕ)) (new : World) (number : ℕ) (r : Result (Unit {0}) RunFault) : Type 0 where
+  pub end : Result (Unit {0}) RunFault
+  pub answered : IsAnswered site audience w es was is new end
+  pub ok : OnOk r (end ≡ Ok tt)
+  pub line : IfErr r (λ fault. fault.event ≡ number)
+  pub cause : IfErr r (λ fault. IfErr end (λ f. (f.cause ≡ fault.cause) × (f.done ≡ fault.done)))
+
+-- a line is read, and this becomes of it
+pub record IsRead (echo : List ℕ → List ℕ) (policy : Tables) (schemes : Schemes) (seat : Seat) (before after was is : Option (List ℕ)) (fate : Fate) : Type 0 where
+  pub turn : Turn
+  pub is_turn : IsTurn echo policy schemes seat turn
+  pub same : turn.fate ≡ fate
+  pub read : Consumes before after turn.line
+  pub shown : Appends was is turn.shown
+  pub over : fate ≡ Over → IsAtEnd after
+
+-- the events of a shell from w to another world, with the lines
+pub record IsConversation (echo : List ℕ → List ℕ) (site : Site) (seat : Seat) (w new : World) (before after was is : Option (List ℕ)) (Told : List ℕ → Type 0) (end : Result Ending RunFault) : Type 0 where
+  pub turns : List Turn
+  pub run_end : Result (Unit {0}) RunFault
+  pub talk : IsTalk echo site seat w before after turns
+  pub told : Told (told_from seat 1 turns)
+  pub written : OnOk end (Appends was is (transcript site seat w turns))
+  pub ended : IsEndOf echo site seat w turns after run_end end
+  pub fits : EventsFit site (opening seat ∷ events_in turns)
+  pub run : IsSilent echo → IsAnswered site (audience_at seat) w (opening seat ∷ events_in turns) was is new run_end

@@ -1,0 +1,36 @@
+-- A shell that the words of a command line ask for, over a store or over nothing.
+use Rattle.std.specs.Prelude.{◌≡◌, ℕ, Bool, List, Option, Some, None, IfSome, Result}
+use Rattle.mls_lattice.specs.Policy.{Tables}
+use Rattle.mls_scheme.specs.declared.file.SchemesFile.{SchemesFile}
+use Rattle.mls_machine.specs.declared.stored.Stored.{Stored}
+use Rattle.mls_machine.specs.Site.{Site}
+use Rattle.mls_sessions.specs.declared.cause.RunFault.{RunFault}
+use Rattle.mls_host.specs.declared.ending.Ending.{Ending}
+use Rattle.mls_shells.specs.declared.seat.Seat.{Seat}
+use Rattle.mls_words.specs.declared.words.ShellFiles.{ShellFiles}
+use Rattle.mls_host.specs.Hosting.{Hosted, IsClean, IsOver}
+use Rattle.mls_host.specs.Inputs.{AreStoredFrom}
+use Rattle.mls_words.specs.Words.{named}
+use Rattle.mls_host.specs.Running.{site_of}
+use Rattle.mls_shells.specs.Shell.{IsShell}
+
+-- who sits at a shell, by its words
+abbrev pub seat_of : ShellFiles → ℕ → Bool → Seat
+seat_of files level has_prompt = record { level = level; label = files.label.now; user = files.user.now; has_prompt = has_prompt }
+
+module _ (h : Hosted) where
+  -- what is typed is answered over a store, where that is clean
+  abbrev pub IsShellFrom : SchemesFile → Option (List ℕ) → Site → Seat → Option (List ℕ) → Option (List ℕ) → (List ℕ → Type 0) → (List ℕ → Type 0) → Result Ending RunFault → Type 0
+  IsShellFrom file store site seat before after Wrote Told end = IsClean h store → IsOver h site.policy file store (IsShell h.echo site seat before after Wrote Told end)
+
+  -- the lines of the standard input are answered, at a label for a user, over what is stored
+  pub record IsShellRun (policy : Tables) (file : SchemesFile) (reader : Option ℕ) (files : ShellFiles) (Wrote Told : List ℕ → Type 0) (end : Result Ending RunFault) : Type 0 where
+    pub stored : List Stored
+    pub level : ℕ
+    pub has_prompt : Bool
+    pub before : Option (List ℕ)
+    pub after : Option (List ℕ)
+    pub stored_are : AreStoredFrom h.gives (named files.transactions) (named files.certificates) policy file.schemes stored
+    pub level_is : reader ≡ Some level
+    pub given : IfSome before (h.gives None)
+    pub shell : IsShellFrom file (named files.store) (site_of policy file.schemes stored) (seat_of files level has_prompt) before after Wrote Told end

@@ -1,0 +1,196 @@
+//! A shell: a session whose commands are typed, each answered before the next is read.
+ghost use Rattle.std.specs.Prelude.{◌≡◌, ◌<◌, ◌≤◌, ◌∷◌, [], true, false, length, Some, IfErr, OnOk, Err};
+ghost use Rattle.mls_lattice.specs.Name.{is_name};
+ghost use Rattle.mls_scheme.specs.Scheme.{AreUnder};
+ghost use Rattle.mls_machine.specs.Observation.{EventsFit, AreRead, AreCertified};
+ghost use Rattle.mls_sessions.specs.Engine.{site, world_of, IsReady, IsKept};
+ghost use Rattle.mls_sessions.specs.World.{IsSound};
+ghost use Rattle.mls_host.specs.Hosting.{IsAppended, IsTold};
+ghost use Rattle.mls_host.specs.Running.{site_of};
+ghost use Rattle.mls_shells.specs.Shell.{opening, audience_at, told_of, events_of, is_refused, is_last, FateFits, IsFollowed, IsConversation, IsShell};
+
+use crate::reading::next_fate;
+use crate::seat::{Fate, Seat};
+use crate::telling::{ask, tell_fate};
+use mls_filterview::Base;
+use mls_host::{Ending, Errors, ending_if, form_of};
+use mls_lattice::{Items, Policy};
+use mls_machine::Audience;
+use mls_scheme::Schemes;
+use mls_script::Event;
+use mls_sessions::{Engine, RunCause, RunFault, Stored, run_to};
+use mls_typing::TypedLines;
+use std::alloc::Global;
+use std::io::Write;
+
+/// Its level, which is shown tables where somebody types at a terminal.
+fn audience_at(seat: &Seat) -> Audience
+    ensures { result ≡ audience_at seat.now }
+{
+    Audience {
+        reader: Some(seat.level),
+        form: form_of(seat.has_prompt),
+    }
+}
+
+/// Answers the events of a line, for the level of the session alone. A fault is told as one of the line.
+fn answer<B: Base, W: Write>(
+    engine: &mut Engine<B>,
+    seat: &Seat,
+    line: usize,
+    events: &[Event],
+    out: &mut W,
+) -> Result<(), RunFault>
+    requires ready { IsReady B.state B.is_clean engine.old }
+    requires fits { EventsFit (site engine.old) events.now }
+    requires level { seat.now.level < length (site engine.old).policy.labels }
+    ensures clean { B.is_clean engine.new.base → B.is_clean engine.old.base }
+    ensures kept { IsKept B.state B.is_clean engine.old engine.new }
+    ensures followed { B.is_clean engine.new.base → IsFollowed (site engine.old) (audience_at seat.now) (world_of B.state engine.old) events.now
+        (W.contents out.old) (W.contents out.new) (world_of B.state engine.new) line result }
+{
+    match run_to(engine, events, audience_at(seat), out) {
+        Ok(()) => Ok(()),
+        Err(fault) => Err(RunFault {
+            event: line,
+            cause: fault.cause,
+            done: fault.done,
+        }),
+    }
+}
+
+/// Does what becomes of a line.
+fn follow<B: Base, W: Write>(
+    engine: &mut Engine<B>,
+    seat: &Seat,
+    line: usize,
+    fate: &Fate,
+    out: &mut W,
+) -> Result<(), RunFault>
+    requires ready { IsReady B.state B.is_clean engine.old }
+    requires fits { FateFits (site engine.old).policy (site engine.old).schemes fate.now }
+    requires level { seat.now.level < length (site engine.old).policy.labels }
+    ensures clean { B.is_clean engine.new.base → B.is_clean engine.old.base }
+    ensures kept { IsKept B.state B.is_clean engine.old engine.new }
+    ensures followed { B.is_clean engine.new.base → IsFollowed (site engine.old) (audience_at seat.now) (world_of B.state engine.old) (events_of fate.now)
+        (W.contents out.old) (W.contents out.new) (world_of B.state engine.new) line result }
+{
+    match fate {
+        Fate::Said(events) => answer(engine, seat, line, events, out),
+        Fate::Lost(cause) => Err(RunFault {
+            event: line,
+            cause: *cause,
+            done: false,
+        }),
+        _ => Ok(()),
+    }
+}
+
+fn is_refused(fate: &Fate) -> bool
+    ensures { result ≡ is_refused fate.now }
+{
+    match fate {
+        Fate::Refused(_) | Fate::TooLong | Fate::Unreadable => true,
+        _ => false,
+    }
+}
+
+/// Whether no line is read behind it.
+fn is_last(fate: &Fate) -> bool
+    ensures { result ≡ is_last fate.now }
+{
+    match fate {
+        Fate::Over | Fate::Unreadable => true,
+        _ => false,
+    }
+}
+
+/// Opens the session, and answers each line before it reads the next, as long as the session is open and there are lines.
+fn converse<B: Base, L: TypedLines, W: Write, E: Write>(
+    alloc: Global,
+    engine: &mut Engine<B>,
+    policy: &Policy,
+    schemes: &Schemes,
+    seat: &Seat,
+    first: &[Event],
+    lines: &mut L,
+    out: &mut W,
+    err: &mut Errors<E>,
+) -> Result<Ending, RunFault>
+    requires ready { IsReady B.state B.is_clean engine.old }
+    requires policy { (site engine.old).policy ≡ policy.now }
+    requires schemes { (site engine.old).schemes ≡ schemes.now }
+    requires first { first.now ≡ opening seat.now ∷ [] }
+    requires fits { EventsFit (site engine.old) (opening seat.now ∷ []) }
+    requires level { seat.now.level < length policy.now.labels }
+    ensures clean { B.is_clean engine.new.base → B.is_clean engine.old.base }
+    ensures kept { IsKept B.state B.is_clean engine.old engine.new }
+    ensures conversation { B.is_clean engine.new.base → IsConversation L.echo (site engine.old) seat.now (world_of B.state engine.old) (world_of B.state engine.new)
+        (L.remaining lines.old) (L.remaining lines.new) (W.contents out.old) (W.contents out.new) (IsTold E.contents err.old err.new) result }
+{
+    answer(engine, seat, 0, first, out)?;
+    let mut refused = !engine.is_open(seat.level, seat.user.as_str());
+    for before in 0..usize::MAX {
+        if !engine.is_open(seat.level, seat.user.as_str()) {
+            return Ok(ending_if(refused));
+        }
+        ask(err, seat);
+        let fate = next_fate(alloc, policy, schemes, seat, lines, out);
+        tell_fate(err, seat, before + 1, &fate);
+        follow(engine, seat, before + 1, &fate, out)?;
+        refused = refused | is_refused(&fate);
+        if is_last(&fate) {
+            return Ok(ending_if(refused));
+        }
+    }
+    Err(RunFault {
+        event: usize::MAX,
+        cause: RunCause::Memory,
+        done: false,
+    })
+}
+
+/// A shell over a base, which is given back: the opening, and then line by line the events that each tells. A line that tells none is
+/// refused on standard error, and nothing of it is done.
+///
+/// What is written is what a run writes of these events for the level of the session alone, and each answer stands before the next line
+/// is read: a host that shows each line among what is written shows it right before its answer.
+pub fn shell_on<B: Base, L: TypedLines, W: Write, E: Write>(
+    alloc: Global,
+    policy: &Policy,
+    schemes: &Schemes,
+    stored: Items<Stored>,
+    base: B,
+    seat: &Seat,
+    first: &[Event],
+    lines: &mut L,
+    out: &mut W,
+    err: &mut Errors<E>,
+) -> (Result<Ending, RunFault>, B)
+    requires under { AreUnder (length policy.now.labels) schemes.now }
+    requires read { AreRead (site_of policy.now schemes.now stored) }
+    requires certified { AreCertified (site_of policy.now schemes.now stored) }
+    requires level { seat.now.level < length policy.now.labels }
+    requires user { is_name seat.now.user ≡ true }
+    requires first { first.now ≡ opening seat.now ∷ [] }
+    requires idle { (B.state base).begun ≡ false }
+    requires sound { B.is_clean base → IsSound (site_of policy.now schemes.now stored) (B.state base).now }
+    ensures clean { B.is_clean result.1 → B.is_clean base }
+    ensures idle { (B.state result.1).begun ≡ false }
+    ensures shell { B.is_clean result.1 → IsShell L.echo (site_of policy.now schemes.now stored) seat.now (L.remaining lines.old) (L.remaining lines.new)
+        (IsAppended W.contents out.old out.new) (IsTold E.contents err.old err.new) result.0 (B.state base).now (B.state result.1).now }
+{
+    let mut engine = Engine::new(alloc, base, policy, schemes, stored);
+    let outcome = converse(
+        alloc,
+        &mut engine,
+        policy,
+        schemes,
+        seat,
+        first,
+        lines,
+        out,
+        err,
+    );
+    (outcome, engine.finish())
+}

@@ -1,0 +1,202 @@
+//! Shells over a database: over an empty one in memory, or over that of a store.
+ghost use Rattle.std.specs.Prelude.{◌≡◌, ◌<◌, ◌∷◌, [], true, length, Some, Ok, Err, IfOk, IfErr};
+ghost use Rattle.std.specs.Option.{IfSome};
+ghost use Rattle.mls_lattice.specs.Name.{is_name};
+ghost use Rattle.mls_scheme.specs.Scheme.{AreUnder};
+ghost use Rattle.mls_filterview.specs.Content.{Content, no_content};
+ghost use Rattle.mls_machine.specs.Observation.{AreRead, AreCertified};
+ghost use Rattle.mls_host.specs.Hosting.{hosted, IsAppended, IsTold};
+ghost use Rattle.mls_words.specs.Words.{named};
+ghost use Rattle.mls_host.specs.Refusal.{IsEnd};
+ghost use Rattle.mls_host.specs.Running.{site_of};
+ghost use Rattle.mls_shells.specs.Shell.{opening, IsShell};
+ghost use Rattle.mls_shells.specs.ShellRun.{seat_of, IsShellFrom, IsShellRun};
+
+use crate::reading::opening;
+use crate::seat::Seat;
+use crate::shell::shell_on;
+use mls_fragments::SqlBase;
+use mls_host::{Ending, Errors, Host, Refusal, ended, stored_files};
+use mls_lattice::{Items, LabelNo, Policy, Str, is_name};
+use mls_scheme::SchemesFile;
+use mls_script::Event;
+use mls_sessions::Stored;
+use mls_typing::TypedLines;
+use mls_words::ShellFiles;
+use std::alloc::{AllocError, Global};
+use std::io::Write;
+
+/// A shell over an empty database in memory.
+fn shell_in_memory<L: TypedLines, W: Write, E: Write>(
+    alloc: Global,
+    policy: &Policy,
+    file: &SchemesFile,
+    stored: Items<Stored>,
+    seat: &Seat,
+    first: &[Event],
+    lines: &mut L,
+    out: &mut W,
+    err: &mut Errors<E>,
+) -> Result<Ending, Refusal>
+    requires under { AreUnder (length policy.now.labels) file.now.schemes }
+    requires read { AreRead (site_of policy.now file.now.schemes stored) }
+    requires certified { AreCertified (site_of policy.now file.now.schemes stored) }
+    requires level { seat.now.level < length policy.now.labels }
+    requires user { is_name seat.now.user ≡ true }
+    requires first { first.now ≡ opening seat.now ∷ [] }
+    ensures { IsEnd (λ end. (left : Content) × IsShell L.echo (site_of policy.now file.now.schemes stored) seat.now (L.remaining lines.old) (L.remaining lines.new)
+        (IsAppended W.contents out.old out.new) (IsTold E.contents err.old err.new) end no_content left)
+        (IsAppended W.contents out.old out.new [] × IsTold E.contents err.old err.new []) result }
+{
+    let base = match SqlBase::open_memory(alloc, policy, file) {
+        Ok(base) => base,
+        Err(fault) => return Err(Refusal::Store(fault)),
+    };
+    let schemes = &file.schemes;
+    let (outcome, left) = shell_on(
+        alloc, policy, schemes, stored, base, seat, first, lines, out, err,
+    );
+    let _connection = left.into_connection();
+    ended(outcome, Ok(()))
+}
+
+/// A shell over the database in a store of the host.
+fn shell_in_store<H: Host, L: TypedLines, W: Write, E: Write>(
+    alloc: Global,
+    host: &mut H,
+    path: &str,
+    policy: &Policy,
+    file: &SchemesFile,
+    stored: Items<Stored>,
+    seat: &Seat,
+    first: &[Event],
+    lines: &mut L,
+    out: &mut W,
+    err: &mut Errors<E>,
+) -> Result<Ending, Refusal>
+    requires under { AreUnder (length policy.now.labels) file.now.schemes }
+    requires read { AreRead (site_of policy.now file.now.schemes stored) }
+    requires certified { AreCertified (site_of policy.now file.now.schemes stored) }
+    requires level { seat.now.level < length policy.now.labels }
+    requires user { is_name seat.now.user ≡ true }
+    requires first { first.now ≡ opening seat.now ∷ [] }
+    ensures { IsEnd (IsShellFrom (hosted H.gives H.keeps H.is_honest L.echo host.old host.new) file.now (Some path.now)
+        (site_of policy.now file.now.schemes stored) seat.now (L.remaining lines.old) (L.remaining lines.new)
+        (IsAppended W.contents out.old out.new) (IsTold E.contents err.old err.new))
+        (IsAppended W.contents out.old out.new [] × IsTold E.contents err.old err.new []) result }
+{
+    let base = match host.store(alloc, path, policy, file) {
+        Ok(base) => base,
+        Err(fault) => return Err(Refusal::Store(fault)),
+    };
+    let schemes = &file.schemes;
+    let (outcome, left) = shell_on(
+        alloc, policy, schemes, stored, base, seat, first, lines, out, err,
+    );
+    let closed = host.keep(path, left);
+    ended(outcome, closed)
+}
+
+/// A shell over the database in a store of the host, or over an empty one in memory.
+fn shell_over<H: Host, L: TypedLines, W: Write, E: Write>(
+    alloc: Global,
+    host: &mut H,
+    store: Option<&str>,
+    policy: &Policy,
+    file: &SchemesFile,
+    stored: Items<Stored>,
+    seat: &Seat,
+    first: &[Event],
+    lines: &mut L,
+    out: &mut W,
+    err: &mut Errors<E>,
+) -> Result<Ending, Refusal>
+    requires under { AreUnder (length policy.now.labels) file.now.schemes }
+    requires read { AreRead (site_of policy.now file.now.schemes stored) }
+    requires certified { AreCertified (site_of policy.now file.now.schemes stored) }
+    requires level { seat.now.level < length policy.now.labels }
+    requires user { is_name seat.now.user ≡ true }
+    requires first { first.now ≡ opening seat.now ∷ [] }
+    ensures { IsEnd (IsShellFrom (hosted H.gives H.keeps H.is_honest L.echo host.old host.new) file.now (named store.entry)
+        (site_of policy.now file.now.schemes stored) seat.now (L.remaining lines.old) (L.remaining lines.new)
+        (IsAppended W.contents out.old out.new) (IsTold E.contents err.old err.new))
+        (IsAppended W.contents out.old out.new [] × IsTold E.contents err.old err.new []) result }
+{
+    match store {
+        None => shell_in_memory(alloc, policy, file, stored, seat, first, lines, out, err),
+        Some(path) => {
+            shell_in_store(
+                alloc, host, path, policy, file, stored, seat, first, lines, out, err,
+            )
+        }
+    }
+}
+
+/// Who sits at a shell, by its words.
+fn seat_of(
+    alloc: Global,
+    files: ShellFiles,
+    level: LabelNo,
+    has_prompt: bool,
+) -> Result<Seat, AllocError>
+    ensures { IfOk result (λ seat. seat ≡ seat_of files.entry level has_prompt) }
+{
+    Ok(Seat {
+        level,
+        label: Str::copy_of(alloc, files.label)?,
+        user: Str::copy_of(alloc, files.user)?,
+        has_prompt,
+    })
+}
+
+/// A shell for the user and the label of its words, over the transactions and certificates of files.
+pub fn shell_files<H: Host, W: Write, E: Write>(
+    alloc: Global,
+    host: &mut H,
+    policy: &Policy,
+    file: &SchemesFile,
+    files: ShellFiles,
+    reader: Option<LabelNo>,
+    out: &mut W,
+    err: &mut Errors<E>,
+) -> Result<Ending, Refusal>
+    requires under { AreUnder (length policy.now.labels) file.now.schemes }
+    requires declared { IfSome reader (λ c. c < length policy.now.labels) }
+    ensures done { IfOk result (λ end. IsShellRun (hosted H.gives H.keeps H.is_honest H.Lines.echo host.old host.new) policy.now file.now reader files.entry
+        (IsAppended W.contents out.old out.new) (IsTold E.contents err.old err.new) (Ok end)) }
+    ensures given_up { IfErr result (λ e. IsEnd (IsShellRun (hosted H.gives H.keeps H.is_honest H.Lines.echo host.old host.new) policy.now file.now reader
+        files.entry (IsAppended W.contents out.old out.new) (IsTold E.contents err.old err.new))
+        (IsAppended W.contents out.old out.new [] × IsTold E.contents err.old err.new []) (Err e)) }
+{
+    let Some(level) = reader else {
+        return Err(Refusal::Label);
+    };
+    if !is_name(files.user) {
+        return Err(Refusal::User);
+    }
+    let seat = seat_of(alloc, files, level, host.is_terminal())?;
+    let first = opening(alloc, &seat)?;
+    let schemes = &file.schemes;
+    let stored = stored_files(
+        alloc,
+        host,
+        policy,
+        schemes,
+        files.transactions,
+        files.certificates,
+    )?;
+    let mut lines = host.lines();
+    shell_over(
+        alloc,
+        host,
+        files.store,
+        policy,
+        file,
+        stored,
+        &seat,
+        &first,
+        &mut lines,
+        out,
+        err,
+    )
+}

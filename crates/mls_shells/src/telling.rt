@@ -1,0 +1,47 @@
+//! What a shell says on standard error.
+ghost use Rattle.std.specs.Prelude.{◌≡◌};
+ghost use Rattle.mls_host.specs.Hosting.{IsTold};
+ghost use Rattle.mls_shells.specs.Shell.{prompt_of, column_of, told_of};
+
+use crate::help::HELP;
+use crate::seat::{Fate, Seat};
+use mls_host::Errors;
+use std::io::Write;
+
+/// The column in what was typed.
+fn column_of(seat: &Seat, column: usize) -> usize
+    ensures { result ≡ column_of seat.now column }
+{
+    let blanks = 2;
+    column
+        .saturating_sub(seat.label.as_str().len())
+        .saturating_sub(seat.user.as_str().len())
+        .saturating_sub(blanks)
+        .max(1)
+}
+
+/// Shows the prompt, if there is one.
+pub(crate) fn ask<E: Write>(err: &mut Errors<E>, seat: &Seat)
+    ensures { IsTold E.contents err.old err.new (prompt_of seat.now) }
+{
+    if seat.has_prompt {
+        err.tell_prompt(seat.label.as_str(), seat.user.as_str())
+    } else {
+        err.tell(b"")
+    }
+}
+
+/// Tells what is to be said of a line.
+pub(crate) fn tell_fate<E: Write>(err: &mut Errors<E>, seat: &Seat, number: usize, fate: &Fate)
+    ensures { IsTold E.contents err.old err.new (told_of seat.now number fate.now) }
+{
+    match fate {
+        Fate::Help => err.tell(HELP.as_bytes()),
+        Fate::Refused(fault) => {
+            err.tell_fault(number, column_of(seat, fault.column), fault.cause)
+        }
+        Fate::TooLong => err.tell_line(number, "too long"),
+        Fate::Unreadable => err.tell_line(number, "unreadable"),
+        Fate::Over | Fate::Blank | Fate::Said(_) | Fate::Lost(_) => err.tell(b""),
+    }
+}

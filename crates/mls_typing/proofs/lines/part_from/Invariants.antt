@@ -1,0 +1,8 @@
+use Rattle.std.proofs.Common.{◌≡◌, length}
+use Rattle.std.specs.Io.KnownBytes.{Consumes}
+use Rattle.mls_typing.specs.Typing.{HasNoFeed}
+use Rattle.mls_typing.proofs.lines.part_from.Given as goal
+
+abbrev pub invariant-loop : goal.invariant-loop
+invariant-loop g l =
+    (length l.line.items ≡ l.counter) × HasNoFeed l.line.items × Consumes (g.R.Read.remaining l.initial.input) (g.R.Read.remaining l.input) l.line.items

@@ -1,0 +1,121 @@
+-- What the words of a command line ask for, by the matches of its parser.
+use Rattle.std.proofs.Common.{◌≡◌, ◌==◌, ℕ, List, [], ◌∷◌, Bool, true, false, true≢false, nat_lt, length, Option, Some, None, codes, refl, sym, ap, subst, ◌∙◌}
+use Rattle.std.specs.Prelude.{option_map, is_some}
+use Rattle.std.proofs.Common.{inl, inr}
+use Rattle.std.proofs.lemmas.Bool.{cases_Bool}
+use Rattle.std.proofs.lemmas.Option.{same_Some}
+use Rattle.clap.specs.Words.{Row, Text, first_of, subcommand_name_of, subcommand_rows_of, has_subcommand, takes}
+use Rattle.clap.specs.declared.parser.matches.ArgMatches.{ArgMatches}
+use Rattle.mls_words.specs.declared.words.Task.{Task}
+use Rattle.mls_words.specs.declared.words.Task.TheVariants.{ShowPolicy, Run, Shell, Certify, Check, Explain}
+use Rattle.mls_words.specs.declared.words.Job.{Job}
+use Rattle.mls_words.specs.declared.usage.Usage.{Usage}
+use Rattle.mls_words.specs.declared.usage.Usage.TheVariants as usage
+use Rattle.mls_words.specs.Words.{IsTask, IsCommand, IsCommandOf, AskNothing, command_line}
+
+abbrev begins : ℕ → Text → Bool
+begins b [] = false
+begins b (x ∷ xs) = x == b
+
+-- texts of which one begins with a byte and the other does not
+apart : (b : ℕ) (s t : Text) → begins b s ≡ true → begins b t ≡ false → s ≡ t → ⊥
+apart b s t h k e = true≢false (sym h ∙ ap (begins b) e ∙ k)
+
+-- the name of a task's command is one of six
+pub no_task : (name : Text) (rows : List Row) → (name ≡ codes "run" → ⊥) → (name ≡ codes "shell" → ⊥) → (name ≡ codes "show-policy" → ⊥) → (name ≡ codes "certify" → ⊥) → (name ≡ codes "check" → ⊥) → (name ≡ codes "explain" → ⊥)
+    → (task : Task) → IsTask name rows task → ⊥
+no_task name rows run shell show certify check explain ShowPolicy h = show h
+no_task name rows run shell show certify check explain (Run files) h = run h.0
+no_task name rows run shell show certify check explain (Shell files) h = shell h.0
+no_task name rows run shell show certify check explain (Certify transactions) h = certify h.0
+no_task name rows run shell show certify check explain (Check transactions certificates) h = check h.0
+no_task name rows run shell show certify check explain (Explain transactions only) h = explain h.0
+
+nothing : {A X : Type 0} (x : X) (o : Option X) → Some x ≡ o → o ≡ None → A
+nothing x o h k = let e : Some x ≡ None = h ∙ k in absurd cc
+
+pub no_certify : (rows : List Row) → first_of (codes "TRANSACTIONS") rows ≡ None → (task : Task) → IsTask (codes "certify") rows task → ⊥
+no_certify rows none ShowPolicy h = let e : codes "certify" ≡ codes "show-policy" = h in absurd cc
+no_certify rows none (Run files) h = let e : codes "certify" ≡ codes "run" = h.0 in absurd cc
+no_certify rows none (Shell files) h = absurd (apart 99 (codes "certify") (codes "shell") refl refl h.0)
+no_certify rows none (Certify transactions) h = nothing _ _ h.1 none
+no_certify rows none (Check transactions certificates) h = let e : codes "certify" ≡ codes "check" = h.0 in absurd cc
+no_certify rows none (Explain transactions only) h = absurd (apart 99 (codes "certify") (codes "explain") refl refl h.0)
+
+pub no_transactions : (rows : List Row) → first_of (codes "TRANSACTIONS") rows ≡ None → (task : Task) → IsTask (codes "check") rows task → ⊥
+no_transactions rows none ShowPolicy h = let e : codes "check" ≡ codes "show-policy" = h in absurd cc
+no_transactions rows none (Run files) h = let e : codes "check" ≡ codes "run" = h.0 in absurd cc
+no_transactions rows none (Shell files) h = absurd (apart 99 (codes "check") (codes "shell") refl refl h.0)
+no_transactions rows none (Certify transactions) h = let e : codes "check" ≡ codes "certify" = h.0 in absurd cc
+no_transactions rows none (Check transactions certificates) h = nothing _ _ h.1 none
+no_transactions rows none (Explain transactions only) h = absurd (apart 99 (codes "check") (codes "explain") refl refl h.0)
+
+pub no_certificates : (rows : List Row) → first_of (codes "CERTIFICATES") rows ≡ None → (task : Task) → IsTask (codes "check") rows task → ⊥
+no_certificates rows none ShowPolicy h = let e : codes "check" ≡ codes "show-policy" = h in absurd cc
+no_certificates rows none (Run files) h = let e : codes "check" ≡ codes "run" = h.0 in absurd cc
+no_certificates rows none (Shell files) h = absurd (apart 99 (codes "check") (codes "shell") refl refl h.0)
+no_certificates rows none (Certify transactions) h = let e : codes "check" ≡ codes "certify" = h.0 in absurd cc
+no_certificates rows none (Check transactions certificates) h = nothing _ _ h.2 none
+no_certificates rows none (Explain transactions only) h = absurd (apart 99 (codes "check") (codes "explain") refl refl h.0)
+
+pub no_explain : (rows : List Row) → first_of (codes "TRANSACTIONS") rows ≡ None → (task : Task) → IsTask (codes "explain") rows task → ⊥
+no_explain rows none ShowPolicy h = absurd (apart 101 (codes "explain") (codes "show-policy") refl refl h)
+no_explain rows none (Run files) h = absurd (apart 101 (codes "explain") (codes "run") refl refl h.0)
+no_explain rows none (Shell files) h = absurd (apart 101 (codes "explain") (codes "shell") refl refl h.0)
+no_explain rows none (Certify transactions) h = absurd (apart 101 (codes "explain") (codes "certify") refl refl h.0)
+no_explain rows none (Check transactions certificates) h = absurd (apart 101 (codes "explain") (codes "check") refl refl h.0)
+no_explain rows none (Explain transactions only) h = nothing _ _ h.1 none
+
+longer : codes "shell" ≡ codes "show-policy" → ⊥
+longer h = true≢false (sym (ap (λ t. nat_lt 5 (length t)) h))
+
+pub no_label : (rows : List Row) → first_of (codes "LABEL") rows ≡ None → (task : Task) → IsTask (codes "shell") rows task → ⊥
+no_label rows none ShowPolicy h = absurd (longer h)
+no_label rows none (Run files) h = absurd (apart 115 (codes "shell") (codes "run") refl refl h.0)
+no_label rows none (Shell files) h = nothing _ _ h.4 none
+no_label rows none (Certify transactions) h = absurd (apart 115 (codes "shell") (codes "certify") refl refl h.0)
+no_label rows none (Check transactions certificates) h = absurd (apart 115 (codes "shell") (codes "check") refl refl h.0)
+no_label rows none (Explain transactions only) h = absurd (apart 115 (codes "shell") (codes "explain") refl refl h.0)
+
+pub no_user : (rows : List Row) → first_of (codes "USER") rows ≡ None → (task : Task) → IsTask (codes "shell") rows task → ⊥
+no_user rows none ShowPolicy h = absurd (longer h)
+no_user rows none (Run files) h = absurd (apart 115 (codes "shell") (codes "run") refl refl h.0)
+no_user rows none (Shell files) h = nothing _ _ h.5 none
+no_user rows none (Certify transactions) h = absurd (apart 115 (codes "shell") (codes "certify") refl refl h.0)
+no_user rows none (Check transactions certificates) h = absurd (apart 115 (codes "shell") (codes "check") refl refl h.0)
+no_user rows none (Explain transactions only) h = absurd (apart 115 (codes "shell") (codes "explain") refl refl h.0)
+
+pub no_policy : (name : Text) (rows : List Row) → first_of (codes "POLICY") rows ≡ None → (job : Job) → IsCommand name rows job → ⊥
+no_policy name rows none job h = nothing _ _ h.policy none
+
+pub no_schemes : (name : Text) (rows : List Row) → first_of (codes "SCHEMES") rows ≡ None → (job : Job) → IsCommand name rows job → ⊥
+no_schemes name rows none job h = nothing _ _ h.schemes none
+
+-- ---- the command that was entered
+
+abbrev both : {X : Type 0} → (X → Text) → (X → List Row) → X → Text × List Row
+both f g x = (f x, g x)
+
+paired : {X : Type 0} (f : X → Text) (g : X → List Row) (o : Option X) (name : Text) (rows : List Row)
+    → Some name ≡ option_map f o → Some rows ≡ option_map (λ (p : Text × List Row). p.1) (option_map (both f g) o) → option_map (both f g) o ≡ Some (name, rows)
+paired f g None name rows h k = absurd cc
+paired f g (Some x) name rows h k = λ i. Some (sym (same_Some name (f x) h) i, sym (same_Some rows (g x) k) i)
+
+pub entered : (m : ArgMatches) (name : Text) (rows : List Row) → Some name ≡ subcommand_name_of m → Some rows ≡ option_map (λ (p : Text × List Row). p.1) (subcommand_rows_of m) → subcommand_rows_of m ≡ Some (name, rows)
+entered m name rows h k = paired _ _ _ name rows h k
+
+none_entered : {X Y : Type 0} (f : X → Y) (o : Option X) → is_some o ≡ false → option_map f o ≡ None
+none_entered f None h = refl
+none_entered f (Some x) h = absurd cc
+
+pub not_entered : (m : ArgMatches) → has_subcommand m ≡ false → (job : Job) → IsCommandOf (subcommand_rows_of m) job → ⊥
+not_entered m h job k = subst (λ o. IsCommandOf o job) (none_entered _ _ h) k
+
+-- ---- refusals
+
+pub refused : (words : List Text) (u : Usage) → (takes command_line words ≡ true → u ≡ usage.Memory) → AskNothing words u
+refused words (usage.Text text) h = elim (cases_Bool (takes command_line words)) [ inl e ↦ absurd (other text (h e)) | inr e ↦ inl e ]
+  where
+    other : (t : _) → usage.Text t ≡ usage.Memory → ⊥
+    other t e = absurd cc
+refused words usage.Memory h = tt

@@ -1,0 +1,20 @@
+use Rattle.std.proofs.Common.{◌≡◌, ap, ◌∙◌, refl, true}
+use Rattle.clap.specs.Words.{App, app_of, is_simple, takes, subcommand_of}
+use Rattle.clap.proofs.OnLiterals.{clap_on_literals}
+use Rattle.mls_words.specs.Words.{command_line, texts_of}
+use Rattle.mls_words.proofs.WordsLemmas.{refused}
+use Rattle.mls_words.proofs.words.matches_of.Goals as goal
+
+simple : is_simple command_line ≡ true
+unfolding clap_on_literals
+simple = refl
+
+pub returns-in-Ok-clause-rows : goal.returns-in-Ok-clause-rows
+returns-in-Ok-clause-rows c =
+    let line : app_of c.in_ok-command_line.field-0 ≡ command_line = c.in_ok-command_line.ensures in
+    (c.in-Ok.ensures.matches (ap is_simple line ∙ simple)).1 ∙ ap (λ (a : App). subcommand_of a (texts_of c.args.words.now)) line
+
+pub returns-in-Err-clause-refused : goal.returns-in-Err-clause-refused
+returns-in-Err-clause-refused c =
+    let line : app_of c.in_ok-command_line.field-0 ≡ command_line = c.in_ok-command_line.ensures in
+    refused (texts_of c.args.words.now) c.said.result (λ e. c.said.ensures (c.in-Err.ensures.passes (ap (λ (a : App). takes a (texts_of c.args.words.now)) line ∙ e)))

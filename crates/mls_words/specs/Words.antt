@@ -1,0 +1,147 @@
+-- What the words of a command line ask for, and what is said where they ask for nothing.
+use Rattle.std.specs.Prelude.{◌≡◌, ℕ, ◌<◌, ◌≤◌, Bool, true, false, List, map, length, codes, string_bytes, Option, Some, None, option_map, ◌⊎◌, ⊤}
+use Rattle.std.specs.Borrow.{Bor}
+use Rattle.std.specs.Str.{bytes_eq}
+use Rattle.clap.specs.Words.{App, Row, Rule, Text, first_of, new_app, new_rule, subcommand_of, takes, with_rule, with_subcommand}
+use Rattle.clap.specs.declared.builder.action.ArgAction.TheVariants.{SetTrue}
+use Rattle.mls_words.specs.declared.words.Job.{Job}
+use Rattle.mls_words.specs.declared.words.Documents.{Documents}
+use Rattle.mls_words.specs.declared.words.Task.{Task}
+use Rattle.mls_words.specs.declared.words.Task.TheVariants.{ShowPolicy, Run, Shell, Certify, Check, Explain}
+use Rattle.mls_words.specs.declared.usage.Usage.{Usage}
+use Rattle.mls_words.specs.declared.usage.Usage.TheVariants as usage
+
+abbrev pub texts_of : List (Bor Text) → List Text
+texts_of = map (λ w. w.now)
+
+-- what a word names, if it is there
+abbrev pub named : Option (Bor (List ℕ)) → Option (List ℕ)
+named = option_map (λ p. p.now)
+
+-- ---- the command line
+
+-- an argument that stands in its place, and one that is an option with a value
+abbrev pub place : Text → Rule
+place id = record (new_rule id) { required = true }
+
+abbrev pub option : Text → Rule
+option id = record (new_rule id) { long = Some id; value_names = 1 }
+
+-- an option without one
+abbrev pub flag : Text → Rule
+flag id = record (new_rule id) { long = Some id; action = Some SetTrue }
+
+-- the policy and the schemes
+abbrev pub with_documents : App → App
+with_documents c = with_rule (with_rule c (place (codes "POLICY"))) (place (codes "SCHEMES"))
+
+-- what is stored
+abbrev pub with_stored : App → App
+with_stored c = with_rule (with_rule c (option (codes "transactions"))) (option (codes "certificates"))
+
+abbrev pub run : App
+run = with_rule (with_documents (with_stored (with_rule (with_rule (with_rule (new_app (codes "run")) (flag (codes "table"))) (option (codes "at"))) (option (codes "store"))))) (place (codes "SCRIPT"))
+
+abbrev pub shell : App
+shell =
+    let named = with_documents (with_stored (with_rule (new_app (codes "shell")) (option (codes "store")))) in
+    with_rule (with_rule named (place (codes "LABEL"))) (place (codes "USER"))
+
+abbrev pub show_policy : App
+show_policy = with_documents (new_app (codes "show-policy"))
+
+abbrev pub certify : App
+certify = with_rule (with_documents (new_app (codes "certify"))) (place (codes "TRANSACTIONS"))
+
+abbrev pub check : App
+check = with_rule (with_rule (with_documents (new_app (codes "check"))) (place (codes "TRANSACTIONS"))) (place (codes "CERTIFICATES"))
+
+abbrev pub explain : App
+explain = with_rule (with_rule (with_documents (new_app (codes "explain"))) (place (codes "TRANSACTIONS"))) (new_rule (codes "NAME"))
+
+abbrev pub program : App
+program = let top = new_app (codes "mldb") in record top { top = record top.top { subcommand_required = true; has_version = true } }
+
+-- a command of its own for each task
+abbrev pub command_line : App
+command_line =
+    with_subcommand (with_subcommand (with_subcommand (with_subcommand (with_subcommand (with_subcommand program run.top) shell.top) show_policy.top) certify.top) check.top) explain.top
+
+-- ---- jobs
+
+-- the job of a run of the samples, with the script on the standard input
+abbrev pub samples : Job
+samples = record { documents = None; task = Run (record { is_table = false; at = None; store = None; transactions = None; certificates = None; script = None }) }
+
+-- a flag is among the words
+abbrev pub is_on : Option Text → Bool
+is_on None = false
+is_on (Some t) = bytes_eq t (codes "true")
+
+-- a task, by the name of its command and the values of its arguments
+abbrev pub IsTask : Text → List Row → Task → Type 0
+IsTask name rows ShowPolicy = name ≡ codes "show-policy"
+IsTask name rows (Run files) =
+    (name ≡ codes "run")
+    × (option_map (λ p. p.now) files.at ≡ first_of (codes "at") rows)
+    × (option_map (λ p. p.now) files.store ≡ first_of (codes "store") rows)
+    × (option_map (λ p. p.now) files.transactions ≡ first_of (codes "transactions") rows)
+    × (option_map (λ p. p.now) files.certificates ≡ first_of (codes "certificates") rows)
+    × (option_map (λ p. p.now) files.script ≡ first_of (codes "SCRIPT") rows)
+    × (files.is_table ≡ is_on (first_of (codes "table") rows))
+IsTask name rows (Shell files) =
+    (name ≡ codes "shell")
+    × (option_map (λ p. p.now) files.store ≡ first_of (codes "store") rows)
+    × (option_map (λ p. p.now) files.transactions ≡ first_of (codes "transactions") rows)
+    × (option_map (λ p. p.now) files.certificates ≡ first_of (codes "certificates") rows)
+    × (Some files.label.now ≡ first_of (codes "LABEL") rows)
+    × (Some files.user.now ≡ first_of (codes "USER") rows)
+IsTask name rows (Certify transactions) = (name ≡ codes "certify") × (Some transactions.now ≡ first_of (codes "TRANSACTIONS") rows)
+IsTask name rows (Check transactions certificates) =
+    (name ≡ codes "check") × (Some transactions.now ≡ first_of (codes "TRANSACTIONS") rows) × (Some certificates.now ≡ first_of (codes "CERTIFICATES") rows)
+IsTask name rows (Explain transactions only) =
+    (name ≡ codes "explain") × (Some transactions.now ≡ first_of (codes "TRANSACTIONS") rows) × (option_map (λ p. p.now) only ≡ first_of (codes "NAME") rows)
+
+-- it is done under the files that are named
+pub record IsCommand (name : Text) (rows : List Row) (job : Job) : Type 0 where
+  pub documents : Documents
+  pub documents_are : job.documents ≡ Some documents
+  pub policy : Some documents.policy.now ≡ first_of (codes "POLICY") rows
+  pub schemes : Some documents.schemes.now ≡ first_of (codes "SCHEMES") rows
+  pub task : IsTask name rows job.task
+
+abbrev pub IsCommandOf : Option (Text × List Row) → Job → Type 0
+IsCommandOf None job = ⊥
+IsCommandOf (Some c) job = IsCommand c.0 c.1 job
+
+-- the samples without any word after the name of the program; and else what the command among the words says
+pub record Asks (words : List Text) (job : Job) : Type 0 where
+  pub samples_are : length words < 2 → job ≡ samples
+  pub command_is : 2 ≤ length words → IsCommandOf (subcommand_of command_line words) job
+
+-- words that ask for nothing are no command line, or name no job; or there was no memory to read them
+abbrev pub AskNothing : List Text → Usage → Type 0
+AskNothing words (usage.Text text) = (takes command_line words ≡ false) ⊎ ((job : Job) → Asks words job → ⊥)
+AskNothing words usage.Memory = ⊤
+
+-- the name of the label for which alone a task prints
+abbrev pub at_of : Task → Option (List ℕ)
+at_of ShowPolicy = None
+at_of (Run files) = named files.at
+at_of (Shell files) = Some files.label.now
+at_of (Certify transactions) = None
+at_of (Check transactions certificates) = None
+at_of (Explain transactions name) = None
+
+-- ---- what is said
+
+abbrev pub memory_text : List ℕ
+memory_text = codes "mldb: memory\n"
+
+abbrev pub usage_text : Usage → List ℕ
+usage_text (usage.Text text) = string_bytes text
+usage_text usage.Memory = memory_text
+
+abbrev pub usage_status : Usage → ℕ
+usage_status (usage.Text text) = 2
+usage_status usage.Memory = 3

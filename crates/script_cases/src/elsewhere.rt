@@ -8,18 +8,19 @@ use mls_host::Errors;
 use std::alloc::{AllocError, Global};
 use std::rt::Files;
 
-/// The words of a run over a store.
-fn words_over<'a>(
+/// The words of a run, with an option and its value.
+pub fn words_with<'a>(
     alloc: Global,
     words: &[&'a str],
-    store: &'a str,
+    option: &'a str,
+    value: &'a str,
 ) -> Result<Vec<&'a str>, AllocError> {
     let mut all = Vec::new(alloc);
     for word in words {
         all.push(*word)?;
     }
-    all.push("--store")?;
-    all.push(store)?;
+    all.push(option)?;
+    all.push(value)?;
     Ok(all)
 }
 
@@ -50,8 +51,8 @@ fn told_of_store<R: Files + AllocGlobal>(
     script: &[u8],
     written: &Written,
 ) -> Result<&'static str, AllocError> {
-    let over_new = words_over(rt.alloc(), words, "new")?;
-    let over_left = words_over(rt.alloc(), words, "left")?;
+    let over_new = words_with(rt.alloc(), words, "--store", "new")?;
+    let over_left = words_with(rt.alloc(), words, "--store", "left")?;
     let (again, left) = written_over(rt, &over_new, script, Narrow::wide(rt.alloc()), None);
     let opened = written_after(rt, &over_left, script, Narrow::wide(rt.alloc()), left);
     if !is_same(&again, written) {
@@ -70,7 +71,7 @@ fn told_of<R: Files + AllocGlobal>(
     script: &[u8],
     written: &Written,
 ) -> Result<&'static str, AllocError> {
-    let over = words_over(rt.alloc(), words, "lists")?;
+    let over = words_with(rt.alloc(), words, "--store", "lists")?;
     if !is_same(&written_over_lists(rt, &over, script), written) {
         return Ok("  not so over lists\n");
     }

@@ -8,6 +8,7 @@ mod elsewhere;
 mod lists;
 mod most;
 mod narrow;
+mod readers;
 mod samples;
 mod shells;
 mod stores;

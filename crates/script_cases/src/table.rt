@@ -1,5 +1,5 @@
 //! The tables, in the order in which they are told.
-use crate::{commands, counts, samples, shells, stores, worlds};
+use crate::{commands, counts, readers, samples, shells, stores, worlds};
 use case_tables::{Case, Told, case_at};
 use std::alloc::AllocError;
 use std::rt::Files;
@@ -18,9 +18,10 @@ pub enum Table {
     Stores,
     Shells,
     Samples,
+    Readers,
 }
 
-pub const TABLES: [(&str, Table); 16] = [
+pub const TABLES: [(&str, Table); 17] = [
     ("script_faults.txt", Table::Faults),
     ("prefixes.txt", Table::Prefixes),
     ("scripts.txt", Table::Scripts),
@@ -37,6 +38,7 @@ pub const TABLES: [(&str, Table); 16] = [
     ("migrations.txt", Table::Stores),
     ("shells.txt", Table::Shells),
     ("samples.txt", Table::Samples),
+    ("readers.txt", Table::Readers),
 ];
 
 /// What is told of the cases of a table.
@@ -77,6 +79,7 @@ fn tell_case<R: Files + AllocGlobal>(rt: &R, table: Table, case: &Case<'_>, out:
         Table::Calls => commands::tell_call(rt, case, out),
         Table::Counts => counts::tell(rt, case, out),
         Table::Samples => samples::tell(rt, case, out),
+        Table::Readers => readers::tell(rt, case, out),
         // Each of these goes on with what the one before it left.
         Table::Stores | Table::Shells => {}
     }

@@ -35,7 +35,7 @@ fn push_lines(script: &mut Told, lines: &[&str], world: &str) {
 }
 
 /// Adds the lines that begin with one of the labels.
-fn push_seen(seen: &mut Told, labels: &str, text: &str) {
+pub fn push_seen(seen: &mut Told, labels: &str, text: &str) {
     for line in text.lines() {
         let label = line.split_once(' ').map_or("", |parts| parts.0);
         if labels.split(' ').any(|seen| seen == label) {

@@ -1,6 +1,6 @@
 -- Tasks and jobs: what is done, and what is given up.
 use Rattle.std.proofs.Common.{◌≡◌, ℕ, List, [], Option, Result, Ok, Err, IfOk, IfErr, OnOk, OnErr, inl, inr, refl, sym, subst}
-use Rattle.std.proofs.KnownBytes.{Appends-nil}
+use Rattle.std.specs.Result.{IsErrAnd}
 use Rattle.mls_script.specs.declared.event.Event.{Event}
 use Rattle.mls_machine.specs.declared.stored.Stored.{Stored}
 use Rattle.mls_sessions.specs.declared.cause.RunFault.{RunFault}
@@ -17,76 +17,34 @@ use Rattle.mls_words.specs.declared.words.ShellFiles.{ShellFiles}
 use Rattle.mls_words.specs.declared.words.Task.{Task}
 use Rattle.mls_words.specs.declared.words.Task.TheVariants as tasks
 use Rattle.mls_host.specs.declared.refusal.Refusal.{Refusal}
-use Rattle.mls_host.specs.declared.refusal.Refusal.TheVariants.{Unreadable, TooLong, Policy, Reader, Label, User, Name, Schemes as OfSchemes, Transactions, Certificates, Script, Store, Run, NotClosed, Output, Memory}
+use Rattle.mls_host.specs.declared.reason.Reason.{Reason}
+use Rattle.mls_host.specs.declared.refusal.Refusal.TheVariants.{Before, Run, NotClosed, Output}
 use Rattle.mls_host.specs.Hosting.{Hosted, IsTold}
-use Rattle.mls_host.specs.Refusal.{IsBefore, IsEnd}
+use Rattle.mls_host.specs.Refusal.{IsEnd}
 use Rattle.mls_listings.specs.Printing.{IsCutOff}
 use Rattle.mls_host.specs.Running.{site_of}
 use Rattle.mls_runs.specs.ScriptRun.{audience_of, IsRunFrom, IsScriptRun}
 use Rattle.mls_shells.specs.ShellRun.{IsShellRun}
 use Rattle.mls_host.proofs.HostingLemmas.{told_nothing}
 use Rattle.mls_command.specs.Acting.{Prints, IsTaskDone, IsRunOf, IsTaskGivenUp, IsDone, IsGivenUp}
-use Rattle.mls_host.proofs.RunningLemmas.{end_weaker, not_begun}
+use Rattle.mls_host.proofs.RunningLemmas.{given_up_before}
 
 module _ (h : Hosted) (policy : Tables) (file : SchemesFile) (reader : Option ℕ) (Wrote Told : List ℕ → Type 0) where
-  -- before anything is written
-  pub task_before : (task : Task) (refusal : Refusal) → IsBefore refusal → Told [] → Wrote [] → IsTaskGivenUp h policy file reader Wrote Told task refusal
-  task_before task (Unreadable r) b t w = (t, w)
-  task_before task (TooLong r) b t w = (t, w)
-  task_before task (Policy f) b t w = (t, w)
-  task_before task Reader b t w = (t, w)
-  task_before task Label b t w = (t, w)
-  task_before task User b t w = (t, w)
-  task_before task Name b t w = (t, w)
-  task_before task (OfSchemes f) b t w = (t, w)
-  task_before task (Transactions f) b t w = (t, w)
-  task_before task (Certificates f) b t w = (t, w)
-  task_before task (Script f) b t w = (t, w)
-  task_before task (Store f) b t w = (t, w)
-  task_before task (Run f) b t w = absurd b
-  task_before task NotClosed b t w = absurd b
-  task_before task Output b t w = absurd b
-  task_before task Memory b t w = (t, w)
-
   -- as its run was
-  pub run_given_up : (files : RunFiles) (refusal : Refusal) → Told [] → IsEnd (IsScriptRun h policy file reader files Wrote) (Wrote []) (Err refusal)
+  pub run_given_up : (files : RunFiles) (refusal : Refusal) → Told [] → IsEnd (IsScriptRun h policy file reader files Wrote) (λ _. Wrote []) (Err refusal)
       → IsTaskGivenUp h policy file reader Wrote Told (tasks.Run files) refusal
-  run_given_up files (Unreadable r) t k = (t, k)
-  run_given_up files (TooLong r) t k = (t, k)
-  run_given_up files (Policy f) t k = (t, k)
-  run_given_up files Reader t k = (t, k)
-  run_given_up files Label t k = (t, k)
-  run_given_up files User t k = (t, k)
-  run_given_up files Name t k = (t, k)
-  run_given_up files (OfSchemes f) t k = (t, k)
-  run_given_up files (Transactions f) t k = (t, k)
-  run_given_up files (Certificates f) t k = (t, k)
-  run_given_up files (Script f) t k = (t, k)
-  run_given_up files (Store f) t k = (t, k)
+  run_given_up files (Before reason) t k = (t, k)
   run_given_up files (Run f) t k = (t, k)
   run_given_up files NotClosed t k = (Well, (refl, t, k.1))
   run_given_up files Output t k = absurd k
-  run_given_up files Memory t k = (t, k)
 
   -- as its shell was
-  pub shell_given_up : (files : ShellFiles) (refusal : Refusal) → IsEnd (IsShellRun h policy file reader files Wrote Told) (Wrote [] × Told []) (Err refusal)
+  pub shell_given_up : (files : ShellFiles) (refusal : Refusal) → IsEnd (IsShellRun h policy file reader files Wrote Told) (λ _. Wrote [] × Told []) (Err refusal)
       → IsTaskGivenUp h policy file reader Wrote Told (tasks.Shell files) refusal
+  shell_given_up files (Before reason) k = (k.1, k.0)
   shell_given_up files (Run fault) k = k
   shell_given_up files NotClosed k = k
   shell_given_up files Output k = absurd k
-  shell_given_up files (Unreadable r) k = (k.1, k.0)
-  shell_given_up files (TooLong r) k = (k.1, k.0)
-  shell_given_up files (Policy x) k = (k.1, k.0)
-  shell_given_up files Reader k = (k.1, k.0)
-  shell_given_up files Label k = (k.1, k.0)
-  shell_given_up files User k = (k.1, k.0)
-  shell_given_up files Name k = (k.1, k.0)
-  shell_given_up files (OfSchemes x) k = (k.1, k.0)
-  shell_given_up files (Transactions x) k = (k.1, k.0)
-  shell_given_up files (Certificates x) k = (k.1, k.0)
-  shell_given_up files (Script x) k = (k.1, k.0)
-  shell_given_up files (Store x) k = (k.1, k.0)
-  shell_given_up files Memory k = (k.1, k.0)
 
 pub quiet_told : {A F E : Type 0} (contents : E → Option (List ℕ)) (old new : Errors E) (r : Result A F) → OnErr r (new ≡ old) → OnErr r (IsTold contents old new [])
 quiet_told contents old new (Ok a) h = tt
@@ -95,12 +53,13 @@ quiet_told contents old new (Err x) h = subst (λ e. IsTold contents old e []) (
 module _ (h : Hosted) (policy : Tables) (file : SchemesFile) (reader : Option ℕ) (Wrote : List ℕ → Type 0) where
   -- ---- tasks
 
-  pub before_given_up : {A : Type 0} (Told : List ℕ → Type 0) (task : Task) (r : Result A Refusal) → IfErr r IsBefore → Told [] → Wrote [] → IfErr r (IsTaskGivenUp h policy file reader Wrote Told task)
-  before_given_up Told task (Ok a) b t w = tt
-  before_given_up Told task (Err e) b t w = task_before h policy file reader Wrote Told task e b t w
+  -- at the exit of a `?`
+  pub not_begun : {A : Type 0} (Told : List ℕ → Type 0) (task : Task) (r : Result A Refusal) (reason : Reason) → IsErrAnd r (λ e. e ≡ Before reason) → Told [] → Wrote []
+      → IfErr r (IsTaskGivenUp h policy file reader Wrote Told task)
+  not_begun Told task r reason is t w = given_up_before (IsTaskGivenUp h policy file reader Wrote Told task) r reason is (t, w)
 
   pub run_task_given_up : {A : Type 0} (Told : List ℕ → Type 0) (task : Task) (files : RunFiles) → task ≡ tasks.Run files → Told [] → (r : Result A Refusal)
-      → IfErr r (λ e. IsEnd (IsScriptRun h policy file reader files Wrote) (Wrote []) (Err e)) → IfErr r (IsTaskGivenUp h policy file reader Wrote Told task)
+      → IfErr r (λ e. IsEnd (IsScriptRun h policy file reader files Wrote) (λ _. Wrote []) (Err e)) → IfErr r (IsTaskGivenUp h policy file reader Wrote Told task)
   run_task_given_up Told task files is told (Ok a) k = tt
   run_task_given_up Told task files is told (Err e) k = subst (λ (t : Task). IsTaskGivenUp h policy file reader Wrote Told t e) (sym is) (run_given_up h policy file reader Wrote Told files e told k)
 
@@ -109,7 +68,7 @@ module _ (h : Hosted) (policy : Tables) (file : SchemesFile) (reader : Option �
   run_task_done Told task files is told runs = subst (λ (t : Task). IsTaskDone h policy file reader Wrote Told t Well) (sym is) (refl, told, runs)
 
   pub shell_task_given_up : {A : Type 0} (Told : List ℕ → Type 0) (task : Task) (files : ShellFiles) → task ≡ tasks.Shell files → (r : Result A Refusal)
-      → IfErr r (λ e. IsEnd (IsShellRun h policy file reader files Wrote Told) (Wrote [] × Told []) (Err e)) → IfErr r (IsTaskGivenUp h policy file reader Wrote Told task)
+      → IfErr r (λ e. IsEnd (IsShellRun h policy file reader files Wrote Told) (λ _. Wrote [] × Told []) (Err e)) → IfErr r (IsTaskGivenUp h policy file reader Wrote Told task)
   shell_task_given_up Told task files is (Ok a) k = tt
   shell_task_given_up Told task files is (Err e) k = subst (λ (t : Task). IsTaskGivenUp h policy file reader Wrote Told t e) (sym is) (shell_given_up h policy file reader Wrote Told files e k)
 
@@ -123,9 +82,8 @@ module _ (h : Hosted) (policy : Tables) (file : SchemesFile) (reader : Option �
 -- ---- jobs
 
 module _ (h : Hosted) (job : Job) (Wrote : List ℕ → Type 0) where
-  pub job_before : {A : Type 0} (Told : List ℕ → Type 0) (r : Result A Refusal) → IfErr r IsBefore → Told [] → Wrote [] → IfErr r (IsGivenUp h Wrote Told job)
-  job_before Told (Ok a) b t w = tt
-  job_before Told (Err e) b t w = inl (b, t, w)
+  pub job_before : {A : Type 0} (Told : List ℕ → Type 0) (r : Result A Refusal) (reason : Reason) → IsErrAnd r (λ e. e ≡ Before reason) → Told [] → Wrote [] → IfErr r (IsGivenUp h Wrote Told job)
+  job_before Told r reason is t w = given_up_before (IsGivenUp h Wrote Told job) r reason is (inl (reason, refl, t, w))
 
   module _ (policy : Tables) (file : SchemesFile) (reader : Option ℕ) (policy_is : IsPolicyOf h.gives job.documents policy) (schemes_are : AreSchemesOf h.gives job.documents policy file)
       (reader_is : IsReader policy job.task reader) (Told : List ℕ → Type 0) where
@@ -172,23 +130,11 @@ module _ (h : Hosted) (Wrote Told More : List ℕ → Type 0) (f : (text : List 
 
   task_told : (policy : Tables) (file : SchemesFile) (reader : Option ℕ) (task : Task) (r : Refusal)
       → IsTaskGivenUp h policy file reader Wrote Told task r → IsTaskGivenUp h policy file reader Wrote More task r
-  task_told policy file reader task (Unreadable r) k = (f [] k.0, k.1)
-  task_told policy file reader task (TooLong r) k = (f [] k.0, k.1)
-  task_told policy file reader task (Policy x) k = (f [] k.0, k.1)
-  task_told policy file reader task Reader k = (f [] k.0, k.1)
-  task_told policy file reader task Label k = (f [] k.0, k.1)
-  task_told policy file reader task User k = (f [] k.0, k.1)
-  task_told policy file reader task Name k = (f [] k.0, k.1)
-  task_told policy file reader task (OfSchemes x) k = (f [] k.0, k.1)
-  task_told policy file reader task (Transactions x) k = (f [] k.0, k.1)
-  task_told policy file reader task (Certificates x) k = (f [] k.0, k.1)
-  task_told policy file reader task (Script x) k = (f [] k.0, k.1)
-  task_told policy file reader task (Store x) k = (f [] k.0, k.1)
+  task_told policy file reader task (Before reason) k = (f [] k.0, k.1)
   task_told policy file reader task (Run fault) k = run_told policy file reader task (Err fault) k
   task_told policy file reader task NotClosed k = (k.0, run_told policy file reader task (Ok k.0) k.1)
   task_told policy file reader task Output k = (f [] k.0, k.1)
-  task_told policy file reader task Memory k = (f [] k.0, k.1)
 
   pub given_up_told : (job : Job) (r : Refusal) → IsGivenUp h Wrote Told job r → IsGivenUp h Wrote More job r
-  given_up_told job r (inl k) = inl (k.0, f [] k.1, k.2)
+  given_up_told job r (inl k) = inl (k.0, k.1, f [] k.2, k.3)
   given_up_told job r (inr u) = inr (record { policy = u.policy; file = u.file; reader = u.reader; policy_is = u.policy_is; schemes_are = u.schemes_are; reader_is = u.reader_is; does = task_told u.policy u.file u.reader job.task r u.does })

@@ -12,12 +12,13 @@ use Rattle.mls_words.specs.declared.words.Task.TheVariants.{ShowPolicy, Run, She
 use Rattle.mls_words.specs.declared.usage.Usage.{Usage}
 use Rattle.mls_host.specs.declared.ending.Ending.{Ending}
 use Rattle.mls_host.specs.declared.ending.Ending.TheVariants.{Well}
+use Rattle.mls_host.specs.declared.reason.Reason.{Reason}
 use Rattle.mls_host.specs.declared.refusal.Refusal.{Refusal}
 use Rattle.mls_host.specs.declared.refusal.Refusal.TheVariants as refusals
 use Rattle.mls_host.specs.Hosting.{Hosted}
 use Rattle.mls_words.specs.Words.{named, Asks, AskNothing, usage_text, usage_status}
 use Rattle.mls_host.specs.Inputs.{IsPolicyOf, AreSchemesOf, IsReader}
-use Rattle.mls_host.specs.Refusal.{refusal_text, refusal_status, IsBefore}
+use Rattle.mls_host.specs.Refusal.{refusal_text, refusal_status}
 use Rattle.mls_host.specs.Ending.{ending_status}
 use Rattle.mls_listings.specs.Printing.{IsPrinted, IsPrintedInPart}
 use Rattle.mls_runs.specs.ScriptRun.{IsScriptRun}
@@ -52,13 +53,13 @@ module _ (h : Hosted) where
     IsTaskDone (Shell files) end = IsRunOf (Shell files) (Ok end)
     IsTaskDone task end = IsPrinted (Prints policy file task) Wrote Told end
 
-    -- What was written, and what was told before the refusal, where a task is given up: of a run or a shell that stopped, what it was up
-    -- to there; of one whose store was not closed, all; where the output was not taken, a first part of it; and else nothing.
+    -- What was written, and what was told before the refusal, where a task is given up: nothing, if it is not begun; of a run or a shell
+    -- that stopped, what it was up to there; of one whose store was not closed, all; where the output was not taken, a first part of it.
     abbrev pub IsTaskGivenUp : Task → Refusal → Type 0
+    IsTaskGivenUp task (refusals.Before reason) = Told [] × Wrote []
     IsTaskGivenUp task (refusals.Run fault) = IsRunOf task (Err fault)
     IsTaskGivenUp task refusals.NotClosed = (end : Ending) × IsRunOf task (Ok end)
     IsTaskGivenUp task refusals.Output = Told [] × IsPrintedInPart (Prints policy file task) Wrote
-    IsTaskGivenUp task refusal = Told [] × Wrote []
 
   -- ---- jobs
 
@@ -78,7 +79,7 @@ module _ (h : Hosted) where
 
     -- it is given up before anything is written, or as its task is
     abbrev pub IsGivenUp : Refusal → Type 0
-    IsGivenUp refusal = (IsBefore refusal × Told [] × Wrote []) ⊎ IsUnder job (λ policy file reader. IsTaskGivenUp policy file reader Wrote Told job.task refusal)
+    IsGivenUp refusal = ((reason : Reason) × (refusal ≡ refusals.Before reason) × Told [] × Wrote []) ⊎ IsUnder job (λ policy file reader. IsTaskGivenUp policy file reader Wrote Told job.task refusal)
 
   -- ---- command lines
 

@@ -7,10 +7,12 @@ ghost use Rattle.std.specs.Prelude.{List};
 ghost use Rattle.mls_host.specs.Hosting.{hosted, IsAppended, IsTold};
 ghost use Rattle.mls_words.specs.Words.{texts_of, Asks};
 ghost use Rattle.mls_host.specs.Inputs.{IsPolicyOf, AreSchemesOf};
-ghost use Rattle.mls_host.specs.Refusal.{IsBefore};
 ghost use Rattle.mls_command.specs.Acting.{IsTaskDone, IsTaskGivenUp, IsDone, IsGivenUp, IsAnswered};
 
-use mls_host::{Ending, Errors, Host, Refusal, Role, input_of, reader_of, samples};
+use mls_host::{
+    Ending, Errors, Host, Reason, Refusal, Role, input_of, read_policy, read_schemes, reader_of,
+    samples,
+};
 use mls_lattice::{LabelNo, Policy};
 use mls_listings::{certified, checked, explained, texts};
 use mls_runs::run_files;
@@ -25,15 +27,14 @@ fn policy_of<H: Host>(
     alloc: Global,
     host: &H,
     documents: Option<Documents>,
-) -> Result<Policy, Refusal>
+) -> Result<Policy, Reason>
     ensures policy { IfOk result (IsPolicyOf (H.gives host.now) documents.entry) }
-    ensures before { IfErr result IsBefore }
 {
     match documents {
-        None => Ok(Policy::read(alloc, samples::POLICY.as_bytes())?),
+        None => read_policy(alloc, samples::POLICY.as_bytes()),
         Some(files) => {
             let bytes = input_of(alloc, host, Role::Policy, Some(files.policy))?;
-            Ok(Policy::read(alloc, &bytes)?)
+            read_policy(alloc, &bytes)
         }
     }
 }
@@ -44,16 +45,15 @@ fn schemes_of<H: Host>(
     host: &H,
     policy: &Policy,
     documents: Option<Documents>,
-) -> Result<SchemesFile, Refusal>
+) -> Result<SchemesFile, Reason>
     ensures schemes { IfOk result (AreSchemesOf (H.gives host.now) documents.entry policy.now) }
     ensures under { IfOk result (λ file. AreUnder (length policy.now.labels) file.schemes) }
-    ensures before { IfErr result IsBefore }
 {
     match documents {
-        None => Ok(SchemesFile::read(alloc, policy, samples::SCHEMES.as_bytes())?),
+        None => read_schemes(alloc, policy, samples::SCHEMES.as_bytes()),
         Some(files) => {
             let bytes = input_of(alloc, host, Role::Schemes, Some(files.schemes))?;
-            Ok(SchemesFile::read(alloc, policy, &bytes)?)
+            read_schemes(alloc, policy, &bytes)
         }
     }
 }

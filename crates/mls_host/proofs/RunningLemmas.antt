@@ -1,5 +1,6 @@
 -- Runs over a content: the lines of their events, what they leave, and how they end.
 use Rattle.std.proofs.Common.{refl, ◌≡◌, ℕ, List, [], Option, Some, None, false, Result, Ok, Err, OnOk, IfErr, IfSome, take, sym, subst}
+use Rattle.std.specs.Result.{IsErrAnd}
 use Rattle.std.specs.Io.KnownBytes.{Appends}
 use Rattle.mls_filterview.specs.Content.{Content, State, no_content}
 use Rattle.mls_fragments.specs.Finding.{IsSoundContent}
@@ -16,8 +17,9 @@ use Rattle.mls_sessions.specs.Run.{IsWhole, IsStopped as IsHalted, IsFaultOf}
 use Rattle.mls_sessions.proofs.StartLemmas.{no_content_sound}
 use Rattle.mls_host.specs.declared.host.CloseFault.{CloseFault}
 use Rattle.mls_host.specs.declared.refusal.Refusal.{Refusal}
-use Rattle.mls_host.specs.declared.refusal.Refusal.TheVariants.{Unreadable, TooLong, Policy, Reader, Label, User, Name, Schemes, Transactions, Certificates, Script, Store, Run, NotClosed, Output, Memory}
-use Rattle.mls_host.specs.Refusal.{IsBefore, ended, IsEnd}
+use Rattle.mls_host.specs.declared.reason.Reason.{Reason}
+use Rattle.mls_host.specs.declared.refusal.Refusal.TheVariants.{Before, Run, NotClosed, Output}
+use Rattle.mls_host.specs.Refusal.{ended, IsEnd}
 use Rattle.mls_host.specs.Running.{first_world, IsRun}
 
 -- content that is sound under a policy and schemes is sound at their site
@@ -63,47 +65,24 @@ run_at site audience sessions first left es before after (Err fault) sound h = r
 
 -- ---- how runs and shells end
 
-module _ {A : Type 0} (Ends : Result A RunFault → Type 0) (Nothing : Type 0) where
+module _ {A : Type 0} (Ends : Result A RunFault → Type 0) (Nothing : Reason → Type 0) where
   -- one that ended, or stopped, over a store that was closed, or not
   pub ended_so : (outcome : Result A RunFault) (closed : Result (Unit {0}) CloseFault) → Ends outcome → IsEnd Ends Nothing (ended outcome closed)
   ended_so (Err fault) closed h = h
   ended_so (Ok end) (Err e) h = (end, h)
   ended_so (Ok end) (Ok v) h = h
 
-  -- one that did not begin
-  pub not_begun : (refusal : Refusal) → IsBefore refusal → Nothing → IsEnd Ends Nothing (Err refusal)
-  not_begun (Unreadable r) b h = h
-  not_begun (TooLong r) b h = h
-  not_begun (Policy f) b h = h
-  not_begun Reader b h = h
-  not_begun Label b h = h
-  not_begun User b h = h
-  not_begun Name b h = h
-  not_begun (Schemes f) b h = h
-  not_begun (Transactions f) b h = h
-  not_begun (Certificates f) b h = h
-  not_begun (Script f) b h = h
-  not_begun (Store f) b h = h
-  not_begun (Run f) b h = absurd b
-  not_begun NotClosed b h = absurd b
-  not_begun Output b h = absurd b
-  not_begun Memory b h = h
+  pub end_weaker : (More : Result A RunFault → Type 0) (Less : Reason → Type 0) → ((end : Result A RunFault) → Ends end → More end) → ((reason : Reason) → Nothing reason → Less reason)
+      → (r : Result A Refusal) → IsEnd Ends Nothing r → IsEnd More Less r
+  end_weaker More Less f g (Ok end) h = f (Ok end) h
+  end_weaker More Less f g (Err (Before reason)) h = g reason h
+  end_weaker More Less f g (Err (Run fault)) h = f (Err fault) h
+  end_weaker More Less f g (Err NotClosed) h = (h.0, f (Ok h.0) h.1)
+  end_weaker More Less f g (Err Output) h = absurd h
 
-  pub end_weaker : (More : Result A RunFault → Type 0) → ((end : Result A RunFault) → Ends end → More end) → (r : Result A Refusal) → IsEnd Ends Nothing r → IsEnd More Nothing r
-  end_weaker More f (Ok end) h = f (Ok end) h
-  end_weaker More f (Err (Run fault)) h = f (Err fault) h
-  end_weaker More f (Err NotClosed) h = (h.0, f (Ok h.0) h.1)
-  end_weaker More f (Err Output) h = absurd h
-  end_weaker More f (Err (Unreadable r)) h = h
-  end_weaker More f (Err (TooLong r)) h = h
-  end_weaker More f (Err (Policy x)) h = h
-  end_weaker More f (Err Reader) h = h
-  end_weaker More f (Err Label) h = h
-  end_weaker More f (Err User) h = h
-  end_weaker More f (Err Name) h = h
-  end_weaker More f (Err (Schemes x)) h = h
-  end_weaker More f (Err (Transactions x)) h = h
-  end_weaker More f (Err (Certificates x)) h = h
-  end_weaker More f (Err (Script x)) h = h
-  end_weaker More f (Err (Store x)) h = h
-  end_weaker More f (Err Memory) h = h
+-- ---- at the exit of a `?`
+
+-- what holds of the refusal with a reason holds of the one that is returned
+pub given_up_before : {A : Type 0} (P : Refusal → Type 0) (r : Result A Refusal) (reason : Reason) → IsErrAnd r (λ e. e ≡ Before reason) → P (Before reason) → IfErr r P
+given_up_before P (Ok a) reason is p = tt
+given_up_before P (Err e) reason is p = subst P (sym is) p

@@ -1,4 +1,5 @@
 pub mod Hosting
+pub mod Reason
 pub mod Refusal
 pub mod Ending
 pub mod Inputs

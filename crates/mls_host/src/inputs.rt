@@ -1,18 +1,17 @@
 //! Files, read as what a command takes them for.
-ghost use Rattle.std.specs.Prelude.{◌<◌, length, Some, IfOk, IfErr};
+ghost use Rattle.std.specs.Prelude.{◌<◌, length, Some, IfOk};
 ghost use Rattle.std.specs.Option.{IfSome};
 ghost use Rattle.std.specs.List.{AllByRecursion};
 ghost use Rattle.mls_scheme.specs.Scheme.{AreUnder};
 ghost use Rattle.mls_translang.specs.Fits.{IsReadUnder};
 ghost use Rattle.mls_host.specs.Inputs.{IsReader, AreToldIn, AreBlocksIn, AreTransactionsFrom, AreCertificatesFrom};
 ghost use Rattle.mls_words.specs.Words.{named};
-ghost use Rattle.mls_host.specs.Refusal.{IsBefore};
 
 use crate::host::Host;
-use crate::refusal::{Refusal, Role};
-use mls_certificate::{Certificate, certs_read};
+use crate::readers::{read_certificates, read_transactions};
+use crate::reason::{Reason, Role};
+use mls_certificate::Certificate;
 use mls_lattice::{Items, LabelNo, Policy, Str};
-use mls_parser::parse;
 use mls_scheme::Schemes;
 use mls_translang::Tx;
 use mls_words::Task;
@@ -24,9 +23,8 @@ pub fn input_of<H: Host>(
     host: &H,
     role: Role,
     path: Option<&str>,
-) -> Result<Vec<u8>, Refusal>
+) -> Result<Vec<u8>, Reason>
     ensures given { IfOk result (λ bytes. H.gives host.now (named path.entry) bytes.items) }
-    ensures before { IfErr result IsBefore }
 {
     let given = match path {
         Some(path) => host.file(alloc, path),
@@ -34,25 +32,22 @@ pub fn input_of<H: Host>(
     };
     match given {
         Ok(bytes) => Ok(bytes),
-        Err(fault) => Err(Refusal::of_input(role, fault)),
+        Err(fault) => Err(Reason::of_input(role, fault)),
     }
 }
 
 /// Why a task has no reader.
-fn no_reader(task: Task) -> Refusal
-    ensures { IsBefore result }
-{
+fn no_reader(task: Task) -> Reason {
     match task {
-        Task::Shell(_) => Refusal::Label,
-        _ => Refusal::Reader,
+        Task::Shell(_) => Reason::Label,
+        _ => Reason::Reader,
     }
 }
 
 /// The label of the name for which alone a task prints, if it names one.
-pub fn reader_of(policy: &Policy, task: Task) -> Result<Option<LabelNo>, Refusal>
+pub fn reader_of(policy: &Policy, task: Task) -> Result<Option<LabelNo>, Reason>
     ensures named { IfOk result (IsReader policy.now task.entry) }
     ensures declared { IfOk result (λ reader. IfSome reader (λ c. c < length policy.now.labels)) }
-    ensures before { IfErr result IsBefore }
 {
     match task.at() {
         None => Ok(None),
@@ -70,13 +65,12 @@ pub fn transactions_in<H: Host>(
     policy: &Policy,
     schemes: &Schemes,
     path: &str,
-) -> Result<Items<Tx>, Refusal>
+) -> Result<Items<Tx>, Reason>
     ensures told { IfOk result (AreToldIn (H.gives host.now) path.now policy.now schemes.now) }
     ensures ok { IfOk result (AllByRecursion (IsReadUnder policy.now schemes.now)) }
-    ensures before { IfErr result IsBefore }
 {
     let bytes = input_of(alloc, host, Role::Transactions, Some(path))?;
-    Ok(parse(alloc, policy, schemes, &bytes)?)
+    read_transactions(alloc, policy, schemes, &bytes)
 }
 
 /// The transactions of a file, if one is named.
@@ -86,10 +80,9 @@ pub(crate) fn transactions_of<H: Host>(
     policy: &Policy,
     schemes: &Schemes,
     path: Option<&str>,
-) -> Result<Items<Tx>, Refusal>
+) -> Result<Items<Tx>, Reason>
     ensures told { IfOk result (AreTransactionsFrom (H.gives host.now) (named path.entry) policy.now schemes.now) }
     ensures ok { IfOk result (AllByRecursion (IsReadUnder policy.now schemes.now)) }
-    ensures before { IfErr result IsBefore }
 {
     match path {
         None => Ok(Items::from(Vec::new(alloc))),
@@ -102,12 +95,11 @@ pub fn certificates_in<H: Host>(
     alloc: Global,
     host: &H,
     path: &str,
-) -> Result<Vec<(Str, Certificate)>, Refusal>
+) -> Result<Vec<(Str, Certificate)>, Reason>
     ensures blocks { IfOk result (λ blocks. AreBlocksIn (H.gives host.now) path.now blocks.items) }
-    ensures before { IfErr result IsBefore }
 {
     let bytes = input_of(alloc, host, Role::Certificates, Some(path))?;
-    Ok(certs_read(alloc, &bytes)?)
+    read_certificates(alloc, &bytes)
 }
 
 /// The certificates of a file, if one is named.
@@ -115,9 +107,8 @@ pub(crate) fn certificates_of<H: Host>(
     alloc: Global,
     host: &H,
     path: Option<&str>,
-) -> Result<Vec<(Str, Certificate)>, Refusal>
+) -> Result<Vec<(Str, Certificate)>, Reason>
     ensures blocks { IfOk result (λ blocks. AreCertificatesFrom (H.gives host.now) (named path.entry) blocks.items) }
-    ensures before { IfErr result IsBefore }
 {
     match path {
         None => Ok(Vec::new(alloc)),

@@ -1,20 +1,19 @@
 //! Transactions as they are stored: with the certificates that hold for them, or without.
-ghost use Rattle.std.specs.Prelude.{◌≡◌, IfOk, IfErr, option_map};
+ghost use Rattle.std.specs.Prelude.{◌≡◌, IfOk, option_map};
 ghost use Rattle.mls_machine.specs.Observation.{AreRead, AreCertified};
 ghost use Rattle.mls_host.specs.Inputs.{AreStoredFrom};
-ghost use Rattle.mls_host.specs.Refusal.{IsBefore};
 ghost use Rattle.mls_host.specs.Running.{site_of};
 ghost use Rattle.mls_host.specs.Storing.{cert_named, IsChecked, IsStoredWith, AreStoredWith};
 ghost use Rattle.mls_words.specs.Words.{named};
 
 use crate::host::Host;
 use crate::inputs::{certificates_of, transactions_of};
-use crate::refusal::Refusal;
+use crate::readers::{read_certificates, read_transactions};
+use crate::reason::Reason;
 use mls_certcheck::Certified;
-use mls_certificate::{Certificate, certs_read};
+use mls_certificate::Certificate;
 use mls_lattice::{Items, Policy, Str};
 use mls_machine::Stored;
-use mls_parser::parse;
 use mls_scheme::Schemes;
 use mls_translang::Tx;
 use std::alloc::{AllocError, Global};
@@ -75,12 +74,12 @@ pub fn stored_from(
     schemes: &Schemes,
     transactions: &[u8],
     certificates: &[u8],
-) -> Result<Items<Stored>, Refusal>
+) -> Result<Items<Stored>, Reason>
     ensures read { IfOk result (λ ss. AreRead (site_of policy.now schemes.now ss)) }
     ensures certified { IfOk result (λ ss. AreCertified (site_of policy.now schemes.now ss)) }
 {
-    let txs = parse(alloc, policy, schemes, transactions)?;
-    let blocks = certs_read(alloc, certificates)?;
+    let txs = read_transactions(alloc, policy, schemes, transactions)?;
+    let blocks = read_certificates(alloc, certificates)?;
     Ok(stored_of(alloc, policy, txs, &blocks)?)
 }
 
@@ -93,11 +92,10 @@ pub fn stored_files<H: Host>(
     schemes: &Schemes,
     transactions: Option<&str>,
     certificates: Option<&str>,
-) -> Result<Items<Stored>, Refusal>
+) -> Result<Items<Stored>, Reason>
     ensures from { IfOk result (AreStoredFrom (H.gives host.now) (named transactions.entry) (named certificates.entry) policy.now schemes.now) }
     ensures read { IfOk result (λ ss. AreRead (site_of policy.now schemes.now ss)) }
     ensures certified { IfOk result (λ ss. AreCertified (site_of policy.now schemes.now ss)) }
-    ensures before { IfErr result IsBefore }
 {
     let txs = transactions_of(alloc, host, policy, schemes, transactions)?;
     let blocks = certificates_of(alloc, host, certificates)?;

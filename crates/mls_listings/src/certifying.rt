@@ -1,14 +1,13 @@
 //! Transactions get the least certificates that hold for them.
-ghost use Rattle.std.specs.Prelude.{◌≡◌, ◌++◌, string_bytes, IfOk, IfErr, OnOk};
+ghost use Rattle.std.specs.Prelude.{◌≡◌, ◌++◌, string_bytes, IfOk, OnOk};
 ghost use Rattle.std.specs.List.{flat_map, list_any, AllByRecursion};
 ghost use Rattle.mls_certificate.specs.declared.cert.Version.TheVariants.{First};
 ghost use Rattle.mls_listings.specs.Certifying.{HasNoneOf, HaveText, AreLabels, IsAnswer, AreAnswers, block_of, none_front, none_text, refusal_of, has_none, ending_of, IsListing, IsCertified};
-ghost use Rattle.mls_host.specs.Refusal.{IsBefore};
 
 use crate::listing::Listing;
 use mls_certcheck::Rule;
 use mls_certificate::{Certificate, block_print};
-use mls_host::{Ending, Host, Refusal, transactions_in};
+use mls_host::{Ending, Host, Reason, transactions_in};
 use mls_labeller::{LabelFault, label_tx, label_tx2};
 use mls_lattice::Policy;
 use mls_scheme::Schemes;
@@ -183,9 +182,8 @@ pub fn certified<H: Host>(
     policy: &Policy,
     schemes: &Schemes,
     transactions: &str,
-) -> Result<Listing, Refusal>
+) -> Result<Listing, Reason>
     ensures listing { IfOk result (λ l. IsCertified (H.gives host.now) policy.now schemes.now transactions.now l.text.items (string_bytes l.told) l.ending) }
-    ensures before { IfErr result IsBefore }
 {
     let txs = transactions_in(alloc, host, policy, schemes, transactions)?;
     Ok(listing_of(alloc, policy, &txs)?)

@@ -1,17 +1,16 @@
 //! Certificates are checked against the transactions of their names.
-ghost use Rattle.std.specs.Prelude.{◌≡◌, ◌↔◌, ◌++◌, Some, string_bytes, IfOk, IfErr, OnOk};
+ghost use Rattle.std.specs.Prelude.{◌≡◌, ◌↔◌, ◌++◌, Some, string_bytes, IfOk, OnOk};
 ghost use Rattle.std.specs.List.{flat_map, list_any};
 ghost use Rattle.mls_certcheck.specs.Rules.{Rules, claim};
 ghost use Rattle.mls_certificate.specs.declared.cert.Certificate.{Certificate as SpecCertificate};
 ghost use Rattle.mls_host.specs.Storing.{cert_named};
 ghost use Rattle.mls_listings.specs.declared.checking.Verdict.TheVariants.{Yes};
 ghost use Rattle.mls_listings.specs.Checking.{verdict_of, verdict_text, line_of, is_refused, IsChecked};
-ghost use Rattle.mls_host.specs.Refusal.{IsBefore};
 
 use crate::listing::Listing;
 use mls_certcheck::{Refusal, check};
 use mls_certificate::Certificate;
-use mls_host::{Host, Refusal as Stop, cert_named, certificates_in, ending_if, transactions_in};
+use mls_host::{Host, Reason, cert_named, certificates_in, ending_if, transactions_in};
 use mls_lattice::{Policy, Str};
 use mls_scheme::Schemes;
 use mls_translang::Tx;
@@ -98,9 +97,8 @@ pub fn checked<H: Host>(
     schemes: &Schemes,
     transactions: &str,
     certificates: &str,
-) -> Result<Listing, Stop>
+) -> Result<Listing, Reason>
     ensures listing { IfOk result (λ l. IsChecked (H.gives host.now) policy.now schemes.now transactions.now certificates.now l.text.items (string_bytes l.told) l.ending) }
-    ensures before { IfErr result IsBefore }
 {
     let txs = transactions_in(alloc, host, policy, schemes, transactions)?;
     let blocks = certificates_in(alloc, host, certificates)?;

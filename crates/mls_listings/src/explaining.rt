@@ -1,15 +1,14 @@
 //! What is told of transactions: their labels, or why they have none.
-ghost use Rattle.std.specs.Prelude.{◌≡◌, [], IfOk, IfErr, IfSome, string_bytes};
+ghost use Rattle.std.specs.Prelude.{◌≡◌, [], IfOk, IfSome, string_bytes};
 ghost use Rattle.std.specs.List.{flat_map, list_any, AllByRecursion};
 ghost use Rattle.mls_translang.specs.Fits.{IsReadUnder};
 ghost use Rattle.mls_listings.specs.Explaining.{AreChosen, AreExplained, lacks_labels, IsExplained};
 ghost use Rattle.mls_host.specs.Ending.{ending_if};
 ghost use Rattle.mls_words.specs.Words.{named};
-ghost use Rattle.mls_host.specs.Refusal.{IsBefore};
 
 use crate::listing::Listing;
 use mls_explain::{Explained, explain};
-use mls_host::{Host, Refusal, ending_if, transactions_in};
+use mls_host::{Host, Reason, ending_if, transactions_in};
 use mls_lattice::Policy;
 use mls_scheme::Schemes;
 use mls_translang::Tx;
@@ -90,14 +89,13 @@ pub fn explained<H: Host>(
     schemes: &Schemes,
     transactions: &str,
     name: Option<&str>,
-) -> Result<Listing, Refusal>
+) -> Result<Listing, Reason>
     ensures listing { IfOk result (λ l. IsExplained (H.gives host.now) policy.now schemes.now transactions.now (named name.entry)
         l.text.items (string_bytes l.told) l.ending) }
-    ensures before { IfErr result IsBefore }
 {
     let txs = transactions_in(alloc, host, policy, schemes, transactions)?;
     let Some(chosen) = chosen_of(&txs, name) else {
-        return Err(Refusal::Name);
+        return Err(Reason::Name);
     };
     let explained = each_explained(alloc, policy, schemes, chosen)?;
     Ok(listing_of(alloc, &explained)?)

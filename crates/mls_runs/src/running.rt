@@ -10,17 +10,17 @@ ghost use Rattle.mls_sessions.specs.World.{IsSound};
 ghost use Rattle.mls_host.specs.Hosting.{hosted, IsAppended};
 ghost use Rattle.mls_host.specs.Inputs.{AreStoredFrom, IsScriptFrom};
 ghost use Rattle.mls_words.specs.Words.{named};
-ghost use Rattle.mls_host.specs.Refusal.{IsBefore, IsEnd};
+ghost use Rattle.mls_host.specs.Refusal.{IsEnd};
 ghost use Rattle.mls_host.specs.Running.{site_of, IsRun};
 ghost use Rattle.mls_runs.specs.ScriptRun.{IsRunFrom, IsScriptRun};
 
 use mls_filterview::Base;
 use mls_fragments::SqlBase;
-use mls_host::{Host, Refusal, Role, ended, form_of, input_of, stored_files};
+use mls_host::{Host, Reason, Refusal, Role, ended, form_of, input_of, read_script, stored_files};
 use mls_lattice::{Items, LabelNo, Policy};
 use mls_machine::Audience;
 use mls_scheme::{Schemes, SchemesFile};
-use mls_script::{Event, script};
+use mls_script::Event;
 use mls_sessions::{Engine, RunFault, Stored, run_to};
 use mls_words::RunFiles;
 use std::alloc::Global;
@@ -70,11 +70,11 @@ fn run_in_memory<W: Write>(
     requires fits { EventsFit (site_of policy.now file.now.schemes stored) events.now }
     requires declared { IfSome audience.reader (λ c. c < length policy.now.labels) }
     ensures { IsEnd (λ end. (left : Content) × IsRun (site_of policy.now file.now.schemes stored) audience events.now
-        (IsAppended W.contents out.old out.new) end no_content left) (IsAppended W.contents out.old out.new []) result }
+        (IsAppended W.contents out.old out.new) end no_content left) (λ _. IsAppended W.contents out.old out.new []) result }
 {
     let base = match SqlBase::open_memory(alloc, policy, file) {
         Ok(base) => base,
-        Err(fault) => return Err(Refusal::Store(fault)),
+        Err(fault) => return Err(Refusal::Before(Reason::Store(fault))),
     };
     let (outcome, left) = run_on(
         alloc,
@@ -109,11 +109,11 @@ fn run_in_store<H: Host, W: Write>(
     requires declared { IfSome audience.reader (λ c. c < length policy.now.labels) }
     ensures { IsEnd (IsRunFrom (hosted H.gives H.keeps H.is_honest H.Lines.echo host.old host.new) file.now (Some path.now)
         (site_of policy.now file.now.schemes stored) audience events.now (IsAppended W.contents out.old out.new))
-        (IsAppended W.contents out.old out.new []) result }
+        (λ _. IsAppended W.contents out.old out.new []) result }
 {
     let base = match host.store(alloc, path, policy, file) {
         Ok(base) => base,
-        Err(fault) => return Err(Refusal::Store(fault)),
+        Err(fault) => return Err(Refusal::Before(Reason::Store(fault))),
     };
     let (outcome, left) = run_on(
         alloc,
@@ -148,7 +148,7 @@ fn run_events<H: Host, W: Write>(
     requires declared { IfSome audience.reader (λ c. c < length policy.now.labels) }
     ensures { IsEnd (IsRunFrom (hosted H.gives H.keeps H.is_honest H.Lines.echo host.old host.new) file.now (named store.entry)
         (site_of policy.now file.now.schemes stored) audience events.now (IsAppended W.contents out.old out.new))
-        (IsAppended W.contents out.old out.new []) result }
+        (λ _. IsAppended W.contents out.old out.new []) result }
 {
     match store {
         None => run_in_memory(alloc, policy, file, stored, events, audience, out),
@@ -167,13 +167,12 @@ fn script_of<H: Host>(
     policy: &Policy,
     schemes: &Schemes,
     path: Option<&str>,
-) -> Result<Vec<Event>, Refusal>
+) -> Result<Vec<Event>, Reason>
     ensures read { IfOk result (λ events. IsScriptFrom (H.gives host.now) (named path.entry) policy.now schemes.now events.items) }
     ensures fits { IfOk result (λ events. AllByRecursion (EventFits policy.now schemes.now) events.items) }
-    ensures before { IfErr result IsBefore }
 {
     let bytes = input_of(alloc, host, Role::Script, path)?;
-    Ok(script(alloc, policy, schemes, &bytes)?)
+    read_script(alloc, policy, schemes, &bytes)
 }
 
 /// Runs a script, over the transactions and certificates of files, for a reader alone where there is one.
@@ -191,7 +190,7 @@ pub fn run_files<H: Host, W: Write>(
     ensures done { OnOk result (IsScriptRun (hosted H.gives H.keeps H.is_honest H.Lines.echo host.old host.new) policy.now file.now reader files.entry
         (IsAppended W.contents out.old out.new) (Ok tt)) }
     ensures given_up { IfErr result (λ e. IsEnd (IsScriptRun (hosted H.gives H.keeps H.is_honest H.Lines.echo host.old host.new) policy.now file.now
-        reader files.entry (IsAppended W.contents out.old out.new)) (IsAppended W.contents out.old out.new []) (Err e)) }
+        reader files.entry (IsAppended W.contents out.old out.new)) (λ _. IsAppended W.contents out.old out.new []) (Err e)) }
 {
     let stored = stored_files(
         alloc,

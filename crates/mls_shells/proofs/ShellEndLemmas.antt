@@ -20,6 +20,7 @@ use Rattle.mls_sessions.specs.declared.cause.RunFault.{RunFault}
 use Rattle.mls_host.specs.declared.ending.Ending.{Ending}
 use Rattle.mls_shells.specs.declared.seat.Seat.{Seat}
 use Rattle.mls_words.specs.declared.words.ShellFiles.{ShellFiles}
+use Rattle.mls_host.specs.declared.reason.Reason.{Reason}
 use Rattle.mls_host.specs.declared.refusal.Refusal.{Refusal}
 use Rattle.mls_host.specs.Hosting.{Hosted}
 use Rattle.mls_host.specs.Inputs.{AreStoredFrom}
@@ -56,7 +57,7 @@ shell_at echo site seat sessions first left before after was is Told end distinc
 
 -- ---- where shells begin
 
-module _ (h : Hosted) (file : SchemesFile) (site : Site) (seat : Seat) (before after : Option (List ℕ)) (Wrote Told : List ℕ → Type 0) (Nothing : Type 0) (store : Option (Bor (List ℕ))) (r : Result Ending Refusal) where
+module _ (h : Hosted) (file : SchemesFile) (site : Site) (seat : Seat) (before after : Option (List ℕ)) (Wrote Told : List ℕ → Type 0) (Nothing : Reason → Type 0) (store : Option (Bor (List ℕ))) (r : Result Ending Refusal) where
   -- with nothing
   pub shell_from_memory : store ≡ None → IsEnd (λ end. (left : Content) × IsShell h.echo site seat before after Wrote Told end no_content left) Nothing r
       → IsEnd (IsShellFrom h file (named store) site seat before after Wrote Told) Nothing r
@@ -64,7 +65,7 @@ module _ (h : Hosted) (file : SchemesFile) (site : Site) (seat : Seat) (before a
       let f : (end : Result Ending RunFault) → ((left : Content) × IsShell h.echo site seat before after Wrote Told end no_content left) → IsShellFrom h file None site seat before after Wrote Told end
       = λ end k. λ clean. record { first = no_content; left = k.0; begins = refl; kept = tt; leads = k.1 } in
       subst (λ (s : Option (Bor (List ℕ))). IsEnd (IsShellFrom h file (named s) site seat before after Wrote Told) Nothing r) (sym none)
-      (end_weaker (λ end. (left : Content) × IsShell h.echo site seat before after Wrote Told end no_content left) Nothing (IsShellFrom h file None site seat before after Wrote Told) f r shell)
+      (end_weaker (λ end. (left : Content) × IsShell h.echo site seat before after Wrote Told end no_content left) Nothing (IsShellFrom h file None site seat before after Wrote Told) Nothing f (λ _ k. k) r shell)
 
   -- with what a store kept
   pub shell_from_store : (path : Bor (List ℕ)) → store ≡ Some path → IsEnd (IsShellFrom h file (Some path.now) site seat before after Wrote Told) Nothing r
@@ -93,10 +94,11 @@ module _ (h : Hosted) (policy : Tables) (file : SchemesFile) (reader : Option �
     shell = k;
   }
 
-  pub shell_done : (r : Result Ending Refusal) → IsEnd Shells (Wrote [] × Told []) r → IfOk r (λ end. IsShellRun h policy file reader files Wrote Told (Ok end))
-  shell_done (Ok ending) k = shell_run (Ok ending) k
-  shell_done (Err e) k = tt
+  module _ (Nothing : Reason → Type 0) where
+    pub shell_done : (r : Result Ending Refusal) → IsEnd Shells Nothing r → IfOk r (λ end. IsShellRun h policy file reader files Wrote Told (Ok end))
+    shell_done (Ok ending) k = shell_run (Ok ending) k
+    shell_done (Err e) k = tt
 
-  pub shell_given_up : (r : Result Ending Refusal) → IsEnd Shells (Wrote [] × Told []) r → IfErr r (λ e. IsEnd (IsShellRun h policy file reader files Wrote Told) (Wrote [] × Told []) (Err e))
-  shell_given_up (Ok ending) k = tt
-  shell_given_up (Err e) k = end_weaker Shells (Wrote [] × Told []) (IsShellRun h policy file reader files Wrote Told) shell_run (Err e) k
+    pub shell_given_up : (r : Result Ending Refusal) → IsEnd Shells Nothing r → IfErr r (λ e. IsEnd (IsShellRun h policy file reader files Wrote Told) Nothing (Err e))
+    shell_given_up (Ok ending) k = tt
+    shell_given_up (Err e) k = end_weaker Shells Nothing (IsShellRun h policy file reader files Wrote Told) Nothing shell_run (λ _ n. n) (Err e) k

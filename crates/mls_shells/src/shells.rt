@@ -16,7 +16,7 @@ use crate::reading::opening;
 use crate::seat::Seat;
 use crate::shell::shell_on;
 use mls_fragments::SqlBase;
-use mls_host::{Ending, Errors, Host, Refusal, ended, stored_files};
+use mls_host::{Ending, Errors, Host, Reason, Refusal, ended, stored_files};
 use mls_lattice::{Items, LabelNo, Policy, Str, is_name};
 use mls_scheme::SchemesFile;
 use mls_script::Event;
@@ -46,11 +46,11 @@ fn shell_in_memory<L: TypedLines, W: Write, E: Write>(
     requires first { first.now ≡ opening seat.now ∷ [] }
     ensures { IsEnd (λ end. (left : Content) × IsShell L.echo (site_of policy.now file.now.schemes stored) seat.now (L.remaining lines.old) (L.remaining lines.new)
         (IsAppended W.contents out.old out.new) (IsTold E.contents err.old err.new) end no_content left)
-        (IsAppended W.contents out.old out.new [] × IsTold E.contents err.old err.new []) result }
+        (λ _. IsAppended W.contents out.old out.new [] × IsTold E.contents err.old err.new []) result }
 {
     let base = match SqlBase::open_memory(alloc, policy, file) {
         Ok(base) => base,
-        Err(fault) => return Err(Refusal::Store(fault)),
+        Err(fault) => return Err(Refusal::Before(Reason::Store(fault))),
     };
     let schemes = &file.schemes;
     let (outcome, left) = shell_on(
@@ -83,11 +83,11 @@ fn shell_in_store<H: Host, L: TypedLines, W: Write, E: Write>(
     ensures { IsEnd (IsShellFrom (hosted H.gives H.keeps H.is_honest L.echo host.old host.new) file.now (Some path.now)
         (site_of policy.now file.now.schemes stored) seat.now (L.remaining lines.old) (L.remaining lines.new)
         (IsAppended W.contents out.old out.new) (IsTold E.contents err.old err.new))
-        (IsAppended W.contents out.old out.new [] × IsTold E.contents err.old err.new []) result }
+        (λ _. IsAppended W.contents out.old out.new [] × IsTold E.contents err.old err.new []) result }
 {
     let base = match host.store(alloc, path, policy, file) {
         Ok(base) => base,
-        Err(fault) => return Err(Refusal::Store(fault)),
+        Err(fault) => return Err(Refusal::Before(Reason::Store(fault))),
     };
     let schemes = &file.schemes;
     let (outcome, left) = shell_on(
@@ -120,7 +120,7 @@ fn shell_over<H: Host, L: TypedLines, W: Write, E: Write>(
     ensures { IsEnd (IsShellFrom (hosted H.gives H.keeps H.is_honest L.echo host.old host.new) file.now (named store.entry)
         (site_of policy.now file.now.schemes stored) seat.now (L.remaining lines.old) (L.remaining lines.new)
         (IsAppended W.contents out.old out.new) (IsTold E.contents err.old err.new))
-        (IsAppended W.contents out.old out.new [] × IsTold E.contents err.old err.new []) result }
+        (λ _. IsAppended W.contents out.old out.new [] × IsTold E.contents err.old err.new []) result }
 {
     match store {
         None => shell_in_memory(alloc, policy, file, stored, seat, first, lines, out, err),
@@ -166,13 +166,13 @@ pub fn shell_files<H: Host, W: Write, E: Write>(
         (IsAppended W.contents out.old out.new) (IsTold E.contents err.old err.new) (Ok end)) }
     ensures given_up { IfErr result (λ e. IsEnd (IsShellRun (hosted H.gives H.keeps H.is_honest H.Lines.echo host.old host.new) policy.now file.now reader
         files.entry (IsAppended W.contents out.old out.new) (IsTold E.contents err.old err.new))
-        (IsAppended W.contents out.old out.new [] × IsTold E.contents err.old err.new []) (Err e)) }
+        (λ _. IsAppended W.contents out.old out.new [] × IsTold E.contents err.old err.new []) (Err e)) }
 {
     let Some(level) = reader else {
-        return Err(Refusal::Label);
+        return Err(Refusal::Before(Reason::Label));
     };
     if !is_name(files.user) {
-        return Err(Refusal::User);
+        return Err(Refusal::Before(Reason::User));
     }
     let seat = seat_of(alloc, files, level, host.is_terminal())?;
     let first = opening(alloc, &seat)?;

@@ -8,15 +8,15 @@ use Rattle.mls_command.proofs.acting.perform.Goals as goal
 
 pub returns-in_err-policy-clause-given_up : goal.returns-in_err-policy-clause-given_up
 returns-in_err-policy-clause-given_up g c =
-    job_before (hosted g.H.Host.gives g.H.Host.keeps g.H.Host.is_honest g.H.Lines.TypedLines.echo c.args.host.now c.args.host.now) c.args.job (IsAppended g.W.Write.contents c.args.out.now c.args.out.now) (IsTold g.E.Write.contents c.args.err.now c.args.err.now) c.from_residual.result (search rules) (told_nothing g.E.Write.contents c.args.err.now) (Appends-nil _)
+    job_before (hosted g.H.Host.gives g.H.Host.keeps g.H.Host.is_honest g.H.Lines.TypedLines.echo c.args.host.now c.args.host.now) c.args.job (IsAppended g.W.Write.contents c.args.out.now c.args.out.now) (IsTold g.E.Write.contents c.args.err.now c.args.err.now) c.from_residual.result c.in_err-policy.field-0.0 c.from_residual.ensures.1 (told_nothing g.E.Write.contents c.args.err.now) (Appends-nil _)
 
 pub returns-in_err-reader-clause-given_up : goal.returns-in_err-reader-clause-given_up
 returns-in_err-reader-clause-given_up g c =
-    job_before (hosted g.H.Host.gives g.H.Host.keeps g.H.Host.is_honest g.H.Lines.TypedLines.echo c.args.host.now c.args.host.now) c.args.job (IsAppended g.W.Write.contents c.args.out.now c.args.out.now) (IsTold g.E.Write.contents c.args.err.now c.args.err.now) c.from_residual-in_err-reader.result (search rules) (told_nothing g.E.Write.contents c.args.err.now) (Appends-nil _)
+    job_before (hosted g.H.Host.gives g.H.Host.keeps g.H.Host.is_honest g.H.Lines.TypedLines.echo c.args.host.now c.args.host.now) c.args.job (IsAppended g.W.Write.contents c.args.out.now c.args.out.now) (IsTold g.E.Write.contents c.args.err.now c.args.err.now) c.from_residual-in_err-reader.result c.in_err-reader.field-0.0 c.from_residual-in_err-reader.ensures.1 (told_nothing g.E.Write.contents c.args.err.now) (Appends-nil _)
 
 pub returns-in_err-file-clause-given_up : goal.returns-in_err-file-clause-given_up
 returns-in_err-file-clause-given_up g c =
-    job_before (hosted g.H.Host.gives g.H.Host.keeps g.H.Host.is_honest g.H.Lines.TypedLines.echo c.args.host.now c.args.host.now) c.args.job (IsAppended g.W.Write.contents c.args.out.now c.args.out.now) (IsTold g.E.Write.contents c.args.err.now c.args.err.now) c.from_residual-in_err-file.result (search rules) (told_nothing g.E.Write.contents c.args.err.now) (Appends-nil _)
+    job_before (hosted g.H.Host.gives g.H.Host.keeps g.H.Host.is_honest g.H.Lines.TypedLines.echo c.args.host.now c.args.host.now) c.args.job (IsAppended g.W.Write.contents c.args.out.now c.args.out.now) (IsTold g.E.Write.contents c.args.err.now c.args.err.now) c.from_residual-in_err-file.result c.in_err-file.field-0.0 c.from_residual-in_err-file.ensures.1 (told_nothing g.E.Write.contents c.args.err.now) (Appends-nil _)
 
 pub returns-clause-done : goal.returns-clause-done
 returns-clause-done g c =

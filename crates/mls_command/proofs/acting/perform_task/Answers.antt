@@ -3,29 +3,30 @@ use Rattle.std.proofs.KnownBytes.{Appends-nil}
 use Rattle.mls_words.specs.declared.words.Task.TheVariants.{ShowPolicy, Certify, Check, Explain}
 use Rattle.mls_host.specs.Hosting.{hosted, IsAppended, IsTold}
 use Rattle.mls_command.specs.Acting.{IsTaskDone}
+use Rattle.mls_host.specs.declared.reason.Reason.TheVariants.{Memory}
 use Rattle.mls_host.proofs.HostingLemmas.{told_nothing}
-use Rattle.mls_command.proofs.ActingLemmas.{quiet_told, before_given_up, run_task_done, run_task_given_up, print_given_up, shell_task_given_up}
+use Rattle.mls_command.proofs.ActingLemmas.{quiet_told, not_begun, run_task_done, run_task_given_up, print_given_up, shell_task_given_up}
 use Rattle.mls_command.proofs.acting.perform_task.Goals as goal
 
 pub returns-in_err-texts-in-ShowPolicy-clause-given_up : goal.returns-in_err-texts-in-ShowPolicy-clause-given_up
 returns-in_err-texts-in-ShowPolicy-clause-given_up g c =
-    before_given_up (hosted g.H.Host.gives g.H.Host.keeps g.H.Host.is_honest g.H.Lines.TypedLines.echo c.args.host.now c.args.host.now) c.args.policy.now c.args.file.now c.args.reader
-    (IsAppended g.W.Write.contents c.args.out.now c.args.out.now) (IsTold g.E.Write.contents c.args.err.now c.args.err.now) c.args.task c.from_residual.result (search rules) (told_nothing g.E.Write.contents c.args.err.now) (Appends-nil _)
+    not_begun (hosted g.H.Host.gives g.H.Host.keeps g.H.Host.is_honest g.H.Lines.TypedLines.echo c.args.host.now c.args.host.now) c.args.policy.now c.args.file.now c.args.reader
+    (IsAppended g.W.Write.contents c.args.out.now c.args.out.now) (IsTold g.E.Write.contents c.args.err.now c.args.err.now) c.args.task c.from_residual.result Memory c.from_residual.ensures.1 (told_nothing g.E.Write.contents c.args.err.now) (Appends-nil _)
 
 pub returns-in_err-certified-in-Certify-clause-given_up : goal.returns-in_err-certified-in-Certify-clause-given_up
 returns-in_err-certified-in-Certify-clause-given_up g c =
-    before_given_up (hosted g.H.Host.gives g.H.Host.keeps g.H.Host.is_honest g.H.Lines.TypedLines.echo c.args.host.now c.args.host.now) c.args.policy.now c.args.file.now c.args.reader
-    (IsAppended g.W.Write.contents c.args.out.now c.args.out.now) (IsTold g.E.Write.contents c.args.err.now c.args.err.now) c.args.task c.from_residual-in_err-certified-in-Certify.result (search rules) (told_nothing g.E.Write.contents c.args.err.now) (Appends-nil _)
+    not_begun (hosted g.H.Host.gives g.H.Host.keeps g.H.Host.is_honest g.H.Lines.TypedLines.echo c.args.host.now c.args.host.now) c.args.policy.now c.args.file.now c.args.reader
+    (IsAppended g.W.Write.contents c.args.out.now c.args.out.now) (IsTold g.E.Write.contents c.args.err.now c.args.err.now) c.args.task c.from_residual-in_err-certified-in-Certify.result c.in_err-certified-in-Certify.field-0.0 c.from_residual-in_err-certified-in-Certify.ensures.1 (told_nothing g.E.Write.contents c.args.err.now) (Appends-nil _)
 
 pub returns-in_err-explained-in-Explain-clause-given_up : goal.returns-in_err-explained-in-Explain-clause-given_up
 returns-in_err-explained-in-Explain-clause-given_up g c =
-    before_given_up (hosted g.H.Host.gives g.H.Host.keeps g.H.Host.is_honest g.H.Lines.TypedLines.echo c.args.host.now c.args.host.now) c.args.policy.now c.args.file.now c.args.reader
-    (IsAppended g.W.Write.contents c.args.out.now c.args.out.now) (IsTold g.E.Write.contents c.args.err.now c.args.err.now) c.args.task c.from_residual-in_err-explained-in-Explain.result (search rules) (told_nothing g.E.Write.contents c.args.err.now) (Appends-nil _)
+    not_begun (hosted g.H.Host.gives g.H.Host.keeps g.H.Host.is_honest g.H.Lines.TypedLines.echo c.args.host.now c.args.host.now) c.args.policy.now c.args.file.now c.args.reader
+    (IsAppended g.W.Write.contents c.args.out.now c.args.out.now) (IsTold g.E.Write.contents c.args.err.now c.args.err.now) c.args.task c.from_residual-in_err-explained-in-Explain.result c.in_err-explained-in-Explain.field-0.0 c.from_residual-in_err-explained-in-Explain.ensures.1 (told_nothing g.E.Write.contents c.args.err.now) (Appends-nil _)
 
 pub returns-in_err-listing-in-Check-clause-given_up : goal.returns-in_err-listing-in-Check-clause-given_up
 returns-in_err-listing-in-Check-clause-given_up g c =
-    before_given_up (hosted g.H.Host.gives g.H.Host.keeps g.H.Host.is_honest g.H.Lines.TypedLines.echo c.args.host.now c.args.host.now) c.args.policy.now c.args.file.now c.args.reader
-    (IsAppended g.W.Write.contents c.args.out.now c.args.out.now) (IsTold g.E.Write.contents c.args.err.now c.args.err.now) c.args.task c.from_residual-in_err-listing-in-Check.result (search rules) (told_nothing g.E.Write.contents c.args.err.now) (Appends-nil _)
+    not_begun (hosted g.H.Host.gives g.H.Host.keeps g.H.Host.is_honest g.H.Lines.TypedLines.echo c.args.host.now c.args.host.now) c.args.policy.now c.args.file.now c.args.reader
+    (IsAppended g.W.Write.contents c.args.out.now c.args.out.now) (IsTold g.E.Write.contents c.args.err.now c.args.err.now) c.args.task c.from_residual-in_err-listing-in-Check.result c.in_err-listing-in-Check.field-0.0 c.from_residual-in_err-listing-in-Check.ensures.1 (told_nothing g.E.Write.contents c.args.err.now) (Appends-nil _)
 
 pub returns-in_err-run_files-in-Run-clause-given_up : goal.returns-in_err-run_files-in-Run-clause-given_up
 returns-in_err-run_files-in-Run-clause-given_up g c =

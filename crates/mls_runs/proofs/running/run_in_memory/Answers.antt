@@ -26,5 +26,5 @@ returns g c =
     let run = c.run_on-outcome.ensures.run (c.into_connection-connection.ensures.clean (memory_is_clean c.into_connection-connection.result)) in
     let Runs : Result (Unit {0}) RunFault → Type 0 = λ end. (last : Content) × IsRun at c.args.audience c.args.events.now (Appends before after) end no_content last in
     let ran : Runs c.run_on-outcome.result.0 = (left, subst (λ (x : State). IsRun at c.args.audience c.args.events.now (Appends before after) c.run_on-outcome.result.0 x.now left) c.in-Ok.ensures.content run) in
-    subst (λ (r : Result (Unit {0}) Refusal). IsEnd Runs (Appends before after []) r) (sym c.ended.ensures)
-    (ended_so Runs (Appends before after []) c.run_on-outcome.result.0 (Ok tt) ran)
+    subst (λ (r : Result (Unit {0}) Refusal). IsEnd Runs (λ _. Appends before after []) r) (sym c.ended.ensures)
+    (ended_so Runs (λ _. Appends before after []) c.run_on-outcome.result.0 (Ok tt) ran)

@@ -21,5 +21,5 @@ returns g c =
     let ran : Runs c.run_on-outcome.result.0 = λ honest.
     let clean = c.keep-closed.ensures.honest.0 honest in
     record { first = _; left = _; begins = c.in-Ok.ensures.kept (c.run_on-outcome.ensures.clean clean); kept = c.keep-closed.ensures.kept honest; leads = c.run_on-outcome.ensures.run clean } in
-    subst (λ (r : Result (Unit {0}) Refusal). IsEnd Runs (Wrote []) r) (sym c.ended.ensures)
-    (ended_so Runs (Wrote []) c.run_on-outcome.result.0 c.keep-closed.result ran)
+    subst (λ (r : Result (Unit {0}) Refusal). IsEnd Runs (λ _. Wrote []) r) (sym c.ended.ensures)
+    (ended_so Runs (λ _. Wrote []) c.run_on-outcome.result.0 c.keep-closed.result ran)

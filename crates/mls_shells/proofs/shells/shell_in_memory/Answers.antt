@@ -30,5 +30,5 @@ returns g c =
     let Runs : Result Ending RunFault → Type 0 = λ end. (last : Content) × IsShell g.L.TypedLines.echo at c.args.seat.now (g.L.TypedLines.remaining c.args.lines.now) (g.L.TypedLines.remaining c.shell_on-outcome.new.lines) Wrote Told end no_content last in
     let ran : Runs c.shell_on-outcome.result.0 =
     (left, subst (λ (x : State). IsShell g.L.TypedLines.echo at c.args.seat.now (g.L.TypedLines.remaining c.args.lines.now) (g.L.TypedLines.remaining c.shell_on-outcome.new.lines) Wrote Told c.shell_on-outcome.result.0 x.now left) c.in-Ok.ensures.content shell) in
-    subst (λ (r : Result Ending Refusal). IsEnd Runs (Wrote [] × Told []) r) (sym c.ended.ensures)
-    (ended_so Runs (Wrote [] × Told []) c.shell_on-outcome.result.0 (Ok tt) ran)
+    subst (λ (r : Result Ending Refusal). IsEnd Runs (λ _. Wrote [] × Told []) r) (sym c.ended.ensures)
+    (ended_so Runs (λ _. Wrote [] × Told []) c.shell_on-outcome.result.0 (Ok tt) ran)

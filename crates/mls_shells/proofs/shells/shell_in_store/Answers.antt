@@ -25,5 +25,5 @@ returns g c =
     let ran : Runs c.shell_on-outcome.result.0 = λ honest.
     let clean = c.keep-closed.ensures.honest.0 honest in
     record { first = _; left = _; begins = c.in-Ok.ensures.kept (c.shell_on-outcome.ensures.clean clean); kept = c.keep-closed.ensures.kept honest; leads = c.shell_on-outcome.ensures.shell clean } in
-    subst (λ (r : Result Ending Refusal). IsEnd Runs (Wrote [] × Told []) r) (sym c.ended.ensures)
-    (ended_so Runs (Wrote [] × Told []) c.shell_on-outcome.result.0 c.keep-closed.result ran)
+    subst (λ (r : Result Ending Refusal). IsEnd Runs (λ _. Wrote [] × Told []) r) (sym c.ended.ensures)
+    (ended_so Runs (λ _. Wrote [] × Told []) c.shell_on-outcome.result.0 c.keep-closed.result ran)

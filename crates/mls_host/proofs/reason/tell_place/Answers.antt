@@ -1,7 +1,7 @@
 use Rattle.std.proofs.KnownBytes.{Appends-trans}
 use Rattle.std.proofs.lemmas.Result.{on_ok_weaker}
-use Rattle.mls_host.specs.Refusal.{front_text, spot_text}
-use Rattle.mls_host.proofs.refusal.tell_place.Goals as goal
+use Rattle.mls_host.specs.Reason.{front_text, spot_text}
+use Rattle.mls_host.proofs.reason.tell_place.Goals as goal
 
 pub returns : goal.returns
 returns g c =

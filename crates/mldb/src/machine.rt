@@ -86,14 +86,15 @@ impl<'a, B: Base + Drop, O: Opens<B> + Drop> Machine<'a, B, O> {
 impl<'a, B: Base + Drop, O: Opens<B> + Drop> Host for Machine<'a, B, O> {
     ghost use Rattle.std.specs.Prelude.{⊤};
 
-    // Any bytes: what a file has is known to nobody before it is read.
-    ghost gives = { λ _ _ _. ⊤ };
-
-    // What the files held, before anything of it was taken; and after a run, what the base held over them that was taken back.
-    ghost keeps = { λ m path c. MatchOption m.left (O.holds m.stores c) (λ l. (B.state l.value).now ≡ c) };
-
-    // The base that was taken back is clean.
-    ghost is_honest = { λ m. MatchOption m.left ⊥ (λ l. B.is_clean l.value) };
+    // Any bytes, and any cause: what a file has is known to nobody before it is read. A store keeps what the files held, before
+    // anything of it was taken; and after a run, what the base held over them that was taken back. Honest is a base that is clean.
+    ghost hosting = { λ m. record {
+      gives = λ _ _. ⊤;
+      lacks = λ _ _. ⊤;
+      keeps = λ path c. MatchOption m.left (O.holds m.stores c) (λ l. (B.state l.value).now ≡ c);
+      bars = λ _ _ _ _. ⊤;
+      is_honest = MatchOption m.left ⊥ (λ l. B.is_clean l.value);
+    } };
 
     type Store = B;
 

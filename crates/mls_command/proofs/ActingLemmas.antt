@@ -85,7 +85,7 @@ module _ (h : Hosted) (job : Job) (Wrote : List ℕ → Type 0) where
   pub job_before : {A : Type 0} (Told : List ℕ → Type 0) (r : Result A Refusal) (reason : Reason) → IsErrAnd r (λ e. e ≡ Before reason) → Told [] → Wrote [] → IfErr r (IsGivenUp h Wrote Told job)
   job_before Told r reason is t w = given_up_before (IsGivenUp h Wrote Told job) r reason is (inl (reason, refl, t, w))
 
-  module _ (policy : Tables) (file : SchemesFile) (reader : Option ℕ) (policy_is : IsPolicyOf h.gives job.documents policy) (schemes_are : AreSchemesOf h.gives job.documents policy file)
+  module _ (policy : Tables) (file : SchemesFile) (reader : Option ℕ) (policy_is : IsPolicyOf h.before.gives job.documents policy) (schemes_are : AreSchemesOf h.before.gives job.documents policy file)
       (reader_is : IsReader policy job.task reader) (Told : List ℕ → Type 0) where
     pub job_done : (r : Result Ending Refusal) → IfOk r (IsTaskDone h policy file reader Wrote Told job.task) → IfOk r (IsDone h Wrote Told job)
     job_done (Ok end) k = record { policy = policy; file = file; reader = reader; policy_is = policy_is; schemes_are = schemes_are; reader_is = reader_is; does = k }

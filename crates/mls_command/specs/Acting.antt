@@ -33,9 +33,9 @@ module _ (h : Hosted) where
   -- what a command other than a run or a shell prints on standard output, what it tells on standard error, and how it ends
   abbrev pub Prints : Tables → SchemesFile → Task → List ℕ → List ℕ → Ending → Type 0
   Prints policy file ShowPolicy text told end = (text ≡ lattice.canon_of policy ++ scheme.canon_of policy file.version file.schemes) × (told ≡ []) × (end ≡ Well)
-  Prints policy file (Certify transactions) text told end = IsCertified h.gives policy file.schemes transactions.now text told end
-  Prints policy file (Check transactions certificates) text told end = IsChecked h.gives policy file.schemes transactions.now certificates.now text told end
-  Prints policy file (Explain transactions name) text told end = IsExplained h.gives policy file.schemes transactions.now (named name) text told end
+  Prints policy file (Certify transactions) text told end = IsCertified h.before.gives policy file.schemes transactions.now text told end
+  Prints policy file (Check transactions certificates) text told end = IsChecked h.before.gives policy file.schemes transactions.now certificates.now text told end
+  Prints policy file (Explain transactions name) text told end = IsExplained h.before.gives policy file.schemes transactions.now (named name) text told end
   Prints policy file task text told end = ⊥
 
   -- `Wrote`: what was written on standard output; `Told`: what was told on standard error
@@ -68,8 +68,8 @@ module _ (h : Hosted) where
     pub policy : Tables
     pub file : SchemesFile
     pub reader : Option ℕ
-    pub policy_is : IsPolicyOf h.gives job.documents policy
-    pub schemes_are : AreSchemesOf h.gives job.documents policy file
+    pub policy_is : IsPolicyOf h.before.gives job.documents policy
+    pub schemes_are : AreSchemesOf h.before.gives job.documents policy file
     pub reader_is : IsReader policy job.task reader
     pub does : Does policy file reader
 

@@ -28,7 +28,7 @@ fn policy_of<H: Host>(
     host: &H,
     documents: Option<Documents>,
 ) -> Result<Policy, Reason>
-    ensures policy { IfOk result (IsPolicyOf (H.gives host.now) documents.entry) }
+    ensures policy { IfOk result (IsPolicyOf (H.hosting host.now).gives documents.entry) }
 {
     match documents {
         None => read_policy(alloc, samples::POLICY.as_bytes()),
@@ -46,7 +46,7 @@ fn schemes_of<H: Host>(
     policy: &Policy,
     documents: Option<Documents>,
 ) -> Result<SchemesFile, Reason>
-    ensures schemes { IfOk result (AreSchemesOf (H.gives host.now) documents.entry policy.now) }
+    ensures schemes { IfOk result (AreSchemesOf (H.hosting host.now).gives documents.entry policy.now) }
     ensures under { IfOk result (λ file. AreUnder (length policy.now.labels) file.schemes) }
 {
     match documents {
@@ -71,9 +71,9 @@ fn perform_task<H: Host, W: Write, E: Write>(
 ) -> Result<Ending, Refusal>
     requires under { AreUnder (length policy.now.labels) file.now.schemes }
     requires declared { IfSome reader (λ c. c < length policy.now.labels) }
-    ensures done { IfOk result (IsTaskDone (hosted H.gives H.keeps H.is_honest H.Lines.echo host.old host.new) policy.now file.now reader
+    ensures done { IfOk result (IsTaskDone (hosted H.hosting H.Lines.echo host.old host.new) policy.now file.now reader
         (IsAppended W.contents out.old out.new) (IsTold E.contents err.old err.new) task.entry) }
-    ensures given_up { IfErr result (IsTaskGivenUp (hosted H.gives H.keeps H.is_honest H.Lines.echo host.old host.new) policy.now file.now
+    ensures given_up { IfErr result (IsTaskGivenUp (hosted H.hosting H.Lines.echo host.old host.new) policy.now file.now
         reader (IsAppended W.contents out.old out.new) (IsTold E.contents err.old err.new) task.entry) }
 {
     match task {
@@ -108,9 +108,9 @@ fn perform<H: Host, W: Write, E: Write>(
     out: &mut W,
     err: &mut Errors<E>,
 ) -> Result<Ending, Refusal>
-    ensures done { IfOk result (IsDone (hosted H.gives H.keeps H.is_honest H.Lines.echo host.old host.new)
+    ensures done { IfOk result (IsDone (hosted H.hosting H.Lines.echo host.old host.new)
         (IsAppended W.contents out.old out.new) (IsTold E.contents err.old err.new) job.entry) }
-    ensures given_up { IfErr result (IsGivenUp (hosted H.gives H.keeps H.is_honest H.Lines.echo host.old host.new)
+    ensures given_up { IfErr result (IsGivenUp (hosted H.hosting H.Lines.echo host.old host.new)
         (IsAppended W.contents out.old out.new) (IsTold E.contents err.old err.new) job.entry) }
 {
     let policy = policy_of(alloc, host, job.documents)?;
@@ -127,7 +127,7 @@ fn finish<H: Host, W: Write, E: Write>(
     out: &mut W,
     err: &mut Errors<E>,
 ) -> u8
-    ensures { (words : List Text) → Asks words job.entry → IsAnswered (hosted H.gives H.keeps H.is_honest H.Lines.echo host.old host.new) words
+    ensures { (words : List Text) → Asks words job.entry → IsAnswered (hosted H.hosting H.Lines.echo host.old host.new) words
         (IsAppended W.contents out.old out.new) (IsTold E.contents err.old err.new) result }
 {
     match perform(alloc, job, host, out, err) {
@@ -149,7 +149,7 @@ pub fn act<H: Host, W: Write, E: Write>(
     out: &mut W,
     err: &mut Errors<E>,
 ) -> u8
-    ensures { IsAnswered (hosted H.gives H.keeps H.is_honest H.Lines.echo host.old host.new) (texts_of words.now)
+    ensures { IsAnswered (hosted H.hosting H.Lines.echo host.old host.new) (texts_of words.now)
         (IsAppended W.contents out.old out.new) (IsTold E.contents err.old err.new) result }
 {
     match job_of(alloc, words) {

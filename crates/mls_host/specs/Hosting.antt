@@ -1,25 +1,36 @@
--- What a host gives and keeps, what is done over a store of it, and what is told on standard error.
+-- What a host gives and lacks, keeps and bars, what is done over a store of it, and what is told on standard error.
 use Rattle.std.specs.Prelude.{◌≡◌, ℕ, false, List, Option, Some, None, ⊤}
 use Rattle.std.specs.Io.KnownBytes.{Appends}
 use Rattle.mls_lattice.specs.Policy.{Tables}
 use Rattle.mls_scheme.specs.declared.file.SchemesFile.{SchemesFile}
 use Rattle.mls_filterview.specs.Content.{Content, no_content}
 use Rattle.mls_fragments.specs.Again.{IsTakenOf}
+use Rattle.mls_fragments.specs.declared.open_fault.OpenFault.{OpenFault}
+use Rattle.mls_host.specs.declared.host.HostFault.{HostFault}
 use Rattle.mls_host.specs.declared.errors.Errors.{Errors}
 
--- A host before and after a command: which bytes it gives for the file at a path, and, with no path, for the standard input; which
--- content the store at a path kept before, and which it keeps after; that the store that was taken back is clean; and what it shows of a
--- line that is typed.
-pub record Hosted : Type 1 where
+-- A host, as contracts see it.
+pub record Hosting : Type 1 where
+  -- the bytes that it gives for the file at a path, and, with no path, for the standard input
   pub gives : Option (List ℕ) → List ℕ → Type 0
-  pub kept : List ℕ → Content → Type 0
+  -- why it gives none
+  pub lacks : Option (List ℕ) → HostFault → Type 0
+  -- the content that the store at a path keeps
   pub keeps : List ℕ → Content → Type 0
+  -- why that store is not opened under a policy and schemes
+  pub bars : List ℕ → Tables → SchemesFile → OpenFault → Type 0
+  -- the store that it took back last is clean
   pub is_honest : Type 0
+
+-- a host before and after a command, and what it shows of a line that is typed
+pub record Hosted : Type 1 where
+  pub before : Hosting
+  pub after : Hosting
   pub echo : List ℕ → List ℕ
 
-module _ {Host : Type 0} (gives : Host → Option (List ℕ) → List ℕ → Type 0) (keeps : Host → List ℕ → Content → Type 0) (is_honest : Host → Type 0) (echo : List ℕ → List ℕ) where
+module _ {Host : Type 0} (hosting : Host → Hosting) (echo : List ℕ → List ℕ) where
   abbrev pub hosted : Host → Host → Hosted
-  hosted old new = record { gives = gives old; kept = keeps old; keeps = keeps new; is_honest = is_honest new; echo = echo }
+  hosted old new = record { before = hosting old; after = hosting new; echo = echo }
 
 -- ---- stores
 
@@ -27,12 +38,12 @@ module _ (h : Hosted) where
   -- without a path it begins with nothing; with one, with what is taken of what the store there kept
   abbrev pub BeginsWith : Tables → SchemesFile → Option (List ℕ) → Content → Type 0
   BeginsWith policy file None first = first ≡ no_content
-  BeginsWith policy file (Some path) first = IsTakenOf (h.kept path) policy file first
+  BeginsWith policy file (Some path) first = IsTakenOf (h.before.keeps path) policy file first
 
   -- and what it leaves is kept there
   abbrev pub IsKeptAt : Option (List ℕ) → Content → Type 0
   IsKeptAt None left = ⊤
-  IsKeptAt (Some path) left = h.keeps path left
+  IsKeptAt (Some path) left = h.after.keeps path left
 
   -- what leads from one content to another, under a policy and schemes, is done over a store
   pub record IsOver (policy : Tables) (file : SchemesFile) (store : Option (List ℕ)) (Leads : Content → Content → Type 0) : Type 0 where
@@ -45,7 +56,7 @@ module _ (h : Hosted) where
   -- what is said of a store is said where that is clean
   abbrev pub IsClean : Option (List ℕ) → Type 0
   IsClean None = ⊤
-  IsClean (Some path) = h.is_honest
+  IsClean (Some path) = h.after.is_honest
 
 -- ---- standard error
 

@@ -1,10 +1,10 @@
 //! What a command asks of the machine that it runs on.
-ghost use Rattle.std.specs.Prelude.{◌≡◌, ◌≤◌, ◌↔◌, ℕ, false, List, Option, Some, None, length, IfOk};
+ghost use Rattle.std.specs.Prelude.{◌≡◌, ◌≤◌, ◌↔◌, false, Some, None, length, IfOk, IfErr};
 ghost use Rattle.std.specs.Option.{IfSome};
 ghost use Rattle.mls_scheme.specs.Scheme.{AreUnder};
-ghost use Rattle.mls_filterview.specs.Content.{Content};
 ghost use Rattle.mls_fragments.specs.Again.{IsTakenOf};
 ghost use Rattle.mls_fragments.specs.Finding.{IsSoundContent};
+ghost use Rattle.mls_host.specs.Hosting.{Hosting};
 
 use mls_filterview::Base;
 use mls_fragments::OpenFault;
@@ -28,14 +28,10 @@ pub struct CloseFault;
 
 /// Where inputs come from, and where stores are.
 ///
-/// Contracts see which bytes a host gives for the file at a path, and, with no path, for the standard input; which content the
-/// store at a path keeps; and that the store which it took back last was clean.
+/// Contracts see which bytes a host gives for the file at a path, and, with no path, for the standard input, and why it gives none;
+/// which content the store at a path keeps, and why it is not opened; and that the store which it took back last was clean.
 pub trait Host {
-    ghost gives: { Self → Option (List ℕ) → List ℕ → Type 0 };
-
-    ghost keeps: { Self → List ℕ → Content → Type 0 };
-
-    ghost is_honest: { Self → Type 0 };
+    ghost hosting: { Self → Hosting };
 
     /// Where the content of a store is worked on.
     type Store: Base;
@@ -45,15 +41,17 @@ pub trait Host {
 
     /// The bytes of a file, which a path names.
     fn file(&self, alloc: Global, path: &str) -> Result<Vec<u8>, HostFault>
-        ensures { IfOk result (λ bytes. gives self.now (Some path.now) bytes.items) };
+        ensures given { IfOk result (λ bytes. (hosting self.now).gives (Some path.now) bytes.items) }
+        ensures lacking { IfErr result ((hosting self.now).lacks (Some path.now)) };
 
     /// The bytes of the standard input.
     fn input(&self, alloc: Global) -> Result<Vec<u8>, HostFault>
-        ensures { IfOk result (λ bytes. gives self.now None bytes.items) };
+        ensures given { IfOk result (λ bytes. (hosting self.now).gives None bytes.items) }
+        ensures lacking { IfErr result ((hosting self.now).lacks None) };
 
     /// The lines of the standard input.
     fn lines(&self) -> Self::Lines
-        ensures { IfSome (Self.Lines.remaining result) (gives self.now None) };
+        ensures { IfSome (Self.Lines.remaining result) ((hosting self.now).gives None) };
 
     /// Whether somebody types them at a terminal.
     fn is_terminal(&self) -> bool;
@@ -70,13 +68,14 @@ pub trait Host {
         requires under { AreUnder (length policy.now.labels) file.now.schemes }
         ensures idle { IfOk result (λ b. (Self.Store.Base.state b).begun ≡ false) }
         ensures sound { IfOk result (λ b. IsSoundContent policy.now file.now.schemes (Self.Store.Base.state b).now) }
-        ensures kept { IfOk result (λ b. Self.Store.Base.is_clean b → IsTakenOf (keeps self.old path.now) policy.now file.now (Self.Store.Base.state b).now) };
+        ensures kept { IfOk result (λ b. Self.Store.Base.is_clean b → IsTakenOf ((hosting self.old).keeps path.now) policy.now file.now (Self.Store.Base.state b).now) }
+        ensures barred { IfErr result ((hosting self.old).bars path.now policy.now file.now) };
 
     /// Takes the store at a path back, with what a run left in it, and closes it.
     fn keep(&mut self, path: &str, store: Self::Store) -> Result<(), CloseFault>
         requires idle { (Self.Store.Base.state store).begun ≡ false }
-        ensures honest { is_honest self.new ↔ Self.Store.Base.is_clean store }
-        ensures kept { is_honest self.new → keeps self.new path.now (Self.Store.Base.state store).now };
+        ensures honest { (hosting self.new).is_honest ↔ Self.Store.Base.is_clean store }
+        ensures kept { (hosting self.new).is_honest → (hosting self.new).keeps path.now (Self.Store.Base.state store).now };
 }
 
 /// All bytes of a reader, where they are at most `MOST_BYTES`.

@@ -24,7 +24,7 @@ pub fn input_of<H: Host>(
     role: Role,
     path: Option<&str>,
 ) -> Result<Vec<u8>, Reason>
-    ensures given { IfOk result (λ bytes. H.gives host.now (named path.entry) bytes.items) }
+    ensures given { IfOk result (λ bytes. (H.hosting host.now).gives (named path.entry) bytes.items) }
 {
     let given = match path {
         Some(path) => host.file(alloc, path),
@@ -66,7 +66,7 @@ pub fn transactions_in<H: Host>(
     schemes: &Schemes,
     path: &str,
 ) -> Result<Items<Tx>, Reason>
-    ensures told { IfOk result (AreToldIn (H.gives host.now) path.now policy.now schemes.now) }
+    ensures told { IfOk result (AreToldIn (H.hosting host.now).gives path.now policy.now schemes.now) }
     ensures ok { IfOk result (AllByRecursion (IsReadUnder policy.now schemes.now)) }
 {
     let bytes = input_of(alloc, host, Role::Transactions, Some(path))?;
@@ -81,7 +81,7 @@ pub(crate) fn transactions_of<H: Host>(
     schemes: &Schemes,
     path: Option<&str>,
 ) -> Result<Items<Tx>, Reason>
-    ensures told { IfOk result (AreTransactionsFrom (H.gives host.now) (named path.entry) policy.now schemes.now) }
+    ensures told { IfOk result (AreTransactionsFrom (H.hosting host.now).gives (named path.entry) policy.now schemes.now) }
     ensures ok { IfOk result (AllByRecursion (IsReadUnder policy.now schemes.now)) }
 {
     match path {
@@ -96,7 +96,7 @@ pub fn certificates_in<H: Host>(
     host: &H,
     path: &str,
 ) -> Result<Vec<(Str, Certificate)>, Reason>
-    ensures blocks { IfOk result (λ blocks. AreBlocksIn (H.gives host.now) path.now blocks.items) }
+    ensures blocks { IfOk result (λ blocks. AreBlocksIn (H.hosting host.now).gives path.now blocks.items) }
 {
     let bytes = input_of(alloc, host, Role::Certificates, Some(path))?;
     read_certificates(alloc, &bytes)
@@ -108,7 +108,7 @@ pub(crate) fn certificates_of<H: Host>(
     host: &H,
     path: Option<&str>,
 ) -> Result<Vec<(Str, Certificate)>, Reason>
-    ensures blocks { IfOk result (λ blocks. AreCertificatesFrom (H.gives host.now) (named path.entry) blocks.items) }
+    ensures blocks { IfOk result (λ blocks. AreCertificatesFrom (H.hosting host.now).gives (named path.entry) blocks.items) }
 {
     match path {
         None => Ok(Vec::new(alloc)),

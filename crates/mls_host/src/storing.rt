@@ -93,7 +93,7 @@ pub fn stored_files<H: Host>(
     transactions: Option<&str>,
     certificates: Option<&str>,
 ) -> Result<Items<Stored>, Reason>
-    ensures from { IfOk result (AreStoredFrom (H.gives host.now) (named transactions.entry) (named certificates.entry) policy.now schemes.now) }
+    ensures from { IfOk result (AreStoredFrom (H.hosting host.now).gives (named transactions.entry) (named certificates.entry) policy.now schemes.now) }
     ensures read { IfOk result (λ ss. AreRead (site_of policy.now schemes.now ss)) }
     ensures certified { IfOk result (λ ss. AreCertified (site_of policy.now schemes.now ss)) }
 {

@@ -183,7 +183,7 @@ pub fn certified<H: Host>(
     schemes: &Schemes,
     transactions: &str,
 ) -> Result<Listing, Reason>
-    ensures listing { IfOk result (λ l. IsCertified (H.gives host.now) policy.now schemes.now transactions.now l.text.items (string_bytes l.told) l.ending) }
+    ensures listing { IfOk result (λ l. IsCertified (H.hosting host.now).gives policy.now schemes.now transactions.now l.text.items (string_bytes l.told) l.ending) }
 {
     let txs = transactions_in(alloc, host, policy, schemes, transactions)?;
     Ok(listing_of(alloc, policy, &txs)?)

@@ -98,7 +98,7 @@ pub fn checked<H: Host>(
     transactions: &str,
     certificates: &str,
 ) -> Result<Listing, Reason>
-    ensures listing { IfOk result (λ l. IsChecked (H.gives host.now) policy.now schemes.now transactions.now certificates.now l.text.items (string_bytes l.told) l.ending) }
+    ensures listing { IfOk result (λ l. IsChecked (H.hosting host.now).gives policy.now schemes.now transactions.now certificates.now l.text.items (string_bytes l.told) l.ending) }
 {
     let txs = transactions_in(alloc, host, policy, schemes, transactions)?;
     let blocks = certificates_in(alloc, host, certificates)?;

@@ -90,7 +90,7 @@ pub fn explained<H: Host>(
     transactions: &str,
     name: Option<&str>,
 ) -> Result<Listing, Reason>
-    ensures listing { IfOk result (λ l. IsExplained (H.gives host.now) policy.now schemes.now transactions.now (named name.entry)
+    ensures listing { IfOk result (λ l. IsExplained (H.hosting host.now).gives policy.now schemes.now transactions.now (named name.entry)
         l.text.items (string_bytes l.told) l.ending) }
 {
     let txs = transactions_in(alloc, host, policy, schemes, transactions)?;

@@ -80,10 +80,10 @@ left_world site first left es h = ap settled (sym h.1)
 
 -- ---- a store that keeps one content
 
-begins_at : (h : Hosted) (policy : Tables) (file : SchemesFile) (store : Option (List ℕ)) (path : List ℕ) (c : Content) → store ≡ Some path → BeginsWith h policy file store c → IsTakenOf (h.kept path) policy file c
+begins_at : (h : Hosted) (policy : Tables) (file : SchemesFile) (store : Option (List ℕ)) (path : List ℕ) (c : Content) → store ≡ Some path → BeginsWith h policy file store c → IsTakenOf (h.before.keeps path) policy file c
 begins_at h policy file store path c e b = subst (λ o. BeginsWith h policy file o c) e b
 
-kept_at : (h : Hosted) (store : Option (List ℕ)) (path : List ℕ) (c : Content) → store ≡ Some path → IsKeptAt h store c → h.keeps path c
+kept_at : (h : Hosted) (store : Option (List ℕ)) (path : List ℕ) (c : Content) → store ≡ Some path → IsKeptAt h store c → h.after.keeps path c
 kept_at h store path c e b = subst (λ o. IsKeptAt h o c) e b
 
 -- what is sound is so under the same labels and schemes
@@ -96,7 +96,7 @@ sound_later policy later schemes same stored c labels relations sound = record {
 
 -- and is taken as it was left
 taken_again : (h k : Hosted) (path : List ℕ) → KeepsOne h k path → (later : Tables) (again : SchemesFile) (left first : Content) → IsSoundContent later again.schemes left
-    → h.keeps path left → IsTakenOf (k.kept path) later again first → left ≡ first
+    → h.after.keeps path left → IsTakenOf (k.before.keeps path) later again first → left ≡ first
 taken_again h k path one later again left first sound kept taken =
     let same : left ≡ taken.0 = one left taken.0 kept taken.1 in
     same ∙ sym (sound_is_taken later again taken.0 first (subst (IsSoundContent later again.schemes) same sound) taken.2)
@@ -116,15 +116,15 @@ in_turn h W k V path one documents policy later file again read labels relations
     = left_world r.site a.first a.left r.events a.leads.left_by ∙ (λ i. world_with (same_count policy later labels i) (same i)) in
     let passes : EachPassesOnlyReleasesDown v (r ∷ s ∷ []) = (passes_standing r.site v x.events a.leads.secret end, (subst (λ w. PassesOnlyReleasesDown s.site w s.events) (sym next) (passes_standing s.site _ y.events b.leads.secret stop), tt)) in
     let under : IsHistoryUnder ls file.schemes (r ∷ s ∷ []) = (
-      record { labels = refl; relations = refl; read = are_read h.gives _ _ policy file.schemes x.stored x.stored_are },
-      (record { labels = labels; relations = relations; read = are_read k.gives _ _ later again.schemes y.stored y.stored_are }, tt),
+      record { labels = refl; relations = refl; read = are_read h.before.gives _ _ policy file.schemes x.stored x.stored_are },
+      (record { labels = labels; relations = relations; read = are_read k.before.gives _ _ later again.schemes y.stored y.stored_are }, tt),
     ) in
     record {
       one = same;
       history = record {
         left_by = ap (λ w. run_end w s) next ∙ left_world s.site b.first b.left s.events b.leads.left_by;
         integrity = (keeps_standing r.site v x.events a.leads.integrity end, (subst (λ w. KeepsIntegrity s.site w s.events) (sym next) (keeps_standing s.site _ y.events b.leads.integrity stop), tt));
-        secret = histories_pass ls file.schemes (policy_distinct h.gives documents policy read) v (r ∷ s ∷ []) under passes;
+        secret = histories_pass ls file.schemes (policy_distinct h.before.gives documents policy read) v (r ∷ s ∷ []) under passes;
       };
       written = λ audience. λ i. output r.site audience a.first r.events ∷ printed (heard (sym labels i) audience.reader (run_lines audience.form s.site (next i) s.events)) ∷ [];
     }

@@ -42,8 +42,8 @@ module _ (h : Hosted) (file : SchemesFile) (site : Site) (audience : Audience) (
 module _ (h : Hosted) (policy : Tables) (file : SchemesFile) (reader : Option ℕ) (Wrote : List ℕ → Type 0) (Nothing : Reason → Type 0) where
   -- the events of a script, over what is stored
   pub script_run : (files : RunFiles) (stored : List Stored) (events : List Event)
-      → AreStoredFrom h.gives (named files.transactions) (named files.certificates) policy file.schemes stored
-      → IsScriptFrom h.gives (named files.script) policy file.schemes events
+      → AreStoredFrom h.before.gives (named files.transactions) (named files.certificates) policy file.schemes stored
+      → IsScriptFrom h.before.gives (named files.script) policy file.schemes events
       → (r : Result (Unit {0}) Refusal) → IsEnd (IsRunFrom h file (named files.store) (site_of policy file.schemes stored) (audience_of reader files) events Wrote) Nothing r
       → IsEnd (IsScriptRun h policy file reader files Wrote) Nothing r
   script_run files stored events stored_are events_are r run =

@@ -42,7 +42,7 @@ pub record AreInTurn (ls : Labels) (schemes : Schemes) (r s : RunAt) (first left
 -- may differ.
 abbrev pub AreRunsInTurn : Hosted → (List ℕ → Type 0) → Hosted → (List ℕ → Type 0) → List ℕ → Type 0
 AreRunsInTurn h W k V path =
-    (documents : Option Documents) (policy later : Tables) (file again : SchemesFile) → IsPolicyOf h.gives documents policy
+    (documents : Option Documents) (policy later : Tables) (file again : SchemesFile) → IsPolicyOf h.before.gives documents policy
     → labels_of later ≡ labels_of policy → again.schemes ≡ file.schemes
     → (reader other : Option ℕ) (files others : RunFiles) → named files.store ≡ Some path → named others.store ≡ Some path
     → (end stop : Result (Unit {0}) RunFault) (x : IsScriptRun h policy file reader files W end) (y : IsScriptRun k later again other others V stop)
@@ -52,7 +52,7 @@ AreRunsInTurn h W k V path =
 
 -- the store at a path keeps one content at most between two commands
 abbrev pub KeepsOne : Hosted → Hosted → List ℕ → Type 0
-KeepsOne h k path = (c d : Content) → h.keeps path c → k.kept path d → c ≡ d
+KeepsOne h k path = (c d : Content) → h.after.keeps path c → k.before.keeps path d → c ≡ d
 
 abbrev pub RunsAreInTurn : Hosted → (List ℕ → Type 0) → Hosted → (List ℕ → Type 0) → Type 0
 RunsAreInTurn h W k V = (path : List ℕ) → KeepsOne h k path → AreRunsInTurn h W k V path

@@ -1,16 +1,24 @@
 -- A machine in memory, of which all is known.
-use Rattle.std.specs.Prelude.{◌≡◌, ℕ, List, [], Option, Some, None, option_map, Ok, MatchOption, ⊤}
+use Rattle.std.specs.Prelude.{◌≡◌, ◌<◌, ℕ, List, [], length, Option, Some, None, option_map, Result, Ok, Err, MatchOption, ⊤}
 use Rattle.std.specs.List.{find}
 use Rattle.std.specs.Str.{bytes_eq}
 use Rattle.std.specs.Io.Cursor.{cursor_remaining}
 use Rattle.std.specs.declared.io.Cursor.{Cursor}
+use Rattle.sqlite.specs.Effect.{Database}
 use Rattle.sqlite.specs.Held.{state}
 use Rattle.sqlite.specs.Steps.{over_memory}
 use Rattle.mls_filterview.specs.Content.{Content}
+use Rattle.mls_lattice.specs.Policy.{Tables}
+use Rattle.mls_scheme.specs.declared.file.SchemesFile.{SchemesFile}
 use Rattle.mls_fragments.specs.Again.{IsHeldBy}
+use Rattle.mls_fragments.specs.Opening.{IsOfOthers, IsBad}
+use Rattle.mls_fragments.specs.declared.open_fault.OpenFault.{OpenFault}
+use Rattle.mls_fragments.specs.declared.open_fault.OpenFault.TheVariants as stores
+use Rattle.mls_host.specs.declared.host.HostFault.{HostFault}
+use Rattle.mls_host.specs.declared.host.HostFault.TheVariants.{Unreadable, TooLong, Memory}
 use Rattle.mls_runs.specs.declared.memory.HeldFile.{HeldFile}
 use Rattle.mls_runs.specs.declared.memory.MemoryHost.{MemoryHost}
-use Rattle.mls_host.specs.Hosting.{Hosted, hosted}
+use Rattle.mls_host.specs.Hosting.{Hosting, Hosted, hosted}
 use Rattle.mls_runs.specs.InTurn.{AreRunsInTurn}
 
 -- what is left to read of a copy that is there
@@ -22,6 +30,25 @@ left_in bytes (Some cursor) = cursor_remaining bytes cursor
 abbrev pub file_named : List HeldFile → List ℕ → Option HeldFile
 file_named files name = find (λ f. bytes_eq f.name name) files
 
+-- why bytes are not copied: they are more than an input may have; or memory
+abbrev pub IsUncopied : List ℕ → HostFault → Type 0
+IsUncopied bytes Unreadable = ⊥
+IsUncopied bytes TooLong = 1048576 < length bytes
+IsUncopied bytes Memory = ⊤
+
+-- why a file is not given, which is there, or not
+abbrev pub IsLacking : Option (Result (List ℕ) HostFault) → HostFault → Type 0
+IsLacking None fault = fault ≡ Unreadable
+IsLacking (Some (Ok bytes)) fault = IsUncopied bytes fault
+IsLacking (Some (Err held)) fault = fault ≡ held
+
+-- why a store is not opened, which is there, or not: its texts are those of others, or it is bad, or it fails; or memory
+abbrev pub IsBarred : Tables → SchemesFile → Option Database → OpenFault → Type 0
+IsBarred policy file store stores.Store = ⊤
+IsBarred policy file store stores.Memory = ⊤
+IsBarred policy file store stores.OtherPolicy = MatchOption store ⊥ (IsOfOthers policy file)
+IsBarred policy file store stores.BadRows = MatchOption store ⊥ (IsBad policy file)
+
 module _ {R : Type 0} where
   -- it gives the bytes that stand there under the name, or its input, and nothing else
   abbrev pub gives : MemoryHost R → Option (List ℕ) → List ℕ → Type 0
@@ -32,11 +59,20 @@ module _ {R : Type 0} where
   abbrev pub keeps : MemoryHost R → List ℕ → Content → Type 0
   keeps h path c = MatchOption h.store ⊥ (λ conn. IsHeldBy (state over_memory conn).now c)
 
-  abbrev pub is_honest : MemoryHost R → Type 0
-  is_honest h = ⊤
+  -- why it gives none: no file has the name; or what it holds in place of its bytes; or there are too many; or memory
+  abbrev pub lacks : MemoryHost R → Option (List ℕ) → HostFault → Type 0
+  lacks h None fault = IsUncopied h.input.now fault
+  lacks h (Some name) fault = IsLacking (option_map (λ f. f.bytes) (file_named h.files.items name)) fault
+
+  -- why its store is not opened
+  abbrev pub bars : MemoryHost R → List ℕ → Tables → SchemesFile → OpenFault → Type 0
+  bars h path policy file fault = IsBarred policy file (option_map (λ conn. (state over_memory conn).now) h.store) fault
+
+  abbrev pub hosting : MemoryHost R → Hosting
+  hosting h = record { gives = gives h; lacks = lacks h; keeps = keeps h; bars = bars h; is_honest = ⊤ }
 
   abbrev pub hosted_in : MemoryHost R → MemoryHost R → Hosted
-  hosted_in = hosted gives keeps is_honest (λ line. [])
+  hosted_in = hosted hosting (λ line. [])
 
 -- two runs over its store are a history, with no more said of it
 abbrev pub RunsInMemoryAreInTurn : Type 0 → (List ℕ → Type 0) → (List ℕ → Type 0) → Type 0

@@ -26,6 +26,6 @@ module _ (h : Hosted) where
   pub record IsScriptRun (policy : Tables) (file : SchemesFile) (reader : Option ℕ) (files : RunFiles) (Wrote : List ℕ → Type 0) (end : Result (Unit {0}) RunFault) : Type 0 where
     pub stored : List Stored
     pub events : List Event
-    pub stored_are : AreStoredFrom h.gives (named files.transactions) (named files.certificates) policy file.schemes stored
-    pub events_are : IsScriptFrom h.gives (named files.script) policy file.schemes events
+    pub stored_are : AreStoredFrom h.before.gives (named files.transactions) (named files.certificates) policy file.schemes stored
+    pub events_are : IsScriptFrom h.before.gives (named files.script) policy file.schemes events
     pub run : IsRunFrom file (named files.store) (site_of policy file.schemes stored) (audience_of reader files) events Wrote end

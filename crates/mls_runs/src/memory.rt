@@ -1,7 +1,7 @@
 //! A machine in memory, of which contracts know all: its files, its standard input, and one store.
-ghost use Rattle.std.specs.Prelude.{◌≡◌, Some, IfOk, IfSome, option_map};
+ghost use Rattle.std.specs.Prelude.{◌≡◌, Some, IfOk, IfErr, IfSome, option_map};
 ghost use Rattle.mls_host.specs.Hosting.{IsAppended};
-ghost use Rattle.mls_runs.specs.Memory.{file_named, left_in, RunsInMemoryAreInTurn};
+ghost use Rattle.mls_runs.specs.Memory.{IsUncopied, file_named, left_in, RunsInMemoryAreInTurn};
 
 use mls_fragments::{OpenFault, SqlBase};
 use mls_host::{CloseFault, Host, HostFault};
@@ -75,7 +75,8 @@ fn file_named<'a>(files: &'a [HeldFile], name: &str) -> Option<&'a HeldFile>
 
 /// A copy of bytes, which are as many as a file may have.
 fn copy_of(alloc: Global, bytes: &[u8]) -> Result<Vec<u8>, HostFault>
-    ensures { IfOk result (λ copy. copy.items ≡ bytes.now) }
+    ensures same { IfOk result (λ copy. copy.items ≡ bytes.now) }
+    ensures uncopied { IfErr result (IsUncopied bytes.now) }
 {
     if bytes.len() > MOST_BYTES {
         return Err(HostFault::TooLong);
@@ -87,13 +88,9 @@ fn copy_of(alloc: Global, bytes: &[u8]) -> Result<Vec<u8>, HostFault>
 }
 
 impl<'a, R: AllocGlobal> Host for MemoryHost<'a, R> {
-    ghost use Rattle.mls_runs.specs.Memory.{gives, keeps, is_honest};
+    ghost use Rattle.mls_runs.specs.Memory.{hosting};
 
-    ghost gives = { gives };
-
-    ghost keeps = { keeps };
-
-    ghost is_honest = { is_honest };
+    ghost hosting = { hosting };
 
     type Store = SqlBase<MemStore>;
 

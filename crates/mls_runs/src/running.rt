@@ -107,7 +107,7 @@ fn run_in_store<H: Host, W: Write>(
     requires certified { AreCertified (site_of policy.now file.now.schemes stored) }
     requires fits { EventsFit (site_of policy.now file.now.schemes stored) events.now }
     requires declared { IfSome audience.reader (λ c. c < length policy.now.labels) }
-    ensures { IsEnd (IsRunFrom (hosted H.gives H.keeps H.is_honest H.Lines.echo host.old host.new) file.now (Some path.now)
+    ensures { IsEnd (IsRunFrom (hosted H.hosting H.Lines.echo host.old host.new) file.now (Some path.now)
         (site_of policy.now file.now.schemes stored) audience events.now (IsAppended W.contents out.old out.new))
         (λ _. IsAppended W.contents out.old out.new []) result }
 {
@@ -146,7 +146,7 @@ fn run_events<H: Host, W: Write>(
     requires certified { AreCertified (site_of policy.now file.now.schemes stored) }
     requires fits { EventsFit (site_of policy.now file.now.schemes stored) events.now }
     requires declared { IfSome audience.reader (λ c. c < length policy.now.labels) }
-    ensures { IsEnd (IsRunFrom (hosted H.gives H.keeps H.is_honest H.Lines.echo host.old host.new) file.now (named store.entry)
+    ensures { IsEnd (IsRunFrom (hosted H.hosting H.Lines.echo host.old host.new) file.now (named store.entry)
         (site_of policy.now file.now.schemes stored) audience events.now (IsAppended W.contents out.old out.new))
         (λ _. IsAppended W.contents out.old out.new []) result }
 {
@@ -168,7 +168,7 @@ fn script_of<H: Host>(
     schemes: &Schemes,
     path: Option<&str>,
 ) -> Result<Vec<Event>, Reason>
-    ensures read { IfOk result (λ events. IsScriptFrom (H.gives host.now) (named path.entry) policy.now schemes.now events.items) }
+    ensures read { IfOk result (λ events. IsScriptFrom (H.hosting host.now).gives (named path.entry) policy.now schemes.now events.items) }
     ensures fits { IfOk result (λ events. AllByRecursion (EventFits policy.now schemes.now) events.items) }
 {
     let bytes = input_of(alloc, host, Role::Script, path)?;
@@ -187,9 +187,9 @@ pub fn run_files<H: Host, W: Write>(
 ) -> Result<(), Refusal>
     requires under { AreUnder (length policy.now.labels) file.now.schemes }
     requires declared { IfSome reader (λ c. c < length policy.now.labels) }
-    ensures done { OnOk result (IsScriptRun (hosted H.gives H.keeps H.is_honest H.Lines.echo host.old host.new) policy.now file.now reader files.entry
+    ensures done { OnOk result (IsScriptRun (hosted H.hosting H.Lines.echo host.old host.new) policy.now file.now reader files.entry
         (IsAppended W.contents out.old out.new) (Ok tt)) }
-    ensures given_up { IfErr result (λ e. IsEnd (IsScriptRun (hosted H.gives H.keeps H.is_honest H.Lines.echo host.old host.new) policy.now file.now
+    ensures given_up { IfErr result (λ e. IsEnd (IsScriptRun (hosted H.hosting H.Lines.echo host.old host.new) policy.now file.now
         reader files.entry (IsAppended W.contents out.old out.new)) (λ _. IsAppended W.contents out.old out.new []) (Err e)) }
 {
     let stored = stored_files(

@@ -76,8 +76,8 @@ module _ (h : Hosted) (file : SchemesFile) (site : Site) (seat : Seat) (before a
 
 module _ (h : Hosted) (policy : Tables) (file : SchemesFile) (reader : Option ℕ) (files : ShellFiles) (Wrote Told : List ℕ → Type 0)
     (stored : List Stored) (level : ℕ) (has_prompt : Bool) (before after : Option (List ℕ))
-    (stored_are : AreStoredFrom h.gives (named files.transactions) (named files.certificates) policy file.schemes stored)
-    (level_is : reader ≡ Some level) (given : IfSome before (h.gives None)) where
+    (stored_are : AreStoredFrom h.before.gives (named files.transactions) (named files.certificates) policy file.schemes stored)
+    (level_is : reader ≡ Some level) (given : IfSome before (h.before.gives None)) where
   abbrev Shells : Result Ending RunFault → Type 0
   Shells = IsShellFrom h file (named files.store) (site_of policy file.schemes stored) (seat_of files level has_prompt) before after Wrote Told
 

@@ -30,7 +30,7 @@ module _ (h : Hosted) where
     pub has_prompt : Bool
     pub before : Option (List ℕ)
     pub after : Option (List ℕ)
-    pub stored_are : AreStoredFrom h.gives (named files.transactions) (named files.certificates) policy file.schemes stored
+    pub stored_are : AreStoredFrom h.before.gives (named files.transactions) (named files.certificates) policy file.schemes stored
     pub level_is : reader ≡ Some level
-    pub given : IfSome before (h.gives None)
+    pub given : IfSome before (h.before.gives None)
     pub shell : IsShellFrom file (named files.store) (site_of policy file.schemes stored) (seat_of files level has_prompt) before after Wrote Told end

@@ -80,7 +80,7 @@ fn shell_in_store<H: Host, L: TypedLines, W: Write, E: Write>(
     requires level { seat.now.level < length policy.now.labels }
     requires user { is_name seat.now.user ≡ true }
     requires first { first.now ≡ opening seat.now ∷ [] }
-    ensures { IsEnd (IsShellFrom (hosted H.gives H.keeps H.is_honest L.echo host.old host.new) file.now (Some path.now)
+    ensures { IsEnd (IsShellFrom (hosted H.hosting L.echo host.old host.new) file.now (Some path.now)
         (site_of policy.now file.now.schemes stored) seat.now (L.remaining lines.old) (L.remaining lines.new)
         (IsAppended W.contents out.old out.new) (IsTold E.contents err.old err.new))
         (λ _. IsAppended W.contents out.old out.new [] × IsTold E.contents err.old err.new []) result }
@@ -117,7 +117,7 @@ fn shell_over<H: Host, L: TypedLines, W: Write, E: Write>(
     requires level { seat.now.level < length policy.now.labels }
     requires user { is_name seat.now.user ≡ true }
     requires first { first.now ≡ opening seat.now ∷ [] }
-    ensures { IsEnd (IsShellFrom (hosted H.gives H.keeps H.is_honest L.echo host.old host.new) file.now (named store.entry)
+    ensures { IsEnd (IsShellFrom (hosted H.hosting L.echo host.old host.new) file.now (named store.entry)
         (site_of policy.now file.now.schemes stored) seat.now (L.remaining lines.old) (L.remaining lines.new)
         (IsAppended W.contents out.old out.new) (IsTold E.contents err.old err.new))
         (λ _. IsAppended W.contents out.old out.new [] × IsTold E.contents err.old err.new []) result }
@@ -162,9 +162,9 @@ pub fn shell_files<H: Host, W: Write, E: Write>(
 ) -> Result<Ending, Refusal>
     requires under { AreUnder (length policy.now.labels) file.now.schemes }
     requires declared { IfSome reader (λ c. c < length policy.now.labels) }
-    ensures done { IfOk result (λ end. IsShellRun (hosted H.gives H.keeps H.is_honest H.Lines.echo host.old host.new) policy.now file.now reader files.entry
+    ensures done { IfOk result (λ end. IsShellRun (hosted H.hosting H.Lines.echo host.old host.new) policy.now file.now reader files.entry
         (IsAppended W.contents out.old out.new) (IsTold E.contents err.old err.new) (Ok end)) }
-    ensures given_up { IfErr result (λ e. IsEnd (IsShellRun (hosted H.gives H.keeps H.is_honest H.Lines.echo host.old host.new) policy.now file.now reader
+    ensures given_up { IfErr result (λ e. IsEnd (IsShellRun (hosted H.hosting H.Lines.echo host.old host.new) policy.now file.now reader
         files.entry (IsAppended W.contents out.old out.new) (IsTold E.contents err.old err.new))
         (λ _. IsAppended W.contents out.old out.new [] × IsTold E.contents err.old err.new []) (Err e)) }
 {

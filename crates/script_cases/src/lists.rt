@@ -19,11 +19,7 @@ pub struct Lists<'a, R: Files> {
 
 impl<'a, R: Files + AllocGlobal> Host for Lists<'a, R> {
     // Any bytes and any content: what a file has is known to nobody before it is read.
-    ghost gives = { λ _ _ _. Unit {0} };
-
-    ghost keeps = { λ _ _ _. Unit {0} };
-
-    ghost is_honest = { λ _. Unit {0} };
+    ghost hosting = { λ _. record { gives = λ _ _. Unit {0}; lacks = λ _ _. Unit {0}; keeps = λ _ _. Unit {0}; bars = λ _ _ _ _. Unit {0}; is_honest = Unit {0} } };
 
     type Store = ListBase;
 

@@ -16,7 +16,7 @@ returns-in-Err g c = λ words asked.
     let err = c.perform.new.err in
     let new = c.tell_refusal.new.self in
     given_up c.args.job refusal asked
-    (given_up_told (hosted g.H.Host.gives g.H.Host.keeps g.H.Host.is_honest g.H.Lines.TypedLines.echo c.args.host.now c.perform.new.host) (IsAppended g.W.Write.contents c.args.out.now c.perform.new.out)
+    (given_up_told (hosted g.H.Host.hosting g.H.Lines.TypedLines.echo c.args.host.now c.perform.new.host) (IsAppended g.W.Write.contents c.args.out.now c.perform.new.out)
     (IsTold g.E.Write.contents c.args.err.now err) (λ told. IsTold g.E.Write.contents c.args.err.now new (told ++ refusal_text refusal))
     (λ text h. told_more g.E.Write.contents c.args.err.now err new text (refusal_text refusal) h c.tell_refusal.ensures) c.args.job refusal c.in-Err.ensures.given_up)
     c.status-in-Err.ensures

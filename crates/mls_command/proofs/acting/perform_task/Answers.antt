@@ -10,40 +10,40 @@ use Rattle.mls_command.proofs.acting.perform_task.Goals as goal
 
 pub returns-in_err-texts-in-ShowPolicy-clause-given_up : goal.returns-in_err-texts-in-ShowPolicy-clause-given_up
 returns-in_err-texts-in-ShowPolicy-clause-given_up g c =
-    not_begun (hosted g.H.Host.gives g.H.Host.keeps g.H.Host.is_honest g.H.Lines.TypedLines.echo c.args.host.now c.args.host.now) c.args.policy.now c.args.file.now c.args.reader
+    not_begun (hosted g.H.Host.hosting g.H.Lines.TypedLines.echo c.args.host.now c.args.host.now) c.args.policy.now c.args.file.now c.args.reader
     (IsAppended g.W.Write.contents c.args.out.now c.args.out.now) (IsTold g.E.Write.contents c.args.err.now c.args.err.now) c.args.task c.from_residual.result Memory c.from_residual.ensures.1 (told_nothing g.E.Write.contents c.args.err.now) (Appends-nil _)
 
 pub returns-in_err-certified-in-Certify-clause-given_up : goal.returns-in_err-certified-in-Certify-clause-given_up
 returns-in_err-certified-in-Certify-clause-given_up g c =
-    not_begun (hosted g.H.Host.gives g.H.Host.keeps g.H.Host.is_honest g.H.Lines.TypedLines.echo c.args.host.now c.args.host.now) c.args.policy.now c.args.file.now c.args.reader
+    not_begun (hosted g.H.Host.hosting g.H.Lines.TypedLines.echo c.args.host.now c.args.host.now) c.args.policy.now c.args.file.now c.args.reader
     (IsAppended g.W.Write.contents c.args.out.now c.args.out.now) (IsTold g.E.Write.contents c.args.err.now c.args.err.now) c.args.task c.from_residual-in_err-certified-in-Certify.result c.in_err-certified-in-Certify.field-0.0 c.from_residual-in_err-certified-in-Certify.ensures.1 (told_nothing g.E.Write.contents c.args.err.now) (Appends-nil _)
 
 pub returns-in_err-explained-in-Explain-clause-given_up : goal.returns-in_err-explained-in-Explain-clause-given_up
 returns-in_err-explained-in-Explain-clause-given_up g c =
-    not_begun (hosted g.H.Host.gives g.H.Host.keeps g.H.Host.is_honest g.H.Lines.TypedLines.echo c.args.host.now c.args.host.now) c.args.policy.now c.args.file.now c.args.reader
+    not_begun (hosted g.H.Host.hosting g.H.Lines.TypedLines.echo c.args.host.now c.args.host.now) c.args.policy.now c.args.file.now c.args.reader
     (IsAppended g.W.Write.contents c.args.out.now c.args.out.now) (IsTold g.E.Write.contents c.args.err.now c.args.err.now) c.args.task c.from_residual-in_err-explained-in-Explain.result c.in_err-explained-in-Explain.field-0.0 c.from_residual-in_err-explained-in-Explain.ensures.1 (told_nothing g.E.Write.contents c.args.err.now) (Appends-nil _)
 
 pub returns-in_err-listing-in-Check-clause-given_up : goal.returns-in_err-listing-in-Check-clause-given_up
 returns-in_err-listing-in-Check-clause-given_up g c =
-    not_begun (hosted g.H.Host.gives g.H.Host.keeps g.H.Host.is_honest g.H.Lines.TypedLines.echo c.args.host.now c.args.host.now) c.args.policy.now c.args.file.now c.args.reader
+    not_begun (hosted g.H.Host.hosting g.H.Lines.TypedLines.echo c.args.host.now c.args.host.now) c.args.policy.now c.args.file.now c.args.reader
     (IsAppended g.W.Write.contents c.args.out.now c.args.out.now) (IsTold g.E.Write.contents c.args.err.now c.args.err.now) c.args.task c.from_residual-in_err-listing-in-Check.result c.in_err-listing-in-Check.field-0.0 c.from_residual-in_err-listing-in-Check.ensures.1 (told_nothing g.E.Write.contents c.args.err.now) (Appends-nil _)
 
 pub returns-in_err-run_files-in-Run-clause-given_up : goal.returns-in_err-run_files-in-Run-clause-given_up
 returns-in_err-run_files-in-Run-clause-given_up g c =
-    run_task_given_up (hosted g.H.Host.gives g.H.Host.keeps g.H.Host.is_honest g.H.Lines.TypedLines.echo c.args.host.now c.run_files.new.host) c.args.policy.now c.args.file.now c.args.reader
+    run_task_given_up (hosted g.H.Host.hosting g.H.Lines.TypedLines.echo c.args.host.now c.run_files.new.host) c.args.policy.now c.args.file.now c.args.reader
     (IsAppended g.W.Write.contents c.args.out.now c.run_files.new.out) (IsTold g.E.Write.contents c.args.err.now c.args.err.now) c.args.task c.in-Run.files c.in-Run.is (told_nothing g.E.Write.contents c.args.err.now)
     c.from_residual-in_err-run_files-in-Run.result (search rules)
 
 pub returns-in_ok-run_files-in-Run-clause-done : goal.returns-in_ok-run_files-in-Run-clause-done
 returns-in_ok-run_files-in-Run-clause-done g c =
-    run_task_done (hosted g.H.Host.gives g.H.Host.keeps g.H.Host.is_honest g.H.Lines.TypedLines.echo c.args.host.now c.run_files.new.host) c.args.policy.now c.args.file.now c.args.reader
+    run_task_done (hosted g.H.Host.hosting g.H.Lines.TypedLines.echo c.args.host.now c.run_files.new.host) c.args.policy.now c.args.file.now c.args.reader
     (IsAppended g.W.Write.contents c.args.out.now c.run_files.new.out) (IsTold g.E.Write.contents c.args.err.now c.args.err.now) c.args.task c.in-Run.files c.in-Run.is
     (told_nothing g.E.Write.contents c.args.err.now) c.in_ok-run_files-in-Run.ensures.done
 
 pub returns-in_ok-certified-in-Certify-clause-given_up : goal.returns-in_ok-certified-in-Certify-clause-given_up
 returns-in_ok-certified-in-Certify-clause-given_up g c =
     let l = c.in_ok-certified-in-Certify.field-0 in
-    print_given_up (hosted g.H.Host.gives g.H.Host.keeps g.H.Host.is_honest g.H.Lines.TypedLines.echo c.args.host.now c.args.host.now) c.args.policy.now c.args.file.now c.args.reader
+    print_given_up (hosted g.H.Host.hosting g.H.Lines.TypedLines.echo c.args.host.now c.args.host.now) c.args.policy.now c.args.file.now c.args.reader
     (IsAppended g.W.Write.contents c.args.out.now c.print-in-Certify.new.out) (IsTold g.E.Write.contents c.args.err.now c.print-in-Certify.new.err) (Certify c.in-Certify.transactions) c.args.task c.in-Certify.is l.text.items (string_bytes l.told) l.ending
     c.in_ok-certified-in-Certify.ensures.listing c.print-in-Certify.result c.print-in-Certify.ensures.refused c.print-in-Certify.ensures.part
     (quiet_told g.E.Write.contents c.args.err.now c.print-in-Certify.new.err c.print-in-Certify.result c.print-in-Certify.ensures.quiet)
@@ -51,7 +51,7 @@ returns-in_ok-certified-in-Certify-clause-given_up g c =
 pub returns-in_ok-explained-in-Explain-clause-given_up : goal.returns-in_ok-explained-in-Explain-clause-given_up
 returns-in_ok-explained-in-Explain-clause-given_up g c =
     let l = c.in_ok-explained-in-Explain.field-0 in
-    print_given_up (hosted g.H.Host.gives g.H.Host.keeps g.H.Host.is_honest g.H.Lines.TypedLines.echo c.args.host.now c.args.host.now) c.args.policy.now c.args.file.now c.args.reader
+    print_given_up (hosted g.H.Host.hosting g.H.Lines.TypedLines.echo c.args.host.now c.args.host.now) c.args.policy.now c.args.file.now c.args.reader
     (IsAppended g.W.Write.contents c.args.out.now c.print-in-Explain.new.out) (IsTold g.E.Write.contents c.args.err.now c.print-in-Explain.new.err) (Explain c.in-Explain.transactions c.in-Explain.name) c.args.task c.in-Explain.is l.text.items (string_bytes l.told) l.ending
     c.in_ok-explained-in-Explain.ensures.listing c.print-in-Explain.result c.print-in-Explain.ensures.refused c.print-in-Explain.ensures.part
     (quiet_told g.E.Write.contents c.args.err.now c.print-in-Explain.new.err c.print-in-Explain.result c.print-in-Explain.ensures.quiet)
@@ -59,7 +59,7 @@ returns-in_ok-explained-in-Explain-clause-given_up g c =
 pub returns-in_ok-listing-in-Check-clause-given_up : goal.returns-in_ok-listing-in-Check-clause-given_up
 returns-in_ok-listing-in-Check-clause-given_up g c =
     let l = c.in_ok-listing-in-Check.listing in
-    print_given_up (hosted g.H.Host.gives g.H.Host.keeps g.H.Host.is_honest g.H.Lines.TypedLines.echo c.args.host.now c.args.host.now) c.args.policy.now c.args.file.now c.args.reader
+    print_given_up (hosted g.H.Host.hosting g.H.Lines.TypedLines.echo c.args.host.now c.args.host.now) c.args.policy.now c.args.file.now c.args.reader
     (IsAppended g.W.Write.contents c.args.out.now c.print-in-Check.new.out) (IsTold g.E.Write.contents c.args.err.now c.print-in-Check.new.err) (Check c.in-Check.transactions c.in-Check.certificates) c.args.task c.in-Check.is l.text.items (string_bytes l.told) l.ending
     c.in_ok-listing-in-Check.ensures.listing c.print-in-Check.result c.print-in-Check.ensures.refused c.print-in-Check.ensures.part
     (quiet_told g.E.Write.contents c.args.err.now c.print-in-Check.new.err c.print-in-Check.result c.print-in-Check.ensures.quiet)
@@ -68,18 +68,18 @@ pub returns-in_ok-texts-in-ShowPolicy-clause-given_up : goal.returns-in_ok-texts
 returns-in_ok-texts-in-ShowPolicy-clause-given_up g c =
     let l = c.in_ok-texts-in-ShowPolicy.field-0 in
     let e = c.in_ok-texts-in-ShowPolicy.ensures in
-    print_given_up (hosted g.H.Host.gives g.H.Host.keeps g.H.Host.is_honest g.H.Lines.TypedLines.echo c.args.host.now c.args.host.now) c.args.policy.now c.args.file.now c.args.reader
+    print_given_up (hosted g.H.Host.hosting g.H.Lines.TypedLines.echo c.args.host.now c.args.host.now) c.args.policy.now c.args.file.now c.args.reader
     (IsAppended g.W.Write.contents c.args.out.now c.print.new.out) (IsTold g.E.Write.contents c.args.err.now c.print.new.err) ShowPolicy c.args.task c.in-ShowPolicy.is l.text.items (string_bytes l.told) l.ending
     (e.text, e.told, e.end) c.print.result c.print.ensures.refused c.print.ensures.part
     (quiet_told g.E.Write.contents c.args.err.now c.print.new.err c.print.result c.print.ensures.quiet)
 
 pub returns-in-Shell-clause-done : goal.returns-in-Shell-clause-done
 returns-in-Shell-clause-done g c =
-    subst (λ task. IfOk c.shell_files.result (IsTaskDone (hosted g.H.Host.gives g.H.Host.keeps g.H.Host.is_honest g.H.Lines.TypedLines.echo c.args.host.now c.shell_files.new.host) c.args.policy.now c.args.file.now c.args.reader
+    subst (λ task. IfOk c.shell_files.result (IsTaskDone (hosted g.H.Host.hosting g.H.Lines.TypedLines.echo c.args.host.now c.shell_files.new.host) c.args.policy.now c.args.file.now c.args.reader
     (IsAppended g.W.Write.contents c.args.out.now c.shell_files.new.out) (IsTold g.E.Write.contents c.args.err.now c.shell_files.new.err) task)) (sym c.in-Shell.is) c.shell_files.ensures.done
 
 pub returns-in-Shell-clause-given_up : goal.returns-in-Shell-clause-given_up
 returns-in-Shell-clause-given_up g c =
-    shell_task_given_up (hosted g.H.Host.gives g.H.Host.keeps g.H.Host.is_honest g.H.Lines.TypedLines.echo c.args.host.now c.shell_files.new.host) c.args.policy.now c.args.file.now c.args.reader
+    shell_task_given_up (hosted g.H.Host.hosting g.H.Lines.TypedLines.echo c.args.host.now c.shell_files.new.host) c.args.policy.now c.args.file.now c.args.reader
     (IsAppended g.W.Write.contents c.args.out.now c.shell_files.new.out) (IsTold g.E.Write.contents c.args.err.now c.shell_files.new.err) c.args.task c.in-Shell.files c.in-Shell.is
     c.shell_files.result c.shell_files.ensures.given_up

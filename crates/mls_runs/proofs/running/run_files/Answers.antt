@@ -12,19 +12,19 @@ use Rattle.mls_runs.proofs.running.run_files.Goals as goal
 
 pub returns-in_err-stored-clause-given_up : goal.returns-in_err-stored-clause-given_up
 returns-in_err-stored-clause-given_up g c =
-    given_up_before (λ e. IsEnd (IsScriptRun (hosted g.H.Host.gives g.H.Host.keeps g.H.Host.is_honest g.H.Lines.TypedLines.echo c.args.host.now c.args.host.now) c.args.policy.now c.args.file.now c.args.reader c.args.files
+    given_up_before (λ e. IsEnd (IsScriptRun (hosted g.H.Host.hosting g.H.Lines.TypedLines.echo c.args.host.now c.args.host.now) c.args.policy.now c.args.file.now c.args.reader c.args.files
     (IsAppended g.W.Write.contents c.args.out.now c.args.out.now)) (λ _. IsAppended g.W.Write.contents c.args.out.now c.args.out.now []) (Err e))
     c.from_residual.result c.in_err-stored.field-0.0 c.from_residual.ensures.1 (Appends-nil _)
 
 pub returns-in_err-events-clause-given_up : goal.returns-in_err-events-clause-given_up
 returns-in_err-events-clause-given_up g c =
-    given_up_before (λ e. IsEnd (IsScriptRun (hosted g.H.Host.gives g.H.Host.keeps g.H.Host.is_honest g.H.Lines.TypedLines.echo c.args.host.now c.args.host.now) c.args.policy.now c.args.file.now c.args.reader c.args.files
+    given_up_before (λ e. IsEnd (IsScriptRun (hosted g.H.Host.hosting g.H.Lines.TypedLines.echo c.args.host.now c.args.host.now) c.args.policy.now c.args.file.now c.args.reader c.args.files
     (IsAppended g.W.Write.contents c.args.out.now c.args.out.now)) (λ _. IsAppended g.W.Write.contents c.args.out.now c.args.out.now []) (Err e))
     c.from_residual-in_err-events.result c.in_err-events.field-0.0 c.from_residual-in_err-events.ensures.1 (Appends-nil _)
 
 pub returns-clause-done : goal.returns-clause-done
 returns-clause-done g c =
-    let h = hosted g.H.Host.gives g.H.Host.keeps g.H.Host.is_honest g.H.Lines.TypedLines.echo c.args.host.now c.run_events.new.host in
+    let h = hosted g.H.Host.hosting g.H.Lines.TypedLines.echo c.args.host.now c.run_events.new.host in
     let wrote = IsAppended g.W.Write.contents c.args.out.now c.run_events.new.out in
     run_done h c.args.policy.now c.args.file.now c.args.reader wrote (λ _. wrote []) c.args.files c.run_events.result
     (script_run h c.args.policy.now c.args.file.now c.args.reader wrote (λ _. wrote []) c.args.files c.in_ok-stored.stored c.deref.result.now c.in_ok-stored.ensures.from
@@ -36,7 +36,7 @@ returns-clause-done g c =
 
 pub returns-clause-given_up : goal.returns-clause-given_up
 returns-clause-given_up g c =
-    let h = hosted g.H.Host.gives g.H.Host.keeps g.H.Host.is_honest g.H.Lines.TypedLines.echo c.args.host.now c.run_events.new.host in
+    let h = hosted g.H.Host.hosting g.H.Lines.TypedLines.echo c.args.host.now c.run_events.new.host in
     let wrote = IsAppended g.W.Write.contents c.args.out.now c.run_events.new.out in
     run_stopped h c.args.policy.now c.args.file.now c.args.reader wrote (λ _. wrote []) c.args.files c.run_events.result
     (script_run h c.args.policy.now c.args.file.now c.args.reader wrote (λ _. wrote []) c.args.files c.in_ok-stored.stored c.deref.result.now c.in_ok-stored.ensures.from

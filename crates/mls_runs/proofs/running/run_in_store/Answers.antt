@@ -14,7 +14,7 @@ returns-in-Err g c = Appends-nil _
 
 pub returns : goal.returns
 returns g c =
-    let h = hosted g.H.Host.gives g.H.Host.keeps g.H.Host.is_honest g.H.Lines.TypedLines.echo c.args.host.now c.keep-closed.new.self in
+    let h = hosted g.H.Host.hosting g.H.Lines.TypedLines.echo c.args.host.now c.keep-closed.new.self in
     let Wrote = IsAppended g.W.Write.contents c.args.out.now c.run_on-outcome.new.out in
     let Runs : Result (Unit {0}) RunFault → Type 0
     = IsRunFrom h c.args.file.now (Some c.args.path.now) (site_of c.args.policy.now c.args.file.now.schemes c.args.stored) c.args.audience c.args.events.now Wrote in

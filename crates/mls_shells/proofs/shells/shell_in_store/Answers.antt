@@ -16,7 +16,7 @@ returns-in-Err g c = (Appends-nil _, told_nothing g.E.Write.contents c.args.err.
 
 pub returns : goal.returns
 returns g c =
-    let h = hosted g.H.Host.gives g.H.Host.keeps g.H.Host.is_honest g.L.TypedLines.echo c.args.host.now c.keep-closed.new.self in
+    let h = hosted g.H.Host.hosting g.L.TypedLines.echo c.args.host.now c.keep-closed.new.self in
     let Wrote = IsAppended g.W.Write.contents c.args.out.now c.shell_on-outcome.new.out in
     let Told = IsTold g.E.Write.contents c.args.err.now c.shell_on-outcome.new.err in
     let Runs : Result Ending RunFault → Type 0

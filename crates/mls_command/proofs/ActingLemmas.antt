@@ -23,25 +23,25 @@ use Rattle.mls_host.specs.Hosting.{Hosted, IsTold}
 use Rattle.mls_host.specs.Refusal.{IsEnd}
 use Rattle.mls_listings.specs.Printing.{IsCutOff}
 use Rattle.mls_host.specs.Running.{site_of}
-use Rattle.mls_runs.specs.ScriptRun.{audience_of, IsRunFrom, IsScriptRun}
-use Rattle.mls_shells.specs.ShellRun.{IsShellRun}
+use Rattle.mls_runs.specs.ScriptRun.{IsScriptRun, IsRunRefused}
+use Rattle.mls_shells.specs.ShellRun.{IsShellRun, IsShellRefused}
 use Rattle.mls_host.proofs.HostingLemmas.{told_nothing}
-use Rattle.mls_command.specs.Acting.{Prints, IsTaskDone, IsRunOf, IsTaskGivenUp, IsDone, IsGivenUp}
+use Rattle.mls_command.specs.Acting.{Prints, IsTaskDone, IsRunOf, IsTaskRefused, IsTaskGivenUp, IsJobRefused, IsDone, IsGivenUp}
 use Rattle.mls_host.proofs.RunningLemmas.{given_up_before}
 
 module _ (h : Hosted) (policy : Tables) (file : SchemesFile) (reader : Option ℕ) (Wrote Told : List ℕ → Type 0) where
   -- as its run was
-  pub run_given_up : (files : RunFiles) (refusal : Refusal) → Told [] → IsEnd (IsScriptRun h policy file reader files Wrote) (λ _. Wrote []) (Err refusal)
+  pub run_given_up : (files : RunFiles) (refusal : Refusal) → Told [] → IsEnd (IsScriptRun h policy file reader files Wrote) (λ reason. IsRunRefused h.before policy file files reason × Wrote []) (Err refusal)
       → IsTaskGivenUp h policy file reader Wrote Told (tasks.Run files) refusal
-  run_given_up files (Before reason) t k = (t, k)
+  run_given_up files (Before reason) t k = (k.0, t, k.1)
   run_given_up files (Run f) t k = (t, k)
   run_given_up files NotClosed t k = (Well, (refl, t, k.1))
   run_given_up files Output t k = absurd k
 
   -- as its shell was
-  pub shell_given_up : (files : ShellFiles) (refusal : Refusal) → IsEnd (IsShellRun h policy file reader files Wrote Told) (λ _. Wrote [] × Told []) (Err refusal)
+  pub shell_given_up : (files : ShellFiles) (refusal : Refusal) → IsEnd (IsShellRun h policy file reader files Wrote Told) (λ reason. IsShellRefused h.before policy file reader files reason × Wrote [] × Told []) (Err refusal)
       → IsTaskGivenUp h policy file reader Wrote Told (tasks.Shell files) refusal
-  shell_given_up files (Before reason) k = (k.1, k.0)
+  shell_given_up files (Before reason) k = (k.0, k.2, k.1)
   shell_given_up files (Run fault) k = k
   shell_given_up files NotClosed k = k
   shell_given_up files Output k = absurd k
@@ -54,21 +54,24 @@ module _ (h : Hosted) (policy : Tables) (file : SchemesFile) (reader : Option �
   -- ---- tasks
 
   -- at the exit of a `?`
-  pub not_begun : {A : Type 0} (Told : List ℕ → Type 0) (task : Task) (r : Result A Refusal) (reason : Reason) → IsErrAnd r (λ e. e ≡ Before reason) → Told [] → Wrote []
-      → IfErr r (IsTaskGivenUp h policy file reader Wrote Told task)
-  not_begun Told task r reason is t w = given_up_before (IsTaskGivenUp h policy file reader Wrote Told task) r reason is (t, w)
+  pub not_begun : {A : Type 0} (Told : List ℕ → Type 0) (task same : Task) → same ≡ task → (r : Result A Refusal) (reason : Reason) → IsErrAnd r (λ e. e ≡ Before reason)
+      → IsTaskRefused h policy file reader task reason → Told [] → Wrote [] → IfErr r (IsTaskGivenUp h policy file reader Wrote Told same)
+  not_begun Told task same is r reason err k t w =
+      given_up_before (IsTaskGivenUp h policy file reader Wrote Told same) r reason err (subst (λ (t : Task). IsTaskRefused h policy file reader t reason) (sym is) k, t, w)
 
-  pub run_task_given_up : {A : Type 0} (Told : List ℕ → Type 0) (task : Task) (files : RunFiles) → task ≡ tasks.Run files → Told [] → (r : Result A Refusal)
-      → IfErr r (λ e. IsEnd (IsScriptRun h policy file reader files Wrote) (λ _. Wrote []) (Err e)) → IfErr r (IsTaskGivenUp h policy file reader Wrote Told task)
-  run_task_given_up Told task files is told (Ok a) k = tt
-  run_task_given_up Told task files is told (Err e) k = subst (λ (t : Task). IsTaskGivenUp h policy file reader Wrote Told t e) (sym is) (run_given_up h policy file reader Wrote Told files e told k)
+  pub run_task_given_up : {A : Type 0} (Told : List ℕ → Type 0) (task : Task) (files : RunFiles) → task ≡ tasks.Run files → Told [] → (r : Result A Refusal) (refusal : Refusal) → IsErrAnd r (λ e. e ≡ refusal)
+      → IsEnd (IsScriptRun h policy file reader files Wrote) (λ reason. IsRunRefused h.before policy file files reason × Wrote []) (Err refusal) → IfErr r (IsTaskGivenUp h policy file reader Wrote Told task)
+  run_task_given_up Told task files is told (Ok a) refusal err k = tt
+  run_task_given_up Told task files is told (Err e) refusal err k =
+      subst (λ (x : Refusal). IsTaskGivenUp h policy file reader Wrote Told task x) (sym err)
+      (subst (λ (t : Task). IsTaskGivenUp h policy file reader Wrote Told t refusal) (sym is) (run_given_up h policy file reader Wrote Told files refusal told k))
 
   pub run_task_done : (Told : List ℕ → Type 0) (task : Task) (files : RunFiles) → task ≡ tasks.Run files → Told [] → IsScriptRun h policy file reader files Wrote (Ok tt)
       → IsTaskDone h policy file reader Wrote Told task Well
   run_task_done Told task files is told runs = subst (λ (t : Task). IsTaskDone h policy file reader Wrote Told t Well) (sym is) (refl, told, runs)
 
   pub shell_task_given_up : {A : Type 0} (Told : List ℕ → Type 0) (task : Task) (files : ShellFiles) → task ≡ tasks.Shell files → (r : Result A Refusal)
-      → IfErr r (λ e. IsEnd (IsShellRun h policy file reader files Wrote Told) (λ _. Wrote [] × Told []) (Err e)) → IfErr r (IsTaskGivenUp h policy file reader Wrote Told task)
+      → IfErr r (λ e. IsEnd (IsShellRun h policy file reader files Wrote Told) (λ reason. IsShellRefused h.before policy file reader files reason × Wrote [] × Told []) (Err e)) → IfErr r (IsTaskGivenUp h policy file reader Wrote Told task)
   shell_task_given_up Told task files is (Ok a) k = tt
   shell_task_given_up Told task files is (Err e) k = subst (λ (t : Task). IsTaskGivenUp h policy file reader Wrote Told t e) (sym is) (shell_given_up h policy file reader Wrote Told files e k)
 
@@ -82,8 +85,9 @@ module _ (h : Hosted) (policy : Tables) (file : SchemesFile) (reader : Option �
 -- ---- jobs
 
 module _ (h : Hosted) (job : Job) (Wrote : List ℕ → Type 0) where
-  pub job_before : {A : Type 0} (Told : List ℕ → Type 0) (r : Result A Refusal) (reason : Reason) → IsErrAnd r (λ e. e ≡ Before reason) → Told [] → Wrote [] → IfErr r (IsGivenUp h Wrote Told job)
-  job_before Told r reason is t w = given_up_before (IsGivenUp h Wrote Told job) r reason is (inl (reason, refl, t, w))
+  pub job_before : {A : Type 0} (Told : List ℕ → Type 0) (r : Result A Refusal) (reason : Reason) → IsErrAnd r (λ e. e ≡ Before reason) → IsJobRefused h job reason → Told [] → Wrote []
+      → IfErr r (IsGivenUp h Wrote Told job)
+  job_before Told r reason is k t w = given_up_before (IsGivenUp h Wrote Told job) r reason is (inl (reason, refl, k, t, w))
 
   module _ (policy : Tables) (file : SchemesFile) (reader : Option ℕ) (policy_is : IsPolicyOf h.before.gives job.documents policy) (schemes_are : AreSchemesOf h.before.gives job.documents policy file)
       (reader_is : IsReader policy job.task reader) (Told : List ℕ → Type 0) where
@@ -130,11 +134,11 @@ module _ (h : Hosted) (Wrote Told More : List ℕ → Type 0) (f : (text : List 
 
   task_told : (policy : Tables) (file : SchemesFile) (reader : Option ℕ) (task : Task) (r : Refusal)
       → IsTaskGivenUp h policy file reader Wrote Told task r → IsTaskGivenUp h policy file reader Wrote More task r
-  task_told policy file reader task (Before reason) k = (f [] k.0, k.1)
+  task_told policy file reader task (Before reason) k = (k.0, f [] k.1, k.2)
   task_told policy file reader task (Run fault) k = run_told policy file reader task (Err fault) k
   task_told policy file reader task NotClosed k = (k.0, run_told policy file reader task (Ok k.0) k.1)
   task_told policy file reader task Output k = (f [] k.0, k.1)
 
   pub given_up_told : (job : Job) (r : Refusal) → IsGivenUp h Wrote Told job r → IsGivenUp h Wrote More job r
-  given_up_told job r (inl k) = inl (k.0, k.1, f [] k.2, k.3)
+  given_up_told job r (inl k) = inl (k.0, k.1, k.2, f [] k.3, k.4)
   given_up_told job r (inr u) = inr (record { policy = u.policy; file = u.file; reader = u.reader; policy_is = u.policy_is; schemes_are = u.schemes_are; reader_is = u.reader_is; does = task_told u.policy u.file u.reader job.task r u.does })

@@ -1,5 +1,5 @@
 -- What comes of a command line, by what its host gives.
-use Rattle.std.specs.Prelude.{◌≡◌, ℕ, List, [], ◌++◌, Option, Result, Ok, Err, ◌⊎◌}
+use Rattle.std.specs.Prelude.{◌≡◌, ℕ, List, [], ◌++◌, Option, Some, None, Result, Ok, Err, ◌⊎◌}
 use Rattle.clap.specs.Words.{Text}
 use Rattle.mls_lattice.specs.Policy.{Tables}
 use Rattle.mls_lattice.specs.Canon as lattice
@@ -13,19 +13,21 @@ use Rattle.mls_words.specs.declared.usage.Usage.{Usage}
 use Rattle.mls_host.specs.declared.ending.Ending.{Ending}
 use Rattle.mls_host.specs.declared.ending.Ending.TheVariants.{Well}
 use Rattle.mls_host.specs.declared.reason.Reason.{Reason}
+use Rattle.mls_host.specs.declared.reason.Reason.TheVariants.{Memory}
 use Rattle.mls_host.specs.declared.refusal.Refusal.{Refusal}
 use Rattle.mls_host.specs.declared.refusal.Refusal.TheVariants as refusals
 use Rattle.mls_host.specs.Hosting.{Hosted}
 use Rattle.mls_words.specs.Words.{named, Asks, AskNothing, usage_text, usage_status}
+use Rattle.mls_host.specs.Causes.{IsPolicyRefused, AreSchemesRefused, IsReaderUnknown, AreFilesRefused}
 use Rattle.mls_host.specs.Inputs.{IsPolicyOf, AreSchemesOf, IsReader}
 use Rattle.mls_host.specs.Refusal.{refusal_text, refusal_status}
 use Rattle.mls_host.specs.Ending.{ending_status}
 use Rattle.mls_listings.specs.Printing.{IsPrinted, IsPrintedInPart}
-use Rattle.mls_runs.specs.ScriptRun.{IsScriptRun}
-use Rattle.mls_shells.specs.ShellRun.{IsShellRun}
+use Rattle.mls_runs.specs.ScriptRun.{IsScriptRun, IsRunRefused}
+use Rattle.mls_shells.specs.ShellRun.{IsShellRun, IsShellRefused}
 use Rattle.mls_listings.specs.Certifying.{IsCertified}
 use Rattle.mls_listings.specs.Checking.{IsChecked}
-use Rattle.mls_listings.specs.Explaining.{IsExplained}
+use Rattle.mls_listings.specs.Explaining.{IsExplained, IsExplainRefused}
 
 module _ (h : Hosted) where
   -- ---- tasks
@@ -37,6 +39,15 @@ module _ (h : Hosted) where
   Prints policy file (Check transactions certificates) text told end = IsChecked h.before.gives policy file.schemes transactions.now certificates.now text told end
   Prints policy file (Explain transactions name) text told end = IsExplained h.before.gives policy file.schemes transactions.now (named name) text told end
   Prints policy file task text told end = ⊥
+
+  -- why a task is not begun: the inputs are refused in their order, each behind those that were read; or its store is not opened; or memory
+  abbrev pub IsTaskRefused : Tables → SchemesFile → Option ℕ → Task → Reason → Type 0
+  IsTaskRefused policy file reader ShowPolicy reason = reason ≡ Memory
+  IsTaskRefused policy file reader (Run files) reason = IsRunRefused h.before policy file files reason
+  IsTaskRefused policy file reader (Shell files) reason = IsShellRefused h.before policy file reader files reason
+  IsTaskRefused policy file reader (Certify transactions) reason = AreFilesRefused h.before (Some transactions.now) None policy file.schemes reason
+  IsTaskRefused policy file reader (Check transactions certificates) reason = AreFilesRefused h.before (Some transactions.now) (Some certificates.now) policy file.schemes reason
+  IsTaskRefused policy file reader (Explain transactions name) reason = IsExplainRefused h.before policy file.schemes transactions.now (named name) reason
 
   -- `Wrote`: what was written on standard output; `Told`: what was told on standard error
   module _ (policy : Tables) (file : SchemesFile) (reader : Option ℕ) (Wrote Told : List ℕ → Type 0) where
@@ -56,7 +67,7 @@ module _ (h : Hosted) where
     -- What was written, and what was told before the refusal, where a task is given up: nothing, if it is not begun; of a run or a shell
     -- that stopped, what it was up to there; of one whose store was not closed, all; where the output was not taken, a first part of it.
     abbrev pub IsTaskGivenUp : Task → Refusal → Type 0
-    IsTaskGivenUp task (refusals.Before reason) = Told [] × Wrote []
+    IsTaskGivenUp task (refusals.Before reason) = IsTaskRefused policy file reader task reason × Told [] × Wrote []
     IsTaskGivenUp task (refusals.Run fault) = IsRunOf task (Err fault)
     IsTaskGivenUp task refusals.NotClosed = (end : Ending) × IsRunOf task (Ok end)
     IsTaskGivenUp task refusals.Output = Told [] × IsPrintedInPart (Prints policy file task) Wrote
@@ -73,13 +84,20 @@ module _ (h : Hosted) where
     pub reader_is : IsReader policy job.task reader
     pub does : Does policy file reader
 
+  -- why a job is given up before its task: the policy is refused; or it is read, and no label has the reader's name; or the schemes are refused
+  pub data IsJobRefused (job : Job) (reason : Reason) : Type 0 where
+    no_policy : IsPolicyRefused h.before job.documents reason → IsJobRefused job reason
+    no_label : (policy : Tables) → IsPolicyOf h.before.gives job.documents policy → IsReaderUnknown policy job.task reason → IsJobRefused job reason
+    no_schemes : (policy : Tables) (reader : Option ℕ) → IsPolicyOf h.before.gives job.documents policy → IsReader policy job.task reader
+        → AreSchemesRefused h.before job.documents policy reason → IsJobRefused job reason
+
   module _ (Wrote Told : List ℕ → Type 0) (job : Job) where
     abbrev pub IsDone : Ending → Type 0
     IsDone end = IsUnder job (λ policy file reader. IsTaskDone policy file reader Wrote Told job.task end)
 
     -- it is given up before anything is written, or as its task is
     abbrev pub IsGivenUp : Refusal → Type 0
-    IsGivenUp refusal = ((reason : Reason) × (refusal ≡ refusals.Before reason) × Told [] × Wrote []) ⊎ IsUnder job (λ policy file reader. IsTaskGivenUp policy file reader Wrote Told job.task refusal)
+    IsGivenUp refusal = ((reason : Reason) × (refusal ≡ refusals.Before reason) × IsJobRefused job reason × Told [] × Wrote []) ⊎ IsUnder job (λ policy file reader. IsTaskGivenUp policy file reader Wrote Told job.task refusal)
 
   -- ---- command lines
 

@@ -6,12 +6,13 @@ ghost use Rattle.clap.specs.Words.{Text};
 ghost use Rattle.std.specs.Prelude.{List};
 ghost use Rattle.mls_host.specs.Hosting.{hosted, IsAppended, IsTold};
 ghost use Rattle.mls_words.specs.Words.{texts_of, Asks};
+ghost use Rattle.mls_host.specs.Causes.{IsPolicyRefused, AreSchemesRefused};
 ghost use Rattle.mls_host.specs.Inputs.{IsPolicyOf, AreSchemesOf};
 ghost use Rattle.mls_command.specs.Acting.{IsTaskDone, IsTaskGivenUp, IsDone, IsGivenUp, IsAnswered};
 
 use mls_host::{
-    Ending, Errors, Host, Reason, Refusal, Role, input_of, read_policy, read_schemes, reader_of,
-    samples,
+    Ending, Errors, Host, Reason, Refusal, policy_in, read_policy, read_schemes, reader_of,
+    samples, schemes_in,
 };
 use mls_lattice::{LabelNo, Policy};
 use mls_listings::{certified, checked, explained, texts};
@@ -29,13 +30,11 @@ fn policy_of<H: Host>(
     documents: Option<Documents>,
 ) -> Result<Policy, Reason>
     ensures policy { IfOk result (IsPolicyOf (H.hosting host.now).gives documents.entry) }
+    ensures refused { IfErr result (IsPolicyRefused (H.hosting host.now) documents.entry) }
 {
     match documents {
         None => read_policy(alloc, samples::POLICY.as_bytes()),
-        Some(files) => {
-            let bytes = input_of(alloc, host, Role::Policy, Some(files.policy))?;
-            read_policy(alloc, &bytes)
-        }
+        Some(files) => policy_in(alloc, host, files.policy),
     }
 }
 
@@ -48,13 +47,11 @@ fn schemes_of<H: Host>(
 ) -> Result<SchemesFile, Reason>
     ensures schemes { IfOk result (AreSchemesOf (H.hosting host.now).gives documents.entry policy.now) }
     ensures under { IfOk result (λ file. AreUnder (length policy.now.labels) file.schemes) }
+    ensures refused { IfErr result (AreSchemesRefused (H.hosting host.now) documents.entry policy.now) }
 {
     match documents {
         None => read_schemes(alloc, policy, samples::SCHEMES.as_bytes()),
-        Some(files) => {
-            let bytes = input_of(alloc, host, Role::Schemes, Some(files.schemes))?;
-            read_schemes(alloc, policy, &bytes)
-        }
+        Some(files) => schemes_in(alloc, host, policy, files.schemes),
     }
 }
 

@@ -1,3 +1,4 @@
 pub mod HostingLemmas
 pub mod RunningLemmas
 pub mod StoringLemmas
+pub mod CauseLemmas

@@ -6,3 +6,4 @@ pub mod Inputs
 pub mod Storing
 pub mod Running
 pub mod Telling
+pub mod Causes

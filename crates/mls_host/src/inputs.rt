@@ -1,21 +1,35 @@
 //! Files, read as what a command takes them for.
-ghost use Rattle.std.specs.Prelude.{◌<◌, length, Some, IfOk};
+ghost use Rattle.std.specs.Prelude.{◌≡◌, ◌<◌, length, Some, IfOk, IfErr};
 ghost use Rattle.std.specs.Option.{IfSome};
 ghost use Rattle.std.specs.List.{AllByRecursion};
 ghost use Rattle.mls_scheme.specs.Scheme.{AreUnder};
 ghost use Rattle.mls_translang.specs.Fits.{IsReadUnder};
-ghost use Rattle.mls_host.specs.Inputs.{IsReader, AreToldIn, AreBlocksIn, AreTransactionsFrom, AreCertificatesFrom};
+ghost use Rattle.mls_lattice.specs.ReadsPolicy.{ReadsPolicy};
+ghost use Rattle.mls_scheme.specs.Document.{ReadsSchemes};
+ghost use Rattle.mls_host.specs.Causes.{IsNotGiven, IsInputRefused, RefusesPolicy, RefusesSchemes, AreTransactionsRefused, AreCertificatesRefused, no_reader, IsReaderUnknown};
+ghost use Rattle.mls_host.specs.Inputs.{IsFrom, IsReader, AreToldIn, AreBlocksIn, AreTransactionsFrom, AreCertificatesFrom};
 ghost use Rattle.mls_words.specs.Words.{named};
 
-use crate::host::Host;
-use crate::readers::{read_certificates, read_transactions};
+use crate::host::{Host, HostFault};
+use crate::readers::{read_certificates, read_policy, read_schemes, read_transactions};
 use crate::reason::{Reason, Role};
 use mls_certificate::Certificate;
 use mls_lattice::{Items, LabelNo, Policy, Str};
-use mls_scheme::Schemes;
+use mls_scheme::{Schemes, SchemesFile};
 use mls_translang::Tx;
 use mls_words::Task;
 use std::alloc::Global;
+
+/// What the host gives for a file, or, with no path, for the standard input.
+fn given_of<H: Host>(alloc: Global, host: &H, path: Option<&str>) -> Result<Vec<u8>, HostFault>
+    ensures given { IfOk result (λ bytes. (H.hosting host.now).gives (named path.entry) bytes.items) }
+    ensures lacking { IfErr result ((H.hosting host.now).lacks (named path.entry)) }
+{
+    match path {
+        Some(path) => host.file(alloc, path),
+        None => host.input(alloc),
+    }
+}
 
 /// The bytes of a file, or, with no path, of the standard input.
 pub fn input_of<H: Host>(
@@ -25,19 +39,42 @@ pub fn input_of<H: Host>(
     path: Option<&str>,
 ) -> Result<Vec<u8>, Reason>
     ensures given { IfOk result (λ bytes. (H.hosting host.now).gives (named path.entry) bytes.items) }
+    ensures refused { IfErr result (IsNotGiven (H.hosting host.now) role (named path.entry)) }
 {
-    let given = match path {
-        Some(path) => host.file(alloc, path),
-        None => host.input(alloc),
-    };
-    match given {
+    match given_of(alloc, host, path) {
         Ok(bytes) => Ok(bytes),
         Err(fault) => Err(Reason::of_input(role, fault)),
     }
 }
 
+/// The policy of a file.
+pub fn policy_in<H: Host>(alloc: Global, host: &H, path: &str) -> Result<Policy, Reason>
+    ensures policy { IfOk result (λ policy. IsFrom (H.hosting host.now).gives (Some path.now) (λ bytes. ReadsPolicy bytes policy)) }
+    ensures refused { IfErr result (IsInputRefused (H.hosting host.now) Role.Policy (Some path.now) RefusesPolicy) }
+{
+    let bytes = input_of(alloc, host, Role::Policy, Some(path))?;
+    read_policy(alloc, &bytes)
+}
+
+/// The schemes of a file.
+pub fn schemes_in<H: Host>(
+    alloc: Global,
+    host: &H,
+    policy: &Policy,
+    path: &str,
+) -> Result<SchemesFile, Reason>
+    ensures schemes { IfOk result (λ file. IsFrom (H.hosting host.now).gives (Some path.now) (λ bytes. ReadsSchemes policy.now bytes file.version file.schemes)) }
+    ensures under { IfOk result (λ file. AreUnder (length policy.now.labels) file.schemes) }
+    ensures refused { IfErr result (IsInputRefused (H.hosting host.now) Role.Schemes (Some path.now) (RefusesSchemes policy.now)) }
+{
+    let bytes = input_of(alloc, host, Role::Schemes, Some(path))?;
+    read_schemes(alloc, policy, &bytes)
+}
+
 /// Why a task has no reader.
-fn no_reader(task: Task) -> Reason {
+fn no_reader(task: Task) -> Reason
+    ensures { result ≡ no_reader task.entry }
+{
     match task {
         Task::Shell(_) => Reason::Label,
         _ => Reason::Reader,
@@ -48,6 +85,7 @@ fn no_reader(task: Task) -> Reason {
 pub fn reader_of(policy: &Policy, task: Task) -> Result<Option<LabelNo>, Reason>
     ensures named { IfOk result (IsReader policy.now task.entry) }
     ensures declared { IfOk result (λ reader. IfSome reader (λ c. c < length policy.now.labels)) }
+    ensures unknown { IfErr result (IsReaderUnknown policy.now task.entry) }
 {
     match task.at() {
         None => Ok(None),
@@ -68,6 +106,7 @@ pub fn transactions_in<H: Host>(
 ) -> Result<Items<Tx>, Reason>
     ensures told { IfOk result (AreToldIn (H.hosting host.now).gives path.now policy.now schemes.now) }
     ensures ok { IfOk result (AllByRecursion (IsReadUnder policy.now schemes.now)) }
+    ensures refused { IfErr result (AreTransactionsRefused (H.hosting host.now) (Some path.now) policy.now schemes.now) }
 {
     let bytes = input_of(alloc, host, Role::Transactions, Some(path))?;
     read_transactions(alloc, policy, schemes, &bytes)
@@ -83,6 +122,7 @@ pub(crate) fn transactions_of<H: Host>(
 ) -> Result<Items<Tx>, Reason>
     ensures told { IfOk result (AreTransactionsFrom (H.hosting host.now).gives (named path.entry) policy.now schemes.now) }
     ensures ok { IfOk result (AllByRecursion (IsReadUnder policy.now schemes.now)) }
+    ensures refused { IfErr result (AreTransactionsRefused (H.hosting host.now) (named path.entry) policy.now schemes.now) }
 {
     match path {
         None => Ok(Items::from(Vec::new(alloc))),
@@ -97,6 +137,7 @@ pub fn certificates_in<H: Host>(
     path: &str,
 ) -> Result<Vec<(Str, Certificate)>, Reason>
     ensures blocks { IfOk result (λ blocks. AreBlocksIn (H.hosting host.now).gives path.now blocks.items) }
+    ensures refused { IfErr result (AreCertificatesRefused (H.hosting host.now) (Some path.now)) }
 {
     let bytes = input_of(alloc, host, Role::Certificates, Some(path))?;
     read_certificates(alloc, &bytes)
@@ -109,6 +150,7 @@ pub(crate) fn certificates_of<H: Host>(
     path: Option<&str>,
 ) -> Result<Vec<(Str, Certificate)>, Reason>
     ensures blocks { IfOk result (λ blocks. AreCertificatesFrom (H.hosting host.now).gives (named path.entry) blocks.items) }
+    ensures refused { IfErr result (AreCertificatesRefused (H.hosting host.now) (named path.entry)) }
 {
     match path {
         None => Ok(Vec::new(alloc)),

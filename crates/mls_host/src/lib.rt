@@ -17,7 +17,9 @@ pub use crate::ending::{Ending, ending_if};
 pub use crate::errors::Errors;
 pub use crate::form::form_of;
 pub use crate::host::{CloseFault, Host, HostFault, read_whole};
-pub use crate::inputs::{certificates_in, input_of, reader_of, transactions_in};
+pub use crate::inputs::{
+    certificates_in, input_of, policy_in, reader_of, schemes_in, transactions_in,
+};
 pub use crate::readers::{read_policy, read_schemes, read_script};
 pub use crate::reason::{Reason, Role};
 pub use crate::refusal::{Refusal, ended};

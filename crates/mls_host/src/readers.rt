@@ -1,5 +1,5 @@
 //! Bytes, read as what a command takes them for.
-ghost use Rattle.std.specs.Prelude.{◌≡◌, length, IfOk};
+ghost use Rattle.std.specs.Prelude.{◌≡◌, length, IfOk, IfErr};
 ghost use Rattle.std.specs.List.{AllByRecursion};
 ghost use Rattle.mls_lattice.specs.ReadsPolicy.{ReadsPolicy};
 ghost use Rattle.mls_scheme.specs.Document.{ReadsSchemes};
@@ -9,6 +9,7 @@ ghost use Rattle.mls_translang.specs.Tells.{Tells};
 ghost use Rattle.mls_certificate.specs.Spelling.{IsFile, file_text};
 ghost use Rattle.mls_script.specs.Event.{EventFits};
 ghost use Rattle.mls_script.specs.Script.{ReadsScript};
+ghost use Rattle.mls_host.specs.Causes.{RefusesPolicy, RefusesSchemes, RefusesTransactions, RefusesCertificates, RefusesScript};
 
 use crate::reason::Reason;
 use mls_certificate::{Certificate, certs_read};
@@ -21,7 +22,8 @@ use std::alloc::Global;
 
 /// A policy.
 pub fn read_policy(alloc: Global, bytes: &[u8]) -> Result<Policy, Reason>
-    ensures { IfOk result (ReadsPolicy bytes.now) }
+    ensures read { IfOk result (ReadsPolicy bytes.now) }
+    ensures refused { IfErr result (RefusesPolicy bytes.now) }
 {
     match Policy::read(alloc, bytes) {
         Ok(policy) => Ok(policy),
@@ -33,6 +35,7 @@ pub fn read_policy(alloc: Global, bytes: &[u8]) -> Result<Policy, Reason>
 pub fn read_schemes(alloc: Global, policy: &Policy, bytes: &[u8]) -> Result<SchemesFile, Reason>
     ensures read { IfOk result (λ file. ReadsSchemes policy.now bytes.now file.version file.schemes) }
     ensures under { IfOk result (λ file. AreUnder (length policy.now.labels) file.schemes) }
+    ensures refused { IfErr result (RefusesSchemes policy.now bytes.now) }
 {
     match SchemesFile::read(alloc, policy, bytes) {
         Ok(file) => Ok(file),
@@ -49,6 +52,7 @@ pub(crate) fn read_transactions(
 ) -> Result<Items<Tx>, Reason>
     ensures told { IfOk result (Tells policy.now schemes.now bytes.now) }
     ensures ok { IfOk result (AllByRecursion (IsReadUnder policy.now schemes.now)) }
+    ensures refused { IfErr result (RefusesTransactions policy.now schemes.now bytes.now) }
 {
     match parse(alloc, policy, schemes, bytes) {
         Ok(txs) => Ok(txs),
@@ -61,7 +65,8 @@ pub(crate) fn read_certificates(
     alloc: Global,
     bytes: &[u8],
 ) -> Result<Vec<(Str, Certificate)>, Reason>
-    ensures { IfOk result (λ blocks. IsFile blocks.items × (bytes.now ≡ file_text blocks.items)) }
+    ensures read { IfOk result (λ blocks. IsFile blocks.items × (bytes.now ≡ file_text blocks.items)) }
+    ensures refused { IfErr result (RefusesCertificates bytes.now) }
 {
     match certs_read(alloc, bytes) {
         Ok(blocks) => Ok(blocks),
@@ -78,6 +83,7 @@ pub fn read_script(
 ) -> Result<Vec<Event>, Reason>
     ensures read { IfOk result (λ events. ReadsScript policy.now schemes.now bytes.now events.items) }
     ensures fits { IfOk result (λ events. AllByRecursion (EventFits policy.now schemes.now) events.items) }
+    ensures refused { IfErr result (RefusesScript policy.now schemes.now bytes.now) }
 {
     match script(alloc, policy, schemes, bytes) {
         Ok(events) => Ok(events),

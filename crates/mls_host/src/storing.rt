@@ -1,6 +1,7 @@
 //! Transactions as they are stored: with the certificates that hold for them, or without.
-ghost use Rattle.std.specs.Prelude.{◌≡◌, IfOk, option_map};
+ghost use Rattle.std.specs.Prelude.{◌≡◌, IfOk, IfErr, option_map};
 ghost use Rattle.mls_machine.specs.Observation.{AreRead, AreCertified};
+ghost use Rattle.mls_host.specs.Causes.{AreFilesRefused};
 ghost use Rattle.mls_host.specs.Inputs.{AreStoredFrom};
 ghost use Rattle.mls_host.specs.Running.{site_of};
 ghost use Rattle.mls_host.specs.Storing.{cert_named, IsChecked, IsStoredWith, AreStoredWith};
@@ -96,6 +97,7 @@ pub fn stored_files<H: Host>(
     ensures from { IfOk result (AreStoredFrom (H.hosting host.now).gives (named transactions.entry) (named certificates.entry) policy.now schemes.now) }
     ensures read { IfOk result (λ ss. AreRead (site_of policy.now schemes.now ss)) }
     ensures certified { IfOk result (λ ss. AreCertified (site_of policy.now schemes.now ss)) }
+    ensures refused { IfErr result (AreFilesRefused (H.hosting host.now) (named transactions.entry) (named certificates.entry) policy.now schemes.now) }
 {
     let txs = transactions_of(alloc, host, policy, schemes, transactions)?;
     let blocks = certificates_of(alloc, host, certificates)?;

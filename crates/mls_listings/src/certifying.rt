@@ -1,7 +1,8 @@
 //! Transactions get the least certificates that hold for them.
-ghost use Rattle.std.specs.Prelude.{◌≡◌, ◌++◌, string_bytes, IfOk, OnOk};
+ghost use Rattle.std.specs.Prelude.{◌≡◌, ◌++◌, Some, None, string_bytes, IfOk, IfErr, OnOk};
 ghost use Rattle.std.specs.List.{flat_map, list_any, AllByRecursion};
 ghost use Rattle.mls_certificate.specs.declared.cert.Version.TheVariants.{First};
+ghost use Rattle.mls_host.specs.Causes.{AreFilesRefused};
 ghost use Rattle.mls_listings.specs.Certifying.{HasNoneOf, HaveText, AreLabels, IsAnswer, AreAnswers, block_of, none_front, none_text, refusal_of, has_none, ending_of, IsListing, IsCertified};
 
 use crate::listing::Listing;
@@ -184,6 +185,7 @@ pub fn certified<H: Host>(
     transactions: &str,
 ) -> Result<Listing, Reason>
     ensures listing { IfOk result (λ l. IsCertified (H.hosting host.now).gives policy.now schemes.now transactions.now l.text.items (string_bytes l.told) l.ending) }
+    ensures refused { IfErr result (AreFilesRefused (H.hosting host.now) (Some transactions.now) None policy.now schemes.now) }
 {
     let txs = transactions_in(alloc, host, policy, schemes, transactions)?;
     Ok(listing_of(alloc, policy, &txs)?)

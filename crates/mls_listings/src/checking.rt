@@ -1,8 +1,9 @@
 //! Certificates are checked against the transactions of their names.
-ghost use Rattle.std.specs.Prelude.{◌≡◌, ◌↔◌, ◌++◌, Some, string_bytes, IfOk, OnOk};
+ghost use Rattle.std.specs.Prelude.{◌≡◌, ◌↔◌, ◌++◌, Some, string_bytes, IfOk, IfErr, OnOk};
 ghost use Rattle.std.specs.List.{flat_map, list_any};
 ghost use Rattle.mls_certcheck.specs.Rules.{Rules, claim};
 ghost use Rattle.mls_certificate.specs.declared.cert.Certificate.{Certificate as SpecCertificate};
+ghost use Rattle.mls_host.specs.Causes.{AreFilesRefused};
 ghost use Rattle.mls_host.specs.Storing.{cert_named};
 ghost use Rattle.mls_listings.specs.declared.checking.Verdict.TheVariants.{Yes};
 ghost use Rattle.mls_listings.specs.Checking.{verdict_of, verdict_text, line_of, is_refused, IsChecked};
@@ -99,6 +100,7 @@ pub fn checked<H: Host>(
     certificates: &str,
 ) -> Result<Listing, Reason>
     ensures listing { IfOk result (λ l. IsChecked (H.hosting host.now).gives policy.now schemes.now transactions.now certificates.now l.text.items (string_bytes l.told) l.ending) }
+    ensures refused { IfErr result (AreFilesRefused (H.hosting host.now) (Some transactions.now) (Some certificates.now) policy.now schemes.now) }
 {
     let txs = transactions_in(alloc, host, policy, schemes, transactions)?;
     let blocks = certificates_in(alloc, host, certificates)?;

@@ -1,8 +1,8 @@
 //! What is told of transactions: their labels, or why they have none.
-ghost use Rattle.std.specs.Prelude.{◌≡◌, [], IfOk, IfSome, string_bytes};
+ghost use Rattle.std.specs.Prelude.{◌≡◌, [], Some, None, IfOk, IfErr, IfSome, string_bytes};
 ghost use Rattle.std.specs.List.{flat_map, list_any, AllByRecursion};
 ghost use Rattle.mls_translang.specs.Fits.{IsReadUnder};
-ghost use Rattle.mls_listings.specs.Explaining.{AreChosen, AreExplained, lacks_labels, IsExplained};
+ghost use Rattle.mls_listings.specs.Explaining.{AreChosen, HaveNone, AreExplained, lacks_labels, IsExplained, IsExplainRefused};
 ghost use Rattle.mls_host.specs.Ending.{ending_if};
 ghost use Rattle.mls_words.specs.Words.{named};
 
@@ -14,19 +14,28 @@ use mls_scheme::Schemes;
 use mls_translang::Tx;
 use std::alloc::{AllocError, Global};
 
-/// The transactions of a name, one at most, or all.
-fn chosen_of<'a>(txs: &'a [Tx], name: Option<&str>) -> Option<&'a [Tx]>
-    ensures { IfSome result (λ chosen. AreChosen (named name.entry) txs.now chosen.now) }
+/// The first transaction of a name.
+fn first_of<'a>(txs: &'a [Tx], name: &str) -> Option<&'a [Tx]>
+    ensures chosen { IfSome result (λ chosen. AreChosen (Some name.now) txs.now chosen.now) }
+    ensures none { result ≡ None → HaveNone (Some name.now) txs.now }
 {
-    let Some(name) = name else {
-        return Some(txs);
-    };
     for (place, tx) in txs.iter().enumerate() {
         if tx.name() == name {
             return Some(&txs[place..place + 1]);
         }
     }
     None
+}
+
+/// The transactions of a name, one at most, or all.
+fn chosen_of<'a>(txs: &'a [Tx], name: Option<&str>) -> Option<&'a [Tx]>
+    ensures chosen { IfSome result (λ chosen. AreChosen (named name.entry) txs.now chosen.now) }
+    ensures none { result ≡ None → HaveNone (named name.entry) txs.now }
+{
+    match name {
+        Some(name) => first_of(txs, name),
+        None => Some(txs),
+    }
 }
 
 /// What is told of each transaction, in order.
@@ -92,10 +101,12 @@ pub fn explained<H: Host>(
 ) -> Result<Listing, Reason>
     ensures listing { IfOk result (λ l. IsExplained (H.hosting host.now).gives policy.now schemes.now transactions.now (named name.entry)
         l.text.items (string_bytes l.told) l.ending) }
+    ensures refused { IfErr result (IsExplainRefused (H.hosting host.now) policy.now schemes.now transactions.now (named name.entry)) }
 {
     let txs = transactions_in(alloc, host, policy, schemes, transactions)?;
-    let Some(chosen) = chosen_of(&txs, name) else {
-        return Err(Reason::Name);
+    let chosen = match chosen_of(&txs, name) {
+        Some(chosen) => chosen,
+        None => return Err(Reason::Name),
     };
     let explained = each_explained(alloc, policy, schemes, chosen)?;
     Ok(listing_of(alloc, &explained)?)

@@ -12,7 +12,7 @@ use Rattle.mls_fragments.specs.Opening.{IsOfOthers, IsBad}
 use Rattle.mls_fragments.specs.declared.open_fault.OpenFault.{OpenFault}
 use Rattle.mls_fragments.specs.declared.open_fault.OpenFault.TheVariants as stores
 use Rattle.mls_fragments.proofs.AgainLemmas.{one_held}
-use Rattle.mls_runs.specs.Memory.{IsBarred, hosted_in, RunsInMemoryAreInTurn}
+use Rattle.mls_runs.specs.Memory.{IsUnopenedFor, hosted_in, RunsInMemoryAreInTurn}
 use Rattle.mls_runs.proofs.InTurnLemmas.{in_turn}
 
 one_of : {A : Type 0} (database : A → Database) (o : Option A) (c d : Content)
@@ -26,7 +26,7 @@ in_memory R W V old middle new path = in_turn (hosted_in old middle) W (hosted_i
 -- the store that a connection was is not opened for the cause that it comes back with
 pub barred : {A : Type 0} (database : A → Database) (policy : Tables) (file : SchemesFile) (store : Option A) (conn : A) → Some conn ≡ store → (fault : OpenFault)
     → (fault ≡ stores.OtherPolicy → IsOfOthers policy file (database conn)) → (fault ≡ stores.BadRows → IsBad policy file (database conn))
-    → IsBarred policy file (option_map database store) fault
+    → IsUnopenedFor policy file (option_map database store) fault
 barred database policy file store conn is stores.Store other bad = tt
 barred database policy file store conn is stores.OtherPolicy other bad = subst (λ o. MatchOption (option_map database o) ⊥ (IsOfOthers policy file)) is (other refl)
 barred database policy file store conn is stores.BadRows other bad = subst (λ o. MatchOption (option_map database o) ⊥ (IsBad policy file)) is (bad refl)

@@ -15,47 +15,57 @@ use Rattle.mls_host.specs.declared.reason.Reason.{Reason}
 use Rattle.mls_host.specs.declared.refusal.Refusal.{Refusal}
 use Rattle.mls_host.specs.Hosting.{Hosted}
 use Rattle.mls_host.specs.Inputs.{AreStoredFrom, IsScriptFrom}
+use Rattle.mls_host.specs.Causes.{IsBarred}
 use Rattle.mls_host.specs.Refusal.{IsEnd}
 use Rattle.mls_host.specs.Running.{site_of, IsRun}
 use Rattle.mls_host.proofs.RunningLemmas.{end_weaker}
-use Rattle.mls_runs.specs.ScriptRun.{audience_of, IsRunFrom, IsScriptRun}
+use Rattle.mls_runs.specs.ScriptRun.{audience_of, IsRunFrom, IsScriptRun, IsRunRefused, no_store}
 
 -- ---- where runs begin
 
-module _ (h : Hosted) (file : SchemesFile) (site : Site) (audience : Audience) (es : List Event) (Wrote : List ℕ → Type 0) (Nothing : Reason → Type 0) (store : Option (Bor (List ℕ))) (r : Result (Unit {0}) Refusal) where
+module _ (h : Hosted) (file : SchemesFile) (site : Site) (audience : Audience) (es : List Event) (Wrote : List ℕ → Type 0) (Nothing : Option (List ℕ) → Reason → Type 0)
+    (store : Option (Bor (List ℕ))) (r : Result (Unit {0}) Refusal) where
   -- with nothing
-  pub from_memory : store ≡ None → IsEnd (λ end. (left : Content) × IsRun site audience es Wrote end no_content left) Nothing r
-      → IsEnd (IsRunFrom h file (named store) site audience es Wrote) Nothing r
+  pub from_memory : store ≡ None → IsEnd (λ end. (left : Content) × IsRun site audience es Wrote end no_content left) (Nothing None) r
+      → IsEnd (IsRunFrom h file (named store) site audience es Wrote) (Nothing (named store)) r
   from_memory none run =
       let f : (end : Result (Unit {0}) RunFault) → ((left : Content) × IsRun site audience es Wrote end no_content left) → IsRunFrom h file None site audience es Wrote end
       = λ end k. λ clean. record { first = no_content; left = k.0; begins = refl; kept = tt; leads = k.1 } in
-      subst (λ (s : Option (Bor (List ℕ))). IsEnd (IsRunFrom h file (named s) site audience es Wrote) Nothing r) (sym none)
-      (end_weaker (λ end. (left : Content) × IsRun site audience es Wrote end no_content left) Nothing (IsRunFrom h file None site audience es Wrote) Nothing f (λ _ k. k) r run)
+      subst (λ (s : Option (Bor (List ℕ))). IsEnd (IsRunFrom h file (named s) site audience es Wrote) (Nothing (named s)) r) (sym none)
+      (end_weaker (λ end. (left : Content) × IsRun site audience es Wrote end no_content left) (Nothing None) (IsRunFrom h file None site audience es Wrote) (Nothing None) f (λ _ k. k) r run)
 
   -- with what a store kept
-  pub from_store : (path : Bor (List ℕ)) → store ≡ Some path → IsEnd (IsRunFrom h file (Some path.now) site audience es Wrote) Nothing r
-      → IsEnd (IsRunFrom h file (named store) site audience es Wrote) Nothing r
-  from_store path some run = subst (λ (s : Option (Bor (List ℕ))). IsEnd (IsRunFrom h file (named s) site audience es Wrote) Nothing r) (sym some) run
+  pub from_store : (path : Bor (List ℕ)) → store ≡ Some path → IsEnd (IsRunFrom h file (Some path.now) site audience es Wrote) (Nothing (Some path.now)) r
+      → IsEnd (IsRunFrom h file (named store) site audience es Wrote) (Nothing (named store)) r
+  from_store path some run = subst (λ (s : Option (Bor (List ℕ))). IsEnd (IsRunFrom h file (named s) site audience es Wrote) (Nothing (named s)) r) (sym some) run
 
 -- ---- the events of a script
 
-module _ (h : Hosted) (policy : Tables) (file : SchemesFile) (reader : Option ℕ) (Wrote : List ℕ → Type 0) (Nothing : Reason → Type 0) where
+module _ (h : Hosted) (policy : Tables) (file : SchemesFile) (reader : Option ℕ) (Wrote : List ℕ → Type 0) (files : RunFiles) where
+  -- it was not begun, and nothing was written
+  abbrev pub NotBegun : Reason → Type 0
+  NotBegun reason = IsRunRefused h.before policy file files reason × Wrote []
+
   -- the events of a script, over what is stored
-  pub script_run : (files : RunFiles) (stored : List Stored) (events : List Event)
+  pub script_run : (stored : List Stored) (events : List Event)
       → AreStoredFrom h.before.gives (named files.transactions) (named files.certificates) policy file.schemes stored
       → IsScriptFrom h.before.gives (named files.script) policy file.schemes events
-      → (r : Result (Unit {0}) Refusal) → IsEnd (IsRunFrom h file (named files.store) (site_of policy file.schemes stored) (audience_of reader files) events Wrote) Nothing r
-      → IsEnd (IsScriptRun h policy file reader files Wrote) Nothing r
-  script_run files stored events stored_are events_are r run =
+      → (r : Result (Unit {0}) Refusal)
+      → IsEnd (IsRunFrom h file (named files.store) (site_of policy file.schemes stored) (audience_of reader files) events Wrote) (λ reason. IsBarred h.before policy file (named files.store) reason × Wrote []) r
+      → IsEnd (IsScriptRun h policy file reader files Wrote) NotBegun r
+  script_run stored events stored_are events_are r run =
       let f : (end : Result (Unit {0}) RunFault) → IsRunFrom h file (named files.store) (site_of policy file.schemes stored) (audience_of reader files) events Wrote end → IsScriptRun h policy file reader files Wrote end
       = λ end k. record { stored = stored; events = events; stored_are = stored_are; events_are = events_are; run = k } in
-      end_weaker (IsRunFrom h file (named files.store) (site_of policy file.schemes stored) (audience_of reader files) events Wrote) Nothing (IsScriptRun h policy file reader files Wrote) Nothing f (λ _ k. k) r run
+      let g : (reason : Reason) → (IsBarred h.before policy file (named files.store) reason × Wrote []) → NotBegun reason
+      = λ reason k. (no_store stored events stored_are events_are k.0, k.1) in
+      end_weaker (IsRunFrom h file (named files.store) (site_of policy file.schemes stored) (audience_of reader files) events Wrote) (λ reason. IsBarred h.before policy file (named files.store) reason × Wrote [])
+      (IsScriptRun h policy file reader files Wrote) NotBegun f g r run
 
-  pub run_done : (files : RunFiles) (r : Result (Unit {0}) Refusal) → IsEnd (IsScriptRun h policy file reader files Wrote) Nothing r → OnOk r (IsScriptRun h policy file reader files Wrote (Ok tt))
-  run_done files (Ok u) k = k
-  run_done files (Err e) k = tt
+  pub run_done : (r : Result (Unit {0}) Refusal) → IsEnd (IsScriptRun h policy file reader files Wrote) NotBegun r → OnOk r (IsScriptRun h policy file reader files Wrote (Ok tt))
+  run_done (Ok u) k = k
+  run_done (Err e) k = tt
 
-  pub run_stopped : (files : RunFiles) (r : Result (Unit {0}) Refusal) → IsEnd (IsScriptRun h policy file reader files Wrote) Nothing r
-      → IfErr r (λ e. IsEnd (IsScriptRun h policy file reader files Wrote) Nothing (Err e))
-  run_stopped files (Ok u) k = tt
-  run_stopped files (Err e) k = k
+  pub run_stopped : (r : Result (Unit {0}) Refusal) → IsEnd (IsScriptRun h policy file reader files Wrote) NotBegun r
+      → IfErr r (λ e. IsEnd (IsScriptRun h policy file reader files Wrote) NotBegun (Err e))
+  run_stopped (Ok u) k = tt
+  run_stopped (Err e) k = k

@@ -43,11 +43,11 @@ IsLacking (Some (Ok bytes)) fault = IsUncopied bytes fault
 IsLacking (Some (Err held)) fault = fault ≡ held
 
 -- why a store is not opened, which is there, or not: its texts are those of others, or it is bad, or it fails; or memory
-abbrev pub IsBarred : Tables → SchemesFile → Option Database → OpenFault → Type 0
-IsBarred policy file store stores.Store = ⊤
-IsBarred policy file store stores.Memory = ⊤
-IsBarred policy file store stores.OtherPolicy = MatchOption store ⊥ (IsOfOthers policy file)
-IsBarred policy file store stores.BadRows = MatchOption store ⊥ (IsBad policy file)
+abbrev pub IsUnopenedFor : Tables → SchemesFile → Option Database → OpenFault → Type 0
+IsUnopenedFor policy file store stores.Store = ⊤
+IsUnopenedFor policy file store stores.Memory = ⊤
+IsUnopenedFor policy file store stores.OtherPolicy = MatchOption store ⊥ (IsOfOthers policy file)
+IsUnopenedFor policy file store stores.BadRows = MatchOption store ⊥ (IsBad policy file)
 
 module _ {R : Type 0} where
   -- it gives the bytes that stand there under the name, or its input, and nothing else
@@ -66,7 +66,7 @@ module _ {R : Type 0} where
 
   -- why its store is not opened
   abbrev pub bars : MemoryHost R → List ℕ → Tables → SchemesFile → OpenFault → Type 0
-  bars h path policy file fault = IsBarred policy file (option_map (λ conn. (state over_memory conn).now) h.store) fault
+  bars h path policy file fault = IsUnopenedFor policy file (option_map (λ conn. (state over_memory conn).now) h.store) fault
 
   abbrev pub hosting : MemoryHost R → Hosting
   hosting h = record { gives = gives h; lacks = lacks h; keeps = keeps h; bars = bars h; is_honest = ⊤ }

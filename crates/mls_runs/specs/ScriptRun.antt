@@ -8,7 +8,9 @@ use Rattle.mls_machine.specs.declared.form.Audience.{Audience}
 use Rattle.mls_machine.specs.Site.{Site}
 use Rattle.mls_sessions.specs.declared.cause.RunFault.{RunFault}
 use Rattle.mls_words.specs.declared.words.RunFiles.{RunFiles}
-use Rattle.mls_host.specs.Hosting.{Hosted, IsClean, IsOver}
+use Rattle.mls_host.specs.declared.reason.Reason.{Reason}
+use Rattle.mls_host.specs.Causes.{AreFilesRefused, IsScriptRefused, IsBarred}
+use Rattle.mls_host.specs.Hosting.{Hosting, Hosted, IsClean, IsOver}
 use Rattle.mls_host.specs.Inputs.{AreStoredFrom, IsScriptFrom}
 use Rattle.mls_words.specs.Words.{named}
 use Rattle.mls_host.specs.Running.{IsRun, form_of, site_of}
@@ -29,3 +31,11 @@ module _ (h : Hosted) where
     pub stored_are : AreStoredFrom h.before.gives (named files.transactions) (named files.certificates) policy file.schemes stored
     pub events_are : IsScriptFrom h.before.gives (named files.script) policy file.schemes events
     pub run : IsRunFrom file (named files.store) (site_of policy file.schemes stored) (audience_of reader files) events Wrote end
+
+-- A run is not begun: what it stores is refused; or that is read, and its script is refused; or both are read, and its store is barred.
+pub data IsRunRefused (h : Hosting) (policy : Tables) (file : SchemesFile) (files : RunFiles) (reason : Reason) : Type 0 where
+  no_files : AreFilesRefused h (named files.transactions) (named files.certificates) policy file.schemes reason → IsRunRefused h policy file files reason
+  no_script : (stored : List Stored) → AreStoredFrom h.gives (named files.transactions) (named files.certificates) policy file.schemes stored
+      → IsScriptRefused h (named files.script) policy file.schemes reason → IsRunRefused h policy file files reason
+  no_store : (stored : List Stored) (events : List Event) → AreStoredFrom h.gives (named files.transactions) (named files.certificates) policy file.schemes stored
+      → IsScriptFrom h.gives (named files.script) policy file.schemes events → IsBarred h policy file (named files.store) reason → IsRunRefused h policy file files reason

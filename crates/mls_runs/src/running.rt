@@ -8,11 +8,12 @@ ghost use Rattle.mls_script.specs.Event.{EventFits};
 ghost use Rattle.mls_machine.specs.Observation.{EventsFit, AreRead, AreCertified};
 ghost use Rattle.mls_sessions.specs.World.{IsSound};
 ghost use Rattle.mls_host.specs.Hosting.{hosted, IsAppended};
+ghost use Rattle.mls_host.specs.Causes.{IsScriptRefused, IsUnopened, IsBarred};
 ghost use Rattle.mls_host.specs.Inputs.{AreStoredFrom, IsScriptFrom};
 ghost use Rattle.mls_words.specs.Words.{named};
 ghost use Rattle.mls_host.specs.Refusal.{IsEnd};
 ghost use Rattle.mls_host.specs.Running.{site_of, IsRun};
-ghost use Rattle.mls_runs.specs.ScriptRun.{IsRunFrom, IsScriptRun};
+ghost use Rattle.mls_runs.specs.ScriptRun.{IsRunFrom, IsScriptRun, IsRunRefused};
 
 use mls_filterview::Base;
 use mls_fragments::SqlBase;
@@ -70,7 +71,7 @@ fn run_in_memory<W: Write>(
     requires fits { EventsFit (site_of policy.now file.now.schemes stored) events.now }
     requires declared { IfSome audience.reader (λ c. c < length policy.now.labels) }
     ensures { IsEnd (λ end. (left : Content) × IsRun (site_of policy.now file.now.schemes stored) audience events.now
-        (IsAppended W.contents out.old out.new) end no_content left) (λ _. IsAppended W.contents out.old out.new []) result }
+        (IsAppended W.contents out.old out.new) end no_content left) (λ reason. IsUnopened reason × IsAppended W.contents out.old out.new []) result }
 {
     let base = match SqlBase::open_memory(alloc, policy, file) {
         Ok(base) => base,
@@ -109,7 +110,7 @@ fn run_in_store<H: Host, W: Write>(
     requires declared { IfSome audience.reader (λ c. c < length policy.now.labels) }
     ensures { IsEnd (IsRunFrom (hosted H.hosting H.Lines.echo host.old host.new) file.now (Some path.now)
         (site_of policy.now file.now.schemes stored) audience events.now (IsAppended W.contents out.old out.new))
-        (λ _. IsAppended W.contents out.old out.new []) result }
+        (λ reason. IsBarred (H.hosting host.old) policy.now file.now (Some path.now) reason × IsAppended W.contents out.old out.new []) result }
 {
     let base = match host.store(alloc, path, policy, file) {
         Ok(base) => base,
@@ -148,7 +149,7 @@ fn run_events<H: Host, W: Write>(
     requires declared { IfSome audience.reader (λ c. c < length policy.now.labels) }
     ensures { IsEnd (IsRunFrom (hosted H.hosting H.Lines.echo host.old host.new) file.now (named store.entry)
         (site_of policy.now file.now.schemes stored) audience events.now (IsAppended W.contents out.old out.new))
-        (λ _. IsAppended W.contents out.old out.new []) result }
+        (λ reason. IsBarred (H.hosting host.old) policy.now file.now (named store.entry) reason × IsAppended W.contents out.old out.new []) result }
 {
     match store {
         None => run_in_memory(alloc, policy, file, stored, events, audience, out),
@@ -170,6 +171,7 @@ fn script_of<H: Host>(
 ) -> Result<Vec<Event>, Reason>
     ensures read { IfOk result (λ events. IsScriptFrom (H.hosting host.now).gives (named path.entry) policy.now schemes.now events.items) }
     ensures fits { IfOk result (λ events. AllByRecursion (EventFits policy.now schemes.now) events.items) }
+    ensures refused { IfErr result (IsScriptRefused (H.hosting host.now) (named path.entry) policy.now schemes.now) }
 {
     let bytes = input_of(alloc, host, Role::Script, path)?;
     read_script(alloc, policy, schemes, &bytes)
@@ -190,7 +192,8 @@ pub fn run_files<H: Host, W: Write>(
     ensures done { OnOk result (IsScriptRun (hosted H.hosting H.Lines.echo host.old host.new) policy.now file.now reader files.entry
         (IsAppended W.contents out.old out.new) (Ok tt)) }
     ensures given_up { IfErr result (λ e. IsEnd (IsScriptRun (hosted H.hosting H.Lines.echo host.old host.new) policy.now file.now
-        reader files.entry (IsAppended W.contents out.old out.new)) (λ _. IsAppended W.contents out.old out.new []) (Err e)) }
+        reader files.entry (IsAppended W.contents out.old out.new))
+        (λ reason. IsRunRefused (H.hosting host.old) policy.now file.now files.entry reason × IsAppended W.contents out.old out.new []) (Err e)) }
 {
     let stored = stored_files(
         alloc,

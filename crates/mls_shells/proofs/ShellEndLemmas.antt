@@ -25,10 +25,11 @@ use Rattle.mls_host.specs.declared.refusal.Refusal.{Refusal}
 use Rattle.mls_host.specs.Hosting.{Hosted}
 use Rattle.mls_host.specs.Inputs.{AreStoredFrom}
 use Rattle.mls_words.specs.Words.{named}
+use Rattle.mls_host.specs.Causes.{IsBarred}
 use Rattle.mls_host.specs.Refusal.{IsEnd}
 use Rattle.mls_host.specs.Running.{site_of, first_world}
 use Rattle.mls_shells.specs.Shell.{audience_at, opening, events_in, IsConversation, IsShell}
-use Rattle.mls_shells.specs.ShellRun.{seat_of, IsShellFrom, IsShellRun}
+use Rattle.mls_shells.specs.ShellRun.{seat_of, IsShellFrom, IsShellRun, IsShellRefused, no_store}
 use Rattle.mls_host.proofs.RunningLemmas.{run_at, end_weaker}
 
 pub opening_fits : (site : Site) (seat : Seat) → seat.level < length site.policy.labels → is_name seat.user ≡ true → EventsFit site (opening seat ∷ [])
@@ -57,20 +58,21 @@ shell_at echo site seat sessions first left before after was is Told end distinc
 
 -- ---- where shells begin
 
-module _ (h : Hosted) (file : SchemesFile) (site : Site) (seat : Seat) (before after : Option (List ℕ)) (Wrote Told : List ℕ → Type 0) (Nothing : Reason → Type 0) (store : Option (Bor (List ℕ))) (r : Result Ending Refusal) where
+module _ (h : Hosted) (file : SchemesFile) (site : Site) (seat : Seat) (before after : Option (List ℕ)) (Wrote Told : List ℕ → Type 0) (Nothing : Option (List ℕ) → Reason → Type 0)
+    (store : Option (Bor (List ℕ))) (r : Result Ending Refusal) where
   -- with nothing
-  pub shell_from_memory : store ≡ None → IsEnd (λ end. (left : Content) × IsShell h.echo site seat before after Wrote Told end no_content left) Nothing r
-      → IsEnd (IsShellFrom h file (named store) site seat before after Wrote Told) Nothing r
+  pub shell_from_memory : store ≡ None → IsEnd (λ end. (left : Content) × IsShell h.echo site seat before after Wrote Told end no_content left) (Nothing None) r
+      → IsEnd (IsShellFrom h file (named store) site seat before after Wrote Told) (Nothing (named store)) r
   shell_from_memory none shell =
       let f : (end : Result Ending RunFault) → ((left : Content) × IsShell h.echo site seat before after Wrote Told end no_content left) → IsShellFrom h file None site seat before after Wrote Told end
       = λ end k. λ clean. record { first = no_content; left = k.0; begins = refl; kept = tt; leads = k.1 } in
-      subst (λ (s : Option (Bor (List ℕ))). IsEnd (IsShellFrom h file (named s) site seat before after Wrote Told) Nothing r) (sym none)
-      (end_weaker (λ end. (left : Content) × IsShell h.echo site seat before after Wrote Told end no_content left) Nothing (IsShellFrom h file None site seat before after Wrote Told) Nothing f (λ _ k. k) r shell)
+      subst (λ (s : Option (Bor (List ℕ))). IsEnd (IsShellFrom h file (named s) site seat before after Wrote Told) (Nothing (named s)) r) (sym none)
+      (end_weaker (λ end. (left : Content) × IsShell h.echo site seat before after Wrote Told end no_content left) (Nothing None) (IsShellFrom h file None site seat before after Wrote Told) (Nothing None) f (λ _ k. k) r shell)
 
   -- with what a store kept
-  pub shell_from_store : (path : Bor (List ℕ)) → store ≡ Some path → IsEnd (IsShellFrom h file (Some path.now) site seat before after Wrote Told) Nothing r
-      → IsEnd (IsShellFrom h file (named store) site seat before after Wrote Told) Nothing r
-  shell_from_store path some shell = subst (λ (s : Option (Bor (List ℕ))). IsEnd (IsShellFrom h file (named s) site seat before after Wrote Told) Nothing r) (sym some) shell
+  pub shell_from_store : (path : Bor (List ℕ)) → store ≡ Some path → IsEnd (IsShellFrom h file (Some path.now) site seat before after Wrote Told) (Nothing (Some path.now)) r
+      → IsEnd (IsShellFrom h file (named store) site seat before after Wrote Told) (Nothing (named store)) r
+  shell_from_store path some shell = subst (λ (s : Option (Bor (List ℕ))). IsEnd (IsShellFrom h file (named s) site seat before after Wrote Told) (Nothing (named s)) r) (sym some) shell
 
 -- ---- tasks
 
@@ -94,11 +96,19 @@ module _ (h : Hosted) (policy : Tables) (file : SchemesFile) (reader : Option �
     shell = k;
   }
 
-  module _ (Nothing : Reason → Type 0) where
-    pub shell_done : (r : Result Ending Refusal) → IsEnd Shells Nothing r → IfOk r (λ end. IsShellRun h policy file reader files Wrote Told (Ok end))
-    shell_done (Ok ending) k = shell_run (Ok ending) k
-    shell_done (Err e) k = tt
+  -- its store was barred, and nothing was written
+  abbrev Barred : Reason → Type 0
+  Barred reason = IsBarred h.before policy file (named files.store) reason × Wrote [] × Told []
 
-    pub shell_given_up : (r : Result Ending Refusal) → IsEnd Shells Nothing r → IfErr r (λ e. IsEnd (IsShellRun h policy file reader files Wrote Told) Nothing (Err e))
-    shell_given_up (Ok ending) k = tt
-    shell_given_up (Err e) k = end_weaker Shells Nothing (IsShellRun h policy file reader files Wrote Told) Nothing shell_run (λ _ n. n) (Err e) k
+  abbrev NotBegun : Reason → Type 0
+  NotBegun reason = IsShellRefused h.before policy file reader files reason × Wrote [] × Told []
+
+  pub shell_done : (r : Result Ending Refusal) → IsEnd Shells Barred r → IfOk r (λ end. IsShellRun h policy file reader files Wrote Told (Ok end))
+  shell_done (Ok ending) k = shell_run (Ok ending) k
+  shell_done (Err e) k = tt
+
+  pub shell_given_up : (r : Result Ending Refusal) → IsEnd Shells Barred r → IfErr r (λ e. IsEnd (IsShellRun h policy file reader files Wrote Told) NotBegun (Err e))
+  shell_given_up (Ok ending) k = tt
+  shell_given_up (Err e) k =
+      let g : (reason : Reason) → Barred reason → NotBegun reason = λ reason n. (no_store stored stored_are n.0, n.1, n.2) in
+      end_weaker Shells Barred (IsShellRun h policy file reader files Wrote Told) NotBegun shell_run g (Err e) k

@@ -1,5 +1,6 @@
 -- A shell that the words of a command line ask for, over a store or over nothing.
-use Rattle.std.specs.Prelude.{◌≡◌, ℕ, Bool, List, Option, Some, None, IfSome, Result}
+use Rattle.std.specs.Prelude.{◌≡◌, ℕ, Bool, false, List, Option, Some, None, IfSome, Result}
+use Rattle.mls_lattice.specs.Name.{is_name}
 use Rattle.mls_lattice.specs.Policy.{Tables}
 use Rattle.mls_scheme.specs.declared.file.SchemesFile.{SchemesFile}
 use Rattle.mls_machine.specs.declared.stored.Stored.{Stored}
@@ -8,7 +9,10 @@ use Rattle.mls_sessions.specs.declared.cause.RunFault.{RunFault}
 use Rattle.mls_host.specs.declared.ending.Ending.{Ending}
 use Rattle.mls_shells.specs.declared.seat.Seat.{Seat}
 use Rattle.mls_words.specs.declared.words.ShellFiles.{ShellFiles}
-use Rattle.mls_host.specs.Hosting.{Hosted, IsClean, IsOver}
+use Rattle.mls_host.specs.declared.reason.Reason.{Reason}
+use Rattle.mls_host.specs.declared.reason.Reason.TheVariants.{Label, User}
+use Rattle.mls_host.specs.Causes.{AreFilesRefused, IsBarred}
+use Rattle.mls_host.specs.Hosting.{Hosting, Hosted, IsClean, IsOver}
 use Rattle.mls_host.specs.Inputs.{AreStoredFrom}
 use Rattle.mls_words.specs.Words.{named}
 use Rattle.mls_host.specs.Running.{site_of}
@@ -34,3 +38,12 @@ module _ (h : Hosted) where
     pub level_is : reader ≡ Some level
     pub given : IfSome before (h.before.gives None)
     pub shell : IsShellFrom file (named files.store) (site_of policy file.schemes stored) (seat_of files level has_prompt) before after Wrote Told end
+
+-- A shell is not begun: it has no level; what stands for its user is no name; what it stores is refused; or that is read, and its store is
+-- barred; or memory.
+pub data IsShellRefused (h : Hosting) (policy : Tables) (file : SchemesFile) (reader : Option ℕ) (files : ShellFiles) (reason : Reason) : Type 0 where
+  no_level : reader ≡ None → reason ≡ Label → IsShellRefused h policy file reader files reason
+  no_user : is_name files.user.now ≡ false → reason ≡ User → IsShellRefused h policy file reader files reason
+  no_files : AreFilesRefused h (named files.transactions) (named files.certificates) policy file.schemes reason → IsShellRefused h policy file reader files reason
+  no_store : (stored : List Stored) → AreStoredFrom h.gives (named files.transactions) (named files.certificates) policy file.schemes stored
+      → IsBarred h policy file (named files.store) reason → IsShellRefused h policy file reader files reason

@@ -7,10 +7,11 @@ ghost use Rattle.mls_filterview.specs.Content.{Content, no_content};
 ghost use Rattle.mls_machine.specs.Observation.{AreRead, AreCertified};
 ghost use Rattle.mls_host.specs.Hosting.{hosted, IsAppended, IsTold};
 ghost use Rattle.mls_words.specs.Words.{named};
+ghost use Rattle.mls_host.specs.Causes.{IsUnopened, IsBarred};
 ghost use Rattle.mls_host.specs.Refusal.{IsEnd};
 ghost use Rattle.mls_host.specs.Running.{site_of};
 ghost use Rattle.mls_shells.specs.Shell.{opening, IsShell};
-ghost use Rattle.mls_shells.specs.ShellRun.{seat_of, IsShellFrom, IsShellRun};
+ghost use Rattle.mls_shells.specs.ShellRun.{seat_of, IsShellFrom, IsShellRun, IsShellRefused};
 
 use crate::reading::opening;
 use crate::seat::Seat;
@@ -46,7 +47,7 @@ fn shell_in_memory<L: TypedLines, W: Write, E: Write>(
     requires first { first.now ≡ opening seat.now ∷ [] }
     ensures { IsEnd (λ end. (left : Content) × IsShell L.echo (site_of policy.now file.now.schemes stored) seat.now (L.remaining lines.old) (L.remaining lines.new)
         (IsAppended W.contents out.old out.new) (IsTold E.contents err.old err.new) end no_content left)
-        (λ _. IsAppended W.contents out.old out.new [] × IsTold E.contents err.old err.new []) result }
+        (λ reason. IsUnopened reason × IsAppended W.contents out.old out.new [] × IsTold E.contents err.old err.new []) result }
 {
     let base = match SqlBase::open_memory(alloc, policy, file) {
         Ok(base) => base,
@@ -83,7 +84,7 @@ fn shell_in_store<H: Host, L: TypedLines, W: Write, E: Write>(
     ensures { IsEnd (IsShellFrom (hosted H.hosting L.echo host.old host.new) file.now (Some path.now)
         (site_of policy.now file.now.schemes stored) seat.now (L.remaining lines.old) (L.remaining lines.new)
         (IsAppended W.contents out.old out.new) (IsTold E.contents err.old err.new))
-        (λ _. IsAppended W.contents out.old out.new [] × IsTold E.contents err.old err.new []) result }
+        (λ reason. IsBarred (H.hosting host.old) policy.now file.now (Some path.now) reason × IsAppended W.contents out.old out.new [] × IsTold E.contents err.old err.new []) result }
 {
     let base = match host.store(alloc, path, policy, file) {
         Ok(base) => base,
@@ -120,7 +121,7 @@ fn shell_over<H: Host, L: TypedLines, W: Write, E: Write>(
     ensures { IsEnd (IsShellFrom (hosted H.hosting L.echo host.old host.new) file.now (named store.entry)
         (site_of policy.now file.now.schemes stored) seat.now (L.remaining lines.old) (L.remaining lines.new)
         (IsAppended W.contents out.old out.new) (IsTold E.contents err.old err.new))
-        (λ _. IsAppended W.contents out.old out.new [] × IsTold E.contents err.old err.new []) result }
+        (λ reason. IsBarred (H.hosting host.old) policy.now file.now (named store.entry) reason × IsAppended W.contents out.old out.new [] × IsTold E.contents err.old err.new []) result }
 {
     match store {
         None => shell_in_memory(alloc, policy, file, stored, seat, first, lines, out, err),
@@ -166,10 +167,11 @@ pub fn shell_files<H: Host, W: Write, E: Write>(
         (IsAppended W.contents out.old out.new) (IsTold E.contents err.old err.new) (Ok end)) }
     ensures given_up { IfErr result (λ e. IsEnd (IsShellRun (hosted H.hosting H.Lines.echo host.old host.new) policy.now file.now reader
         files.entry (IsAppended W.contents out.old out.new) (IsTold E.contents err.old err.new))
-        (λ _. IsAppended W.contents out.old out.new [] × IsTold E.contents err.old err.new []) (Err e)) }
+        (λ reason. IsShellRefused (H.hosting host.old) policy.now file.now reader files.entry reason × IsAppended W.contents out.old out.new [] × IsTold E.contents err.old err.new []) (Err e)) }
 {
-    let Some(level) = reader else {
-        return Err(Refusal::Before(Reason::Label));
+    let level = match reader {
+        Some(level) => level,
+        None => return Err(Refusal::Before(Reason::Label)),
     };
     if !is_name(files.user) {
         return Err(Refusal::Before(Reason::User));

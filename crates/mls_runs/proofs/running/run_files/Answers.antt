@@ -3,45 +3,50 @@ use Rattle.std.proofs.KnownBytes.{Appends-nil}
 use Rattle.mls_machine.specs.declared.form.Form.{Form}
 use Rattle.mls_host.specs.Hosting.{hosted, IsAppended}
 use Rattle.mls_words.specs.Words.{named}
+use Rattle.mls_host.specs.Causes.{IsBarred}
 use Rattle.mls_host.specs.Refusal.{IsEnd}
 use Rattle.mls_host.specs.Running.{site_of}
-use Rattle.mls_runs.specs.ScriptRun.{IsRunFrom, IsScriptRun}
-use Rattle.mls_runs.proofs.ScriptRunLemmas.{script_run, run_done, run_stopped}
+use Rattle.mls_runs.specs.ScriptRun.{IsRunFrom, IsScriptRun, no_files, no_script}
+use Rattle.mls_runs.proofs.ScriptRunLemmas.{NotBegun, script_run, run_done, run_stopped}
 use Rattle.mls_host.proofs.RunningLemmas.{given_up_before}
 use Rattle.mls_runs.proofs.running.run_files.Goals as goal
 
 pub returns-in_err-stored-clause-given_up : goal.returns-in_err-stored-clause-given_up
 returns-in_err-stored-clause-given_up g c =
-    given_up_before (λ e. IsEnd (IsScriptRun (hosted g.H.Host.hosting g.H.Lines.TypedLines.echo c.args.host.now c.args.host.now) c.args.policy.now c.args.file.now c.args.reader c.args.files
-    (IsAppended g.W.Write.contents c.args.out.now c.args.out.now)) (λ _. IsAppended g.W.Write.contents c.args.out.now c.args.out.now []) (Err e))
-    c.from_residual.result c.in_err-stored.field-0.0 c.from_residual.ensures.1 (Appends-nil _)
+    let h = hosted g.H.Host.hosting g.H.Lines.TypedLines.echo c.args.host.now c.args.host.now in
+    let wrote = IsAppended g.W.Write.contents c.args.out.now c.args.out.now in
+    given_up_before (λ e. IsEnd (IsScriptRun h c.args.policy.now c.args.file.now c.args.reader c.args.files wrote) (NotBegun h c.args.policy.now c.args.file.now c.args.reader wrote c.args.files) (Err e))
+    c.from_residual.result c.in_err-stored.field-0.0 c.from_residual.ensures.1 (no_files c.in_err-stored.ensures.refused, Appends-nil _)
 
 pub returns-in_err-events-clause-given_up : goal.returns-in_err-events-clause-given_up
 returns-in_err-events-clause-given_up g c =
-    given_up_before (λ e. IsEnd (IsScriptRun (hosted g.H.Host.hosting g.H.Lines.TypedLines.echo c.args.host.now c.args.host.now) c.args.policy.now c.args.file.now c.args.reader c.args.files
-    (IsAppended g.W.Write.contents c.args.out.now c.args.out.now)) (λ _. IsAppended g.W.Write.contents c.args.out.now c.args.out.now []) (Err e))
-    c.from_residual-in_err-events.result c.in_err-events.field-0.0 c.from_residual-in_err-events.ensures.1 (Appends-nil _)
+    let h = hosted g.H.Host.hosting g.H.Lines.TypedLines.echo c.args.host.now c.args.host.now in
+    let wrote = IsAppended g.W.Write.contents c.args.out.now c.args.out.now in
+    given_up_before (λ e. IsEnd (IsScriptRun h c.args.policy.now c.args.file.now c.args.reader c.args.files wrote) (NotBegun h c.args.policy.now c.args.file.now c.args.reader wrote c.args.files) (Err e))
+    c.from_residual-in_err-events.result c.in_err-events.field-0.0 c.from_residual-in_err-events.ensures.1 (no_script c.in_ok-stored.stored c.in_ok-stored.ensures.from c.in_err-events.ensures.refused, Appends-nil _)
 
 pub returns-clause-done : goal.returns-clause-done
 returns-clause-done g c =
     let h = hosted g.H.Host.hosting g.H.Lines.TypedLines.echo c.args.host.now c.run_events.new.host in
     let wrote = IsAppended g.W.Write.contents c.args.out.now c.run_events.new.out in
-    run_done h c.args.policy.now c.args.file.now c.args.reader wrote (λ _. wrote []) c.args.files c.run_events.result
-    (script_run h c.args.policy.now c.args.file.now c.args.reader wrote (λ _. wrote []) c.args.files c.in_ok-stored.stored c.deref.result.now c.in_ok-stored.ensures.from
+    run_done h c.args.policy.now c.args.file.now c.args.reader wrote c.args.files c.run_events.result
+    (script_run h c.args.policy.now c.args.file.now c.args.reader wrote c.args.files c.in_ok-stored.stored c.deref.result.now c.in_ok-stored.ensures.from
     (rw c.deref.ensures.value c.in_ok-events.ensures.read)
     c.run_events.result (subst
     (λ (f : Form). IsEnd (IsRunFrom h c.args.file.now (named c.args.files.store) (site_of c.args.policy.now c.args.file.now.schemes c.in_ok-stored.stored)
-    (record { reader = c.args.reader; form = f }) c.deref.result.now wrote) (λ _. wrote []) c.run_events.result)
+    (record { reader = c.args.reader; form = f }) c.deref.result.now wrote)
+    (λ reason. IsBarred h.before c.args.policy.now c.args.file.now (named c.args.files.store) reason × wrote []) c.run_events.result)
     c.form_of.ensures c.run_events.ensures))
 
 pub returns-clause-given_up : goal.returns-clause-given_up
 returns-clause-given_up g c =
     let h = hosted g.H.Host.hosting g.H.Lines.TypedLines.echo c.args.host.now c.run_events.new.host in
     let wrote = IsAppended g.W.Write.contents c.args.out.now c.run_events.new.out in
-    run_stopped h c.args.policy.now c.args.file.now c.args.reader wrote (λ _. wrote []) c.args.files c.run_events.result
-    (script_run h c.args.policy.now c.args.file.now c.args.reader wrote (λ _. wrote []) c.args.files c.in_ok-stored.stored c.deref.result.now c.in_ok-stored.ensures.from
+    run_stopped h c.args.policy.now c.args.file.now c.args.reader wrote c.args.files c.run_events.result
+    (script_run h c.args.policy.now c.args.file.now c.args.reader wrote c.args.files c.in_ok-stored.stored c.deref.result.now c.in_ok-stored.ensures.from
     (rw c.deref.ensures.value c.in_ok-events.ensures.read)
     c.run_events.result (subst
     (λ (f : Form). IsEnd (IsRunFrom h c.args.file.now (named c.args.files.store) (site_of c.args.policy.now c.args.file.now.schemes c.in_ok-stored.stored)
-    (record { reader = c.args.reader; form = f }) c.deref.result.now wrote) (λ _. wrote []) c.run_events.result)
+    (record { reader = c.args.reader; form = f }) c.deref.result.now wrote)
+    (λ reason. IsBarred h.before c.args.policy.now c.args.file.now (named c.args.files.store) reason × wrote []) c.run_events.result)
     c.form_of.ensures c.run_events.ensures))

@@ -1,8 +1,9 @@
-use Rattle.std.proofs.Common.{[], Result, Some, sym, subst}
+use Rattle.std.proofs.Common.{[], Result, Some, refl, sym, subst}
 use Rattle.std.proofs.KnownBytes.{Appends-nil}
 use Rattle.mls_sessions.specs.declared.cause.RunFault.{RunFault}
 use Rattle.mls_host.specs.declared.refusal.Refusal.{Refusal}
 use Rattle.mls_host.specs.Hosting.{hosted, IsAppended}
+use Rattle.mls_host.specs.Causes.{IsBarred}
 use Rattle.mls_host.specs.Refusal.{IsEnd}
 use Rattle.mls_host.specs.Running.{site_of}
 use Rattle.mls_runs.specs.ScriptRun.{IsRunFrom}
@@ -10,7 +11,7 @@ use Rattle.mls_host.proofs.RunningLemmas.{ended_so}
 use Rattle.mls_runs.proofs.running.run_in_store.Goals as goal
 
 pub returns-in-Err : goal.returns-in-Err
-returns-in-Err g c = Appends-nil _
+returns-in-Err g c = ((c.in-Err.fault, c.in-Err.ensures.barred, refl), Appends-nil _)
 
 pub returns : goal.returns
 returns g c =
@@ -21,5 +22,5 @@ returns g c =
     let ran : Runs c.run_on-outcome.result.0 = λ honest.
     let clean = c.keep-closed.ensures.honest.0 honest in
     record { first = _; left = _; begins = c.in-Ok.ensures.kept (c.run_on-outcome.ensures.clean clean); kept = c.keep-closed.ensures.kept honest; leads = c.run_on-outcome.ensures.run clean } in
-    subst (λ (r : Result (Unit {0}) Refusal). IsEnd Runs (λ _. Wrote []) r) (sym c.ended.ensures)
-    (ended_so Runs (λ _. Wrote []) c.run_on-outcome.result.0 c.keep-closed.result ran)
+    subst (λ (r : Result (Unit {0}) Refusal). IsEnd Runs (λ reason. IsBarred (g.H.Host.hosting c.args.host.now) c.args.policy.now c.args.file.now (Some c.args.path.now) reason × Wrote []) r) (sym c.ended.ensures)
+    (ended_so Runs (λ reason. IsBarred (g.H.Host.hosting c.args.host.now) c.args.policy.now c.args.file.now (Some c.args.path.now) reason × Wrote []) c.run_on-outcome.result.0 c.keep-closed.result ran)

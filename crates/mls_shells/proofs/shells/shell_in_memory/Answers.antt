@@ -9,6 +9,8 @@ use Rattle.mls_host.specs.declared.refusal.Refusal.{Refusal}
 use Rattle.mls_host.specs.Hosting.{IsAppended, IsTold}
 use Rattle.mls_host.specs.Running.{site_of}
 use Rattle.mls_shells.specs.Shell.{IsShell}
+use Rattle.mls_host.specs.Causes.{IsUnopened}
+use Rattle.mls_host.proofs.CauseLemmas.{unopened}
 use Rattle.mls_host.specs.Refusal.{IsEnd}
 use Rattle.mls_host.proofs.RunningLemmas.{none_sound, ended_so}
 use Rattle.mls_host.proofs.HostingLemmas.{told_nothing}
@@ -18,7 +20,7 @@ pub shell_on-outcome-requires-clause-sound : goal.shell_on-outcome-requires-clau
 shell_on-outcome-requires-clause-sound g c = λ _. none_sound (site_of c.args.policy.now c.args.file.now.schemes c.args.stored) _ c.in-Ok.ensures.content
 
 pub returns-in-Err : goal.returns-in-Err
-returns-in-Err g c = (Appends-nil _, told_nothing g.E.Write.contents c.args.err.now)
+returns-in-Err g c = (unopened c.in-Err.fault c.in-Err.ensures.policy c.in-Err.ensures.rows, Appends-nil _, told_nothing g.E.Write.contents c.args.err.now)
 
 pub returns : goal.returns
 returns g c =
@@ -30,5 +32,5 @@ returns g c =
     let Runs : Result Ending RunFault → Type 0 = λ end. (last : Content) × IsShell g.L.TypedLines.echo at c.args.seat.now (g.L.TypedLines.remaining c.args.lines.now) (g.L.TypedLines.remaining c.shell_on-outcome.new.lines) Wrote Told end no_content last in
     let ran : Runs c.shell_on-outcome.result.0 =
     (left, subst (λ (x : State). IsShell g.L.TypedLines.echo at c.args.seat.now (g.L.TypedLines.remaining c.args.lines.now) (g.L.TypedLines.remaining c.shell_on-outcome.new.lines) Wrote Told c.shell_on-outcome.result.0 x.now left) c.in-Ok.ensures.content shell) in
-    subst (λ (r : Result Ending Refusal). IsEnd Runs (λ _. Wrote [] × Told []) r) (sym c.ended.ensures)
-    (ended_so Runs (λ _. Wrote [] × Told []) c.shell_on-outcome.result.0 (Ok tt) ran)
+    subst (λ (r : Result Ending Refusal). IsEnd Runs (λ reason. IsUnopened reason × Wrote [] × Told []) r) (sym c.ended.ensures)
+    (ended_so Runs (λ reason. IsUnopened reason × Wrote [] × Told []) c.shell_on-outcome.result.0 (Ok tt) ran)

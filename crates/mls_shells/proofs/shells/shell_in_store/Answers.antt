@@ -1,9 +1,10 @@
-use Rattle.std.proofs.Common.{[], Result, Some, sym, subst}
+use Rattle.std.proofs.Common.{[], Result, Some, refl, sym, subst}
 use Rattle.std.proofs.KnownBytes.{Appends-nil}
 use Rattle.mls_sessions.specs.declared.cause.RunFault.{RunFault}
 use Rattle.mls_host.specs.declared.ending.Ending.{Ending}
 use Rattle.mls_host.specs.declared.refusal.Refusal.{Refusal}
 use Rattle.mls_host.specs.Hosting.{hosted, IsAppended, IsTold}
+use Rattle.mls_host.specs.Causes.{IsBarred}
 use Rattle.mls_host.specs.Refusal.{IsEnd}
 use Rattle.mls_host.specs.Running.{site_of}
 use Rattle.mls_shells.specs.ShellRun.{IsShellFrom}
@@ -12,7 +13,7 @@ use Rattle.mls_host.proofs.RunningLemmas.{ended_so}
 use Rattle.mls_shells.proofs.shells.shell_in_store.Goals as goal
 
 pub returns-in-Err : goal.returns-in-Err
-returns-in-Err g c = (Appends-nil _, told_nothing g.E.Write.contents c.args.err.now)
+returns-in-Err g c = ((c.in-Err.fault, c.in-Err.ensures.barred, refl), Appends-nil _, told_nothing g.E.Write.contents c.args.err.now)
 
 pub returns : goal.returns
 returns g c =
@@ -25,5 +26,5 @@ returns g c =
     let ran : Runs c.shell_on-outcome.result.0 = λ honest.
     let clean = c.keep-closed.ensures.honest.0 honest in
     record { first = _; left = _; begins = c.in-Ok.ensures.kept (c.shell_on-outcome.ensures.clean clean); kept = c.keep-closed.ensures.kept honest; leads = c.shell_on-outcome.ensures.shell clean } in
-    subst (λ (r : Result Ending Refusal). IsEnd Runs (λ _. Wrote [] × Told []) r) (sym c.ended.ensures)
-    (ended_so Runs (λ _. Wrote [] × Told []) c.shell_on-outcome.result.0 c.keep-closed.result ran)
+    subst (λ (r : Result Ending Refusal). IsEnd Runs (λ reason. IsBarred (g.H.Host.hosting c.args.host.now) c.args.policy.now c.args.file.now (Some c.args.path.now) reason × Wrote [] × Told []) r) (sym c.ended.ensures)
+    (ended_so Runs (λ reason. IsBarred (g.H.Host.hosting c.args.host.now) c.args.policy.now c.args.file.now (Some c.args.path.now) reason × Wrote [] × Told []) c.shell_on-outcome.result.0 c.keep-closed.result ran)

@@ -1,0 +1,129 @@
+-- Why a command is given up before anything is written: an input is refused, a word names nothing, a store is not opened, or memory.
+use Rattle.std.specs.Prelude.{◌≡◌, ◌≢◌, ◌⊎◌, ℕ, List, Option, Some, None, Err, ⊤}
+use Rattle.std.specs.List.{position}
+use Rattle.std.specs.Str.{bytes_eq}
+use Rattle.toml.specs.Data.{Members}
+use Rattle.mls_lattice.specs.Policy.{Tables}
+use Rattle.mls_lattice.specs.ReadsPolicy.{IsDocument, HasFault}
+use Rattle.mls_lattice.specs.declared.fault.PolicyFault.{PolicyFault}
+use Rattle.mls_lattice.specs.declared.fault.PolicyFault.TheVariants as policies
+use Rattle.mls_scheme.specs.Scheme.{Schemes}
+use Rattle.mls_scheme.specs.Reading.{schemes_at}
+use Rattle.mls_scheme.specs.declared.file.SchemesFile.{SchemesFile}
+use Rattle.mls_scheme.specs.declared.fault.SchemeFault.{SchemeFault}
+use Rattle.mls_scheme.specs.declared.fault.SchemeFault.TheVariants as schemes
+use Rattle.mls_translang.specs.Tx.{Tx}
+use Rattle.mls_parser.specs.Parsing.{parse_at}
+use Rattle.mls_parser.specs.declared.fault.TextFault.{TextFault}
+use Rattle.mls_parser.specs.declared.fault.TextCause.TheVariants as texts
+use Rattle.mls_certificate.specs.Reading.{file_in}
+use Rattle.mls_certificate.specs.declared.fault.CertFault.{CertFault}
+use Rattle.mls_certificate.specs.declared.fault.CertCause.TheVariants as certs
+use Rattle.mls_script.specs.Reading.{script_at}
+use Rattle.mls_script.specs.declared.fault.ScriptFault.{ScriptFault}
+use Rattle.mls_script.specs.declared.fault.ScriptCause.TheVariants as scripts
+use Rattle.mls_fragments.specs.declared.open_fault.OpenFault.{OpenFault}
+use Rattle.mls_fragments.specs.declared.open_fault.OpenFault.TheVariants as stores
+use Rattle.mls_words.specs.declared.words.Documents.{Documents}
+use Rattle.mls_words.specs.declared.words.Task.{Task}
+use Rattle.mls_words.specs.declared.words.Task.TheVariants.{ShowPolicy, Run, Shell, Certify, Check, Explain}
+use Rattle.mls_words.specs.Words.{at_of}
+use Rattle.mls_host.specs.declared.samples.TheConstants.{POLICY, SCHEMES}
+use Rattle.mls_host.specs.declared.host.HostFault.{HostFault}
+use Rattle.mls_host.specs.declared.reason.Role.{Role}
+use Rattle.mls_host.specs.declared.reason.Role.TheVariants as role
+use Rattle.mls_host.specs.declared.reason.Reason.{Reason}
+use Rattle.mls_host.specs.declared.reason.Reason.TheVariants.{Policy, Reader, Label, Schemes as OfSchemes, Transactions, Certificates, Script, Store, Memory}
+use Rattle.mls_host.specs.Hosting.{Hosting}
+use Rattle.mls_host.specs.Inputs.{AreTransactionsFrom}
+use Rattle.mls_host.specs.Reason.{input_reason}
+
+-- ---- bytes that a reader refuses, and why; memory may stand in place of any cause
+
+abbrev pub IsNoDocument : List ℕ → Type 0
+IsNoDocument bytes = (document : Members) → IsDocument bytes document → ⊥
+
+-- they are no document, or the document's first fault
+abbrev pub IsPolicyFault : List ℕ → PolicyFault → Type 0
+IsPolicyFault bytes policies.Memory = ⊤
+IsPolicyFault bytes policies.NotToml = IsNoDocument bytes
+IsPolicyFault bytes fault = HasFault bytes fault
+
+abbrev pub IsSchemeFault : Tables → List ℕ → SchemeFault → Type 0
+IsSchemeFault policy bytes schemes.Memory = ⊤
+IsSchemeFault policy bytes schemes.NotToml = IsNoDocument bytes
+IsSchemeFault policy bytes fault = ¬ IsNoDocument bytes × ((document : Members) → IsDocument bytes document → schemes_at policy document ≡ Err fault)
+
+abbrev pub RefusesPolicy : List ℕ → Reason → Type 0
+RefusesPolicy bytes reason = (fault : PolicyFault) × (reason ≡ Policy fault) × IsPolicyFault bytes fault
+
+abbrev pub RefusesSchemes : Tables → List ℕ → Reason → Type 0
+RefusesSchemes policy bytes reason = (fault : SchemeFault) × (reason ≡ OfSchemes fault) × IsSchemeFault policy bytes fault
+
+-- the first fault, with its place
+abbrev pub RefusesTransactions : Tables → Schemes → List ℕ → Reason → Type 0
+RefusesTransactions policy schemes bytes reason = (fault : TextFault) × (reason ≡ Transactions fault) × (fault.cause ≢ texts.Memory → parse_at policy schemes bytes ≡ Err fault)
+
+abbrev pub RefusesCertificates : List ℕ → Reason → Type 0
+RefusesCertificates bytes reason = (fault : CertFault) × (reason ≡ Certificates fault) × (fault.cause ≢ certs.Memory → file_in bytes ≡ Err fault)
+
+abbrev pub RefusesScript : Tables → Schemes → List ℕ → Reason → Type 0
+RefusesScript policy schemes bytes reason = (fault : ScriptFault) × (reason ≡ Script fault) × (fault.cause ≢ scripts.Memory → script_at policy schemes bytes ≡ Err fault)
+
+-- ---- names
+
+-- what is told where no label has the name for which a task prints, or at which its shell is
+abbrev pub no_reader : Task → Reason
+no_reader (Shell files) = Label
+no_reader task = Reader
+
+abbrev pub IsReaderUnknown : Tables → Task → Reason → Type 0
+IsReaderUnknown policy task reason = (name : List ℕ) × (at_of task ≡ Some name) × (position (λ l. bytes_eq l.name name) policy.labels ≡ None) × (reason ≡ no_reader task)
+
+-- ---- inputs, and stores
+
+-- a store in memory fails, or lacks memory
+abbrev pub IsUnopened : Reason → Type 0
+IsUnopened reason = (reason ≡ Store stores.Store) ⊎ (reason ≡ Store stores.Memory)
+
+module _ (h : Hosting) where
+  abbrev pub IsNotGiven : Role → Option (List ℕ) → Reason → Type 0
+  IsNotGiven role source reason = (fault : HostFault) × h.lacks source fault × (reason ≡ input_reason role fault)
+
+  -- `Refuses bytes reason`: why a reader refuses bytes. An input is refused where none are given, or bytes that the reader refuses
+  pub data IsInputRefused (role : Role) (source : Option (List ℕ)) (Refuses : List ℕ → Reason → Type 0) (reason : Reason) : Type 0 where
+    not_given : IsNotGiven role source reason → IsInputRefused role source Refuses reason
+    not_read : (bytes : List ℕ) → h.gives source bytes → Refuses bytes reason → IsInputRefused role source Refuses reason
+
+  -- the policy and the schemes: those of the samples, or of files
+  abbrev pub IsPolicyRefused : Option Documents → Reason → Type 0
+  IsPolicyRefused None reason = RefusesPolicy POLICY.now reason
+  IsPolicyRefused (Some d) reason = IsInputRefused role.Policy (Some d.policy.now) RefusesPolicy reason
+
+  abbrev pub AreSchemesRefused : Option Documents → Tables → Reason → Type 0
+  AreSchemesRefused None policy reason = RefusesSchemes policy SCHEMES.now reason
+  AreSchemesRefused (Some d) policy reason = IsInputRefused role.Schemes (Some d.schemes.now) (RefusesSchemes policy) reason
+
+  abbrev pub IsScriptRefused : Option (List ℕ) → Tables → Schemes → Reason → Type 0
+  IsScriptRefused source policy schemes reason = IsInputRefused role.Script source (RefusesScript policy schemes) reason
+
+  -- none is refused without a path
+  abbrev pub AreTransactionsRefused : Option (List ℕ) → Tables → Schemes → Reason → Type 0
+  AreTransactionsRefused None policy schemes reason = ⊥
+  AreTransactionsRefused (Some path) policy schemes reason = IsInputRefused role.Transactions (Some path) (RefusesTransactions policy schemes) reason
+
+  abbrev pub AreCertificatesRefused : Option (List ℕ) → Reason → Type 0
+  AreCertificatesRefused None reason = ⊥
+  AreCertificatesRefused (Some path) reason = IsInputRefused role.Certificates (Some path) RefusesCertificates reason
+
+  -- the transactions are refused; or they are read, and the certificates are refused; or memory
+  pub data AreFilesRefused (transactions certificates : Option (List ℕ)) (policy : Tables) (schemes : Schemes) (reason : Reason) : Type 0 where
+    no_transactions : AreTransactionsRefused transactions policy schemes reason → AreFilesRefused transactions certificates policy schemes reason
+    no_certificates : (txs : List Tx) → AreTransactionsFrom h.gives transactions policy schemes txs → AreCertificatesRefused certificates reason
+        → AreFilesRefused transactions certificates policy schemes reason
+    no_memory : reason ≡ Memory → AreFilesRefused transactions certificates policy schemes reason
+
+  -- the store is one in memory; or one at a path, for what the host says
+  abbrev pub IsBarred : Tables → SchemesFile → Option (List ℕ) → Reason → Type 0
+  IsBarred policy file None reason = IsUnopened reason
+  IsBarred policy file (Some path) reason = (fault : OpenFault) × h.bars path policy file fault × (reason ≡ Store fault)

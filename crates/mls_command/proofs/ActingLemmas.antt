@@ -125,6 +125,7 @@ module _ (h : Hosted) (Wrote Told More : List ℕ → Type 0) (f : (text : List 
   run_told : (policy : Tables) (file : SchemesFile) (reader : Option ℕ) (task : Task) (end : Result Ending RunFault)
       → IsRunOf h policy file reader Wrote Told task end → IsRunOf h policy file reader Wrote More task end
   run_told policy file reader tasks.ShowPolicy end k = k
+  run_told policy file reader tasks.Picture end k = k
   run_told policy file reader (tasks.Run files) (Ok end) k = (k.0, f [] k.1, k.2)
   run_told policy file reader (tasks.Run files) (Err fault) k = (f [] k.0, k.1)
   run_told policy file reader (tasks.Shell files) end k = shell_told policy file reader files end k

@@ -5,10 +5,11 @@ use Rattle.mls_lattice.specs.Policy.{Tables}
 use Rattle.mls_lattice.specs.Canon as lattice
 use Rattle.mls_scheme.specs.declared.file.SchemesFile.{SchemesFile}
 use Rattle.mls_scheme.specs.Canon as scheme
+use Rattle.mls_diagram.specs.Picture.{picture}
 use Rattle.mls_sessions.specs.declared.cause.RunFault.{RunFault}
 use Rattle.mls_words.specs.declared.words.Job.{Job}
 use Rattle.mls_words.specs.declared.words.Task.{Task}
-use Rattle.mls_words.specs.declared.words.Task.TheVariants.{ShowPolicy, Run, Shell, Certify, Check, Explain}
+use Rattle.mls_words.specs.declared.words.Task.TheVariants.{ShowPolicy, Picture, Run, Shell, Certify, Check, Explain}
 use Rattle.mls_words.specs.declared.usage.Usage.{Usage}
 use Rattle.mls_host.specs.declared.ending.Ending.{Ending}
 use Rattle.mls_host.specs.declared.ending.Ending.TheVariants.{Well}
@@ -35,6 +36,7 @@ module _ (h : Hosted) where
   -- what a command other than a run or a shell prints on standard output, what it tells on standard error, and how it ends
   abbrev pub Prints : Tables → SchemesFile → Task → List ℕ → List ℕ → Ending → Type 0
   Prints policy file ShowPolicy text told end = (text ≡ lattice.canon_of policy ++ scheme.canon_of policy file.version file.schemes) × (told ≡ []) × (end ≡ Well)
+  Prints policy file Picture text told end = (text ≡ picture policy file.schemes) × (told ≡ []) × (end ≡ Well)
   Prints policy file (Certify transactions) text told end = IsCertified h.before.gives policy file.schemes transactions.now text told end
   Prints policy file (Check transactions certificates) text told end = IsChecked h.before.gives policy file.schemes transactions.now certificates.now text told end
   Prints policy file (Explain transactions name) text told end = IsExplained h.before.gives policy file.schemes transactions.now (named name) text told end
@@ -43,6 +45,7 @@ module _ (h : Hosted) where
   -- why a task is not begun: the inputs are refused in their order, each behind those that were read; or its store is not opened; or memory
   abbrev pub IsTaskRefused : Tables → SchemesFile → Option ℕ → Task → Reason → Type 0
   IsTaskRefused policy file reader ShowPolicy reason = reason ≡ Memory
+  IsTaskRefused policy file reader Picture reason = reason ≡ Memory
   IsTaskRefused policy file reader (Run files) reason = IsRunRefused h.before policy file files reason
   IsTaskRefused policy file reader (Shell files) reason = IsShellRefused h.before policy file reader files reason
   IsTaskRefused policy file reader (Certify transactions) reason = AreFilesRefused h.before (Some transactions.now) None policy file.schemes reason

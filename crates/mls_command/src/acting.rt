@@ -15,7 +15,7 @@ use mls_host::{
     samples, schemes_in,
 };
 use mls_lattice::{LabelNo, Policy};
-use mls_listings::{certified, checked, explained, texts};
+use mls_listings::{certified, checked, explained, pictured, texts};
 use mls_runs::run_files;
 use mls_scheme::SchemesFile;
 use mls_shells::shell_files;
@@ -75,6 +75,7 @@ fn perform_task<H: Host, W: Write, E: Write>(
 {
     match task {
         Task::ShowPolicy => texts(alloc, policy, file)?.print(out, err),
+        Task::Picture => pictured(alloc, policy, &file.schemes)?.print(out, err),
         Task::Run(files) => {
             run_files(alloc, host, policy, file, files, reader, out)?;
             Ok(Ending::Well)

@@ -11,4 +11,4 @@ pub use crate::certifying::certified;
 pub use crate::checking::checked;
 pub use crate::explaining::explained;
 pub use crate::listing::Listing;
-pub use crate::showing::texts;
+pub use crate::showing::{pictured, texts};

@@ -1,14 +1,16 @@
-//! The canonical texts of a policy and its schemes.
+//! The canonical texts of a policy and its schemes, and what is told of them.
 ghost use Rattle.std.specs.Prelude.{◌≡◌, ◌++◌, [], length, string_bytes, IfOk, IfErr};
 ghost use Rattle.mls_scheme.specs.Scheme.{AreUnder};
 ghost use Rattle.mls_lattice.specs.Canon as lattice;
 ghost use Rattle.mls_scheme.specs.Canon as scheme;
+ghost use Rattle.mls_diagram.specs.Picture.{picture};
 ghost use Rattle.mls_host.specs.declared.ending.Ending.TheVariants.{Well};
 
 use crate::listing::Listing;
+use mls_diagram::picture;
 use mls_host::Ending;
 use mls_lattice::Policy;
-use mls_scheme::SchemesFile;
+use mls_scheme::{Schemes, SchemesFile};
 use std::alloc::{AllocError, Global};
 
 /// The canonical texts of a policy and its schemes.
@@ -29,6 +31,21 @@ pub fn texts(alloc: Global, policy: &Policy, file: &SchemesFile) -> Result<Listi
     ensures end { IfOk result (λ l. l.ending ≡ Well) }
 {
     let text = texts_of(alloc, policy, file)?;
+    Ok(Listing {
+        text,
+        told: String::new(alloc),
+        ending: Ending::Well,
+    })
+}
+
+/// The labels, the users, their rights and the relations, as they are printed.
+pub fn pictured(alloc: Global, policy: &Policy, schemes: &Schemes) -> Result<Listing, AllocError>
+    requires { AreUnder (length policy.now.labels) schemes.now }
+    ensures text { IfOk result (λ l. l.text.items ≡ picture policy.now schemes.now) }
+    ensures told { IfOk result (λ l. string_bytes l.told ≡ []) }
+    ensures end { IfOk result (λ l. l.ending ≡ Well) }
+{
+    let text = picture(alloc, policy, schemes)?;
     Ok(Listing {
         text,
         told: String::new(alloc),

@@ -7,7 +7,7 @@ use Rattle.std.proofs.lemmas.Option.{same_Some}
 use Rattle.clap.specs.Words.{Row, Text, first_of, subcommand_name_of, subcommand_rows_of, has_subcommand, takes}
 use Rattle.clap.specs.declared.parser.matches.ArgMatches.{ArgMatches}
 use Rattle.mls_words.specs.declared.words.Task.{Task}
-use Rattle.mls_words.specs.declared.words.Task.TheVariants.{ShowPolicy, Run, Shell, Certify, Check, Explain}
+use Rattle.mls_words.specs.declared.words.Task.TheVariants.{ShowPolicy, Picture, Run, Shell, Certify, Check, Explain}
 use Rattle.mls_words.specs.declared.words.Job.{Job}
 use Rattle.mls_words.specs.declared.usage.Usage.{Usage}
 use Rattle.mls_words.specs.declared.usage.Usage.TheVariants as usage
@@ -29,6 +29,7 @@ no_task name rows run shell show certify check explain (Run files) h = run h.0
 no_task name rows run shell show certify check explain (Shell files) h = shell h.0
 no_task name rows run shell show certify check explain (Certify transactions) h = certify h.0
 no_task name rows run shell show certify check explain (Check transactions certificates) h = check h.0
+no_task name rows run shell show certify check explain Picture h = explain h.0
 no_task name rows run shell show certify check explain (Explain transactions only) h = explain h.0
 
 nothing : {A X : Type 0} (x : X) (o : Option X) → Some x ≡ o → o ≡ None → A
@@ -40,6 +41,7 @@ no_certify rows none (Run files) h = let e : codes "certify" ≡ codes "run" = h
 no_certify rows none (Shell files) h = absurd (apart 99 (codes "certify") (codes "shell") refl refl h.0)
 no_certify rows none (Certify transactions) h = nothing _ _ h.1 none
 no_certify rows none (Check transactions certificates) h = let e : codes "certify" ≡ codes "check" = h.0 in absurd cc
+no_certify rows none Picture h = absurd (apart 99 (codes "certify") (codes "explain") refl refl h.0)
 no_certify rows none (Explain transactions only) h = absurd (apart 99 (codes "certify") (codes "explain") refl refl h.0)
 
 pub no_transactions : (rows : List Row) → first_of (codes "TRANSACTIONS") rows ≡ None → (task : Task) → IsTask (codes "check") rows task → ⊥
@@ -48,6 +50,7 @@ no_transactions rows none (Run files) h = let e : codes "check" ≡ codes "run" 
 no_transactions rows none (Shell files) h = absurd (apart 99 (codes "check") (codes "shell") refl refl h.0)
 no_transactions rows none (Certify transactions) h = let e : codes "check" ≡ codes "certify" = h.0 in absurd cc
 no_transactions rows none (Check transactions certificates) h = nothing _ _ h.1 none
+no_transactions rows none Picture h = absurd (apart 99 (codes "check") (codes "explain") refl refl h.0)
 no_transactions rows none (Explain transactions only) h = absurd (apart 99 (codes "check") (codes "explain") refl refl h.0)
 
 pub no_certificates : (rows : List Row) → first_of (codes "CERTIFICATES") rows ≡ None → (task : Task) → IsTask (codes "check") rows task → ⊥
@@ -56,15 +59,8 @@ no_certificates rows none (Run files) h = let e : codes "check" ≡ codes "run" 
 no_certificates rows none (Shell files) h = absurd (apart 99 (codes "check") (codes "shell") refl refl h.0)
 no_certificates rows none (Certify transactions) h = let e : codes "check" ≡ codes "certify" = h.0 in absurd cc
 no_certificates rows none (Check transactions certificates) h = nothing _ _ h.2 none
+no_certificates rows none Picture h = absurd (apart 99 (codes "check") (codes "explain") refl refl h.0)
 no_certificates rows none (Explain transactions only) h = absurd (apart 99 (codes "check") (codes "explain") refl refl h.0)
-
-pub no_explain : (rows : List Row) → first_of (codes "TRANSACTIONS") rows ≡ None → (task : Task) → IsTask (codes "explain") rows task → ⊥
-no_explain rows none ShowPolicy h = absurd (apart 101 (codes "explain") (codes "show-policy") refl refl h)
-no_explain rows none (Run files) h = absurd (apart 101 (codes "explain") (codes "run") refl refl h.0)
-no_explain rows none (Shell files) h = absurd (apart 101 (codes "explain") (codes "shell") refl refl h.0)
-no_explain rows none (Certify transactions) h = absurd (apart 101 (codes "explain") (codes "certify") refl refl h.0)
-no_explain rows none (Check transactions certificates) h = absurd (apart 101 (codes "explain") (codes "check") refl refl h.0)
-no_explain rows none (Explain transactions only) h = nothing _ _ h.1 none
 
 longer : codes "shell" ≡ codes "show-policy" → ⊥
 longer h = true≢false (sym (ap (λ t. nat_lt 5 (length t)) h))
@@ -75,6 +71,7 @@ no_label rows none (Run files) h = absurd (apart 115 (codes "shell") (codes "run
 no_label rows none (Shell files) h = nothing _ _ h.4 none
 no_label rows none (Certify transactions) h = absurd (apart 115 (codes "shell") (codes "certify") refl refl h.0)
 no_label rows none (Check transactions certificates) h = absurd (apart 115 (codes "shell") (codes "check") refl refl h.0)
+no_label rows none Picture h = absurd (apart 115 (codes "shell") (codes "explain") refl refl h.0)
 no_label rows none (Explain transactions only) h = absurd (apart 115 (codes "shell") (codes "explain") refl refl h.0)
 
 pub no_user : (rows : List Row) → first_of (codes "USER") rows ≡ None → (task : Task) → IsTask (codes "shell") rows task → ⊥
@@ -83,6 +80,7 @@ no_user rows none (Run files) h = absurd (apart 115 (codes "shell") (codes "run"
 no_user rows none (Shell files) h = nothing _ _ h.5 none
 no_user rows none (Certify transactions) h = absurd (apart 115 (codes "shell") (codes "certify") refl refl h.0)
 no_user rows none (Check transactions certificates) h = absurd (apart 115 (codes "shell") (codes "check") refl refl h.0)
+no_user rows none Picture h = absurd (apart 115 (codes "shell") (codes "explain") refl refl h.0)
 no_user rows none (Explain transactions only) h = absurd (apart 115 (codes "shell") (codes "explain") refl refl h.0)
 
 pub no_policy : (name : Text) (rows : List Row) → first_of (codes "POLICY") rows ≡ None → (job : Job) → IsCommand name rows job → ⊥

@@ -7,7 +7,7 @@ use Rattle.clap.specs.declared.builder.action.ArgAction.TheVariants.{SetTrue}
 use Rattle.mls_words.specs.declared.words.Job.{Job}
 use Rattle.mls_words.specs.declared.words.Documents.{Documents}
 use Rattle.mls_words.specs.declared.words.Task.{Task}
-use Rattle.mls_words.specs.declared.words.Task.TheVariants.{ShowPolicy, Run, Shell, Certify, Check, Explain}
+use Rattle.mls_words.specs.declared.words.Task.TheVariants.{ShowPolicy, Picture, Run, Shell, Certify, Check, Explain}
 use Rattle.mls_words.specs.declared.usage.Usage.{Usage}
 use Rattle.mls_words.specs.declared.usage.Usage.TheVariants as usage
 
@@ -57,7 +57,7 @@ abbrev pub check : App
 check = with_rule (with_rule (with_documents (new_app (codes "check"))) (place (codes "TRANSACTIONS"))) (place (codes "CERTIFICATES"))
 
 abbrev pub explain : App
-explain = with_rule (with_rule (with_documents (new_app (codes "explain"))) (place (codes "TRANSACTIONS"))) (new_rule (codes "NAME"))
+explain = with_rule (with_rule (with_documents (new_app (codes "explain"))) (new_rule (codes "TRANSACTIONS"))) (new_rule (codes "NAME"))
 
 abbrev pub program : App
 program = let top = new_app (codes "mldb") in record top { top = record top.top { subcommand_required = true; has_version = true } }
@@ -99,6 +99,7 @@ IsTask name rows (Shell files) =
 IsTask name rows (Certify transactions) = (name ≡ codes "certify") × (Some transactions.now ≡ first_of (codes "TRANSACTIONS") rows)
 IsTask name rows (Check transactions certificates) =
     (name ≡ codes "check") × (Some transactions.now ≡ first_of (codes "TRANSACTIONS") rows) × (Some certificates.now ≡ first_of (codes "CERTIFICATES") rows)
+IsTask name rows Picture = (name ≡ codes "explain") × (first_of (codes "TRANSACTIONS") rows ≡ None)
 IsTask name rows (Explain transactions only) =
     (name ≡ codes "explain") × (Some transactions.now ≡ first_of (codes "TRANSACTIONS") rows) × (option_map (λ p. p.now) only ≡ first_of (codes "NAME") rows)
 
@@ -127,6 +128,7 @@ AskNothing words usage.Memory = ⊤
 -- the name of the label for which alone a task prints
 abbrev pub at_of : Task → Option (List ℕ)
 at_of ShowPolicy = None
+at_of Picture = None
 at_of (Run files) = named files.at
 at_of (Shell files) = Some files.label.now
 at_of (Certify transactions) = None

@@ -78,10 +78,12 @@ Status: 0 all hold; 1 one does not; 2 an input was refused; 3 writing or memory.
 
 const EXPLAIN_NOTES: &str = "\
 Prints each transaction with a number in front of each statement, and its least labels by name, as certify finds them; where it has
-none, the statement and the rule that even the least labels break, and why.
+none, the statement and the rule that even the least labels break, and why. Without TRANSACTIONS it prints the labels, each with those
+next below it, the users and their rights, and the attributes with their intervals.
 
 Example:
   mldb explain samples/policy.toml samples/schemes.toml samples/transactions.txt Count
+  mldb explain samples/policy.toml samples/schemes.toml
 
 Status: 0 all have labels; 1 one has none; 2 an input or the name was refused; 3 writing or memory.
 ";
@@ -154,6 +156,8 @@ pub enum Task<'a> {
         transactions: &'a str,
         certificates: &'a str,
     },
+    /// What they say is explained.
+    Picture,
     /// Transactions, or the one of a name, are explained.
     Explain {
         transactions: &'a str,
@@ -363,9 +367,9 @@ fn explain_command<'a>(alloc: Global) -> Result<Command<'a>, AllocError>
     ensures app { IfOk result (λ c. app_of c ≡ explain) }
     ensures local { IfOk result (λ c. (fields_of c).has_globals ≡ false) }
 {
-    let about = "Says why a transaction has the labels that it has, or none";
+    let about = "Says what a policy and schemes are, or why a transaction has its labels or none";
     let explain = with_documents(alloc, bare(alloc, "explain", about, EXPLAIN_NOTES))?;
-    let explain = with_place(alloc, explain, "TRANSACTIONS", TRANSACTIONS)?;
+    let explain = with_last_place(alloc, explain, "TRANSACTIONS", TRANSACTIONS)?;
     with_last_place(alloc, explain, "NAME", NAME)
 }
 
@@ -487,16 +491,15 @@ fn check_task<'a>(matches: &ArgMatches<'a>) -> Option<Task<'a>>
     }
 }
 
-fn explain_task<'a>(matches: &ArgMatches<'a>) -> Option<Task<'a>>
-    ensures some { IfSome result (IsTask (codes "explain") (rows_of (found_of matches.now))) }
-    ensures none { result ≡ None → (task : SpecTask) → IsTask (codes "explain") (rows_of (found_of matches.now)) task → ⊥ }
+fn explain_task<'a>(matches: &ArgMatches<'a>) -> Task<'a>
+    ensures { IsTask (codes "explain") (rows_of (found_of matches.now)) result }
 {
     match value_of(matches, "TRANSACTIONS") {
-        Some(transactions) => Some(Task::Explain {
+        Some(transactions) => Task::Explain {
             transactions,
             name: value_of(matches, "NAME"),
-        }),
-        None => None,
+        },
+        None => Task::Picture,
     }
 }
 
@@ -510,7 +513,7 @@ fn task_of<'a>(name: &str, matches: &ArgMatches<'a>) -> Option<Task<'a>>
         "show-policy" => Some(Task::ShowPolicy),
         "certify" => certify_task(matches),
         "check" => check_task(matches),
-        "explain" => explain_task(matches),
+        "explain" => Some(explain_task(matches)),
         _ => None,
     }
 }

@@ -1,6 +1,6 @@
 use Rattle.std.proofs.Common.{refl, string_bytes, IfOk, sym, subst}
 use Rattle.std.proofs.KnownBytes.{Appends-nil}
-use Rattle.mls_words.specs.declared.words.Task.TheVariants.{ShowPolicy, Certify, Check, Explain}
+use Rattle.mls_words.specs.declared.words.Task.TheVariants.{ShowPolicy, Picture, Certify, Check, Explain}
 use Rattle.mls_host.specs.Hosting.{hosted, IsAppended, IsTold}
 use Rattle.mls_command.specs.Acting.{IsTaskDone}
 use Rattle.mls_host.specs.declared.reason.Reason.TheVariants.{Memory}
@@ -12,6 +12,11 @@ pub returns-in_err-texts-in-ShowPolicy-clause-given_up : goal.returns-in_err-tex
 returns-in_err-texts-in-ShowPolicy-clause-given_up g c =
     not_begun (hosted g.H.Host.hosting g.H.Lines.TypedLines.echo c.args.host.now c.args.host.now) c.args.policy.now c.args.file.now c.args.reader
     (IsAppended g.W.Write.contents c.args.out.now c.args.out.now) (IsTold g.E.Write.contents c.args.err.now c.args.err.now) ShowPolicy c.args.task c.in-ShowPolicy.is c.from_residual.result Memory c.from_residual.ensures.1 refl (told_nothing g.E.Write.contents c.args.err.now) (Appends-nil _)
+
+pub returns-in_err-pictured-in-Picture-clause-given_up : goal.returns-in_err-pictured-in-Picture-clause-given_up
+returns-in_err-pictured-in-Picture-clause-given_up g c =
+    not_begun (hosted g.H.Host.hosting g.H.Lines.TypedLines.echo c.args.host.now c.args.host.now) c.args.policy.now c.args.file.now c.args.reader
+    (IsAppended g.W.Write.contents c.args.out.now c.args.out.now) (IsTold g.E.Write.contents c.args.err.now c.args.err.now) Picture c.args.task c.in-Picture.is c.from_residual-in_err-pictured-in-Picture.result Memory c.from_residual-in_err-pictured-in-Picture.ensures.1 refl (told_nothing g.E.Write.contents c.args.err.now) (Appends-nil _)
 
 pub returns-in_err-certified-in-Certify-clause-given_up : goal.returns-in_err-certified-in-Certify-clause-given_up
 returns-in_err-certified-in-Certify-clause-given_up g c =
@@ -73,6 +78,15 @@ returns-in_ok-texts-in-ShowPolicy-clause-given_up g c =
     (IsAppended g.W.Write.contents c.args.out.now c.print.new.out) (IsTold g.E.Write.contents c.args.err.now c.print.new.err) ShowPolicy c.args.task c.in-ShowPolicy.is l.text.items (string_bytes l.told) l.ending
     (e.text, e.told, e.end) c.print.result c.print.ensures.refused c.print.ensures.part
     (quiet_told g.E.Write.contents c.args.err.now c.print.new.err c.print.result c.print.ensures.quiet)
+
+pub returns-in_ok-pictured-in-Picture-clause-given_up : goal.returns-in_ok-pictured-in-Picture-clause-given_up
+returns-in_ok-pictured-in-Picture-clause-given_up g c =
+    let l = c.in_ok-pictured-in-Picture.field-0 in
+    let e = c.in_ok-pictured-in-Picture.ensures in
+    print_given_up (hosted g.H.Host.hosting g.H.Lines.TypedLines.echo c.args.host.now c.args.host.now) c.args.policy.now c.args.file.now c.args.reader
+    (IsAppended g.W.Write.contents c.args.out.now c.print-in-Picture.new.out) (IsTold g.E.Write.contents c.args.err.now c.print-in-Picture.new.err) Picture c.args.task c.in-Picture.is l.text.items (string_bytes l.told) l.ending
+    (e.text, e.told, e.end) c.print-in-Picture.result c.print-in-Picture.ensures.refused c.print-in-Picture.ensures.part
+    (quiet_told g.E.Write.contents c.args.err.now c.print-in-Picture.new.err c.print-in-Picture.result c.print-in-Picture.ensures.quiet)
 
 pub returns-in-Shell-clause-done : goal.returns-in-Shell-clause-done
 returns-in-Shell-clause-done g c =

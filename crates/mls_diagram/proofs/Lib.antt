@@ -1,0 +1,3 @@
+pub mod CoverLemmas
+pub mod RelationLemmas
+pub mod RowLemmas

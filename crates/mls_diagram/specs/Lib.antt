@@ -1,0 +1,6 @@
+pub mod Covers
+pub mod Words
+pub mod Layout
+pub mod Rights
+pub mod Relations
+pub mod Picture

@@ -1,0 +1,12 @@
+//! A policy and schemes for people: which label covers which, users and rights, and the intervals of attributes.
+#![tactic(auto)]
+
+mod covers;
+mod drawing;
+mod layout;
+mod relations;
+mod rights;
+mod words;
+
+pub use covers::covers_are_tested;
+pub use drawing::picture;

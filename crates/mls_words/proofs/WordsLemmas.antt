@@ -1,5 +1,5 @@
 -- What the words of a command line ask for, by the matches of its parser.
-use Rattle.std.proofs.Common.{◌≡◌, ◌==◌, ℕ, List, [], ◌∷◌, Bool, true, false, true≢false, nat_lt, length, Option, Some, None, codes, refl, sym, ap, subst, ◌∙◌}
+use Rattle.std.proofs.Common.{◌≡◌, ◌==◌, ◌≤◌, ℕ, List, [], ◌∷◌, Bool, true, false, true≢false, nat_lt, length, Option, Some, None, codes, refl, sym, ap, subst, ◌∙◌}
 use Rattle.std.specs.Prelude.{option_map, is_some}
 use Rattle.std.proofs.Common.{inl, inr}
 use Rattle.std.proofs.lemmas.Bool.{cases_Bool}
@@ -111,9 +111,9 @@ not_entered m h job k = subst (λ o. IsCommandOf o job) (none_entered _ _ h) k
 
 -- ---- refusals
 
-pub refused : (words : List Text) (u : Usage) → (takes command_line words ≡ true → u ≡ usage.Memory) → AskNothing words u
-refused words (usage.Text text) h = elim (cases_Bool (takes command_line words)) [ inl e ↦ absurd (other text (h e)) | inr e ↦ inl e ]
+pub refused : (words : List Text) (u : Usage) → 2 ≤ length words → (takes command_line words ≡ true → u ≡ usage.Memory) → AskNothing words u
+refused words (usage.Text text) some h = (some, elim (cases_Bool (takes command_line words)) [ inl e ↦ absurd (other text (h e)) | inr e ↦ inl e ])
   where
     other : (t : _) → usage.Text t ≡ usage.Memory → ⊥
     other t e = absurd cc
-refused words usage.Memory h = tt
+refused words usage.Memory some h = tt

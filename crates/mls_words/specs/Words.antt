@@ -120,9 +120,9 @@ pub record Asks (words : List Text) (job : Job) : Type 0 where
   pub samples_are : length words < 2 → job ≡ samples
   pub command_is : 2 ≤ length words → IsCommandOf (subcommand_of command_line words) job
 
--- words that ask for nothing are no command line, or name no job; or there was no memory to read them
+-- words that ask for nothing are no command line, or name no job, and there are some; or there was no memory to read them
 abbrev pub AskNothing : List Text → Usage → Type 0
-AskNothing words (usage.Text text) = (takes command_line words ≡ false) ⊎ ((job : Job) → Asks words job → ⊥)
+AskNothing words (usage.Text text) = (2 ≤ length words) × ((takes command_line words ≡ false) ⊎ ((job : Job) → Asks words job → ⊥))
 AskNothing words usage.Memory = ⊤
 
 -- the name of the label for which alone a task prints

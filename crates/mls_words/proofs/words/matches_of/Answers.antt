@@ -1,4 +1,5 @@
-use Rattle.std.proofs.Common.{◌≡◌, ap, ◌∙◌, refl, true}
+use Rattle.std.proofs.Common.{◌≡◌, ◌≤◌, ap, sym, subst, length, ◌∙◌, refl, true}
+use Rattle.std.proofs.lemmas.List.{length-map}
 use Rattle.clap.specs.Words.{App, app_of, is_simple, takes, subcommand_of}
 use Rattle.clap.proofs.OnLiterals.{clap_on_literals}
 use Rattle.mls_words.specs.Words.{command_line, texts_of}
@@ -17,4 +18,5 @@ returns-in-Ok-clause-rows c =
 pub returns-in-Err-clause-refused : goal.returns-in-Err-clause-refused
 returns-in-Err-clause-refused c =
     let line : app_of c.in_ok-command_line.field-0 ≡ command_line = c.in_ok-command_line.ensures in
-    refused (texts_of c.args.words.now) c.said.result (λ e. c.said.ensures (c.in-Err.ensures.passes (ap (λ (a : App). takes a (texts_of c.args.words.now)) line ∙ e)))
+    let some : 2 ≤ length (texts_of c.args.words.now) = subst (λ n. 2 ≤ n) (sym (length-map c.args.words.now _)) c.requires.some in
+    refused (texts_of c.args.words.now) c.said.result some (λ e. c.said.ensures (c.in-Err.ensures.passes (ap (λ (a : App). takes a (texts_of c.args.words.now)) line ∙ e)))

@@ -1,5 +1,5 @@
 -- What the rows that were shown of the table of meta say of the store's description.
-use Rattle.std.proofs.Common.{◌≡◌, ℕ, pos, List, [], ◌∷◌, map, true, Ok, Err, Result, OnOk, IfOk, IfErr, IsPermutation, refl, subst, ◌∙◌}
+use Rattle.std.proofs.Common.{◌≡◌, List, [], ◌∷◌, map, true, Ok, Err, Result, OnOk, IfOk, IfErr, IsPermutation, subst}
 use Rattle.std.specs.List.{AllByRecursion}
 use Rattle.sqlite_value.specs.Order.{Row}
 use Rattle.sqlite.specs.Effect.{Database}
@@ -7,9 +7,9 @@ use Rattle.sqlite.proofs.Callers.{one_permutation}
 use Rattle.mls_statements.specs.declared.rows.MetaRow.{MetaRow}
 use Rattle.mls_statements.specs.declared.adopting.AdoptFault.{AdoptFault}
 use Rattle.mls_statements.specs.declared.adopting.AdoptFault.TheVariants.{BadRows}
-use Rattle.mls_statements.specs.Rows.{tables_of, meta_of, is_meta_row, meta_columns, shown_meta, shows_meta}
+use Rattle.mls_statements.specs.Rows.{meta_of, is_meta_row, meta_columns, shown_meta, shows_meta}
 use Rattle.mls_statements.specs.Statements.{AreRows}
-use Rattle.mls_statements.specs.Adopting.{ReadsMeta, Blames, IsVersion, IsDescription, IsDescribedBy}
+use Rattle.mls_statements.specs.Adopting.{ReadsMeta, Blames, IsVersion, IsDescription}
 use Rattle.mls_statements.proofs.WholeRows.{all_shown, items_shown, one_item, one_row}
 
 module _ (rows found : List Row) (same : IsPermutation (map meta_columns rows) found) where
@@ -30,8 +30,3 @@ module _ (rows found : List Row) (same : IsPermutation (map meta_columns rows) f
       → IfErr result (Blames (((m : MetaRow) × ((map meta_of rows ≡ m ∷ []) × IsVersion m.version)) × AllByRecursion ReadsMeta (map meta_columns rows)))
   described_badly (Ok m) bad = tt
   described_badly (Err e) bad = λ is it. bad is (all_shown meta_columns rows found same ReadsMeta it.1) (it.0.0, from_table it.0.0 it.0.1.0, it.0.1.1)
-
--- the row that was found has a version and both texts
-pub described_by : (m : MetaRow) (db : Database) (version : ℕ) (lattice schemes : List ℕ) → IsDescription m db → m.version ≡ pos version → m.lattice ≡ lattice → m.schemes ≡ schemes
-    → IsDescribedBy version lattice schemes (tables_of db.trees)
-described_by m db version lattice schemes one of_version of_lattice of_schemes = (m.id, one.0 ∙ rw (← of_version, ← of_lattice, ← of_schemes) refl)

@@ -16,7 +16,7 @@ use Rattle.mls_statements.specs.declared.rows.MetaRow.{MetaRow}
 use Rattle.mls_statements.specs.declared.adopting.AllRows.{AllRows}
 use Rattle.mls_statements.specs.declared.adopting.AdoptFault.{AdoptFault}
 use Rattle.mls_statements.specs.declared.adopting.AdoptFault.TheVariants.{BadRows}
-use Rattle.mls_statements.specs.Rows.{Tables, tables_of, first_meta, meta_of, node_columns, cell_columns, audit_columns, meta_columns, is_node_row, is_cell_row, is_audit_row, is_meta_row}
+use Rattle.mls_statements.specs.Rows.{Tables, tables_of, meta_of, node_columns, cell_columns, audit_columns, meta_columns, is_node_row, is_cell_row, is_audit_row, is_meta_row}
 use Rattle.mls_statements.specs.Schema.{HasTables}
 use Rattle.mls_statements.specs.Statements.{AreRows, HasSettled}
 
@@ -94,19 +94,6 @@ HasDescription db = HasTables db.schema × IsReadDescription db
 -- the database has the four tables, and every row of the three others reads
 abbrev pub HasReadRows : Database → Type 0
 HasReadRows db = HasTables db.schema × AreRead db
-
--- the database has the four tables, and every row reads
-abbrev pub IsAdoptable : Database → Type 0
-IsAdoptable db = HasTables db.schema × (IsReadDescription db × AreRead db)
-
--- the store is described, but not by both of these texts
-abbrev pub HasOtherTexts : List ℕ → List ℕ → Database → Type 0
-HasOtherTexts lattice schemes db =
-    HasTables db.schema × ((m : MetaRow) × IsDescription m db × (¬ ((m.lattice ≡ lattice) × (m.schemes ≡ schemes))))
-
--- the one row, under any number, has this version and both texts
-abbrev pub IsDescribedBy : ℕ → List ℕ → List ℕ → Tables → Type 0
-IsDescribedBy version lattice schemes t = (id : ℤ) × (t.meta ≡ record (first_meta version lattice schemes) { id = id } ∷ [])
 
 -- the database has the four tables, and this is the one row that describes it
 abbrev pub IsDescribed : MetaRow → Database → Type 0

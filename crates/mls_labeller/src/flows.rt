@@ -292,7 +292,7 @@ fn stmt_to(
 }
 
 /// What flows where in a transaction.
-pub(crate) fn flows_of(alloc: Global, tx: &Tx) -> Result<Vec<Flow>, AllocError>
+pub fn flows_of(alloc: Global, tx: &Tx) -> Result<Vec<Flow>, AllocError>
     ensures { IfOk result (λ v. v.items ≡ flows tx.now) }
 {
     let mut flows = Vec::new(alloc);

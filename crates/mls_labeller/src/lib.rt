@@ -9,4 +9,6 @@ mod least;
 mod sources;
 
 pub use fault::LabelFault;
+pub use flows::flows_of;
 pub use labelling::{label_tx, label_tx2};
+pub use sources::{names_to, rows_inside, sources_of};

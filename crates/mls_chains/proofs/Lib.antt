@@ -1,0 +1,4 @@
+pub mod PlaceLemmas
+pub mod ReachLemmas
+pub mod WalkLemmas
+pub mod ChainLemmas

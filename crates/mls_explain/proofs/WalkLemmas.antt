@@ -1,16 +1,16 @@
 -- How the walk goes from statement to statement.
-use Rattle.std.proofs.Common.{◌≡◌, ℕ, suc, ◌+◌, ◌<◌, List, [], ◌∷◌, ◌++◌, length, drop, get_or, refl, sym, ap, ◌∙◌, append_assoc, arith}
+use Rattle.std.proofs.Common.{◌≡◌, ℕ, ◌+◌, ◌<◌, List, [], ◌∷◌, ◌++◌, length, drop, get_or, refl, sym, ap, ◌∙◌, append_assoc}
 use Rattle.std.specs.List.{flat_map}
 use Rattle.std.proofs.lemmas.List.{append-nil}
 use Rattle.std.proofs.lemmas.Grind.{flat_map-append}
-use Rattle.std.proofs.Math.Seq.{drop-cons}
 use Rattle.mls_lattice.specs.Policy.{Tables}
 use Rattle.mls_translang.specs.Tree.{Expr, Stmt as Simple, Block, End, Do, If, For, statements}
 use Rattle.mls_translang.specs.Tx.{Tx}
 use Rattle.mls_translang.specs.Blocks.{block_of}
 use Rattle.mls_translang.specs.declared.block.Stmt.{Stmt}
 use Rattle.mls_translang.specs.declared.block.Stmt.TheVariants as stmt
-use Rattle.mls_certcheck.specs.Place.{Place, branching, looping, places}
+use Rattle.mls_certcheck.specs.Place.{Place, places}
+use Rattle.mls_certcheck.proofs.WalkLemmas.{drop_here, places_first}
 use Rattle.mls_explain.specs.declared.walk.Telling.{Telling}
 use Rattle.mls_explain.specs.Lines.{line_at}
 use Rattle.mls_explain.specs.Walk.{first_line, block_lines}
@@ -20,49 +20,10 @@ use Rattle.mls_explain.specs.Walk.{first_line, block_lines}
 behind : (out two three a b all : List ℕ) → two ≡ out ++ a → three ≡ two ++ b → a ++ b ≡ all → three ≡ out ++ all
 behind out two three a b all h k e = k ∙ ap (λ l. l ++ b) h ∙ append_assoc out a b ∙ ap (λ l. out ++ l) e
 
-more : (out two a x y all : List ℕ) → two ≡ out ++ a → x ≡ a ++ y → out ++ x ≡ all → two ++ y ≡ all
+pub more : (out two a x y all : List ℕ) → two ≡ out ++ a → x ≡ a ++ y → out ++ x ≡ all → two ++ y ≡ all
 more out two a x y all h e k = ap (λ l. l ++ y) h ∙ append_assoc out a y ∙ ap (λ l. out ++ l) (sym e) ∙ k
 
--- ---- the first statement of a block, and the rest
-
-places-first : (n around b : ℕ) (rows : List ℕ) (s : Stmt) (rest : List Stmt) → places n around b rows (block_of (s ∷ rest)) ≡ places n around b rows (block_of (s ∷ [])) ++ places (n + statements (block_of (s ∷ []))) around n rows (block_of rest)
-places-first n around b rows (stmt.Assign x e) rest = refl
-places-first n around b rows (stmt.If guard one other) rest =
-    let p = places (n + 1) n b rows one in
-    let q = places (n + 1 + statements one) n b rows other in
-    let r = places (n + (1 + statements one + statements other + 0)) around n rows (block_of rest) in
-    let e : n + (1 + statements one + statements other) ≡ n + (1 + statements one + statements other + 0) = omega arith in
-    ap (λ (ps : List Place). record { number = n; around = around; before = b; rows = rows; node = branching n b guard one other } ∷ ps)
-    (ap (λ (k : ℕ). p ++ (q ++ places k around n rows (block_of rest))) e ∙ ap (λ (l : List Place). p ++ (l ++ r)) (sym (append-nil q)) ∙ sym (append_assoc p (q ++ []) r))
-places-first n around b rows (stmt.For row rel label body) rest =
-    let p = places (n + 1) n n (label ∷ rows) body in
-    let r = places (n + (1 + statements body + 0)) around n rows (block_of rest) in
-    let e : n + (1 + statements body) ≡ n + (1 + statements body + 0) = omega arith in
-    ap (λ (ps : List Place). record { number = n; around = around; before = b; rows = rows; node = looping n b label body } ∷ ps)
-    (ap (λ (k : ℕ). p ++ places k around n rows (block_of rest)) e ∙ ap (λ (l : List Place). l ++ r) (sym (append-nil p)))
-places-first n around b rows (stmt.Insert rel key values w outcome) rest = refl
-places-first n around b rows (stmt.Update rel key key_class from w sets outcome) rest = refl
-places-first n around b rows (stmt.Delete rel key key_class w outcome) rest = refl
-places-first n around b rows (stmt.Release e to into) rest = refl
-places-first n around b rows (stmt.Emit e label) rest = refl
-
-statements-first : (s : Stmt) (rest : List Stmt) → statements (block_of (s ∷ rest)) ≡ statements (block_of (s ∷ [])) + statements (block_of rest)
-statements-first (stmt.Assign x e) rest = refl
-statements-first (stmt.If guard one other) rest = omega arith
-statements-first (stmt.For row rel label body) rest = omega arith
-statements-first (stmt.Insert rel key values w outcome) rest = refl
-statements-first (stmt.Update rel key key_class from w sets outcome) rest = refl
-statements-first (stmt.Delete rel key key_class w outcome) rest = refl
-statements-first (stmt.Release e to into) rest = refl
-statements-first (stmt.Emit e label) rest = refl
-
-drop_here : (items : List Stmt) (i : ℕ) (s : Stmt) → i < length items → s ≡ get_or items i s → drop i items ≡ s ∷ drop (i + 1) items
-drop_here items i s within is =
-    let next : suc i ≡ i + 1 = omega arith in
-    drop-cons items i s within ∙ (λ k. sym is k ∷ drop (next k) items)
-
-pub split_statements : (items : List Stmt) (i : ℕ) (s : Stmt) → i < length items → s ≡ get_or items i s → statements (block_of (drop i items)) ≡ statements (block_of (s ∷ [])) + statements (block_of (drop (i + 1) items))
-split_statements items i s within is = ap (λ (ss : List Stmt). statements (block_of ss)) (drop_here items i s within is) ∙ statements-first s (drop (i + 1) items)
+-- ---- a block
 
 module _ (p : Tables) (tx : Tx) (t : Telling) where
   pub block_more : (items : List Stmt) (i : ℕ) (s : Stmt) → i < length items → s ≡ get_or items i s → (n m around b : ℕ) (rows : List ℕ) (out two all : List ℕ) → m ≡ n + statements (block_of (s ∷ [])) → two ≡ out ++ block_lines p tx t n around b rows (block_of (s ∷ [])) → out ++ block_lines p tx t n around b rows (block_of (drop i items)) ≡ all → two ++ block_lines p tx t m around n rows (block_of (drop (i + 1) items)) ≡ all
@@ -70,7 +31,7 @@ module _ (p : Tables) (tx : Tx) (t : Telling) where
   block_more items i s within is n m around b rows out two all next put whole =
       let a = block_lines p tx t n around b rows (block_of (s ∷ [])) in
       let x : block_lines p tx t n around b rows (block_of (drop i items)) ≡ a ++ block_lines p tx t (n + statements (block_of (s ∷ []))) around n rows (block_of (drop (i + 1) items)) =
-      ap (λ (ss : List Stmt). flat_map (line_at p tx t) (places n around b rows (block_of ss))) (drop_here items i s within is) ∙ ap (flat_map (line_at p tx t)) (places-first n around b rows s (drop (i + 1) items)) ∙ flat_map-append (line_at p tx t) _ _ in
+      ap (λ (ss : List Stmt). flat_map (line_at p tx t) (places n around b rows (block_of ss))) (drop_here items i s within is) ∙ ap (flat_map (line_at p tx t)) (places_first n around b rows s (drop (i + 1) items)) ∙ flat_map-append (line_at p tx t) _ _ in
       more out two a _ _ all put (x ∙ ap (λ (k : ℕ). a ++ block_lines p tx t k around n rows (block_of (drop (i + 1) items))) (sym next)) whole
 
   pub block_done : (n around b : ℕ) (rows : List ℕ) (out : List ℕ) → out ++ block_lines p tx t n around b rows End ≡ out

@@ -12,6 +12,7 @@ use Rattle.mls_certcheck.specs.Rules.{Rules, claim}
 use Rattle.mls_labeller.specs.Least.{IsOf, IsLeast}
 use Rattle.mls_labeller.specs.Fault.{IsFirst}
 use Rattle.mls_labeller.specs.declared.fault.LabelFault.TheVariants.{NoLabels}
+use Rattle.mls_chains.specs.Chains.{IsChainTo}
 use Rattle.mls_explain.specs.Numbering.{numbered}
 use Rattle.mls_explain.specs.Lines.{label_lines, lines_of, refused_lines}
 use Rattle.mls_explain.specs.declared.walk.Telling.TheVariants.{Releases}
@@ -20,7 +21,7 @@ use Rattle.mls_explain.specs.declared.outcome.Outcome.TheVariants.{Labelled, Ref
 
 abbrev pub told : Tables → Tx → Outcome → List ℕ
 told p tx (Labelled cert) = label_lines p tx cert ++ lines_of p tx Releases
-told p tx (Refused stmt r) = refused_lines p tx stmt r
+told p tx (Refused stmt r chain) = refused_lines p tx stmt r chain
 
 -- the heading and the variables have no number
 abbrev pub explanation : Tables → Schemes → Tx → Outcome → List ℕ
@@ -30,18 +31,18 @@ explanation p schemes tx o = numbered (1 + length tx.vars) (printed p schemes tx
 abbrev pub NonePasses : Version → Tables → Tx → Type 0
 NonePasses v p tx = (cert : Certificate) → IsOf v cert → Rules (claim p tx cert) → ⊥
 
--- what came of the least labels: those of version 1 pass; or only those of version 2; or none, and this is the first rule that those of
--- version 2 break
+-- what came of the least labels: those of version 1 pass; or only those of version 2; or none, this is the first rule that those of
+-- version 2 break, and this a shortest chain of flows by which something came there that must not
 abbrev pub IsOutcome : Tables → Tx → Outcome → Type 0
 IsOutcome p tx (Labelled (One cert)) = Rules (claim p tx (One cert)) × IsLeast version.First p tx (One cert)
 IsOutcome p tx (Labelled (Two cert)) =
     NonePasses version.First p tx × Rules (claim p tx (Two cert)) × IsLeast version.Second p tx (Two cert)
-IsOutcome p tx (Refused stmt r) =
-    NonePasses version.First p tx × NonePasses version.Second p tx × IsFirst version.Second p tx (NoLabels stmt r)
+IsOutcome p tx (Refused stmt r chain) =
+    NonePasses version.First p tx × NonePasses version.Second p tx × IsFirst version.Second p tx (NoLabels stmt r) × IsChainTo p tx stmt r chain
 
 abbrev pub has_labels : Outcome → Bool
 has_labels (Labelled cert) = true
-has_labels (Refused stmt r) = false
+has_labels (Refused stmt r chain) = false
 
 -- the text explains the transaction, and whether it has labels
 pub record Explains (p : Tables) (schemes : Schemes) (tx : Tx) (told_text : List ℕ) (is_labelled : Bool) : Type 0 where

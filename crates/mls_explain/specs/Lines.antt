@@ -1,5 +1,5 @@
 -- The lines of least labels, of what is told of each statement, and of the rule that is broken.
-use Rattle.std.specs.Prelude.{ℕ, ◌+◌, ◌&&◌, nat_eq, if◌then◌else◌, List, [], ◌∷◌, ◌++◌, Bool, slice_index_or, codes}
+use Rattle.std.specs.Prelude.{ℕ, ◌+◌, ◌&&◌, nat_eq, if◌then◌else◌, List, [], ◌∷◌, ◌++◌, Bool, slice_index_or, Option, codes}
 use Rattle.std.specs.List.{flat_map}
 use Rattle.std.specs.Fmt.{decimal}
 use Rattle.mls_lattice.specs.Lattice.{pair_of}
@@ -14,10 +14,12 @@ use Rattle.mls_certificate.specs.declared.cert.Certificate.TheVariants.{One, Two
 use Rattle.mls_certcheck.specs.Place.{Node, Plain, Branching, Looping, Place, places}
 use Rattle.mls_certcheck.specs.Refusal.{text_of}
 use Rattle.mls_certcheck.specs.declared.refusal.Rule.{Rule}
+use Rattle.mls_chains.specs.declared.chain.Chain.{Chain}
 use Rattle.mls_explain.specs.Numbering.{in_column}
 use Rattle.mls_explain.specs.Naming.{label_words}
 use Rattle.mls_explain.specs.Reads.{label_text, is_under}
 use Rattle.mls_explain.specs.Causes.{cause}
+use Rattle.mls_explain.specs.Chains.{chain_lines}
 use Rattle.mls_explain.specs.declared.walk.Telling.{Telling}
 use Rattle.mls_explain.specs.declared.walk.Telling.TheVariants.{Releases, Broken}
 
@@ -110,6 +112,6 @@ module _ (p : Tables) (tx : Tx) where
   abbrev pub param_line : Name × Parameter → List ℕ
   param_line x = param_text x.0 x.1.label
 
-  abbrev pub refused_lines : ℕ → Rule → List ℕ
-  refused_lines stmt r =
-      refused_head stmt r ++ flat_map param_line tx.params ++ lines_of (Broken stmt r)
+  abbrev pub refused_lines : ℕ → Rule → Option Chain → List ℕ
+  refused_lines stmt r chain =
+      refused_head stmt r ++ flat_map param_line tx.params ++ lines_of (Broken stmt r) ++ chain_lines p tx chain

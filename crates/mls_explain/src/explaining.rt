@@ -10,6 +10,7 @@ use crate::outcome::{Outcome, outcome_of};
 use crate::teller::Teller;
 use crate::walk::Telling;
 use mls_certcheck::Rule;
+use mls_chains::Chain;
 use mls_lattice::{LabelNo, Policy};
 use mls_scheme::Schemes;
 use mls_translang::{Tx, print};
@@ -93,14 +94,15 @@ impl Teller<'_> {
         text: &mut String,
         stmt: usize,
         rule: Rule,
+        chain: &Option<Chain>,
     ) -> Result<(), AllocError>
-        ensures { OnOk result (string_bytes text.new ≡ string_bytes text.old ++ refused_lines self.now.policy.now self.now.tx.now stmt rule) }
+        ensures { OnOk result (string_bytes text.new ≡ string_bytes text.old ++ refused_lines self.now.policy.now self.now.tx.now stmt rule chain.now) }
     {
         let head = head_of(alloc, stmt, rule)?;
         text.push_str(&head)?;
         self.params_to(alloc, text)?;
         self.lines_to(alloc, text, Telling::Broken(stmt, rule))?;
-        Ok(())
+        self.chain_to(alloc, text, chain)
     }
 
     fn told_to(&self, alloc: Global, text: &mut String, outcome: &Outcome) -> Result<(), AllocError>
@@ -112,7 +114,9 @@ impl Teller<'_> {
                 self.lines_to(alloc, text, Telling::Releases)?;
                 Ok(())
             }
-            Outcome::Refused { stmt, rule } => self.refused_to(alloc, text, *stmt, *rule),
+            Outcome::Refused { stmt, rule, chain } => {
+                self.refused_to(alloc, text, *stmt, *rule, chain)
+            }
         }
     }
 }
@@ -137,7 +141,8 @@ fn text_of(
 }
 
 /// What is told of a transaction that was read under a policy and schemes: its canonical text with the number of each statement, and its
-/// least labels, of version 1 where these pass, else of version 2; where neither pass, the first rule that those of version 2 break.
+/// least labels, of version 1 where these pass, else of version 2; where neither pass, the first rule that those of version 2 break, and a
+/// shortest chain of flows by which something came there that must not.
 pub fn explain(
     alloc: Global,
     policy: &Policy,

@@ -2,6 +2,7 @@
 #![tactic(auto)]
 
 mod causes;
+mod chains;
 mod explaining;
 mod label_lines;
 mod naming;

@@ -5,16 +5,22 @@ ghost use Rattle.mls_explain.specs.Explaining.{IsOutcome, NonePasses, has_labels
 
 use mls_certcheck::Rule;
 use mls_certificate::Certificate;
+use mls_chains::{Chain, chain_to};
 use mls_labeller::{LabelFault, label_tx, label_tx2};
 use mls_lattice::Policy;
 use mls_translang::Tx;
 use std::alloc::{AllocError, Global};
 
-/// The least labels, where they pass, or the first rule that those of version 2 break and the number of its statement.
+/// The least labels, where they pass, or the first rule that those of version 2 break, the number of its statement, and how what must not
+/// flow there came, if it came by a chain of flows.
 #[derive(Drop)]
 pub(crate) enum Outcome {
     Labelled(Certificate),
-    Refused { stmt: usize, rule: Rule },
+    Refused {
+        stmt: usize,
+        rule: Rule,
+        chain: Option<Chain>,
+    },
 }
 
 impl Outcome {
@@ -36,7 +42,10 @@ fn second_of(alloc: Global, policy: &Policy, tx: &Tx) -> Result<Outcome, AllocEr
 {
     match label_tx2(alloc, policy, tx) {
         Ok(cert) => Ok(Outcome::Labelled(Certificate::Two(cert))),
-        Err(LabelFault::NoLabels { stmt, rule }) => Ok(Outcome::Refused { stmt, rule }),
+        Err(LabelFault::NoLabels { stmt, rule }) => {
+            let chain = chain_to(alloc, policy, tx, stmt, rule)?;
+            Ok(Outcome::Refused { stmt, rule, chain })
+        }
         Err(LabelFault::Memory) => Err(AllocError),
     }
 }

@@ -90,7 +90,7 @@ impl Teller<'_> {
     }
 
     #[tactic(auto, using(crate::proofs::TellingLemmas::past_names))]
-    fn parameter(&self, place: usize) -> &str
+    pub(crate) fn parameter(&self, place: usize) -> &str
         ensures { result.now ≡ name_at self.now.tx.now.params place }
     {
         let params = self.tx.params();
@@ -101,7 +101,7 @@ impl Teller<'_> {
         }
     }
 
-    fn parameter_label(&self, place: usize) -> LabelNo
+    pub(crate) fn parameter_label(&self, place: usize) -> LabelNo
         ensures { result ≡ slice_index (map (λ p. p.1.label) self.now.tx.now.params) place }
     {
         let params = self.tx.params();

@@ -3,8 +3,9 @@ use Rattle.std.proofs.lemmas.Result.{on_ok_weaker}
 use Rattle.std.proofs.Math.ListN.{drop_of_length-le}
 use Rattle.mls_translang.specs.Tree.{statements}
 use Rattle.mls_translang.specs.Blocks.{block_of}
+use Rattle.mls_certcheck.proofs.WalkLemmas.{split_statements}
 use Rattle.mls_explain.specs.Walk.{block_lines}
-use Rattle.mls_explain.proofs.WalkLemmas.{split_statements, block_more, block_done, if_told, for_told, plain_told}
+use Rattle.mls_explain.proofs.WalkLemmas.{block_more, block_done, if_told, for_told, plain_told}
 use Rattle.mls_explain.proofs.teller.Teller.+walk.Goals as goal
 
 pub block_to-stmt_to-requires : goal.block_to-stmt_to-requires

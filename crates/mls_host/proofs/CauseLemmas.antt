@@ -15,7 +15,7 @@ use Rattle.mls_host.specs.declared.reason.Role.{Role}
 use Rattle.mls_host.specs.declared.reason.Reason.{Reason}
 use Rattle.mls_host.specs.declared.reason.Reason.TheVariants.{Store}
 use Rattle.mls_host.specs.Hosting.{Hosting}
-use Rattle.mls_host.specs.Causes.{IsNoDocument, IsPolicyFault, IsSchemeFault, IsInputRefused, not_read, IsUnopened}
+use Rattle.mls_host.specs.Causes.{IsNoDocument, IsPolicyFault, IsSchemeFault, IsInputRefused, not_read}
 
 -- what holds of the reason at the exit of a `?` holds of the one that is returned
 pub same_reason : {A : Type 0} (P : Reason → Type 0) (r : Result A Reason) (reason : Reason) → IsErrAnd r (λ e. e ≡ reason) → P reason → IfErr r P
@@ -58,11 +58,3 @@ module _ (bytes : List ℕ) where
   scheme_fault policy schemes.Memory first not_toml = tt
   scheme_fault policy schemes.NoKey first not_toml = (is_document schemes.NoKey (λ x. cc) (not_toml (λ x. cc)), first (λ x. cc))
   scheme_fault policy schemes.KeyIntervals first not_toml = (is_document schemes.KeyIntervals (λ x. cc) (not_toml (λ x. cc)), first (λ x. cc))
-
--- ---- stores in memory
-
-pub unopened : (fault : OpenFault) → fault ≢ stores.OtherPolicy → fault ≢ stores.BadRows → IsUnopened (Store fault)
-unopened stores.Store other bad = inl refl
-unopened stores.OtherPolicy other bad = absurd (other refl)
-unopened stores.BadRows other bad = absurd (bad refl)
-unopened stores.Memory other bad = inr refl

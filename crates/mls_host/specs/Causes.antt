@@ -82,10 +82,6 @@ IsReaderUnknown policy task reason = (name : List ℕ) × (at_of task ≡ Some n
 
 -- ---- inputs, and stores
 
--- a store in memory fails, or lacks memory
-abbrev pub IsUnopened : Reason → Type 0
-IsUnopened reason = (reason ≡ Store stores.Store) ⊎ (reason ≡ Store stores.Memory)
-
 module _ (h : Hosting) where
   abbrev pub IsNotGiven : Role → Option (List ℕ) → Reason → Type 0
   IsNotGiven role source reason = (fault : HostFault) × h.lacks source fault × (reason ≡ input_reason role fault)
@@ -123,7 +119,7 @@ module _ (h : Hosting) where
         → AreFilesRefused transactions certificates policy schemes reason
     no_memory : reason ≡ Memory → AreFilesRefused transactions certificates policy schemes reason
 
-  -- the store is one in memory; or one at a path, for what the host says
+  -- a store in memory lacks memory alone; one at a path is not opened for what the host says
   abbrev pub IsBarred : Tables → SchemesFile → Option (List ℕ) → Reason → Type 0
-  IsBarred policy file None reason = IsUnopened reason
+  IsBarred policy file None reason = reason ≡ Store stores.Memory
   IsBarred policy file (Some path) reason = (fault : OpenFault) × h.bars path policy file fault × (reason ≡ Store fault)

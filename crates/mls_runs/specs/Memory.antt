@@ -1,11 +1,12 @@
 -- A machine in memory, of which all is known.
-use Rattle.std.specs.Prelude.{◌≡◌, ◌<◌, ℕ, List, [], length, Option, Some, None, option_map, Result, Ok, Err, MatchOption, ⊤}
+use Rattle.std.specs.Prelude.{◌≡◌, ◌<◌, ℕ, Bool, true, List, [], length, Option, Some, None, option_map, Result, Ok, Err, MatchOption, ⊤}
 use Rattle.std.specs.List.{find}
 use Rattle.std.specs.Str.{bytes_eq}
 use Rattle.std.specs.Io.Cursor.{cursor_remaining}
 use Rattle.std.specs.declared.io.Cursor.{Cursor}
 use Rattle.sqlite.specs.Effect.{Database}
-use Rattle.sqlite.specs.Held.{state}
+use Rattle.sqlite_trees.specs.declared.memory.MemStore.{MemStore}
+use Rattle.sqlite.specs.Held.{Held, state}
 use Rattle.sqlite.specs.Steps.{over_memory}
 use Rattle.mls_filterview.specs.Content.{Content}
 use Rattle.mls_lattice.specs.Policy.{Tables}
@@ -42,12 +43,21 @@ IsLacking None fault = fault ≡ Unreadable
 IsLacking (Some (Ok bytes)) fault = IsUncopied bytes fault
 IsLacking (Some (Err held)) fault = fault ≡ held
 
--- why a store is not opened, which is there, or not: its texts are those of others, or it is bad, or it fails; or memory
-abbrev pub IsUnopenedFor : Tables → SchemesFile → Option Database → OpenFault → Type 0
-IsUnopenedFor policy file store stores.Store = ⊤
+-- a store in memory fails for want of memory alone
+abbrev pub in_memory : OpenFault → OpenFault
+in_memory stores.Store = stores.Memory
+in_memory fault = fault
+
+-- what a connection shows of its store: whether a transaction has begun there, and what it holds
+abbrev pub shown : Held MemStore → Bool × Database
+shown conn = ((state over_memory conn).in_transaction, (state over_memory conn).now)
+
+-- why a store is not opened: there is none, or a transaction has begun there; or its texts are those of others, or it is bad; or memory
+abbrev pub IsUnopenedFor : Tables → SchemesFile → Option (Bool × Database) → OpenFault → Type 0
+IsUnopenedFor policy file store stores.Store = MatchOption store ⊤ (λ s. s.0 ≡ true)
 IsUnopenedFor policy file store stores.Memory = ⊤
-IsUnopenedFor policy file store stores.OtherPolicy = MatchOption store ⊥ (IsOfOthers policy file)
-IsUnopenedFor policy file store stores.BadRows = MatchOption store ⊥ (IsBad policy file)
+IsUnopenedFor policy file store stores.OtherPolicy = MatchOption store ⊥ (λ s. IsOfOthers policy file s.1)
+IsUnopenedFor policy file store stores.BadRows = MatchOption store ⊥ (λ s. IsBad policy file s.1)
 
 module _ {R : Type 0} where
   -- it gives the bytes that stand there under the name, or its input, and nothing else
@@ -66,7 +76,7 @@ module _ {R : Type 0} where
 
   -- why its store is not opened
   abbrev pub bars : MemoryHost R → List ℕ → Tables → SchemesFile → OpenFault → Type 0
-  bars h path policy file fault = IsUnopenedFor policy file (option_map (λ conn. (state over_memory conn).now) h.store) fault
+  bars h path policy file fault = IsUnopenedFor policy file (option_map shown h.store) fault
 
   abbrev pub hosting : MemoryHost R → Hosting
   hosting h = record { gives = gives h; lacks = lacks h; keeps = keeps h; bars = bars h; is_honest = ⊤ }

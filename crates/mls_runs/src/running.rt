@@ -8,7 +8,7 @@ ghost use Rattle.mls_script.specs.Event.{EventFits};
 ghost use Rattle.mls_machine.specs.Observation.{EventsFit, AreRead, AreCertified};
 ghost use Rattle.mls_sessions.specs.World.{IsSound};
 ghost use Rattle.mls_host.specs.Hosting.{hosted, IsAppended};
-ghost use Rattle.mls_host.specs.Causes.{IsScriptRefused, IsUnopened, IsBarred};
+ghost use Rattle.mls_host.specs.Causes.{IsScriptRefused, IsBarred};
 ghost use Rattle.mls_host.specs.Inputs.{AreStoredFrom, IsScriptFrom};
 ghost use Rattle.mls_words.specs.Words.{named};
 ghost use Rattle.mls_host.specs.Refusal.{IsEnd};
@@ -16,7 +16,7 @@ ghost use Rattle.mls_host.specs.Running.{site_of, IsRun};
 ghost use Rattle.mls_runs.specs.ScriptRun.{IsRunFrom, IsScriptRun, IsRunRefused};
 
 use mls_filterview::Base;
-use mls_fragments::SqlBase;
+use mls_fragments::{OpenFault, SqlBase};
 use mls_host::{Host, Reason, Refusal, Role, ended, form_of, input_of, read_script, stored_files};
 use mls_lattice::{Items, LabelNo, Policy};
 use mls_machine::Audience;
@@ -71,7 +71,7 @@ fn run_in_memory<W: Write>(
     requires fits { EventsFit (site_of policy.now file.now.schemes stored) events.now }
     requires declared { IfSome audience.reader (λ c. c < length policy.now.labels) }
     ensures { IsEnd (λ end. (left : Content) × IsRun (site_of policy.now file.now.schemes stored) audience events.now
-        (IsAppended W.contents out.old out.new) end no_content left) (λ reason. IsUnopened reason × IsAppended W.contents out.old out.new []) result }
+        (IsAppended W.contents out.old out.new) end no_content left) (λ reason. (reason ≡ Reason.Store OpenFault.Memory) × IsAppended W.contents out.old out.new []) result }
 {
     let base = match SqlBase::open_memory(alloc, policy, file) {
         Ok(base) => base,

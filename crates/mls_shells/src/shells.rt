@@ -7,7 +7,7 @@ ghost use Rattle.mls_filterview.specs.Content.{Content, no_content};
 ghost use Rattle.mls_machine.specs.Observation.{AreRead, AreCertified};
 ghost use Rattle.mls_host.specs.Hosting.{hosted, IsAppended, IsTold};
 ghost use Rattle.mls_words.specs.Words.{named};
-ghost use Rattle.mls_host.specs.Causes.{IsUnopened, IsBarred};
+ghost use Rattle.mls_host.specs.Causes.{IsBarred};
 ghost use Rattle.mls_host.specs.Refusal.{IsEnd};
 ghost use Rattle.mls_host.specs.Running.{site_of};
 ghost use Rattle.mls_shells.specs.Shell.{opening, IsShell};
@@ -16,7 +16,7 @@ ghost use Rattle.mls_shells.specs.ShellRun.{seat_of, IsShellFrom, IsShellRun, Is
 use crate::reading::opening;
 use crate::seat::Seat;
 use crate::shell::shell_on;
-use mls_fragments::SqlBase;
+use mls_fragments::{OpenFault, SqlBase};
 use mls_host::{Ending, Errors, Host, Reason, Refusal, ended, stored_files};
 use mls_lattice::{Items, LabelNo, Policy, Str, is_name};
 use mls_scheme::SchemesFile;
@@ -47,7 +47,7 @@ fn shell_in_memory<L: TypedLines, W: Write, E: Write>(
     requires first { first.now ≡ opening seat.now ∷ [] }
     ensures { IsEnd (λ end. (left : Content) × IsShell L.echo (site_of policy.now file.now.schemes stored) seat.now (L.remaining lines.old) (L.remaining lines.new)
         (IsAppended W.contents out.old out.new) (IsTold E.contents err.old err.new) end no_content left)
-        (λ reason. IsUnopened reason × IsAppended W.contents out.old out.new [] × IsTold E.contents err.old err.new []) result }
+        (λ reason. (reason ≡ Reason.Store OpenFault.Memory) × IsAppended W.contents out.old out.new [] × IsTold E.contents err.old err.new []) result }
 {
     let base = match SqlBase::open_memory(alloc, policy, file) {
         Ok(base) => base,

@@ -1,14 +1,15 @@
-use Rattle.std.proofs.Common.{[], Result, Ok, sym, subst}
+use Rattle.std.proofs.Common.{◌≡◌, [], Result, Ok, sym, subst, ap}
 use Rattle.std.proofs.KnownBytes.{Appends-nil}
 use Rattle.sqlite.proofs.Callers.{memory_is_clean}
 use Rattle.std.specs.Io.KnownBytes.{Appends}
 use Rattle.mls_filterview.specs.Content.{State, Content, no_content}
 use Rattle.mls_fragments.specs.Based.{state_of}
 use Rattle.mls_sessions.specs.declared.cause.RunFault.{RunFault}
+use Rattle.mls_fragments.specs.declared.open_fault.OpenFault.TheVariants as stores
+use Rattle.mls_host.specs.declared.reason.Reason.{Reason}
+use Rattle.mls_host.specs.declared.reason.Reason.TheVariants.{Store}
 use Rattle.mls_host.specs.declared.refusal.Refusal.{Refusal}
-use Rattle.mls_host.specs.Causes.{IsUnopened}
 use Rattle.mls_host.specs.Refusal.{IsEnd}
-use Rattle.mls_host.proofs.CauseLemmas.{unopened}
 use Rattle.mls_host.specs.Running.{site_of, IsRun}
 use Rattle.mls_host.proofs.RunningLemmas.{none_sound, ended_so}
 use Rattle.mls_runs.proofs.running.run_in_memory.Goals as goal
@@ -17,7 +18,7 @@ pub run_on-outcome-requires-clause-sound : goal.run_on-outcome-requires-clause-s
 run_on-outcome-requires-clause-sound g c = λ _. none_sound (site_of c.args.policy.now c.args.file.now.schemes c.args.stored) _ c.in-Ok.ensures.content
 
 pub returns-in-Err : goal.returns-in-Err
-returns-in-Err g c = (unopened c.in-Err.fault c.in-Err.ensures.policy c.in-Err.ensures.rows, Appends-nil _)
+returns-in-Err g c = (ap Store c.in-Err.ensures.memory, Appends-nil _)
 
 pub returns : goal.returns
 returns g c =
@@ -28,5 +29,5 @@ returns g c =
     let run = c.run_on-outcome.ensures.run (c.into_connection-connection.ensures.clean (memory_is_clean c.into_connection-connection.result)) in
     let Runs : Result (Unit {0}) RunFault → Type 0 = λ end. (last : Content) × IsRun at c.args.audience c.args.events.now (Appends before after) end no_content last in
     let ran : Runs c.run_on-outcome.result.0 = (left, subst (λ (x : State). IsRun at c.args.audience c.args.events.now (Appends before after) c.run_on-outcome.result.0 x.now left) c.in-Ok.ensures.content run) in
-    subst (λ (r : Result (Unit {0}) Refusal). IsEnd Runs (λ reason. IsUnopened reason × Appends before after []) r) (sym c.ended.ensures)
-    (ended_so Runs (λ reason. IsUnopened reason × Appends before after []) c.run_on-outcome.result.0 (Ok tt) ran)
+    let Nothing : Reason → Type 0 = λ reason. (reason ≡ Store stores.Memory) × Appends before after [] in
+    subst (λ (r : Result (Unit {0}) Refusal). IsEnd Runs Nothing r) (sym c.ended.ensures) (ended_so Runs Nothing c.run_on-outcome.result.0 (Ok tt) ran)

@@ -1,16 +1,17 @@
-use Rattle.std.proofs.Common.{[], Result, Ok, sym, subst}
+use Rattle.std.proofs.Common.{◌≡◌, [], Result, Ok, sym, subst, ap}
 use Rattle.std.proofs.KnownBytes.{Appends-nil}
 use Rattle.sqlite.proofs.Callers.{memory_is_clean}
 use Rattle.mls_filterview.specs.Content.{State, Content, no_content}
 use Rattle.mls_fragments.specs.Based.{state_of}
 use Rattle.mls_sessions.specs.declared.cause.RunFault.{RunFault}
 use Rattle.mls_host.specs.declared.ending.Ending.{Ending}
+use Rattle.mls_fragments.specs.declared.open_fault.OpenFault.TheVariants as stores
+use Rattle.mls_host.specs.declared.reason.Reason.{Reason}
+use Rattle.mls_host.specs.declared.reason.Reason.TheVariants.{Store}
 use Rattle.mls_host.specs.declared.refusal.Refusal.{Refusal}
 use Rattle.mls_host.specs.Hosting.{IsAppended, IsTold}
 use Rattle.mls_host.specs.Running.{site_of}
 use Rattle.mls_shells.specs.Shell.{IsShell}
-use Rattle.mls_host.specs.Causes.{IsUnopened}
-use Rattle.mls_host.proofs.CauseLemmas.{unopened}
 use Rattle.mls_host.specs.Refusal.{IsEnd}
 use Rattle.mls_host.proofs.RunningLemmas.{none_sound, ended_so}
 use Rattle.mls_host.proofs.HostingLemmas.{told_nothing}
@@ -20,7 +21,7 @@ pub shell_on-outcome-requires-clause-sound : goal.shell_on-outcome-requires-clau
 shell_on-outcome-requires-clause-sound g c = λ _. none_sound (site_of c.args.policy.now c.args.file.now.schemes c.args.stored) _ c.in-Ok.ensures.content
 
 pub returns-in-Err : goal.returns-in-Err
-returns-in-Err g c = (unopened c.in-Err.fault c.in-Err.ensures.policy c.in-Err.ensures.rows, Appends-nil _, told_nothing g.E.Write.contents c.args.err.now)
+returns-in-Err g c = (ap Store c.in-Err.ensures.memory, Appends-nil _, told_nothing g.E.Write.contents c.args.err.now)
 
 pub returns : goal.returns
 returns g c =
@@ -32,5 +33,5 @@ returns g c =
     let Runs : Result Ending RunFault → Type 0 = λ end. (last : Content) × IsShell g.L.TypedLines.echo at c.args.seat.now (g.L.TypedLines.remaining c.args.lines.now) (g.L.TypedLines.remaining c.shell_on-outcome.new.lines) Wrote Told end no_content last in
     let ran : Runs c.shell_on-outcome.result.0 =
     (left, subst (λ (x : State). IsShell g.L.TypedLines.echo at c.args.seat.now (g.L.TypedLines.remaining c.args.lines.now) (g.L.TypedLines.remaining c.shell_on-outcome.new.lines) Wrote Told c.shell_on-outcome.result.0 x.now left) c.in-Ok.ensures.content shell) in
-    subst (λ (r : Result Ending Refusal). IsEnd Runs (λ reason. IsUnopened reason × Wrote [] × Told []) r) (sym c.ended.ensures)
-    (ended_so Runs (λ reason. IsUnopened reason × Wrote [] × Told []) c.shell_on-outcome.result.0 (Ok tt) ran)
+    let Nothing : Reason → Type 0 = λ reason. (reason ≡ Store stores.Memory) × Wrote [] × Told [] in
+    subst (λ (r : Result Ending Refusal). IsEnd Runs Nothing r) (sym c.ended.ensures) (ended_so Runs Nothing c.shell_on-outcome.result.0 (Ok tt) ran)

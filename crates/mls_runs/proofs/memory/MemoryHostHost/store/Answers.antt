@@ -4,7 +4,8 @@ use Rattle.sqlite.specs.Held.{state}
 use Rattle.sqlite.specs.Steps.{over_memory}
 use Rattle.sqlite.proofs.Callers.{memory_is_clean}
 use Rattle.mls_fragments.specs.Again.{IsHeldBy}
-use Rattle.mls_runs.proofs.MemoryLemmas.{barred}
+use Rattle.mls_runs.specs.Memory.{shown}
+use Rattle.mls_runs.proofs.MemoryLemmas.{barred, within, missing}
 use Rattle.mls_runs.proofs.memory.MemoryHostHost.store.Goals as goal
 
 pub returns-in-Ok-clause-kept : goal.returns-in-Ok-clause-kept
@@ -14,5 +15,5 @@ returns-in-Ok-clause-kept g c = λ clean.
 
 pub returns-in-Err-clause-barred : goal.returns-in-Err-clause-barred
 returns-in-Err-clause-barred g c =
-    barred (λ conn. (state over_memory conn).now) c.args.policy.now c.args.file.now c.args.self.now.store c.in-Some.conn c.in-Some.ensures.value c.in-Err.fault
+    barred shown c.args.policy.now c.args.file.now c.args.self.now.store c.in-Some.conn c.in-Some.ensures.value c.in-Err.fault
     (c.in-Err.ensures.policy (memory_is_clean c.in-Err.conn)) (c.in-Err.ensures.bad (memory_is_clean c.in-Err.conn))

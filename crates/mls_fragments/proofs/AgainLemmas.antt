@@ -105,7 +105,7 @@ module _ (image : Image) (found : Database) (finds : IsFoundIn image found) wher
   same_trees db held = ∥∥₁_elim held (Trees-set found.trees db.trees) (λ h. finds.holds db.trees h)
 
   -- of an empty file nothing is found
-  found_none : image.db ≡ [] → found.schema ≡ no_schema
+  pub found_none : image.db ≡ [] → found.schema ≡ no_schema
   found_none none = elim finds.reads [
     | inl some ↦ absurd (let e = some.3.found.present in omega (arith, e, ap length none))
     | inr empty ↦ without found finds.sound empty.1.1

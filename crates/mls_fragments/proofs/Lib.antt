@@ -16,3 +16,4 @@ pub mod SortedLemmas
 pub mod WrittenLemmas
 pub mod OneContentLemmas
 pub mod AgainLemmas
+pub mod MemoryLemmas

@@ -7,3 +7,4 @@ pub mod Migrating
 pub mod Opening
 pub mod OneContent
 pub mod Again
+pub mod MemoryFile

@@ -34,7 +34,7 @@ fn is_settled<S: Alter>(conn: &Connection<S>) -> bool
 }
 
 /// A connection to the store in files, which is made where the database file is empty.
-fn connected<D: Disk + Drop>(
+pub(crate) fn connected<D: Disk + Drop>(
     alloc: Global,
     files: Files<D>,
     options: Options,

@@ -30,7 +30,7 @@ use mls_lattice::{Policy, Version};
 use mls_scheme::{Schemes, SchemesFile};
 use mls_statements::statements::creation::has_nothing;
 use mls_statements::{TableStore, read_description, read_store, rewrite_store};
-use sqlite::{Alter, Connection, Error, ErrorCode, FileFrom, FileStore, MemStore, Start};
+use sqlite::{Alter, Connection, Error, ErrorCode, FileFrom, FileStore, Start};
 use std::alloc::{AllocError, Global};
 
 /// The two texts that describe the stores of a policy and its schemes.
@@ -230,27 +230,6 @@ impl<S: Alter> SqlBase<S> {
             return created(alloc, conn, policy.version().later(file.version), &texts);
         }
         opened(alloc, conn, policy, file, &texts)
-    }
-}
-
-impl SqlBase<MemStore> {
-    /// An empty base over a store in memory, which policy and schemes describe.
-    pub fn open_memory(
-        alloc: Global,
-        policy: &Policy,
-        file: &SchemesFile,
-    ) -> Result<SqlBase<MemStore>, OpenFault>
-        requires under { AreUnder (length policy.now.labels) file.now.schemes }
-        ensures content { IfOk result (λ b. state_of b ≡ record { now = no_content; kept = no_content; begun = false }) }
-        ensures described { IfOk result (λ b. IsClean b.tables → b.tables.now ≡ described (version_number (later policy.now.version file.now.version)) (lattice.lattice_of policy.now) (scheme.canon_of policy.now file.now.version file.now.schemes)) }
-        ensures policy { IfErr result (λ e. e ≢ OpenFault.OtherPolicy) }
-        ensures rows { IfErr result (λ e. e ≢ OpenFault.BadRows) }
-    {
-        let conn = Connection::open_in_memory(alloc)?;
-        match SqlBase::adopt(alloc, conn, policy, file) {
-            Ok(base) => Ok(base),
-            Err((fault, _)) => Err(fault),
-        }
     }
 }
 

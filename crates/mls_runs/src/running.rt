@@ -16,7 +16,7 @@ ghost use Rattle.mls_host.specs.Running.{site_of, IsRun};
 ghost use Rattle.mls_runs.specs.ScriptRun.{IsRunFrom, IsScriptRun, IsRunRefused};
 
 use mls_filterview::Base;
-use mls_fragments::{OpenFault, SqlBase};
+use mls_fragments::{MemoryBase, OpenFault};
 use mls_host::{Host, Reason, Refusal, Role, ended, form_of, input_of, read_script, stored_files};
 use mls_lattice::{Items, LabelNo, Policy};
 use mls_machine::Audience;
@@ -73,7 +73,7 @@ fn run_in_memory<W: Write>(
     ensures { IsEnd (λ end. (left : Content) × IsRun (site_of policy.now file.now.schemes stored) audience events.now
         (IsAppended W.contents out.old out.new) end no_content left) (λ reason. (reason ≡ Reason.Store OpenFault.Memory) × IsAppended W.contents out.old out.new []) result }
 {
-    let base = match SqlBase::open_memory(alloc, policy, file) {
+    let base = match MemoryBase::open(alloc, policy, file) {
         Ok(base) => base,
         Err(fault) => return Err(Refusal::Before(Reason::Store(fault))),
     };
@@ -87,7 +87,7 @@ fn run_in_memory<W: Write>(
         audience,
         out,
     );
-    let _connection = left.into_connection();
+    left.close();
     ended(outcome, Ok(()))
 }
 

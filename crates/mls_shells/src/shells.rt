@@ -16,7 +16,7 @@ ghost use Rattle.mls_shells.specs.ShellRun.{seat_of, IsShellFrom, IsShellRun, Is
 use crate::reading::opening;
 use crate::seat::Seat;
 use crate::shell::shell_on;
-use mls_fragments::{OpenFault, SqlBase};
+use mls_fragments::{MemoryBase, OpenFault};
 use mls_host::{Ending, Errors, Host, Reason, Refusal, ended, stored_files};
 use mls_lattice::{Items, LabelNo, Policy, Str, is_name};
 use mls_scheme::SchemesFile;
@@ -49,7 +49,7 @@ fn shell_in_memory<L: TypedLines, W: Write, E: Write>(
         (IsAppended W.contents out.old out.new) (IsTold E.contents err.old err.new) end no_content left)
         (λ reason. (reason ≡ Reason.Store OpenFault.Memory) × IsAppended W.contents out.old out.new [] × IsTold E.contents err.old err.new []) result }
 {
-    let base = match SqlBase::open_memory(alloc, policy, file) {
+    let base = match MemoryBase::open(alloc, policy, file) {
         Ok(base) => base,
         Err(fault) => return Err(Refusal::Before(Reason::Store(fault))),
     };
@@ -57,7 +57,7 @@ fn shell_in_memory<L: TypedLines, W: Write, E: Write>(
     let (outcome, left) = shell_on(
         alloc, policy, schemes, stored, base, seat, first, lines, out, err,
     );
-    let _connection = left.into_connection();
+    left.close();
     ended(outcome, Ok(()))
 }
 

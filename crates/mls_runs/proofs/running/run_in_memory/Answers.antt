@@ -1,6 +1,5 @@
 use Rattle.std.proofs.Common.{◌≡◌, [], Result, Ok, sym, subst, ap}
 use Rattle.std.proofs.KnownBytes.{Appends-nil}
-use Rattle.sqlite.proofs.Callers.{memory_is_clean}
 use Rattle.std.specs.Io.KnownBytes.{Appends}
 use Rattle.mls_filterview.specs.Content.{State, Content, no_content}
 use Rattle.mls_fragments.specs.Based.{state_of}
@@ -18,7 +17,7 @@ pub run_on-outcome-requires-clause-sound : goal.run_on-outcome-requires-clause-s
 run_on-outcome-requires-clause-sound g c = λ _. none_sound (site_of c.args.policy.now c.args.file.now.schemes c.args.stored) _ c.in-Ok.ensures.content
 
 pub returns-in-Err : goal.returns-in-Err
-returns-in-Err g c = (ap Store c.in-Err.ensures.memory, Appends-nil _)
+returns-in-Err g c = (ap Store c.in-Err.ensures.fault, Appends-nil _)
 
 pub returns : goal.returns
 returns g c =
@@ -26,7 +25,7 @@ returns g c =
     let left = (state_of c.run_on-outcome.result.1).now in
     let before = g.W.Write.contents c.args.out.now in
     let after = g.W.Write.contents c.run_on-outcome.new.out in
-    let run = c.run_on-outcome.ensures.run (c.into_connection-connection.ensures.clean (memory_is_clean c.into_connection-connection.result)) in
+    let run = c.run_on-outcome.ensures.run c.close.ensures.clean in
     let Runs : Result (Unit {0}) RunFault → Type 0 = λ end. (last : Content) × IsRun at c.args.audience c.args.events.now (Appends before after) end no_content last in
     let ran : Runs c.run_on-outcome.result.0 = (left, subst (λ (x : State). IsRun at c.args.audience c.args.events.now (Appends before after) c.run_on-outcome.result.0 x.now left) c.in-Ok.ensures.content run) in
     let Nothing : Reason → Type 0 = λ reason. (reason ≡ Store stores.Memory) × Appends before after [] in

@@ -1,6 +1,5 @@
 use Rattle.std.proofs.Common.{◌≡◌, [], Result, Ok, sym, subst, ap}
 use Rattle.std.proofs.KnownBytes.{Appends-nil}
-use Rattle.sqlite.proofs.Callers.{memory_is_clean}
 use Rattle.mls_filterview.specs.Content.{State, Content, no_content}
 use Rattle.mls_fragments.specs.Based.{state_of}
 use Rattle.mls_sessions.specs.declared.cause.RunFault.{RunFault}
@@ -21,7 +20,7 @@ pub shell_on-outcome-requires-clause-sound : goal.shell_on-outcome-requires-clau
 shell_on-outcome-requires-clause-sound g c = λ _. none_sound (site_of c.args.policy.now c.args.file.now.schemes c.args.stored) _ c.in-Ok.ensures.content
 
 pub returns-in-Err : goal.returns-in-Err
-returns-in-Err g c = (ap Store c.in-Err.ensures.memory, Appends-nil _, told_nothing g.E.Write.contents c.args.err.now)
+returns-in-Err g c = (ap Store c.in-Err.ensures.fault, Appends-nil _, told_nothing g.E.Write.contents c.args.err.now)
 
 pub returns : goal.returns
 returns g c =
@@ -29,7 +28,7 @@ returns g c =
     let left = (state_of c.shell_on-outcome.result.1).now in
     let Wrote = IsAppended g.W.Write.contents c.args.out.now c.shell_on-outcome.new.out in
     let Told = IsTold g.E.Write.contents c.args.err.now c.shell_on-outcome.new.err in
-    let shell = c.shell_on-outcome.ensures.shell (c.into_connection-connection.ensures.clean (memory_is_clean c.into_connection-connection.result)) in
+    let shell = c.shell_on-outcome.ensures.shell c.close.ensures.clean in
     let Runs : Result Ending RunFault → Type 0 = λ end. (last : Content) × IsShell g.L.TypedLines.echo at c.args.seat.now (g.L.TypedLines.remaining c.args.lines.now) (g.L.TypedLines.remaining c.shell_on-outcome.new.lines) Wrote Told end no_content last in
     let ran : Runs c.shell_on-outcome.result.0 =
     (left, subst (λ (x : State). IsShell g.L.TypedLines.echo at c.args.seat.now (g.L.TypedLines.remaining c.args.lines.now) (g.L.TypedLines.remaining c.shell_on-outcome.new.lines) Wrote Told c.shell_on-outcome.result.0 x.now left) c.in-Ok.ensures.content shell) in

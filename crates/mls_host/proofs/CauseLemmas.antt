@@ -1,5 +1,5 @@
 -- Why inputs are refused, from what is said of each step.
-use Rattle.std.proofs.Common.{◌≡◌, ◌≢◌, ◌↔◌, ℕ, List, Option, Result, Ok, Err, IfErr, inl, inr, refl, sym, subst}
+use Rattle.std.proofs.Common.{◌≡◌, ◌≢◌, ◌↔◌, ℕ, List, Option, Result, Ok, Err, IfErr, refl, sym, subst}
 use Rattle.std.specs.Result.{IsErrAnd}
 use Rattle.toml.specs.Data.{Members}
 use Rattle.mls_lattice.specs.Policy.{Tables}
@@ -9,11 +9,8 @@ use Rattle.mls_lattice.specs.declared.fault.PolicyFault.TheVariants as policies
 use Rattle.mls_scheme.specs.Reading.{schemes_at}
 use Rattle.mls_scheme.specs.declared.fault.SchemeFault.{SchemeFault}
 use Rattle.mls_scheme.specs.declared.fault.SchemeFault.TheVariants as schemes
-use Rattle.mls_fragments.specs.declared.open_fault.OpenFault.{OpenFault}
-use Rattle.mls_fragments.specs.declared.open_fault.OpenFault.TheVariants as stores
 use Rattle.mls_host.specs.declared.reason.Role.{Role}
 use Rattle.mls_host.specs.declared.reason.Reason.{Reason}
-use Rattle.mls_host.specs.declared.reason.Reason.TheVariants.{Store}
 use Rattle.mls_host.specs.Hosting.{Hosting}
 use Rattle.mls_host.specs.Causes.{IsNoDocument, IsPolicyFault, IsSchemeFault, IsInputRefused, not_read}
 

@@ -1,5 +1,5 @@
 -- Runs over a content: the lines of their events, what they leave, and how they end.
-use Rattle.std.proofs.Common.{refl, ◌≡◌, ℕ, List, [], Option, Some, None, false, Result, Ok, Err, OnOk, IfErr, IfSome, take, sym, subst}
+use Rattle.std.proofs.Common.{◌≡◌, ℕ, List, Option, Some, None, false, Result, Ok, Err, OnOk, IfErr, IfSome, take, sym, subst}
 use Rattle.std.specs.Result.{IsErrAnd}
 use Rattle.std.specs.Io.KnownBytes.{Appends}
 use Rattle.mls_filterview.specs.Content.{Content, State, no_content}

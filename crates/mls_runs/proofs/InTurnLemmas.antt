@@ -1,5 +1,5 @@
 -- Two runs over one store are a history.
-use Rattle.std.proofs.Common.{◌≡◌, ℕ, ◌-◌, if◌then◌else◌, List, [], ◌∷◌, length, map, take, Option, Some, None, Result, Ok, Err, refl, sym, ap, ◌∙◌, subst, arith}
+use Rattle.std.proofs.Common.{◌≡◌, ℕ, ◌-◌, if◌then◌else◌, List, [], ◌∷◌, length, take, Option, Some, None, Result, Ok, Err, refl, sym, ap, ◌∙◌, subst, arith}
 use Rattle.std.specs.List.{AllByRecursion}
 use Rattle.std.proofs.lemmas.List.{length-map, take_all}
 use Rattle.mls_lattice.specs.Labels.{AreDistinct}
@@ -30,9 +30,8 @@ use Rattle.mls_sessions.specs.World.{entries_in, IsSound}
 use Rattle.mls_words.specs.declared.words.Documents.{Documents}
 use Rattle.mls_host.specs.Hosting.{Hosted, BeginsWith, IsKeptAt}
 use Rattle.mls_host.specs.Inputs.{AreTransactionsFrom, AreStoredFrom, IsPolicyOf}
-use Rattle.mls_words.specs.Words.{named}
 use Rattle.mls_host.specs.Running.{site_of, first_world, output, standing, IsLeftBy}
-use Rattle.mls_runs.specs.InTurn.{run_at, IsHistory, AreInTurn, KeepsOne, RunsAreInTurn}
+use Rattle.mls_runs.specs.InTurn.{run_at, KeepsOne, RunsAreInTurn}
 use Rattle.mls_host.proofs.StoringLemmas.{stored_read}
 
 -- ---- up to where a run ended or stopped

@@ -1,6 +1,6 @@
 -- The store of a machine in memory keeps one content, and is not opened for the causes that its connection is handed back for.
-use Rattle.std.proofs.Common.{◌≡◌, ℕ, Bool, true, List, Option, Some, None, option_map, refl, sym, subst}
-use Rattle.std.specs.Prelude.{MatchOption, ⊤}
+use Rattle.std.proofs.Common.{◌≡◌, ℕ, Bool, List, Option, Some, None, option_map, refl, subst}
+use Rattle.std.specs.Prelude.{MatchOption}
 use Rattle.sqlite.specs.Effect.{Database}
 use Rattle.sqlite.specs.Held.{state}
 use Rattle.sqlite.specs.Steps.{over_memory}
@@ -12,7 +12,7 @@ use Rattle.mls_fragments.specs.Opening.{IsOfOthers, IsBad}
 use Rattle.mls_fragments.specs.declared.open_fault.OpenFault.{OpenFault}
 use Rattle.mls_fragments.specs.declared.open_fault.OpenFault.TheVariants as stores
 use Rattle.mls_fragments.proofs.AgainLemmas.{one_held}
-use Rattle.mls_runs.specs.Memory.{in_memory, IsUnopenedFor, hosted_in, RunsInMemoryAreInTurn}
+use Rattle.mls_runs.specs.Memory.{in_memory_fault, IsUnopenedFor, hosted_in, RunsInMemoryAreInTurn}
 use Rattle.mls_runs.proofs.InTurnLemmas.{in_turn}
 
 one_of : {A : Type 0} (database : A → Database) (o : Option A) (c d : Content)
@@ -26,17 +26,8 @@ in_memory R W V old middle new path = in_turn (hosted_in old middle) W (hosted_i
 -- the store that a connection was, in which no transaction had begun, is not opened for the cause that it comes back with
 pub barred : {A : Type 0} (show : A → Bool × Database) (policy : Tables) (file : SchemesFile) (store : Option A) (conn : A) → Some conn ≡ store → (fault : OpenFault)
     → (fault ≡ stores.OtherPolicy → IsOfOthers policy file (show conn).1) → (fault ≡ stores.BadRows → IsBad policy file (show conn).1)
-    → IsUnopenedFor policy file (option_map show store) (in_memory fault)
+    → IsUnopenedFor policy file (option_map show store) (in_memory_fault fault)
 barred show policy file store conn is stores.Store other bad = tt
 barred show policy file store conn is stores.OtherPolicy other bad = subst (λ o. MatchOption (option_map show o) ⊥ (λ s. IsOfOthers policy file s.1)) is (other refl)
 barred show policy file store conn is stores.BadRows other bad = subst (λ o. MatchOption (option_map show o) ⊥ (λ s. IsBad policy file s.1)) is (bad refl)
 barred show policy file store conn is stores.Memory other bad = tt
-
--- and one in which a transaction had begun is not opened
-pub within : {A : Type 0} (show : A → Bool × Database) (policy : Tables) (file : SchemesFile) (store : Option A) (conn : A) → Some conn ≡ store → (show conn).0 ≡ true
-    → IsUnopenedFor policy file (option_map show store) stores.Store
-within show policy file store conn is begun = subst (λ o. MatchOption (option_map show o) ⊤ (λ s. s.0 ≡ true)) is begun
-
-pub missing : {A : Type 0} (show : A → Bool × Database) (policy : Tables) (file : SchemesFile) (store : Option A) → store ≡ None
-    → IsUnopenedFor policy file (option_map show store) stores.Store
-missing show policy file store is = subst (λ o. MatchOption (option_map show o) ⊤ (λ s. s.0 ≡ true)) (sym is) tt

@@ -44,9 +44,9 @@ IsLacking (Some (Ok bytes)) fault = IsUncopied bytes fault
 IsLacking (Some (Err held)) fault = fault ≡ held
 
 -- a store in memory fails for want of memory alone
-abbrev pub in_memory : OpenFault → OpenFault
-in_memory stores.Store = stores.Memory
-in_memory fault = fault
+abbrev pub in_memory_fault : OpenFault → OpenFault
+in_memory_fault stores.Store = stores.Memory
+in_memory_fault fault = fault
 
 -- what a connection shows of its store: whether a transaction has begun there, and what it holds
 abbrev pub shown : Held MemStore → Bool × Database

@@ -1,7 +1,7 @@
 //! A machine in memory, of which contracts know all: its files, its standard input, and one store.
 ghost use Rattle.std.specs.Prelude.{◌≡◌, Some, IfOk, IfErr, IfSome, option_map};
 ghost use Rattle.mls_host.specs.Hosting.{IsAppended};
-ghost use Rattle.mls_runs.specs.Memory.{IsUncopied, file_named, in_memory, left_in, RunsInMemoryAreInTurn};
+ghost use Rattle.mls_runs.specs.Memory.{IsUncopied, file_named, in_memory_fault, left_in, RunsInMemoryAreInTurn};
 
 use mls_fragments::{OpenFault, SqlBase};
 use mls_host::{CloseFault, Host, HostFault};
@@ -88,8 +88,8 @@ fn copy_of(alloc: Global, bytes: &[u8]) -> Result<Vec<u8>, HostFault>
 }
 
 /// Why a store in memory is not opened: where it fails, memory ran out.
-fn in_memory(fault: OpenFault) -> OpenFault
-    ensures { result ≡ in_memory fault }
+fn in_memory_fault(fault: OpenFault) -> OpenFault
+    ensures { result ≡ in_memory_fault fault }
 {
     match fault {
         OpenFault::Store => OpenFault::Memory,
@@ -147,7 +147,7 @@ impl<'a, R: AllocGlobal> Host for MemoryHost<'a, R> {
             Ok(base) => Ok(base),
             Err((fault, conn)) => {
                 self.store = Some(conn);
-                Err(in_memory(fault))
+                Err(in_memory_fault(fault))
             }
         }
     }

@@ -1,11 +1,11 @@
-use Rattle.std.proofs.Common.{subst}
+use Rattle.std.proofs.Common.{option_map, subst, sym}
 use Rattle.std.specs.Prelude.{MatchOption}
 use Rattle.sqlite.specs.Held.{state}
 use Rattle.sqlite.specs.Steps.{over_memory}
 use Rattle.sqlite.proofs.Callers.{memory_is_clean}
 use Rattle.mls_fragments.specs.Again.{IsHeldBy}
-use Rattle.mls_runs.specs.Memory.{shown}
-use Rattle.mls_runs.proofs.MemoryLemmas.{barred, within, missing}
+use Rattle.mls_runs.specs.Memory.{shown, IsUnopenedFor}
+use Rattle.mls_runs.proofs.MemoryLemmas.{barred}
 use Rattle.mls_runs.proofs.memory.MemoryHostHost.store.Goals as goal
 
 pub returns-in-Ok-clause-kept : goal.returns-in-Ok-clause-kept
@@ -15,5 +15,6 @@ returns-in-Ok-clause-kept g c = λ clean.
 
 pub returns-in-Err-clause-barred : goal.returns-in-Err-clause-barred
 returns-in-Err-clause-barred g c =
-    barred shown c.args.policy.now c.args.file.now c.args.self.now.store c.in-Some.conn c.in-Some.ensures.value c.in-Err.fault
-    (c.in-Err.ensures.policy (memory_is_clean c.in-Err.conn)) (c.in-Err.ensures.bad (memory_is_clean c.in-Err.conn))
+    subst (IsUnopenedFor c.args.policy.now c.args.file.now (option_map shown c.args.self.now.store)) (sym c.in_memory_fault.ensures)
+    (barred shown c.args.policy.now c.args.file.now c.args.self.now.store c.in-Some.conn c.in-Some.ensures.value c.in-Err.fault
+    (c.in-Err.ensures.policy (memory_is_clean c.in-Err.conn)) (c.in-Err.ensures.bad (memory_is_clean c.in-Err.conn)))

@@ -16,7 +16,7 @@ use Rattle.mls_scheme.specs.Value.{value_cmp}
 use Rattle.mls_scheme.specs.Table.{place_cmp, tuple_at}
 use Rattle.mls_scheme.specs.declared.tuple.Tuple.{Tuple}
 use Rattle.mls_scheme.proofs.OrderLemmas.{value_total, is_place-true}
-use Rattle.mls_filterview.specs.Subsumption.{all_cover, subsumes_entry, is_max_among, entity_cmp, AreByEntity}
+use Rattle.mls_filterview.specs.Subsumption.{all_cover, subsumes_entry, is_max_among, flagged, entity_cmp, AreByEntity}
 use Rattle.mls_filterview.specs.Stored.{with_class, is_entity}
 use Rattle.mls_filterview.specs.View.{IsAmong}
 use Rattle.mls_filterview.proofs.AmongLemmas.{all_at}
@@ -115,15 +115,10 @@ any_right : (p : Entry → Bool) (xs ys : List Entry) → ((d : Entry) → IsAmo
 any_right p [] ys h = refl
 any_right p (x ∷ xs) ys h = (λ i. h x (inl refl) i || list_any p (xs ++ ys)) ∙ any_right p xs ys (λ d j. h d (inr j))
 
-filter_both : (p q r : Entry → Bool) (xs ys : List Entry) → ((e : Entry) → IsAmong e xs → p e ≡ q e) → ((e : Entry) → IsAmong e ys → p e ≡ r e) → filter p (xs ++ ys) ≡ filter q xs ++ filter r ys
-filter_both p q r [] [] h k = refl
-filter_both p q r [] (y ∷ ys) h k = (λ i. cond (k y (inl refl) i) (y ∷ filter_both p q r [] ys h (λ e j. k e (inr j)) i) (filter_both p q r [] ys h (λ e j. k e (inr j)) i))
-filter_both p q r (x ∷ xs) ys h k =
-    (λ i. cond (h x (inl refl) i) (x ∷ filter_both p q r xs ys (λ e j. h e (inr j)) k i) (filter_both p q r xs ys (λ e j. h e (inr j)) k i)) ∙ out (q x)
-  where
-    out : (b : Bool) → cond b (x ∷ (filter q xs ++ filter r ys)) (filter q xs ++ filter r ys) ≡ cond b (x ∷ filter q xs) (filter q xs) ++ filter r ys
-    out true = refl
-    out false = refl
+map_two : (p q r : Entry → Bool) (xs ys : List Entry) → ((e : Entry) → IsAmong e xs → p e ≡ q e) → ((e : Entry) → IsAmong e ys → p e ≡ r e) → map p (xs ++ ys) ≡ map q xs ++ map r ys
+map_two p q r [] [] h k = refl
+map_two p q r [] (y ∷ ys) h k = λ i. k y (inl refl) i ∷ map_two p q r [] ys h (λ e j. k e (inr j)) i
+map_two p q r (x ∷ xs) ys h k = λ i. h x (inl refl) i ∷ map_two p q r xs ys (λ e j. h e (inr j)) k i
 
 module _ (h : Place) (xs ys : List Entry) (ins : (d : Entry) → IsAmong d xs → entity_cmp d.0 h ≡ Equal) (outs : (e : Entry) → IsAmong e ys → entity_cmp e.0 h ≡ Equal → ⊥) where
   abbrev Hits : Entry → Entry → Bool
@@ -140,23 +135,30 @@ module _ (h : Place) (xs ys : List Entry) (ins : (d : Entry) → IsAmong d xs �
   max_rest e i = ap not (any_right (Hits e) xs ys (λ d j. misses d e (false_from_ne_true _ (λ t.
       outs e i (sym (ent_total.congr d.0 e.0 h (same_ent d.0 e.0 t)) ∙ ins d j)))))
 
-  maximal_both : filter (is_max_among (xs ++ ys)) (xs ++ ys) ≡ filter (is_max_among xs) xs ++ filter (is_max_among ys) ys
-  maximal_both = filter_both (is_max_among (xs ++ ys)) (is_max_among xs) (is_max_among ys) xs ys max_front max_rest
+  flags_both : map (is_max_among (xs ++ ys)) (xs ++ ys) ≡ map (is_max_among xs) xs ++ map (is_max_among ys) ys
+  flags_both = map_two (is_max_among (xs ++ ys)) (is_max_among xs) (is_max_among ys) xs ys max_front max_rest
 
--- the maximal rows are those of the first entity, and those of the others
+-- the flags of rows are those of the first entity, and those of the others
+abbrev pub flags : List Entry → List Bool
+flags es = map (is_max_among es) es
+
 abbrev pub maximal : List Entry → List Entry
 maximal es = filter (is_max_among es) es
+
+pub flagged_by : (p : Entry → Bool) (es : List Entry) → flagged (map p es) es ≡ filter p es
+flagged_by p [] = refl
+flagged_by p (e ∷ es) = λ i. cond (p e) (e ∷ flagged_by p es i) (flagged_by p es i)
 
 take_drop : (n : ℕ) (es : List Entry) → take n es ++ drop n es ≡ es
 take_drop zero es = refl
 take_drop (suc n) [] = refl
 take_drop (suc n) (e ∷ es) = ap (λ xs. e ∷ xs) (take_drop n es)
 
-pub maximal_split : (d : Entry) (es : List Entry) → AreByEntity (d ∷ es) → (n : ℕ) → n ≡ prefix_len (λ e. same e.0 d.0) (d ∷ es)
-    → maximal (d ∷ es) ≡ maximal (take n (d ∷ es)) ++ maximal (drop n (d ∷ es))
-maximal_split d es s n is =
-    sym (ap maximal (take_drop n (d ∷ es)))
-    ∙ maximal_both d.0 (take n (d ∷ es)) (drop n (d ∷ es))
+flags_split : (d : Entry) (es : List Entry) → AreByEntity (d ∷ es) → (n : ℕ) → n ≡ prefix_len (λ e. same e.0 d.0) (d ∷ es)
+    → flags (d ∷ es) ≡ flags (take n (d ∷ es)) ++ flags (drop n (d ∷ es))
+flags_split d es s n is =
+    sym (ap flags (take_drop n (d ∷ es)))
+    ∙ flags_both d.0 (take n (d ∷ es)) (drop n (d ∷ es))
     (λ e i. taken d.0 (d ∷ es) e (subst (λ k. IsAmong e (take k (d ∷ es))) is i))
     (λ e i q. rest e (subst (λ k. IsAmong e (drop k (d ∷ es))) (is ∙ first_one) i) q)
   where
@@ -180,24 +182,19 @@ append_three : {X : Type 0} (xs ys zs : List X) → (xs ++ ys) ++ zs ≡ xs ++ (
 append_three [] ys zs = refl
 append_three (x ∷ xs) ys zs = ap (λ ws. x ∷ ws) (append_three xs ys zs)
 
-map_both : {X Y : Type 0} (f : X → Y) (xs ys : List X) → map f (xs ++ ys) ≡ map f xs ++ map f ys
-map_both f [] ys = refl
-map_both f (x ∷ xs) ys = ap (λ ws. f x ∷ ws) (map_both f xs ys)
-
 abbrev pub tuples_of : List Entry → List Tuple
 tuples_of es = map (λ e. tuple_at e.0 e.1) es
 
 -- the front entity is done, and the rows that are left are fewer
-pub maximal_more : (xs : List Entry) (h : Entry) → 0 < length xs → h ≡ get_or xs 0 h → AreByEntity xs → (n : ℕ) → n ≡ prefix_len (λ e. same e.0 h.0) xs
-    → (front done all : List Tuple) → done ≡ front ++ tuples_of (maximal (take n xs)) → front ++ tuples_of (maximal xs) ≡ all
-    → AreByEntity (drop n xs) × (done ++ tuples_of (maximal (drop n xs)) ≡ all) × (0 < n)
-maximal_more [] h l is s n len front done all new way = absurd (omega arith)
-maximal_more (d ∷ es) h l is s n len front done all new way = (
+pub flags_more : (xs : List Entry) (h : Entry) → 0 < length xs → h ≡ get_or xs 0 h → AreByEntity xs → (n : ℕ) → n ≡ prefix_len (λ e. same e.0 h.0) xs
+    → (front done all : List Bool) → done ≡ front ++ flags (take n xs) → front ++ flags xs ≡ all
+    → AreByEntity (drop n xs) × (done ++ flags (drop n xs) ≡ all) × (0 < n)
+flags_more [] h l is s n len front done all new way = absurd (omega arith)
+flags_more (d ∷ es) h l is s n len front done all new way = (
   sorted_drop n (d ∷ es) s,
-  ap (λ ts. ts ++ tuples_of (maximal (drop n (d ∷ es)))) new
-      ∙ append_three front (tuples_of (maximal (take n (d ∷ es)))) (tuples_of (maximal (drop n (d ∷ es))))
-      ∙ ap (λ ts. front ++ ts) (sym (map_both (λ e. tuple_at e.0 e.1) (maximal (take n (d ∷ es))) (maximal (drop n (d ∷ es)))))
-      ∙ ap (λ ts. front ++ tuples_of ts) (sym (maximal_split d es s n at_front)) ∙ way,
+  ap (λ bs. bs ++ flags (drop n (d ∷ es))) new
+      ∙ append_three front (flags (take n (d ∷ es))) (flags (drop n (d ∷ es)))
+      ∙ ap (λ bs. front ++ bs) (sym (flags_split d es s n at_front)) ∙ way,
   some,
 )
   where

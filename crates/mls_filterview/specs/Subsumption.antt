@@ -1,5 +1,5 @@
 -- Subsumption (Jajodia and Sandhu 1991).
-use Rattle.std.specs.Prelude.{◌≡◌, ⊤, ℕ, ◌<◌, Bool, true, false, not, ◌&&◌, ◌||◌, nat_eq, List, [], ◌∷◌, length, is_some, ◌⊎◌}
+use Rattle.std.specs.Prelude.{◌≡◌, ⊤, ℕ, ◌<◌, Bool, true, false, not, ◌&&◌, ◌||◌, nat_eq, List, [], ◌∷◌, length, is_some, ◌⊎◌, if◌then◌else◌}
 use Rattle.std.specs.List.{list_any, AllByRecursion}
 use Rattle.std.specs.Ordering.{nat_cmp, on, then_cmp}
 use Rattle.std.specs.Cmp.Lexicographic.{slice_cmp}
@@ -49,6 +49,12 @@ subsumes_entry d e = is_entity d.0 e.0 && all_cover d.1 e.1
 -- whether this entry subsumes each entry that subsumes it
 abbrev pub is_max_among : List (Place × List Element) → Place × List Element → Bool
 is_max_among es e = not (list_any (λ d. subsumes_entry d e && not (subsumes_entry e d)) es)
+
+-- the rows whose flag is set
+abbrev pub flagged : {A : Type 0} → List Bool → List A → List A
+flagged [] es = []
+flagged (b ∷ bs) [] = []
+flagged (b ∷ bs) (e ∷ es) = if b then e ∷ flagged bs es else flagged bs es
 
 -- ---- entities in order
 

@@ -4,11 +4,12 @@ ghost use Rattle.std.specs.Option.{unwrap_or};
 ghost use Rattle.std.specs.BTreeMap.{Updates, IsOrdered, get, insert_entry};
 ghost use Rattle.mls_scheme.specs.Table.{place_cmp};
 ghost use Rattle.mls_filterview.specs.Assembly.{cell_place_cmp, AreValues, AreRows, elements_of};
+ghost use Rattle.mls_filterview.specs.Fragment.{place_of_node};
 
 use crate::fragment::{Cell, Fragment, Node};
 use crate::row::Row;
 use mls_lattice::Items;
-use mls_scheme::{Element, Place, Tuple, Value, copy_key};
+use mls_scheme::{Element, Place, Value};
 use std::alloc::{AllocError, AllocFailed, Global};
 use std::collections::BTreeMap;
 
@@ -71,17 +72,18 @@ fn value_at(values: &Values, cell_place: &(Place, usize)) -> Result<Option<Value
     }
 }
 
-/// The elements of a node's tuple.
-fn elements_of(alloc: Global, values: &Values, node: &Node) -> Result<Items<Element>, AllocError>
-    ensures { IfOk result (λ elements. elements ≡ elements_of (get cell_place_cmp values.now) node.now) }
+/// The tuple of a node: its place, and its elements.
+fn row_of(alloc: Global, values: &Values, node: Node) -> Result<(Place, Items<Element>), AllocError>
+    ensures place { IfOk result (λ row. row.0 ≡ place_of_node node) }
+    ensures elements { IfOk result (λ row. row.1 ≡ elements_of (get cell_place_cmp values.now) node) }
 {
     let place = Place {
-        key: copy_key(&node.key)?,
+        key: node.key,
         key_class: node.key_class,
         class: node.label,
     };
     let mut cell_place = (place, 0);
-    let mut elements = Vec::new(alloc);
+    let mut elements = Vec::with_capacity(alloc, node.pattern.as_slice().len())?;
     for (attr, class) in node.pattern.as_slice().iter().enumerate() {
         cell_place.0.class = *class;
         cell_place.1 = attr;
@@ -91,7 +93,9 @@ fn elements_of(alloc: Global, values: &Values, node: &Node) -> Result<Items<Elem
             class: *class,
         })?;
     }
-    Ok(Items::from(elements))
+    let mut place = cell_place.0;
+    place.class = node.label;
+    Ok((place, Items::from(elements)))
 }
 
 /// The tuples of nodes, by their places.
@@ -101,12 +105,7 @@ pub fn rows_of(alloc: Global, nodes: Items<Node>, values: &Values) -> Result<Row
 {
     let mut rows = BTreeMap::new(alloc);
     for node in nodes.into_vec() {
-        let elements = elements_of(alloc, values, &node)?;
-        let place = Place {
-            key: node.key,
-            key_class: node.key_class,
-            class: node.label,
-        };
+        let (place, elements) = row_of(alloc, values, node)?;
         put_row(&mut rows, place, elements)?;
     }
     Ok(rows)

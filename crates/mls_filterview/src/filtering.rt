@@ -41,7 +41,7 @@ pub fn filter(
     let seen = seen(alloc, policy, tuples, label)?;
     let mut rows = rows_of(alloc, policy, seen)?;
     arrange(&mut rows)?;
-    maximal_tuples(alloc, &rows)
+    maximal_tuples(alloc, rows)
 }
 
 /// What a level sees of the tuples whose key class it dominates.

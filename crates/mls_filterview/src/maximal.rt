@@ -2,7 +2,7 @@
 ghost use Rattle.std.specs.Prelude.{◌≡◌, ◌≤◌, ◌&&◌, ◌++◌, not, length, map, IfOk, OnOk};
 ghost use Rattle.std.specs.List.{filter, list_any, prefix_len};
 ghost use Rattle.mls_scheme.specs.Table.{tuple_at};
-ghost use Rattle.mls_filterview.specs.Subsumption.{subsumes_entry, is_max_among, AreByEntity};
+ghost use Rattle.mls_filterview.specs.Subsumption.{subsumes_entry, is_max_among, flagged, AreByEntity};
 ghost use Rattle.mls_filterview.specs.Stored.{is_entity};
 
 use crate::entity::is_entity;
@@ -42,32 +42,53 @@ fn entity_len(rows: &[Row], place: &Place) -> usize
         .count()
 }
 
-/// Adds the tuples of the rows that no other of these rows subsumes.
-fn add_maximal(tuples: &mut Vec<Tuple>, rows: &[Row]) -> Result<(), AllocError>
-    ensures { OnOk result (tuples.new.items ≡ tuples.old.items ++ map (λ e. tuple_at e.0 e.1) (filter (is_max_among rows.now) rows.now)) }
+/// Adds, for each of these rows, whether no other of them subsumes it.
+fn add_flags(flags: &mut Vec<bool>, rows: &[Row]) -> Result<(), AllocError>
+    ensures { OnOk result (flags.new.items ≡ flags.old.items ++ map (is_max_among rows.now) rows.now) }
 {
     for row in rows {
-        if is_maximal(rows, row) {
-            tuples.push(row.tuple()?)?;
-        }
+        flags.push(is_maximal(rows, row))?;
     }
     Ok(())
 }
 
-/// The tuples of rows that no other tuple subsumes. Rows come in the order of entities, so that each is compared with those of
+/// For each row, whether no other row subsumes it. Rows come in the order of entities, so that each is compared with those of
 /// its own alone.
-pub(crate) fn maximal_tuples(alloc: Global, rows: &[Row]) -> Result<Vec<Tuple>, AllocError>
+fn flags_of(alloc: Global, rows: &[Row]) -> Result<Vec<bool>, AllocError>
     requires { AreByEntity rows.now }
-    ensures { IfOk result (λ v. v.items ≡ map (λ e. tuple_at e.0 e.1) (filter (is_max_among rows.now) rows.now)) }
+    ensures { IfOk result (λ v. v.items ≡ map (is_max_among rows.now) rows.now) }
 {
-    let mut tuples = Vec::new(alloc);
+    let mut flags = Vec::with_capacity(alloc, rows.len())?;
     let mut rest = rows;
     while !rest.is_empty() {
         let first = &rest[0];
         let count = entity_len(rest, &first.place);
         let (front, after) = rest.split_at(count);
-        add_maximal(&mut tuples, front)?;
+        add_flags(&mut flags, front)?;
         rest = after;
     }
+    Ok(flags)
+}
+
+/// The tuples of the rows whose flag is set.
+fn flagged(alloc: Global, rows: Vec<Row>, flags: &[bool]) -> Result<Vec<Tuple>, AllocError>
+    requires { length flags.now ≡ length rows.items }
+    ensures { IfOk result (λ v. v.items ≡ map (λ e. tuple_at e.0 e.1) (flagged flags.now rows.items)) }
+{
+    let mut tuples = Vec::with_capacity(alloc, rows.len())?;
+    for (at, row) in rows.into_iter().enumerate() {
+        if flags[at] {
+            tuples.push(row.into_tuple())?;
+        }
+    }
     Ok(tuples)
+}
+
+/// The tuples of rows that no other tuple subsumes. Rows come in the order of entities.
+pub(crate) fn maximal_tuples(alloc: Global, rows: Vec<Row>) -> Result<Vec<Tuple>, AllocError>
+    requires { AreByEntity rows.items }
+    ensures { IfOk result (λ v. v.items ≡ map (λ e. tuple_at e.0 e.1) (filter (is_max_among rows.items) rows.items)) }
+{
+    let flags = flags_of(alloc, &rows)?;
+    flagged(alloc, rows, &flags)
 }

@@ -31,11 +31,15 @@ impl Model for Row {
 }
 
 impl Row {
-    /// A copy of the tuple.
-    pub fn tuple(&self) -> Result<Tuple, AllocError>
-        ensures { IfOk result (λ t. t ≡ tuple_at self.now.0 self.now.1) }
+    /// The tuple.
+    pub fn into_tuple(self) -> Tuple
+        ensures { result ≡ tuple_at self.0 self.1 }
     {
-        tuple_at(&self.place, &self.elements)
+        Tuple {
+            key: self.place.key,
+            key_class: self.place.key_class,
+            elements: self.elements,
+        }
     }
 
     /// The order of rows: by place, and at one place by elements.

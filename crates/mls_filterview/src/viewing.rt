@@ -72,7 +72,7 @@ fn tuples_of(alloc: Global, low: Fragment) -> Result<Vec<Tuple>, AllocError>
     let values = values_of(alloc, low.cells)?;
     let found = rows_of(alloc, low.nodes, &values)?;
     let rows = entries_of(alloc, found)?;
-    maximal_tuples(alloc, &rows)
+    maximal_tuples(alloc, rows)
 }
 
 /// What a level sees of a relation, in the order of key, number of the key class and number of the class.

@@ -1,25 +1,12 @@
-use Rattle.std.proofs.Common.{◌++◌, length, map, sym, ap, ◌∙◌, arith}
-use Rattle.std.specs.List.{prefix_len}
-use Rattle.mls_scheme.specs.Table.{tuple_at}
-use Rattle.mls_filterview.proofs.EntityLemmas.{same, maximal, maximal_more, front_some, not_empty}
+use Rattle.std.proofs.Common.{◌∙◌, Bool, List, ap}
+use Rattle.std.proofs.lemmas.Result.{IfOk-weaker}
+use Rattle.mls_filterview.specs.Subsumption.{is_max_among, flagged}
+use Rattle.mls_filterview.proofs.EntityLemmas.{flags, flagged_by, tuples_of}
 use Rattle.mls_filterview.proofs.maximal.maximal_tuples.Goals as goal
 
-pub loop-rest-smaller : goal.loop-rest-smaller
-loop-rest-smaller c =
-    let xs = c.loop-rest.rest.now in
-    let h = c.index-rest-0.result in
-    let some = not_empty (length xs) (sym c.is_empty.ensures ∙ c.loop-rest-test.true) in
-    let n = c.entity_len-count.ensures.run ∙ ap (λ p. prefix_len (λ e. same e.0 p) xs) (ap (λ e. e.0) c.first.view_is) in
-    let front = front_some xs h some c.index-rest-0.is in
-    let back = c.split_at.ensures.back_len in
-    omega (arith, n, front, back)
-
-pub loop-rest-preserved : goal.loop-rest-preserved
-loop-rest-preserved c =
-    let xs = c.loop-rest.rest.now in
-    let h = c.index-rest-0.result in
-    let some = not_empty (length xs) (sym c.is_empty.ensures ∙ c.loop-rest-test.true) in
-    let n = c.entity_len-count.ensures.run ∙ ap (λ p. prefix_len (λ e. same e.0 p) xs) (ap (λ e. e.0) c.first.view_is) in
-    let added = c.in_ok-add_maximal.ensures ∙ ap (λ ys. c.loop-rest.tuples.items ++ map (λ e. tuple_at e.0 e.1) (maximal ys)) c.split_at.ensures.front in
-    let more = maximal_more xs h some c.index-rest-0.is c.loop-rest.invariant.sorted c.entity_len-count.result n c.loop-rest.tuples.items c.add_maximal.new.tuples.items _ added c.loop-rest.invariant.way in
-    rw c.split_at.ensures.back (record { sorted = more.0; way = more.1 })
+pub returns : goal.returns
+returns c =
+    let rows = c.args.rows.items in
+    let set = c.deref-2.ensures.value ∙ c.in_ok-flags.ensures ∙ ap flags c.deref.ensures.value in
+    IfOk-weaker c.flagged.result _ _ (λ v e.
+    e ∙ ap (λ (bs : List Bool). tuples_of (flagged bs rows)) set ∙ ap tuples_of (flagged_by (is_max_among rows) rows)) c.flagged.ensures

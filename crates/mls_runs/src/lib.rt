@@ -8,5 +8,5 @@ mod turns;
 
 pub use crate::history::{HistoryCause, HistoryFault, Run, run_history};
 pub use crate::memory::{HeldFile, InputCopy, MemoryHost, runs_in_memory_are_in_turn};
-pub use crate::running::{run_files, run_on};
+pub use crate::running::{run_files, run_on, script_of};
 pub use crate::turns::runs_are_in_turn;

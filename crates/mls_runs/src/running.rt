@@ -162,7 +162,7 @@ fn run_events<H: Host, W: Write>(
 }
 
 /// The script of a file, or of the standard input.
-fn script_of<H: Host>(
+pub fn script_of<H: Host>(
     alloc: Global,
     host: &H,
     policy: &Policy,

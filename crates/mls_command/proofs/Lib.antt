@@ -1,1 +1,3 @@
 pub mod ActingLemmas
+pub mod AccountLemmas
+pub mod TellingLemmas

@@ -1,6 +1,5 @@
--- What comes of a command line, by what its host gives.
+-- What is done for a job, by what its host gives.
 use Rattle.std.specs.Prelude.{◌≡◌, ℕ, List, [], ◌++◌, Option, Some, None, Result, Ok, Err, ◌⊎◌}
-use Rattle.clap.specs.Words.{Text}
 use Rattle.mls_lattice.specs.Policy.{Tables}
 use Rattle.mls_lattice.specs.Canon as lattice
 use Rattle.mls_scheme.specs.declared.file.SchemesFile.{SchemesFile}
@@ -10,7 +9,6 @@ use Rattle.mls_sessions.specs.declared.cause.RunFault.{RunFault}
 use Rattle.mls_words.specs.declared.words.Job.{Job}
 use Rattle.mls_words.specs.declared.words.Task.{Task}
 use Rattle.mls_words.specs.declared.words.Task.TheVariants.{ShowPolicy, Picture, Run, Shell, Certify, Check, Explain}
-use Rattle.mls_words.specs.declared.usage.Usage.{Usage}
 use Rattle.mls_host.specs.declared.ending.Ending.{Ending}
 use Rattle.mls_host.specs.declared.ending.Ending.TheVariants.{Well}
 use Rattle.mls_host.specs.declared.reason.Reason.{Reason}
@@ -18,11 +16,9 @@ use Rattle.mls_host.specs.declared.reason.Reason.TheVariants.{Memory}
 use Rattle.mls_host.specs.declared.refusal.Refusal.{Refusal}
 use Rattle.mls_host.specs.declared.refusal.Refusal.TheVariants as refusals
 use Rattle.mls_host.specs.Hosting.{Hosted}
-use Rattle.mls_words.specs.Words.{named, Asks, AskNothing, usage_text, usage_status}
+use Rattle.mls_words.specs.Words.{named}
 use Rattle.mls_host.specs.Causes.{IsPolicyRefused, AreSchemesRefused, IsReaderUnknown, AreFilesRefused}
 use Rattle.mls_host.specs.Inputs.{IsPolicyOf, AreSchemesOf, IsReader}
-use Rattle.mls_host.specs.Refusal.{refusal_text, refusal_status}
-use Rattle.mls_host.specs.Ending.{ending_status}
 use Rattle.mls_listings.specs.Printing.{IsPrinted, IsPrintedInPart}
 use Rattle.mls_runs.specs.ScriptRun.{IsScriptRun, IsRunRefused}
 use Rattle.mls_shells.specs.ShellRun.{IsShellRun, IsShellRefused}
@@ -101,12 +97,3 @@ module _ (h : Hosted) where
     -- it is given up before anything is written, or as its task is
     abbrev pub IsGivenUp : Refusal → Type 0
     IsGivenUp refusal = ((reason : Reason) × (refusal ≡ refusals.Before reason) × IsJobRefused job reason × Told [] × Wrote []) ⊎ IsUnder job (λ policy file reader. IsTaskGivenUp policy file reader Wrote Told job.task refusal)
-
-  -- ---- command lines
-
-  -- What came of the words: a job is done, or given up for a reason that is told, or they ask for none. Each has its status.
-  pub data IsAnswered (words : List Text) (Wrote Told : List ℕ → Type 0) (status : ℕ) : Type 0 where
-    done : (job : Job) (end : Ending) → Asks words job → IsDone Wrote Told job end → status ≡ ending_status end → IsAnswered words Wrote Told status
-    given_up : (job : Job) (refusal : Refusal) → Asks words job → IsGivenUp Wrote (λ told. Told (told ++ refusal_text refusal)) job refusal
-        → status ≡ refusal_status refusal → IsAnswered words Wrote Told status
-    not_asked : (usage : Usage) → AskNothing words usage → Wrote [] → Told (usage_text usage) → status ≡ usage_status usage → IsAnswered words Wrote Told status

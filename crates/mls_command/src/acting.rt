@@ -8,8 +8,12 @@ ghost use Rattle.mls_host.specs.Hosting.{hosted, IsAppended, IsTold};
 ghost use Rattle.mls_words.specs.Words.{texts_of, Asks};
 ghost use Rattle.mls_host.specs.Causes.{IsPolicyRefused, AreSchemesRefused};
 ghost use Rattle.mls_host.specs.Inputs.{IsPolicyOf, AreSchemesOf};
-ghost use Rattle.mls_command.specs.Acting.{IsTaskDone, IsTaskGivenUp, IsDone, IsGivenUp, IsAnswered};
+ghost use Rattle.mls_command.specs.Acting.{IsTaskDone, IsTaskGivenUp, IsDone, IsGivenUp};
+ghost use Rattle.mls_command.specs.Accounting.{IsAccounted, IsUnaccounted};
+ghost use Rattle.mls_command.specs.Answering.{IsOutcome, IsAnswered};
 
+use crate::accounting::finish_account;
+use crate::explained::explained_of;
 use mls_host::{
     Ending, Errors, Host, Reason, Refusal, policy_in, read_policy, read_schemes, reader_of,
     samples, schemes_in,
@@ -24,7 +28,7 @@ use std::alloc::Global;
 use std::io::Write;
 
 /// The policy of a file, or that of the samples.
-fn policy_of<H: Host>(
+pub(crate) fn policy_of<H: Host>(
     alloc: Global,
     host: &H,
     documents: Option<Documents>,
@@ -39,7 +43,7 @@ fn policy_of<H: Host>(
 }
 
 /// The schemes of a file, or those of the samples.
-fn schemes_of<H: Host>(
+pub(crate) fn schemes_of<H: Host>(
     alloc: Global,
     host: &H,
     policy: &Policy,
@@ -125,8 +129,8 @@ fn finish<H: Host, W: Write, E: Write>(
     out: &mut W,
     err: &mut Errors<E>,
 ) -> u8
-    ensures { (words : List Text) → Asks words job.entry → IsAnswered (hosted H.hosting H.Lines.echo host.old host.new) words
-        (IsAppended W.contents out.old out.new) (IsTold E.contents err.old err.new) result }
+    ensures { (words : List Text) → Asks words job.entry → IsOutcome (IsDone (hosted H.hosting H.Lines.echo host.old host.new))
+        (IsGivenUp (hosted H.hosting H.Lines.echo host.old host.new)) words (IsAppended W.contents out.old out.new) (IsTold E.contents err.old err.new) result }
 {
     match perform(alloc, job, host, out, err) {
         Ok(ending) => ending.status(),
@@ -137,9 +141,50 @@ fn finish<H: Host, W: Write, E: Write>(
     }
 }
 
-/// Does what the words ask for, and answers the exit status: 0 all well, 1 a transaction has no certificate or none that holds, or a
-/// shell's opening was denied or a line of it refused, 2 an input or the command line was refused, 3 store, writing or memory. Files are read in the order policy, schemes, transactions,
-/// certificates, script, store, and nothing runs before all were accepted.
+/// Does what the words of a command ask for, and answers the exit status.
+fn answer<H: Host, W: Write, E: Write>(
+    alloc: Global,
+    words: &[&str],
+    host: &mut H,
+    out: &mut W,
+    err: &mut Errors<E>,
+) -> u8
+    ensures { IsOutcome (IsDone (hosted H.hosting H.Lines.echo host.old host.new)) (IsGivenUp (hosted H.hosting H.Lines.echo host.old host.new)) (texts_of words.now)
+        (IsAppended W.contents out.old out.new) (IsTold E.contents err.old err.new) result }
+{
+    match job_of(alloc, words) {
+        Ok(job) => finish(alloc, job, host, out, err),
+        Err(usage) => {
+            err.tell_usage(&usage);
+            usage.status()
+        }
+    }
+}
+
+/// Explains the inputs of a command, and answers the exit status.
+fn explain_inputs<H: Host, W: Write, E: Write>(
+    alloc: Global,
+    words: &[&str],
+    host: &H,
+    out: &mut W,
+    err: &mut Errors<E>,
+) -> u8
+    ensures { IsOutcome (IsAccounted (hosted H.hosting H.Lines.echo host.now host.now)) (IsUnaccounted (hosted H.hosting H.Lines.echo host.now host.now)) (texts_of words.now)
+        (IsAppended W.contents out.old out.new) (IsTold E.contents err.old err.new) result }
+{
+    match job_of(alloc, words) {
+        Ok(job) => finish_account(alloc, job, host, out, err),
+        Err(usage) => {
+            err.tell_usage(&usage);
+            usage.status()
+        }
+    }
+}
+
+/// Does what the words ask for, and answers the exit status: 0 all well, 1 a transaction has no certificate or none that holds, an input
+/// that is explained is refused, or a shell's opening was denied or a line of it refused, 2 an input or the command line was refused, 3 store,
+/// writing or memory. Files are read in the order policy, schemes, transactions, certificates, script, store, and nothing runs before all
+/// were accepted.
 pub fn act<H: Host, W: Write, E: Write>(
     alloc: Global,
     words: &[&str],
@@ -150,11 +195,8 @@ pub fn act<H: Host, W: Write, E: Write>(
     ensures { IsAnswered (hosted H.hosting H.Lines.echo host.old host.new) (texts_of words.now)
         (IsAppended W.contents out.old out.new) (IsTold E.contents err.old err.new) result }
 {
-    match job_of(alloc, words) {
-        Ok(job) => finish(alloc, job, host, out, err),
-        Err(usage) => {
-            err.tell_usage(&usage);
-            usage.status()
-        }
+    match explained_of(words) {
+        Some(asked) => explain_inputs(alloc, asked, host, out, err),
+        None => answer(alloc, words, host, out, err),
     }
 }

@@ -1,6 +1,9 @@
 //! The command line of mldb: what the program does with its words, on any machine that gives it files.
 #![tactic(auto)]
 
+mod accounting;
 mod acting;
+mod explained;
+mod telling;
 
 pub use crate::acting::act;

@@ -2,7 +2,7 @@
 use Rattle.std.proofs.Common.{◌++◌}
 use Rattle.mls_host.specs.Hosting.{hosted, IsAppended, IsTold}
 use Rattle.mls_host.specs.Refusal.{refusal_text}
-use Rattle.mls_command.specs.Acting.{done, given_up}
+use Rattle.mls_command.specs.Answering.{done, given_up}
 use Rattle.mls_command.proofs.ActingLemmas.{given_up_told}
 use Rattle.mls_host.proofs.HostingLemmas.{told_more}
 use Rattle.mls_command.proofs.acting.finish.Goals as goal

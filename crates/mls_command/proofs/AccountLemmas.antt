@@ -1,0 +1,57 @@
+-- What is told of inputs, and what is given up.
+use Rattle.std.proofs.Common.{◌≡◌, ◌≢◌, ◌⊎◌, ℕ, List, [], string_bytes, Option, Result, Ok, Err, IfOk, IfErr, OnOk, OnErr, inl, inr, sym, subst}
+use Rattle.mls_lattice.specs.Policy.{Tables}
+use Rattle.mls_scheme.specs.declared.file.SchemesFile.{SchemesFile}
+use Rattle.mls_words.specs.declared.words.Job.{Job}
+use Rattle.mls_host.specs.declared.ending.Ending.{Ending}
+use Rattle.mls_host.specs.declared.reason.Reason.{Reason}
+use Rattle.mls_host.specs.declared.reason.Reason.TheVariants.{Memory}
+use Rattle.mls_host.specs.declared.refusal.Refusal.{Refusal}
+use Rattle.mls_host.specs.declared.refusal.Refusal.TheVariants.{Before, Run, NotClosed, Output}
+use Rattle.mls_host.specs.Hosting.{Hosted}
+use Rattle.mls_host.specs.Inputs.{IsPolicyOf, AreSchemesOf, IsReader}
+use Rattle.mls_host.specs.declared.ending.Ending.TheVariants.{Refused}
+use Rattle.mls_host.specs.Reason.{reason_status}
+use Rattle.mls_listings.specs.declared.listing.Listing.{Listing}
+use Rattle.mls_listings.specs.Printing.{IsCutOff}
+use Rattle.mls_command.specs.Telling.{IsToldOf}
+use Rattle.mls_command.specs.Acting.{IsTaskRefused}
+use Rattle.mls_command.specs.Accounting.{IsTaskAccepted, IsAccepted, IsRefused, Accounts, IsUnread, IsUnaccounted, one_refused}
+
+module _ (h : Hosted) (Wrote Told More : List ℕ → Type 0) (f : (text : List ℕ) → Told text → More text) where
+  -- more is told
+  pub unaccounted_told : (job : Job) (r : Refusal) → IsUnaccounted h Wrote Told job r → IsUnaccounted h Wrote More job r
+  unaccounted_told job (Before reason) k = (k.0, f [] k.1, k.2)
+  unaccounted_told job (Run fault) k = k
+  unaccounted_told job NotClosed k = k
+  unaccounted_told job Output k = (f [] k.0, k.1)
+
+module _ (h : Hosted) (job : Job) (policy : Tables) (file : SchemesFile) (reader : Option ℕ) (policy_is : IsPolicyOf h.before.gives job.documents policy)
+    (schemes_are : AreSchemesOf h.before.gives job.documents policy file) (reader_is : IsReader policy job.task reader) where
+  pub task_accepted : (r : Result (Unit {0}) Reason) → OnOk r (IsTaskAccepted h.before policy file job.task) → OnOk r (IsAccepted h job)
+  task_accepted (Ok u) k = record { policy = policy; file = file; reader = reader; policy_is = policy_is; schemes_are = schemes_are; reader_is = reader_is; does = k }
+  task_accepted (Err e) k = tt
+
+  pub task_refused : (r : Result (Unit {0}) Reason) → IfErr r (IsTaskRefused h policy file reader job.task) → IfErr r (IsRefused h job)
+  task_refused (Ok u) k = tt
+  task_refused (Err e) k = inr (record { policy = policy; file = file; reader = reader; policy_is = policy_is; schemes_are = schemes_are; reader_is = reader_is; does = k })
+
+module _ (h : Hosted) (job : Job) (Wrote Told : List ℕ → Type 0) where
+  -- what is not written whole
+  pub cut_off : (text told : List ℕ) (end : Ending) → Accounts h job text told end → (r : Result Ending Refusal) → IfErr r (λ e. e ≡ Output) → OnErr r (IsCutOff Wrote text) → OnErr r (Told [])
+      → IfErr r (IsUnaccounted h Wrote Told job)
+  cut_off text told end told_so (Ok e) out part quiet = tt
+  cut_off text told end told_so (Err e) out part quiet =
+      subst (λ (x : Refusal). IsUnaccounted h Wrote Told job x) (sym out) (quiet, record { text = text; told = told; end = end; prints = told_so; is_cut_off = part })
+
+module _ (h : Hosted) (job : Job) (reason : Reason) (is : IsRefused h job reason) where
+  -- one is refused
+  pub refused_told : (r : Result Listing Reason) → OnOk r (reason_status reason ≢ 3) → IfOk r (λ l. IsToldOf h.before job reason l.text.items) → IfOk r (λ l. string_bytes l.told ≡ []) → IfOk r (λ l. l.ending ≡ Refused)
+      → IfOk r (λ l. Accounts h job l.text.items (string_bytes l.told) l.ending)
+  refused_told (Ok l) other text told end = one_refused reason is other text told end
+  refused_told (Err e) other text told end = tt
+
+  pub refused_unread : (r : Result Listing Reason) → IfErr r (λ e. (e ≡ reason) ⊎ (e ≡ Memory)) → IfErr r (λ e. reason_status e ≡ 3) → IfErr r (IsUnread h job)
+  refused_unread (Ok l) same three = tt
+  refused_unread (Err e) (inl same) three = (inl (subst (IsRefused h job) (sym same) is), three)
+  refused_unread (Err e) (inr memory) three = (inr memory, three)

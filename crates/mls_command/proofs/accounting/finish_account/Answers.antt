@@ -1,0 +1,21 @@
+use Rattle.std.proofs.Common.{◌++◌}
+use Rattle.mls_host.specs.Hosting.{hosted, IsAppended, IsTold}
+use Rattle.mls_host.specs.Refusal.{refusal_text}
+use Rattle.mls_command.specs.Answering.{done, given_up}
+use Rattle.mls_command.proofs.AccountLemmas.{unaccounted_told}
+use Rattle.mls_host.proofs.HostingLemmas.{told_more}
+use Rattle.mls_command.proofs.accounting.finish_account.Goals as goal
+
+pub returns-in-Ok : goal.returns-in-Ok
+returns-in-Ok g c = λ words asked. done c.args.job c.in-Ok.ending asked c.in-Ok.ensures.done c.status.ensures
+
+pub returns-in-Err : goal.returns-in-Err
+returns-in-Err g c = λ words asked.
+    let refusal = c.in-Err.refusal in
+    let err = c.print_account.new.err in
+    let new = c.tell_refusal.new.self in
+    given_up c.args.job refusal asked
+    (unaccounted_told (hosted g.H.Host.hosting g.H.Lines.TypedLines.echo c.args.host.now c.args.host.now) (IsAppended g.W.Write.contents c.args.out.now c.print_account.new.out)
+    (IsTold g.E.Write.contents c.args.err.now err) (λ told. IsTold g.E.Write.contents c.args.err.now new (told ++ refusal_text refusal))
+    (λ text h. told_more g.E.Write.contents c.args.err.now err new text (refusal_text refusal) h c.tell_refusal.ensures) c.args.job refusal c.in-Err.ensures.given_up)
+    c.status-in-Err.ensures

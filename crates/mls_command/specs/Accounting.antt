@@ -1,0 +1,83 @@
+-- What is told of the inputs of a command that is explained: all are accepted, or which one is refused first.
+use Rattle.std.specs.Prelude.{◌≡◌, ◌≢◌, ℕ, List, [], Option, ◌⊎◌, true, ⊤}
+use Rattle.mls_lattice.specs.Name.{is_name}
+use Rattle.mls_lattice.specs.Policy.{Tables}
+use Rattle.mls_scheme.specs.Scheme.{Schemes}
+use Rattle.mls_scheme.specs.declared.file.SchemesFile.{SchemesFile}
+use Rattle.mls_script.specs.declared.event.Event.{Event}
+use Rattle.mls_translang.specs.Tx.{Tx}
+use Rattle.mls_certificate.specs.Reading.{Block}
+use Rattle.mls_machine.specs.declared.stored.Stored.{Stored}
+use Rattle.mls_words.specs.declared.words.Job.{Job}
+use Rattle.mls_words.specs.declared.words.Task.{Task}
+use Rattle.mls_words.specs.declared.words.Task.TheVariants.{ShowPolicy, Picture, Run, Shell, Certify, Check, Explain}
+use Rattle.mls_words.specs.Words.{named}
+use Rattle.mls_host.specs.declared.ending.Ending.{Ending}
+use Rattle.mls_host.specs.declared.ending.Ending.TheVariants.{Well, Refused}
+use Rattle.mls_host.specs.declared.reason.Reason.{Reason}
+use Rattle.mls_host.specs.declared.reason.Reason.TheVariants.{Memory}
+use Rattle.mls_host.specs.declared.refusal.Refusal.{Refusal}
+use Rattle.mls_host.specs.declared.refusal.Refusal.TheVariants as refusals
+use Rattle.mls_host.specs.Hosting.{Hosting, Hosted}
+use Rattle.mls_host.specs.Inputs.{AreStoredFrom, IsScriptFrom, AreToldIn, AreBlocksIn}
+use Rattle.mls_host.specs.Reason.{reason_status}
+use Rattle.mls_listings.specs.Explaining.{IsExplained}
+use Rattle.mls_listings.specs.Printing.{IsPrinted, IsPrintedInPart}
+use Rattle.mls_command.specs.declared.accounting.TheConstants.{ACCEPTED}
+use Rattle.mls_command.specs.Acting.{IsUnder, IsJobRefused, IsTaskRefused}
+use Rattle.mls_command.specs.Telling.{IsToldOf}
+
+-- ---- what is accepted
+
+module _ (Gives : Option (List ℕ) → List ℕ → Type 0) (policy : Tables) (schemes : Schemes) where
+  abbrev pub AreReadable : List ℕ → Type 0
+  AreReadable transactions = (txs : List Tx) × AreToldIn Gives transactions policy schemes txs
+
+  abbrev pub AreCheckable : List ℕ → List ℕ → Type 0
+  AreCheckable transactions certificates = AreReadable transactions × ((blocks : List Block) × AreBlocksIn Gives certificates blocks)
+
+  abbrev pub CanBeStored : Option (List ℕ) → Option (List ℕ) → Type 0
+  CanBeStored transactions certificates = (stored : List Stored) × AreStoredFrom Gives transactions certificates policy schemes stored
+
+  abbrev pub CanBeExplained : List ℕ → Option (List ℕ) → Type 0
+  CanBeExplained transactions name = (text : List ℕ) × (told : List ℕ) × (end : Ending) × IsExplained Gives policy schemes transactions name text told end
+
+-- all that a task reads under a policy and schemes
+abbrev pub IsTaskAccepted : Hosting → Tables → SchemesFile → Task → Type 0
+IsTaskAccepted h policy file ShowPolicy = ⊤
+IsTaskAccepted h policy file Picture = ⊤
+IsTaskAccepted h policy file (Run files) =
+    CanBeStored h.gives policy file.schemes (named files.transactions) (named files.certificates) × ((events : List Event) × IsScriptFrom h.gives (named files.script) policy file.schemes events)
+IsTaskAccepted h policy file (Shell files) = (is_name files.user.now ≡ true) × CanBeStored h.gives policy file.schemes (named files.transactions) (named files.certificates)
+IsTaskAccepted h policy file (Certify transactions) = AreReadable h.gives policy file.schemes transactions.now
+IsTaskAccepted h policy file (Check transactions certificates) = AreCheckable h.gives policy file.schemes transactions.now certificates.now
+IsTaskAccepted h policy file (Explain transactions name) = CanBeExplained h.gives policy file.schemes transactions.now (named name)
+
+-- ---- what is told
+
+module _ (h : Hosted) (job : Job) where
+  abbrev pub IsAccepted : Type 0
+  IsAccepted = IsUnder h job (λ policy file reader. IsTaskAccepted h.before policy file job.task)
+
+  -- the command would be given up for this reason, before its task or in it
+  abbrev pub IsRefused : Reason → Type 0
+  IsRefused reason = IsJobRefused h job reason ⊎ IsUnder h job (λ policy file reader. IsTaskRefused h policy file reader job.task reason)
+
+  -- all inputs are accepted; or one is refused, for another reason than memory, and what is told of it
+  pub data Accounts (text told : List ℕ) (end : Ending) : Type 0 where
+    all_accepted : IsAccepted → text ≡ ACCEPTED.now → told ≡ [] → end ≡ Well → Accounts text told end
+    one_refused : (reason : Reason) → IsRefused reason → reason_status reason ≢ 3 → IsToldOf h.before job reason text → told ≡ [] → end ≡ Refused → Accounts text told end
+
+  -- there was no memory to read an input, or to tell of it
+  abbrev pub IsUnread : Reason → Type 0
+  IsUnread reason = (IsRefused reason ⊎ (reason ≡ Memory)) × (reason_status reason ≡ 3)
+
+module _ (h : Hosted) (Wrote Told : List ℕ → Type 0) (job : Job) where
+  abbrev pub IsAccounted : Ending → Type 0
+  IsAccounted end = IsPrinted (Accounts h job) Wrote Told end
+
+  -- nothing was written for want of memory; or a first part of what is told
+  abbrev pub IsUnaccounted : Refusal → Type 0
+  IsUnaccounted (refusals.Before reason) = IsUnread h job reason × Told [] × Wrote []
+  IsUnaccounted refusals.Output = Told [] × IsPrintedInPart (Accounts h job) Wrote
+  IsUnaccounted refusal = ⊥

@@ -1,0 +1,253 @@
+//! What becomes of the inputs of a command that is explained.
+ghost use Rattle.std.specs.Prelude.{◌≡◌, ◌≢◌, ◌⊎◌, List, [], Some, None, string_bytes, IfOk, IfErr, OnOk};
+ghost use Rattle.clap.specs.Words.{Text};
+ghost use Rattle.mls_words.specs.Words.{Asks, named};
+ghost use Rattle.mls_host.specs.Causes.{AreFilesRefused};
+ghost use Rattle.mls_host.specs.Hosting.{hosted, IsAppended, IsTold};
+ghost use Rattle.mls_host.specs.declared.ending.Ending.TheVariants.{Well, Refused};
+ghost use Rattle.mls_host.specs.declared.reason.Reason.TheVariants.{Memory};
+ghost use Rattle.mls_host.specs.Reason.{reason_status};
+ghost use Rattle.mls_command.specs.Telling.{IsToldOf};
+ghost use Rattle.mls_words.specs.declared.words.Task.TheVariants.{Run, Shell};
+ghost use Rattle.mls_runs.specs.ScriptRun.{IsRunRefused};
+ghost use Rattle.mls_shells.specs.ShellRun.{IsShellRefused};
+ghost use Rattle.mls_command.specs.Acting.{IsTaskRefused};
+ghost use Rattle.mls_command.specs.Accounting.{AreReadable, AreCheckable, IsTaskAccepted, IsAccepted, IsRefused, Accounts, IsUnread, IsAccounted, IsUnaccounted};
+ghost use Rattle.mls_command.specs.Answering.{IsOutcome};
+
+use crate::acting::{policy_of, schemes_of};
+use crate::telling::told_of;
+use mls_host::{
+    Ending, Errors, Host, Reason, Refusal, certificates_in, reader_of, stored_files,
+    transactions_in,
+};
+use mls_lattice::{LabelNo, Policy, is_name};
+use mls_listings::{Listing, explained};
+use mls_runs::script_of;
+use mls_scheme::{Schemes, SchemesFile};
+use mls_words::{Job, RunFiles, ShellFiles, Task};
+use std::alloc::{AllocError, Global};
+use std::io::Write;
+
+pub(crate) const ACCEPTED: &str = "All inputs are accepted.\n";
+
+/// Reads what a run reads.
+fn accept_run<H: Host>(
+    alloc: Global,
+    host: &H,
+    policy: &Policy,
+    file: &SchemesFile,
+    files: RunFiles,
+) -> Result<(), Reason>
+    ensures accepted { OnOk result (IsTaskAccepted (H.hosting host.now) policy.now file.now (Run files.entry)) }
+    ensures refused { IfErr result (IsRunRefused (H.hosting host.now) policy.now file.now files.entry) }
+{
+    let schemes = &file.schemes;
+    let _stored = stored_files(
+        alloc,
+        host,
+        policy,
+        schemes,
+        files.transactions,
+        files.certificates,
+    )?;
+    let _events = script_of(alloc, host, policy, schemes, files.script)?;
+    Ok(())
+}
+
+/// Reads what a shell reads before its first line.
+fn accept_shell<H: Host>(
+    alloc: Global,
+    host: &H,
+    policy: &Policy,
+    file: &SchemesFile,
+    reader: Option<LabelNo>,
+    files: ShellFiles,
+) -> Result<(), Reason>
+    ensures accepted { OnOk result (IsTaskAccepted (H.hosting host.now) policy.now file.now (Shell files.entry)) }
+    ensures refused { IfErr result (IsShellRefused (H.hosting host.now) policy.now file.now reader files.entry) }
+{
+    match reader {
+        Some(_) => {}
+        None => return Err(Reason::Label),
+    }
+    if !is_name(files.user) {
+        return Err(Reason::User);
+    }
+    let _stored = stored_files(
+        alloc,
+        host,
+        policy,
+        &file.schemes,
+        files.transactions,
+        files.certificates,
+    )?;
+    Ok(())
+}
+
+/// Reads the transactions and the certificates that are checked.
+fn accept_check<H: Host>(
+    alloc: Global,
+    host: &H,
+    policy: &Policy,
+    schemes: &Schemes,
+    transactions: &str,
+    certificates: &str,
+) -> Result<(), Reason>
+    ensures accepted { OnOk result (AreCheckable (H.hosting host.now).gives policy.now schemes.now transactions.now certificates.now) }
+    ensures refused { IfErr result (AreFilesRefused (H.hosting host.now) (Some transactions.now) (Some certificates.now) policy.now schemes.now) }
+{
+    let _txs = transactions_in(alloc, host, policy, schemes, transactions)?;
+    let _blocks = certificates_in(alloc, host, certificates)?;
+    Ok(())
+}
+
+/// Reads the transactions that are certified.
+fn accept_certify<H: Host>(
+    alloc: Global,
+    host: &H,
+    policy: &Policy,
+    schemes: &Schemes,
+    transactions: &str,
+) -> Result<(), Reason>
+    ensures accepted { OnOk result (AreReadable (H.hosting host.now).gives policy.now schemes.now transactions.now) }
+    ensures refused { IfErr result (AreFilesRefused (H.hosting host.now) (Some transactions.now) None policy.now schemes.now) }
+{
+    let _txs = transactions_in(alloc, host, policy, schemes, transactions)?;
+    Ok(())
+}
+
+/// Reads what a task reads under a policy and schemes.
+fn accept_task<H: Host>(
+    alloc: Global,
+    host: &H,
+    policy: &Policy,
+    file: &SchemesFile,
+    reader: Option<LabelNo>,
+    task: Task,
+) -> Result<(), Reason>
+    ensures accepted { OnOk result (IsTaskAccepted (H.hosting host.now) policy.now file.now task.entry) }
+    ensures refused { IfErr result (IsTaskRefused (hosted H.hosting H.Lines.echo host.now host.now) policy.now file.now reader task.entry) }
+{
+    let schemes = &file.schemes;
+    match task {
+        Task::ShowPolicy => Ok(()),
+        Task::Picture => Ok(()),
+        Task::Run(files) => accept_run(alloc, host, policy, file, files),
+        Task::Shell(files) => accept_shell(alloc, host, policy, file, reader, files),
+        Task::Certify { transactions } => {
+            accept_certify(alloc, host, policy, schemes, transactions)
+        }
+        Task::Check {
+            transactions,
+            certificates,
+        } => accept_check(alloc, host, policy, schemes, transactions, certificates),
+        Task::Explain { transactions, name } => {
+            explained(alloc, host, policy, schemes, transactions, name)?;
+            Ok(())
+        }
+    }
+}
+
+/// Reads what a command reads, in its order, up to the first input that is refused. No store is opened.
+fn accept<H: Host>(alloc: Global, host: &H, job: Job) -> Result<(), Reason>
+    ensures accepted { OnOk result (IsAccepted (hosted H.hosting H.Lines.echo host.now host.now) job.entry) }
+    ensures refused { IfErr result (IsRefused (hosted H.hosting H.Lines.echo host.now host.now) job.entry) }
+{
+    let policy = policy_of(alloc, host, job.documents)?;
+    let reader = reader_of(&policy, job.task)?;
+    let file = schemes_of(alloc, host, &policy, job.documents)?;
+    accept_task(alloc, host, &policy, &file, reader, job.task)
+}
+
+/// A text that is printed, where nothing is told on standard error.
+fn listing_of(alloc: Global, text: Vec<u8>, ending: Ending) -> Listing
+    ensures text { result.text.items ≡ text.items }
+    ensures told { string_bytes result.told ≡ [] }
+    ensures end { result.ending ≡ ending }
+{
+    Listing {
+        text,
+        told: String::new(alloc),
+        ending,
+    }
+}
+
+/// What is told where all inputs are accepted.
+fn accepted_listing(alloc: Global) -> Result<Listing, AllocError>
+    ensures text { IfOk result (λ l. l.text.items ≡ ACCEPTED.now) }
+    ensures told { IfOk result (λ l. string_bytes l.told ≡ []) }
+    ensures end { IfOk result (λ l. l.ending ≡ Well) }
+{
+    let text = Vec::from_slice(alloc, ACCEPTED.as_bytes())?;
+    Ok(listing_of(alloc, text, Ending::Well))
+}
+
+/// What is told where one is refused, but for want of memory.
+fn refused_listing<H: Host>(
+    alloc: Global,
+    host: &H,
+    job: Job,
+    reason: Reason,
+) -> Result<Listing, Reason>
+    ensures other { OnOk result (reason_status reason ≢ 3) }
+    ensures text { IfOk result (λ l. IsToldOf (H.hosting host.now) job.entry reason l.text.items) }
+    ensures told { IfOk result (λ l. string_bytes l.told ≡ []) }
+    ensures end { IfOk result (λ l. l.ending ≡ Refused) }
+    ensures same { IfErr result (λ e. (e ≡ reason) ⊎ (e ≡ Memory)) }
+    ensures memory { IfErr result (λ e. reason_status e ≡ 3) }
+{
+    if reason.status() == 3 {
+        return Err(reason);
+    }
+    let text = told_of(alloc, host, job, &reason)?;
+    Ok(listing_of(alloc, text, Ending::Refused))
+}
+
+/// What is told of the inputs of a command.
+fn account<H: Host>(alloc: Global, host: &H, job: Job) -> Result<Listing, Reason>
+    ensures told { IfOk result (λ l. Accounts (hosted H.hosting H.Lines.echo host.now host.now) job.entry l.text.items (string_bytes l.told) l.ending) }
+    ensures unread { IfErr result (IsUnread (hosted H.hosting H.Lines.echo host.now host.now) job.entry) }
+{
+    match accept(alloc, host, job) {
+        Ok(()) => Ok(accepted_listing(alloc)?),
+        Err(reason) => refused_listing(alloc, host, job, reason),
+    }
+}
+
+/// Prints what is told of the inputs of a command.
+fn print_account<H: Host, W: Write, E: Write>(
+    alloc: Global,
+    host: &H,
+    job: Job,
+    out: &mut W,
+    err: &mut Errors<E>,
+) -> Result<Ending, Refusal>
+    ensures done { IfOk result (IsAccounted (hosted H.hosting H.Lines.echo host.now host.now)
+        (IsAppended W.contents out.old out.new) (IsTold E.contents err.old err.new) job.entry) }
+    ensures given_up { IfErr result (IsUnaccounted (hosted H.hosting H.Lines.echo host.now host.now)
+        (IsAppended W.contents out.old out.new) (IsTold E.contents err.old err.new) job.entry) }
+{
+    account(alloc, host, job)?.print(out, err)
+}
+
+/// Explains the inputs of a command, and answers the exit status.
+pub(crate) fn finish_account<H: Host, W: Write, E: Write>(
+    alloc: Global,
+    job: Job,
+    host: &H,
+    out: &mut W,
+    err: &mut Errors<E>,
+) -> u8
+    ensures { (words : List Text) → Asks words job.entry → IsOutcome (IsAccounted (hosted H.hosting H.Lines.echo host.now host.now))
+        (IsUnaccounted (hosted H.hosting H.Lines.echo host.now host.now)) words
+        (IsAppended W.contents out.old out.new) (IsTold E.contents err.old err.new) result }
+{
+    match print_account(alloc, host, job, out, err) {
+        Ok(ending) => ending.status(),
+        Err(refusal) => {
+            err.tell_refusal(&refusal);
+            refusal.status()
+        }
+    }
+}

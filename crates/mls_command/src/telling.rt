@@ -1,0 +1,217 @@
+//! What is told of an input that is refused.
+ghost use Rattle.std.specs.Prelude.{◌≡◌, ◌++◌, IfOk, OnOk};
+ghost use Rattle.mls_host.specs.Reason.{reason_text};
+ghost use Rattle.mls_words.specs.Words.{named};
+ghost use Rattle.mls_command.specs.Telling.{advice, place_of, role_of, transactions_of, certificates_of, script_of, policy_of, schemes_of, path_of, source_of, IsLineOf, AreLines, IsToldOf};
+
+use mls_host::{Host, Reason, Role};
+use mls_pointing::{advice_of, excerpt, file_line};
+use mls_words::{Job, Task};
+use std::alloc::{AllocError, Global};
+
+const UNREADABLE: &str =
+    "  The file is not there, or cannot be read.\n  See to the path and its rights.\n";
+
+const TOO_LONG: &str = "  The file has more than 1,048,576 bytes.\n  Split it.\n";
+
+const NO_LABEL: &str = "  The policy has no label of this name.\n  Name a label of the policy.\n";
+
+const NO_USER: &str = "  What stands for the user is no name.\n  Name a user of the policy.\n";
+
+const NO_TRANSACTION: &str = "  No transaction has this name.\n  Name one that the file has.\n";
+
+/// A line of an input, and a place in it.
+#[derive(Clone, Copy)]
+pub(crate) struct Place {
+    pub line: usize,
+    pub column: Option<usize>,
+}
+
+/// What a refusal means, and what to do.
+fn advice(reason: &Reason) -> &'static str
+    ensures { result.now ≡ advice reason.now }
+{
+    match reason {
+        Reason::Unreadable(_) => UNREADABLE,
+        Reason::TooLong(_) => TOO_LONG,
+        Reason::Policy(fault) => advice_of(fault.code()),
+        Reason::Schemes(fault) => advice_of(fault.code()),
+        Reason::Transactions(fault) => advice_of(fault.cause.code()),
+        Reason::Certificates(fault) => advice_of(fault.cause.code()),
+        Reason::Script(fault) => advice_of(fault.cause.code()),
+        Reason::Reader | Reason::Label => NO_LABEL,
+        Reason::User => NO_USER,
+        Reason::Name => NO_TRANSACTION,
+        Reason::Store(_) | Reason::Memory => "",
+    }
+}
+
+/// Where an input is refused, if a place is told.
+fn place_of(reason: &Reason) -> Option<Place>
+    ensures { result ≡ place_of reason.now }
+{
+    match reason {
+        Reason::Transactions(fault) => Some(Place {
+            line: fault.line,
+            column: Some(fault.column),
+        }),
+        Reason::Certificates(fault) => Some(Place {
+            line: fault.line,
+            column: None,
+        }),
+        Reason::Script(fault) => Some(Place {
+            line: fault.line,
+            column: Some(fault.column),
+        }),
+        _ => None,
+    }
+}
+
+/// Which input is refused, where one is.
+fn role_of(reason: &Reason) -> Option<Role>
+    ensures { result ≡ role_of reason.now }
+{
+    match reason {
+        Reason::Unreadable(role) | Reason::TooLong(role) => Some(*role),
+        Reason::Policy(_) => Some(Role::Policy),
+        Reason::Schemes(_) => Some(Role::Schemes),
+        Reason::Transactions(_) => Some(Role::Transactions),
+        Reason::Certificates(_) => Some(Role::Certificates),
+        Reason::Script(_) => Some(Role::Script),
+        _ => None,
+    }
+}
+
+fn transactions_of<'a>(task: Task<'a>) -> Option<&'a str>
+    ensures { named result ≡ transactions_of task.entry }
+{
+    match task {
+        Task::Run(files) => files.transactions,
+        Task::Shell(files) => files.transactions,
+        Task::Certify { transactions } => Some(transactions),
+        Task::Check { transactions, .. } => Some(transactions),
+        Task::Explain { transactions, .. } => Some(transactions),
+        Task::ShowPolicy | Task::Picture => None,
+    }
+}
+
+fn certificates_of<'a>(task: Task<'a>) -> Option<&'a str>
+    ensures { named result ≡ certificates_of task.entry }
+{
+    match task {
+        Task::Run(files) => files.certificates,
+        Task::Shell(files) => files.certificates,
+        Task::Check { certificates, .. } => Some(certificates),
+        _ => None,
+    }
+}
+
+fn script_of<'a>(task: Task<'a>) -> Option<&'a str>
+    ensures { named result ≡ script_of task.entry }
+{
+    match task {
+        Task::Run(files) => files.script,
+        _ => None,
+    }
+}
+
+fn policy_of<'a>(job: Job<'a>) -> Option<&'a str>
+    ensures { named result ≡ policy_of job.entry.documents }
+{
+    match job.documents {
+        Some(documents) => Some(documents.policy),
+        None => None,
+    }
+}
+
+fn schemes_of<'a>(job: Job<'a>) -> Option<&'a str>
+    ensures { named result ≡ schemes_of job.entry.documents }
+{
+    match job.documents {
+        Some(documents) => Some(documents.schemes),
+        None => None,
+    }
+}
+
+/// The file of an input.
+fn path_of<'a>(job: Job<'a>, role: Role) -> Option<&'a str>
+    ensures { named result ≡ path_of job.entry role }
+{
+    match role {
+        Role::Policy => policy_of(job),
+        Role::Schemes => schemes_of(job),
+        Role::Transactions => transactions_of(job.task),
+        Role::Certificates => certificates_of(job.task),
+        Role::Script => script_of(job.task),
+        Role::Store => None,
+    }
+}
+
+/// The file that is refused.
+fn source_of<'a>(job: Job<'a>, reason: &Reason) -> Option<&'a str>
+    ensures { named result ≡ source_of job.entry reason.now }
+{
+    match role_of(reason) {
+        Some(role) => path_of(job, role),
+        None => None,
+    }
+}
+
+/// A line of a file; its name alone, where the host no longer gives it.
+fn line_of<H: Host>(
+    alloc: Global,
+    host: &H,
+    path: &str,
+    place: Place,
+) -> Result<Vec<u8>, AllocError>
+    ensures { IfOk result (λ v. IsLineOf (H.hosting host.now) path.now place v.items) }
+{
+    match host.file(alloc, path) {
+        Ok(bytes) => excerpt(alloc, path, place.line, place.column, &bytes),
+        Err(_) => file_line(alloc, path),
+    }
+}
+
+/// The line of a place, or the name of the file.
+fn lines_of<H: Host>(
+    alloc: Global,
+    host: &H,
+    path: Option<&str>,
+    place: Option<Place>,
+) -> Result<Vec<u8>, AllocError>
+    ensures { IfOk result (λ v. AreLines (H.hosting host.now) (named path.entry) place v.items) }
+{
+    match path {
+        None => Ok(Vec::new(alloc)),
+        Some(path) => match place {
+            None => file_line(alloc, path),
+            Some(place) => line_of(alloc, host, path, place),
+        },
+    }
+}
+
+fn push_reason(text: &mut Vec<u8>, reason: &Reason) -> Result<(), AllocError>
+    ensures { OnOk result (text.new.items ≡ text.old.items ++ reason_text reason.now) }
+{
+    match reason.tell(text) {
+        Ok(()) => Ok(()),
+        Err(_) => Err(AllocError),
+    }
+}
+
+/// The line that tells a refusal; where it is; and what it means.
+pub(crate) fn told_of<H: Host>(
+    alloc: Global,
+    host: &H,
+    job: Job,
+    reason: &Reason,
+) -> Result<Vec<u8>, AllocError>
+    ensures { IfOk result (λ v. IsToldOf (H.hosting host.now) job.entry reason.now v.items) }
+{
+    let lines = lines_of(alloc, host, source_of(job, reason), place_of(reason))?;
+    let mut text = Vec::new(alloc);
+    push_reason(&mut text, reason)?;
+    text.extend_from_slice(&lines)?;
+    text.extend_from_slice(advice(reason).as_bytes())?;
+    Ok(text)
+}

@@ -11,6 +11,7 @@ use Rattle.mls_chains.specs.declared.origin.Origin.TheVariants.{Held, Parameter,
 use Rattle.mls_chains.specs.declared.step.Step.{Step}
 use Rattle.mls_chains.specs.declared.links.Link.{Link}
 use Rattle.mls_chains.specs.declared.links.Links.{Links}
+use Rattle.mls_chains.specs.declared.chain.Chain.{Chain}
 use Rattle.mls_chains.specs.Steps.{step}
 use Rattle.mls_chains.specs.Ways.{Leads, end_of, IsWay, IsShortest}
 use Rattle.mls_chains.specs.Places.{has_place, place_in}
@@ -281,13 +282,13 @@ module _ (begins : Origin → Bool) where
           within = λ n e. let w = h.within n e in let q = x.2 in omega (arith, w, q);
         })
 
-    pub way_end : (end s : Origin) (ts us : List Slot) → us ≡ reverse ts → begins s ≡ true → IsUnderway begins steps l end s (reverse ts) → IsBest begins steps l end s us
-    way_end end s ts us is b h = subst (IsBest begins steps l end s) (sym is) (record {
+    pub way_end : (end : Origin) (c : Chain) (ts : List Slot) → c.slots ≡ reverse ts → begins c.root ≡ true → IsUnderway begins steps l end c.root (reverse ts) → IsBest begins steps l end c
+    way_end end c ts is b h = record {
       root = b;
-      leads = h.leads;
-      ends = h.ends;
-      within = λ n e. let w = h.within n e in omega (arith, w);
-    })
+      leads = subst (Leads steps c.root) (sym is) h.leads;
+      ends = ap (end_of c.root) is ∙ h.ends;
+      within = λ n e. let w = h.within n e in let same = ap (λ (us : List Slot). length us) is in omega (arith, w, same);
+    }
 
     -- fewer slots are left
     pub way_less : (s from : Origin) (t : Slot) → IsSome (reach begins l s) → IsFrom begins steps l s t from → unwrap_or (reach begins l from) 0 < unwrap_or (reach begins l s) 0
@@ -315,17 +316,17 @@ module _ (begins : Origin → Bool) where
     root_within : (r : Origin) → begins r ≡ true → IsWithin l r 0
     root_within r b = record { length = 0; is = reach_root l r b; within = omega arith }
 
-    pub no_way : AreSettled begins steps l → (sources : List Origin) → AllByRecursion (λ a. reach begins l a ≡ None) sources → (r : Origin) (ts : List Slot) → IsWay begins steps sources r ts → ⊥
-    no_way settled sources none r ts w =
-        let h = along settled r 0 (root_within r w.root) ts w.leads in
-        no_some h.length _ (contained_at (λ a. reach begins l a ≡ None) sources (end_of r ts) none w.ends) h.is
+    pub no_way : AreSettled begins steps l → (sources : List Origin) → AllByRecursion (λ a. reach begins l a ≡ None) sources → (c : Chain) → IsWay begins steps sources c → ⊥
+    no_way settled sources none c w =
+        let h = along settled c.root 0 (root_within c.root w.root) c.slots w.leads in
+        no_some h.length _ (contained_at (λ a. reach begins l a ≡ None) sources (end_of c.root c.slots) none w.ends) h.is
 
-    pub shortest_way : AreSettled begins steps l → (sources : List Origin) (n : ℕ) (end : Origin) → IsNearest begins l sources n end → (r : Origin) (ts : List Slot) → IsBest begins steps l end r ts → IsShortest begins steps sources r ts
-    shortest_way settled sources n end near r ts best = record {
+    pub shortest_way : AreSettled begins steps l → (sources : List Origin) (n : ℕ) (end : Origin) → IsNearest begins l sources n end → (c : Chain) → IsBest begins steps l end c → IsShortest begins steps sources c
+    shortest_way settled sources n end near c best = record {
       way = record { root = best.root; leads = best.leads; ends = subst (Contains sources) (sym best.ends) near.among };
-      least = λ q us w.
-          let h = along settled q 0 (root_within q w.root) us w.leads in
-          let far = contained_at (λ a. (m : ℕ) → reach begins l a ≡ Some m → n ≤ m) sources (end_of q us) near.least w.ends h.length h.is in
+      least = λ d w.
+          let h = along settled d.root 0 (root_within d.root w.root) d.slots w.leads in
+          let far = contained_at (λ a. (m : ℕ) → reach begins l a ≡ Some m → n ≤ m) sources (end_of d.root d.slots) near.least w.ends h.length h.is in
           let least = best.within n near.is in
           let within = h.within in
           omega (arith, far, least, within);

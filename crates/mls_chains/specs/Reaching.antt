@@ -1,5 +1,7 @@
 -- Which slots are reached from roots, and over how many.
-use Rattle.std.specs.Prelude.{◌≡◌, ℕ, ◌+◌, ◌<◌, ◌≤◌, ◌^◌, Bool, true, false, if◌then◌else◌, List, length as list_length, length, slice_index_or, slice_set, sum_by, Option, Some, None, option_map}
+use Rattle.std.specs.Prelude.{◌≡◌, ℕ, ◌+◌, ◌<◌, ◌≤◌, ◌^◌, Bool, true, false, if◌then◌else◌}
+use Rattle.std.specs.Prelude.{Option, Some, None, option_map}
+use Rattle.std.specs.Prelude.{List, [], ◌∷◌, ◌++◌, length as list_length, length, slice_index_or, slice_set, sum_by}
 use Rattle.std.specs.List.{AllByRecursion, Contains}
 use Rattle.mls_certcheck.specs.declared.flow.Slot.{Slot}
 use Rattle.mls_chains.specs.declared.origin.Origin.{Origin}
@@ -7,6 +9,7 @@ use Rattle.mls_chains.specs.declared.origin.Origin.TheVariants.{Held, Parameter,
 use Rattle.mls_chains.specs.declared.step.Step.{Step}
 use Rattle.mls_chains.specs.declared.links.Link.{Link}
 use Rattle.mls_chains.specs.declared.links.Links.{Links}
+use Rattle.mls_chains.specs.declared.chain.Chain.{Chain}
 use Rattle.mls_chains.specs.Steps.{step}
 use Rattle.mls_chains.specs.Ways.{Leads, end_of}
 use Rattle.mls_chains.specs.Places.{has_place, place_in, index_in}
@@ -99,6 +102,10 @@ module _ (begins : Origin → Bool) where
   Finds l sources None = AllByRecursion (λ a. reach l a ≡ None) sources
   Finds l sources (Some x) = IsNearest l sources x.0 x.1
 
+  -- where the best was found for some sources, this is found for them and one more
+  abbrev pub FindsMore : Links → Origin → Option (ℕ × Origin) → Option (ℕ × Origin) → Type 0
+  FindsMore l s best found = (seen : List Origin) → Finds l seen best → Finds l (seen ++ s ∷ []) found
+
   -- a source is this slot, which a step reaches from another source
   pub record IsFrom (steps : List Step) (l : Links) (s : Origin) (t : Slot) (from : Origin) : Type 0 where
     pub slot : s ≡ Held t
@@ -106,11 +113,11 @@ module _ (begins : Origin → Bool) where
     pub less : (n : ℕ) → reach l s ≡ Some n → (m : ℕ) × (reach l from ≡ Some m) × (m < n)
 
   -- a way ends in a source, over no more than it is reached over
-  pub record IsBest (steps : List Step) (l : Links) (end : Origin) (r : Origin) (ts : List Slot) : Type 0 where
-    pub root : begins r ≡ true
-    pub leads : Leads steps r ts
-    pub ends : end_of r ts ≡ end
-    pub within : (n : ℕ) → reach l end ≡ Some n → length ts ≤ n
+  pub record IsBest (steps : List Step) (l : Links) (end : Origin) (c : Chain) : Type 0 where
+    pub root : begins c.root ≡ true
+    pub leads : Leads steps c.root c.slots
+    pub ends : end_of c.root c.slots ≡ end
+    pub within : (n : ℕ) → reach l end ≡ Some n → length c.slots ≤ n
 
   -- so far: what is left is reached
   pub record IsUnderway (steps : List Step) (l : Links) (end : Origin) (s : Origin) (ts : List Slot) : Type 0 where

@@ -18,9 +18,13 @@ use Rattle.mls_chains.specs.Origins.{origin}
 abbrev pub step : Origin → Slot → Step
 step s t = record { source = s; target = t }
 
--- each source into each target
+-- each source into one target
+abbrev pub steps_to : Slot → List Source → List Step
+steps_to t sources = map (λ s. step (origin s) t) sources
+
+-- and into each
 abbrev pub into_steps : List Slot → List Source → List Step
-into_steps targets sources = flat_map (λ t. map (λ s. step (origin s) t) sources) targets
+into_steps targets sources = flat_map (λ t. steps_to t sources) targets
 
 -- each of so many variables, but one, as it was
 abbrev pub kept_steps : ℕ → ℕ → Option ℕ → ℕ → List Step

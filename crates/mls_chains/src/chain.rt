@@ -1,14 +1,13 @@
 //! Shortest chains of flows to where a rule is broken.
-ghost use Rattle.std.specs.Prelude.{◌≡◌, ◌≢◌, List, ◌∷◌, ◌++◌, [], IfOk, IfSome, None, true, false, length};
+ghost use Rattle.std.specs.Prelude.{◌≡◌, ◌≢◌, IfOk, true, false};
 ghost use Rattle.mls_chains.specs.Chains.{IsChainTo};
 ghost use Rattle.mls_chains.specs.Shorter.{IsWithin};
 
 use crate::origin::Origin;
 use crate::outlets::Outlet;
-use crate::roots::Roots;
-use crate::search::{Search, Way};
+use crate::search::Search;
 use crate::step::{Step, Steps};
-use crate::walk::Walker;
+use crate::walk::outlets_of;
 use mls_certcheck::{Rule, Slot};
 use mls_labeller::flows_of;
 use mls_lattice::{Items, Policy};
@@ -39,36 +38,29 @@ fn is_same(a: Rule, b: Rule) -> bool
 }
 
 /// Whether there is a chain over no more than so many slots.
-fn is_within(chain: &Option<Chain>, slots: &[Slot]) -> bool
-    ensures { IsWithin chain.now (length slots.now) result }
+fn is_within(chain: &Option<Chain>, count: usize) -> bool
+    ensures { IsWithin chain.now count result }
 {
     match chain {
-        Some(chain) => chain.slots.len() <= slots.len(),
+        Some(chain) => chain.slots.len() <= count,
         None => false,
     }
 }
 
 impl Finder<'_> {
-    ghost use Rattle.mls_chains.specs.declared.origin.Origin.{Origin as SpecOrigin};
-    ghost use Rattle.mls_certcheck.specs.declared.flow.Slot.{Slot as SpecSlot};
-    ghost use Rattle.mls_chains.specs.declared.outlets.Outlet.{Outlet as SpecOutlet};
     ghost use Rattle.mls_chains.specs.Steps.{steps};
-    ghost use Rattle.mls_chains.specs.Ways.{IsWay, IsShortest};
-    ghost use Rattle.mls_chains.specs.Chains.{is_root, Finds};
+    ghost use Rattle.mls_chains.specs.Chains.{Finds, FindsMore, FindsWayTo};
 
     /// A shortest way to where something flows out.
-    fn way_to(&self, alloc: Global, outlet: &Outlet) -> Result<Option<Way>, AllocError>
-        ensures some { IfOk result (λ r. IfSome r (λ w. IsShortest (is_root self.now.policy.now self.now.tx.now outlet.now.limit) self.now.steps.now outlet.now.sources w.root w.slots.items)) }
-        ensures none { IfOk result (λ r. r ≡ None → (root : SpecOrigin) (slots : List SpecSlot) → IsWay (is_root self.now.policy.now self.now.tx.now outlet.now.limit) self.now.steps.now outlet.now.sources root slots → ⊥) }
+    fn way_to(&self, alloc: Global, outlet: &Outlet) -> Result<Option<Chain>, AllocError>
+        requires { self.now.steps.now ≡ steps self.now.tx.now }
+        ensures { IfOk result (FindsWayTo self.now.policy.now self.now.tx.now outlet.now) }
     {
-        let roots = Roots {
+        let search = Search {
             policy: self.policy,
             tx: self.tx,
-            limit: outlet.limit,
-        };
-        let search = Search {
             steps: self.steps,
-            roots: &roots,
+            limit: outlet.limit,
         };
         let links = search.reached(alloc)?;
         search.shortest(alloc, &links, &outlet.sources)
@@ -82,21 +74,18 @@ impl Finder<'_> {
         outlet: &Outlet,
     ) -> Result<Option<Chain>, AllocError>
         requires { self.now.steps.now ≡ steps self.now.tx.now }
-        ensures { IfOk result (λ r. (seen : List SpecOutlet) → Finds self.now.policy.now self.now.tx.now seen self.now.rule best → Finds self.now.policy.now self.now.tx.now (seen ++ outlet.now ∷ []) self.now.rule r) }
+        ensures { IfOk result (FindsMore self.now.policy.now self.now.tx.now outlet.now self.now.rule best) }
     {
         if !is_same(outlet.rule, self.rule) {
             return Ok(best);
         }
         match self.way_to(alloc, outlet)? {
             None => Ok(best),
-            Some(way) => {
-                if is_within(&best, &way.slots) {
+            Some(chain) => {
+                if is_within(&best, chain.slots.len()) {
                     return Ok(best);
                 }
-                Ok(Some(Chain {
-                    root: way.root,
-                    slots: Items::from(way.slots),
-                }))
+                Ok(Some(chain))
             }
         }
     }
@@ -125,7 +114,7 @@ pub fn chain_to(
 {
     let flows = flows_of(alloc, tx)?;
     let steps = Steps::of_flows(alloc, &flows, tx.vars().len())?;
-    let outlets = Walker { tx, stmt }.outlets(alloc)?;
+    let outlets = outlets_of(alloc, tx, stmt)?;
     let finder = Finder {
         policy,
         tx,

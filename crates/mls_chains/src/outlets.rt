@@ -1,11 +1,11 @@
 //! Where something flows out at a statement.
-ghost use Rattle.std.specs.Prelude.{◌≡◌, ◌∷◌, ◌++◌, [], map, length, IfOk, OnOk};
-ghost use Rattle.std.specs.List.{flat_map};
+ghost use Rattle.std.specs.Prelude.{◌≡◌, ◌∷◌, ◌++◌, [], map, IfOk, OnOk};
 ghost use Rattle.mls_translang.specs.Blocks.{block_of};
-ghost use Rattle.mls_translang.specs.Tree.{Inserting, Updating, Deleting};
-ghost use Rattle.mls_certcheck.specs.Lines.{names, variables};
+ghost use Rattle.mls_translang.specs.Tree.{Inserting, Updating, Deleting, Release, Emit};
+ghost use Rattle.mls_certcheck.specs.Lines.{variables};
 ghost use Rattle.mls_certcheck.specs.declared.flow.Slot.TheVariants.{Statement};
-ghost use Rattle.mls_certcheck.specs.declared.flow.Source.TheVariants.{Held};
+ghost use Rattle.mls_certcheck.specs.declared.flow.Source.TheVariants.{Held, Declared};
+ghost use Rattle.mls_chains.specs.Outlets.{outlet};
 
 use crate::origin::Origin;
 use mls_certcheck::{Rule, Slot, Source};
@@ -22,82 +22,57 @@ pub(crate) struct Outlet {
     pub sources: Items<Origin>,
 }
 
-/// Where a statement stands: its number, that after which it begins, and the labels of the loops around.
+/// Where the walk to a statement stands: at a statement, that after which it begins, and the labels of the loops around it.
 #[derive(Drop)]
 pub(crate) struct Here<'a> {
     pub tx: &'a Tx,
+    pub target: usize,
     pub number: usize,
     pub before: usize,
     pub rows: &'a [LabelNo],
 }
 
-/// Adds the names in expressions that stand after a statement.
-fn all_names_to(
-    sources: &mut Vec<Source>,
-    before: usize,
-    rows: &[LabelNo],
-    exprs: &[Expr],
-) -> Result<(), AllocError>
-    ensures { OnOk result (sources.new.items ≡ sources.old.items ++ flat_map (names before rows.now) exprs.now) }
+/// What is declared to have a label.
+fn declared(alloc: Global, label: LabelNo) -> Result<Vec<Source>, AllocError>
+    ensures { IfOk result (λ v. v.items ≡ Declared label ∷ []) }
 {
-    for expr in exprs {
-        names_to(sources, before, rows, expr)?;
-    }
-    Ok(())
+    let sources = vec![in alloc; Source::Declared(label)]?;
+    Ok(sources)
 }
 
-/// Adds those in the new values of an update.
-fn set_names_to(
-    sources: &mut Vec<Source>,
-    before: usize,
-    rows: &[LabelNo],
-    sets: &[(u8, Expr)],
+/// Notes that a label has to dominate these.
+fn within(
+    alloc: Global,
+    noted: &mut Vec<Outlet>,
+    rule: Rule,
+    limit: LabelNo,
+    sources: Vec<Source>,
 ) -> Result<(), AllocError>
-    ensures { OnOk result (sources.new.items ≡ sources.old.items ++ flat_map (names before rows.now) (map (λ s. s.1) sets.now)) }
+    ensures { OnOk result (noted.new.items ≡ noted.old.items ++ outlet rule limit sources.items ∷ []) }
 {
-    for set in sets {
-        names_to(sources, before, rows, &set.1)?;
-    }
+    let sources = Origin::all_of(alloc, &sources)?;
+    noted.push(Outlet {
+        rule,
+        limit,
+        sources,
+    })?;
     Ok(())
 }
 
 impl Here<'_> {
-    ghost use Rattle.mls_certcheck.specs.declared.flow.Source.TheVariants.{Declared};
-    ghost use Rattle.mls_certcheck.specs.declared.refusal.Rule.TheVariants as rule;
-    ghost use Rattle.mls_chains.specs.Walk.{outlet, ceiling_outlet, write_outlets, own_outlets};
+    ghost use Rattle.mls_chains.specs.Walk.{all_names, ceiling_outlets, does, writes, own_outlets, here_outlets};
 
-    fn put(
+    /// Notes that the ceiling has to dominate these.
+    fn under(
         &self,
         alloc: Global,
-        outlets: &mut Vec<Outlet>,
+        noted: &mut Vec<Outlet>,
         rule: Rule,
-        limit: LabelNo,
         sources: Vec<Source>,
     ) -> Result<(), AllocError>
-        ensures { OnOk result (outlets.new.items ≡ outlets.old.items ++ outlet rule limit sources.items ∷ []) }
+        ensures { OnOk result (noted.new.items ≡ noted.old.items ++ outlet rule self.now.tx.now.hi sources.items ∷ []) }
     {
-        let sources = Origin::all_of(alloc, &sources)?;
-        outlets.push(Outlet {
-            rule,
-            limit,
-            sources,
-        })?;
-        Ok(())
-    }
-
-    /// One declared label flows out.
-    fn put_one(
-        &self,
-        alloc: Global,
-        outlets: &mut Vec<Outlet>,
-        rule: Rule,
-        limit: LabelNo,
-        label: LabelNo,
-    ) -> Result<(), AllocError>
-        ensures { OnOk result (outlets.new.items ≡ outlets.old.items ++ outlet rule limit (Declared label ∷ []) ∷ []) }
-    {
-        let sources = vec![in alloc; Source::Declared(label)]?;
-        self.put(alloc, outlets, rule, limit, sources)
+        within(alloc, noted, rule, self.tx.hi(), sources)
     }
 
     /// That the statement runs.
@@ -121,128 +96,134 @@ impl Here<'_> {
         Ok(())
     }
 
+    /// Adds the names in expressions.
+    fn names_to(&self, sources: &mut Vec<Source>, exprs: &[Expr]) -> Result<(), AllocError>
+        ensures { OnOk result (sources.new.items ≡ sources.old.items ++ all_names self.now exprs.now) }
+    {
+        for expr in exprs {
+            names_to(sources, self.before, self.rows, expr)?;
+        }
+        Ok(())
+    }
+
+    /// Adds those in the new values of an update.
+    fn sets_to(&self, sources: &mut Vec<Source>, sets: &[(u8, Expr)]) -> Result<(), AllocError>
+        ensures { OnOk result (sources.new.items ≡ sources.old.items ++ all_names self.now (map (λ s. s.1) sets.now)) }
+    {
+        for set in sets {
+            names_to(sources, self.before, self.rows, &set.1)?;
+        }
+        Ok(())
+    }
+
     /// What the ceiling dominates at each statement.
-    fn ceiling_to(&self, alloc: Global, outlets: &mut Vec<Outlet>) -> Result<(), AllocError>
-        ensures { OnOk result (outlets.new.items ≡ outlets.old.items ++ ceiling_outlet self.now.tx.now self.now.number self.now.before self.now.rows.now ∷ []) }
+    fn ceiling_to(&self, alloc: Global, noted: &mut Vec<Outlet>) -> Result<(), AllocError>
+        ensures { OnOk result (noted.new.items ≡ noted.old.items ++ ceiling_outlets self.now) }
     {
         let mut sources = self.running(alloc)?;
         self.variables_to(&mut sources, self.tx.vars().len())?;
-        self.put(alloc, outlets, Rule::AboveCeiling, self.tx.hi(), sources)
-    }
-
-    fn write_to(
-        &self,
-        alloc: Global,
-        outlets: &mut Vec<Outlet>,
-        at: LabelNo,
-        sources: Vec<Source>,
-    ) -> Result<(), AllocError>
-        ensures { OnOk result (outlets.new.items ≡ outlets.old.items ++ (outlet rule.Write at sources.items ∷ outlet rule.Write self.now.tx.now.hi (Declared at ∷ []) ∷ [])) }
-    {
-        self.put(alloc, outlets, Rule::Write, at, sources)?;
-        self.put_one(alloc, outlets, Rule::Write, self.tx.hi(), at)
+        self.under(alloc, noted, Rule::AboveCeiling, sources)
     }
 
     fn insert_to(
         &self,
         alloc: Global,
-        outlets: &mut Vec<Outlet>,
+        noted: &mut Vec<Outlet>,
         at: LabelNo,
         key: &[Expr],
         values: &[Expr],
     ) -> Result<(), AllocError>
-        ensures { OnOk result (outlets.new.items ≡ outlets.old.items ++ write_outlets self.now.tx.now self.now.number self.now.before self.now.rows.now at (Inserting key.now values.now)) }
+        ensures { OnOk result (noted.new.items ≡ noted.old.items ++ writes self.now at (Inserting key.now values.now)) }
     {
         let mut sources = self.running(alloc)?;
-        all_names_to(&mut sources, self.before, self.rows, key)?;
-        all_names_to(&mut sources, self.before, self.rows, values)?;
-        self.write_to(alloc, outlets, at, sources)
+        self.names_to(&mut sources, key)?;
+        self.names_to(&mut sources, values)?;
+        within(alloc, noted, Rule::Write, at, sources)?;
+        self.under(alloc, noted, Rule::Write, declared(alloc, at)?)
     }
 
     fn update_to(
         &self,
         alloc: Global,
-        outlets: &mut Vec<Outlet>,
+        noted: &mut Vec<Outlet>,
         classes: (LabelNo, LabelNo, LabelNo),
         key: &[Expr],
         sets: &[(u8, Expr)],
     ) -> Result<(), AllocError>
-        ensures { OnOk result (outlets.new.items ≡ outlets.old.items ++ write_outlets self.now.tx.now self.now.number self.now.before self.now.rows.now classes.2 (Updating key.now classes.0 classes.1 sets.now)) }
+        ensures { OnOk result (noted.new.items ≡ noted.old.items
+            ++ writes self.now classes.2 (Updating key.now classes.0 classes.1 sets.now)) }
     {
         let (key_class, from, at) = classes;
         let mut sources = self.running(alloc)?;
-        all_names_to(&mut sources, self.before, self.rows, key)?;
-        set_names_to(&mut sources, self.before, self.rows, sets)?;
-        self.write_to(alloc, outlets, at, sources)?;
-        self.put_one(alloc, outlets, Rule::Order, from, key_class)?;
-        self.put_one(alloc, outlets, Rule::Order, at, from)
+        self.names_to(&mut sources, key)?;
+        self.sets_to(&mut sources, sets)?;
+        within(alloc, noted, Rule::Write, at, sources)?;
+        self.under(alloc, noted, Rule::Write, declared(alloc, at)?)?;
+        within(alloc, noted, Rule::Order, from, declared(alloc, key_class)?)?;
+        within(alloc, noted, Rule::Order, at, declared(alloc, from)?)
     }
 
     fn delete_to(
         &self,
         alloc: Global,
-        outlets: &mut Vec<Outlet>,
+        noted: &mut Vec<Outlet>,
         key_class: LabelNo,
         at: LabelNo,
         key: &[Expr],
     ) -> Result<(), AllocError>
-        ensures { OnOk result (outlets.new.items ≡ outlets.old.items ++ write_outlets self.now.tx.now self.now.number self.now.before self.now.rows.now at (Deleting key.now key_class)) }
+        ensures { OnOk result (noted.new.items ≡ noted.old.items ++ writes self.now at (Deleting key.now key_class)) }
     {
         let mut sources = self.running(alloc)?;
-        all_names_to(&mut sources, self.before, self.rows, key)?;
-        self.write_to(alloc, outlets, at, sources)?;
-        self.put_one(alloc, outlets, Rule::Order, at, key_class)
+        self.names_to(&mut sources, key)?;
+        within(alloc, noted, Rule::Write, at, sources)?;
+        self.under(alloc, noted, Rule::Write, declared(alloc, at)?)?;
+        within(alloc, noted, Rule::Order, at, declared(alloc, key_class)?)
     }
 
     fn release_to(
         &self,
         alloc: Global,
-        outlets: &mut Vec<Outlet>,
+        noted: &mut Vec<Outlet>,
         value: &Expr,
         to: LabelNo,
+        into: u8,
     ) -> Result<(), AllocError>
-        ensures { OnOk result (outlets.new.items ≡ outlets.old.items ++ (outlet rule.Release to (Held (Statement self.now.number) ∷ []) ∷ outlet rule.Release self.now.tx.now.hi (names self.now.before self.now.rows.now value.now) ∷ [])) }
+        ensures { OnOk result (noted.new.items ≡ noted.old.items ++ does self.now (Release value.now to into)) }
     {
-        let sources = self.running(alloc)?;
-        self.put(alloc, outlets, Rule::Release, to, sources)?;
+        within(alloc, noted, Rule::Release, to, self.running(alloc)?)?;
         let mut sources = Vec::new(alloc);
         names_to(&mut sources, self.before, self.rows, value)?;
-        self.put(alloc, outlets, Rule::Release, self.tx.hi(), sources)
+        self.under(alloc, noted, Rule::Release, sources)
     }
 
     fn emit_to(
         &self,
         alloc: Global,
-        outlets: &mut Vec<Outlet>,
+        noted: &mut Vec<Outlet>,
         value: &Expr,
         label: LabelNo,
     ) -> Result<(), AllocError>
-        ensures { OnOk result (outlets.new.items ≡ outlets.old.items ++ (outlet rule.Emit label (Held (Statement self.now.number) ∷ names self.now.before self.now.rows.now value.now) ∷ outlet rule.Emit self.now.tx.now.hi (Declared label ∷ []) ∷ [])) }
+        ensures { OnOk result (noted.new.items ≡ noted.old.items ++ does self.now (Emit value.now label)) }
     {
         let sources = sources_of(alloc, self.number, self.before, self.rows, value)?;
-        self.put(alloc, outlets, Rule::Emit, label, sources)?;
-        self.put_one(alloc, outlets, Rule::Emit, self.tx.hi(), label)
+        within(alloc, noted, Rule::Emit, label, sources)?;
+        self.under(alloc, noted, Rule::Emit, declared(alloc, label)?)
     }
 
-    fn own_to(
-        &self,
-        alloc: Global,
-        outlets: &mut Vec<Outlet>,
-        stmt: &Stmt,
-    ) -> Result<(), AllocError>
-        ensures { OnOk result (outlets.new.items ≡ outlets.old.items ++ own_outlets self.now.tx.now self.now.number self.now.before self.now.rows.now (block_of (stmt.now ∷ []))) }
+    fn own_to(&self, alloc: Global, noted: &mut Vec<Outlet>, stmt: &Stmt) -> Result<(), AllocError>
+        ensures { OnOk result (noted.new.items ≡ noted.old.items ++ own_outlets self.now (block_of (stmt.now ∷ []))) }
     {
         match stmt {
             Stmt::Assign { .. } | Stmt::If { .. } => Ok(()),
             Stmt::For { label, .. } => {
-                self.put_one(alloc, outlets, Rule::RowLoop, self.tx.hi(), *label)
+                self.under(alloc, noted, Rule::RowLoop, declared(alloc, *label)?)
             }
             Stmt::Insert {
                 key,
                 values,
                 at,
                 ..
-            } => self.insert_to(alloc, outlets, *at, key, values),
+            } => self.insert_to(alloc, noted, *at, key, values),
             Stmt::Update {
                 key,
                 key_class,
@@ -250,28 +231,31 @@ impl Here<'_> {
                 at,
                 sets,
                 ..
-            } => self.update_to(alloc, outlets, (*key_class, *from, *at), key, sets),
+            } => self.update_to(alloc, noted, (*key_class, *from, *at), key, sets),
             Stmt::Delete {
                 key,
                 key_class,
                 at,
                 ..
-            } => self.delete_to(alloc, outlets, *key_class, *at, key),
-            Stmt::Release { value, to, .. } => self.release_to(alloc, outlets, value, *to),
-            Stmt::Emit { value, label } => self.emit_to(alloc, outlets, value, *label),
+            } => self.delete_to(alloc, noted, *key_class, *at, key),
+            Stmt::Release { value, to, into } => self.release_to(alloc, noted, value, *to, *into),
+            Stmt::Emit { value, label } => self.emit_to(alloc, noted, value, *label),
         }
     }
 
-    /// Where something flows out at the statement.
-    pub(crate) fn outlets_to(
+    /// Where something flows out at the statement, if it is the one that is looked for.
+    pub(crate) fn here_to(
         &self,
         alloc: Global,
-        outlets: &mut Vec<Outlet>,
+        noted: &mut Vec<Outlet>,
         stmt: &Stmt,
     ) -> Result<(), AllocError>
-        ensures { OnOk result (outlets.new.items ≡ outlets.old.items ++ (ceiling_outlet self.now.tx.now self.now.number self.now.before self.now.rows.now ∷ own_outlets self.now.tx.now self.now.number self.now.before self.now.rows.now (block_of (stmt.now ∷ [])))) }
+        ensures { OnOk result (noted.new.items ≡ noted.old.items ++ here_outlets self.now (block_of (stmt.now ∷ []))) }
     {
-        self.ceiling_to(alloc, outlets)?;
-        self.own_to(alloc, outlets, stmt)
+        if self.number != self.target {
+            return Ok(());
+        }
+        self.ceiling_to(alloc, noted)?;
+        self.own_to(alloc, noted, stmt)
     }
 }

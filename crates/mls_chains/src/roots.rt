@@ -1,48 +1,27 @@
 //! Where chains may begin: what has a declared label that a limit does not dominate.
 ghost use Rattle.std.specs.Prelude.{◌≡◌, map, slice_index};
-ghost use Rattle.mls_lattice.specs.Lattice.{pair_of, bottom, ◌⊑◌};
+ghost use Rattle.mls_lattice.specs.Lattice.{pair_of};
 ghost use Rattle.mls_lattice.specs.Labels.{label_of};
 ghost use Rattle.mls_lattice.specs.Policy.{labels_of};
+ghost use Rattle.mls_chains.specs.Chains.{is_above};
+ghost use Rattle.mls_chains.specs.Roots.{begins};
+ghost use Rattle.mls_chains.specs.declared.origin.Origin.TheVariants.{Held};
 
 use crate::origin::Origin;
+use crate::search::Search;
 use mls_certcheck::Slot;
-use mls_lattice::{Label, LabelNo, Policy};
-use mls_translang::Tx;
+use mls_lattice::{Label, LabelNo};
 
-/// A transaction under a policy, and the label that must dominate what flows out.
-#[derive(Drop)]
-pub(crate) struct Roots<'a> {
-    pub policy: &'a Policy,
-    pub tx: &'a Tx,
-    pub limit: LabelNo,
-}
-
-#[tactic(auto, using(mls_certcheck::proofs::LabelLemmas::bottom_pair))]
-fn lowest() -> Label
-    ensures { pair_of result ≡ bottom }
-{
-    Label { rank: 0, cats: 0 }
-}
-
-fn flows(low: Label, high: Label) -> bool
-    ensures { result ≡ (pair_of low ⊑ pair_of high) }
-{
-    high.dominates(low)
-}
-
-impl Roots<'_> {
-    ghost use Rattle.mls_chains.specs.declared.origin.Origin.TheVariants.{Held};
-    ghost use Rattle.mls_chains.specs.Chains.{is_above};
-    ghost use Rattle.mls_chains.specs.Roots.{begins};
-
-    #[tactic(auto, using(mls_certcheck::proofs::LabelLemmas::past_labels))]
+impl Search<'_> {
+    /// What a number of a label stands for.
+    #[tactic(auto, using(mls_certcheck::proofs::LabelLemmas::bottom_pair, mls_certcheck::proofs::LabelLemmas::past_labels))]
     fn declared(&self, label: LabelNo) -> Label
         ensures { pair_of result ≡ label_of (labels_of self.now.policy.now) label }
     {
         if label.index() < self.policy.label_count() {
             self.policy.value(label)
         } else {
-            lowest()
+            Label { rank: 0, cats: 0 }
         }
     }
 
@@ -58,11 +37,12 @@ impl Roots<'_> {
         }
     }
 
+    /// Whether the limit does not dominate a label.
     #[tactic(auto, unfolding(crate::specs::Chains::is_above))]
     fn is_above(&self, label: LabelNo) -> bool
         ensures { result ≡ is_above self.now.policy.now self.now.tx.now self.now.limit label }
     {
-        !flows(self.declared(label), self.declared(self.limit))
+        !self.declared(self.limit).dominates(self.declared(label))
     }
 
     #[tactic(auto, unfolding(crate::specs::Roots::begins, crate::specs::Chains::is_root))]

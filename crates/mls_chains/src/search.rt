@@ -1,40 +1,36 @@
 //! The search for shortest chains.
-ghost use Rattle.std.specs.Prelude.{◌≡◌, true, false, List, [], ◌∷◌, ◌++◌, IfOk, IfSome, IsSome, None};
+ghost use Rattle.std.specs.Prelude.{◌≡◌, false, [], ◌∷◌, IfOk, IsSome};
 ghost use Rattle.std.specs.List.{Contains, AllByRecursion};
-ghost use Rattle.mls_chains.specs.Ways.{IsWay, IsShortest};
-ghost use Rattle.mls_chains.specs.Reaching.{HasPlace, reach, AreFounded, Reaches, AreSettled, Finds, IsFrom, IsBest};
+ghost use Rattle.mls_chains.specs.Ways.{FindsWay};
+ghost use Rattle.mls_chains.specs.Reaching.{HasPlace, reach, AreFounded, Reaches, AreSettled};
+ghost use Rattle.mls_chains.specs.Reaching.{Finds, FindsMore, IsFrom, IsBest};
 ghost use Rattle.mls_chains.specs.Roots.{begins};
-ghost use Rattle.mls_chains.specs.declared.origin.Origin.{Origin as SpecOrigin};
-ghost use Rattle.mls_certcheck.specs.declared.flow.Slot.{Slot as SpecSlot};
 
+use crate::chain::Chain;
 use crate::links::{Link, Links, sum};
 use crate::origin::Origin;
-use crate::roots::Roots;
 use crate::step::Step;
 use mls_certcheck::Slot;
+use mls_lattice::{Items, LabelNo, Policy};
+use mls_translang::Tx;
 use std::alloc::{AllocError, Global};
 
-/// From a root over slots.
-#[derive(Drop)]
-pub(crate) struct Way {
-    pub root: Origin,
-    pub slots: Vec<Slot>,
-}
-
-/// Steps, and where chains of them may begin.
+/// The steps of a transaction under a policy, and the label that must dominate what flows out.
 #[derive(Drop)]
 pub(crate) struct Search<'a> {
+    pub policy: &'a Policy,
+    pub tx: &'a Tx,
     pub steps: &'a [Step],
-    pub roots: &'a Roots<'a>,
+    pub limit: LabelNo,
 }
 
 impl Search<'_> {
     /// How many slots there are from a root to a source at most, itself among them.
     #[tactic(auto, unfolding(crate::specs::Reaching::reach))]
     fn reach(&self, links: &Links, source: Origin) -> Option<usize>
-        ensures { result ≡ reach (begins self.now.roots.now) links.now source }
+        ensures { result ≡ reach (begins self.now) links.now source }
     {
-        if self.roots.begins(source) {
+        if self.begins(source) {
             return Some(0);
         }
         match source {
@@ -47,8 +43,8 @@ impl Search<'_> {
     fn relax(&self, links: &mut Links, step: Step) -> Result<bool, AllocError>
         requires contained { Contains self.now.steps.now step }
         requires place { HasPlace links.old step.target }
-        requires founded { AreFounded (begins self.now.roots.now) self.now.steps.now links.old }
-        ensures { IfOk result (Reaches (begins self.now.roots.now) self.now.steps.now links.old links.new (step ∷ [])) }
+        requires founded { AreFounded (begins self.now) self.now.steps.now links.old }
+        ensures { IfOk result (Reaches (begins self.now) self.now.steps.now links.old links.new (step ∷ [])) }
     {
         let Some(length) = self.reach(links, step.source) else {
             return Ok(false);
@@ -65,8 +61,8 @@ impl Search<'_> {
     /// Reaches what each step leads to, in turn: false where all is reached already.
     fn round(&self, links: &mut Links) -> Result<bool, AllocError>
         requires places { AllByRecursion (λ s. HasPlace links.old s.target) self.now.steps.now }
-        requires founded { AreFounded (begins self.now.roots.now) self.now.steps.now links.old }
-        ensures { IfOk result (Reaches (begins self.now.roots.now) self.now.steps.now links.old links.new self.now.steps.now) }
+        requires founded { AreFounded (begins self.now) self.now.steps.now links.old }
+        ensures { IfOk result (Reaches (begins self.now) self.now.steps.now links.old links.new self.now.steps.now) }
     {
         let mut changed = false;
         for step in self.steps {
@@ -79,7 +75,7 @@ impl Search<'_> {
 
     /// How all slots are reached.
     pub(crate) fn reached(&self, alloc: Global) -> Result<Links, AllocError>
-        ensures { IfOk result (AreSettled (begins self.now.roots.now) self.now.steps.now) }
+        ensures { IfOk result (AreSettled (begins self.now) self.now.steps.now) }
     {
         let mut links = Links::new(alloc, self.steps)?;
         loop {
@@ -96,7 +92,7 @@ impl Search<'_> {
         best: Option<(usize, Origin)>,
         source: Origin,
     ) -> Option<(usize, Origin)>
-        ensures { (seen : List SpecOrigin) → Finds (begins self.now.roots.now) links.now seen best → Finds (begins self.now.roots.now) links.now (seen ++ source ∷ []) result }
+        ensures { FindsMore (begins self.now) links.now source best result }
     {
         let Some(length) = self.reach(links, source) else {
             return best;
@@ -111,7 +107,7 @@ impl Search<'_> {
 
     /// The nearest of the sources that are reached.
     fn nearest(&self, links: &Links, sources: &[Origin]) -> Option<(usize, Origin)>
-        ensures { Finds (begins self.now.roots.now) links.now sources.now result }
+        ensures { Finds (begins self.now) links.now sources.now result }
     {
         let mut best = None;
         for source in sources {
@@ -122,10 +118,10 @@ impl Search<'_> {
 
     /// The slot that a source is, and from what it is reached.
     fn behind(&self, links: &Links, source: Origin) -> (Slot, Origin)
-        requires reached { IsSome (reach (begins self.now.roots.now) links.now source) }
-        requires further { begins self.now.roots.now source ≡ false }
-        requires founded { AreFounded (begins self.now.roots.now) self.now.steps.now links.now }
-        ensures { IsFrom (begins self.now.roots.now) self.now.steps.now links.now source result.0 result.1 }
+        requires reached { IsSome (reach (begins self.now) links.now source) }
+        requires further { begins self.now source ≡ false }
+        requires founded { AreFounded (begins self.now) self.now.steps.now links.now }
+        ensures { IsFrom (begins self.now) self.now.steps.now links.now source result.0 result.1 }
     {
         match source {
             Origin::Held(slot) => match links.look(slot) {
@@ -137,22 +133,22 @@ impl Search<'_> {
     }
 
     /// A way to a source over no more slots than it is reached over.
-    fn way(&self, alloc: Global, links: &Links, end: Origin) -> Result<Way, AllocError>
-        requires reached { IsSome (reach (begins self.now.roots.now) links.now end) }
-        requires founded { AreFounded (begins self.now.roots.now) self.now.steps.now links.now }
-        ensures { IfOk result (λ w. IsBest (begins self.now.roots.now) self.now.steps.now links.now end w.root w.slots.items) }
+    fn way(&self, alloc: Global, links: &Links, end: Origin) -> Result<Chain, AllocError>
+        requires reached { IsSome (reach (begins self.now) links.now end) }
+        requires founded { AreFounded (begins self.now) self.now.steps.now links.now }
+        ensures { IfOk result (IsBest (begins self.now) self.now.steps.now links.now end) }
     {
         let mut slots = Vec::new(alloc);
         let mut source = end;
-        while !self.roots.begins(source) {
+        while !self.begins(source) {
             let (slot, from) = self.behind(links, source);
             slots.push(slot)?;
             source = from;
         }
         slots.reverse();
-        Ok(Way {
+        Ok(Chain {
             root: source,
-            slots,
+            slots: Items::from(slots),
         })
     }
 
@@ -162,10 +158,9 @@ impl Search<'_> {
         alloc: Global,
         links: &Links,
         sources: &[Origin],
-    ) -> Result<Option<Way>, AllocError>
-        requires { AreSettled (begins self.now.roots.now) self.now.steps.now links.now }
-        ensures some { IfOk result (λ r. IfSome r (λ w. IsShortest (begins self.now.roots.now) self.now.steps.now sources.now w.root w.slots.items)) }
-        ensures none { IfOk result (λ r. r ≡ None → (root : SpecOrigin) (slots : List SpecSlot) → IsWay (begins self.now.roots.now) self.now.steps.now sources.now root slots → ⊥) }
+    ) -> Result<Option<Chain>, AllocError>
+        requires { AreSettled (begins self.now) self.now.steps.now links.now }
+        ensures { IfOk result (FindsWay (begins self.now) self.now.steps.now sources.now) }
     {
         match self.nearest(links, sources) {
             None => Ok(None),

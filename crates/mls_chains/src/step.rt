@@ -1,5 +1,5 @@
 //! What flows, one source into one slot.
-ghost use Rattle.std.specs.Prelude.{◌≡◌, ◌++◌, IfOk, OnOk, map};
+ghost use Rattle.std.specs.Prelude.{◌≡◌, ◌++◌, IfOk, OnOk};
 ghost use Rattle.std.specs.List.{flat_map};
 ghost use Rattle.mls_certcheck.specs.Checks.{is_target};
 
@@ -31,12 +31,11 @@ pub(crate) struct Steps {
 }
 
 impl Steps {
-    ghost use Rattle.mls_chains.specs.Origins.{origin};
-    ghost use Rattle.mls_chains.specs.Steps.{step, into_steps, kept_steps, steps_in};
+    ghost use Rattle.mls_chains.specs.Steps.{steps_to, into_steps, kept_steps, steps_in};
 
     /// From each of the sources into one slot.
     fn all_into(&mut self, target: Slot, sources: &[Source]) -> Result<(), AllocError>
-        ensures { OnOk result (self.new.steps.items ≡ self.old.steps.items ++ map (λ s. step (origin s) target) sources.now) }
+        ensures { OnOk result (self.new.steps.items ≡ self.old.steps.items ++ steps_to target sources.now) }
     {
         for source in sources {
             self.steps.push(Step {

@@ -15,8 +15,7 @@ use Rattle.mls_host.specs.Reason.{reason_status}
 use Rattle.mls_listings.specs.declared.listing.Listing.{Listing}
 use Rattle.mls_listings.specs.Printing.{IsCutOff}
 use Rattle.mls_command.specs.Telling.{IsToldOf}
-use Rattle.mls_command.specs.Acting.{IsTaskRefused}
-use Rattle.mls_command.specs.Accounting.{IsTaskAccepted, IsAccepted, IsRefused, Accounts, IsUnread, IsUnaccounted, one_refused}
+use Rattle.mls_command.specs.Accounting.{AreInputsRefused, IsTaskAccepted, IsAccepted, IsRefused, Accounts, IsUnread, IsUnaccounted, one_refused}
 
 module _ (h : Hosted) (Wrote Told More : List ℕ → Type 0) (f : (text : List ℕ) → Told text → More text) where
   -- more is told
@@ -32,7 +31,7 @@ module _ (h : Hosted) (job : Job) (policy : Tables) (file : SchemesFile) (reader
   task_accepted (Ok u) k = record { policy = policy; file = file; reader = reader; policy_is = policy_is; schemes_are = schemes_are; reader_is = reader_is; does = k }
   task_accepted (Err e) k = tt
 
-  pub task_refused : (r : Result (Unit {0}) Reason) → IfErr r (IsTaskRefused h policy file reader job.task) → IfErr r (IsRefused h job)
+  pub task_refused : (r : Result (Unit {0}) Reason) → IfErr r (AreInputsRefused h.before policy file.schemes reader job.task) → IfErr r (IsRefused h job)
   task_refused (Ok u) k = tt
   task_refused (Err e) k = inr (record { policy = policy; file = file; reader = reader; policy_is = policy_is; schemes_are = schemes_are; reader_is = reader_is; does = k })
 

@@ -1,15 +1,12 @@
 -- Tasks and jobs: what is done, and what is given up.
-use Rattle.std.proofs.Common.{◌≡◌, ℕ, List, [], Option, Result, Ok, Err, IfOk, IfErr, OnOk, OnErr, inl, inr, refl, sym, subst}
+use Rattle.std.proofs.Common.{◌≡◌, ℕ, List, [], Option, Result, Ok, Err, IfOk, IfErr, OnErr, inl, inr, refl, sym, subst}
 use Rattle.std.specs.Result.{IsErrAnd}
-use Rattle.mls_script.specs.declared.event.Event.{Event}
-use Rattle.mls_machine.specs.declared.stored.Stored.{Stored}
 use Rattle.mls_sessions.specs.declared.cause.RunFault.{RunFault}
 use Rattle.mls_words.specs.declared.words.Job.{Job}
 use Rattle.mls_host.specs.declared.ending.Ending.{Ending}
 use Rattle.mls_host.specs.declared.ending.Ending.TheVariants.{Well}
 use Rattle.mls_host.specs.declared.errors.Errors.{Errors}
-use Rattle.mls_host.specs.Inputs.{AreStoredFrom, IsScriptFrom, IsPolicyOf, AreSchemesOf, IsReader}
-use Rattle.mls_words.specs.Words.{named}
+use Rattle.mls_host.specs.Inputs.{IsPolicyOf, AreSchemesOf, IsReader}
 use Rattle.mls_lattice.specs.Policy.{Tables}
 use Rattle.mls_scheme.specs.declared.file.SchemesFile.{SchemesFile}
 use Rattle.mls_words.specs.declared.words.RunFiles.{RunFiles}
@@ -22,7 +19,6 @@ use Rattle.mls_host.specs.declared.refusal.Refusal.TheVariants.{Before, Run, Not
 use Rattle.mls_host.specs.Hosting.{Hosted, IsTold}
 use Rattle.mls_host.specs.Refusal.{IsEnd}
 use Rattle.mls_listings.specs.Printing.{IsCutOff}
-use Rattle.mls_host.specs.Running.{site_of}
 use Rattle.mls_runs.specs.ScriptRun.{IsScriptRun, IsRunRefused}
 use Rattle.mls_shells.specs.ShellRun.{IsShellRun, IsShellRefused}
 use Rattle.mls_host.proofs.HostingLemmas.{told_nothing}

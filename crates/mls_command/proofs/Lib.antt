@@ -1,3 +1,4 @@
 pub mod ActingLemmas
 pub mod AccountLemmas
 pub mod TellingLemmas
+pub mod HintingLemmas

@@ -1,5 +1,5 @@
 -- What is told of the inputs of a command that is explained: all are accepted, or which one is refused first.
-use Rattle.std.specs.Prelude.{◌≡◌, ◌≢◌, ℕ, List, [], Option, ◌⊎◌, true, ⊤}
+use Rattle.std.specs.Prelude.{◌≡◌, ◌≢◌, ℕ, List, [], Option, Some, None, ◌⊎◌, true, ⊤}
 use Rattle.mls_lattice.specs.Name.{is_name}
 use Rattle.mls_lattice.specs.Policy.{Tables}
 use Rattle.mls_scheme.specs.Scheme.{Schemes}
@@ -18,13 +18,16 @@ use Rattle.mls_host.specs.declared.reason.Reason.{Reason}
 use Rattle.mls_host.specs.declared.reason.Reason.TheVariants.{Memory}
 use Rattle.mls_host.specs.declared.refusal.Refusal.{Refusal}
 use Rattle.mls_host.specs.declared.refusal.Refusal.TheVariants as refusals
+use Rattle.mls_host.specs.Causes.{AreFilesRefused}
 use Rattle.mls_host.specs.Hosting.{Hosting, Hosted}
 use Rattle.mls_host.specs.Inputs.{AreStoredFrom, IsScriptFrom, AreToldIn, AreBlocksIn}
 use Rattle.mls_host.specs.Reason.{reason_status}
-use Rattle.mls_listings.specs.Explaining.{IsExplained}
+use Rattle.mls_listings.specs.Explaining.{IsExplained, IsExplainRefused}
 use Rattle.mls_listings.specs.Printing.{IsPrinted, IsPrintedInPart}
+use Rattle.mls_runs.specs.ScriptRun.{AreRunInputsRefused}
+use Rattle.mls_shells.specs.ShellRun.{AreShellInputsRefused}
 use Rattle.mls_command.specs.declared.accounting.TheConstants.{ACCEPTED}
-use Rattle.mls_command.specs.Acting.{IsUnder, IsJobRefused, IsTaskRefused}
+use Rattle.mls_command.specs.Acting.{IsUnder, IsJobRefused}
 use Rattle.mls_command.specs.Telling.{IsToldOf}
 
 -- ---- what is accepted
@@ -53,15 +56,28 @@ IsTaskAccepted h policy file (Certify transactions) = AreReadable h.gives policy
 IsTaskAccepted h policy file (Check transactions certificates) = AreCheckable h.gives policy file.schemes transactions.now certificates.now
 IsTaskAccepted h policy file (Explain transactions name) = CanBeExplained h.gives policy file.schemes transactions.now (named name)
 
+-- ---- what is refused
+
+-- why an input of a task is refused, behind the policy and the schemes
+abbrev pub AreInputsRefused : Hosting → Tables → Schemes → Option ℕ → Task → Reason → Type 0
+AreInputsRefused h policy schemes reader (Run files) reason = AreRunInputsRefused h policy schemes files reason
+AreInputsRefused h policy schemes reader (Shell files) reason = AreShellInputsRefused h policy schemes reader files reason
+AreInputsRefused h policy schemes reader (Certify transactions) reason = AreFilesRefused h (Some transactions.now) None policy schemes reason
+AreInputsRefused h policy schemes reader (Check transactions certificates) reason =
+    AreFilesRefused h (Some transactions.now) (Some certificates.now) policy schemes reason
+AreInputsRefused h policy schemes reader (Explain transactions name) reason = IsExplainRefused h policy schemes transactions.now (named name) reason
+AreInputsRefused h policy schemes reader task reason = ⊥
+
 -- ---- what is told
 
 module _ (h : Hosted) (job : Job) where
   abbrev pub IsAccepted : Type 0
   IsAccepted = IsUnder h job (λ policy file reader. IsTaskAccepted h.before policy file job.task)
 
-  -- the command would be given up for this reason, before its task or in it
+  -- an input is refused for this reason, so that the command would be given up: before its task or in it
   abbrev pub IsRefused : Reason → Type 0
-  IsRefused reason = IsJobRefused h job reason ⊎ IsUnder h job (λ policy file reader. IsTaskRefused h policy file reader job.task reason)
+  IsRefused reason = IsJobRefused h job reason
+      ⊎ IsUnder h job (λ policy file reader. AreInputsRefused h.before policy file.schemes reader job.task reason)
 
   -- all inputs are accepted; or one is refused, for another reason than memory, and what is told of it
   pub data Accounts (text told : List ℕ) (end : Ending) : Type 0 where

@@ -22,10 +22,17 @@ module _ (Does : (Wrote Told : List ℕ → Type 0) → Job → Ending → Type 
     not_asked : (usage : Usage) → AskNothing words usage → Wrote [] → Told (usage_text usage) → status ≡ usage_status usage → IsOutcome words Wrote Told status
 
 module _ (h : Hosted) where
-  -- the command does what it says; where another one is explained, what is told of the inputs of that
-  abbrev pub IsAnsweredAs : Option (List Text) → List Text → (List ℕ → Type 0) → (List ℕ → Type 0) → ℕ → Type 0
-  IsAnsweredAs None words Wrote Told status = IsOutcome (IsDone h) (IsGivenUp h) words Wrote Told status
-  IsAnsweredAs (Some asked) words Wrote Told status = IsOutcome (IsAccounted h) (IsUnaccounted h) asked Wrote Told status
+  -- of a command, and of words that are explained
+  abbrev pub IsOutcomeOfJob : List Text → (Wrote Told : List ℕ → Type 0) → ℕ → Type 0
+  IsOutcomeOfJob words Wrote Told status = IsOutcome (IsDone h) (IsGivenUp h) words Wrote Told status
 
-  abbrev pub IsAnswered : List Text → (List ℕ → Type 0) → (List ℕ → Type 0) → ℕ → Type 0
+  abbrev pub IsOutcomeOfAccount : List Text → (Wrote Told : List ℕ → Type 0) → ℕ → Type 0
+  IsOutcomeOfAccount words Wrote Told status = IsOutcome (IsAccounted h) (IsUnaccounted h) words Wrote Told status
+
+  -- the command does what it says; where another one is explained, what is told of the inputs of that
+  abbrev pub IsAnsweredAs : Option (List Text) → List Text → (Wrote Told : List ℕ → Type 0) → ℕ → Type 0
+  IsAnsweredAs None words Wrote Told status = IsOutcomeOfJob words Wrote Told status
+  IsAnsweredAs (Some asked) words Wrote Told status = IsOutcomeOfAccount asked Wrote Told status
+
+  abbrev pub IsAnswered : List Text → (Wrote Told : List ℕ → Type 0) → ℕ → Type 0
   IsAnswered words Wrote Told status = IsAnsweredAs (explained_of words) words Wrote Told status

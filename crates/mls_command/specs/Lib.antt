@@ -1,5 +1,6 @@
 pub mod Explained
 pub mod Acting
+pub mod Hinting
 pub mod Telling
 pub mod Accounting
 pub mod Answering

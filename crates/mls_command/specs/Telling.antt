@@ -20,6 +20,7 @@ use Rattle.mls_host.specs.Reason.{reason_text}
 use Rattle.mls_pointing.specs.Advice.{advice_of}
 use Rattle.mls_pointing.specs.Excerpt.{excerpt, file_line}
 use Rattle.mls_command.specs.declared.telling.Place.{Place}
+use Rattle.mls_command.specs.Hinting.{IsHint}
 use Rattle.mls_command.specs.declared.telling.TheConstants.{UNREADABLE, TOO_LONG, NO_LABEL, NO_USER, NO_TRANSACTION}
 
 -- what a refusal means, and what to do
@@ -99,19 +100,27 @@ path_if job (Some r) = path_of job r
 abbrev pub source_of : Job → Reason → Option (List ℕ)
 source_of job reason = path_if job (role_of reason)
 
-module _ (h : Hosting) where
-  -- a line of the file, as the host gives it once more; or its name alone
-  pub data IsLineOf (path : List ℕ) (place : Place) (lines : List ℕ) : Type 0 where
-    given : (bytes : List ℕ) → h.gives (Some path) bytes → lines ≡ excerpt path place.line place.column bytes → IsLineOf path place lines
-    lacking : (fault : HostFault) → h.lacks (Some path) fault → lines ≡ file_line path → IsLineOf path place lines
+-- the place in the file, or its name where no place is told
+abbrev pub shown : List ℕ → Option Place → List ℕ → List ℕ
+shown path None bytes = file_line path
+shown path (Some place) bytes = excerpt path place.line place.column bytes
 
-  abbrev pub AreLines : Option (List ℕ) → Option Place → List ℕ → Type 0
-  AreLines None place lines = lines ≡ []
-  AreLines (Some path) None lines = lines ≡ file_line path
-  AreLines (Some path) (Some place) lines = IsLineOf path place lines
+module _ (h : Hosting) (job : Job) (reason : Reason) where
+  -- with what is told beside it
+  abbrev pub IsShown : List ℕ → List ℕ → List ℕ → Type 0
+  IsShown path bytes lines = (hint : List ℕ) × IsHint h job reason bytes hint × (lines ≡ shown path (place_of reason) bytes ++ hint)
+
+  -- the bytes of the file are those that the host gives once more; where it gives none, its name is told alone
+  pub data AreLinesAt (path lines : List ℕ) : Type 0 where
+    given : (bytes : List ℕ) → h.gives (Some path) bytes → IsShown path bytes lines → AreLinesAt path lines
+    lacking : (fault : HostFault) → h.lacks (Some path) fault → lines ≡ file_line path → AreLinesAt path lines
+
+  abbrev pub AreLines : Option (List ℕ) → List ℕ → Type 0
+  AreLines None lines = lines ≡ []
+  AreLines (Some path) lines = AreLinesAt path lines
 
   -- all that is told
-  pub record IsToldOf (job : Job) (reason : Reason) (text : List ℕ) : Type 0 where
+  pub record IsToldOf (text : List ℕ) : Type 0 where
     pub lines : List ℕ
-    pub lines_are : AreLines (source_of job reason) (place_of reason) lines
+    pub lines_are : AreLines (source_of job reason) lines
     pub text_is : text ≡ reason_text reason ++ lines ++ advice reason

@@ -9,11 +9,10 @@ ghost use Rattle.mls_host.specs.declared.reason.Reason.TheVariants.{Memory};
 ghost use Rattle.mls_host.specs.Reason.{reason_status};
 ghost use Rattle.mls_command.specs.Telling.{IsToldOf};
 ghost use Rattle.mls_words.specs.declared.words.Task.TheVariants.{Run, Shell};
-ghost use Rattle.mls_runs.specs.ScriptRun.{IsRunRefused};
-ghost use Rattle.mls_shells.specs.ShellRun.{IsShellRefused};
-ghost use Rattle.mls_command.specs.Acting.{IsTaskRefused};
-ghost use Rattle.mls_command.specs.Accounting.{AreReadable, AreCheckable, IsTaskAccepted, IsAccepted, IsRefused, Accounts, IsUnread, IsAccounted, IsUnaccounted};
-ghost use Rattle.mls_command.specs.Answering.{IsOutcome};
+ghost use Rattle.mls_runs.specs.ScriptRun.{AreRunInputsRefused};
+ghost use Rattle.mls_shells.specs.ShellRun.{AreShellInputsRefused};
+ghost use Rattle.mls_command.specs.Accounting.{AreReadable, AreCheckable, AreInputsRefused, IsTaskAccepted, IsAccepted, IsRefused, Accounts, IsUnread, IsAccounted, IsUnaccounted};
+ghost use Rattle.mls_command.specs.Answering.{IsOutcomeOfAccount};
 
 use crate::acting::{policy_of, schemes_of};
 use crate::telling::told_of;
@@ -40,7 +39,7 @@ fn accept_run<H: Host>(
     files: RunFiles,
 ) -> Result<(), Reason>
     ensures accepted { OnOk result (IsTaskAccepted (H.hosting host.now) policy.now file.now (Run files.entry)) }
-    ensures refused { IfErr result (IsRunRefused (H.hosting host.now) policy.now file.now files.entry) }
+    ensures refused { IfErr result (AreRunInputsRefused (H.hosting host.now) policy.now file.now.schemes files.entry) }
 {
     let schemes = &file.schemes;
     let _stored = stored_files(
@@ -65,7 +64,7 @@ fn accept_shell<H: Host>(
     files: ShellFiles,
 ) -> Result<(), Reason>
     ensures accepted { OnOk result (IsTaskAccepted (H.hosting host.now) policy.now file.now (Shell files.entry)) }
-    ensures refused { IfErr result (IsShellRefused (H.hosting host.now) policy.now file.now reader files.entry) }
+    ensures refused { IfErr result (AreShellInputsRefused (H.hosting host.now) policy.now file.now.schemes reader files.entry) }
 {
     match reader {
         Some(_) => {}
@@ -127,7 +126,7 @@ fn accept_task<H: Host>(
     task: Task,
 ) -> Result<(), Reason>
     ensures accepted { OnOk result (IsTaskAccepted (H.hosting host.now) policy.now file.now task.entry) }
-    ensures refused { IfErr result (IsTaskRefused (hosted H.hosting H.Lines.echo host.now host.now) policy.now file.now reader task.entry) }
+    ensures refused { IfErr result (AreInputsRefused (H.hosting host.now) policy.now file.now.schemes reader task.entry) }
 {
     let schemes = &file.schemes;
     match task {
@@ -239,8 +238,7 @@ pub(crate) fn finish_account<H: Host, W: Write, E: Write>(
     out: &mut W,
     err: &mut Errors<E>,
 ) -> u8
-    ensures { (words : List Text) → Asks words job.entry → IsOutcome (IsAccounted (hosted H.hosting H.Lines.echo host.now host.now))
-        (IsUnaccounted (hosted H.hosting H.Lines.echo host.now host.now)) words
+    ensures { (words : List Text) → Asks words job.entry → IsOutcomeOfAccount (hosted H.hosting H.Lines.echo host.now host.now) words
         (IsAppended W.contents out.old out.new) (IsTold E.contents err.old err.new) result }
 {
     match print_account(alloc, host, job, out, err) {

@@ -9,8 +9,7 @@ ghost use Rattle.mls_words.specs.Words.{texts_of, Asks};
 ghost use Rattle.mls_host.specs.Causes.{IsPolicyRefused, AreSchemesRefused};
 ghost use Rattle.mls_host.specs.Inputs.{IsPolicyOf, AreSchemesOf};
 ghost use Rattle.mls_command.specs.Acting.{IsTaskDone, IsTaskGivenUp, IsDone, IsGivenUp};
-ghost use Rattle.mls_command.specs.Accounting.{IsAccounted, IsUnaccounted};
-ghost use Rattle.mls_command.specs.Answering.{IsOutcome, IsAnswered};
+ghost use Rattle.mls_command.specs.Answering.{IsOutcomeOfJob, IsOutcomeOfAccount, IsAnswered};
 
 use crate::accounting::finish_account;
 use crate::explained::explained_of;
@@ -129,8 +128,8 @@ fn finish<H: Host, W: Write, E: Write>(
     out: &mut W,
     err: &mut Errors<E>,
 ) -> u8
-    ensures { (words : List Text) → Asks words job.entry → IsOutcome (IsDone (hosted H.hosting H.Lines.echo host.old host.new))
-        (IsGivenUp (hosted H.hosting H.Lines.echo host.old host.new)) words (IsAppended W.contents out.old out.new) (IsTold E.contents err.old err.new) result }
+    ensures { (words : List Text) → Asks words job.entry → IsOutcomeOfJob (hosted H.hosting H.Lines.echo host.old host.new) words
+        (IsAppended W.contents out.old out.new) (IsTold E.contents err.old err.new) result }
 {
     match perform(alloc, job, host, out, err) {
         Ok(ending) => ending.status(),
@@ -149,7 +148,7 @@ fn answer<H: Host, W: Write, E: Write>(
     out: &mut W,
     err: &mut Errors<E>,
 ) -> u8
-    ensures { IsOutcome (IsDone (hosted H.hosting H.Lines.echo host.old host.new)) (IsGivenUp (hosted H.hosting H.Lines.echo host.old host.new)) (texts_of words.now)
+    ensures { IsOutcomeOfJob (hosted H.hosting H.Lines.echo host.old host.new) (texts_of words.now)
         (IsAppended W.contents out.old out.new) (IsTold E.contents err.old err.new) result }
 {
     match job_of(alloc, words) {
@@ -169,7 +168,7 @@ fn explain_inputs<H: Host, W: Write, E: Write>(
     out: &mut W,
     err: &mut Errors<E>,
 ) -> u8
-    ensures { IsOutcome (IsAccounted (hosted H.hosting H.Lines.echo host.now host.now)) (IsUnaccounted (hosted H.hosting H.Lines.echo host.now host.now)) (texts_of words.now)
+    ensures { IsOutcomeOfAccount (hosted H.hosting H.Lines.echo host.now host.now) (texts_of words.now)
         (IsAppended W.contents out.old out.new) (IsTold E.contents err.old err.new) result }
 {
     match job_of(alloc, words) {

@@ -4,6 +4,7 @@
 mod accounting;
 mod acting;
 mod explained;
+mod hinting;
 mod telling;
 
 pub use crate::acting::act;

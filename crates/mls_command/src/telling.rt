@@ -2,8 +2,9 @@
 ghost use Rattle.std.specs.Prelude.{◌≡◌, ◌++◌, IfOk, OnOk};
 ghost use Rattle.mls_host.specs.Reason.{reason_text};
 ghost use Rattle.mls_words.specs.Words.{named};
-ghost use Rattle.mls_command.specs.Telling.{advice, place_of, role_of, transactions_of, certificates_of, script_of, policy_of, schemes_of, path_of, source_of, IsLineOf, AreLines, IsToldOf};
+ghost use Rattle.mls_command.specs.Telling.{advice, place_of, role_of, transactions_of, certificates_of, script_of, policy_of, schemes_of, path_of, source_of, shown, IsShown, AreLinesAt, AreLines, IsToldOf};
 
+use crate::hinting::hint_of;
 use mls_host::{Host, Reason, Role};
 use mls_pointing::{advice_of, excerpt, file_line};
 use mls_words::{Job, Task};
@@ -157,36 +158,66 @@ fn source_of<'a>(job: Job<'a>, reason: &Reason) -> Option<&'a str>
     }
 }
 
-/// A line of a file; its name alone, where the host no longer gives it.
-fn line_of<H: Host>(
+/// The place in a file, or its name where no place is told.
+fn shown(
+    alloc: Global,
+    path: &str,
+    place: Option<Place>,
+    bytes: &[u8],
+) -> Result<Vec<u8>, AllocError>
+    ensures { IfOk result (λ v. v.items ≡ shown path.now place bytes.now) }
+{
+    match place {
+        None => file_line(alloc, path),
+        Some(place) => excerpt(alloc, path, place.line, place.column, bytes),
+    }
+}
+
+/// The place, and what is told beside it.
+fn shown_with_hint<H: Host>(
     alloc: Global,
     host: &H,
+    job: Job,
+    reason: &Reason,
     path: &str,
-    place: Place,
+    bytes: &[u8],
 ) -> Result<Vec<u8>, AllocError>
-    ensures { IfOk result (λ v. IsLineOf (H.hosting host.now) path.now place v.items) }
+    ensures { IfOk result (λ v. IsShown (H.hosting host.now) job.entry reason.now path.now bytes.now v.items) }
+{
+    let hint = hint_of(alloc, host, job, reason, bytes)?;
+    let mut text = shown(alloc, path, place_of(reason), bytes)?;
+    text.extend_from_slice(&hint)?;
+    Ok(text)
+}
+
+/// What is told of a file; its name alone, where the host no longer gives it.
+fn lines_at<H: Host>(
+    alloc: Global,
+    host: &H,
+    job: Job,
+    reason: &Reason,
+    path: &str,
+) -> Result<Vec<u8>, AllocError>
+    ensures { IfOk result (λ v. AreLinesAt (H.hosting host.now) job.entry reason.now path.now v.items) }
 {
     match host.file(alloc, path) {
-        Ok(bytes) => excerpt(alloc, path, place.line, place.column, &bytes),
+        Ok(bytes) => shown_with_hint(alloc, host, job, reason, path, &bytes),
         Err(_) => file_line(alloc, path),
     }
 }
 
-/// The line of a place, or the name of the file.
+/// What is told of the file that is refused, if one is.
 fn lines_of<H: Host>(
     alloc: Global,
     host: &H,
-    path: Option<&str>,
-    place: Option<Place>,
+    job: Job,
+    reason: &Reason,
 ) -> Result<Vec<u8>, AllocError>
-    ensures { IfOk result (λ v. AreLines (H.hosting host.now) (named path.entry) place v.items) }
+    ensures { IfOk result (λ v. AreLines (H.hosting host.now) job.entry reason.now (source_of job.entry reason.now) v.items) }
 {
-    match path {
+    match source_of(job, reason) {
         None => Ok(Vec::new(alloc)),
-        Some(path) => match place {
-            None => file_line(alloc, path),
-            Some(place) => line_of(alloc, host, path, place),
-        },
+        Some(path) => lines_at(alloc, host, job, reason, path),
     }
 }
 
@@ -208,7 +239,7 @@ pub(crate) fn told_of<H: Host>(
 ) -> Result<Vec<u8>, AllocError>
     ensures { IfOk result (λ v. IsToldOf (H.hosting host.now) job.entry reason.now v.items) }
 {
-    let lines = lines_of(alloc, host, source_of(job, reason), place_of(reason))?;
+    let lines = lines_of(alloc, host, job, reason)?;
     let mut text = Vec::new(alloc);
     push_reason(&mut text, reason)?;
     text.extend_from_slice(&lines)?;

@@ -16,4 +16,3 @@ pub mod SortedLemmas
 pub mod WrittenLemmas
 pub mod OneContentLemmas
 pub mod AgainLemmas
-pub mod MemoryLemmas

@@ -7,4 +7,3 @@ pub mod Migrating
 pub mod Opening
 pub mod OneContent
 pub mod Again
-pub mod MemoryFile

@@ -33,8 +33,8 @@ fn is_settled<S: Alter>(conn: &Connection<S>) -> bool
     conn.is_autocommit()
 }
 
-/// A connection to the store in files, which is made where the database file is empty.
-pub(crate) fn connected<D: Disk + Drop>(
+/// A connection to the store in files, which is made where the database file is empty. Files that may not be used are given back.
+pub fn connected<D: Disk + Drop>(
     alloc: Global,
     files: Files<D>,
     options: Options,

@@ -7,8 +7,6 @@ mod comparing;
 mod entity;
 mod finding;
 mod laws;
-mod memory_base;
-mod memory_file;
 mod migrating;
 mod noted;
 mod open_fault;
@@ -17,10 +15,10 @@ mod reading;
 mod recalled;
 mod writing;
 
+pub use again::connected;
 pub use base::SqlBase;
 pub use laws::{
     files_keep_one_content, given_back_is_taken, kept_is_taken, rows_hold_one_content,
     sound_is_taken_as_it_was,
 };
-pub use memory_base::MemoryBase;
 pub use open_fault::OpenFault;

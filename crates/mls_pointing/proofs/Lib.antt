@@ -1,1 +1,3 @@
 pub mod PlaceLemmas
+pub mod NearestLemmas
+pub mod NamesLemmas

@@ -32,7 +32,8 @@ pub(crate) fn inner_len(bytes: &[u8]) -> usize
     bytes.iter().take_while(|byte| is_inner(**byte)).count()
 }
 
-fn name_len(bytes: &[u8]) -> usize
+/// How many letters, digits and `_` stand at the beginning.
+pub(crate) fn name_len(bytes: &[u8]) -> usize
     ensures run { result ≡ prefix_len is_name_byte bytes.now }
     ensures within { result ≤ length bytes.now }
 {
@@ -55,7 +56,7 @@ pub(crate) fn behind(bytes: &[u8], count: usize) -> &[u8]
 
 /// Appends the first 40 bytes of a text, and the whole of the character in which they end.
 #[tactic(auto, unfolding(crate::specs::Standing::cut_off))]
-pub(crate) fn push_cut_off(text: &mut Vec<u8>, bytes: &[u8]) -> Result<(), AllocError>
+pub fn push_cut_off(text: &mut Vec<u8>, bytes: &[u8]) -> Result<(), AllocError>
     ensures { OnOk result (text.new.items ≡ text.old.items ++ cut_off bytes.now) }
 {
     let back = behind(bytes, 40);
@@ -65,7 +66,7 @@ pub(crate) fn push_cut_off(text: &mut Vec<u8>, bytes: &[u8]) -> Result<(), Alloc
 
 /// The letters, digits and `_` at the beginning, or the first character.
 #[tactic(auto, unfolding(crate::specs::Standing::token_of))]
-fn token_of(bytes: &[u8]) -> &[u8]
+pub(crate) fn token_of(bytes: &[u8]) -> &[u8]
     ensures { result.now ≡ token_of bytes.now }
 {
     let run = name_len(bytes);

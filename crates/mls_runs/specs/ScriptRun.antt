@@ -1,6 +1,7 @@
 -- A script that is run, over a store or over nothing.
 use Rattle.std.specs.Prelude.{ℕ, List, Option, Result}
 use Rattle.mls_lattice.specs.Policy.{Tables}
+use Rattle.mls_scheme.specs.Scheme.{Schemes}
 use Rattle.mls_scheme.specs.declared.file.SchemesFile.{SchemesFile}
 use Rattle.mls_script.specs.declared.event.Event.{Event}
 use Rattle.mls_machine.specs.declared.stored.Stored.{Stored}
@@ -32,10 +33,18 @@ module _ (h : Hosted) where
     pub events_are : IsScriptFrom h.before.gives (named files.script) policy file.schemes events
     pub run : IsRunFrom file (named files.store) (site_of policy file.schemes stored) (audience_of reader files) events Wrote end
 
--- A run is not begun: what it stores is refused; or that is read, and its script is refused; or both are read, and its store is barred.
+-- The inputs of a run are refused: what it stores; or that is read, and its script.
+pub data AreRunInputsRefused (h : Hosting) (policy : Tables) (schemes : Schemes) (files : RunFiles) (reason : Reason) : Type 0 where
+  no_files : AreFilesRefused h (named files.transactions) (named files.certificates) policy schemes reason
+      → AreRunInputsRefused h policy schemes files reason
+  no_script : (stored : List Stored)
+      → AreStoredFrom h.gives (named files.transactions) (named files.certificates) policy schemes stored
+      → IsScriptRefused h (named files.script) policy schemes reason → AreRunInputsRefused h policy schemes files reason
+
+-- A run is not begun: its inputs are refused; or they are read, and its store is barred.
 pub data IsRunRefused (h : Hosting) (policy : Tables) (file : SchemesFile) (files : RunFiles) (reason : Reason) : Type 0 where
-  no_files : AreFilesRefused h (named files.transactions) (named files.certificates) policy file.schemes reason → IsRunRefused h policy file files reason
-  no_script : (stored : List Stored) → AreStoredFrom h.gives (named files.transactions) (named files.certificates) policy file.schemes stored
-      → IsScriptRefused h (named files.script) policy file.schemes reason → IsRunRefused h policy file files reason
-  no_store : (stored : List Stored) (events : List Event) → AreStoredFrom h.gives (named files.transactions) (named files.certificates) policy file.schemes stored
-      → IsScriptFrom h.gives (named files.script) policy file.schemes events → IsBarred h policy file (named files.store) reason → IsRunRefused h policy file files reason
+  no_inputs : AreRunInputsRefused h policy file.schemes files reason → IsRunRefused h policy file files reason
+  no_store : (stored : List Stored) (events : List Event)
+      → AreStoredFrom h.gives (named files.transactions) (named files.certificates) policy file.schemes stored
+      → IsScriptFrom h.gives (named files.script) policy file.schemes events → IsBarred h policy file (named files.store) reason
+      → IsRunRefused h policy file files reason

@@ -16,10 +16,11 @@ ghost use Rattle.mls_host.specs.Running.{site_of, IsRun};
 ghost use Rattle.mls_runs.specs.ScriptRun.{IsRunFrom, IsScriptRun, IsRunRefused};
 
 use mls_filterview::Base;
-use mls_fragments::{MemoryBase, OpenFault};
+use mls_fragments::OpenFault;
 use mls_host::{Host, Reason, Refusal, Role, ended, form_of, input_of, read_script, stored_files};
 use mls_lattice::{Items, LabelNo, Policy};
 use mls_machine::Audience;
+use mls_memory::MemoryBase;
 use mls_scheme::{Schemes, SchemesFile};
 use mls_script::Event;
 use mls_sessions::{Engine, RunFault, Stored, run_to};

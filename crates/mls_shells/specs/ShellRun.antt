@@ -2,6 +2,7 @@
 use Rattle.std.specs.Prelude.{◌≡◌, ℕ, Bool, false, List, Option, Some, None, IfSome, Result}
 use Rattle.mls_lattice.specs.Name.{is_name}
 use Rattle.mls_lattice.specs.Policy.{Tables}
+use Rattle.mls_scheme.specs.Scheme.{Schemes}
 use Rattle.mls_scheme.specs.declared.file.SchemesFile.{SchemesFile}
 use Rattle.mls_machine.specs.declared.stored.Stored.{Stored}
 use Rattle.mls_machine.specs.Site.{Site}
@@ -39,11 +40,16 @@ module _ (h : Hosted) where
     pub given : IfSome before (h.before.gives None)
     pub shell : IsShellFrom file (named files.store) (site_of policy file.schemes stored) (seat_of files level has_prompt) before after Wrote Told end
 
--- A shell is not begun: it has no level; what stands for its user is no name; what it stores is refused; or that is read, and its store is
--- barred; or memory.
+-- The inputs of a shell are refused: it has no level; what stands for its user is no name; what it stores; or memory.
+pub data AreShellInputsRefused (h : Hosting) (policy : Tables) (schemes : Schemes) (reader : Option ℕ) (files : ShellFiles) (reason : Reason) : Type 0 where
+  no_level : reader ≡ None → reason ≡ Label → AreShellInputsRefused h policy schemes reader files reason
+  no_user : is_name files.user.now ≡ false → reason ≡ User → AreShellInputsRefused h policy schemes reader files reason
+  no_files : AreFilesRefused h (named files.transactions) (named files.certificates) policy schemes reason
+      → AreShellInputsRefused h policy schemes reader files reason
+
+-- A shell is not begun: its inputs are refused; or they are read, and its store is barred.
 pub data IsShellRefused (h : Hosting) (policy : Tables) (file : SchemesFile) (reader : Option ℕ) (files : ShellFiles) (reason : Reason) : Type 0 where
-  no_level : reader ≡ None → reason ≡ Label → IsShellRefused h policy file reader files reason
-  no_user : is_name files.user.now ≡ false → reason ≡ User → IsShellRefused h policy file reader files reason
-  no_files : AreFilesRefused h (named files.transactions) (named files.certificates) policy file.schemes reason → IsShellRefused h policy file reader files reason
-  no_store : (stored : List Stored) → AreStoredFrom h.gives (named files.transactions) (named files.certificates) policy file.schemes stored
+  no_inputs : AreShellInputsRefused h policy file.schemes reader files reason → IsShellRefused h policy file reader files reason
+  no_store : (stored : List Stored)
+      → AreStoredFrom h.gives (named files.transactions) (named files.certificates) policy file.schemes stored
       → IsBarred h policy file (named files.store) reason → IsShellRefused h policy file reader files reason

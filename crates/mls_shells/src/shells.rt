@@ -16,9 +16,10 @@ ghost use Rattle.mls_shells.specs.ShellRun.{seat_of, IsShellFrom, IsShellRun, Is
 use crate::reading::opening;
 use crate::seat::Seat;
 use crate::shell::shell_on;
-use mls_fragments::{MemoryBase, OpenFault};
+use mls_fragments::OpenFault;
 use mls_host::{Ending, Errors, Host, Reason, Refusal, ended, stored_files};
 use mls_lattice::{Items, LabelNo, Policy, Str, is_name};
+use mls_memory::MemoryBase;
 use mls_scheme::SchemesFile;
 use mls_script::Event;
 use mls_sessions::Stored;

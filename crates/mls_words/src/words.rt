@@ -79,13 +79,16 @@ Status: 0 all hold; 1 one does not; 2 an input was refused; 3 writing or memory.
 const EXPLAIN_NOTES: &str = "\
 Prints each transaction with a number in front of each statement, and its least labels by name, as certify finds them; where it has
 none, the statement and the rule that even the least labels break, and why. Without TRANSACTIONS it prints the labels, each with those
-next below it, the users and their rights, and the attributes with their intervals.
+next below it, the users and their rights, and the attributes with their intervals. Before the words of another command it reads what
+that command reads, runs nothing, and says why an input is refused: where, what stands there, and what to do.
 
-Example:
+Examples:
   mldb explain samples/policy.toml samples/schemes.toml samples/transactions.txt Count
   mldb explain samples/policy.toml samples/schemes.toml
+  mldb explain run samples/policy.toml samples/schemes.toml samples/first.script
 
-Status: 0 all have labels; 1 one has none; 2 an input or the name was refused; 3 writing or memory.
+Status: 0 all have labels, or all inputs are accepted; 1 one has none, or an explained input is refused; 2 an input or the name was
+refused; 3 writing or memory.
 ";
 
 const POLICY: &str = "The policy: levels, labels, users and rights (TOML)";
@@ -367,7 +370,8 @@ fn explain_command<'a>(alloc: Global) -> Result<Command<'a>, AllocError>
     ensures app { IfOk result (λ c. app_of c ≡ explain) }
     ensures local { IfOk result (λ c. (fields_of c).has_globals ≡ false) }
 {
-    let about = "Says what a policy and schemes are, or why a transaction has its labels or none";
+    let about =
+        "Says what a policy and schemes are, why a transaction has its labels or none, or why an input is refused";
     let explain = with_documents(alloc, bare(alloc, "explain", about, EXPLAIN_NOTES))?;
     let explain = with_last_place(alloc, explain, "TRANSACTIONS", TRANSACTIONS)?;
     with_last_place(alloc, explain, "NAME", NAME)

@@ -1,5 +1,5 @@
 use Rattle.std.proofs.Common.{refl, sym, ◌∙◌}
-use Rattle.mls_shells.specs.ShellRun.{IsShellRefused, no_level, no_user, no_files}
+use Rattle.mls_shells.specs.ShellRun.{AreShellInputsRefused, no_level, no_user, no_files}
 use Rattle.mls_host.proofs.CauseLemmas.{same_reason}
 use Rattle.mls_command.proofs.accounting.accept_shell.Goals as goal
 
@@ -11,4 +11,4 @@ returns-then-not-is_name-clause-refused g c = no_user (sym c.is_name.ensures ∙
 
 pub returns-in_err-_stored-clause-refused : goal.returns-in_err-_stored-clause-refused
 returns-in_err-_stored-clause-refused g c =
-    same_reason (IsShellRefused (g.H.Host.hosting c.args.host.now) c.args.policy.now c.args.file.now c.args.reader c.args.files) c.from_residual.result c.in_err-_stored.field-0.0 c.from_residual.ensures.1 (no_files c.in_err-_stored.ensures.refused)
+    same_reason (AreShellInputsRefused (g.H.Host.hosting c.args.host.now) c.args.policy.now c.args.file.now.schemes c.args.reader c.args.files) c.from_residual.result c.in_err-_stored.field-0.0 c.from_residual.ensures.1 (no_files c.in_err-_stored.ensures.refused)

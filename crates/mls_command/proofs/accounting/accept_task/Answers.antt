@@ -1,8 +1,6 @@
 use Rattle.std.proofs.Common.{sym, subst, IfErr, OnOk, string_bytes}
-use Rattle.mls_host.specs.Hosting.{hosted}
 use Rattle.mls_host.proofs.CauseLemmas.{same_reason}
-use Rattle.mls_command.specs.Acting.{IsTaskRefused}
-use Rattle.mls_command.specs.Accounting.{IsTaskAccepted}
+use Rattle.mls_command.specs.Accounting.{AreInputsRefused, IsTaskAccepted}
 use Rattle.mls_command.proofs.accounting.accept_task.Goals as goal
 
 pub returns-in-Run-clause-accepted : goal.returns-in-Run-clause-accepted
@@ -11,7 +9,7 @@ returns-in-Run-clause-accepted g c =
 
 pub returns-in-Run-clause-refused : goal.returns-in-Run-clause-refused
 returns-in-Run-clause-refused g c =
-    subst (λ task. IfErr c.accept_run.result (IsTaskRefused (hosted g.H.Host.hosting g.H.Lines.TypedLines.echo c.args.host.now c.args.host.now) c.args.policy.now c.args.file.now c.args.reader task)) (sym c.in-Run.is) c.accept_run.ensures.refused
+    subst (λ task. IfErr c.accept_run.result (AreInputsRefused (g.H.Host.hosting c.args.host.now) c.args.policy.now c.args.file.now.schemes c.args.reader task)) (sym c.in-Run.is) c.accept_run.ensures.refused
 
 pub returns-in-Shell-clause-accepted : goal.returns-in-Shell-clause-accepted
 returns-in-Shell-clause-accepted g c =
@@ -19,7 +17,7 @@ returns-in-Shell-clause-accepted g c =
 
 pub returns-in-Shell-clause-refused : goal.returns-in-Shell-clause-refused
 returns-in-Shell-clause-refused g c =
-    subst (λ task. IfErr c.accept_shell.result (IsTaskRefused (hosted g.H.Host.hosting g.H.Lines.TypedLines.echo c.args.host.now c.args.host.now) c.args.policy.now c.args.file.now c.args.reader task)) (sym c.in-Shell.is) c.accept_shell.ensures.refused
+    subst (λ task. IfErr c.accept_shell.result (AreInputsRefused (g.H.Host.hosting c.args.host.now) c.args.policy.now c.args.file.now.schemes c.args.reader task)) (sym c.in-Shell.is) c.accept_shell.ensures.refused
 
 pub returns-in-Certify-clause-accepted : goal.returns-in-Certify-clause-accepted
 returns-in-Certify-clause-accepted g c =
@@ -27,7 +25,7 @@ returns-in-Certify-clause-accepted g c =
 
 pub returns-in-Certify-clause-refused : goal.returns-in-Certify-clause-refused
 returns-in-Certify-clause-refused g c =
-    subst (λ task. IfErr c.accept_certify.result (IsTaskRefused (hosted g.H.Host.hosting g.H.Lines.TypedLines.echo c.args.host.now c.args.host.now) c.args.policy.now c.args.file.now c.args.reader task)) (sym c.in-Certify.is) c.accept_certify.ensures.refused
+    subst (λ task. IfErr c.accept_certify.result (AreInputsRefused (g.H.Host.hosting c.args.host.now) c.args.policy.now c.args.file.now.schemes c.args.reader task)) (sym c.in-Certify.is) c.accept_certify.ensures.refused
 
 pub returns-in-Check-clause-accepted : goal.returns-in-Check-clause-accepted
 returns-in-Check-clause-accepted g c =
@@ -35,12 +33,12 @@ returns-in-Check-clause-accepted g c =
 
 pub returns-in-Check-clause-refused : goal.returns-in-Check-clause-refused
 returns-in-Check-clause-refused g c =
-    subst (λ task. IfErr c.accept_check.result (IsTaskRefused (hosted g.H.Host.hosting g.H.Lines.TypedLines.echo c.args.host.now c.args.host.now) c.args.policy.now c.args.file.now c.args.reader task)) (sym c.in-Check.is) c.accept_check.ensures.refused
+    subst (λ task. IfErr c.accept_check.result (AreInputsRefused (g.H.Host.hosting c.args.host.now) c.args.policy.now c.args.file.now.schemes c.args.reader task)) (sym c.in-Check.is) c.accept_check.ensures.refused
 
 pub returns-in_err-explained-in-Explain-clause-refused : goal.returns-in_err-explained-in-Explain-clause-refused
 returns-in_err-explained-in-Explain-clause-refused g c =
-    same_reason (IsTaskRefused (hosted g.H.Host.hosting g.H.Lines.TypedLines.echo c.args.host.now c.args.host.now) c.args.policy.now c.args.file.now c.args.reader c.args.task) c.from_residual.result c.in_err-explained-in-Explain.field-0.0 c.from_residual.ensures.1
-    (subst (λ task. IsTaskRefused (hosted g.H.Host.hosting g.H.Lines.TypedLines.echo c.args.host.now c.args.host.now) c.args.policy.now c.args.file.now c.args.reader task c.in_err-explained-in-Explain.field-0.0) (sym c.in-Explain.is) c.in_err-explained-in-Explain.ensures.refused)
+    same_reason (AreInputsRefused (g.H.Host.hosting c.args.host.now) c.args.policy.now c.args.file.now.schemes c.args.reader c.args.task) c.from_residual.result c.in_err-explained-in-Explain.field-0.0 c.from_residual.ensures.1
+    (subst (λ task. AreInputsRefused (g.H.Host.hosting c.args.host.now) c.args.policy.now c.args.file.now.schemes c.args.reader task c.in_err-explained-in-Explain.field-0.0) (sym c.in-Explain.is) c.in_err-explained-in-Explain.ensures.refused)
 
 pub returns-in_ok-explained-in-Explain-clause-accepted : goal.returns-in_ok-explained-in-Explain-clause-accepted
 returns-in_ok-explained-in-Explain-clause-accepted g c =

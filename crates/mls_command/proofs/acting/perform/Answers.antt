@@ -1,5 +1,4 @@
 -- perform
-use Rattle.std.proofs.Common.{rules}
 use Rattle.std.proofs.KnownBytes.{Appends-nil}
 use Rattle.mls_host.specs.Hosting.{hosted, IsAppended, IsTold}
 use Rattle.mls_host.proofs.HostingLemmas.{told_nothing}

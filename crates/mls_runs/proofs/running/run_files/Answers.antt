@@ -6,7 +6,7 @@ use Rattle.mls_words.specs.Words.{named}
 use Rattle.mls_host.specs.Causes.{IsBarred}
 use Rattle.mls_host.specs.Refusal.{IsEnd}
 use Rattle.mls_host.specs.Running.{site_of}
-use Rattle.mls_runs.specs.ScriptRun.{IsRunFrom, IsScriptRun, no_files, no_script}
+use Rattle.mls_runs.specs.ScriptRun.{IsRunFrom, IsScriptRun, no_files, no_script, no_inputs}
 use Rattle.mls_runs.proofs.ScriptRunLemmas.{NotBegun, script_run, run_done, run_stopped}
 use Rattle.mls_host.proofs.RunningLemmas.{given_up_before}
 use Rattle.mls_runs.proofs.running.run_files.Goals as goal
@@ -16,14 +16,14 @@ returns-in_err-stored-clause-given_up g c =
     let h = hosted g.H.Host.hosting g.H.Lines.TypedLines.echo c.args.host.now c.args.host.now in
     let wrote = IsAppended g.W.Write.contents c.args.out.now c.args.out.now in
     given_up_before (λ e. IsEnd (IsScriptRun h c.args.policy.now c.args.file.now c.args.reader c.args.files wrote) (NotBegun h c.args.policy.now c.args.file.now c.args.reader wrote c.args.files) (Err e))
-    c.from_residual.result c.in_err-stored.field-0.0 c.from_residual.ensures.1 (no_files c.in_err-stored.ensures.refused, Appends-nil _)
+    c.from_residual.result c.in_err-stored.field-0.0 c.from_residual.ensures.1 (no_inputs (no_files c.in_err-stored.ensures.refused), Appends-nil _)
 
 pub returns-in_err-events-clause-given_up : goal.returns-in_err-events-clause-given_up
 returns-in_err-events-clause-given_up g c =
     let h = hosted g.H.Host.hosting g.H.Lines.TypedLines.echo c.args.host.now c.args.host.now in
     let wrote = IsAppended g.W.Write.contents c.args.out.now c.args.out.now in
     given_up_before (λ e. IsEnd (IsScriptRun h c.args.policy.now c.args.file.now c.args.reader c.args.files wrote) (NotBegun h c.args.policy.now c.args.file.now c.args.reader wrote c.args.files) (Err e))
-    c.from_residual-in_err-events.result c.in_err-events.field-0.0 c.from_residual-in_err-events.ensures.1 (no_script c.in_ok-stored.stored c.in_ok-stored.ensures.from c.in_err-events.ensures.refused, Appends-nil _)
+    c.from_residual-in_err-events.result c.in_err-events.field-0.0 c.from_residual-in_err-events.ensures.1 (no_inputs (no_script c.in_ok-stored.stored c.in_ok-stored.ensures.from c.in_err-events.ensures.refused), Appends-nil _)
 
 pub returns-clause-done : goal.returns-clause-done
 returns-clause-done g c =

@@ -5,7 +5,7 @@ use Rattle.mls_host.specs.Running.{site_of}
 use Rattle.mls_words.specs.Words.{named}
 use Rattle.mls_host.specs.Causes.{IsBarred, no_memory}
 use Rattle.mls_host.specs.Refusal.{IsEnd}
-use Rattle.mls_shells.specs.ShellRun.{IsShellFrom, IsShellRun, IsShellRefused, no_level, no_user, no_files}
+use Rattle.mls_shells.specs.ShellRun.{IsShellFrom, IsShellRun, IsShellRefused, no_level, no_user, no_files, no_inputs}
 use Rattle.mls_host.specs.Hosting.{hosted, IsAppended, IsTold}
 use Rattle.mls_host.proofs.HostingLemmas.{told_nothing}
 use Rattle.mls_host.proofs.RunningLemmas.{given_up_before}
@@ -13,31 +13,31 @@ use Rattle.mls_shells.proofs.ShellEndLemmas.{shell_done, shell_given_up}
 use Rattle.mls_shells.proofs.shells.shell_files.Goals as goal
 
 pub returns-in-None-clause-given_up : goal.returns-in-None-clause-given_up
-returns-in-None-clause-given_up g c = (no_level c.in-None.is refl, Appends-nil _, told_nothing g.E.Write.contents c.args.err.now)
+returns-in-None-clause-given_up g c = (no_inputs (no_level c.in-None.is refl), Appends-nil _, told_nothing g.E.Write.contents c.args.err.now)
 
 pub returns-then-not-is_name-clause-given_up : goal.returns-then-not-is_name-clause-given_up
-returns-then-not-is_name-clause-given_up g c = (no_user (sym c.is_name.ensures ∙ c.if-not-is_name.true) refl, Appends-nil _, told_nothing g.E.Write.contents c.args.err.now)
+returns-then-not-is_name-clause-given_up g c = (no_inputs (no_user (sym c.is_name.ensures ∙ c.if-not-is_name.true) refl), Appends-nil _, told_nothing g.E.Write.contents c.args.err.now)
 
 pub returns-in_err-seat-clause-given_up : goal.returns-in_err-seat-clause-given_up
 returns-in_err-seat-clause-given_up g c =
     given_up_before (λ e. IsEnd (IsShellRun (hosted g.H.Host.hosting g.H.Lines.TypedLines.echo c.args.host.now c.args.host.now) c.args.policy.now c.args.file.now c.args.reader c.args.files
     (IsAppended g.W.Write.contents c.args.out.now c.args.out.now) (IsTold g.E.Write.contents c.args.err.now c.args.err.now))
     (λ reason. IsShellRefused (g.H.Host.hosting c.args.host.now) c.args.policy.now c.args.file.now c.args.reader c.args.files reason × IsAppended g.W.Write.contents c.args.out.now c.args.out.now [] × IsTold g.E.Write.contents c.args.err.now c.args.err.now []) (Err e))
-    c.from_residual.result Memory c.from_residual.ensures.1 (no_files (no_memory refl), Appends-nil _, told_nothing g.E.Write.contents c.args.err.now)
+    c.from_residual.result Memory c.from_residual.ensures.1 (no_inputs (no_files (no_memory refl)), Appends-nil _, told_nothing g.E.Write.contents c.args.err.now)
 
 pub returns-in_err-first-clause-given_up : goal.returns-in_err-first-clause-given_up
 returns-in_err-first-clause-given_up g c =
     given_up_before (λ e. IsEnd (IsShellRun (hosted g.H.Host.hosting g.H.Lines.TypedLines.echo c.args.host.now c.args.host.now) c.args.policy.now c.args.file.now c.args.reader c.args.files
     (IsAppended g.W.Write.contents c.args.out.now c.args.out.now) (IsTold g.E.Write.contents c.args.err.now c.args.err.now))
     (λ reason. IsShellRefused (g.H.Host.hosting c.args.host.now) c.args.policy.now c.args.file.now c.args.reader c.args.files reason × IsAppended g.W.Write.contents c.args.out.now c.args.out.now [] × IsTold g.E.Write.contents c.args.err.now c.args.err.now []) (Err e))
-    c.from_residual-in_err-first.result Memory c.from_residual-in_err-first.ensures.1 (no_files (no_memory refl), Appends-nil _, told_nothing g.E.Write.contents c.args.err.now)
+    c.from_residual-in_err-first.result Memory c.from_residual-in_err-first.ensures.1 (no_inputs (no_files (no_memory refl)), Appends-nil _, told_nothing g.E.Write.contents c.args.err.now)
 
 pub returns-in_err-stored-clause-given_up : goal.returns-in_err-stored-clause-given_up
 returns-in_err-stored-clause-given_up g c =
     given_up_before (λ e. IsEnd (IsShellRun (hosted g.H.Host.hosting g.H.Lines.TypedLines.echo c.args.host.now c.args.host.now) c.args.policy.now c.args.file.now c.args.reader c.args.files
     (IsAppended g.W.Write.contents c.args.out.now c.args.out.now) (IsTold g.E.Write.contents c.args.err.now c.args.err.now))
     (λ reason. IsShellRefused (g.H.Host.hosting c.args.host.now) c.args.policy.now c.args.file.now c.args.reader c.args.files reason × IsAppended g.W.Write.contents c.args.out.now c.args.out.now [] × IsTold g.E.Write.contents c.args.err.now c.args.err.now []) (Err e))
-    c.from_residual-in_err-stored.result c.in_err-stored.field-0.0 c.from_residual-in_err-stored.ensures.1 (no_files c.in_err-stored.ensures.refused, Appends-nil _, told_nothing g.E.Write.contents c.args.err.now)
+    c.from_residual-in_err-stored.result c.in_err-stored.field-0.0 c.from_residual-in_err-stored.ensures.1 (no_inputs (no_files c.in_err-stored.ensures.refused), Appends-nil _, told_nothing g.E.Write.contents c.args.err.now)
 
 pub returns-clause-done : goal.returns-clause-done
 returns-clause-done g c =

@@ -10,4 +10,4 @@ pub loop-source-preserved : goal.loop-source-preserved
 loop-source-preserved c =
     let ss = c.args.sources.now in
     let i = c.loop-source.source-index in
-    subst (λ l. Finds (begins c.args.self.now.roots.now) c.args.links.now l c.nearer-best.result) (sym (take_more ss i (Held (Variable 0 0)) c.loop-source-test.true)) (c.nearer-best.ensures (take i ss) c.loop-source.invariant)
+    subst (λ l. Finds (begins c.args.self.now) c.args.links.now l c.nearer-best.result) (sym (take_more ss i (Held (Variable 0 0)) c.loop-source-test.true)) (c.nearer-best.ensures (take i ss) c.loop-source.invariant)

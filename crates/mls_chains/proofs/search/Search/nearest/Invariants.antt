@@ -5,4 +5,4 @@ use Rattle.mls_chains.proofs.search.Search.nearest.Given as goal
 
 -- among the sources so far
 abbrev pub invariant-loop-source : goal.invariant-loop-source
-invariant-loop-source l = Finds (begins l.self.roots.now) l.links (take l.source-index l.sources) l.best
+invariant-loop-source l = Finds (begins l.self) l.links (take l.source-index l.sources) l.best

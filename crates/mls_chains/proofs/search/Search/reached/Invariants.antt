@@ -6,7 +6,7 @@ use Rattle.mls_chains.proofs.search.Search.reached.Given as goal
 
 abbrev pub invariant-loop-links : goal.invariant-loop-links
 invariant-loop-links l = record {
-  founded : AreFounded (begins l.self.roots.now) l.self.steps.now l.links;
+  founded : AreFounded (begins l.self) l.self.steps.now l.links;
   places : AllByRecursion (λ s. HasPlace l.links s.target) l.self.steps.now;
 }
 

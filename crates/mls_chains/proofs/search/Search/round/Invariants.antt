@@ -5,4 +5,4 @@ use Rattle.mls_chains.proofs.search.Search.round.Given as goal
 
 -- along the steps so far
 abbrev pub invariant-loop-step : goal.invariant-loop-step
-invariant-loop-step l = Reaches (begins l.self.roots.now) l.self.steps.now l.initial.links l.links (take l.step-index l.step-items) l.changed
+invariant-loop-step l = Reaches (begins l.self) l.self.steps.now l.initial.links l.links (take l.step-index l.step-items) l.changed

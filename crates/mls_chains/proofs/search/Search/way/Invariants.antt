@@ -6,7 +6,7 @@ use Rattle.mls_chains.proofs.search.Search.way.Given as goal
 
 -- from where the walk is, over the slots behind it
 abbrev pub invariant-loop-source : goal.invariant-loop-source
-invariant-loop-source l = IsUnderway (begins l.self.roots.now) l.self.steps.now l.links l.fn.end l.source (reverse l.slots.items)
+invariant-loop-source l = IsUnderway (begins l.self) l.self.steps.now l.links l.fn.end l.source (reverse l.slots.items)
 
 abbrev pub decreases-loop-source : goal.decreases-loop-source
-decreases-loop-source l = unwrap_or (reach (begins l.self.roots.now) l.links l.source) 0
+decreases-loop-source l = unwrap_or (reach (begins l.self) l.links l.source) 0

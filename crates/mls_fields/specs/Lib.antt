@@ -1,0 +1,5 @@
+pub mod Table
+pub mod Field
+pub mod Walk
+pub mod Fault
+pub mod Telling

@@ -1,0 +1,55 @@
+-- What a row of a table of fields says.
+use Rattle.std.specs.Prelude.{ℕ, Bool, true, false, nat_eq, Option, Some, None}
+use Rattle.mls_fields.specs.declared.table.Thing.{Thing}
+use Rattle.mls_fields.specs.declared.table.Thing.TheVariants.{Level, Category, Label, User, Relation, Attribute, Mode, Kind}
+use Rattle.mls_fields.specs.declared.table.Role.{Role}
+use Rattle.mls_fields.specs.declared.table.Role.TheVariants.{Free, Name, New, Use, Word}
+use Rattle.mls_fields.specs.declared.table.Need.{Need}
+use Rattle.mls_fields.specs.declared.table.Need.TheVariants as need
+
+abbrev pub number_of : Thing → ℕ
+number_of Level = 0
+number_of Category = 1
+number_of Label = 2
+number_of User = 3
+number_of Relation = 4
+number_of Attribute = 5
+number_of Mode = 6
+number_of Kind = 7
+
+abbrev pub same_thing : Thing → Thing → Bool
+same_thing t u = nat_eq (number_of t) (number_of u)
+
+-- the text has to be a name
+abbrev pub wants_name : Role → Bool
+wants_name Free = false
+wants_name Name = true
+wants_name (New t) = true
+wants_name (Use t) = true
+wants_name (Word t) = false
+
+-- the things that a text newly names, and those of which it names one
+abbrev pub declared_by : Role → Option Thing
+declared_by Free = None
+declared_by Name = None
+declared_by (New t) = Some t
+declared_by (Use t) = None
+declared_by (Word t) = None
+
+abbrev pub used_by : Role → Option Thing
+used_by Free = None
+used_by Name = None
+used_by (New t) = None
+used_by (Use t) = Some t
+used_by (Word t) = Some t
+
+-- the field may be missing, or may be empty
+abbrev pub may_lack : Need → Bool
+may_lack need.Optional = true
+may_lack need.Wanted = false
+may_lack need.Some = false
+
+abbrev pub may_be_empty : Need → Bool
+may_be_empty need.Optional = true
+may_be_empty need.Wanted = true
+may_be_empty need.Some = false

@@ -1,0 +1,13 @@
+//! The fields of a policy and of schemes, by a table of them, and the first that is refused for a fault.
+#![tactic(auto)]
+
+mod fault;
+mod field;
+mod naming;
+mod table;
+mod telling;
+mod walk;
+
+pub use field::{Content, Field};
+pub use table::{Form, Need, Role, Row, Thing};
+pub use telling::{policy_field, schemes_field};

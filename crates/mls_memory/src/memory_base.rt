@@ -1,0 +1,181 @@
+//! A base over a store in memory.
+ghost use Rattle.std.specs.Prelude.{◌≡◌, false, length, IfOk, IfErr};
+ghost use Rattle.sqlite.specs.Files.{file_state};
+ghost use Rattle.mls_lattice.specs.Canon as lattice;
+ghost use Rattle.mls_lattice.specs.Version.{version_number, later};
+ghost use Rattle.mls_scheme.specs.Canon as scheme;
+ghost use Rattle.mls_scheme.specs.Scheme.{AreUnder};
+ghost use Rattle.mls_filterview.specs.Content.{no_content};
+ghost use Rattle.mls_statements.specs.Rows.{described};
+ghost use Rattle.mls_statements.specs.Schema.{no_schema};
+ghost use Rattle.mls_statements.specs.Store.{IsClean};
+ghost use Rattle.mls_fragments.specs.Based.{state_of};
+
+use crate::memory_file::MemoryFile;
+use mls_filterview::{Base, BaseFault, Cell, Fragment, Node};
+use mls_fragments::{OpenFault, SqlBase, connected};
+use mls_lattice::{Items, LabelNo, Policy};
+use mls_scheme::{Place, RelNo, SchemesFile, Value};
+use sqlite::{Connection, FileStore, Files, Options};
+use std::alloc::Global;
+use std::marker::Model;
+
+/// A base over a store in memory: over files that keep each write at once. It fails for want of memory alone.
+#[derive(Drop)]
+pub struct MemoryBase {
+    base: SqlBase<FileStore<MemoryFile>>,
+}
+
+impl Model for MemoryBase {
+    ghost use Rattle.mls_fragments.specs.Based.{BaseState};
+
+    ghost Value = { BaseState };
+
+    ghost view = { λ b. b.base };
+}
+
+/// A connection to a new store in memory.
+fn store_in_memory(alloc: Global) -> Result<Connection<FileStore<MemoryFile>>, OpenFault>
+    ensures new { IfOk result (λ c. (file_state c).now.schema ≡ no_schema) }
+    ensures idle { IfOk result (λ c. c.in_transaction ≡ false) }
+    ensures fault { IfErr result (λ e. e ≡ OpenFault.Memory) }
+{
+    let files = Files {
+        log: MemoryFile::new(alloc),
+        db: MemoryFile::new(alloc),
+    };
+    let mut options = Options::new(0);
+    // to keep a page spares one copy of it
+    options.cache_pages = 64;
+    match connected(alloc, files, options) {
+        Ok(conn) => Ok(conn),
+        Err(_) => Err(OpenFault::Memory),
+    }
+}
+
+impl MemoryBase {
+    /// An empty base, which policy and schemes describe. Nothing but want of memory refuses it.
+    pub fn open(alloc: Global, policy: &Policy, file: &SchemesFile) -> Result<MemoryBase, OpenFault>
+        requires under { AreUnder (length policy.now.labels) file.now.schemes }
+        ensures content { IfOk result (λ b. state_of b ≡ record { now = no_content; kept = no_content; begun = false }) }
+        ensures described { IfOk result (λ b. IsClean b.tables → b.tables.now ≡ described (version_number (later policy.now.version file.now.version)) (lattice.lattice_of policy.now) (scheme.canon_of policy.now file.now.version file.now.schemes)) }
+        ensures fault { IfErr result (λ e. e ≡ OpenFault.Memory) }
+    {
+        let conn = store_in_memory(alloc)?;
+        match SqlBase::adopt(alloc, conn, policy, file) {
+            Ok(base) => Ok(MemoryBase { base }),
+            Err(_) => Err(OpenFault::Memory),
+        }
+    }
+
+    /// Lets the store go, which has given back what was written to it.
+    pub fn close(self)
+        requires begun { (state_of self).begun ≡ false }
+        ensures clean { IsClean self.tables }
+    {
+        let MemoryBase { base } = self;
+        // for what it says of the disk
+        let _connection = base.into_connection();
+    }
+}
+
+#[tactic(auto, using(crate::proofs::MemoryLemmas::memory_call))]
+impl Base for MemoryBase {
+    ghost use Rattle.mls_statements.specs.Store.{IsClean};
+    ghost use Rattle.mls_fragments.specs.Based.{state_of, settled};
+
+    ghost state = { state_of };
+
+    ghost failures = { λ b. b.tables.failures };
+
+    ghost is_clean = { λ b. IsClean b.tables };
+
+    ghost settled = { λ b clean. settled b };
+
+    fn is_begun(&self) -> bool {
+        self.base.is_begun()
+    }
+
+    fn begin(&mut self) -> Result<(), BaseFault> {
+        match self.base.begin() {
+            Err(BaseFault::Store) => Err(BaseFault::Memory),
+            answer => answer,
+        }
+    }
+
+    fn commit(&mut self) -> Result<(), BaseFault> {
+        match self.base.commit() {
+            Err(BaseFault::Store) => Err(BaseFault::Memory),
+            answer => answer,
+        }
+    }
+
+    fn rollback(&mut self) -> Result<(), BaseFault> {
+        match self.base.rollback() {
+            Err(BaseFault::Store) => Err(BaseFault::Memory),
+            answer => answer,
+        }
+    }
+
+    fn fragment(&mut self, rel: RelNo, label: LabelNo) -> Result<Fragment, BaseFault> {
+        match self.base.fragment(rel, label) {
+            Err(BaseFault::Store) => Err(BaseFault::Memory),
+            answer => answer,
+        }
+    }
+
+    fn entity(&mut self, rel: RelNo, place: &Place) -> Result<Fragment, BaseFault> {
+        match self.base.entity(rel, place) {
+            Err(BaseFault::Store) => Err(BaseFault::Memory),
+            answer => answer,
+        }
+    }
+
+    fn pattern(&mut self, rel: RelNo, place: &Place) -> Result<Option<Items<LabelNo>>, BaseFault> {
+        match self.base.pattern(rel, place) {
+            Err(BaseFault::Store) => Err(BaseFault::Memory),
+            answer => answer,
+        }
+    }
+
+    fn add(&mut self, rel: RelNo, node: Node, cells: &[Cell]) -> Result<(), BaseFault> {
+        match self.base.add(rel, node, cells) {
+            Err(BaseFault::Store) => Err(BaseFault::Memory),
+            answer => answer,
+        }
+    }
+
+    fn set(
+        &mut self,
+        rel: RelNo,
+        place: &Place,
+        attr: usize,
+        value: Option<Value>,
+    ) -> Result<(), BaseFault> {
+        match self.base.set(rel, place, attr, value) {
+            Err(BaseFault::Store) => Err(BaseFault::Memory),
+            answer => answer,
+        }
+    }
+
+    fn drop_at(&mut self, rel: RelNo, place: &Place) -> Result<(), BaseFault> {
+        match self.base.drop_at(rel, place) {
+            Err(BaseFault::Store) => Err(BaseFault::Memory),
+            answer => answer,
+        }
+    }
+
+    fn audit_add(&mut self, bytes: &[u8]) -> Result<(), BaseFault> {
+        match self.base.audit_add(bytes) {
+            Err(BaseFault::Store) => Err(BaseFault::Memory),
+            answer => answer,
+        }
+    }
+
+    fn audit_all(&mut self) -> Result<Items<Items<u8>>, BaseFault> {
+        match self.base.audit_all() {
+            Err(BaseFault::Store) => Err(BaseFault::Memory),
+            answer => answer,
+        }
+    }
+}

@@ -22,11 +22,12 @@ use std::fs;
 use std::io::{self, Error, ErrorKind, Write};
 
 /// The scripts, in the order in which they are told.
-const FILES: [(&str, Trials); 6] = [
+const FILES: [(&str, Trials); 7] = [
     ("first.script", Trials::Each(What::Write)),
     ("audit.script", Trials::Calls),
     ("writes.script", Trials::Calls),
     ("again.script", Trials::Each(What::Fragments)),
+    ("recall.script", Trials::Each(What::Fragments)),
     ("calls.script", Trials::Calls),
     ("calls.script", Trials::Each(What::Piece)),
 ];

@@ -1,7 +1,6 @@
 -- What each way through a step does is the machine's step, and the engine keeps what it holds.
-use Rattle.std.proofs.Common.{◌≡◌, ℕ, Bool, true, false, cond, List, length, Option, Some, None, Result, Ok, Err, refl, sym, ap, ◌∙◌, subst, Vec, Global, arith, ◌≤◌}
+use Rattle.std.proofs.Common.{◌≡◌, ℕ, false, List, length, Option, Some, None, Result, Ok, Err, refl, sym, ap, ◌∙◌, subst, Vec, Global, arith}
 use Rattle.std.specs.Prelude.{IfOk, IfErr, OnErr}
-use Rattle.std.specs.List.{filter}
 use Rattle.mls_filterview.specs.declared.base.BaseFault.{BaseFault}
 use Rattle.mls_filterview.specs.declared.base.BaseFault.TheVariants as faults
 use Rattle.mls_filterview.specs.Calls.{IsServed}
@@ -31,9 +30,8 @@ use Rattle.mls_monitor.specs.Sessions.{sessions_of, AreForUsers}
 use Rattle.mls_sessions.specs.World.{world_at, IsSound}
 use Rattle.mls_monitor.specs.Sessions.{IsSessionStep}
 use Rattle.mls_sessions.specs.Turns.{IsTurn, IsStepOver}
-use Rattle.mls_sessions.specs.Views.{Kept, AreRows, AreDeclared, most_views, outlives, is_quiet, left_by}
-use Rattle.mls_sessions.proofs.KeptLemmas.{outlived_most, outlived_declared, outlived_rows}
-use Rattle.mls_sessions.proofs.UnseenLemmas.{unseen, quiet_db}
+use Rattle.mls_views.specs.Views.{Kept, AreViews}
+use Rattle.mls_views.proofs.WrittenLemmas.{kept_same}
 use Rattle.mls_sessions.specs.Engine.{site, world_of, IsReady, IsStep, IsKept, IsEngineTurn}
 
 -- ---- the machine's step
@@ -149,57 +147,15 @@ module _ {B : Type 0} (state : B → State) (is_clean : B → Type 0) (failures 
 
     -- views of the content that the event leaves
     abbrev Are : Kept → Type 0
-    Are es = AreRows (site_labels (site old)) (now b).db es
+    Are = AreViews (site old).policy is_clean state b
 
-    over_db : (r : Reply) → IsStepOver (site old) X (now old.base) (now b) r → (now b).db ≡ s.world.db
-    over_db r h = ap (λ (x : World). x.db) (over_world r h)
+    -- where it leaves the database
+    db_stays : (r : Result Reply BaseFault) → IsTurn is_clean failures now old.base b r → (is_clean b → Over r) → (X w).world.db ≡ w.db → is_clean b → (now b).db ≡ w.db
+    db_stays (Ok r) t h same c = ap (λ (x : World). x.db) (over_world r (h c)) ∙ ap (λ (x : Step). x.world.db) is ∙ same
+    db_stays (Err e) t h same c = ap (λ (x : Content). x.db) (t.fault.same c)
 
-    -- those of before, where the base fails
-    failed_are : (e : BaseFault) → IsTurn is_clean failures now {A = Reply} old.base b (Err e) → is_clean b → Are old.views
-    failed_are e t c = subst (λ (x : Content). AreRows (site_labels (site old)) x.db old.views) (sym (t.fault.same c)) (ready.views (t.clean c))
-
-    -- and where the step leaves content as it was
-    views_stay : (r : Result Reply BaseFault) → IsTurn is_clean failures now old.base b r → (is_clean b → Over r) → (X w).world.db ≡ w.db → is_clean b → Are old.views
-    views_stay (Ok r) t h same c = subst (λ db. AreRows (site_labels (site old)) db old.views) (sym (over_db r (h c) ∙ ap (λ (x : Step). x.world.db) is ∙ same)) (ready.views (t.clean c))
-    views_stay (Err e) t h same c = failed_are e t c
-
-    -- those that a step leaves
-    abbrev AreLeft : Result Reply BaseFault → Type 0
-    AreLeft r = IfOk r (λ x. views ≡ left_by (site_labels (site old)) event.level x old.views) × OnErr r (views ≡ old.views)
-
-    left_are : (r : Reply) (quiet : Bool) → is_quiet r ≡ quiet → IsStepOver (site old) X (now old.base) (now b) r → is_clean old.base
-        → Are (cond quiet old.views (filter (outlives (site_labels (site old)) event.level) old.views))
-    left_are r true q h c =
-        let reply : r ≡ s.reply = h.reply (sessions_of old.sessions.items) ∙ ap (λ (t : Step). t.reply) (sym is) in
-        subst (λ db. AreRows (site_labels (site old)) db old.views) (sym (over_db r h ∙ quiet_db (site old) w event (ap is_quiet (sym reply) ∙ q))) (ready.views c)
-    left_are r false q h c =
-        subst (λ db. AreRows (site_labels (site old)) db (filter (outlives (site_labels (site old)) event.level) old.views)) (sym (over_db r h))
-        (outlived_rows (site_labels (site old)) event.level w.db s.world.db
-        (unseen (site old) ready.distinct ready.read ready.certified w (λ rel. ((ready.sound c).content rel).stored) event) old.views (ready.views c))
-
-    views_left : (r : Result Reply BaseFault) → IsTurn is_clean failures now old.base b r → (is_clean b → Over r) → AreLeft r → is_clean b → Are views
-    views_left (Ok r) t h left c = subst Are (sym left.0) (left_are r (is_quiet r) refl (h c) (t.clean c))
-    views_left (Err e) t h left c = subst Are (sym left.1) (failed_are e t c)
-
-    declared_left : (quiet : Bool) → AreDeclared (length (site old).policy.labels) (cond quiet old.views (filter (outlives (site_labels (site old)) event.level) old.views))
-    declared_left true = ready.declared
-    declared_left false = outlived_declared (length (site old).policy.labels) (site_labels (site old)) event.level old.views ready.declared
-
-    left_declared : (r : Result Reply BaseFault) → AreLeft r → AreDeclared (length (site old).policy.labels) views
-    left_declared (Ok r) left = subst (AreDeclared (length (site old).policy.labels)) (sym left.0) (declared_left (is_quiet r))
-    left_declared (Err e) left = subst (AreDeclared (length (site old).policy.labels)) (sym left.1) ready.declared
-
-    most_left : (quiet : Bool) → length (cond quiet old.views (filter (outlives (site_labels (site old)) event.level) old.views)) ≤ most_views
-    most_left true = ready.most
-    most_left false = outlived_most (site_labels (site old)) event.level old.views ready.most
-
-    left_most : (r : Result Reply BaseFault) → AreLeft r → length views ≤ most_views
-    left_most (Ok r) left = subst (λ (es : Kept). length es ≤ most_views) (sym left.0) (most_left (is_quiet r))
-    left_most (Err e) left = subst (λ (es : Kept). length es ≤ most_views) (sym left.1) ready.most
-
-    pub answers_over : (r : Result Reply BaseFault) → IsTurn is_clean failures now old.base b r → (state b).begun ≡ false → (is_clean b → Over r)
-        → length views ≤ most_views → AreDeclared (length (site old).policy.labels) views → (is_clean b → Are views) → Answers new r
-    answers_over r t idle h most declared are = record {
+    pub answers_over : (r : Result Reply BaseFault) → IsTurn is_clean failures now old.base b r → (state b).begun ≡ false → (is_clean b → Over r) → Are views → Answers new r
+    answers_over r t idle h are = record {
       turn = over_turn r t;
       kept = record {
         rules = refl;
@@ -211,8 +167,6 @@ module _ {B : Type 0} (state : B → State) (is_clean : B → Type 0) (failures 
           users = ready.users;
           idle = idle;
           sound = λ c. over_sound r t c (h c);
-          most = most;
-          declared = declared;
           views = are;
         };
       };
@@ -221,10 +175,8 @@ module _ {B : Type 0} (state : B → State) (is_clean : B → Type 0) (failures 
 
     pub answers_stay : (r : Result Reply BaseFault) → IsTurn is_clean failures now old.base b r → (state b).begun ≡ false → (is_clean b → Over r) → (X w).world.db ≡ w.db → views ≡ old.views → Answers new r
     answers_stay r t idle h same kept =
-        answers_over r t idle h (subst (λ (es : Kept). length es ≤ most_views) (sym kept) ready.most) (subst (AreDeclared (length (site old).policy.labels)) (sym kept) ready.declared) (λ c. subst Are (sym kept) (views_stay r t h same c))
-
-    pub answers_left : (r : Result Reply BaseFault) → IsTurn is_clean failures now old.base b r → (state b).begun ≡ false → (is_clean b → Over r) → AreLeft r → Answers new r
-    answers_left r t idle h left = answers_over r t idle h (left_most r left) (left_declared r left) (views_left r t h left)
+        answers_over r t idle h
+        (subst Are (sym kept) (kept_same (site old).policy is_clean state old.base b old.views t.clean (db_stays r t h same) ready.views))
 
   -- ---- with other sessions
 
@@ -233,7 +185,7 @@ module _ {B : Type 0} (state : B → State) (is_clean : B → Type 0) (failures 
     with_them = record old { sessions = sessions }
 
     them_kept : IsKept state is_clean old with_them
-    them_kept = record { rules = refl; ready = record { under = ready.under; distinct = ready.distinct; read = ready.read; certified = ready.certified; users = users; idle = ready.idle; sound = ready.sound; most = ready.most; declared = ready.declared; views = ready.views } }
+    them_kept = record { rules = refl; ready = record { under = ready.under; distinct = ready.distinct; read = ready.read; certified = ready.certified; users = users; idle = ready.idle; sound = ready.sound; views = ready.views } }
 
     pub answers_closed : sessions_of sessions.items ≡ with_session (sessions_of old.sessions.items) event.level event.session None → s ≡ closed w event → Answers with_them (Ok Closed)
     answers_closed h is = record {

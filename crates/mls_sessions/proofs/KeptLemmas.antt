@@ -1,145 +1,35 @@
--- What holds of kept views holds after one is taken, kept or given up.
-use Rattle.std.proofs.Common.{◌≡◌, ℕ, zero, suc, ◌<◌, Bool, true, false, cond, not, List, [], ◌∷◌, map, take, Option, Some, None, refl, sym, ap, ◌∙◌, subst, eqb-true, ◌+◌, ◌≤◌, length, arith}
-use Rattle.std.specs.Prelude.{nat_eq}
-use Rattle.std.specs.List.{AllByRecursion, filter}
-use Rattle.std.specs.FinMap.{entries}
-use Rattle.std.specs.Map.{lookup, lookup_entry, remove_entry}
-use Rattle.std.specs.Option.{option_map_or}
-use Rattle.std.proofs.lemmas.Bool.{and_parts}
-use Rattle.mls_lattice.specs.Labels.{Labels, below}
-use Rattle.mls_scheme.specs.declared.tuple.Tuple.{Tuple}
-use Rattle.mls_scheme.specs.Table.{Table, Database, tuple_at}
-use Rattle.mls_filterview.specs.Subsumption.{is_max_among}
-use Rattle.mls_filterview.specs.View.{low, rows}
-use Rattle.lru.proofs.CallerLemmas.{Contains-lookup_entry}
-use Rattle.mls_sessions.specs.declared.views.ViewKey.{ViewKey}
-use Rattle.mls_sessions.specs.Views.{Kept, AreRows, AreDeclared, key_of, is_view, put_view, outlives, most_views}
-use Rattle.mls_sessions.proofs.ViewsLemmas.{Entry, key_refl, all_filtered}
+-- What is kept of views after what an event changes.
+use Rattle.std.proofs.Common.{◌≡◌, ℕ, length, Result, Ok, Err, IfOk, OnOk, sym, ap, ◌∙◌, subst}
+use Rattle.mls_lattice.specs.Policy.{Tables, labels_of}
+use Rattle.mls_scheme.specs.Scheme.{Scheme}
+use Rattle.mls_filterview.specs.declared.base.BaseFault.{BaseFault}
+use Rattle.mls_filterview.specs.Content.{State}
+use Rattle.mls_filterview.specs.Stored.{IsContent}
+use Rattle.mls_updates.specs.declared.outcome.Outcome.{Outcome}
+use Rattle.mls_updates.specs.Writes.{Write}
+use Rattle.mls_updates.specs.Calls.{IsWritten}
+use Rattle.mls_views.specs.Views.{Kept, AreViews, left_by}
+use Rattle.mls_views.proofs.WrittenLemmas.{kept_same, kept_written}
+use Rattle.mls_script.specs.declared.event.Event.{Event}
+use Rattle.mls_machine.specs.declared.reply.Denial.{Denial}
+use Rattle.mls_machine.specs.declared.reply.Reply.{Reply}
+use Rattle.mls_machine.specs.Site.{Site}
+use Rattle.mls_machine.specs.Machine.{World, no_sessions, denied}
+use Rattle.mls_sessions.specs.Turns.{IsStepOver}
 
--- ---- lists
+module _ {B : Type 0} (is_clean : B → Type 0) (state : B → State) where
+  -- a denial leaves the database
+  pub denied_views : (site : Site) (event : Event) (user : ℕ) (denial : Denial) (a c : B) (es : Kept) (r : Result Reply BaseFault) → (is_clean c → is_clean a)
+      → (is_clean c → IfOk r (IsStepOver site (λ w. denied site w event user denial) (state a).now (state c).now))
+      → AreViews site.policy is_clean state a es → OnOk r (AreViews site.policy is_clean state c es)
+  denied_views site event user denial a c es (Ok r) back done views = kept_same site.policy is_clean state a c es back (λ k. ap (λ (w : World). w.db) ((done k).world no_sessions)) views
+  denied_views site event user denial a c es (Err e) back done views = tt
 
-module _ (P : Entry → Type 0) where
-  all_taken : (n : ℕ) (es : Kept) → AllByRecursion P es → AllByRecursion P (take n es)
-  all_taken zero es h = tt
-  all_taken (suc n) [] h = tt
-  all_taken (suc n) (e ∷ es) h = (h.0, all_taken n es h.1)
-
-  all_removed : (test : ViewKey → Bool) (es : Kept) → AllByRecursion P es → AllByRecursion P (remove_entry test es)
-  all_removed test [] h = tt
-  all_removed test (e ∷ es) h = elim (test e.0) as (λ b. AllByRecursion P (cond b es (e ∷ remove_entry test es))) [
-    | true ↦ h.1
-    | false ↦ (h.0, all_removed test es h.1)
-  ]
-
-  module _ (rel label : ℕ) (tuples : List Tuple) (own : (k : ViewKey) → is_view rel label k ≡ true → P (k, tuples)) (es : Kept) (h : AllByRecursion P es) where
-    all_put_by : (o : Option Entry) → lookup_entry (is_view rel label) es ≡ o
-        → AllByRecursion P (option_map_or (λ e. (e.0, tuples) ∷ remove_entry (is_view rel label) es) o ((key_of rel label, tuples) ∷ take 31 es))
-    all_put_by None is = (own (key_of rel label) (key_refl (key_of rel label)), all_taken 31 es h)
-    all_put_by (Some e) is = (own e.0 (Contains-lookup_entry (is_view rel label) es e is).1, all_removed (is_view rel label) es h)
-
-    all_put : AllByRecursion P (put_view rel label tuples es)
-    all_put = all_put_by (lookup_entry (is_view rel label) es) refl
-
-key_parts : (rel label : ℕ) (k : ViewKey) → is_view rel label k ≡ true → (rel ≡ k.rel) × (label ≡ k.label)
-key_parts rel label k h = let parts = and_parts (nat_eq rel k.rel) (nat_eq label k.label) h in (eqb-true rel k.rel parts.0, eqb-true label k.label parts.1)
-
--- ---- how many
-
-removed_fewer : (test : ViewKey → Bool) (es : Kept) → length (remove_entry test es) ≤ length es
-removed_fewer test [] = omega arith
-removed_fewer test (e ∷ es) = elim (test e.0) as (λ b. length (cond b es (e ∷ remove_entry test es)) ≤ length (e ∷ es)) [
-  | true ↦ omega arith
-  | false ↦ let a = removed_fewer test es in omega (arith, a)
-]
-
-none_entry : {A : Type 0} (e : Entry) → None ≡ Some e → A
-none_entry e h = absurd cc
-
-found_fewer : (test : ViewKey → Bool) (es : Kept) (e : Entry) → lookup_entry test es ≡ Some e → length (remove_entry test es) + 1 ≤ length es
-found_fewer test [] e h = none_entry e h
-found_fewer test (x ∷ es) e h =
-    (elim (test x.0) as (λ b. cond b (Some x) (lookup_entry test es) ≡ Some e → length (cond b es (x ∷ remove_entry test es)) + 1 ≤ length (x ∷ es)) [
-      | true ↦ λ k. omega arith
-      | false ↦ λ k. (let a = found_fewer test es e k in omega (arith, a))
-    ]) h
-
-taken_fewer : (n : ℕ) (es : Kept) → length (take n es) ≤ n
-taken_fewer zero es = omega arith
-taken_fewer (suc n) [] = omega arith
-taken_fewer (suc n) (e ∷ es) = let a = taken_fewer n es in omega (arith, a)
-
-filtered_fewer : (test : Entry → Bool) (es : Kept) → length (filter test es) ≤ length es
-filtered_fewer test [] = omega arith
-filtered_fewer test (e ∷ es) = elim (test e) as (λ b. length (cond b (e ∷ filter test es) (filter test es)) ≤ length (e ∷ es)) [
-  | true ↦ let a = filtered_fewer test es in omega (arith, a)
-  | false ↦ let a = filtered_fewer test es in omega (arith, a)
-]
-
-pub removed_most : (rel label : ℕ) (es : Kept) → length es ≤ most_views → length (remove_entry (is_view rel label) es) ≤ most_views
-removed_most rel label es h = let a = removed_fewer (is_view rel label) es in omega (arith, a, h)
-
-module _ (rel label : ℕ) (tuples : List Tuple) (es : Kept) (h : length es ≤ most_views) where
-  put_most_by : (o : Option Entry) → lookup_entry (is_view rel label) es ≡ o
-      → length (option_map_or (λ (e : Entry). (e.0, tuples) ∷ remove_entry (is_view rel label) es) o ((key_of rel label, tuples) ∷ take 31 es)) ≤ most_views
-  put_most_by None is = let a = taken_fewer 31 es in omega (arith, a)
-  put_most_by (Some e) is = let a = found_fewer (is_view rel label) es e is in omega (arith, a, h)
-
-  pub put_most : length (put_view rel label tuples es) ≤ most_views
-  put_most = put_most_by (lookup_entry (is_view rel label) es) refl
-
-pub outlived_most : (ls : Labels) (level : ℕ) (es : Kept) → length es ≤ most_views → length (filter (outlives ls level) es) ≤ most_views
-outlived_most ls level es h = let a = filtered_fewer (outlives ls level) es in omega (arith, a, h)
-
--- ---- labels
-
-pub removed_declared : (count rel label : ℕ) (es : Kept) → AreDeclared count es → AreDeclared count (remove_entry (is_view rel label) es)
-removed_declared count rel label = all_removed _ (is_view rel label)
-
-pub put_declared : (count rel label : ℕ) (tuples : List Tuple) (es : Kept) → label < count → AreDeclared count es → AreDeclared count (put_view rel label tuples es)
-put_declared count rel label tuples es within h =
-    all_put (λ e. e.0.label < count) rel label tuples (λ k is. subst (λ l. l < count) (key_parts rel label k is).1 within) es h
-
-pub outlived_declared : (count : ℕ) (ls : Labels) (level : ℕ) (es : Kept) → AreDeclared count es → AreDeclared count (filter (outlives ls level) es)
-outlived_declared count ls level = all_filtered _ _ (outlives ls level) (λ e is h. h)
-
--- ---- rows
-
-some_tuples : (a b : List Tuple) → Some a ≡ Some b → a ≡ b
-some_tuples a b e = cc
-
-none_tuples : {A : Type 0} (a : List Tuple) → Some a ≡ None → A
-none_tuples a e = absurd cc
-
-module _ (ls : Labels) (db : Database) where
-  -- the rows of the relation and the label, where the key is theirs
-  of_key : (rel label : ℕ) (k : ViewKey) → is_view rel label k ≡ true → rows ls label (db rel) ≡ rows ls k.label (db k.rel)
-  of_key rel label k h = let parts = key_parts rel label k h in λ i. rows ls (parts.1 i) (db (parts.0 i))
-
-  pub found_rows : (rel label : ℕ) (es : Kept) → AreRows ls db es → (tuples : List Tuple) → Some tuples ≡ lookup (is_view rel label) es → tuples ≡ rows ls label (db rel)
-  found_rows rel label [] h tuples is = none_tuples tuples is
-  found_rows rel label (e ∷ es) h tuples is =
-      (elim (is_view rel label e.0) as (λ b. is_view rel label e.0 ≡ b → Some tuples ≡ cond b (Some e.1) (lookup (is_view rel label) es) → tuples ≡ rows ls label (db rel)) [
-        | true ↦ λ t k. some_tuples tuples e.1 k ∙ h.0 ∙ sym (of_key rel label e.0 t)
-        | false ↦ λ t k. found_rows rel label es h.1 tuples k
-      ]) refl is
-
-  pub removed_rows : (rel label : ℕ) (es : Kept) → AreRows ls db es → AreRows ls db (remove_entry (is_view rel label) es)
-  removed_rows rel label = all_removed _ (is_view rel label)
-
-  pub put_rows : (rel label : ℕ) (tuples : List Tuple) (es : Kept) → tuples ≡ rows ls label (db rel) → AreRows ls db es → AreRows ls db (put_view rel label tuples es)
-  put_rows rel label tuples es is h = all_put (λ e. e.1 ≡ rows ls e.0.label (db e.0.rel)) rel label tuples (λ k own. is ∙ of_key rel label k own) es h
-
--- rows are those of the tuples that the label may see
-same_rows : (ls : Labels) (c : ℕ) (T U : Table) → low ls c T ≡ low ls c U → rows ls c T ≡ rows ls c U
-unfolding rows
-same_rows ls c T U h = ap (λ (L : Table). let es = entries L in map (λ e. tuple_at e.0 e.1) (filter (is_max_among es) es)) h
-
-not_true : (b : Bool) → not b ≡ true → b ≡ false
-not_true true h = sym h
-not_true false h = refl
-
--- after a change that only labels above that of the change may see, the views of the others are as they were
-pub outlived_rows : (ls : Labels) (level : ℕ) (db new : Database) → ((c : ℕ) → below ls level c ≡ false → (rel : ℕ) → low ls c (db rel) ≡ low ls c (new rel)) → (es : Kept)
-    → AreRows ls db es → AreRows ls new (filter (outlives ls level) es)
-outlived_rows ls level db new unseen =
-    all_filtered _ _ (outlives ls level) (λ e is h. h ∙ same_rows ls e.0.label (db e.0.rel) (new e.0.rel) (unseen e.0.label (not_true (below ls level e.0.label) is) e.0.rel))
+  -- a write, and what is given up after it
+  pub written_views : (policy : Tables) (scheme : Scheme) (rel level : ℕ) (wr : Write) (a b c : B) (o : Outcome) (es new left : Kept) → c ≡ b → left ≡ new → new ≡ left_by (labels_of policy) rel level o es
+      → (is_clean b → is_clean a) → (is_clean b → IsContent (labels_of policy) scheme ((state a).now.db rel)) → (is_clean b → IsWritten (labels_of policy) scheme rel level wr (state a) (state b) o)
+      → AreViews policy is_clean state a es → AreViews policy is_clean state c left
+  written_views policy scheme rel level wr a b c o es new left base kept is back content written views =
+      subst (λ x. AreViews policy is_clean state x left) (sym base)
+      (subst (AreViews policy is_clean state b) (sym (kept ∙ is))
+      (kept_written policy is_clean state scheme (length scheme.others) rel level wr a b o es back (λ k. (content k).stored) written views))

@@ -1,11 +1,9 @@
 pub mod WritingSteps
 pub mod TurnLemmas
 pub mod StepLemmas
+pub mod KeptLemmas
 pub mod CallLemmas
 pub mod EnteringLemmas
-pub mod ViewsLemmas
-pub mod KeptLemmas
-pub mod UnseenLemmas
 pub mod EngineLemmas
 pub mod NamingLemmas
 pub mod AnswerLemmas

@@ -1,5 +1,5 @@
 -- The world that an engine holds, and what an engine keeps to.
-use Rattle.std.specs.Prelude.{◌≡◌, ℕ, ◌≤◌, false, length, Result}
+use Rattle.std.specs.Prelude.{◌≡◌, ℕ, false, length, Result}
 use Rattle.mls_lattice.specs.Labels.{AreDistinct}
 use Rattle.mls_scheme.specs.Scheme.{AreUnder}
 use Rattle.mls_filterview.specs.declared.base.BaseFault.{BaseFault}
@@ -12,7 +12,7 @@ use Rattle.mls_sessions.specs.declared.engine.Engine.{Engine}
 use Rattle.mls_monitor.specs.Sessions.{site_of, sessions_of, AreForUsers}
 use Rattle.mls_sessions.specs.World.{world_at, IsSound}
 use Rattle.mls_sessions.specs.Turns.{IsTurn}
-use Rattle.mls_sessions.specs.Views.{AreRows, AreDeclared, most_views}
+use Rattle.mls_views.specs.Views.{AreViews}
 
 abbrev pub site : {B : Type 0} → Engine B → Site
 site e = site_of e.rules
@@ -30,9 +30,7 @@ module _ {B : Type 0} (state : B → State) where
     pub users : AreForUsers (length (site e).policy.users) e.sessions.items
     pub idle : (state e.base).begun ≡ false
     pub sound : is_clean e.base → IsSound (site e) (state e.base).now
-    pub most : length e.views ≤ most_views
-    pub declared : AreDeclared (length (site e).policy.labels) e.views
-    pub views : is_clean e.base → AreRows (site_labels (site e)) (state e.base).now.db e.views
+    pub views : AreViews (site e).policy is_clean state e.base e.views
 
   -- an event was answered, and the world left, as by a step of the machine
   pub record IsStep (old : Engine B) (s : Step) (new : Engine B) (r : Reply) : Type 0 where

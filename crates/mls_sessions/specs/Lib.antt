@@ -1,5 +1,4 @@
 pub mod World
-pub mod Views
 pub mod Turns
 pub mod Engine
 pub mod Calling

@@ -19,6 +19,7 @@ ghost use Rattle.mls_machine.specs.Machine.{release_entry, call_entries};
 ghost use Rattle.mls_machine.specs.Observation.{AreRead};
 ghost use Rattle.mls_trusted.specs.Runs.{with_database, IsEvaluated, HasItems};
 ghost use Rattle.mls_monitor.specs.Sessions.{site_of};
+ghost use Rattle.mls_views.specs.Views.{AreViews};
 ghost use Rattle.mls_sessions.specs.World.{IsSound};
 ghost use Rattle.mls_sessions.specs.Calling.{with_entries};
 ghost use Rattle.mls_replies.specs.Known.{HasKnownNumbers};
@@ -36,6 +37,7 @@ use mls_scheme::Value;
 use mls_script::{Command, Event};
 use mls_trusted::evaluate_in;
 use mls_updates::copy_value;
+use mls_views::Views;
 use std::alloc::AllocError;
 
 /// The bytes of the entry of a call.
@@ -48,8 +50,10 @@ fn called_bytes(
     requires user { user < length rules.now.policy.now.users }
     requires session { is_name event.now.session ≡ true }
     requires name { is_name name.now ≡ true }
-    ensures bytes { IfOk result (λ v. v.items ≡ entry_spelling (Called event.now.level (user_name rules.now.policy.now.users user) event.now.session name.now)) }
-    ensures spelled { OnOk result (HasSpelling (Called event.now.level (user_name rules.now.policy.now.users user) event.now.session name.now)) }
+    ensures bytes { IfOk result (λ v. v.items ≡ entry_spelling
+        (Called event.now.level (user_name rules.now.policy.now.users user) event.now.session name.now)) }
+    ensures spelled { OnOk result (HasSpelling (Called event.now.level
+        (user_name rules.now.policy.now.users user) event.now.session name.now)) }
 {
     let user = Str::copy_of(rules.alloc, rules.policy.user_name(user))?;
     let session = Str::copy_of(rules.alloc, &event.session)?;
@@ -73,7 +77,8 @@ fn released_bytes(
     requires user { user < length rules.now.policy.now.users }
     requires session { is_name event.now.session ≡ true }
     requires item { IsItem rules.now.policy.now item.now }
-    ensures bytes { IfOk result (λ v. v.items ≡ entry_spelling (release_entry (site_of rules.now) event.now user item.now)) }
+    ensures bytes { IfOk result (λ v. v.items ≡ entry_spelling
+        (release_entry (site_of rules.now) event.now user item.now)) }
     ensures spelled { OnOk result (HasSpelling (release_entry (site_of rules.now) event.now user item.now)) }
 {
     let user = Str::copy_of(rules.alloc, rules.policy.user_name(user))?;
@@ -105,7 +110,8 @@ fn enter_call<B: Base>(
     ensures mode { OnOk result ((B.state base.new).begun ≡ true) }
     ensures done { B.is_clean base.new → OnOk result (B.state base.new
         ≡ with_entry (B.state base.old) (entry_spelling (Called event.now.level (user_name rules.now.policy.now.users user) event.now.session name.now))) }
-    ensures spelled { OnOk result (HasSpelling (Called event.now.level (user_name rules.now.policy.now.users user) event.now.session name.now)) }
+    ensures spelled { OnOk result (HasSpelling (Called event.now.level
+        (user_name rules.now.policy.now.users user) event.now.session name.now)) }
 {
     let bytes = made(base, called_bytes(rules, event, user, name))?;
     base.audit_add(&bytes)
@@ -149,8 +155,10 @@ fn enter_releases<B: Base>(
     ensures call { IsCall B.is_clean B.failures B.state base.old base.new result }
     ensures served { IfErr result IsServed }
     ensures mode { OnOk result ((B.state base.new).begun ≡ true) }
-    ensures done { B.is_clean base.new → OnOk result (B.state base.new ≡ with_entries (B.state base.old) (map (release_entry (site_of rules.now) event.now user) released.now)) }
-    ensures spelled { OnOk result (AllByRecursion HasSpelling (map (release_entry (site_of rules.now) event.now user) released.now)) }
+    ensures done { B.is_clean base.new → OnOk result (B.state base.new ≡ with_entries (B.state base.old)
+        (map (release_entry (site_of rules.now) event.now user) released.now)) }
+    ensures spelled { OnOk result (AllByRecursion HasSpelling
+        (map (release_entry (site_of rules.now) event.now user) released.now)) }
 {
     for item in released {
         enter_release(rules, base, event, user, item)?;
@@ -175,8 +183,10 @@ fn enter_run<B: Base>(
     ensures call { IsCall B.is_clean B.failures B.state base.old base.new result }
     ensures served { IfErr result IsServed }
     ensures mode { OnOk result ((B.state base.new).begun ≡ true) }
-    ensures done { B.is_clean base.new → OnOk result (B.state base.new ≡ with_entries (B.state base.old) (call_entries (site_of rules.now) event.now user name.now released.now)) }
-    ensures spelled { OnOk result (AllByRecursion HasSpelling (call_entries (site_of rules.now) event.now user name.now released.now)) }
+    ensures done { B.is_clean base.new → OnOk result (B.state base.new ≡ with_entries (B.state base.old)
+        (call_entries (site_of rules.now) event.now user name.now released.now)) }
+    ensures spelled { OnOk result (AllByRecursion HasSpelling
+        (call_entries (site_of rules.now) event.now user name.now released.now)) }
 {
     enter_call(rules, base, event, user, name)?;
     enter_releases(rules, base, event, user, released)
@@ -186,6 +196,7 @@ fn enter_run<B: Base>(
 fn run_certified<B: Base>(
     rules: &Rules,
     base: &mut B,
+    views: &mut Views,
     certified: &Certified,
     args: &[Option<Value>],
 ) -> Result<Run, BaseFault>
@@ -193,7 +204,9 @@ fn run_certified<B: Base>(
     requires under { AreUnder (length rules.now.policy.now.labels) rules.now.schemes.now }
     requires read { IsReadUnder rules.now.policy.now rules.now.schemes.now certified.now.tx }
     requires count { length args.now ≡ length certified.now.tx.params }
-    requires content { B.is_clean base.old → AreContent (labels_of rules.now.policy.now) rules.now.schemes.now (B.state base.old).now.db }
+    requires content { B.is_clean base.old → AreContent (labels_of rules.now.policy.now) rules.now.schemes.now
+        (B.state base.old).now.db }
+    requires views { AreViews rules.now.policy.now B.is_clean B.state base.old views.old }
     ensures call { IsCall B.is_clean B.failures B.state base.old base.new result }
     ensures served { IfErr result IsServed }
     ensures mode { OnOk result ((B.state base.new).begun ≡ true) }
@@ -201,6 +214,7 @@ fn run_certified<B: Base>(
     ensures done { B.is_clean base.new
         → let run = run_tx (labels_of rules.now.policy.now) rules.now.schemes.now certified.now.tx (fitted certified.now.tx.params args.now) (B.state base.old).now.db in
         IfOk result (IsEvaluated run (with_database (B.state base.old) run.db) (B.state base.new)) }
+    ensures views { OnOk result (AreViews rules.now.policy.now B.is_clean B.state base.new views.new) }
 {
     let args = made(base, fitted(rules.alloc, certified.tx(), args))?;
     evaluate_in(
@@ -208,6 +222,7 @@ fn run_certified<B: Base>(
         base,
         rules.policy,
         rules.schemes,
+        views,
         certified,
         &args,
     )
@@ -217,6 +232,7 @@ fn run_certified<B: Base>(
 pub(crate) fn call<B: Base>(
     rules: &Rules,
     base: &mut B,
+    views: &mut Views,
     event: &Event,
     user: UserNo,
 ) -> Result<Reply, BaseFault>
@@ -226,18 +242,21 @@ pub(crate) fn call<B: Base>(
     requires sound { B.is_clean base.old → IsSound (site_of rules.now) (B.state base.old).now }
     requires fits { EventFits rules.now.policy.now rules.now.schemes.now event.now }
     requires deed { IsDeedOf (site_of rules.now) event.now (Deed.Call user) }
+    requires views { AreViews rules.now.policy.now B.is_clean B.state base.old views.old }
     ensures call { IsCall B.is_clean B.failures B.state base.old base.new result }
     ensures served { IfErr result IsServed }
     ensures mode { OnOk result ((B.state base.new).begun ≡ true) }
     ensures kept { B.is_clean base.new → OnOk result ((B.state base.new).kept ≡ (B.state base.old).kept) }
-    ensures done { B.is_clean base.new → IfOk result (IsDoneOf (site_of rules.now) event.now (Deed.Call user) (B.state base.old).now (B.state base.new).now) }
+    ensures done { B.is_clean base.new → IfOk result (IsDoneOf (site_of rules.now) event.now (Deed.Call user)
+        (B.state base.old).now (B.state base.new).now) }
     ensures known { IfOk result (HasKnownNumbers rules.now.policy.now) }
+    ensures views { OnOk result (AreViews rules.now.policy.now B.is_clean B.state base.new views.new) }
 {
     let Command::Call { tx, args } = &event.command else {
         unreachable!()
     };
     let certified = certified_named(&rules.stored, tx);
-    let run = run_certified(rules, base, certified, args)?;
+    let run = run_certified(rules, base, views, certified, args)?;
     enter_run(rules, base, event, user, tx, &run.released)?;
     Ok(Reply::Ran(run))
 }

@@ -1,6 +1,5 @@
 //! Events that change the base: denials, which are entered, writes and calls. Each is one change.
-ghost use Rattle.std.specs.Prelude.{◌≡◌, ◌<◌, true, false, length, IfOk, IfErr, OnOk, OnErr};
-ghost use Rattle.mls_lattice.specs.Policy.{labels_of};
+ghost use Rattle.std.specs.Prelude.{◌≡◌, ◌<◌, true, false, length, IfOk, IfErr, OnOk};
 ghost use Rattle.mls_scheme.specs.Scheme.{AreUnder};
 ghost use Rattle.mls_filterview.specs.Calls.{IsCall, IsServed};
 ghost use Rattle.mls_audit.specs.Spelling.{HasSpelling, entry_spelling};
@@ -11,10 +10,9 @@ ghost use Rattle.mls_monitor.specs.Sessions.{site_of};
 ghost use Rattle.mls_sessions.specs.World.{IsSound};
 ghost use Rattle.mls_replies.specs.Known.{HasKnownNumbers};
 ghost use Rattle.mls_sessions.specs.Turns.{IsTurn, IsDeedOf, IsDoneOf};
-ghost use Rattle.mls_sessions.specs.Views.{AreDeclared, left_by};
+ghost use Rattle.mls_views.specs.Views.{AreViews};
 
 use crate::calling::call;
-use crate::views::Views;
 use mls_audit::{Entry, entry_bytes};
 use mls_filterview::{Base, BaseFault, made};
 use mls_lattice::{Str, UserNo};
@@ -22,6 +20,7 @@ use mls_machine::{Denial, Reply};
 use mls_monitor::Rules;
 use mls_script::{Command, Event};
 use mls_updates::{delete, insert, update};
+use mls_views::Views;
 use std::alloc::AllocError;
 
 /// What an event of an open session changes.
@@ -44,7 +43,8 @@ fn denial_bytes(
 ) -> Result<Vec<u8>, AllocError>
     requires user { user < length rules.now.policy.now.users }
     requires fits { EventFits rules.now.policy.now rules.now.schemes.now event.now }
-    ensures bytes { IfOk result (λ v. v.items ≡ entry_spelling (denial_entry (site_of rules.now) event.now user denial)) }
+    ensures bytes { IfOk result (λ v. v.items ≡ entry_spelling
+        (denial_entry (site_of rules.now) event.now user denial)) }
     ensures spelled { OnOk result (HasSpelling (denial_entry (site_of rules.now) event.now user denial)) }
 {
     let user = Str::copy_of(rules.alloc, rules.policy.user_name(user))?;
@@ -73,7 +73,8 @@ fn enter<B: Base>(
     ensures served { IfErr result IsServed }
     ensures mode { OnOk result ((B.state base.new).begun ≡ true) }
     ensures kept { B.is_clean base.new → OnOk result ((B.state base.new).kept ≡ (B.state base.old).kept) }
-    ensures done { B.is_clean base.new → IfOk result (IsDoneOf (site_of rules.now) event.now (Deed.Deny user denial) (B.state base.old).now (B.state base.new).now) }
+    ensures done { B.is_clean base.new → IfOk result (IsDoneOf (site_of rules.now) event.now (Deed.Deny user denial)
+        (B.state base.old).now (B.state base.new).now) }
     ensures known { IfOk result (HasKnownNumbers rules.now.policy.now) }
 {
     let bytes = made(base, denial_bytes(rules, event, user, denial))?;
@@ -81,19 +82,27 @@ fn enter<B: Base>(
     Ok(Reply::Denied(denial))
 }
 
-/// Makes the write of an event at its level, inside a change.
-fn write<B: Base>(rules: &Rules, base: &mut B, event: &Event) -> Result<Reply, BaseFault>
+/// Makes the write of an event at its level, inside a change, and gives up the views that it may have changed.
+fn write<B: Base>(
+    rules: &Rules,
+    base: &mut B,
+    views: &mut Views,
+    event: &Event,
+) -> Result<Reply, BaseFault>
     requires begun { (B.state base.old).begun ≡ true }
     requires under { AreUnder (length rules.now.policy.now.labels) rules.now.schemes.now }
     requires sound { B.is_clean base.old → IsSound (site_of rules.now) (B.state base.old).now }
     requires fits { EventFits rules.now.policy.now rules.now.schemes.now event.now }
     requires writes { IsDeedOf (site_of rules.now) event.now Deed.Write }
+    requires views { AreViews rules.now.policy.now B.is_clean B.state base.old views.old }
     ensures call { IsCall B.is_clean B.failures B.state base.old base.new result }
     ensures served { IfErr result IsServed }
     ensures mode { OnOk result ((B.state base.new).begun ≡ true) }
     ensures kept { B.is_clean base.new → OnOk result ((B.state base.new).kept ≡ (B.state base.old).kept) }
-    ensures done { B.is_clean base.new → IfOk result (IsDoneOf (site_of rules.now) event.now Deed.Write (B.state base.old).now (B.state base.new).now) }
+    ensures done { B.is_clean base.new → IfOk result (IsDoneOf (site_of rules.now) event.now Deed.Write
+        (B.state base.old).now (B.state base.new).now) }
     ensures known { IfOk result (HasKnownNumbers rules.now.policy.now) }
+    ensures views { OnOk result (AreViews rules.now.policy.now B.is_clean B.state base.new views.new) }
 {
     let Rules {
         alloc,
@@ -104,7 +113,9 @@ fn write<B: Base>(rules: &Rules, base: &mut B, event: &Event) -> Result<Reply, B
     let level = event.level;
     let outcome = match &event.command {
         Command::Insert { rel, key, values } => {
-            insert(alloc, base, policy, schemes, *rel, level, key, values)?
+            let outcome = insert(alloc, base, policy, schemes, *rel, level, key, values)?;
+            views.follow(policy, *rel, level, outcome);
+            outcome
         }
         Command::Update {
             rel,
@@ -112,67 +123,60 @@ fn write<B: Base>(rules: &Rules, base: &mut B, event: &Event) -> Result<Reply, B
             key_class,
             from,
             sets,
-        } => update(
-            alloc, base, policy, schemes, *rel, level, key, *key_class, *from, sets,
-        )?,
+        } => {
+            let outcome = update(
+                alloc, base, policy, schemes, *rel, level, key, *key_class, *from, sets,
+            )?;
+            views.follow(policy, *rel, level, outcome);
+            outcome
+        }
         Command::Delete {
             rel,
             key,
             key_class,
-        } => delete(alloc, base, policy, schemes, *rel, level, key, *key_class)?,
+        } => {
+            let outcome = delete(alloc, base, policy, schemes, *rel, level, key, *key_class)?;
+            views.follow(policy, *rel, level, outcome);
+            outcome
+        }
         _ => unreachable!(),
     };
     Ok(Reply::Wrote(outcome))
 }
 
 /// Does what an event changes, inside a change.
-fn act<B: Base>(rules: &Rules, base: &mut B, event: &Event, deed: Deed) -> Result<Reply, BaseFault>
+fn act<B: Base>(
+    rules: &Rules,
+    base: &mut B,
+    views: &mut Views,
+    event: &Event,
+    deed: Deed,
+) -> Result<Reply, BaseFault>
     requires begun { (B.state base.old).begun ≡ true }
     requires under { AreUnder (length rules.now.policy.now.labels) rules.now.schemes.now }
     requires sound { B.is_clean base.old → IsSound (site_of rules.now) (B.state base.old).now }
     requires fits { EventFits rules.now.policy.now rules.now.schemes.now event.now }
     requires read { AreRead (site_of rules.now) }
     requires deed { IsDeedOf (site_of rules.now) event.now deed }
+    requires views { AreViews rules.now.policy.now B.is_clean B.state base.old views.old }
     ensures call { IsCall B.is_clean B.failures B.state base.old base.new result }
     ensures served { IfErr result IsServed }
     ensures mode { OnOk result ((B.state base.new).begun ≡ true) }
     ensures kept { B.is_clean base.new → OnOk result ((B.state base.new).kept ≡ (B.state base.old).kept) }
-    ensures done { B.is_clean base.new → IfOk result (IsDoneOf (site_of rules.now) event.now deed (B.state base.old).now (B.state base.new).now) }
+    ensures done { B.is_clean base.new → IfOk result (IsDoneOf (site_of rules.now) event.now deed (B.state base.old).now
+        (B.state base.new).now) }
     ensures known { IfOk result (HasKnownNumbers rules.now.policy.now) }
+    ensures views { OnOk result (AreViews rules.now.policy.now B.is_clean B.state base.new views.new) }
 {
     match deed {
         Deed::Deny { user, denial } => enter(rules, base, event, user, denial),
-        Deed::Write => write(rules, base, event),
-        Deed::Call { user } => call(rules, base, event, user),
+        Deed::Write => write(rules, base, views, event),
+        Deed::Call { user } => call(rules, base, views, event, user),
     }
 }
 
 /// Does what an event changes, as one change of the base.
-pub(crate) fn change<B: Base>(
-    rules: &Rules,
-    base: &mut B,
-    event: &Event,
-    deed: Deed,
-) -> Result<Reply, BaseFault>
-    requires idle { (B.state base.old).begun ≡ false }
-    requires under { AreUnder (length rules.now.policy.now.labels) rules.now.schemes.now }
-    requires sound { B.is_clean base.old → IsSound (site_of rules.now) (B.state base.old).now }
-    requires fits { EventFits rules.now.policy.now rules.now.schemes.now event.now }
-    requires read { AreRead (site_of rules.now) }
-    requires deed { IsDeedOf (site_of rules.now) event.now deed }
-    ensures turn { IsTurn B.is_clean B.failures (λ b. (B.state b).now) base.old base.new result }
-    ensures idle { (B.state base.new).begun ≡ false }
-    ensures done { B.is_clean base.new → IfOk result (IsDoneOf (site_of rules.now) event.now deed (B.state base.old).now (B.state base.new).now) }
-    ensures known { IfOk result (HasKnownNumbers rules.now.policy.now) }
-{
-    base.begin()?;
-    let reply = act(rules, base, event, deed)?;
-    base.commit()?;
-    Ok(reply)
-}
-
-/// Does what an event changes, as one change of the base, and gives up the kept views that it may change.
-pub(crate) fn alter<B: Base>(
+fn carry_out<B: Base>(
     rules: &Rules,
     base: &mut B,
     views: &mut Views,
@@ -185,15 +189,45 @@ pub(crate) fn alter<B: Base>(
     requires fits { EventFits rules.now.policy.now rules.now.schemes.now event.now }
     requires read { AreRead (site_of rules.now) }
     requires deed { IsDeedOf (site_of rules.now) event.now deed }
-    requires declared { AreDeclared (length rules.now.policy.now.labels) views.old }
+    requires views { AreViews rules.now.policy.now B.is_clean B.state base.old views.old }
     ensures turn { IsTurn B.is_clean B.failures (λ b. (B.state b).now) base.old base.new result }
     ensures idle { (B.state base.new).begun ≡ false }
-    ensures done { B.is_clean base.new → IfOk result (IsDoneOf (site_of rules.now) event.now deed (B.state base.old).now (B.state base.new).now) }
+    ensures done { B.is_clean base.new → IfOk result (IsDoneOf (site_of rules.now) event.now deed (B.state base.old).now
+        (B.state base.new).now) }
     ensures known { IfOk result (HasKnownNumbers rules.now.policy.now) }
-    ensures left { IfOk result (λ r. views.new ≡ left_by (labels_of rules.now.policy.now) event.now.level r views.old) }
-    ensures failed { OnErr result (views.new ≡ views.old) }
+    ensures views { OnOk result (AreViews rules.now.policy.now B.is_clean B.state base.new views.new) }
 {
-    let reply = change(rules, base, event, deed)?;
-    views.follow(rules.policy, event.level, &reply);
+    base.begin()?;
+    let reply = act(rules, base, views, event, deed)?;
+    base.commit()?;
     Ok(reply)
+}
+
+/// Does what an event changes, as one change of the base. After a fault no view is kept.
+pub(crate) fn change<B: Base>(
+    rules: &Rules,
+    base: &mut B,
+    views: &mut Views,
+    event: &Event,
+    deed: Deed,
+) -> Result<Reply, BaseFault>
+    requires idle { (B.state base.old).begun ≡ false }
+    requires under { AreUnder (length rules.now.policy.now.labels) rules.now.schemes.now }
+    requires sound { B.is_clean base.old → IsSound (site_of rules.now) (B.state base.old).now }
+    requires fits { EventFits rules.now.policy.now rules.now.schemes.now event.now }
+    requires read { AreRead (site_of rules.now) }
+    requires deed { IsDeedOf (site_of rules.now) event.now deed }
+    requires views { AreViews rules.now.policy.now B.is_clean B.state base.old views.old }
+    ensures turn { IsTurn B.is_clean B.failures (λ b. (B.state b).now) base.old base.new result }
+    ensures idle { (B.state base.new).begun ≡ false }
+    ensures done { B.is_clean base.new → IfOk result (IsDoneOf (site_of rules.now) event.now deed (B.state base.old).now
+        (B.state base.new).now) }
+    ensures known { IfOk result (HasKnownNumbers rules.now.policy.now) }
+    ensures views { AreViews rules.now.policy.now B.is_clean B.state base.new views.new }
+{
+    let result = carry_out(rules, base, views, event, deed);
+    if result.is_err() {
+        views.clear();
+    }
+    result
 }

@@ -9,15 +9,15 @@ ghost use Rattle.mls_sessions.specs.World.{world_at, IsSound};
 ghost use Rattle.mls_sessions.specs.Engine.{site, world_of, IsReady, IsStep, IsKept, IsEngineTurn};
 ghost use Rattle.mls_replies.specs.Known.{HasKnownNumbers};
 
-use crate::change::{Deed, alter, change};
+use crate::change::{Deed, change};
 use crate::looking::{audit, look};
-use crate::views::Views;
 use mls_filterview::{Base, BaseFault};
 use mls_lattice::{Items, LabelNo, Policy, UserNo};
 use mls_machine::{Reply, Stored};
 use mls_monitor::{Rules, Session, close, denial_of, open, user_of};
 use mls_scheme::Schemes;
 use mls_script::{Command, Event};
+use mls_views::Views;
 use std::alloc::Global;
 
 /// Sessions over a base, under a policy and its schemes. It keeps the views that were asked for last.
@@ -43,10 +43,19 @@ impl<'a, B: Base> Engine<'a, B> {
         requires read { AreRead (record { policy = policy.now; schemes = schemes.now; stored = stored }) }
         requires certified { AreCertified (record { policy = policy.now; schemes = schemes.now; stored = stored }) }
         requires idle { (B.state base).begun ≡ false }
-        requires sound { B.is_clean base → IsSound (record { policy = policy.now; schemes = schemes.now; stored = stored }) (B.state base).now }
+        requires sound { B.is_clean base → IsSound (record {
+          policy = policy.now;
+          schemes = schemes.now;
+          stored =
+              stored;
+        }) (B.state base).now }
         ensures base { result.base ≡ base }
         ensures site { site result ≡ record { policy = policy.now; schemes = schemes.now; stored = stored } }
-        ensures world { world_of B.state result ≡ world_at (record { policy = policy.now; schemes = schemes.now; stored = stored }) no_sessions (B.state base).now }
+        ensures world { world_of B.state result ≡ world_at (record {
+          policy = policy.now;
+          schemes = schemes.now;
+          stored = stored;
+        }) no_sessions (B.state base).now }
         ensures ready { IsReady B.state B.is_clean result }
     {
         // That the labels of a policy are distinct.
@@ -92,7 +101,8 @@ impl<'a, B: Base> Engine<'a, B> {
         requires closed { sessions_of self.old.sessions.items event.now.level event.now.session ≡ None }
         ensures turn { IsEngineTurn B.state B.is_clean B.failures self.old self.new result }
         ensures kept { IsKept B.state B.is_clean self.old self.new }
-        ensures done { B.is_clean self.new.base → IfOk result (IsStep B.state self.old (step (site self.old) (world_of B.state self.old) event.now) self.new) }
+        ensures done { B.is_clean self.new.base → IfOk result
+            (IsStep B.state self.old (step (site self.old) (world_of B.state self.old) event.now) self.new) }
         ensures known { IfOk result (HasKnownNumbers (site self.old).policy) }
     {
         open(&self.rules, &mut self.sessions, event)
@@ -105,12 +115,13 @@ impl<'a, B: Base> Engine<'a, B> {
         requires held { sessions_of self.old.sessions.items event.now.level event.now.session ≡ Some user }
         ensures turn { IsEngineTurn B.state B.is_clean B.failures self.old self.new result }
         ensures kept { IsKept B.state B.is_clean self.old self.new }
-        ensures done { B.is_clean self.new.base → IfOk result (IsStep B.state self.old (step (site self.old) (world_of B.state self.old) event.now) self.new) }
+        ensures done { B.is_clean self.new.base → IfOk result
+            (IsStep B.state self.old (step (site self.old) (world_of B.state self.old) event.now) self.new) }
         ensures known { IfOk result (HasKnownNumbers (site self.old).policy) }
     {
         if let Some(denial) = denial_of(&self.rules, event.level, user, &event.command) {
             let deed = Deed::Deny { user, denial };
-            return change(&self.rules, &mut self.base, event, deed);
+            return change(&self.rules, &mut self.base, &mut self.views, event, deed);
         }
         match &event.command {
             Command::Open(_) => unreachable!(),
@@ -128,11 +139,11 @@ impl<'a, B: Base> Engine<'a, B> {
             Command::Audit => audit(&self.rules, &mut self.base, event.level),
             Command::Insert { .. } | Command::Update { .. } | Command::Delete { .. } => {
                 let deed = Deed::Write;
-                alter(&self.rules, &mut self.base, &mut self.views, event, deed)
+                change(&self.rules, &mut self.base, &mut self.views, event, deed)
             }
             Command::Call { .. } => {
                 let deed = Deed::Call { user };
-                alter(&self.rules, &mut self.base, &mut self.views, event, deed)
+                change(&self.rules, &mut self.base, &mut self.views, event, deed)
             }
         }
     }
@@ -146,7 +157,8 @@ impl<'a, B: Base> Engine<'a, B> {
         requires fits { EventFits (site self.old).policy (site self.old).schemes event.now }
         ensures turn { IsEngineTurn B.state B.is_clean B.failures self.old self.new result }
         ensures kept { IsKept B.state B.is_clean self.old self.new }
-        ensures done { B.is_clean self.new.base → IfOk result (IsStep B.state self.old (step (site self.old) (world_of B.state self.old) event.now) self.new) }
+        ensures done { B.is_clean self.new.base → IfOk result
+            (IsStep B.state self.old (step (site self.old) (world_of B.state self.old) event.now) self.new) }
         ensures known { IfOk result (HasKnownNumbers (site self.old).policy) }
     {
         match user_of(&self.sessions, event.level, &event.session) {

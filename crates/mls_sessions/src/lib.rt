@@ -7,7 +7,6 @@ mod change;
 mod engine;
 mod looking;
 mod running;
-mod views;
 mod writing;
 
 pub use cause::{RunCause, RunFault};

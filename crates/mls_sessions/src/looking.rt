@@ -1,7 +1,6 @@
 //! Events that look at the base: views and audits. They change no content.
-ghost use Rattle.std.specs.Prelude.{◌≡◌, ◌<◌, ◌≤◌, false, length, IfOk, OnOk};
+ghost use Rattle.std.specs.Prelude.{◌≡◌, ◌<◌, false, length, IfOk};
 ghost use Rattle.mls_lattice.specs.Policy.{labels_of};
-ghost use Rattle.mls_filterview.specs.View.{rows};
 ghost use Rattle.mls_audit.specs.Entry.{visible};
 ghost use Rattle.mls_audit.specs.Reading.{entry_at};
 ghost use Rattle.mls_machine.specs.Machine.{viewed, listed};
@@ -10,47 +9,18 @@ ghost use Rattle.mls_monitor.specs.Sessions.{site_of};
 ghost use Rattle.mls_sessions.specs.World.{declared, entries_in, IsSound};
 ghost use Rattle.mls_replies.specs.Known.{HasKnownNumbers};
 ghost use Rattle.mls_sessions.specs.Turns.{IsTurn, IsStepOver};
-ghost use Rattle.mls_sessions.specs.Views.{AreRows, AreDeclared, most_views};
+ghost use Rattle.mls_views.specs.Views.{AreViews};
 
-use crate::views::Views;
 use mls_audit::{Entry, EntryFault, entry_of, visible};
-use mls_filterview::{Base, BaseFault, made, view};
+use mls_filterview::{Base, BaseFault, made};
 use mls_lattice::{Items, LabelNo};
 use mls_machine::Reply;
 use mls_monitor::Rules;
-use mls_scheme::{RelNo, Tuple};
+use mls_scheme::RelNo;
+use mls_views::Views;
 use std::alloc::AllocError;
 
-/// The tuples of a view: taken from those that are kept, or resolved.
-fn resolved<B: Base>(
-    rules: &Rules,
-    base: &mut B,
-    views: &mut Views,
-    rel: RelNo,
-    label: LabelNo,
-) -> Result<Items<Tuple>, BaseFault>
-    requires idle { (B.state base.old).begun ≡ false }
-    requires label { label < length rules.now.policy.now.labels }
-    requires sound { B.is_clean base.old → IsSound (site_of rules.now) (B.state base.old).now }
-    requires most { length views.old ≤ most_views }
-    requires declared { AreDeclared (length rules.now.policy.now.labels) views.old }
-    requires are_rows { B.is_clean base.old → AreRows (labels_of rules.now.policy.now) (B.state base.old).now.db views.old }
-    ensures turn { IsTurn B.is_clean B.failures (λ b. (B.state b).now) base.old base.new result }
-    ensures idle { (B.state base.new).begun ≡ false }
-    ensures rows { B.is_clean base.new → IfOk result (λ ts. ts ≡ rows (labels_of rules.now.policy.now) label ((B.state base.old).now.db rel)) }
-    ensures same { B.is_clean base.new → OnOk result (B.state base.new ≡ B.state base.old) }
-    ensures most { length views.new ≤ most_views }
-    ensures declared { AreDeclared (length rules.now.policy.now.labels) views.new }
-    ensures are_rows { B.is_clean base.new → AreRows (labels_of rules.now.policy.now) (B.state base.new).now.db views.new }
-{
-    if let Some(tuples) = views.take(rel, label) {
-        return Ok(tuples);
-    }
-    let tuples = view(rules.alloc, base, rules.policy, rel, label)?;
-    Ok(Items::from(tuples))
-}
-
-/// Answers a view, and keeps it.
+/// Answers a view.
 pub(crate) fn look<B: Base>(
     rules: &Rules,
     base: &mut B,
@@ -61,19 +31,15 @@ pub(crate) fn look<B: Base>(
     requires idle { (B.state base.old).begun ≡ false }
     requires label { label < length rules.now.policy.now.labels }
     requires sound { B.is_clean base.old → IsSound (site_of rules.now) (B.state base.old).now }
-    requires most { length views.old ≤ most_views }
-    requires declared { AreDeclared (length rules.now.policy.now.labels) views.old }
-    requires are_rows { B.is_clean base.old → AreRows (labels_of rules.now.policy.now) (B.state base.old).now.db views.old }
+    requires views { AreViews rules.now.policy.now B.is_clean B.state base.old views.old }
     ensures turn { IsTurn B.is_clean B.failures (λ b. (B.state b).now) base.old base.new result }
     ensures idle { (B.state base.new).begun ≡ false }
-    ensures done { B.is_clean base.new → IfOk result (IsStepOver (site_of rules.now) (λ w. viewed (site_of rules.now) w rel label) (B.state base.old).now (B.state base.new).now) }
+    ensures done { B.is_clean base.new → IfOk result (IsStepOver (site_of rules.now)
+        (λ w. viewed (site_of rules.now) w rel label) (B.state base.old).now (B.state base.new).now) }
     ensures known { IfOk result (HasKnownNumbers rules.now.policy.now) }
-    ensures most { length views.new ≤ most_views }
-    ensures declared { AreDeclared (length rules.now.policy.now.labels) views.new }
-    ensures are_rows { B.is_clean base.new → AreRows (labels_of rules.now.policy.now) (B.state base.new).now.db views.new }
+    ensures views { AreViews rules.now.policy.now B.is_clean B.state base.new views.new }
 {
-    let tuples = resolved(rules, base, views, rel, label)?;
-    views.keep(rules.alloc, rel, label, &tuples);
+    let tuples = views.view(rules.alloc, base, rules.policy, rel, label)?;
     Ok(Reply::Rows(tuples))
 }
 
@@ -112,7 +78,8 @@ fn entries_of(rules: &Rules, strings: &[Items<u8>]) -> Result<Vec<Entry>, AllocE
 /// The entries among strings whose labels a label dominates.
 fn seen_of(rules: &Rules, strings: &[Items<u8>], label: LabelNo) -> Result<Vec<Entry>, AllocError>
     requires { label < length rules.now.policy.now.labels }
-    ensures exact { IfOk result (λ v. v.items ≡ visible (labels_of rules.now.policy.now) label (entries_in (length rules.now.policy.now.labels) strings.now)) }
+    ensures exact { IfOk result (λ v. v.items ≡ visible (labels_of rules.now.policy.now) label
+        (entries_in (length rules.now.policy.now.labels) strings.now)) }
     ensures known { IfOk result (λ v. EntriesAreKnown rules.now.policy.now v.items) }
 {
     let entries = entries_of(rules, strings)?;
@@ -129,7 +96,8 @@ pub(crate) fn audit<B: Base>(
     requires level { level < length rules.now.policy.now.labels }
     ensures turn { IsTurn B.is_clean B.failures (λ b. (B.state b).now) base.old base.new result }
     ensures idle { (B.state base.new).begun ≡ false }
-    ensures done { B.is_clean base.new → IfOk result (IsStepOver (site_of rules.now) (λ w. listed (site_of rules.now) w level) (B.state base.old).now (B.state base.new).now) }
+    ensures done { B.is_clean base.new → IfOk result (IsStepOver (site_of rules.now)
+        (λ w. listed (site_of rules.now) w level) (B.state base.old).now (B.state base.new).now) }
     ensures known { IfOk result (HasKnownNumbers rules.now.policy.now) }
 {
     let strings = base.audit_all()?;

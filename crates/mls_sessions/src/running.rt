@@ -72,12 +72,15 @@ fn answer<B: Base, W: Write>(
     ensures clean { B.is_clean engine.new.base → B.is_clean engine.old.base }
     ensures count { B.failures engine.old.base ≤ B.failures engine.new.base }
     ensures kept { IsKept B.state B.is_clean engine.old engine.new }
-    ensures done { B.is_clean engine.new.base → OnOk result (IsAnswered (site engine.old) audience.now (world_of B.state engine.old) event.now
+    ensures done { B.is_clean engine.new.base → OnOk result (IsAnswered (site engine.old) audience.now
+        (world_of B.state engine.old) event.now
         (W.contents out.old) (W.contents out.new) (world_of B.state engine.new)) }
-    ensures stopped { B.is_clean engine.new.base → IfErr result (λ s. IsHalted (site engine.old) audience.now (world_of B.state engine.old) event.now
+    ensures stopped { B.is_clean engine.new.base → IfErr result
+        (λ s. IsHalted (site engine.old) audience.now (world_of B.state engine.old) event.now
         (W.contents out.old) (W.contents out.new) (world_of B.state engine.new) s.cause s.done) }
     ensures write { IfErr result (λ s. s.cause ≡ RunCause.Write → s.done ≡ true) }
-    ensures store { B.is_clean engine.new.base → IfErr result (λ s. s.cause ≡ RunCause.Store → B.failures engine.old.base < B.failures engine.new.base) }
+    ensures store { B.is_clean engine.new.base → IfErr result
+        (λ s. s.cause ≡ RunCause.Store → B.failures engine.old.base < B.failures engine.new.base) }
 {
     let reply = match engine.step(event) {
         Ok(reply) => reply,
@@ -122,17 +125,22 @@ pub fn run_to<B: Base, W: Write>(
     ensures clean { B.is_clean engine.new.base → B.is_clean engine.old.base }
     ensures count { B.failures engine.old.base ≤ B.failures engine.new.base }
     ensures kept { IsKept B.state B.is_clean engine.old engine.new }
-    ensures ok { B.is_clean engine.new.base → OnOk result (IsWhole (site engine.old) audience (world_of B.state engine.old) events.now
+    ensures ok { B.is_clean engine.new.base → OnOk result (IsWhole (site engine.old) audience
+        (world_of B.state engine.old) events.now
         (W.contents out.old) (W.contents out.new) (world_of B.state engine.new)) }
-    ensures err { B.is_clean engine.new.base → IfErr result (IsStopped (site engine.old) audience (world_of B.state engine.old) events.now
+    ensures err { B.is_clean engine.new.base → IfErr result (IsStopped (site engine.old) audience
+        (world_of B.state engine.old) events.now
         (W.contents out.old) (W.contents out.new) (world_of B.state engine.new)) }
     ensures fault { IfErr result (IsFaultOf events.now) }
     // Over a clean store, Store comes only where a call of it failed.
-    ensures store { B.is_clean engine.new.base → IfErr result (λ f. f.cause ≡ RunCause.Store → B.failures engine.old.base < B.failures engine.new.base) }
+    ensures store { B.is_clean engine.new.base → IfErr result
+        (λ f. f.cause ≡ RunCause.Store → B.failures engine.old.base < B.failures engine.new.base) }
     // Each database on the way has the four integrity properties.
-    ensures integrity { B.is_clean engine.new.base → KeepsIntegrity (site engine.old) (world_of B.state engine.old) events.now }
+    ensures integrity { B.is_clean engine.new.base → KeepsIntegrity (site engine.old)
+        (world_of B.state engine.old) events.now }
     // No information flows down but what is released: over all events, and over the first n of them.
-    ensures secret { B.is_clean engine.new.base → (n : ℕ) → PassesOnlyReleasesDown (site engine.old) (world_of B.state engine.old) (take n events.now) }
+    ensures secret { B.is_clean engine.new.base → (n : ℕ) → PassesOnlyReleasesDown (site engine.old)
+        (world_of B.state engine.old) (take n events.now) }
 {
     let audience = &audience;
     for (place, event) in events.iter().enumerate() {
@@ -158,14 +166,19 @@ pub fn run<B: Base, W: Write>(
     ensures clean { B.is_clean engine.new.base → B.is_clean engine.old.base }
     ensures count { B.failures engine.old.base ≤ B.failures engine.new.base }
     ensures kept { IsKept B.state B.is_clean engine.old engine.new }
-    ensures ok { B.is_clean engine.new.base → OnOk result (IsWhole (site engine.old) everyone (world_of B.state engine.old) events.now
+    ensures ok { B.is_clean engine.new.base → OnOk result (IsWhole (site engine.old) everyone
+        (world_of B.state engine.old) events.now
         (W.contents out.old) (W.contents out.new) (world_of B.state engine.new)) }
-    ensures err { B.is_clean engine.new.base → IfErr result (IsStopped (site engine.old) everyone (world_of B.state engine.old) events.now
+    ensures err { B.is_clean engine.new.base → IfErr result (IsStopped (site engine.old) everyone
+        (world_of B.state engine.old) events.now
         (W.contents out.old) (W.contents out.new) (world_of B.state engine.new)) }
     ensures fault { IfErr result (IsFaultOf events.now) }
-    ensures store { B.is_clean engine.new.base → IfErr result (λ f. f.cause ≡ RunCause.Store → B.failures engine.old.base < B.failures engine.new.base) }
-    ensures integrity { B.is_clean engine.new.base → KeepsIntegrity (site engine.old) (world_of B.state engine.old) events.now }
-    ensures secret { B.is_clean engine.new.base → (n : ℕ) → PassesOnlyReleasesDown (site engine.old) (world_of B.state engine.old) (take n events.now) }
+    ensures store { B.is_clean engine.new.base → IfErr result
+        (λ f. f.cause ≡ RunCause.Store → B.failures engine.old.base < B.failures engine.new.base) }
+    ensures integrity { B.is_clean engine.new.base → KeepsIntegrity (site engine.old)
+        (world_of B.state engine.old) events.now }
+    ensures secret { B.is_clean engine.new.base → (n : ℕ) → PassesOnlyReleasesDown (site engine.old)
+        (world_of B.state engine.old) (take n events.now) }
 {
     let everyone = Audience {
         reader: None,

@@ -10,11 +10,12 @@ use Rattle.mls_meaning.specs.Laws.{IsItem}
 use Rattle.mls_meaning.specs.Meaning.{Variables}
 use Rattle.mls_translang.specs.Tree.{Block}
 use Rattle.mls_meaning.proofs.KindLemmas.{EnvironmentFits}
+use Rattle.mls_views.specs.Views.{Kept}
 use Rattle.mls_trusted.specs.declared.call.Call.{Call}
 use Rattle.mls_trusted.specs.declared.frame.Frame.{Frame}
 use Rattle.mls_trusted.specs.Frames.{around_of, progress_of, env_in, inside, MayRun, HasVars, IsFrame}
 
-module _ (call : Call) (vars : Variables) (f g : Frame) (h : HasVars vars f g) where
+module _ (call : Call) (vars : Variables) (kept : Kept) (f g : Frame) (h : HasVars vars kept f g) where
   -- variables of their kinds, and the rest as it was
   pub vars_frame : IsFrame call f → VarsFit (scope_of call.tx.now) vars → IsFrame call g
   vars_frame i v = record {

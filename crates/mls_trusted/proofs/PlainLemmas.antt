@@ -33,12 +33,13 @@ module _ (call : Call) (f : Frame) (i : IsFrame call f) (e : Expr) (v : Option V
     kind = (k, subst (λ w. fits_kind w k ≡ true) (sym is) (value_kind call.policy.now call.schemes.now call.tx.now.hi (inside call m.rows) (env_in call.args.now f) (env_fits call f block i m) k e h));
   }
 
-  pub assign_step : (x : ℕ) (g : Frame) → MayRun call (around_of f) (Do (Assign x e) End) → HasVars (set_var x v (vars_of f)) f g → IsStep call (run_of call (Do (Assign x e) End) (around_of f)) f g
+  pub assign_step : (x : ℕ) (g : Frame) → MayRun call (around_of f) (Do (Assign x e) End) → HasVars (set_var x v (vars_of f)) f.views f g → IsStep call (run_of call (Do (Assign x e) End) (around_of f)) f g
   unfolding run_block perform
   assign_step x g m h = record {
-    frame = vars_frame call (set_var x v (vars_of f)) f g h i (given_kind (Do (Assign x e) End) m x m.kinds.0);
+    frame = vars_frame call (set_var x v (vars_of f)) f.views f g h i (given_kind (Do (Assign x e) End) m x m.kinds.0);
     rows = ap (λ r. r.items) h.rows;
-    progress = λ db. vars_progress call (set_var x v (vars_of f)) f g h db ∙ (λ k. record (progress_of db f) { vars = set_var x (is k) (vars_of f) });
+    views = h.views;
+    progress = λ db. vars_progress call (set_var x v (vars_of f)) f.views f g h db ∙ (λ k. record (progress_of db f) { vars = set_var x (is k) (vars_of f) });
   }
 
   pub emit_step : (label : ℕ) (r : Frame) → MayRun call (around_of f) (Do (Emit e label) End) → r.emitted.items ≡ f.emitted.items ++ (label, v) ∷ []
@@ -54,11 +55,12 @@ module _ (call : Call) (f : Frame) (i : IsFrame call f) (e : Expr) (v : Option V
           released = i.released;
         };
         rows = refl;
+        views = refl;
         progress = λ db. (λ k. record (progress_of db f) { emitted = more k }) ∙ (λ k. record (progress_of db f) { emitted = f.emitted.items ++ (label, is k) ∷ [] });
       }
 
   pub release_step : (to into : ℕ) (r g : Frame) → MayRun call (around_of f) (Do (Release e to into) End) → r.released.items ≡ f.released.items ++ (to, v) ∷ []
-      → HasVars (set_var into v (vars_of f)) (record f { released = r.released }) g → IsStep call (run_of call (Do (Release e to into) End) (around_of f)) f g
+      → HasVars (set_var into v (vars_of f)) f.views (record f { released = r.released }) g → IsStep call (run_of call (Do (Release e to into) End) (around_of f)) f g
   unfolding run_block perform
   release_step to into r g m more h =
       let block = Do (Release e to into) End in
@@ -73,9 +75,10 @@ module _ (call : Call) (f : Frame) (i : IsFrame call f) (e : Expr) (v : Option V
             (all_by_recursion_push (λ k. IsItem call.policy.now k × (below (labels_of call.policy.now) k.0 call.tx.now.hi ≡ true)) f.released.items (to, v) i.released (item, m.fits.0.2));
       } in
       record {
-        frame = vars_frame call (set_var into v (vars_of f)) mid g h there (given_kind block m into a);
+        frame = vars_frame call (set_var into v (vars_of f)) f.views mid g h there (given_kind block m into a);
         rows = ap (λ x. x.items) h.rows;
-        progress = λ db. vars_progress call (set_var into v (vars_of f)) mid g h db
+        views = h.views;
+        progress = λ db. vars_progress call (set_var into v (vars_of f)) f.views mid g h db
             ∙ (λ k. record (progress_of db f) { vars = set_var into v (vars_of f); released = more k })
             ∙ (λ k. record (progress_of db f) { vars = set_var into (is k) (vars_of f); released = f.released.items ++ (to, is k) ∷ [] });
       }

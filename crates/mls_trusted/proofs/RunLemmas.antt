@@ -23,6 +23,7 @@ use Rattle.mls_translang.proofs.BlockLemmas.{own_more, fits_more}
 use Rattle.mls_meaning.specs.Expressions.{holds_in}
 use Rattle.mls_meaning.specs.Kinds.{RowKinds}
 use Rattle.mls_meaning.specs.Meaning.{Progress, for_each, run_block}
+use Rattle.mls_views.specs.Views.{Kept, AreViews}
 use Rattle.mls_trusted.specs.declared.call.Call.{Call}
 use Rattle.mls_trusted.specs.declared.frame.Frame.{Frame}
 use Rattle.mls_trusted.specs.Runs.{with_database}
@@ -131,7 +132,7 @@ module _ (call : Call) {B : Type 0} (is_clean : B → Type 0) (state : B → Sta
   -- a part that leaves the base
   run_step : (run : Progress → Progress) (a b : B) (f g : Frame) → b ≡ a → IsReady call is_clean state a f → IsStep call run f g → Ran run a b f g
   run_step run a b f g same h p = subst (λ (x : B). Ran run a x f g) (sym same) (record {
-    ready = record { under = h.under; begun = h.begun; content = h.content; frame = p.frame };
+    ready = record { under = h.under; begun = h.begun; content = h.content; frame = p.frame; views = subst (AreViews call.policy.now is_clean state a) (sym p.views) h.views };
     rows = p.rows;
     rest = λ k. refl;
     progress = λ k. p.progress (state a).now.db;
@@ -154,12 +155,14 @@ module _ (call : Call) {B : Type 0} (is_clean : B → Type 0) (state : B → Sta
       (subst (λ (around : List Tuple). Ran (run_of call body (row ∷ around)) b c g h) (ap reverse p.rows) q)
 
   -- the base may have been read
-  pub ready_read : (a b : B) (f : Frame) → (is_clean b → is_clean a) → (state b).begun ≡ true → (is_clean b → state b ≡ state a) → IsReady call is_clean state a f → IsReady call is_clean state b f
-  ready_read a b f back begun same h = record {
+  pub ready_read : (a b : B) (f : Frame) (kept : Kept) → (is_clean b → is_clean a) → (state b).begun ≡ true → (is_clean b → state b ≡ state a)
+      → AreViews call.policy.now is_clean state b kept → IsReady call is_clean state a f → IsReady call is_clean state b (record f { views = kept })
+  ready_read a b f kept back begun same views h = record {
     under = h.under;
     begun = begun;
     content = λ k. subst (λ s. AreContent (labels_of call.policy.now) call.schemes.now s.now.db) (sym (same k)) (h.content (back k));
-    frame = h.frame;
+    frame = record { count = h.frame.count; vars = h.frame.vars; emitted = h.frame.emitted; released = h.frame.released };
+    views = views;
   }
 
   -- ---- inside a loop
@@ -171,6 +174,7 @@ module _ (call : Call) {B : Type 0} (is_clean : B → Type 0) (state : B → Sta
     begun = h.begun;
     content = h.content;
     frame = subst (IsFrame call) (sym e) (record { count = h.frame.count; vars = h.frame.vars; emitted = h.frame.emitted; released = h.frame.released });
+    views = subst (λ (x : Frame). AreViews call.policy.now is_clean state base x.views) (sym e) h.views;
   }
 
   pub entered_around : (f g : Frame) (row : Tuple) → g.rows.items ≡ f.rows.items ++ row ∷ [] → row ∷ around_of f ≡ around_of g

@@ -13,6 +13,8 @@ use Rattle.mls_translang.specs.Tx.{scope_of}
 use Rattle.mls_meaning.specs.Meaning.{set_outcome, write_in, perform, run_block}
 use Rattle.mls_meaning.proofs.KeepingLemmas.{table_holds, write_fits}
 use Rattle.mls_meaning.proofs.KindLemmas.{write_kinds, outcome_kind}
+use Rattle.mls_views.specs.Views.{AreViews, left_by}
+use Rattle.mls_views.proofs.WrittenLemmas.{kept_written}
 use Rattle.mls_trusted.specs.declared.call.Call.{Call}
 use Rattle.mls_trusted.specs.declared.frame.Frame.{Frame}
 use Rattle.mls_trusted.specs.Runs.{with_database}
@@ -34,7 +36,7 @@ module _ (call : Call) (f : Frame) (rel w : ℕ) (writing : Writing) (outcome : 
       (back : is_clean c → is_clean a) (begun : (state c).begun ≡ true)
       (done : is_clean c → IsWritten (labels_of call.policy.now) (scheme_of call.schemes.now rel) rel w (write_in (env_in call.args.now f) writing) (state a) (state c) o)
       (kept : is_clean c → IsContent (labels_of call.policy.now) (scheme_of call.schemes.now rel) ((state c).now.db rel))
-      (v : HasVars (set_outcome outcome o (vars_of f)) f g) where
+      (v : HasVars (set_outcome outcome o (vars_of f)) (left_by (labels_of call.policy.now) rel w o f.views) f g) where
     content : is_clean c → AreContent (labels_of call.policy.now) call.schemes.now (state c).now.db
     content k =
         let ls = labels_of call.policy.now in
@@ -51,10 +53,24 @@ module _ (call : Call) (f : Frame) (rel w : ℕ) (writing : Writing) (outcome : 
         let vars = v.vars ∙ (λ j. set_outcome outcome (d.outcome j) (vars_of f)) in
         λ j. record { db = (d.state j).now.db; vars = vars j; emitted = (v.emitted j).items; released = (v.released j).items }
 
+    views : AreViews call.policy.now is_clean state c g.views
+    views =
+        let ls = labels_of call.policy.now in
+        let scheme = scheme_of call.schemes.now rel in
+        subst (AreViews call.policy.now is_clean state c) (sym v.views)
+        (kept_written call.policy.now is_clean state scheme (length scheme.others) rel w (write_in (env_in call.args.now f) writing) a c o f.views back (λ k. (h.content (back k) rel).stored) done h.views)
+
     -- a write that was made, and its outcome kept
     run_write : IsRun call is_clean state (run_of call block (around_of f)) a c f g
     run_write = record {
-      ready = record { under = h.under; begun = begun; content = content; frame = vars_frame call (set_outcome outcome o (vars_of f)) f g v h.frame (outcome_kind (scope_of call.tx.now) outcome o (vars_of f) m.kinds.0.1 h.frame.vars) };
+      ready = record {
+        under = h.under;
+        begun = begun;
+        content = content;
+        frame = vars_frame call (set_outcome outcome o (vars_of f)) (left_by (labels_of call.policy.now) rel w o f.views) f g v h.frame
+            (outcome_kind (scope_of call.tx.now) outcome o (vars_of f) m.kinds.0.1 h.frame.vars);
+        views = views;
+      };
       rows = ap (λ x. x.items) v.rows;
       rest = λ k. (done k).state ∙ sym (ap (λ s. with_database (state a) s.now.db) (done k).state);
       progress = progress;
@@ -71,7 +87,7 @@ module _ (call : Call) (f : Frame) (rel w : ℕ) (writing : Writing) (outcome : 
       → IsReady call is_clean state a f → MayRun call (around_of f) block → (is_clean c → is_clean b) → (state c).begun ≡ true
       → (is_clean c → IsWritten (labels_of call.policy.now) (scheme_of call.schemes.now rel) rel w wr (state b) (state c) o)
       → (is_clean c → IsContent (labels_of call.policy.now) (scheme_of call.schemes.now rel) ((state c).now.db rel))
-      → HasVars (set_outcome outcome o (vars_of f)) f g → IsRun call is_clean state (run_of call block (around_of f)) a c f g
+      → HasVars (set_outcome outcome o (vars_of f)) (left_by (labels_of call.policy.now) rel w o f.views) f g → IsRun call is_clean state (run_of call block (around_of f)) a c f g
   run_written is_clean state a b c g o wr same is h m back begun done kept v =
       let ls = labels_of call.policy.now in
       let scheme = scheme_of call.schemes.now rel in

@@ -20,6 +20,7 @@ use Rattle.mls_meaning.specs.Expressions.{Environment}
 use Rattle.mls_meaning.specs.Meaning.{Variables, Progress, for_each, run_block}
 use Rattle.mls_meaning.specs.Kinds.{RowKinds, VarsFit, AroundFits}
 use Rattle.mls_meaning.specs.Laws.{IsItem}
+use Rattle.mls_views.specs.Views.{Kept, AreViews}
 use Rattle.mls_trusted.specs.declared.call.Call.{Call}
 use Rattle.mls_trusted.specs.declared.frame.Frame.{Frame}
 use Rattle.mls_trusted.specs.Runs.{with_database}
@@ -41,13 +42,14 @@ progress_of db f = record { db = db; vars = vars_of f; emitted = f.emitted.items
 abbrev pub env_in : List (Option Value) → Frame → Environment
 env_in args f = record { args = args; rows = around_of f; vars = vars_of f }
 
--- the variables of f have changed
-pub record HasVars (given : Variables) (f g : Frame) : Type 0 where
+-- the variables of f have changed, and its views
+pub record HasVars (given : Variables) (kept : Kept) (f g : Frame) : Type 0 where
   pub vars : vars_of g ≡ given
   pub count : length g.vars.items ≡ length f.vars.items
   pub rows : g.rows ≡ f.rows
   pub emitted : g.emitted ≡ f.emitted
   pub released : g.released ≡ f.released
+  pub views : g.views ≡ kept
 
 module _ (call : Call) where
   abbrev pub labels : Labels
@@ -96,15 +98,17 @@ module _ (call : Call) where
   pub record IsStep (run : Progress → Progress) (f g : Frame) : Type 0 where
     pub frame : IsFrame g
     pub rows : g.rows.items ≡ f.rows.items
+    pub views : g.views ≡ f.views
     pub progress : (db : Database) → progress_of db g ≡ run (progress_of db f)
 
   module _ {B : Type 0} (is_clean : B → Type 0) (state : B → State) where
-    -- inside a change over content of the stored form
+    -- inside a change over content of the stored form, with views of it
     pub record IsReady (base : B) (f : Frame) : Type 0 where
       pub under : AreUnder (length call.policy.now.labels) call.schemes.now
       pub begun : (state base).begun ≡ true
       pub content : is_clean base → AreContent labels call.schemes.now (state base).now.db
       pub frame : IsFrame f
+      pub views : AreViews call.policy.now is_clean state base f.views
 
     -- a part of a run: all but the database stays
     pub record IsRun (run : Progress → Progress) (old new : B) (f g : Frame) : Type 0 where

@@ -28,7 +28,8 @@ pub(crate) fn run_block<B: Base>(
     requires may { MayRun call.now (around_of frame.old) block.now }
     ensures call { IsCall B.is_clean B.failures B.state base.old base.new result }
     ensures served { IfErr result IsServed }
-    ensures ran { OnOk result (IsRun call.now B.is_clean B.state (run_of call.now block.now (around_of frame.old)) base.old base.new frame.old frame.new) }
+    ensures ran { OnOk result (IsRun call.now B.is_clean B.state
+        (run_of call.now block.now (around_of frame.old)) base.old base.new frame.old frame.new) }
 {
     for stmt in &block.stmts {
         run_stmt(call, base, frame, stmt)?;
@@ -50,7 +51,9 @@ fn run_branch<B: Base>(
     requires may { MayRun call.now (around_of frame.old) (If guard.now one.now other.now End) }
     ensures call { IsCall B.is_clean B.failures B.state base.old base.new result }
     ensures served { IfErr result IsServed }
-    ensures ran { OnOk result (IsRun call.now B.is_clean B.state (run_of call.now (If guard.now one.now other.now End) (around_of frame.old)) base.old base.new frame.old frame.new) }
+    ensures ran { OnOk result (IsRun call.now B.is_clean B.state
+        (run_of call.now (If guard.now one.now other.now End) (around_of frame.old)) base.old base.new frame.old
+        frame.new) }
 {
     if frame.environment(call.args).eval(guard).is_true() {
         run_block(call, base, frame, one)
@@ -72,7 +75,8 @@ fn run_row<B: Base>(
     requires may { MayRun call.now (row ∷ around_of frame.old) body.now }
     ensures call { IsCall B.is_clean B.failures B.state base.old base.new result }
     ensures served { IfErr result IsServed }
-    ensures ran { OnOk result (IsRun call.now B.is_clean B.state (run_of call.now body.now (row ∷ around_of frame.old)) base.old base.new frame.old frame.new) }
+    ensures ran { OnOk result (IsRun call.now B.is_clean B.state
+        (run_of call.now body.now (row ∷ around_of frame.old)) base.old base.new frame.old frame.new) }
 {
     made(base, frame.enter(row))?;
     run_block(call, base, frame, body)?;
@@ -93,7 +97,8 @@ fn run_rows<B: Base>(
     requires may { AllByRecursion (λ row. MayRun call.now (row ∷ around_of frame.old) body.now) rows.items }
     ensures call { IsCall B.is_clean B.failures B.state base.old base.new result }
     ensures served { IfErr result IsServed }
-    ensures ran { OnOk result (IsRun call.now B.is_clean B.state (rows_of call.now body.now (around_of frame.old) rows.items) base.old base.new frame.old frame.new) }
+    ensures ran { OnOk result (IsRun call.now B.is_clean B.state
+        (rows_of call.now body.now (around_of frame.old) rows.items) base.old base.new frame.old frame.new) }
 {
     for row in rows {
         run_row(call, base, frame, row, body)?;
@@ -115,9 +120,10 @@ fn run_loop<B: Base>(
     requires may { MayLoop call.now relation label (around_of frame.old) body.now }
     ensures call { IsCall B.is_clean B.failures B.state base.old base.new result }
     ensures served { IfErr result IsServed }
-    ensures ran { OnOk result (IsRun call.now B.is_clean B.state (loop_of call.now relation label body.now (around_of frame.old)) base.old base.new frame.old frame.new) }
+    ensures ran { OnOk result (IsRun call.now B.is_clean B.state
+        (loop_of call.now relation label body.now (around_of frame.old)) base.old base.new frame.old frame.new) }
 {
-    let rows = rows_at(call, base, relation, label)?;
+    let rows = rows_at(call, base, &mut frame.views, relation, label)?;
     run_rows(call, base, frame, rows, body)
 }
 
@@ -133,7 +139,8 @@ fn run_stmt<B: Base>(
     requires may { MayRun call.now (around_of frame.old) (block_of (stmt.now ∷ [])) }
     ensures call { IsCall B.is_clean B.failures B.state base.old base.new result }
     ensures served { IfErr result IsServed }
-    ensures ran { OnOk result (IsRun call.now B.is_clean B.state (run_of call.now (block_of (stmt.now ∷ [])) (around_of frame.old)) base.old base.new frame.old frame.new) }
+    ensures ran { OnOk result (IsRun call.now B.is_clean B.state
+        (run_of call.now (block_of (stmt.now ∷ [])) (around_of frame.old)) base.old base.new frame.old frame.new) }
 {
     match stmt {
         Stmt::If { guard, one, other } => run_branch(call, base, frame, guard, one, other),

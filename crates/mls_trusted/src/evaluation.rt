@@ -8,6 +8,7 @@ ghost use Rattle.mls_filterview.specs.Stored.{AreContent};
 ghost use Rattle.mls_translang.specs.Fits.{IsReadUnder};
 ghost use Rattle.mls_meaning.specs.Meaning.{run_tx};
 ghost use Rattle.mls_meaning.specs.Laws.{ArgsFit};
+ghost use Rattle.mls_views.specs.Views.{AreViews};
 ghost use Rattle.mls_trusted.specs.Runs.{with_database, IsEvaluated, HasItems};
 
 use crate::block::run_block;
@@ -18,16 +19,19 @@ use mls_filterview::{Base, BaseFault, made};
 use mls_lattice::Policy;
 use mls_meaning::Run;
 use mls_scheme::{Schemes, Value};
+use mls_views::Views;
 use std::alloc::Global;
 
 /// Runs a transaction inside a change, with an argument for each parameter.
 ///
-/// A write that is refused changes nothing, and the run goes on. After `Store` or `Memory` the change has ended.
+/// A write that is refused changes nothing, and the run goes on. A view that is kept is not resolved again. After `Store` or
+/// `Memory` the change has ended, and no view is kept.
 pub fn evaluate_in<B: Base>(
     alloc: Global,
     base: &mut B,
     policy: &Policy,
     schemes: &Schemes,
+    views: &mut Views,
     certified: &Certified,
     args: &[Option<Value>],
 ) -> Result<Run, BaseFault>
@@ -36,14 +40,18 @@ pub fn evaluate_in<B: Base>(
     requires args { ArgsFit certified.now.tx args.now }
     requires begun { (B.state base.old).begun ≡ true }
     requires content { B.is_clean base.old → AreContent (labels_of policy.now) schemes.now (B.state base.old).now.db }
+    requires views { AreViews policy.now B.is_clean B.state base.old views.old }
     ensures call { IsCall B.is_clean B.failures B.state base.old base.new result }
     ensures served { IfErr result IsServed }
     ensures mode { OnOk result ((B.state base.new).begun ≡ true) }
     ensures items { IfOk result (HasItems policy.now) }
     // What is emitted, released and left is what the transaction means.
-    ensures done { B.is_clean base.new → let run = run_tx (labels_of policy.now) schemes.now certified.now.tx args.now (B.state base.old).now.db in
+    ensures done { B.is_clean base.new → let run = run_tx (labels_of policy.now) schemes.now certified.now.tx args.now
+        (B.state base.old).now.db in
         IfOk result (IsEvaluated run (with_database (B.state base.old) run.db) (B.state base.new)) }
-    ensures content { B.is_clean base.new → OnOk result (AreContent (labels_of policy.now) schemes.now (B.state base.new).now.db) }
+    ensures content { B.is_clean base.new → OnOk result (AreContent (labels_of policy.now) schemes.now
+        (B.state base.new).now.db) }
+    ensures views { AreViews policy.now B.is_clean B.state base.new views.new }
 {
     let call = Call {
         alloc,
@@ -52,9 +60,11 @@ pub fn evaluate_in<B: Base>(
         tx: certified.tx(),
         args,
     };
-    let mut frame = made(base, Frame::new(&call))?;
+    let mut frame = made(base, Frame::new(&call, views.take_all()))?;
     run_block(&call, base, &mut frame, call.tx.body())?;
-    Ok(frame.into_run())
+    let (run, kept) = frame.into_parts();
+    *views = kept;
+    Ok(run)
 }
 
 /// Runs a transaction as a change of its own, with an argument for each parameter.
@@ -78,12 +88,15 @@ pub fn evaluate<B: Base>(
     ensures mode { OnOk result ((B.state base.new).begun ≡ false) }
     ensures items { IfOk result (HasItems policy.now) }
     // What is emitted, released and left is what the transaction means, and the last commit.
-    ensures done { B.is_clean base.new → let run = run_tx (labels_of policy.now) schemes.now certified.now.tx args.now (B.state base.old).now.db in
+    ensures done { B.is_clean base.new → let run = run_tx (labels_of policy.now) schemes.now certified.now.tx args.now
+        (B.state base.old).now.db in
         IfOk result (IsEvaluated run (committed (with_database (B.state base.old) run.db)) (B.state base.new)) }
-    ensures content { B.is_clean base.new → OnOk result (AreContent (labels_of policy.now) schemes.now (B.state base.new).now.db) }
+    ensures content { B.is_clean base.new → OnOk result (AreContent (labels_of policy.now) schemes.now
+        (B.state base.new).now.db) }
 {
+    let mut views = Views::new();
     base.begin()?;
-    let run = evaluate_in(alloc, base, policy, schemes, certified, args)?;
+    let run = evaluate_in(alloc, base, policy, schemes, &mut views, certified, args)?;
     base.commit()?;
     Ok(run)
 }

@@ -9,13 +9,15 @@ ghost use Rattle.mls_filterview.specs.View.{rows};
 ghost use Rattle.mls_translang.specs.Kinds.{field_of};
 ghost use Rattle.mls_meaning.specs.Expressions.{value_of};
 ghost use Rattle.mls_meaning.specs.Kinds.{RowKinds};
+ghost use Rattle.mls_views.specs.Views.{AreViews};
 ghost use Rattle.mls_trusted.specs.Data.{datum_of};
 
 use crate::call::Call;
 use crate::environment::cell;
-use mls_filterview::{Base, BaseFault, view};
+use mls_filterview::{Base, BaseFault};
 use mls_lattice::LabelNo;
 use mls_scheme::{Kind, RelNo, Scheme, Tuple};
+use mls_views::Views;
 
 /// The kind of an attribute by number, the key first; past the last one it is that of numbers.
 fn kind_of(scheme: &Scheme, attribute: usize) -> Kind
@@ -64,28 +66,34 @@ fn are_of_kinds(scheme: &Scheme, rows: &[Tuple]) -> bool
     true
 }
 
-/// What a level sees of a relation. Only a store that does not give back what was written to it can give values of other
+/// What a level sees of a relation, from the views that are kept where it is among them. Only a store that does not give back what was written to it can give values of other
 /// kinds: then there are no rows.
 pub(crate) fn rows_at<B: Base>(
     call: &Call<'_>,
     base: &mut B,
+    views: &mut Views,
     relation: RelNo,
     label: LabelNo,
 ) -> Result<Vec<Tuple>, BaseFault>
     requires label { label < length call.now.policy.now.labels }
     requires relation { relation < length call.now.schemes.now }
     requires begun { (B.state base.old).begun ≡ true }
-    requires content { B.is_clean base.old → AreContent (labels_of call.now.policy.now) call.now.schemes.now (B.state base.old).now.db }
+    requires content { B.is_clean base.old → AreContent (labels_of call.now.policy.now) call.now.schemes.now
+        (B.state base.old).now.db }
+    requires views { AreViews call.now.policy.now B.is_clean B.state base.old views.old }
     ensures call { IsCall B.is_clean B.failures B.state base.old base.new result }
     ensures served { IfErr result IsServed }
     ensures mode { OnOk result ((B.state base.new).begun ≡ true) }
     ensures kinds { IfOk result (λ v. AllByRecursion (RowKinds (scheme_of call.now.schemes.now relation)) v.items) }
-    ensures rows { B.is_clean base.new → IfOk result (λ v. v.items ≡ rows (labels_of call.now.policy.now) label ((B.state base.old).now.db relation)) }
+    ensures rows { B.is_clean base.new → IfOk result (λ v. v.items ≡ rows (labels_of call.now.policy.now) label
+        ((B.state base.old).now.db relation)) }
     ensures same { B.is_clean base.new → OnOk result (B.state base.new ≡ B.state base.old) }
+    ensures views { AreViews call.now.policy.now B.is_clean B.state base.new views.new }
 {
     // That the labels of a policy are distinct.
     let _count = call.policy.label_count();
-    let rows = view(call.alloc, base, call.policy, relation, label)?;
+    let rows = views.view(call.alloc, base, call.policy, relation, label)?;
+    let rows = rows.into_vec();
     if are_of_kinds(call.schemes.scheme(relation), &rows) {
         Ok(rows)
     } else {

@@ -1,20 +1,23 @@
 //! What a call holds while it runs.
 ghost use Rattle.std.specs.Prelude.{◌≡◌, ◌<◌, ◌++◌, ◌∷◌, [], ℕ, List, None, length, slice_index_or, IfOk, IfSome, OnOk};
+ghost use Rattle.mls_lattice.specs.Policy.{labels_of};
 ghost use Rattle.mls_scheme.specs.Table.{Database};
 ghost use Rattle.mls_scheme.specs.declared.tuple.Tuple.{Tuple as Row};
 ghost use Rattle.mls_meaning.specs.Meaning.{set_outcome, set_var, start};
+ghost use Rattle.mls_views.specs.Views.{AreDeclared, left_by};
 ghost use Rattle.mls_trusted.specs.Data.{env_of};
 ghost use Rattle.mls_trusted.specs.Frames.{vars_of, progress_of, env_in, IsFrame, HasVars};
 
 use crate::call::Call;
 use crate::environment::Environment;
-use mls_lattice::{Items, LabelNo};
+use mls_lattice::{Items, LabelNo, Policy};
 use mls_meaning::Run;
-use mls_scheme::{Tuple, Value};
+use mls_scheme::{RelNo, Tuple, Value};
 use mls_updates::Outcome;
+use mls_views::Views;
 use std::alloc::{AllocError, Global};
 
-/// Variables and items of a call, and the rows of the loops that it is in.
+/// Variables and items of a call, the rows of the loops that it is in, and the views that are kept.
 #[derive(Drop)]
 pub(crate) struct Frame {
     /// The variables, by number.
@@ -23,6 +26,8 @@ pub(crate) struct Frame {
     pub rows: Vec<Tuple>,
     pub emitted: Vec<(LabelNo, Option<Value>)>,
     pub released: Vec<(LabelNo, Option<Value>)>,
+    /// Views of the database as it is now.
+    pub views: Views,
 }
 
 /// As many nulls.
@@ -39,10 +44,11 @@ fn nulls(alloc: Global, count: usize) -> Result<Vec<Option<Value>>, AllocError>
 
 impl Frame {
     /// Before the first statement: variables are null.
-    pub fn new(call: &Call<'_>) -> Result<Frame, AllocError>
+    pub fn new(call: &Call<'_>, views: Views) -> Result<Frame, AllocError>
         ensures frame { IfOk result (IsFrame call.now) }
         ensures rows { IfOk result (λ f. f.rows.items ≡ []) }
         ensures start { IfOk result (λ f. (db : Database) → progress_of db f ≡ start db) }
+        ensures views { IfOk result (λ f. f.views ≡ views) }
     {
         let vars = nulls(call.alloc, call.tx.vars().len())?;
         Ok(Frame {
@@ -50,6 +56,7 @@ impl Frame {
             rows: Vec::new(call.alloc),
             emitted: Vec::new(call.alloc),
             released: Vec::new(call.alloc),
+            views,
         })
     }
 
@@ -67,20 +74,39 @@ impl Frame {
     /// Gives a variable a value.
     pub fn set(&mut self, variable: u8, value: Option<Value>)
         requires { variable < length self.old.vars.items }
-        ensures { HasVars (set_var variable value (vars_of self.old)) self.old self.new }
+        ensures { HasVars (set_var variable value (vars_of self.old)) self.old.views self.old self.new }
     {
         self.vars[usize::from(variable)] = value;
     }
 
     /// Keeps the number of an outcome, where a variable is named for it.
-    pub fn set_outcome(&mut self, variable: Option<u8>, outcome: Outcome)
+    fn set_outcome(&mut self, variable: Option<u8>, outcome: Outcome)
         requires { IfSome variable (λ x. x < length self.old.vars.items) }
-        ensures { HasVars (set_outcome variable outcome (vars_of self.old)) self.old self.new }
+        ensures { HasVars (set_outcome variable outcome (vars_of self.old)) self.old.views self.old self.new }
     {
         match variable {
             None => {}
             Some(variable) => self.set(variable, Some(Value::Int(i64::from(outcome.code())))),
         }
+    }
+
+    /// Keeps what a write of a relation at a label came to: its outcome, and of the views those that it can't have changed.
+    pub fn wrote(
+        &mut self,
+        policy: &Policy,
+        relation: RelNo,
+        at: LabelNo,
+        variable: Option<u8>,
+        outcome: Outcome,
+    )
+        requires at { at < length policy.now.labels }
+        requires variable { IfSome variable (λ x. x < length self.old.vars.items) }
+        requires declared { AreDeclared (length policy.now.labels) self.old.views }
+        ensures { HasVars (set_outcome variable outcome (vars_of self.old))
+            (left_by (labels_of policy.now) relation at outcome self.old.views) self.old self.new }
+    {
+        self.views.follow(policy, relation, at, outcome);
+        self.set_outcome(variable, outcome);
     }
 
     /// Enters a loop over rows, at this row.
@@ -95,25 +121,29 @@ impl Frame {
     /// Leaves the innermost loop.
     pub fn leave(&mut self)
         ensures rest { self.new ≡ record self.old { rows = self.new.rows } }
-        ensures rows { (rows : List Row) (row : Row) → self.old.rows.items ≡ rows ++ row ∷ [] → self.new.rows.items ≡ rows }
+        ensures rows { (rows : List Row) (row : Row) → self.old.rows.items ≡ rows ++ row ∷ []
+            → self.new.rows.items ≡ rows }
     {
         let _ = self.rows.pop();
     }
 
-    /// What was emitted and released.
-    pub fn into_run(self) -> Run
-        ensures emitted { result.emitted ≡ self.emitted.items }
-        ensures released { result.released ≡ self.released.items }
+    /// What was emitted and released, and the views.
+    pub fn into_parts(self) -> (Run, Views)
+        ensures emitted { result.0.emitted ≡ self.emitted.items }
+        ensures released { result.0.released ≡ self.released.items }
+        ensures views { result.1 ≡ self.views }
     {
         let Frame {
             vars: _,
             rows: _,
             emitted,
             released,
+            views,
         } = self;
-        Run {
+        let run = Run {
             emitted: Items::from(emitted),
             released: Items::from(released),
-        }
+        };
+        (run, views)
     }
 }

@@ -10,7 +10,8 @@ use std::cmp::Ordering;
 
 /// The sum of two numbers.
 fn plus<'a>(left: Datum<'_>, right: Datum<'_>) -> Datum<'a>
-    ensures { datum_of result ≡ Plain (calculate ◌+ℤ◌ (value_of (datum_of left.entry)) (value_of (datum_of right.entry))) }
+    ensures { datum_of result ≡ Plain (calculate ◌+ℤ◌ (value_of (datum_of left.entry))
+        (value_of (datum_of right.entry))) }
 {
     let Some(first) = left.as_number() else {
         return Datum::Null;
@@ -23,7 +24,8 @@ fn plus<'a>(left: Datum<'_>, right: Datum<'_>) -> Datum<'a>
 
 /// The difference of two numbers.
 fn minus<'a>(left: Datum<'_>, right: Datum<'_>) -> Datum<'a>
-    ensures { datum_of result ≡ Plain (calculate ◌-ℤ◌ (value_of (datum_of left.entry)) (value_of (datum_of right.entry))) }
+    ensures { datum_of result ≡ Plain (calculate ◌-ℤ◌ (value_of (datum_of left.entry))
+        (value_of (datum_of right.entry))) }
 {
     let Some(first) = left.as_number() else {
         return Datum::Null;
@@ -36,7 +38,8 @@ fn minus<'a>(left: Datum<'_>, right: Datum<'_>) -> Datum<'a>
 
 /// The product of two numbers.
 fn times<'a>(left: Datum<'_>, right: Datum<'_>) -> Datum<'a>
-    ensures { datum_of result ≡ Plain (calculate ◌*ℤ◌ (value_of (datum_of left.entry)) (value_of (datum_of right.entry))) }
+    ensures { datum_of result ≡ Plain (calculate ◌*ℤ◌ (value_of (datum_of left.entry))
+        (value_of (datum_of right.entry))) }
 {
     let Some(first) = left.as_number() else {
         return Datum::Null;

@@ -20,7 +20,8 @@ pub(crate) fn assign(
 ) -> Result<(), AllocError>
     requires frame { IsFrame call.now frame.old }
     requires may { MayRun call.now (around_of frame.old) (Do (Assign variable value.now) End) }
-    ensures { OnOk result (IsStep call.now (run_of call.now (Do (Assign variable value.now) End) (around_of frame.old)) frame.old frame.new) }
+    ensures { OnOk result (IsStep call.now (run_of call.now (Do (Assign variable value.now) End) (around_of frame.old))
+        frame.old frame.new) }
 {
     let value = value_of(&frame.environment(call.args), value)?;
     frame.set(variable, value);
@@ -37,7 +38,8 @@ pub(crate) fn release(
 ) -> Result<(), AllocError>
     requires frame { IsFrame call.now frame.old }
     requires may { MayRun call.now (around_of frame.old) (Do (Release value.now to into) End) }
-    ensures { OnOk result (IsStep call.now (run_of call.now (Do (Release value.now to into) End) (around_of frame.old)) frame.old frame.new) }
+    ensures { OnOk result (IsStep call.now (run_of call.now (Do (Release value.now to into) End) (around_of frame.old))
+        frame.old frame.new) }
 {
     let value = value_of(&frame.environment(call.args), value)?;
     frame.released.push((to, copy_value(&value)?))?;
@@ -54,7 +56,8 @@ pub(crate) fn emit(
 ) -> Result<(), AllocError>
     requires frame { IsFrame call.now frame.old }
     requires may { MayRun call.now (around_of frame.old) (Do (Emit value.now label) End) }
-    ensures { OnOk result (IsStep call.now (run_of call.now (Do (Emit value.now label) End) (around_of frame.old)) frame.old frame.new) }
+    ensures { OnOk result (IsStep call.now (run_of call.now (Do (Emit value.now label) End) (around_of frame.old))
+        frame.old frame.new) }
 {
     let value = value_of(&frame.environment(call.args), value)?;
     frame.emitted.push((label, value))?;

@@ -59,7 +59,7 @@ fn delete_operands(
     values_of(call.alloc, &frame.environment(call.args), key)
 }
 
-/// Inserts a tuple, and keeps the outcome.
+/// Inserts a tuple, and keeps what that came to.
 pub(crate) fn insert_at<B: Base>(
     call: &Call<'_>,
     base: &mut B,
@@ -71,10 +71,13 @@ pub(crate) fn insert_at<B: Base>(
     outcome: Option<u8>,
 ) -> Result<(), BaseFault>
     requires ready { IsReady call.now B.is_clean B.state base.old frame.old }
-    requires may { MayRun call.now (around_of frame.old) (Do (Write_at relation at (Inserting key.now values.now) outcome) End) }
+    requires may { MayRun call.now (around_of frame.old) (Do (Write_at relation at
+        (Inserting key.now values.now) outcome) End) }
     ensures call { IsCall B.is_clean B.failures B.state base.old base.new result }
     ensures served { IfErr result IsServed }
-    ensures ran { OnOk result (IsRun call.now B.is_clean B.state (run_of call.now (Do (Write_at relation at (Inserting key.now values.now) outcome) End) (around_of frame.old)) base.old base.new frame.old frame.new) }
+    ensures ran { OnOk result (IsRun call.now B.is_clean B.state
+        (run_of call.now (Do (Write_at relation at (Inserting key.now values.now) outcome) End) (around_of frame.old))
+        base.old base.new frame.old frame.new) }
 {
     let Call {
         alloc,
@@ -84,11 +87,11 @@ pub(crate) fn insert_at<B: Base>(
     } = *call;
     let (key, values) = made(base, insert_operands(call, frame, key, values))?;
     let done = insert(alloc, base, policy, schemes, relation, at, &key, &values)?;
-    frame.set_outcome(outcome, done);
+    frame.wrote(policy, relation, at, outcome, done);
     Ok(())
 }
 
-/// Updates a tuple, and keeps the outcome.
+/// Updates a tuple, and keeps what that came to.
 pub(crate) fn update_at<B: Base>(
     call: &Call<'_>,
     base: &mut B,
@@ -102,10 +105,13 @@ pub(crate) fn update_at<B: Base>(
     outcome: Option<u8>,
 ) -> Result<(), BaseFault>
     requires ready { IsReady call.now B.is_clean B.state base.old frame.old }
-    requires may { MayRun call.now (around_of frame.old) (Do (Write_at relation at (Updating key.now key_class from sets.now) outcome) End) }
+    requires may { MayRun call.now (around_of frame.old) (Do (Write_at relation at
+        (Updating key.now key_class from sets.now) outcome) End) }
     ensures call { IsCall B.is_clean B.failures B.state base.old base.new result }
     ensures served { IfErr result IsServed }
-    ensures ran { OnOk result (IsRun call.now B.is_clean B.state (run_of call.now (Do (Write_at relation at (Updating key.now key_class from sets.now) outcome) End) (around_of frame.old)) base.old base.new frame.old frame.new) }
+    ensures ran { OnOk result (IsRun call.now B.is_clean B.state
+        (run_of call.now (Do (Write_at relation at (Updating key.now key_class from sets.now) outcome) End)
+        (around_of frame.old)) base.old base.new frame.old frame.new) }
 {
     let Call {
         alloc,
@@ -117,11 +123,11 @@ pub(crate) fn update_at<B: Base>(
     let done = update(
         alloc, base, policy, schemes, relation, at, &key, key_class, from, &sets,
     )?;
-    frame.set_outcome(outcome, done);
+    frame.wrote(policy, relation, at, outcome, done);
     Ok(())
 }
 
-/// Deletes tuples, and keeps the outcome.
+/// Deletes tuples, and keeps what that came to.
 pub(crate) fn delete_at<B: Base>(
     call: &Call<'_>,
     base: &mut B,
@@ -133,10 +139,13 @@ pub(crate) fn delete_at<B: Base>(
     outcome: Option<u8>,
 ) -> Result<(), BaseFault>
     requires ready { IsReady call.now B.is_clean B.state base.old frame.old }
-    requires may { MayRun call.now (around_of frame.old) (Do (Write_at relation at (Deleting key.now key_class) outcome) End) }
+    requires may { MayRun call.now (around_of frame.old) (Do (Write_at relation at (Deleting key.now key_class) outcome)
+        End) }
     ensures call { IsCall B.is_clean B.failures B.state base.old base.new result }
     ensures served { IfErr result IsServed }
-    ensures ran { OnOk result (IsRun call.now B.is_clean B.state (run_of call.now (Do (Write_at relation at (Deleting key.now key_class) outcome) End) (around_of frame.old)) base.old base.new frame.old frame.new) }
+    ensures ran { OnOk result (IsRun call.now B.is_clean B.state
+        (run_of call.now (Do (Write_at relation at (Deleting key.now key_class) outcome) End) (around_of frame.old))
+        base.old base.new frame.old frame.new) }
 {
     let Call {
         alloc,
@@ -146,6 +155,6 @@ pub(crate) fn delete_at<B: Base>(
     } = *call;
     let key = made(base, delete_operands(call, frame, key))?;
     let done = delete(alloc, base, policy, schemes, relation, at, &key, key_class)?;
-    frame.set_outcome(outcome, done);
+    frame.wrote(policy, relation, at, outcome, done);
     Ok(())
 }

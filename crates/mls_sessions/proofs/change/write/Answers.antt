@@ -1,7 +1,10 @@
 use Rattle.std.proofs.Common.{◌<◌, length, subst, sym}
 use Rattle.std.specs.List.{AllByRecursion}
 use Rattle.mls_scheme.specs.Scheme.{scheme_of}
+use Rattle.mls_updates.specs.Writes.{Insert, Update, Delete}
 use Rattle.mls_script.specs.Event.{CommandFits}
+use Rattle.mls_sessions.proofs.KeptLemmas.{written_views}
+use Rattle.mls_sessions.proofs.change.write.Goals.{in-Insert+in_ok-outcome-in-Insert, in-Update+in_ok-outcome-in-Update, in-Delete+in_ok-outcome-in-Delete}
 use Rattle.mls_sessions.proofs.change.write.Goals as goal
 
 pub insert-requires-clause-stored : goal.insert-requires-clause-stored
@@ -17,3 +20,31 @@ update-requires-clause-stored g c = λ h. (c.requires.sound h).content c.in-Upda
 
 pub delete-requires-clause-stored : goal.delete-requires-clause-stored
 delete-requires-clause-stored g c = λ h. (c.requires.sound h).content c.in-Delete.rel
+
+pub returns-clause-views : goal.returns-clause-views
+returns-clause-views g c =
+    let rules = c.args.rules.now in
+    let e = c.args.event.now in
+    let policy = rules.policy.now in
+    let a = c.args.base.now in
+    let here = c.match-event.base in
+    let es = c.args.views.now in
+    let left = c.match-event.views in
+    let sound = c.requires.sound in
+    elim c.match-event.branch [
+      | in-Insert+in_ok-outcome-in-Insert w ↦
+          let rel = w.in-Insert.rel in
+          let done = w.in_ok-outcome-in-Insert.ensures in
+          written_views g.B.Base.is_clean g.B.Base.state policy (scheme_of rules.schemes.now rel) rel e.level (Insert w.deref.result.now w.deref-in-Insert.result.now) a w.insert.new.base here w.in_ok-outcome-in-Insert.outcome es w.follow.new.self left
+          w.base-is w.views-is w.follow.ensures done.call.clean (λ k. (sound (done.call.clean k)).content rel) done.done c.requires.views
+      | in-Update+in_ok-outcome-in-Update w ↦
+          let rel = w.in-Update.rel in
+          let done = w.in_ok-outcome-in-Update.ensures in
+          written_views g.B.Base.is_clean g.B.Base.state policy (scheme_of rules.schemes.now rel) rel e.level (Update w.deref-in-Update.result.now w.in-Update.key_class w.in-Update.from w.deref-in-Update-2.result.now) a w.update.new.base here w.in_ok-outcome-in-Update.outcome es w.follow-in-Update.new.self left
+          w.base-is w.views-is w.follow-in-Update.ensures done.call.clean (λ k. (sound (done.call.clean k)).content rel) done.done c.requires.views
+      | in-Delete+in_ok-outcome-in-Delete w ↦
+          let rel = w.in-Delete.rel in
+          let done = w.in_ok-outcome-in-Delete.ensures in
+          written_views g.B.Base.is_clean g.B.Base.state policy (scheme_of rules.schemes.now rel) rel e.level (Delete w.deref-in-Delete.result.now w.in-Delete.key_class) a w.delete.new.base here w.in_ok-outcome-in-Delete.outcome es w.follow-in-Delete.new.self left
+          w.base-is w.views-is w.follow-in-Delete.ensures done.call.clean (λ k. (sound (done.call.clean k)).content rel) done.done c.requires.views
+    ]

@@ -68,7 +68,7 @@ run_loop-run_rows-requires g t c κs within =
     let call = c.args.call.now in
     let f = c.args.frame.now in
     let read = c.in_ok-rows.ensures in
-    let ready = ready_read call g.B.Base.is_clean g.B.Base.state c.args.base.now c.rows_at.new.base f read.call.clean read.mode read.same c.requires.ready in
+    let ready = ready_read call g.B.Base.is_clean g.B.Base.state c.args.base.now c.rows_at.new.base f c.rows_at.new.views c.rows_at.ensures.call.clean read.mode read.same c.rows_at.ensures.views c.requires.ready in
     let may = may_each call (around_of f) c.args.relation c.args.label c.args.body.now c.requires.may c.in_ok-rows.rows.items read.kinds in
     (omega arith, (within, (ready, may)))
 

@@ -8,6 +8,7 @@ use Rattle.mls_translang.specs.Tx.{Tx}
 use Rattle.mls_translang.specs.Fits.{IsReadUnder}
 use Rattle.mls_meaning.specs.Laws.{ArgsFit}
 use Rattle.mls_meaning.specs.Meaning.{start, run_tx}
+use Rattle.mls_views.specs.Views.{AreViews}
 use Rattle.mls_trusted.specs.declared.call.Call.{Call}
 use Rattle.mls_trusted.specs.declared.frame.Frame.{Frame}
 use Rattle.mls_trusted.specs.Runs.{with_database, IsEvaluated}
@@ -18,11 +19,15 @@ use Rattle.mls_trusted.proofs.evaluation.evaluate_in.Goals as goal
 pub run_block-requires-clause-ready : goal.run_block-requires-clause-ready
 run_block-requires-clause-ready g c =
     let call : Call = record { alloc = c.args.alloc; policy = c.args.policy; schemes = c.args.schemes; tx = c.tx.result; args = c.args.args } in
+    let is = IfOk-at_ok (λ (x : Frame). x.views ≡ c.take_all.result) c.in_ok-frame.ensures.value c.new.ensures.views in
+    let views = subst (AreViews c.args.policy.now g.B.Base.is_clean g.B.Base.state c.made.new.base) (sym (is ∙ c.take_all.ensures.all))
+    (subst (λ b. AreViews c.args.policy.now g.B.Base.is_clean g.B.Base.state b c.args.views.now) (sym c.in_ok-frame.ensures.same) c.requires.views) in
     record {
       under = c.requires.under;
       begun = ap (λ b. (g.B.Base.state b).begun) c.in_ok-frame.ensures.same ∙ c.requires.begun;
       content = λ k. subst (λ b. AreContent (labels_of c.args.policy.now) c.args.schemes.now (g.B.Base.state b).now.db) (sym c.in_ok-frame.ensures.same) (c.requires.content (c.in_ok-frame.ensures.call.clean k));
       frame = IfOk-at_ok (IsFrame call) c.in_ok-frame.ensures.value c.new.ensures.frame;
+      views = views;
     }
 
 pub run_block-requires-clause-may : goal.run_block-requires-clause-may
@@ -36,7 +41,7 @@ run_block-requires-clause-may g c =
 pub returns-clause-items : goal.returns-clause-items
 returns-clause-items g c =
     let call : Call = record { alloc = c.args.alloc; policy = c.args.policy; schemes = c.args.schemes; tx = c.tx.result; args = c.args.args } in
-    gives_items call c.run_block.new.frame c.into_run.result c.into_run.ensures.emitted c.into_run.ensures.released c.in_ok-run_block.ensures.ran.ready.frame
+    gives_items call c.run_block.new.frame c.into_parts-run.result.0 c.into_parts-run.ensures.emitted c.into_parts-run.ensures.released c.in_ok-run_block.ensures.ran.ready.frame
 
 pub returns-clause-done : goal.returns-clause-done
 returns-clause-done g c = λ clean.
@@ -47,9 +52,9 @@ returns-clause-done g c = λ clean.
     let none = IfOk-at_ok (λ (x : Frame). x.rows.items ≡ []) c.in_ok-frame.ensures.value c.new.ensures.rows in
     let first = IfOk-at_ok (λ (x : Frame). (db : Database) → progress_of db x ≡ start db) c.in_ok-frame.ensures.value c.new.ensures.start in
     let ran = subst (λ (x : Block). IsRun call g.B.Base.is_clean state (run_of call x (around_of f)) c.made.new.base c.run_block.new.base f c.run_block.new.frame) c.body.ensures.body c.in_ok-run_block.ensures.ran in
-    let evaluated = gives_run call g.B.Base.is_clean state c.made.new.base c.run_block.new.base f c.run_block.new.frame c.into_run.result first none ran c.into_run.ensures.emitted c.into_run.ensures.released clean in
-    subst (λ (x : Tx). let run = run_tx ls c.args.schemes.now x c.args.args.now (state c.args.base.now).now.db in IsEvaluated run (with_database (state c.args.base.now) run.db) (state c.run_block.new.base) c.into_run.result) c.tx.ensures
-    (subst (λ b. let run = run_tx ls c.args.schemes.now c.tx.result.now c.args.args.now (state b).now.db in IsEvaluated run (with_database (state b) run.db) (state c.run_block.new.base) c.into_run.result) c.in_ok-frame.ensures.same evaluated)
+    let evaluated = gives_run call g.B.Base.is_clean state c.made.new.base c.run_block.new.base f c.run_block.new.frame c.into_parts-run.result.0 first none ran c.into_parts-run.ensures.emitted c.into_parts-run.ensures.released clean in
+    subst (λ (x : Tx). let run = run_tx ls c.args.schemes.now x c.args.args.now (state c.args.base.now).now.db in IsEvaluated run (with_database (state c.args.base.now) run.db) (state c.run_block.new.base) c.into_parts-run.result.0) c.tx.ensures
+    (subst (λ b. let run = run_tx ls c.args.schemes.now c.tx.result.now c.args.args.now (state b).now.db in IsEvaluated run (with_database (state b) run.db) (state c.run_block.new.base) c.into_parts-run.result.0) c.in_ok-frame.ensures.same evaluated)
 
 pub returns-clause-content : goal.returns-clause-content
 returns-clause-content g c = λ clean. c.in_ok-run_block.ensures.ran.ready.content clean

@@ -35,5 +35,5 @@ returns-clause-ran g c =
     let key = IfOk-at_ok (λ v. v.items ≡ map (value_in env) c.args.key.now) c.in_ok-key.ensures.value c.delete_operands.ensures in
     let same = c.deref.ensures.value ∙ key in
     run_written call f c.args.relation c.args.at (Deleting c.args.key.now c.args.key_class) c.args.outcome g.B.Base.is_clean g.B.Base.state c.args.base.now c.made.new.base c.delete.new.base
-    c.set_outcome.new.self c.in_ok-done.done (Delete c.deref.result.now c.args.key_class) c.in_ok-key.ensures.same (λ i. Delete (same i) c.args.key_class) c.requires.ready c.requires.may
-    c.in_ok-done.ensures.call.clean c.in_ok-done.ensures.mode c.in_ok-done.ensures.done c.in_ok-done.ensures.kept c.set_outcome.ensures
+    c.wrote.new.self c.in_ok-done.done (Delete c.deref.result.now c.args.key_class) c.in_ok-key.ensures.same (λ i. Delete (same i) c.args.key_class) c.requires.ready c.requires.may
+    c.in_ok-done.ensures.call.clean c.in_ok-done.ensures.mode c.in_ok-done.ensures.done c.in_ok-done.ensures.kept c.wrote.ensures

@@ -33,5 +33,5 @@ returns-clause-ran g c =
     let key = c.deref.ensures.value ∙ ops.0 in
     let values = c.deref-2.ensures.value ∙ ops.1 in
     run_written call f c.args.relation c.args.at (Inserting c.args.key.now c.args.values.now) c.args.outcome g.B.Base.is_clean g.B.Base.state c.args.base.now c.made.new.base c.insert.new.base
-    c.set_outcome.new.self c.in_ok-done.done (Insert c.deref.result.now c.deref-2.result.now) c.in_ok-key.ensures.same (λ i. Insert (key i) (values i)) c.requires.ready c.requires.may
-    c.in_ok-done.ensures.call.clean c.in_ok-done.ensures.mode c.in_ok-done.ensures.done c.in_ok-done.ensures.kept c.set_outcome.ensures
+    c.wrote.new.self c.in_ok-done.done (Insert c.deref.result.now c.deref-2.result.now) c.in_ok-key.ensures.same (λ i. Insert (key i) (values i)) c.requires.ready c.requires.may
+    c.in_ok-done.ensures.call.clean c.in_ok-done.ensures.mode c.in_ok-done.ensures.done c.in_ok-done.ensures.kept c.wrote.ensures

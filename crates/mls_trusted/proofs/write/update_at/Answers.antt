@@ -67,5 +67,5 @@ returns-clause-ran g c =
     let key = c.deref.ensures.value ∙ ops.0 in
     let sets = c.deref-2.ensures.value ∙ ops.1 in
     run_written call f c.args.relation c.args.at (Updating c.args.key.now c.args.key_class c.args.from c.args.sets.now) c.args.outcome g.B.Base.is_clean g.B.Base.state c.args.base.now c.made.new.base c.update.new.base
-    c.set_outcome.new.self c.in_ok-done.done (Update c.deref.result.now c.args.key_class c.args.from c.deref-2.result.now) c.in_ok-key.ensures.same (λ i. Update (key i) c.args.key_class c.args.from (sets i)) c.requires.ready c.requires.may
-    c.in_ok-done.ensures.call.clean c.in_ok-done.ensures.mode c.in_ok-done.ensures.done c.in_ok-done.ensures.kept c.set_outcome.ensures
+    c.wrote.new.self c.in_ok-done.done (Update c.deref.result.now c.args.key_class c.args.from c.deref-2.result.now) c.in_ok-key.ensures.same (λ i. Update (key i) c.args.key_class c.args.from (sets i)) c.requires.ready c.requires.may
+    c.in_ok-done.ensures.call.clean c.in_ok-done.ensures.mode c.in_ok-done.ensures.done c.in_ok-done.ensures.kept c.wrote.ensures

@@ -5,7 +5,7 @@ use Rattle.mls_monitor.specs.Sessions.{sessions_of}
 use Rattle.mls_sessions.specs.Turns.{is_call}
 use Rattle.mls_sessions.specs.Engine.{site, world_of}
 use Rattle.mls_monitor.proofs.SessionLemmas.{user_known}
-use Rattle.mls_sessions.proofs.EngineLemmas.{none_from, denied_is, viewed_is, listed_is, closed_is, wrote_is, answers_over, answers_stay, answers_left, answers_closed}
+use Rattle.mls_sessions.proofs.EngineLemmas.{none_from, denied_is, viewed_is, listed_is, closed_is, wrote_is, answers_over, answers_stay, answers_closed}
 use Rattle.mls_sessions.proofs.engine.Engine.inside.Goals as goal
 
 pub denial_of-requires-clause-user : goal.denial_of-requires-clause-user
@@ -16,23 +16,23 @@ change-requires-clause-deed g c = user_known _ c.args.self.now.sessions.items c.
 
 pub returns-in-Some-clause-kept : goal.returns-in-Some-clause-kept
 returns-in-Some-clause-kept g c =
-    (answers_stay g.B.Base.state g.B.Base.is_clean g.B.Base.failures c.args.self.now c.requires.ready c.args.event.now c.requires.fits c.change.new.base
-    (λ w. denied (site c.args.self.now) w c.args.event.now c.args.user c.in-Some.denial) (denied_is (site c.args.self.now) (world_of g.B.Base.state c.args.self.now) c.args.event.now c.args.user c.requires.held c.in-Some.denial (sym c.denial_of.ensures ∙ c.in-Some.is)) c.args.self.now.views c.change.result c.change.ensures.turn c.change.ensures.idle c.change.ensures.done refl refl).kept
+    (answers_over g.B.Base.state g.B.Base.is_clean g.B.Base.failures c.args.self.now c.requires.ready c.args.event.now c.requires.fits c.change.new.base
+    (λ w. denied (site c.args.self.now) w c.args.event.now c.args.user c.in-Some.denial) (denied_is (site c.args.self.now) (world_of g.B.Base.state c.args.self.now) c.args.event.now c.args.user c.requires.held c.in-Some.denial (sym c.denial_of.ensures ∙ c.in-Some.is)) c.change.new.views c.change.result c.change.ensures.turn c.change.ensures.idle c.change.ensures.done c.change.ensures.views).kept
 
 pub returns-in-Some-clause-done : goal.returns-in-Some-clause-done
 returns-in-Some-clause-done g c =
-    (answers_stay g.B.Base.state g.B.Base.is_clean g.B.Base.failures c.args.self.now c.requires.ready c.args.event.now c.requires.fits c.change.new.base
-    (λ w. denied (site c.args.self.now) w c.args.event.now c.args.user c.in-Some.denial) (denied_is (site c.args.self.now) (world_of g.B.Base.state c.args.self.now) c.args.event.now c.args.user c.requires.held c.in-Some.denial (sym c.denial_of.ensures ∙ c.in-Some.is)) c.args.self.now.views c.change.result c.change.ensures.turn c.change.ensures.idle c.change.ensures.done refl refl).done
+    (answers_over g.B.Base.state g.B.Base.is_clean g.B.Base.failures c.args.self.now c.requires.ready c.args.event.now c.requires.fits c.change.new.base
+    (λ w. denied (site c.args.self.now) w c.args.event.now c.args.user c.in-Some.denial) (denied_is (site c.args.self.now) (world_of g.B.Base.state c.args.self.now) c.args.event.now c.args.user c.requires.held c.in-Some.denial (sym c.denial_of.ensures ∙ c.in-Some.is)) c.change.new.views c.change.result c.change.ensures.turn c.change.ensures.idle c.change.ensures.done c.change.ensures.views).done
 
 pub returns-in-View-clause-kept : goal.returns-in-View-clause-kept
 returns-in-View-clause-kept g c =
     (answers_over g.B.Base.state g.B.Base.is_clean g.B.Base.failures c.args.self.now c.requires.ready c.args.event.now c.requires.fits c.look.new.base
-    (λ w. viewed (site c.args.self.now) w c.in-View.rel c.in-View.label) (viewed_is (site c.args.self.now) (world_of g.B.Base.state c.args.self.now) c.args.event.now c.args.user c.requires.held c.in-View.rel c.in-View.label c.in-View.is (sym c.denial_of.ensures ∙ none_from c.denial_of.result c.in_default.not-Some)) c.look.new.views c.look.result c.look.ensures.turn c.look.ensures.idle c.look.ensures.done c.look.ensures.most c.look.ensures.declared c.look.ensures.are_rows).kept
+    (λ w. viewed (site c.args.self.now) w c.in-View.rel c.in-View.label) (viewed_is (site c.args.self.now) (world_of g.B.Base.state c.args.self.now) c.args.event.now c.args.user c.requires.held c.in-View.rel c.in-View.label c.in-View.is (sym c.denial_of.ensures ∙ none_from c.denial_of.result c.in_default.not-Some)) c.look.new.views c.look.result c.look.ensures.turn c.look.ensures.idle c.look.ensures.done c.look.ensures.views).kept
 
 pub returns-in-View-clause-done : goal.returns-in-View-clause-done
 returns-in-View-clause-done g c =
     (answers_over g.B.Base.state g.B.Base.is_clean g.B.Base.failures c.args.self.now c.requires.ready c.args.event.now c.requires.fits c.look.new.base
-    (λ w. viewed (site c.args.self.now) w c.in-View.rel c.in-View.label) (viewed_is (site c.args.self.now) (world_of g.B.Base.state c.args.self.now) c.args.event.now c.args.user c.requires.held c.in-View.rel c.in-View.label c.in-View.is (sym c.denial_of.ensures ∙ none_from c.denial_of.result c.in_default.not-Some)) c.look.new.views c.look.result c.look.ensures.turn c.look.ensures.idle c.look.ensures.done c.look.ensures.most c.look.ensures.declared c.look.ensures.are_rows).done
+    (λ w. viewed (site c.args.self.now) w c.in-View.rel c.in-View.label) (viewed_is (site c.args.self.now) (world_of g.B.Base.state c.args.self.now) c.args.event.now c.args.user c.requires.held c.in-View.rel c.in-View.label c.in-View.is (sym c.denial_of.ensures ∙ none_from c.denial_of.result c.in_default.not-Some)) c.look.new.views c.look.result c.look.ensures.turn c.look.ensures.idle c.look.ensures.done c.look.ensures.views).done
 
 pub returns-in-Audit-clause-kept : goal.returns-in-Audit-clause-kept
 returns-in-Audit-clause-kept g c =
@@ -46,13 +46,13 @@ returns-in-Audit-clause-done g c =
 
 pub returns-in-Insert-clause-kept : goal.returns-in-Insert-clause-kept
 returns-in-Insert-clause-kept g c =
-    (answers_left g.B.Base.state g.B.Base.is_clean g.B.Base.failures c.args.self.now c.requires.ready c.args.event.now c.requires.fits c.alter-in-Insert.new.base
-    (λ w. step_inside (site c.args.self.now) w c.args.event.now c.args.event.now.command c.args.user) (wrote_is (site c.args.self.now) (world_of g.B.Base.state c.args.self.now) c.args.event.now c.args.user c.requires.held) c.alter-in-Insert.new.views c.alter-in-Insert.result c.alter-in-Insert.ensures.turn c.alter-in-Insert.ensures.idle (λ clean. IfOk-weaker c.alter-in-Insert.result _ _ (λ r each. each c.args.user (sym c.denial_of.ensures ∙ none_from c.denial_of.result c.in_default.not-Some)) (c.alter-in-Insert.ensures.done clean)) (c.alter-in-Insert.ensures.left, c.alter-in-Insert.ensures.failed)).kept
+    (answers_over g.B.Base.state g.B.Base.is_clean g.B.Base.failures c.args.self.now c.requires.ready c.args.event.now c.requires.fits c.change-in-Insert.new.base
+    (λ w. step_inside (site c.args.self.now) w c.args.event.now c.args.event.now.command c.args.user) (wrote_is (site c.args.self.now) (world_of g.B.Base.state c.args.self.now) c.args.event.now c.args.user c.requires.held) c.change-in-Insert.new.views c.change-in-Insert.result c.change-in-Insert.ensures.turn c.change-in-Insert.ensures.idle (λ clean. IfOk-weaker c.change-in-Insert.result _ _ (λ r each. each c.args.user (sym c.denial_of.ensures ∙ none_from c.denial_of.result c.in_default.not-Some)) (c.change-in-Insert.ensures.done clean)) c.change-in-Insert.ensures.views).kept
 
 pub returns-in-Insert-clause-done : goal.returns-in-Insert-clause-done
 returns-in-Insert-clause-done g c =
-    (answers_left g.B.Base.state g.B.Base.is_clean g.B.Base.failures c.args.self.now c.requires.ready c.args.event.now c.requires.fits c.alter-in-Insert.new.base
-    (λ w. step_inside (site c.args.self.now) w c.args.event.now c.args.event.now.command c.args.user) (wrote_is (site c.args.self.now) (world_of g.B.Base.state c.args.self.now) c.args.event.now c.args.user c.requires.held) c.alter-in-Insert.new.views c.alter-in-Insert.result c.alter-in-Insert.ensures.turn c.alter-in-Insert.ensures.idle (λ clean. IfOk-weaker c.alter-in-Insert.result _ _ (λ r each. each c.args.user (sym c.denial_of.ensures ∙ none_from c.denial_of.result c.in_default.not-Some)) (c.alter-in-Insert.ensures.done clean)) (c.alter-in-Insert.ensures.left, c.alter-in-Insert.ensures.failed)).done
+    (answers_over g.B.Base.state g.B.Base.is_clean g.B.Base.failures c.args.self.now c.requires.ready c.args.event.now c.requires.fits c.change-in-Insert.new.base
+    (λ w. step_inside (site c.args.self.now) w c.args.event.now c.args.event.now.command c.args.user) (wrote_is (site c.args.self.now) (world_of g.B.Base.state c.args.self.now) c.args.event.now c.args.user c.requires.held) c.change-in-Insert.new.views c.change-in-Insert.result c.change-in-Insert.ensures.turn c.change-in-Insert.ensures.idle (λ clean. IfOk-weaker c.change-in-Insert.result _ _ (λ r each. each c.args.user (sym c.denial_of.ensures ∙ none_from c.denial_of.result c.in_default.not-Some)) (c.change-in-Insert.ensures.done clean)) c.change-in-Insert.ensures.views).done
 
 pub returns-in-Close-clause-kept : goal.returns-in-Close-clause-kept
 returns-in-Close-clause-kept g c =
@@ -64,8 +64,8 @@ returns-in-Close-clause-done g c =
     (answers_closed g.B.Base.state g.B.Base.is_clean g.B.Base.failures c.args.self.now c.requires.ready c.args.event.now c.requires.fits c.close.new.sessions (c.close.ensures.users _ c.requires.ready.users)
     (c.close.ensures.closed ∙ ap (λ name. with_session (sessions_of c.args.self.now.sessions.items) c.args.event.now.level name None) c.deref.ensures) (closed_is (site c.args.self.now) (world_of g.B.Base.state c.args.self.now) c.args.event.now c.args.user c.requires.held c.in-Close.is)).done
 
-pub alter-requires-clause-deed : goal.alter-requires-clause-deed
-alter-requires-clause-deed g c = (
+pub change-requires-in-Call-clause-deed : goal.change-requires-in-Call-clause-deed
+change-requires-in-Call-clause-deed g c = (
   user_known _ c.args.self.now.sessions.items c.args.event.now.level c.args.event.now.session c.args.user c.requires.ready.users c.requires.held,
   ap is_call c.in-Call.is,
   sym c.denial_of.ensures ∙ none_from c.denial_of.result c.in_default.not-Some,
@@ -73,10 +73,10 @@ alter-requires-clause-deed g c = (
 
 pub returns-in-Call-clause-kept : goal.returns-in-Call-clause-kept
 returns-in-Call-clause-kept g c =
-    (answers_left g.B.Base.state g.B.Base.is_clean g.B.Base.failures c.args.self.now c.requires.ready c.args.event.now c.requires.fits c.alter.new.base
-    (λ w. step_inside (site c.args.self.now) w c.args.event.now c.args.event.now.command c.args.user) (wrote_is (site c.args.self.now) (world_of g.B.Base.state c.args.self.now) c.args.event.now c.args.user c.requires.held) c.alter.new.views c.alter.result c.alter.ensures.turn c.alter.ensures.idle c.alter.ensures.done (c.alter.ensures.left, c.alter.ensures.failed)).kept
+    (answers_over g.B.Base.state g.B.Base.is_clean g.B.Base.failures c.args.self.now c.requires.ready c.args.event.now c.requires.fits c.change-in-Call.new.base
+    (λ w. step_inside (site c.args.self.now) w c.args.event.now c.args.event.now.command c.args.user) (wrote_is (site c.args.self.now) (world_of g.B.Base.state c.args.self.now) c.args.event.now c.args.user c.requires.held) c.change-in-Call.new.views c.change-in-Call.result c.change-in-Call.ensures.turn c.change-in-Call.ensures.idle c.change-in-Call.ensures.done c.change-in-Call.ensures.views).kept
 
 pub returns-in-Call-clause-done : goal.returns-in-Call-clause-done
 returns-in-Call-clause-done g c =
-    (answers_left g.B.Base.state g.B.Base.is_clean g.B.Base.failures c.args.self.now c.requires.ready c.args.event.now c.requires.fits c.alter.new.base
-    (λ w. step_inside (site c.args.self.now) w c.args.event.now c.args.event.now.command c.args.user) (wrote_is (site c.args.self.now) (world_of g.B.Base.state c.args.self.now) c.args.event.now c.args.user c.requires.held) c.alter.new.views c.alter.result c.alter.ensures.turn c.alter.ensures.idle c.alter.ensures.done (c.alter.ensures.left, c.alter.ensures.failed)).done
+    (answers_over g.B.Base.state g.B.Base.is_clean g.B.Base.failures c.args.self.now c.requires.ready c.args.event.now c.requires.fits c.change-in-Call.new.base
+    (λ w. step_inside (site c.args.self.now) w c.args.event.now c.args.event.now.command c.args.user) (wrote_is (site c.args.self.now) (world_of g.B.Base.state c.args.self.now) c.args.event.now c.args.user c.requires.held) c.change-in-Call.new.views c.change-in-Call.result c.change-in-Call.ensures.turn c.change-in-Call.ensures.idle c.change-in-Call.ensures.done c.change-in-Call.ensures.views).done

@@ -1,15 +1,16 @@
 -- Views that are kept: which, and what they stand for.
-use Rattle.std.specs.Prelude.{◌≡◌, ℕ, ◌<◌, Bool, true, false, not, ◌&&◌, if◌then◌else◌, nat_eq, List, [], Option, Some, None, ⊤}
+use Rattle.std.specs.Prelude.{◌≡◌, ℕ, ◌<◌, ◌≤◌, Bool, not, ◌&&◌, if◌then◌else◌, nat_eq, List, [], length, Option, Some, None, ⊤}
 use Rattle.std.specs.List.{AllByRecursion, filter}
 use Rattle.mls_lattice.specs.Labels.{Labels, below}
+use Rattle.mls_lattice.specs.Policy.{Tables, labels_of}
 use Rattle.mls_scheme.specs.declared.tuple.Tuple.{Tuple}
 use Rattle.mls_scheme.specs.Table.{Database}
+use Rattle.mls_filterview.specs.Content.{State}
 use Rattle.mls_filterview.specs.View.{rows}
+use Rattle.mls_updates.specs.declared.outcome.Outcome.{Outcome}
 use Rattle.mls_updates.specs.Outcome.{is_done}
-use Rattle.mls_machine.specs.declared.reply.Reply.{Reply}
-use Rattle.mls_machine.specs.declared.reply.Reply.TheVariants.{Opened, Closed, Rows, Wrote, Ran, Entries, Denied}
 use Rattle.lru.specs.LruCache.{LruCache, put_entries, lru_cache}
-use Rattle.mls_sessions.specs.declared.views.ViewKey.{ViewKey}
+use Rattle.mls_views.specs.declared.views.ViewKey.{ViewKey}
 
 -- views and their keys, those that were asked for last first
 abbrev pub Kept : Type 0
@@ -54,22 +55,20 @@ HasRoom (Some c) = c.cap ≡ most_views
 abbrev pub put_view : ℕ → ℕ → List Tuple → Kept → Kept
 put_view rel label tuples es = put_entries same_key (lru_cache es most_views) (key_of rel label) tuples
 
--- ---- changes
+-- ---- bases
 
--- the label of a view does not dominate that of a change
-abbrev pub outlives : Labels → ℕ → ViewKey × List Tuple → Bool
-outlives ls low e = not (below ls low e.0.label)
+-- what is kept over a base: no more views than most, at declared labels, and, over a clean base, as they are now
+pub record AreViews {B : Type 0} (policy : Tables) (is_clean : B → Type 0) (state : B → State) (base : B) (es : Kept) : Type 0 where
+  pub most : length es ≤ most_views
+  pub declared : AreDeclared (length policy.labels) es
+  pub rows : is_clean base → AreRows (labels_of policy) (state base).now.db es
 
--- by a reply, content is as it was
-abbrev pub is_quiet : Reply → Bool
-is_quiet (Opened user) = false
-is_quiet Closed = false
-is_quiet (Rows tuples) = true
-is_quiet (Wrote outcome) = not (is_done outcome)
-is_quiet (Ran run) = false
-is_quiet (Entries es) = true
-is_quiet (Denied denial) = true
+-- ---- writes
 
--- what is left after a change at a label, by its reply
-abbrev pub left_by : Labels → ℕ → Reply → Kept → Kept
-left_by ls low reply es = if is_quiet reply then es else filter (outlives ls low) es
+-- the view is of another relation, or its label does not dominate that of the write
+abbrev pub outlives : Labels → (rel w : ℕ) → ViewKey × List Tuple → Bool
+outlives ls rel w e = not (nat_eq rel e.0.rel && below ls w e.0.label)
+
+-- what is left after a write, by its outcome
+abbrev pub left_by : Labels → (rel w : ℕ) → Outcome → Kept → Kept
+left_by ls rel w outcome es = if is_done outcome then filter (outlives ls rel w) es else es

@@ -1,6 +1,6 @@
 -- Lists of kept views: what a turn of a cache, and all its turns, leave.
 use Rattle.std.proofs.Common.{◌≡◌, ℕ, ◌-◌, ◌+◌, ◌<◌, ◌≤◌, Bool, true, false, cond, not, List, [], ◌∷◌, ◌++◌, length, take, Some, None, refl, sym, ap, ◌∙◌, subst, arith, append-nil, append_assoc, length-append}
-use Rattle.std.specs.Prelude.{◌&&◌}
+use Rattle.std.specs.Prelude.{◌&&◌, nat_eq}
 use Rattle.std.specs.List.{AllByRecursion, IsDistinct, filter}
 use Rattle.std.specs.Option.{option_map_or}
 use Rattle.std.specs.Map.{keys_of, lookup_entry, remove_entry}
@@ -9,8 +9,8 @@ use Rattle.mls_lattice.specs.Labels.{Labels, below}
 use Rattle.mls_scheme.specs.declared.tuple.Tuple.{Tuple}
 use Rattle.lru.specs.LruCache.{LruCache, lru_cache, last_entry, promoted}
 use Rattle.lru.proofs.Pairs.{last_of_push, cut_end}
-use Rattle.mls_sessions.specs.declared.views.ViewKey.{ViewKey}
-use Rattle.mls_sessions.specs.Views.{Kept, same_key, AreDeclared, outlives}
+use Rattle.mls_views.specs.declared.views.ViewKey.{ViewKey}
+use Rattle.mls_views.specs.Views.{Kept, same_key, AreDeclared, outlives}
 
 abbrev pub Entry : Type 0
 Entry = ViewKey × List Tuple
@@ -54,17 +54,17 @@ last_promoted es e d =
 some_entry : (a b : Entry) → Some a ≡ Some b → a ≡ b
 some_entry a b e = cc
 
-module _ (ls : Labels) (low : ℕ) (c : Cache) (k : ViewKey) (v : List Tuple) (last : Some (k, v) ≡ last_entry c.entries) (es : Kept) (e : Entry) (is : c.entries ≡ es ++ e ∷ []) where
+module _ (ls : Labels) (rel w : ℕ) (c : Cache) (k : ViewKey) (v : List Tuple) (last : Some (k, v) ≡ last_entry c.entries) (es : Kept) (e : Entry) (is : c.entries ≡ es ++ e ∷ []) where
   same : (k, v) ≡ e
   same = some_entry (k, v) e (last ∙ ap last_entry is ∙ (last_of_push es e).0)
 
-  chosen : (b : Bool) → below ls low k.label ≡ b → cond (not b) (e ∷ es) es ≡ cond (outlives ls low e) (e ∷ es) es
-  chosen b h = sym (ap (λ x. cond (not x) (e ∷ es) es) (ap (λ (p : Entry). below ls low p.0.label) (sym same) ∙ h))
+  chosen : (b : Bool) → (nat_eq rel k.rel && below ls w k.label) ≡ b → cond (not b) (e ∷ es) es ≡ cond (outlives ls rel w e) (e ∷ es) es
+  chosen b h = sym (ap (λ x. cond (not x) (e ∷ es) es) (ap (λ (p : Entry). nat_eq rel p.0.rel && below ls w p.0.label) (sym same) ∙ h))
 
-  pub turned_out : below ls low k.label ≡ true → lru_cache (take (length c.entries - 1) c.entries) c.cap ≡ lru_cache (cond (outlives ls low e) (e ∷ es) es) c.cap
+  pub turned_out : (nat_eq rel k.rel && below ls w k.label) ≡ true → lru_cache (take (length c.entries - 1) c.entries) c.cap ≡ lru_cache (cond (outlives ls rel w e) (e ∷ es) es) c.cap
   turned_out h = ap (λ l. lru_cache l c.cap) (ap (λ l. take (length l - 1) l) is ∙ (last_of_push es e).1 ∙ chosen true h)
 
-  pub turned_over : below ls low k.label ≡ false → IsDistinct same_key (keys_of c.entries) → lru_cache (promoted (same_key k) c.entries) c.cap ≡ lru_cache (cond (outlives ls low e) (e ∷ es) es) c.cap
+  pub turned_over : (nat_eq rel k.rel && below ls w k.label) ≡ false → IsDistinct same_key (keys_of c.entries) → lru_cache (promoted (same_key k) c.entries) c.cap ≡ lru_cache (cond (outlives ls rel w e) (e ∷ es) es) c.cap
   turned_over h distinct =
       ap (λ l. lru_cache l c.cap)
       (ap (λ (p : Entry). promoted (same_key p.0) c.entries) same ∙ ap (promoted (same_key e.0)) is ∙ last_promoted es e (subst (λ l. IsDistinct same_key (keys_of l)) is distinct)
@@ -95,9 +95,9 @@ none_of : (es : Kept) → length es ≤ 0 → es ≡ []
 none_of [] h = refl
 none_of (e ∷ es) h = absurd (omega arith)
 
-module _ (ls : Labels) (low : ℕ) (start : Cache) where
+module _ (ls : Labels) (rel w : ℕ) (start : Cache) where
   abbrev still : Kept → Kept
-  still = filter (outlives ls low)
+  still = filter (outlives ls rel w)
 
   -- after i turns: the views at the front of the list are where they were, and those behind stand before them where they outlive
   pub record Turned (i : ℕ) (now : Cache) : Type 0 where
@@ -115,7 +115,7 @@ module _ (ls : Labels) (low : ℕ) (start : Cache) where
   first_still false e xs ys = refl
 
   pub turned_more : (i : ℕ) (now new : Cache) → Turned i now → i < length start.entries
-      → ((es : Kept) (e : Entry) → now.entries ≡ es ++ e ∷ [] → new ≡ lru_cache (cond (outlives ls low e) (e ∷ es) es) now.cap)
+      → ((es : Kept) (e : Entry) → now.entries ≡ es ++ e ∷ [] → new ≡ lru_cache (cond (outlives ls rel w e) (e ∷ es) es) now.cap)
       → Turned (i + 1) new
   turned_more i now new t within turn =
       let cut = cut_end t.front (let a = t.count in omega (arith, a)) in
@@ -127,7 +127,7 @@ module _ (ls : Labels) (low : ℕ) (start : Cache) where
         whole = t.whole ∙ ap (λ l. l ++ t.back) cut.2 ∙ append_assoc us (x ∷ []) t.back;
         count = (let a = t.count in let b : length t.front ≡ length us + 1 = ap length cut.2 ∙ length-append us (x ∷ []) in omega (arith, a, b));
         are = turn (still t.back ++ us) x (ap (λ (c : Cache). c.entries) t.are ∙ ap (λ l. still t.back ++ l) cut.2 ∙ sym (append_assoc (still t.back) us (x ∷ [])))
-            ∙ (λ j. lru_cache (first_still (outlives ls low x) x (still t.back) us j) ((t.are j).cap));
+            ∙ (λ j. lru_cache (first_still (outlives ls rel w x) x (still t.back) us j) ((t.are j).cap));
       }
 
   pub turned_all : (i : ℕ) (now : Cache) → Turned i now → length start.entries ≤ i → now ≡ lru_cache (still start.entries) start.cap
@@ -141,4 +141,4 @@ module _ (ls : Labels) (low : ℕ) (start : Cache) where
       let P : Entry → Type 0 = λ e. e.0.label < count in
       let all = subst (AllByRecursion P) t.whole h in
       subst (λ (c : Cache). AreDeclared count c.entries) (sym t.are)
-      (all_joined P (still t.back) t.front (all_filtered P P (outlives ls low) (λ e b k. k) t.back (all_back P t.front t.back all)) (all_front P t.front t.back all))
+      (all_joined P (still t.back) t.front (all_filtered P P (outlives ls rel w) (λ e b k. k) t.back (all_back P t.front t.back all)) (all_front P t.front t.back all))

@@ -1,0 +1,3 @@
+pub mod ViewsLemmas
+pub mod KeptLemmas
+pub mod WrittenLemmas

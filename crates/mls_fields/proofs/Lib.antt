@@ -1,1 +1,4 @@
 pub mod WalkLemmas
+pub mod NamingLemmas
+pub mod UntoldLemmas
+pub mod LawLemmas

@@ -12,6 +12,7 @@ use Rattle.mls_fields.specs.declared.field.Content.{Content}
 use Rattle.mls_fields.specs.declared.field.Content.TheVariants.{Lacking, Empty, Text, Integer, Other}
 use Rattle.mls_fields.specs.declared.field.Field.{Field}
 use Rattle.mls_fields.specs.declared.naming.TheConstants.{MODES, KINDS}
+use Rattle.mls_fields.specs.declared.fault.TheConstants.{FIELD_FAULTS}
 use Rattle.mls_fields.specs.Table.{same_thing, declared_by, used_by}
 
 -- ---- what a field declares
@@ -71,6 +72,10 @@ names_of labels fields t = given labels t ++ flat_map (declared_name t) fields
 abbrev pub is_code : ℕ → Option PolicyFault → Bool
 is_code code None = false
 is_code code (Some e) = code_of e == code
+
+-- a field can have a fault of this number
+abbrev pub is_field_code : ℕ → Bool
+is_field_code code = list_any (λ e. code_of e == code) FIELD_FAULTS
 
 module _ (labels : List Name) (fields : List Field) where
   -- a name that a field before declares; and one that is not among those of its kind

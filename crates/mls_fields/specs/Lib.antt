@@ -3,3 +3,4 @@ pub mod Field
 pub mod Walk
 pub mod Fault
 pub mod Telling
+pub mod Laws

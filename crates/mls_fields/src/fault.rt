@@ -1,16 +1,29 @@
 //! The fault of a field among the others, and the first field that has one.
-ghost use Rattle.std.specs.Prelude.{◌≡◌, ◌<◌, length, slice_get, slice_index_or, take, IfOk, if◌then◌else◌, Some, None};
+ghost use Rattle.std.specs.Prelude.{◌≡◌, ◌<◌, length, slice_get, slice_index_or, take};
 ghost use Rattle.std.specs.List.{list_any};
-ghost use Rattle.std.specs.Str.{bytes_eq};
-ghost use Rattle.mls_lattice.specs.declared.fault.PolicyFault.TheVariants.{Repeated, UnknownName};
 ghost use Rattle.mls_fields.specs.Table.{declared_by, used_by};
-ghost use Rattle.mls_fields.specs.Fault.{declares_same, names_of, name_fault, text_of, fault_among, is_code, has_fault, IsFirstOf};
+ghost use Rattle.mls_fields.specs.Fault.{declares_same, name_fault, text_of, text_fault, fault_among, is_code, is_field_code, has_fault, IsFirstOf};
 
 use crate::field::Field;
-use crate::naming::{declares_same, names_of, text_of};
+use crate::naming::{declares_same, is_declared, text_of};
 use crate::table::Thing;
 use mls_lattice::{PolicyFault, Str};
-use std::alloc::{AllocError, Global};
+
+/// The faults of fields: of some by themselves, and of names that are repeated or unknown.
+pub(crate) const FIELD_FAULTS: [PolicyFault; 5] = [
+    PolicyFault::MissingField,
+    PolicyFault::WrongKind,
+    PolicyFault::Repeated,
+    PolicyFault::UnknownName,
+    PolicyFault::BadName,
+];
+
+/// Whether a field can have a fault of this number.
+pub(crate) fn is_field_code(code: u8) -> bool
+    ensures { result ≡ is_field_code code }
+{
+    FIELD_FAULTS.iter().any(|fault| fault.code() == code)
+}
 
 fn is_repeated(before: &[Field], field: &Field, thing: Thing, name: &str) -> bool
     ensures { result ≡ list_any (declares_same thing name.now field.now) before.now }
@@ -20,100 +33,67 @@ fn is_repeated(before: &[Field], field: &Field, thing: Thing, name: &str) -> boo
         .any(|other| declares_same(thing, name, field, other))
 }
 
-fn is_among(names: &[Str], name: &str) -> bool
-    ensures { result ≡ list_any (bytes_eq name.now) names.now }
-{
-    names.iter().any(|other| name == other.as_str())
-}
-
-/// The fault of a name among the fields, of which some stand before its own.
+/// Whether a name has a fault of this number among the fields, of which some stand before its own.
 #[tactic(auto, unfolding(crate::specs::Fault::name_fault))]
-fn name_fault(
-    alloc: Global,
+fn has_name_fault(
     labels: &[Str],
     fields: &[Field],
+    code: u8,
     before: &[Field],
     field: &Field,
     name: &str,
-) -> Result<Option<PolicyFault>, AllocError>
-    ensures { IfOk result (λ o. o ≡ name_fault labels.now fields.now before.now field.now
+) -> bool
+    ensures { result ≡ is_code code (name_fault labels.now fields.now before.now field.now
         (declared_by field.now.role) (used_by field.now.role) name.now) }
 {
     if let Some(thing) = field.role.declared() {
-        if is_repeated(before, field, thing, name) {
-            return Ok(Some(PolicyFault::Repeated));
-        }
-        return Ok(None);
+        return code == PolicyFault::Repeated.code() && is_repeated(before, field, thing, name);
     }
     match field.role.used() {
-        None => Ok(None),
         Some(thing) => {
-            let names = names_of(alloc, labels, fields, thing)?;
-            if is_among(&names, name) {
-                Ok(None)
-            } else {
-                Ok(Some(PolicyFault::UnknownName))
-            }
+            code == PolicyFault::UnknownName.code() && !is_declared(labels, fields, thing, name)
         }
+        None => false,
     }
 }
 
-/// The fault of a field, if it has one.
-fn fault_among(
-    alloc: Global,
+/// Whether a text has a fault of this number.
+fn has_text_fault(
     labels: &[Str],
     fields: &[Field],
+    code: u8,
     before: &[Field],
     field: &Field,
-) -> Result<Option<PolicyFault>, AllocError>
-    ensures { IfOk result (λ o. o ≡ fault_among labels.now fields.now before.now field.now field.now.fault) }
+) -> bool
+    ensures { result ≡ is_code code
+        (text_fault labels.now fields.now before.now field.now (text_of field.now.content)) }
 {
-    if let Some(fault) = field.fault {
-        return Ok(Some(fault));
-    }
     match text_of(&field.content) {
-        Some(name) => name_fault(alloc, labels, fields, before, field, name),
-        None => Ok(None),
-    }
-}
-
-fn is_code(code: u8, fault: Option<PolicyFault>) -> bool
-    ensures { result ≡ is_code code fault }
-{
-    match fault {
-        Some(fault) => fault.code() == code,
+        Some(name) => has_name_fault(labels, fields, code, before, field, name),
         None => false,
     }
 }
 
 /// Whether the field at a place has a fault of this number.
-fn has_fault(
-    alloc: Global,
-    labels: &[Str],
-    fields: &[Field],
-    code: u8,
-    place: usize,
-) -> Result<bool, AllocError>
+fn has_fault(labels: &[Str], fields: &[Field], code: u8, place: usize) -> bool
     requires { place < length fields.now }
-    ensures { IfOk result (λ b. b ≡ has_fault labels.now fields.now code place (slice_get fields.now place)) }
+    ensures { result ≡ has_fault labels.now fields.now code place (slice_get fields.now place) }
 {
-    let fault = fault_among(alloc, labels, fields, &fields[..place], &fields[place])?;
-    Ok(is_code(code, fault))
+    let field = &fields[place];
+    match field.fault {
+        Some(fault) => fault.code() == code,
+        None => has_text_fault(labels, fields, code, &fields[..place], field),
+    }
 }
 
 /// The place of the first field that has a fault of this number.
-pub(crate) fn first_fault(
-    alloc: Global,
-    labels: &[Str],
-    fields: &[Field],
-    code: u8,
-) -> Result<Option<usize>, AllocError>
-    ensures { IfOk result (IsFirstOf labels.now fields.now code) }
+pub(crate) fn first_fault(labels: &[Str], fields: &[Field], code: u8) -> Option<usize>
+    ensures { IsFirstOf labels.now fields.now code result }
 {
     for place in 0..fields.len() {
-        if has_fault(alloc, labels, fields, code, place)? {
-            return Ok(Some(place));
+        if has_fault(labels, fields, code, place) {
+            return Some(place);
         }
     }
-    Ok(None)
+    None
 }

@@ -3,11 +3,13 @@
 
 mod fault;
 mod field;
+mod laws;
 mod naming;
 mod table;
 mod telling;
 mod walk;
 
 pub use field::{Content, Field};
+pub use laws::{kinds_are_read, modes_are_read};
 pub use table::{Form, Need, Role, Row, Thing};
 pub use telling::{policy_field, schemes_field};

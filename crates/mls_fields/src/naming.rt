@@ -1,11 +1,13 @@
 //! What fields declare, and the names of things.
 ghost use Rattle.std.specs.Prelude.{◌≡◌, ◌≤◌, ◌==◌, ◌++◌, ◌∷◌, [], not, length, map, option_map, OnOk, IfOk};
-ghost use Rattle.std.specs.List.{prefix_len};
+ghost use Rattle.std.specs.List.{prefix_len, list_any};
+ghost use Rattle.std.specs.Str.{bytes_eq};
 ghost use Rattle.mls_fields.specs.Fault.{text_of, is_thing, declares, is_text, owner, is_beside, declares_same, given, declared_name, names_of};
 
 use crate::field::{Content, Field};
 use crate::table::Thing;
 use mls_lattice::Str;
+use mls_pointing::push_name;
 use std::alloc::{AllocError, Global};
 
 /// The words of the modes of a right.
@@ -84,14 +86,6 @@ pub(crate) fn declares_same(thing: Thing, name: &str, other: &Field, field: &Fie
 
 // ---- the names of things
 
-fn push_name(alloc: Global, names: &mut Vec<Str>, name: &str) -> Result<(), AllocError>
-    ensures { OnOk result (names.new.items ≡ names.old.items ++ name.now ∷ []) }
-{
-    let name = Str::copy_of(alloc, name)?;
-    names.push(name)?;
-    Ok(())
-}
-
 fn words_of(alloc: Global, words: &[&str]) -> Result<Vec<Str>, AllocError>
     ensures { IfOk result (λ v. v.items ≡ map (λ w. w.now) words.now) }
 {
@@ -157,4 +151,55 @@ pub(crate) fn names_of(
         push_declared(alloc, &mut names, thing, field)?;
     }
     Ok(names)
+}
+
+// ---- whether a name is among them
+
+fn is_among(names: &[Str], name: &str) -> bool
+    ensures { result ≡ list_any (bytes_eq name.now) names.now }
+{
+    names.iter().any(|other| name == other.as_str())
+}
+
+fn is_word(words: &[&str], name: &str) -> bool
+    ensures { result ≡ list_any (λ w. bytes_eq name.now w.now) words.now }
+{
+    words.iter().any(|word| name == *word)
+}
+
+fn is_given(labels: &[Str], thing: Thing, name: &str) -> bool
+    ensures { result ≡ list_any (bytes_eq name.now) (given labels.now thing) }
+{
+    match thing {
+        Thing::Label => is_among(labels, name),
+        Thing::Mode => is_word(&MODES, name),
+        Thing::Kind => is_word(&KINDS, name),
+        Thing::Level | Thing::Category | Thing::User | Thing::Relation | Thing::Attribute => false,
+    }
+}
+
+fn declares_name(thing: Thing, field: &Field, name: &str) -> bool
+    ensures { result ≡ list_any (bytes_eq name.now) (declared_name thing field.now) }
+{
+    if !declares(thing, field) {
+        return false;
+    }
+    match text_of(&field.content) {
+        Some(text) => name == text,
+        None => false,
+    }
+}
+
+fn some_declares(fields: &[Field], thing: Thing, name: &str) -> bool
+    ensures { result ≡ list_any (λ f. list_any (bytes_eq name.now) (declared_name thing f)) fields.now }
+{
+    fields.iter().any(|field| declares_name(thing, field, name))
+}
+
+/// Whether a thing of a kind has this name; no name is copied.
+#[tactic(auto, using(crate::proofs::NamingLemmas::any_name))]
+pub(crate) fn is_declared(labels: &[Str], fields: &[Field], thing: Thing, name: &str) -> bool
+    ensures { result ≡ list_any (bytes_eq name.now) (names_of labels.now fields.now thing) }
+{
+    is_given(labels, thing, name) || some_declares(fields, thing, name)
 }

@@ -6,7 +6,7 @@ ghost use Rattle.mls_fields.specs.Fault.{text_of};
 ghost use Rattle.mls_fields.specs.Table.{used_by};
 ghost use Rattle.mls_fields.specs.Telling.{said, field_line, IsHintOf, IsHint, IsLine, IsFieldTold, IsTold, IsPolicyField, IsSchemesField};
 
-use crate::fault::first_fault;
+use crate::fault::{first_fault, is_field_code};
 use crate::field::{Content, Field};
 use crate::naming::{names_of, text_of};
 use crate::table::{Entry, POLICY, SCHEMES};
@@ -144,7 +144,7 @@ fn told_among(
 ) -> Result<Vec<u8>, AllocError>
     ensures { IfOk result (λ v. IsFieldTold labels.now fields.now code v.items) }
 {
-    match first_fault(alloc, labels, fields, code)? {
+    match first_fault(labels, fields, code) {
         None => Ok(Vec::new(alloc)),
         Some(place) => line_of(alloc, labels, fields, code, &fields[place]),
     }
@@ -167,6 +167,7 @@ fn told_in(
     told_among(alloc, labels, &fields, code)
 }
 
+#[tactic(auto, using(crate::proofs::UntoldLemmas::untold))]
 fn told_of(
     alloc: Global,
     rows: &[Entry],
@@ -176,6 +177,10 @@ fn told_of(
 ) -> Result<Vec<u8>, AllocError>
     ensures { IfOk result (λ v. IsTold (fields_of (λ k. k.now) rows.now) labels.now code bytes.now v.items) }
 {
+    // No field has another fault, whatever the bytes are.
+    if !is_field_code(code) {
+        return Ok(Vec::new(alloc));
+    }
     match toml::table_from_slice(alloc, bytes) {
         Ok(document) => told_in(alloc, rows, labels, code, document),
         Err(e) if e.is_memory() => Err(AllocError),

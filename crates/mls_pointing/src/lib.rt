@@ -12,7 +12,7 @@ mod standing;
 
 pub use advice::advice_of;
 pub use forms::form_at;
-pub use names::{declared_names, label_names};
+pub use names::{declared_names, label_names, push_name};
 pub use nearest::{nearest_line, nearest_place, token_at};
 pub use showing::{excerpt, file_line};
 pub use standing::push_cut_off;

@@ -7,7 +7,8 @@ use mls_lattice::{LabelNo, Policy, Str};
 use mls_scheme::{Attributes, RelNo, Scheme, Schemes};
 use std::alloc::{AllocError, Global};
 
-fn push_name(alloc: Global, names: &mut Vec<Str>, name: &str) -> Result<(), AllocError>
+/// Adds a copy of a name.
+pub fn push_name(alloc: Global, names: &mut Vec<Str>, name: &str) -> Result<(), AllocError>
     ensures { OnOk result (names.new.items ≡ names.old.items ++ name.now ∷ []) }
 {
     let name = Str::copy_of(alloc, name)?;

@@ -40,7 +40,12 @@ pub fn nearest_place(alloc: Global, name: &[u8], names: &[Str]) -> Result<Option
 
 /// Adds the line of another name.
 #[tactic(auto, unfolding(crate::specs::Nearest::name_line))]
-fn push_name(alloc: Global, text: &mut Vec<u8>, name: &[u8], other: &[u8]) -> Result<(), AllocError>
+fn push_name_line(
+    alloc: Global,
+    text: &mut Vec<u8>,
+    name: &[u8],
+    other: &[u8],
+) -> Result<(), AllocError>
     ensures { OnOk result (text.new.items ≡ text.old.items ++ name_line name.now other.now) }
 {
     if other == name {
@@ -58,7 +63,7 @@ pub fn nearest_line(alloc: Global, name: &[u8], names: &[Str]) -> Result<Vec<u8>
 {
     let mut text = Vec::new(alloc);
     if let Some(place) = nearest_place(alloc, name, names)? {
-        push_name(alloc, &mut text, name, names[place].as_str().as_bytes())?;
+        push_name_line(alloc, &mut text, name, names[place].as_str().as_bytes())?;
     }
     Ok(text)
 }

@@ -1,0 +1,130 @@
+-- No field has a fault of another number than those of fields.
+use Rattle.std.proofs.Common.{◌≡◌, ℕ, zero, suc, ◌+◌, ◌==◌, Bool, true, false, not, ◌&&◌, ◌||◌, List, [], ◌∷◌, ◌++◌, length, take, Option, Some, None, slice_get, refl, ap, ◌∙◌}
+use Rattle.std.specs.Prelude.{if◌then◌else◌}
+use Rattle.std.specs.List.{list_any, flat_map}
+use Rattle.std.proofs.lemmas.Bool.{or_parts}
+use Rattle.std.proofs.lemmas.List.Folds.{list_any-append}
+use Rattle.std.specs.Str.{bytes_eq}
+use Rattle.toml.specs.Data.{Data, Items, no_items, item, Members, table, as_str, as_array}
+use Rattle.mls_lattice.specs.declared.fault.PolicyFault.{PolicyFault}
+use Rattle.mls_lattice.specs.declared.fault.PolicyFault.TheVariants.{MissingField, WrongKind, Repeated, UnknownName, BadName}
+use Rattle.mls_lattice.specs.Fault.{code_of}
+use Rattle.mls_lattice.specs.Policy.{Name}
+use Rattle.mls_fields.specs.declared.fault.TheConstants.{FIELD_FAULTS}
+use Rattle.mls_fields.specs.declared.table.Thing.{Thing}
+use Rattle.mls_fields.specs.declared.table.Row.{Row}
+use Rattle.mls_fields.specs.declared.field.Field.{Field}
+use Rattle.mls_fields.specs.Table.{wants_name, may_lack, may_be_empty}
+use Rattle.mls_fields.specs.Field.{has_count, fits, is_no_name, fault_in, fault_of, field_of}
+use Rattle.mls_fields.specs.Walk.{numbered, joined, member, items_in, each, field_at, below, entry_fields, fields_of}
+use Rattle.mls_fields.specs.Fault.{text_of, declares_same, names_of, name_fault, text_fault, fault_among, is_code, is_field_code, has_fault}
+use Rattle.mls_fields.specs.Telling.{IsTold}
+
+-- ---- tests that nothing passes
+
+neither : {A : Type 0} (p : A → Bool) (b : Bool) (x y : A) → p x ≡ false → p y ≡ false → p (if b then x else y) ≡ false
+neither p true x y d e = d
+neither p false x y d e = e
+
+none_appended : {A : Type 0} (p : A → Bool) (xs ys : List A) → list_any p xs ≡ false → list_any p ys ≡ false → list_any p (xs ++ ys) ≡ false
+none_appended p xs ys d e = list_any-append p xs ys ∙ ap (λ (b : Bool). b || list_any p ys) d ∙ e
+
+none_flat : {A B : Type 0} (p : B → Bool) (f : A → List B) → ((x : A) → list_any p (f x) ≡ false) → (xs : List A) → list_any p (flat_map f xs) ≡ false
+none_flat p f off [] = refl
+none_flat p f off (x ∷ xs) = none_appended p (f x) (flat_map f xs) (off x) (none_flat p f off xs)
+
+none_at : {A : Type 0} (p : A → Bool) (xs : List A) (i : ℕ) (x : A) → list_any p xs ≡ false → slice_get xs i ≡ Some x → p x ≡ false
+none_at p [] i x off is = cc
+none_at p (y ∷ xs) zero x off is = let first = (or_parts (p y) (list_any p xs) off).0 in cc
+none_at p (y ∷ xs) (suc i) x off is = none_at p xs i x (or_parts (p y) (list_any p xs) off).1 is
+
+-- ---- the number of no fault of fields
+
+module _ (code : ℕ) (no_field : is_field_code code ≡ false) where
+  off : (i : ℕ) (e : PolicyFault) → slice_get FIELD_FAULTS i ≡ Some e → is_code code (Some e) ≡ false
+  off i e is = none_at (λ (e : PolicyFault). code_of e == code) FIELD_FAULTS i e no_field is
+
+  -- ---- a field by itself
+
+  abbrev has : Field → Bool
+  has f = is_code code f.fault
+
+  own-off : (a b c : Bool) → is_code code (if a then Some WrongKind else (if b then Some MissingField else (if c then Some BadName else None))) ≡ false
+  own-off true b c = off 1 WrongKind refl
+  own-off false true c = off 0 MissingField refl
+  own-off false false true = off 4 BadName refl
+  own-off false false false = refl
+
+  fault_in-off : (row : Row) (d : Data) → is_code code (fault_in row d) ≡ false
+  unfolding fault_in
+  fault_in-off row d =
+      own-off (not (fits row.form d)) (has_count 0 (as_array d) && not (may_be_empty row.need)) (wants_name row.role && is_no_name (as_str d))
+
+  fault_of-off : (row : Row) (d : Option Data) → is_code code (fault_of row d) ≡ false
+  fault_of-off row None = neither (is_code code) (may_lack row.need) None (Some MissingField) refl (off 0 MissingField refl)
+  fault_of-off row (Some d) = fault_in-off row d
+
+  field_of-off : (row : Row) (path : List ℕ) (d : Option Data) → has (field_of row path d) ≡ false
+  unfolding field_of
+  field_of-off row path d = fault_of-off row d
+
+  -- ---- those of a document
+
+  field_at-off : (row : Row) (key : Name) (path : List ℕ) (d : Option Data) → has (field_at row key path d) ≡ false
+  unfolding field_at
+  field_at-off row key path d =
+      neither has (length key == 0) (field_of row path d) (field_of row (joined path key) (member key d))
+      (field_of-off row path d) (field_of-off row (joined path key) (member key d))
+
+  each-off : (f : ℕ → Data → List Field) → ((n : ℕ) (d : Data) → list_any has (f n d) ≡ false) → (n : ℕ) (ds : Items) → list_any has (each f n ds) ≡ false
+  unfolding each
+  each-off f h n no_items = refl
+  each-off f h n (item d ds) = none_appended has (f n d) (each f (n + 1) ds) (h n d) (each-off f h (n + 1) ds)
+
+  below-off : (row : Row) (key : Name) (arrays : List Name) (path : List ℕ) (d : Option Data) → list_any has (below row key arrays path d) ≡ false
+  unfolding below
+  below-off row key [] path d = ap (λ (b : Bool). b || false) (field_at-off row key path d)
+  below-off row key (array ∷ arrays) path d =
+      let inner = λ (n : ℕ) (x : Data). below row key arrays (numbered (joined path array) n) (Some x) in
+      let items = items_in (member array d) in
+      neither (list_any has) (length array == 0) (below row key arrays path d) (each inner 1 items) (below-off row key arrays path d)
+      (each-off inner (λ n x. below-off row key arrays (numbered (joined path array) n) (Some x)) 1 items)
+
+  fields_of-off : {T : Type 0} (text : T → Name) (rows : List (List T × T × Row)) (document : Members) → list_any has (fields_of text rows document) ≡ false
+  fields_of-off text rows document =
+      none_flat has (entry_fields text (table document)) (λ e. below-off e.2 (text e.1) _ [] (Some (table document))) rows
+
+  -- ---- a field among the others
+
+  module _ (labels : List Name) (fields : List Field) where
+    name-off : (before : List Field) (f : Field) (declared used : Option Thing) (name : Name) → is_code code (name_fault labels fields before f declared used name) ≡ false
+    unfolding name_fault
+    name-off before f (Some t) used name =
+        neither (is_code code) (list_any (declares_same t name f) before) (Some Repeated) None (off 2 Repeated refl) refl
+    name-off before f None (Some t) name =
+        neither (is_code code) (list_any (bytes_eq name) (names_of labels fields t)) None (Some UnknownName) refl (off 3 UnknownName refl)
+    name-off before f None None name = refl
+
+    text-off : (before : List Field) (f : Field) (text : Option Name) → is_code code (text_fault labels fields before f text) ≡ false
+    text-off before f None = refl
+    text-off before f (Some name) = name-off before f _ _ name
+
+    among-off : (before : List Field) (f : Field) (own : Option PolicyFault) → is_code code own ≡ false → is_code code (fault_among labels fields before f own) ≡ false
+    among-off before f (Some e) h = h
+    among-off before f None h = text-off before f (text_of f.content)
+
+    at-off : list_any has fields ≡ false → (i : ℕ) (f : Option Field) → slice_get fields i ≡ f → has_fault labels fields code i f ≡ false
+    at-off none i None is = refl
+    at-off none i (Some f) is = among-off (take i fields) f f.fault (none_at has fields i f none is)
+
+-- no field is told of such a number
+pub untold : {T : Type 0} (text : T → Name) (rows : List (List T × T × Row)) (labels : List Name) (code : ℕ) (bytes : List ℕ) → is_field_code code ≡ false
+    → IsTold (fields_of text rows) labels code bytes []
+untold text rows labels code bytes no_field = record {
+  told = λ document is. record {
+    found = None;
+    is_first = λ i within. at-off code no_field labels (fields_of text rows document) (fields_of-off code no_field text rows document) i _ refl;
+    told = refl;
+  };
+  none = λ no_document. refl;
+}

@@ -4,3 +4,4 @@ pub mod Hinting
 pub mod Telling
 pub mod Accounting
 pub mod Answering
+pub mod Laws

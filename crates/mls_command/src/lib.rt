@@ -5,6 +5,8 @@ mod accounting;
 mod acting;
 mod explained;
 mod hinting;
+mod laws;
 mod telling;
 
 pub use crate::acting::act;
+pub use crate::laws::verbs_have_forms;

@@ -10,26 +10,44 @@ use std::alloc::Global;
 const MARK: &str = "U U/probe opened ann\n";
 
 /// What the probe was answered.
-pub fn probed(alloc: Global, out: &Narrow) -> Option<String> {
-    let (_, content) = text_of(&out.bytes).split_once(MARK)?;
+pub fn probed(alloc: Global, replies: &[u8]) -> Option<String> {
+    let (_, content) = text_of(replies).split_once(MARK)?;
     String::from_str(alloc, content).ok()
 }
 
-/// What a base over lists holds after a script.
-pub fn content_of(alloc: Global, site: &Site, script: &str, probe: &str) -> Option<String> {
-    let mut text = String::from_str(alloc, script).ok()?;
-    text.push_str(probe).ok()?;
+/// Two texts, one behind the other.
+pub fn both(alloc: Global, first: &str, second: &str) -> Option<String> {
+    let mut text = Told::new(alloc);
+    text.push(first);
+    text.push(second);
+    text.finish().ok()
+}
+
+/// What a base over lists answers to a script, if all is well.
+fn answered(alloc: Global, site: &Site<'_>, script: &str) -> Option<Narrow> {
     let mut out = Narrow::new(alloc, u64::MAX);
     let base = ListBase::new(alloc);
-    let (end, _base) = do_task(alloc, site, Task::Run(&text), base, &mut out);
+    let (end, _base) = do_task(alloc, site, Task::Run(script), base, &mut out);
     match end {
-        End::Whole => probed(alloc, &out),
+        End::Whole => Some(out),
         _ => None,
     }
 }
 
+/// What a base over lists holds after a script.
+pub fn content_of(alloc: Global, site: &Site<'_>, script: &str, probe: &str) -> Option<String> {
+    let text = both(alloc, script, probe)?;
+    let out = answered(alloc, site, &text)?;
+    probed(alloc, &out.bytes)
+}
+
 /// What a base over lists holds before a script, and after each of its lines.
-pub fn contents_of(alloc: Global, site: &Site, lines: &[&str], probe: &str) -> Option<Vec<String>> {
+pub fn contents_of(
+    alloc: Global,
+    site: &Site<'_>,
+    lines: &[&str],
+    probe: &str,
+) -> Option<Vec<String>> {
     let mut script = Told::new(alloc);
     let mut contents = Vec::new(alloc);
     contents.push(content_of(alloc, site, "", probe)?).ok()?;
@@ -43,9 +61,10 @@ pub fn contents_of(alloc: Global, site: &Site, lines: &[&str], probe: &str) -> O
 }
 
 /// What a base over lists holds before a script and after it.
-pub fn ends_of(alloc: Global, site: &Site, script: &str, probe: &str) -> Option<Vec<String>> {
+pub fn ends_of(alloc: Global, site: &Site<'_>, script: &str, probe: &str) -> Option<Vec<String>> {
     let mut contents = Vec::new(alloc);
-    contents.push(content_of(alloc, site, "", probe)?).ok()?;
-    contents.push(content_of(alloc, site, script, probe)?).ok()?;
+    for script in ["", script] {
+        contents.push(content_of(alloc, site, script, probe)?).ok()?;
+    }
     Some(contents)
 }

@@ -1,8 +1,7 @@
 //! Stores whose logs are cut short.
-use crate::disks::{Copies, Medium};
-use crate::narrow::Narrow;
+use crate::disks::Copies;
 use crate::stops::{Plan, content_in};
-use crate::stores::do_in;
+use crate::stores::{Job, Work, do_job};
 use case_tables::Told;
 use std::alloc::{AllocError, Global};
 use std::io;
@@ -30,49 +29,59 @@ fn place_of(contents: &[String], found: &Option<String>) -> usize {
     contents.len()
 }
 
-/// How many of the parts of the log leave each of the contents, and how many none of them.
-fn counts_of<D: Medium>(
+/// The place of what a part of the log leaves.
+fn place_in(
     alloc: Global,
     plan: &Plan<'_>,
     copies: &Copies,
-) -> Result<Vec<usize>, AllocError> {
+    length: usize,
+) -> Result<usize, AllocError> {
+    let part = cut(alloc, copies, length)?;
+    let found = content_in(alloc, plan, &part);
+    Ok(place_of(plan.contents, &found))
+}
+
+/// How many of the parts of the log leave each of the contents, and how many none of them.
+fn counts_of(alloc: Global, plan: &Plan<'_>, copies: &Copies) -> Result<Vec<usize>, AllocError> {
     let mut counts = Vec::new(alloc);
     counts.resize(plan.contents.len().saturating_add(1), 0usize)?;
     for part in 0..copies.log.len() / STEP {
-        let part = cut(alloc, copies, part.saturating_mul(STEP))?;
-        let found = content_in::<D>(alloc, plan, &part);
-        if let Some(count) = counts.get_mut(place_of(plan.contents, &found)) {
+        let place = place_in(alloc, plan, copies, part.saturating_mul(STEP))?;
+        if let Some(count) = counts.get_mut(place) {
             *count = count.saturating_add(1);
         }
     }
     Ok(counts)
 }
 
-fn name_at<'a>(names: &[&'a str], place: usize) -> &'a str {
-    match names.get(place) {
+/// The name of the place of a content, or what is told of the place behind all.
+fn name_at<'a>(plan: &Plan<'a>, place: usize) -> &'a str {
+    if place >= plan.contents.len() {
+        return "wrong";
+    }
+    match plan.names.get(place) {
         Some(name) => *name,
         None => "",
     }
 }
 
-/// Tells what is found after a task whose store is not closed, where its log is cut short: how many of the parts leave what is after an event.
-pub fn tell_cuts<D: Medium>(alloc: Global, plan: &Plan<'_>, out: &mut Told) -> io::Result<()> {
-    let mut replies = Narrow::new(alloc, u64::MAX);
-    let files = plan.start.files::<D>(alloc)?;
-    let (_, files) = do_in(alloc, plan.site, plan.task, files, &mut replies);
-    let counts = counts_of::<D>(alloc, plan, &Copies::of(alloc, &files)?)?;
+/// Tells how many parts leave what is after an event.
+fn tell_counts(plan: &Plan<'_>, counts: &[usize], out: &mut Told) {
     for (place, count) in counts.iter().enumerate() {
         if *count > 0 {
-            let is_content = place < plan.contents.len();
             out.push("  ");
             out.push_count(*count);
             out.push(" parts: ");
-            out.push_line(if is_content {
-                name_at(plan.names, place)
-            } else {
-                "wrong"
-            });
+            out.push_line(name_at(plan, place));
         }
     }
+}
+
+/// Tells what is found after a task whose store is not closed, where its log is cut short: how many of the parts leave what is after an event.
+pub fn tell_cuts(alloc: Global, plan: &Plan<'_>, out: &mut Told) -> io::Result<()> {
+    let job = Job::left(Work::Do(plan.site, plan.task));
+    let done = do_job(alloc, job, plan.start)?;
+    let counts = counts_of(alloc, plan, &done.written)?;
+    tell_counts(plan, &counts, out);
     Ok(())
 }

@@ -1,103 +1,105 @@
 //! Stores that are damaged, and how they are refused.
-use crate::disks::{Copies, Medium};
-use crate::narrow::Narrow;
+use crate::disks::Copies;
 use crate::runs::Task;
 use crate::site::{Names, Site};
-use crate::stores::{do_in, execute_in, made};
+use crate::stores::{Job, Work, do_job, made};
+use crate::texts::Texts;
 use case_tables::{Case, Told, case_at, joined};
-use sqlite::Files;
-use std::alloc::{AllocError, Global};
-use std::rt::Files as FileSystem;
-use std::{fs, io};
+use std::alloc::Global;
+use std::io;
 
-/// What differs of files from their copies.
-fn change_of<D: Medium>(files: &Files<D>, copies: &Copies) -> &'static str {
-    if files.db.bytes() != copies.db.as_slice() {
+/// What differs of files from what they were.
+fn change_of(files: &Copies, before: &Copies) -> &'static str {
+    if files.db.as_slice() != before.db.as_slice() {
         return "file changed";
     }
-    if files.log.bytes() != copies.log.as_slice() {
+    if files.log.as_slice() != before.log.as_slice() {
         return "log changed";
     }
     "unchanged"
 }
 
-/// The closed files of a new store, after a script and then the statements of a case.
-fn damaged<D: Medium>(
-    alloc: Global,
-    site: &Site,
-    script: &str,
-    sql: &str,
-) -> io::Result<Option<Files<D>>> {
-    let files = made(alloc, site, script)?;
-    Ok(match execute_in(alloc, files, sql) {
-        (true, files) => Some(files),
-        (false, _) => None,
+/// The closed files of a store after statements, if all is well.
+fn damaged(alloc: Global, files: &Copies, body: &[&str]) -> io::Result<Option<Copies>> {
+    let sql = joined(alloc, body)?;
+    let done = do_job(alloc, Job::closed(Work::Execute(&sql)), files)?;
+    Ok(if done.outcome.is_whole() {
+        Some(done.written)
+    } else {
+        None
     })
 }
 
-/// Tells how a store is opened or refused, and what of its files is changed by that.
-fn tell_opening<D: Medium>(
+/// Tells how the store in files is opened or refused, and what of them is changed by that. The files are those that it leaves then.
+fn tell_opening(
     alloc: Global,
-    site: &Site,
-    files: Files<D>,
+    site: &Site<'_>,
+    files: &mut Copies,
     out: &mut Told,
-) -> Result<Files<D>, AllocError> {
-    let copies = Copies::of(alloc, &files)?;
-    let mut replies = Narrow::new(alloc, u64::MAX);
-    let (outcome, files) = do_in(alloc, site, Task::Run(""), files, &mut replies);
-    outcome.tell(out);
+) -> io::Result<()> {
+    let job = Job::left(Work::Do(site, Task::Run("")));
+    let done = do_job(alloc, job, files)?;
+    done.outcome.tell(out);
     out.push(", ");
-    out.push(change_of(&files, &copies));
-    Ok(files)
+    out.push(change_of(&done.written, files));
+    *files = done.written;
+    Ok(())
 }
 
 /// The same, twice: the first opening after a change may begin the log anew.
-fn tell_openings<D: Medium>(
+fn tell_openings(
     alloc: Global,
-    site: &Site,
-    files: Files<D>,
+    site: &Site<'_>,
+    files: &mut Copies,
     out: &mut Told,
-) -> Result<(), AllocError> {
-    let files = tell_opening(alloc, site, files, out)?;
+) -> io::Result<()> {
+    tell_opening(alloc, site, files, out)?;
     out.push("; ");
-    let _files = tell_opening(alloc, site, files, out)?;
+    tell_opening(alloc, site, files, out)?;
     out.push(": ");
     Ok(())
 }
 
-/// Tells how the store of a case is refused: a case is `POLICY: title` or `POLICY SCHEMES: title`, and the
-/// statements that damage the store below.
-fn tell_case<D: Medium, R: FileSystem + AllocGlobal>(
-    rt: &R,
-    site: &Site,
-    script: &str,
+/// The site that a head names, as `POLICY: title` or `POLICY SCHEMES: title`.
+fn site_of<'a>(alloc: Global, texts: &'a Texts, head: &str) -> Option<Site<'a>> {
+    let (names, _) = head.split_once(':')?;
+    Site::of(alloc, texts, Names::of(names))
+}
+
+/// Tells how the store of a case is refused: the statements that damage it stand below its head.
+fn tell_case(
+    alloc: Global,
+    texts: &Texts,
+    files: &Copies,
     case: &Case<'_>,
     out: &mut Told,
 ) -> io::Result<()> {
-    let Some((files, _)) = case.head.split_once(':') else {
+    let Some(site) = site_of(alloc, texts, case.head) else {
+        out.push_line("no site");
         return Ok(());
     };
-    let other = Site::read(rt, Names::of(files))?;
-    let sql = joined(rt.alloc(), case.body)?;
-    match damaged::<D>(rt.alloc(), site, script, &sql)? {
-        Some(files) => tell_openings(rt.alloc(), &other, files, out)?,
+    match damaged(alloc, files, case.body)? {
+        Some(mut files) => tell_openings(alloc, &site, &mut files, out)?,
         None => out.push("not made: "),
     }
     out.push_line(case.head);
     Ok(())
 }
 
+/// The closed files of the store that is damaged.
+fn undamaged(alloc: Global, texts: &Texts) -> io::Result<Copies> {
+    match Site::of(alloc, texts, Names::of("policy.toml")) {
+        Some(site) => made(alloc, &site, texts.named("damage.script")),
+        None => Ok(Copies::none(alloc)),
+    }
+}
+
 /// Tells how the stores of a table are refused.
-pub fn tell_lines<D: Medium, R: FileSystem + AllocGlobal>(
-    rt: &R,
-    lines: &[&str],
-    out: &mut Told,
-) -> io::Result<()> {
-    let site = Site::read(rt, Names::of("policy.toml"))?;
-    let script = fs::read_to_string(rt, "damage.script")?;
+pub fn tell_lines(alloc: Global, texts: &Texts, lines: &[&str], out: &mut Told) -> io::Result<()> {
+    let files = undamaged(alloc, texts)?;
     for at in 0..lines.len() {
         if let Some(case) = case_at(&lines[at..]) {
-            tell_case::<D, R>(rt, &site, &script, &case, out)?;
+            tell_case(alloc, texts, &files, &case, out)?;
         }
     }
     Ok(())

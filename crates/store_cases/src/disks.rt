@@ -34,6 +34,23 @@ impl Medium for Fuse<Memory> {
     }
 }
 
+/// How many calls the log, the database file and the writer of replies take before they stop.
+#[derive(Clone, Copy)]
+pub struct Calls {
+    pub log: u64,
+    pub db: u64,
+    pub replies: u64,
+}
+
+impl Calls {
+    /// Nothing stops.
+    pub const ALL: Calls = Calls {
+        log: u64::MAX,
+        db: u64::MAX,
+        replies: u64::MAX,
+    };
+}
+
 /// The bytes of the two files of a store.
 #[derive(Drop)]
 pub struct Copies {
@@ -57,15 +74,10 @@ impl Copies {
         Ok(Copies { log, db })
     }
 
-    /// Files with these bytes, which stop after so many calls of the log or of the database file.
-    pub fn fused<D: Medium>(&self, alloc: Global, log: u64, db: u64) -> io::Result<Files<D>> {
-        let log = D::holding(alloc, &self.log, log)?;
-        let db = D::holding(alloc, &self.db, db)?;
+    /// Files with these bytes, which stop after so many calls.
+    pub fn files<D: Medium>(&self, alloc: Global, calls: Calls) -> io::Result<Files<D>> {
+        let log = D::holding(alloc, &self.log, calls.log)?;
+        let db = D::holding(alloc, &self.db, calls.db)?;
         Ok(Files { log, db })
-    }
-
-    /// Files with these bytes, which do not stop.
-    pub fn files<D: Medium>(&self, alloc: Global) -> io::Result<Files<D>> {
-        self.fused(alloc, u64::MAX, u64::MAX)
     }
 }

@@ -1,22 +1,18 @@
 //! Two histories of runs over stores in files, and what a level is shown of them.
-ghost use Rattle.std.specs.Prelude.{◌<◌, ◌≤◌, length, IfOk};
+ghost use Rattle.std.specs.Prelude.{◌<◌, ◌≤◌, length};
 ghost use Rattle.std.specs.List.{AllByRecursion};
 ghost use Rattle.std.specs.Option.{IfSome};
 ghost use Rattle.mls_runs.specs.History.{IsPrepared};
 
-use crate::disks::{Copies, Medium};
-use crate::narrow::Narrow;
+use crate::runs::run_of;
 use crate::site::{Names, Site};
-use crate::stores::options;
+use crate::stores::history;
+use crate::texts::Texts;
 use case_tables::{Case, Told, case_at, inner, text_of};
-use mls_host::stored_from;
 use mls_lattice::LabelNo;
-use mls_machine::{Audience, Form};
-use mls_runs::{HistoryFault, Run, run_history};
-use mls_script::script;
+use mls_runs::{HistoryFault, Run};
 use std::alloc::{AllocError, Global};
 use std::io;
-use std::rt::Files as FileSystem;
 
 /// The event of a line for a history, without its mark, if the line is for it: of two with a bar between, that of the history.
 fn event_of<'a>(line: &'a str, history: &str) -> Option<&'a str> {
@@ -53,22 +49,12 @@ fn first_end(lines: &[&str]) -> usize
     lines.len()
 }
 
-/// A run over the lines of a case up to the next end of a run.
-fn run_of(alloc: Global, site: &Site, lines: &[&str], history: &str) -> Option<Run>
+/// The run of the lines of a case up to the next end of a run.
+fn next_run(alloc: Global, site: &Site<'_>, lines: &[&str], history: &str) -> Option<Run>
     ensures { IfSome result (IsPrepared site.now.policy site.now.file.schemes) }
 {
     let text = script_of(alloc, &lines[..first_end(lines)], history).ok()?;
-    let policy = &site.policy;
-    let schemes = &site.file.schemes;
-    let transactions = site.transactions.as_bytes();
-    let certificates = site.certificates.as_bytes();
-    let Ok(stored) = stored_from(alloc, policy, schemes, transactions, certificates) else {
-        return None;
-    };
-    let Ok(events) = script(alloc, policy, schemes, text.as_bytes()) else {
-        return None;
-    };
-    Some(Run { stored, events })
+    run_of(alloc, site, &text)
 }
 
 /// Whether a run begins at a line of a case.
@@ -80,13 +66,14 @@ fn begins_run(lines: &[&str], at: usize) -> bool
 
 /// The runs of a case for a history.
 #[tactic(auto, using(crate::proofs::StartLemmas::all_more))]
-fn runs_of(alloc: Global, site: &Site, lines: &[&str], history: &str) -> Option<Vec<Run>>
+fn runs_of(alloc: Global, site: &Site<'_>, lines: &[&str], history: &str) -> Option<Vec<Run>>
     ensures { IfSome result (λ runs. AllByRecursion (IsPrepared site.now.policy site.now.file.schemes) runs.items) }
 {
     let mut runs = Vec::new(alloc);
     for at in 0..lines.len() {
         if begins_run(lines, at) {
-            runs.push(run_of(alloc, site, &lines[at..], history)?).ok()?;
+            runs.push(next_run(alloc, site, &lines[at..], history)?)
+                .ok()?;
         }
     }
     Some(runs)
@@ -105,7 +92,7 @@ fn tell_end(outcome: Result<(), HistoryFault>, out: &mut Told) {
 }
 
 /// The level that a case names, if the policy has it.
-fn level_of(site: &Site, head: &str) -> Option<LabelNo>
+fn level_of(site: &Site<'_>, head: &str) -> Option<LabelNo>
     ensures { IfSome result (λ c. c < length site.now.policy.labels) }
 {
     let (name, _) = head.split_once(':')?;
@@ -113,77 +100,58 @@ fn level_of(site: &Site, head: &str) -> Option<LabelNo>
 }
 
 /// What a level is shown of a history over a new store, and how that ends.
-fn shown<D: Medium>(
+fn shown(
     alloc: Global,
-    site: &Site,
+    site: &Site<'_>,
     level: LabelNo,
     lines: &[&str],
-    history: &str,
+    number: &str,
 ) -> io::Result<String>
     requires { level < length site.now.policy.labels }
 {
+    let Some(runs) = runs_of(alloc, site, lines, number) else {
+        return Ok(String::from_str(alloc, "no runs\n")?);
+    };
+    let (outcome, replies) = history(alloc, site, level, runs)?;
     let mut told = Told::new(alloc);
-    let Some(runs) = runs_of(alloc, site, lines, history) else {
-        told.push_line("no runs");
-        return Ok(told.finish()?);
-    };
-    let files = Copies::none(alloc).files::<D>(alloc)?;
-    let mut replies = Narrow::new(alloc, u64::MAX);
-    let policy = &site.policy;
-    let file = &site.file;
-    let audience = Audience {
-        reader: Some(level),
-        form: Form::Lines,
-    };
-    let (outcome, _) = run_history(
-        alloc,
-        policy,
-        file,
-        runs,
-        files,
-        options(),
-        audience,
-        &mut replies,
-    );
     tell_end(outcome, &mut told);
-    told.push(text_of(&replies.bytes));
+    told.push(text_of(&replies));
     Ok(told.finish()?)
 }
 
+/// Tells what a level is shown of two histories.
+fn tell_both(first: &str, second: &str, out: &mut Told) {
+    out.push_indented(first);
+    if first == second {
+        out.push_line("  the same");
+    } else {
+        out.push_line("  other");
+        out.push_indented(second);
+    }
+}
+
 /// Tells a case.
-fn tell_case<D: Medium>(
-    alloc: Global,
-    site: &Site,
-    case: &Case<'_>,
-    out: &mut Told,
-) -> io::Result<()> {
+fn tell_case(alloc: Global, site: &Site<'_>, case: &Case<'_>, out: &mut Told) -> io::Result<()> {
     out.push_line(case.head);
     let Some(level) = level_of(site, case.head) else {
         out.push_line("  no level");
         return Ok(());
     };
-    let first = shown::<D>(alloc, site, level, case.body, "1")?;
-    let second = shown::<D>(alloc, site, level, case.body, "2")?;
-    out.push_indented(&first);
-    if first.as_str() == second.as_str() {
-        out.push_line("  the same");
-    } else {
-        out.push_line("  other");
-        out.push_indented(&second);
-    }
+    let first = shown(alloc, site, level, case.body, "1")?;
+    let second = shown(alloc, site, level, case.body, "2")?;
+    tell_both(&first, &second, out);
     Ok(())
 }
 
 /// Tells what levels are shown of two histories: a case is `LEVEL: title`, and the events of both below.
-pub fn tell_lines<D: Medium, R: FileSystem + AllocGlobal>(
-    rt: &R,
-    lines: &[&str],
-    out: &mut Told,
-) -> io::Result<()> {
-    let site = Site::read(rt, Names::of("policy.toml"))?;
+pub fn tell_lines(alloc: Global, texts: &Texts, lines: &[&str], out: &mut Told) -> io::Result<()> {
+    let Some(site) = Site::of(alloc, texts, Names::of("policy.toml")) else {
+        out.push_line("no site");
+        return Ok(());
+    };
     for at in 0..lines.len() {
         if let Some(case) = case_at(&lines[at..]) {
-            tell_case::<D>(rt.alloc(), &site, &case, out)?;
+            tell_case(alloc, &site, &case, out)?;
         }
     }
     Ok(())

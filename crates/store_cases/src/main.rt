@@ -17,14 +17,16 @@ mod stopping;
 mod stops;
 mod stores;
 mod table;
+mod texts;
 
 use crate::table::{TABLES, told};
-use sqlite_disk::{Fuse, Memory};
+use crate::texts::Texts;
 use std::io::{self, Write};
 
 fn main(rt: HostRuntime) -> io::Result<()> {
+    let texts = Texts::read(&rt)?;
     for (file, table) in TABLES {
-        let told = told::<Fuse<Memory>, HostRuntime>(&rt, file, table)?;
+        let told = told(rt.alloc(), &texts, file, table)?;
         rt.stdout().write_all(told.as_bytes())?;
     }
     Ok(())

@@ -1,22 +1,22 @@
 //! Migrations of stores that are stopped.
-use crate::contents::content_of;
-use crate::disks::{Copies, Medium};
+use crate::contents::{both, content_of};
+use crate::disks::Copies;
 use crate::runs::Task;
 use crate::site::{Names, Site};
 use crate::stopping::tell_plan;
 use crate::stops::Plan;
 use crate::stores::made;
+use crate::texts::Texts;
 use case_tables::Told;
 use mls_fragments::OpenFault;
 use std::alloc::Global;
-use std::rt::Files;
-use std::{fs, io};
+use std::io;
 
 /// A store of an earlier site, and the site that it is migrated to. The two scripts make the same content under each of them.
 #[derive(Clone, Copy)]
 struct Migration<'a> {
-    earlier: &'a Site,
-    site: &'a Site,
+    earlier: &'a Site<'a>,
+    site: &'a Site<'a>,
     script: &'a str,
     widened: &'a str,
     probe: &'a str,
@@ -25,26 +25,29 @@ struct Migration<'a> {
 /// The names of the places of a migration.
 const PLACES: [&str; 3] = ["opening", "migration", "closing"];
 
-/// What is found before a migration, after it and in the closing: what lists hold under the site, and then what they hold under the
-/// earlier one, which refuses a store that is migrated.
-fn contents_of(alloc: Global, migration: &Migration<'_>) -> Option<Vec<String>> {
-    let Migration { earlier, site, .. } = *migration;
-    let widened = content_of(alloc, site, migration.widened, migration.probe)?;
-    let before = content_of(alloc, earlier, migration.script, migration.probe)?;
-    let refused = OpenFault::OtherPolicy.word();
+/// A text with each of these behind it.
+fn followed(alloc: Global, text: &str, ends: &[&str]) -> Option<Vec<String>> {
     let mut contents = Vec::new(alloc);
-    for under_earlier in [before.as_str(), refused, refused] {
-        let mut content = widened.clone().ok()?;
-        content.push_str(under_earlier).ok()?;
-        contents.push(content).ok()?;
+    for end in ends {
+        contents.push(both(alloc, text, end)?).ok()?;
     }
     Some(contents)
 }
 
-/// Tells the series of a table, of stops of a migration.
-fn tell_migration<D: Medium>(
+/// What is found before a migration, after it and in the closing: what lists hold under the site, and then what they hold under the
+/// earlier one, which refuses a store that is migrated.
+fn contents_of(alloc: Global, migration: &Migration<'_>) -> Option<Vec<String>> {
+    let widened = content_of(alloc, migration.site, migration.widened, migration.probe)?;
+    let before = content_of(alloc, migration.earlier, migration.script, migration.probe)?;
+    let refused = OpenFault::OtherPolicy.word();
+    followed(alloc, &widened, &[before.as_str(), refused, refused])
+}
+
+/// Tells the series of a table, of stops of a migration of the store in files.
+fn tell_series(
     alloc: Global,
     migration: &Migration<'_>,
+    start: &Copies,
     lines: &[&str],
     out: &mut Told,
 ) -> io::Result<()> {
@@ -52,36 +55,49 @@ fn tell_migration<D: Medium>(
         out.push_line("no contents");
         return Ok(());
     };
-    let files = made::<D>(alloc, migration.earlier, migration.script)?;
     let plan = Plan {
         site: migration.site,
         earlier: Some(migration.earlier),
-        start: &Copies::of(alloc, &files)?,
+        start,
         task: Task::Run(""),
         names: &PLACES,
         contents: &contents,
         probe: migration.probe,
     };
-    tell_plan::<D>(alloc, &plan, lines, out)
+    tell_plan(alloc, &plan, lines, out)
 }
 
-/// Tells the stops of a migration.
-pub fn tell_lines<D: Medium, R: Files + AllocGlobal>(
-    rt: &R,
+/// Tells the series of a table, of stops of a migration.
+fn tell_migration(
+    alloc: Global,
+    migration: &Migration<'_>,
     lines: &[&str],
     out: &mut Told,
 ) -> io::Result<()> {
-    let earlier = Site::read(rt, Names::of("policy.toml"))?;
-    let site = Site::read(rt, Names::of("wide.policy.toml wide.schemes.toml"))?;
-    let script = fs::read_to_string(rt, "migration.script")?;
-    let widened = fs::read_to_string(rt, "widened.script")?;
-    let probe = fs::read_to_string(rt, "probe.script")?;
+    let start = made(alloc, migration.earlier, migration.script)?;
+    tell_series(alloc, migration, &start, lines, out)
+}
+
+/// Tells the stops of a migration.
+pub fn tell_lines(alloc: Global, texts: &Texts, lines: &[&str], out: &mut Told) -> io::Result<()> {
+    let Some(earlier) = Site::of(alloc, texts, Names::of("policy.toml")) else {
+        out.push_line("no site");
+        return Ok(());
+    };
+    let Some(site) = Site::of(
+        alloc,
+        texts,
+        Names::of("wide.policy.toml wide.schemes.toml"),
+    ) else {
+        out.push_line("no site");
+        return Ok(());
+    };
     let migration = Migration {
         earlier: &earlier,
         site: &site,
-        script: &script,
-        widened: &widened,
-        probe: &probe,
+        script: texts.named("migration.script"),
+        widened: texts.named("widened.script"),
+        probe: texts.named("probe.script"),
     };
-    tell_migration::<D>(rt.alloc(), &migration, lines, out)
+    tell_migration(alloc, &migration, lines, out)
 }

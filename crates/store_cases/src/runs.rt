@@ -1,17 +1,19 @@
 //! Runs over a base.
 ghost use Rattle.std.specs.Prelude.{◌≡◌, false};
+ghost use Rattle.std.specs.Option.{IfSome};
 ghost use Rattle.mls_lattice.specs.Policy.{labels_of};
 ghost use Rattle.mls_filterview.specs.Stored.{AreContent};
 ghost use Rattle.mls_fragments.specs.Finding.{IsSoundContent};
 ghost use Rattle.mls_machine.specs.Observation.{AreRead};
 ghost use Rattle.mls_host.specs.Running.{site_of};
+ghost use Rattle.mls_runs.specs.History.{IsPrepared};
 
 use crate::narrow::Narrow;
 use crate::site::Site;
 use mls_filterview::{Base, abandon};
 use mls_host::stored_from;
 use mls_machine::{Audience, Form, Stored};
-use mls_runs::run_on;
+use mls_runs::{Run, run_on};
 use mls_script::script;
 use mls_sessions::{RunCause, RunFault};
 use mls_trusted::evaluate;
@@ -24,6 +26,14 @@ pub enum Task<'a> {
     Run(&'a str),
     /// The first of the stored transactions is evaluated alone.
     Evaluate,
+}
+
+/// The script of a task: that of an evaluation is empty.
+fn script_of<'a>(task: Task<'a>) -> &'a str {
+    match task {
+        Task::Run(text) => text,
+        Task::Evaluate => "",
+    }
 }
 
 /// How that ends.
@@ -52,28 +62,39 @@ fn end_of(outcome: Result<(), RunFault>) -> End {
     }
 }
 
-/// Runs a script over a base.
-fn run_script<B: Base>(
-    alloc: Global,
-    site: &Site,
-    text: &str,
-    base: B,
-    out: &mut Narrow,
-) -> (End, B)
-    requires idle { (B.state base).begun ≡ false }
-    requires sound { B.is_clean base → IsSoundContent site.now.policy site.now.file.schemes (B.state base).now }
-    ensures { (B.state result.1).begun ≡ false }
+/// The run of a script, with what is stored.
+pub fn run_of(alloc: Global, site: &Site<'_>, text: &str) -> Option<Run>
+    ensures { IfSome result (IsPrepared site.now.policy site.now.file.schemes) }
 {
     let policy = &site.policy;
     let schemes = &site.file.schemes;
     let transactions = site.transactions.as_bytes();
     let certificates = site.certificates.as_bytes();
     let Ok(stored) = stored_from(alloc, policy, schemes, transactions, certificates) else {
-        return (End::Failed, base);
+        return None;
     };
     let Ok(events) = script(alloc, policy, schemes, text.as_bytes()) else {
-        return (End::Failed, base);
+        return None;
     };
+    Some(Run { stored, events })
+}
+
+/// Answers the events of a run over a base.
+fn run_over<B: Base>(
+    alloc: Global,
+    site: &Site<'_>,
+    run: Run,
+    base: B,
+    out: &mut Narrow,
+) -> (End, B)
+    requires prepared { IsPrepared site.now.policy site.now.file.schemes run }
+    requires idle { (B.state base).begun ≡ false }
+    requires sound { B.is_clean base → IsSoundContent site.now.policy site.now.file.schemes (B.state base).now }
+    ensures { (B.state result.1).begun ≡ false }
+{
+    let Run { stored, events } = run;
+    let policy = &site.policy;
+    let schemes = &site.file.schemes;
     let everyone = Audience {
         reader: None,
         form: Form::Lines,
@@ -83,7 +104,7 @@ fn run_script<B: Base>(
 }
 
 /// Evaluates the first of these transactions, which takes no arguments.
-fn evaluate_first<B: Base>(alloc: Global, site: &Site, stored: &[Stored], base: &mut B) -> End
+fn evaluate_first<B: Base>(alloc: Global, site: &Site<'_>, stored: &[Stored], base: &mut B) -> End
     requires read { AreRead (site_of site.now.policy site.now.file.schemes stored.now) }
     requires content { B.is_clean base.old → AreContent (labels_of site.now.policy) site.now.file.schemes (B.state base.old).now.db }
 {
@@ -109,25 +130,14 @@ fn evaluate_first<B: Base>(alloc: Global, site: &Site, stored: &[Stored], base: 
     }
 }
 
-/// Evaluates the first of the stored transactions over a base.
-fn evaluate_on<B: Base>(alloc: Global, site: &Site, base: B) -> (End, B)
-    requires idle { (B.state base).begun ≡ false }
+/// Evaluates the first transaction that a run stores over a base.
+fn evaluate_over<B: Base>(alloc: Global, site: &Site<'_>, run: &Run, base: B) -> (End, B)
+    requires prepared { IsPrepared site.now.policy site.now.file.schemes run.now }
     requires sound { B.is_clean base → IsSoundContent site.now.policy site.now.file.schemes (B.state base).now }
     ensures { (B.state result.1).begun ≡ false }
 {
     let mut base = base;
-    let transactions = site.transactions.as_bytes();
-    let certificates = site.certificates.as_bytes();
-    let Ok(stored) = stored_from(
-        alloc,
-        &site.policy,
-        &site.file.schemes,
-        transactions,
-        certificates,
-    ) else {
-        return (End::Failed, base);
-    };
-    let end = evaluate_first(alloc, site, &stored, &mut base);
+    let end = evaluate_first(alloc, site, &run.stored, &mut base);
     abandon(&mut base);
     (end, base)
 }
@@ -135,7 +145,7 @@ fn evaluate_on<B: Base>(alloc: Global, site: &Site, base: B) -> (End, B)
 /// Does a task over a base.
 pub fn do_task<B: Base>(
     alloc: Global,
-    site: &Site,
+    site: &Site<'_>,
     task: Task<'_>,
     base: B,
     out: &mut Narrow,
@@ -144,8 +154,11 @@ pub fn do_task<B: Base>(
     requires sound { B.is_clean base → IsSoundContent site.now.policy site.now.file.schemes (B.state base).now }
     ensures { (B.state result.1).begun ≡ false }
 {
+    let Some(run) = run_of(alloc, site, script_of(task)) else {
+        return (End::Failed, base);
+    };
     match task {
-        Task::Run(text) => run_script(alloc, site, text, base, out),
-        Task::Evaluate => evaluate_on(alloc, site, base),
+        Task::Run(_) => run_over(alloc, site, run, base, out),
+        Task::Evaluate => evaluate_over(alloc, site, &run, base),
     }
 }

@@ -3,19 +3,18 @@ ghost use Rattle.std.specs.Prelude.{length};
 ghost use Rattle.std.proofs.Props.{props};
 ghost use Rattle.mls_scheme.specs.Scheme.{AreUnder};
 
+use crate::texts::Texts;
 use mls_lattice::Policy;
 use mls_scheme::SchemesFile;
-use std::fs;
-use std::io::{self, Error, ErrorKind};
-use std::rt::Files;
+use std::alloc::Global;
 
 /// A policy and its schemes, and the texts of the stored transactions and their certificates.
 #[derive(Drop)]
-pub struct Site {
+pub struct Site<'a> {
     pub policy: Policy,
     pub file: SchemesFile,
-    pub transactions: String,
-    pub certificates: String,
+    pub transactions: &'a str,
+    pub certificates: &'a str,
     ghost under: { AreUnder (length policy.labels) file.schemes } by { Prim.hlevel props },
 }
 
@@ -41,28 +40,17 @@ impl<'a> Names<'a> {
     }
 }
 
-fn unread() -> Error {
-    Error::from(ErrorKind::InvalidData)
-}
-
-impl Site {
-    /// Reads the files.
-    pub fn read<R: Files + AllocGlobal>(rt: &R, names: Names<'_>) -> io::Result<Site> {
-        let policy = fs::read_to_string(rt, names.policy)?;
-        let schemes = fs::read_to_string(rt, names.schemes)?;
-        let transactions = fs::read_to_string(rt, names.transactions)?;
-        let certificates = fs::read_to_string(rt, names.certificates)?;
-        let Ok(policy) = Policy::read(rt.alloc(), policy.as_bytes()) else {
-            return Err(unread());
-        };
-        let Ok(file) = SchemesFile::read(rt.alloc(), &policy, schemes.as_bytes()) else {
-            return Err(unread());
-        };
-        Ok(Site {
+impl<'a> Site<'a> {
+    /// The site of these files, if they are read.
+    pub fn of(alloc: Global, texts: &'a Texts, names: Names<'_>) -> Option<Site<'a>> {
+        let policy = Policy::read(alloc, texts.named(names.policy).as_bytes()).ok()?;
+        let schemes = texts.named(names.schemes).as_bytes();
+        let file = SchemesFile::read(alloc, &policy, schemes).ok()?;
+        Some(Site {
             policy,
             file,
-            transactions,
-            certificates,
+            transactions: texts.named(names.transactions),
+            certificates: texts.named(names.certificates),
         })
     }
 }

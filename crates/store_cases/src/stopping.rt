@@ -1,14 +1,14 @@
 //! The tables of stops.
 use crate::contents::{contents_of, ends_of};
 use crate::cuts::tell_cuts;
-use crate::disks::{Copies, Medium};
+use crate::disks::Copies;
 use crate::runs::Task;
 use crate::site::{Names, Site};
 use crate::stops::{Plan, Series, tell_series};
+use crate::texts::Texts;
 use case_tables::{Told, case_at};
 use std::alloc::{AllocError, Global};
-use std::rt::Files;
-use std::{fs, io};
+use std::io;
 
 /// The series of a line: what stops and, where it is not 0, after how many calls first.
 fn series_of<'a>(line: &'a str) -> Series<'a> {
@@ -17,21 +17,20 @@ fn series_of<'a>(line: &'a str) -> Series<'a> {
     Series { part, from }
 }
 
+/// Tells a line of a table: a series, or `cut`.
+fn tell_head(alloc: Global, plan: &Plan<'_>, head: &str, out: &mut Told) -> io::Result<()> {
+    out.push_line(head);
+    if head == "cut" {
+        return tell_cuts(alloc, plan, out);
+    }
+    tell_series(alloc, plan, series_of(head), out)
+}
+
 /// Tells the series of a table.
-pub fn tell_plan<D: Medium>(
-    alloc: Global,
-    plan: &Plan<'_>,
-    lines: &[&str],
-    out: &mut Told,
-) -> io::Result<()> {
+pub fn tell_plan(alloc: Global, plan: &Plan<'_>, lines: &[&str], out: &mut Told) -> io::Result<()> {
     for at in 0..lines.len() {
         if let Some(case) = case_at(&lines[at..]) {
-            out.push_line(case.head);
-            if case.head == "cut" {
-                tell_cuts::<D>(alloc, plan, out)?;
-            } else {
-                tell_series::<D>(alloc, plan, series_of(case.head), out)?;
-            }
+            tell_head(alloc, plan, case.head, out)?;
         }
     }
     Ok(())
@@ -48,18 +47,18 @@ fn names_of<'a>(alloc: Global, lines: &[&'a str]) -> Result<Vec<&'a str>, AllocE
     Ok(names)
 }
 
-/// Tells the series of a table, of stops of the run of a script over a new store.
-fn tell_run<D: Medium>(
+/// Tells the series of a table, of stops of the run of a script of these events over a new store.
+fn tell_run(
     alloc: Global,
-    site: &Site,
-    script: &str,
-    probe: &str,
+    site: &Site<'_>,
+    texts: &Texts,
+    events: &[&str],
     lines: &[&str],
     out: &mut Told,
 ) -> io::Result<()> {
-    let events: Vec<&str> = script.lines().collect(alloc)?;
-    let names = names_of(alloc, &events)?;
-    let Some(contents) = contents_of(alloc, site, &events, probe) else {
+    let probe = texts.named("probe.script");
+    let names = names_of(alloc, events)?;
+    let Some(contents) = contents_of(alloc, site, events, probe) else {
         out.push_line("no contents");
         return Ok(());
     };
@@ -67,12 +66,22 @@ fn tell_run<D: Medium>(
         site,
         earlier: None,
         start: &Copies::none(alloc),
-        task: Task::Run(script),
+        task: Task::Run(texts.named("stops.script")),
         names: &names,
         contents: &contents,
         probe,
     };
-    tell_plan::<D>(alloc, &plan, lines, out)
+    tell_plan(alloc, &plan, lines, out)
+}
+
+/// Tells the stops of runs.
+pub fn tell_runs(alloc: Global, texts: &Texts, lines: &[&str], out: &mut Told) -> io::Result<()> {
+    let Some(site) = Site::of(alloc, texts, Names::of("policy.toml")) else {
+        out.push_line("no site");
+        return Ok(());
+    };
+    let events: Vec<&str> = texts.named("stops.script").lines().collect(alloc)?;
+    tell_run(alloc, &site, texts, &events, lines, out)
 }
 
 /// The names of the places of an evaluation.
@@ -80,15 +89,15 @@ const PLACES: [&str; 3] = ["opening", "evaluation", "closing"];
 
 /// Tells the series of a table, of stops of the evaluation of a transaction over a new store, which leaves what the events of a script
 /// leave.
-fn tell_evaluation<D: Medium>(
+fn tell_evaluation(
     alloc: Global,
-    site: &Site,
-    script: &str,
-    probe: &str,
+    site: &Site<'_>,
+    texts: &Texts,
     lines: &[&str],
     out: &mut Told,
 ) -> io::Result<()> {
-    let Some(contents) = ends_of(alloc, site, script, probe) else {
+    let probe = texts.named("probe.script");
+    let Some(contents) = ends_of(alloc, site, texts.named("evaluation.script"), probe) else {
         out.push_line("no contents");
         return Ok(());
     };
@@ -101,36 +110,24 @@ fn tell_evaluation<D: Medium>(
         contents: &contents,
         probe,
     };
-    tell_plan::<D>(alloc, &plan, lines, out)
-}
-
-/// Tells the stops of runs.
-pub fn tell_runs<D: Medium, R: Files + AllocGlobal>(
-    rt: &R,
-    lines: &[&str],
-    out: &mut Told,
-) -> io::Result<()> {
-    let site = Site::read(rt, Names::of("policy.toml"))?;
-    let script = fs::read_to_string(rt, "stops.script")?;
-    let probe = fs::read_to_string(rt, "probe.script")?;
-    tell_run::<D>(rt.alloc(), &site, &script, &probe, lines, out)
+    tell_plan(alloc, &plan, lines, out)
 }
 
 /// Tells the stops of evaluations.
-pub fn tell_evaluations<D: Medium, R: Files + AllocGlobal>(
-    rt: &R,
+pub fn tell_evaluations(
+    alloc: Global,
+    texts: &Texts,
     lines: &[&str],
     out: &mut Told,
 ) -> io::Result<()> {
-    let site = Site::read(
-        rt,
-        Names {
-            transactions: "pair.transactions.txt",
-            certificates: "pair.certificates.txt",
-            ..Names::of("policy.toml")
-        },
-    )?;
-    let script = fs::read_to_string(rt, "evaluation.script")?;
-    let probe = fs::read_to_string(rt, "probe.script")?;
-    tell_evaluation::<D>(rt.alloc(), &site, &script, &probe, lines, out)
+    let names = Names {
+        transactions: "pair.transactions.txt",
+        certificates: "pair.certificates.txt",
+        ..Names::of("policy.toml")
+    };
+    let Some(site) = Site::of(alloc, texts, names) else {
+        out.push_line("no site");
+        return Ok(());
+    };
+    tell_evaluation(alloc, &site, texts, lines, out)
 }

@@ -1,23 +1,21 @@
 //! Tasks that are stopped at each call of a disk, and what is found in their stores afterwards.
 use crate::contents::probed;
 use crate::counts::{Counts, Found, Place};
-use crate::disks::{Copies, Medium};
-use crate::narrow::Narrow;
+use crate::disks::{Calls, Copies};
 use crate::runs::{End, Task};
 use crate::site::Site;
-use crate::stores::{Outcome, do_and_close, do_in};
+use crate::stores::{Done, Job, Outcome, Work, do_job};
 use case_tables::Told;
-use sqlite::Files;
-use std::alloc::{AllocError, Global};
+use std::alloc::Global;
 use std::io;
 
 /// What is stopped over which files, and what is to be found: the content before the task and after each of its events. The places
 /// of stops have names: the opening, the events and the closing.
 #[derive(Clone, Copy)]
 pub struct Plan<'a> {
-    pub site: &'a Site,
+    pub site: &'a Site<'a>,
     /// The site of the store before the task, where that migrates it: what this site finds is told too.
-    pub earlier: Option<&'a Site>,
+    pub earlier: Option<&'a Site<'a>>,
     pub start: &'a Copies,
     pub task: Task<'a>,
     pub names: &'a [&'a str],
@@ -41,52 +39,35 @@ fn calls_of(series: &str, part: &str, calls: u64) -> u64 {
 const MOST: u64 = 1000;
 
 /// Does a task, which a stop ends after so many calls; the store of a run is closed then.
-fn stopped<D: Medium>(
-    alloc: Global,
-    plan: &Plan<'_>,
-    series: &str,
-    calls: u64,
-) -> io::Result<(Outcome, Files<D>)> {
-    let log = calls_of(series, "log", calls);
-    let db = calls_of(series, "file", calls);
-    let files = plan.start.fused(alloc, log, db)?;
-    let mut out = Narrow::new(alloc, calls_of(series, "writer", calls));
-    Ok(match plan.task {
-        Task::Run(_) => do_and_close(alloc, plan.site, plan.task, files, &mut out),
-        Task::Evaluate => do_in(alloc, plan.site, plan.task, files, &mut out),
-    })
-}
-
-/// The files after the machine went down.
-fn crashed<D: Medium>(files: Files<D>) -> Files<D> {
-    let mut files = files;
-    files.log.crash();
-    files.db.crash();
-    files
+fn stopped(alloc: Global, plan: &Plan<'_>, series: &str, calls: u64) -> io::Result<Done> {
+    let job = Job {
+        work: Work::Do(plan.site, plan.task),
+        calls: Calls {
+            log: calls_of(series, "log", calls),
+            db: calls_of(series, "file", calls),
+            replies: calls_of(series, "writer", calls),
+        },
+        closes: matches!(plan.task, Task::Run(_)),
+    };
+    do_job(alloc, job, plan.start)
 }
 
 /// What the store in files holds under a site, or why it is refused.
-fn held_under<D: Medium>(
-    alloc: Global,
-    site: &Site,
-    probe: &str,
-    copies: &Copies,
-) -> Option<String> {
-    let files = copies.files::<D>(alloc).ok()?;
-    let mut out = Narrow::new(alloc, u64::MAX);
-    let (outcome, _files) = do_in(alloc, site, Task::Run(probe), files, &mut out);
-    match outcome {
-        Outcome::Ended(End::Whole) => probed(alloc, &out),
+fn held_under(alloc: Global, site: &Site<'_>, probe: &str, copies: &Copies) -> Option<String> {
+    let job = Job::left(Work::Do(site, Task::Run(probe)));
+    let done = do_job(alloc, job, copies).ok()?;
+    match done.outcome {
+        Outcome::Ended(End::Whole) => probed(alloc, &done.replies),
         Outcome::Refused(fault) => String::from_str(alloc, fault.word()).ok(),
         _ => None,
     }
 }
 
 /// What the store in files holds, and then what it holds under the earlier site.
-pub fn content_in<D: Medium>(alloc: Global, plan: &Plan<'_>, copies: &Copies) -> Option<String> {
-    let mut content = held_under::<D>(alloc, plan.site, plan.probe, copies)?;
+pub fn content_in(alloc: Global, plan: &Plan<'_>, copies: &Copies) -> Option<String> {
+    let mut content = held_under(alloc, plan.site, plan.probe, copies)?;
     if let Some(earlier) = plan.earlier {
-        let before = held_under::<D>(alloc, earlier, plan.probe, copies)?;
+        let before = held_under(alloc, earlier, plan.probe, copies)?;
         content.push_str(&before).ok()?;
     }
     Some(content)
@@ -105,50 +86,57 @@ fn place_of(outcome: Outcome, plan: &Plan<'_>) -> Option<Place> {
     Some(Place { number, done })
 }
 
-/// What is found in files after a stop.
-fn found_in<D: Medium>(
-    alloc: Global,
-    plan: &Plan<'_>,
-    files: Files<D>,
-) -> Result<Found, AllocError> {
-    let written = Copies::of(alloc, &files)?;
-    let synced = Copies::of(alloc, &crashed(files))?;
-    Ok(Found {
-        synced: content_in::<D>(alloc, plan, &synced),
-        written: content_in::<D>(alloc, plan, &written),
-    })
+/// What is found in the files of a task.
+fn found_of(alloc: Global, plan: &Plan<'_>, done: &Done) -> Found {
+    Found {
+        synced: content_in(alloc, plan, &done.synced),
+        written: content_in(alloc, plan, &done.written),
+    }
 }
 
-/// Notes what each stop of a series leaves, and then what is left where there is no stop, which is as after a stop in the closing.
-fn note_stops<D: Medium>(
+/// Notes what a stop of a series leaves, or what is left where there is no stop, which is as after a stop in the closing; and answers
+/// whether there was one.
+fn note_stop(
+    alloc: Global,
+    plan: &Plan<'_>,
+    series: &str,
+    calls: u64,
+    counts: &mut Counts,
+) -> io::Result<bool> {
+    let done = stopped(alloc, plan, series, calls)?;
+    let found = found_of(alloc, plan, &done);
+    let Some(place) = place_of(done.outcome, plan) else {
+        counts.end(plan.contents, &found);
+        return Ok(false);
+    };
+    counts.note(plan.contents, place, &found, calls)?;
+    Ok(true)
+}
+
+/// Notes what each stop of a series leaves.
+fn note_stops(
     alloc: Global,
     plan: &Plan<'_>,
     series: Series<'_>,
     counts: &mut Counts,
 ) -> io::Result<()> {
     for calls in series.from..MOST {
-        let (outcome, files) = stopped::<D>(alloc, plan, series.part, calls)?;
-        let found = found_in(alloc, plan, files)?;
-        match place_of(outcome, plan) {
-            Some(place) => counts.note(plan.contents, place, &found, calls)?,
-            None => {
-                counts.end(plan.contents, &found);
-                return Ok(());
-            }
+        if !note_stop(alloc, plan, series.part, calls, counts)? {
+            break;
         }
     }
     Ok(())
 }
 
 /// Tells what the stops of a series leave, place by place.
-pub fn tell_series<D: Medium>(
+pub fn tell_series(
     alloc: Global,
     plan: &Plan<'_>,
     series: Series<'_>,
     out: &mut Told,
 ) -> io::Result<()> {
     let mut counts = Counts::new(alloc, plan.names.len())?;
-    note_stops::<D>(alloc, plan, series, &mut counts)?;
+    note_stops(alloc, plan, series, &mut counts)?;
     counts.tell(plan.names, out);
     Ok(())
 }

@@ -1,21 +1,26 @@
-//! Tasks over stores.
-ghost use Rattle.std.specs.Prelude.{◌≡◌, false, IfOk};
+//! Work over stores, from the bytes of their files to the bytes of their files.
+ghost use Rattle.std.specs.Prelude.{◌≡◌, ◌<◌, false, length, IfOk};
+ghost use Rattle.std.specs.List.{AllByRecursion};
 ghost use Rattle.mls_fragments.specs.Based.{state_of};
 ghost use Rattle.mls_fragments.specs.Finding.{IsSoundContent};
+ghost use Rattle.mls_runs.specs.History.{IsPrepared};
 
-use crate::disks::{Copies, Medium};
+use crate::disks::{Calls, Copies, Medium};
 use crate::narrow::Narrow;
 use crate::runs::{End, Task, do_task};
 use crate::site::Site;
 use case_tables::Told;
 use mls_fragments::{OpenFault, SqlBase};
-use sqlite::{Alter, Connection, FileStore, Files, Options};
-use sqlite_disk::Disk;
+use mls_lattice::LabelNo;
+use mls_machine::{Audience, Form};
+use mls_runs::{HistoryFault, Run, run_history};
+use sqlite::{Alter, Connection, Files, Options};
+use sqlite_disk::{Fuse, Memory};
 use std::alloc::Global;
 use std::io;
 
 /// Room for the few pages of these stores, since each opening makes all of it; and the log is copied into the database file soon.
-pub fn options() -> Options {
+fn options() -> Options {
     Options {
         cache_pages: 8,
         spill_pages: 8,
@@ -24,62 +29,62 @@ pub fn options() -> Options {
     }
 }
 
-/// A connection to the store in files.
-fn opened<D: Disk + Drop>(
-    alloc: Global,
-    files: Files<D>,
-) -> Result<Connection<FileStore<D>>, Files<D>> {
-    if !files.may_be_used() {
-        return Err(files);
-    }
-    match Connection::open_files(alloc, files, options()) {
-        Ok(conn) => Ok(conn),
-        Err((_, left)) => Err(left.into_files()),
-    }
+/// What is done over a store.
+#[derive(Clone, Copy)]
+pub enum Work<'a> {
+    /// Statements are executed.
+    Execute(&'a str),
+    /// A task is done over a base under a site.
+    Do(&'a Site<'a>, Task<'a>),
 }
 
-/// A base over the store of a connection.
-fn adopted<S: Alter>(
-    alloc: Global,
-    site: &Site,
-    conn: Connection<S>,
-) -> Result<SqlBase<S>, (OpenFault, Connection<S>)>
-    ensures mode { IfOk result (λ b. (state_of b).begun ≡ false) }
-    ensures sound { IfOk result (λ b. IsSoundContent site.now.policy site.now.file.schemes (state_of b).now) }
-{
-    if !conn.is_autocommit() {
-        return Err((OpenFault::Store, conn));
+/// Work over a store, what of it stops, and whether the store is closed where the work ends well: else its files are left as they are.
+#[derive(Clone, Copy)]
+pub struct Job<'a> {
+    pub work: Work<'a>,
+    pub calls: Calls,
+    pub closes: bool,
+}
+
+impl<'a> Job<'a> {
+    /// Nothing stops, and the store is closed.
+    pub fn closed(work: Work<'a>) -> Job<'a> {
+        Job {
+            work,
+            calls: Calls::ALL,
+            closes: true,
+        }
     }
-    SqlBase::adopt(alloc, conn, &site.policy, &site.file)
-}
 
-/// Gives the files back as they are.
-fn left<D: Disk + Drop>(conn: Connection<FileStore<D>>) -> Files<D> {
-    conn.into_store().close()
-}
-
-/// Closes a store, and tells whether that went well.
-fn closed<D: Disk + Drop>(conn: Connection<FileStore<D>>) -> (bool, Files<D>) {
-    match conn.close_files() {
-        Ok(files) => (true, files),
-        Err((_, store)) => (false, store.close()),
+    /// Nothing stops, and the files are left as they are.
+    pub fn left(work: Work<'a>) -> Job<'a> {
+        Job {
+            work,
+            calls: Calls::ALL,
+            closes: false,
+        }
     }
 }
 
-/// How a task over a store ends.
+/// How work over a store ends.
 #[derive(Clone, Copy)]
 pub enum Outcome {
     /// The files are not opened.
     Unopened,
     /// The store is refused.
     Refused(OpenFault),
-    /// The task is done so far.
+    /// The work is done so far.
     Ended(End),
-    /// The task is done, and the store is not closed.
+    /// The work is done, and the store is not closed.
     Unclosed,
 }
 
 impl Outcome {
+    /// Whether all went well.
+    pub fn is_whole(self) -> bool {
+        matches!(self, Outcome::Ended(End::Whole))
+    }
+
     /// Adds how it ends.
     pub fn tell(self, out: &mut Told) {
         match self {
@@ -97,25 +102,34 @@ impl Outcome {
     }
 }
 
-fn executed<S: Alter>(conn: &mut Connection<S>, sql: &str) -> bool {
-    conn.execute_batch(sql).is_ok()
+/// How work ended, what it replied, and the bytes of the files then: those that were written, and those that were synced.
+#[derive(Drop)]
+pub struct Done {
+    pub outcome: Outcome,
+    pub replies: Vec<u8>,
+    pub written: Copies,
+    pub synced: Copies,
 }
 
-/// Executes statements over the store in files, and closes it; and tells whether all went well.
-pub fn execute_in<D: Disk + Drop>(alloc: Global, files: Files<D>, sql: &str) -> (bool, Files<D>) {
-    let mut conn = match opened(alloc, files) {
-        Ok(conn) => conn,
-        Err(files) => return (false, files),
-    };
-    let is_executed = executed(&mut conn, sql);
-    let (is_closed, files) = closed(conn);
-    (is_executed && is_closed, files)
+/// A base over the store of a connection.
+fn adopted<S: Alter>(
+    alloc: Global,
+    site: &Site<'_>,
+    conn: Connection<S>,
+) -> Result<SqlBase<S>, (OpenFault, Connection<S>)>
+    ensures mode { IfOk result (λ b. (state_of b).begun ≡ false) }
+    ensures sound { IfOk result (λ b. IsSoundContent site.now.policy site.now.file.schemes (state_of b).now) }
+{
+    if !conn.is_autocommit() {
+        return Err((OpenFault::Store, conn));
+    }
+    SqlBase::adopt(alloc, conn, &site.policy, &site.file)
 }
 
 /// Does a task over the store of a connection.
 fn do_over<S: Alter + Drop>(
     alloc: Global,
-    site: &Site,
+    site: &Site<'_>,
     task: Task<'_>,
     conn: Connection<S>,
     out: &mut Narrow,
@@ -129,54 +143,128 @@ fn do_over<S: Alter + Drop>(
     }
 }
 
-/// Does a task over the store in files, and gives its connection back, or the files where they are not opened.
-fn done_in<D: Disk + Drop>(
-    alloc: Global,
-    site: &Site,
-    task: Task<'_>,
-    files: Files<D>,
-    out: &mut Narrow,
-) -> Result<(Outcome, Connection<FileStore<D>>), Files<D>> {
-    let conn = opened(alloc, files)?;
-    Ok(do_over(alloc, site, task, conn, out))
-}
-
-/// Does a task over the store in files, and leaves them as they are then.
-pub fn do_in<D: Disk + Drop>(
-    alloc: Global,
-    site: &Site,
-    task: Task<'_>,
-    files: Files<D>,
-    out: &mut Narrow,
-) -> (Outcome, Files<D>) {
-    match done_in(alloc, site, task, files, out) {
-        Ok((outcome, conn)) => (outcome, left(conn)),
-        Err(files) => (Outcome::Unopened, files),
+/// Executes statements over the store of a connection.
+fn execute<S: Alter>(conn: &mut Connection<S>, sql: &str) -> Outcome {
+    match conn.execute_batch(sql) {
+        Ok(()) => Outcome::Ended(End::Whole),
+        Err(_) => Outcome::Ended(End::Failed),
     }
 }
 
-/// Does a task over the store in files, and closes it if it ends well.
-pub fn do_and_close<D: Disk + Drop>(
+/// Does work over the store of a connection.
+fn work_over<S: Alter + Drop>(
     alloc: Global,
-    site: &Site,
-    task: Task<'_>,
+    work: Work<'_>,
+    conn: Connection<S>,
+    out: &mut Narrow,
+) -> (Outcome, Connection<S>) {
+    match work {
+        Work::Execute(sql) => {
+            let mut conn = conn;
+            (execute(&mut conn, sql), conn)
+        }
+        Work::Do(site, task) => do_over(alloc, site, task, conn, out),
+    }
+}
+
+/// Does work over the store in files.
+fn work_in<D: Medium>(
+    alloc: Global,
+    job: Job<'_>,
     files: Files<D>,
     out: &mut Narrow,
 ) -> (Outcome, Files<D>) {
-    match done_in(alloc, site, task, files, out) {
-        Ok((Outcome::Ended(End::Whole), conn)) => match closed(conn) {
-            (true, files) => (Outcome::Ended(End::Whole), files),
-            (false, files) => (Outcome::Unclosed, files),
-        },
-        Ok((outcome, conn)) => (outcome, left(conn)),
-        Err(files) => (Outcome::Unopened, files),
+    if !files.may_be_used() {
+        return (Outcome::Unopened, files);
     }
+    let conn = match Connection::open_files(alloc, files, options()) {
+        Ok(conn) => conn,
+        Err((_, left)) => return (Outcome::Unopened, left.into_files()),
+    };
+    let (outcome, conn) = work_over(alloc, job.work, conn, out);
+    if !job.closes || !outcome.is_whole() {
+        return (outcome, conn.into_store().close());
+    }
+    match conn.close_files() {
+        Ok(files) => (outcome, files),
+        Err((_, store)) => (Outcome::Unclosed, store.close()),
+    }
+}
+
+/// The files after the machine went down.
+fn crashed<D: Medium>(files: Files<D>) -> Files<D> {
+    let mut files = files;
+    files.log.crash();
+    files.db.crash();
+    files
+}
+
+/// Does work over files with these bytes on such disks.
+fn do_job_on<D: Medium>(alloc: Global, job: Job<'_>, start: &Copies) -> io::Result<Done> {
+    let files = start.files::<D>(alloc, job.calls)?;
+    let mut out = Narrow::new(alloc, job.calls.replies);
+    let (outcome, files) = work_in(alloc, job, files, &mut out);
+    let written = Copies::of(alloc, &files)?;
+    let synced = Copies::of(alloc, &crashed(files))?;
+    Ok(Done {
+        outcome,
+        replies: out.bytes,
+        written,
+        synced,
+    })
+}
+
+/// Does work over files with these bytes.
+pub fn do_job(alloc: Global, job: Job<'_>, start: &Copies) -> io::Result<Done> {
+    do_job_on::<Fuse<Memory>>(alloc, job, start)
 }
 
 /// The closed files of a new store, after a script.
-pub fn made<D: Medium>(alloc: Global, site: &Site, script: &str) -> io::Result<Files<D>> {
-    let files = Copies::none(alloc).files(alloc)?;
+pub fn made(alloc: Global, site: &Site<'_>, script: &str) -> io::Result<Copies> {
+    let work = Work::Do(site, Task::Run(script));
+    let done = do_job(alloc, Job::closed(work), &Copies::none(alloc))?;
+    Ok(done.written)
+}
+
+/// What a level is shown of a history over a new store on such disks, and how that ends.
+fn history_on<D: Medium>(
+    alloc: Global,
+    site: &Site<'_>,
+    level: LabelNo,
+    runs: Vec<Run>,
+) -> io::Result<(Result<(), HistoryFault>, Vec<u8>)>
+    requires level { level < length site.now.policy.labels }
+    requires prepared { AllByRecursion (IsPrepared site.now.policy site.now.file.schemes) runs.items }
+{
+    let files = Copies::none(alloc).files::<D>(alloc, Calls::ALL)?;
     let mut out = Narrow::new(alloc, u64::MAX);
-    let (_, files) = do_and_close(alloc, site, Task::Run(script), files, &mut out);
-    Ok(files)
+    let audience = Audience {
+        reader: Some(level),
+        form: Form::Lines,
+    };
+    let (policy, file) = (&site.policy, &site.file);
+    let (outcome, _) = run_history(
+        alloc,
+        policy,
+        file,
+        runs,
+        files,
+        options(),
+        audience,
+        &mut out,
+    );
+    Ok((outcome, out.bytes))
+}
+
+/// What a level is shown of a history over a new store, and how that ends.
+pub fn history(
+    alloc: Global,
+    site: &Site<'_>,
+    level: LabelNo,
+    runs: Vec<Run>,
+) -> io::Result<(Result<(), HistoryFault>, Vec<u8>)>
+    requires level { level < length site.now.policy.labels }
+    requires prepared { AllByRecursion (IsPrepared site.now.policy site.now.file.schemes) runs.items }
+{
+    history_on::<Fuse<Memory>>(alloc, site, level, runs)
 }

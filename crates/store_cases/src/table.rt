@@ -1,9 +1,9 @@
 //! The tables, in the order in which they are told.
-use crate::disks::Medium;
+use crate::texts::Texts;
 use crate::{again, damage, histories, migrations, stopping};
 use case_tables::Told;
-use std::rt::Files;
-use std::{fs, io};
+use std::alloc::Global;
+use std::io;
 
 /// What the cases of a file are about.
 #[derive(Clone, Copy)]
@@ -25,24 +25,30 @@ pub const TABLES: [(&str, Table); 6] = [
     ("stops.txt", Table::Stops),
 ];
 
-/// What is told of the cases of a table, over stores on such disks.
-pub fn told<D: Medium, R: Files + AllocGlobal>(
-    rt: &R,
-    file: &str,
+/// Tells the cases of a table.
+fn tell_lines(
+    alloc: Global,
+    texts: &Texts,
     table: Table,
-) -> io::Result<String> {
-    let text = fs::read_to_string(rt, file)?;
-    let lines: Vec<&str> = text.lines().collect(rt.alloc())?;
-    let mut out = Told::new(rt.alloc());
+    lines: &[&str],
+    out: &mut Told,
+) -> io::Result<()> {
+    match table {
+        Table::Stops => stopping::tell_runs(alloc, texts, lines, out),
+        Table::Evaluations => stopping::tell_evaluations(alloc, texts, lines, out),
+        Table::Damage => damage::tell_lines(alloc, texts, lines, out),
+        Table::Migrations => migrations::tell_lines(alloc, texts, lines, out),
+        Table::Again => again::tell_lines(alloc, texts, lines, out),
+        Table::Histories => histories::tell_lines(alloc, texts, lines, out),
+    }
+}
+
+/// What is told of the cases of a table.
+pub fn told(alloc: Global, texts: &Texts, file: &str, table: Table) -> io::Result<String> {
+    let lines: Vec<&str> = texts.named(file).lines().collect(alloc)?;
+    let mut out = Told::new(alloc);
     out.push("== ");
     out.push_line(file);
-    match table {
-        Table::Stops => stopping::tell_runs::<D, R>(rt, &lines, &mut out)?,
-        Table::Evaluations => stopping::tell_evaluations::<D, R>(rt, &lines, &mut out)?,
-        Table::Damage => damage::tell_lines::<D, R>(rt, &lines, &mut out)?,
-        Table::Migrations => migrations::tell_lines::<D, R>(rt, &lines, &mut out)?,
-        Table::Again => again::tell_lines::<D, R>(rt, &lines, &mut out)?,
-        Table::Histories => histories::tell_lines::<D, R>(rt, &lines, &mut out)?,
-    }
+    tell_lines(alloc, texts, table, &lines, &mut out)?;
     Ok(out.finish()?)
 }

@@ -1,6 +1,6 @@
 use Rattle.mls_host.specs.Running.{site_of}
 use Rattle.mls_host.proofs.RunningLemmas.{sound_at}
-use Rattle.store_cases.proofs.runs.run_script.Goals as goal
+use Rattle.store_cases.proofs.runs.run_over.Goals as goal
 
 pub run_on-outcome-requires-clause-sound : goal.run_on-outcome-requires-clause-sound
 run_on-outcome-requires-clause-sound g c = λ clean. sound_at (site_of c.args.site.now.policy c.args.site.now.file.schemes _) _ (c.requires.sound clean)

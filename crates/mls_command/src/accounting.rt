@@ -64,7 +64,8 @@ fn accept_shell<H: Host>(
     files: ShellFiles,
 ) -> Result<(), Reason>
     ensures accepted { OnOk result (IsTaskAccepted (H.hosting host.now) policy.now file.now (Shell files.entry)) }
-    ensures refused { IfErr result (AreShellInputsRefused (H.hosting host.now) policy.now file.now.schemes reader files.entry) }
+    ensures refused { IfErr result (AreShellInputsRefused (H.hosting host.now) policy.now file.now.schemes reader
+        files.entry) }
 {
     match reader {
         Some(_) => {}
@@ -93,8 +94,10 @@ fn accept_check<H: Host>(
     transactions: &str,
     certificates: &str,
 ) -> Result<(), Reason>
-    ensures accepted { OnOk result (AreCheckable (H.hosting host.now).gives policy.now schemes.now transactions.now certificates.now) }
-    ensures refused { IfErr result (AreFilesRefused (H.hosting host.now) (Some transactions.now) (Some certificates.now) policy.now schemes.now) }
+    ensures accepted { OnOk result (AreCheckable (H.hosting host.now).gives policy.now schemes.now transactions.now
+        certificates.now) }
+    ensures refused { IfErr result (AreFilesRefused (H.hosting host.now) (Some transactions.now)
+        (Some certificates.now) policy.now schemes.now) }
 {
     let _txs = transactions_in(alloc, host, policy, schemes, transactions)?;
     let _blocks = certificates_in(alloc, host, certificates)?;
@@ -110,7 +113,8 @@ fn accept_certify<H: Host>(
     transactions: &str,
 ) -> Result<(), Reason>
     ensures accepted { OnOk result (AreReadable (H.hosting host.now).gives policy.now schemes.now transactions.now) }
-    ensures refused { IfErr result (AreFilesRefused (H.hosting host.now) (Some transactions.now) None policy.now schemes.now) }
+    ensures refused { IfErr result (AreFilesRefused (H.hosting host.now)
+        (Some transactions.now) None policy.now schemes.now) }
 {
     let _txs = transactions_in(alloc, host, policy, schemes, transactions)?;
     Ok(())
@@ -126,7 +130,8 @@ fn accept_task<H: Host>(
     task: Task,
 ) -> Result<(), Reason>
     ensures accepted { OnOk result (IsTaskAccepted (H.hosting host.now) policy.now file.now task.entry) }
-    ensures refused { IfErr result (AreInputsRefused (H.hosting host.now) policy.now file.now.schemes reader task.entry) }
+    ensures refused { IfErr result (AreInputsRefused (H.hosting host.now) policy.now file.now.schemes reader
+        task.entry) }
 {
     let schemes = &file.schemes;
     match task {
@@ -205,7 +210,8 @@ fn refused_listing<H: Host>(
 
 /// What is told of the inputs of a command.
 fn account<H: Host>(alloc: Global, host: &H, job: Job) -> Result<Listing, Reason>
-    ensures told { IfOk result (λ l. Accounts (hosted H.hosting H.Lines.echo host.now host.now) job.entry l.text.items (string_bytes l.told) l.ending) }
+    ensures told { IfOk result (λ l. Accounts (hosted H.hosting H.Lines.echo host.now host.now) job.entry l.text.items
+        (string_bytes l.told) l.ending) }
     ensures unread { IfErr result (IsUnread (hosted H.hosting H.Lines.echo host.now host.now) job.entry) }
 {
     match accept(alloc, host, job) {
@@ -238,8 +244,9 @@ pub(crate) fn finish_account<H: Host, W: Write, E: Write>(
     out: &mut W,
     err: &mut Errors<E>,
 ) -> u8
-    ensures { (words : List Text) → Asks words job.entry → IsOutcomeOfAccount (hosted H.hosting H.Lines.echo host.now host.now) words
-        (IsAppended W.contents out.old out.new) (IsTold E.contents err.old err.new) result }
+    ensures { (words : List Text) → Asks words job.entry → IsOutcomeOfAccount
+        (hosted H.hosting H.Lines.echo host.now host.now) words (IsAppended W.contents out.old out.new)
+        (IsTold E.contents err.old err.new) result }
 {
     match print_account(alloc, host, job, out, err) {
         Ok(ending) => ending.status(),

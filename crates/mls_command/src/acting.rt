@@ -128,8 +128,9 @@ fn finish<H: Host, W: Write, E: Write>(
     out: &mut W,
     err: &mut Errors<E>,
 ) -> u8
-    ensures { (words : List Text) → Asks words job.entry → IsOutcomeOfJob (hosted H.hosting H.Lines.echo host.old host.new) words
-        (IsAppended W.contents out.old out.new) (IsTold E.contents err.old err.new) result }
+    ensures { (words : List Text) → Asks words job.entry → IsOutcomeOfJob
+        (hosted H.hosting H.Lines.echo host.old host.new) words (IsAppended W.contents out.old out.new)
+        (IsTold E.contents err.old err.new) result }
 {
     match perform(alloc, job, host, out, err) {
         Ok(ending) => ending.status(),

@@ -213,7 +213,8 @@ fn lines_of<H: Host>(
     job: Job,
     reason: &Reason,
 ) -> Result<Vec<u8>, AllocError>
-    ensures { IfOk result (λ v. AreLines (H.hosting host.now) job.entry reason.now (source_of job.entry reason.now) v.items) }
+    ensures { IfOk result (λ v. AreLines (H.hosting host.now) job.entry reason.now
+        (source_of job.entry reason.now) v.items) }
 {
     match source_of(job, reason) {
         None => Ok(Vec::new(alloc)),

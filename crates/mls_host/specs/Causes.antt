@@ -13,6 +13,7 @@ use Rattle.mls_scheme.specs.declared.file.SchemesFile.{SchemesFile}
 use Rattle.mls_scheme.specs.declared.fault.SchemeFault.{SchemeFault}
 use Rattle.mls_scheme.specs.declared.fault.SchemeFault.TheVariants as schemes
 use Rattle.mls_translang.specs.Tx.{Tx}
+use Rattle.mls_translang.specs.Tells.{Tells}
 use Rattle.mls_parser.specs.Parsing.{parse_at}
 use Rattle.mls_parser.specs.declared.fault.TextFault.{TextFault}
 use Rattle.mls_parser.specs.declared.fault.TextCause.TheVariants as texts
@@ -69,6 +70,13 @@ RefusesCertificates bytes reason = (fault : CertFault) × (reason ≡ Certificat
 
 abbrev pub RefusesScript : Tables → Schemes → List ℕ → Reason → Type 0
 RefusesScript policy schemes bytes reason = (fault : ScriptFault) × (reason ≡ Script fault) × (fault.cause ≢ scripts.Memory → script_at policy schemes bytes ≡ Err fault)
+
+-- the transactions of a text are refused; or they are told, and the certificates of another are refused; or memory
+pub data AreTextsRefused (transactions certificates : List ℕ) (policy : Tables) (schemes : Schemes) (reason : Reason) : Type 0 where
+  not_told : RefusesTransactions policy schemes transactions reason → AreTextsRefused transactions certificates policy schemes reason
+  not_certified : (txs : List Tx) → Tells policy schemes transactions txs → RefusesCertificates certificates reason
+      → AreTextsRefused transactions certificates policy schemes reason
+  not_kept : reason ≡ Memory → AreTextsRefused transactions certificates policy schemes reason
 
 -- ---- names
 

@@ -28,6 +28,14 @@ IsNamed policy (Some name) reader = (label : ℕ) × (reader ≡ Some label) × 
 abbrev pub IsReader : Tables → Task → Option ℕ → Type 0
 IsReader policy task reader = IsNamed policy (at_of task) reader
 
+-- the transactions that a text tells, each with the first certificate of its name in another text where that holds for it
+pub record AreStoredOf (transactions certificates : List ℕ) (policy : Tables) (schemes : Schemes) (stored : List Stored) : Type 0 where
+  pub txs : List Tx
+  pub blocks : List Block
+  pub told : Tells policy schemes transactions txs
+  pub certified : IsFile blocks × (certificates ≡ file_text blocks)
+  pub each : AreStoredWith policy blocks txs stored
+
 -- `Gives source bytes`: the host gives these bytes for the file at a path, or, with no path, for the standard input
 module _ (Gives : Option (List ℕ) → List ℕ → Type 0) where
   -- the host gives bytes there that say so

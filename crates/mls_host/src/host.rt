@@ -68,14 +68,16 @@ pub trait Host {
         requires under { AreUnder (length policy.now.labels) file.now.schemes }
         ensures idle { IfOk result (λ b. (Self.Store.Base.state b).begun ≡ false) }
         ensures sound { IfOk result (λ b. IsSoundContent policy.now file.now.schemes (Self.Store.Base.state b).now) }
-        ensures kept { IfOk result (λ b. Self.Store.Base.is_clean b → IsTakenOf ((hosting self.old).keeps path.now) policy.now file.now (Self.Store.Base.state b).now) }
+        ensures kept { IfOk result (λ b. Self.Store.Base.is_clean b
+            → IsTakenOf ((hosting self.old).keeps path.now) policy.now file.now (Self.Store.Base.state b).now) }
         ensures barred { IfErr result ((hosting self.old).bars path.now policy.now file.now) };
 
     /// Takes the store at a path back, with what a run left in it, and closes it.
     fn keep(&mut self, path: &str, store: Self::Store) -> Result<(), CloseFault>
         requires idle { (Self.Store.Base.state store).begun ≡ false }
         ensures honest { (hosting self.new).is_honest ↔ Self.Store.Base.is_clean store }
-        ensures kept { (hosting self.new).is_honest → (hosting self.new).keeps path.now (Self.Store.Base.state store).now };
+        ensures kept { (hosting self.new).is_honest → (hosting self.new).keeps path.now
+            (Self.Store.Base.state store).now };
 }
 
 /// All bytes of a reader, where they are at most `MOST_BYTES`.

@@ -49,7 +49,8 @@ pub fn input_of<H: Host>(
 
 /// The policy of a file.
 pub fn policy_in<H: Host>(alloc: Global, host: &H, path: &str) -> Result<Policy, Reason>
-    ensures policy { IfOk result (λ policy. IsFrom (H.hosting host.now).gives (Some path.now) (λ bytes. ReadsPolicy bytes policy)) }
+    ensures policy { IfOk result (λ policy. IsFrom (H.hosting host.now).gives (Some path.now)
+        (λ bytes. ReadsPolicy bytes policy)) }
     ensures refused { IfErr result (IsInputRefused (H.hosting host.now) Role.Policy (Some path.now) RefusesPolicy) }
 {
     let bytes = input_of(alloc, host, Role::Policy, Some(path))?;
@@ -63,9 +64,11 @@ pub fn schemes_in<H: Host>(
     policy: &Policy,
     path: &str,
 ) -> Result<SchemesFile, Reason>
-    ensures schemes { IfOk result (λ file. IsFrom (H.hosting host.now).gives (Some path.now) (λ bytes. ReadsSchemes policy.now bytes file.version file.schemes)) }
+    ensures schemes { IfOk result (λ file. IsFrom (H.hosting host.now).gives (Some path.now)
+        (λ bytes. ReadsSchemes policy.now bytes file.version file.schemes)) }
     ensures under { IfOk result (λ file. AreUnder (length policy.now.labels) file.schemes) }
-    ensures refused { IfErr result (IsInputRefused (H.hosting host.now) Role.Schemes (Some path.now) (RefusesSchemes policy.now)) }
+    ensures refused { IfErr result (IsInputRefused (H.hosting host.now) Role.Schemes (Some path.now)
+        (RefusesSchemes policy.now)) }
 {
     let bytes = input_of(alloc, host, Role::Schemes, Some(path))?;
     read_schemes(alloc, policy, &bytes)
@@ -106,7 +109,8 @@ pub fn transactions_in<H: Host>(
 ) -> Result<Items<Tx>, Reason>
     ensures told { IfOk result (AreToldIn (H.hosting host.now).gives path.now policy.now schemes.now) }
     ensures ok { IfOk result (AllByRecursion (IsReadUnder policy.now schemes.now)) }
-    ensures refused { IfErr result (AreTransactionsRefused (H.hosting host.now) (Some path.now) policy.now schemes.now) }
+    ensures refused { IfErr result (AreTransactionsRefused (H.hosting host.now)
+        (Some path.now) policy.now schemes.now) }
 {
     let bytes = input_of(alloc, host, Role::Transactions, Some(path))?;
     read_transactions(alloc, policy, schemes, &bytes)
@@ -120,9 +124,11 @@ pub(crate) fn transactions_of<H: Host>(
     schemes: &Schemes,
     path: Option<&str>,
 ) -> Result<Items<Tx>, Reason>
-    ensures told { IfOk result (AreTransactionsFrom (H.hosting host.now).gives (named path.entry) policy.now schemes.now) }
+    ensures told { IfOk result (AreTransactionsFrom (H.hosting host.now).gives
+        (named path.entry) policy.now schemes.now) }
     ensures ok { IfOk result (AllByRecursion (IsReadUnder policy.now schemes.now)) }
-    ensures refused { IfErr result (AreTransactionsRefused (H.hosting host.now) (named path.entry) policy.now schemes.now) }
+    ensures refused { IfErr result (AreTransactionsRefused (H.hosting host.now)
+        (named path.entry) policy.now schemes.now) }
 {
     match path {
         None => Ok(Items::from(Vec::new(alloc))),
@@ -149,7 +155,8 @@ pub(crate) fn certificates_of<H: Host>(
     host: &H,
     path: Option<&str>,
 ) -> Result<Vec<(Str, Certificate)>, Reason>
-    ensures blocks { IfOk result (λ blocks. AreCertificatesFrom (H.hosting host.now).gives (named path.entry) blocks.items) }
+    ensures blocks { IfOk result (λ blocks. AreCertificatesFrom (H.hosting host.now).gives
+        (named path.entry) blocks.items) }
     ensures refused { IfErr result (AreCertificatesRefused (H.hosting host.now) (named path.entry)) }
 {
     match path {

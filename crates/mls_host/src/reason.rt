@@ -102,7 +102,8 @@ fn tell_place<W: Write>(
     line: usize,
     column: usize,
 ) -> io::Result<()>
-    ensures { OnOk result (Appends (W.contents err.old) (W.contents err.new) (place_text role code word.now line column)) }
+    ensures { OnOk result (Appends (W.contents err.old) (W.contents err.new)
+        (place_text role code word.now line column)) }
 {
     tell_front(err, role, code, word)?;
     tell_spot(err, line, column)

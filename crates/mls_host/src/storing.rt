@@ -1,8 +1,8 @@
 //! Transactions as they are stored: with the certificates that hold for them, or without.
 ghost use Rattle.std.specs.Prelude.{◌≡◌, IfOk, IfErr, option_map};
 ghost use Rattle.mls_machine.specs.Observation.{AreRead, AreCertified};
-ghost use Rattle.mls_host.specs.Causes.{AreFilesRefused};
-ghost use Rattle.mls_host.specs.Inputs.{AreStoredFrom};
+ghost use Rattle.mls_host.specs.Causes.{AreFilesRefused, AreTextsRefused};
+ghost use Rattle.mls_host.specs.Inputs.{AreStoredFrom, AreStoredOf};
 ghost use Rattle.mls_host.specs.Running.{site_of};
 ghost use Rattle.mls_host.specs.Storing.{cert_named, IsChecked, IsStoredWith, AreStoredWith};
 ghost use Rattle.mls_words.specs.Words.{named};
@@ -76,8 +76,10 @@ pub fn stored_from(
     transactions: &[u8],
     certificates: &[u8],
 ) -> Result<Items<Stored>, Reason>
+    ensures from { IfOk result (AreStoredOf transactions.now certificates.now policy.now schemes.now) }
     ensures read { IfOk result (λ ss. AreRead (site_of policy.now schemes.now ss)) }
     ensures certified { IfOk result (λ ss. AreCertified (site_of policy.now schemes.now ss)) }
+    ensures refused { IfErr result (AreTextsRefused transactions.now certificates.now policy.now schemes.now) }
 {
     let txs = read_transactions(alloc, policy, schemes, transactions)?;
     let blocks = read_certificates(alloc, certificates)?;
@@ -94,10 +96,12 @@ pub fn stored_files<H: Host>(
     transactions: Option<&str>,
     certificates: Option<&str>,
 ) -> Result<Items<Stored>, Reason>
-    ensures from { IfOk result (AreStoredFrom (H.hosting host.now).gives (named transactions.entry) (named certificates.entry) policy.now schemes.now) }
+    ensures from { IfOk result (AreStoredFrom (H.hosting host.now).gives (named transactions.entry)
+        (named certificates.entry) policy.now schemes.now) }
     ensures read { IfOk result (λ ss. AreRead (site_of policy.now schemes.now ss)) }
     ensures certified { IfOk result (λ ss. AreCertified (site_of policy.now schemes.now ss)) }
-    ensures refused { IfErr result (AreFilesRefused (H.hosting host.now) (named transactions.entry) (named certificates.entry) policy.now schemes.now) }
+    ensures refused { IfErr result (AreFilesRefused (H.hosting host.now) (named transactions.entry)
+        (named certificates.entry) policy.now schemes.now) }
 {
     let txs = transactions_of(alloc, host, policy, schemes, transactions)?;
     let blocks = certificates_of(alloc, host, certificates)?;

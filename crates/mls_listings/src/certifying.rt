@@ -184,8 +184,10 @@ pub fn certified<H: Host>(
     schemes: &Schemes,
     transactions: &str,
 ) -> Result<Listing, Reason>
-    ensures listing { IfOk result (λ l. IsCertified (H.hosting host.now).gives policy.now schemes.now transactions.now l.text.items (string_bytes l.told) l.ending) }
-    ensures refused { IfErr result (AreFilesRefused (H.hosting host.now) (Some transactions.now) None policy.now schemes.now) }
+    ensures listing { IfOk result (λ l. IsCertified (H.hosting host.now).gives policy.now schemes.now transactions.now
+        l.text.items (string_bytes l.told) l.ending) }
+    ensures refused { IfErr result (AreFilesRefused (H.hosting host.now)
+        (Some transactions.now) None policy.now schemes.now) }
 {
     let txs = transactions_in(alloc, host, policy, schemes, transactions)?;
     Ok(listing_of(alloc, policy, &txs)?)

@@ -30,7 +30,8 @@ pub(crate) enum Verdict {
 fn verdict_of(policy: &Policy, blocks: &[(Str, Certificate)], tx: &Tx) -> Verdict
     ensures exact { result ≡ verdict_of policy.now blocks.now tx.now }
     // Yes exactly where the rules hold under the first certificate of the name.
-    ensures yes { (cert : SpecCertificate) → cert_named blocks.now tx.now.name ≡ Some cert → (result ≡ Yes ↔ Rules (claim policy.now tx.now cert)) }
+    ensures yes { (cert : SpecCertificate) → cert_named blocks.now tx.now.name ≡ Some cert
+        → (result ≡ Yes ↔ Rules (claim policy.now tx.now cert)) }
 {
     match cert_named(blocks, tx.name()) {
         None => Verdict::Missing,
@@ -78,7 +79,8 @@ fn verdicts_of(
     txs: &[Tx],
 ) -> Result<Verdicts, AllocError>
     ensures text { IfOk result (λ v. string_bytes v.text ≡ flat_map (line_of policy.now blocks.now) txs.now) }
-    ensures refused { IfOk result (λ v. v.refused ≡ list_any (λ tx. is_refused (verdict_of policy.now blocks.now tx)) txs.now) }
+    ensures refused { IfOk result (λ v. v.refused ≡ list_any (λ tx. is_refused (verdict_of policy.now blocks.now tx))
+        txs.now) }
 {
     let mut text = String::new(alloc);
     let mut refused = false;
@@ -99,8 +101,10 @@ pub fn checked<H: Host>(
     transactions: &str,
     certificates: &str,
 ) -> Result<Listing, Reason>
-    ensures listing { IfOk result (λ l. IsChecked (H.hosting host.now).gives policy.now schemes.now transactions.now certificates.now l.text.items (string_bytes l.told) l.ending) }
-    ensures refused { IfErr result (AreFilesRefused (H.hosting host.now) (Some transactions.now) (Some certificates.now) policy.now schemes.now) }
+    ensures listing { IfOk result (λ l. IsChecked (H.hosting host.now).gives policy.now schemes.now transactions.now
+        certificates.now l.text.items (string_bytes l.told) l.ending) }
+    ensures refused { IfErr result (AreFilesRefused (H.hosting host.now) (Some transactions.now)
+        (Some certificates.now) policy.now schemes.now) }
 {
     let txs = transactions_in(alloc, host, policy, schemes, transactions)?;
     let blocks = certificates_in(alloc, host, certificates)?;

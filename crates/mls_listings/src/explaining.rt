@@ -99,9 +99,10 @@ pub fn explained<H: Host>(
     transactions: &str,
     name: Option<&str>,
 ) -> Result<Listing, Reason>
-    ensures listing { IfOk result (λ l. IsExplained (H.hosting host.now).gives policy.now schemes.now transactions.now (named name.entry)
-        l.text.items (string_bytes l.told) l.ending) }
-    ensures refused { IfErr result (IsExplainRefused (H.hosting host.now) policy.now schemes.now transactions.now (named name.entry)) }
+    ensures listing { IfOk result (λ l. IsExplained (H.hosting host.now).gives policy.now schemes.now transactions.now
+        (named name.entry) l.text.items (string_bytes l.told) l.ending) }
+    ensures refused { IfErr result (IsExplainRefused (H.hosting host.now) policy.now schemes.now transactions.now
+        (named name.entry)) }
 {
     let txs = transactions_in(alloc, host, policy, schemes, transactions)?;
     let chosen = match chosen_of(&txs, name) {

@@ -16,7 +16,8 @@ use std::alloc::{AllocError, Global};
 /// The canonical texts of a policy and its schemes.
 fn texts_of(alloc: Global, policy: &Policy, file: &SchemesFile) -> Result<Vec<u8>, AllocError>
     requires { AreUnder (length policy.now.labels) file.now.schemes }
-    ensures { IfOk result (λ text. text.items ≡ lattice.canon_of policy.now ++ scheme.canon_of policy.now file.now.version file.now.schemes) }
+    ensures { IfOk result (λ text. text.items ≡ lattice.canon_of policy.now ++ scheme.canon_of policy.now
+        file.now.version file.now.schemes) }
 {
     let mut text = policy.canon(alloc)?;
     text.append(&mut file.canon(alloc, policy)?)?;
@@ -26,7 +27,8 @@ fn texts_of(alloc: Global, policy: &Policy, file: &SchemesFile) -> Result<Vec<u8
 /// The canonical texts, as they are printed.
 pub fn texts(alloc: Global, policy: &Policy, file: &SchemesFile) -> Result<Listing, AllocError>
     requires { AreUnder (length policy.now.labels) file.now.schemes }
-    ensures text { IfOk result (λ l. l.text.items ≡ lattice.canon_of policy.now ++ scheme.canon_of policy.now file.now.version file.now.schemes) }
+    ensures text { IfOk result (λ l. l.text.items ≡ lattice.canon_of policy.now ++ scheme.canon_of policy.now
+        file.now.version file.now.schemes) }
     ensures told { IfOk result (λ l. string_bytes l.told ≡ []) }
     ensures end { IfOk result (λ l. l.ending ≡ Well) }
 {

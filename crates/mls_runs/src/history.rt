@@ -73,7 +73,8 @@ fn run_and_close<D: Disk + Drop, W: Write>(
     requires declared { IfSome audience.reader (λ c. c < length policy.now.labels) }
     requires idle { (state_of base).begun ≡ false }
     requires sound { IsSoundContent policy.now file.now.schemes (state_of base).now }
-    ensures { ComesTo D.Disk (λ end left. IsClean base.tables × IsRun (site_of policy.now file.now.schemes run.stored) audience run.events.items
+    ensures { ComesTo D.Disk (λ end left. IsClean base.tables
+        × IsRun (site_of policy.now file.now.schemes run.stored) audience run.events.items
         (IsAppended W.contents out.old out.new) end (state_of base).now left) ⊥ result.1 result.0 }
 {
     let Run { stored, events } = run;
@@ -106,7 +107,8 @@ fn run_over<D: Disk + Drop, W: Write>(
     requires under { AreUnder (length policy.now.labels) file.now.schemes }
     requires prepared { IsPrepared policy.now file.now.schemes run }
     requires declared { IfSome audience.now.reader (λ c. c < length policy.now.labels) }
-    ensures { ComesTo D.Disk (IsRunOver D.Disk policy.now file.now audience.now files (run_of policy.now file.now.schemes run) (IsAppended W.contents out.old out.new))
+    ensures { ComesTo D.Disk (IsRunOver D.Disk policy.now file.now audience.now files
+        (run_of policy.now file.now.schemes run) (IsAppended W.contents out.old out.new))
         (IsAppended W.contents out.old out.new []) result.1 result.0 }
 {
     match SqlBase::open_files(alloc, files, options, policy, file) {
@@ -131,9 +133,10 @@ pub fn run_history<D: Disk + Drop, W: Write>(
     requires prepared { AllByRecursion (IsPrepared policy.now file.now.schemes) runs.items }
     requires declared { IfSome audience.reader (λ c. c < length policy.now.labels) }
     ensures whole { OnOk result.0 (AreClean D.Disk result.1.log result.1.db
-        → IsHistoryOver D.Disk policy.now file.now audience files (map (run_of policy.now file.now.schemes) runs.items) (IsAppended W.contents out.old out.new) result.1) }
-    ensures broken { IfErr result.0 (IsHistoryFault D.Disk policy.now file.now audience files (map (run_of policy.now file.now.schemes) runs.items)
+        → IsHistoryOver D.Disk policy.now file.now audience files (map (run_of policy.now file.now.schemes) runs.items)
         (IsAppended W.contents out.old out.new) result.1) }
+    ensures broken { IfErr result.0 (IsHistoryFault D.Disk policy.now file.now audience files
+        (map (run_of policy.now file.now.schemes) runs.items) (IsAppended W.contents out.old out.new) result.1) }
 {
     // for what holds of every policy
     let _labels = policy.label_count();

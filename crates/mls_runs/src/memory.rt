@@ -161,5 +161,6 @@ impl<'a, R: AllocGlobal> Host for MemoryHost<'a, R> {
 /// Two runs of `act` over the store of a machine in memory are a history: the second begins with what the first left. It is
 /// `runs_are_in_turn` at this machine, which needs no premise there.
 pub fn runs_in_memory_are_in_turn<R: AllocGlobal, W: Write, V: Write>()
-    ensures { (first written : W) (second over : V) → RunsInMemoryAreInTurn R (IsAppended W.contents first written) (IsAppended V.contents second over) }
+    ensures { (first written : W) (second over : V) → RunsInMemoryAreInTurn R (IsAppended W.contents first written)
+        (IsAppended V.contents second over) }
 {}

@@ -72,7 +72,8 @@ fn run_in_memory<W: Write>(
     requires fits { EventsFit (site_of policy.now file.now.schemes stored) events.now }
     requires declared { IfSome audience.reader (λ c. c < length policy.now.labels) }
     ensures { IsEnd (λ end. (left : Content) × IsRun (site_of policy.now file.now.schemes stored) audience events.now
-        (IsAppended W.contents out.old out.new) end no_content left) (λ reason. (reason ≡ Reason.Store OpenFault.Memory) × IsAppended W.contents out.old out.new []) result }
+        (IsAppended W.contents out.old out.new) end no_content left)
+        (λ reason. (reason ≡ Reason.Store OpenFault.Memory) × IsAppended W.contents out.old out.new []) result }
 {
     let base = match MemoryBase::open(alloc, policy, file) {
         Ok(base) => base,
@@ -111,7 +112,8 @@ fn run_in_store<H: Host, W: Write>(
     requires declared { IfSome audience.reader (λ c. c < length policy.now.labels) }
     ensures { IsEnd (IsRunFrom (hosted H.hosting H.Lines.echo host.old host.new) file.now (Some path.now)
         (site_of policy.now file.now.schemes stored) audience events.now (IsAppended W.contents out.old out.new))
-        (λ reason. IsBarred (H.hosting host.old) policy.now file.now (Some path.now) reason × IsAppended W.contents out.old out.new []) result }
+        (λ reason. IsBarred (H.hosting host.old) policy.now file.now (Some path.now) reason
+        × IsAppended W.contents out.old out.new []) result }
 {
     let base = match host.store(alloc, path, policy, file) {
         Ok(base) => base,
@@ -150,7 +152,8 @@ fn run_events<H: Host, W: Write>(
     requires declared { IfSome audience.reader (λ c. c < length policy.now.labels) }
     ensures { IsEnd (IsRunFrom (hosted H.hosting H.Lines.echo host.old host.new) file.now (named store.entry)
         (site_of policy.now file.now.schemes stored) audience events.now (IsAppended W.contents out.old out.new))
-        (λ reason. IsBarred (H.hosting host.old) policy.now file.now (named store.entry) reason × IsAppended W.contents out.old out.new []) result }
+        (λ reason. IsBarred (H.hosting host.old) policy.now file.now (named store.entry) reason
+        × IsAppended W.contents out.old out.new []) result }
 {
     match store {
         None => run_in_memory(alloc, policy, file, stored, events, audience, out),
@@ -170,7 +173,8 @@ pub fn script_of<H: Host>(
     schemes: &Schemes,
     path: Option<&str>,
 ) -> Result<Vec<Event>, Reason>
-    ensures read { IfOk result (λ events. IsScriptFrom (H.hosting host.now).gives (named path.entry) policy.now schemes.now events.items) }
+    ensures read { IfOk result (λ events. IsScriptFrom (H.hosting host.now).gives
+        (named path.entry) policy.now schemes.now events.items) }
     ensures fits { IfOk result (λ events. AllByRecursion (EventFits policy.now schemes.now) events.items) }
     ensures refused { IfErr result (IsScriptRefused (H.hosting host.now) (named path.entry) policy.now schemes.now) }
 {
@@ -190,11 +194,12 @@ pub fn run_files<H: Host, W: Write>(
 ) -> Result<(), Refusal>
     requires under { AreUnder (length policy.now.labels) file.now.schemes }
     requires declared { IfSome reader (λ c. c < length policy.now.labels) }
-    ensures done { OnOk result (IsScriptRun (hosted H.hosting H.Lines.echo host.old host.new) policy.now file.now reader files.entry
-        (IsAppended W.contents out.old out.new) (Ok tt)) }
-    ensures given_up { IfErr result (λ e. IsEnd (IsScriptRun (hosted H.hosting H.Lines.echo host.old host.new) policy.now file.now
-        reader files.entry (IsAppended W.contents out.old out.new))
-        (λ reason. IsRunRefused (H.hosting host.old) policy.now file.now files.entry reason × IsAppended W.contents out.old out.new []) (Err e)) }
+    ensures done { OnOk result (IsScriptRun (hosted H.hosting H.Lines.echo host.old host.new) policy.now file.now reader
+        files.entry (IsAppended W.contents out.old out.new) (Ok tt)) }
+    ensures given_up { IfErr result (λ e. IsEnd (IsScriptRun (hosted H.hosting H.Lines.echo host.old host.new)
+        policy.now file.now reader files.entry (IsAppended W.contents out.old out.new))
+        (λ reason. IsRunRefused (H.hosting host.old) policy.now file.now files.entry reason
+        × IsAppended W.contents out.old out.new []) (Err e)) }
 {
     let stored = stored_files(
         alloc,

@@ -8,6 +8,7 @@ use std::io::Write;
 /// Two runs of `act` over the store at one path are a history, where the host keeps one content at most there between them: the
 /// second begins with what the first left, and the promises of a history hold of both together, also where one of them stops.
 pub fn runs_are_in_turn<H: Host, W: Write, V: Write>()
-    ensures { (old middle new : H) (first written : W) (second over : V) → RunsAreInTurn (hosted H.hosting H.Lines.echo old middle)
-        (IsAppended W.contents first written) (hosted H.hosting H.Lines.echo middle new) (IsAppended V.contents second over) }
+    ensures { (old middle new : H) (first written : W) (second over : V)
+        → RunsAreInTurn (hosted H.hosting H.Lines.echo old middle) (IsAppended W.contents first written)
+        (hosted H.hosting H.Lines.echo middle new) (IsAppended V.contents second over) }
 {}

@@ -102,7 +102,8 @@ fn events_of(
     seat: &Seat,
     line: &[u8],
 ) -> Result<Vec<Event>, ScriptFault>
-    ensures exact { IsScriptRead (λ v. v.items) result (script_at policy.now schemes.now (prefix_of seat.now ++ line.now)) }
+    ensures exact { IsScriptRead (λ v. v.items) result (script_at policy.now schemes.now
+        (prefix_of seat.now ++ line.now)) }
     ensures fits { IfOk result (λ v. AllByRecursion (EventFits policy.now schemes.now) v.items) }
 {
     match text_of(alloc, seat, line) {
@@ -149,7 +150,8 @@ pub(crate) fn next_fate<L: TypedLines, W: Write>(
     lines: &mut L,
     out: &mut W,
 ) -> Fate
-    ensures read { IsRead L.echo policy.now schemes.now seat.now (L.remaining lines.old) (L.remaining lines.new) (W.contents out.old) (W.contents out.new) result }
+    ensures read { IsRead L.echo policy.now schemes.now seat.now (L.remaining lines.old) (L.remaining lines.new)
+        (W.contents out.old) (W.contents out.new) result }
     ensures fits { FateFits policy.now schemes.now result }
 {
     match lines.next_line(alloc, out) {

@@ -46,8 +46,9 @@ fn answer<B: Base, W: Write>(
     requires level { seat.now.level < length (site engine.old).policy.labels }
     ensures clean { B.is_clean engine.new.base → B.is_clean engine.old.base }
     ensures kept { IsKept B.state B.is_clean engine.old engine.new }
-    ensures followed { B.is_clean engine.new.base → IsFollowed (site engine.old) (audience_at seat.now) (world_of B.state engine.old) events.now
-        (W.contents out.old) (W.contents out.new) (world_of B.state engine.new) line result }
+    ensures followed { B.is_clean engine.new.base → IsFollowed (site engine.old) (audience_at seat.now)
+        (world_of B.state engine.old) events.now (W.contents out.old) (W.contents out.new)
+        (world_of B.state engine.new) line result }
 {
     match run_to(engine, events, audience_at(seat), out) {
         Ok(()) => Ok(()),
@@ -72,8 +73,9 @@ fn follow<B: Base, W: Write>(
     requires level { seat.now.level < length (site engine.old).policy.labels }
     ensures clean { B.is_clean engine.new.base → B.is_clean engine.old.base }
     ensures kept { IsKept B.state B.is_clean engine.old engine.new }
-    ensures followed { B.is_clean engine.new.base → IsFollowed (site engine.old) (audience_at seat.now) (world_of B.state engine.old) (events_of fate.now)
-        (W.contents out.old) (W.contents out.new) (world_of B.state engine.new) line result }
+    ensures followed { B.is_clean engine.new.base → IsFollowed (site engine.old) (audience_at seat.now)
+        (world_of B.state engine.old) (events_of fate.now) (W.contents out.old) (W.contents out.new)
+        (world_of B.state engine.new) line result }
 {
     match fate {
         Fate::Said(events) => answer(engine, seat, line, events, out),
@@ -125,8 +127,9 @@ fn converse<B: Base, L: TypedLines, W: Write, E: Write>(
     requires level { seat.now.level < length policy.now.labels }
     ensures clean { B.is_clean engine.new.base → B.is_clean engine.old.base }
     ensures kept { IsKept B.state B.is_clean engine.old engine.new }
-    ensures conversation { B.is_clean engine.new.base → IsConversation L.echo (site engine.old) seat.now (world_of B.state engine.old) (world_of B.state engine.new)
-        (L.remaining lines.old) (L.remaining lines.new) (W.contents out.old) (W.contents out.new) (IsTold E.contents err.old err.new) result }
+    ensures conversation { B.is_clean engine.new.base → IsConversation L.echo (site engine.old) seat.now
+        (world_of B.state engine.old) (world_of B.state engine.new) (L.remaining lines.old) (L.remaining lines.new)
+        (W.contents out.old) (W.contents out.new) (IsTold E.contents err.old err.new) result }
 {
     answer(engine, seat, 0, first, out)?;
     let mut refused = !engine.is_open(seat.level, seat.user.as_str());
@@ -177,8 +180,9 @@ pub fn shell_on<B: Base, L: TypedLines, W: Write, E: Write>(
     requires sound { B.is_clean base → IsSound (site_of policy.now schemes.now stored) (B.state base).now }
     ensures clean { B.is_clean result.1 → B.is_clean base }
     ensures idle { (B.state result.1).begun ≡ false }
-    ensures shell { B.is_clean result.1 → IsShell L.echo (site_of policy.now schemes.now stored) seat.now (L.remaining lines.old) (L.remaining lines.new)
-        (IsAppended W.contents out.old out.new) (IsTold E.contents err.old err.new) result.0 (B.state base).now (B.state result.1).now }
+    ensures shell { B.is_clean result.1 → IsShell L.echo (site_of policy.now schemes.now stored) seat.now
+        (L.remaining lines.old) (L.remaining lines.new) (IsAppended W.contents out.old out.new)
+        (IsTold E.contents err.old err.new) result.0 (B.state base).now (B.state result.1).now }
 {
     let mut engine = Engine::new(alloc, base, policy, schemes, stored);
     let outcome = converse(

@@ -46,9 +46,11 @@ fn shell_in_memory<L: TypedLines, W: Write, E: Write>(
     requires level { seat.now.level < length policy.now.labels }
     requires user { is_name seat.now.user ≡ true }
     requires first { first.now ≡ opening seat.now ∷ [] }
-    ensures { IsEnd (λ end. (left : Content) × IsShell L.echo (site_of policy.now file.now.schemes stored) seat.now (L.remaining lines.old) (L.remaining lines.new)
-        (IsAppended W.contents out.old out.new) (IsTold E.contents err.old err.new) end no_content left)
-        (λ reason. (reason ≡ Reason.Store OpenFault.Memory) × IsAppended W.contents out.old out.new [] × IsTold E.contents err.old err.new []) result }
+    ensures { IsEnd (λ end. (left : Content) × IsShell L.echo (site_of policy.now file.now.schemes stored) seat.now
+        (L.remaining lines.old) (L.remaining lines.new) (IsAppended W.contents out.old out.new)
+        (IsTold E.contents err.old err.new) end no_content left)
+        (λ reason. (reason ≡ Reason.Store OpenFault.Memory) × IsAppended W.contents out.old out.new []
+        × IsTold E.contents err.old err.new []) result }
 {
     let base = match MemoryBase::open(alloc, policy, file) {
         Ok(base) => base,
@@ -85,7 +87,8 @@ fn shell_in_store<H: Host, L: TypedLines, W: Write, E: Write>(
     ensures { IsEnd (IsShellFrom (hosted H.hosting L.echo host.old host.new) file.now (Some path.now)
         (site_of policy.now file.now.schemes stored) seat.now (L.remaining lines.old) (L.remaining lines.new)
         (IsAppended W.contents out.old out.new) (IsTold E.contents err.old err.new))
-        (λ reason. IsBarred (H.hosting host.old) policy.now file.now (Some path.now) reason × IsAppended W.contents out.old out.new [] × IsTold E.contents err.old err.new []) result }
+        (λ reason. IsBarred (H.hosting host.old) policy.now file.now (Some path.now) reason
+        × IsAppended W.contents out.old out.new [] × IsTold E.contents err.old err.new []) result }
 {
     let base = match host.store(alloc, path, policy, file) {
         Ok(base) => base,
@@ -122,7 +125,8 @@ fn shell_over<H: Host, L: TypedLines, W: Write, E: Write>(
     ensures { IsEnd (IsShellFrom (hosted H.hosting L.echo host.old host.new) file.now (named store.entry)
         (site_of policy.now file.now.schemes stored) seat.now (L.remaining lines.old) (L.remaining lines.new)
         (IsAppended W.contents out.old out.new) (IsTold E.contents err.old err.new))
-        (λ reason. IsBarred (H.hosting host.old) policy.now file.now (named store.entry) reason × IsAppended W.contents out.old out.new [] × IsTold E.contents err.old err.new []) result }
+        (λ reason. IsBarred (H.hosting host.old) policy.now file.now (named store.entry) reason
+        × IsAppended W.contents out.old out.new [] × IsTold E.contents err.old err.new []) result }
 {
     match store {
         None => shell_in_memory(alloc, policy, file, stored, seat, first, lines, out, err),
@@ -164,11 +168,12 @@ pub fn shell_files<H: Host, W: Write, E: Write>(
 ) -> Result<Ending, Refusal>
     requires under { AreUnder (length policy.now.labels) file.now.schemes }
     requires declared { IfSome reader (λ c. c < length policy.now.labels) }
-    ensures done { IfOk result (λ end. IsShellRun (hosted H.hosting H.Lines.echo host.old host.new) policy.now file.now reader files.entry
-        (IsAppended W.contents out.old out.new) (IsTold E.contents err.old err.new) (Ok end)) }
-    ensures given_up { IfErr result (λ e. IsEnd (IsShellRun (hosted H.hosting H.Lines.echo host.old host.new) policy.now file.now reader
-        files.entry (IsAppended W.contents out.old out.new) (IsTold E.contents err.old err.new))
-        (λ reason. IsShellRefused (H.hosting host.old) policy.now file.now reader files.entry reason × IsAppended W.contents out.old out.new [] × IsTold E.contents err.old err.new []) (Err e)) }
+    ensures done { IfOk result (λ end. IsShellRun (hosted H.hosting H.Lines.echo host.old host.new) policy.now file.now
+        reader files.entry (IsAppended W.contents out.old out.new) (IsTold E.contents err.old err.new) (Ok end)) }
+    ensures given_up { IfErr result (λ e. IsEnd (IsShellRun (hosted H.hosting H.Lines.echo host.old host.new) policy.now
+        file.now reader files.entry (IsAppended W.contents out.old out.new) (IsTold E.contents err.old err.new))
+        (λ reason. IsShellRefused (H.hosting host.old) policy.now file.now reader files.entry reason
+        × IsAppended W.contents out.old out.new [] × IsTold E.contents err.old err.new []) (Err e)) }
 {
     let level = match reader {
         Some(level) => level,

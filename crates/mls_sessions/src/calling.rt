@@ -108,8 +108,9 @@ fn enter_call<B: Base>(
     ensures call { IsCall B.is_clean B.failures B.state base.old base.new result }
     ensures served { IfErr result IsServed }
     ensures mode { OnOk result ((B.state base.new).begun ≡ true) }
-    ensures done { B.is_clean base.new → OnOk result (B.state base.new
-        ≡ with_entry (B.state base.old) (entry_spelling (Called event.now.level (user_name rules.now.policy.now.users user) event.now.session name.now))) }
+    ensures done { B.is_clean base.new → OnOk result (B.state base.new ≡ with_entry (B.state base.old)
+        (entry_spelling (Called event.now.level (user_name rules.now.policy.now.users user) event.now.session
+        name.now))) }
     ensures spelled { OnOk result (HasSpelling (Called event.now.level
         (user_name rules.now.policy.now.users user) event.now.session name.now)) }
 {
@@ -211,9 +212,9 @@ fn run_certified<B: Base>(
     ensures served { IfErr result IsServed }
     ensures mode { OnOk result ((B.state base.new).begun ≡ true) }
     ensures items { IfOk result (HasItems rules.now.policy.now) }
-    ensures done { B.is_clean base.new
-        → let run = run_tx (labels_of rules.now.policy.now) rules.now.schemes.now certified.now.tx (fitted certified.now.tx.params args.now) (B.state base.old).now.db in
-        IfOk result (IsEvaluated run (with_database (B.state base.old) run.db) (B.state base.new)) }
+    ensures done { B.is_clean base.new → let run = run_tx (labels_of rules.now.policy.now) rules.now.schemes.now
+        certified.now.tx (fitted certified.now.tx.params args.now) (B.state base.old).now.db
+        in IfOk result (IsEvaluated run (with_database (B.state base.old) run.db) (B.state base.new)) }
     ensures views { OnOk result (AreViews rules.now.policy.now B.is_clean B.state base.new views.new) }
 {
     let args = made(base, fitted(rules.alloc, certified.tx(), args))?;

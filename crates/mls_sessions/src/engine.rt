@@ -43,19 +43,13 @@ impl<'a, B: Base> Engine<'a, B> {
         requires read { AreRead (record { policy = policy.now; schemes = schemes.now; stored = stored }) }
         requires certified { AreCertified (record { policy = policy.now; schemes = schemes.now; stored = stored }) }
         requires idle { (B.state base).begun ≡ false }
-        requires sound { B.is_clean base → IsSound (record {
-          policy = policy.now;
-          schemes = schemes.now;
-          stored =
-              stored;
-        }) (B.state base).now }
+        requires sound { B.is_clean base
+            → IsSound (record { policy = policy.now; schemes = schemes.now; stored = stored }) (B.state base).now }
         ensures base { result.base ≡ base }
         ensures site { site result ≡ record { policy = policy.now; schemes = schemes.now; stored = stored } }
-        ensures world { world_of B.state result ≡ world_at (record {
-          policy = policy.now;
-          schemes = schemes.now;
-          stored = stored;
-        }) no_sessions (B.state base).now }
+        ensures world { world_of B.state result
+            ≡ world_at (record { policy = policy.now; schemes = schemes.now; stored = stored }) no_sessions
+            (B.state base).now }
         ensures ready { IsReady B.state B.is_clean result }
     {
         // That the labels of a policy are distinct.

@@ -28,7 +28,8 @@ pub trait Opens<B: Base> {
         requires under { AreUnder (length policy.now.labels) file.now.schemes }
         ensures idle { IfOk result (λ b. (B.state b).begun ≡ false) }
         ensures sound { IfOk result (λ b. IsSoundContent policy.now file.now.schemes (B.state b).now) }
-        ensures held { IfOk result (λ b. B.is_clean b → IsTakenOf (holds self.old) policy.now file.now (B.state b).now) };
+        ensures held { IfOk result (λ b. B.is_clean b
+            → IsTakenOf (holds self.old) policy.now file.now (B.state b).now) };
 
     /// Closes the store of a base.
     fn close(&mut self, store: B) -> Result<(), CloseFault>

@@ -154,7 +154,8 @@ impl Checker<'_> {
     /// Whether each name in an expression may flow to a label.
     pub(crate) fn names_flow(&self, here: &Here, expr: &Expr, to: Label) -> bool
         requires { here.now.rows.count ≤ 16 }
-        ensures { result ≡ is_over (claim_of self.now) (pair_of to) (names here.now.before (rows_of here.now.rows) expr.now) }
+        ensures { result ≡ is_over (claim_of self.now) (pair_of to)
+            (names here.now.before (rows_of here.now.rows) expr.now) }
     {
         flows(self.label(here, expr), to)
     }

@@ -18,7 +18,8 @@ use mls_translang::{Tx, statements};
 
 impl Checker<'_> {
     fn rows_count(&self) -> bool
-        ensures { result ≡ list_all (λ row. nat_eq (length row) (length self.now.tx.now.vars)) (var_rows self.now.cert.now) }
+        ensures { result ≡ list_all (λ row. nat_eq (length row) (length self.now.tx.now.vars))
+            (var_rows self.now.cert.now) }
     {
         let count = self.tx.vars().len();
         match self.cert {
@@ -48,7 +49,8 @@ impl Checker<'_> {
     }
 
     fn parameters_hold(&self) -> bool
-        ensures { result ≡ list_all (λ p. list_all (holds (claim_of self.now)) (within_ends p.1.label)) self.now.tx.now.params }
+        ensures { result ≡ list_all (λ p. list_all (holds (claim_of self.now)) (within_ends p.1.label))
+            self.now.tx.now.params }
     {
         let params = self.tx.params();
         for place in 0..params.len() {
@@ -78,7 +80,8 @@ impl Checker<'_> {
 
     /// The rules of all statements.
     fn body(&self) -> Result<(), Refusal>
-        ensures { Says result (verdict (claim_of self.now) (all_lines (claim_of self.now) (all_places self.now.tx.now))) }
+        ensures { Says result (verdict (claim_of self.now)
+            (all_lines (claim_of self.now) (all_places self.now.tx.now))) }
     {
         let start = Here {
             number: 1,

@@ -37,7 +37,8 @@ fn is_target(target: Option<u8>, place: usize) -> bool
 
 impl Checker<'_> {
     fn kept(&self, from: usize, to: usize, but: Option<u8>, place: usize) -> bool
-        ensures { result ≡ (is_target but place || after (claim_of self.now) from place ⊑ after (claim_of self.now) to place) }
+        ensures { result ≡ (is_target but place || after (claim_of self.now) from place ⊑ after
+            (claim_of self.now) to place) }
     {
         is_target(but, place) || flows(self.after(from, place), self.after(to, place))
     }
@@ -56,7 +57,8 @@ impl Checker<'_> {
 
     /// Whether no variable lies above the ceiling after a statement.
     pub(crate) fn are_under(&self, number: usize) -> bool
-        ensures { result ≡ is_over (claim_of self.now) (hi (claim_of self.now)) (variables number (length self.now.tx.now.vars)) }
+        ensures { result ≡ is_over (claim_of self.now) (hi (claim_of self.now))
+            (variables number (length self.now.tx.now.vars)) }
     {
         let hi = self.hi();
         for place in 0..self.tx.vars().len() {

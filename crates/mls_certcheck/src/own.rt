@@ -22,7 +22,8 @@ impl Checker<'_> {
     /// Whether a label flows to each of a block's own statements.
     pub(crate) fn inner_dominate(&self, bound: Label, first: usize, block: &Block) -> bool
         requires { first + statements block.now < 2 ^ 63 }
-        ensures { result ≡ list_all (λ t. pair_of bound ⊑ slot_label (claim_of self.now) t) (map (λ m. Statement m) (directs first block.now)) }
+        ensures { result ≡ list_all (λ t. pair_of bound ⊑ slot_label (claim_of self.now) t)
+            (map (λ m. Statement m) (directs first block.now)) }
     {
         let mut number = first;
         for stmt in block.stmts() {
@@ -38,7 +39,8 @@ impl Checker<'_> {
     #[tactic(auto, using(crate::proofs::LabelLemmas::over_both))]
     fn operands_flow(&self, here: &Here, operands: &[Expr], to: Label) -> bool
         requires { here.now.rows.count ≤ 16 }
-        ensures { result ≡ is_over (claim_of self.now) (pair_of to) (flat_map (names here.now.before (rows_of here.now.rows)) operands.now) }
+        ensures { result ≡ is_over (claim_of self.now) (pair_of to)
+            (flat_map (names here.now.before (rows_of here.now.rows)) operands.now) }
     {
         for operand in operands {
             if !self.names_flow(here, operand, to) {
@@ -51,7 +53,8 @@ impl Checker<'_> {
     #[tactic(auto, using(crate::proofs::LabelLemmas::over_both))]
     fn sets_flow(&self, here: &Here, sets: &[(u8, Expr)], to: Label) -> bool
         requires { here.now.rows.count ≤ 16 }
-        ensures { result ≡ is_over (claim_of self.now) (pair_of to) (flat_map (names here.now.before (rows_of here.now.rows)) (map (λ s. s.1) sets.now)) }
+        ensures { result ≡ is_over (claim_of self.now) (pair_of to)
+            (flat_map (names here.now.before (rows_of here.now.rows)) (map (λ s. s.1) sets.now)) }
     {
         for set in sets {
             if !self.names_flow(here, &set.1, to) {
@@ -64,7 +67,8 @@ impl Checker<'_> {
     /// The rule of an assignment.
     pub(crate) fn assigns(&self, here: &Here, variable: u8, value: &Expr) -> Result<(), Refusal>
         requires { here.now.rows.count ≤ 16 }
-        ensures { Says result (verdict (claim_of self.now) (stmt_lines here.now.number here.now.before (rows_of here.now.rows) (Assign variable value.now))) }
+        ensures { Says result (verdict (claim_of self.now)
+            (stmt_lines here.now.number here.now.before (rows_of here.now.rows) (Assign variable value.now))) }
     {
         let into = self.after(here.number, usize::from(variable));
         let holds = flows(self.pc(here.number), into) && self.names_flow(here, value, into);
@@ -74,7 +78,8 @@ impl Checker<'_> {
     /// Whether what a write takes in, beside its operands, and what it gives out flow only where they may.
     fn write_holds(&self, number: usize, w: LabelNo, operands: bool, outcome: Option<u8>) -> bool
         ensures { result ≡ (pc (claim_of self.now) number ⊑ label_of (claim_of self.now).labels w && operands
-            && label_of (claim_of self.now).labels w ⊑ hi (claim_of self.now) && list_all (holds (claim_of self.now)) (outcome_flows number w outcome)) }
+            && label_of (claim_of self.now).labels w ⊑ hi (claim_of self.now)
+            && list_all (holds (claim_of self.now)) (outcome_flows number w outcome)) }
     {
         let at = self.declared(w);
         if !flows(self.pc(number), at) || !operands || !flows(at, self.hi()) {
@@ -96,7 +101,9 @@ impl Checker<'_> {
         outcome: Option<u8>,
     ) -> Result<(), Refusal>
         requires { here.now.rows.count ≤ 16 }
-        ensures { Says result (verdict (claim_of self.now) (stmt_lines here.now.number here.now.before (rows_of here.now.rows) (Write_at 0 w (Inserting key.now values.now) outcome))) }
+        ensures { Says result (verdict (claim_of self.now)
+            (stmt_lines here.now.number here.now.before (rows_of here.now.rows)
+            (Write_at 0 w (Inserting key.now values.now) outcome))) }
     {
         let at = self.declared(w);
         let operands = self.operands_flow(here, key, at) && self.operands_flow(here, values, at);
@@ -122,7 +129,8 @@ impl Checker<'_> {
         outcome: Option<u8>,
     ) -> Result<(), Refusal>
         requires { here.now.rows.count ≤ 16 }
-        ensures { Says result (verdict (claim_of self.now) (stmt_lines here.now.number here.now.before (rows_of here.now.rows)
+        ensures { Says result (verdict (claim_of self.now)
+            (stmt_lines here.now.number here.now.before (rows_of here.now.rows)
             (Write_at 0 classes.2 (Updating key.now classes.0 classes.1 sets.now) outcome))) }
     {
         let (key_class, from, w) = classes;
@@ -144,7 +152,9 @@ impl Checker<'_> {
         outcome: Option<u8>,
     ) -> Result<(), Refusal>
         requires { here.now.rows.count ≤ 16 }
-        ensures { Says result (verdict (claim_of self.now) (stmt_lines here.now.number here.now.before (rows_of here.now.rows) (Write_at 0 w (Deleting key.now key_class) outcome))) }
+        ensures { Says result (verdict (claim_of self.now)
+            (stmt_lines here.now.number here.now.before (rows_of here.now.rows)
+            (Write_at 0 w (Deleting key.now key_class) outcome))) }
     {
         let at = self.declared(w);
         let operands = self.operands_flow(here, key, at);
@@ -157,7 +167,8 @@ impl Checker<'_> {
     /// The rules of an emission.
     pub(crate) fn emits(&self, here: &Here, value: &Expr, label: LabelNo) -> Result<(), Refusal>
         requires { here.now.rows.count ≤ 16 }
-        ensures { Says result (verdict (claim_of self.now) (stmt_lines here.now.number here.now.before (rows_of here.now.rows) (Emit value.now label))) }
+        ensures { Says result (verdict (claim_of self.now)
+            (stmt_lines here.now.number here.now.before (rows_of here.now.rows) (Emit value.now label))) }
     {
         let target = self.declared(label);
         let holds = flows(self.pc(here.number), target)
@@ -175,7 +186,8 @@ impl Checker<'_> {
         into: u8,
     ) -> Result<(), Refusal>
         requires { here.now.rows.count ≤ 16 }
-        ensures { Says result (verdict (claim_of self.now) (stmt_lines here.now.number here.now.before (rows_of here.now.rows) (Release value.now to into))) }
+        ensures { Says result (verdict (claim_of self.now)
+            (stmt_lines here.now.number here.now.before (rows_of here.now.rows) (Release value.now to into))) }
     {
         let lower = self.declared(to);
         let holds = flows(self.pc(here.number), lower)

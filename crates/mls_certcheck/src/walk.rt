@@ -34,7 +34,9 @@ impl Checker<'_> {
     fn guards(&self, here: &Here, guard: &Expr, one: &Block, other: &Block) -> bool
         requires rows { here.now.rows.count ≤ 16 }
         requires few { here.now.number + statements one.now + statements other.now + 1 < 2 ^ 63 }
-        ensures { result ≡ holds (claim_of self.now) (Into (map (λ m. Statement m) (directs (here.now.number + 1) one.now ++ directs (here.now.number + 1 + statements one.now) other.now))
+        ensures { result ≡ holds (claim_of self.now)
+            (Into (map (λ m. Statement m) (directs (here.now.number + 1) one.now
+            ++ directs (here.now.number + 1 + statements one.now) other.now))
             (Held (Statement here.now.number) ∷ names here.now.before (rows_of here.now.rows) guard.now)) }
     {
         let bound = self.pc(here.number).join(self.label(here, guard));
@@ -47,7 +49,8 @@ impl Checker<'_> {
     fn branches(&self, here: &Here, guard: &Expr, one: &Block, other: &Block) -> Result<(), Refusal>
         requires rows { here.now.rows.count ≤ 16 }
         requires few { here.now.number + statements one.now + statements other.now + 1 < 2 ^ 63 }
-        ensures { Says result (verdict (claim_of self.now) (branch_lines here.now.number here.now.before (rows_of here.now.rows) guard.now one.now other.now)) }
+        ensures { Says result (verdict (claim_of self.now)
+            (branch_lines here.now.number here.now.before (rows_of here.now.rows) guard.now one.now other.now)) }
     {
         let second = here.number + 1 + one.statements();
         let one_end = last_number(here.before, here.number + 1, one);
@@ -61,7 +64,9 @@ impl Checker<'_> {
     /// Whether which rows there are may flow into the statements of a loop.
     fn turns(&self, number: usize, label: LabelNo, body: &Block) -> bool
         requires { number + statements body.now + 1 < 2 ^ 63 }
-        ensures { result ≡ holds (claim_of self.now) (Into (map (λ m. Statement m) (directs (number + 1) body.now)) (Held (Statement number) ∷ Declared label ∷ [])) }
+        ensures { result ≡ holds (claim_of self.now)
+            (Into (map (λ m. Statement m) (directs (number + 1) body.now))
+            (Held (Statement number) ∷ Declared label ∷ [])) }
     {
         let bound = self.pc(number).join(self.declared(label));
         self.inner_dominate(bound, number + 1, body)
@@ -70,7 +75,8 @@ impl Checker<'_> {
     /// The rule of a loop.
     fn loops(&self, here: &Here, label: LabelNo, body: &Block) -> Result<(), Refusal>
         requires { here.now.number + statements body.now + 1 < 2 ^ 63 }
-        ensures { Says result (verdict (claim_of self.now) (loop_lines here.now.number here.now.before label body.now)) }
+        ensures { Says result (verdict (claim_of self.now)
+            (loop_lines here.now.number here.now.before label body.now)) }
     {
         let end = last_number(here.number, here.number + 1, body);
         let holds = flows(self.declared(label), self.hi())
@@ -83,7 +89,8 @@ impl Checker<'_> {
     /// The rules of what a statement does that has none inside.
     fn doing(&self, here: &Here, stmt: &Stmt) -> Result<(), Refusal>
         requires { here.now.rows.count ≤ 16 }
-        ensures { Says result (verdict (claim_of self.now) (doing_lines here.now.number here.now.before (rows_of here.now.rows) (block_of (stmt.now ∷ [])))) }
+        ensures { Says result (verdict (claim_of self.now)
+            (doing_lines here.now.number here.now.before (rows_of here.now.rows) (block_of (stmt.now ∷ [])))) }
     {
         match stmt {
             Stmt::Assign { variable, value } => self.assigns(here, *variable, value),
@@ -118,7 +125,8 @@ impl Checker<'_> {
 
     /// The rule of what such a statement leaves as it was.
     fn leaving(&self, here: &Here, stmt: &Stmt) -> Result<(), Refusal>
-        ensures { Says result (verdict (claim_of self.now) (leaving_lines here.now.number here.now.before (block_of (stmt.now ∷ [])))) }
+        ensures { Says result (verdict (claim_of self.now)
+            (leaving_lines here.now.number here.now.before (block_of (stmt.now ∷ [])))) }
     {
         let target = match stmt {
             Stmt::Assign { variable, .. } => Some(*variable),
@@ -137,7 +145,8 @@ impl Checker<'_> {
     #[tactic(auto, using(crate::proofs::WalkLemmas::verdict_more))]
     fn plain(&self, here: &Here, stmt: &Stmt) -> Result<(), Refusal>
         requires { here.now.rows.count ≤ 16 }
-        ensures { Says result (verdict (claim_of self.now) (plain_lines here.now.number here.now.before (rows_of here.now.rows) (block_of (stmt.now ∷ [])))) }
+        ensures { Says result (verdict (claim_of self.now)
+            (plain_lines here.now.number here.now.before (rows_of here.now.rows) (block_of (stmt.now ∷ [])))) }
     {
         self.doing(here, stmt)?;
         self.leaving(here, stmt)
@@ -149,7 +158,8 @@ impl Checker<'_> {
     pub(crate) fn block(&self, around: usize, start: &Here, block: &Block) -> Result<usize, Refusal>
         requires few { start.now.number + statements block.now < 2 ^ 63 }
         requires shallow { start.now.rows.count + depth block.now ≤ 16 }
-        ensures { Says result (walked (claim_of self.now) start.now.number around start.now.before (rows_of start.now.rows) block.now) }
+        ensures { Says result (walked (claim_of self.now) start.now.number around start.now.before
+            (rows_of start.now.rows) block.now) }
     {
         let mut number = start.number;
         let mut before = start.before;
@@ -170,7 +180,8 @@ impl Checker<'_> {
     fn stmt(&self, around: usize, here: &Here, stmt: &Stmt) -> Result<usize, Refusal>
         requires few { here.now.number + statements (block_of (stmt.now ∷ [])) < 2 ^ 63 }
         requires shallow { here.now.rows.count + depth (block_of (stmt.now ∷ [])) ≤ 16 }
-        ensures { Says result (walked (claim_of self.now) here.now.number around here.now.before (rows_of here.now.rows) (block_of (stmt.now ∷ []))) }
+        ensures { Says result (walked (claim_of self.now) here.now.number around here.now.before
+            (rows_of here.now.rows) (block_of (stmt.now ∷ []))) }
     {
         let number = here.number;
         self.enters(number, around)?;

@@ -168,7 +168,8 @@ pub fn certs_read(alloc: Global, bytes: &[u8]) -> Result<Vec<(Str, Certificate)>
     // What is read has names that differ, and the bytes are its text.
     ensures found { IfOk result (λ v. IsFile v.items × (bytes.now ≡ file_text v.items)) }
     // The text of certificates with names that differ is read, unless memory runs out.
-    ensures only { (blocks : List Block) → IsFile blocks → bytes.now ≡ file_text blocks → Gives (λ v. v.items) result (Ok blocks) }
+    ensures only { (blocks : List Block) → IsFile blocks → bytes.now ≡ file_text blocks
+        → Gives (λ v. v.items) result (Ok blocks) }
     // The first fault, or what is read.
     ensures exact { Gives (λ v. v.items) result (file_in bytes.now) }
 {

@@ -131,7 +131,8 @@ fn push_weighed(
     label: LabelNo,
 ) -> Result<(), AllocError>
     requires { label < length policy.now.labels }
-    ensures { OnOk result (text.new.items ≡ text.old.items ++ (if weight policy.now label == count then label_line policy.now label else [])) }
+    ensures { OnOk result (text.new.items ≡ text.old.items
+        ++ (if weight policy.now label == count then label_line policy.now label else [])) }
 {
     if weight(policy, label) == count {
         push_label(alloc, text, policy, label)?;

@@ -48,7 +48,8 @@ fn attribute_cells(
 ) -> Result<Items<Items<u8>>, AllocError>
     requires low { column.low < length policy.now.labels }
     requires high { column.high < length policy.now.labels }
-    ensures { IfOk result (λ row. row ≡ attribute_cells policy.now relation.now part.now (attribute_named name.now column)) }
+    ensures { IfOk result (λ row. row ≡ attribute_cells policy.now relation.now part.now
+        (attribute_named name.now column)) }
 {
     let interval = interval_cell(alloc, policy, column.low, column.high)?;
     let mut row = Vec::new(alloc);
@@ -69,7 +70,8 @@ fn push_attributes(
     attributes: &Attributes,
 ) -> Result<(), AllocError>
     requires { AllByRecursion (IsAmongLabels (length policy.now.labels)) attributes.now }
-    ensures { OnOk result (rows.new.items ≡ rows.old.items ++ map (attribute_cells policy.now relation.now part.now) attributes.now) }
+    ensures { OnOk result (rows.new.items ≡ rows.old.items
+        ++ map (attribute_cells policy.now relation.now part.now) attributes.now) }
 {
     for place in 0..attributes.len() {
         let name = attributes.name(place);

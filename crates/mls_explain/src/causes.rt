@@ -32,7 +32,8 @@ impl Teller<'_> {
         label: LabelNo,
         read: &str,
     ) -> Result<String, AllocError>
-        ensures { IfOk result (λ s. string_bytes s ≡ out_cause self.now.policy.now self.now.tx.now around label read.now) }
+        ensures { IfOk result (λ s. string_bytes s
+            ≡ out_cause self.now.policy.now self.now.tx.now around label read.now) }
     {
         if !self.is_under(label, self.tx.hi()) {
             return self.over_ceiling(alloc, label);
@@ -56,7 +57,8 @@ impl Teller<'_> {
         values: &[Expr],
     ) -> Result<String, AllocError>
         ensures { IfOk result (λ s. string_bytes s
-            ≡ out_cause self.now.policy.now self.now.tx.now around at (all_read self.now.policy.now self.now.tx.now rows.now (key.now ++ values.now))) }
+            ≡ out_cause self.now.policy.now self.now.tx.now around at
+            (all_read self.now.policy.now self.now.tx.now rows.now (key.now ++ values.now))) }
     {
         let mut read = String::new(alloc);
         self.all_read_to(&mut read, rows, key)?;
@@ -75,7 +77,8 @@ impl Teller<'_> {
         sets: &[(u8, Expr)],
     ) -> Result<String, AllocError>
         ensures { IfOk result (λ s. string_bytes s
-            ≡ out_cause self.now.policy.now self.now.tx.now around at (all_read self.now.policy.now self.now.tx.now rows.now (key.now ++ map (λ s. s.1) sets.now))) }
+            ≡ out_cause self.now.policy.now self.now.tx.now around at
+            (all_read self.now.policy.now self.now.tx.now rows.now (key.now ++ map (λ s. s.1) sets.now))) }
     {
         let mut read = String::new(alloc);
         self.all_read_to(&mut read, rows, key)?;
@@ -92,7 +95,8 @@ impl Teller<'_> {
         key: &[Expr],
     ) -> Result<String, AllocError>
         ensures { IfOk result (λ s. string_bytes s
-            ≡ out_cause self.now.policy.now self.now.tx.now around at (all_read self.now.policy.now self.now.tx.now rows.now key.now)) }
+            ≡ out_cause self.now.policy.now self.now.tx.now around at
+            (all_read self.now.policy.now self.now.tx.now rows.now key.now)) }
     {
         let mut read = String::new(alloc);
         self.all_read_to(&mut read, rows, key)?;
@@ -108,7 +112,8 @@ impl Teller<'_> {
         label: LabelNo,
     ) -> Result<String, AllocError>
         ensures { IfOk result (λ s. string_bytes s
-            ≡ out_cause self.now.policy.now self.now.tx.now around label (reads self.now.policy.now self.now.tx.now rows.now value.now)) }
+            ≡ out_cause self.now.policy.now self.now.tx.now around label
+            (reads self.now.policy.now self.now.tx.now rows.now value.now)) }
     {
         let mut read = String::new(alloc);
         self.reads_to(&mut read, rows, value)?;
@@ -148,7 +153,8 @@ impl Teller<'_> {
         to: LabelNo,
     ) -> Result<String, AllocError>
         ensures { IfOk result (λ s. string_bytes s
-            ≡ release_cause self.now.policy.now self.now.tx.now around to (reads self.now.policy.now self.now.tx.now rows.now value.now)) }
+            ≡ release_cause self.now.policy.now self.now.tx.now around to
+            (reads self.now.policy.now self.now.tx.now rows.now value.now)) }
     {
         let mut read = String::new(alloc);
         self.reads_to(&mut read, rows, value)?;
@@ -166,7 +172,8 @@ impl Teller<'_> {
         rows: &[LabelNo],
         stmt: &Stmt,
     ) -> Result<String, AllocError>
-        ensures { IfOk result (λ s. string_bytes s ≡ node_cause self.now.policy.now self.now.tx.now around rows.now (bare_in (block_of (stmt.now ∷ [])))) }
+        ensures { IfOk result (λ s. string_bytes s
+            ≡ node_cause self.now.policy.now self.now.tx.now around rows.now (bare_in (block_of (stmt.now ∷ [])))) }
     {
         match stmt {
             Stmt::Assign { .. } | Stmt::If { .. } => Ok(String::new(alloc)),
@@ -186,7 +193,8 @@ impl Teller<'_> {
 
     /// Which of the classes that an update or a delete names lie wrong.
     fn order_cause(&self, alloc: Global, stmt: &Stmt) -> Result<String, AllocError>
-        ensures { IfOk result (λ s. string_bytes s ≡ order_at self.now.policy.now self.now.tx.now (bare_in (block_of (stmt.now ∷ [])))) }
+        ensures { IfOk result (λ s. string_bytes s
+            ≡ order_at self.now.policy.now self.now.tx.now (bare_in (block_of (stmt.now ∷ [])))) }
     {
         match stmt {
             Stmt::Update {
@@ -225,7 +233,8 @@ impl Teller<'_> {
         rows: &[LabelNo],
         stmt: &Stmt,
     ) -> Result<String, AllocError>
-        ensures { IfOk result (λ s. string_bytes s ≡ cause self.now.policy.now self.now.tx.now rule around rows.now (bare_in (block_of (stmt.now ∷ [])))) }
+        ensures { IfOk result (λ s. string_bytes s
+            ≡ cause self.now.policy.now self.now.tx.now rule around rows.now (bare_in (block_of (stmt.now ∷ [])))) }
     {
         match rule {
             Rule::AboveCeiling => self.ceiling_cause(alloc),

@@ -101,7 +101,8 @@ impl Teller<'_> {
         mark: &str,
         slot: Slot,
     ) -> Result<(), AllocError>
-        ensures { OnOk result (string_bytes text.new ≡ string_bytes text.old ++ slot_part self.now.policy.now self.now.tx.now before mark.now slot) }
+        ensures { OnOk result (string_bytes text.new ≡ string_bytes text.old
+            ++ slot_part self.now.policy.now self.now.tx.now before mark.now slot) }
     {
         if is_kept(before, slot) {
             return Ok(());
@@ -118,7 +119,8 @@ impl Teller<'_> {
         root: Origin,
         slots: &[Slot],
     ) -> Result<(), AllocError>
-        ensures { OnOk result (string_bytes text.new ≡ string_bytes text.old ++ slot_parts self.now.policy.now self.now.tx.now root (codes ": ") slots.now) }
+        ensures { OnOk result (string_bytes text.new ≡ string_bytes text.old
+            ++ slot_parts self.now.policy.now self.now.tx.now root (codes ": ") slots.now) }
     {
         let mut before = root;
         let mut mark = ": ";
@@ -148,7 +150,8 @@ impl Teller<'_> {
         text: &mut String,
         chain: &Option<Chain>,
     ) -> Result<(), AllocError>
-        ensures { OnOk result (string_bytes text.new ≡ string_bytes text.old ++ chain_lines self.now.policy.now self.now.tx.now chain.now) }
+        ensures { OnOk result (string_bytes text.new ≡ string_bytes text.old
+            ++ chain_lines self.now.policy.now self.now.tx.now chain.now) }
     {
         match chain {
             Some(chain) => {

@@ -68,7 +68,8 @@ impl Teller<'_> {
         name: &str,
         label: LabelNo,
     ) -> Result<(), AllocError>
-        ensures { OnOk result (string_bytes text.new ≡ string_bytes text.old ++ param_text self.now.policy.now self.now.tx.now name.now label) }
+        ensures { OnOk result (string_bytes text.new ≡ string_bytes text.old
+            ++ param_text self.now.policy.now self.now.tx.now name.now label) }
     {
         if self.is_between(label) {
             return Ok(());
@@ -79,7 +80,8 @@ impl Teller<'_> {
     }
 
     fn params_to(&self, alloc: Global, text: &mut String) -> Result<(), AllocError>
-        ensures { OnOk result (string_bytes text.new ≡ string_bytes text.old ++ flat_map (param_line self.now.policy.now self.now.tx.now) self.now.tx.now.params) }
+        ensures { OnOk result (string_bytes text.new ≡ string_bytes text.old
+            ++ flat_map (param_line self.now.policy.now self.now.tx.now) self.now.tx.now.params) }
     {
         let params = self.tx.params();
         for place in 0..params.len() {
@@ -96,7 +98,8 @@ impl Teller<'_> {
         rule: Rule,
         chain: &Option<Chain>,
     ) -> Result<(), AllocError>
-        ensures { OnOk result (string_bytes text.new ≡ string_bytes text.old ++ refused_lines self.now.policy.now self.now.tx.now stmt rule chain.now) }
+        ensures { OnOk result (string_bytes text.new ≡ string_bytes text.old
+            ++ refused_lines self.now.policy.now self.now.tx.now stmt rule chain.now) }
     {
         let head = head_of(alloc, stmt, rule)?;
         text.push_str(&head)?;
@@ -106,7 +109,8 @@ impl Teller<'_> {
     }
 
     fn told_to(&self, alloc: Global, text: &mut String, outcome: &Outcome) -> Result<(), AllocError>
-        ensures { OnOk result (string_bytes text.new ≡ string_bytes text.old ++ told self.now.policy.now self.now.tx.now outcome.now) }
+        ensures { OnOk result (string_bytes text.new ≡ string_bytes text.old
+            ++ told self.now.policy.now self.now.tx.now outcome.now) }
     {
         match outcome {
             Outcome::Labelled(cert) => {

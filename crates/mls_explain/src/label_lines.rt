@@ -31,7 +31,8 @@ impl Teller<'_> {
         place: usize,
         label: Label,
     ) -> Result<(), AllocError>
-        ensures { OnOk result (string_bytes text.new ≡ string_bytes text.old ++ var_line self.now.policy.now self.now.tx.now place label) }
+        ensures { OnOk result (string_bytes text.new ≡ string_bytes text.old
+            ++ var_line self.now.policy.now self.now.tx.now place label) }
     {
         let name = self.variable(place);
         let words = words_of(alloc, self.policy, label)?;
@@ -39,7 +40,8 @@ impl Teller<'_> {
     }
 
     fn vars_to(&self, alloc: Global, text: &mut String, labels: &[Label]) -> Result<(), AllocError>
-        ensures { OnOk result (string_bytes text.new ≡ string_bytes text.old ++ var_lines self.now.policy.now self.now.tx.now 0 labels.now) }
+        ensures { OnOk result (string_bytes text.new ≡ string_bytes text.old
+            ++ var_lines self.now.policy.now self.now.tx.now 0 labels.now) }
     {
         for (place, label) in labels.iter().enumerate() {
             self.var_to(alloc, text, place, *label)?;
@@ -55,7 +57,8 @@ impl Teller<'_> {
         number: usize,
         label: Label,
     ) -> Result<(), AllocError>
-        ensures { OnOk result (string_bytes text.new ≡ string_bytes text.old ++ stmt_line self.now.policy.now self.now.tx.now number label) }
+        ensures { OnOk result (string_bytes text.new ≡ string_bytes text.old
+            ++ stmt_line self.now.policy.now self.now.tx.now number label) }
     {
         let column = column_of(alloc, number)?;
         let words = words_of(alloc, self.policy, label)?;
@@ -63,7 +66,8 @@ impl Teller<'_> {
     }
 
     fn stmts_to(&self, alloc: Global, text: &mut String, labels: &[Label]) -> Result<(), AllocError>
-        ensures { OnOk result (string_bytes text.new ≡ string_bytes text.old ++ stmt_lines self.now.policy.now self.now.tx.now 1 labels.now) }
+        ensures { OnOk result (string_bytes text.new ≡ string_bytes text.old
+            ++ stmt_lines self.now.policy.now self.now.tx.now 1 labels.now) }
     {
         for (place, label) in labels.iter().enumerate() {
             self.stmt_line_to(alloc, text, place + 1, *label)?;
@@ -78,7 +82,8 @@ impl Teller<'_> {
         rows: &[Items<Label>],
         labels: &[Label],
     ) -> Result<(), AllocError>
-        ensures { OnOk result (string_bytes text.new ≡ string_bytes text.old ++ row_lines self.now.policy.now self.now.tx.now rows.now 0 labels.now) }
+        ensures { OnOk result (string_bytes text.new ≡ string_bytes text.old
+            ++ row_lines self.now.policy.now self.now.tx.now rows.now 0 labels.now) }
     {
         for (place, label) in labels.iter().enumerate() {
             self.stmt_line_to(alloc, text, place + 1, *label)?;
@@ -95,7 +100,8 @@ impl Teller<'_> {
         vars: &[Label],
         stmts: &[Label],
     ) -> Result<(), AllocError>
-        ensures { OnOk result (string_bytes text.new ≡ string_bytes text.old ++ one_lines self.now.policy.now self.now.tx.now vars.now stmts.now) }
+        ensures { OnOk result (string_bytes text.new ≡ string_bytes text.old
+            ++ one_lines self.now.policy.now self.now.tx.now vars.now stmts.now) }
     {
         text.push_str("labels, version 1:\n")?;
         self.vars_to(alloc, text, vars)?;
@@ -111,7 +117,8 @@ impl Teller<'_> {
         rows: &[Items<Label>],
         stmts: &[Label],
     ) -> Result<(), AllocError>
-        ensures { OnOk result (string_bytes text.new ≡ string_bytes text.old ++ two_lines self.now.policy.now self.now.tx.now rows.now stmts.now) }
+        ensures { OnOk result (string_bytes text.new ≡ string_bytes text.old
+            ++ two_lines self.now.policy.now self.now.tx.now rows.now stmts.now) }
     {
         text.push_str("labels, version 2:\n")?;
         self.rows_to(alloc, text, rows, stmts)?;
@@ -125,7 +132,8 @@ impl Teller<'_> {
         text: &mut String,
         cert: &Certificate,
     ) -> Result<(), AllocError>
-        ensures { OnOk result (string_bytes text.new ≡ string_bytes text.old ++ label_lines self.now.policy.now self.now.tx.now cert.now) }
+        ensures { OnOk result (string_bytes text.new ≡ string_bytes text.old
+            ++ label_lines self.now.policy.now self.now.tx.now cert.now) }
     {
         match cert {
             Certificate::One(cert) => self.one_to(

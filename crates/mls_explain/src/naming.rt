@@ -38,7 +38,8 @@ fn name_to(
 ) -> Result<(), AllocError>
     requires { declared < length policy.now.labels }
     ensures { OnOk result (string_bytes text.new ≡ string_bytes text.old
-        ++ (if names exact (pair_of label) (label_of (labels_of policy.now) declared) then spaced (label_name policy.now.labels declared) else [])) }
+        ++ (if names exact (pair_of label) (label_of (labels_of policy.now) declared) then spaced
+        (label_name policy.now.labels declared) else [])) }
 {
     if names(exact, label, policy.value(declared)) {
         let name = policy.name(declared);

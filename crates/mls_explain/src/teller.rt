@@ -113,7 +113,8 @@ impl Teller<'_> {
     }
 
     fn with_label(&self, text: &mut String, name: &str, label: LabelNo) -> Result<(), AllocError>
-        ensures { OnOk result (string_bytes text.new ≡ string_bytes text.old ++ with_label self.now.policy.now self.now.tx.now name.now label) }
+        ensures { OnOk result (string_bytes text.new ≡ string_bytes text.old
+            ++ with_label self.now.policy.now self.now.tx.now name.now label) }
     {
         let label = self.label(label);
         write!(text, ", {name} ({label})")
@@ -126,7 +127,8 @@ impl Teller<'_> {
         rows: &[LabelNo],
         expr: &Expr,
     ) -> Result<(), AllocError>
-        ensures { OnOk result (string_bytes text.new ≡ string_bytes text.old ++ reads self.now.policy.now self.now.tx.now rows.now expr.now) }
+        ensures { OnOk result (string_bytes text.new ≡ string_bytes text.old
+            ++ reads self.now.policy.now self.now.tx.now rows.now expr.now) }
     {
         match &expr.term {
             Term::Known(_) | Term::Null => Ok(()),
@@ -154,7 +156,8 @@ impl Teller<'_> {
         rows: &[LabelNo],
         exprs: &[Expr],
     ) -> Result<(), AllocError>
-        ensures { OnOk result (string_bytes text.new ≡ string_bytes text.old ++ all_read self.now.policy.now self.now.tx.now rows.now exprs.now) }
+        ensures { OnOk result (string_bytes text.new ≡ string_bytes text.old
+            ++ all_read self.now.policy.now self.now.tx.now rows.now exprs.now) }
     {
         for expr in exprs {
             self.reads_to(text, rows, expr)?;
@@ -169,7 +172,8 @@ impl Teller<'_> {
         rows: &[LabelNo],
         sets: &[(u8, Expr)],
     ) -> Result<(), AllocError>
-        ensures { OnOk result (string_bytes text.new ≡ string_bytes text.old ++ all_read self.now.policy.now self.now.tx.now rows.now (map (λ s. s.1) sets.now)) }
+        ensures { OnOk result (string_bytes text.new ≡ string_bytes text.old
+            ++ all_read self.now.policy.now self.now.tx.now rows.now (map (λ s. s.1) sets.now)) }
     {
         for set in sets {
             self.reads_to(text, rows, &set.1)?;

@@ -51,7 +51,8 @@ impl Teller<'_> {
         number: usize,
         stmt: &Stmt,
     ) -> Result<(), AllocError>
-        ensures { OnOk result (string_bytes text.new ≡ string_bytes text.old ++ release_line self.now.policy.now self.now.tx.now number (bare_in (block_of (stmt.now ∷ [])))) }
+        ensures { OnOk result (string_bytes text.new ≡ string_bytes text.old
+            ++ release_line self.now.policy.now self.now.tx.now number (bare_in (block_of (stmt.now ∷ [])))) }
     {
         match stmt {
             Stmt::Release { to, .. } => {
@@ -72,7 +73,9 @@ impl Teller<'_> {
         rows: &[LabelNo],
         stmt: &Stmt,
     ) -> Result<(), AllocError>
-        ensures { OnOk result (string_bytes text.new ≡ string_bytes text.old ++ broken_line self.now.policy.now self.now.tx.now rule around rows.now (bare_in (block_of (stmt.now ∷ [])))) }
+        ensures { OnOk result (string_bytes text.new ≡ string_bytes text.old
+            ++ broken_line self.now.policy.now self.now.tx.now rule around rows.now
+            (bare_in (block_of (stmt.now ∷ [])))) }
     {
         let cause = self.cause(alloc, rule, around, rows, stmt)?;
         writeln!(text, "      {cause}")
@@ -89,7 +92,9 @@ impl Teller<'_> {
         rows: &[LabelNo],
         stmt: &Stmt,
     ) -> Result<(), AllocError>
-        ensures { OnOk result (string_bytes text.new ≡ string_bytes text.old ++ first_line self.now.policy.now self.now.tx.now telling number around rows.now (block_of (stmt.now ∷ []))) }
+        ensures { OnOk result (string_bytes text.new ≡ string_bytes text.old
+            ++ first_line self.now.policy.now self.now.tx.now telling number around rows.now
+            (block_of (stmt.now ∷ []))) }
     {
         match telling {
             Telling::Releases => self.release_to(alloc, text, number, stmt),
@@ -117,7 +122,8 @@ impl Teller<'_> {
         block: &Block,
     ) -> Result<(), AllocError>
         requires { number + statements block.now < 2 ^ 63 }
-        ensures { OnOk result (string_bytes text.new ≡ string_bytes text.old ++ block_lines self.now.policy.now self.now.tx.now telling number around before rows.now block.now) }
+        ensures { OnOk result (string_bytes text.new ≡ string_bytes text.old
+            ++ block_lines self.now.policy.now self.now.tx.now telling number around before rows.now block.now) }
     {
         let mut end = before;
         let mut next = number;
@@ -142,7 +148,9 @@ impl Teller<'_> {
         stmt: &Stmt,
     ) -> Result<(), AllocError>
         requires { number + statements (block_of (stmt.now ∷ [])) < 2 ^ 63 }
-        ensures { OnOk result (string_bytes text.new ≡ string_bytes text.old ++ block_lines self.now.policy.now self.now.tx.now telling number around before rows.now (block_of (stmt.now ∷ []))) }
+        ensures { OnOk result (string_bytes text.new ≡ string_bytes text.old
+            ++ block_lines self.now.policy.now self.now.tx.now telling number around before rows.now
+            (block_of (stmt.now ∷ []))) }
     {
         self.first_to(alloc, text, telling, number, around, rows, stmt)?;
         match stmt {
@@ -175,7 +183,8 @@ impl Teller<'_> {
         text: &mut String,
         telling: Telling,
     ) -> Result<(), AllocError>
-        ensures { OnOk result (string_bytes text.new ≡ string_bytes text.old ++ lines_of self.now.policy.now self.now.tx.now telling) }
+        ensures { OnOk result (string_bytes text.new ≡ string_bytes text.old
+            ++ lines_of self.now.policy.now self.now.tx.now telling) }
     {
         self.block_to(alloc, text, telling, 1, 0, 0, &[], self.tx.body())?;
         Ok(())

@@ -118,7 +118,8 @@ pub trait Base {
         ensures call { IsCall is_clean failures state self.old self.new result }
         ensures served { IfErr result IsServed }
         ensures mode { OnOk result ((state self.new).begun ≡ (state self.old).begun) }
-        ensures found { is_clean self.new → IfOk result (λ pattern. pattern ≡ option_map classes (get ((state self.old).now.db rel) place.now)) }
+        ensures found { is_clean self.new → IfOk result (λ pattern. pattern
+            ≡ option_map classes (get ((state self.old).now.db rel) place.now)) }
         ensures same { is_clean self.new → OnOk result (state self.new ≡ state self.old) };
 
     /// Adds a tuple: its node, and the cells of its class in the order of attributes. `NotBegun` where no change is begun.
@@ -126,13 +127,16 @@ pub trait Base {
         requires key { IsSpelledKey node.key }
         requires cells { AllByRecursion (IsCellOf node) cells.now }
         requires absent { is_clean self.old → get ((state self.old).now.db rel) (place_of_node node) ≡ None }
-        requires made { is_clean self.old → (es : List SpecElement) × IsMadeOf ((state self.old).now.db rel) node cells.now es }
+        requires made { is_clean self.old → (es : List SpecElement)
+            × IsMadeOf ((state self.old).now.db rel) node cells.now es }
         ensures call { IsCall is_clean failures state self.old self.new result }
         ensures not_begun { (result ≡ Err BaseFault.NotBegun) ↔ ((state self.old).begun ≡ false) }
         ensures no_other { IsErrOf result BaseFault.Begun → ⊥ }
         ensures mode { OnOk result ((state self.new).begun ≡ (state self.old).begun) }
-        ensures done { is_clean self.new → (es : List SpecElement) → IsMadeOf ((state self.old).now.db rel) node cells.now es
-            → OnOk result (state self.new ≡ with_relation (state self.old) rel (insert ((state self.old).now.db rel) (place_of_node node) es)) };
+        ensures done { is_clean self.new → (es : List SpecElement)
+            → IsMadeOf ((state self.old).now.db rel) node cells.now es
+            → OnOk result (state self.new
+            ≡ with_relation (state self.old) rel (insert ((state self.old).now.db rel) (place_of_node node) es)) };
 
     /// Sets the value of a cell, in every tuple of the entity that has it. `place` names the entity and the cell's class;
     /// `attr` is below 15. `NotBegun` where no change is begun.
@@ -151,8 +155,9 @@ pub trait Base {
         ensures not_begun { (result ≡ Err BaseFault.NotBegun) ↔ ((state self.old).begun ≡ false) }
         ensures no_other { IsErrOf result BaseFault.Begun → ⊥ }
         ensures mode { OnOk result ((state self.new).begun ≡ (state self.old).begun) }
-        ensures done { is_clean self.new
-            → OnOk result (state self.new ≡ with_relation (state self.old) rel (change (set_in place.now attr value) ((state self.old).now.db rel))) };
+        ensures done { is_clean self.new → OnOk result (state self.new
+            ≡ with_relation (state self.old) rel
+            (change (set_in place.now attr value) ((state self.old).now.db rel))) };
 
     /// Removes the tuple at a place and its cells, which no other tuple may have. `NotBegun` where no change is begun.
     fn drop_at(&mut self, rel: RelNo, place: &Place) -> Result<(), BaseFault>
@@ -163,8 +168,8 @@ pub trait Base {
         ensures not_begun { (result ≡ Err BaseFault.NotBegun) ↔ ((state self.old).begun ≡ false) }
         ensures no_other { IsErrOf result BaseFault.Begun → ⊥ }
         ensures mode { OnOk result ((state self.new).begun ≡ (state self.old).begun) }
-        ensures done { is_clean self.new
-            → OnOk result (state self.new ≡ with_relation (state self.old) rel (remove ((state self.old).now.db rel) place.now)) };
+        ensures done { is_clean self.new → OnOk result (state self.new
+            ≡ with_relation (state self.old) rel (remove ((state self.old).now.db rel) place.now)) };
 
     /// Adds an entry at the end of the audit list. `NotBegun` where no change is begun.
     fn audit_add(&mut self, bytes: &[u8]) -> Result<(), BaseFault>

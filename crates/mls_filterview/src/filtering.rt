@@ -32,9 +32,8 @@ pub fn filter(
     ensures members { IfOk result
         (λ v. (t : SpecTuple) → IsAmong t v.items ↔ View (labels_of policy.now) (λ s. IsAmong s tuples.now) label t) }
     ensures once { IfOk result (λ v. EachOnce v.items) }
-    ensures rows { IfOk result
-        (λ v. (n : ℕ) (T : Table) → IsStored (labels_of policy.now) n T → ((t : SpecTuple) → IsAmong t tuples.now ↔ IsIn T t)
-        → v.items ≡ rows (labels_of policy.now) label T) }
+    ensures rows { IfOk result (λ v. (n : ℕ) (T : Table) → IsStored (labels_of policy.now) n T
+        → ((t : SpecTuple) → IsAmong t tuples.now ↔ IsIn T t) → v.items ≡ rows (labels_of policy.now) label T) }
 {
     // for the distinctness of labels
     let _labels = policy.label_count();
@@ -148,7 +147,8 @@ pub(crate) fn greatest_class(policy: &Policy, key_class: LabelNo, elements: &[El
 fn arrange<T: Ord + Drop>(items: &mut Vec<T>) -> Result<(), AllocError>
     ensures sorted { OnOk result (IsStrictlySortedBy T.cmp items.new.items) }
     ensures from { OnOk result ((x : T) → IsAmong x items.new.items → IsAmong x items.old.items) }
-    ensures kept { OnOk result ((x : T) → IsAmong x items.old.items → (y : T) × IsAmong y items.new.items × (T.cmp x y ≡ Equal)) }
+    ensures kept { OnOk result ((x : T) → IsAmong x items.old.items
+        → (y : T) × IsAmong y items.new.items × (T.cmp x y ≡ Equal)) }
 {
     items.sort()?;
     items.dedup();

@@ -36,7 +36,8 @@ fn fits_element(policy: &Policy, element: &Element, column: Column) -> bool
     requires class { element.now.class < length policy.now.labels }
     requires low { column.low < length policy.now.labels }
     requires high { column.high < length policy.now.labels }
-    ensures { result ≡ (fits_kind element.now.value column.kind && in_column (labels_of policy.now) element.now.class column) }
+    ensures { result ≡ (fits_kind element.now.value column.kind
+        && in_column (labels_of policy.now) element.now.class column) }
 {
     fits_kind(&element.value, column.kind) && in_interval(policy, element.class, column)
 }

@@ -49,7 +49,8 @@ fn is_placed(policy: &Policy, place: &Place, elements: &[Element]) -> bool
 fn is_agreed(policy: &Policy, rows: &Rows, place: &Place, elements: &[Element]) -> bool
     requires class { place.now.class < length policy.now.labels }
     requires classes { AllByRecursion (λ e. e.class < length policy.now.labels) elements.now }
-    ensures { result ≡ agrees_with_found (labels_of policy.now) place.now.class elements.now (get place_cmp rows.now place.now) }
+    ensures { result ≡ agrees_with_found (labels_of policy.now) place.now.class elements.now
+        (get place_cmp rows.now place.now) }
 {
     match rows.get(place) {
         Some(others) => has_below(policy, place.class, elements, others),
@@ -66,7 +67,8 @@ fn is_closed(
 ) -> Result<bool, AllocError>
     requires key_class { place.now.key_class < length policy.now.labels }
     requires classes { AllByRecursion (λ e. e.class < length policy.now.labels) elements.now }
-    ensures { IfOk result (λ b. b ≡ is_closed (labels_of policy.now) (get place_cmp rows.now) (place.now, elements.now)) }
+    ensures { IfOk result (λ b. b ≡ is_closed (labels_of policy.now) (get place_cmp rows.now)
+        (place.now, elements.now)) }
 {
     let mut at = Place {
         key: copy_key(&place.key)?,
@@ -94,7 +96,8 @@ fn is_stored_row(
     elements: &Items<Element>,
 ) -> Result<bool, AllocError>
     requires under { IsUnder (length policy.now.labels) scheme.now }
-    ensures { IfOk result (λ b. b ≡ is_stored_row (length policy.now.labels) (labels_of policy.now) scheme.now (get place_cmp rows.now) (place.now, elements.now)) }
+    ensures { IfOk result (λ b. b ≡ is_stored_row (length policy.now.labels) (labels_of policy.now) scheme.now
+        (get place_cmp rows.now) (place.now, elements.now)) }
 {
     if !is_placed(policy, place, elements) {
         return Ok(false);

@@ -44,8 +44,9 @@ fn low_fragment<B: Base>(
     ensures call { IsCall B.is_clean B.failures B.state base.old base.new result }
     ensures served { IfErr result IsServed }
     ensures mode { OnOk result ((B.state base.new).begun ≡ (B.state base.old).begun) }
-    ensures low { B.is_clean base.new → IfOk result (λ f.
-        AreLow (labels_of policy.now) ((B.state base.old).now.db rel) label (length policy.now.labels) f.nodes f.cells) }
+    ensures low { B.is_clean base.new → IfOk result
+        (λ f. AreLow (labels_of policy.now) ((B.state base.old).now.db rel) label
+        (length policy.now.labels) f.nodes f.cells) }
     ensures same { B.is_clean base.new → OnOk result (B.state base.new ≡ B.state base.old) }
 {
     let mut nodes = Vec::new(alloc);
@@ -66,8 +67,8 @@ fn low_fragment<B: Base>(
 
 /// What a level sees of the relation whose low fragments these are.
 fn tuples_of(alloc: Global, low: Fragment) -> Result<Vec<Tuple>, AllocError>
-    ensures { IfOk result (λ v. (ls : Labels) (n : ℕ) (T : Table) (c : ℕ) → IsStored ls n T → AreLow ls T c (length ls) low.nodes low.cells
-        → v.items ≡ rows ls c T) }
+    ensures { IfOk result (λ v. (ls : Labels) (n : ℕ) (T : Table) (c : ℕ) → IsStored ls n T
+        → AreLow ls T c (length ls) low.nodes low.cells → v.items ≡ rows ls c T) }
 {
     let values = values_of(alloc, low.cells)?;
     let found = rows_of(alloc, low.nodes, &values)?;
@@ -87,12 +88,15 @@ pub fn view<B: Base>(
     label: LabelNo,
 ) -> Result<Vec<Tuple>, BaseFault>
     requires label { label < length policy.now.labels }
-    requires stored { B.is_clean base.old → (n : ℕ) × IsStored (labels_of policy.now) n ((B.state base.old).now.db rel) }
+    requires stored { B.is_clean base.old → (n : ℕ)
+        × IsStored (labels_of policy.now) n ((B.state base.old).now.db rel) }
     ensures call { IsCall B.is_clean B.failures B.state base.old base.new result }
     ensures served { IfErr result IsServed }
     ensures mode { OnOk result ((B.state base.new).begun ≡ (B.state base.old).begun) }
-    ensures rows { B.is_clean base.new → IfOk result (λ v. v.items ≡ rows (labels_of policy.now) label ((B.state base.old).now.db rel)) }
-    ensures seen { B.is_clean base.new → IfOk result (λ v. (t : SpecTuple) → IsAmong t v.items ↔ View (labels_of policy.now) (IsIn ((B.state base.old).now.db rel)) label t) }
+    ensures rows { B.is_clean base.new → IfOk result (λ v. v.items
+        ≡ rows (labels_of policy.now) label ((B.state base.old).now.db rel)) }
+    ensures seen { B.is_clean base.new → IfOk result (λ v. (t : SpecTuple)
+        → IsAmong t v.items ↔ View (labels_of policy.now) (IsIn ((B.state base.old).now.db rel)) label t) }
     ensures ordered { B.is_clean base.new → IfOk result (λ v. AreInOrder ((B.state base.old).now.db rel) v.items) }
     ensures same { B.is_clean base.new → OnOk result (B.state base.new ≡ B.state base.old) }
 {

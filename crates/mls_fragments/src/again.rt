@@ -25,7 +25,8 @@ use std::alloc::Global;
 /// Whether a connection has committed all that it shows, which is a database where it is open.
 fn is_settled<S: Alter>(conn: &Connection<S>) -> bool
     ensures value { result ≡ not (state S.Store conn.now).in_transaction }
-    ensures settled { IsTrue result → IsTrue (state S.Store conn.now).is_open → (state S.Store conn.now).now ≡ (state S.Store conn.now).committed }
+    ensures settled { IsTrue result → IsTrue (state S.Store conn.now).is_open
+        → (state S.Store conn.now).now ≡ (state S.Store conn.now).committed }
     ensures sound { IsTrue (state S.Store conn.now).is_open → IsDatabase (state S.Store conn.now).now }
 {
     // for what it says of the database
@@ -39,7 +40,8 @@ pub fn connected<D: Disk + Drop>(
     files: Files<D>,
     options: Options,
 ) -> Result<Connection<FileStore<D>>, (OpenFault, Files<D>)>
-    ensures found { IfOk result (λ c. HasCleanDisk (file_state c) → IsFoundIn (image_of D.Disk files) (file_state c).now) }
+    ensures found { IfOk result (λ c. HasCleanDisk (file_state c)
+        → IsFoundIn (image_of D.Disk files) (file_state c).now) }
     ensures clean { IfOk result (λ c. HasCleanDisk (file_state c) → AreClean D.Disk files.log files.db) }
     ensures idle { IfOk result (λ c. c.in_transaction ≡ false) }
     ensures fault { IfErr result (λ e. (e.0 ≡ OpenFault.Store) ⊎ (e.0 ≡ OpenFault.Memory)) }
@@ -84,7 +86,8 @@ impl<D: Disk + Drop> SqlBase<FileStore<D>> {
     ) -> Result<SqlBase<FileStore<D>>, (OpenFault, Files<D>)>
         requires under { AreUnder (length policy.now.labels) file.now.schemes }
         ensures clean { IfOk result (λ b. IsClean b.tables → AreClean D.Disk files.log files.db) }
-        ensures found { IfOk result (λ b. IsClean b.tables → IsFoundUnder policy.now file.now (image_of D.Disk files) (state_of b).now) }
+        ensures found { IfOk result (λ b. IsClean b.tables
+            → IsFoundUnder policy.now file.now (image_of D.Disk files) (state_of b).now) }
         ensures sound { IfOk result (λ b. IsSoundContent policy.now file.now.schemes (state_of b).now) }
         ensures mode { IfOk result (λ b. (state_of b).begun ≡ false) }
     {
@@ -102,10 +105,12 @@ impl<D: Disk + Drop> SqlBase<FileStore<D>> {
     /// rest.
     pub fn close_files(self) -> Result<Files<D>, (OpenFault, Files<D>)>
         requires begun { (state_of self).begun ≡ false }
-        ensures usable { IfOk result (λ files. IsTrue (D.Disk.is_usable files.log) × IsTrue (D.Disk.is_usable files.db)) }
+        ensures usable { IfOk result (λ files. IsTrue (D.Disk.is_usable files.log)
+            × IsTrue (D.Disk.is_usable files.db)) }
         ensures clean { IfOk result (λ files. AreClean D.Disk files.log files.db → IsClean self.tables) }
         ensures was_clean { IfErr result (λ e. AreClean D.Disk e.1.log e.1.db → IsClean self.tables) }
-        ensures kept { IfOk result (λ files. AreClean D.Disk files.log files.db → AreKept D.Disk files (state_of self).now) }
+        ensures kept { IfOk result (λ files. AreClean D.Disk files.log files.db
+            → AreKept D.Disk files (state_of self).now) }
         ensures fault { IfErr result (λ e. (e.0 ≡ OpenFault.Store) ⊎ (e.0 ≡ OpenFault.Memory)) }
     {
         let conn = self.into_connection();

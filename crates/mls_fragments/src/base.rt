@@ -48,7 +48,8 @@ impl<S: Alter> SqlBase<S> {
     /// A base over a new store.
     pub(crate) fn over_new(alloc: Global, store: TableStore<S>) -> SqlBase<S>
         requires mode { store.begun ≡ false }
-        requires new { IsClean store → (version : ℕ) × (lattice : List ℕ) × (schemes : List ℕ) × (store.now ≡ described version lattice schemes) × (store.kept ≡ store.now) }
+        requires new { IsClean store → (version : ℕ) × (lattice : List ℕ) × (schemes : List ℕ)
+            × (store.now ≡ described version lattice schemes) × (store.kept ≡ store.now) }
         ensures content { state_of result ≡ record { now = no_content; kept = no_content; begun = false } }
         ensures tables { result.tables ≡ store }
     {
@@ -81,8 +82,11 @@ impl<S: Alter> SqlBase<S> {
     pub fn into_connection(self) -> Connection<S>
         requires begun { (state_of self).begun ≡ false }
         ensures clean { HasCleanDisk (state S.Store result) → IsClean self.tables }
-        ensures mode { HasCleanDisk (state S.Store result) → IsTrue (state S.Store result).is_open → (state S.Store result).in_transaction ≡ false }
-        ensures rows { HasCleanDisk (state S.Store result) → IsTrue (state S.Store result).is_open → IsReady (state S.Store result).now × Holds (tables_of (state S.Store result).now.trees) (state_of self).now }
+        ensures mode { HasCleanDisk (state S.Store result) → IsTrue (state S.Store result).is_open
+            → (state S.Store result).in_transaction ≡ false }
+        ensures rows { HasCleanDisk (state S.Store result) → IsTrue (state S.Store result).is_open
+            → IsReady (state S.Store result).now
+            × Holds (tables_of (state S.Store result).now.trees) (state_of self).now }
     {
         let SqlBase {
             alloc: _,

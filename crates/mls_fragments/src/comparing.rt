@@ -20,7 +20,8 @@ fn push_nodes(
     table: &Rows,
 ) -> Result<(), RowFault>
     requires spelled { AllByRecursion IsSpelledEntry table.now.entries }
-    ensures pushed { OnOk result (rows.new.items ≡ rows.old.items ++ map (node_row rel) (map node_of table.now.entries)) }
+    ensures pushed { OnOk result (rows.new.items ≡ rows.old.items
+        ++ map (node_row rel) (map node_of table.now.entries)) }
     ensures fault { IfErr result IsMemory }
 {
     let nodes = nodes_of(alloc, table)?;
@@ -38,7 +39,8 @@ fn push_cells(
     table: &Rows,
 ) -> Result<(), RowFault>
     requires spelled { AllByRecursion IsSpelledEntry table.now.entries }
-    ensures pushed { OnOk result (rows.new.items ≡ rows.old.items ++ map (cell_row rel) (flat_map cells_of table.now.entries)) }
+    ensures pushed { OnOk result (rows.new.items ≡ rows.old.items
+        ++ map (cell_row rel) (flat_map cells_of table.now.entries)) }
     ensures fault { IfErr result IsMemory }
 {
     let cells = cells_of(alloc, table)?;
@@ -105,9 +107,11 @@ pub(crate) fn have_rows(
 ) -> Result<bool, RowFault>
     requires few { length tables.now ≤ 256 }
     requires spelled { AllByRecursion (λ t. AllByRecursion IsSpelledEntry t.entries) tables.now }
-    ensures same { IfOk result (λ b. IsTrue b → IsPermutation (node_rows 0 (map (λ t. t.entries) tables.now)) nodes.items
+    ensures same { IfOk result (λ b. IsTrue b
+        → IsPermutation (node_rows 0 (map (λ t. t.entries) tables.now)) nodes.items
         × IsPermutation (cell_rows 0 (map (λ t. t.entries) tables.now)) cells.items) }
-    ensures only { AreAlike (λ r. r.rel) (node_rows 0 (map (λ t. t.entries) tables.now)) nodes.items → AreAlike (λ r. r.rel) (cell_rows 0 (map (λ t. t.entries) tables.now)) cells.items → IfOk result IsTrue }
+    ensures only { AreAlike (λ r. r.rel) (node_rows 0 (map (λ t. t.entries) tables.now)) nodes.items
+        → AreAlike (λ r. r.rel) (cell_rows 0 (map (λ t. t.entries) tables.now)) cells.items → IfOk result IsTrue }
     ensures fault { IfErr result IsMemory }
 {
     if !have_same_nodes(node_rows(alloc, tables)?, nodes)? {

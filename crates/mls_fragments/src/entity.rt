@@ -27,7 +27,9 @@ fn nodes_at<S: Alter>(
 ) -> Result<Vec<NodeRow>, StoreFault>
     ensures call { IsCall store.old store.new result }
     ensures mode { OnOk result (store.new.begun ≡ store.old.begun) }
-    ensures found { IsClean store.new → IfOk result (λ rows. IsPermutation (filter (is_node rel ent.now place.now.key_class place.now.class) store.old.now.nodes) rows.items) }
+    ensures found { IsClean store.new → IfOk result
+        (λ rows. IsPermutation (filter (is_node rel ent.now place.now.key_class place.now.class) store.old.now.nodes)
+        rows.items) }
     ensures same { IsClean store.new → OnOk result (IsSame store.old store.new) }
 {
     store.nodes_of(
@@ -47,7 +49,9 @@ fn cells_at<S: Alter>(
 ) -> Result<Vec<CellRow>, StoreFault>
     ensures call { IsCall store.old store.new result }
     ensures mode { OnOk result (store.new.begun ≡ store.old.begun) }
-    ensures found { IsClean store.new → IfOk result (λ rows. IsPermutation (filter (is_cell_in rel ent.now place.now.key_class place.now.class) store.old.now.cells) rows.items) }
+    ensures found { IsClean store.new → IfOk result
+        (λ rows. IsPermutation (filter (is_cell_in rel ent.now place.now.key_class place.now.class)
+        store.old.now.cells) rows.items) }
     ensures same { IsClean store.new → OnOk result (IsSame store.old store.new) }
 {
     store.cells_of(
@@ -78,7 +82,8 @@ pub(crate) fn read_entity<S: Alter>(
     requires key { IsSpelledKey place.now.key }
     ensures call { IsCall store.old store.new result }
     ensures mode { OnOk result (store.new.begun ≡ store.old.begun) }
-    ensures found { IsClean store.new → (c : Content) → Holds store.old.now c → IfOk result (IsEntityPart (c.db rel) place.now) }
+    ensures found { IsClean store.new → (c : Content) → Holds store.old.now c
+        → IfOk result (IsEntityPart (c.db rel) place.now) }
     ensures same { IsClean store.new → OnOk result (IsSame store.old store.new) }
 {
     let ent = match ent_of(alloc, &place.key) {
@@ -105,7 +110,9 @@ fn patterns_at<S: Alter>(
 ) -> Result<Vec<Items<u8>>, StoreFault>
     ensures call { IsCall store.old store.new result }
     ensures mode { OnOk result (store.new.begun ≡ store.old.begun) }
-    ensures found { IsClean store.new → IfOk result (λ patterns. IsPermutation (map (λ n. n.pattern) (filter (is_node rel ent.now place.now.key_class place.now.class) store.old.now.nodes)) patterns.items) }
+    ensures found { IsClean store.new → IfOk result
+        (λ patterns. IsPermutation (map (λ n. n.pattern)
+        (filter (is_node rel ent.now place.now.key_class place.now.class) store.old.now.nodes)) patterns.items) }
     ensures same { IsClean store.new → OnOk result (IsSame store.old store.new) }
 {
     store.patterns_of(
@@ -136,7 +143,8 @@ pub(crate) fn read_pattern<S: Alter>(
     requires key { IsSpelledKey place.now.key }
     ensures call { IsCall store.old store.new result }
     ensures mode { OnOk result (store.new.begun ≡ store.old.begun) }
-    ensures found { IsClean store.new → (c : Content) → Holds store.old.now c → IfOk result (λ pattern. pattern ≡ option_map classes (get (c.db rel) place.now)) }
+    ensures found { IsClean store.new → (c : Content) → Holds store.old.now c
+        → IfOk result (λ pattern. pattern ≡ option_map classes (get (c.db rel) place.now)) }
     ensures same { IsClean store.new → OnOk result (IsSame store.old store.new) }
 {
     let ent = match ent_of(alloc, &place.key) {

@@ -38,7 +38,7 @@ fn assembled(
 }
 
 /// The tuples of the first relations, by their numbers.
-pub(crate) fn tables_of(
+pub fn tables_of(
     alloc: Global,
     count: usize,
     nodes: &[NodeRow],
@@ -66,7 +66,8 @@ fn are_content(
     requires under { AreUnder (length policy.now.labels) schemes.now }
     requires few { length tables.now ≤ 256 }
     requires within { length tables.now ≤ length schemes.now }
-    ensures { IfOk result (λ b. IsTrue b ↔ AreTables (labels_of policy.now) schemes.now (map (λ t. t.entries) tables.now)) }
+    ensures { IfOk result (λ b. IsTrue b
+        ↔ AreTables (labels_of policy.now) schemes.now (map (λ t. t.entries) tables.now)) }
 {
     for (rel, table) in tables.iter().enumerate() {
         let scheme = schemes.scheme(RelNo::new(rel as u8));
@@ -109,7 +110,8 @@ fn entries_of(
 ) -> Result<Items<Items<u8>>, RowFault>
     ensures numbered { IfOk result (λ entries. IsPermutation (numbered 1 entries) rows.items) }
     ensures entries { IfOk result (AllByRecursion (IsEntryOf labels)) }
-    ensures only { (list : List (List ℕ)) → IsPermutation (numbered 1 list) rows.items → AllByRecursion (IsEntryOf labels) list → IfErr result IsMemory }
+    ensures only { (list : List (List ℕ)) → IsPermutation (numbered 1 list) rows.items
+        → AllByRecursion (IsEntryOf labels) list → IfErr result IsMemory }
 {
     rows.sort()?;
     if !are_numbered(&rows) {
@@ -174,10 +176,12 @@ pub(crate) fn find(
     ensures held { IfOk result (λ f. (t : Tables) → AreAll t rows → Holds t (content_found f)) }
     ensures sound { IfOk result (λ f. IsSoundWithin policy.now schemes.now labels (content_found f)) }
     ensures spelled { IfOk result (λ f. AllByRecursion (λ t. AllByRecursion IsSpelledEntry t.entries) f.tables.items) }
-    ensures sorted { IfOk result (λ f. AllByRecursion (λ t. IsStrictlySortedBy place_cmp (keys_of t.entries)) f.tables.items) }
+    ensures sorted { IfOk result (λ f. AllByRecursion
+        (λ t. IsStrictlySortedBy place_cmp (keys_of t.entries)) f.tables.items) }
     ensures count { IfOk result (λ f. length f.tables.items ≡ length schemes.now) }
     ensures valid { OnOk result (AreSchemes schemes.now) }
-    ensures only { (t : Tables) → AreAll t rows → (c : Content) → Holds t c → IsSoundWithin policy.now schemes.now labels c → IfErr result IsMemory }
+    ensures only { (t : Tables) → AreAll t rows → (c : Content) → Holds t c
+        → IsSoundWithin policy.now schemes.now labels c → IfErr result IsMemory }
     ensures last { IfOk result (λ f. f.last ≡ pos (length f.entries)) }
 {
     let AllRows {

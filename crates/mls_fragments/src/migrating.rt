@@ -52,7 +52,8 @@ fn older_of(
     requires under { AreUnder (length policy.now.labels) schemes.now }
     ensures found { IfOk result (λ o. IfSome o (λ older. older_lattice.Extends policy.now found.now.lattice older.labels
         × older_schemes.Extends policy.now schemes.now found.now.schemes older.counts.items)) }
-    ensures none { IfOk result (λ o. o ≡ None → (labels : ℕ) (counts : List ℕ) → older_lattice.Extends policy.now found.now.lattice labels
+    ensures none { IfOk result (λ o. o ≡ None → (labels : ℕ) (counts : List ℕ)
+        → older_lattice.Extends policy.now found.now.lattice labels
         → older_schemes.Extends policy.now schemes.now found.now.schemes counts → ⊥) }
 {
     let Some(labels) = policy.labels_before(alloc, found.lattice.as_str().as_bytes())? else {
@@ -65,7 +66,7 @@ fn older_of(
 }
 
 /// How a store stands to a policy and schemes with these texts, if it is not of others.
-pub(crate) fn standing_of(
+pub fn standing_of(
     alloc: Global,
     policy: &Policy,
     file: &SchemesFile,
@@ -105,7 +106,8 @@ fn widened_tables(
     requires counts { AllZip (λ n s. n ≤ length s.others) counts.now schemes.now }
     requires count { length tables.items ≡ length schemes.now }
     requires few { length tables.items ≤ 256 }
-    ensures { IfOk result (λ wide. map (λ t. t.entries) wide.items ≡ wide_tables schemes.now counts.now 0 (map (λ t. t.entries) tables.items)) }
+    ensures { IfOk result (λ wide. map (λ t. t.entries) wide.items
+        ≡ wide_tables schemes.now counts.now 0 (map (λ t. t.entries) tables.items)) }
 {
     let mut wide = Vec::new(alloc);
     let mut rel = 0;
@@ -127,16 +129,20 @@ pub(crate) fn find_widened(
 ) -> Result<Found, RowFault>
     requires under { AreUnder (length policy.now.labels) schemes.now }
     requires before { IsBefore policy.now schemes.now older.now.labels older.now.counts.items }
-    ensures widened { IfOk result (λ f. (c : Content) × ((t : Tables) → AreAll t rows → Holds t c) × IsSoundBefore policy.now schemes.now older.now.labels older.now.counts.items c
+    ensures widened { IfOk result (λ f. (c : Content) × ((t : Tables) → AreAll t rows → Holds t c)
+        × IsSoundBefore policy.now schemes.now older.now.labels older.now.counts.items c
         × IsWidenedContent schemes.now older.now.counts.items c (content_found f)) }
     ensures sound { IfOk result (λ f. IsSoundContent policy.now schemes.now (content_found f)) }
-    ensures holds { IfOk result (λ f. (t : Tables) → IsPermutation (node_rows 0 (map (λ t. t.entries) f.tables.items)) t.nodes
-        → IsPermutation (cell_rows 0 (map (λ t. t.entries) f.tables.items)) t.cells → IsPermutation (numbered 1 f.entries) t.audit → Holds t (content_found f)) }
+    ensures holds { IfOk result (λ f. (t : Tables)
+        → IsPermutation (node_rows 0 (map (λ t. t.entries) f.tables.items)) t.nodes
+        → IsPermutation (cell_rows 0 (map (λ t. t.entries) f.tables.items)) t.cells
+        → IsPermutation (numbered 1 f.entries) t.audit → Holds t (content_found f)) }
     ensures listed { IfOk result (λ f. (t : Tables) → AreAll t rows → IsPermutation (numbered 1 f.entries) t.audit) }
     ensures spelled { IfOk result (λ f. AllByRecursion (λ t. AllByRecursion IsSpelledEntry t.entries) f.tables.items) }
     ensures count { IfOk result (λ f. length f.tables.items ≤ 256) }
     ensures last { IfOk result (λ f. f.last ≡ pos (length f.entries)) }
-    ensures only { (t : Tables) → AreAll t rows → (c : Content) → Holds t c → IsSoundBefore policy.now schemes.now older.now.labels older.now.counts.items c → IfErr result IsMemory }
+    ensures only { (t : Tables) → AreAll t rows → (c : Content) → Holds t c
+        → IsSoundBefore policy.now schemes.now older.now.labels older.now.counts.items c → IfErr result IsMemory }
 {
     let before = schemes.before(alloc, &older.counts)?;
     let Found {

@@ -29,7 +29,8 @@ impl Noted {
 
     /// What the rows of a store hold when it is opened.
     pub fn find(found: &Found) -> Noted
-        ensures content { result.content.changes ≡ Finds (map (λ t. t.entries) found.now.tables.items) found.now.entries ∷ [] }
+        ensures content { result.content.changes ≡ Finds
+            (map (λ t. t.entries) found.now.tables.items) found.now.entries ∷ [] }
         ensures last { result.last ≡ found.now.last }
     {
         let mut content = Recalled::new();

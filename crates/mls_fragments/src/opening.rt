@@ -33,15 +33,16 @@ use mls_statements::{TableStore, read_description, read_store, rewrite_store};
 use sqlite::{Alter, Connection, Error, ErrorCode, FileFrom, FileStore, Start};
 use std::alloc::{AllocError, Global};
 
-/// The two texts that describe the stores of a policy and its schemes.
-fn texts_of(
+/// The two texts that describe the stores of a policy and its schemes: of its labels, and of the schemes.
+pub fn texts_of(
     alloc: Global,
     policy: &Policy,
     file: &SchemesFile,
 ) -> Result<(String, String), AllocError>
     requires under { AreUnder (length policy.now.labels) file.now.schemes }
     ensures lattice { IfOk result (λ texts. string_bytes texts.0 ≡ lattice.lattice_of policy.now) }
-    ensures schemes { IfOk result (λ texts. string_bytes texts.1 ≡ scheme.canon_of policy.now file.now.version file.now.schemes) }
+    ensures schemes { IfOk result (λ texts. string_bytes texts.1
+        ≡ scheme.canon_of policy.now file.now.version file.now.schemes) }
 {
     let lattice = String::from_utf8(policy.lattice_text(alloc)?).unwrap();
     let schemes = String::from_utf8(file.canon(alloc, policy)?).unwrap();
@@ -57,11 +58,13 @@ fn created<S: Alter>(
 ) -> Result<SqlBase<S>, (OpenFault, Connection<S>)>
     requires nothing { HasCleanDisk (state S.Store conn) → (state S.Store conn).now.schema ≡ no_schema }
     ensures content { IfOk result (λ b. state_of b ≡ record { now = no_content; kept = no_content; begun = false }) }
-    ensures described { IfOk result (λ b. IsClean b.tables → b.tables.now ≡ described (version_number version) (string_bytes texts.now.0) (string_bytes texts.now.1)) }
+    ensures described { IfOk result (λ b. IsClean b.tables
+        → b.tables.now ≡ described (version_number version) (string_bytes texts.now.0) (string_bytes texts.now.1)) }
     ensures clean { IfOk result (λ b. IsClean b.tables → HasCleanDisk (state S.Store conn)) }
     ensures fault { IfErr result (λ e. (e.0 ≡ OpenFault.Store) ⊎ (e.0 ≡ OpenFault.Memory)) }
     ensures refused { IfErr result (λ e. IsRefused (state S.Store conn) (state S.Store e.1)) }
-    ensures kept { IfErr result (λ e. HasCleanDisk (state S.Store e.1) → KeepsCommit (state S.Store conn) (state S.Store e.1)) }
+    ensures kept { IfErr result (λ e. HasCleanDisk (state S.Store e.1)
+        → KeepsCommit (state S.Store conn) (state S.Store e.1)) }
 {
     match TableStore::create(alloc, conn, version.number() as u32, &texts.0, &texts.1) {
         Ok(store) => Ok(SqlBase::over_new(alloc, store)),
@@ -85,7 +88,8 @@ fn taken<S: Alter>(
     ensures clean { IfOk result (λ b. IsClean b.tables → HasCleanDisk (state S.Store conn)) }
     ensures refused { IfErr result (λ e. IsRefused (state S.Store conn) (state S.Store e.1)) }
     ensures texts { IfErr result (λ e. e.0 ≢ OpenFault.OtherPolicy) }
-    ensures bad { IfErr result (λ e. HasCleanDisk (state S.Store e.1) → e.0 ≡ OpenFault.BadRows → ¬ HoldsSound (IsSoundContent policy.now schemes.now) (state S.Store conn).now) }
+    ensures bad { IfErr result (λ e. HasCleanDisk (state S.Store e.1) → e.0 ≡ OpenFault.BadRows
+        → ¬ HoldsSound (IsSoundContent policy.now schemes.now) (state S.Store conn).now) }
 {
     let rows = match read_store(&mut conn, alloc) {
         Ok(rows) => rows,
@@ -107,8 +111,10 @@ fn rewritten<S: Alter>(
     requires few { length found.now.tables.items ≤ 256 }
     requires spelled { AllByRecursion (λ t. AllByRecursion IsSpelledEntry t.entries) found.now.tables.items }
     requires settled { HasCleanDisk (state S.Store conn.old) → HasSettled (state S.Store conn.old) }
-    ensures rewritten { HasCleanDisk (state S.Store conn.new) → OnOk result (IsRewritten (node_rows 0 (map (λ t. t.entries) found.now.tables.items))
-        (cell_rows 0 (map (λ t. t.entries) found.now.tables.items)) 2 (string_bytes texts.now.0) (string_bytes texts.now.1) (state S.Store conn.old) (state S.Store conn.new)) }
+    ensures rewritten { HasCleanDisk (state S.Store conn.new)
+        → OnOk result (IsRewritten (node_rows 0 (map (λ t. t.entries) found.now.tables.items))
+        (cell_rows 0 (map (λ t. t.entries) found.now.tables.items)) 2 (string_bytes texts.now.0)
+        (string_bytes texts.now.1) (state S.Store conn.old) (state S.Store conn.new)) }
     ensures fault { IfErr result (λ e. (e ≡ OpenFault.Store) ⊎ (e ≡ OpenFault.Memory)) }
     ensures refused { OnErr result (IsRefused (state S.Store conn.old) (state S.Store conn.new)) }
     ensures clean { HasCleanDisk (state S.Store conn.new) → HasCleanDisk (state S.Store conn.old) }
@@ -132,9 +138,12 @@ fn migrated<S: Alter>(
     requires under { AreUnder (length policy.now.labels) schemes.now }
     requires before { IsBefore policy.now schemes.now older.now.labels older.now.counts.items }
     requires described { HasCleanDisk (state S.Store conn) → AreRows is_meta_row ((state S.Store conn).now.trees 5) }
-    ensures widened { IfOk result (λ b. IsClean b.tables → (c : Content) × Holds (tables_of (state S.Store conn).now.trees) c
-        × IsSoundBefore policy.now schemes.now older.now.labels older.now.counts.items c × IsWidenedContent schemes.now older.now.counts.items c (state_of b).now) }
-    ensures described { IfOk result (λ b. IsClean b.tables → b.tables.now.meta ≡ first_meta 2 (string_bytes texts.now.0) (string_bytes texts.now.1) ∷ []) }
+    ensures widened { IfOk result (λ b. IsClean b.tables
+        → (c : Content) × Holds (tables_of (state S.Store conn).now.trees) c
+        × IsSoundBefore policy.now schemes.now older.now.labels older.now.counts.items c
+        × IsWidenedContent schemes.now older.now.counts.items c (state_of b).now) }
+    ensures described { IfOk result (λ b. IsClean b.tables
+        → b.tables.now.meta ≡ first_meta 2 (string_bytes texts.now.0) (string_bytes texts.now.1) ∷ []) }
     ensures holds { IfOk result (λ b. IsClean b.tables → Holds b.tables.now (state_of b).now) }
     ensures sound { IfOk result (λ b. IsSoundContent policy.now schemes.now (state_of b).now) }
     ensures mode { IfOk result (λ b. (state_of b).begun ≡ false) }
@@ -142,7 +151,8 @@ fn migrated<S: Alter>(
     ensures refused { IfErr result (λ e. IsRefused (state S.Store conn) (state S.Store e.1)) }
     ensures texts { IfErr result (λ e. e.0 ≢ OpenFault.OtherPolicy) }
     ensures bad { IfErr result (λ e. HasCleanDisk (state S.Store e.1) → e.0 ≡ OpenFault.BadRows
-        → ¬ HoldsSound (IsSoundBefore policy.now schemes.now older.now.labels older.now.counts.items) (state S.Store conn).now) }
+        → ¬ HoldsSound (IsSoundBefore policy.now schemes.now older.now.labels older.now.counts.items)
+        (state S.Store conn).now) }
 {
     let rows = match read_store(&mut conn, alloc) {
         Ok(rows) => rows,
@@ -169,15 +179,18 @@ fn opened<S: Alter>(
     requires under { AreUnder (length policy.now.labels) file.now.schemes }
     requires lattice { string_bytes texts.now.0 ≡ lattice.lattice_of policy.now }
     requires schemes { string_bytes texts.now.1 ≡ scheme.canon_of policy.now file.now.version file.now.schemes }
-    ensures taken { IfOk result (λ b. IsClean b.tables → IsTaken policy.now file.now (state S.Store conn).now b.tables.now (state_of b).now) }
+    ensures taken { IfOk result (λ b. IsClean b.tables
+        → IsTaken policy.now file.now (state S.Store conn).now b.tables.now (state_of b).now) }
     ensures holds { IfOk result (λ b. IsClean b.tables → Holds b.tables.now (state_of b).now) }
     ensures sound { IfOk result (λ b. IsSoundContent policy.now file.now.schemes (state_of b).now) }
     ensures mode { IfOk result (λ b. (state_of b).begun ≡ false) }
     ensures schema { OnOk result (HasTables (state S.Store conn).now.schema) }
     ensures clean { IfOk result (λ b. IsClean b.tables → HasCleanDisk (state S.Store conn)) }
     ensures refused { IfErr result (λ e. IsRefused (state S.Store conn) (state S.Store e.1)) }
-    ensures policy { IfErr result (λ e. HasCleanDisk (state S.Store e.1) → e.0 ≡ OpenFault.OtherPolicy → IsOfOthers policy.now file.now (state S.Store conn).now) }
-    ensures bad { IfErr result (λ e. HasCleanDisk (state S.Store e.1) → e.0 ≡ OpenFault.BadRows → IsBad policy.now file.now (state S.Store conn).now) }
+    ensures policy { IfErr result (λ e. HasCleanDisk (state S.Store e.1) → e.0 ≡ OpenFault.OtherPolicy
+        → IsOfOthers policy.now file.now (state S.Store conn).now) }
+    ensures bad { IfErr result (λ e. HasCleanDisk (state S.Store e.1) → e.0 ≡ OpenFault.BadRows
+        → IsBad policy.now file.now (state S.Store conn).now) }
 {
     let described = match read_description(&mut conn, alloc) {
         Ok(described) => described,
@@ -206,21 +219,31 @@ impl<S: Alter> SqlBase<S> {
         file: &SchemesFile,
     ) -> Result<SqlBase<S>, (OpenFault, Connection<S>)>
         requires under { AreUnder (length policy.now.labels) file.now.schemes }
-        requires outside { HasCleanDisk (state S.Store conn) → IsTrue (state S.Store conn).is_open → (state S.Store conn).in_transaction ≡ false }
+        requires outside { HasCleanDisk (state S.Store conn) → IsTrue (state S.Store conn).is_open
+            → (state S.Store conn).in_transaction ≡ false }
         ensures new { (state S.Store conn).now.schema ≡ no_schema → IfOk result (λ b. (state_of b ≡ record { now = no_content; kept = no_content; begun = false })
             × (IsClean b.tables → b.tables.now ≡ described (version_number (later policy.now.version file.now.version)) (lattice.lattice_of policy.now) (scheme.canon_of policy.now file.now.version file.now.schemes))) }
-        ensures taken { (state S.Store conn).now.schema ≢ no_schema → IfOk result (λ b. IsClean b.tables → IsTaken policy.now file.now (state S.Store conn).now b.tables.now (state_of b).now) }
+        ensures taken { (state S.Store conn).now.schema ≢ no_schema
+            → IfOk result (λ b. IsClean b.tables
+            → IsTaken policy.now file.now (state S.Store conn).now b.tables.now (state_of b).now) }
         ensures holds { IfOk result (λ b. IsClean b.tables → Holds b.tables.now (state_of b).now) }
-        ensures content { IfOk result (λ b. IsClean b.tables → IsTakenOf (IsHeldBy (state S.Store conn).now) policy.now file.now (state_of b).now) }
+        ensures content { IfOk result (λ b. IsClean b.tables
+            → IsTakenOf (IsHeldBy (state S.Store conn).now) policy.now file.now (state_of b).now) }
         ensures sound { IfOk result (λ b. IsSoundContent policy.now file.now.schemes (state_of b).now) }
         ensures mode { IfOk result (λ b. (state_of b).begun ≡ false) }
         ensures clean { IfOk result (λ b. IsClean b.tables → HasCleanDisk (state S.Store conn)) }
-        ensures schema { OnOk result (((state S.Store conn).now.schema ≡ no_schema) ⊎ HasTables (state S.Store conn).now.schema) }
-        ensures policy { IfErr result (λ e. HasCleanDisk (state S.Store e.1) → e.0 ≡ OpenFault.OtherPolicy → IsOfOthers policy.now file.now (state S.Store conn).now) }
-        ensures bad { IfErr result (λ e. HasCleanDisk (state S.Store e.1) → e.0 ≡ OpenFault.BadRows → IsBad policy.now file.now (state S.Store conn).now) }
-        ensures made { (state S.Store conn).now.schema ≡ no_schema → IfErr result (λ e. (e.0 ≡ OpenFault.Store) ⊎ (e.0 ≡ OpenFault.Memory)) }
+        ensures schema { OnOk result (((state S.Store conn).now.schema ≡ no_schema)
+            ⊎ HasTables (state S.Store conn).now.schema) }
+        ensures policy { IfErr result (λ e. HasCleanDisk (state S.Store e.1) → e.0 ≡ OpenFault.OtherPolicy
+            → IsOfOthers policy.now file.now (state S.Store conn).now) }
+        ensures bad { IfErr result (λ e. HasCleanDisk (state S.Store e.1) → e.0 ≡ OpenFault.BadRows
+            → IsBad policy.now file.now (state S.Store conn).now) }
+        ensures made { (state S.Store conn).now.schema ≡ no_schema
+            → IfErr result (λ e. (e.0 ≡ OpenFault.Store) ⊎ (e.0 ≡ OpenFault.Memory)) }
         ensures refused { IfErr result (λ e. IsRefused (state S.Store conn) (state S.Store e.1)) }
-        ensures kept { (state S.Store conn).now.schema ≡ no_schema → IfErr result (λ e. HasCleanDisk (state S.Store e.1) → KeepsCommit (state S.Store conn) (state S.Store e.1)) }
+        ensures kept { (state S.Store conn).now.schema ≡ no_schema
+            → IfErr result (λ e. HasCleanDisk (state S.Store e.1)
+            → KeepsCommit (state S.Store conn) (state S.Store e.1)) }
     {
         let texts = match texts_of(alloc, policy, file) {
             Ok(texts) => texts,
@@ -275,7 +298,8 @@ impl<F: Start> SqlBase<FileStore<FileFrom<F>>> {
     >
         requires under { AreUnder (length policy.now.labels) file.now.schemes }
         ensures over { IfOk result (IsOverFiles policy.now file.now (image_at F.Start)) }
-        ensures content { IfOk result (λ b. IsClean b.tables → IsTakenOf (IsHeldIn (image_at F.Start)) policy.now file.now (state_of b).now) }
+        ensures content { IfOk result (λ b. IsClean b.tables
+            → IsTakenOf (IsHeldIn (image_at F.Start)) policy.now file.now (state_of b).now) }
         ensures sound { IfOk result (λ b. IsSoundContent policy.now file.now.schemes (state_of b).now) }
         ensures mode { IfOk result (λ b. (state_of b).begun ≡ false) }
         ensures unopened { IfErr result (λ e. e.1 ≡ None → (e.0 ≡ OpenFault.Store) ⊎ (e.0 ≡ OpenFault.Memory)) }
@@ -300,7 +324,8 @@ impl<F: Start> SqlBase<FileStore<FileFrom<F>>> {
         file: &SchemesFile,
     ) -> Result<SqlBase<FileStore<FileFrom<F>>>, OpenFault>
         requires under { AreUnder (length policy.now.labels) file.now.schemes }
-        ensures content { IfOk result (λ b. IsClean b.tables → IsTakenOf (IsHeldIn (image_at F.Start)) policy.now file.now (state_of b).now) }
+        ensures content { IfOk result (λ b. IsClean b.tables
+            → IsTakenOf (IsHeldIn (image_at F.Start)) policy.now file.now (state_of b).now) }
         ensures sound { IfOk result (λ b. IsSoundContent policy.now file.now.schemes (state_of b).now) }
         ensures mode { IfOk result (λ b. (state_of b).begun ≡ false) }
     {

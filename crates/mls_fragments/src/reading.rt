@@ -20,7 +20,7 @@ use std::alloc::{AllocError, AllocFailed, Global};
 
 /// Why a row can't be read, or made.
 #[derive(Clone, Copy)]
-pub(crate) enum RowFault {
+pub enum RowFault {
     /// The row stands for nothing.
     BadRow,
     /// A growth was refused.
@@ -129,7 +129,8 @@ pub(crate) fn nodes_in(alloc: Global, rel: RelNo, rows: &[NodeRow]) -> Result<It
 
 fn value_in(alloc: Global, bytes: &[u8]) -> Result<Option<Value>, RowFault>
     ensures found { IfOk result (λ value. (value_bytes value ≡ bytes.now) × IfSome value HasSpelling) }
-    ensures only { (value : Option SpecValue) → IfSome value HasSpelling → bytes.now ≡ value_bytes value → IfErr result IsMemory }
+    ensures only { (value : Option SpecValue) → IfSome value HasSpelling → bytes.now ≡ value_bytes value
+        → IfErr result IsMemory }
 {
     if let [0] = bytes {
         return Ok(None);
@@ -194,7 +195,8 @@ pub(crate) fn read_fragment<S: Alter>(
 ) -> Result<Fragment, StoreFault>
     ensures call { IsCall store.old store.new result }
     ensures mode { OnOk result (store.new.begun ≡ store.old.begun) }
-    ensures found { IsClean store.new → (c : Content) → Holds store.old.now c → IfOk result (IsFragment (c.db rel) label) }
+    ensures found { IsClean store.new → (c : Content) → Holds store.old.now c
+        → IfOk result (IsFragment (c.db rel) label) }
     ensures same { IsClean store.new → OnOk result (IsSame store.old store.new) }
 {
     let nodes = store.nodes_at(u32::from(rel.byte()), u32::from(label.byte()))?;
@@ -223,7 +225,8 @@ pub(crate) fn read_entries<S: Alter>(
 ) -> Result<Items<Items<u8>>, StoreFault>
     ensures call { IsCall store.old store.new result }
     ensures mode { OnOk result (store.new.begun ≡ store.old.begun) }
-    ensures found { IsClean store.new → (c : Content) → Holds store.old.now c → IfOk result (λ entries. entries ≡ c.audit) }
+    ensures found { IsClean store.new → (c : Content) → Holds store.old.now c
+        → IfOk result (λ entries. entries ≡ c.audit) }
     ensures same { IsClean store.new → OnOk result (IsSame store.old store.new) }
 {
     let rows = store.entries()?;

@@ -174,7 +174,8 @@ pub(crate) fn add_tuple<S: Alter>(
     requires cells { AllByRecursion (IsCellOf node.now) cells.now }
     ensures call { IsCall store.old store.new result }
     ensures mode { OnOk result (store.new.begun ≡ true) }
-    ensures done { IsClean store.new → OnOk result (Writes (AddsTuple (node_row rel node.now) (map (cell_row rel) cells.now)) store.old store.new) }
+    ensures done { IsClean store.new → OnOk result
+        (Writes (AddsTuple (node_row rel node.now) (map (cell_row rel) cells.now)) store.old store.new) }
 {
     match rows_of_tuple(alloc, rel, node, cells) {
         Ok(rows) => {
@@ -197,10 +198,12 @@ pub(crate) fn set_value<S: Alter>(
     requires begun { store.old.begun ≡ true }
     requires key { IsSpelledKey place.now.key }
     requires value { IfSome value.now HasSpelling }
-    requires there { IsClean store.old → (was : SpecCell) × IsOne (has_key_of (value_row rel place.now attr value.now)) store.old.now.cells was }
+    requires there { IsClean store.old → (was : SpecCell)
+        × IsOne (has_key_of (value_row rel place.now attr value.now)) store.old.now.cells was }
     ensures call { IsCall store.old store.new result }
     ensures mode { OnOk result (store.new.begun ≡ true) }
-    ensures done { IsClean store.new → OnOk result (Writes (SetsCell (value_row rel place.now attr value.now)) store.old store.new) }
+    ensures done { IsClean store.new → OnOk result
+        (Writes (SetsCell (value_row rel place.now attr value.now)) store.old store.new) }
 {
     match row_of_value(alloc, rel, place, attr, value) {
         Ok(row) => store.set_cell(&row),
@@ -262,7 +265,8 @@ pub(crate) fn add_entry<S: Alter>(
     ensures call { IsCall store.old store.new result }
     ensures mode { OnOk result (store.new.begun ≡ true) }
     ensures number { IfOk result (λ number. number ≡ last +ℤ pos 1) }
-    ensures done { IsClean store.new → OnOk result (Writes (AddsEntry (record { number = last +ℤ pos 1; bytes = bytes.now })) store.old store.new) }
+    ensures done { IsClean store.new → OnOk result
+        (Writes (AddsEntry (record { number = last +ℤ pos 1; bytes = bytes.now })) store.old store.new) }
 {
     match row_of_entry(alloc, last, bytes) {
         Ok(row) => {

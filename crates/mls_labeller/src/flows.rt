@@ -98,7 +98,8 @@ fn branch_to(
     other: &Block,
 ) -> Result<(), AllocError>
     requires { number + statements one.now + statements other.now + 1 < 2 ^ 63 }
-    ensures { OnOk result (flows.new.items ≡ flows.old.items ++ branch_flows number before rows.now guard.now one.now other.now) }
+    ensures { OnOk result (flows.new.items ≡ flows.old.items
+        ++ branch_flows number before rows.now guard.now one.now other.now) }
 {
     let mut targets = Vec::new(alloc);
     own_slots(&mut targets, number + 1, one)?;
@@ -156,7 +157,8 @@ fn value_to(
     rows: &[LabelNo],
     stmt: &Stmt,
 ) -> Result<(), AllocError>
-    ensures { OnOk result (flows.new.items ≡ flows.old.items ++ value_flows number before rows.now (block_of (stmt.now ∷ []))) }
+    ensures { OnOk result (flows.new.items ≡ flows.old.items
+        ++ value_flows number before rows.now (block_of (stmt.now ∷ []))) }
 {
     match stmt {
         Stmt::Assign {
@@ -199,7 +201,8 @@ fn plain_to(
     rows: &[LabelNo],
     stmt: &Stmt,
 ) -> Result<(), AllocError>
-    ensures { OnOk result (flows.new.items ≡ flows.old.items ++ plain_flows number before rows.now (block_of (stmt.now ∷ []))) }
+    ensures { OnOk result (flows.new.items ≡ flows.old.items
+        ++ plain_flows number before rows.now (block_of (stmt.now ∷ []))) }
 {
     value_to(alloc, flows, number, before, rows, stmt)?;
     keep(flows, before, number, target(stmt))
@@ -241,7 +244,8 @@ fn if_to(
     other: &Block,
 ) -> Result<(), AllocError>
     requires { number + statements one.now + statements other.now + 1 < 2 ^ 63 }
-    ensures { OnOk result (flows.new.items ≡ flows.old.items ++ if_flows number before rows.now guard.now one.now other.now) }
+    ensures { OnOk result (flows.new.items ≡ flows.old.items
+        ++ if_flows number before rows.now guard.now one.now other.now) }
 {
     branch_to(alloc, flows, number, before, rows, guard, one, other)?;
     block_to(alloc, flows, number + 1, number, before, rows, one)?;
@@ -278,7 +282,8 @@ fn stmt_to(
     stmt: &Stmt,
 ) -> Result<(), AllocError>
     requires { number + statements (block_of (stmt.now ∷ [])) < 2 ^ 63 }
-    ensures { OnOk result (flows.new.items ≡ flows.old.items ++ block_flows number around before rows.now (block_of (stmt.now ∷ []))) }
+    ensures { OnOk result (flows.new.items ≡ flows.old.items
+        ++ block_flows number around before rows.now (block_of (stmt.now ∷ []))) }
 {
     let around = Source::Held(Slot::Statement(around));
     one_to(alloc, flows, Slot::Statement(number), around)?;

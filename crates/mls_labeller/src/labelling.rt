@@ -41,7 +41,8 @@ pub fn label_tx(alloc: Global, policy: &Policy, tx: &Tx) -> Result<Cert, LabelFa
     ensures obeys { IfOk result (λ cert. Rules (claim policy.now tx.now (One cert))) }
     ensures least { IfOk result (λ cert. IsLeast version.First policy.now tx.now (One cert)) }
     // Each of its labels is dominated by the label at the same place in every certificate that passes.
-    ensures below { IfOk result (λ cert. (other : SpecCert) → Rules (claim policy.now tx.now (One other)) → Below (claim policy.now tx.now (One cert)) (claim policy.now tx.now (One other))) }
+    ensures below { IfOk result (λ cert. (other : SpecCert) → Rules (claim policy.now tx.now (One other))
+        → Below (claim policy.now tx.now (One cert)) (claim policy.now tx.now (One other))) }
     // No labels: no certificate passes.
     ensures none { IfErr result (HasNone version.First policy.now tx.now) }
     // Which rule it is that the least labels break first.
@@ -58,7 +59,8 @@ pub fn label_tx2(alloc: Global, policy: &Policy, tx: &Tx) -> Result<Cert2, Label
     ensures obeys { IfOk result (λ cert. Rules (claim policy.now tx.now (Two cert))) }
     ensures least { IfOk result (λ cert. IsLeast version.Second policy.now tx.now (Two cert)) }
     // Each of its labels is dominated by the label at the same place in every certificate that passes.
-    ensures below { IfOk result (λ cert. (other : SpecCert2) → Rules (claim policy.now tx.now (Two other)) → Below (claim policy.now tx.now (Two cert)) (claim policy.now tx.now (Two other))) }
+    ensures below { IfOk result (λ cert. (other : SpecCert2) → Rules (claim policy.now tx.now (Two other))
+        → Below (claim policy.now tx.now (Two cert)) (claim policy.now tx.now (Two other))) }
     // No labels: no certificate passes.
     ensures none { IfErr result (HasNone version.Second policy.now tx.now) }
     // Which rule it is that the least labels break first.

@@ -126,7 +126,8 @@ impl Labeller<'_> {
     /// Raises labels to one lower bound: false where they all were there.
     fn raise_all(&self, labels: &mut Labels, slots: &[Slot], low: Label) -> bool
         requires { HasSlots (cert_of labels.old) slots.now }
-        ensures { Rises self.now (Each (Over (pair_of low)) slots.now) (cert_of labels.old) (cert_of labels.new) result }
+        ensures { Rises self.now (Each (Over (pair_of low)) slots.now) (cert_of labels.old)
+            (cert_of labels.new) result }
     {
         let mut rose = false;
         for slot in slots {
@@ -173,7 +174,8 @@ impl Labeller<'_> {
     /// Raises slots to the join of sources: false where they all were there.
     fn pour(&self, labels: &mut Labels, targets: &[Slot], sources: &[Source]) -> bool
         requires { HasSlots (cert_of labels.old) targets.now }
-        ensures { Rises self.now (λ c. Holds c (Into targets.now sources.now)) (cert_of labels.old) (cert_of labels.new) result }
+        ensures { Rises self.now (λ c. Holds c (Into targets.now sources.now)) (cert_of labels.old)
+            (cert_of labels.new) result }
     {
         let low = self.joined(labels, sources);
         self.raise_all(labels, targets, low)

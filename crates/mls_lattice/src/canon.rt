@@ -34,7 +34,8 @@ pub(crate) fn user_name(users: &[User], user: UserNo) -> &str
 
 /// Writes the first line, which has the version.
 pub(crate) fn version_to(text: &mut String, version: Version) -> Result<(), AllocError>
-    ensures { OnOk result (string_bytes text.new ≡ string_bytes text.old ++ codes "policy " ++ version_text version ++ codes "\n") }
+    ensures { OnOk result (string_bytes text.new ≡ string_bytes text.old ++ codes "policy " ++ version_text version
+        ++ codes "\n") }
 {
     let word = version.word();
     writeln!(text, "policy {word}")
@@ -66,7 +67,8 @@ pub(crate) fn categories_to(text: &mut String, categories: &[Str]) -> Result<(),
 #[tactic(auto, using(crate::proofs::CanonLemmas::names_steps))]
 fn names_to(text: &mut String, categories: &[Str], label: Label) -> Result<(), AllocError>
     requires { length categories.now ≤ 32 }
-    ensures { OnOk result (string_bytes text.new ≡ string_bytes text.old ++ flat_map spaced (names_of 0 categories.now (cats_of label.cats))) }
+    ensures { OnOk result (string_bytes text.new ≡ string_bytes text.old
+        ++ flat_map spaced (names_of 0 categories.now (cats_of label.cats))) }
 {
     for (place, category) in categories.iter().enumerate() {
         if label.has(place as u32) {
@@ -86,7 +88,8 @@ pub(crate) fn label_to(
 ) -> Result<(), AllocError>
     requires ranked { HasLevel (length levels.now) (named label.now) }
     requires few { length categories.now ≤ 32 }
-    ensures { OnOk result (string_bytes text.new ≡ string_bytes text.old ++ label_line levels.now categories.now (named label.now)) }
+    ensures { OnOk result (string_bytes text.new ≡ string_bytes text.old
+        ++ label_line levels.now categories.now (named label.now)) }
 {
     let name = label.name.as_str();
     let level = levels[label.label.rank as usize].as_str();
@@ -105,8 +108,8 @@ pub(crate) fn labels_to(
 ) -> Result<(), AllocError>
     requires ranked { AllByRecursion (HasLevel (length levels.now)) (map named labels.now) }
     requires few { length categories.now ≤ 32 }
-    ensures { OnOk result
-        (string_bytes text.new ≡ string_bytes text.old ++ flat_map (label_line levels.now categories.now) (map named labels.now)) }
+    ensures { OnOk result (string_bytes text.new ≡ string_bytes text.old
+        ++ flat_map (label_line levels.now categories.now) (map named labels.now)) }
 {
     for label in labels {
         label_to(text, levels, categories, label)?;
@@ -138,7 +141,8 @@ pub(crate) fn users_to(
     users: &[User],
 ) -> Result<(), AllocError>
     requires { AllByRecursion (IsCleared (length labels.now)) users.now }
-    ensures { OnOk result (string_bytes text.new ≡ string_bytes text.old ++ flat_map (user_line (map named labels.now)) users.now) }
+    ensures { OnOk result (string_bytes text.new ≡ string_bytes text.old
+        ++ flat_map (user_line (map named labels.now)) users.now) }
 {
     for user in users {
         user_to(text, labels, user)?;
@@ -185,7 +189,8 @@ pub(crate) fn matrix_to(
     matrix: &[Right],
 ) -> Result<(), AllocError>
     requires { AllByRecursion (HasUser (length users.now)) matrix.now }
-    ensures { OnOk result (string_bytes text.new ≡ string_bytes text.old ++ flat_map (right_line users.now) matrix.now) }
+    ensures { OnOk result (string_bytes text.new ≡ string_bytes text.old
+        ++ flat_map (right_line users.now) matrix.now) }
 {
     for right in matrix {
         right_to(text, users, right)?;

@@ -119,7 +119,8 @@ pub fn tables_of(value: &Value) -> Result<&[Value], PolicyFault>
 
 /// The strings at a key, none where it is missing.
 pub fn optional_texts<'a>(table: &'a Table, key: &str) -> Result<&'a [Value], PolicyFault>
-    ensures { Gives (λ items. items_view items.now) result (optional texts_at (get_member key.now (table_view table.now))) }
+    ensures { Gives (λ items. items_view items.now) result
+        (optional texts_at (get_member key.now (table_view table.now))) }
 {
     match field(table, key) {
         Some(value) => texts_of(value),
@@ -129,7 +130,8 @@ pub fn optional_texts<'a>(table: &'a Table, key: &str) -> Result<&'a [Value], Po
 
 /// The tables at a key, none where it is missing.
 pub fn optional_tables<'a>(table: &'a Table, key: &str) -> Result<&'a [Value], PolicyFault>
-    ensures { Gives (λ items. items_view items.now) result (optional tables_at (get_member key.now (table_view table.now))) }
+    ensures { Gives (λ items. items_view items.now) result
+        (optional tables_at (get_member key.now (table_view table.now))) }
 {
     match field(table, key) {
         Some(value) => tables_of(value),

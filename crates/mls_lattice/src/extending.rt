@@ -12,7 +12,8 @@ use std::alloc::{AllocError, Global};
 
 /// What comes after a line that begins the text.
 fn after_line<'a>(text: &'a [u8], line: &str) -> Option<&'a [u8]>
-    ensures { MatchOption result ((more : List ℕ) → text.now ≢ line.now ++ more) (λ rest. text.now ≡ line.now ++ rest.now) }
+    ensures { MatchOption result ((more : List ℕ)
+        → text.now ≢ line.now ++ more) (λ rest. text.now ≡ line.now ++ rest.now) }
 {
     text.strip_prefix(line.as_bytes())
 }
@@ -48,7 +49,8 @@ pub(crate) fn labels_before<'a>(
 ) -> Result<(usize, &'a [u8]), AllocError>
     requires ranked { AllByRecursion (HasLevel (length levels.now)) (map named labels.now) }
     requires few { length categories.now ≤ 32 }
-    ensures { IfOk result (λ r. BeginWith (λ l. label_line levels.now categories.now (named l)) labels.now text.now r.0 r.1.now) }
+    ensures { IfOk result (λ r. BeginWith (λ l. label_line levels.now categories.now (named l)) labels.now text.now
+        r.0 r.1.now) }
 {
     let mut rest = text;
     for (place, label) in labels.iter().enumerate() {

@@ -95,7 +95,8 @@ fn rows_of(
 ) -> Result<Vec<NamedLabel>, PolicyFault>
     requires few_levels { length levels.now ≤ 16 }
     requires few_categories { length categories.now ≤ 32 }
-    ensures reads { Gives (λ v. map named v.items) result (rows_at (label_at levels.now categories.now) [] (items_view items.now)) }
+    ensures reads { Gives (λ v. map named v.items) result
+        (rows_at (label_at levels.now categories.now) [] (items_view items.now)) }
     ensures count { IfOk result (λ v. length v.items ≡ length items.now) }
 {
     let mut labels = Vec::new(alloc);
@@ -116,7 +117,8 @@ pub(crate) fn labels_of(
 ) -> Result<Vec<NamedLabel>, PolicyFault>
     requires few_levels { length levels.now ≤ 16 }
     requires few_categories { length categories.now ≤ 32 }
-    ensures reads { Gives (λ v. map named v.items) result (labels_at levels.now categories.now (table_view document.now)) }
+    ensures reads { Gives (λ v. map named v.items) result
+        (labels_at levels.now categories.now (table_view document.now)) }
     ensures count { IfOk result (λ v. length v.items ≤ 64) }
 {
     let all = tables_of(wanted(document, "label")?)?;

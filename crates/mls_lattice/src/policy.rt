@@ -71,8 +71,8 @@ impl Policy {
         // Another fault of a document is its first.
         ensures first { IfErr result (λ e. e ≢ PolicyFault.Memory → e ≢ PolicyFault.NotToml → HasFault bytes.now e) }
         // NotToml is the answer exactly where the bytes are no document.
-        ensures not_toml { IfErr result
-            (λ e. e ≢ PolicyFault.Memory → (e ≡ PolicyFault.NotToml) ↔ ((document : Members) → IsDocument bytes.now document → ⊥)) }
+        ensures not_toml { IfErr result (λ e. e ≢ PolicyFault.Memory
+            → (e ≡ PolicyFault.NotToml) ↔ ((document : Members) → IsDocument bytes.now document → ⊥)) }
     {
         match toml::table_from_slice(alloc, bytes) {
             Ok(document) => policy_of(alloc, &document),

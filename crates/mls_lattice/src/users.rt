@@ -66,7 +66,8 @@ fn trusted_of(
     fields: &Table,
 ) -> Result<Option<(LabelNo, LabelNo)>, PolicyFault>
     requires { length labels.now ≤ 64 }
-    ensures { Gives (λ i. i) result (trusted_at (map named labels.now) (get_member (codes "trusted") (table_view fields.now))) }
+    ensures { Gives (λ i. i) result (trusted_at (map named labels.now)
+        (get_member (codes "trusted") (table_view fields.now))) }
 {
     match field(fields, "trusted") {
         Some(value) => interval_of(labels, texts_of(value)?),

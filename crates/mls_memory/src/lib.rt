@@ -5,3 +5,4 @@ mod memory_base;
 mod memory_file;
 
 pub use memory_base::MemoryBase;
+pub use memory_file::MemoryFile;

@@ -57,8 +57,11 @@ impl MemoryBase {
     /// An empty base, which policy and schemes describe. Nothing but want of memory refuses it.
     pub fn open(alloc: Global, policy: &Policy, file: &SchemesFile) -> Result<MemoryBase, OpenFault>
         requires under { AreUnder (length policy.now.labels) file.now.schemes }
-        ensures content { IfOk result (λ b. state_of b ≡ record { now = no_content; kept = no_content; begun = false }) }
-        ensures described { IfOk result (λ b. IsClean b.tables → b.tables.now ≡ described (version_number (later policy.now.version file.now.version)) (lattice.lattice_of policy.now) (scheme.canon_of policy.now file.now.version file.now.schemes)) }
+        ensures content { IfOk result (λ b. state_of b
+            ≡ record { now = no_content; kept = no_content; begun = false }) }
+        ensures described { IfOk result (λ b. IsClean b.tables
+            → b.tables.now ≡ described (version_number (later policy.now.version file.now.version))
+            (lattice.lattice_of policy.now) (scheme.canon_of policy.now file.now.version file.now.schemes)) }
         ensures fault { IfErr result (λ e. e ≡ OpenFault.Memory) }
     {
         let conn = store_in_memory(alloc)?;

@@ -26,6 +26,13 @@ impl MemoryFile {
             faults: 0,
         }
     }
+
+    /// A file with these bytes.
+    pub fn holding(bytes: Vec<u8>) -> MemoryFile
+        ensures { bytes_of result ≡ bytes.items }
+    {
+        MemoryFile { bytes, faults: 0 }
+    }
 }
 
 impl Disk for MemoryFile {

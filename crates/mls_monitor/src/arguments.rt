@@ -30,7 +30,8 @@ fn has_misfit(tx: &Tx, args: &[Option<Value>]) -> bool
 
 /// Whether a transaction is not called with these arguments.
 pub(crate) fn are_wrong(tx: &Tx, args: &[Option<Value>]) -> bool
-    ensures { result ≡ (not (nat_eq (length args.now) (length tx.now.params)) || are_wrong_at tx.now.lo tx.now.params args.now) }
+    ensures { result ≡ (not (nat_eq (length args.now) (length tx.now.params)) || are_wrong_at tx.now.lo tx.now.params
+        args.now) }
 {
     args.len() != tx.params().len() || has_misfit(tx, args)
 }

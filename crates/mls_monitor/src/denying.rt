@@ -78,7 +78,8 @@ fn access_denial(
     requires user { user < length rules.now.policy.now.users }
     requires rel { rel < length rules.now.schemes.now }
     requires labels { AllByRecursion (λ l. l < length rules.now.policy.now.labels) labels.now }
-    ensures { result ≡ first_denial (access_denials (site_of rules.now) level user rel (map (λ m. m.0) modes.now) labels.now) }
+    ensures { result ≡ first_denial (access_denials (site_of rules.now) level user rel
+        (map (λ m. m.0) modes.now) labels.now) }
 {
     if lacks(rules, user, rel, modes) {
         return Some(Denial::Ds);

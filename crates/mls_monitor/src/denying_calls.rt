@@ -30,7 +30,8 @@ fn is_between(rules: &Rules, low: LabelNo, high: LabelNo, label: LabelNo) -> boo
     requires low { low < length rules.now.policy.now.labels }
     requires high { high < length rules.now.policy.now.labels }
     requires label { label < length rules.now.policy.now.labels }
-    ensures { result ≡ (below (site_labels (site_of rules.now)) low label && below (site_labels (site_of rules.now)) label high) }
+    ensures { result ≡ (below (site_labels (site_of rules.now)) low label
+        && below (site_labels (site_of rules.now)) label high) }
 {
     rules.policy.dominates(label, low) && rules.policy.dominates(high, label)
 }
@@ -56,7 +57,8 @@ fn is_untrusted(rules: &Rules, user: UserNo, tx: &Tx) -> bool
     requires lo { tx.now.lo < length rules.now.policy.now.labels }
     requires hi { tx.now.hi < length rules.now.policy.now.labels }
     ensures { result ≡ (not (nat_eq tx.now.hi tx.now.lo)
-        && lie_outside (site_labels (site_of rules.now)) (trusted_of rules.now.policy.now user) (tx.now.lo ∷ tx.now.hi ∷ [])) }
+        && lie_outside (site_labels (site_of rules.now)) (trusted_of rules.now.policy.now user)
+        (tx.now.lo ∷ tx.now.hi ∷ [])) }
 {
     if tx.hi() == tx.lo() {
         return false;

@@ -44,9 +44,11 @@ fn known_user(policy: &Policy, name: &str) -> Option<UserNo>
 pub fn open(rules: &Rules, sessions: &mut Vec<Session>, event: &Event) -> Result<Reply, BaseFault>
     requires level { event.now.level < length rules.now.policy.now.labels }
     requires closed { sessions_of sessions.old.items event.now.level event.now.session ≡ None }
-    ensures done { IfOk result (IsSessionStep (λ w. step_outside (site_of rules.now) w event.now event.now.command) sessions.old.items sessions.new.items) }
+    ensures done { IfOk result (IsSessionStep (λ w. step_outside (site_of rules.now) w event.now event.now.command)
+        sessions.old.items sessions.new.items) }
     ensures known { IfOk result (ReplyIsKnown rules.now.policy.now) }
-    ensures users { AreForUsers (length rules.now.policy.now.users) sessions.old.items → AreForUsers (length rules.now.policy.now.users) sessions.new.items }
+    ensures users { AreForUsers (length rules.now.policy.now.users) sessions.old.items
+        → AreForUsers (length rules.now.policy.now.users) sessions.new.items }
     ensures memory { IfErr result (λ e. e ≡ BaseFault.Memory) }
     ensures failed { OnErr result (sessions.new.items ≡ sessions.old.items) }
 {
@@ -73,7 +75,8 @@ pub fn open(rules: &Rules, sessions: &mut Vec<Session>, event: &Event) -> Result
 
 /// Closes the session of a level and a name. It takes no memory.
 pub fn close(sessions: &mut Vec<Session>, level: LabelNo, name: &str)
-    ensures closed { sessions_of sessions.new.items ≡ with_session (sessions_of sessions.old.items) level name.now None }
+    ensures closed { sessions_of sessions.new.items
+        ≡ with_session (sessions_of sessions.old.items) level name.now None }
     ensures users { (count : _) → AreForUsers count sessions.old.items → AreForUsers count sessions.new.items }
 {
     sessions.retain(|session| level != session.level || name != session.name.as_str());

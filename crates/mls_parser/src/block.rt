@@ -80,7 +80,8 @@ impl Context<'_> {
         body: Block,
     ) -> Result<Stmt, AllocError>
         ensures { IfOk result (λ s. block_of (s ∷ [])
-            ≡ For row.now.0 (numbered (relation_named self.now.schemes relation.now.0)) (label self.now at.now) body End) }
+            ≡ For row.now.0 (numbered (relation_named self.now.schemes relation.now.0))
+            (label self.now at.now) body End) }
     {
         Ok(Stmt::For {
             row: Str::copy_of(alloc, row.text())?,

@@ -56,7 +56,8 @@ impl Context<'_> {
     #[tactic(auto, using(crate::proofs::SetLemmas::first_steps))]
     fn check_set(&self, found: Found, scheme: &Scheme, again: bool, set: &(Name, Expr)) -> Found
         requires { IsPlace self.now }
-        ensures { result ≡ least_from found (set_faults self.now scheme.now again (other_named scheme.now set.now.0.0) set.now) }
+        ensures { result ≡ least_from found (set_faults self.now scheme.now again
+            (other_named scheme.now set.now.0.0) set.now) }
     {
         let name = &set.0;
         match other(scheme, name) {

@@ -123,7 +123,8 @@ impl Context<'_> {
     ) -> Found
         requires { IsPlace self.now }
         ensures { result ≡ least_from found (stmt_faults self.now
-            (Write_at relation.now labels.entry.2.now (Updating key.now labels.entry.0.now labels.entry.1.now sets.now) outcome.now)) }
+            (Write_at relation.now labels.entry.2.now
+            (Updating key.now labels.entry.0.now labels.entry.1.now sets.now) outcome.now)) }
     {
         let (key_class, from, at) = labels;
         let scheme = self.scheme(relation);

@@ -128,7 +128,8 @@ impl Context<'_> {
         outcome: &Option<Name>,
     ) -> Result<Stmt, AllocError>
         requires { IsPlace self.now }
-        ensures { IfOk result (λ s. block_of (s ∷ []) ≡ only self.now (Write_at relation.now at.now (Inserting key.now values.now) outcome.now)) }
+        ensures { IfOk result (λ s. block_of (s ∷ [])
+            ≡ only self.now (Write_at relation.now at.now (Inserting key.now values.now) outcome.now)) }
     {
         Ok(Stmt::Insert {
             relation: self.relation(relation),
@@ -150,8 +151,9 @@ impl Context<'_> {
         outcome: &Option<Name>,
     ) -> Result<Stmt, AllocError>
         requires { IsPlace self.now }
-        ensures { IfOk result (λ s. block_of (s ∷ []) ≡ only self.now
-            (Write_at relation.now labels.entry.2.now (Updating key.now labels.entry.0.now labels.entry.1.now sets.now) outcome.now)) }
+        ensures { IfOk result (λ s. block_of (s ∷ [])
+            ≡ only self.now (Write_at relation.now labels.entry.2.now
+            (Updating key.now labels.entry.0.now labels.entry.1.now sets.now) outcome.now)) }
     {
         let (key_class, from, at) = labels;
         Ok(Stmt::Update {
@@ -175,7 +177,8 @@ impl Context<'_> {
         outcome: &Option<Name>,
     ) -> Result<Stmt, AllocError>
         requires { IsPlace self.now }
-        ensures { IfOk result (λ s. block_of (s ∷ []) ≡ only self.now (Write_at relation.now at.now (Deleting key.now key_class.now) outcome.now)) }
+        ensures { IfOk result (λ s. block_of (s ∷ [])
+            ≡ only self.now (Write_at relation.now at.now (Deleting key.now key_class.now) outcome.now)) }
     {
         Ok(Stmt::Delete {
             relation: self.relation(relation),

@@ -95,8 +95,8 @@ fn check_body(
 ) -> Result<Found, AllocError>
     requires limited { IsLimited tx.now }
     requires params { params.now ≡ params_from policy.now [] tx.now.params }
-    ensures { IfOk result (λ f. f
-        ≡ least_from found (vars_faults params.now [] tx.now.vars ++ block_faults (outermost policy.now schemes.now tx.now) tx.now.body)) }
+    ensures { IfOk result (λ f. f ≡ least_from found (vars_faults params.now [] tx.now.vars
+        ++ block_faults (outermost policy.now schemes.now tx.now) tx.now.body)) }
 {
     let (vars, found) = vars(alloc, params, found, &tx.vars)?;
     outermost(policy, schemes, tx, params, &vars).check_block(alloc, found, &tx.body)
@@ -113,7 +113,8 @@ fn check_transaction(
     tx: &Transaction,
 ) -> Result<Found, AllocError>
     requires { IsLimited tx.now }
-    ensures { IfOk result (λ f. f ≡ least_from found (tx_faults policy.now schemes.now (map (λ t. t.name.0) earlier.now) tx.now)) }
+    ensures { IfOk result (λ f. f ≡ least_from found
+        (tx_faults policy.now schemes.now (map (λ t. t.name.0) earlier.now) tx.now)) }
 {
     let found = check_name(schemes, earlier, found, &tx.name);
     let found = check_levels(policy, found, &tx.lo, &tx.hi);

@@ -76,7 +76,8 @@ fn third_word(line: &[u8]) -> &[u8]
 
 /// The form of a verb, in a table.
 fn form_among(forms: &[(&'static str, &'static str)], verb: &[u8]) -> Option<&'static str>
-    ensures { option_map (λ f. f.now) result ≡ option_map (λ f. f.1.now) (find (λ f. bytes_eq f.0.now verb.now) forms.now) }
+    ensures { option_map (λ f. f.now) result
+        ≡ option_map (λ f. f.1.now) (find (λ f. bytes_eq f.0.now verb.now) forms.now) }
 {
     forms
         .iter()

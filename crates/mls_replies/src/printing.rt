@@ -70,7 +70,8 @@ fn push_entry_front(
     session: &str,
 ) -> Result<(), AllocError>
     requires { label < length policy.now.labels }
-    ensures { OnOk result (text.new.items ≡ text.old.items ++ entry_front policy.now label deed.now user.now session.now) }
+    ensures { OnOk result (text.new.items ≡ text.old.items
+        ++ entry_front policy.now label deed.now user.now session.now) }
 {
     push_str(text, "entry ")?;
     push_str(text, policy.name(label))?;

@@ -24,7 +24,8 @@ pub(crate) fn push_item(
 ) -> Result<(), AllocError>
     requires level { event.now.level < length policy.now.labels }
     requires label { label < length policy.now.labels }
-    ensures { OnOk result (text.new.items ≡ text.old.items ++ (front policy.now event.now label ++ (deed.now ++ cell_text value.now) ++ codes "\n")) }
+    ensures { OnOk result (text.new.items ≡ text.old.items
+        ++ (front policy.now event.now label ++ (deed.now ++ cell_text value.now) ++ codes "\n")) }
 {
     push_front(text, policy, event, label)?;
     push_str(text, deed)?;
@@ -44,7 +45,8 @@ fn push_items(
 ) -> Result<(), AllocError>
     requires level { event.now.level < length policy.now.labels }
     requires known { ItemsAreKnown policy.now items.now }
-    ensures { OnOk result (text.new.items ≡ text.old.items ++ flat_map (λ i. front policy.now event.now i.0 ++ (deed.now ++ cell_text i.1) ++ codes "\n") items.now) }
+    ensures { OnOk result (text.new.items ≡ text.old.items
+        ++ flat_map (λ i. front policy.now event.now i.0 ++ (deed.now ++ cell_text i.1) ++ codes "\n") items.now) }
 {
     for item in items {
         push_item(alloc, text, policy, event, deed, item.0, &item.1)?;
@@ -60,7 +62,8 @@ fn call_bytes(
     tx: &str,
 ) -> Result<Vec<u8>, AllocError>
     requires { event.now.level < length policy.now.labels }
-    ensures { IfOk result (λ text. text.items ≡ front policy.now event.now event.now.level ++ (codes "called " ++ printable tx.now) ++ codes "\n") }
+    ensures { IfOk result (λ text. text.items ≡ front policy.now event.now event.now.level
+        ++ (codes "called " ++ printable tx.now) ++ codes "\n") }
 {
     let mut text = Vec::new(alloc);
     push_front(&mut text, policy, event, event.level)?;
@@ -77,7 +80,9 @@ pub(crate) fn called_bytes(
     event: &Event,
 ) -> Result<Vec<u8>, AllocError>
     requires { event.now.level < length policy.now.labels }
-    ensures { IfOk result (λ text. text.items ≡ flat_map (λ t. front policy.now event.now event.now.level ++ t ++ codes "\n") (call_texts event.now.command)) }
+    ensures { IfOk result (λ text. text.items
+        ≡ flat_map (λ t. front policy.now event.now event.now.level ++ t
+        ++ codes "\n") (call_texts event.now.command)) }
 {
     match &event.command {
         Command::Call { tx, .. } => call_bytes(alloc, policy, event, tx),
@@ -95,9 +100,11 @@ pub(crate) fn ran_bytes(
     requires level { event.now.level < length policy.now.labels }
     requires emitted { ItemsAreKnown policy.now run.now.emitted }
     requires released { ItemsAreKnown policy.now run.now.released }
-    ensures { IfOk result (λ text. text.items ≡ flat_map (λ t. front policy.now event.now event.now.level ++ t ++ codes "\n") (call_texts event.now.command)
-        ++ flat_map (λ i. front policy.now event.now i.0 ++ (codes "emit " ++ cell_text i.1) ++ codes "\n") run.now.emitted
-        ++ flat_map (λ i. front policy.now event.now i.0 ++ (codes "release " ++ cell_text i.1) ++ codes "\n") run.now.released) }
+    ensures { IfOk result (λ text. text.items
+        ≡ flat_map (λ t. front policy.now event.now event.now.level ++ t ++ codes "\n") (call_texts event.now.command)
+        ++ flat_map (λ i. front policy.now event.now i.0 ++ (codes "emit " ++ cell_text i.1)
+        ++ codes "\n") run.now.emitted ++ flat_map (λ i. front policy.now event.now i.0
+        ++ (codes "release " ++ cell_text i.1) ++ codes "\n") run.now.released) }
 {
     let mut text = called_bytes(alloc, policy, event)?;
     push_items(alloc, &mut text, policy, event, "emit ", &run.emitted)?;

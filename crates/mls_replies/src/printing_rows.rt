@@ -16,7 +16,8 @@ use std::alloc::{AllocError, Global};
 
 fn push_class(text: &mut Vec<u8>, policy: &Policy, class: LabelNo) -> Result<(), AllocError>
     requires { class < length policy.now.labels }
-    ensures { OnOk result (text.new.items ≡ text.old.items ++ codes " " ++ label_name policy.now.labels class ++ codes " | ") }
+    ensures { OnOk result (text.new.items ≡ text.old.items ++ codes " " ++ label_name policy.now.labels class
+        ++ codes " | ") }
 {
     push_str(text, " ")?;
     push_str(text, policy.name(class))?;
@@ -31,7 +32,8 @@ fn push_key(
     key: &[Value],
 ) -> Result<(), AllocError>
     requires { class < length policy.now.labels }
-    ensures { OnOk result (text.new.items ≡ text.old.items ++ flat_map (λ v. cell_entry policy.now.labels class (Some v)) key.now) }
+    ensures { OnOk result (text.new.items ≡ text.old.items
+        ++ flat_map (λ v. cell_entry policy.now.labels class (Some v)) key.now) }
 {
     for value in key {
         push_value(alloc, text, value)?;
@@ -47,7 +49,8 @@ fn push_elements(
     elements: &[Element],
 ) -> Result<(), AllocError>
     requires { AllByRecursion (λ e. e.class < length policy.now.labels) elements.now }
-    ensures { OnOk result (text.new.items ≡ text.old.items ++ flat_map (λ e. cell_entry policy.now.labels e.class e.value) elements.now) }
+    ensures { OnOk result (text.new.items ≡ text.old.items
+        ++ flat_map (λ e. cell_entry policy.now.labels e.class e.value) elements.now) }
 {
     for element in elements {
         push_cell(alloc, text, &element.value)?;

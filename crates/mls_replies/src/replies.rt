@@ -93,7 +93,9 @@ fn push_rows(
 ) -> Result<(), AllocError>
     requires level { event.now.level < length policy.now.labels }
     requires classes { AllByRecursion (HasClassesBelow (length policy.now.labels)) tuples.now }
-    ensures { OnOk result (text.new.items ≡ text.old.items ++ flat_map (λ t. front policy.now event.now event.now.level ++ row_text policy.now t ++ codes "\n") tuples.now) }
+    ensures { OnOk result (text.new.items ≡ text.old.items
+        ++ flat_map (λ t. front policy.now event.now event.now.level ++ row_text policy.now t
+        ++ codes "\n") tuples.now) }
 {
     for tuple in tuples {
         push_front(text, policy, event, event.level)?;
@@ -112,7 +114,9 @@ fn push_entries(
 ) -> Result<(), AllocError>
     requires level { event.now.level < length policy.now.labels }
     requires known { EntriesAreKnown policy.now entries.now }
-    ensures { OnOk result (text.new.items ≡ text.old.items ++ flat_map (λ e. front policy.now event.now event.now.level ++ entry_text policy.now e ++ codes "\n") entries.now) }
+    ensures { OnOk result (text.new.items ≡ text.old.items
+        ++ flat_map (λ e. front policy.now event.now event.now.level ++ entry_text policy.now e
+        ++ codes "\n") entries.now) }
 {
     for entry in entries {
         push_front(text, policy, event, event.level)?;
@@ -137,7 +141,8 @@ fn push_view(
     requires classes { AllByRecursion (HasClassesBelow (length policy.now.labels)) tuples.now }
     ensures { OnOk result (text.new.items ≡ text.old.items
         ++ ((front policy.now event.now event.now.level ++ heading policy.now scheme.now label ++ codes "\n")
-        ++ flat_map (λ t. front policy.now event.now event.now.level ++ row_text policy.now t ++ codes "\n") tuples.now)) }
+        ++ flat_map (λ t. front policy.now event.now event.now.level ++ row_text policy.now t
+        ++ codes "\n") tuples.now)) }
 {
     push_front(text, policy, event, event.level)?;
     push_heading(text, policy, scheme, label)?;
@@ -157,8 +162,9 @@ fn push_answer(
     requires level { event.now.level < length policy.now.labels }
     requires command { CommandIsKnown (site_under policy.now schemes.now) event.now.command }
     requires classes { AllByRecursion (HasClassesBelow (length policy.now.labels)) tuples.now }
-    ensures { OnOk result (text.new.items ≡ text.old.items ++ flat_map (λ t. front policy.now event.now event.now.level ++ t ++ codes "\n")
-        (view_texts (site_under policy.now schemes.now) event.now.command tuples.now)) }
+    ensures { OnOk result (text.new.items ≡ text.old.items
+        ++ flat_map (λ t. front policy.now event.now event.now.level ++ t
+        ++ codes "\n") (view_texts (site_under policy.now schemes.now) event.now.command tuples.now)) }
 {
     match &event.command {
         Command::View { rel, label } => {
@@ -180,8 +186,9 @@ fn view_bytes(
     requires level { event.now.level < length policy.now.labels }
     requires command { CommandIsKnown (site_under policy.now schemes.now) event.now.command }
     requires classes { AllByRecursion (HasClassesBelow (length policy.now.labels)) tuples.now }
-    ensures { IfOk result (λ text. text.items ≡ flat_map (λ t. front policy.now event.now event.now.level ++ t ++ codes "\n")
-        (view_texts (site_under policy.now schemes.now) event.now.command tuples.now)) }
+    ensures { IfOk result (λ text. text.items
+        ≡ flat_map (λ t. front policy.now event.now event.now.level ++ t
+        ++ codes "\n") (view_texts (site_under policy.now schemes.now) event.now.command tuples.now)) }
 {
     let mut text = Vec::new(alloc);
     push_answer(alloc, &mut text, policy, schemes, event, tuples)?;
@@ -197,8 +204,10 @@ fn audit_bytes(
 ) -> Result<Vec<u8>, AllocError>
     requires level { event.now.level < length policy.now.labels }
     requires known { EntriesAreKnown policy.now entries.now }
-    ensures { IfOk result (λ text. text.items ≡ (front policy.now event.now event.now.level ++ codes "audit" ++ codes "\n")
-        ++ flat_map (λ e. front policy.now event.now event.now.level ++ entry_text policy.now e ++ codes "\n") entries.now) }
+    ensures { IfOk result (λ text. text.items
+        ≡ (front policy.now event.now event.now.level ++ codes "audit" ++ codes "\n")
+        ++ flat_map (λ e. front policy.now event.now event.now.level ++ entry_text policy.now e
+        ++ codes "\n") entries.now) }
 {
     let mut text = line_bytes(alloc, policy, event, "audit")?;
     push_entries(alloc, &mut text, policy, event, entries)?;
@@ -231,7 +240,8 @@ fn opened_bytes(
 ) -> Result<Vec<u8>, AllocError>
     requires level { event.now.level < length policy.now.labels }
     requires user { user < length policy.now.users }
-    ensures { IfOk result (λ text. text.items ≡ front policy.now event.now event.now.level ++ (codes "opened " ++ user_name policy.now.users user) ++ codes "\n") }
+    ensures { IfOk result (λ text. text.items ≡ front policy.now event.now event.now.level
+        ++ (codes "opened " ++ user_name policy.now.users user) ++ codes "\n") }
 {
     let name = policy.user_name(user);
     let line = format!(in alloc; "opened {name}")?;
@@ -247,7 +257,8 @@ pub fn reply_bytes(
     reply: &Reply,
 ) -> Result<Vec<u8>, AllocError>
     requires { CanBePrinted (site_under policy.now schemes.now) event.now reply.now }
-    ensures { IfOk result (λ text. text.items ≡ printed (reply_lines (site_under policy.now schemes.now) event.now reply.now)) }
+    ensures { IfOk result (λ text. text.items
+        ≡ printed (reply_lines (site_under policy.now schemes.now) event.now reply.now)) }
 {
     match reply {
         Reply::Opened(user) => opened_bytes(alloc, policy, event, *user),

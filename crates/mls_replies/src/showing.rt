@@ -30,7 +30,9 @@ fn heard_bytes(
 ) -> Result<Vec<u8>, AllocError>
     requires printable { CanBePrinted (site_under policy.now schemes.now) event.now reply.now }
     requires reader { IfSome reader (λ c. c < length policy.now.labels) }
-    ensures { IfOk result (λ text. text.items ≡ printed (heard (labels_of policy.now) reader (reply_lines (site_under policy.now schemes.now) event.now reply.now))) }
+    ensures { IfOk result (λ text. text.items
+        ≡ printed (heard (labels_of policy.now) reader
+        (reply_lines (site_under policy.now schemes.now) event.now reply.now))) }
 {
     match reader {
         None => reply_bytes(alloc, policy, schemes, event, reply),
@@ -63,8 +65,10 @@ fn heard_table(
     requires command { CommandIsKnown (site_under policy.now schemes.now) event.now.command }
     requires classes { AllByRecursion (HasClassesBelow (length policy.now.labels)) tuples.now }
     requires reader { IfSome reader (λ c. c < length policy.now.labels) }
-    ensures { IfOk result (λ text. text.items ≡ printed (heard (labels_of policy.now) reader
-        (map (line policy.now event.now event.now.level) (table_texts (site_under policy.now schemes.now) event.now.command tuples.now)))) }
+    ensures { IfOk result (λ text. text.items
+        ≡ printed (heard (labels_of policy.now) reader
+        (map (line policy.now event.now event.now.level)
+        (table_texts (site_under policy.now schemes.now) event.now.command tuples.now)))) }
 {
     if is_shown(policy, event.level, reader) {
         table_bytes(alloc, policy, schemes, event, tuples)
@@ -84,8 +88,10 @@ fn bare_bytes(
 ) -> Result<Vec<u8>, AllocError>
     requires printable { CanBePrinted (site_under policy.now schemes.now) event.now reply.now }
     requires reader { IfSome reader (λ c. c < length policy.now.labels) }
-    ensures { IfOk result (λ text. text.items ≡ printed (heard (labels_of policy.now) reader
-        (lines_with (site_under policy.now schemes.now) event.now (texts_in_table (site_under policy.now schemes.now) event.now.command reply.now) reply.now))) }
+    ensures { IfOk result (λ text. text.items
+        ≡ printed (heard (labels_of policy.now) reader
+        (lines_with (site_under policy.now schemes.now) event.now
+        (texts_in_table (site_under policy.now schemes.now) event.now.command reply.now) reply.now))) }
 {
     match reply {
         Reply::Rows(tuples) => heard_table(alloc, policy, schemes, event, tuples, reader),
@@ -105,7 +111,8 @@ pub fn shown_to(
 ) -> Result<Vec<u8>, AllocError>
     requires printable { CanBePrinted (site_under policy.now schemes.now) event.now reply.now }
     requires reader { IfSome audience.reader (λ c. c < length policy.now.labels) }
-    ensures { IfOk result (λ text. text.items ≡ reply_shows (site_under policy.now schemes.now) audience event.now reply.now) }
+    ensures { IfOk result (λ text. text.items
+        ≡ reply_shows (site_under policy.now schemes.now) audience event.now reply.now) }
 {
     match audience.form {
         Form::Lines => heard_bytes(alloc, policy, schemes, event, reply, audience.reader),

@@ -51,7 +51,8 @@ fn push_seen(
     requires level { event.now.level < length policy.now.labels }
     requires known { ItemsAreKnown policy.now items.now }
     requires reader { reader < length policy.now.labels }
-    ensures { OnOk result (text.new.items ≡ text.old.items ++ flat_map (seen_item policy.now event.now reader deed.now) items.now) }
+    ensures { OnOk result (text.new.items ≡ text.old.items
+        ++ flat_map (seen_item policy.now event.now reader deed.now) items.now) }
 {
     for item in items {
         push_if_seen(alloc, text, policy, event, deed, item, reader)?;
@@ -68,7 +69,9 @@ fn seen_call(
 ) -> Result<Vec<u8>, AllocError>
     requires level { event.now.level < length policy.now.labels }
     requires reader { reader < length policy.now.labels }
-    ensures { IfOk result (λ text. text.items ≡ printed (out (labels_of policy.now) reader (map (line policy.now event.now event.now.level) (call_texts event.now.command)))) }
+    ensures { IfOk result (λ text. text.items
+        ≡ printed (out (labels_of policy.now) reader
+        (map (line policy.now event.now event.now.level) (call_texts event.now.command)))) }
 {
     if policy.dominates(reader, event.level) {
         called_bytes(alloc, policy, event)
@@ -89,9 +92,11 @@ fn seen_run(
     requires emitted { ItemsAreKnown policy.now run.now.emitted }
     requires released { ItemsAreKnown policy.now run.now.released }
     requires reader { reader < length policy.now.labels }
-    ensures { IfOk result (λ text. text.items ≡ printed (out (labels_of policy.now) reader (map (line policy.now event.now event.now.level) (call_texts event.now.command)))
-        ++ flat_map (seen_item policy.now event.now reader (codes "emit ")) run.now.emitted
-        ++ flat_map (seen_item policy.now event.now reader (codes "release ")) run.now.released) }
+    ensures { IfOk result (λ text. text.items
+        ≡ printed (out (labels_of policy.now) reader
+        (map (line policy.now event.now event.now.level) (call_texts event.now.command))) ++ flat_map (seen_item
+        policy.now event.now reader (codes "emit ")) run.now.emitted ++ flat_map (seen_item policy.now event.now
+        reader (codes "release ")) run.now.released) }
 {
     let mut text = seen_call(alloc, policy, event, reader)?;
     push_seen(
@@ -128,7 +133,9 @@ pub fn shown_bytes(
 ) -> Result<Vec<u8>, AllocError>
     requires printable { CanBePrinted (site_under policy.now schemes.now) event.now reply.now }
     requires reader { reader < length policy.now.labels }
-    ensures { IfOk result (λ text. text.items ≡ printed (out (labels_of policy.now) reader (reply_lines (site_under policy.now schemes.now) event.now reply.now))) }
+    ensures { IfOk result (λ text. text.items
+        ≡ printed (out (labels_of policy.now) reader
+        (reply_lines (site_under policy.now schemes.now) event.now reply.now))) }
 {
     match reply {
         Reply::Ran(run) => seen_run(alloc, policy, event, run, reader),

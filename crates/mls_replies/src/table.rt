@@ -66,7 +66,8 @@ fn push_key_cells(
     key: &[Value],
 ) -> Result<(), AllocError>
     requires { class < length policy.now.labels }
-    ensures { OnOk result (cells.new.items ≡ cells.old.items ++ map (λ v. table_cell policy.now.labels class (Some v)) key.now) }
+    ensures { OnOk result (cells.new.items ≡ cells.old.items
+        ++ map (λ v. table_cell policy.now.labels class (Some v)) key.now) }
 {
     for value in key {
         let cell = key_cell(alloc, policy, class, value)?;
@@ -82,7 +83,8 @@ fn push_element_cells(
     elements: &[Element],
 ) -> Result<(), AllocError>
     requires { AllByRecursion (λ e. e.class < length policy.now.labels) elements.now }
-    ensures { OnOk result (cells.new.items ≡ cells.old.items ++ map (λ e. table_cell policy.now.labels e.class e.value) elements.now) }
+    ensures { OnOk result (cells.new.items ≡ cells.old.items
+        ++ map (λ e. table_cell policy.now.labels e.class e.value) elements.now) }
 {
     for element in elements {
         let cell = element_cell(alloc, policy, element)?;
@@ -195,7 +197,8 @@ fn push_title_line(
 ) -> Result<(), AllocError>
     requires level { event.now.level < length policy.now.labels }
     requires label { label < length policy.now.labels }
-    ensures { OnOk result (text.new.items ≡ text.old.items ++ (front policy.now event.now event.now.level ++ table_title policy.now scheme.now label ++ codes "\n")) }
+    ensures { OnOk result (text.new.items ≡ text.old.items
+        ++ (front policy.now event.now event.now.level ++ table_title policy.now scheme.now label ++ codes "\n")) }
 {
     push_front(text, policy, event, event.level)?;
     push_title(text, policy, scheme, label)?;
@@ -211,7 +214,9 @@ fn push_names_line(
     widths: &[usize],
 ) -> Result<(), AllocError>
     requires { event.now.level < length policy.now.labels }
-    ensures { OnOk result (text.new.items ≡ text.old.items ++ (front policy.now event.now event.now.level ++ (padded widths.now 0 names.now ++ codes "class") ++ codes "\n")) }
+    ensures { OnOk result (text.new.items ≡ text.old.items
+        ++ (front policy.now event.now event.now.level ++ (padded widths.now 0 names.now ++ codes "class")
+        ++ codes "\n")) }
 {
     push_front(text, policy, event, event.level)?;
     push_row(text, widths, names)?;
@@ -227,7 +232,8 @@ fn push_rule_line(
     widths: &[usize],
 ) -> Result<(), AllocError>
     requires { event.now.level < length policy.now.labels }
-    ensures { OnOk result (text.new.items ≡ text.old.items ++ (front policy.now event.now event.now.level ++ table_rule widths.now ++ codes "\n")) }
+    ensures { OnOk result (text.new.items ≡ text.old.items
+        ++ (front policy.now event.now event.now.level ++ table_rule widths.now ++ codes "\n")) }
 {
     push_front(text, policy, event, event.level)?;
     push_rule(text, widths)?;
@@ -262,7 +268,9 @@ fn push_tuples(
 ) -> Result<(), AllocError>
     requires level { event.now.level < length policy.now.labels }
     requires classes { AllByRecursion (HasClassesBelow (length policy.now.labels)) tuples.now }
-    ensures { OnOk result (text.new.items ≡ text.old.items ++ flat_map (λ t. front policy.now event.now event.now.level ++ table_row policy.now widths.now t ++ codes "\n") tuples.now) }
+    ensures { OnOk result (text.new.items ≡ text.old.items
+        ++ flat_map (λ t. front policy.now event.now event.now.level ++ table_row policy.now widths.now t
+        ++ codes "\n") tuples.now) }
 {
     for tuple in tuples {
         push_front(text, policy, event, event.level)?;
@@ -287,9 +295,12 @@ fn push_table(
     requires classes { AllByRecursion (HasClassesBelow (length policy.now.labels)) tuples.now }
     ensures { OnOk result (text.new.items ≡ text.old.items
         ++ ((front policy.now event.now event.now.level ++ table_title policy.now scheme.now label ++ codes "\n")
-        ++ ((front policy.now event.now event.now.level ++ table_names scheme.now (table_widths policy.now scheme.now tuples.now) ++ codes "\n")
-        ++ ((front policy.now event.now event.now.level ++ table_rule (table_widths policy.now scheme.now tuples.now) ++ codes "\n")
-        ++ flat_map (λ t. front policy.now event.now event.now.level ++ table_row policy.now (table_widths policy.now scheme.now tuples.now) t ++ codes "\n") tuples.now)))) }
+        ++ ((front policy.now event.now event.now.level
+        ++ table_names scheme.now (table_widths policy.now scheme.now tuples.now)
+        ++ codes "\n") ++ ((front policy.now event.now event.now.level
+        ++ table_rule (table_widths policy.now scheme.now tuples.now)
+        ++ codes "\n") ++ flat_map (λ t. front policy.now event.now event.now.level
+        ++ table_row policy.now (table_widths policy.now scheme.now tuples.now) t ++ codes "\n") tuples.now)))) }
 {
     let names = name_cells(alloc, scheme)?;
     let widths = widths_of(alloc, policy, &names, tuples)?;
@@ -311,8 +322,9 @@ fn push_answer(
     requires level { event.now.level < length policy.now.labels }
     requires command { CommandIsKnown (site_under policy.now schemes.now) event.now.command }
     requires classes { AllByRecursion (HasClassesBelow (length policy.now.labels)) tuples.now }
-    ensures { OnOk result (text.new.items ≡ text.old.items ++ flat_map (λ t. front policy.now event.now event.now.level ++ t ++ codes "\n")
-        (table_texts (site_under policy.now schemes.now) event.now.command tuples.now)) }
+    ensures { OnOk result (text.new.items ≡ text.old.items
+        ++ flat_map (λ t. front policy.now event.now event.now.level ++ t
+        ++ codes "\n") (table_texts (site_under policy.now schemes.now) event.now.command tuples.now)) }
 {
     match &event.command {
         Command::View { rel, label } => {
@@ -334,8 +346,9 @@ pub(crate) fn table_bytes(
     requires level { event.now.level < length policy.now.labels }
     requires command { CommandIsKnown (site_under policy.now schemes.now) event.now.command }
     requires classes { AllByRecursion (HasClassesBelow (length policy.now.labels)) tuples.now }
-    ensures { IfOk result (λ text. text.items ≡ flat_map (λ t. front policy.now event.now event.now.level ++ t ++ codes "\n")
-        (table_texts (site_under policy.now schemes.now) event.now.command tuples.now)) }
+    ensures { IfOk result (λ text. text.items
+        ≡ flat_map (λ t. front policy.now event.now event.now.level ++ t
+        ++ codes "\n") (table_texts (site_under policy.now schemes.now) event.now.command tuples.now)) }
 {
     let mut text = Vec::new(alloc);
     push_answer(alloc, &mut text, policy, schemes, event, tuples)?;

@@ -19,7 +19,8 @@ pub(crate) fn attribute_to(
 ) -> Result<(), AllocError>
     requires low { column.low < length policy.now.labels }
     requires high { column.high < length policy.now.labels }
-    ensures { OnOk result (string_bytes text.new ≡ string_bytes text.old ++ attribute_line policy.now word.now (attribute_named name.now column)) }
+    ensures { OnOk result (string_bytes text.new ≡ string_bytes text.old
+        ++ attribute_line policy.now word.now (attribute_named name.now column)) }
 {
     let kind = column.kind.word();
     let low = policy.name(column.low);
@@ -36,7 +37,8 @@ fn attributes_to(
     attributes: &Attributes,
 ) -> Result<(), AllocError>
     requires { AllByRecursion (IsAmongLabels (length policy.now.labels)) attributes.now }
-    ensures { OnOk result (string_bytes text.new ≡ string_bytes text.old ++ flat_map (attribute_line policy.now word.now) attributes.now) }
+    ensures { OnOk result (string_bytes text.new ≡ string_bytes text.old
+        ++ flat_map (attribute_line policy.now word.now) attributes.now) }
 {
     for place in 0..attributes.len() {
         attribute_to(
@@ -76,7 +78,8 @@ pub(crate) fn relations_to(
     relations: &[Scheme],
 ) -> Result<(), AllocError>
     requires { AreUnder (length policy.now.labels) relations.now }
-    ensures { OnOk result (string_bytes text.new ≡ string_bytes text.old ++ flat_map (relation_lines policy.now) relations.now) }
+    ensures { OnOk result (string_bytes text.new ≡ string_bytes text.old
+        ++ flat_map (relation_lines policy.now) relations.now) }
 {
     for scheme in relations {
         relation_to(text, policy, scheme)?;

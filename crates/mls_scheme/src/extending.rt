@@ -17,7 +17,8 @@ use std::alloc::{AllocError, Global};
 
 /// What comes after a line that begins the text.
 fn after_line<'a>(text: &'a [u8], line: &str) -> Option<&'a [u8]>
-    ensures { MatchOption result ((more : List ℕ) → text.now ≢ line.now ++ more) (λ rest. text.now ≡ line.now ++ rest.now) }
+    ensures { MatchOption result ((more : List ℕ)
+        → text.now ≢ line.now ++ more) (λ rest. text.now ≡ line.now ++ rest.now) }
 {
     text.strip_prefix(line.as_bytes())
 }
@@ -42,7 +43,8 @@ fn attributes_before<'a>(
     text: &'a [u8],
 ) -> Result<(usize, &'a [u8]), AllocError>
     requires { AllByRecursion (IsAmongLabels (length policy.now.labels)) attributes.now }
-    ensures { IfOk result (λ r. BeginWith (attribute_line policy.now (codes "attribute")) attributes.now text.now r.0 r.1.now) }
+    ensures { IfOk result (λ r. BeginWith (attribute_line policy.now (codes "attribute")) attributes.now text.now r.0
+        r.1.now) }
 {
     let mut rest = text;
     for place in 0..attributes.len() {
@@ -63,7 +65,8 @@ fn contains(policy: &Policy, attribute: Column, low: LabelNo, high: LabelNo) -> 
     requires attribute_high { attribute.high < length policy.now.labels }
     requires low { low < length policy.now.labels }
     requires high { high < length policy.now.labels }
-    ensures { (result ≡ true) ↔ ((below (labels_of policy.now) attribute.low low ≡ true) × (below (labels_of policy.now) high attribute.high ≡ true)) }
+    ensures { (result ≡ true) ↔ ((below (labels_of policy.now) attribute.low low ≡ true)
+        × (below (labels_of policy.now) high attribute.high ≡ true)) }
 {
     policy.dominates(low, attribute.low) && policy.dominates(attribute.high, high)
 }
@@ -107,9 +110,8 @@ fn relation_before<'a>(
 ) -> Result<Option<(usize, &'a [u8])>, AllocError>
     requires { IsUnder (length policy.now.labels) scheme.now }
     ensures found { IfOk result (λ o. IfSome o (λ r. BeginsWith policy.now scheme.now text.now r.0 r.1.now)) }
-    ensures only { IfOk result
-        (λ o. (n : ℕ) (rest : List ℕ) → IsPastAttributes policy.now rest → BeginsWith policy.now scheme.now text.now n rest →
-        IsSomeAnd o (λ r. (r.0 ≡ n) × (r.1.now ≡ rest))) }
+    ensures only { IfOk result (λ o. (n : ℕ) (rest : List ℕ) → IsPastAttributes policy.now rest
+        → BeginsWith policy.now scheme.now text.now n rest → IsSomeAnd o (λ r. (r.0 ≡ n) × (r.1.now ≡ rest))) }
 {
     let mut head = String::new(alloc);
     head_to(&mut head, policy, scheme)?;
@@ -133,7 +135,8 @@ pub(crate) fn relations_before(
 ) -> Result<Option<Vec<usize>>, AllocError>
     requires { AreUnder (length policy.now.labels) relations.now }
     ensures found { IfOk result (λ o. IfSome o (λ counts. AreLines policy.now relations.now text.now counts.items)) }
-    ensures none { IfOk result (λ o. o ≡ None → (counts : List ℕ) → AreLines policy.now relations.now text.now counts → ⊥) }
+    ensures none { IfOk result (λ o. o ≡ None → (counts : List ℕ) → AreLines policy.now relations.now text.now counts
+        → ⊥) }
 {
     let mut counts = Vec::new(alloc);
     let mut rest = text;

@@ -34,12 +34,12 @@ impl SchemesFile {
         ensures under { IfOk result (λ f. AreUnder (length policy.now.labels) f.schemes) }
         ensures intervals { IfOk result (λ f. HaveIntervals (labels_of policy.now) f.schemes) }
         // Unless memory runs out, nothing that says schemes is refused, and the fault is the first of the document.
-        ensures refused { IfErr result
-            (λ e. e ≢ SchemeFault.Memory → (v : FileVersion) (s : List Relation) → ReadsSchemes policy.now bytes.now v s → ⊥) }
-        ensures first { IfErr result
-            (λ e. e ≢ SchemeFault.Memory → (document : Members) → IsDocument bytes.now document → schemes_at policy.now document ≡ Err e) }
-        ensures not_toml { IfErr result
-            (λ e. e ≢ SchemeFault.Memory → (e ≡ SchemeFault.NotToml) ↔ ((document : Members) → IsDocument bytes.now document → ⊥)) }
+        ensures refused { IfErr result (λ e. e ≢ SchemeFault.Memory → (v : FileVersion) (s : List Relation)
+            → ReadsSchemes policy.now bytes.now v s → ⊥) }
+        ensures first { IfErr result (λ e. e ≢ SchemeFault.Memory → (document : Members)
+            → IsDocument bytes.now document → schemes_at policy.now document ≡ Err e) }
+        ensures not_toml { IfErr result (λ e. e ≢ SchemeFault.Memory
+            → (e ≡ SchemeFault.NotToml) ↔ ((document : Members) → IsDocument bytes.now document → ⊥)) }
     {
         match toml::table_from_slice(alloc, bytes) {
             Ok(document) => schemes_of(alloc, policy, &document),

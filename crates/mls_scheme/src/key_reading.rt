@@ -122,7 +122,8 @@ pub fn value_of(alloc: Global, bytes: &[u8]) -> Result<(Value, usize), KeyFault>
     // So many bytes it took.
     ensures taken { IfOk result (λ x. x.1 ≡ length (value_spelling x.0)) }
     // What is spelled so is read, unless memory runs out.
-    ensures only { (v : SpecValue) (rest : List ℕ) → HasSpelling v → bytes.now ≡ value_spelling v ++ rest → Gives (λ x. x) result (Ok (v, length (value_spelling v))) }
+    ensures only { (v : SpecValue) (rest : List ℕ) → HasSpelling v → bytes.now ≡ value_spelling v ++ rest
+        → Gives (λ x. x) result (Ok (v, length (value_spelling v))) }
     // Which fault it is.
     ensures exact { Gives (λ x. (x.0, drop x.1 bytes.now)) result (value_at bytes.now) }
 {
@@ -134,7 +135,8 @@ pub fn key_of(alloc: Global, bytes: &[u8]) -> Result<Vec<Value>, KeyFault>
     // What is read is spelled so.
     ensures found { IfOk result (λ v. IsSpelledKey v.items × (bytes.now ≡ key_spelling v.items)) }
     // What is spelled so is read, unless memory runs out.
-    ensures only { (key : List SpecValue) → IsSpelledKey key → bytes.now ≡ key_spelling key → Gives (λ v. v.items) result (Ok key) }
+    ensures only { (key : List SpecValue) → IsSpelledKey key → bytes.now ≡ key_spelling key
+        → Gives (λ v. v.items) result (Ok key) }
     // Which fault it is.
     ensures exact { Gives (λ v. v.items) result (key_at bytes.now) }
 {

@@ -148,7 +148,8 @@ impl Schemes {
     ) -> Result<Option<Vec<usize>>, AllocError>
         requires { AreUnder (length policy.now.labels) self.now }
         ensures found { IfOk result (λ o. IfSome o (λ counts. Extends policy.now self.now old.now counts.items)) }
-        ensures none { IfOk result (λ o. o ≡ None → (counts : List ℕ) → Extends policy.now self.now old.now counts → ⊥) }
+        ensures none { IfOk result (λ o. o ≡ None → (counts : List ℕ) → Extends policy.now self.now old.now counts
+            → ⊥) }
     {
         match after_first(old) {
             Some(rest) => relations_before(alloc, policy, &self.relations, rest),

@@ -105,7 +105,8 @@ pub fn script(
     // What is read is what the text tells.
     ensures reads { IfOk result (λ v. ReadsScript policy.now schemes.now bytes.now v.items) }
     // Unless memory runs out, no text that tells events is refused.
-    ensures refused { IfErr result (λ e. e.cause ≢ Memory → (es : List TheEvent) → ReadsScript policy.now schemes.now bytes.now es → ⊥) }
+    ensures refused { IfErr result (λ e. e.cause ≢ Memory → (es : List TheEvent)
+        → ReadsScript policy.now schemes.now bytes.now es → ⊥) }
     // Each event keeps to the numbers and kinds of policy and schemes.
     ensures fits { IfOk result (λ v. AllByRecursion (EventFits policy.now schemes.now) v.items) }
 {

@@ -92,7 +92,8 @@ fn content(
     looked: &mut Looked,
     tokens: &mut Tokens,
 ) -> Result<(), TokenFault>
-    ensures { Reads (λ _. (looked.new, tokens.new)) result (content_at policy.now schemes.now part looked.old tokens.old) }
+    ensures { Reads (λ _. (looked.new, tokens.new)) result
+        (content_at policy.now schemes.now part looked.old tokens.old) }
 {
     match part {
         Part::Level | Part::At | Part::Class | Part::From => label(policy, part, looked, tokens),
@@ -139,7 +140,8 @@ fn parts(
     looked: &mut Looked,
     tokens: &mut Tokens,
 ) -> Result<(), TokenFault>
-    ensures { Reads (λ _. (looked.new, tokens.new)) result (parts_at policy.now schemes.now parts.now looked.old tokens.old) }
+    ensures { Reads (λ _. (looked.new, tokens.new)) result
+        (parts_at policy.now schemes.now parts.now looked.old tokens.old) }
 {
     for next in parts {
         part(alloc, policy, schemes, *next, looked, tokens)?;

@@ -60,10 +60,15 @@ pub struct AllRows {
 
 /// Every row, in a database of the four tables.
 fn read_rows<S: Alter>(conn: &mut Connection<S>, alloc: Global) -> Result<AllRows, AdoptFault>
-    ensures rows { HasCleanDisk (state S.Store conn.new) → HasTables (state S.Store conn.old).now.schema → IfOk result (λ rows. HaveRows (state S.Store conn.old).now × AreAll (tables_of (state S.Store conn.old).now.trees) rows) }
-    ensures same { HasCleanDisk (state S.Store conn.new) → HasTables (state S.Store conn.old).now.schema → OnOk result (IsUnchanged (state S.Store conn.old) (state S.Store conn.new)) }
-    ensures err { HasCleanDisk (state S.Store conn.new) → HasTables (state S.Store conn.old).now.schema → OnErr result (KeepsCommit (state S.Store conn.old) (state S.Store conn.new)) }
-    ensures bad { HasCleanDisk (state S.Store conn.new) → HasTables (state S.Store conn.old).now.schema → IfErr result (Blames (AreRead (state S.Store conn.old).now)) }
+    ensures rows { HasCleanDisk (state S.Store conn.new) → HasTables (state S.Store conn.old).now.schema
+        → IfOk result (λ rows. HaveRows (state S.Store conn.old).now
+        × AreAll (tables_of (state S.Store conn.old).now.trees) rows) }
+    ensures same { HasCleanDisk (state S.Store conn.new) → HasTables (state S.Store conn.old).now.schema
+        → OnOk result (IsUnchanged (state S.Store conn.old) (state S.Store conn.new)) }
+    ensures err { HasCleanDisk (state S.Store conn.new) → HasTables (state S.Store conn.old).now.schema
+        → OnErr result (KeepsCommit (state S.Store conn.old) (state S.Store conn.new)) }
+    ensures bad { HasCleanDisk (state S.Store conn.new) → HasTables (state S.Store conn.old).now.schema
+        → IfErr result (Blames (AreRead (state S.Store conn.old).now)) }
     ensures clean { HasCleanDisk (state S.Store conn.new) → HasCleanDisk (state S.Store conn.old) }
 {
     let nodes = whole::nodes(conn, alloc)?;
@@ -79,10 +84,15 @@ fn read_rows<S: Alter>(conn: &mut Connection<S>, alloc: Global) -> Result<AllRow
 /// The same, in one transaction.
 fn read_at_once<S: Alter>(conn: &mut Connection<S>, alloc: Global) -> Result<AllRows, AdoptFault>
     ensures open { HasCleanDisk (state S.Store conn.new) → OnOk result (IsTrue (state S.Store conn.old).is_open) }
-    ensures rows { HasCleanDisk (state S.Store conn.new) → HasTables (state S.Store conn.old).now.schema → IfOk result (λ rows. HaveRows (state S.Store conn.old).now × AreAll (tables_of (state S.Store conn.old).now.trees) rows) }
-    ensures read { HasCleanDisk (state S.Store conn.new) → HasTables (state S.Store conn.old).now.schema → OnOk result (HasRead (state S.Store conn.old) (state S.Store conn.new)) }
-    ensures err { HasCleanDisk (state S.Store conn.new) → HasTables (state S.Store conn.old).now.schema → OnErr result (KeepsCommit (state S.Store conn.old) (state S.Store conn.new)) }
-    ensures bad { HasCleanDisk (state S.Store conn.new) → HasTables (state S.Store conn.old).now.schema → IfErr result (Blames (AreRead (state S.Store conn.old).now)) }
+    ensures rows { HasCleanDisk (state S.Store conn.new) → HasTables (state S.Store conn.old).now.schema
+        → IfOk result (λ rows. HaveRows (state S.Store conn.old).now
+        × AreAll (tables_of (state S.Store conn.old).now.trees) rows) }
+    ensures read { HasCleanDisk (state S.Store conn.new) → HasTables (state S.Store conn.old).now.schema
+        → OnOk result (HasRead (state S.Store conn.old) (state S.Store conn.new)) }
+    ensures err { HasCleanDisk (state S.Store conn.new) → HasTables (state S.Store conn.old).now.schema
+        → OnErr result (KeepsCommit (state S.Store conn.old) (state S.Store conn.new)) }
+    ensures bad { HasCleanDisk (state S.Store conn.new) → HasTables (state S.Store conn.old).now.schema
+        → IfErr result (Blames (AreRead (state S.Store conn.old).now)) }
     ensures clean { HasCleanDisk (state S.Store conn.new) → HasCleanDisk (state S.Store conn.old) }
 {
     change::begin(conn).map_err(AdoptFault::of_store)?;
@@ -95,10 +105,15 @@ fn read_at_once<S: Alter>(conn: &mut Connection<S>, alloc: Global) -> Result<All
 fn read_database<S: Alter>(conn: &mut Connection<S>, alloc: Global) -> Result<AllRows, AdoptFault>
     ensures schema { OnOk result (HasTables (state S.Store conn.old).now.schema) }
     ensures open { HasCleanDisk (state S.Store conn.new) → OnOk result (IsTrue (state S.Store conn.old).is_open) }
-    ensures rows { HasCleanDisk (state S.Store conn.new) → IfOk result (λ rows. HaveRows (state S.Store conn.old).now × AreAll (tables_of (state S.Store conn.old).now.trees) rows) }
-    ensures read { HasCleanDisk (state S.Store conn.new) → OnOk result (HasRead (state S.Store conn.old) (state S.Store conn.new)) }
-    ensures err { HasCleanDisk (state S.Store conn.new) → OnErr result (KeepsCommit (state S.Store conn.old) (state S.Store conn.new)) }
-    ensures bad { HasCleanDisk (state S.Store conn.new) → IfErr result (Blames (HasReadRows (state S.Store conn.old).now)) }
+    ensures rows { HasCleanDisk (state S.Store conn.new)
+        → IfOk result (λ rows. HaveRows (state S.Store conn.old).now
+        × AreAll (tables_of (state S.Store conn.old).now.trees) rows) }
+    ensures read { HasCleanDisk (state S.Store conn.new)
+        → OnOk result (HasRead (state S.Store conn.old) (state S.Store conn.new)) }
+    ensures err { HasCleanDisk (state S.Store conn.new)
+        → OnErr result (KeepsCommit (state S.Store conn.old) (state S.Store conn.new)) }
+    ensures bad { HasCleanDisk (state S.Store conn.new)
+        → IfErr result (Blames (HasReadRows (state S.Store conn.old).now)) }
     ensures clean { HasCleanDisk (state S.Store conn.new) → HasCleanDisk (state S.Store conn.old) }
 {
     if !has_tables(conn) {
@@ -110,12 +125,16 @@ fn read_database<S: Alter>(conn: &mut Connection<S>, alloc: Global) -> Result<Al
 /// Every row of nodes, cells and entries of a store that one row describes, read in one transaction. No transaction is begun
 /// afterwards.
 pub fn read_store<S: Alter>(conn: &mut Connection<S>, alloc: Global) -> Result<AllRows, AdoptFault>
-    requires described { HasCleanDisk (state S.Store conn.old) → AreRows is_meta_row ((state S.Store conn.old).now.trees 5) }
+    requires described { HasCleanDisk (state S.Store conn.old)
+        → AreRows is_meta_row ((state S.Store conn.old).now.trees 5) }
     ensures schema { OnOk result (HasTables (state S.Store conn.old).now.schema) }
     ensures open { HasCleanDisk (state S.Store conn.new) → OnOk result (IsTrue (state S.Store conn.old).is_open) }
-    ensures adopted { HasCleanDisk (state S.Store conn.new) → IfOk result (IsAdopted (state S.Store conn.old) (state S.Store conn.new)) }
-    ensures ended { HasCleanDisk (state S.Store conn.new) → OnErr result (HasEnded (state S.Store conn.old) (state S.Store conn.new)) }
-    ensures bad { HasCleanDisk (state S.Store conn.new) → IfErr result (Blames (HasReadRows (state S.Store conn.old).now)) }
+    ensures adopted { HasCleanDisk (state S.Store conn.new)
+        → IfOk result (IsAdopted (state S.Store conn.old) (state S.Store conn.new)) }
+    ensures ended { HasCleanDisk (state S.Store conn.new)
+        → OnErr result (HasEnded (state S.Store conn.old) (state S.Store conn.new)) }
+    ensures bad { HasCleanDisk (state S.Store conn.new)
+        → IfErr result (Blames (HasReadRows (state S.Store conn.old).now)) }
     ensures clean { HasCleanDisk (state S.Store conn.new) → HasCleanDisk (state S.Store conn.old) }
 {
     match read_database(conn, alloc) {
@@ -133,10 +152,14 @@ fn describe_at_once<S: Alter>(
     alloc: Global,
 ) -> Result<MetaRow, AdoptFault>
     ensures open { HasCleanDisk (state S.Store conn.new) → OnOk result (IsTrue (state S.Store conn.old).is_open) }
-    ensures described { HasCleanDisk (state S.Store conn.new) → HasTables (state S.Store conn.old).now.schema → IfOk result (λ m. IsDescribed m (state S.Store conn.old).now) }
-    ensures read { HasCleanDisk (state S.Store conn.new) → HasTables (state S.Store conn.old).now.schema → OnOk result (HasRead (state S.Store conn.old) (state S.Store conn.new)) }
-    ensures err { HasCleanDisk (state S.Store conn.new) → HasTables (state S.Store conn.old).now.schema → OnErr result (KeepsCommit (state S.Store conn.old) (state S.Store conn.new)) }
-    ensures bad { HasCleanDisk (state S.Store conn.new) → HasTables (state S.Store conn.old).now.schema → IfErr result (Blames (IsReadDescription (state S.Store conn.old).now)) }
+    ensures described { HasCleanDisk (state S.Store conn.new) → HasTables (state S.Store conn.old).now.schema
+        → IfOk result (λ m. IsDescribed m (state S.Store conn.old).now) }
+    ensures read { HasCleanDisk (state S.Store conn.new) → HasTables (state S.Store conn.old).now.schema
+        → OnOk result (HasRead (state S.Store conn.old) (state S.Store conn.new)) }
+    ensures err { HasCleanDisk (state S.Store conn.new) → HasTables (state S.Store conn.old).now.schema
+        → OnErr result (KeepsCommit (state S.Store conn.old) (state S.Store conn.new)) }
+    ensures bad { HasCleanDisk (state S.Store conn.new) → HasTables (state S.Store conn.old).now.schema
+        → IfErr result (Blames (IsReadDescription (state S.Store conn.old).now)) }
     ensures clean { HasCleanDisk (state S.Store conn.new) → HasCleanDisk (state S.Store conn.old) }
 {
     change::begin(conn).map_err(AdoptFault::of_store)?;
@@ -152,10 +175,14 @@ fn describe_database<S: Alter>(
 ) -> Result<MetaRow, AdoptFault>
     ensures schema { OnOk result (HasTables (state S.Store conn.old).now.schema) }
     ensures open { HasCleanDisk (state S.Store conn.new) → OnOk result (IsTrue (state S.Store conn.old).is_open) }
-    ensures described { HasCleanDisk (state S.Store conn.new) → IfOk result (λ m. IsDescribed m (state S.Store conn.old).now) }
-    ensures read { HasCleanDisk (state S.Store conn.new) → OnOk result (HasRead (state S.Store conn.old) (state S.Store conn.new)) }
-    ensures err { HasCleanDisk (state S.Store conn.new) → OnErr result (KeepsCommit (state S.Store conn.old) (state S.Store conn.new)) }
-    ensures bad { HasCleanDisk (state S.Store conn.new) → IfErr result (Blames (HasDescription (state S.Store conn.old).now)) }
+    ensures described { HasCleanDisk (state S.Store conn.new)
+        → IfOk result (λ m. IsDescribed m (state S.Store conn.old).now) }
+    ensures read { HasCleanDisk (state S.Store conn.new)
+        → OnOk result (HasRead (state S.Store conn.old) (state S.Store conn.new)) }
+    ensures err { HasCleanDisk (state S.Store conn.new)
+        → OnErr result (KeepsCommit (state S.Store conn.old) (state S.Store conn.new)) }
+    ensures bad { HasCleanDisk (state S.Store conn.new)
+        → IfErr result (Blames (HasDescription (state S.Store conn.old).now)) }
     ensures clean { HasCleanDisk (state S.Store conn.new) → HasCleanDisk (state S.Store conn.old) }
 {
     if !has_tables(conn) {
@@ -172,10 +199,14 @@ pub fn read_description<S: Alter>(
 ) -> Result<MetaRow, AdoptFault>
     ensures schema { OnOk result (HasTables (state S.Store conn.old).now.schema) }
     ensures open { HasCleanDisk (state S.Store conn.new) → OnOk result (IsTrue (state S.Store conn.old).is_open) }
-    ensures described { HasCleanDisk (state S.Store conn.new) → IfOk result (λ m. IsDescribed m (state S.Store conn.old).now) }
-    ensures read { HasCleanDisk (state S.Store conn.new) → OnOk result (HasRead (state S.Store conn.old) (state S.Store conn.new)) }
-    ensures ended { HasCleanDisk (state S.Store conn.new) → OnErr result (HasEnded (state S.Store conn.old) (state S.Store conn.new)) }
-    ensures bad { HasCleanDisk (state S.Store conn.new) → IfErr result (Blames (HasDescription (state S.Store conn.old).now)) }
+    ensures described { HasCleanDisk (state S.Store conn.new)
+        → IfOk result (λ m. IsDescribed m (state S.Store conn.old).now) }
+    ensures read { HasCleanDisk (state S.Store conn.new)
+        → OnOk result (HasRead (state S.Store conn.old) (state S.Store conn.new)) }
+    ensures ended { HasCleanDisk (state S.Store conn.new)
+        → OnErr result (HasEnded (state S.Store conn.old) (state S.Store conn.new)) }
+    ensures bad { HasCleanDisk (state S.Store conn.new)
+        → IfErr result (Blames (HasDescription (state S.Store conn.old).now)) }
     ensures clean { HasCleanDisk (state S.Store conn.new) → HasCleanDisk (state S.Store conn.old) }
 {
     match describe_database(conn, alloc) {

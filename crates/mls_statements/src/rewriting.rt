@@ -13,8 +13,10 @@ use sqlite::{Alter, Connection, Error};
 
 /// Drops every node, every cell and the row that describes the store, in a change.
 fn clear<S: Alter>(conn: &mut Connection<S>) -> Result<(), Error>
-    ensures cleared { HasCleanDisk (state S.Store conn.new) → IsWithin (state S.Store conn.old) → OnOk result (GoesOn ClearsStore (state S.Store conn.old) (state S.Store conn.new)) }
-    ensures err { HasCleanDisk (state S.Store conn.new) → IsWithin (state S.Store conn.old) → OnErr result (KeepsCommit (state S.Store conn.old) (state S.Store conn.new)) }
+    ensures cleared { HasCleanDisk (state S.Store conn.new) → IsWithin (state S.Store conn.old)
+        → OnOk result (GoesOn ClearsStore (state S.Store conn.old) (state S.Store conn.new)) }
+    ensures err { HasCleanDisk (state S.Store conn.new) → IsWithin (state S.Store conn.old)
+        → OnErr result (KeepsCommit (state S.Store conn.old) (state S.Store conn.new)) }
     ensures clean { HasCleanDisk (state S.Store conn.new) → HasCleanDisk (state S.Store conn.old) }
 {
     node::clear_nodes(conn)?;
@@ -32,8 +34,11 @@ fn replace<S: Alter>(
     lattice: &str,
     schemes: &str,
 ) -> Result<(), Error>
-    ensures replaced { HasCleanDisk (state S.Store conn.new) → IsWithin (state S.Store conn.old) → OnOk result (GoesOn (Rewrites nodes.now cells.now version lattice.now schemes.now) (state S.Store conn.old) (state S.Store conn.new)) }
-    ensures err { HasCleanDisk (state S.Store conn.new) → IsWithin (state S.Store conn.old) → OnErr result (KeepsCommit (state S.Store conn.old) (state S.Store conn.new)) }
+    ensures replaced { HasCleanDisk (state S.Store conn.new) → IsWithin (state S.Store conn.old)
+        → OnOk result (GoesOn (Rewrites nodes.now cells.now version lattice.now schemes.now) (state S.Store conn.old)
+        (state S.Store conn.new)) }
+    ensures err { HasCleanDisk (state S.Store conn.new) → IsWithin (state S.Store conn.old)
+        → OnErr result (KeepsCommit (state S.Store conn.old) (state S.Store conn.new)) }
     ensures clean { HasCleanDisk (state S.Store conn.new) → HasCleanDisk (state S.Store conn.old) }
 {
     clear(conn)?;
@@ -51,8 +56,11 @@ fn replace_at_once<S: Alter>(
     lattice: &str,
     schemes: &str,
 ) -> Result<usize, Error>
-    ensures rewritten { HasCleanDisk (state S.Store conn.new) → HasSettled (state S.Store conn.old) → OnOk result (IsRewritten nodes.now cells.now version lattice.now schemes.now (state S.Store conn.old) (state S.Store conn.new)) }
-    ensures err { HasCleanDisk (state S.Store conn.new) → HasSettled (state S.Store conn.old) → OnErr result (KeepsCommit (state S.Store conn.old) (state S.Store conn.new)) }
+    ensures rewritten { HasCleanDisk (state S.Store conn.new) → HasSettled (state S.Store conn.old)
+        → OnOk result (IsRewritten nodes.now cells.now version lattice.now schemes.now (state S.Store conn.old)
+        (state S.Store conn.new)) }
+    ensures err { HasCleanDisk (state S.Store conn.new) → HasSettled (state S.Store conn.old)
+        → OnErr result (KeepsCommit (state S.Store conn.old) (state S.Store conn.new)) }
     ensures clean { HasCleanDisk (state S.Store conn.new) → HasCleanDisk (state S.Store conn.old) }
 {
     change::begin(conn)?;
@@ -71,8 +79,11 @@ pub fn rewrite_store<S: Alter>(
     schemes: &str,
 ) -> Result<(), StoreFault>
     requires tables { HasCleanDisk (state S.Store conn.old) → HasSettled (state S.Store conn.old) }
-    ensures rewritten { HasCleanDisk (state S.Store conn.new) → OnOk result (IsRewritten nodes.now cells.now version lattice.now schemes.now (state S.Store conn.old) (state S.Store conn.new)) }
-    ensures ended { HasCleanDisk (state S.Store conn.new) → OnErr result (HasEnded (state S.Store conn.old) (state S.Store conn.new)) }
+    ensures rewritten { HasCleanDisk (state S.Store conn.new)
+        → OnOk result (IsRewritten nodes.now cells.now version lattice.now schemes.now (state S.Store conn.old)
+        (state S.Store conn.new)) }
+    ensures ended { HasCleanDisk (state S.Store conn.new)
+        → OnErr result (HasEnded (state S.Store conn.old) (state S.Store conn.new)) }
     ensures clean { HasCleanDisk (state S.Store conn.new) → HasCleanDisk (state S.Store conn.old) }
 {
     match replace_at_once(conn, nodes, cells, version, lattice, schemes) {

@@ -118,10 +118,12 @@ impl<S: Alter> TableStore<S> {
         schemes: &str,
     ) -> Result<TableStore<S>, (StoreFault, Connection<S>)>
         requires nothing { HasCleanDisk (state S.Store conn) → (state S.Store conn).now.schema ≡ no_schema }
-        ensures made { IfOk result (λ t. IsClean t → (t.now ≡ described version lattice.now schemes.now) × (t.kept ≡ t.now)) }
+        ensures made { IfOk result (λ t. IsClean t
+            → (t.now ≡ described version lattice.now schemes.now) × (t.kept ≡ t.now)) }
         ensures mode { IfOk result (λ t. t.begun ≡ false) }
         ensures clean { IfOk result (λ t. IsClean t → HasCleanDisk (state S.Store conn)) }
-        ensures refused { IfErr result (λ e. HasCleanDisk (state S.Store e.1) → HasCleanDisk (state S.Store conn) × HasEnded (state S.Store conn) (state S.Store e.1)) }
+        ensures refused { IfErr result (λ e. HasCleanDisk (state S.Store e.1)
+            → HasCleanDisk (state S.Store conn) × HasEnded (state S.Store conn) (state S.Store e.1)) }
     {
         match creation::create_store(&mut conn, version, lattice, schemes) {
             Ok(_) => Ok(TableStore::over(alloc, conn)),
@@ -132,7 +134,8 @@ impl<S: Alter> TableStore<S> {
     /// The four tables that a connection has committed.
     pub fn over(alloc: Global, conn: Connection<S>) -> TableStore<S>
         requires tables { HasCleanDisk (state S.Store conn) → HasSettled (state S.Store conn) }
-        ensures rows { IsClean result → (result.now ≡ tables_of (state S.Store conn).now.trees) × (result.kept ≡ result.now) }
+        ensures rows { IsClean result → (result.now ≡ tables_of (state S.Store conn).now.trees)
+            × (result.kept ≡ result.now) }
         ensures mode { result.begun ≡ false }
         ensures clean { IsClean result → HasCleanDisk (state S.Store conn) }
     {
@@ -151,8 +154,10 @@ impl<S: Alter> TableStore<S> {
     pub fn into_connection(self) -> Connection<S>
         requires begun { self.begun ≡ false }
         ensures clean { HasCleanDisk (state S.Store result) → IsClean self }
-        ensures mode { HasCleanDisk (state S.Store result) → IsTrue (state S.Store result).is_open → (state S.Store result).in_transaction ≡ false }
-        ensures rows { HasCleanDisk (state S.Store result) → IsTrue (state S.Store result).is_open → IsReady (state S.Store result).now × (tables_of (state S.Store result).now.trees ≡ self.now) }
+        ensures mode { HasCleanDisk (state S.Store result) → IsTrue (state S.Store result).is_open
+            → (state S.Store result).in_transaction ≡ false }
+        ensures rows { HasCleanDisk (state S.Store result) → IsTrue (state S.Store result).is_open
+            → IsReady (state S.Store result).now × (tables_of (state S.Store result).now.trees ≡ self.now) }
     {
         let TableStore {
             conn,
@@ -230,7 +235,8 @@ impl<S: Alter> TableStore<S> {
         requires begun { self.old.begun ≡ true }
         ensures call { IsCall self.old self.new result }
         ensures mode { OnOk result (self.new.begun ≡ false) }
-        ensures done { IsClean self.new → OnOk result ((self.new.now ≡ self.old.kept) × (self.new.kept ≡ self.old.kept)) }
+        ensures done { IsClean self.new → OnOk result ((self.new.now ≡ self.old.kept)
+            × (self.new.kept ≡ self.old.kept)) }
     {
         self.begun = false;
         match change::end(&mut self.conn) {
@@ -275,7 +281,8 @@ impl<S: Alter> TableStore<S> {
     pub fn nodes_at(&mut self, rel: u32, label: u32) -> Result<Vec<NodeRow>, StoreFault>
         ensures call { IsCall self.old self.new result }
         ensures mode { OnOk result (self.new.begun ≡ self.old.begun) }
-        ensures found { IsClean self.new → IfOk result (λ rows. IsPermutation (filter (is_node_at rel label) self.old.now.nodes) rows.items) }
+        ensures found { IsClean self.new → IfOk result
+            (λ rows. IsPermutation (filter (is_node_at rel label) self.old.now.nodes) rows.items) }
         ensures same { IsClean self.new → OnOk result (IsSame self.old self.new) }
     {
         match node::read_nodes_at(&mut self.conn, self.alloc, rel, label) {
@@ -294,7 +301,8 @@ impl<S: Alter> TableStore<S> {
     ) -> Result<Vec<NodeRow>, StoreFault>
         ensures call { IsCall self.old self.new result }
         ensures mode { OnOk result (self.new.begun ≡ self.old.begun) }
-        ensures found { IsClean self.new → IfOk result (λ rows. IsPermutation (filter (is_node rel ent.now kclass label) self.old.now.nodes) rows.items) }
+        ensures found { IsClean self.new → IfOk result
+            (λ rows. IsPermutation (filter (is_node rel ent.now kclass label) self.old.now.nodes) rows.items) }
         ensures same { IsClean self.new → OnOk result (IsSame self.old self.new) }
     {
         match node::read_nodes_of(&mut self.conn, self.alloc, rel, ent, kclass, label) {
@@ -313,7 +321,9 @@ impl<S: Alter> TableStore<S> {
     ) -> Result<Vec<Items<u8>>, StoreFault>
         ensures call { IsCall self.old self.new result }
         ensures mode { OnOk result (self.new.begun ≡ self.old.begun) }
-        ensures found { IsClean self.new → IfOk result (λ patterns. IsPermutation (map (λ n. n.pattern) (filter (is_node rel ent.now kclass label) self.old.now.nodes)) patterns.items) }
+        ensures found { IsClean self.new → IfOk result
+            (λ patterns. IsPermutation (map (λ n. n.pattern)
+            (filter (is_node rel ent.now kclass label) self.old.now.nodes)) patterns.items) }
         ensures same { IsClean self.new → OnOk result (IsSame self.old self.new) }
     {
         match node::read_patterns_of(&mut self.conn, self.alloc, rel, ent, kclass, label) {
@@ -327,7 +337,8 @@ impl<S: Alter> TableStore<S> {
         requires begun { self.old.begun ≡ true }
         ensures call { IsCall self.old self.new result }
         ensures mode { OnOk result (self.new.begun ≡ true) }
-        ensures done { IsClean self.new → OnOk result (Writes (AddsCells (map (cell_beside node.now) cells.now)) self.old self.new) }
+        ensures done { IsClean self.new → OnOk result
+            (Writes (AddsCells (map (cell_beside node.now) cells.now)) self.old self.new) }
     {
         match cell::add_own(&mut self.conn, self.alloc, node, cells) {
             Ok(()) => Ok(()),
@@ -372,7 +383,8 @@ impl<S: Alter> TableStore<S> {
     pub fn cells_at(&mut self, rel: u32, label: u32) -> Result<Vec<CellRow>, StoreFault>
         ensures call { IsCall self.old self.new result }
         ensures mode { OnOk result (self.new.begun ≡ self.old.begun) }
-        ensures found { IsClean self.new → IfOk result (λ rows. IsPermutation (filter (is_cell_at rel label) self.old.now.cells) rows.items) }
+        ensures found { IsClean self.new → IfOk result
+            (λ rows. IsPermutation (filter (is_cell_at rel label) self.old.now.cells) rows.items) }
         ensures same { IsClean self.new → OnOk result (IsSame self.old self.new) }
     {
         match cell::read_cells_at(&mut self.conn, self.alloc, rel, label) {
@@ -391,7 +403,8 @@ impl<S: Alter> TableStore<S> {
     ) -> Result<Vec<CellRow>, StoreFault>
         ensures call { IsCall self.old self.new result }
         ensures mode { OnOk result (self.new.begun ≡ self.old.begun) }
-        ensures found { IsClean self.new → IfOk result (λ rows. IsPermutation (filter (is_cell_in rel ent.now kclass label) self.old.now.cells) rows.items) }
+        ensures found { IsClean self.new → IfOk result
+            (λ rows. IsPermutation (filter (is_cell_in rel ent.now kclass label) self.old.now.cells) rows.items) }
         ensures same { IsClean self.new → OnOk result (IsSame self.old self.new) }
     {
         match cell::read_cells_of(&mut self.conn, self.alloc, rel, ent, kclass, label) {
@@ -417,7 +430,8 @@ impl<S: Alter> TableStore<S> {
     pub fn entries(&mut self) -> Result<Vec<AuditRow>, StoreFault>
         ensures call { IsCall self.old self.new result }
         ensures mode { OnOk result (self.new.begun ≡ self.old.begun) }
-        ensures found { IsClean self.new → (list : List (List ℕ)) → IsPermutation (numbered 1 list) self.old.now.audit → IfOk result (λ entries. entries.items ≡ numbered 1 list) }
+        ensures found { IsClean self.new → (list : List (List ℕ)) → IsPermutation (numbered 1 list) self.old.now.audit
+            → IfOk result (λ entries. entries.items ≡ numbered 1 list) }
         ensures same { IsClean self.new → OnOk result (IsSame self.old self.new) }
     {
         let rows = self.read_entries()?;

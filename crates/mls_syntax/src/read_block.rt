@@ -58,7 +58,8 @@ fn blocks(
     count: usize,
 ) -> Result<((Block, Block), usize), SyntaxFault>
     requires { count ≤ 1000 }
-    ensures exact { Gives (λ x. ((x.0.0, x.0.1), x.1, tokens.new)) result (blocks_at (stmts_at depth) count tokens.old) }
+    ensures exact { Gives (λ x. ((x.0.0, x.0.1), x.1, tokens.new)) result
+        (blocks_at (stmts_at depth) count tokens.old) }
     ensures counted { IfOk result (λ x. (count ≤ x.1) × (x.1 ≤ 1000)) }
 {
     let (one, count) = braced(alloc, tokens, depth, count)?;
@@ -129,7 +130,8 @@ fn content(
     at: usize,
 ) -> Result<(Stmt, usize), SyntaxFault>
     requires { count ≤ 1000 }
-    ensures exact { Gives (λ x. (x.0, x.1, tokens.new)) result (content_at (stmts_at depth) opening at count tokens.old) }
+    ensures exact { Gives (λ x. (x.0, x.1, tokens.new)) result
+        (content_at (stmts_at depth) opening at count tokens.old) }
     ensures counted { IfOk result (λ x. (count ≤ x.1) × (x.1 ≤ 1000)) }
 {
     match opening {

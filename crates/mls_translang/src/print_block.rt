@@ -88,7 +88,8 @@ fn if_to(
     other: &Block,
 ) -> Result<(), AllocError>
     requires own { BlockIsOwn names.now.scope (If guard.now one.now other.now End) }
-    requires fits { BlockFits names.now.policy names.now.schemes names.now.hi names.now.scope (If guard.now one.now other.now End) }
+    requires fits { BlockFits names.now.policy names.now.schemes names.now.hi names.now.scope
+        (If guard.now one.now other.now End) }
     ensures { OnOk result (out.new ≡ puts out.old (block_tokens names.now (If guard.now one.now other.now End))) }
 {
     out.word("if")?;
@@ -136,8 +137,10 @@ fn body_to(
     body: &Block,
 ) -> Result<(), AllocError>
     requires own { BlockIsOwn (in_loop names.now.scope row.now relation) body.now }
-    requires fits { BlockFits names.now.policy names.now.schemes names.now.hi (in_loop names.now.scope row.now relation) body.now }
-    ensures { OnOk result (out.new ≡ puts out.old (braced (block_tokens (at_row names.now row.now relation) body.now))) }
+    requires fits { BlockFits names.now.policy names.now.schemes names.now.hi
+        (in_loop names.now.scope row.now relation) body.now }
+    ensures { OnOk result (out.new ≡ puts out.old
+        (braced (block_tokens (at_row names.now row.now relation) body.now))) }
 {
     let rows = rows_of(alloc, row, relation, (&*names).rows)?;
     let inner = (&*names).with_rows(&rows);
@@ -154,7 +157,8 @@ fn stmt_to(
     stmt: &Stmt,
 ) -> Result<(), AllocError>
     requires own { BlockIsOwn names.now.scope (block_of (stmt.now ∷ [])) }
-    requires fits { BlockFits names.now.policy names.now.schemes names.now.hi names.now.scope (block_of (stmt.now ∷ [])) }
+    requires fits { BlockFits names.now.policy names.now.schemes names.now.hi names.now.scope
+        (block_of (stmt.now ∷ [])) }
     ensures { OnOk result (out.new ≡ puts out.old (block_tokens names.now (block_of (stmt.now ∷ [])))) }
 {
     match stmt {

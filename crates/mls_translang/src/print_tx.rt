@@ -39,7 +39,8 @@ fn params_rest_to(
     params: &Named<Parameter>,
 ) -> Result<(), AllocError>
     requires { AllByRecursion (λ p. IsLabel names.now.policy p.1.label) params.now }
-    ensures { OnOk result (out.new ≡ puts out.old (flat_map (comma_tokens (param_tokens names.now)) (drop 1 params.now))) }
+    ensures { OnOk result (out.new ≡ puts out.old
+        (flat_map (comma_tokens (param_tokens names.now)) (drop 1 params.now))) }
 {
     for place in 1..params.len() {
         out.sign(Sign::Comma)?;
@@ -120,7 +121,8 @@ fn heading_to(
 fn body_to(alloc: Global, names: &Names<'_>, out: &mut Printer, tx: &Tx) -> Result<(), AllocError>
     requires names { names.now ≡ outermost names.now.policy names.now.schemes tx.now }
     requires read { IsReadUnder names.now.policy names.now.schemes tx.now }
-    ensures { OnOk result (out.new ≡ puts out.old (braced (flat_map var_tokens tx.now.vars ++ block_tokens names.now tx.now.body))) }
+    ensures { OnOk result (out.new ≡ puts out.old (braced (flat_map var_tokens tx.now.vars
+        ++ block_tokens names.now tx.now.body))) }
 {
     out.sign(Sign::LeftBrace)?;
     vars_to(out, tx.vars())?;

@@ -75,7 +75,8 @@ pub(crate) fn insert_to(
     requires key { AllByRecursion (ExprFits names.now.schemes names.now.scope) key.now }
     requires own_values { AllByRecursion (IsOwn names.now.scope) values.now }
     requires values { AllByRecursion (ExprFits names.now.schemes names.now.scope) values.now }
-    ensures { OnOk result (out.new ≡ puts out.old (write_tokens names.now relation at outcome (Inserting key.now values.now))) }
+    ensures { OnOk result (out.new ≡ puts out.old
+        (write_tokens names.now relation at outcome (Inserting key.now values.now))) }
 {
     head_to(names, out, "insert", relation, key)?;
     out.word("values")?;
@@ -100,7 +101,8 @@ pub(crate) fn delete_to(
     requires outcome { IfSome outcome (λ x. x < length names.now.scope.vars) }
     requires own_key { AllByRecursion (IsOwn names.now.scope) key.now }
     requires key { AllByRecursion (ExprFits names.now.schemes names.now.scope) key.now }
-    ensures { OnOk result (out.new ≡ puts out.old (write_tokens names.now relation at outcome (Deleting key.now key_class))) }
+    ensures { OnOk result (out.new ≡ puts out.old
+        (write_tokens names.now relation at outcome (Deleting key.now key_class))) }
 {
     head_to(names, out, "delete", relation, key)?;
     label_to(names, out, "class", key_class)?;
@@ -134,8 +136,10 @@ fn set_rest_to(
     sets: &[(u8, Expr)],
 ) -> Result<(), AllocError>
     requires own { AllByRecursion (λ x. IsOwn names.now.scope x.1) sets.now }
-    requires fits { AllByRecursion (λ x. (x.0 < length scheme.now.others) × ExprFits names.now.schemes names.now.scope x.1) sets.now }
-    ensures { OnOk result (out.new ≡ puts out.old (flat_map (comma_tokens (set_tokens names.now scheme.now)) sets.now)) }
+    requires fits { AllByRecursion (λ x. (x.0 < length scheme.now.others)
+        × ExprFits names.now.schemes names.now.scope x.1) sets.now }
+    ensures { OnOk result (out.new ≡ puts out.old
+        (flat_map (comma_tokens (set_tokens names.now scheme.now)) sets.now)) }
 {
     for set in sets {
         out.sign(Sign::Comma)?;
@@ -153,7 +157,8 @@ fn sets_to(
     sets: &[(u8, Expr)],
 ) -> Result<(), AllocError>
     requires own { AllByRecursion (λ x. IsOwn names.now.scope x.1) sets.now }
-    requires fits { AllByRecursion (λ x. (x.0 < length scheme.now.others) × ExprFits names.now.schemes names.now.scope x.1) sets.now }
+    requires fits { AllByRecursion (λ x. (x.0 < length scheme.now.others)
+        × ExprFits names.now.schemes names.now.scope x.1) sets.now }
     ensures { OnOk result (out.new ≡ puts out.old (separated (set_tokens names.now scheme.now) sets.now)) }
 {
     match sets {
@@ -197,7 +202,8 @@ fn update_end_to(
     requires relation { relation < length names.now.schemes }
     requires outcome { IfSome outcome (λ x. x < length names.now.scope.vars) }
     requires own_sets { AllByRecursion (λ x. IsOwn names.now.scope x.1) sets.now }
-    requires sets { AllByRecursion (λ x. (x.0 < length (scheme_of names.now.schemes relation).others) × ExprFits names.now.schemes names.now.scope x.1) sets.now }
+    requires sets { AllByRecursion (λ x. (x.0 < length (scheme_of names.now.schemes relation).others)
+        × ExprFits names.now.schemes names.now.scope x.1) sets.now }
     ensures { OnOk result (out.new ≡ puts out.old (update_end names.now relation sets.now outcome)) }
 {
     let scheme = names.scheme(relation);
@@ -225,8 +231,10 @@ pub(crate) fn update_to(
     requires own_key { AllByRecursion (IsOwn names.now.scope) key.now }
     requires key { AllByRecursion (ExprFits names.now.schemes names.now.scope) key.now }
     requires own_sets { AllByRecursion (λ x. IsOwn names.now.scope x.1) sets.now }
-    requires sets { AllByRecursion (λ x. (x.0 < length (scheme_of names.now.schemes relation).others) × ExprFits names.now.schemes names.now.scope x.1) sets.now }
-    ensures { OnOk result (out.new ≡ puts out.old (write_tokens names.now relation classes.2 outcome (Updating key.now classes.0 classes.1 sets.now))) }
+    requires sets { AllByRecursion (λ x. (x.0 < length (scheme_of names.now.schemes relation).others)
+        × ExprFits names.now.schemes names.now.scope x.1) sets.now }
+    ensures { OnOk result (out.new ≡ puts out.old
+        (write_tokens names.now relation classes.2 outcome (Updating key.now classes.0 classes.1 sets.now))) }
 {
     head_to(names, out, "update", relation, key)?;
     classes_to(names, out, classes.0, classes.1, classes.2)?;

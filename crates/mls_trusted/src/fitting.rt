@@ -66,8 +66,8 @@ fn are_of_kinds(scheme: &Scheme, rows: &[Tuple]) -> bool
     true
 }
 
-/// What a level sees of a relation, from the views that are kept where it is among them. Only a store that does not give back what was written to it can give values of other
-/// kinds: then there are no rows.
+/// What a level sees of a relation, from the views that are kept where it is among them. Only a store that does not give back what was
+/// written to it can give values of other kinds: then there are no rows.
 pub(crate) fn rows_at<B: Base>(
     call: &Call<'_>,
     base: &mut B,

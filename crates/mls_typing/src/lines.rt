@@ -77,7 +77,8 @@ fn skip_from<R: Read>(input: &mut R) -> Result<bool, TypingFault>
 
 /// The next line, and whether the end came behind it.
 fn typed_from<R: Read>(alloc: Global, input: &mut R) -> Result<(Typed, bool), TypingFault>
-    ensures typed { IfOk result (λ t. IsTyped (λ _. []) (R.remaining input.old) (left_of t.1 (R.remaining input.new)) None None t.0) }
+    ensures typed { IfOk result (λ t. IsTyped (λ _. []) (R.remaining input.old)
+        (left_of t.1 (R.remaining input.new)) None None t.0) }
     ensures lost { OnErr result (IsTaken (R.remaining input.old) (R.remaining input.new)) }
 {
     match part_from(alloc, input)? {

@@ -16,6 +16,8 @@ pub trait TypedLines {
 
     /// Waits for the next line, when all that was written is there.
     fn next_line<W: Write>(&mut self, alloc: Global, out: &mut W) -> Result<Typed, TypingFault>
-        ensures typed { IfOk result (IsTyped echo (remaining self.old) (remaining self.new) (W.contents out.old) (W.contents out.new)) }
-        ensures lost { OnErr result (IsLost echo (remaining self.old) (remaining self.new) (W.contents out.old) (W.contents out.new)) };
+        ensures typed { IfOk result (IsTyped echo (remaining self.old) (remaining self.new) (W.contents out.old)
+            (W.contents out.new)) }
+        ensures lost { OnErr result (IsLost echo (remaining self.old) (remaining self.new) (W.contents out.old)
+            (W.contents out.new)) };
 }

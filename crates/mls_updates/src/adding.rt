@@ -38,13 +38,17 @@ pub(crate) fn add_row<B: Base>(alloc: Global, base: &mut B, row: &Row) -> Result
     requires values { AllByRecursion (λ e. IfSome e.value HasSpelling) row.now.elements }
     requires absent { B.is_clean base.old → get ((B.state base.old).now.db row.now.rel) row.now.place ≡ None }
     requires made { B.is_clean base.old → (es : List SpecElement)
-        × IsMadeOf ((B.state base.old).now.db row.now.rel) (node_of (entry_of row.now)) (cells_of (entry_of row.now)) es }
+        × IsMadeOf ((B.state base.old).now.db row.now.rel) (node_of (entry_of row.now))
+        (cells_of (entry_of row.now)) es }
     ensures call { IsCall B.is_clean B.failures B.state base.old base.new result }
     ensures served { IfErr result IsServed }
     ensures mode { OnOk result ((B.state base.new).begun ≡ true) }
     ensures done { B.is_clean base.new → (es : List SpecElement)
-        → IsMadeOf ((B.state base.old).now.db row.now.rel) (node_of (entry_of row.now)) (cells_of (entry_of row.now)) es
-        → OnOk result (B.state base.new ≡ with_relation (B.state base.old) row.now.rel (insert ((B.state base.old).now.db row.now.rel) row.now.place es)) }
+        → IsMadeOf ((B.state base.old).now.db row.now.rel) (node_of (entry_of row.now))
+        (cells_of (entry_of row.now)) es
+        → OnOk result (B.state base.new
+        ≡ with_relation (B.state base.old) row.now.rel
+        (insert ((B.state base.old).now.db row.now.rel) row.now.place es)) }
 {
     let parts = made(base, parts_of(alloc, row))?;
     base.add(row.rel, parts.node, &parts.cells)

@@ -29,12 +29,13 @@ pub(crate) fn update_own<B: Base>(
     requires begun { (B.state base.old).begun ≡ true }
     requires key { IsSpelledKey place.now.key }
     requires sets { AllByRecursion (λ s. (s.0 < 15) × IfSome s.1 HasSpelling) sets.now }
-    requires fits { B.is_clean base.old → (es : List SpecElement) → get ((B.state base.old).now.db rel) place.now ≡ Some es
-        → AllByRecursion (λ s. s.0 < length es) sets.now }
+    requires fits { B.is_clean base.old → (es : List SpecElement)
+        → get ((B.state base.old).now.db rel) place.now ≡ Some es → AllByRecursion (λ s. s.0 < length es) sets.now }
     ensures call { IsCall B.is_clean B.failures B.state base.old base.new result }
     ensures served { IfErr result IsServed }
     ensures mode { OnOk result ((B.state base.new).begun ≡ true) }
-    ensures done { B.is_clean base.new → IfOk result (λ o. (scheme : Scheme) → IsChanged (labels_of policy.now) scheme rel place.now sets.now (B.state base.old) (B.state base.new) o) }
+    ensures done { B.is_clean base.new → IfOk result (λ o. (scheme : Scheme)
+        → IsChanged (labels_of policy.now) scheme rel place.now sets.now (B.state base.old) (B.state base.new) o) }
 {
     let found = base.pattern(rel, place)?;
     let outcome = own_outcome(policy, place, sets, &found);

@@ -21,7 +21,8 @@ use mls_scheme::{Place, Scheme, Value};
 pub(crate) fn root_outcome(policy: &Policy, scheme: &Scheme, w: LabelNo, found: bool) -> Outcome
     requires class { w < length policy.now.labels }
     requires under { IsUnder (length policy.now.labels) scheme.now }
-    ensures { (es : Option (List SpecElement)) → is_some es ≡ found → result ≡ first_refusal (root_refusals (labels_of policy.now) scheme.now w es) }
+    ensures { (es : Option (List SpecElement)) → is_some es ≡ found
+        → result ≡ first_refusal (root_refusals (labels_of policy.now) scheme.now w es) }
 {
     if found {
         return Outcome::Duplicate;
@@ -60,7 +61,8 @@ pub(crate) fn own_outcome(
     requires class { place.now.class < length policy.now.labels }
     requires key_class { place.now.key_class < length policy.now.labels }
     ensures { (scheme : SpecScheme) (es : Option (List SpecElement)) → found.now ≡ option_map classes es
-        → result ≡ first_refusal (own_refusals (labels_of policy.now) scheme place.now.class place.now.key_class sets.now es) }
+        → result ≡ first_refusal (own_refusals
+        (labels_of policy.now) scheme place.now.class place.now.key_class sets.now es) }
 {
     let Some(pattern) = found else {
         return Outcome::NoTuple;
@@ -90,8 +92,10 @@ pub(crate) fn below_outcome(
     requires class { w < length policy.now.labels }
     requires under { IsUnder (length policy.now.labels) scheme.now }
     requires fits { AllByRecursion (λ s. s.0 < length scheme.now.others) sets.now }
-    ensures first { (key_class from : ℕ) (es own : Option (List SpecElement)) → (is_some es && (below (labels_of policy.now) key_class from && below (labels_of policy.now) from w)) ≡ found → is_some own ≡ is_there
-        → result ≡ first_refusal (below_refusals (labels_of policy.now) scheme.now w key_class from sets.now es own) }
+    ensures first { (key_class from : ℕ) (es own : Option (List SpecElement))
+        → (is_some es && (below (labels_of policy.now) key_class from && below (labels_of policy.now) from w)) ≡ found
+        → is_some own ≡ is_there → result
+        ≡ first_refusal (below_refusals (labels_of policy.now) scheme.now w key_class from sets.now es own) }
     ensures missing { found ≡ false → is_done result ≡ false }
 {
     if !found {

@@ -33,12 +33,14 @@ fn drop_above<B: Base>(
     requires class { place.class < length policy.now.labels }
     requires begun { (B.state base.old).begun ≡ true }
     requires key { IsSpelledKey place.key }
-    requires stored { B.is_clean base.old → (n : ℕ) × IsStored (labels_of policy.now) n ((B.state base.old).now.db rel) }
+    requires stored { B.is_clean base.old → (n : ℕ)
+        × IsStored (labels_of policy.now) n ((B.state base.old).now.db rel) }
     ensures call { IsCall B.is_clean B.failures B.state base.old base.new result }
     ensures served { IfErr result IsServed }
     ensures mode { OnOk result ((B.state base.new).begun ≡ true) }
-    ensures done { B.is_clean base.new
-        → OnOk result (B.state base.new ≡ with_relation (B.state base.old) rel (retain_keys ((B.state base.old).now.db rel) (λ q. not (is_above (labels_of policy.now) place q)))) }
+    ensures done { B.is_clean base.new → OnOk result (B.state base.new
+        ≡ with_relation (B.state base.old) rel
+        (retain_keys ((B.state base.old).now.db rel) (λ q. not (is_above (labels_of policy.now) place q)))) }
 {
     let order = made(base, downwards(alloc, policy, place.class))?;
     drop_each(base, rel, place, &order)
@@ -56,11 +58,13 @@ fn delete_at<B: Base>(
     requires key_class { place.key_class < length policy.now.labels }
     requires begun { (B.state base.old).begun ≡ true }
     requires key { IsSpelledKey place.key }
-    requires stored { B.is_clean base.old → (n : ℕ) × IsStored (labels_of policy.now) n ((B.state base.old).now.db rel) }
+    requires stored { B.is_clean base.old → (n : ℕ)
+        × IsStored (labels_of policy.now) n ((B.state base.old).now.db rel) }
     ensures call { IsCall B.is_clean B.failures B.state base.old base.new result }
     ensures served { IfErr result IsServed }
     ensures mode { OnOk result ((B.state base.new).begun ≡ true) }
-    ensures done { B.is_clean base.new → IfOk result (λ o. (scheme : SpecScheme) → IsDeleted (labels_of policy.now) scheme rel place (B.state base.old) (B.state base.new) o) }
+    ensures done { B.is_clean base.new → IfOk result (λ o. (scheme : SpecScheme)
+        → IsDeleted (labels_of policy.now) scheme rel place (B.state base.old) (B.state base.new) o) }
 {
     let found = has_tuple(base, rel, &place)?;
     let outcome = drop_outcome(policy, &place, found);
@@ -88,14 +92,17 @@ pub fn delete<B: Base>(
     requires key_class { key_class < length policy.now.labels }
     requires relation { rel < length schemes.now }
     requires key { HaveKinds (scheme_of schemes.now rel).keys key.now }
-    requires stored { B.is_clean base.old → IsContent (labels_of policy.now) (scheme_of schemes.now rel) ((B.state base.old).now.db rel) }
+    requires stored { B.is_clean base.old → IsContent (labels_of policy.now) (scheme_of schemes.now rel)
+        ((B.state base.old).now.db rel) }
     ensures call { IsCall B.is_clean B.failures B.state base.old base.new result }
     ensures not_begun { (result ≡ Err BaseFault.NotBegun) ↔ ((B.state base.old).begun ≡ false) }
     ensures no_other { IsErrOf result BaseFault.Begun → ⊥ }
     ensures mode { OnOk result ((B.state base.new).begun ≡ true) }
-    ensures done { B.is_clean base.new
-        → IfOk result (IsWritten (labels_of policy.now) (scheme_of schemes.now rel) rel w (Delete key.now key_class) (B.state base.old) (B.state base.new)) }
-    ensures kept { B.is_clean base.new → OnOk result (IsContent (labels_of policy.now) (scheme_of schemes.now rel) ((B.state base.new).now.db rel)) }
+    ensures done { B.is_clean base.new → IfOk result
+        (IsWritten (labels_of policy.now) (scheme_of schemes.now rel) rel w (Delete key.now key_class)
+        (B.state base.old) (B.state base.new)) }
+    ensures kept { B.is_clean base.new → OnOk result
+        (IsContent (labels_of policy.now) (scheme_of schemes.now rel) ((B.state base.new).now.db rel)) }
 {
     if !base.is_begun() {
         return Err(BaseFault::NotBegun);

@@ -20,7 +20,8 @@ fn drop_one<B: Base>(base: &mut B, rel: RelNo, place: &Place) -> Result<(), Base
     ensures call { IsCall B.is_clean B.failures B.state base.old base.new result }
     ensures served { IfErr result IsServed }
     ensures mode { OnOk result ((B.state base.new).begun ≡ true) }
-    ensures done { B.is_clean base.new → OnOk result (B.state base.new ≡ with_relation (B.state base.old) rel (remove ((B.state base.old).now.db rel) place.now)) }
+    ensures done { B.is_clean base.new → OnOk result (B.state base.new
+        ≡ with_relation (B.state base.old) rel (remove ((B.state base.old).now.db rel) place.now)) }
 {
     if has_tuple(base, rel, place)? {
         base.drop_at(rel, place)?;
@@ -41,7 +42,8 @@ pub(crate) fn drop_each<B: Base>(
     ensures call { IsCall B.is_clean B.failures B.state base.old base.new result }
     ensures served { IfErr result IsServed }
     ensures mode { OnOk result ((B.state base.new).begun ≡ true) }
-    ensures done { B.is_clean base.new → OnOk result (B.state base.new ≡ with_relation (B.state base.old) rel (drop_each place classes.now ((B.state base.old).now.db rel))) }
+    ensures done { B.is_clean base.new → OnOk result (B.state base.new
+        ≡ with_relation (B.state base.old) rel (drop_each place classes.now ((B.state base.old).now.db rel))) }
 {
     let mut place = place;
     for class in classes {

@@ -14,7 +14,8 @@ pub(crate) fn has_tuple<B: Base>(base: &mut B, rel: RelNo, place: &Place) -> Res
     ensures call { IsCall B.is_clean B.failures B.state base.old base.new result }
     ensures served { IfErr result IsServed }
     ensures mode { OnOk result ((B.state base.new).begun ≡ (B.state base.old).begun) }
-    ensures found { B.is_clean base.new → IfOk result (λ has. has ≡ is_some (get ((B.state base.old).now.db rel) place.now)) }
+    ensures found { B.is_clean base.new → IfOk result (λ has. has
+        ≡ is_some (get ((B.state base.old).now.db rel) place.now)) }
     ensures same { B.is_clean base.new → OnOk result (B.state base.new ≡ B.state base.old) }
 {
     let pattern = base.pattern(rel, place)?;

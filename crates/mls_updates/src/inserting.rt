@@ -37,7 +37,8 @@ fn insert_at<B: Base>(
     ensures call { IsCall B.is_clean B.failures B.state base.old base.new result }
     ensures served { IfErr result IsServed }
     ensures mode { OnOk result ((B.state base.new).begun ≡ true) }
-    ensures done { B.is_clean base.new → IfOk result (IsInserted (labels_of policy.now) scheme.now rel place values.now (B.state base.old) (B.state base.new)) }
+    ensures done { B.is_clean base.new → IfOk result
+        (IsInserted (labels_of policy.now) scheme.now rel place values.now (B.state base.old) (B.state base.new)) }
 {
     let found = has_tuple(base, rel, &place)?;
     let outcome = root_outcome(policy, scheme, place.class, found);
@@ -65,14 +66,17 @@ pub fn insert<B: Base>(
     requires relation { rel < length schemes.now }
     requires under { AreUnder (length policy.now.labels) schemes.now }
     requires kinds { WriteKinds (scheme_of schemes.now rel) (Insert key.now values.now) }
-    requires stored { B.is_clean base.old → IsContent (labels_of policy.now) (scheme_of schemes.now rel) ((B.state base.old).now.db rel) }
+    requires stored { B.is_clean base.old → IsContent (labels_of policy.now) (scheme_of schemes.now rel)
+        ((B.state base.old).now.db rel) }
     ensures call { IsCall B.is_clean B.failures B.state base.old base.new result }
     ensures not_begun { (result ≡ Err BaseFault.NotBegun) ↔ ((B.state base.old).begun ≡ false) }
     ensures no_other { IsErrOf result BaseFault.Begun → ⊥ }
     ensures mode { OnOk result ((B.state base.new).begun ≡ true) }
-    ensures done { B.is_clean base.new
-        → IfOk result (IsWritten (labels_of policy.now) (scheme_of schemes.now rel) rel w (Insert key.now values.now) (B.state base.old) (B.state base.new)) }
-    ensures kept { B.is_clean base.new → OnOk result (IsContent (labels_of policy.now) (scheme_of schemes.now rel) ((B.state base.new).now.db rel)) }
+    ensures done { B.is_clean base.new → IfOk result
+        (IsWritten (labels_of policy.now) (scheme_of schemes.now rel) rel w (Insert key.now values.now)
+        (B.state base.old) (B.state base.new)) }
+    ensures kept { B.is_clean base.new → OnOk result
+        (IsContent (labels_of policy.now) (scheme_of schemes.now rel) ((B.state base.new).now.db rel)) }
 {
     if !base.is_begun() {
         return Err(BaseFault::NotBegun);

@@ -26,7 +26,8 @@ pub(crate) fn in_intervals(policy: &Policy, class: LabelNo, attributes: &Attribu
 pub(crate) fn is_within(policy: &Policy, class: LabelNo, scheme: &Scheme) -> bool
     requires class { class < length policy.now.labels }
     requires under { IsUnder (length policy.now.labels) scheme.now }
-    ensures { result ≡ (list_all (in_interval (labels_of policy.now) class) scheme.now.keys && list_all (in_interval (labels_of policy.now) class) scheme.now.others) }
+    ensures { result ≡ (list_all (in_interval (labels_of policy.now) class) scheme.now.keys
+        && list_all (in_interval (labels_of policy.now) class) scheme.now.others) }
 {
     in_intervals(policy, class, scheme.keys()) && in_intervals(policy, class, scheme.others())
 }

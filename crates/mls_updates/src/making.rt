@@ -21,7 +21,8 @@ pub(crate) fn elements_of(
     cells: &[Cell],
     pattern: &[LabelNo],
 ) -> Result<Vec<Element>, AllocError>
-    ensures { IfOk result (λ v. v.items ≡ elements_from (held_in rel place.now.class cells.now rows.now) place.now 0 pattern.now) }
+    ensures { IfOk result (λ v. v.items ≡ elements_from
+        (held_in rel place.now.class cells.now rows.now) place.now 0 pattern.now) }
 {
     let mut elements = Vec::new(alloc);
     for (attr, class) in pattern.iter().enumerate() {
@@ -43,7 +44,8 @@ fn value_of(
     attr: usize,
     class: LabelNo,
 ) -> Result<Option<Value>, AllocError>
-    ensures { IfOk result (λ v. v ≡ unwrap_or (held_in rel place.now.class cells.now rows.now (with_class place.now class, attr)) None) }
+    ensures { IfOk result (λ v. v ≡ unwrap_or
+        (held_in rel place.now.class cells.now rows.now (with_class place.now class, attr)) None) }
 {
     if class == place.class {
         return value_in(cells, attr);

@@ -84,13 +84,16 @@ pub(crate) fn add_outline<B: Base>(
     requires values { AllByRecursion (λ s. IfSome s.1 HasSpelling) sets.now }
     requires absent { B.is_clean base.old → get ((B.state base.old).now.db rel) place ≡ None }
     requires made { B.is_clean base.old → (es : List SpecElement)
-        × IsMadeOf ((B.state base.old).now.db rel) (node_of (place, outline place.class sets.now 0 pattern.now)) (cells_of (place, outline place.class sets.now 0 pattern.now)) es }
+        × IsMadeOf ((B.state base.old).now.db rel) (node_of (place, outline place.class sets.now 0 pattern.now))
+        (cells_of (place, outline place.class sets.now 0 pattern.now)) es }
     ensures call { IsCall B.is_clean B.failures B.state base.old base.new result }
     ensures served { IfErr result IsServed }
     ensures mode { OnOk result ((B.state base.new).begun ≡ true) }
     ensures done { B.is_clean base.new → (es : List SpecElement)
-        → IsMadeOf ((B.state base.old).now.db rel) (node_of (place, outline place.class sets.now 0 pattern.now)) (cells_of (place, outline place.class sets.now 0 pattern.now)) es
-        → OnOk result (B.state base.new ≡ with_relation (B.state base.old) rel (insert ((B.state base.old).now.db rel) place es)) }
+        → IsMadeOf ((B.state base.old).now.db rel) (node_of (place, outline place.class sets.now 0 pattern.now))
+        (cells_of (place, outline place.class sets.now 0 pattern.now)) es
+        → OnOk result (B.state base.new
+        ≡ with_relation (B.state base.old) rel (insert ((B.state base.old).now.db rel) place es)) }
 {
     let row = made(base, outline_at(alloc, rel, place, sets, pattern))?;
     add_row(alloc, base, &row)

@@ -33,7 +33,8 @@ fn pattern_below<B: Base>(
     ensures call { IsCall B.is_clean B.failures B.state base.old base.new result }
     ensures served { IfErr result IsServed }
     ensures mode { OnOk result ((B.state base.new).begun ≡ (B.state base.old).begun) }
-    ensures found { B.is_clean base.new → IfOk result (λ pattern. pattern ≡ classes_below (labels_of policy.now) rel (with_class place.now w) place.now.class (B.state base.old)) }
+    ensures found { B.is_clean base.new → IfOk result (λ pattern. pattern
+        ≡ classes_below (labels_of policy.now) rel (with_class place.now w) place.now.class (B.state base.old)) }
     ensures same { B.is_clean base.new → OnOk result (B.state base.new ≡ B.state base.old) }
 {
     if !policy.dominates(place.class, place.key_class) {
@@ -64,12 +65,15 @@ fn derive<B: Base>(
     requires begun { (B.state base.old).begun ≡ true }
     requires key { IsSpelledKey place.key }
     requires values { AllByRecursion (λ s. IfSome s.1 HasSpelling) sets.now }
-    requires found { B.is_clean base.old → pattern ≡ classes_below (labels_of policy.now) rel place from (B.state base.old) }
-    requires stored { B.is_clean base.old → IsStored (labels_of policy.now) (length scheme.now.others) ((B.state base.old).now.db rel) }
+    requires found { B.is_clean base.old → pattern
+        ≡ classes_below (labels_of policy.now) rel place from (B.state base.old) }
+    requires stored { B.is_clean base.old → IsStored (labels_of policy.now) (length scheme.now.others)
+        ((B.state base.old).now.db rel) }
     ensures call { IsCall B.is_clean B.failures B.state base.old base.new result }
     ensures served { IfErr result IsServed }
     ensures mode { OnOk result ((B.state base.new).begun ≡ true) }
-    ensures done { B.is_clean base.new → IfOk result (IsDerived (labels_of policy.now) scheme.now rel place from sets.now (B.state base.old) (B.state base.new)) }
+    ensures done { B.is_clean base.new → IfOk result
+        (IsDerived (labels_of policy.now) scheme.now rel place from sets.now (B.state base.old) (B.state base.new)) }
 {
     // That the labels of a policy are distinct.
     let _count = policy.label_count();
@@ -112,11 +116,14 @@ pub(crate) fn update_below<B: Base>(
     requires begun { (B.state base.old).begun ≡ true }
     requires key { IsSpelledKey place.key }
     requires values { AllByRecursion (λ s. IfSome s.1 HasSpelling) sets.now }
-    requires stored { B.is_clean base.old → IsStored (labels_of policy.now) (length scheme.now.others) ((B.state base.old).now.db rel) }
+    requires stored { B.is_clean base.old → IsStored (labels_of policy.now) (length scheme.now.others)
+        ((B.state base.old).now.db rel) }
     ensures call { IsCall B.is_clean B.failures B.state base.old base.new result }
     ensures served { IfErr result IsServed }
     ensures mode { OnOk result ((B.state base.new).begun ≡ true) }
-    ensures done { B.is_clean base.new → IfOk result (IsDerived (labels_of policy.now) scheme.now rel (with_class place w) place.class sets.now (B.state base.old) (B.state base.new)) }
+    ensures done { B.is_clean base.new → IfOk result
+        (IsDerived (labels_of policy.now) scheme.now rel (with_class place w) place.class sets.now (B.state base.old)
+        (B.state base.new)) }
 {
     let pattern = pattern_below(base, policy, rel, &place, w)?;
     let from = place.class;

@@ -65,8 +65,9 @@ pub(crate) fn add_root<B: Base>(
     ensures call { IsCall B.is_clean B.failures B.state base.old base.new result }
     ensures served { IfErr result IsServed }
     ensures mode { OnOk result ((B.state base.new).begun ≡ true) }
-    ensures done { B.is_clean base.new
-        → OnOk result (B.state base.new ≡ with_relation (B.state base.old) rel (insert ((B.state base.old).now.db rel) place (root place.class values.now))) }
+    ensures done { B.is_clean base.new → OnOk result (B.state base.new
+        ≡ with_relation (B.state base.old) rel
+        (insert ((B.state base.old).now.db rel) place (root place.class values.now))) }
 {
     let row = made(base, root_at(alloc, rel, place, values))?;
     add_row(alloc, base, &row)

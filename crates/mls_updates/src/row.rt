@@ -95,7 +95,8 @@ fn set_element(
     label: LabelNo,
     value: &Option<Value>,
 ) -> Result<Element, AllocError>
-    ensures { IfOk result (λ e. e ≡ (if named && nat_eq element.now.class label then record { value = value.now; class = label } else element.now)) }
+    ensures { IfOk result (λ e. e ≡ (if named
+        && nat_eq element.now.class label then record { value = value.now; class = label } else element.now)) }
 {
     if named && element.class == label {
         return Ok(Element {

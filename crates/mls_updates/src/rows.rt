@@ -100,7 +100,8 @@ impl Rows {
         cells: &[Cell],
         pattern: &[LabelNo],
     ) -> Result<Items<Element>, AllocError>
-        ensures { IfOk result (λ es. es ≡ elements_from (held_in rel place.now.class cells.now self.now) place.now 0 pattern.now) }
+        ensures { IfOk result (λ es. es ≡ elements_from
+            (held_in rel place.now.class cells.now self.now) place.now 0 pattern.now) }
     {
         let elements = making::elements_of(alloc, &self.vec, rel, place, cells, pattern)?;
         Ok(Items::from(elements))
@@ -198,8 +199,10 @@ fn parts_of(alloc: Global, row: &Row) -> Result<Fragment, AllocError>
 
 /// The parts of the tuple of a relation at a place, if there is one.
 fn entity_of(alloc: Global, rows: &[Row], rel: RelNo, place: &Place) -> Result<Fragment, AllocError>
-    ensures nodes { IfOk result (λ f. f.nodes ≡ option_map_or (λ es. node_of (place.now, es) ∷ []) (found_at rel place.now rows.now) []) }
-    ensures cells { IfOk result (λ f. f.cells ≡ option_map_or (λ es. cells_of (place.now, es)) (found_at rel place.now rows.now) []) }
+    ensures nodes { IfOk result (λ f. f.nodes
+        ≡ option_map_or (λ es. node_of (place.now, es) ∷ []) (found_at rel place.now rows.now) []) }
+    ensures cells { IfOk result (λ f. f.cells
+        ≡ option_map_or (λ es. cells_of (place.now, es)) (found_at rel place.now rows.now) []) }
 {
     for row in rows {
         if row.is_at(rel, place) {

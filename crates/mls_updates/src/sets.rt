@@ -75,7 +75,8 @@ pub(crate) fn is_any_outside(
     requires class { class < length policy.now.labels }
     requires under { IsUnder (length policy.now.labels) scheme.now }
     requires fits { AllByRecursion (λ s. s.0 < length scheme.now.others) sets.now }
-    ensures { result ≡ list_any (λ s. not (in_interval (labels_of policy.now) class (other_of scheme.now s.0))) sets.now }
+    ensures { result ≡ list_any (λ s. not (in_interval (labels_of policy.now) class (other_of scheme.now s.0)))
+        sets.now }
 {
     for set in sets {
         if is_outside(policy, scheme, class, set.0) {

@@ -28,8 +28,9 @@ fn set_one<B: Base>(
     ensures call { IsCall B.is_clean B.failures B.state base.old base.new result }
     ensures served { IfErr result IsServed }
     ensures mode { OnOk result ((B.state base.new).begun ≡ true) }
-    ensures done { B.is_clean base.new
-        → OnOk result (B.state base.new ≡ with_relation (B.state base.old) rel (change (set_in place.now attr value.now) ((B.state base.old).now.db rel))) }
+    ensures done { B.is_clean base.new → OnOk result (B.state base.new
+        ≡ with_relation (B.state base.old) rel
+        (change (set_in place.now attr value.now) ((B.state base.old).now.db rel))) }
 {
     let value = made(base, copy_value(value))?;
     base.set(rel, place, attr, value)
@@ -45,11 +46,13 @@ pub(crate) fn set_each<B: Base>(
     requires begun { (B.state base.old).begun ≡ true }
     requires key { IsSpelledKey place.now.key }
     requires sets { AllByRecursion (λ s. (s.0 < 15) × IfSome s.1 HasSpelling) sets.now }
-    requires there { B.is_clean base.old → AllByRecursion (λ s. HasCell ((B.state base.old).now.db rel) place.now s.0) sets.now }
+    requires there { B.is_clean base.old → AllByRecursion
+        (λ s. HasCell ((B.state base.old).now.db rel) place.now s.0) sets.now }
     ensures call { IsCall B.is_clean B.failures B.state base.old base.new result }
     ensures served { IfErr result IsServed }
     ensures mode { OnOk result ((B.state base.new).begun ≡ true) }
-    ensures done { B.is_clean base.new → OnOk result (B.state base.new ≡ with_relation (B.state base.old) rel (set_each place.now sets.now ((B.state base.old).now.db rel))) }
+    ensures done { B.is_clean base.new → OnOk result (B.state base.new
+        ≡ with_relation (B.state base.old) rel (set_each place.now sets.now ((B.state base.old).now.db rel))) }
 {
     for left in (0..sets.len()).rev() {
         let (attr, value) = &sets[left];

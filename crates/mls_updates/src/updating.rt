@@ -44,14 +44,17 @@ pub fn update<B: Base>(
     requires fits { AllByRecursion (λ s. s.0 < length (scheme_of schemes.now rel).others) sets.now }
     requires key { HaveKinds (scheme_of schemes.now rel).keys key.now }
     requires kinds { WriteKinds (scheme_of schemes.now rel) (Update key.now key_class from sets.now) }
-    requires stored { B.is_clean base.old → IsContent (labels_of policy.now) (scheme_of schemes.now rel) ((B.state base.old).now.db rel) }
+    requires stored { B.is_clean base.old → IsContent (labels_of policy.now) (scheme_of schemes.now rel)
+        ((B.state base.old).now.db rel) }
     ensures call { IsCall B.is_clean B.failures B.state base.old base.new result }
     ensures not_begun { (result ≡ Err BaseFault.NotBegun) ↔ ((B.state base.old).begun ≡ false) }
     ensures no_other { IsErrOf result BaseFault.Begun → ⊥ }
     ensures mode { OnOk result ((B.state base.new).begun ≡ true) }
-    ensures done { B.is_clean base.new
-        → IfOk result (IsWritten (labels_of policy.now) (scheme_of schemes.now rel) rel w (Update key.now key_class from sets.now) (B.state base.old) (B.state base.new)) }
-    ensures kept { B.is_clean base.new → OnOk result (IsContent (labels_of policy.now) (scheme_of schemes.now rel) ((B.state base.new).now.db rel)) }
+    ensures done { B.is_clean base.new → IfOk result
+        (IsWritten (labels_of policy.now) (scheme_of schemes.now rel) rel w (Update key.now key_class from sets.now)
+        (B.state base.old) (B.state base.new)) }
+    ensures kept { B.is_clean base.new → OnOk result
+        (IsContent (labels_of policy.now) (scheme_of schemes.now rel) ((B.state base.new).now.db rel)) }
 {
     if !base.is_begun() {
         return Err(BaseFault::NotBegun);

@@ -118,8 +118,8 @@ const STORED_TRANSACTIONS: &str = "The stored transactions, which the script can
 
 const STORED_CERTIFICATES: &str = "Their certificates: without one that holds, no call is allowed";
 
-/// The names of a run: whether it prints tables; the label for which alone it prints, and the files of the store, the transactions and the certificates, where
-/// they are given; and the script, which is else on standard input.
+/// The names of a run: whether it prints tables; the label for which alone it prints, and the files of the store, the transactions and
+/// the certificates, where they are given; and the script, which is else on standard input.
 #[derive(Clone, Copy)]
 pub struct RunFiles<'a> {
     pub is_table: bool,
@@ -224,7 +224,8 @@ fn with_place<'a>(
     help: &'a str,
 ) -> Result<Command<'a>, AllocError>
     ensures app { IfOk result (λ c. app_of c ≡ with_rule (app_of command.entry) (place name.entry.now)) }
-    ensures local { (fields_of command.entry).has_globals ≡ false → IfOk result (λ c. (fields_of c).has_globals ≡ false) }
+    ensures local { (fields_of command.entry).has_globals ≡ false
+        → IfOk result (λ c. (fields_of c).has_globals ≡ false) }
 {
     command.arg(Arg::new(alloc, name).help(help).required(true))
 }
@@ -237,7 +238,8 @@ fn with_last_place<'a>(
     help: &'a str,
 ) -> Result<Command<'a>, AllocError>
     ensures app { IfOk result (λ c. app_of c ≡ with_rule (app_of command.entry) (new_rule name.entry.now)) }
-    ensures local { (fields_of command.entry).has_globals ≡ false → IfOk result (λ c. (fields_of c).has_globals ≡ false) }
+    ensures local { (fields_of command.entry).has_globals ≡ false
+        → IfOk result (λ c. (fields_of c).has_globals ≡ false) }
 {
     command.arg(Arg::new(alloc, name).help(help))
 }
@@ -251,7 +253,8 @@ fn with_option<'a>(
     help: &'a str,
 ) -> Result<Command<'a>, AllocError>
     ensures app { IfOk result (λ c. app_of c ≡ with_rule (app_of command.entry) (option name.entry.now)) }
-    ensures local { (fields_of command.entry).has_globals ≡ false → IfOk result (λ c. (fields_of c).has_globals ≡ false) }
+    ensures local { (fields_of command.entry).has_globals ≡ false
+        → IfOk result (λ c. (fields_of c).has_globals ≡ false) }
 {
     command.arg(
         Arg::new(alloc, name)
@@ -269,7 +272,8 @@ fn with_flag<'a>(
     help: &'a str,
 ) -> Result<Command<'a>, AllocError>
     ensures app { IfOk result (λ c. app_of c ≡ with_rule (app_of command.entry) (flag name.entry.now)) }
-    ensures local { (fields_of command.entry).has_globals ≡ false → IfOk result (λ c. (fields_of c).has_globals ≡ false) }
+    ensures local { (fields_of command.entry).has_globals ≡ false
+        → IfOk result (λ c. (fields_of c).has_globals ≡ false) }
 {
     command.arg(
         Arg::new(alloc, name)
@@ -281,8 +285,10 @@ fn with_flag<'a>(
 
 /// With the files of the policy and the schemes.
 fn with_documents<'a>(alloc: Global, command: Command<'a>) -> Result<Command<'a>, AllocError>
-    ensures app { IfOk result (λ c. app_of c ≡ with_rule (with_rule (app_of command.entry) (place (codes "POLICY"))) (place (codes "SCHEMES"))) }
-    ensures local { (fields_of command.entry).has_globals ≡ false → IfOk result (λ c. (fields_of c).has_globals ≡ false) }
+    ensures app { IfOk result (λ c. app_of c
+        ≡ with_rule (with_rule (app_of command.entry) (place (codes "POLICY"))) (place (codes "SCHEMES"))) }
+    ensures local { (fields_of command.entry).has_globals ≡ false
+        → IfOk result (λ c. (fields_of c).has_globals ≡ false) }
 {
     let command = with_place(alloc, command, "POLICY", POLICY)?;
     with_place(alloc, command, "SCHEMES", SCHEMES)
@@ -299,7 +305,9 @@ fn with_stored<'a>(alloc: Global, run: Command<'a>) -> Result<Command<'a>, Alloc
 
 /// With the options of a run.
 fn with_options<'a>(alloc: Global, run: Command<'a>) -> Result<Command<'a>, AllocError>
-    ensures app { IfOk result (λ c. app_of c ≡ with_stored (with_rule (with_rule (with_rule (app_of run.entry) (flag (codes "table"))) (option (codes "at"))) (option (codes "store")))) }
+    ensures app { IfOk result (λ c. app_of c
+        ≡ with_stored (with_rule (with_rule (with_rule (app_of run.entry) (flag (codes "table")))
+        (option (codes "at"))) (option (codes "store")))) }
     ensures local { (fields_of run.entry).has_globals ≡ false → IfOk result (λ c. (fields_of c).has_globals ≡ false) }
 {
     let run = with_flag(alloc, run, "table", TABLE)?;
@@ -455,7 +463,8 @@ fn run_files<'a>(run: &ArgMatches<'a>) -> RunFiles<'a>
 
 fn shell_task<'a>(matches: &ArgMatches<'a>) -> Option<Task<'a>>
     ensures some { IfSome result (IsTask (codes "shell") (rows_of (found_of matches.now))) }
-    ensures none { result ≡ None → (task : SpecTask) → IsTask (codes "shell") (rows_of (found_of matches.now)) task → ⊥ }
+    ensures none { result ≡ None → (task : SpecTask) → IsTask (codes "shell") (rows_of (found_of matches.now)) task
+        → ⊥ }
 {
     match (value_of(matches, "LABEL"), value_of(matches, "USER")) {
         (Some(label), Some(user)) => Some(Task::Shell(ShellFiles {
@@ -471,7 +480,8 @@ fn shell_task<'a>(matches: &ArgMatches<'a>) -> Option<Task<'a>>
 
 fn certify_task<'a>(matches: &ArgMatches<'a>) -> Option<Task<'a>>
     ensures some { IfSome result (IsTask (codes "certify") (rows_of (found_of matches.now))) }
-    ensures none { result ≡ None → (task : SpecTask) → IsTask (codes "certify") (rows_of (found_of matches.now)) task → ⊥ }
+    ensures none { result ≡ None → (task : SpecTask) → IsTask (codes "certify") (rows_of (found_of matches.now)) task
+        → ⊥ }
 {
     match value_of(matches, "TRANSACTIONS") {
         Some(transactions) => Some(Task::Certify { transactions }),
@@ -481,7 +491,8 @@ fn certify_task<'a>(matches: &ArgMatches<'a>) -> Option<Task<'a>>
 
 fn check_task<'a>(matches: &ArgMatches<'a>) -> Option<Task<'a>>
     ensures some { IfSome result (IsTask (codes "check") (rows_of (found_of matches.now))) }
-    ensures none { result ≡ None → (task : SpecTask) → IsTask (codes "check") (rows_of (found_of matches.now)) task → ⊥ }
+    ensures none { result ≡ None → (task : SpecTask) → IsTask (codes "check") (rows_of (found_of matches.now)) task
+        → ⊥ }
 {
     match (
         value_of(matches, "TRANSACTIONS"),

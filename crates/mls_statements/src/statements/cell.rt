@@ -20,8 +20,10 @@ const ADD_CELLS: &str =
 
 /// Adds a cell.
 pub fn add_cell<S: Alter>(conn: &mut Connection<S>, cell: &CellRow) -> Result<usize, Error>
-    ensures added { HasCleanDisk (state S.Store conn.new) → IsReady (state S.Store conn.old).now → OnOk result (Changes (AddsCell cell.now) (state S.Store conn.old) (state S.Store conn.new)) }
-    ensures err { HasCleanDisk (state S.Store conn.new) → OnErr result (IsEnded (state S.Store conn.old) (state S.Store conn.new)) }
+    ensures added { HasCleanDisk (state S.Store conn.new) → IsReady (state S.Store conn.old).now
+        → OnOk result (Changes (AddsCell cell.now) (state S.Store conn.old) (state S.Store conn.new)) }
+    ensures err { HasCleanDisk (state S.Store conn.new)
+        → OnErr result (IsEnded (state S.Store conn.old) (state S.Store conn.new)) }
     ensures clean { HasCleanDisk (state S.Store conn.new) → HasCleanDisk (state S.Store conn.old) }
 {
     conn.execute(
@@ -39,8 +41,10 @@ pub fn add_cell<S: Alter>(conn: &mut Connection<S>, cell: &CellRow) -> Result<us
 
 /// Adds cells, in a change.
 pub fn add_cells<S: Alter>(conn: &mut Connection<S>, cells: &[CellRow]) -> Result<(), Error>
-    ensures added { HasCleanDisk (state S.Store conn.new) → IsWithin (state S.Store conn.old) → OnOk result (GoesOn (AddsCells cells.now) (state S.Store conn.old) (state S.Store conn.new)) }
-    ensures err { HasCleanDisk (state S.Store conn.new) → IsWithin (state S.Store conn.old) → OnErr result (KeepsCommit (state S.Store conn.old) (state S.Store conn.new)) }
+    ensures added { HasCleanDisk (state S.Store conn.new) → IsWithin (state S.Store conn.old)
+        → OnOk result (GoesOn (AddsCells cells.now) (state S.Store conn.old) (state S.Store conn.new)) }
+    ensures err { HasCleanDisk (state S.Store conn.new) → IsWithin (state S.Store conn.old)
+        → OnErr result (KeepsCommit (state S.Store conn.old) (state S.Store conn.new)) }
     ensures clean { HasCleanDisk (state S.Store conn.new) → HasCleanDisk (state S.Store conn.old) }
 {
     for cell in cells {
@@ -88,8 +92,11 @@ fn add_some<S: Alter>(
 ) -> Result<usize, Error>
     requires some { 0 < length cells.now }
     requires few { length cells.now ≤ 15 }
-    ensures added { HasCleanDisk (state S.Store conn.new) → IsReady (state S.Store conn.old).now → OnOk result (Changes (AddsCells (map (cell_beside node.now) cells.now)) (state S.Store conn.old) (state S.Store conn.new)) }
-    ensures err { HasCleanDisk (state S.Store conn.new) → OnErr result (KeepsCommit (state S.Store conn.old) (state S.Store conn.new)) }
+    ensures added { HasCleanDisk (state S.Store conn.new) → IsReady (state S.Store conn.old).now
+        → OnOk result (Changes (AddsCells (map (cell_beside node.now) cells.now)) (state S.Store conn.old)
+        (state S.Store conn.new)) }
+    ensures err { HasCleanDisk (state S.Store conn.new)
+        → OnErr result (KeepsCommit (state S.Store conn.old) (state S.Store conn.new)) }
     ensures clean { HasCleanDisk (state S.Store conn.new) → HasCleanDisk (state S.Store conn.old) }
 {
     let params = params_of(alloc, node, cells)?;
@@ -103,8 +110,11 @@ pub fn add_own<S: Alter>(
     node: &NodeRow,
     cells: &[OwnCell],
 ) -> Result<(), Error>
-    ensures added { HasCleanDisk (state S.Store conn.new) → IsWithin (state S.Store conn.old) → OnOk result (GoesOn (AddsCells (map (cell_beside node.now) cells.now)) (state S.Store conn.old) (state S.Store conn.new)) }
-    ensures err { HasCleanDisk (state S.Store conn.new) → IsWithin (state S.Store conn.old) → OnErr result (KeepsCommit (state S.Store conn.old) (state S.Store conn.new)) }
+    ensures added { HasCleanDisk (state S.Store conn.new) → IsWithin (state S.Store conn.old)
+        → OnOk result (GoesOn (AddsCells (map (cell_beside node.now) cells.now)) (state S.Store conn.old)
+        (state S.Store conn.new)) }
+    ensures err { HasCleanDisk (state S.Store conn.new) → IsWithin (state S.Store conn.old)
+        → OnErr result (KeepsCommit (state S.Store conn.old) (state S.Store conn.new)) }
     ensures clean { HasCleanDisk (state S.Store conn.new) → HasCleanDisk (state S.Store conn.old) }
 {
     for some in cells.chunks(15) {
@@ -115,8 +125,10 @@ pub fn add_own<S: Alter>(
 
 /// Drops every cell.
 pub fn clear_cells<S: Alter>(conn: &mut Connection<S>) -> Result<usize, Error>
-    ensures cleared { HasCleanDisk (state S.Store conn.new) → IsReady (state S.Store conn.old).now → OnOk result (Changes ClearsCells (state S.Store conn.old) (state S.Store conn.new)) }
-    ensures err { HasCleanDisk (state S.Store conn.new) → OnErr result (IsEnded (state S.Store conn.old) (state S.Store conn.new)) }
+    ensures cleared { HasCleanDisk (state S.Store conn.new) → IsReady (state S.Store conn.old).now
+        → OnOk result (Changes ClearsCells (state S.Store conn.old) (state S.Store conn.new)) }
+    ensures err { HasCleanDisk (state S.Store conn.new)
+        → OnErr result (IsEnded (state S.Store conn.old) (state S.Store conn.new)) }
     ensures clean { HasCleanDisk (state S.Store conn.new) → HasCleanDisk (state S.Store conn.old) }
 {
     conn.execute("DELETE FROM cell", &[])
@@ -124,8 +136,11 @@ pub fn clear_cells<S: Alter>(conn: &mut Connection<S>) -> Result<usize, Error>
 
 /// Gives the one cell with the key of `cell` its value.
 pub fn set_cell<S: Alter>(conn: &mut Connection<S>, cell: &CellRow) -> Result<usize, Error>
-    ensures set { HasCleanDisk (state S.Store conn.new) → IsReady (state S.Store conn.old).now → (was : SpecCell) → IsOne (has_key_of cell.now) (tables_of (state S.Store conn.old).now.trees).cells was → OnOk result (Changes (SetsCell cell.now) (state S.Store conn.old) (state S.Store conn.new)) }
-    ensures err { HasCleanDisk (state S.Store conn.new) → OnErr result (IsEnded (state S.Store conn.old) (state S.Store conn.new)) }
+    ensures set { HasCleanDisk (state S.Store conn.new) → IsReady (state S.Store conn.old).now → (was : SpecCell)
+        → IsOne (has_key_of cell.now) (tables_of (state S.Store conn.old).now.trees).cells was
+        → OnOk result (Changes (SetsCell cell.now) (state S.Store conn.old) (state S.Store conn.new)) }
+    ensures err { HasCleanDisk (state S.Store conn.new)
+        → OnErr result (IsEnded (state S.Store conn.old) (state S.Store conn.new)) }
     ensures clean { HasCleanDisk (state S.Store conn.new) → HasCleanDisk (state S.Store conn.old) }
 {
     conn.execute(
@@ -149,8 +164,11 @@ pub fn drop_cells<S: Alter>(
     kclass: u32,
     label: u32,
 ) -> Result<usize, Error>
-    ensures dropped { HasCleanDisk (state S.Store conn.new) → IsReady (state S.Store conn.old).now → OnOk result (Changes (DropsCells rel ent.now kclass label) (state S.Store conn.old) (state S.Store conn.new)) }
-    ensures err { HasCleanDisk (state S.Store conn.new) → OnErr result (IsEnded (state S.Store conn.old) (state S.Store conn.new)) }
+    ensures dropped { HasCleanDisk (state S.Store conn.new) → IsReady (state S.Store conn.old).now
+        → OnOk result (Changes (DropsCells rel ent.now kclass label) (state S.Store conn.old)
+        (state S.Store conn.new)) }
+    ensures err { HasCleanDisk (state S.Store conn.new)
+        → OnErr result (IsEnded (state S.Store conn.old) (state S.Store conn.new)) }
     ensures clean { HasCleanDisk (state S.Store conn.new) → HasCleanDisk (state S.Store conn.old) }
 {
     conn.execute(
@@ -161,10 +179,15 @@ pub fn drop_cells<S: Alter>(
 
 /// The cells of one class, as rows of their six columns.
 pub fn cells_at<S: Alter>(conn: &mut Connection<S>, rel: u32, label: u32) -> Result<Vec<Row>, Error>
-    ensures found { HasCleanDisk (state S.Store conn.new) → IsReady (state S.Store conn.old).now → IfOk result (λ rows. IsPermutation (map cell_values (filter (is_cell_at rel label) (tables_of (state S.Store conn.old).now.trees).cells)) rows.items) }
+    ensures found { HasCleanDisk (state S.Store conn.new) → IsReady (state S.Store conn.old).now
+        → IfOk result (λ rows. IsPermutation
+        (map cell_values (filter (is_cell_at rel label) (tables_of (state S.Store conn.old).now.trees).cells))
+        rows.items) }
     ensures open { HasCleanDisk (state S.Store conn.new) → OnOk result (IsTrue (state S.Store conn.old).is_open) }
-    ensures same { HasCleanDisk (state S.Store conn.new) → IsReady (state S.Store conn.old).now → OnOk result (IsUnchanged (state S.Store conn.old) (state S.Store conn.new)) }
-    ensures err { HasCleanDisk (state S.Store conn.new) → OnErr result (IsEnded (state S.Store conn.old) (state S.Store conn.new)) }
+    ensures same { HasCleanDisk (state S.Store conn.new) → IsReady (state S.Store conn.old).now
+        → OnOk result (IsUnchanged (state S.Store conn.old) (state S.Store conn.new)) }
+    ensures err { HasCleanDisk (state S.Store conn.new)
+        → OnErr result (IsEnded (state S.Store conn.old) (state S.Store conn.new)) }
     ensures clean { HasCleanDisk (state S.Store conn.new) → HasCleanDisk (state S.Store conn.old) }
 {
     conn.query_all(
@@ -181,10 +204,15 @@ pub fn cells_of<S: Alter>(
     kclass: u32,
     label: u32,
 ) -> Result<Vec<Row>, Error>
-    ensures found { HasCleanDisk (state S.Store conn.new) → IsReady (state S.Store conn.old).now → IfOk result (λ rows. IsPermutation (map cell_values (filter (is_cell_in rel ent.now kclass label) (tables_of (state S.Store conn.old).now.trees).cells)) rows.items) }
+    ensures found { HasCleanDisk (state S.Store conn.new) → IsReady (state S.Store conn.old).now
+        → IfOk result (λ rows. IsPermutation
+        (map cell_values (filter (is_cell_in rel ent.now kclass label)
+        (tables_of (state S.Store conn.old).now.trees).cells)) rows.items) }
     ensures open { HasCleanDisk (state S.Store conn.new) → OnOk result (IsTrue (state S.Store conn.old).is_open) }
-    ensures same { HasCleanDisk (state S.Store conn.new) → IsReady (state S.Store conn.old).now → OnOk result (IsUnchanged (state S.Store conn.old) (state S.Store conn.new)) }
-    ensures err { HasCleanDisk (state S.Store conn.new) → OnErr result (IsEnded (state S.Store conn.old) (state S.Store conn.new)) }
+    ensures same { HasCleanDisk (state S.Store conn.new) → IsReady (state S.Store conn.old).now
+        → OnOk result (IsUnchanged (state S.Store conn.old) (state S.Store conn.new)) }
+    ensures err { HasCleanDisk (state S.Store conn.new)
+        → OnErr result (IsEnded (state S.Store conn.old) (state S.Store conn.new)) }
     ensures clean { HasCleanDisk (state S.Store conn.new) → HasCleanDisk (state S.Store conn.old) }
 {
     conn.query_all(
@@ -195,10 +223,13 @@ pub fn cells_of<S: Alter>(
 
 /// Every row of the table of cells, with its rowid last, in a database of the four tables.
 pub fn all_cells<S: Alter>(conn: &mut Connection<S>) -> Result<Vec<Row>, Error>
-    ensures found { HasCleanDisk (state S.Store conn.new) → HasTables (state S.Store conn.old).now.schema → IfOk result (λ rows. IsPermutation (map cell_columns ((state S.Store conn.old).now.trees 2)) rows.items) }
+    ensures found { HasCleanDisk (state S.Store conn.new) → HasTables (state S.Store conn.old).now.schema
+        → IfOk result (λ rows. IsPermutation (map cell_columns ((state S.Store conn.old).now.trees 2)) rows.items) }
     ensures open { HasCleanDisk (state S.Store conn.new) → OnOk result (IsTrue (state S.Store conn.old).is_open) }
-    ensures same { HasCleanDisk (state S.Store conn.new) → HasTables (state S.Store conn.old).now.schema → OnOk result (IsUnchanged (state S.Store conn.old) (state S.Store conn.new)) }
-    ensures err { HasCleanDisk (state S.Store conn.new) → OnErr result (IsEnded (state S.Store conn.old) (state S.Store conn.new)) }
+    ensures same { HasCleanDisk (state S.Store conn.new) → HasTables (state S.Store conn.old).now.schema
+        → OnOk result (IsUnchanged (state S.Store conn.old) (state S.Store conn.new)) }
+    ensures err { HasCleanDisk (state S.Store conn.new)
+        → OnErr result (IsEnded (state S.Store conn.old) (state S.Store conn.new)) }
     ensures clean { HasCleanDisk (state S.Store conn.new) → HasCleanDisk (state S.Store conn.old) }
 {
     conn.query_all(
@@ -214,10 +245,15 @@ pub fn read_cells_at<S: Alter>(
     rel: u32,
     label: u32,
 ) -> Result<Vec<CellRow>, Error>
-    ensures found { HasCleanDisk (state S.Store conn.new) → IsReady (state S.Store conn.old).now → IfOk result (λ found. IsPermutation (filter (is_cell_at rel label) (tables_of (state S.Store conn.old).now.trees).cells) found.items) }
+    ensures found { HasCleanDisk (state S.Store conn.new) → IsReady (state S.Store conn.old).now
+        → IfOk result (λ found. IsPermutation
+        (filter (is_cell_at rel label) (tables_of (state S.Store conn.old).now.trees).cells) found.items) }
     ensures open { HasCleanDisk (state S.Store conn.new) → OnOk result (IsTrue (state S.Store conn.old).is_open) }
-    ensures same { HasCleanDisk (state S.Store conn.new) → IsReady (state S.Store conn.old).now → OnOk result (IsUnchanged (state S.Store conn.old) (state S.Store conn.new)) }
-    ensures err { HasCleanDisk (state S.Store conn.new) → (IsTrue (state S.Store conn.old).is_open → IsReady (state S.Store conn.old).now) → OnErr result (IsEnded (state S.Store conn.old) (state S.Store conn.new)) }
+    ensures same { HasCleanDisk (state S.Store conn.new) → IsReady (state S.Store conn.old).now
+        → OnOk result (IsUnchanged (state S.Store conn.old) (state S.Store conn.new)) }
+    ensures err { HasCleanDisk (state S.Store conn.new)
+        → (IsTrue (state S.Store conn.old).is_open → IsReady (state S.Store conn.old).now)
+        → OnErr result (IsEnded (state S.Store conn.old) (state S.Store conn.new)) }
     ensures clean { HasCleanDisk (state S.Store conn.new) → HasCleanDisk (state S.Store conn.old) }
 {
     cells_from(alloc, &cells_at(conn, rel, label)?)
@@ -232,10 +268,16 @@ pub fn read_cells_of<S: Alter>(
     kclass: u32,
     label: u32,
 ) -> Result<Vec<CellRow>, Error>
-    ensures found { HasCleanDisk (state S.Store conn.new) → IsReady (state S.Store conn.old).now → IfOk result (λ found. IsPermutation (filter (is_cell_in rel ent.now kclass label) (tables_of (state S.Store conn.old).now.trees).cells) found.items) }
+    ensures found { HasCleanDisk (state S.Store conn.new) → IsReady (state S.Store conn.old).now
+        → IfOk result (λ found. IsPermutation
+        (filter (is_cell_in rel ent.now kclass label) (tables_of (state S.Store conn.old).now.trees).cells)
+        found.items) }
     ensures open { HasCleanDisk (state S.Store conn.new) → OnOk result (IsTrue (state S.Store conn.old).is_open) }
-    ensures same { HasCleanDisk (state S.Store conn.new) → IsReady (state S.Store conn.old).now → OnOk result (IsUnchanged (state S.Store conn.old) (state S.Store conn.new)) }
-    ensures err { HasCleanDisk (state S.Store conn.new) → (IsTrue (state S.Store conn.old).is_open → IsReady (state S.Store conn.old).now) → OnErr result (IsEnded (state S.Store conn.old) (state S.Store conn.new)) }
+    ensures same { HasCleanDisk (state S.Store conn.new) → IsReady (state S.Store conn.old).now
+        → OnOk result (IsUnchanged (state S.Store conn.old) (state S.Store conn.new)) }
+    ensures err { HasCleanDisk (state S.Store conn.new)
+        → (IsTrue (state S.Store conn.old).is_open → IsReady (state S.Store conn.old).now)
+        → OnErr result (IsEnded (state S.Store conn.old) (state S.Store conn.new)) }
     ensures clean { HasCleanDisk (state S.Store conn.new) → HasCleanDisk (state S.Store conn.old) }
 {
     cells_from(alloc, &cells_of(conn, rel, ent, kclass, label)?)

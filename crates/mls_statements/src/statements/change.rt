@@ -8,8 +8,10 @@ use sqlite::{Alter, Connection, Error};
 
 /// Begins a change.
 pub fn begin<S: Alter>(conn: &mut Connection<S>) -> Result<usize, Error>
-    ensures begun { HasCleanDisk (state S.Store conn.new) → OnOk result (Begins (state S.Store conn.old) (state S.Store conn.new)) }
-    ensures err { HasCleanDisk (state S.Store conn.new) → OnErr result (IsEnded (state S.Store conn.old) (state S.Store conn.new)) }
+    ensures begun { HasCleanDisk (state S.Store conn.new)
+        → OnOk result (Begins (state S.Store conn.old) (state S.Store conn.new)) }
+    ensures err { HasCleanDisk (state S.Store conn.new)
+        → OnErr result (IsEnded (state S.Store conn.old) (state S.Store conn.new)) }
     ensures clean { HasCleanDisk (state S.Store conn.new) → HasCleanDisk (state S.Store conn.old) }
 {
     conn.execute("BEGIN", &[])
@@ -17,8 +19,10 @@ pub fn begin<S: Alter>(conn: &mut Connection<S>) -> Result<usize, Error>
 
 /// Commits the change.
 pub fn commit<S: Alter>(conn: &mut Connection<S>) -> Result<usize, Error>
-    ensures committed { HasCleanDisk (state S.Store conn.new) → OnOk result (Commits (state S.Store conn.old) (state S.Store conn.new)) }
-    ensures err { HasCleanDisk (state S.Store conn.new) → OnErr result (IsEnded (state S.Store conn.old) (state S.Store conn.new)) }
+    ensures committed { HasCleanDisk (state S.Store conn.new)
+        → OnOk result (Commits (state S.Store conn.old) (state S.Store conn.new)) }
+    ensures err { HasCleanDisk (state S.Store conn.new)
+        → OnErr result (IsEnded (state S.Store conn.old) (state S.Store conn.new)) }
     ensures clean { HasCleanDisk (state S.Store conn.new) → HasCleanDisk (state S.Store conn.old) }
 {
     conn.execute("COMMIT", &[])
@@ -27,7 +31,8 @@ pub fn commit<S: Alter>(conn: &mut Connection<S>) -> Result<usize, Error>
 /// Undoes the change, also where it answers an error.
 fn undo<S: Alter>(conn: &mut Connection<S>) -> Result<usize, Error>
     requires { IsTrue (state S.Store conn.old).in_transaction }
-    ensures undone { HasCleanDisk (state S.Store conn.new) → IsRolledBack (state S.Store conn.old) (state S.Store conn.new) }
+    ensures undone { HasCleanDisk (state S.Store conn.new)
+        → IsRolledBack (state S.Store conn.old) (state S.Store conn.new) }
     ensures clean { HasCleanDisk (state S.Store conn.new) → HasCleanDisk (state S.Store conn.old) }
 {
     conn.execute("ROLLBACK", &[])

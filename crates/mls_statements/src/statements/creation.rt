@@ -18,8 +18,11 @@ pub fn has_nothing<S: Alter>(conn: &Connection<S>) -> bool
 
 /// Makes the table of nodes in a database that has nothing.
 pub fn create_node<S: Alter>(conn: &mut Connection<S>) -> Result<usize, Error>
-    ensures made { HasCleanDisk (state S.Store conn.new) → IsMade no_schema (state S.Store conn.old).now → OnOk result (IsMade with_node (state S.Store conn.new).now × IsNext (state S.Store conn.old) (state S.Store conn.new)) }
-    ensures err { HasCleanDisk (state S.Store conn.new) → OnErr result (IsEnded (state S.Store conn.old) (state S.Store conn.new)) }
+    ensures made { HasCleanDisk (state S.Store conn.new) → IsMade no_schema (state S.Store conn.old).now
+        → OnOk result (IsMade with_node (state S.Store conn.new).now
+        × IsNext (state S.Store conn.old) (state S.Store conn.new)) }
+    ensures err { HasCleanDisk (state S.Store conn.new)
+        → OnErr result (IsEnded (state S.Store conn.old) (state S.Store conn.new)) }
     ensures clean { HasCleanDisk (state S.Store conn.new) → HasCleanDisk (state S.Store conn.old) }
 {
     conn.execute(
@@ -30,8 +33,11 @@ pub fn create_node<S: Alter>(conn: &mut Connection<S>) -> Result<usize, Error>
 
 /// Makes the table of cells, after that of nodes.
 pub fn create_cell<S: Alter>(conn: &mut Connection<S>) -> Result<usize, Error>
-    ensures made { HasCleanDisk (state S.Store conn.new) → IsMade with_node (state S.Store conn.old).now → OnOk result (IsMade with_cell (state S.Store conn.new).now × IsNext (state S.Store conn.old) (state S.Store conn.new)) }
-    ensures err { HasCleanDisk (state S.Store conn.new) → OnErr result (IsEnded (state S.Store conn.old) (state S.Store conn.new)) }
+    ensures made { HasCleanDisk (state S.Store conn.new) → IsMade with_node (state S.Store conn.old).now
+        → OnOk result (IsMade with_cell (state S.Store conn.new).now
+        × IsNext (state S.Store conn.old) (state S.Store conn.new)) }
+    ensures err { HasCleanDisk (state S.Store conn.new)
+        → OnErr result (IsEnded (state S.Store conn.old) (state S.Store conn.new)) }
     ensures clean { HasCleanDisk (state S.Store conn.new) → HasCleanDisk (state S.Store conn.old) }
 {
     conn.execute(
@@ -42,8 +48,11 @@ pub fn create_cell<S: Alter>(conn: &mut Connection<S>) -> Result<usize, Error>
 
 /// Makes the audit table, after that of cells.
 pub fn create_audit<S: Alter>(conn: &mut Connection<S>) -> Result<usize, Error>
-    ensures made { HasCleanDisk (state S.Store conn.new) → IsMade with_cell (state S.Store conn.old).now → OnOk result (IsMade with_audit (state S.Store conn.new).now × IsNext (state S.Store conn.old) (state S.Store conn.new)) }
-    ensures err { HasCleanDisk (state S.Store conn.new) → OnErr result (IsEnded (state S.Store conn.old) (state S.Store conn.new)) }
+    ensures made { HasCleanDisk (state S.Store conn.new) → IsMade with_cell (state S.Store conn.old).now
+        → OnOk result (IsMade with_audit (state S.Store conn.new).now
+        × IsNext (state S.Store conn.old) (state S.Store conn.new)) }
+    ensures err { HasCleanDisk (state S.Store conn.new)
+        → OnErr result (IsEnded (state S.Store conn.old) (state S.Store conn.new)) }
     ensures clean { HasCleanDisk (state S.Store conn.new) → HasCleanDisk (state S.Store conn.old) }
 {
     conn.execute(
@@ -54,8 +63,11 @@ pub fn create_audit<S: Alter>(conn: &mut Connection<S>) -> Result<usize, Error>
 
 /// Makes the table that describes the store, the last of the four.
 pub fn create_meta<S: Alter>(conn: &mut Connection<S>) -> Result<usize, Error>
-    ensures made { HasCleanDisk (state S.Store conn.new) → IsMade with_audit (state S.Store conn.old).now → OnOk result (IsMade (schema no_others) (state S.Store conn.new).now × IsNext (state S.Store conn.old) (state S.Store conn.new)) }
-    ensures err { HasCleanDisk (state S.Store conn.new) → OnErr result (IsEnded (state S.Store conn.old) (state S.Store conn.new)) }
+    ensures made { HasCleanDisk (state S.Store conn.new) → IsMade with_audit (state S.Store conn.old).now
+        → OnOk result (IsMade (schema no_others) (state S.Store conn.new).now
+        × IsNext (state S.Store conn.old) (state S.Store conn.new)) }
+    ensures err { HasCleanDisk (state S.Store conn.new)
+        → OnErr result (IsEnded (state S.Store conn.old) (state S.Store conn.new)) }
     ensures clean { HasCleanDisk (state S.Store conn.new) → HasCleanDisk (state S.Store conn.old) }
 {
     conn.execute(
@@ -66,8 +78,12 @@ pub fn create_meta<S: Alter>(conn: &mut Connection<S>) -> Result<usize, Error>
 
 /// Makes the four tables in a database that has nothing, in a transaction.
 fn create_tables<S: Alter>(conn: &mut Connection<S>) -> Result<usize, Error>
-    ensures made { HasCleanDisk (state S.Store conn.new) → IsMade no_schema (state S.Store conn.old).now → OnOk result (IsMade (schema no_others) (state S.Store conn.new).now × IsNext (state S.Store conn.old) (state S.Store conn.new)) }
-    ensures err { HasCleanDisk (state S.Store conn.new) → IsMade no_schema (state S.Store conn.old).now → IsTrue (state S.Store conn.old).in_transaction → OnErr result (KeepsCommit (state S.Store conn.old) (state S.Store conn.new)) }
+    ensures made { HasCleanDisk (state S.Store conn.new) → IsMade no_schema (state S.Store conn.old).now
+        → OnOk result (IsMade (schema no_others) (state S.Store conn.new).now
+        × IsNext (state S.Store conn.old) (state S.Store conn.new)) }
+    ensures err { HasCleanDisk (state S.Store conn.new) → IsMade no_schema (state S.Store conn.old).now
+        → IsTrue (state S.Store conn.old).in_transaction
+        → OnErr result (KeepsCommit (state S.Store conn.old) (state S.Store conn.new)) }
     ensures clean { HasCleanDisk (state S.Store conn.new) → HasCleanDisk (state S.Store conn.old) }
 {
     create_node(conn)?;
@@ -83,8 +99,10 @@ pub fn create_store<S: Alter>(
     lattice: &str,
     schemes: &str,
 ) -> Result<usize, Error>
-    ensures made { HasCleanDisk (state S.Store conn.new) → (state S.Store conn.old).now.schema ≡ no_schema → OnOk result (IsNewStore version lattice.now schemes.now (state S.Store conn.new)) }
-    ensures err { HasCleanDisk (state S.Store conn.new) → (state S.Store conn.old).now.schema ≡ no_schema → OnErr result (KeepsCommit (state S.Store conn.old) (state S.Store conn.new)) }
+    ensures made { HasCleanDisk (state S.Store conn.new) → (state S.Store conn.old).now.schema ≡ no_schema
+        → OnOk result (IsNewStore version lattice.now schemes.now (state S.Store conn.new)) }
+    ensures err { HasCleanDisk (state S.Store conn.new) → (state S.Store conn.old).now.schema ≡ no_schema
+        → OnErr result (KeepsCommit (state S.Store conn.old) (state S.Store conn.new)) }
     ensures clean { HasCleanDisk (state S.Store conn.new) → HasCleanDisk (state S.Store conn.old) }
 {
     change::begin(conn)?;

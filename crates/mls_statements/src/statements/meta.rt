@@ -14,8 +14,11 @@ pub fn add_meta<S: Alter>(
     lattice: &str,
     schemes: &str,
 ) -> Result<usize, Error>
-    ensures added { HasCleanDisk (state S.Store conn.new) → IsReady (state S.Store conn.old).now → OnOk result (Changes (AddsMeta (first_meta version lattice.now schemes.now)) (state S.Store conn.old) (state S.Store conn.new)) }
-    ensures err { HasCleanDisk (state S.Store conn.new) → OnErr result (IsEnded (state S.Store conn.old) (state S.Store conn.new)) }
+    ensures added { HasCleanDisk (state S.Store conn.new) → IsReady (state S.Store conn.old).now
+        → OnOk result (Changes (AddsMeta (first_meta version lattice.now schemes.now)) (state S.Store conn.old)
+        (state S.Store conn.new)) }
+    ensures err { HasCleanDisk (state S.Store conn.new)
+        → OnErr result (IsEnded (state S.Store conn.old) (state S.Store conn.new)) }
     ensures clean { HasCleanDisk (state S.Store conn.new) → HasCleanDisk (state S.Store conn.old) }
 {
     conn.execute(
@@ -26,8 +29,10 @@ pub fn add_meta<S: Alter>(
 
 /// Drops every row that describes the store.
 pub fn clear_meta<S: Alter>(conn: &mut Connection<S>) -> Result<usize, Error>
-    ensures cleared { HasCleanDisk (state S.Store conn.new) → IsReady (state S.Store conn.old).now → OnOk result (Changes ClearsMeta (state S.Store conn.old) (state S.Store conn.new)) }
-    ensures err { HasCleanDisk (state S.Store conn.new) → OnErr result (IsEnded (state S.Store conn.old) (state S.Store conn.new)) }
+    ensures cleared { HasCleanDisk (state S.Store conn.new) → IsReady (state S.Store conn.old).now
+        → OnOk result (Changes ClearsMeta (state S.Store conn.old) (state S.Store conn.new)) }
+    ensures err { HasCleanDisk (state S.Store conn.new)
+        → OnErr result (IsEnded (state S.Store conn.old) (state S.Store conn.new)) }
     ensures clean { HasCleanDisk (state S.Store conn.new) → HasCleanDisk (state S.Store conn.old) }
 {
     conn.execute("DELETE FROM meta", &[])
@@ -35,10 +40,13 @@ pub fn clear_meta<S: Alter>(conn: &mut Connection<S>) -> Result<usize, Error>
 
 /// Every row that describes the store, with its four columns, in a database of the four tables.
 pub fn all_meta<S: Alter>(conn: &mut Connection<S>) -> Result<Vec<Row>, Error>
-    ensures found { HasCleanDisk (state S.Store conn.new) → HasTables (state S.Store conn.old).now.schema → IfOk result (λ rows. IsPermutation (map meta_columns ((state S.Store conn.old).now.trees 5)) rows.items) }
+    ensures found { HasCleanDisk (state S.Store conn.new) → HasTables (state S.Store conn.old).now.schema
+        → IfOk result (λ rows. IsPermutation (map meta_columns ((state S.Store conn.old).now.trees 5)) rows.items) }
     ensures open { HasCleanDisk (state S.Store conn.new) → OnOk result (IsTrue (state S.Store conn.old).is_open) }
-    ensures same { HasCleanDisk (state S.Store conn.new) → HasTables (state S.Store conn.old).now.schema → OnOk result (IsUnchanged (state S.Store conn.old) (state S.Store conn.new)) }
-    ensures err { HasCleanDisk (state S.Store conn.new) → OnErr result (IsEnded (state S.Store conn.old) (state S.Store conn.new)) }
+    ensures same { HasCleanDisk (state S.Store conn.new) → HasTables (state S.Store conn.old).now.schema
+        → OnOk result (IsUnchanged (state S.Store conn.old) (state S.Store conn.new)) }
+    ensures err { HasCleanDisk (state S.Store conn.new)
+        → OnErr result (IsEnded (state S.Store conn.old) (state S.Store conn.new)) }
     ensures clean { HasCleanDisk (state S.Store conn.new) → HasCleanDisk (state S.Store conn.old) }
 {
     conn.query_all("SELECT id, version, lattice, schemes FROM meta", &[])

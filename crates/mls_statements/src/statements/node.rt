@@ -14,8 +14,10 @@ use std::alloc::Global;
 
 /// Adds a node.
 pub fn add_node<S: Alter>(conn: &mut Connection<S>, node: &NodeRow) -> Result<usize, Error>
-    ensures added { HasCleanDisk (state S.Store conn.new) → IsReady (state S.Store conn.old).now → OnOk result (Changes (AddsNode node.now) (state S.Store conn.old) (state S.Store conn.new)) }
-    ensures err { HasCleanDisk (state S.Store conn.new) → OnErr result (IsEnded (state S.Store conn.old) (state S.Store conn.new)) }
+    ensures added { HasCleanDisk (state S.Store conn.new) → IsReady (state S.Store conn.old).now
+        → OnOk result (Changes (AddsNode node.now) (state S.Store conn.old) (state S.Store conn.new)) }
+    ensures err { HasCleanDisk (state S.Store conn.new)
+        → OnErr result (IsEnded (state S.Store conn.old) (state S.Store conn.new)) }
     ensures clean { HasCleanDisk (state S.Store conn.new) → HasCleanDisk (state S.Store conn.old) }
 {
     conn.execute(
@@ -32,8 +34,10 @@ pub fn add_node<S: Alter>(conn: &mut Connection<S>, node: &NodeRow) -> Result<us
 
 /// Adds nodes, in a change.
 pub fn add_nodes<S: Alter>(conn: &mut Connection<S>, nodes: &[NodeRow]) -> Result<(), Error>
-    ensures added { HasCleanDisk (state S.Store conn.new) → IsWithin (state S.Store conn.old) → OnOk result (GoesOn (AddsNodes nodes.now) (state S.Store conn.old) (state S.Store conn.new)) }
-    ensures err { HasCleanDisk (state S.Store conn.new) → IsWithin (state S.Store conn.old) → OnErr result (KeepsCommit (state S.Store conn.old) (state S.Store conn.new)) }
+    ensures added { HasCleanDisk (state S.Store conn.new) → IsWithin (state S.Store conn.old)
+        → OnOk result (GoesOn (AddsNodes nodes.now) (state S.Store conn.old) (state S.Store conn.new)) }
+    ensures err { HasCleanDisk (state S.Store conn.new) → IsWithin (state S.Store conn.old)
+        → OnErr result (KeepsCommit (state S.Store conn.old) (state S.Store conn.new)) }
     ensures clean { HasCleanDisk (state S.Store conn.new) → HasCleanDisk (state S.Store conn.old) }
 {
     for node in nodes {
@@ -44,8 +48,10 @@ pub fn add_nodes<S: Alter>(conn: &mut Connection<S>, nodes: &[NodeRow]) -> Resul
 
 /// Drops every node.
 pub fn clear_nodes<S: Alter>(conn: &mut Connection<S>) -> Result<usize, Error>
-    ensures cleared { HasCleanDisk (state S.Store conn.new) → IsReady (state S.Store conn.old).now → OnOk result (Changes ClearsNodes (state S.Store conn.old) (state S.Store conn.new)) }
-    ensures err { HasCleanDisk (state S.Store conn.new) → OnErr result (IsEnded (state S.Store conn.old) (state S.Store conn.new)) }
+    ensures cleared { HasCleanDisk (state S.Store conn.new) → IsReady (state S.Store conn.old).now
+        → OnOk result (Changes ClearsNodes (state S.Store conn.old) (state S.Store conn.new)) }
+    ensures err { HasCleanDisk (state S.Store conn.new)
+        → OnErr result (IsEnded (state S.Store conn.old) (state S.Store conn.new)) }
     ensures clean { HasCleanDisk (state S.Store conn.new) → HasCleanDisk (state S.Store conn.old) }
 {
     conn.execute("DELETE FROM node", &[])
@@ -59,8 +65,10 @@ pub fn drop_node<S: Alter>(
     kclass: u32,
     label: u32,
 ) -> Result<usize, Error>
-    ensures dropped { HasCleanDisk (state S.Store conn.new) → IsReady (state S.Store conn.old).now → OnOk result (Changes (DropsNode rel ent.now kclass label) (state S.Store conn.old) (state S.Store conn.new)) }
-    ensures err { HasCleanDisk (state S.Store conn.new) → OnErr result (IsEnded (state S.Store conn.old) (state S.Store conn.new)) }
+    ensures dropped { HasCleanDisk (state S.Store conn.new) → IsReady (state S.Store conn.old).now
+        → OnOk result (Changes (DropsNode rel ent.now kclass label) (state S.Store conn.old) (state S.Store conn.new)) }
+    ensures err { HasCleanDisk (state S.Store conn.new)
+        → OnErr result (IsEnded (state S.Store conn.old) (state S.Store conn.new)) }
     ensures clean { HasCleanDisk (state S.Store conn.new) → HasCleanDisk (state S.Store conn.old) }
 {
     conn.execute(
@@ -71,10 +79,15 @@ pub fn drop_node<S: Alter>(
 
 /// The nodes of one class, as rows of their five columns.
 pub fn nodes_at<S: Alter>(conn: &mut Connection<S>, rel: u32, label: u32) -> Result<Vec<Row>, Error>
-    ensures found { HasCleanDisk (state S.Store conn.new) → IsReady (state S.Store conn.old).now → IfOk result (λ rows. IsPermutation (map node_values (filter (is_node_at rel label) (tables_of (state S.Store conn.old).now.trees).nodes)) rows.items) }
+    ensures found { HasCleanDisk (state S.Store conn.new) → IsReady (state S.Store conn.old).now
+        → IfOk result (λ rows. IsPermutation
+        (map node_values (filter (is_node_at rel label) (tables_of (state S.Store conn.old).now.trees).nodes))
+        rows.items) }
     ensures open { HasCleanDisk (state S.Store conn.new) → OnOk result (IsTrue (state S.Store conn.old).is_open) }
-    ensures same { HasCleanDisk (state S.Store conn.new) → IsReady (state S.Store conn.old).now → OnOk result (IsUnchanged (state S.Store conn.old) (state S.Store conn.new)) }
-    ensures err { HasCleanDisk (state S.Store conn.new) → OnErr result (IsEnded (state S.Store conn.old) (state S.Store conn.new)) }
+    ensures same { HasCleanDisk (state S.Store conn.new) → IsReady (state S.Store conn.old).now
+        → OnOk result (IsUnchanged (state S.Store conn.old) (state S.Store conn.new)) }
+    ensures err { HasCleanDisk (state S.Store conn.new)
+        → OnErr result (IsEnded (state S.Store conn.old) (state S.Store conn.new)) }
     ensures clean { HasCleanDisk (state S.Store conn.new) → HasCleanDisk (state S.Store conn.old) }
 {
     conn.query_all(
@@ -91,10 +104,15 @@ pub fn nodes_of<S: Alter>(
     kclass: u32,
     label: u32,
 ) -> Result<Vec<Row>, Error>
-    ensures found { HasCleanDisk (state S.Store conn.new) → IsReady (state S.Store conn.old).now → IfOk result (λ rows. IsPermutation (map node_values (filter (is_node rel ent.now kclass label) (tables_of (state S.Store conn.old).now.trees).nodes)) rows.items) }
+    ensures found { HasCleanDisk (state S.Store conn.new) → IsReady (state S.Store conn.old).now
+        → IfOk result (λ rows. IsPermutation
+        (map node_values (filter (is_node rel ent.now kclass label)
+        (tables_of (state S.Store conn.old).now.trees).nodes)) rows.items) }
     ensures open { HasCleanDisk (state S.Store conn.new) → OnOk result (IsTrue (state S.Store conn.old).is_open) }
-    ensures same { HasCleanDisk (state S.Store conn.new) → IsReady (state S.Store conn.old).now → OnOk result (IsUnchanged (state S.Store conn.old) (state S.Store conn.new)) }
-    ensures err { HasCleanDisk (state S.Store conn.new) → OnErr result (IsEnded (state S.Store conn.old) (state S.Store conn.new)) }
+    ensures same { HasCleanDisk (state S.Store conn.new) → IsReady (state S.Store conn.old).now
+        → OnOk result (IsUnchanged (state S.Store conn.old) (state S.Store conn.new)) }
+    ensures err { HasCleanDisk (state S.Store conn.new)
+        → OnErr result (IsEnded (state S.Store conn.old) (state S.Store conn.new)) }
     ensures clean { HasCleanDisk (state S.Store conn.new) → HasCleanDisk (state S.Store conn.old) }
 {
     conn.query_all(
@@ -111,10 +129,15 @@ pub fn patterns_of<S: Alter>(
     kclass: u32,
     label: u32,
 ) -> Result<Vec<Row>, Error>
-    ensures found { HasCleanDisk (state S.Store conn.new) → IsReady (state S.Store conn.old).now → IfOk result (λ rows. IsPermutation (map pattern_values (filter (is_node rel ent.now kclass label) (tables_of (state S.Store conn.old).now.trees).nodes)) rows.items) }
+    ensures found { HasCleanDisk (state S.Store conn.new) → IsReady (state S.Store conn.old).now
+        → IfOk result (λ rows. IsPermutation
+        (map pattern_values (filter (is_node rel ent.now kclass label)
+        (tables_of (state S.Store conn.old).now.trees).nodes)) rows.items) }
     ensures open { HasCleanDisk (state S.Store conn.new) → OnOk result (IsTrue (state S.Store conn.old).is_open) }
-    ensures same { HasCleanDisk (state S.Store conn.new) → IsReady (state S.Store conn.old).now → OnOk result (IsUnchanged (state S.Store conn.old) (state S.Store conn.new)) }
-    ensures err { HasCleanDisk (state S.Store conn.new) → OnErr result (IsEnded (state S.Store conn.old) (state S.Store conn.new)) }
+    ensures same { HasCleanDisk (state S.Store conn.new) → IsReady (state S.Store conn.old).now
+        → OnOk result (IsUnchanged (state S.Store conn.old) (state S.Store conn.new)) }
+    ensures err { HasCleanDisk (state S.Store conn.new)
+        → OnErr result (IsEnded (state S.Store conn.old) (state S.Store conn.new)) }
     ensures clean { HasCleanDisk (state S.Store conn.new) → HasCleanDisk (state S.Store conn.old) }
 {
     conn.query_all(
@@ -125,10 +148,13 @@ pub fn patterns_of<S: Alter>(
 
 /// Every row of the table of nodes, with its rowid last, in a database of the four tables.
 pub fn all_nodes<S: Alter>(conn: &mut Connection<S>) -> Result<Vec<Row>, Error>
-    ensures found { HasCleanDisk (state S.Store conn.new) → HasTables (state S.Store conn.old).now.schema → IfOk result (λ rows. IsPermutation (map node_columns ((state S.Store conn.old).now.trees 0)) rows.items) }
+    ensures found { HasCleanDisk (state S.Store conn.new) → HasTables (state S.Store conn.old).now.schema
+        → IfOk result (λ rows. IsPermutation (map node_columns ((state S.Store conn.old).now.trees 0)) rows.items) }
     ensures open { HasCleanDisk (state S.Store conn.new) → OnOk result (IsTrue (state S.Store conn.old).is_open) }
-    ensures same { HasCleanDisk (state S.Store conn.new) → HasTables (state S.Store conn.old).now.schema → OnOk result (IsUnchanged (state S.Store conn.old) (state S.Store conn.new)) }
-    ensures err { HasCleanDisk (state S.Store conn.new) → OnErr result (IsEnded (state S.Store conn.old) (state S.Store conn.new)) }
+    ensures same { HasCleanDisk (state S.Store conn.new) → HasTables (state S.Store conn.old).now.schema
+        → OnOk result (IsUnchanged (state S.Store conn.old) (state S.Store conn.new)) }
+    ensures err { HasCleanDisk (state S.Store conn.new)
+        → OnErr result (IsEnded (state S.Store conn.old) (state S.Store conn.new)) }
     ensures clean { HasCleanDisk (state S.Store conn.new) → HasCleanDisk (state S.Store conn.old) }
 {
     conn.query_all(
@@ -144,10 +170,15 @@ pub fn read_nodes_at<S: Alter>(
     rel: u32,
     label: u32,
 ) -> Result<Vec<NodeRow>, Error>
-    ensures found { HasCleanDisk (state S.Store conn.new) → IsReady (state S.Store conn.old).now → IfOk result (λ found. IsPermutation (filter (is_node_at rel label) (tables_of (state S.Store conn.old).now.trees).nodes) found.items) }
+    ensures found { HasCleanDisk (state S.Store conn.new) → IsReady (state S.Store conn.old).now
+        → IfOk result (λ found. IsPermutation
+        (filter (is_node_at rel label) (tables_of (state S.Store conn.old).now.trees).nodes) found.items) }
     ensures open { HasCleanDisk (state S.Store conn.new) → OnOk result (IsTrue (state S.Store conn.old).is_open) }
-    ensures same { HasCleanDisk (state S.Store conn.new) → IsReady (state S.Store conn.old).now → OnOk result (IsUnchanged (state S.Store conn.old) (state S.Store conn.new)) }
-    ensures err { HasCleanDisk (state S.Store conn.new) → (IsTrue (state S.Store conn.old).is_open → IsReady (state S.Store conn.old).now) → OnErr result (IsEnded (state S.Store conn.old) (state S.Store conn.new)) }
+    ensures same { HasCleanDisk (state S.Store conn.new) → IsReady (state S.Store conn.old).now
+        → OnOk result (IsUnchanged (state S.Store conn.old) (state S.Store conn.new)) }
+    ensures err { HasCleanDisk (state S.Store conn.new)
+        → (IsTrue (state S.Store conn.old).is_open → IsReady (state S.Store conn.old).now)
+        → OnErr result (IsEnded (state S.Store conn.old) (state S.Store conn.new)) }
     ensures clean { HasCleanDisk (state S.Store conn.new) → HasCleanDisk (state S.Store conn.old) }
 {
     nodes_from(alloc, &nodes_at(conn, rel, label)?)
@@ -162,10 +193,15 @@ pub fn read_nodes_of<S: Alter>(
     kclass: u32,
     label: u32,
 ) -> Result<Vec<NodeRow>, Error>
-    ensures found { HasCleanDisk (state S.Store conn.new) → IsReady (state S.Store conn.old).now → IfOk result (λ found. IsPermutation (filter (is_node rel ent.now kclass label) (tables_of (state S.Store conn.old).now.trees).nodes) found.items) }
+    ensures found { HasCleanDisk (state S.Store conn.new) → IsReady (state S.Store conn.old).now
+        → IfOk result (λ found. IsPermutation
+        (filter (is_node rel ent.now kclass label) (tables_of (state S.Store conn.old).now.trees).nodes) found.items) }
     ensures open { HasCleanDisk (state S.Store conn.new) → OnOk result (IsTrue (state S.Store conn.old).is_open) }
-    ensures same { HasCleanDisk (state S.Store conn.new) → IsReady (state S.Store conn.old).now → OnOk result (IsUnchanged (state S.Store conn.old) (state S.Store conn.new)) }
-    ensures err { HasCleanDisk (state S.Store conn.new) → (IsTrue (state S.Store conn.old).is_open → IsReady (state S.Store conn.old).now) → OnErr result (IsEnded (state S.Store conn.old) (state S.Store conn.new)) }
+    ensures same { HasCleanDisk (state S.Store conn.new) → IsReady (state S.Store conn.old).now
+        → OnOk result (IsUnchanged (state S.Store conn.old) (state S.Store conn.new)) }
+    ensures err { HasCleanDisk (state S.Store conn.new)
+        → (IsTrue (state S.Store conn.old).is_open → IsReady (state S.Store conn.old).now)
+        → OnErr result (IsEnded (state S.Store conn.old) (state S.Store conn.new)) }
     ensures clean { HasCleanDisk (state S.Store conn.new) → HasCleanDisk (state S.Store conn.old) }
 {
     nodes_from(alloc, &nodes_of(conn, rel, ent, kclass, label)?)
@@ -180,10 +216,16 @@ pub fn read_patterns_of<S: Alter>(
     kclass: u32,
     label: u32,
 ) -> Result<Vec<Items<u8>>, Error>
-    ensures found { HasCleanDisk (state S.Store conn.new) → IsReady (state S.Store conn.old).now → IfOk result (λ found. IsPermutation (map (λ n. n.pattern) (filter (is_node rel ent.now kclass label) (tables_of (state S.Store conn.old).now.trees).nodes)) found.items) }
+    ensures found { HasCleanDisk (state S.Store conn.new) → IsReady (state S.Store conn.old).now
+        → IfOk result (λ found. IsPermutation
+        (map (λ n. n.pattern) (filter (is_node rel ent.now kclass label)
+        (tables_of (state S.Store conn.old).now.trees).nodes)) found.items) }
     ensures open { HasCleanDisk (state S.Store conn.new) → OnOk result (IsTrue (state S.Store conn.old).is_open) }
-    ensures same { HasCleanDisk (state S.Store conn.new) → IsReady (state S.Store conn.old).now → OnOk result (IsUnchanged (state S.Store conn.old) (state S.Store conn.new)) }
-    ensures err { HasCleanDisk (state S.Store conn.new) → (IsTrue (state S.Store conn.old).is_open → IsReady (state S.Store conn.old).now) → OnErr result (IsEnded (state S.Store conn.old) (state S.Store conn.new)) }
+    ensures same { HasCleanDisk (state S.Store conn.new) → IsReady (state S.Store conn.old).now
+        → OnOk result (IsUnchanged (state S.Store conn.old) (state S.Store conn.new)) }
+    ensures err { HasCleanDisk (state S.Store conn.new)
+        → (IsTrue (state S.Store conn.old).is_open → IsReady (state S.Store conn.old).now)
+        → OnErr result (IsEnded (state S.Store conn.old) (state S.Store conn.new)) }
     ensures clean { HasCleanDisk (state S.Store conn.new) → HasCleanDisk (state S.Store conn.old) }
 {
     bytes_from(alloc, &patterns_of(conn, rel, ent, kclass, label)?)

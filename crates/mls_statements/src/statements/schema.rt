@@ -93,7 +93,8 @@ fn is_by_index(table: &Table, places: &[usize]) -> bool
 
 /// Whether the table has this name, this tree and these columns.
 fn has_shape(table: &Table, name: &str, tree: u32, columns: &[(&str, Kind)]) -> bool
-    ensures { IsTrue result ↔ ((table.now.name ≡ name.now) × ((table.now.tree ≡ tree) × (table.now.columns ≡ map (λ w. needed w.0.now w.1) columns.now))) }
+    ensures { IsTrue result ↔ ((table.now.name ≡ name.now)
+        × ((table.now.tree ≡ tree) × (table.now.columns ≡ map (λ w. needed w.0.now w.1) columns.now))) }
 {
     table.name.as_slice() == name.as_bytes()
         && table.tree == tree
@@ -113,7 +114,8 @@ fn is_index_table(
     columns: &[(&str, Kind)],
     places: &[usize],
 ) -> bool
-    ensures { IsTrue result ↔ (table.now ≡ by_index name.now tree (map (λ w. needed w.0.now w.1) columns.now) places.now) }
+    ensures { IsTrue result ↔ (table.now
+        ≡ by_index name.now tree (map (λ w. needed w.0.now w.1) columns.now) places.now) }
 {
     has_shape(table, name, tree, columns) && is_by_index(table, places) && has_no_rules(table)
 }

@@ -39,7 +39,8 @@ fn tested<T: Drop>(
 ) -> Result<Vec<T>, AdoptFault>
     ensures read { IfOk result (λ xs. read ≡ Ok xs) }
     ensures rise { OnOk result (AreRising at rows.now) }
-    ensures bad { IfErr result (λ e. e ≡ AdoptFault.BadRows → HaveIds at rows.now → (error : SqlError) × (read ≡ Err error) × (error ≢ SqliteFailure OutOfMemory)) }
+    ensures bad { IfErr result (λ e. e ≡ AdoptFault.BadRows → HaveIds at rows.now
+        → (error : SqlError) × (read ≡ Err error) × (error ≢ SqliteFailure OutOfMemory)) }
 {
     test_rowids(rows, at)?;
     read.map_err(AdoptFault::of_row)
@@ -47,10 +48,15 @@ fn tested<T: Drop>(
 
 /// Every node.
 pub fn nodes<S: Alter>(conn: &mut Connection<S>, alloc: Global) -> Result<Vec<NodeRow>, AdoptFault>
-    ensures rows { HasCleanDisk (state S.Store conn.new) → HasTables (state S.Store conn.old).now.schema → IfOk result (λ rows. AreRows is_node_row ((state S.Store conn.old).now.trees 0) × IsPermutation (tables_of (state S.Store conn.old).now.trees).nodes rows.items) }
-    ensures same { HasCleanDisk (state S.Store conn.new) → HasTables (state S.Store conn.old).now.schema → OnOk result (IsUnchanged (state S.Store conn.old) (state S.Store conn.new)) }
-    ensures err { HasCleanDisk (state S.Store conn.new) → HasTables (state S.Store conn.old).now.schema → OnErr result (KeepsCommit (state S.Store conn.old) (state S.Store conn.new)) }
-    ensures bad { HasCleanDisk (state S.Store conn.new) → HasTables (state S.Store conn.old).now.schema → IfErr result (Blames (AreNodes (map node_columns ((state S.Store conn.old).now.trees 0)))) }
+    ensures rows { HasCleanDisk (state S.Store conn.new) → HasTables (state S.Store conn.old).now.schema
+        → IfOk result (λ rows. AreRows is_node_row ((state S.Store conn.old).now.trees 0)
+        × IsPermutation (tables_of (state S.Store conn.old).now.trees).nodes rows.items) }
+    ensures same { HasCleanDisk (state S.Store conn.new) → HasTables (state S.Store conn.old).now.schema
+        → OnOk result (IsUnchanged (state S.Store conn.old) (state S.Store conn.new)) }
+    ensures err { HasCleanDisk (state S.Store conn.new) → HasTables (state S.Store conn.old).now.schema
+        → OnErr result (KeepsCommit (state S.Store conn.old) (state S.Store conn.new)) }
+    ensures bad { HasCleanDisk (state S.Store conn.new) → HasTables (state S.Store conn.old).now.schema
+        → IfErr result (Blames (AreNodes (map node_columns ((state S.Store conn.old).now.trees 0)))) }
     ensures clean { HasCleanDisk (state S.Store conn.new) → HasCleanDisk (state S.Store conn.old) }
 {
     match node::all_nodes(conn) {
@@ -61,10 +67,15 @@ pub fn nodes<S: Alter>(conn: &mut Connection<S>, alloc: Global) -> Result<Vec<No
 
 /// Every cell.
 pub fn cells<S: Alter>(conn: &mut Connection<S>, alloc: Global) -> Result<Vec<CellRow>, AdoptFault>
-    ensures rows { HasCleanDisk (state S.Store conn.new) → HasTables (state S.Store conn.old).now.schema → IfOk result (λ rows. AreRows is_cell_row ((state S.Store conn.old).now.trees 2) × IsPermutation (tables_of (state S.Store conn.old).now.trees).cells rows.items) }
-    ensures same { HasCleanDisk (state S.Store conn.new) → HasTables (state S.Store conn.old).now.schema → OnOk result (IsUnchanged (state S.Store conn.old) (state S.Store conn.new)) }
-    ensures err { HasCleanDisk (state S.Store conn.new) → HasTables (state S.Store conn.old).now.schema → OnErr result (KeepsCommit (state S.Store conn.old) (state S.Store conn.new)) }
-    ensures bad { HasCleanDisk (state S.Store conn.new) → HasTables (state S.Store conn.old).now.schema → IfErr result (Blames (AreCells (map cell_columns ((state S.Store conn.old).now.trees 2)))) }
+    ensures rows { HasCleanDisk (state S.Store conn.new) → HasTables (state S.Store conn.old).now.schema
+        → IfOk result (λ rows. AreRows is_cell_row ((state S.Store conn.old).now.trees 2)
+        × IsPermutation (tables_of (state S.Store conn.old).now.trees).cells rows.items) }
+    ensures same { HasCleanDisk (state S.Store conn.new) → HasTables (state S.Store conn.old).now.schema
+        → OnOk result (IsUnchanged (state S.Store conn.old) (state S.Store conn.new)) }
+    ensures err { HasCleanDisk (state S.Store conn.new) → HasTables (state S.Store conn.old).now.schema
+        → OnErr result (KeepsCommit (state S.Store conn.old) (state S.Store conn.new)) }
+    ensures bad { HasCleanDisk (state S.Store conn.new) → HasTables (state S.Store conn.old).now.schema
+        → IfErr result (Blames (AreCells (map cell_columns ((state S.Store conn.old).now.trees 2)))) }
     ensures clean { HasCleanDisk (state S.Store conn.new) → HasCleanDisk (state S.Store conn.old) }
 {
     match cell::all_cells(conn) {
@@ -78,10 +89,15 @@ pub fn entries<S: Alter>(
     conn: &mut Connection<S>,
     alloc: Global,
 ) -> Result<Vec<AuditRow>, AdoptFault>
-    ensures rows { HasCleanDisk (state S.Store conn.new) → HasTables (state S.Store conn.old).now.schema → IfOk result (λ rows. AreRows is_audit_row ((state S.Store conn.old).now.trees 4) × IsPermutation (tables_of (state S.Store conn.old).now.trees).audit rows.items) }
-    ensures same { HasCleanDisk (state S.Store conn.new) → HasTables (state S.Store conn.old).now.schema → OnOk result (IsUnchanged (state S.Store conn.old) (state S.Store conn.new)) }
-    ensures err { HasCleanDisk (state S.Store conn.new) → HasTables (state S.Store conn.old).now.schema → OnErr result (KeepsCommit (state S.Store conn.old) (state S.Store conn.new)) }
-    ensures bad { HasCleanDisk (state S.Store conn.new) → HasTables (state S.Store conn.old).now.schema → IfErr result (Blames (AreEntries (map audit_columns ((state S.Store conn.old).now.trees 4)))) }
+    ensures rows { HasCleanDisk (state S.Store conn.new) → HasTables (state S.Store conn.old).now.schema
+        → IfOk result (λ rows. AreRows is_audit_row ((state S.Store conn.old).now.trees 4)
+        × IsPermutation (tables_of (state S.Store conn.old).now.trees).audit rows.items) }
+    ensures same { HasCleanDisk (state S.Store conn.new) → HasTables (state S.Store conn.old).now.schema
+        → OnOk result (IsUnchanged (state S.Store conn.old) (state S.Store conn.new)) }
+    ensures err { HasCleanDisk (state S.Store conn.new) → HasTables (state S.Store conn.old).now.schema
+        → OnErr result (KeepsCommit (state S.Store conn.old) (state S.Store conn.new)) }
+    ensures bad { HasCleanDisk (state S.Store conn.new) → HasTables (state S.Store conn.old).now.schema
+        → IfErr result (Blames (AreEntries (map audit_columns ((state S.Store conn.old).now.trees 4)))) }
     ensures clean { HasCleanDisk (state S.Store conn.new) → HasCleanDisk (state S.Store conn.old) }
 {
     match audit::all_entries(conn) {
@@ -111,7 +127,8 @@ fn one_description(mut found: Vec<MetaRow>) -> Result<MetaRow, AdoptFault>
 fn shown_description(alloc: Global, rows: &[Row]) -> Result<MetaRow, AdoptFault>
     ensures ok { IfOk result (λ m. (map shown_meta rows.now ≡ m ∷ []) × IsVersion m.version) }
     ensures whole { OnOk result (AllByRecursion (λ r. shows_meta r ≡ true) rows.now) }
-    ensures bad { IfErr result (λ e. e ≡ AdoptFault.BadRows → AllByRecursion ReadsMeta rows.now → ¬ ((m : SpecMeta) × (map shown_meta rows.now ≡ m ∷ []) × IsVersion m.version)) }
+    ensures bad { IfErr result (λ e. e ≡ AdoptFault.BadRows → AllByRecursion ReadsMeta rows.now
+        → ¬ ((m : SpecMeta) × (map shown_meta rows.now ≡ m ∷ []) × IsVersion m.version)) }
 {
     match meta_from(alloc, rows) {
         Ok(found) => one_description(found),
@@ -121,10 +138,14 @@ fn shown_description(alloc: Global, rows: &[Row]) -> Result<MetaRow, AdoptFault>
 
 /// The one row of version 1 or 2 that describes the store.
 pub fn description<S: Alter>(conn: &mut Connection<S>, alloc: Global) -> Result<MetaRow, AdoptFault>
-    ensures described { HasCleanDisk (state S.Store conn.new) → HasTables (state S.Store conn.old).now.schema → IfOk result (λ m. IsDescribed m (state S.Store conn.old).now) }
-    ensures same { HasCleanDisk (state S.Store conn.new) → HasTables (state S.Store conn.old).now.schema → OnOk result (IsUnchanged (state S.Store conn.old) (state S.Store conn.new)) }
-    ensures err { HasCleanDisk (state S.Store conn.new) → HasTables (state S.Store conn.old).now.schema → OnErr result (KeepsCommit (state S.Store conn.old) (state S.Store conn.new)) }
-    ensures bad { HasCleanDisk (state S.Store conn.new) → HasTables (state S.Store conn.old).now.schema → IfErr result (Blames (IsReadDescription (state S.Store conn.old).now)) }
+    ensures described { HasCleanDisk (state S.Store conn.new) → HasTables (state S.Store conn.old).now.schema
+        → IfOk result (λ m. IsDescribed m (state S.Store conn.old).now) }
+    ensures same { HasCleanDisk (state S.Store conn.new) → HasTables (state S.Store conn.old).now.schema
+        → OnOk result (IsUnchanged (state S.Store conn.old) (state S.Store conn.new)) }
+    ensures err { HasCleanDisk (state S.Store conn.new) → HasTables (state S.Store conn.old).now.schema
+        → OnErr result (KeepsCommit (state S.Store conn.old) (state S.Store conn.new)) }
+    ensures bad { HasCleanDisk (state S.Store conn.new) → HasTables (state S.Store conn.old).now.schema
+        → IfErr result (Blames (IsReadDescription (state S.Store conn.old).now)) }
     ensures clean { HasCleanDisk (state S.Store conn.new) → HasCleanDisk (state S.Store conn.old) }
 {
     match meta::all_meta(conn) {

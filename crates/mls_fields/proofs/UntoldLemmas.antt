@@ -1,23 +1,23 @@
 -- No field has a fault of another number than those of fields.
-use Rattle.std.proofs.Common.{◌≡◌, ℕ, zero, suc, ◌+◌, ◌==◌, Bool, true, false, not, ◌&&◌, ◌||◌, List, [], ◌∷◌, ◌++◌, length, take, Option, Some, None, slice_get, refl, ap, ◌∙◌}
+use Rattle.std.proofs.Common.{◌≡◌, ℕ, zero, suc, ◌+◌, ◌==◌, Bool, true, false, not, ◌&&◌, ◌||◌, List, [], ◌∷◌, ◌++◌, length, take, Option, Some, None, is_some, slice_get, refl, ap, ◌∙◌}
 use Rattle.std.specs.Prelude.{if◌then◌else◌}
 use Rattle.std.specs.List.{list_any, flat_map}
 use Rattle.std.proofs.lemmas.Bool.{or_parts}
 use Rattle.std.proofs.lemmas.List.Folds.{list_any-append}
-use Rattle.std.specs.Str.{bytes_eq}
 use Rattle.toml.specs.Data.{Data, Items, no_items, item, Members, table, as_str, as_array}
 use Rattle.mls_lattice.specs.declared.fault.PolicyFault.{PolicyFault}
-use Rattle.mls_lattice.specs.declared.fault.PolicyFault.TheVariants.{MissingField, WrongKind, Repeated, UnknownName, BadName}
+use Rattle.mls_lattice.specs.declared.fault.PolicyFault.TheVariants.{MissingField, WrongKind, Repeated, UnknownName, TooMany, BadName, EmptyInterval}
 use Rattle.mls_lattice.specs.Fault.{code_of}
-use Rattle.mls_lattice.specs.Policy.{Name}
+use Rattle.mls_lattice.specs.Policy.{Name, Tables}
 use Rattle.mls_fields.specs.declared.fault.TheConstants.{FIELD_FAULTS}
-use Rattle.mls_fields.specs.declared.table.Thing.{Thing}
 use Rattle.mls_fields.specs.declared.table.Row.{Row}
 use Rattle.mls_fields.specs.declared.field.Field.{Field}
 use Rattle.mls_fields.specs.Table.{wants_name, may_lack, may_be_empty}
-use Rattle.mls_fields.specs.Field.{has_count, fits, is_no_name, fault_in, fault_of, field_of}
-use Rattle.mls_fields.specs.Walk.{numbered, joined, member, items_in, each, field_at, below, entry_fields, fields_of}
-use Rattle.mls_fields.specs.Fault.{text_of, declares_same, names_of, name_fault, text_fault, fault_among, is_code, is_field_code, has_fault}
+use Rattle.mls_fields.specs.Member.{member, items_in}
+use Rattle.mls_fields.specs.Form.{has_count, fits, excess}
+use Rattle.mls_fields.specs.Field.{is_no_name, fault_in, fault_of, field_of}
+use Rattle.mls_fields.specs.Walk.{numbered, joined, each, field_at, below, entry_fields, fields_of}
+use Rattle.mls_fields.specs.Fault.{has_beside, has_among, is_field_code, has_fault}
 use Rattle.mls_fields.specs.Telling.{IsTold}
 
 -- ---- tests that nothing passes
@@ -40,6 +40,17 @@ none_at p (y ∷ xs) (suc i) x off is = none_at p xs i x (or_parts (p y) (list_a
 
 -- ---- the number of no fault of fields
 
+abbrev is_code : ℕ → Option PolicyFault → Bool
+is_code code None = false
+is_code code (Some e) = code_of e == code
+
+-- none of three tests is made
+none_made : (a b c x y z : Bool) → a ≡ false → b ≡ false → c ≡ false → (if a then x else (if b then y else (if c then z else false))) ≡ false
+none_made true b c x y z d e h = absurd cc
+none_made false true c x y z d e h = absurd cc
+none_made false false true x y z d e h = absurd cc
+none_made false false false x y z d e h = refl
+
 module _ (code : ℕ) (no_field : is_field_code code ≡ false) where
   off : (i : ℕ) (e : PolicyFault) → slice_get FIELD_FAULTS i ≡ Some e → is_code code (Some e) ≡ false
   off i e is = none_at (λ (e : PolicyFault). code_of e == code) FIELD_FAULTS i e no_field is
@@ -49,32 +60,34 @@ module _ (code : ℕ) (no_field : is_field_code code ≡ false) where
   abbrev has : Field → Bool
   has f = is_code code f.fault
 
-  own-off : (a b c : Bool) → is_code code (if a then Some WrongKind else (if b then Some MissingField else (if c then Some BadName else None))) ≡ false
-  own-off true b c = off 1 WrongKind refl
-  own-off false true c = off 0 MissingField refl
-  own-off false false true = off 4 BadName refl
-  own-off false false false = refl
+  own-off : (a b c e : Bool)
+      → is_code code (if a then Some WrongKind else (if b then Some MissingField else (if c then Some TooMany else (if e then Some BadName else None)))) ≡ false
+  own-off true b c e = off 1 WrongKind refl
+  own-off false true c e = off 0 MissingField refl
+  own-off false false true e = off 4 TooMany refl
+  own-off false false false true = off 5 BadName refl
+  own-off false false false false = refl
 
   fault_in-off : (row : Row) (d : Data) → is_code code (fault_in row d) ≡ false
   unfolding fault_in
   fault_in-off row d =
-      own-off (not (fits row.form d)) (has_count 0 (as_array d) && not (may_be_empty row.need)) (wants_name row.role && is_no_name (as_str d))
+      own-off (not (fits row.form d)) (has_count 0 (as_array d) && not (may_be_empty row.need)) (is_some (excess row.form d)) (wants_name row.role && is_no_name (as_str d))
 
   fault_of-off : (row : Row) (d : Option Data) → is_code code (fault_of row d) ≡ false
   fault_of-off row None = neither (is_code code) (may_lack row.need) None (Some MissingField) refl (off 0 MissingField refl)
   fault_of-off row (Some d) = fault_in-off row d
 
-  field_of-off : (row : Row) (path : List ℕ) (d : Option Data) → has (field_of row path d) ≡ false
+  field_of-off : (row : Row) (path : List ℕ) (place d : Option Data) → has (field_of row path place d) ≡ false
   unfolding field_of
-  field_of-off row path d = fault_of-off row d
+  field_of-off row path place d = fault_of-off row d
 
   -- ---- those of a document
 
   field_at-off : (row : Row) (key : Name) (path : List ℕ) (d : Option Data) → has (field_at row key path d) ≡ false
   unfolding field_at
   field_at-off row key path d =
-      neither has (length key == 0) (field_of row path d) (field_of row (joined path key) (member key d))
-      (field_of-off row path d) (field_of-off row (joined path key) (member key d))
+      neither has (length key == 0) (field_of row path d d) (field_of row (joined path key) d (member key d))
+      (field_of-off row path d d) (field_of-off row (joined path key) d (member key d))
 
   each-off : (f : ℕ → Data → List Field) → ((n : ℕ) (d : Data) → list_any has (f n d) ≡ false) → (n : ℕ) (ds : Items) → list_any has (each f n ds) ≡ false
   unfolding each
@@ -96,34 +109,26 @@ module _ (code : ℕ) (no_field : is_field_code code ≡ false) where
 
   -- ---- a field among the others
 
-  module _ (labels : List Name) (fields : List Field) where
-    name-off : (before : List Field) (f : Field) (declared used : Option Thing) (name : Name) → is_code code (name_fault labels fields before f declared used name) ≡ false
-    unfolding name_fault
-    name-off before f (Some t) used name =
-        neither (is_code code) (list_any (declares_same t name f) before) (Some Repeated) None (off 2 Repeated refl) refl
-    name-off before f None (Some t) name =
-        neither (is_code code) (list_any (bytes_eq name) (names_of labels fields t)) None (Some UnknownName) refl (off 3 UnknownName refl)
-    name-off before f None None name = refl
+  module _ (policy : Option Tables) (fields : List Field) where
+    beside-off : (before : List Field) (f : Field) → has_beside policy fields code before f ≡ false
+    unfolding has_beside
+    beside-off before f = none_made _ _ _ _ _ _ (off 3 UnknownName refl) (off 2 Repeated refl) (off 6 EmptyInterval refl)
 
-    text-off : (before : List Field) (f : Field) (text : Option Name) → is_code code (text_fault labels fields before f text) ≡ false
-    text-off before f None = refl
-    text-off before f (Some name) = name-off before f _ _ name
-
-    among-off : (before : List Field) (f : Field) (own : Option PolicyFault) → is_code code own ≡ false → is_code code (fault_among labels fields before f own) ≡ false
+    among-off : (before : List Field) (f : Field) (own : Option PolicyFault) → is_code code own ≡ false → has_among policy fields code before f own ≡ false
     among-off before f (Some e) h = h
-    among-off before f None h = text-off before f (text_of f.content)
+    among-off before f None h = beside-off before f
 
-    at-off : list_any has fields ≡ false → (i : ℕ) (f : Option Field) → slice_get fields i ≡ f → has_fault labels fields code i f ≡ false
+    at-off : list_any has fields ≡ false → (i : ℕ) (f : Option Field) → slice_get fields i ≡ f → has_fault policy fields code i f ≡ false
     at-off none i None is = refl
     at-off none i (Some f) is = among-off (take i fields) f f.fault (none_at has fields i f none is)
 
 -- no field is told of such a number
-pub untold : {T : Type 0} (text : T → Name) (rows : List (List T × T × Row)) (labels : List Name) (code : ℕ) (bytes : List ℕ) → is_field_code code ≡ false
-    → IsTold (fields_of text rows) labels code bytes []
-untold text rows labels code bytes no_field = record {
+pub untold : {T : Type 0} (text : T → Name) (rows : List (List T × T × Row)) (policy : Option Tables) (code : ℕ) (bytes : List ℕ) → is_field_code code ≡ false
+    → IsTold (fields_of text rows) policy code bytes []
+untold text rows policy code bytes no_field = record {
   told = λ document is. record {
     found = None;
-    is_first = λ i within. at-off code no_field labels (fields_of text rows document) (fields_of-off code no_field text rows document) i _ refl;
+    is_first = λ i within. at-off code no_field policy (fields_of text rows document) (fields_of-off code no_field text rows document) i _ refl;
     told = refl;
   };
   none = λ no_document. refl;

@@ -1,6 +1,13 @@
 pub mod Table
+pub mod Member
+pub mod Form
+pub mod Content
 pub mod Field
 pub mod Walk
+pub mod Naming
+pub mod Repeating
+pub mod Interval
 pub mod Fault
 pub mod Telling
 pub mod Laws
+pub mod Limits

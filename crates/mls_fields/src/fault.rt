@@ -1,21 +1,27 @@
 //! The fault of a field among the others, and the first field that has one.
-ghost use Rattle.std.specs.Prelude.{◌≡◌, ◌<◌, length, slice_get, slice_index_or, take};
+ghost use Rattle.std.specs.Prelude.{◌≡◌, ◌<◌, length, option_map, slice_get, take};
 ghost use Rattle.std.specs.List.{list_any};
-ghost use Rattle.mls_fields.specs.Table.{declared_by, used_by};
-ghost use Rattle.mls_fields.specs.Fault.{declares_same, name_fault, text_of, text_fault, fault_among, is_code, is_field_code, has_fault, IsFirstOf};
+ghost use Rattle.mls_fields.specs.Naming.{text_of};
+ghost use Rattle.mls_fields.specs.Repeating.{has_same};
+ghost use Rattle.mls_fields.specs.Table.{used_by, single_by};
+ghost use Rattle.mls_fields.specs.Fault.{is_unknown, is_repeated, has_beside, has_among, is_field_code, has_fault, IsFirstOf};
 
 use crate::field::Field;
-use crate::naming::{declares_same, is_declared, text_of};
+use crate::interval::is_empty_interval;
+use crate::naming::{is_declared, text_of};
+use crate::repeating::has_same;
 use crate::table::Thing;
-use mls_lattice::{PolicyFault, Str};
+use mls_lattice::{Policy, PolicyFault};
 
-/// The faults of fields: of some by themselves, and of names that are repeated or unknown.
-pub(crate) const FIELD_FAULTS: [PolicyFault; 5] = [
+/// The faults of fields: of some by themselves, and of names and values that are unknown, repeated or in disorder.
+pub(crate) const FIELD_FAULTS: [PolicyFault; 7] = [
     PolicyFault::MissingField,
     PolicyFault::WrongKind,
     PolicyFault::Repeated,
     PolicyFault::UnknownName,
+    PolicyFault::TooMany,
     PolicyFault::BadName,
+    PolicyFault::EmptyInterval,
 ];
 
 /// Whether a field can have a fault of this number.
@@ -25,73 +31,73 @@ pub(crate) fn is_field_code(code: u8) -> bool
     FIELD_FAULTS.iter().any(|fault| fault.code() == code)
 }
 
-fn is_repeated(before: &[Field], field: &Field, thing: Thing, name: &str) -> bool
-    ensures { result ≡ list_any (declares_same thing name.now field.now) before.now }
+fn is_unknown(policy: Option<&Policy>, fields: &[Field], field: &Field) -> bool
+    ensures { result ≡ is_unknown (option_map (λ p. p.now) policy.entry) fields.now
+        (used_by field.now.role) (text_of field.now.content) }
 {
-    before
-        .iter()
-        .any(|other| declares_same(thing, name, field, other))
+    match (field.role.used(), text_of(&field.content)) {
+        (Some(thing), Some(name)) => !is_declared(policy, fields, thing, name),
+        _ => false,
+    }
 }
 
-/// Whether a name has a fault of this number among the fields, of which some stand before its own.
-#[tactic(auto, unfolding(crate::specs::Fault::name_fault))]
-fn has_name_fault(
-    labels: &[Str],
-    fields: &[Field],
-    code: u8,
-    before: &[Field],
-    field: &Field,
-    name: &str,
-) -> bool
-    ensures { result ≡ is_code code (name_fault labels.now fields.now before.now field.now
-        (declared_by field.now.role) (used_by field.now.role) name.now) }
+fn some_has_same(before: &[Field], field: &Field, thing: Thing) -> bool
+    ensures { result ≡ list_any (has_same thing field.now) before.now }
 {
-    if let Some(thing) = field.role.declared() {
-        return code == PolicyFault::Repeated.code() && is_repeated(before, field, thing, name);
-    }
-    match field.role.used() {
-        Some(thing) => {
-            code == PolicyFault::UnknownName.code() && !is_declared(labels, fields, thing, name)
-        }
+    before.iter().any(|other| has_same(thing, field, other))
+}
+
+fn is_repeated(before: &[Field], field: &Field) -> bool
+    ensures { result ≡ is_repeated before.now field.now (single_by field.now.role) }
+{
+    match field.role.single() {
+        Some(thing) => some_has_same(before, field, thing),
         None => false,
     }
 }
 
-/// Whether a text has a fault of this number.
-fn has_text_fault(
-    labels: &[Str],
+/// Whether a field without a fault of its own has that of this number among the others, of which some stand before it.
+#[tactic(auto, unfolding(crate::specs::Fault::has_beside))]
+fn has_beside(
+    policy: Option<&Policy>,
     fields: &[Field],
     code: u8,
     before: &[Field],
     field: &Field,
 ) -> bool
-    ensures { result ≡ is_code code
-        (text_fault labels.now fields.now before.now field.now (text_of field.now.content)) }
+    ensures { result ≡ has_beside (option_map (λ p. p.now) policy.entry) fields.now code before.now field.now }
 {
-    match text_of(&field.content) {
-        Some(name) => has_name_fault(labels, fields, code, before, field, name),
-        None => false,
+    if PolicyFault::UnknownName.code() == code {
+        return is_unknown(policy, fields, field);
     }
+    if PolicyFault::Repeated.code() == code {
+        return is_repeated(before, field);
+    }
+    if PolicyFault::EmptyInterval.code() == code {
+        return is_empty_interval(policy, fields, &field.content);
+    }
+    false
 }
 
 /// Whether the field at a place has a fault of this number.
-fn has_fault(labels: &[Str], fields: &[Field], code: u8, place: usize) -> bool
+fn has_fault(policy: Option<&Policy>, fields: &[Field], code: u8, place: usize) -> bool
     requires { place < length fields.now }
-    ensures { result ≡ has_fault labels.now fields.now code place (slice_get fields.now place) }
+    ensures { result ≡ has_fault (option_map (λ p. p.now) policy.entry) fields.now code place
+        (slice_get fields.now place) }
 {
     let field = &fields[place];
     match field.fault {
         Some(fault) => fault.code() == code,
-        None => has_text_fault(labels, fields, code, &fields[..place], field),
+        None => has_beside(policy, fields, code, &fields[..place], field),
     }
 }
 
 /// The place of the first field that has a fault of this number.
-pub(crate) fn first_fault(labels: &[Str], fields: &[Field], code: u8) -> Option<usize>
-    ensures { IsFirstOf labels.now fields.now code result }
+pub(crate) fn first_fault(policy: Option<&Policy>, fields: &[Field], code: u8) -> Option<usize>
+    ensures { IsFirstOf (option_map (λ p. p.now) policy.entry) fields.now code result }
 {
     for place in 0..fields.len() {
-        if has_fault(labels, fields, code, place) {
+        if has_fault(policy, fields, code, place) {
             return Some(place);
         }
     }

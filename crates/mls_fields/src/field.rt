@@ -1,27 +1,16 @@
 //! A field of a document: what stands there, and the fault that it has by itself.
-ghost use Rattle.std.specs.Prelude.{◌≡◌, option_map, is_some, IfOk};
-ghost use Rattle.std.specs.List.{list_all};
-ghost use Rattle.toml.specs.Data.{as_str, as_integer, as_array, as_table};
+ghost use Rattle.std.specs.Prelude.{◌≡◌, option_map, IfOk};
+ghost use Rattle.toml.specs.Data.{as_str};
 ghost use Rattle.toml.specs.View.{view};
 ghost use Rattle.mls_fields.specs.Table.{wants_name, may_lack, may_be_empty};
-ghost use Rattle.mls_fields.specs.Field.{has_count, content_in, content_of, are, are_texts, is_version, fits, is_no_name, fault_in, fault_of, field_of};
+ghost use Rattle.mls_fields.specs.Field.{is_no_name, fault_in, fault_of, field_of};
 
-use crate::table::{Form, Need, Role, Row};
+use crate::content::{Content, content_of};
+use crate::form::{excess, fits, has_count};
+use crate::table::{Need, Role, Row};
 use mls_lattice::{PolicyFault, Str, is_name};
 use std::alloc::{AllocError, Global};
 use toml::Value;
-
-/// What stands at a field.
-#[derive(Drop)]
-pub enum Content {
-    Lacking,
-    /// An array without items.
-    Empty,
-    Text(Str),
-    Integer(i64),
-    /// The word for the type of another value.
-    Other(Str),
-}
 
 /// A field that a document has or lacks.
 #[derive(Drop)]
@@ -34,105 +23,13 @@ pub struct Field {
     pub role: Role,
 }
 
-// ---- what stands there
-
-#[tactic(auto, using(mls_lattice::proofs::ReadingLemmas::counts))]
-fn has_count(value: &Value, count: usize) -> bool
-    ensures { result ≡ has_count count (as_array (view value.now)) }
-{
-    match value.as_array() {
-        Some(items) => items.len() == count,
-        None => false,
-    }
-}
-
-#[tactic(auto, unfolding(crate::specs::Field::content_in))]
-fn content_in(alloc: Global, value: &Value) -> Result<Content, AllocError>
-    ensures { IfOk result (λ c. c ≡ content_in (view value.now)) }
-{
-    if let Some(text) = value.as_str() {
-        return Ok(Content::Text(Str::copy_of(alloc, text)?));
-    }
-    if let Some(number) = value.as_integer() {
-        return Ok(Content::Integer(number));
-    }
-    if has_count(value, 0) {
-        return Ok(Content::Empty);
-    }
-    Ok(Content::Other(Str::copy_of(alloc, value.type_str())?))
-}
-
-fn content_of(alloc: Global, value: Option<&Value>) -> Result<Content, AllocError>
-    ensures { IfOk result (λ c. c ≡ content_of (option_map (λ v. view v.now) value.entry)) }
-{
-    match value {
-        Some(value) => content_in(alloc, value),
-        None => Ok(Content::Lacking),
-    }
-}
-
-// ---- its own fault
-
-fn all_texts(items: &[Value]) -> bool
-    ensures { result ≡ list_all (λ x. is_some (as_str (view x))) items.now }
-{
-    items.iter().all(|item| item.is_str())
-}
-
-fn all_tables(items: &[Value]) -> bool
-    ensures { result ≡ list_all (λ x. is_some (as_table (view x))) items.now }
-{
-    items.iter().all(|item| item.is_table())
-}
-
-#[tactic(auto, using(mls_lattice::proofs::ReadingLemmas::counts))]
-fn are_texts(value: &Value) -> bool
-    ensures { result ≡ are_texts (view value.now) }
-{
-    match value.as_array() {
-        Some(items) => all_texts(items.as_slice()),
-        None => false,
-    }
-}
-
-#[tactic(auto, using(mls_lattice::proofs::ReadingLemmas::counts))]
-fn are_tables(value: &Value) -> bool
-    ensures { result ≡ are (λ x. is_some (as_table x)) (as_array (view value.now)) }
-{
-    match value.as_array() {
-        Some(items) => all_tables(items.as_slice()),
-        None => false,
-    }
-}
-
-fn is_version(value: &Value) -> bool
-    ensures { result ≡ is_version (as_integer (view value.now)) }
-{
-    match value.as_integer() {
-        Some(number) => number == 1 || number == 2,
-        None => false,
-    }
-}
-
-#[tactic(auto, unfolding(crate::specs::Field::fits))]
-fn fits(form: Form, value: &Value) -> bool
-    ensures { result ≡ fits form (view value.now) }
-{
-    match form {
-        Form::Version => is_version(value),
-        Form::Text => value.is_str(),
-        Form::Texts => are_texts(value),
-        Form::Pair => are_texts(value) && has_count(value, 2),
-        Form::Tables => are_tables(value),
-    }
-}
-
 fn wants_name(role: Role) -> bool
     ensures { result ≡ wants_name role }
 {
     match role {
-        Role::Name | Role::New(_) | Role::Use(_) => true,
-        Role::Free | Role::Word(_) => false,
+        Role::Name | Role::New(_) => true,
+        Role::Use(thing) | Role::Each(thing) => !thing.is_word(),
+        Role::Free => false,
     }
 }
 
@@ -173,6 +70,9 @@ fn fault_in(row: &Row, value: &Value) -> Option<PolicyFault>
     if has_count(value, 0) && !may_be_empty(row.need) {
         return Some(PolicyFault::MissingField);
     }
+    if excess(row.form, value).is_some() {
+        return Some(PolicyFault::TooMany);
+    }
     if wants_name(row.role) && is_no_name(value) {
         return Some(PolicyFault::BadName);
     }
@@ -189,17 +89,19 @@ fn fault_of(row: &Row, value: Option<&Value>) -> Option<PolicyFault>
     }
 }
 
-/// The field of a row, at a path.
+/// The field of a row, at a path, whose key stands in an item.
 #[tactic(auto, unfolding(crate::specs::Field::field_of))]
 pub(crate) fn field_of(
     alloc: Global,
     row: &Row,
     path: &str,
+    item: Option<&Value>,
     value: Option<&Value>,
 ) -> Result<Field, AllocError>
-    ensures { IfOk result (λ f. f ≡ field_of row.now path.now (option_map (λ v. view v.now) value.entry)) }
+    ensures { IfOk result (λ f. f ≡ field_of row.now path.now (option_map (λ v. view v.now) item.entry)
+        (option_map (λ v. view v.now) value.entry)) }
 {
-    let content = content_of(alloc, value)?;
+    let content = content_of(alloc, row.form, item, value)?;
     let path = Str::copy_of(alloc, path)?;
     Ok(Field {
         path,

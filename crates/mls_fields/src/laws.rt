@@ -1,5 +1,6 @@
-//! The laws of the words of modes and kinds, each the contract of a function.
+//! The laws that tie the tables to the readers, each the contract of a function.
 ghost use Rattle.mls_fields.specs.Laws.{ModesAreRead, KindsAreRead};
+ghost use Rattle.mls_fields.specs.Limits.{LimitsAreRead};
 
 /// The words of modes are those that the reader of a policy takes.
 pub fn modes_are_read()
@@ -9,4 +10,9 @@ pub fn modes_are_read()
 /// The words of kinds are those that the reader of schemes takes.
 pub fn kinds_are_read()
     ensures { KindsAreRead }
+{}
+
+/// The limits of lists are those that the readers have.
+pub fn limits_are_read()
+    ensures { LimitsAreRead }
 {}

@@ -1,13 +1,14 @@
 //! What fields declare, and the names of things.
-ghost use Rattle.std.specs.Prelude.{◌≡◌, ◌≤◌, ◌==◌, ◌++◌, ◌∷◌, [], not, length, map, option_map, OnOk, IfOk};
-ghost use Rattle.std.specs.List.{prefix_len, list_any};
+ghost use Rattle.std.specs.Prelude.{◌≡◌, ◌++◌, map, option_map, OnOk, IfOk};
+ghost use Rattle.std.specs.List.{list_any};
 ghost use Rattle.std.specs.Str.{bytes_eq};
-ghost use Rattle.mls_fields.specs.Fault.{text_of, is_thing, declares, is_text, owner, is_beside, declares_same, given, declared_name, names_of};
+ghost use Rattle.mls_fields.specs.Naming.{text_of, is_thing, declares, labels_in, given, declared_name, names_of};
 
-use crate::field::{Content, Field};
+use crate::content::Content;
+use crate::field::Field;
 use crate::table::Thing;
-use mls_lattice::Str;
-use mls_pointing::push_name;
+use mls_lattice::{Policy, Str};
+use mls_pointing::{label_names, push_name};
 use std::alloc::{AllocError, Global};
 
 /// The words of the modes of a right.
@@ -23,11 +24,19 @@ pub(crate) fn text_of(content: &Content) -> Option<&str>
 {
     match content {
         Content::Text(text) => Some(text.as_str()),
-        Content::Lacking | Content::Empty | Content::Integer(_) | Content::Other(_) => None,
+        Content::Interval(_, high) => Some(high.as_str()),
+        Content::Lacking
+        | Content::Empty
+        | Content::Label(_, _, _)
+        | Content::Right(_, _)
+        | Content::Pair(_, _)
+        | Content::Integer(_)
+        | Content::Long(_, _)
+        | Content::Other(_) => None,
     }
 }
 
-fn is_thing(thing: Thing, other: Option<Thing>) -> bool
+pub(crate) fn is_thing(thing: Thing, other: Option<Thing>) -> bool
     ensures { result ≡ is_thing thing other }
 {
     match other {
@@ -42,48 +51,6 @@ fn declares(thing: Thing, field: &Field) -> bool
     field.fault.is_none() && is_thing(thing, field.role.declared())
 }
 
-fn is_text(name: &str, content: &Content) -> bool
-    ensures { result ≡ is_text name.now (text_of content.now) }
-{
-    match text_of(content) {
-        Some(text) => text == name,
-        None => false,
-    }
-}
-
-fn owner_len(bytes: &[u8]) -> usize
-    ensures run { result ≡ prefix_len (λ b. not (b == 46)) bytes.now }
-    ensures within { result ≤ length bytes.now }
-{
-    bytes.iter().take_while(|byte| **byte != b'.').count()
-}
-
-fn owner(path: &str) -> &[u8]
-    ensures { result.now ≡ owner path.now }
-{
-    let bytes = path.as_bytes();
-    &bytes[..owner_len(bytes)]
-}
-
-/// Whether two fields stand where a thing has but one name.
-fn is_beside(thing: Thing, field: &Field, other: &Field) -> bool
-    ensures { result ≡ is_beside thing field.now other.now }
-{
-    if thing.number() == Thing::Attribute.number() {
-        owner(field.path.as_str()) == owner(other.path.as_str())
-    } else {
-        true
-    }
-}
-
-/// Whether a field declares the name that another one has.
-#[tactic(auto, unfolding(crate::specs::Fault::declares_same))]
-pub(crate) fn declares_same(thing: Thing, name: &str, other: &Field, field: &Field) -> bool
-    ensures { result ≡ declares_same thing name.now other.now field.now }
-{
-    declares(thing, field) && is_text(name, &field.content) && is_beside(thing, field, other)
-}
-
 // ---- the names of things
 
 fn words_of(alloc: Global, words: &[&str]) -> Result<Vec<Str>, AllocError>
@@ -96,26 +63,23 @@ fn words_of(alloc: Global, words: &[&str]) -> Result<Vec<Str>, AllocError>
     Ok(names)
 }
 
-fn copies_of(alloc: Global, labels: &[Str]) -> Result<Vec<Str>, AllocError>
-    ensures { IfOk result (λ v. v.items ≡ labels.now) }
+fn labels_in(alloc: Global, policy: Option<&Policy>) -> Result<Vec<Str>, AllocError>
+    ensures { IfOk result (λ v. v.items ≡ labels_in (option_map (λ p. p.now) policy.entry)) }
 {
-    let mut names = Vec::new(alloc);
-    for label in labels {
-        push_name(alloc, &mut names, label.as_str())?;
+    match policy {
+        Some(policy) => label_names(alloc, policy),
+        None => Ok(Vec::new(alloc)),
     }
-    Ok(names)
 }
 
-fn given(alloc: Global, labels: &[Str], thing: Thing) -> Result<Vec<Str>, AllocError>
-    ensures { IfOk result (λ v. v.items ≡ given labels.now thing) }
+fn given(alloc: Global, policy: Option<&Policy>, thing: Thing) -> Result<Vec<Str>, AllocError>
+    ensures { IfOk result (λ v. v.items ≡ given (option_map (λ p. p.now) policy.entry) thing) }
 {
     match thing {
-        Thing::Label => copies_of(alloc, labels),
+        Thing::Label => labels_in(alloc, policy),
         Thing::Mode => words_of(alloc, &MODES),
         Thing::Kind => words_of(alloc, &KINDS),
-        Thing::Level | Thing::Category | Thing::User | Thing::Relation | Thing::Attribute => {
-            Ok(Vec::new(alloc))
-        }
+        _ => Ok(Vec::new(alloc)),
     }
 }
 
@@ -137,16 +101,16 @@ fn push_declared(
 }
 
 /// The names of the things of a kind: those that are given, and those that fields declare.
-#[tactic(auto, unfolding(crate::specs::Fault::names_of))]
+#[tactic(auto, unfolding(crate::specs::Naming::names_of))]
 pub(crate) fn names_of(
     alloc: Global,
-    labels: &[Str],
+    policy: Option<&Policy>,
     fields: &[Field],
     thing: Thing,
 ) -> Result<Vec<Str>, AllocError>
-    ensures { IfOk result (λ v. v.items ≡ names_of labels.now fields.now thing) }
+    ensures { IfOk result (λ v. v.items ≡ names_of (option_map (λ p. p.now) policy.entry) fields.now thing) }
 {
-    let mut names = given(alloc, labels, thing)?;
+    let mut names = given(alloc, policy, thing)?;
     for field in fields {
         push_declared(alloc, &mut names, thing, field)?;
     }
@@ -155,10 +119,14 @@ pub(crate) fn names_of(
 
 // ---- whether a name is among them
 
-fn is_among(names: &[Str], name: &str) -> bool
-    ensures { result ≡ list_any (bytes_eq name.now) names.now }
+#[tactic(auto, using(crate::proofs::NamingLemmas::label_named))]
+fn is_label(policy: Option<&Policy>, name: &str) -> bool
+    ensures { result ≡ list_any (bytes_eq name.now) (labels_in (option_map (λ p. p.now) policy.entry)) }
 {
-    names.iter().any(|other| name == other.as_str())
+    match policy {
+        Some(policy) => policy.label(name).is_some(),
+        None => false,
+    }
 }
 
 fn is_word(words: &[&str], name: &str) -> bool
@@ -167,18 +135,19 @@ fn is_word(words: &[&str], name: &str) -> bool
     words.iter().any(|word| name == *word)
 }
 
-fn is_given(labels: &[Str], thing: Thing, name: &str) -> bool
-    ensures { result ≡ list_any (bytes_eq name.now) (given labels.now thing) }
+fn is_given(policy: Option<&Policy>, thing: Thing, name: &str) -> bool
+    ensures { result ≡ list_any (bytes_eq name.now) (given (option_map (λ p. p.now) policy.entry) thing) }
 {
     match thing {
-        Thing::Label => is_among(labels, name),
+        Thing::Label => is_label(policy, name),
         Thing::Mode => is_word(&MODES, name),
         Thing::Kind => is_word(&KINDS, name),
-        Thing::Level | Thing::Category | Thing::User | Thing::Relation | Thing::Attribute => false,
+        _ => false,
     }
 }
 
-fn declares_name(thing: Thing, field: &Field, name: &str) -> bool
+/// Whether a field declares this name.
+pub(crate) fn declares_name(thing: Thing, field: &Field, name: &str) -> bool
     ensures { result ≡ list_any (bytes_eq name.now) (declared_name thing field.now) }
 {
     if !declares(thing, field) {
@@ -198,8 +167,14 @@ fn some_declares(fields: &[Field], thing: Thing, name: &str) -> bool
 
 /// Whether a thing of a kind has this name; no name is copied.
 #[tactic(auto, using(crate::proofs::NamingLemmas::any_name))]
-pub(crate) fn is_declared(labels: &[Str], fields: &[Field], thing: Thing, name: &str) -> bool
-    ensures { result ≡ list_any (bytes_eq name.now) (names_of labels.now fields.now thing) }
+pub(crate) fn is_declared(
+    policy: Option<&Policy>,
+    fields: &[Field],
+    thing: Thing,
+    name: &str,
+) -> bool
+    ensures { result ≡ list_any (bytes_eq name.now)
+        (names_of (option_map (λ p. p.now) policy.entry) fields.now thing) }
 {
-    is_given(labels, thing, name) || some_declares(fields, thing, name)
+    is_given(policy, thing, name) || some_declares(fields, thing, name)
 }

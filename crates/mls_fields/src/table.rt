@@ -1,6 +1,6 @@
 //! The tables of fields.
 ghost use Rattle.std.specs.Prelude.{◌≡◌};
-ghost use Rattle.mls_fields.specs.Table.{number_of, declared_by, used_by};
+ghost use Rattle.mls_fields.specs.Table.{number_of, is_word, declared_by, used_by, single_by};
 
 /// What has names: a field declares one or uses one of a kind of things.
 #[derive(Clone, Copy, PartialEq, Eq)]
@@ -16,6 +16,10 @@ pub enum Thing {
     Mode,
     /// The kinds of attributes: two words.
     Kind,
+    /// The values of labels: each is a level with a set of categories.
+    Value,
+    /// What the entries of the matrix are for: each is a user with an object.
+    Right,
 }
 
 impl Thing {
@@ -25,21 +29,38 @@ impl Thing {
     {
         self as u8
     }
+
+    /// Whether its names are words that no file declares, and need not be names.
+    pub(crate) fn is_word(self) -> bool
+        ensures { result ≡ is_word self }
+    {
+        match self {
+            Thing::Mode | Thing::Kind => true,
+            Thing::Level
+            | Thing::Category
+            | Thing::Label
+            | Thing::User
+            | Thing::Relation
+            | Thing::Attribute
+            | Thing::Value
+            | Thing::Right => false,
+        }
+    }
 }
 
-/// What a text is.
+/// What a text, or a table, is.
 #[derive(Clone, Copy, PartialEq, Eq)]
 pub enum Role {
     /// Any text, or no text at all.
     Free,
     /// A name of something that no file declares.
     Name,
-    /// A new name of a thing.
+    /// A new name of a thing, or a new thing without a name.
     New(Thing),
     /// The name of a thing.
     Use(Thing),
-    /// The word of a mode or a kind, which need not be a name.
-    Word(Thing),
+    /// The same in a list that has each once.
+    Each(Thing),
 }
 
 impl Role {
@@ -49,7 +70,7 @@ impl Role {
     {
         match self {
             Role::New(thing) => Some(thing),
-            Role::Free | Role::Name | Role::Use(_) | Role::Word(_) => None,
+            Role::Free | Role::Name | Role::Use(_) | Role::Each(_) => None,
         }
     }
 
@@ -58,8 +79,18 @@ impl Role {
         ensures { result ≡ used_by self }
     {
         match self {
-            Role::Use(thing) | Role::Word(thing) => Some(thing),
+            Role::Use(thing) | Role::Each(thing) => Some(thing),
             Role::Free | Role::Name | Role::New(_) => None,
+        }
+    }
+
+    /// The things of which it may not stand twice: in the document, in one relation or in one list.
+    pub(crate) fn single(self) -> Option<Thing>
+        ensures { result ≡ single_by self }
+    {
+        match self {
+            Role::New(thing) | Role::Each(thing) => Some(thing),
+            Role::Free | Role::Name | Role::Use(_) => None,
         }
     }
 }
@@ -70,12 +101,20 @@ pub enum Form {
     /// 1 or 2.
     Version,
     Text,
-    /// An array of texts.
+    /// A text that ends an interval, which begins with the text at `low` beside it.
+    High,
+    /// An array of texts, as many as there are.
     Texts,
+    /// An array of so many texts at most.
+    Names(usize),
     /// An array of two texts.
     Pair,
-    /// An array of tables.
-    Tables,
+    /// An array of so many tables at most.
+    Tables(usize),
+    /// The table of a label: its level and its categories are its value.
+    Label,
+    /// The table of an entry of the matrix: it is for a user and an object.
+    Right,
 }
 
 /// Whether a field may be missing.
@@ -99,14 +138,14 @@ pub struct Row {
 /// the item itself is meant.
 pub(crate) type Entry = ([&'static str; 2], &'static str, Row);
 
-/// An entry: two arrays, a key, a form, a need and a role.
+/// An entry: two arrays, a key, a form, a need and a role. The limits of lists are those of the readers: a law ties them.
 macro_rules! entry {
-    ($first:literal, $second:literal, $key:literal, $form:ident, $need:ident, $role:ident $(($thing:ident))?) => {
+    ($first:literal, $second:literal, $key:literal, $form:ident $(($most:literal))?, $need:ident, $role:ident $(($thing:ident))?) => {
         (
             [$first, $second],
             $key,
             Row {
-                form: Form::$form,
+                form: Form::$form $(($most))?,
                 need: Need::$need,
                 role: Role::$role $((Thing::$thing))?,
             },
@@ -115,40 +154,42 @@ macro_rules! entry {
 }
 
 /// The fields of a policy.
-pub(crate) const POLICY: [Entry; 20] = [
+pub(crate) const POLICY: [Entry; 22] = [
     entry!("", "", "version", Version, Wanted, Free),
-    entry!("", "", "levels", Texts, Some, Free),
+    entry!("", "", "levels", Names(16), Some, Free),
     entry!("levels", "", "", Text, Wanted, New(Level)),
-    entry!("", "", "categories", Texts, Optional, Free),
+    entry!("", "", "categories", Names(32), Optional, Free),
     entry!("categories", "", "", Text, Wanted, New(Category)),
-    entry!("", "", "label", Tables, Some, Free),
+    entry!("", "", "label", Tables(64), Some, Free),
     entry!("label", "", "name", Text, Wanted, New(Label)),
     entry!("label", "", "level", Text, Wanted, Use(Level)),
     entry!("label", "", "categories", Texts, Optional, Free),
-    entry!("label", "categories", "", Text, Wanted, Use(Category)),
-    entry!("", "", "user", Tables, Optional, Free),
+    entry!("label", "categories", "", Text, Wanted, Each(Category)),
+    entry!("label", "", "", Label, Wanted, New(Value)),
+    entry!("", "", "user", Tables(64), Optional, Free),
     entry!("user", "", "name", Text, Wanted, New(User)),
     entry!("user", "", "clearance", Text, Wanted, Use(Label)),
     entry!("user", "", "trusted", Pair, Optional, Free),
     entry!("user", "trusted", "", Text, Wanted, Use(Label)),
-    entry!("", "", "matrix", Tables, Optional, Free),
+    entry!("", "", "matrix", Tables(1024), Optional, Free),
     entry!("matrix", "", "user", Text, Wanted, Use(User)),
     entry!("matrix", "", "object", Text, Wanted, Name),
     entry!("matrix", "", "modes", Texts, Wanted, Free),
-    entry!("matrix", "modes", "", Text, Wanted, Word(Mode)),
+    entry!("matrix", "modes", "", Text, Wanted, Each(Mode)),
+    entry!("matrix", "", "", Right, Wanted, New(Right)),
 ];
 
 /// The fields of schemes.
 pub(crate) const SCHEMES: [Entry; 13] = [
     entry!("", "", "version", Version, Wanted, Free),
-    entry!("", "", "relation", Tables, Some, Free),
+    entry!("", "", "relation", Tables(16), Some, Free),
     entry!("relation", "", "name", Text, Wanted, New(Relation)),
-    entry!("relation", "", "key", Tables, Optional, Free),
+    entry!("relation", "", "key", Tables(4), Optional, Free),
     entry!("relation", "key", "name", Text, Wanted, New(Attribute)),
-    entry!("relation", "key", "kind", Text, Wanted, Word(Kind)),
+    entry!("relation", "key", "kind", Text, Wanted, Use(Kind)),
     entry!("relation", "key", "low", Text, Wanted, Use(Label)),
-    entry!("relation", "key", "high", Text, Wanted, Use(Label)),
-    entry!("relation", "", "attribute", Tables, Optional, Free),
+    entry!("relation", "key", "high", High, Wanted, Use(Label)),
+    entry!("relation", "", "attribute", Tables(15), Optional, Free),
     entry!(
         "relation",
         "attribute",
@@ -157,7 +198,7 @@ pub(crate) const SCHEMES: [Entry; 13] = [
         Wanted,
         New(Attribute)
     ),
-    entry!("relation", "attribute", "kind", Text, Wanted, Word(Kind)),
+    entry!("relation", "attribute", "kind", Text, Wanted, Use(Kind)),
     entry!("relation", "attribute", "low", Text, Wanted, Use(Label)),
-    entry!("relation", "attribute", "high", Text, Wanted, Use(Label)),
+    entry!("relation", "attribute", "high", High, Wanted, Use(Label)),
 ];

@@ -2,9 +2,10 @@
 ghost use Rattle.std.specs.Prelude.{◌≡◌, ◌++◌, ◌∷◌, [], map, option_map, Some, OnOk, IfOk};
 ghost use Rattle.toml.specs.View.{view, items_view};
 ghost use Rattle.std.specs.List.{flat_map};
-ghost use Rattle.mls_fields.specs.Walk.{joined, numbered, member, items_in, each, field_at, below, entry_fields};
+ghost use Rattle.mls_fields.specs.Walk.{joined, numbered, each, field_at, below, entry_fields};
 
 use crate::field::{Field, field_of};
+use crate::member::{items_in, member};
 use crate::table::{Entry, Row};
 use mls_lattice::Str;
 use std::alloc::{AllocError, Global};
@@ -31,32 +32,6 @@ fn numbered(alloc: Global, path: &str, number: usize) -> Result<Str, AllocError>
     Ok(Str::from(text))
 }
 
-// ---- what they lead to
-
-fn member<'a>(value: Option<&'a Value>, key: &str) -> Option<&'a Value>
-    ensures { option_map (λ v. view v.now) result ≡ member key.now (option_map (λ v. view v.now) value.entry) }
-{
-    match value {
-        Some(value) => match value.as_table() {
-            Some(table) => mls_lattice::document::field(table, key),
-            None => None,
-        },
-        None => None,
-    }
-}
-
-fn items_in<'a>(value: Option<&'a Value>) -> &'a [Value]
-    ensures { items_view result.now ≡ items_in (option_map (λ v. view v.now) value.entry) }
-{
-    match value {
-        Some(value) => match value.as_array() {
-            Some(items) => items.as_slice(),
-            None => &[],
-        },
-        None => &[],
-    }
-}
-
 // ---- the walk
 
 #[tactic(auto, unfolding(crate::specs::Walk::field_at))]
@@ -70,10 +45,10 @@ fn field_at(
     ensures { IfOk result (λ f. f ≡ field_at row.now key.now path.now (option_map (λ v. view v.now) value.entry)) }
 {
     if key.is_empty() {
-        return field_of(alloc, row, path, value);
+        return field_of(alloc, row, path, value, value);
     }
     let path = joined(alloc, path, key)?;
-    field_of(alloc, row, &path, member(value, key))
+    field_of(alloc, row, &path, value, member(value, key))
 }
 
 fn push_field(

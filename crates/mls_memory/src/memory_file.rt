@@ -1,5 +1,5 @@
 //! A file in memory.
-ghost use Rattle.std.specs.Prelude.{◌≡◌, length, true, false, [], refl, is_ok, IsTrue, OnOk};
+ghost use Rattle.std.specs.Prelude.{◌≡◌, nat_lt, length, true, false, [], refl, is_ok, IsTrue, OnOk};
 ghost use Rattle.sqlite_disk.specs.Disk.{Holds, Torn, Cut, CountsFault};
 ghost use Rattle.sqlite_disk.specs.Refusal.{finds_no_room};
 
@@ -32,6 +32,13 @@ impl MemoryFile {
         ensures { bytes_of result ≡ bytes.items }
     {
         MemoryFile { bytes, faults: 0 }
+    }
+
+    /// Whether a growth of it was refused.
+    pub fn has_failed(&self) -> bool
+        ensures { result ≡ nat_lt 0 self.now.faults }
+    {
+        self.faults > 0
     }
 }
 

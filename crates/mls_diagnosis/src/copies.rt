@@ -1,0 +1,91 @@
+//! Stores over copies of their files.
+ghost use Rattle.std.specs.Prelude.{◌≡◌, ◌⊎◌, Ok, Err, false, length, IfOk, IfErr, OnOk};
+ghost use Rattle.sqlite.specs.Files.{file_state};
+ghost use Rattle.mls_scheme.specs.Scheme.{AreUnder};
+ghost use Rattle.mls_fragments.specs.Opening.{IsFoundIn};
+ghost use Rattle.mls_diagnosis.specs.Diagnosis.{image, IsReadIn, IsSoundIn, IsOthersIn, IsBadIn};
+
+use crate::reading::{Reading, adopted, reading_of};
+use mls_fragments::{OpenFault, connected};
+use mls_lattice::Policy;
+use mls_memory::MemoryFile;
+use mls_scheme::SchemesFile;
+use sqlite::{Connection, FileStore, Files, Options};
+use std::alloc::{AllocError, Global};
+
+/// Why files in memory are not opened: for want of memory, where one of them could not grow.
+fn fault_in(files: &Files<MemoryFile>, fault: OpenFault) -> OpenFault
+    ensures { (result ≡ fault) ⊎ (result ≡ OpenFault.Memory) }
+{
+    if files.log.has_failed() || files.db.has_failed() {
+        OpenFault::Memory
+    } else {
+        fault
+    }
+}
+
+/// A connection to the store in copies of a log and a database file.
+fn connection(
+    alloc: Global,
+    log: &[u8],
+    db: &[u8],
+) -> Result<Connection<FileStore<MemoryFile>>, OpenFault>
+    ensures found { IfOk result (λ c. IsFoundIn (image log.now db.now) (file_state c).now) }
+    ensures idle { IfOk result (λ c. c.in_transaction ≡ false) }
+    ensures fault { IfErr result (λ e. (e ≡ OpenFault.Store) ⊎ (e ≡ OpenFault.Memory)) }
+{
+    let files = Files {
+        log: MemoryFile::holding(Vec::from_slice(alloc, log)?),
+        db: MemoryFile::holding(Vec::from_slice(alloc, db)?),
+    };
+    match connected(alloc, files, Options::new(0)) {
+        Ok(conn) => Ok(conn),
+        Err((fault, files)) => Err(fault_in(&files, fault)),
+    }
+}
+
+/// Why a store over files in memory is not opened, if it is not.
+fn verdict_over(
+    outcome: Result<(), OpenFault>,
+    conn: Connection<FileStore<MemoryFile>>,
+) -> Result<(), OpenFault>
+    ensures ok { OnOk result (outcome ≡ Ok tt) }
+    ensures err { IfErr result (λ e. (outcome ≡ Err e) ⊎ (e ≡ OpenFault.Memory)) }
+{
+    match outcome {
+        Ok(()) => Ok(()),
+        Err(fault) => Err(fault_in(&conn.into_store().close(), fault)),
+    }
+}
+
+/// Why the store is not opened under a policy and schemes, if it is not.
+pub(crate) fn verdict(
+    alloc: Global,
+    log: &[u8],
+    db: &[u8],
+    policy: &Policy,
+    file: &SchemesFile,
+) -> Result<(), OpenFault>
+    requires under { AreUnder (length policy.now.labels) file.now.schemes }
+    ensures sound { OnOk result (IsSoundIn policy.now file.now log.now db.now) }
+    ensures others { IfErr result (λ e. e ≡ OpenFault.OtherPolicy → IsOthersIn policy.now file.now log.now db.now) }
+    ensures bad { IfErr result (λ e. e ≡ OpenFault.BadRows → IsBadIn policy.now file.now log.now db.now) }
+{
+    match connection(alloc, log, db) {
+        Ok(conn) => {
+            let (outcome, conn) = adopted(alloc, conn, policy, file);
+            verdict_over(outcome, conn)
+        }
+        Err(fault) => Err(fault),
+    }
+}
+
+/// What is read of the store. It was opened before, so that only memory can lack.
+pub(crate) fn reading(alloc: Global, log: &[u8], db: &[u8]) -> Result<Reading, AllocError>
+    ensures { IfOk result (IsReadIn log.now db.now) }
+{
+    match connection(alloc, log, db) {
+        Ok(mut conn) => reading_of(&mut conn, alloc),
+        Err(_) => Err(AllocError),
+    }
+}

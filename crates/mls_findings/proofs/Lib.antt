@@ -1,0 +1,5 @@
+pub mod DifferenceLemmas
+pub mod RowLemmas
+pub mod TextLemmas
+pub mod TupleLemmas
+pub mod HonestLemmas

@@ -1,0 +1,4 @@
+pub mod Rules
+pub mod Wrong
+pub mod Telling
+pub mod Difference

@@ -5,10 +5,10 @@ ghost use Rattle.mls_filterview.specs.Content.{Content};
 ghost use Rattle.mls_fragments.specs.Again.{IsTakenOf};
 ghost use Rattle.mls_fragments.specs.Finding.{IsSoundContent};
 
-use crate::private;
+use crate::{private, shown};
 use mls_filterview::Base;
 use mls_fragments::{OpenFault, SqlBase};
-use mls_host::{CloseFault, Host, HostFault, read_whole};
+use mls_host::{CloseFault, Host, HostFault, StoreCause, StoreFiles, read_whole};
 use mls_lattice::Policy;
 use mls_scheme::SchemesFile;
 use mls_typing::LinesOf;
@@ -94,6 +94,8 @@ impl<'a, B: Base + Drop, O: Opens<B> + Drop> Host for Machine<'a, B, O> {
       lacks = λ _ _. ⊤;
       keeps = λ path c. MatchOption m.left (O.holds m.stores c) (λ l. (B.state l.value).now ≡ c);
       bars = λ _ _ _ _. ⊤;
+      shows = λ _ _ _. ⊤;
+      hides = λ _ _. ⊤;
       is_honest = MatchOption m.left ⊥ (λ l. B.is_clean l.value);
     } };
 
@@ -132,6 +134,10 @@ impl<'a, B: Base + Drop, O: Opens<B> + Drop> Host for Machine<'a, B, O> {
             Some(_) => Err(OpenFault::Store),
             None => self.stores.open(path, policy, file),
         }
+    }
+
+    fn store_files(&self, alloc: Global, path: &str) -> Result<StoreFiles, StoreCause> {
+        shown::files_at(self.rt, alloc, path)
     }
 
     fn keep(&mut self, path: &str, store: B) -> Result<(), CloseFault> {

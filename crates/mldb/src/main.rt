@@ -3,6 +3,7 @@
 
 mod machine;
 mod private;
+mod shown;
 
 use crate::machine::{FilesOf, Machine, Opens};
 use mls_command::act;

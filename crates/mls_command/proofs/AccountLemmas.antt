@@ -1,5 +1,5 @@
 -- What is told of inputs, and what is given up.
-use Rattle.std.proofs.Common.{◌≡◌, ◌≢◌, ◌⊎◌, ℕ, List, [], string_bytes, Option, Result, Ok, Err, IfOk, IfErr, OnOk, OnErr, inl, inr, sym, subst}
+use Rattle.std.proofs.Common.{◌≡◌, ◌≢◌, ◌⊎◌, ℕ, List, [], string_bytes, Option, Result, Ok, Err, IfOk, IfErr, OnOk, OnErr, inl, inr, refl, sym, subst}
 use Rattle.mls_lattice.specs.Policy.{Tables}
 use Rattle.mls_scheme.specs.declared.file.SchemesFile.{SchemesFile}
 use Rattle.mls_words.specs.declared.words.Job.{Job}
@@ -15,7 +15,7 @@ use Rattle.mls_host.specs.Reason.{reason_status}
 use Rattle.mls_listings.specs.declared.listing.Listing.{Listing}
 use Rattle.mls_listings.specs.Printing.{IsCutOff}
 use Rattle.mls_command.specs.Telling.{IsToldOf}
-use Rattle.mls_command.specs.Accounting.{AreInputsRefused, IsTaskAccepted, IsAccepted, IsRefused, Accounts, IsUnread, IsUnaccounted, one_refused}
+use Rattle.mls_command.specs.Accounting.{AreInputsRefused, IsTaskAccepted, IsAccepted, IsRefused, Accounts, IsUnread, IsAccounted, IsUnaccounted, one_refused}
 
 module _ (h : Hosted) (Wrote Told More : List ℕ → Type 0) (f : (text : List ℕ) → Told text → More text) where
   -- more is told
@@ -27,15 +27,21 @@ module _ (h : Hosted) (Wrote Told More : List ℕ → Type 0) (f : (text : List 
 
 module _ (h : Hosted) (job : Job) (policy : Tables) (file : SchemesFile) (reader : Option ℕ) (policy_is : IsPolicyOf h.before.gives job.documents policy)
     (schemes_are : AreSchemesOf h.before.gives job.documents policy file) (reader_is : IsReader policy job.task reader) where
-  pub task_accepted : (r : Result (Unit {0}) Reason) → OnOk r (IsTaskAccepted h.before policy file job.task) → OnOk r (IsAccepted h job)
-  task_accepted (Ok u) k = record { policy = policy; file = file; reader = reader; policy_is = policy_is; schemes_are = schemes_are; reader_is = reader_is; does = k }
-  task_accepted (Err e) k = tt
+  pub task_accepted : IsTaskAccepted h.before policy file job.task → IsAccepted h job policy file
+  task_accepted k =
+      record { policy = policy; file = file; reader = reader; policy_is = policy_is; schemes_are = schemes_are; reader_is = reader_is; does = (refl, refl, k) }
 
-  pub task_refused : (r : Result (Unit {0}) Reason) → IfErr r (AreInputsRefused h.before policy file.schemes reader job.task) → IfErr r (IsRefused h job)
-  task_refused (Ok u) k = tt
-  task_refused (Err e) k = inr (record { policy = policy; file = file; reader = reader; policy_is = policy_is; schemes_are = schemes_are; reader_is = reader_is; does = k })
+  pub task_refused : (reason : Reason) → AreInputsRefused h.before policy file.schemes reader job.task reason → IsRefused h job reason
+  task_refused reason k = inr (record { policy = policy; file = file; reader = reader; policy_is = policy_is; schemes_are = schemes_are; reader_is = reader_is; does = k })
 
 module _ (h : Hosted) (job : Job) (Wrote Told : List ℕ → Type 0) where
+  -- what is written whole
+  pub printed : (text told : List ℕ) (end : Ending) → Accounts h job text told end → (r : Result Ending Refusal) → IfOk r (λ e. e ≡ end)
+      → IfOk r (λ e. Wrote text) → IfOk r (λ e. Told told) → IfOk r (IsAccounted h Wrote Told job)
+  printed text told end told_so (Ok e) is wrote said =
+      record { text = text; told = told; prints = subst (λ (x : Ending). Accounts h job text told x) (sym is) told_so; is_written = wrote; is_told = said }
+  printed text told end told_so (Err e) is wrote said = tt
+
   -- what is not written whole
   pub cut_off : (text told : List ℕ) (end : Ending) → Accounts h job text told end → (r : Result Ending Refusal) → IfErr r (λ e. e ≡ Output) → OnErr r (IsCutOff Wrote text) → OnErr r (Told [])
       → IfErr r (IsUnaccounted h Wrote Told job)

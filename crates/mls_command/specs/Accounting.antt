@@ -1,4 +1,4 @@
--- What is told of the inputs of a command that is explained: all are accepted, or which one is refused first.
+-- What is told of the inputs of a command that is explained: all are accepted, and its store is opened or not, or which one is refused first.
 use Rattle.std.specs.Prelude.{◌≡◌, ◌≢◌, ℕ, List, [], Option, Some, None, ◌⊎◌, true, ⊤}
 use Rattle.mls_lattice.specs.Name.{is_name}
 use Rattle.mls_lattice.specs.Policy.{Tables}
@@ -13,7 +13,7 @@ use Rattle.mls_words.specs.declared.words.Task.{Task}
 use Rattle.mls_words.specs.declared.words.Task.TheVariants.{ShowPolicy, Picture, Run, Shell, Certify, Check, Explain}
 use Rattle.mls_words.specs.Words.{named}
 use Rattle.mls_host.specs.declared.ending.Ending.{Ending}
-use Rattle.mls_host.specs.declared.ending.Ending.TheVariants.{Well, Refused}
+use Rattle.mls_host.specs.declared.ending.Ending.TheVariants.{Refused}
 use Rattle.mls_host.specs.declared.reason.Reason.{Reason}
 use Rattle.mls_host.specs.declared.reason.Reason.TheVariants.{Memory}
 use Rattle.mls_host.specs.declared.refusal.Refusal.{Refusal}
@@ -26,8 +26,8 @@ use Rattle.mls_listings.specs.Explaining.{IsExplained, IsExplainRefused}
 use Rattle.mls_listings.specs.Printing.{IsPrinted, IsPrintedInPart}
 use Rattle.mls_runs.specs.ScriptRun.{AreRunInputsRefused}
 use Rattle.mls_shells.specs.ShellRun.{AreShellInputsRefused}
-use Rattle.mls_command.specs.declared.accounting.TheConstants.{ACCEPTED}
 use Rattle.mls_command.specs.Acting.{IsUnder, IsJobRefused}
+use Rattle.mls_command.specs.Looking.{store_of, IsStoreAccount}
 use Rattle.mls_command.specs.Telling.{IsToldOf}
 
 -- ---- what is accepted
@@ -71,17 +71,19 @@ AreInputsRefused h policy schemes reader task reason = ⊥
 -- ---- what is told
 
 module _ (h : Hosted) (job : Job) where
-  abbrev pub IsAccepted : Type 0
-  IsAccepted = IsUnder h job (λ policy file reader. IsTaskAccepted h.before policy file job.task)
+  -- all inputs are accepted, under this policy and these schemes
+  abbrev pub IsAccepted : Tables → SchemesFile → Type 0
+  IsAccepted policy file = IsUnder h job (λ p f reader. (p ≡ policy) × (f ≡ file) × IsTaskAccepted h.before p f job.task)
 
   -- an input is refused for this reason, so that the command would be given up: before its task or in it
   abbrev pub IsRefused : Reason → Type 0
   IsRefused reason = IsJobRefused h job reason
       ⊎ IsUnder h job (λ policy file reader. AreInputsRefused h.before policy file.schemes reader job.task reason)
 
-  -- all inputs are accepted; or one is refused, for another reason than memory, and what is told of it
+  -- all inputs are accepted, and what is told then; or one is refused, for another reason than memory, and what is told of it
   pub data Accounts (text told : List ℕ) (end : Ending) : Type 0 where
-    all_accepted : IsAccepted → text ≡ ACCEPTED.now → told ≡ [] → end ≡ Well → Accounts text told end
+    all_accepted : (policy : Tables) (file : SchemesFile) → IsAccepted policy file → IsStoreAccount h.before policy file (store_of job.task) text told end
+        → Accounts text told end
     one_refused : (reason : Reason) → IsRefused reason → reason_status reason ≢ 3 → IsToldOf h.before job reason text → told ≡ [] → end ≡ Refused → Accounts text told end
 
   -- there was no memory to read an input, or to tell of it

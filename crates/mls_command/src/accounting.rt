@@ -1,5 +1,6 @@
 //! What becomes of the inputs of a command that is explained.
-ghost use Rattle.std.specs.Prelude.{◌≡◌, ◌≢◌, ◌⊎◌, List, [], Some, None, string_bytes, IfOk, IfErr, OnOk};
+ghost use Rattle.std.specs.Prelude.{◌≡◌, ◌≢◌, ◌⊎◌, List, [], Some, None, length, string_bytes, IfOk, IfErr, OnOk};
+ghost use Rattle.mls_scheme.specs.Scheme.{AreUnder};
 ghost use Rattle.clap.specs.Words.{Text};
 ghost use Rattle.mls_words.specs.Words.{Asks, named};
 ghost use Rattle.mls_host.specs.Causes.{AreFilesRefused};
@@ -15,6 +16,7 @@ ghost use Rattle.mls_command.specs.Accounting.{AreReadable, AreCheckable, AreInp
 ghost use Rattle.mls_command.specs.Answering.{IsOutcomeOfAccount};
 
 use crate::acting::{policy_of, schemes_of};
+use crate::looking::store_account;
 use crate::telling::told_of;
 use mls_host::{
     Ending, Errors, Host, Reason, Refusal, certificates_in, reader_of, stored_files,
@@ -153,19 +155,29 @@ fn accept_task<H: Host>(
     }
 }
 
+/// A policy and schemes under which inputs are accepted.
+#[derive(Drop)]
+struct Site {
+    policy: Policy,
+    file: SchemesFile,
+}
+
 /// Reads what a command reads, in its order, up to the first input that is refused. No store is opened.
-fn accept<H: Host>(alloc: Global, host: &H, job: Job) -> Result<(), Reason>
-    ensures accepted { OnOk result (IsAccepted (hosted H.hosting H.Lines.echo host.now host.now) job.entry) }
+fn accept<H: Host>(alloc: Global, host: &H, job: Job) -> Result<Site, Reason>
+    ensures accepted { IfOk result
+        (λ s. IsAccepted (hosted H.hosting H.Lines.echo host.now host.now) job.entry s.policy s.file) }
+    ensures under { IfOk result (λ s. AreUnder (length s.policy.labels) s.file.schemes) }
     ensures refused { IfErr result (IsRefused (hosted H.hosting H.Lines.echo host.now host.now) job.entry) }
 {
     let policy = policy_of(alloc, host, job.documents)?;
     let reader = reader_of(&policy, job.task)?;
     let file = schemes_of(alloc, host, &policy, job.documents)?;
-    accept_task(alloc, host, &policy, &file, reader, job.task)
+    accept_task(alloc, host, &policy, &file, reader, job.task)?;
+    Ok(Site { policy, file })
 }
 
 /// A text that is printed, where nothing is told on standard error.
-fn listing_of(alloc: Global, text: Vec<u8>, ending: Ending) -> Listing
+pub(crate) fn listing_of(alloc: Global, text: Vec<u8>, ending: Ending) -> Listing
     ensures text { result.text.items ≡ text.items }
     ensures told { string_bytes result.told ≡ [] }
     ensures end { result.ending ≡ ending }
@@ -178,7 +190,7 @@ fn listing_of(alloc: Global, text: Vec<u8>, ending: Ending) -> Listing
 }
 
 /// What is told where all inputs are accepted.
-fn accepted_listing(alloc: Global) -> Result<Listing, AllocError>
+pub(crate) fn accepted_listing(alloc: Global) -> Result<Listing, AllocError>
     ensures text { IfOk result (λ l. l.text.items ≡ ACCEPTED.now) }
     ensures told { IfOk result (λ l. string_bytes l.told ≡ []) }
     ensures end { IfOk result (λ l. l.ending ≡ Well) }
@@ -215,7 +227,7 @@ fn account<H: Host>(alloc: Global, host: &H, job: Job) -> Result<Listing, Reason
     ensures unread { IfErr result (IsUnread (hosted H.hosting H.Lines.echo host.now host.now) job.entry) }
 {
     match accept(alloc, host, job) {
-        Ok(()) => Ok(accepted_listing(alloc)?),
+        Ok(site) => Ok(store_account(alloc, host, &site.policy, &site.file, job.task)?),
         Err(reason) => refused_listing(alloc, host, job, reason),
     }
 }

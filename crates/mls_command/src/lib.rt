@@ -6,6 +6,7 @@ mod acting;
 mod explained;
 mod hinting;
 mod laws;
+mod looking;
 mod telling;
 
 pub use crate::acting::act;

@@ -222,7 +222,7 @@ fn lines_of<H: Host>(
     }
 }
 
-fn push_reason(text: &mut Vec<u8>, reason: &Reason) -> Result<(), AllocError>
+pub(crate) fn push_reason(text: &mut Vec<u8>, reason: &Reason) -> Result<(), AllocError>
     ensures { OnOk result (text.new.items ≡ text.old.items ++ reason_text reason.now) }
 {
     match reason.tell(text) {

@@ -7,6 +7,7 @@ use Rattle.mls_filterview.specs.Content.{Content, no_content}
 use Rattle.mls_fragments.specs.Again.{IsTakenOf}
 use Rattle.mls_fragments.specs.declared.open_fault.OpenFault.{OpenFault}
 use Rattle.mls_host.specs.declared.host.HostFault.{HostFault}
+use Rattle.mls_host.specs.declared.host.StoreCause.{StoreCause}
 use Rattle.mls_host.specs.declared.errors.Errors.{Errors}
 
 -- A host, as contracts see it.
@@ -19,6 +20,10 @@ pub record Hosting : Type 1 where
   pub keeps : List ℕ → Content → Type 0
   -- why that store is not opened under a policy and schemes
   pub bars : List ℕ → Tables → SchemesFile → OpenFault → Type 0
+  -- the bytes of its log and of its database file, as they are shown
+  pub shows : List ℕ → List ℕ → List ℕ → Type 0
+  -- why none are shown
+  pub hides : List ℕ → StoreCause → Type 0
   -- the store that it took back last is clean
   pub is_honest : Type 0
 

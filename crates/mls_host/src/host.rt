@@ -26,10 +26,36 @@ pub enum HostFault {
 #[derive(Clone, Copy)]
 pub struct CloseFault;
 
+/// The bytes of the two files of a store.
+#[derive(Drop)]
+pub struct StoreFiles {
+    pub log: Vec<u8>,
+    pub db: Vec<u8>,
+}
+
+/// Why the files of a store are not read.
+#[derive(Clone, Copy)]
+pub enum StoreCause {
+    /// The folder of its path is not there.
+    NoFolder,
+    /// They may not be read and written.
+    NoRight,
+    /// What stands at the path is no plain file of one name.
+    NoFile,
+    /// Another process has the store open.
+    InUse,
+    /// SQLite left a journal beside the file, which it alone can play back.
+    Journal,
+    /// Reading failed for another reason.
+    Unreadable,
+    Memory,
+}
+
 /// Where inputs come from, and where stores are.
 ///
 /// Contracts see which bytes a host gives for the file at a path, and, with no path, for the standard input, and why it gives none;
-/// which content the store at a path keeps, and why it is not opened; and that the store which it took back last was clean.
+/// which content the store at a path keeps, and why it is not opened; which bytes its files are shown to have, and why they are not
+/// shown; and that the store which it took back last was clean.
 pub trait Host {
     ghost hosting: { Self → Hosting };
 
@@ -71,6 +97,11 @@ pub trait Host {
         ensures kept { IfOk result (λ b. Self.Store.Base.is_clean b
             → IsTakenOf ((hosting self.old).keeps path.now) policy.now file.now (Self.Store.Base.state b).now) }
         ensures barred { IfErr result ((hosting self.old).bars path.now policy.now file.now) };
+
+    /// The bytes of the files of the store at a path, which stay as they are: no bytes, where there is none yet.
+    fn store_files(&self, alloc: Global, path: &str) -> Result<StoreFiles, StoreCause>
+        ensures shown { IfOk result (λ files. (hosting self.now).shows path.now files.log.items files.db.items) }
+        ensures hidden { IfErr result ((hosting self.now).hides path.now) };
 
     /// Takes the store at a path back, with what a run left in it, and closes it.
     fn keep(&mut self, path: &str, store: Self::Store) -> Result<(), CloseFault>

@@ -16,7 +16,7 @@ mod telling;
 pub use crate::ending::{Ending, ending_if};
 pub use crate::errors::Errors;
 pub use crate::form::form_of;
-pub use crate::host::{CloseFault, Host, HostFault, read_whole};
+pub use crate::host::{CloseFault, Host, HostFault, StoreCause, StoreFiles, read_whole};
 pub use crate::inputs::{
     certificates_in, input_of, policy_in, reader_of, schemes_in, transactions_in,
 };

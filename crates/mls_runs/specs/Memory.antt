@@ -17,6 +17,8 @@ use Rattle.mls_fragments.specs.declared.open_fault.OpenFault.{OpenFault}
 use Rattle.mls_fragments.specs.declared.open_fault.OpenFault.TheVariants as stores
 use Rattle.mls_host.specs.declared.host.HostFault.{HostFault}
 use Rattle.mls_host.specs.declared.host.HostFault.TheVariants.{Unreadable, TooLong, Memory}
+use Rattle.mls_host.specs.declared.host.StoreCause.{StoreCause}
+use Rattle.mls_host.specs.declared.host.StoreCause.TheVariants as causes
 use Rattle.mls_runs.specs.declared.memory.HeldFile.{HeldFile}
 use Rattle.mls_runs.specs.declared.memory.MemoryHost.{MemoryHost}
 use Rattle.mls_host.specs.Hosting.{Hosting, Hosted, hosted}
@@ -42,6 +44,11 @@ abbrev pub IsLacking : Option (Result (List ℕ) HostFault) → HostFault → Ty
 IsLacking None fault = fault ≡ Unreadable
 IsLacking (Some (Ok bytes)) fault = IsUncopied bytes fault
 IsLacking (Some (Err held)) fault = fault ≡ held
+
+-- why a file is not shown as a store's
+abbrev pub cause_of : HostFault → StoreCause
+cause_of Memory = causes.Memory
+cause_of fault = causes.NoFile
 
 -- a store in memory fails for want of memory alone
 abbrev pub in_memory_fault : OpenFault → OpenFault
@@ -78,8 +85,23 @@ module _ {R : Type 0} where
   abbrev pub bars : MemoryHost R → List ℕ → Tables → SchemesFile → OpenFault → Type 0
   bars h path policy file fault = IsUnopenedFor policy file (option_map shown h.store) fault
 
+  -- the files of a store that is looked at: what it gives under the name, and no log
+  abbrev pub shows : MemoryHost R → List ℕ → List ℕ → List ℕ → Type 0
+  shows h path log db = (log ≡ []) × gives h (Some path) db
+
+  abbrev pub hides : MemoryHost R → List ℕ → StoreCause → Type 0
+  hides h path cause = (fault : HostFault) × lacks h (Some path) fault × (cause ≡ cause_of fault)
+
   abbrev pub hosting : MemoryHost R → Hosting
-  hosting h = record { gives = gives h; lacks = lacks h; keeps = keeps h; bars = bars h; is_honest = ⊤ }
+  hosting h = record {
+    gives = gives h;
+    lacks = lacks h;
+    keeps = keeps h;
+    bars = bars h;
+    shows = shows h;
+    hides = hides h;
+    is_honest = ⊤;
+  }
 
   abbrev pub hosted_in : MemoryHost R → MemoryHost R → Hosted
   hosted_in = hosted hosting (λ line. [])

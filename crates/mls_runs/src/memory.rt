@@ -1,10 +1,10 @@
 //! A machine in memory, of which contracts know all: its files, its standard input, and one store.
 ghost use Rattle.std.specs.Prelude.{◌≡◌, Some, IfOk, IfErr, IfSome, option_map};
 ghost use Rattle.mls_host.specs.Hosting.{IsAppended};
-ghost use Rattle.mls_runs.specs.Memory.{IsUncopied, file_named, in_memory_fault, left_in, RunsInMemoryAreInTurn};
+ghost use Rattle.mls_runs.specs.Memory.{IsUncopied, file_named, cause_of, in_memory_fault, left_in, RunsInMemoryAreInTurn};
 
 use mls_fragments::{OpenFault, SqlBase};
-use mls_host::{CloseFault, Host, HostFault};
+use mls_host::{CloseFault, Host, HostFault, StoreCause, StoreFiles};
 use mls_lattice::{Items, Policy, Str};
 use mls_scheme::SchemesFile;
 use mls_typing::{LinesOf, MOST_BYTES};
@@ -19,7 +19,8 @@ pub struct HeldFile {
     pub bytes: Result<Items<u8>, HostFault>,
 }
 
-/// A machine in memory. Its one store is opened at each path; there is none while it is open, or where it was given none.
+/// A machine in memory. Its one store is opened at each path; there is none while it is open, or where it was given none. A store that is
+/// looked at is the file of that name, without a log.
 #[derive(Drop)]
 pub struct MemoryHost<'a, R: AllocGlobal> {
     /// Where memory comes from.
@@ -97,6 +98,16 @@ fn in_memory_fault(fault: OpenFault) -> OpenFault
     }
 }
 
+/// Why a file is not shown as a store's.
+fn cause_of(fault: HostFault) -> StoreCause
+    ensures { result ≡ cause_of fault }
+{
+    match fault {
+        HostFault::Memory => StoreCause::Memory,
+        HostFault::Unreadable | HostFault::TooLong => StoreCause::NoFile,
+    }
+}
+
 impl<'a, R: AllocGlobal> Host for MemoryHost<'a, R> {
     ghost use Rattle.mls_runs.specs.Memory.{hosting};
 
@@ -149,6 +160,16 @@ impl<'a, R: AllocGlobal> Host for MemoryHost<'a, R> {
                 self.store = Some(conn);
                 Err(in_memory_fault(fault))
             }
+        }
+    }
+
+    fn store_files(&self, alloc: Global, path: &str) -> Result<StoreFiles, StoreCause> {
+        match self.file(alloc, path) {
+            Ok(db) => Ok(StoreFiles {
+                log: Vec::new(alloc),
+                db,
+            }),
+            Err(fault) => Err(cause_of(fault)),
         }
     }
 

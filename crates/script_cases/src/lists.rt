@@ -1,7 +1,7 @@
 //! A machine with the files of a desk, whose stores are lists.
 use crate::desk::{file_of, lines_of};
 use mls_fragments::OpenFault;
-use mls_host::{CloseFault, Host, HostFault, read_whole};
+use mls_host::{CloseFault, Host, HostFault, StoreCause, StoreFiles, read_whole};
 use mls_lattice::Policy;
 use mls_scheme::SchemesFile;
 use mls_typing::LinesOf;
@@ -19,7 +19,15 @@ pub struct Lists<'a, R: Files> {
 
 impl<'a, R: Files + AllocGlobal> Host for Lists<'a, R> {
     // Any bytes and any content: what a file has is known to nobody before it is read.
-    ghost hosting = { λ _. record { gives = λ _ _. Unit {0}; lacks = λ _ _. Unit {0}; keeps = λ _ _. Unit {0}; bars = λ _ _ _ _. Unit {0}; is_honest = Unit {0} } };
+    ghost hosting = { λ _. record {
+      gives = λ _ _. Unit {0};
+      lacks = λ _ _. Unit {0};
+      keeps = λ _ _. Unit {0};
+      bars = λ _ _ _ _. Unit {0};
+      shows = λ _ _ _. Unit {0};
+      hides = λ _ _. Unit {0};
+      is_honest = Unit {0};
+    } };
 
     type Store = ListBase;
 
@@ -49,6 +57,17 @@ impl<'a, R: Files + AllocGlobal> Host for Lists<'a, R> {
         file: &SchemesFile,
     ) -> Result<ListBase, OpenFault> {
         Ok(ListBase::new(alloc))
+    }
+
+    fn store_files(&self, alloc: Global, path: &str) -> Result<StoreFiles, StoreCause> {
+        match file_of(self.rt, self.script, alloc, path) {
+            Ok(db) => Ok(StoreFiles {
+                log: Vec::new(alloc),
+                db,
+            }),
+            Err(HostFault::Memory) => Err(StoreCause::Memory),
+            Err(_) => Err(StoreCause::NoFolder),
+        }
     }
 
     fn keep(&mut self, path: &str, store: ListBase) -> Result<(), CloseFault> {

@@ -4,7 +4,8 @@ use crate::runs::Task;
 use crate::site::{Names, Site};
 use crate::stores::{Job, Work, do_job, made};
 use crate::texts::Texts;
-use case_tables::{Case, Told, case_at, joined};
+use case_tables::{Case, Told, case_at, joined, text_of};
+use mls_diagnosis::diagnosis_of;
 use std::alloc::Global;
 use std::io;
 
@@ -60,13 +61,25 @@ fn tell_openings(
     Ok(())
 }
 
+/// Tells what is found of the store in files, where it is refused.
+fn tell_diagnosis(
+    alloc: Global,
+    site: &Site<'_>,
+    files: &Copies,
+    out: &mut Told,
+) -> io::Result<()> {
+    let found = diagnosis_of(alloc, &files.log, &files.db, &site.policy, &site.file)?;
+    out.push(text_of(&found.text));
+    Ok(())
+}
+
 /// The site that a head names, as `POLICY: title` or `POLICY SCHEMES: title`.
 fn site_of<'a>(alloc: Global, texts: &'a Texts, head: &str) -> Option<Site<'a>> {
     let (names, _) = head.split_once(':')?;
     Site::of(alloc, texts, Names::of(names))
 }
 
-/// Tells how the store of a case is refused: the statements that damage it stand below its head.
+/// Tells how the store of a case is refused, and what is found of it: the statements that damage it stand below its head.
 fn tell_case(
     alloc: Global,
     texts: &Texts,
@@ -79,11 +92,17 @@ fn tell_case(
         return Ok(());
     };
     match damaged(alloc, files, case.body)? {
-        Some(mut files) => tell_openings(alloc, &site, &mut files, out)?,
-        None => out.push("not made: "),
+        Some(mut files) => {
+            tell_openings(alloc, &site, &mut files, out)?;
+            out.push_line(case.head);
+            tell_diagnosis(alloc, &site, &files, out)
+        }
+        None => {
+            out.push("not made: ");
+            out.push_line(case.head);
+            Ok(())
+        }
     }
-    out.push_line(case.head);
-    Ok(())
 }
 
 /// The closed files of the store that is damaged.

@@ -21,12 +21,13 @@ returns-in_err-file-clause-refused g c =
     same_reason (IsRefused (hosted g.H.Host.hosting g.H.Lines.TypedLines.echo c.args.host.now c.args.host.now) c.args.job) c.from_residual-in_err-file.result c.in_err-file.field-0.0 c.from_residual-in_err-file.ensures.1
     (inl (no_schemes c.in_ok-policy.policy c.in_ok-reader.reader c.in_ok-policy.ensures.policy c.in_ok-reader.ensures.named c.in_err-file.ensures.refused))
 
+pub returns-in_err-accept_task-clause-refused : goal.returns-in_err-accept_task-clause-refused
+returns-in_err-accept_task-clause-refused g c =
+    same_reason (IsRefused (hosted g.H.Host.hosting g.H.Lines.TypedLines.echo c.args.host.now c.args.host.now) c.args.job) c.from_residual-in_err-accept_task.result c.in_err-accept_task.field-0.0 c.from_residual-in_err-accept_task.ensures.1
+    (task_refused (hosted g.H.Host.hosting g.H.Lines.TypedLines.echo c.args.host.now c.args.host.now) c.args.job c.in_ok-policy.policy c.in_ok-file.file c.in_ok-reader.reader
+    c.in_ok-policy.ensures.policy c.in_ok-file.ensures.schemes c.in_ok-reader.ensures.named c.in_err-accept_task.field-0.0 c.in_err-accept_task.ensures.refused)
+
 pub returns-clause-accepted : goal.returns-clause-accepted
 returns-clause-accepted g c =
     task_accepted (hosted g.H.Host.hosting g.H.Lines.TypedLines.echo c.args.host.now c.args.host.now) c.args.job c.in_ok-policy.policy c.in_ok-file.file c.in_ok-reader.reader
-    c.in_ok-policy.ensures.policy c.in_ok-file.ensures.schemes c.in_ok-reader.ensures.named c.accept_task.result c.accept_task.ensures.accepted
-
-pub returns-clause-refused : goal.returns-clause-refused
-returns-clause-refused g c =
-    task_refused (hosted g.H.Host.hosting g.H.Lines.TypedLines.echo c.args.host.now c.args.host.now) c.args.job c.in_ok-policy.policy c.in_ok-file.file c.in_ok-reader.reader
-    c.in_ok-policy.ensures.policy c.in_ok-file.ensures.schemes c.in_ok-reader.ensures.named c.accept_task.result c.accept_task.ensures.refused
+    c.in_ok-policy.ensures.policy c.in_ok-file.ensures.schemes c.in_ok-reader.ensures.named c.in_ok-accept_task.ensures.accepted

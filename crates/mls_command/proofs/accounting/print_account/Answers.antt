@@ -5,7 +5,7 @@ use Rattle.mls_host.proofs.HostingLemmas.{told_nothing}
 use Rattle.mls_host.proofs.RunningLemmas.{given_up_before}
 use Rattle.mls_command.specs.Accounting.{IsUnaccounted}
 use Rattle.mls_command.proofs.ActingLemmas.{quiet_told}
-use Rattle.mls_command.proofs.AccountLemmas.{cut_off}
+use Rattle.mls_command.proofs.AccountLemmas.{printed, cut_off}
 use Rattle.mls_command.proofs.accounting.print_account.Goals as goal
 
 pub returns-in_err-account-clause-given_up : goal.returns-in_err-account-clause-given_up
@@ -19,3 +19,10 @@ returns-clause-given_up g c =
     cut_off (hosted g.H.Host.hosting g.H.Lines.TypedLines.echo c.args.host.now c.args.host.now) c.args.job (IsAppended g.W.Write.contents c.args.out.now c.print.new.out) (IsTold g.E.Write.contents c.args.err.now c.print.new.err) l.text.items (string_bytes l.told) l.ending
     c.in_ok-account.ensures.told c.print.result c.print.ensures.refused c.print.ensures.part
     (quiet_told g.E.Write.contents c.args.err.now c.print.new.err c.print.result c.print.ensures.quiet)
+
+pub returns-clause-done : goal.returns-clause-done
+returns-clause-done g c =
+    let l = c.in_ok-account.field-0 in
+    printed (hosted g.H.Host.hosting g.H.Lines.TypedLines.echo c.args.host.now c.args.host.now) c.args.job (IsAppended g.W.Write.contents c.args.out.now c.print.new.out)
+    (IsTold g.E.Write.contents c.args.err.now c.print.new.err) l.text.items (string_bytes l.told) l.ending
+    c.in_ok-account.ensures.told c.print.result c.print.ensures.ending c.print.ensures.written c.print.ensures.told

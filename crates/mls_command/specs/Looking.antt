@@ -1,5 +1,5 @@
 -- What is told of the store that a command names, where all its inputs are accepted.
-use Rattle.std.specs.Prelude.{ℕ, List, [], ◌++◌, Option, Some, None}
+use Rattle.std.specs.Prelude.{◌≡◌, ℕ, List, [], ◌++◌, Option, Some, None}
 use Rattle.mls_lattice.specs.Policy.{Tables}
 use Rattle.mls_scheme.specs.declared.file.SchemesFile.{SchemesFile}
 use Rattle.mls_words.specs.declared.words.Task.{Task}
@@ -24,19 +24,19 @@ store_of (Run files) = named files.store
 store_of (Shell files) = named files.store
 store_of task = None
 
--- why the files of a store are not read, and what to do
-abbrev pub cause_text : StoreCause → List ℕ
-cause_text NoFolder = NO_FOLDER.now
-cause_text NoRight = NO_RIGHT.now
-cause_text NoFile = NO_FILE.now
-cause_text InUse = IN_USE.now
-cause_text Journal = JOURNAL.now
-cause_text Unreadable = UNREADABLE.now
-cause_text Memory = []
+-- why the files of a store are not read, and what to do; nothing for want of memory, which is told as such
+abbrev pub cause_text : StoreCause → Option (List ℕ)
+cause_text NoFolder = Some NO_FOLDER.now
+cause_text NoRight = Some NO_RIGHT.now
+cause_text NoFile = Some NO_FILE.now
+cause_text InUse = Some IN_USE.now
+cause_text Journal = Some JOURNAL.now
+cause_text Unreadable = Some UNREADABLE.now
+cause_text Memory = None
 
 -- what is found of the store at a path: why its files are not shown, or what opening a store with their bytes comes to
 pub data IsSight (h : Hosting) (policy : Tables) (file : SchemesFile) (path : List ℕ) : Option OpenFault → List ℕ → Type 0 where
-  hidden : (cause : StoreCause) → h.hides path cause → IsSight h policy file path (Some stores.Store) (cause_text cause)
+  hidden : (cause : StoreCause) (text : List ℕ) → h.hides path cause → Some text ≡ cause_text cause → IsSight h policy file path (Some stores.Store) text
   shown : (log db : List ℕ) (fault : Option OpenFault) (lines : List ℕ) → h.shows path log db → IsDiagnosis policy file log db fault lines
       → IsSight h policy file path fault lines
 

@@ -182,9 +182,9 @@ fn explain_inputs<H: Host, W: Write, E: Write>(
 }
 
 /// Does what the words ask for, and answers the exit status: 0 all well, 1 a transaction has no certificate or none that holds, an input
-/// that is explained is refused, or a shell's opening was denied or a line of it refused, 2 an input or the command line was refused, 3 store,
-/// writing or memory. Files are read in the order policy, schemes, transactions, certificates, script, store, and nothing runs before all
-/// were accepted.
+/// that is explained is refused or its store is not opened, or a shell's opening was denied or a line of it refused, 2 an input or the
+/// command line was refused, 3 store, writing or memory. Files are read in the order policy, schemes, transactions, certificates, script,
+/// store, and nothing runs before all were accepted.
 pub fn act<H: Host, W: Write, E: Write>(
     alloc: Global,
     words: &[&str],

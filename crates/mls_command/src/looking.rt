@@ -1,5 +1,5 @@
 //! The store that a command names, which is looked at and not opened.
-ghost use Rattle.std.specs.Prelude.{◌≡◌, [], length, string_bytes, IfOk};
+ghost use Rattle.std.specs.Prelude.{◌≡◌, [], Some, option_map, length, string_bytes, IfOk};
 ghost use Rattle.mls_scheme.specs.Scheme.{AreUnder};
 ghost use Rattle.mls_words.specs.Words.{named};
 ghost use Rattle.mls_command.specs.Looking.{store_of, cause_text, IsSight, store_text, found_text, found_ending, IsStoreAccount};
@@ -43,18 +43,32 @@ pub(crate) fn store_of<'a>(task: Task<'a>) -> Option<&'a str>
     }
 }
 
-/// Why the files of a store are not read, and what to do.
-fn cause_text(cause: StoreCause) -> &'static str
-    ensures { result.now ≡ cause_text cause }
+/// Why the files of a store are not read, and what to do; none for want of memory.
+fn cause_text(cause: StoreCause) -> Option<&'static str>
+    ensures { option_map (λ text. text.now) result ≡ cause_text cause }
 {
     match cause {
-        StoreCause::NoFolder => NO_FOLDER,
-        StoreCause::NoRight => NO_RIGHT,
-        StoreCause::NoFile => NO_FILE,
-        StoreCause::InUse => IN_USE,
-        StoreCause::Journal => JOURNAL,
-        StoreCause::Unreadable => UNREADABLE,
-        StoreCause::Memory => "",
+        StoreCause::NoFolder => Some(NO_FOLDER),
+        StoreCause::NoRight => Some(NO_RIGHT),
+        StoreCause::NoFile => Some(NO_FILE),
+        StoreCause::InUse => Some(IN_USE),
+        StoreCause::Journal => Some(JOURNAL),
+        StoreCause::Unreadable => Some(UNREADABLE),
+        StoreCause::Memory => None,
+    }
+}
+
+/// What is found of a store whose files are not shown.
+fn hidden_by(alloc: Global, cause: StoreCause) -> Result<Diagnosis, AllocError>
+    ensures fault { IfOk result (λ d. d.fault ≡ Some OpenFault.Store) }
+    ensures text { IfOk result (λ d. Some d.text.items ≡ cause_text cause) }
+{
+    match cause_text(cause) {
+        Some(text) => Ok(Diagnosis {
+            fault: Some(OpenFault::Store),
+            text: Vec::from_slice(alloc, text.as_bytes())?,
+        }),
+        None => Err(AllocError),
     }
 }
 
@@ -71,11 +85,7 @@ fn sight_of<H: Host>(
 {
     match host.store_files(alloc, path) {
         Ok(files) => diagnosis_of(alloc, &files.log, &files.db, policy, file),
-        Err(StoreCause::Memory) => Err(AllocError),
-        Err(cause) => Ok(Diagnosis {
-            fault: Some(OpenFault::Store),
-            text: Vec::from_slice(alloc, cause_text(cause).as_bytes())?,
-        }),
+        Err(cause) => hidden_by(alloc, cause),
     }
 }
 

@@ -32,6 +32,7 @@ pub use laws::{
     widened_was_content, widening_keeps_content,
 };
 pub use recovering::is_content;
+pub use row::tuple_at;
 pub use rule::{Broken, Rule};
 pub use splitting::{add_cells, cells_of, classes_of, node_of, nodes_of};
 pub use subsumption::subsumes;

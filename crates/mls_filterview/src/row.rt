@@ -53,7 +53,7 @@ impl Row {
 }
 
 /// A copy of the tuple at a place.
-pub(crate) fn tuple_at(place: &Place, elements: &Items<Element>) -> Result<Tuple, AllocError>
+pub fn tuple_at(place: &Place, elements: &Items<Element>) -> Result<Tuple, AllocError>
     ensures { IfOk result (λ t. t ≡ tuple_at place.now elements.now) }
 {
     Ok(Tuple {

@@ -6,7 +6,7 @@ ghost use Rattle.mls_findings.specs.Difference.{lines_of, line_len, is_ended, sh
 
 use crate::telling::push_number;
 use mls_lattice::Items;
-use mls_pointing::push_cut_off;
+use mls_pointing::{first_line_len, push_cut_off};
 use mls_screen::escape;
 use mls_tokens::push_str;
 use std::alloc::{AllocError, Global};
@@ -22,20 +22,12 @@ pub struct Difference {
 
 // ---- the lines of a text
 
-/// How many bytes stand before the first line feed.
-fn body_len(text: &[u8]) -> usize
-    ensures run { result ≡ prefix_len is_no_feed text.now }
-    ensures within { result ≤ length text.now }
-{
-    text.iter().take_while(|byte| **byte != b'\n').count()
-}
-
 /// How many bytes the first line has.
 fn line_len(text: &[u8]) -> usize
     ensures run { result ≡ line_len text.now }
     ensures within { result ≤ length text.now }
 {
-    (body_len(text) + 1).min(text.len())
+    (first_line_len(text) + 1).min(text.len())
 }
 
 fn copy_of(alloc: Global, line: &[u8]) -> Result<Items<u8>, AllocError>
@@ -145,7 +137,7 @@ pub(crate) const UNENDED: &str = "`, which no line feed ends.\n";
 fn is_ended(line: &[u8]) -> bool
     ensures { result ≡ is_ended line.now }
 {
-    body_len(line) < line.len()
+    first_line_len(line) < line.len()
 }
 
 /// A line without its line feed, as a screen is given it.
@@ -154,7 +146,7 @@ fn shown(alloc: Global, line: &Option<Items<u8>>) -> Result<Vec<u8>, AllocError>
 {
     match line {
         None => Ok(Vec::new(alloc)),
-        Some(line) => escape(alloc, &line[..body_len(line)]),
+        Some(line) => escape(alloc, &line[..first_line_len(line)]),
     }
 }
 

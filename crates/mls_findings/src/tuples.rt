@@ -4,28 +4,16 @@ ghost use Rattle.std.specs.List.{AllByRecursion};
 ghost use Rattle.mls_lattice.specs.Policy.{labels_of};
 ghost use Rattle.mls_scheme.specs.Scheme.{IsUnder, AreUnder};
 ghost use Rattle.mls_scheme.specs.Spelling.{IsSpelledKey, key_spelling};
-ghost use Rattle.mls_scheme.specs.Table.{tuple_at};
 ghost use Rattle.mls_findings.specs.declared.wrong.Wrong.TheVariants.{Tuple as OfTuple};
 ghost use Rattle.mls_findings.specs.Wrong.{tuples_in, KeepRules, AreSound, AreKept, AreWholeRows, IsWrong, AreWhole, IsTold, IsToldAmong};
 
 use crate::wrong::Wrong;
-use mls_filterview::{Rows, Rule, integrity, is_content};
+use mls_filterview::{Rows, Rule, integrity, is_content, tuple_at};
 use mls_fragments::tables_of;
 use mls_lattice::{Items, Policy};
-use mls_scheme::{Element, Place, RelNo, Scheme, Schemes, Tuple, copy_key, key_bytes};
+use mls_scheme::{RelNo, Scheme, Schemes, Tuple, key_bytes};
 use mls_statements::AllRows;
 use std::alloc::{AllocError, Global};
-
-/// A copy of the tuple at a place.
-fn tuple_at(place: &Place, elements: &Items<Element>) -> Result<Tuple, AllocError>
-    ensures { IfOk result (λ t. t ≡ tuple_at place.now elements.now) }
-{
-    Ok(Tuple {
-        key: copy_key(&place.key)?,
-        key_class: place.key_class,
-        elements: elements.clone()?,
-    })
-}
 
 /// The tuples of a relation, in the order of their places.
 fn tuples_of(alloc: Global, table: &Rows) -> Result<Vec<Tuple>, AllocError>

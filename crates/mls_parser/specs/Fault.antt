@@ -1,7 +1,7 @@
 -- The causes for which texts of transactions are refused, and which of several faults is answered.
-use Rattle.std.specs.Prelude.{◌≡◌, ℕ, ◌+◌, ◌-◌, Bool, true, false, ◌==◌, ◌&&◌, ◌||◌, nat_lt, if◌then◌else◌, List, [], ◌∷◌, codes, Option, Some, None, take, reverse}
-use Rattle.std.specs.List.{count_by, prefix_len, Contains, AllByRecursion}
-use Rattle.mls_tokens.specs.Text.{is_no_feed}
+use Rattle.std.specs.Prelude.{◌≡◌, ℕ, ◌-◌, Bool, true, false, ◌==◌, ◌&&◌, ◌||◌, nat_lt, if◌then◌else◌, List, [], ◌∷◌, codes, Option, Some, None}
+use Rattle.std.specs.List.{Contains, AllByRecursion}
+use Rattle.mls_tokens.specs.Spot.{spot_at}
 use Rattle.mls_syntax.specs.declared.fault.SyntaxCause.{SyntaxCause}
 use Rattle.mls_syntax.specs.declared.fault.SyntaxCause.TheVariants as syntax
 use Rattle.mls_syntax.specs.declared.fault.SyntaxFault.{SyntaxFault}
@@ -79,14 +79,10 @@ pub record IsLeast (faults : List PlacedFault) (f : PlacedFault) : Type 0 where
 
 -- ---- lines and columns
 
--- the bytes before a place
-abbrev pub before : ℕ → List ℕ → List ℕ
-before at bytes = take (at - 1) bytes
-
--- one more than the LFs before a place, and one more than the bytes between it and the last of these
+-- where the byte of the place stands
 unfoldable pub in_text : List ℕ → PlacedFault → TextFault
 in_text bytes f = record {
-  line = 1 + count_by (λ b. b == 10) (before f.at bytes);
-  column = 1 + prefix_len is_no_feed (reverse (before f.at bytes));
+  line = (spot_at bytes (f.at - 1)).line;
+  column = (spot_at bytes (f.at - 1)).column;
   cause = f.cause;
 }

@@ -1,10 +1,9 @@
-ghost use Rattle.std.specs.Prelude.{◌≡◌, ◌==◌, ◌≤◌, Some, length, reverse};
-ghost use Rattle.std.specs.List.{count_by, prefix_len};
-ghost use Rattle.mls_tokens.specs.Text.{is_no_feed};
+ghost use Rattle.std.specs.Prelude.{◌≡◌, Some};
 ghost use Rattle.mls_parser.specs.declared.fault.TextCause.TheVariants.{Memory};
-ghost use Rattle.mls_parser.specs.Fault.{code_of, word_of, unless, is_before, sooner, least_from, before, in_text, from_syntax};
+ghost use Rattle.mls_parser.specs.Fault.{code_of, word_of, unless, is_before, sooner, least_from, in_text, from_syntax};
 
 use mls_syntax::{SyntaxCause, SyntaxFault};
+use mls_tokens::spot_at;
 use std::alloc::AllocError;
 use std::fmt;
 use thiserror::Error;
@@ -130,10 +129,10 @@ impl PlacedFault {
     pub fn in_text(self, bytes: &[u8]) -> TextFault
         ensures { result ≡ in_text bytes.now self }
     {
-        let before = before(self.at, bytes);
+        let spot = spot_at(bytes, self.at.saturating_sub(1));
         TextFault {
-            line: 1 + feeds(before),
-            column: 1 + behind_feed(before),
+            line: spot.line,
+            column: spot.column,
             cause: self.cause,
         }
     }
@@ -144,38 +143,6 @@ impl PlacedFault {
     {
         self.at < other.at || self.at == other.at && self.cause.code() < other.cause.code()
     }
-}
-
-/// The bytes before a place.
-fn before(at: usize, bytes: &[u8]) -> &[u8]
-    ensures { result.now ≡ before at bytes.now }
-{
-    let end = at.saturating_sub(1);
-    if end < bytes.len() {
-        &bytes[..end]
-    } else {
-        bytes
-    }
-}
-
-/// How many LFs there are.
-fn feeds(bytes: &[u8]) -> usize
-    ensures exact { result ≡ count_by (λ b. b == 10) bytes.now }
-    ensures few { result ≤ length bytes.now }
-{
-    bytes.iter().filter(|byte| **byte == b'\n').count()
-}
-
-/// How many bytes stand behind the last LF.
-fn behind_feed(bytes: &[u8]) -> usize
-    ensures exact { result ≡ prefix_len is_no_feed (reverse bytes.now) }
-    ensures few { result ≤ length bytes.now }
-{
-    bytes
-        .iter()
-        .rev()
-        .take_while(|byte| **byte != b'\n')
-        .count()
 }
 
 fn sooner(found: Found, fault: PlacedFault) -> PlacedFault

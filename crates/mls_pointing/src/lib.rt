@@ -14,5 +14,6 @@ pub use advice::advice_of;
 pub use forms::form_at;
 pub use names::{declared_names, label_names, push_name};
 pub use nearest::{nearest_line, nearest_place, token_at};
+pub use places::first_line_len;
 pub use showing::{excerpt, file_line};
 pub use standing::push_cut_off;

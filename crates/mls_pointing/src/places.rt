@@ -5,7 +5,7 @@ ghost use Rattle.mls_tokens.specs.Text.{is_no_feed};
 ghost use Rattle.mls_pointing.specs.Places.{behind_feed, behind_feeds, from_line, first_line};
 
 /// How many bytes stand before the first line feed.
-fn line_len(bytes: &[u8]) -> usize
+pub fn first_line_len(bytes: &[u8]) -> usize
     ensures run { result ≡ prefix_len is_no_feed bytes.now }
     ensures within { result ≤ length bytes.now }
 {
@@ -16,7 +16,7 @@ fn line_len(bytes: &[u8]) -> usize
 fn behind_feed(bytes: &[u8]) -> &[u8]
     ensures { result.now ≡ behind_feed bytes.now }
 {
-    let end = line_len(bytes);
+    let end = first_line_len(bytes);
     if end < bytes.len() {
         &bytes[end + 1..]
     } else {
@@ -47,5 +47,5 @@ pub(crate) fn from_line(bytes: &[u8], line: usize) -> &[u8]
 pub(crate) fn first_line(bytes: &[u8]) -> &[u8]
     ensures { result.now ≡ first_line bytes.now }
 {
-    &bytes[..line_len(bytes)]
+    &bytes[..first_line_len(bytes)]
 }

@@ -12,12 +12,14 @@ mod quoted;
 mod runs;
 mod scanner;
 mod sign;
+mod spots;
 mod token;
 mod tokens;
 mod writing;
 
 pub use fault::{TokenCause, TokenFault};
 pub use sign::Sign;
+pub use spots::{Spot, spot_at};
 pub use token::{Placed, Token};
 pub use tokens::Tokens;
 pub use writing::{push_int, push_printable, push_quoted, push_str};

@@ -4,3 +4,4 @@ pub mod NamingLemmas
 pub mod UntoldLemmas
 pub mod LawLemmas
 pub mod LimitLemmas
+pub mod DocumentLemmas

@@ -11,3 +11,4 @@ pub mod Fault
 pub mod Telling
 pub mod Laws
 pub mod Limits
+pub mod Document

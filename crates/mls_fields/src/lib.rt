@@ -2,6 +2,7 @@
 #![tactic(auto)]
 
 mod content;
+mod document;
 mod fault;
 mod field;
 mod form;
@@ -15,6 +16,7 @@ mod telling;
 mod walk;
 
 pub use content::Content;
+pub use document::document_spot;
 pub use field::Field;
 pub use laws::{kinds_are_read, limits_are_read, modes_are_read};
 pub use table::{Form, Need, Role, Row, Thing};

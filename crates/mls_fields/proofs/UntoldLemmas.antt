@@ -5,14 +5,16 @@ use Rattle.std.specs.List.{list_any, flat_map}
 use Rattle.std.proofs.lemmas.Bool.{or_parts}
 use Rattle.std.proofs.lemmas.List.Folds.{list_any-append}
 use Rattle.toml.specs.Data.{Data, Items, no_items, item, Members, table, as_str, as_array}
-use Rattle.mls_lattice.specs.declared.fault.PolicyFault.{PolicyFault}
-use Rattle.mls_lattice.specs.declared.fault.PolicyFault.TheVariants.{MissingField, WrongKind, Repeated, UnknownName, TooMany, BadName, EmptyInterval}
-use Rattle.mls_lattice.specs.Fault.{code_of}
 use Rattle.mls_lattice.specs.Policy.{Name, Tables}
+use Rattle.mls_scheme.specs.declared.fault.SchemeFault.{SchemeFault}
+use Rattle.mls_scheme.specs.declared.fault.SchemeFault.TheVariants.{MissingField, WrongKind, Repeated, UnknownName, TooMany, BadName, EmptyInterval, NoKey}
+use Rattle.mls_scheme.specs.Fault.{code_of}
 use Rattle.mls_fields.specs.declared.fault.TheConstants.{FIELD_FAULTS}
+use Rattle.mls_fields.specs.declared.table.Need.{Need}
+use Rattle.mls_fields.specs.declared.table.Need.TheVariants as need
 use Rattle.mls_fields.specs.declared.table.Row.{Row}
 use Rattle.mls_fields.specs.declared.field.Field.{Field}
-use Rattle.mls_fields.specs.Table.{wants_name, may_lack, may_be_empty}
+use Rattle.mls_fields.specs.Table.{wants_name, may_lack, may_be_empty, lack_fault}
 use Rattle.mls_fields.specs.Member.{member, items_in}
 use Rattle.mls_fields.specs.Form.{has_count, fits, excess}
 use Rattle.mls_fields.specs.Field.{is_no_name, fault_in, fault_of, field_of}
@@ -40,7 +42,7 @@ none_at p (y ∷ xs) (suc i) x off is = none_at p xs i x (or_parts (p y) (list_a
 
 -- ---- the number of no fault of fields
 
-abbrev is_code : ℕ → Option PolicyFault → Bool
+abbrev is_code : ℕ → Option SchemeFault → Bool
 is_code code None = false
 is_code code (Some e) = code_of e == code
 
@@ -52,29 +54,35 @@ none_made false false true x y z d e h = absurd cc
 none_made false false false x y z d e h = refl
 
 module _ (code : ℕ) (no_field : is_field_code code ≡ false) where
-  off : (i : ℕ) (e : PolicyFault) → slice_get FIELD_FAULTS i ≡ Some e → is_code code (Some e) ≡ false
-  off i e is = none_at (λ (e : PolicyFault). code_of e == code) FIELD_FAULTS i e no_field is
+  off : (i : ℕ) (e : SchemeFault) → slice_get FIELD_FAULTS i ≡ Some e → is_code code (Some e) ≡ false
+  off i e is = none_at (λ (e : SchemeFault). code_of e == code) FIELD_FAULTS i e no_field is
 
   -- ---- a field by itself
 
   abbrev has : Field → Bool
   has f = is_code code f.fault
 
-  own-off : (a b c e : Bool)
-      → is_code code (if a then Some WrongKind else (if b then Some MissingField else (if c then Some TooMany else (if e then Some BadName else None)))) ≡ false
-  own-off true b c e = off 1 WrongKind refl
-  own-off false true c e = off 0 MissingField refl
-  own-off false false true e = off 4 TooMany refl
-  own-off false false false true = off 5 BadName refl
-  own-off false false false false = refl
+  lack-off : (n : Need) → is_code code (Some (lack_fault n)) ≡ false
+  lack-off need.Optional = off 0 MissingField refl
+  lack-off need.Wanted = off 0 MissingField refl
+  lack-off need.Some = off 0 MissingField refl
+  lack-off need.Key = off 7 NoKey refl
+
+  own-off : (n : Need) (a b c e : Bool)
+      → is_code code (if a then Some WrongKind else (if b then Some (lack_fault n) else (if c then Some TooMany else (if e then Some BadName else None)))) ≡ false
+  own-off n true b c e = off 1 WrongKind refl
+  own-off n false true c e = lack-off n
+  own-off n false false true e = off 4 TooMany refl
+  own-off n false false false true = off 5 BadName refl
+  own-off n false false false false = refl
 
   fault_in-off : (row : Row) (d : Data) → is_code code (fault_in row d) ≡ false
   unfolding fault_in
   fault_in-off row d =
-      own-off (not (fits row.form d)) (has_count 0 (as_array d) && not (may_be_empty row.need)) (is_some (excess row.form d)) (wants_name row.role && is_no_name (as_str d))
+      own-off row.need (not (fits row.form d)) (has_count 0 (as_array d) && not (may_be_empty row.need)) (is_some (excess row.form d)) (wants_name row.role && is_no_name (as_str d))
 
   fault_of-off : (row : Row) (d : Option Data) → is_code code (fault_of row d) ≡ false
-  fault_of-off row None = neither (is_code code) (may_lack row.need) None (Some MissingField) refl (off 0 MissingField refl)
+  fault_of-off row None = neither (is_code code) (may_lack row.need) None (Some (lack_fault row.need)) refl (lack-off row.need)
   fault_of-off row (Some d) = fault_in-off row d
 
   field_of-off : (row : Row) (path : List ℕ) (place d : Option Data) → has (field_of row path place d) ≡ false
@@ -114,7 +122,7 @@ module _ (code : ℕ) (no_field : is_field_code code ≡ false) where
     unfolding has_beside
     beside-off before f = none_made _ _ _ _ _ _ (off 3 UnknownName refl) (off 2 Repeated refl) (off 6 EmptyInterval refl)
 
-    among-off : (before : List Field) (f : Field) (own : Option PolicyFault) → is_code code own ≡ false → has_among policy fields code before f own ≡ false
+    among-off : (before : List Field) (f : Field) (own : Option SchemeFault) → is_code code own ≡ false → has_among policy fields code before f own ≡ false
     among-off before f (Some e) h = h
     among-off before f None h = beside-off before f
 

@@ -2,10 +2,10 @@
 use Rattle.std.specs.Prelude.{◌≡◌, ℕ, ◌<◌, Bool, true, false, not, ◌==◌, if◌then◌else◌, List, length, take, Option, Some, None, slice_get}
 use Rattle.std.specs.List.{list_any}
 use Rattle.std.specs.Str.{bytes_eq}
-use Rattle.mls_lattice.specs.declared.fault.PolicyFault.{PolicyFault}
-use Rattle.mls_lattice.specs.declared.fault.PolicyFault.TheVariants.{Repeated, UnknownName, EmptyInterval}
-use Rattle.mls_lattice.specs.Fault.{code_of}
 use Rattle.mls_lattice.specs.Policy.{Name, Tables}
+use Rattle.mls_scheme.specs.declared.fault.SchemeFault.{SchemeFault}
+use Rattle.mls_scheme.specs.declared.fault.SchemeFault.TheVariants.{Repeated, UnknownName, EmptyInterval}
+use Rattle.mls_scheme.specs.Fault.{code_of}
 use Rattle.mls_fields.specs.declared.table.Thing.{Thing}
 use Rattle.mls_fields.specs.declared.field.Field.{Field}
 use Rattle.mls_fields.specs.declared.fault.TheConstants.{FIELD_FAULTS}
@@ -37,7 +37,7 @@ module _ (policy : Option Tables) (fields : List Field) where
       if code_of EmptyInterval == code then is_empty_interval fields policy f.content else false
 
   -- its own, or else one among the others
-  abbrev pub has_among : ℕ → List Field → Field → Option PolicyFault → Bool
+  abbrev pub has_among : ℕ → List Field → Field → Option SchemeFault → Bool
   has_among code before f (Some e) = code_of e == code
   has_among code before f None = has_beside code before f
 

@@ -1,5 +1,7 @@
 -- What a row of a table of fields says.
 use Rattle.std.specs.Prelude.{ℕ, Bool, true, false, not, nat_eq, Option, Some, None}
+use Rattle.mls_scheme.specs.declared.fault.SchemeFault.{SchemeFault}
+use Rattle.mls_scheme.specs.declared.fault.SchemeFault.TheVariants.{MissingField, NoKey}
 use Rattle.mls_fields.specs.declared.table.Thing.{Thing}
 use Rattle.mls_fields.specs.declared.table.Thing.TheVariants.{Level, Category, Label, User, Relation, Attribute, Mode, Kind, Value, Right}
 use Rattle.mls_fields.specs.declared.table.Role.{Role}
@@ -64,8 +66,17 @@ abbrev pub may_lack : Need → Bool
 may_lack need.Optional = true
 may_lack need.Wanted = false
 may_lack need.Some = false
+may_lack need.Key = false
 
 abbrev pub may_be_empty : Need → Bool
 may_be_empty need.Optional = true
 may_be_empty need.Wanted = true
 may_be_empty need.Some = false
+may_be_empty need.Key = false
+
+-- the fault of a field that is missing or empty, and may not be
+abbrev pub lack_fault : Need → SchemeFault
+lack_fault need.Optional = MissingField
+lack_fault need.Wanted = MissingField
+lack_fault need.Some = MissingField
+lack_fault need.Key = NoKey

@@ -11,17 +11,19 @@ use crate::interval::is_empty_interval;
 use crate::naming::{is_declared, text_of};
 use crate::repeating::has_same;
 use crate::table::Thing;
-use mls_lattice::{Policy, PolicyFault};
+use mls_lattice::Policy;
+use mls_scheme::SchemeFault;
 
 /// The faults of fields: of some by themselves, and of names and values that are unknown, repeated or in disorder.
-pub(crate) const FIELD_FAULTS: [PolicyFault; 7] = [
-    PolicyFault::MissingField,
-    PolicyFault::WrongKind,
-    PolicyFault::Repeated,
-    PolicyFault::UnknownName,
-    PolicyFault::TooMany,
-    PolicyFault::BadName,
-    PolicyFault::EmptyInterval,
+pub(crate) const FIELD_FAULTS: [SchemeFault; 8] = [
+    SchemeFault::MissingField,
+    SchemeFault::WrongKind,
+    SchemeFault::Repeated,
+    SchemeFault::UnknownName,
+    SchemeFault::TooMany,
+    SchemeFault::BadName,
+    SchemeFault::EmptyInterval,
+    SchemeFault::NoKey,
 ];
 
 /// Whether a field can have a fault of this number.
@@ -67,13 +69,13 @@ fn has_beside(
 ) -> bool
     ensures { result ≡ has_beside (option_map (λ p. p.now) policy.entry) fields.now code before.now field.now }
 {
-    if PolicyFault::UnknownName.code() == code {
+    if SchemeFault::UnknownName.code() == code {
         return is_unknown(policy, fields, field);
     }
-    if PolicyFault::Repeated.code() == code {
+    if SchemeFault::Repeated.code() == code {
         return is_repeated(before, field);
     }
-    if PolicyFault::EmptyInterval.code() == code {
+    if SchemeFault::EmptyInterval.code() == code {
         return is_empty_interval(policy, fields, &field.content);
     }
     false

@@ -2,13 +2,14 @@
 ghost use Rattle.std.specs.Prelude.{◌≡◌, option_map, IfOk};
 ghost use Rattle.toml.specs.Data.{as_str};
 ghost use Rattle.toml.specs.View.{view};
-ghost use Rattle.mls_fields.specs.Table.{wants_name, may_lack, may_be_empty};
+ghost use Rattle.mls_fields.specs.Table.{wants_name, may_lack, may_be_empty, lack_fault};
 ghost use Rattle.mls_fields.specs.Field.{is_no_name, fault_in, fault_of, field_of};
 
 use crate::content::{Content, content_of};
 use crate::form::{excess, fits, has_count};
 use crate::table::{Need, Role, Row};
-use mls_lattice::{PolicyFault, Str, is_name};
+use mls_lattice::{Str, is_name};
+use mls_scheme::SchemeFault;
 use std::alloc::{AllocError, Global};
 use toml::Value;
 
@@ -19,7 +20,7 @@ pub struct Field {
     pub path: Str,
     pub content: Content,
     /// The fault that it has whatever the other fields are.
-    pub fault: Option<PolicyFault>,
+    pub fault: Option<SchemeFault>,
     pub role: Role,
 }
 
@@ -47,7 +48,7 @@ fn may_lack(need: Need) -> bool
 {
     match need {
         Need::Optional => true,
-        Need::Wanted | Need::Some => false,
+        Need::Wanted | Need::Some | Need::Key => false,
     }
 }
 
@@ -56,36 +57,46 @@ fn may_be_empty(need: Need) -> bool
 {
     match need {
         Need::Optional | Need::Wanted => true,
-        Need::Some => false,
+        Need::Some | Need::Key => false,
+    }
+}
+
+/// The fault of a field that is missing or empty, and may not be.
+fn lack_fault(need: Need) -> SchemeFault
+    ensures { result ≡ lack_fault need }
+{
+    match need {
+        Need::Optional | Need::Wanted | Need::Some => SchemeFault::MissingField,
+        Need::Key => SchemeFault::NoKey,
     }
 }
 
 #[tactic(auto, unfolding(crate::specs::Field::fault_in))]
-fn fault_in(row: &Row, value: &Value) -> Option<PolicyFault>
+fn fault_in(row: &Row, value: &Value) -> Option<SchemeFault>
     ensures { result ≡ fault_in row.now (view value.now) }
 {
     if !fits(row.form, value) {
-        return Some(PolicyFault::WrongKind);
+        return Some(SchemeFault::WrongKind);
     }
     if has_count(value, 0) && !may_be_empty(row.need) {
-        return Some(PolicyFault::MissingField);
+        return Some(lack_fault(row.need));
     }
     if excess(row.form, value).is_some() {
-        return Some(PolicyFault::TooMany);
+        return Some(SchemeFault::TooMany);
     }
     if wants_name(row.role) && is_no_name(value) {
-        return Some(PolicyFault::BadName);
+        return Some(SchemeFault::BadName);
     }
     None
 }
 
-fn fault_of(row: &Row, value: Option<&Value>) -> Option<PolicyFault>
+fn fault_of(row: &Row, value: Option<&Value>) -> Option<SchemeFault>
     ensures { result ≡ fault_of row.now (option_map (λ v. view v.now) value.entry) }
 {
     match value {
         Some(value) => fault_in(row, value),
         None if may_lack(row.need) => None,
-        None => Some(PolicyFault::MissingField),
+        None => Some(lack_fault(row.need)),
     }
 }
 

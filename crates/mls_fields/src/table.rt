@@ -124,6 +124,8 @@ pub enum Need {
     Wanted,
     /// One item at least is wanted.
     Some,
+    /// The same of the key of a relation, whose lack is a fault of its own.
+    Key,
 }
 
 /// What a row of a table of fields says beside the way to the fields.
@@ -184,7 +186,7 @@ pub(crate) const SCHEMES: [Entry; 13] = [
     entry!("", "", "version", Version, Wanted, Free),
     entry!("", "", "relation", Tables(16), Some, Free),
     entry!("relation", "", "name", Text, Wanted, New(Relation)),
-    entry!("relation", "", "key", Tables(4), Optional, Free),
+    entry!("relation", "", "key", Tables(4), Key, Free),
     entry!("relation", "key", "name", Text, Wanted, New(Attribute)),
     entry!("relation", "key", "kind", Text, Wanted, Use(Kind)),
     entry!("relation", "key", "low", Text, Wanted, Use(Label)),

@@ -7,7 +7,7 @@ use Rattle.std.proofs.lemmas.List.Folds.{list_any-append}
 use Rattle.toml.specs.Data.{Data, Items, no_items, item, Members, table, as_str, as_array}
 use Rattle.mls_lattice.specs.Policy.{Name, Tables}
 use Rattle.mls_scheme.specs.declared.fault.SchemeFault.{SchemeFault}
-use Rattle.mls_scheme.specs.declared.fault.SchemeFault.TheVariants.{MissingField, WrongKind, Repeated, UnknownName, TooMany, BadName, EmptyInterval, NoKey}
+use Rattle.mls_scheme.specs.declared.fault.SchemeFault.TheVariants.{MissingField, WrongKind, Repeated, UnknownName, TooMany, BadName, EmptyInterval, NoKey, KeyIntervals}
 use Rattle.mls_scheme.specs.Fault.{code_of}
 use Rattle.mls_fields.specs.declared.fault.TheConstants.{FIELD_FAULTS}
 use Rattle.mls_fields.specs.declared.table.Need.{Need}
@@ -46,12 +46,10 @@ abbrev is_code : ℕ → Option SchemeFault → Bool
 is_code code None = false
 is_code code (Some e) = code_of e == code
 
--- none of three tests is made
-none_made : (a b c x y z : Bool) → a ≡ false → b ≡ false → c ≡ false → (if a then x else (if b then y else (if c then z else false))) ≡ false
-none_made true b c x y z d e h = absurd cc
-none_made false true c x y z d e h = absurd cc
-none_made false false true x y z d e h = absurd cc
-none_made false false false x y z d e h = refl
+-- a test is not made
+not_made : (b x y : Bool) → b ≡ false → y ≡ false → (if b then x else y) ≡ false
+not_made true x y d e = absurd cc
+not_made false x y d e = e
 
 module _ (code : ℕ) (no_field : is_field_code code ≡ false) where
   off : (i : ℕ) (e : SchemeFault) → slice_get FIELD_FAULTS i ≡ Some e → is_code code (Some e) ≡ false
@@ -120,7 +118,9 @@ module _ (code : ℕ) (no_field : is_field_code code ≡ false) where
   module _ (policy : Option Tables) (fields : List Field) where
     beside-off : (before : List Field) (f : Field) → has_beside policy fields code before f ≡ false
     unfolding has_beside
-    beside-off before f = none_made _ _ _ _ _ _ (off 3 UnknownName refl) (off 2 Repeated refl) (off 6 EmptyInterval refl)
+    beside-off before f =
+        not_made _ _ _ (off 3 UnknownName refl) (not_made _ _ _ (off 2 Repeated refl) (
+        not_made _ _ _ (off 6 EmptyInterval refl) (not_made _ _ _ (off 8 KeyIntervals refl) refl)))
 
     among-off : (before : List Field) (f : Field) (own : Option SchemeFault) → is_code code own ≡ false → has_among policy fields code before f own ≡ false
     among-off before f (Some e) h = h

@@ -54,6 +54,7 @@ value_content form.Label d =
     (member (codes "categories") (Some d))
 value_content form.Right d = right_content d (text_at (codes "user") (Some d)) (text_at (codes "object") (Some d))
 value_content form.Pair d = pair_content d (items_in (Some d))
+value_content form.Ends d = texts_content d (text_at (codes "low") (Some d)) (text_at (codes "high") (Some d))
 value_content f d = other d
 
 -- ---- all of it

@@ -1,17 +1,17 @@
 -- The fault of a field among the others, and the first field that has one.
-use Rattle.std.specs.Prelude.{◌≡◌, ℕ, ◌<◌, Bool, true, false, not, ◌==◌, if◌then◌else◌, List, length, take, Option, Some, None, slice_get}
+use Rattle.std.specs.Prelude.{◌≡◌, ℕ, ◌<◌, Bool, true, false, not, ◌&&◌, ◌==◌, if◌then◌else◌, List, length, take, Option, Some, None, slice_get}
 use Rattle.std.specs.List.{list_any}
 use Rattle.std.specs.Str.{bytes_eq}
 use Rattle.mls_lattice.specs.Policy.{Name, Tables}
 use Rattle.mls_scheme.specs.declared.fault.SchemeFault.{SchemeFault}
-use Rattle.mls_scheme.specs.declared.fault.SchemeFault.TheVariants.{Repeated, UnknownName, EmptyInterval}
+use Rattle.mls_scheme.specs.declared.fault.SchemeFault.TheVariants.{Repeated, UnknownName, EmptyInterval, KeyIntervals}
 use Rattle.mls_scheme.specs.Fault.{code_of}
 use Rattle.mls_fields.specs.declared.table.Thing.{Thing}
 use Rattle.mls_fields.specs.declared.field.Field.{Field}
 use Rattle.mls_fields.specs.declared.fault.TheConstants.{FIELD_FAULTS}
-use Rattle.mls_fields.specs.Table.{used_by, single_by}
+use Rattle.mls_fields.specs.Table.{used_by, single_by, is_alike}
 use Rattle.mls_fields.specs.Naming.{text_of, names_of}
-use Rattle.mls_fields.specs.Repeating.{has_same}
+use Rattle.mls_fields.specs.Repeating.{has_same, has_other}
 use Rattle.mls_fields.specs.Interval.{is_empty_interval}
 
 -- a field can have a fault of this number
@@ -22,6 +22,10 @@ is_field_code code = list_any (λ e. code_of e == code) FIELD_FAULTS
 abbrev pub is_repeated : List Field → Field → Option Thing → Bool
 is_repeated before f None = false
 is_repeated before f (Some t) = list_any (has_same t f) before
+
+-- not what a field before has, where it has to be
+abbrev pub is_apart : List Field → Field → Bool
+is_apart before f = is_alike f.role && list_any (has_other f) before
 
 module _ (policy : Option Tables) (fields : List Field) where
   -- a name that is not among those of its kind
@@ -34,7 +38,8 @@ module _ (policy : Option Tables) (fields : List Field) where
   has_beside code before f =
       if code_of UnknownName == code then is_unknown (used_by f.role) (text_of f.content) else
       if code_of Repeated == code then is_repeated before f (single_by f.role) else
-      if code_of EmptyInterval == code then is_empty_interval fields policy f.content else false
+      if code_of EmptyInterval == code then is_empty_interval fields policy f.content else
+      if code_of KeyIntervals == code then is_apart before f else false
 
   -- its own, or else one among the others
   abbrev pub has_among : ℕ → List Field → Field → Option SchemeFault → Bool

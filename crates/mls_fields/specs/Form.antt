@@ -35,6 +35,7 @@ fits form.Pair d = are_texts d && has_count 2 (as_array d)
 fits (form.Tables most) d = are_tables d
 fits form.Label d = is_some (as_table d)
 fits form.Right d = is_some (as_table d)
+fits form.Ends d = is_some (as_table d)
 
 -- how many items there may be
 abbrev pub most_of : Form → Option ℕ

@@ -5,7 +5,7 @@ use Rattle.mls_scheme.specs.declared.fault.SchemeFault.TheVariants.{MissingField
 use Rattle.mls_fields.specs.declared.table.Thing.{Thing}
 use Rattle.mls_fields.specs.declared.table.Thing.TheVariants.{Level, Category, Label, User, Relation, Attribute, Mode, Kind, Value, Right}
 use Rattle.mls_fields.specs.declared.table.Role.{Role}
-use Rattle.mls_fields.specs.declared.table.Role.TheVariants.{Free, Name, New, Use, Each}
+use Rattle.mls_fields.specs.declared.table.Role.TheVariants.{Free, Name, New, Use, Each, Alike}
 use Rattle.mls_fields.specs.declared.table.Need.{Need}
 use Rattle.mls_fields.specs.declared.table.Need.TheVariants as need
 
@@ -37,6 +37,7 @@ wants_name Name = true
 wants_name (New t) = true
 wants_name (Use t) = not (is_word t)
 wants_name (Each t) = not (is_word t)
+wants_name Alike = false
 
 -- the things that a text newly names or a table is, and those of which a text names one
 abbrev pub declared_by : Role → Option Thing
@@ -45,6 +46,7 @@ declared_by Name = None
 declared_by (New t) = Some t
 declared_by (Use t) = None
 declared_by (Each t) = None
+declared_by Alike = None
 
 abbrev pub used_by : Role → Option Thing
 used_by Free = None
@@ -52,6 +54,7 @@ used_by Name = None
 used_by (New t) = None
 used_by (Use t) = Some t
 used_by (Each t) = Some t
+used_by Alike = None
 
 -- the things of which it may not stand twice
 abbrev pub single_by : Role → Option Thing
@@ -60,6 +63,12 @@ single_by Name = None
 single_by (New t) = Some t
 single_by (Use t) = None
 single_by (Each t) = Some t
+single_by Alike = None
+
+-- it has to be the same in a whole relation
+abbrev pub is_alike : Role → Bool
+is_alike Alike = true
+is_alike r = false
 
 -- the field may be missing, or may be empty
 abbrev pub may_lack : Need → Bool

@@ -27,7 +27,7 @@ pub enum Content {
     Label(Str, Str, Items<Str>),
     /// The user and the object of an entry of the matrix.
     Right(Str, Str),
-    /// The two texts of an array.
+    /// The two texts of an array, or at the ends of an interval.
     Pair(Str, Str),
     Integer(i64),
     /// How many items an array has, and how many it may have.
@@ -170,6 +170,10 @@ fn value_content(alloc: Global, form: Form, value: &Value) -> Result<Content, Al
             right_content(alloc, value, user, text_at(Some(value), "object"))
         }
         Form::Pair => pair_content(alloc, value, items_in(Some(value))),
+        Form::Ends => {
+            let low = text_at(Some(value), "low");
+            texts_content(alloc, value, low, text_at(Some(value), "high"))
+        }
         _ => other(alloc, value),
     }
 }

@@ -2,20 +2,20 @@
 ghost use Rattle.std.specs.Prelude.{◌≡◌, ◌<◌, length, option_map, slice_get, take};
 ghost use Rattle.std.specs.List.{list_any};
 ghost use Rattle.mls_fields.specs.Naming.{text_of};
-ghost use Rattle.mls_fields.specs.Repeating.{has_same};
-ghost use Rattle.mls_fields.specs.Table.{used_by, single_by};
-ghost use Rattle.mls_fields.specs.Fault.{is_unknown, is_repeated, has_beside, has_among, is_field_code, has_fault, IsFirstOf};
+ghost use Rattle.mls_fields.specs.Repeating.{has_same, has_other};
+ghost use Rattle.mls_fields.specs.Table.{used_by, single_by, is_alike};
+ghost use Rattle.mls_fields.specs.Fault.{is_unknown, is_repeated, is_apart, has_beside, has_among, is_field_code, has_fault, IsFirstOf};
 
 use crate::field::Field;
 use crate::interval::is_empty_interval;
 use crate::naming::{is_declared, text_of};
-use crate::repeating::has_same;
+use crate::repeating::{has_other, has_same, is_alike};
 use crate::table::Thing;
 use mls_lattice::Policy;
 use mls_scheme::SchemeFault;
 
 /// The faults of fields: of some by themselves, and of names and values that are unknown, repeated or in disorder.
-pub(crate) const FIELD_FAULTS: [SchemeFault; 8] = [
+pub(crate) const FIELD_FAULTS: [SchemeFault; 9] = [
     SchemeFault::MissingField,
     SchemeFault::WrongKind,
     SchemeFault::Repeated,
@@ -24,6 +24,7 @@ pub(crate) const FIELD_FAULTS: [SchemeFault; 8] = [
     SchemeFault::BadName,
     SchemeFault::EmptyInterval,
     SchemeFault::NoKey,
+    SchemeFault::KeyIntervals,
 ];
 
 /// Whether a field can have a fault of this number.
@@ -58,6 +59,21 @@ fn is_repeated(before: &[Field], field: &Field) -> bool
     }
 }
 
+fn some_has_other(before: &[Field], field: &Field) -> bool
+    ensures { result ≡ list_any (has_other field.now) before.now }
+{
+    before.iter().any(|other| has_other(field, other))
+}
+
+fn is_apart(before: &[Field], field: &Field) -> bool
+    ensures { result ≡ is_apart before.now field.now }
+{
+    if !is_alike(field.role) {
+        return false;
+    }
+    some_has_other(before, field)
+}
+
 /// Whether a field without a fault of its own has that of this number among the others, of which some stand before it.
 #[tactic(auto, unfolding(crate::specs::Fault::has_beside))]
 fn has_beside(
@@ -77,6 +93,9 @@ fn has_beside(
     }
     if SchemeFault::EmptyInterval.code() == code {
         return is_empty_interval(policy, fields, &field.content);
+    }
+    if SchemeFault::KeyIntervals.code() == code {
+        return is_apart(before, field);
     }
     false
 }

@@ -30,7 +30,7 @@ fn wants_name(role: Role) -> bool
     match role {
         Role::Name | Role::New(_) => true,
         Role::Use(thing) | Role::Each(thing) => !thing.is_word(),
-        Role::Free => false,
+        Role::Free | Role::Alike => false,
     }
 }
 

@@ -70,7 +70,7 @@ pub(crate) fn fits(form: Form, value: &Value) -> bool
         Form::Texts | Form::Names(_) => are_texts(value),
         Form::Pair => are_texts(value) && has_count(value, 2),
         Form::Tables(_) => are_tables(value),
-        Form::Label | Form::Right => value.is_table(),
+        Form::Label | Form::Right | Form::Ends => value.is_table(),
     }
 }
 
@@ -85,7 +85,8 @@ fn most_of(form: Form) -> Option<usize>
         | Form::Texts
         | Form::Pair
         | Form::Label
-        | Form::Right => None,
+        | Form::Right
+        | Form::Ends => None,
     }
 }
 

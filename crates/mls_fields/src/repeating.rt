@@ -2,7 +2,8 @@
 ghost use Rattle.std.specs.Prelude.{◌≡◌, ◌≤◌, ◌==◌, not, length};
 ghost use Rattle.std.specs.List.{prefix_len, list_any};
 ghost use Rattle.std.specs.Str.{bytes_eq};
-ghost use Rattle.mls_fields.specs.Repeating.{are_among, same_content, owner, is_local, is_beside, has_same};
+ghost use Rattle.mls_fields.specs.Table.{is_alike};
+ghost use Rattle.mls_fields.specs.Repeating.{are_among, same_content, other_pair, owner, is_local, is_beside, has_same, has_other};
 
 use crate::content::Content;
 use crate::field::Field;
@@ -40,6 +41,18 @@ fn same_content(content: &Content, other: &Content) -> bool
     }
 }
 
+/// Whether both are pairs, and different ones.
+fn other_pair(content: &Content, other: &Content) -> bool
+    ensures { result ≡ other_pair content.now other.now }
+{
+    match (content, other) {
+        (Content::Pair(low, high), Content::Pair(other, another)) => {
+            !(low.as_str() == other.as_str() && high.as_str() == another.as_str())
+        }
+        _ => false,
+    }
+}
+
 fn owner_len(bytes: &[u8]) -> usize
     ensures run { result ≡ prefix_len (λ b. not (b == 46)) bytes.now }
     ensures within { result ≤ length bytes.now }
@@ -59,12 +72,12 @@ fn is_local(role: Role) -> bool
 {
     match role {
         Role::New(thing) => thing.number() == Thing::Attribute.number(),
-        Role::Each(_) => true,
+        Role::Each(_) | Role::Alike => true,
         Role::Free | Role::Name | Role::Use(_) => false,
     }
 }
 
-/// Whether another field stands where a field has to differ from it.
+/// Whether another field stands where a field has to differ from it, or to be as it is.
 fn is_beside(field: &Field, other: &Field) -> bool
     ensures { result ≡ is_beside field.now other.now }
 {
@@ -83,5 +96,25 @@ pub(crate) fn has_same(thing: Thing, field: &Field, other: &Field) -> bool
     other.fault.is_none()
         && is_thing(thing, other.role.single())
         && same_content(&other.content, &field.content)
+        && is_beside(field, other)
+}
+
+pub(crate) fn is_alike(role: Role) -> bool
+    ensures { result ≡ is_alike role }
+{
+    match role {
+        Role::Alike => true,
+        Role::Free | Role::Name | Role::New(_) | Role::Use(_) | Role::Each(_) => false,
+    }
+}
+
+/// Whether another field has to have the pair that a field has, and has another one.
+#[tactic(auto, unfolding(crate::specs::Repeating::has_other))]
+pub(crate) fn has_other(field: &Field, other: &Field) -> bool
+    ensures { result ≡ has_other field.now other.now }
+{
+    other.fault.is_none()
+        && is_alike(other.role)
+        && other_pair(&other.content, &field.content)
         && is_beside(field, other)
 }

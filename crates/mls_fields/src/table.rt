@@ -61,6 +61,8 @@ pub enum Role {
     Use(Thing),
     /// The same in a list that has each once.
     Each(Thing),
+    /// An interval that is the same in a whole relation.
+    Alike,
 }
 
 impl Role {
@@ -70,7 +72,7 @@ impl Role {
     {
         match self {
             Role::New(thing) => Some(thing),
-            Role::Free | Role::Name | Role::Use(_) | Role::Each(_) => None,
+            Role::Free | Role::Name | Role::Use(_) | Role::Each(_) | Role::Alike => None,
         }
     }
 
@@ -80,7 +82,7 @@ impl Role {
     {
         match self {
             Role::Use(thing) | Role::Each(thing) => Some(thing),
-            Role::Free | Role::Name | Role::New(_) => None,
+            Role::Free | Role::Name | Role::New(_) | Role::Alike => None,
         }
     }
 
@@ -90,7 +92,7 @@ impl Role {
     {
         match self {
             Role::New(thing) | Role::Each(thing) => Some(thing),
-            Role::Free | Role::Name | Role::Use(_) => None,
+            Role::Free | Role::Name | Role::Use(_) | Role::Alike => None,
         }
     }
 }
@@ -115,6 +117,8 @@ pub enum Form {
     Label,
     /// The table of an entry of the matrix: it is for a user and an object.
     Right,
+    /// A table with the ends of an interval, the texts at `low` and `high`.
+    Ends,
 }
 
 /// Whether a field may be missing.
@@ -182,7 +186,7 @@ pub(crate) const POLICY: [Entry; 22] = [
 ];
 
 /// The fields of schemes.
-pub(crate) const SCHEMES: [Entry; 13] = [
+pub(crate) const SCHEMES: [Entry; 14] = [
     entry!("", "", "version", Version, Wanted, Free),
     entry!("", "", "relation", Tables(16), Some, Free),
     entry!("relation", "", "name", Text, Wanted, New(Relation)),
@@ -191,6 +195,7 @@ pub(crate) const SCHEMES: [Entry; 13] = [
     entry!("relation", "key", "kind", Text, Wanted, Use(Kind)),
     entry!("relation", "key", "low", Text, Wanted, Use(Label)),
     entry!("relation", "key", "high", High, Wanted, Use(Label)),
+    entry!("relation", "key", "", Ends, Wanted, Alike),
     entry!("relation", "", "attribute", Tables(15), Optional, Free),
     entry!(
         "relation",

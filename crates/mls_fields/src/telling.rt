@@ -263,8 +263,7 @@ pub fn policy_field(alloc: Global, bytes: &[u8], code: u8) -> Result<Vec<u8>, Al
     told_of(alloc, &POLICY, None, code, bytes)
 }
 
-/// The same of schemes under a policy, which declares their labels. A fault has a number from 2 to 8, or is that of a relation
-/// without a key, 10.
+/// The same of schemes under a policy, which declares their labels. Fields have the faults from 2 to 8, 10 and 11.
 pub fn schemes_field(
     alloc: Global,
     policy: &Policy,

@@ -1,10 +1,10 @@
 -- What is told beside a place.
 use Rattle.std.proofs.Common.{◌≡◌, List, ℕ, Bool, true, Result, Ok, Err, IfOk, sym, subst}
 use Rattle.mls_lattice.specs.Policy.{Name}
+use Rattle.mls_tokens.specs.declared.spots.Spot.{Spot}
 use Rattle.mls_words.specs.declared.words.Job.{Job}
 use Rattle.mls_host.specs.Hosting.{Hosting}
 use Rattle.mls_pointing.specs.Nearest.{IsNearestLine, token_at}
-use Rattle.mls_command.specs.declared.hinting.Spot.{Spot}
 use Rattle.mls_command.specs.Hinting.{AreNames, IsNearIf}
 
 pub if_ok : {A E : Type 0} {P Q : A → Type 0} → ((v : A) → P v → Q v) → (r : Result A E) → IfOk r P → IfOk r Q

@@ -2,6 +2,7 @@
 use Rattle.std.specs.Prelude.{◌≡◌, ℕ, ◌==◌, Bool, true, false, List, []}
 use Rattle.mls_lattice.specs.Policy.{Name, Tables}
 use Rattle.mls_scheme.specs.declared.file.SchemesFile.{SchemesFile}
+use Rattle.mls_tokens.specs.declared.spots.Spot.{Spot}
 use Rattle.mls_lattice.specs.Fault as policy_faults
 use Rattle.mls_scheme.specs.Fault as scheme_faults
 use Rattle.mls_parser.specs.Fault as text_faults
@@ -16,7 +17,6 @@ use Rattle.mls_fields.specs.Telling.{IsPolicyField, IsSchemesField}
 use Rattle.mls_pointing.specs.Forms.{form_at}
 use Rattle.mls_pointing.specs.Names.{declared_names}
 use Rattle.mls_pointing.specs.Nearest.{IsNearestLine, token_at}
-use Rattle.mls_command.specs.declared.hinting.Spot.{Spot}
 
 abbrev pub spot_at : ℕ → ℕ → Spot
 spot_at line column = record { line = line; column = column }

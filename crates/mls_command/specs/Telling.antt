@@ -1,5 +1,6 @@
 -- What is told of an input that is refused: the line that the command tells; where it is; what it means, and what to do.
 use Rattle.std.specs.Prelude.{◌≡◌, ℕ, List, [], ◌++◌, Option, Some, None, option_map}
+use Rattle.mls_tokens.specs.declared.spots.Spot.{Spot}
 use Rattle.mls_lattice.specs.Fault as policy_faults
 use Rattle.mls_scheme.specs.Fault as scheme_faults
 use Rattle.mls_parser.specs.Fault as text_faults
@@ -17,6 +18,7 @@ use Rattle.mls_host.specs.declared.reason.Reason.{Reason}
 use Rattle.mls_host.specs.declared.reason.Reason.TheVariants.{Unreadable, TooLong, Policy, Reader, Label, User, Name, Schemes, Transactions, Certificates, Script, Store, Memory}
 use Rattle.mls_host.specs.Hosting.{Hosting}
 use Rattle.mls_host.specs.Reason.{reason_text}
+use Rattle.mls_fields.specs.Document.{IsDocumentSpot}
 use Rattle.mls_pointing.specs.Advice.{advice_of}
 use Rattle.mls_pointing.specs.Excerpt.{excerpt, file_line}
 use Rattle.mls_command.specs.declared.telling.Place.{Place}
@@ -47,6 +49,18 @@ place_of (Transactions f) = Some (record { line = f.line; column = Some f.column
 place_of (Certificates f) = Some (record { line = f.line; column = None })
 place_of (Script f) = Some (record { line = f.line; column = Some f.column })
 place_of reason = None
+
+abbrev pub place_at : Spot → Place
+place_at spot = record { line = spot.line; column = Some spot.column }
+
+-- bytes that are no document cease to be one somewhere
+abbrev pub IsDocumentPlace : List ℕ → Option Place → Type 0
+IsDocumentPlace bytes place = (spot : Option Spot) × IsDocumentSpot bytes spot × (place ≡ option_map place_at spot)
+
+abbrev pub IsPlace : Reason → List ℕ → Option Place → Type 0
+IsPlace (Policy f) bytes place = IsDocumentPlace bytes place
+IsPlace (Schemes f) bytes place = IsDocumentPlace bytes place
+IsPlace reason bytes place = place ≡ place_of reason
 
 -- which input it is
 abbrev pub role_of : Reason → Option Role
@@ -107,8 +121,12 @@ shown path (Some place) bytes = excerpt path place.line place.column bytes
 
 module _ (h : Hosting) (job : Job) (reason : Reason) where
   -- with what is told beside it
-  abbrev pub IsShown : List ℕ → List ℕ → List ℕ → Type 0
-  IsShown path bytes lines = (hint : List ℕ) × IsHint h job reason bytes hint × (lines ≡ shown path (place_of reason) bytes ++ hint)
+  pub record IsShown (path bytes lines : List ℕ) : Type 0 where
+    pub place : Option Place
+    pub is_place : IsPlace reason bytes place
+    pub hint : List ℕ
+    pub is_hint : IsHint h job reason bytes hint
+    pub lines_are : lines ≡ shown path place bytes ++ hint
 
   -- the bytes of the file are those that the host gives once more; where it gives none, its name is told alone
   pub data AreLinesAt (path lines : List ℕ) : Type 0 where

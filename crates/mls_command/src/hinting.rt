@@ -7,15 +7,9 @@ use mls_fields::{policy_field, schemes_field};
 use mls_host::{Host, Reason};
 use mls_lattice::Str;
 use mls_pointing::{declared_names, form_at, nearest_line, token_at};
+use mls_tokens::Spot;
 use mls_words::Job;
 use std::alloc::{AllocError, Global};
-
-/// Where something stands in a text. Columns count bytes, and both count from 1.
-#[derive(Clone, Copy)]
-pub(crate) struct Spot {
-    pub line: usize,
-    pub column: usize,
-}
 
 /// The form of the command in whose line something else stands.
 fn form_if(is_unexpected: bool, line: usize, bytes: &[u8]) -> &'static str

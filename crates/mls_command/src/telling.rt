@@ -1,12 +1,14 @@
 //! What is told of an input that is refused.
-ghost use Rattle.std.specs.Prelude.{◌≡◌, ◌++◌, IfOk, OnOk};
+ghost use Rattle.std.specs.Prelude.{◌≡◌, ◌++◌, option_map, IfOk, OnOk};
 ghost use Rattle.mls_host.specs.Reason.{reason_text};
 ghost use Rattle.mls_words.specs.Words.{named};
-ghost use Rattle.mls_command.specs.Telling.{advice, place_of, role_of, transactions_of, certificates_of, script_of, policy_of, schemes_of, path_of, source_of, shown, IsShown, AreLinesAt, AreLines, IsToldOf};
+ghost use Rattle.mls_command.specs.Telling.{advice, place_of, role_of, place_at, IsDocumentPlace, IsPlace, transactions_of, certificates_of, script_of, policy_of, schemes_of, path_of, source_of, shown, IsShown, AreLinesAt, AreLines, IsToldOf};
 
 use crate::hinting::hint_of;
+use mls_fields::document_spot;
 use mls_host::{Host, Reason, Role};
 use mls_pointing::{advice_of, excerpt, file_line};
+use mls_tokens::Spot;
 use mls_words::{Job, Task};
 use std::alloc::{AllocError, Global};
 
@@ -47,7 +49,7 @@ fn advice(reason: &Reason) -> &'static str
     }
 }
 
-/// Where an input is refused, if a place is told.
+/// Where a fault says that it stands, if it says so.
 fn place_of(reason: &Reason) -> Option<Place>
     ensures { result ≡ place_of reason.now }
 {
@@ -65,6 +67,33 @@ fn place_of(reason: &Reason) -> Option<Place>
             column: Some(fault.column),
         }),
         _ => None,
+    }
+}
+
+fn place_at(spot: Option<Spot>) -> Option<Place>
+    ensures { result ≡ option_map place_at spot }
+{
+    spot.map(|spot| Place {
+        line: spot.line,
+        column: Some(spot.column),
+    })
+}
+
+/// Where bytes cease to be a document, if they are none.
+fn document_place(alloc: Global, bytes: &[u8]) -> Result<Option<Place>, AllocError>
+    ensures { IfOk result (IsDocumentPlace bytes.now) }
+{
+    let spot = document_spot(alloc, bytes)?;
+    Ok(place_at(spot))
+}
+
+/// Where an input with these bytes is refused, if a place is told.
+fn place_in(alloc: Global, reason: &Reason, bytes: &[u8]) -> Result<Option<Place>, AllocError>
+    ensures { IfOk result (IsPlace reason.now bytes.now) }
+{
+    match reason {
+        Reason::Policy(_) | Reason::Schemes(_) => document_place(alloc, bytes),
+        _ => Ok(place_of(reason)),
     }
 }
 
@@ -185,7 +214,8 @@ fn shown_with_hint<H: Host>(
     ensures { IfOk result (λ v. IsShown (H.hosting host.now) job.entry reason.now path.now bytes.now v.items) }
 {
     let hint = hint_of(alloc, host, job, reason, bytes)?;
-    let mut text = shown(alloc, path, place_of(reason), bytes)?;
+    let place = place_in(alloc, reason, bytes)?;
+    let mut text = shown(alloc, path, place, bytes)?;
     text.extend_from_slice(&hint)?;
     Ok(text)
 }

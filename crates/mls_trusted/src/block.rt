@@ -13,8 +13,9 @@ use crate::plain::{assign, emit, release};
 use crate::write::{delete_at, insert_at, update_at};
 use mls_filterview::{Base, BaseFault, made};
 use mls_lattice::LabelNo;
-use mls_scheme::{RelNo, Tuple};
+use mls_scheme::RelNo;
 use mls_translang::{Block, Expr, Stmt};
+use mls_views::{SharedTuple, SharedView};
 
 /// Runs the statements of a block, inside a change.
 #[cycle(run)]
@@ -68,7 +69,7 @@ fn run_row<B: Base>(
     call: &Call<'_>,
     base: &mut B,
     frame: &mut Frame,
-    row: Tuple,
+    row: SharedTuple,
     body: &Block,
 ) -> Result<(), BaseFault>
     requires ready { IsReady call.now B.is_clean B.state base.old frame.old }
@@ -90,17 +91,18 @@ fn run_rows<B: Base>(
     call: &Call<'_>,
     base: &mut B,
     frame: &mut Frame,
-    rows: Vec<Tuple>,
+    rows: &SharedView,
     body: &Block,
 ) -> Result<(), BaseFault>
     requires ready { IsReady call.now B.is_clean B.state base.old frame.old }
-    requires may { AllByRecursion (λ row. MayRun call.now (row ∷ around_of frame.old) body.now) rows.items }
+    requires may { AllByRecursion (λ row. MayRun call.now (row ∷ around_of frame.old) body.now) rows.now }
     ensures call { IsCall B.is_clean B.failures B.state base.old base.new result }
     ensures served { IfErr result IsServed }
     ensures ran { OnOk result (IsRun call.now B.is_clean B.state
-        (rows_of call.now body.now (around_of frame.old) rows.items) base.old base.new frame.old frame.new) }
+        (rows_of call.now body.now (around_of frame.old) rows.now) base.old base.new frame.old frame.new) }
 {
-    for row in rows {
+    for place in 0..rows.as_slice().len() {
+        let row = made(base, rows.tuple(place))?;
         run_row(call, base, frame, row, body)?;
     }
     Ok(())
@@ -124,7 +126,7 @@ fn run_loop<B: Base>(
         (loop_of call.now relation label body.now (around_of frame.old)) base.old base.new frame.old frame.new) }
 {
     let rows = rows_at(call, base, &mut frame.views, relation, label)?;
-    run_rows(call, base, frame, rows, body)
+    run_rows(call, base, frame, &rows, body)
 }
 
 /// Runs a statement.

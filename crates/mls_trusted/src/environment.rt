@@ -8,12 +8,13 @@ use crate::datum::Datum;
 use crate::operator::apply;
 use mls_scheme::{Tuple, Value};
 use mls_translang::{Expr, Term};
+use mls_views::SharedTuple;
 
 /// Arguments and variables by number, and the rows of the loops around, the outermost first.
 #[derive(Clone, Copy)]
 pub(crate) struct Environment<'a> {
     pub args: &'a [Option<Value>],
-    pub rows: &'a [Tuple],
+    pub rows: &'a [SharedTuple],
     pub vars: &'a [Option<Value>],
 }
 
@@ -42,12 +43,15 @@ pub(crate) fn cell(row: &Tuple, attribute: usize) -> Datum<'_>
 }
 
 /// An attribute of the row at a depth, the innermost one first.
-fn field(rows: &[Tuple], depth: u8, attribute: u8) -> Datum<'_>
+fn field(rows: &[SharedTuple], depth: u8, attribute: u8) -> Datum<'_>
     ensures { datum_of result ≡ Plain (cell_of (slice_index_or (reverse rows.now) depth no_tuple) attribute) }
 {
     let depth = usize::from(depth);
     if depth < rows.len() {
-        cell(&rows[rows.len() - 1 - depth], usize::from(attribute))
+        cell(
+            rows[rows.len() - 1 - depth].as_tuple(),
+            usize::from(attribute),
+        )
     } else {
         Datum::Null
     }

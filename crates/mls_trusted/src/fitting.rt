@@ -17,7 +17,7 @@ use crate::environment::cell;
 use mls_filterview::{Base, BaseFault};
 use mls_lattice::LabelNo;
 use mls_scheme::{Kind, RelNo, Scheme, Tuple};
-use mls_views::Views;
+use mls_views::{SharedView, Views};
 
 /// The kind of an attribute by number, the key first; past the last one it is that of numbers.
 fn kind_of(scheme: &Scheme, attribute: usize) -> Kind
@@ -74,7 +74,7 @@ pub(crate) fn rows_at<B: Base>(
     views: &mut Views,
     relation: RelNo,
     label: LabelNo,
-) -> Result<Vec<Tuple>, BaseFault>
+) -> Result<SharedView, BaseFault>
     requires label { label < length call.now.policy.now.labels }
     requires relation { relation < length call.now.schemes.now }
     requires begun { (B.state base.old).begun ≡ true }
@@ -84,8 +84,8 @@ pub(crate) fn rows_at<B: Base>(
     ensures call { IsCall B.is_clean B.failures B.state base.old base.new result }
     ensures served { IfErr result IsServed }
     ensures mode { OnOk result ((B.state base.new).begun ≡ true) }
-    ensures kinds { IfOk result (λ v. AllByRecursion (RowKinds (scheme_of call.now.schemes.now relation)) v.items) }
-    ensures rows { B.is_clean base.new → IfOk result (λ v. v.items ≡ rows (labels_of call.now.policy.now) label
+    ensures kinds { IfOk result (λ v. AllByRecursion (RowKinds (scheme_of call.now.schemes.now relation)) v) }
+    ensures rows { B.is_clean base.new → IfOk result (λ v. v ≡ rows (labels_of call.now.policy.now) label
         ((B.state base.old).now.db relation)) }
     ensures same { B.is_clean base.new → OnOk result (B.state base.new ≡ B.state base.old) }
     ensures views { AreViews call.now.policy.now B.is_clean B.state base.new views.new }
@@ -93,10 +93,9 @@ pub(crate) fn rows_at<B: Base>(
     // That the labels of a policy are distinct.
     let _count = call.policy.label_count();
     let rows = views.view(call.alloc, base, call.policy, relation, label)?;
-    let rows = rows.into_vec();
-    if are_of_kinds(call.schemes.scheme(relation), &rows) {
+    if are_of_kinds(call.schemes.scheme(relation), rows.as_slice()) {
         Ok(rows)
     } else {
-        Ok(Vec::new(call.alloc))
+        Ok(SharedView::none())
     }
 }

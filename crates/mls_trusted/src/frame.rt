@@ -12,9 +12,9 @@ use crate::call::Call;
 use crate::environment::Environment;
 use mls_lattice::{Items, LabelNo, Policy};
 use mls_meaning::Run;
-use mls_scheme::{RelNo, Tuple, Value};
+use mls_scheme::{RelNo, Value};
 use mls_updates::Outcome;
-use mls_views::Views;
+use mls_views::{SharedTuple, Views};
 use std::alloc::{AllocError, Global};
 
 /// Variables and items of a call, the rows of the loops that it is in, and the views that are kept.
@@ -23,7 +23,7 @@ pub(crate) struct Frame {
     /// The variables, by number.
     pub vars: Vec<Option<Value>>,
     /// The rows of the loops around, the outermost first.
-    pub rows: Vec<Tuple>,
+    pub rows: Vec<SharedTuple>,
     pub emitted: Vec<(LabelNo, Option<Value>)>,
     pub released: Vec<(LabelNo, Option<Value>)>,
     /// Views of the database as it is now.
@@ -110,7 +110,7 @@ impl Frame {
     }
 
     /// Enters a loop over rows, at this row.
-    pub fn enter(&mut self, row: Tuple) -> Result<(), AllocError>
+    pub fn enter(&mut self, row: SharedTuple) -> Result<(), AllocError>
         ensures rest { OnOk result (self.new ≡ record self.old { rows = self.new.rows }) }
         ensures rows { OnOk result (self.new.rows.items ≡ self.old.rows.items ++ row ∷ []) }
     {

@@ -12,8 +12,9 @@ ghost use Rattle.lru.specs.LruCache.{lru_cache, put_entries};
 ghost use Rattle.mls_views.specs.declared.views.ViewKey.{ViewKey as SpecKey};
 ghost use Rattle.mls_views.specs.Views.{Kept, AreDeclared, AreViews, key_of, is_view, same_key, put_view, outlives, left_by};
 
+use crate::shared::SharedView;
 use lru::LruCache;
-use mls_filterview::{Base, BaseFault, view};
+use mls_filterview::{Base, BaseFault, made, view};
 use mls_lattice::{Items, LabelNo, Policy};
 use mls_scheme::{RelNo, Tuple};
 use mls_updates::Outcome;
@@ -32,7 +33,7 @@ pub(crate) struct ViewKey {
 }
 
 /// A cache of views.
-type ViewCache = LruCache<ViewKey, Items<Tuple>>;
+type ViewCache = LruCache<ViewKey, SharedView>;
 
 /// Views that were resolved, by relation and label: those that were asked for last.
 #[derive(Drop)]
@@ -102,8 +103,35 @@ impl Views {
     }
 
     /// What a level sees of a relation: taken from what is kept, else resolved; it is kept then, as the view that was
-    /// asked for last. Where there is no memory to keep it, it is not kept. After a fault nothing is kept.
+    /// asked for last, and shared with it. Where there is no memory to keep it, it is not kept. After a fault nothing is
+    /// kept.
     pub fn view<B: Base>(
+        &mut self,
+        alloc: Global,
+        base: &mut B,
+        policy: &Policy,
+        rel: RelNo,
+        label: LabelNo,
+    ) -> Result<SharedView, BaseFault>
+        requires label { label < length policy.now.labels }
+        requires stored { B.is_clean base.old → (n : ℕ) × IsStored (labels_of policy.now) n
+            ((B.state base.old).now.db rel) }
+        requires views { AreViews policy.now B.is_clean B.state base.old self.old }
+        ensures call { IsCall B.is_clean B.failures B.state base.old base.new result }
+        ensures served { IfErr result IsServed }
+        ensures mode { OnOk result ((B.state base.new).begun ≡ (B.state base.old).begun) }
+        ensures rows { B.is_clean base.new → IfOk result (λ ts. ts ≡ rows (labels_of policy.now) label
+            ((B.state base.old).now.db rel)) }
+        ensures same { B.is_clean base.new → OnOk result (B.state base.new ≡ B.state base.old) }
+        ensures views { AreViews policy.now B.is_clean B.state base.new self.new }
+    {
+        let tuples = self.resolved(alloc, base, policy, rel, label)?;
+        self.keep(alloc, rel, label, &tuples);
+        Ok(tuples)
+    }
+
+    /// A copy of the tuples that a level sees of a relation, by its view. After a fault nothing is kept.
+    pub fn tuples<B: Base>(
         &mut self,
         alloc: Global,
         base: &mut B,
@@ -123,9 +151,14 @@ impl Views {
         ensures same { B.is_clean base.new → OnOk result (B.state base.new ≡ B.state base.old) }
         ensures views { AreViews policy.now B.is_clean B.state base.new self.new }
     {
-        let tuples = self.resolved(alloc, base, policy, rel, label)?;
-        self.keep(alloc, rel, label, &tuples);
-        Ok(tuples)
+        let seen = self.view(alloc, base, policy, rel, label)?;
+        match made(base, seen.to_items(alloc)) {
+            Ok(tuples) => Ok(tuples),
+            Err(fault) => {
+                self.clear();
+                Err(fault)
+            }
+        }
     }
 
     /// Gives up the views that a write of a relation at a label may have changed, by its outcome. The others stay, in
@@ -148,7 +181,7 @@ impl Views {
         policy: &Policy,
         rel: RelNo,
         label: LabelNo,
-    ) -> Result<Items<Tuple>, BaseFault>
+    ) -> Result<SharedView, BaseFault>
         requires label { label < length policy.now.labels }
         requires stored { B.is_clean base.old → (n : ℕ) × IsStored (labels_of policy.now) n
             ((B.state base.old).now.db rel) }
@@ -164,8 +197,8 @@ impl Views {
         if let Some(tuples) = self.take(rel, label) {
             return Ok(tuples);
         }
-        match view(alloc, base, policy, rel, label) {
-            Ok(tuples) => Ok(Items::from(tuples)),
+        match resolve(alloc, base, policy, rel, label) {
+            Ok(seen) => Ok(seen),
             Err(fault) => {
                 self.clear();
                 Err(fault)
@@ -174,7 +207,7 @@ impl Views {
     }
 
     /// Takes out the view of a relation at a label, where it is kept.
-    fn take(&mut self, rel: RelNo, label: LabelNo) -> Option<Items<Tuple>>
+    fn take(&mut self, rel: RelNo, label: LabelNo) -> Option<SharedView>
         ensures found { result ≡ lookup (is_view rel label) self.old }
         ensures others { self.new ≡ remove_entry (is_view rel label) self.old }
     {
@@ -186,13 +219,13 @@ impl Views {
     }
 
     /// Keeps a view, as the one that was asked for last. Where there is no memory for it, what is kept stays.
-    fn keep(&mut self, alloc: Global, rel: RelNo, label: LabelNo, tuples: &Items<Tuple>)
+    fn keep(&mut self, alloc: Global, rel: RelNo, label: LabelNo, tuples: &SharedView)
         ensures { (self.new ≡ self.old) ⊎ (self.new ≡ put_view rel label tuples.now self.old) }
     {
         if self.make(alloc).is_err() {
             return;
         }
-        let Ok(tuples) = copy_tuples(tuples) else {
+        let Ok(tuples) = tuples.share() else {
             return;
         };
         if let Some(cache) = &mut self.cache {
@@ -223,15 +256,31 @@ impl Views {
     }
 }
 
-/// The same tuples.
-fn copy_tuples(tuples: &Items<Tuple>) -> Result<Items<Tuple>, AllocError>
-    ensures { IfOk result (λ ts. ts ≡ tuples.now) }
+/// What a level sees of a relation.
+fn resolve<B: Base>(
+    alloc: Global,
+    base: &mut B,
+    policy: &Policy,
+    rel: RelNo,
+    label: LabelNo,
+) -> Result<SharedView, BaseFault>
+    requires label { label < length policy.now.labels }
+    requires stored { B.is_clean base.old → (n : ℕ)
+        × IsStored (labels_of policy.now) n ((B.state base.old).now.db rel) }
+    ensures call { IsCall B.is_clean B.failures B.state base.old base.new result }
+    ensures served { IfErr result IsServed }
+    ensures mode { OnOk result ((B.state base.new).begun ≡ (B.state base.old).begun) }
+    ensures rows { B.is_clean base.new → IfOk result (λ ts. ts ≡ rows (labels_of policy.now) label
+        ((B.state base.old).now.db rel)) }
+    ensures same { B.is_clean base.new → OnOk result (B.state base.new ≡ B.state base.old) }
 {
-    tuples.clone()
+    let tuples = view(alloc, base, policy, rel, label)?;
+    let shared = made(base, SharedView::new(alloc, tuples))?;
+    Ok(shared)
 }
 
 /// Puts a view into a cache. Where there is no memory for it, the cache is as it was.
-fn put(cache: &mut ViewCache, key: ViewKey, tuples: Items<Tuple>)
+fn put(cache: &mut ViewCache, key: ViewKey, tuples: SharedView)
     ensures { (cache.new ≡ cache.old) ⊎ (cache.new ≡ lru_cache
         (put_entries same_key cache.old key tuples) cache.old.cap) }
 {

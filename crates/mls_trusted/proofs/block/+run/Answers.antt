@@ -1,12 +1,16 @@
-use Rattle.std.proofs.Common.{◌≡◌, OnOk, ◌∷◌, [], ◌++◌, append_assoc, sym, ap, ◌∙◌, subst, arith}
-use Rattle.std.specs.List.{AllByRecursion}
+use mathlib.Core.List.{reverse}
+use Rattle.std.proofs.Common.{◌≡◌, ◌+◌, ◌<◌, length, OnOk, IfOk, List, ◌∷◌, [], ◌++◌, take, get_or, sym, ap, ◌∙◌, subst, arith}
+use Rattle.std.proofs.lemmas.List.{take_more}
+use Rattle.mls_scheme.specs.declared.tuple.Tuple.{Tuple}
+use Rattle.mls_filterview.specs.Rules.{no_tuple}
 use Rattle.mls_lattice.specs.Policy.{labels_of}
 use Rattle.mls_translang.specs.declared.block.Stmt.{Stmt}
 use Rattle.mls_translang.specs.Tree.{Do, If, For, Assign, Release, Emit, End}
 use Rattle.mls_translang.specs.Blocks.{block_of}
 use Rattle.mls_translang.proofs.BlockLemmas.{size_step}
+use Rattle.mls_certcheck.proofs.EachLemmas.{all_at}
 use Rattle.mls_meaning.specs.Expressions.{is_true, eval}
-use Rattle.mls_trusted.specs.Frames.{around_of, progress_of, MayRun, run_of, loop_of, IsReady, IsRun}
+use Rattle.mls_trusted.specs.Frames.{around_of, progress_of, MayRun, run_of, rows_of, loop_of, IsReady, IsRun}
 use Rattle.mls_trusted.proofs.RunLemmas.{run_none, run_start, run_stmts, may_here, branch_one, branch_other, loop_same, run_rows_more, ok_same, ok_step, ready_read, may_each, entered, entered_around}
 use Rattle.mls_trusted.proofs.block.+run.Goals as goal
 
@@ -69,7 +73,7 @@ run_loop-run_rows-requires g t c κs within =
     let f = c.args.frame.now in
     let read = c.in_ok-rows.ensures in
     let ready = ready_read call g.B.Base.is_clean g.B.Base.state c.args.base.now c.rows_at.new.base f c.rows_at.new.views c.rows_at.ensures.call.clean read.mode read.same c.rows_at.ensures.views c.requires.ready in
-    let may = may_each call (around_of f) c.args.relation c.args.label c.args.body.now c.requires.may c.in_ok-rows.rows.items read.kinds in
+    let may = may_each call (around_of f) c.args.relation c.args.label c.args.body.now c.requires.may c.in_ok-rows.rows read.kinds in
     (omega arith, (within, (ready, may)))
 
 pub run_row-run_block-requires : goal.run_row-run_block-requires
@@ -85,23 +89,41 @@ run_row-run_block-requires g t c κs within =
     let may = subst (λ around. MayRun call around body) (entered_around call g.B.Base.is_clean g.B.Base.state f into c.args.row rows) c.requires.may in
     (omega arith, (within, (ready, may)))
 
-pub run_rows-loop-row-preserved : goal.run_rows-loop-row-preserved
-run_rows-loop-row-preserved g t c =
+pub run_rows-run_row-requires : goal.run_rows-run_row-requires
+run_rows-run_row-requires g t c κs within =
     let call = c.args.call.now in
     let f = c.args.frame.now in
-    let inv = c.loop-row.invariant in
+    let xs = c.args.rows.now in
+    let i = c.loop-place.place in
+    let body = c.args.body.now in
+    let inv = c.loop-place.invariant in
+    let ready = subst (λ b. IsReady call g.B.Base.is_clean g.B.Base.state b c.loop-place.frame) (sym c.in_ok-row.ensures.same) inv.ran.ready in
+    let is = subst (λ r. IfOk r (λ x. x ≡ get_or xs i no_tuple)) c.in_ok-row.ensures.value c.tuple.ensures in
+    let lt = subst (λ (l : List Tuple). i < length l) c.as_slice-place-end.ensures c.loop-place-test.true in
+    let here = all_at (λ r. MayRun call (r ∷ around_of f) body) xs i no_tuple lt c.requires.may in
+    let may = subst (λ (around : List Tuple). MayRun call (c.in_ok-row.row ∷ around) body) (sym (ap reverse inv.ran.rows)) (subst (λ r. MayRun call (r ∷ around_of f) body) (sym is) here) in
+    (omega arith, (within, (ready, may)))
+
+pub run_rows-loop-place-preserved : goal.run_rows-loop-place-preserved
+run_rows-loop-place-preserved g t c =
+    let call = c.args.call.now in
+    let f = c.args.frame.now in
+    let xs = c.args.rows.now in
+    let i = c.loop-place.place in
+    let body = c.args.body.now in
+    let inv = c.loop-place.invariant in
+    let same = c.in_ok-row.ensures.same in
     let one = c.in_ok-run_row.ensures in
-    let done = c.loop-row.yielded in
-    let row = c.in-Some.row in
-    let rest = c.next.new.self.rest.items in
-    let next = c.in-Some.ensures.steps.0 in
+    let is = subst (λ r. IfOk r (λ x. x ≡ get_or xs i no_tuple)) c.in_ok-row.ensures.value c.tuple.ensures in
+    let lt = subst (λ (l : List Tuple). i < length l) c.as_slice-place-end.ensures c.loop-place-test.true in
+    let more : take (i + 1) xs ≡ take i xs ++ c.in_ok-row.row ∷ [] = take_more xs i no_tuple lt ∙ ap (λ y. take i xs ++ y ∷ []) (sym is) in
     record {
-      clean = λ h. inv.clean (one.call.clean h);
-      count = (let a = inv.count in let b = one.call.count in omega (arith, a, b));
-      ran = run_rows_more call g.B.Base.is_clean g.B.Base.state c.args.body.now done row
-          c.args.base.now c.loop-row.base c.run_row.new.base f c.loop-row.frame c.run_row.new.frame one.call.clean inv.ran one.ran;
-      all = append_assoc done (row ∷ []) rest ∙ ap (λ l. done ++ l) (sym next) ∙ inv.all;
-      may = (subst (AllByRecursion (λ r. MayRun call (r ∷ around_of f) c.args.body.now)) next inv.may).1;
+      clean = λ h. inv.clean (subst g.B.Base.is_clean same (one.call.clean h));
+      count = (let a = inv.count in let b = one.call.count in let d = ap g.B.Base.failures same in omega (arith, a, b, d));
+      ran = subst (λ rows. IsRun call g.B.Base.is_clean g.B.Base.state (rows_of call body (around_of f) rows) c.args.base.now c.run_row.new.base f c.run_row.new.frame) (sym more)
+          (run_rows_more call g.B.Base.is_clean g.B.Base.state body (take i xs) c.in_ok-row.row
+          c.args.base.now c.made.new.base c.run_row.new.base f c.loop-place.frame c.run_row.new.frame one.call.clean
+          (subst (λ b. IsRun call g.B.Base.is_clean g.B.Base.state (rows_of call body (around_of f) (take i xs)) c.args.base.now b f c.loop-place.frame) (sym same) inv.ran) one.ran);
     }
 
 pub run_stmt-returns-in-For-clause-ran : goal.run_stmt-returns-in-For-clause-ran

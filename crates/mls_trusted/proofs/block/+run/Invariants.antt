@@ -1,5 +1,4 @@
-use Rattle.std.proofs.Common.{◌≡◌, ◌+◌, ◌*◌, ◌≤◌, ◌++◌, [], ◌∷◌, drop, take}
-use Rattle.std.specs.List.{AllByRecursion}
+use Rattle.std.proofs.Common.{◌≡◌, ◌+◌, ◌*◌, ◌≤◌, [], ◌∷◌, drop, take}
 use Rattle.mls_translang.specs.Tree.{statements}
 use Rattle.mls_translang.specs.Blocks.{block_of}
 use Rattle.mls_trusted.specs.Frames.{around_of, MayRun, run_of, rows_of, IsRun}
@@ -15,14 +14,12 @@ invariant-run_block-loop-stmt g l = record {
   size : statements (block_of (drop l.stmt-index l.stmt-items)) ≤ statements (block_of l.stmt-items);
 }
 
--- so far the body has run at these rows
-abbrev pub invariant-run_rows-loop-row : goal.invariant-run_rows-loop-row
-invariant-run_rows-loop-row g l = record {
+-- so far the body has run at the rows before this place
+abbrev pub invariant-run_rows-loop-place : goal.invariant-run_rows-loop-place
+invariant-run_rows-loop-place g l = record {
   clean : g.B.Base.is_clean l.base → g.B.Base.is_clean l.fn.base;
   count : g.B.Base.failures l.fn.base ≤ g.B.Base.failures l.base;
-  ran : IsRun l.call g.B.Base.is_clean g.B.Base.state (rows_of l.call l.body (around_of l.fn.frame) l.yielded) l.fn.base l.base l.fn.frame l.frame;
-  all : l.yielded ++ l.row-iterator.rest.items ≡ l.fn.rows.items;
-  may : AllByRecursion (λ row. MayRun l.call (row ∷ around_of l.fn.frame) l.body) l.row-iterator.rest.items;
+  ran : IsRun l.call g.B.Base.is_clean g.B.Base.state (rows_of l.call l.body (around_of l.fn.frame) (take l.place l.rows)) l.fn.base l.base l.fn.frame l.frame;
 }
 
 -- ---- how deep

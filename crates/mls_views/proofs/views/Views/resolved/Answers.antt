@@ -17,6 +17,6 @@ returns-in-Some-clause-views g c =
 pub returns-in-Ok-clause-views : goal.returns-in-Ok-clause-views
 returns-in-Ok-clause-views g c =
     let policy = c.args.policy.now in
-    kept_same policy g.B.Base.is_clean g.B.Base.state c.args.base.now c.view.new.base c.take.new.self c.in-Ok.ensures.call.clean
+    kept_same policy g.B.Base.is_clean g.B.Base.state c.args.base.now c.resolve.new.base c.take.new.self c.in-Ok.ensures.call.clean
     (λ clean. ap (λ (s : State). s.now.db) (c.in-Ok.ensures.same clean))
     (kept_taken policy g.B.Base.is_clean g.B.Base.state c.args.base.now c.args.rel c.args.label c.args.self.now c.take.new.self c.take.ensures.others c.requires.views)

@@ -1,3 +1,4 @@
 pub mod CoverLemmas
+pub mod RankLemmas
 pub mod RelationLemmas
 pub mod RowLemmas

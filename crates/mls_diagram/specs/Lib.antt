@@ -1,4 +1,5 @@
 pub mod Covers
+pub mod Ranks
 pub mod Words
 pub mod Layout
 pub mod Rights

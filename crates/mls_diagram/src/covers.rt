@@ -49,7 +49,7 @@ pub fn covers_are_tested()
 
 /// How many labels a label dominates.
 #[tactic(auto, using(crate::proofs::CoverLemmas::weight_steps))]
-fn weight(policy: &Policy, label: LabelNo) -> usize
+pub(crate) fn weight(policy: &Policy, label: LabelNo) -> usize
     requires { label < length policy.now.labels }
     ensures { result ≡ weight policy.now label }
 {

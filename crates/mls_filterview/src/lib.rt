@@ -14,6 +14,7 @@ mod maximal;
 mod recovering;
 mod row;
 mod rule;
+mod shared;
 mod splitting;
 mod subsumption;
 mod viewing;
@@ -34,6 +35,7 @@ pub use laws::{
 pub use recovering::is_content;
 pub use row::tuple_at;
 pub use rule::{Broken, Rule};
+pub use shared::{SharedTuple, SharedView};
 pub use splitting::{add_cells, cells_of, classes_of, node_of, nodes_of};
 pub use subsumption::subsumes;
 pub use viewing::view;

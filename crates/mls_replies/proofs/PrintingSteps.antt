@@ -27,7 +27,7 @@ use Rattle.mls_machine.specs.declared.reply.Reply.{Reply}
 use Rattle.mls_machine.specs.declared.reply.Reply.TheVariants.{Opened, Closed, Rows, Wrote, Ran, Entries, Denied}
 use Rattle.mls_machine.specs.declared.stored.Stored.{Stored}
 use Rattle.mls_machine.specs.Site.{Site, site_scheme}
-use Rattle.mls_machine.specs.Output.{Line, name_of, cell_text, front, line, item_line, item_lines, heading, row_text, entry_text, view_texts, call_texts, reply_texts, reply_lines, reply_lines_in, lines_with, escaped_line, table_texts, texts_in_table, printed}
+use Rattle.mls_machine.specs.Output.{Line, name_of, cell_text, front, line, item_line, heading, row_text, entry_text, view_texts, call_texts, reply_texts, reply_lines, reply_lines_in, lines_with, escaped_line, table_texts, texts_in_table, printed}
 use Rattle.mls_replies.specs.Under.{site_under}
 
 abbrev no_label : Named

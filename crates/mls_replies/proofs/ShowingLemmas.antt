@@ -1,15 +1,14 @@
 -- What an audience is shown of a reply.
-use Rattle.std.proofs.Common.{◌≡◌, ℕ, Bool, true, false, cond, List, [], ◌∷◌, ◌++◌, map, Option, Some, None, codes, refl, sym, ap, ◌∙◌, append-nil}
+use Rattle.std.proofs.Common.{◌≡◌, ℕ, Bool, true, false, cond, List, [], ◌++◌, map, Option, Some, None, codes, refl, sym, ap, ◌∙◌, append-nil}
 use Rattle.std.specs.List.{flat_map}
 use Rattle.std.proofs.lemmas.List.Folds.{flat_map-map}
 use Rattle.mls_lattice.specs.Labels.{Labels}
 use Rattle.mls_scheme.specs.declared.tuple.Tuple.{Tuple}
-use Rattle.mls_meaning.specs.declared.run.Run.{Run}
 use Rattle.mls_script.specs.declared.event.Event.{Event}
 use Rattle.mls_machine.specs.declared.reply.Reply.{Reply}
-use Rattle.mls_machine.specs.declared.reply.Reply.TheVariants.{Opened, Closed, Rows, Wrote, Ran, Entries, Denied}
+use Rattle.mls_machine.specs.declared.reply.Reply.TheVariants.{Rows}
 use Rattle.mls_machine.specs.Site.{Site, site_labels}
-use Rattle.mls_machine.specs.Output.{Line, front, line, lines_with, table_texts, reply_texts, texts_in_table, reply_lines, printed}
+use Rattle.mls_machine.specs.Output.{Line, front, line, lines_with, table_texts, texts_in_table, reply_lines, printed}
 use Rattle.mls_machine.specs.Observation.{heard}
 use Rattle.mls_machine.proofs.ScreenLemmas.{shown-escaped}
 use Rattle.mls_replies.specs.Seen.{hears}

@@ -40,7 +40,7 @@ pub fn is_known(policy: &Policy, reply: &Reply) -> bool
     ensures clean { ReplyIsKnown policy.now reply.now → IsTrue result }
 {
     match reply {
-        Reply::Rows(tuples) => are_tuples_known(policy.label_count(), tuples),
+        Reply::Rows(tuples) => are_tuples_known(policy.label_count(), tuples.as_slice()),
         _ => true,
     }
 }

@@ -263,7 +263,7 @@ pub fn reply_bytes(
     match reply {
         Reply::Opened(user) => opened_bytes(alloc, policy, event, *user),
         Reply::Closed => line_bytes(alloc, policy, event, "closed"),
-        Reply::Rows(tuples) => view_bytes(alloc, policy, schemes, event, tuples),
+        Reply::Rows(tuples) => view_bytes(alloc, policy, schemes, event, tuples.as_slice()),
         Reply::Wrote(outcome) => {
             line_bytes(alloc, policy, event, &outcome_text(alloc, *outcome)?)
         }

@@ -94,7 +94,14 @@ fn bare_bytes(
         (texts_in_table (site_under policy.now schemes.now) event.now.command reply.now) reply.now))) }
 {
     match reply {
-        Reply::Rows(tuples) => heard_table(alloc, policy, schemes, event, tuples, reader),
+        Reply::Rows(tuples) => heard_table(
+            alloc,
+            policy,
+            schemes,
+            event,
+            tuples.as_slice(),
+            reader,
+        ),
         _ => heard_bytes(alloc, policy, schemes, event, reply, reader),
     }
 }

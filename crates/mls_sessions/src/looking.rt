@@ -39,7 +39,7 @@ pub(crate) fn look<B: Base>(
     ensures known { IfOk result (HasKnownNumbers rules.now.policy.now) }
     ensures views { AreViews rules.now.policy.now B.is_clean B.state base.new views.new }
 {
-    let tuples = views.tuples(rules.alloc, base, rules.policy, rel, label)?;
+    let tuples = views.view(rules.alloc, base, rules.policy, rel, label)?;
     Ok(Reply::Rows(tuples))
 }
 

@@ -11,11 +11,10 @@ use crate::fitting::rows_at;
 use crate::frame::Frame;
 use crate::plain::{assign, emit, release};
 use crate::write::{delete_at, insert_at, update_at};
-use mls_filterview::{Base, BaseFault, made};
+use mls_filterview::{Base, BaseFault, SharedTuple, SharedView, made};
 use mls_lattice::LabelNo;
 use mls_scheme::RelNo;
 use mls_translang::{Block, Expr, Stmt};
-use mls_views::{SharedTuple, SharedView};
 
 /// Runs the statements of a block, inside a change.
 #[cycle(run)]

@@ -6,9 +6,9 @@ ghost use Rattle.mls_trusted.specs.Data.{datum_of, env_of};
 
 use crate::datum::Datum;
 use crate::operator::apply;
+use mls_filterview::SharedTuple;
 use mls_scheme::{Tuple, Value};
 use mls_translang::{Expr, Term};
-use mls_views::SharedTuple;
 
 /// Arguments and variables by number, and the rows of the loops around, the outermost first.
 #[derive(Clone, Copy)]

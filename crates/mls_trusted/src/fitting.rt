@@ -14,10 +14,10 @@ ghost use Rattle.mls_trusted.specs.Data.{datum_of};
 
 use crate::call::Call;
 use crate::environment::cell;
-use mls_filterview::{Base, BaseFault};
+use mls_filterview::{Base, BaseFault, SharedView};
 use mls_lattice::LabelNo;
 use mls_scheme::{Kind, RelNo, Scheme, Tuple};
-use mls_views::{SharedView, Views};
+use mls_views::Views;
 
 /// The kind of an attribute by number, the key first; past the last one it is that of numbers.
 fn kind_of(scheme: &Scheme, attribute: usize) -> Kind

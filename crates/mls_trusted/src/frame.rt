@@ -10,11 +10,12 @@ ghost use Rattle.mls_trusted.specs.Frames.{vars_of, progress_of, env_in, IsFrame
 
 use crate::call::Call;
 use crate::environment::Environment;
+use mls_filterview::SharedTuple;
 use mls_lattice::{Items, LabelNo, Policy};
 use mls_meaning::Run;
 use mls_scheme::{RelNo, Value};
 use mls_updates::Outcome;
-use mls_views::{SharedTuple, Views};
+use mls_views::Views;
 use std::alloc::{AllocError, Global};
 
 /// Variables and items of a call, the rows of the loops that it is in, and the views that are kept.

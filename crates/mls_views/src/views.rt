@@ -12,11 +12,10 @@ ghost use Rattle.lru.specs.LruCache.{lru_cache, put_entries};
 ghost use Rattle.mls_views.specs.declared.views.ViewKey.{ViewKey as SpecKey};
 ghost use Rattle.mls_views.specs.Views.{Kept, AreDeclared, AreViews, key_of, is_view, same_key, put_view, outlives, left_by};
 
-use crate::shared::SharedView;
 use lru::LruCache;
-use mls_filterview::{Base, BaseFault, made, view};
-use mls_lattice::{Items, LabelNo, Policy};
-use mls_scheme::{RelNo, Tuple};
+use mls_filterview::{Base, BaseFault, SharedView, made, view};
+use mls_lattice::{LabelNo, Policy};
+use mls_scheme::RelNo;
 use mls_updates::Outcome;
 use std::alloc::{AllocError, Global};
 use std::marker::Model;
@@ -128,37 +127,6 @@ impl Views {
         let tuples = self.resolved(alloc, base, policy, rel, label)?;
         self.keep(alloc, rel, label, &tuples);
         Ok(tuples)
-    }
-
-    /// A copy of the tuples that a level sees of a relation, by its view. After a fault nothing is kept.
-    pub fn tuples<B: Base>(
-        &mut self,
-        alloc: Global,
-        base: &mut B,
-        policy: &Policy,
-        rel: RelNo,
-        label: LabelNo,
-    ) -> Result<Items<Tuple>, BaseFault>
-        requires label { label < length policy.now.labels }
-        requires stored { B.is_clean base.old → (n : ℕ) × IsStored (labels_of policy.now) n
-            ((B.state base.old).now.db rel) }
-        requires views { AreViews policy.now B.is_clean B.state base.old self.old }
-        ensures call { IsCall B.is_clean B.failures B.state base.old base.new result }
-        ensures served { IfErr result IsServed }
-        ensures mode { OnOk result ((B.state base.new).begun ≡ (B.state base.old).begun) }
-        ensures rows { B.is_clean base.new → IfOk result (λ ts. ts ≡ rows (labels_of policy.now) label
-            ((B.state base.old).now.db rel)) }
-        ensures same { B.is_clean base.new → OnOk result (B.state base.new ≡ B.state base.old) }
-        ensures views { AreViews policy.now B.is_clean B.state base.new self.new }
-    {
-        let seen = self.view(alloc, base, policy, rel, label)?;
-        match made(base, seen.to_items(alloc)) {
-            Ok(tuples) => Ok(tuples),
-            Err(fault) => {
-                self.clear();
-                Err(fault)
-            }
-        }
     }
 
     /// Gives up the views that a write of a relation at a label may have changed, by its outcome. The others stay, in

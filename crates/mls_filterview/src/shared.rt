@@ -78,16 +78,6 @@ impl SharedView {
         }
     }
 
-    /// A copy of the tuples.
-    pub fn to_items(&self, alloc: Global) -> Result<Items<Tuple>, AllocError>
-        ensures { IfOk result (λ ts. ts ≡ self.now) }
-    {
-        match &self.tuples {
-            None => Ok(Items::from(Vec::new(alloc))),
-            Some(tuples) => tuples.as_ref().clone(),
-        }
-    }
-
     /// The tuple at a place. It fails as [`SharedView::share`] does.
     pub fn tuple(&self, place: usize) -> Result<SharedTuple, AllocError>
         requires { place < length self.now }

@@ -91,7 +91,7 @@ not_without db other ours sound found same none =
     no_both _ _ _ _ empty.lists.listed.tables four.lists.listed.tables
 
 -- and trees that list nothing have none
-without : (db : Database) → IsDatabase db → db.trees catalog_tree ≡ [] → db.schema ≡ no_schema
+pub without : (db : Database) → IsDatabase db → db.trees catalog_tree ≡ [] → db.schema ≡ no_schema
 without db sound empty =
     let tables = zipped_none _ _ _ sound.lists.listed.tables (rw empty refl) in
     let indexes = zipped_none _ _ _ sound.lists.listed.indexes (rw empty refl) in

@@ -1,5 +1,9 @@
 //! A base over a store in memory.
-ghost use Rattle.std.specs.Prelude.{◌≡◌, false, length, IfOk, IfErr};
+ghost use Rattle.std.specs.Prelude.{◌≡◌, false, length, [], IfOk, IfErr};
+ghost use Rattle.sqlite_trees.specs.Objects.{catalog_tree};
+ghost use Rattle.sqlite_trees.specs.View as view;
+ghost use Rattle.sqlite_store.specs.FileStore as store;
+ghost use Rattle.sqlite.specs.Steps.{IsFresh};
 ghost use Rattle.sqlite.specs.Files.{file_state};
 ghost use Rattle.mls_lattice.specs.Canon as lattice;
 ghost use Rattle.mls_lattice.specs.Version.{version_number, later};
@@ -13,12 +17,21 @@ ghost use Rattle.mls_fragments.specs.Based.{state_of};
 
 use crate::memory_file::MemoryFile;
 use mls_filterview::{Base, BaseFault, Cell, Fragment, Node};
-use mls_fragments::{OpenFault, SqlBase, connected};
+use mls_fragments::{OpenFault, SqlBase};
 use mls_lattice::{Items, LabelNo, Policy};
 use mls_scheme::{Place, RelNo, SchemesFile, Value};
 use sqlite::{Connection, FileStore, Files, Options};
+use sqlite_pager::Pager;
+use sqlite_store::Unopened;
+use sqlite_wal::PageSize;
 use std::alloc::Global;
 use std::marker::Model;
+
+/// The bytes of a page. Each commit writes whole pages to the log, with their digests and sums, so small ones are cheap.
+const PAGE_BYTES: usize = 1024;
+
+/// How many pages are kept. To keep one spares one copy of it.
+const CACHE_PAGES: usize = 64;
 
 /// A base over a store in memory: over files that keep each write at once. It fails for want of memory alone.
 #[derive(Drop)]
@@ -34,20 +47,39 @@ impl Model for MemoryBase {
     ghost view = { λ b. b.base };
 }
 
-/// A connection to a new store in memory.
-fn store_in_memory(alloc: Global) -> Result<Connection<FileStore<MemoryFile>>, OpenFault>
-    ensures new { IfOk result (λ c. (file_state c).now.schema ≡ no_schema) }
-    ensures idle { IfOk result (λ c. c.in_transaction ≡ false) }
+/// The files of an empty store in memory, opened.
+fn empty_files(alloc: Global) -> Result<FileStore<MemoryFile>, OpenFault>
+    ensures fresh { IfOk result (λ s. view.IsClean (store.view s) → IsFresh (store.view s)) }
+    ensures empty { IfOk result (λ s. (store.view s).trees catalog_tree ≡ []) }
     ensures fault { IfErr result (λ e. e ≡ OpenFault.Memory) }
 {
     let files = Files {
         log: MemoryFile::new(alloc),
         db: MemoryFile::new(alloc),
     };
+    let size = PageSize::new(PAGE_BYTES).unwrap();
     let mut options = Options::new(0);
-    // to keep a page spares one copy of it
-    options.cache_pages = 64;
-    match connected(alloc, files, options) {
+    options.cache_pages = CACHE_PAGES;
+    let Ok(pager) = Pager::new(alloc, files, size, options) else {
+        return Err(OpenFault::Memory);
+    };
+    let Ok(unopened) = Unopened::new(alloc, pager, &[]) else {
+        return Err(OpenFault::Memory);
+    };
+    match unopened.create() {
+        Ok(store) => Ok(store),
+        Err(_) => Err(OpenFault::Memory),
+    }
+}
+
+/// A connection to an empty store in memory.
+fn empty_store(alloc: Global) -> Result<Connection<FileStore<MemoryFile>>, OpenFault>
+    ensures empty { IfOk result (λ c. (file_state c).now.schema ≡ no_schema) }
+    ensures idle { IfOk result (λ c. c.in_transaction ≡ false) }
+    ensures fault { IfErr result (λ e. e ≡ OpenFault.Memory) }
+{
+    let files = empty_files(alloc)?;
+    match Connection::over(alloc, files) {
         Ok(conn) => Ok(conn),
         Err(_) => Err(OpenFault::Memory),
     }
@@ -64,7 +96,7 @@ impl MemoryBase {
             (lattice.lattice_of policy.now) (scheme.canon_of policy.now file.now.version file.now.schemes)) }
         ensures fault { IfErr result (λ e. e ≡ OpenFault.Memory) }
     {
-        let conn = store_in_memory(alloc)?;
+        let conn = empty_store(alloc)?;
         match SqlBase::adopt(alloc, conn, policy, file) {
             Ok(base) => Ok(MemoryBase { base }),
             Err(_) => Err(OpenFault::Memory),

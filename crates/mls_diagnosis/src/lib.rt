@@ -8,4 +8,3 @@ mod others;
 mod reading;
 
 pub use diagnosis::{Diagnosis, diagnosis_of};
-pub use reading::Reading;

@@ -1,12 +1,12 @@
 //! Labels in rows, each below those that dominate it.
 ghost use Rattle.std.specs.Prelude.{◌≡◌, ◌==◌, ◌++◌, ◌<◌, length, codes, [], IfOk, OnOk, if◌then◌else◌};
-ghost use Rattle.std.proofs.Math.ListN.{replicate};
 ghost use Rattle.mls_lattice.specs.Canon.{label_name};
 ghost use Rattle.mls_diagram.specs.Covers.{weight};
 ghost use Rattle.mls_diagram.specs.Ranks.{rank, width, rank_line, ranks_from, ranks, drawing, RanksAreOrdered};
 
 use crate::covers::weight;
 use mls_lattice::{LabelNo, Policy};
+use mls_screen::push_copies;
 use mls_tokens::push_str;
 use std::alloc::{AllocError, Global};
 
@@ -60,15 +60,6 @@ fn width(alloc: Global, policy: &Policy) -> Result<usize, AllocError>
     Ok(widest)
 }
 
-fn push_blanks(text: &mut Vec<u8>, count: usize) -> Result<(), AllocError>
-    ensures { OnOk result (text.new.items ≡ text.old.items ++ replicate count 32) }
-{
-    for _ in 0..count {
-        text.push(b' ')?;
-    }
-    Ok(())
-}
-
 /// Adds a row in the middle of so many columns, where it has labels.
 #[tactic(auto, unfolding(crate::specs::Ranks::rank_line))]
 fn push_rank(text: &mut Vec<u8>, room: usize, row: &[u8]) -> Result<(), AllocError>
@@ -77,7 +68,7 @@ fn push_rank(text: &mut Vec<u8>, room: usize, row: &[u8]) -> Result<(), AllocErr
     if row.is_empty() {
         return Ok(());
     }
-    push_blanks(text, room.saturating_sub(row.len()) / 2)?;
+    push_copies(text, b' ', room.saturating_sub(row.len()) / 2)?;
     text.extend_from_slice(row)?;
     push_str(text, "\n")
 }

@@ -1,7 +1,6 @@
 //! A line of a file, with a caret under a place.
 ghost use Rattle.std.specs.Prelude.{◌≡◌, ◌-◌, ◌++◌, take, drop, OnOk, IfOk};
 ghost use Rattle.std.specs.Fmt.{decimal};
-ghost use Rattle.std.proofs.Math.ListN.{replicate};
 ghost use Rattle.mls_screen.specs.Screen.{escaped};
 ghost use Rattle.mls_pointing.specs.Places.{first_line};
 ghost use Rattle.mls_pointing.specs.Standing.{cut_off, standing};
@@ -9,7 +8,7 @@ ghost use Rattle.mls_pointing.specs.Excerpt.{heading, file_line, ending, caret, 
 
 use crate::places::{first_line, from_line};
 use crate::standing::{behind, first, inner_len, push_cut_off, push_standing};
-use mls_screen::{columns, escape};
+use mls_screen::{columns, escape, push_copies};
 use mls_tokens::push_str;
 use std::alloc::{AllocError, Global};
 
@@ -60,20 +59,11 @@ fn ending(bytes: &[u8]) -> &[u8]
     behind(cut, inner_len(cut))
 }
 
-fn push_blanks(text: &mut Vec<u8>, count: usize) -> Result<(), AllocError>
-    ensures { OnOk result (text.new.items ≡ text.old.items ++ replicate count 32) }
-{
-    for _ in 0..count {
-        text.push(b' ')?;
-    }
-    Ok(())
-}
-
 #[tactic(auto, unfolding(crate::specs::Excerpt::caret))]
 fn push_caret(text: &mut Vec<u8>, front: &[u8]) -> Result<(), AllocError>
     ensures { OnOk result (text.new.items ≡ text.old.items ++ caret front.now) }
 {
-    push_blanks(text, columns(front))?;
+    push_copies(text, b' ', columns(front))?;
     push_str(text, "^\n")
 }
 

@@ -6,5 +6,5 @@ mod table;
 mod width;
 
 pub use escaping::{escape, escaped_texts_are_harmless};
-pub use table::{push_row, push_rule, wider};
+pub use table::{push_copies, push_row, push_rule, wider};
 pub use width::columns;

@@ -64,6 +64,7 @@ module _ (policy : Tables) (schemes : Schemes) (seat : Seat) where
       is_turn = whole refl e;
       same = refl;
       read = n.read;
+      next = inr n;
       shown = w;
       over = λ o. at_end line n (over_is_empty line (sym e ∙ o));
     }
@@ -72,6 +73,7 @@ module _ (policy : Tables) (schemes : Schemes) (seat : Seat) where
       is_turn = cut line [] (append-nil (echo line)) (subst IsCut (sym e) tt);
       same = refl;
       read = n.read;
+      next = inr n;
       shown = w;
       over = λ o. let bad : fates.Lost Memory ≡ fates.Over = sym e ∙ o in absurd cc;
     }
@@ -82,6 +84,7 @@ module _ (policy : Tables) (schemes : Schemes) (seat : Seat) where
       is_turn = long l.long refl refl;
       same = refl;
       read = l.next.read;
+      next = inr l.next;
       shown = w;
       over = λ o. let bad : fates.TooLong ≡ fates.Over = o in absurd cc;
     }
@@ -92,6 +95,7 @@ module _ (policy : Tables) (schemes : Schemes) (seat : Seat) where
       is_turn = cut l.line l.rest l.part c;
       same = refl;
       read = l.read;
+      next = inl c;
       shown = l.written;
       over = λ o. absurd (subst IsCut o c);
     }

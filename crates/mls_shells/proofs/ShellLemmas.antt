@@ -1,12 +1,12 @@
 -- Shells: events, lines and what is told of them, one after another.
-use Rattle.std.proofs.Common.{◌≡◌, ℕ, suc, ◌+◌, ◌-◌, ◌≤◌, Bool, true, false, cond, not, ◌||◌, List, [], ◌∷◌, ◌++◌, length, take, Option, refl, sym, ap, ◌∙◌, subst, append_assoc, append-nil, arith}
+use Rattle.std.proofs.Common.{◌≡◌, ℕ, suc, ◌+◌, ◌-◌, ◌≤◌, Bool, true, false, cond, not, ◌||◌, List, [], ◌∷◌, ◌++◌, length, take, drop, Option, Some, None, ◌⊎◌, inl, inr, refl, sym, ap, ◌∙◌, subst, append_assoc, append-nil, arith}
 use Rattle.std.specs.List.{AllByRecursion, flat_map, list_any}
-use Rattle.std.specs.Io.KnownBytes.{Appends}
+use Rattle.std.specs.Io.KnownBytes.{Appends, Consumes, IsAtEnd}
 use Rattle.std.proofs.KnownBytes.{Appends-nil, Appends-trans}
 use Rattle.std.proofs.lemmas.Grind.{flat_map-append}
 use Rattle.std.proofs.lemmas.List.{length-append}
 use Rattle.std.proofs.lemmas.List.Folds.{list_any-append}
-use Rattle.std.proofs.Math.Seq.{take-append-add}
+use Rattle.std.proofs.Math.Seq.{take-append-add, drop-append_seam}
 use Rattle.mls_script.specs.declared.event.Event.{Event}
 use Rattle.mls_machine.specs.declared.form.Form.{Form}
 use Rattle.mls_machine.specs.declared.form.Audience.{Audience}
@@ -19,8 +19,9 @@ use Rattle.mls_sessions.specs.declared.cause.RunFault.{RunFault}
 use Rattle.mls_sessions.specs.Run.{IsWhole, IsStopped, IsFaultOf, printed_to, world_after}
 use Rattle.mls_lattice.specs.Policy.{Tables}
 use Rattle.mls_scheme.specs.Scheme.{Schemes}
+use Rattle.mls_typing.specs.Typing.{IsNext}
 use Rattle.mls_shells.specs.declared.seat.Seat.{Seat}
-use Rattle.mls_shells.specs.Shell.{Turn, IsTurn, whole, long, cut, events_of, events_in, opening, audience_at, is_open, is_refused, prompt_of, told_of, told_from, answers, dialogue, after_opening, transcript, AreWhileOpen, has_refused, IsSilent}
+use Rattle.mls_shells.specs.Shell.{Turn, IsTurn, IsCut, whole, long, cut, behind, AreNext, events_of, events_in, opening, audience_at, is_open, is_refused, prompt_of, told_of, told_from, answers, dialogue, after_opening, transcript, AreWhileOpen, has_refused, IsSilent}
 
 -- ---- events
 
@@ -136,6 +137,36 @@ events-snoc ts t = flat-snoc (λ (t : Turn). events_of t.fate) ts t
 
 pub lines-snoc : (ts : List Turn) (t : Turn) → flat_map (λ (t : Turn). t.line) (ts ++ t ∷ []) ≡ flat_map (λ (t : Turn). t.line) ts ++ t.line
 lines-snoc ts t = flat-snoc (λ (t : Turn). t.line) ts t
+
+-- of bytes that nobody knows any line comes next
+next_unknown : (a b : Option (List ℕ)) (line : List ℕ) → IsNext a b line → IsNext None None line
+next_unknown a b line n = record { text = n.text; one = n.one; read = tt; whole = ends n.whole }
+  where
+    ends : (line ≡ n.text ++ 10 ∷ []) ⊎ ((line ≡ n.text) × IsAtEnd b) → (line ≡ n.text ++ 10 ∷ []) ⊎ ((line ≡ n.text) × IsAtEnd None)
+    ends (inl h) = inl h
+    ends (inr h) = inr (h.0, tt)
+
+behind_line : (line xs ys : List ℕ) → xs ≡ line ++ ys → drop (length line) xs ≡ ys
+behind_line line xs ys h = ap (drop (length line)) h ∙ drop-append_seam line ys
+
+next_here : (before left over : Option (List ℕ)) (t : Turn) → Consumes before left [] → IsCut t.fate ⊎ IsNext left over t.line → IsCut t.fate ⊎ IsNext before (behind t.line before) t.line
+next_here before left over t none (inl c) = inl c
+next_here None left over t none (inr n) = inr (next_unknown left over t.line n)
+next_here (Some xs) None over t none (inr n) = absurd none
+next_here (Some xs) (Some ys) None t none (inr n) = absurd n.read
+next_here (Some xs) (Some ys) (Some zs) t none (inr n) =
+    inr (subst (λ l. IsNext (Some xs) (Some l) t.line) (sym (behind_line t.line xs zs (none ∙ n.read))) (subst (λ l. IsNext (Some l) (Some zs) t.line) (sym none) n))
+
+consumed_behind : (before left : Option (List ℕ)) (line rest : List ℕ) → Consumes before left (line ++ rest) → Consumes (behind line before) left rest
+consumed_behind None left line rest h = tt
+consumed_behind (Some xs) None line rest h = absurd h
+consumed_behind (Some xs) (Some ys) line rest h = behind_line line xs (rest ++ ys) (h ∙ append_assoc line rest ys)
+
+pub next-snoc : (before left over : Option (List ℕ)) (ts : List Turn) (t : Turn) → AreNext before ts → Consumes before left (flat_map (λ (t : Turn). t.line) ts)
+    → IsCut t.fate ⊎ IsNext left over t.line → AreNext before (ts ++ t ∷ [])
+unfolding AreNext
+next-snoc before left over [] t h read n = (next_here before left over t read n, tt)
+next-snoc before left over (x ∷ ts) t h read n = (h.0, next-snoc (behind x.line before) left over ts t h.1 (consumed_behind before left x.line _ read) n)
 
 pub told-snoc : (seat : Seat) (n : ℕ) (ts : List Turn) (t : Turn) → told_from seat n (ts ++ t ∷ []) ≡ told_from seat n ts ++ (prompt_of seat ++ told_of seat (n + length ts) t.fate)
 unfolding told_from

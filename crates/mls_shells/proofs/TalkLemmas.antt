@@ -25,8 +25,8 @@ use Rattle.mls_shells.specs.declared.seat.Fate.TheVariants as fates
 use Rattle.mls_host.specs.Ending.{ending_if}
 use Rattle.mls_host.specs.Hosting.{IsTold}
 use Rattle.mls_host.proofs.HostingLemmas.{told_nothing, told_more}
-use Rattle.mls_shells.specs.Shell.{audience_at, Turn, IsTurn, events_of, events_in, opening, is_open, is_refused, is_last, is_failed, prompt_of, told_of, told_from, answers, after_opening, transcript, AreWhileOpen, has_refused, IsSilent, FateFits, IsTalk, IsEndOf, IsAnswered, IsFollowed, IsRead, IsConversation}
-use Rattle.mls_shells.proofs.ShellLemmas.{nothing_done, whole_more, stopped_more, fault_more, all-snoc, all-append, length-snoc, events-snoc, lines-snoc, told-snoc, world-snoc, transcript-snoc, while_open-snoc, refused-snoc, silent_turn, silent_lines, any-snoc}
+use Rattle.mls_shells.specs.Shell.{audience_at, Turn, IsTurn, events_of, events_in, opening, is_open, is_refused, is_last, is_failed, prompt_of, told_of, told_from, answers, after_opening, transcript, AreNext, AreWhileOpen, has_refused, IsSilent, FateFits, IsTalk, IsEndOf, IsAnswered, IsFollowed, IsRead, IsConversation}
+use Rattle.mls_shells.proofs.ShellLemmas.{nothing_done, whole_more, stopped_more, fault_more, all-snoc, all-append, length-snoc, events-snoc, lines-snoc, told-snoc, world-snoc, next-snoc, transcript-snoc, while_open-snoc, refused-snoc, silent_turn, silent_lines, any-snoc}
 
 -- the events of a line are answered
 pub followed_whole : (at : Site) (audience : Audience) (w : World) (es : List Event) (was is : Option (List ℕ)) (new : World) (line : ℕ)
@@ -134,6 +134,7 @@ module _ {B E : Type 0} (state : B → State) (is_clean : B → Type 0) (content
     pub kept : IsKept state is_clean first now
     pub each : AllByRecursion (IsTurn echo at.policy at.schemes seat) turns
     pub read : Consumes given left (flat_map (λ (t : Turn). t.line) turns)
+    pub next : AreNext given turns
     pub told : IsTold contents quiet err (told_from seat 1 turns)
     pub fits : EventsFit at (events_in turns)
     pub world : is_clean now.base → world_of state now ≡ end_of at w (opening seat ∷ events_in turns)
@@ -149,7 +150,7 @@ module _ {B E : Type 0} (state : B → State) (is_clean : B → Type 0) (content
     pub refused_is : refused ≡ not (is_open seat (world_of state now))
 
   pub so_far_start : (now : Engine B) (is : Option (List ℕ)) (refused : Bool) → Opened now is refused → SoFar 0 now quiet given is refused
-  unfolding told_from Rattle.mls_shells.specs.Shell.dialogue AreWhileOpen
+  unfolding told_from Rattle.mls_shells.specs.Shell.dialogue AreNext AreWhileOpen
   so_far_start now is refused h =
       let done : is_clean now.base → IsWhole at (audience_at seat) w (opening seat ∷ []) was is (world_of state now) =
       λ c. followed_whole at (audience_at seat) w (opening seat ∷ []) was is (world_of state now) 0 (h.followed c) in
@@ -160,6 +161,7 @@ module _ {B E : Type 0} (state : B → State) (is_clean : B → Type 0) (content
         kept = h.kept;
         each = tt;
         read = Consumes-nil given;
+        next = tt;
         told = told_nothing contents quiet;
         fits = tt;
         world = λ c. (done c).world;
@@ -205,6 +207,9 @@ module _ {B E : Type 0} (state : B → State) (is_clean : B → Type 0) (content
       read_now : Consumes given over (flat_map (λ (t : Turn). t.line) turns)
       read_now = subst (Consumes given over) (sym (lines-snoc s.turns turn)) (Consumes-trans given left over _ turn.line s.read l.read.read)
 
+      next_now : AreNext given turns
+      next_now = next-snoc given left over s.turns turn s.next s.read l.read.next
+
       each_now : AllByRecursion (IsTurn echo at.policy at.schemes seat) turns
       each_now = all-snoc (IsTurn echo at.policy at.schemes seat) s.turns turn s.each l.read.is_turn
 
@@ -241,6 +246,7 @@ module _ {B E : Type 0} (state : B → State) (is_clean : B → Type 0) (content
               kept = kept_now;
               each = each_now;
               read = read_now;
+              next = next_now;
               told = told_now;
               fits = fits_now;
               world = λ c. (done c).world ∙ world-snoc at seat w s.turns turn;
@@ -270,7 +276,7 @@ module _ {B E : Type 0} (state : B → State) (is_clean : B → Type 0) (content
             record {
               turns = turns;
               run_end = later k.end;
-              talk = record { each = each_now; read = read_now; opened = open_now (clean c) };
+              talk = record { each = each_now; read = read_now; next = next_now; opened = open_now (clean c) };
               told = told_now;
               written = tt;
               ended = record { line = k.line ∙ sym count_now; cause = later_cause k.end fault k.cause };
@@ -306,11 +312,11 @@ module _ {B E : Type 0} (state : B → State) (is_clean : B → Type 0) (content
     -- it is given up at the opening
     pub broken_first : (new : Engine B) (after : Option (List ℕ)) (fault : RunFault) → IsFollowed at (audience_at seat) w (opening seat ∷ []) was after (world_of state new) 0 (Err fault)
         → IsConversation echo at seat w (world_of state new) given given was after (IsTold contents quiet quiet) (Err fault)
-    unfolding told_from AreWhileOpen
+    unfolding told_from AreNext AreWhileOpen
     broken_first new after fault h = record {
       turns = [];
       run_end = h.end;
-      talk = record { each = tt; read = Consumes-nil given; opened = tt };
+      talk = record { each = tt; read = Consumes-nil given; next = tt; opened = tt };
       told = told_nothing contents quiet;
       written = tt;
       ended = record { line = h.line; cause = h.cause };
@@ -332,7 +338,7 @@ module _ {B E : Type 0} (state : B → State) (is_clean : B → Type 0) (content
       over all = record {
         turns = s.turns;
         run_end = Ok tt;
-        talk = record { each = s.each; read = s.read; opened = s.opened c };
+        talk = record { each = s.each; read = s.read; next = s.next; opened = s.opened c };
         told = s.told;
         written = s.written c;
         ended = (refl, record { status = ap ending_if (s.refused_is c); all = λ o. all (subst (λ u. is_open seat u ≡ true) (sym (s.world c)) o) });
@@ -345,7 +351,7 @@ module _ {B E : Type 0} (state : B → State) (is_clean : B → Type 0) (content
       worn_out fault e = record {
         turns = s.turns;
         run_end = Ok tt;
-        talk = record { each = s.each; read = s.read; opened = s.opened c };
+        talk = record { each = s.each; read = s.read; next = s.next; opened = s.opened c };
         told = s.told;
         written = tt;
         ended = record { line = e ∙ sym s.count_is; cause = tt };

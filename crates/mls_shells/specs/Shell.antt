@@ -1,5 +1,5 @@
 -- A shell: lines are typed, and each is answered before the next is read.
-use Rattle.std.specs.Prelude.{◌≡◌, ℕ, ◌+◌, ◌-◌, ◌≤◌, max, Bool, true, false, not, ◌&&◌, ◌||◌, if◌then◌else◌, nat_eq, List, [], ◌∷◌, ◌++◌, codes, length, Option, is_some, IfErr, OnOk, Result, Ok, Err, ◌⊎◌, ⊤}
+use Rattle.std.specs.Prelude.{◌≡◌, ℕ, ◌+◌, ◌-◌, ◌≤◌, max, Bool, true, false, not, ◌&&◌, ◌||◌, if◌then◌else◌, nat_eq, List, [], ◌∷◌, ◌++◌, codes, length, drop, Option, option_map, is_some, IfErr, OnOk, Result, Ok, Err, ◌⊎◌, ⊤}
 use Rattle.std.specs.List.{AllByRecursion, flat_map, list_all, list_any}
 use Rattle.std.specs.Str.{bytes_eq}
 use Rattle.std.specs.Io.KnownBytes.{Appends, Consumes, IsAtEnd}
@@ -19,6 +19,7 @@ use Rattle.mls_machine.specs.Observation.{EventsFit, run_shows, reader_of}
 use Rattle.mls_sessions.specs.declared.cause.RunFault.{RunFault}
 use Rattle.mls_sessions.specs.declared.cause.RunCause.TheVariants.{Memory}
 use Rattle.mls_sessions.specs.Run.{IsWhole, IsStopped, IsFaultOf}
+use Rattle.mls_typing.specs.Typing.{IsNext}
 use Rattle.mls_host.specs.declared.ending.Ending.{Ending}
 use Rattle.mls_shells.specs.declared.help.TheConstants.{HELP}
 use Rattle.mls_shells.specs.declared.seat.Seat.{Seat}
@@ -133,6 +134,15 @@ pub data IsTurn (echo : List ℕ → List ℕ) (policy : Tables) (schemes : Sche
   long : 1048576 ≤ length t.line → t.shown ≡ [] → t.fate ≡ TooLong → IsTurn echo policy schemes seat t
   cut : (line : List ℕ) (rest : List ℕ) → t.shown ++ rest ≡ echo line → IsCut t.fate → IsTurn echo policy schemes seat t
 
+-- what is still to come behind a line
+abbrev pub behind : List ℕ → Option (List ℕ) → Option (List ℕ)
+behind line = option_map (drop (length line))
+
+-- each line comes next, up to its LF or up to the end; or it was not read or understood whole
+unfoldable pub AreNext : Option (List ℕ) → List Turn → Type 0
+AreNext before [] = ⊤
+AreNext before (t ∷ ts) = (IsCut t.fate ⊎ IsNext before (behind t.line before) t.line) × AreNext (behind t.line before) ts
+
 abbrev pub events_in : List Turn → List Event
 events_in = flat_map (λ t. events_of t.fate)
 
@@ -186,10 +196,11 @@ pub record IsGivenUpAt (turns : List Turn) (end : Result (Unit {0}) RunFault) (f
 -- ---- the whole
 
 module _ (echo : List ℕ → List ℕ) (site : Site) (seat : Seat) where
-  -- lines are read, each while the session is open, none lost
+  -- lines are read one after another, each while the session is open, none lost
   pub record IsTalk (w : World) (before after : Option (List ℕ)) (turns : List Turn) : Type 0 where
     pub each : AllByRecursion (IsTurn echo site.policy site.schemes seat) turns
     pub read : Consumes before after (flat_map (λ t. t.line) turns)
+    pub next : AreNext before turns
     pub opened : AreWhileOpen site seat (after_opening site seat w) turns
 
   -- how the run of the events ends, by how the shell does
@@ -230,6 +241,7 @@ pub record IsRead (echo : List ℕ → List ℕ) (policy : Tables) (schemes : Sc
   pub is_turn : IsTurn echo policy schemes seat turn
   pub same : turn.fate ≡ fate
   pub read : Consumes before after turn.line
+  pub next : IsCut turn.fate ⊎ IsNext before after turn.line
   pub shown : Appends was is turn.shown
   pub over : fate ≡ Over → IsAtEnd after
 

@@ -16,14 +16,18 @@ use Rattle.mls_words.specs.declared.words.Task.TheVariants as tasks
 use Rattle.mls_host.specs.declared.refusal.Refusal.{Refusal}
 use Rattle.mls_host.specs.declared.reason.Reason.{Reason}
 use Rattle.mls_host.specs.declared.refusal.Refusal.TheVariants.{Before, Run, NotClosed, Output}
-use Rattle.mls_host.specs.Hosting.{Hosted, IsTold}
+use Rattle.mls_host.specs.Hosting.{Hosting, Hosted, IsTold}
 use Rattle.mls_host.specs.Refusal.{IsEnd}
 use Rattle.mls_listings.specs.Printing.{IsCutOff}
 use Rattle.mls_runs.specs.ScriptRun.{IsScriptRun, IsRunRefused}
 use Rattle.mls_shells.specs.ShellRun.{IsShellRun, IsShellRefused}
 use Rattle.mls_host.proofs.HostingLemmas.{told_nothing}
-use Rattle.mls_command.specs.Acting.{Prints, IsTaskDone, IsRunOf, IsTaskRefused, IsTaskGivenUp, IsJobRefused, IsDone, IsGivenUp}
+use Rattle.mls_command.specs.Acting.{KeepsStores, Prints, IsTaskDone, IsRunOf, IsTaskRefused, IsTaskGivenUp, IsJobRefused, IsDone, IsGivenUp}
 use Rattle.mls_host.proofs.RunningLemmas.{given_up_before}
+
+-- a host that is not touched keeps them
+pub stores_kept : (h : Hosting) (echo : List ℕ → List ℕ) → KeepsStores (record { before = h; after = h; echo = echo })
+stores_kept h echo path c = (λ k. k, λ k. k)
 
 module _ (h : Hosted) (policy : Tables) (file : SchemesFile) (reader : Option ℕ) (Wrote Told : List ℕ → Type 0) where
   -- as its run was
@@ -71,12 +75,12 @@ module _ (h : Hosted) (policy : Tables) (file : SchemesFile) (reader : Option �
   shell_task_given_up Told task files is (Ok a) k = tt
   shell_task_given_up Told task files is (Err e) k = subst (λ (t : Task). IsTaskGivenUp h policy file reader Wrote Told t e) (sym is) (shell_given_up h policy file reader Wrote Told files e k)
 
-  pub print_given_up : (Told : List ℕ → Type 0) (task same : Task) → same ≡ task → (text told : List ℕ) (end : Ending) → Prints h policy file task text told end → (r : Result Ending Refusal)
+  pub print_given_up : (Told : List ℕ → Type 0) (task same : Task) → same ≡ task → KeepsStores h → (text told : List ℕ) (end : Ending) → Prints h policy file task text told end → (r : Result Ending Refusal)
       → IfErr r (λ e. e ≡ Output) → OnErr r (IsCutOff Wrote text) → OnErr r (Told []) → IfErr r (IsTaskGivenUp h policy file reader Wrote Told same)
-  print_given_up Told task same is text told end prints (Ok e) out part quiet = tt
-  print_given_up Told task same is text told end prints (Err e) out part quiet =
+  print_given_up Told task same is kept text told end prints (Ok e) out part quiet = tt
+  print_given_up Told task same is kept text told end prints (Err e) out part quiet =
       subst (λ (x : Refusal). IsTaskGivenUp h policy file reader Wrote Told same x) (sym out)
-      (quiet, record { text = text; told = told; end = end; prints = subst (λ (t : Task). Prints h policy file t text told end) (sym is) prints; is_cut_off = part })
+      (kept, quiet, record { text = text; told = told; end = end; prints = subst (λ (t : Task). Prints h policy file t text told end) (sym is) prints; is_cut_off = part })
 
 -- ---- jobs
 
@@ -134,7 +138,7 @@ module _ (h : Hosted) (Wrote Told More : List ℕ → Type 0) (f : (text : List 
   task_told policy file reader task (Before reason) k = (k.0, f [] k.1, k.2)
   task_told policy file reader task (Run fault) k = run_told policy file reader task (Err fault) k
   task_told policy file reader task NotClosed k = (k.0, run_told policy file reader task (Ok k.0) k.1)
-  task_told policy file reader task Output k = (f [] k.0, k.1)
+  task_told policy file reader task Output k = (k.0, f [] k.1, k.2)
 
   pub given_up_told : (job : Job) (r : Refusal) → IsGivenUp h Wrote Told job r → IsGivenUp h Wrote More job r
   given_up_told job r (inl k) = inl (k.0, k.1, k.2, f [] k.3, k.4)

@@ -1,5 +1,5 @@
 -- What is done for a job, by what its host gives.
-use Rattle.std.specs.Prelude.{◌≡◌, ℕ, List, [], ◌++◌, Option, Some, None, Result, Ok, Err, ◌⊎◌}
+use Rattle.std.specs.Prelude.{◌≡◌, ℕ, List, [], ◌++◌, Option, Some, None, Result, Ok, Err, ◌⊎◌, ◌↔◌}
 use Rattle.mls_lattice.specs.Policy.{Tables}
 use Rattle.mls_lattice.specs.Canon as lattice
 use Rattle.mls_scheme.specs.declared.file.SchemesFile.{SchemesFile}
@@ -27,6 +27,10 @@ use Rattle.mls_listings.specs.Checking.{IsChecked}
 use Rattle.mls_listings.specs.Explaining.{IsExplained, IsExplainRefused}
 
 module _ (h : Hosted) where
+  -- each store keeps what it kept
+  abbrev pub KeepsStores : Type 0
+  KeepsStores = (path : List ℕ) (c : _) → h.after.keeps path c ↔ h.before.keeps path c
+
   -- ---- tasks
 
   -- what a command other than a run or a shell prints on standard output, what it tells on standard error, and how it ends
@@ -57,11 +61,11 @@ module _ (h : Hosted) where
     IsRunOf (Shell files) end = IsShellRun h policy file reader files Wrote Told end
     IsRunOf task end = ⊥
 
-    -- a task is done
+    -- a task is done; one that is no run and no shell leaves the stores
     abbrev pub IsTaskDone : Task → Ending → Type 0
     IsTaskDone (Run files) end = IsRunOf (Run files) (Ok end)
     IsTaskDone (Shell files) end = IsRunOf (Shell files) (Ok end)
-    IsTaskDone task end = IsPrinted (Prints policy file task) Wrote Told end
+    IsTaskDone task end = KeepsStores × IsPrinted (Prints policy file task) Wrote Told end
 
     -- What was written, and what was told before the refusal, where a task is given up: nothing, if it is not begun; of a run or a shell
     -- that stopped, what it was up to there; of one whose store was not closed, all; where the output was not taken, a first part of it.
@@ -69,7 +73,7 @@ module _ (h : Hosted) where
     IsTaskGivenUp task (refusals.Before reason) = IsTaskRefused policy file reader task reason × Told [] × Wrote []
     IsTaskGivenUp task (refusals.Run fault) = IsRunOf task (Err fault)
     IsTaskGivenUp task refusals.NotClosed = (end : Ending) × IsRunOf task (Ok end)
-    IsTaskGivenUp task refusals.Output = Told [] × IsPrintedInPart (Prints policy file task) Wrote
+    IsTaskGivenUp task refusals.Output = KeepsStores × Told [] × IsPrintedInPart (Prints policy file task) Wrote
 
   -- ---- jobs
 

@@ -10,7 +10,7 @@ use Rattle.mls_host.specs.declared.refusal.Refusal.{Refusal}
 use Rattle.mls_host.specs.Hosting.{Hosted}
 use Rattle.mls_host.specs.Refusal.{refusal_text, refusal_status}
 use Rattle.mls_host.specs.Ending.{ending_status}
-use Rattle.mls_command.specs.Acting.{IsDone, IsGivenUp}
+use Rattle.mls_command.specs.Acting.{KeepsStores, IsDone, IsGivenUp}
 use Rattle.mls_command.specs.Accounting.{IsAccounted, IsUnaccounted}
 
 module _ (Does : (Wrote Told : List ℕ → Type 0) → Job → Ending → Type 0) (GivesUp : (Wrote Told : List ℕ → Type 0) → Job → Refusal → Type 0) where
@@ -29,10 +29,10 @@ module _ (h : Hosted) where
   abbrev pub IsOutcomeOfAccount : List Text → (Wrote Told : List ℕ → Type 0) → ℕ → Type 0
   IsOutcomeOfAccount words Wrote Told status = IsOutcome (IsAccounted h) (IsUnaccounted h) words Wrote Told status
 
-  -- the command does what it says; where another one is explained, what is told of the inputs of that
+  -- the command does what it says; where another one is explained, what is told of the inputs of that, and stores are left
   abbrev pub IsAnsweredAs : Option (List Text) → List Text → (Wrote Told : List ℕ → Type 0) → ℕ → Type 0
   IsAnsweredAs None words Wrote Told status = IsOutcomeOfJob words Wrote Told status
-  IsAnsweredAs (Some asked) words Wrote Told status = IsOutcomeOfAccount asked Wrote Told status
+  IsAnsweredAs (Some asked) words Wrote Told status = KeepsStores h × IsOutcomeOfAccount asked Wrote Told status
 
   abbrev pub IsAnswered : List Text → (Wrote Told : List ℕ → Type 0) → ℕ → Type 0
   IsAnswered words Wrote Told status = IsAnsweredAs (explained_of words) words Wrote Told status

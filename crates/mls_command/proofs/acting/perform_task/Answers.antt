@@ -5,7 +5,7 @@ use Rattle.mls_host.specs.Hosting.{hosted, IsAppended, IsTold}
 use Rattle.mls_command.specs.Acting.{IsTaskDone}
 use Rattle.mls_host.specs.declared.reason.Reason.TheVariants.{Memory}
 use Rattle.mls_host.proofs.HostingLemmas.{told_nothing}
-use Rattle.mls_command.proofs.ActingLemmas.{quiet_told, not_begun, run_task_done, run_task_given_up, print_given_up, shell_task_given_up}
+use Rattle.mls_command.proofs.ActingLemmas.{stores_kept, quiet_told, not_begun, run_task_done, run_task_given_up, print_given_up, shell_task_given_up}
 use Rattle.mls_command.proofs.acting.perform_task.Goals as goal
 
 pub returns-in_err-texts-in-ShowPolicy-clause-given_up : goal.returns-in_err-texts-in-ShowPolicy-clause-given_up
@@ -50,7 +50,7 @@ pub returns-in_ok-certified-in-Certify-clause-given_up : goal.returns-in_ok-cert
 returns-in_ok-certified-in-Certify-clause-given_up g c =
     let l = c.in_ok-certified-in-Certify.field-0 in
     print_given_up (hosted g.H.Host.hosting g.H.Lines.TypedLines.echo c.args.host.now c.args.host.now) c.args.policy.now c.args.file.now c.args.reader
-    (IsAppended g.W.Write.contents c.args.out.now c.print-in-Certify.new.out) (IsTold g.E.Write.contents c.args.err.now c.print-in-Certify.new.err) (Certify c.in-Certify.transactions) c.args.task c.in-Certify.is l.text.items (string_bytes l.told) l.ending
+    (IsAppended g.W.Write.contents c.args.out.now c.print-in-Certify.new.out) (IsTold g.E.Write.contents c.args.err.now c.print-in-Certify.new.err) (Certify c.in-Certify.transactions) c.args.task c.in-Certify.is (stores_kept (g.H.Host.hosting c.args.host.now) g.H.Lines.TypedLines.echo) l.text.items (string_bytes l.told) l.ending
     c.in_ok-certified-in-Certify.ensures.listing c.print-in-Certify.result c.print-in-Certify.ensures.refused c.print-in-Certify.ensures.part
     (quiet_told g.E.Write.contents c.args.err.now c.print-in-Certify.new.err c.print-in-Certify.result c.print-in-Certify.ensures.quiet)
 
@@ -58,7 +58,7 @@ pub returns-in_ok-explained-in-Explain-clause-given_up : goal.returns-in_ok-expl
 returns-in_ok-explained-in-Explain-clause-given_up g c =
     let l = c.in_ok-explained-in-Explain.field-0 in
     print_given_up (hosted g.H.Host.hosting g.H.Lines.TypedLines.echo c.args.host.now c.args.host.now) c.args.policy.now c.args.file.now c.args.reader
-    (IsAppended g.W.Write.contents c.args.out.now c.print-in-Explain.new.out) (IsTold g.E.Write.contents c.args.err.now c.print-in-Explain.new.err) (Explain c.in-Explain.transactions c.in-Explain.name) c.args.task c.in-Explain.is l.text.items (string_bytes l.told) l.ending
+    (IsAppended g.W.Write.contents c.args.out.now c.print-in-Explain.new.out) (IsTold g.E.Write.contents c.args.err.now c.print-in-Explain.new.err) (Explain c.in-Explain.transactions c.in-Explain.name) c.args.task c.in-Explain.is (stores_kept (g.H.Host.hosting c.args.host.now) g.H.Lines.TypedLines.echo) l.text.items (string_bytes l.told) l.ending
     c.in_ok-explained-in-Explain.ensures.listing c.print-in-Explain.result c.print-in-Explain.ensures.refused c.print-in-Explain.ensures.part
     (quiet_told g.E.Write.contents c.args.err.now c.print-in-Explain.new.err c.print-in-Explain.result c.print-in-Explain.ensures.quiet)
 
@@ -66,7 +66,7 @@ pub returns-in_ok-listing-in-Check-clause-given_up : goal.returns-in_ok-listing-
 returns-in_ok-listing-in-Check-clause-given_up g c =
     let l = c.in_ok-listing-in-Check.listing in
     print_given_up (hosted g.H.Host.hosting g.H.Lines.TypedLines.echo c.args.host.now c.args.host.now) c.args.policy.now c.args.file.now c.args.reader
-    (IsAppended g.W.Write.contents c.args.out.now c.print-in-Check.new.out) (IsTold g.E.Write.contents c.args.err.now c.print-in-Check.new.err) (Check c.in-Check.transactions c.in-Check.certificates) c.args.task c.in-Check.is l.text.items (string_bytes l.told) l.ending
+    (IsAppended g.W.Write.contents c.args.out.now c.print-in-Check.new.out) (IsTold g.E.Write.contents c.args.err.now c.print-in-Check.new.err) (Check c.in-Check.transactions c.in-Check.certificates) c.args.task c.in-Check.is (stores_kept (g.H.Host.hosting c.args.host.now) g.H.Lines.TypedLines.echo) l.text.items (string_bytes l.told) l.ending
     c.in_ok-listing-in-Check.ensures.listing c.print-in-Check.result c.print-in-Check.ensures.refused c.print-in-Check.ensures.part
     (quiet_told g.E.Write.contents c.args.err.now c.print-in-Check.new.err c.print-in-Check.result c.print-in-Check.ensures.quiet)
 
@@ -75,7 +75,7 @@ returns-in_ok-texts-in-ShowPolicy-clause-given_up g c =
     let l = c.in_ok-texts-in-ShowPolicy.field-0 in
     let e = c.in_ok-texts-in-ShowPolicy.ensures in
     print_given_up (hosted g.H.Host.hosting g.H.Lines.TypedLines.echo c.args.host.now c.args.host.now) c.args.policy.now c.args.file.now c.args.reader
-    (IsAppended g.W.Write.contents c.args.out.now c.print.new.out) (IsTold g.E.Write.contents c.args.err.now c.print.new.err) ShowPolicy c.args.task c.in-ShowPolicy.is l.text.items (string_bytes l.told) l.ending
+    (IsAppended g.W.Write.contents c.args.out.now c.print.new.out) (IsTold g.E.Write.contents c.args.err.now c.print.new.err) ShowPolicy c.args.task c.in-ShowPolicy.is (stores_kept (g.H.Host.hosting c.args.host.now) g.H.Lines.TypedLines.echo) l.text.items (string_bytes l.told) l.ending
     (e.text, e.told, e.end) c.print.result c.print.ensures.refused c.print.ensures.part
     (quiet_told g.E.Write.contents c.args.err.now c.print.new.err c.print.result c.print.ensures.quiet)
 
@@ -84,7 +84,7 @@ returns-in_ok-pictured-in-Picture-clause-given_up g c =
     let l = c.in_ok-pictured-in-Picture.field-0 in
     let e = c.in_ok-pictured-in-Picture.ensures in
     print_given_up (hosted g.H.Host.hosting g.H.Lines.TypedLines.echo c.args.host.now c.args.host.now) c.args.policy.now c.args.file.now c.args.reader
-    (IsAppended g.W.Write.contents c.args.out.now c.print-in-Picture.new.out) (IsTold g.E.Write.contents c.args.err.now c.print-in-Picture.new.err) Picture c.args.task c.in-Picture.is l.text.items (string_bytes l.told) l.ending
+    (IsAppended g.W.Write.contents c.args.out.now c.print-in-Picture.new.out) (IsTold g.E.Write.contents c.args.err.now c.print-in-Picture.new.err) Picture c.args.task c.in-Picture.is (stores_kept (g.H.Host.hosting c.args.host.now) g.H.Lines.TypedLines.echo) l.text.items (string_bytes l.told) l.ending
     (e.text, e.told, e.end) c.print-in-Picture.result c.print-in-Picture.ensures.refused c.print-in-Picture.ensures.part
     (quiet_told g.E.Write.contents c.args.err.now c.print-in-Picture.new.err c.print-in-Picture.result c.print-in-Picture.ensures.quiet)
 

@@ -118,7 +118,7 @@ module _ (h : Hosted) (Wrote Told More : List ℕ → Type 0) (f : (text : List 
       left = o.left;
       begins = o.begins;
       kept = o.kept;
-      leads = record { turns = k.turns; run_end = k.run_end; talk = k.talk; told = f _ k.told; written = k.written; ended = k.ended; run = k.run };
+      leads = record { turns = k.turns; run_end = k.run_end; talk = k.talk; told = f _ k.told; written = k.written; begun = k.begun; ended = k.ended; run = k.run };
     };
   }
 

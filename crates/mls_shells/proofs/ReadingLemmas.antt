@@ -1,5 +1,5 @@
 -- What becomes of a typed line.
-use Rattle.std.proofs.Common.{◌≡◌, ℕ, Bool, true, false, List, [], ◌∷◌, ◌++◌, length, Option, Result, Ok, Err, cond, nat_eq, eqb-true, codes, ◌⊎◌, refl, sym, ◌∙◌, subst, inl, inr, append-nil, arith}
+use Rattle.std.proofs.Common.{◌≡◌, ℕ, ◌≤◌, Bool, true, false, List, [], ◌∷◌, ◌++◌, length, Option, Result, Ok, Err, cond, nat_eq, eqb-true, codes, ◌⊎◌, refl, sym, ◌∙◌, subst, inl, inr, append-nil, arith}
 use Rattle.std.specs.Str.{bytes_eq}
 use Rattle.std.specs.Io.KnownBytes.{Appends, IsAtEnd}
 use Rattle.mls_lattice.specs.Policy.{Tables}
@@ -57,18 +57,18 @@ module _ (policy : Tables) (schemes : Schemes) (seat : Seat) where
         ends (inl h) = absurd (no_line n.text (sym e ∙ h))
         ends (inr h) = h.1
 
-    pub read_whole : (line : List ℕ) → IsNext before after line → Appends was is (echo line) → (fate : Fate) → Becomes (fate_of policy schemes seat line) fate
+    pub read_whole : (line : List ℕ) → IsNext before after line → length line ≤ 1048576 → Appends was is (echo line) → (fate : Fate) → Becomes (fate_of policy schemes seat line) fate
         → IsRead echo policy schemes seat before after was is fate
-    read_whole line n w fate (inl e) = record {
+    read_whole line n short w fate (inl e) = record {
       turn = record { line = line; shown = echo line; fate = fate };
-      is_turn = whole refl e;
+      is_turn = whole short refl e;
       same = refl;
       read = n.read;
       next = inr n;
       shown = w;
       over = λ o. at_end line n (over_is_empty line (sym e ∙ o));
     }
-    read_whole line n w fate (inr e) = record {
+    read_whole line n short w fate (inr e) = record {
       turn = record { line = line; shown = echo line; fate = fate };
       is_turn = cut line [] (append-nil (echo line)) (subst IsCut (sym e) tt);
       same = refl;

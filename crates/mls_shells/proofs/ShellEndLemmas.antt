@@ -50,6 +50,7 @@ shell_at echo site seat sessions first left before after was is Told end distinc
       talk = k.talk;
       told = k.told;
       written = k.written;
+      begun = k.begun;
       ended = k.ended;
       run = λ silent. let a = k.run silent in
           run_at site (audience_at seat) sessions first left es was is k.run_end sound_left

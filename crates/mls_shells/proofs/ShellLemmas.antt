@@ -241,7 +241,7 @@ module _ (site : Site) (seat : Seat) where
       ∙ sym (answers-append w (events_of x.fate) (events_in ts))
 
   quiet_turn : (echo : List ℕ → List ℕ) (policy : Tables) (schemes : Schemes) (t : Turn) → IsSilent echo → IsTurn echo policy schemes seat t → t.shown ≡ []
-  quiet_turn echo policy schemes t silent (whole a b) = a ∙ silent t.line
+  quiet_turn echo policy schemes t silent (whole s a b) = a ∙ silent t.line
   quiet_turn echo policy schemes t silent (long l a b) = a
   quiet_turn echo policy schemes t silent (cut line rest e c) = nil_front t.shown rest (e ∙ silent line)
 

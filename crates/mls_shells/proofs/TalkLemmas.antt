@@ -33,6 +33,12 @@ pub followed_whole : (at : Site) (audience : Audience) (w : World) (es : List Ev
     → IsFollowed at audience w es was is new line (Ok tt) → IsWhole at audience w es was is new
 followed_whole at audience w es was is new line h = subst (λ (r : Result (Unit {0}) RunFault). OnOk r (IsWhole at audience w es was is new)) h.ok h.answered.whole
 
+-- whether all are answered or not, something is written
+some_written : (at : Site) (audience : Audience) (w : World) (es : List Event) (was is : Option (List ℕ)) (new : World) (end : Result (Unit {0}) RunFault)
+    → IsAnswered at audience w es was is new end → (bytes : List ℕ) × Appends was is bytes
+some_written at audience w es was is new (Ok u) h = (_, h.whole.bytes)
+some_written at audience w es was is new (Err f) h = (_, h.stopped.bytes)
+
 ok_where : (r e : Result (Unit {0}) RunFault) → e ≡ Ok tt → OnOk r (e ≡ Ok tt)
 ok_where (Ok u) e h = h
 ok_where (Err f) e h = tt
@@ -264,6 +270,7 @@ module _ {B E : Type 0} (state : B → State) (is_clean : B → Type 0) (content
         broken opens fault c h =
             let k = moved c h in
             let world = end_of at w (opening seat ∷ events_in s.turns) in
+            let answered = some_written at (audience_at seat) world (events_of turn.fate) shown after (world_of state new) k.end k.answered in
             let es = (opening seat ∷ events_in s.turns) ++ events_of turn.fate in
             let same : es ≡ opening seat ∷ events_in turns = ap (λ (l : List Event). opening seat ∷ l) (sym (events-snoc s.turns turn)) in
             let silent : IsSilent echo → IsWhole at (audience_at seat) w (opening seat ∷ events_in s.turns) was shown world =
@@ -279,6 +286,14 @@ module _ {B E : Type 0} (state : B → State) (is_clean : B → Type 0) (content
               talk = record { each = each_now; read = read_now; next = next_now; opened = open_now (clean c) };
               told = told_now;
               written = tt;
+              begun = λ some. record {
+                whole = s.turns;
+                last = turn ∷ [];
+                parts = refl;
+                one = omega arith;
+                part = turn.shown ++ answered.0;
+                written = Appends-trans was is after (transcript at seat w s.turns) _ (s.written (clean c)) (Appends-trans is shown after turn.shown answered.0 l.read.shown answered.1);
+              };
               ended = record { line = k.line ∙ sym count_now; cause = later_cause k.end fault k.cause };
               fits = (opens.0, fits_now);
               run = λ q. subst (λ (es : List Event). IsAnswered at (audience_at seat) w es was after (world_of state new) (later k.end)) same (later_answered k.end (silent q) k.answered);
@@ -319,6 +334,7 @@ module _ {B E : Type 0} (state : B → State) (is_clean : B → Type 0) (content
       talk = record { each = tt; read = Consumes-nil given; next = tt; opened = tt };
       told = told_nothing contents quiet;
       written = tt;
+      begun = λ some. absurd (some h.line);
       ended = record { line = h.line; cause = h.cause };
       fits = opens;
       run = λ q. h.answered;
@@ -341,6 +357,7 @@ module _ {B E : Type 0} (state : B → State) (is_clean : B → Type 0) (content
         talk = record { each = s.each; read = s.read; next = s.next; opened = s.opened c };
         told = s.told;
         written = s.written c;
+        begun = tt;
         ended = (refl, record { status = ap ending_if (s.refused_is c); all = λ o. all (subst (λ u. is_open seat u ≡ true) (sym (s.world c)) o) });
         fits = (opens.0, s.fits);
         run = all_answered;
@@ -354,6 +371,14 @@ module _ {B E : Type 0} (state : B → State) (is_clean : B → Type 0) (content
         talk = record { each = s.each; read = s.read; next = s.next; opened = s.opened c };
         told = s.told;
         written = tt;
+        begun = λ some. record {
+          whole = s.turns;
+          last = [];
+          parts = sym (append-nil s.turns);
+          one = omega arith;
+          part = [];
+          written = subst (Appends was is) (sym (append-nil (transcript at seat w s.turns))) (s.written c);
+        };
         ended = record { line = e ∙ sym s.count_is; cause = tt };
         fits = (opens.0, s.fits);
         run = all_answered;

@@ -1,5 +1,5 @@
 -- A shell: lines are typed, and each is answered before the next is read.
-use Rattle.std.specs.Prelude.{◌≡◌, ℕ, ◌+◌, ◌-◌, ◌≤◌, max, Bool, true, false, not, ◌&&◌, ◌||◌, if◌then◌else◌, nat_eq, List, [], ◌∷◌, ◌++◌, codes, length, drop, Option, option_map, is_some, IfErr, OnOk, Result, Ok, Err, ◌⊎◌, ⊤}
+use Rattle.std.specs.Prelude.{◌≡◌, ◌≢◌, ℕ, ◌+◌, ◌-◌, ◌≤◌, max, Bool, true, false, not, ◌&&◌, ◌||◌, if◌then◌else◌, nat_eq, List, [], ◌∷◌, ◌++◌, codes, length, drop, Option, option_map, is_some, IfErr, OnOk, Result, Ok, Err, ◌⊎◌, ⊤}
 use Rattle.std.specs.List.{AllByRecursion, flat_map, list_all, list_any}
 use Rattle.std.specs.Str.{bytes_eq}
 use Rattle.std.specs.Io.KnownBytes.{Appends, Consumes, IsAtEnd}
@@ -130,7 +130,7 @@ pub record Turn : Type 0 where
 
 -- a line is shown and understood; it is too long; or it is not read or understood whole
 pub data IsTurn (echo : List ℕ → List ℕ) (policy : Tables) (schemes : Schemes) (seat : Seat) (t : Turn) : Type 0 where
-  whole : t.shown ≡ echo t.line → t.fate ≡ fate_of policy schemes seat t.line → IsTurn echo policy schemes seat t
+  whole : length t.line ≤ 1048576 → t.shown ≡ echo t.line → t.fate ≡ fate_of policy schemes seat t.line → IsTurn echo policy schemes seat t
   long : 1048576 ≤ length t.line → t.shown ≡ [] → t.fate ≡ TooLong → IsTurn echo policy schemes seat t
   cut : (line : List ℕ) (rest : List ℕ) → t.shown ++ rest ≡ echo line → IsCut t.fate → IsTurn echo policy schemes seat t
 
@@ -188,6 +188,15 @@ pub record IsWellEnded (site : Site) (seat : Seat) (w : World) (turns : List Tur
   pub status : ending ≡ ending_if (has_refused site seat w turns)
   pub all : is_open seat (end_of site w (opening seat ∷ events_in turns)) ≡ true → IsAtEnd left ⊎ (list_any (λ t. is_failed t.fate) turns ≡ true)
 
+-- it is given up behind so many lines, or at the last of them: what was written begins with those before it and their answers
+pub record IsCutShort (site : Site) (seat : Seat) (w : World) (turns : List Turn) (Wrote : List ℕ → Type 0) : Type 0 where
+  pub whole : List Turn
+  pub last : List Turn
+  pub parts : turns ≡ whole ++ last
+  pub one : length last ≤ 1
+  pub part : List ℕ
+  pub written : Wrote (transcript site seat w whole ++ part)
+
 -- it is given up at the last line that was read, or, as at line 0, at the opening: at one of its events, or before them
 pub record IsGivenUpAt (turns : List Turn) (end : Result (Unit {0}) RunFault) (fault : RunFault) : Type 0 where
   pub line : fault.event ≡ length turns
@@ -216,6 +225,7 @@ module _ (echo : List ℕ → List ℕ) (site : Site) (seat : Seat) where
     pub talk : IsTalk (first_world site first) before after turns
     pub told : Told (told_from seat 1 turns)
     pub written : OnOk end (Wrote (transcript site seat (first_world site first) turns))
+    pub begun : IfErr end (λ fault. fault.event ≢ 0 → IsCutShort site seat (first_world site first) turns Wrote)
     pub ended : IsEndOf (first_world site first) turns after run_end end
     pub run : IsSilent echo → IsRun site (audience_at seat) (opening seat ∷ events_in turns) Wrote run_end first left
 
@@ -252,6 +262,7 @@ pub record IsConversation (echo : List ℕ → List ℕ) (site : Site) (seat : S
   pub talk : IsTalk echo site seat w before after turns
   pub told : Told (told_from seat 1 turns)
   pub written : OnOk end (Appends was is (transcript site seat w turns))
+  pub begun : IfErr end (λ fault. fault.event ≢ 0 → IsCutShort site seat w turns (Appends was is))
   pub ended : IsEndOf echo site seat w turns after run_end end
   pub fits : EventsFit site (opening seat ∷ events_in turns)
   pub run : IsSilent echo → IsAnswered site (audience_at seat) w (opening seat ∷ events_in turns) was is new run_end

@@ -1,9 +1,9 @@
 -- Lines of a reader: byte by byte.
-use Rattle.std.proofs.Common.{◌≡◌, ◌≢◌, ℕ, zero, suc, ◌≤◌, ◌<◌, Bool, true, false, List, [], ◌∷◌, ◌++◌, length, take, Option, Some, None, Result, Ok, Err, OnErr, cond, nat_eq, eqb-true, codes, ◌⊎◌, refl, sym, ap, ◌∙◌, subst, inl, inr, append_assoc, append-nil, arith}
+use Rattle.std.proofs.Common.{◌≡◌, ◌≢◌, ℕ, zero, suc, ◌≤◌, ◌<◌, Bool, true, false, List, [], ◌∷◌, ◌++◌, length, take, Option, Some, None, Result, Ok, Err, OnErr, refl, sym, ap, ◌∙◌, subst, inl, inr, append_assoc, append-nil, arith}
 use Rattle.std.proofs.lemmas.List.{length-append}
 use Rattle.std.specs.Io.KnownBytes.{Appends, Consumes, IsAtEnd, Keeps}
 use Rattle.std.proofs.KnownBytes.{Appends-nil, Consumes-nil, Consumes-trans, Consumes-kept, Appends-kept}
-use Rattle.mls_typing.specs.Typing.{HasNoFeed, IsNext, IsLong, IsTaken, IsSkipped, left_of, IsLost}
+use Rattle.mls_typing.specs.Typing.{HasNoFeed, IsLong, IsTaken, IsSkipped, left_of, IsLost}
 
 pub kept_taken : (a b : Option (List ℕ)) → Keeps a b → Consumes a b []
 kept_taken a b h = Consumes-kept a a b [] (Consumes-nil a) h

@@ -35,8 +35,8 @@ module _ (before after : Option (List ℕ)) where
   IsByte (Some b) = Consumes before after (b ∷ [])
 
   abbrev pub IsPart : Part → Type 0
-  IsPart (Line line) = (text : List ℕ) × HasNoFeed text × (line.items ≡ text ++ 10 ∷ []) × Consumes before after line.items
-  IsPart (Last line) = HasNoFeed line.items × Consumes before after line.items × IsAtEnd after
+  IsPart (Line line) = (text : List ℕ) × HasNoFeed text × (line.items ≡ text ++ 10 ∷ []) × Consumes before after line.items × (length line.items ≤ 1048576)
+  IsPart (Last line) = HasNoFeed line.items × Consumes before after line.items × IsAtEnd after × (length line.items ≤ 1048576)
   IsPart Full = (text : List ℕ) × HasNoFeed text × (1048576 ≤ length text) × Consumes before after text
 
   -- the rest of a line is taken, up to the end, or up to its LF
@@ -50,9 +50,9 @@ left_of over left = if over then Some [] else left
 
 -- `echo`: what a host shows of a line, among what is written, when it is read
 module _ (echo : List ℕ → List ℕ) (before after was is : Option (List ℕ)) where
-  -- a line comes, and is shown; of one that is too long nothing is shown
+  -- a line of so many bytes at the most comes, and is shown; of one that is too long nothing is shown
   abbrev pub IsTyped : Typed → Type 0
-  IsTyped (typed.Line line) = IsNext before after line.items × Appends was is (echo line.items)
+  IsTyped (typed.Line line) = IsNext before after line.items × Appends was is (echo line.items) × (length line.items ≤ 1048576)
   IsTyped typed.TooLong = (line : List ℕ) × IsLong before after line × Appends was is []
 
   -- some bytes are taken, and a first part of some line is shown

@@ -25,7 +25,7 @@ use Rattle.mls_shells.specs.declared.seat.Fate.TheVariants as fates
 use Rattle.mls_host.specs.Ending.{ending_if}
 use Rattle.mls_host.specs.Hosting.{IsTold}
 use Rattle.mls_host.proofs.HostingLemmas.{told_nothing, told_more}
-use Rattle.mls_shells.specs.Shell.{audience_at, Turn, IsTurn, events_of, events_in, opening, is_open, is_refused, is_last, is_failed, prompt_of, told_of, told_from, answers, after_opening, transcript, AreNext, AreWhileOpen, has_refused, IsSilent, FateFits, IsTalk, IsEndOf, IsAnswered, IsFollowed, IsRead, IsConversation}
+use Rattle.mls_shells.specs.Shell.{audience_at, Turn, IsTurn, events_of, events_in, opening, is_open, is_refused, is_last, is_failed, is_lost, prompt_of, told_of, told_from, answers, after_opening, transcript, AreNext, AreWhileOpen, has_refused, IsSilent, FateFits, IsTalk, IsEndOf, IsAnswered, IsFollowed, IsRead, IsConversation}
 use Rattle.mls_shells.proofs.ShellLemmas.{nothing_done, whole_more, stopped_more, fault_more, all-snoc, all-append, length-snoc, events-snoc, lines-snoc, told-snoc, world-snoc, next-snoc, transcript-snoc, while_open-snoc, refused-snoc, silent_turn, silent_lines, any-snoc}
 
 -- the events of a line are answered
@@ -57,6 +57,16 @@ followed_nothing at audience w es a line r none is = record {
   line = is;
   cause = nothing_where r;
 }
+
+pub none_is_lost : (fate : Fate) → ((cause : RunCause) → fate ≡ fates.Lost cause → ⊥) → is_lost fate ≡ false
+none_is_lost fates.Over h = refl
+none_is_lost fates.Blank h = refl
+none_is_lost fates.Help h = refl
+none_is_lost (fates.Said events) h = refl
+none_is_lost (fates.Refused fault) h = refl
+none_is_lost fates.TooLong h = refl
+none_is_lost fates.Unreadable h = refl
+none_is_lost (fates.Lost cause) h = absurd (h cause refl)
 
 pub followed_lost : (at : Site) (audience : Audience) (w : World) (fate : Fate) (a : Option (List ℕ)) (line : ℕ) (cause : RunCause) → fate ≡ fates.Lost cause
     → IsFollowed at audience w (events_of fate) a a w line (Err (record { event = line; cause = cause; done = false }))
@@ -141,6 +151,7 @@ module _ {B E : Type 0} (state : B → State) (is_clean : B → Type 0) (content
     pub each : AllByRecursion (IsTurn echo at.policy at.schemes seat) turns
     pub read : Consumes given left (flat_map (λ (t : Turn). t.line) turns)
     pub next : AreNext given turns
+    pub none_lost : list_any (λ (t : Turn). is_lost t.fate) turns ≡ false
     pub told : IsTold contents quiet err (told_from seat 1 turns)
     pub fits : EventsFit at (events_in turns)
     pub world : is_clean now.base → world_of state now ≡ end_of at w (opening seat ∷ events_in turns)
@@ -168,6 +179,7 @@ module _ {B E : Type 0} (state : B → State) (is_clean : B → Type 0) (content
         each = tt;
         read = Consumes-nil given;
         next = tt;
+        none_lost = refl;
         told = told_nothing contents quiet;
         fits = tt;
         world = λ c. (done c).world;
@@ -240,9 +252,9 @@ module _ {B E : Type 0} (state : B → State) (is_clean : B → Type 0) (content
             (subst (λ (u : World). IsFollowed at (audience_at seat) u (events_of fate) shown after (world_of state new) (count + 1) r) (s.world (clean c))
             (subst (λ (p : Site). IsFollowed p (audience_at seat) (world_of state now) (events_of fate) shown after (world_of state new) (count + 1) r) same_site h))
 
-        pub so_far_more : (is_clean new.base → IsFollowed (site now) (audience_at seat) (world_of state now) (events_of fate) shown after (world_of state new) (count + 1) (Ok tt))
+        pub so_far_more : is_lost fate ≡ false → (is_clean new.base → IsFollowed (site now) (audience_at seat) (world_of state now) (events_of fate) shown after (world_of state new) (count + 1) (Ok tt))
             → SoFar (count + 1) new said over after (refused || is_refused fate)
-        so_far_more h =
+        so_far_more found h =
             let done : is_clean new.base → IsWhole at (audience_at seat) (end_of at w (opening seat ∷ events_in s.turns)) (events_of turn.fate) shown after (world_of state new) =
             λ c. followed_whole at (audience_at seat) (end_of at w (opening seat ∷ events_in s.turns)) (events_of turn.fate) shown after (world_of state new) (count + 1) (moved c (h c)) in
             record {
@@ -253,6 +265,7 @@ module _ {B E : Type 0} (state : B → State) (is_clean : B → Type 0) (content
               each = each_now;
               read = read_now;
               next = next_now;
+              none_lost = any-snoc (λ (t : Turn). is_lost t.fate) s.turns turn ∙ ap (λ b. b || is_lost turn.fate) s.none_lost ∙ ap is_lost l.read.same ∙ found;
               told = told_now;
               fits = fits_now;
               world = λ c. (done c).world ∙ world-snoc at seat w s.turns turn;
@@ -291,6 +304,7 @@ module _ {B E : Type 0} (state : B → State) (is_clean : B → Type 0) (content
                 last = turn ∷ [];
                 parts = refl;
                 one = omega arith;
+                none_lost = s.none_lost;
                 part = turn.shown ++ answered.0;
                 written = Appends-trans was is after (transcript at seat w s.turns) _ (s.written (clean c)) (Appends-trans is shown after turn.shown answered.0 l.read.shown answered.1);
               };
@@ -358,7 +372,7 @@ module _ {B E : Type 0} (state : B → State) (is_clean : B → Type 0) (content
         told = s.told;
         written = s.written c;
         begun = tt;
-        ended = (refl, record { status = ap ending_if (s.refused_is c); all = λ o. all (subst (λ u. is_open seat u ≡ true) (sym (s.world c)) o) });
+        ended = (refl, record { status = ap ending_if (s.refused_is c); none_lost = s.none_lost; all = λ o. all (subst (λ u. is_open seat u ≡ true) (sym (s.world c)) o) });
         fits = (opens.0, s.fits);
         run = all_answered;
       }
@@ -376,6 +390,7 @@ module _ {B E : Type 0} (state : B → State) (is_clean : B → Type 0) (content
           last = [];
           parts = sym (append-nil s.turns);
           one = omega arith;
+          none_lost = s.none_lost;
           part = [];
           written = subst (Appends was is) (sym (append-nil (transcript at seat w s.turns))) (s.written c);
         };
@@ -388,11 +403,11 @@ module _ {B E : Type 0} (state : B → State) (is_clean : B → Type 0) (content
     pub over_last : (count : ℕ) (now : Engine B) (err : Errors E) (left is : Option (List ℕ)) (refused : Bool) (s : SoFar count now err left is refused)
         (fate : Fate) (asked said : Errors E) (past shown : Option (List ℕ)) (l : Line count now err left is refused s fate asked said past shown)
         (new : Engine B) (after : Option (List ℕ)) (clean : is_clean new.base → is_clean now.base) (kept : IsKept state is_clean now new)
-        → (is_clean new.base → IsFollowed (site now) (audience_at seat) (world_of state now) (events_of fate) shown after (world_of state new) (count + 1) (Ok tt))
+        → is_lost fate ≡ false → (is_clean new.base → IsFollowed (site now) (audience_at seat) (world_of state now) (events_of fate) shown after (world_of state new) (count + 1) (Ok tt))
         → is_last fate ≡ true → is_clean new.base
         → IsConversation echo at seat w (world_of state new) given past was after (IsTold contents quiet said) (Ok (ending_if (refused || is_refused fate)))
     unfolding so_far_more
-    over_last count now err left is refused s fate asked said past shown l new after clean kept h last c =
+    over_last count now err left is refused s fate asked said past shown l new after clean kept found h last c =
         over (count + 1) new said past after (refused || is_refused fate)
-        (so_far_more count now err left is refused s fate asked said past shown l new after clean kept h) c
+        (so_far_more count now err left is refused s fate asked said past shown l new after clean kept found h) c
         (λ o. failed_last s.turns l.read.turn past (last_line l.read.turn.fate past (ap is_last l.read.same ∙ last) (λ e. l.read.over (sym l.read.same ∙ e))))

@@ -114,6 +114,11 @@ abbrev pub is_failed : Fate → Bool
 is_failed Unreadable = true
 is_failed fate = false
 
+-- a shell is given up there
+abbrev pub is_lost : Fate → Bool
+is_lost (Lost cause) = true
+is_lost fate = false
+
 -- it was not read or understood whole
 abbrev pub IsCut : Fate → Type 0
 IsCut Unreadable = ⊤
@@ -186,6 +191,7 @@ IsSilent echo = (line : List ℕ) → echo line ≡ []
 -- where the session is still open, all lines were read, or a read failed
 pub record IsWellEnded (site : Site) (seat : Seat) (w : World) (turns : List Turn) (left : Option (List ℕ)) (ending : Ending) : Type 0 where
   pub status : ending ≡ ending_if (has_refused site seat w turns)
+  pub none_lost : list_any (λ t. is_lost t.fate) turns ≡ false
   pub all : is_open seat (end_of site w (opening seat ∷ events_in turns)) ≡ true → IsAtEnd left ⊎ (list_any (λ t. is_failed t.fate) turns ≡ true)
 
 -- it is given up behind so many lines, or at the last of them: what was written begins with those before it and their answers
@@ -194,6 +200,7 @@ pub record IsCutShort (site : Site) (seat : Seat) (w : World) (turns : List Turn
   pub last : List Turn
   pub parts : turns ≡ whole ++ last
   pub one : length last ≤ 1
+  pub none_lost : list_any (λ t. is_lost t.fate) whole ≡ false
   pub part : List ℕ
   pub written : Wrote (transcript site seat w whole ++ part)
 

@@ -7,7 +7,7 @@ ghost use Rattle.mls_sessions.specs.Engine.{site, world_of, IsReady, IsKept};
 ghost use Rattle.mls_sessions.specs.World.{IsSound};
 ghost use Rattle.mls_host.specs.Hosting.{IsAppended, IsTold};
 ghost use Rattle.mls_host.specs.Running.{site_of};
-ghost use Rattle.mls_shells.specs.Shell.{opening, audience_at, told_of, events_of, is_refused, is_last, FateFits, IsFollowed, IsConversation, IsShell};
+ghost use Rattle.mls_shells.specs.Shell.{opening, audience_at, told_of, events_of, is_refused, is_last, is_lost, FateFits, IsFollowed, IsConversation, IsShell};
 
 use crate::reading::next_fate;
 use crate::seat::{Fate, Seat};
@@ -76,6 +76,7 @@ fn follow<B: Base, W: Write>(
     ensures followed { B.is_clean engine.new.base → IsFollowed (site engine.old) (audience_at seat.now)
         (world_of B.state engine.old) (events_of fate.now) (W.contents out.old) (W.contents out.new)
         (world_of B.state engine.new) line result }
+    ensures found { OnOk result (is_lost fate.now ≡ false) }
 {
     match fate {
         Fate::Said(events) => answer(engine, seat, line, events, out),

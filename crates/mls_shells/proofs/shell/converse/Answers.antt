@@ -84,7 +84,7 @@ returns-then-is_last-clause-conversation g c = λ clean.
     } in
     let same = c.ending_if-then-is_last.ensures ∙ ap (λ b. ending_if (c.loop-before.refused || b)) c.is_refused-refused.ensures in
     subst (λ e. IsConversation g.L.TypedLines.echo (site c.args.engine.now) c.args.seat.now (world_of g.B.Base.state c.args.engine.now) (world_of g.B.Base.state c.follow.new.engine) (g.L.TypedLines.remaining c.args.lines.now) (g.L.TypedLines.remaining c.next_fate-fate.new.lines) (g.W.Write.contents c.args.out.now) (g.W.Write.contents c.follow.new.out) (IsTold g.E.Write.contents c.args.err.now c.tell_fate.new.err) (Ok e)) (sym same)
-    (over_last g.B.Base.state g.B.Base.is_clean g.E.Write.contents g.L.TypedLines.echo c.args.seat.now c.args.engine.now c.args.err.now (g.L.TypedLines.remaining c.args.lines.now) (g.W.Write.contents c.args.out.now) c.requires.fits c.loop-before.before c.loop-before.engine c.loop-before.err (g.L.TypedLines.remaining c.loop-before.lines) (g.W.Write.contents c.loop-before.out) c.loop-before.refused c.loop-before.invariant c.next_fate-fate.result c.ask.new.err c.tell_fate.new.err (g.L.TypedLines.remaining c.next_fate-fate.new.lines) (g.W.Write.contents c.next_fate-fate.new.out) line c.follow.new.engine (g.W.Write.contents c.follow.new.out) c.follow.ensures.clean c.follow.ensures.kept c.in_ok-follow.ensures.followed (sym c.is_last.ensures ∙ c.if-is_last.true) clean)
+    (over_last g.B.Base.state g.B.Base.is_clean g.E.Write.contents g.L.TypedLines.echo c.args.seat.now c.args.engine.now c.args.err.now (g.L.TypedLines.remaining c.args.lines.now) (g.W.Write.contents c.args.out.now) c.requires.fits c.loop-before.before c.loop-before.engine c.loop-before.err (g.L.TypedLines.remaining c.loop-before.lines) (g.W.Write.contents c.loop-before.out) c.loop-before.refused c.loop-before.invariant c.next_fate-fate.result c.ask.new.err c.tell_fate.new.err (g.L.TypedLines.remaining c.next_fate-fate.new.lines) (g.W.Write.contents c.next_fate-fate.new.out) line c.follow.new.engine (g.W.Write.contents c.follow.new.out) c.follow.ensures.clean c.follow.ensures.kept c.in_ok-follow.ensures.found c.in_ok-follow.ensures.followed (sym c.is_last.ensures ∙ c.if-is_last.true) clean)
 
 pub loop-before-preserved : goal.loop-before-preserved
 loop-before-preserved g c =
@@ -95,7 +95,7 @@ loop-before-preserved g c =
       fits = fits_at (site c.args.engine.now) (site c.args.engine.now) c.args.policy.now c.args.schemes.now refl c.requires.policy c.requires.schemes _ c.next_fate-fate.ensures.fits;
       said_is = c.tell_fate.ensures;
     } in
-    let next = so_far_more g.B.Base.state g.B.Base.is_clean g.E.Write.contents g.L.TypedLines.echo c.args.seat.now c.args.engine.now c.args.err.now (g.L.TypedLines.remaining c.args.lines.now) (g.W.Write.contents c.args.out.now) c.loop-before.before c.loop-before.engine c.loop-before.err (g.L.TypedLines.remaining c.loop-before.lines) (g.W.Write.contents c.loop-before.out) c.loop-before.refused c.loop-before.invariant c.next_fate-fate.result c.ask.new.err c.tell_fate.new.err (g.L.TypedLines.remaining c.next_fate-fate.new.lines) (g.W.Write.contents c.next_fate-fate.new.out) line c.follow.new.engine (g.W.Write.contents c.follow.new.out) c.follow.ensures.clean c.follow.ensures.kept c.in_ok-follow.ensures.followed in
+    let next = so_far_more g.B.Base.state g.B.Base.is_clean g.E.Write.contents g.L.TypedLines.echo c.args.seat.now c.args.engine.now c.args.err.now (g.L.TypedLines.remaining c.args.lines.now) (g.W.Write.contents c.args.out.now) c.loop-before.before c.loop-before.engine c.loop-before.err (g.L.TypedLines.remaining c.loop-before.lines) (g.W.Write.contents c.loop-before.out) c.loop-before.refused c.loop-before.invariant c.next_fate-fate.result c.ask.new.err c.tell_fate.new.err (g.L.TypedLines.remaining c.next_fate-fate.new.lines) (g.W.Write.contents c.next_fate-fate.new.out) line c.follow.new.engine (g.W.Write.contents c.follow.new.out) c.follow.ensures.clean c.follow.ensures.kept c.in_ok-follow.ensures.found c.in_ok-follow.ensures.followed in
     subst (λ b. SoFar g.B.Base.state g.B.Base.is_clean g.E.Write.contents g.L.TypedLines.echo c.args.seat.now c.args.engine.now c.args.err.now (g.L.TypedLines.remaining c.args.lines.now) (g.W.Write.contents c.args.out.now) (c.loop-before.before + 1) c.follow.new.engine c.tell_fate.new.err (g.L.TypedLines.remaining c.next_fate-fate.new.lines) (g.W.Write.contents c.follow.new.out) (c.loop-before.refused || b)) (sym c.is_refused-refused.ensures) next
 
 pub returns-clause-clean : goal.returns-clause-clean

@@ -160,7 +160,7 @@ macro_rules! entry {
 }
 
 /// The fields of a policy.
-pub(crate) const POLICY: [Entry; 22] = [
+pub(crate) static POLICY: [Entry; 22] = [
     entry!("", "", "version", Version, Wanted, Free),
     entry!("", "", "levels", Names(16), Some, Free),
     entry!("levels", "", "", Text, Wanted, New(Level)),
@@ -186,7 +186,7 @@ pub(crate) const POLICY: [Entry; 22] = [
 ];
 
 /// The fields of schemes.
-pub(crate) const SCHEMES: [Entry; 14] = [
+pub(crate) static SCHEMES: [Entry; 14] = [
     entry!("", "", "version", Version, Wanted, Free),
     entry!("", "", "relation", Tables(16), Some, Free),
     entry!("relation", "", "name", Text, Wanted, New(Relation)),

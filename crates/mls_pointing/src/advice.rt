@@ -3,7 +3,7 @@ ghost use Rattle.std.specs.Prelude.{◌≡◌, option_map};
 ghost use Rattle.mls_pointing.specs.Advice.{sentence_in, advice_of};
 
 /// What a fault says, and what to do, with its number: of documents, of texts, and of certificates.
-const SENTENCES: [(u8, &str); 23] = [
+static SENTENCES: [(u8, &str); 23] = [
     (
         1,
         "  The bytes are no TOML document, or not UTF-8.\n  Read the file with any TOML tool.\n",

@@ -10,7 +10,7 @@ use crate::places::{first_line, from_line};
 use crate::standing::{behind, first, name_len};
 
 /// A verb, and the form of its command.
-const FORMS: [(&str, &str); 8] = [
+static FORMS: [(&str, &str); 8] = [
     ("open", "  The form: LABEL SESSION open USER\n"),
     ("close", "  The form: LABEL SESSION close\n"),
     ("view", "  The form: LABEL SESSION view RELATION at LABEL\n"),

@@ -14,7 +14,7 @@ use Rattle.mls_machine.specs.declared.stored.Stored.TheVariants.{Certified, Plai
 use Rattle.mls_machine.specs.Stored.{tx_of, WhereCertified}
 use Rattle.mls_machine.specs.Site.{Site}
 use Rattle.mls_machine.specs.Denying.{stored_named}
-use Rattle.mls_machine.specs.Observation.{AreRead, AreSecure, IsNoCall}
+use Rattle.mls_machine.specs.Observation.{AreRead, AreSecure, IsCallSecure}
 
 -- the transaction that is stored with a certificate, if one is
 abbrev pub certified_of : Option Stored → Option Tx
@@ -72,15 +72,22 @@ all_safe site read secure =
 
 -- ---- of one command
 
-pub no_call : (site : Site) (P : Tx → Type 0) (command : Command) → IsNoCall command → WhereCalled site P command
-no_call site P (commands.Open name) h = tt
-no_call site P commands.Close h = tt
-no_call site P commands.Audit h = tt
-no_call site P (commands.View rel label) h = tt
-no_call site P (commands.Insert rel key values) h = tt
-no_call site P (commands.Update rel key key_class from sets) h = tt
-no_call site P (commands.Delete rel key key_class) h = tt
-no_call site P (commands.Call name args) h = absurd h
+pub secure_call : (site : Site) (command : Command) → IsCallSecure site command → WhereCalled site (IsSafe site) command
+secure_call site (commands.Open name) h = tt
+secure_call site commands.Close h = tt
+secure_call site commands.Audit h = tt
+secure_call site (commands.View rel label) h = tt
+secure_call site (commands.Insert rel key values) h = tt
+secure_call site (commands.Update rel key key_class from sets) h = tt
+secure_call site (commands.Delete rel key key_class) h = tt
+secure_call site (commands.Call name args) h = by_stored (stored_named site.stored name) h
+  where
+    by_stored : (o : Option Stored)
+        → IfSome o (λ s. IsReadUnder site.policy site.schemes (tx_of s) × WhereCertified (Secure site.policy) s)
+        → IfSome (certified_of o) (IsSafe site)
+    by_stored None h = tt
+    by_stored (Some (Plain tx)) h = tt
+    by_stored (Some (Certified k)) h = record { read = h.0; secure = h.1 }
 
 some_weaker : {X : Type 0} (P Q : X → Type 0) → ((x : X) → P x → Q x) → (o : Option X) → IfSome o P → IfSome o Q
 some_weaker P Q k None h = tt

@@ -15,7 +15,7 @@ use Rattle.mls_machine.specs.Output.{run_lines, printed}
 use Rattle.mls_machine.specs.Observation.{AreStored, EventsFit, AreSecure, AreCertified, HaveNoCall, AgreeAt, EndAlike, seen, released_to, AreBelowCeiling, out, replies_shown}
 use Rattle.mls_machine.specs.History.{RunAt, settled, run_end, history_end, history_lines, history_replies, KeepsIntegrityInHistory, LookAlike, ReleaseAlike, HistoriesEndAlike, HistoryFits, HistoryHasNoCall, IsSiteUnder, IsHistoryUnder, EachPassesOnlyReleasesDown, HistoriesKeepIntegrity, LowHistoriesAreAlike, SecureHistoriesAreAlike, AcceptedHistoriesAreAlike, HistoriesPassWhatRunsPass, HistoriesShowOnlyReleases}
 use Rattle.mls_machine.proofs.KeepingLemmas.{run_stored, all_calls_read, keep_integrity}
-use Rattle.mls_machine.proofs.RunLemmas.{secure_alike, certified_secure, runs_alike, plain_ceilings}
+use Rattle.mls_machine.proofs.RunLemmas.{secure_alike, certified_secure, runs_alike, unseen_ceilings, none_seen, none_secure}
 
 settled_alike : {ls : Labels} {c : ℕ} {v w : World} → AgreeAt ls c v w → AgreeAt ls c (settled v) (settled w)
 settled_alike h = record { views = h.views; sessions = λ l n b. refl; entries = h.entries }
@@ -111,7 +111,8 @@ module _ (ls : Labels) (schemes : Schemes) (distinct : AreDistinct ls) where
   plain_pass v [] sv under fits plain = tt
   plain_pass v (r ∷ rs) sv under fits plain = (
     (λ c w fs sw ff other agree same released.
-        runs_alike r.site (distinct_at r.site under.0) v r.events (stored_at r.site under.0 v.db sv) fits.0 plain.0 c w fs sw ff other agree same),
+        runs_alike r.site (distinct_at r.site under.0) v r.events (stored_at r.site under.0 v.db sv) fits.0 (none_secure r.site r.events plain.0) c w fs sw ff
+        (none_secure r.site fs other) (none_seen r.site c r.events plain.0) agree same),
     plain_pass (run_end v r) rs (stored_end r.site under.0 v r.events fits.0 sv) under.1 fits.1 plain.1,
   )
 
@@ -134,7 +135,7 @@ module _ (ls : Labels) (schemes : Schemes) (distinct : AreDistinct ls) where
 plain_release : (c : ℕ) (v w : World) (rs ss : List RunAt) → HistoryHasNoCall rs → ReleaseAlike c v w rs ss
 plain_release c v w [] ss plain = tt
 plain_release c v w (r ∷ rs) [] plain = tt
-plain_release c v w (r ∷ rs) (s ∷ ss) plain = (inr (plain_ceilings r.site c r.events plain.0), plain_release c (run_end v r) (run_end w s) rs ss plain.1)
+plain_release c v w (r ∷ rs) (s ∷ ss) plain = (inr (unseen_ceilings r.site c (seen r.site c r.events) (none_seen r.site c r.events plain.0)), plain_release c (run_end v r) (run_end w s) rs ss plain.1)
 
 -- ---- the laws
 

@@ -14,5 +14,9 @@ pub mod RunLemmas
 pub mod HistoryLemmas
 pub mod LineLemmas
 pub mod ScreenLemmas
+pub mod OneLineLemmas
+pub mod RowLineLemmas
+pub mod PartingLemmas
+pub mod PickingLemmas
 pub mod SampleLemmas
 pub mod CallSampleLemmas

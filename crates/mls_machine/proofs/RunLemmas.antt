@@ -22,9 +22,9 @@ use Rattle.mls_machine.specs.Stored.{WhereCertified, IsCertifiedUnder, IsMadeUnd
 use Rattle.mls_machine.specs.Site.{Site, site_labels}
 use Rattle.mls_machine.specs.Machine.{World, step, end_of}
 use Rattle.mls_machine.specs.Output.{Line, reply_lines_in, run_lines, printed}
-use Rattle.mls_machine.specs.Observation.{AreStored, EventsFit, AreRead, AreSecure, AreCertified, AreMadeUnder, IsNoCall, HaveNoCall, shown, glimpse, seen, AgreeAt, EndAlike, IsBelowCeiling, AreBelowCeiling, out, released_in, run_released, released_to, reply_shown, replies_shown, PassesOnlyReleasesDown, ShowsOnlyReleases}
+use Rattle.mls_machine.specs.Observation.{AreStored, EventsFit, AreRead, AreSecure, AreCertified, IsNoCall, HaveNoCall, SeesNoCall, IsCallSecure, AreCallsSecure, shown, glimpse, seen, AgreeAt, EndAlike, IsBelowCeiling, AreBelowCeiling, out, released_in, run_released, released_to, reply_shown, replies_shown, PassesOnlyReleasesDown, ShowsOnlyReleases}
 use Rattle.mls_machine.specs.Laws.{LowRunsAreAlike, SecureRunsAreAlike, AcceptedRunsAreAlike}
-use Rattle.mls_machine.proofs.CalledLemmas.{WhereCalled, CallsRead, IsSafe, all_safe, no_call, weaker}
+use Rattle.mls_machine.proofs.CalledLemmas.{WhereCalled, CallsRead, IsSafe, all_safe, secure_call, weaker}
 use Rattle.mls_machine.proofs.KeepingLemmas.{step_stored, first_fit}
 use Rattle.mls_machine.proofs.LowLemmas.{LowAgree, lows_trans, lows_sym, to_low, from_low}
 use Rattle.mls_machine.proofs.HiddenLemmas.{Silent, hidden_step}
@@ -273,7 +273,7 @@ certified_secure site distinct = each site.stored
     each (Plain tx ∷ ss) h = (tt, each ss h.1)
 
 -- under the policy of its checking the rules hold for each certified transaction
-pub made_certified : (site : Site) → AreMadeUnder site → AreCertified site
+pub made_certified : (site : Site) → AllByRecursion (IsMadeUnder site.policy) site.stored → AreCertified site
 made_certified site = each site.stored
   where
     each : (stored : List Stored) → AllByRecursion (IsMadeUnder site.policy) stored → AllByRecursion (IsCertifiedUnder site.policy) stored
@@ -292,31 +292,64 @@ first_accepted_alike site distinct read certified v es sv fits n = accepted_alik
 pub shows_only_releases : (site : Site) (c : ℕ) (v : World) (es : List Event) → PassesOnlyReleasesDown site v es → ShowsOnlyReleases site c v es
 shows_only_releases site c v es passes form w fs sw ff agree same rel = ap printed ((passes c w fs sw ff agree same rel).out form)
 
--- ---- without calls
+-- ---- without calls that c sees
 
-plain_good : (site : Site) (distinct : AreDistinct (site_labels site)) (c : ℕ) (es : List Event) → EventsFit site es → HaveNoCall es → AreGood site distinct c es
-plain_good site distinct c [] fits plain = tt
-plain_good site distinct c (e ∷ es) fits plain = (record { fits = fits.0; safe = no_call site (IsSafe site) e.command plain.0 }, plain_good site distinct c es fits.1 plain.1)
+calls_good : (site : Site) (distinct : AreDistinct (site_labels site)) (c : ℕ) (es : List Event) → EventsFit site es → AreCallsSecure site es → AreGood site distinct c es
+calls_good site distinct c [] fits secure = tt
+calls_good site distinct c (e ∷ es) fits secure = (record { fits = fits.0; safe = secure_call site e.command secure.0 }, calls_good site distinct c es fits.1 secure.1)
 
--- no call reads anything
-pub plain_ceilings : (site : Site) (c : ℕ) (es : List Event) → HaveNoCall es → AreBelowCeiling site c es
-plain_ceilings site c [] plain = tt
-plain_ceilings site c (e ∷ es) plain =
-    elim (below (site_labels site) e.level c) as (λ b. AllByRecursion (λ f. IsBelowCeiling site c f.command) (map (glimpse site c) (cond b (e ∷ filter (λ f. below (site_labels site) f.level c) es) (filter (λ f. below (site_labels site) f.level c) es)))) [
-      | true ↦ (plain_ceiling e.command plain.0, plain_ceilings site c es plain.1)
-      | false ↦ plain_ceilings site c es plain.1
-    ]
+-- no call that c sees reads anything
+pub unseen_ceilings : (site : Site) (c : ℕ) (es : List Event) → HaveNoCall es → AllByRecursion (λ e. IsBelowCeiling site c e.command) es
+unseen_ceilings site c [] none = tt
+unseen_ceilings site c (e ∷ es) none = (no_ceiling e.command none.0, unseen_ceilings site c es none.1)
   where
-    plain_ceiling : (a : Command) → IsNoCall a → IsBelowCeiling site c (shown site c a)
-    plain_ceiling (commands.Open name) h = tt
-    plain_ceiling commands.Close h = tt
-    plain_ceiling commands.Audit h = tt
-    plain_ceiling (commands.View rel label) h = tt
-    plain_ceiling (commands.Insert rel key values) h = tt
-    plain_ceiling (commands.Update rel key key_class from sets) h = tt
-    plain_ceiling (commands.Delete rel key key_class) h = tt
-    plain_ceiling (commands.Call name args) h = absurd h
+    no_ceiling : (a : Command) → IsNoCall a → IsBelowCeiling site c a
+    no_ceiling (commands.Open name) h = tt
+    no_ceiling commands.Close h = tt
+    no_ceiling commands.Audit h = tt
+    no_ceiling (commands.View rel label) h = tt
+    no_ceiling (commands.Insert rel key values) h = tt
+    no_ceiling (commands.Update rel key key_class from sets) h = tt
+    no_ceiling (commands.Delete rel key key_class) h = tt
+    no_ceiling (commands.Call name args) h = absurd h
 
 pub runs_alike : LowRunsAreAlike
-runs_alike site distinct v es sv fits plain c w fs sw ff fplain agree same =
-    ends_alike site distinct c v w es fs (plain_good site distinct c es fits plain) (plain_good site distinct c fs ff fplain) sv sw agree same (inr (plain_ceilings site c es plain))
+runs_alike site distinct v es sv fits secure c w fs sw ff fsecure none agree same =
+    ends_alike site distinct c v w es fs (calls_good site distinct c es fits secure) (calls_good site distinct c fs ff fsecure) sv sw agree same
+    (inr (unseen_ceilings site c (seen site c es) none))
+
+-- ---- without calls
+
+-- c sees none of them
+pub none_seen : (site : Site) (c : ℕ) (es : List Event) → HaveNoCall es → SeesNoCall site c es
+none_seen site c [] none = tt
+none_seen site c (e ∷ es) none =
+    elim (below (site_labels site) e.level c) as (λ b. HaveNoCall (map (glimpse site c) (cond b (e ∷ filter (λ f. below (site_labels site) f.level c) es) (filter (λ f. below (site_labels site) f.level c) es)))) [
+      | true ↦ (no_call_shown e.command none.0, none_seen site c es none.1)
+      | false ↦ none_seen site c es none.1
+    ]
+  where
+    no_call_shown : (a : Command) → IsNoCall a → IsNoCall (shown site c a)
+    no_call_shown (commands.Open name) h = tt
+    no_call_shown commands.Close h = tt
+    no_call_shown commands.Audit h = tt
+    no_call_shown (commands.View rel label) h = tt
+    no_call_shown (commands.Insert rel key values) h = tt
+    no_call_shown (commands.Update rel key key_class from sets) h = tt
+    no_call_shown (commands.Delete rel key key_class) h = tt
+    no_call_shown (commands.Call name args) h = absurd h
+
+-- and none calls what is not secure
+pub none_secure : (site : Site) (es : List Event) → HaveNoCall es → AreCallsSecure site es
+none_secure site [] none = tt
+none_secure site (e ∷ es) none = (no_call_secure e.command none.0, none_secure site es none.1)
+  where
+    no_call_secure : (a : Command) → IsNoCall a → IsCallSecure site a
+    no_call_secure (commands.Open name) h = tt
+    no_call_secure commands.Close h = tt
+    no_call_secure commands.Audit h = tt
+    no_call_secure (commands.View rel label) h = tt
+    no_call_secure (commands.Insert rel key values) h = tt
+    no_call_secure (commands.Update rel key key_class from sets) h = tt
+    no_call_secure (commands.Delete rel key key_class) h = tt
+    no_call_secure (commands.Call name args) h = absurd h

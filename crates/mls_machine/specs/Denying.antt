@@ -1,5 +1,6 @@
 -- Why commands are denied (after Bell and LaPadula 1976): conditions and their denials, in the order of their numbers.
-use Rattle.std.specs.Prelude.{ℕ, ◌==◌, Bool, true, not, ◌&&◌, ◌||◌, bit_and, nat_eq, slice_index_or, List, [], ◌∷◌, length, map, zip, Option, Some, None, Result, Ok, Err, if◌then◌else◌}
+use Rattle.std.specs.Prelude.{ℕ, ◌==◌, Bool, true, not, ◌&&◌, ◌||◌, bit_and, nat_eq, slice_index_or, List, [], ◌∷◌}
+use Rattle.std.specs.Prelude.{length, map, zip, Option, Some, None, Result, Ok, Err, if◌then◌else◌}
 use Rattle.std.specs.List.{list_any, position, find}
 use Rattle.std.specs.Str.{bytes_eq}
 use Rattle.mls_lattice.specs.declared.tables.User.{User}
@@ -11,7 +12,8 @@ use Rattle.mls_updates.specs.Writes.{Write, Insert, Update, Delete}
 use Rattle.mls_translang.specs.declared.tx.Parameter.{Parameter}
 use Rattle.mls_translang.specs.Tx.{Tx}
 use Rattle.mls_machine.specs.declared.reply.Denial.{Denial}
-use Rattle.mls_machine.specs.declared.reply.Denial.TheVariants.{UnknownUser, UnknownTransaction, NotCertified, Ds, Ss, Star, Trust, Arguments}
+use Rattle.mls_machine.specs.declared.reply.Denial.TheVariants.{UnknownUser, UnknownTransaction, NotCertified, Ds}
+use Rattle.mls_machine.specs.declared.reply.Denial.TheVariants.{Ss, Star, Trust, Arguments}
 use Rattle.mls_machine.specs.declared.stored.Stored.{Stored}
 use Rattle.mls_machine.specs.declared.stored.Stored.TheVariants.{Certified, Plain}
 use Rattle.mls_machine.specs.Stored.{tx_of}
@@ -63,7 +65,8 @@ write_mode = 8
 
 -- the matrix grants the user none of the modes on what has the name
 abbrev pub lacks_on : Site → ℕ → Name → List ℕ → Bool
-lacks_on site user object modes = not (list_any (λ mode. bit_and (modes_in site.policy.matrix user object) mode == mode) modes)
+lacks_on site user object modes =
+    not (list_any (λ mode. bit_and (modes_in site.policy.matrix user object) mode == mode) modes)
 
 -- on the relation
 abbrev pub lacks : Site → ℕ → ℕ → List ℕ → Bool
@@ -89,7 +92,8 @@ stored_named stored name = find (λ s. bytes_eq (tx_of s).name name) stored
 
 -- an argument at a parameter of the label has the wrong kind
 abbrev pub are_wrong_at : ℕ → List (Name × Parameter) → List (Option Value) → Bool
-are_wrong_at label params args = list_any (λ x. nat_eq x.0.1.label label && not (fits_kind x.1 x.0.1.kind)) (zip params args)
+are_wrong_at label params args =
+    list_any (λ x. nat_eq x.0.1.label label && not (fits_kind x.1 x.0.1.kind)) (zip params args)
 
 -- the arguments, with null in place of each that has the wrong kind
 abbrev pub fitted : List (Name × Parameter) → List (Option Value) → List (Option Value)
@@ -121,7 +125,10 @@ call_denials site level user tx args =
     (lacks_on site user tx.name (execute_mode ∷ []), Ds)
     ∷ (exceed site (clearance_of site.policy user) (tx.hi ∷ []), Ss)
     ∷ (not (nat_eq tx.lo level), Star)
-    ∷ (not (nat_eq tx.hi tx.lo) && lie_outside (site_labels site) (trusted_of site.policy user) (tx.lo ∷ tx.hi ∷ []), Trust)
+    ∷ (
+      not (nat_eq tx.hi tx.lo) && lie_outside (site_labels site) (trusted_of site.policy user) (tx.lo ∷ tx.hi ∷ []),
+      Trust,
+    )
     ∷ (not (nat_eq (length args) (length tx.params)) || are_wrong_at tx.lo tx.params args, Arguments) ∷ []
 
 -- of what is stored by the name that is called, if anything is

@@ -11,7 +11,9 @@ use Rattle.mls_machine.specs.declared.reply.Reply.{Reply}
 use Rattle.mls_machine.specs.Site.{Site, site_labels}
 use Rattle.mls_machine.specs.Machine.{World, no_sessions, end_of}
 use Rattle.mls_machine.specs.Output.{Line, run_lines, printed}
-use Rattle.mls_machine.specs.Observation.{EventsFit, AreRead, AreSecure, AreCertified, HaveNoCall, AgreeAt, seen, released_to, AreBelowCeiling, out, heard, reader_of, replies_shown, PassesOnlyReleasesDown}
+use Rattle.mls_machine.specs.Observation.{EventsFit, AreRead, AreSecure, AreCertified, HaveNoCall, AgreeAt, seen}
+use Rattle.mls_machine.specs.Observation.{released_to, AreBelowCeiling, out, heard, reader_of, replies_shown}
+use Rattle.mls_machine.specs.Observation.{PassesOnlyReleasesDown}
 use Rattle.mls_machine.specs.Laws.{KeepsIntegrity}
 
 -- events at a site: users, rights and stored transactions may change from run to run
@@ -64,9 +66,11 @@ abbrev pub ReleaseAlike : ℕ → World → World → List RunAt → List RunAt 
 ReleaseAlike c v w [] ss = ⊤
 ReleaseAlike c v w (r ∷ rs) [] = ⊤
 ReleaseAlike c v w (r ∷ rs) (s ∷ ss) =
-    ((released_to r.site c v r.events ≡ released_to s.site c w s.events) ⊎ AreBelowCeiling r.site c r.events) × ReleaseAlike c (run_end v r) (run_end w s) rs ss
+    ((released_to r.site c v r.events ≡ released_to s.site c w s.events) ⊎ AreBelowCeiling r.site c r.events)
+    × ReleaseAlike c (run_end v r) (run_end w s) rs ss
 
--- two histories show the same lines to c run by run, in each form, and the same replies, and end in worlds that look alike to it
+-- two histories show the same lines to c run by run, in each form, and the same replies, and end in worlds that look
+-- alike to it
 pub record HistoriesEndAlike (ls : Labels) (c : ℕ) (v w : World) (rs ss : List RunAt) : Type 0 where
   pub lines : (form : Form) → map (out ls c) (history_lines form v rs) ≡ map (out ls c) (history_lines form w ss)
   pub replies : history_replies c v rs ≡ history_replies c w ss
@@ -89,8 +93,9 @@ module _ (ls : Labels) (schemes : Schemes) where
   IsHistoryUnder = AllByRecursion (λ r. IsSiteUnder r.site)
 
   -- no information flows down in a history but what is released: at each level c, a history from any other world of the
-  -- stored form that looks alike to c, at the same sites, over any events of which c sees the same, shows c the same, run by
-  -- run, if run by run it also releases the same to c, or if c dominates all that the calls that it sees can read
+  -- stored form that looks alike to c, at the same sites, over any events of which c sees the same, shows c the same,
+  -- run by run, if run by run it also releases the same to c, or if c dominates all that the calls that it sees can
+  -- read
   abbrev pub PassesOnlyReleasesDownInHistory : World → List RunAt → Type 0
   PassesOnlyReleasesDownInHistory v rs =
       (c : ℕ) (w : World) (ss : List RunAt) → AreStored ls schemes w.db → HistoryFits ss
@@ -104,8 +109,8 @@ module _ (ls : Labels) (schemes : Schemes) where
       → AgreeAt ls c v w → AllZip (LookAlike c) rs ss
       → HistoriesEndAlike ls c v w rs ss
 
-  -- what a history prints for c, in either form, passes nothing down but what is released: its bytes are the same for any
-  -- other such history
+  -- what a history prints for c, in either form, passes nothing down but what is released: its bytes are the same for
+  -- any other such history
   abbrev pub ShowsOnlyReleasesInHistory : ℕ → World → List RunAt → Type 0
   ShowsOnlyReleasesInHistory c v rs =
       (form : Form) (w : World) (ss : List RunAt) → AreStored ls schemes w.db → HistoryFits ss
@@ -115,28 +120,33 @@ module _ (ls : Labels) (schemes : Schemes) where
 -- each run of a history passes nothing down but what it releases, from the world that it begins in
 abbrev pub EachPassesOnlyReleasesDown : World → List RunAt → Type 0
 EachPassesOnlyReleasesDown w [] = ⊤
-EachPassesOnlyReleasesDown w (r ∷ rs) = PassesOnlyReleasesDown r.site w r.events × EachPassesOnlyReleasesDown (run_end w r) rs
+EachPassesOnlyReleasesDown w (r ∷ rs) =
+    PassesOnlyReleasesDown r.site w r.events × EachPassesOnlyReleasesDown (run_end w r) rs
 
 -- ---- laws
 
 abbrev pub HistoriesKeepIntegrity : Type 0
 HistoriesKeepIntegrity =
-    (ls : Labels) (schemes : Schemes) → AreDistinct ls → (v : World) (rs : List RunAt) → AreStored ls schemes v.db → IsHistoryUnder ls schemes rs → HistoryFits rs
+    (ls : Labels) (schemes : Schemes) → AreDistinct ls → (v : World) (rs : List RunAt) → AreStored ls schemes v.db
+    → IsHistoryUnder ls schemes rs → HistoryFits rs
     → KeepsIntegrityInHistory v rs
 
 abbrev pub LowHistoriesAreAlike : Type 0
 LowHistoriesAreAlike =
-    (ls : Labels) (schemes : Schemes) → AreDistinct ls → (v : World) (rs : List RunAt) → AreStored ls schemes v.db → IsHistoryUnder ls schemes rs → HistoryFits rs
+    (ls : Labels) (schemes : Schemes) → AreDistinct ls → (v : World) (rs : List RunAt) → AreStored ls schemes v.db
+    → IsHistoryUnder ls schemes rs → HistoryFits rs
     → HistoryHasNoCall rs → PassesNothingDownInHistory ls schemes v rs
 
 abbrev pub SecureHistoriesAreAlike : Type 0
 SecureHistoriesAreAlike =
-    (ls : Labels) (schemes : Schemes) → AreDistinct ls → (v : World) (rs : List RunAt) → AreStored ls schemes v.db → IsHistoryUnder ls schemes rs → HistoryFits rs
+    (ls : Labels) (schemes : Schemes) → AreDistinct ls → (v : World) (rs : List RunAt) → AreStored ls schemes v.db
+    → IsHistoryUnder ls schemes rs → HistoryFits rs
     → AllByRecursion (λ r. AreSecure r.site) rs → PassesOnlyReleasesDownInHistory ls schemes v rs
 
 abbrev pub AcceptedHistoriesAreAlike : Type 0
 AcceptedHistoriesAreAlike =
-    (ls : Labels) (schemes : Schemes) → AreDistinct ls → (v : World) (rs : List RunAt) → AreStored ls schemes v.db → IsHistoryUnder ls schemes rs → HistoryFits rs
+    (ls : Labels) (schemes : Schemes) → AreDistinct ls → (v : World) (rs : List RunAt) → AreStored ls schemes v.db
+    → IsHistoryUnder ls schemes rs → HistoryFits rs
     → AllByRecursion (λ r. AreCertified r.site) rs → PassesOnlyReleasesDownInHistory ls schemes v rs
 
 -- a history passes no more than its runs

@@ -20,7 +20,8 @@ use Rattle.mls_machine.specs.Stored.{tx_of}
 use Rattle.mls_machine.specs.Site.{Site, site_labels}
 use Rattle.mls_machine.specs.Denying.{stored_named, fitted}
 use Rattle.mls_machine.specs.Machine.{World, denial_entry, call_entries, step, end_of}
-use Rattle.mls_machine.specs.Observation.{AreStored, EventsFit, HaveNoCall, AreRead, AreSecure, AreCertified, PassesNothingDown, PassesOnlyReleasesDown, run_shows}
+use Rattle.mls_machine.specs.Observation.{AreStored, EventsFit, AreCallsSecure, AreRead, AreSecure, AreCertified}
+use Rattle.mls_machine.specs.Observation.{PassesNothingDown, PassesOnlyReleasesDown, run_shows}
 
 -- a denial, the rows of a view, the entries of an audit, or a write that is refused
 abbrev pub ChangesNothing : Reply → Type 0
@@ -35,7 +36,8 @@ ChangesNothing (Denied d) = ⊤
 -- after such a reply the database and the sessions are as they were
 abbrev pub RefusalsChangeNothing : Type 0
 RefusalsChangeNothing =
-    (site : Site) (w : World) (e : Event) → ChangesNothing (step site w e).reply → ((step site w e).world.db ≡ w.db) × ((step site w e).world.sessions ≡ w.sessions)
+    (site : Site) (w : World) (e : Event) → ChangesNothing (step site w e).reply
+    → ((step site w e).world.db ≡ w.db) × ((step site w e).world.sessions ≡ w.sessions)
 
 -- what an event adds to the audit list, by the user of its session where that is open before: the entry of a denial, or
 -- those of a call
@@ -47,7 +49,9 @@ entries_added site e command session reply = []
 -- the audit list grows by that, and by nothing else
 abbrev pub DenialsAndCallsAreEntered : Type 0
 DenialsAndCallsAreEntered =
-    (site : Site) (w : World) (e : Event) → (step site w e).world.audit ≡ w.audit ++ entries_added site e e.command (w.sessions e.level e.session) (step site w e).reply
+    (site : Site) (w : World) (e : Event)
+    → (step site w e).world.audit
+    ≡ w.audit ++ entries_added site e e.command (w.sessions e.level e.session) (step site w e).reply
 
 -- each relation of a database has the four integrity properties
 abbrev pub AreWhole : Site → Database → Type 0
@@ -57,16 +61,20 @@ AreWhole site db = (rel : ℕ) → HasIntegrity (site_labels site) (db rel)
 pub record KeepsIntegrity (site : Site) (w : World) (es : List Event) : Type 0 where
   pub after : (n : ℕ) → AreWhole site (end_of site w (take n es)).db
   pub within : (n : ℕ) (name : Name) (args : List (Option Value)) (s : Stored) → stored_named site.stored name ≡ Some s
-      → Throughout (site_labels site) site.schemes (tx_of s) (fitted (tx_of s).params args) (end_of site w (take n es)).db (AreWhole site)
+      → Throughout (site_labels site) site.schemes (tx_of s) (fitted (tx_of s).params args)
+      (end_of site w (take n es)).db (AreWhole site)
 
 abbrev pub RunsKeepIntegrity : Type 0
 RunsKeepIntegrity =
-    (site : Site) → AreDistinct (site_labels site) → AreRead site → (w : World) (es : List Event) → AreStored site w.db → EventsFit site es → KeepsIntegrity site w es
+    (site : Site) → AreDistinct (site_labels site) → AreRead site
+    → (w : World) (es : List Event) → AreStored site w.db → EventsFit site es → KeepsIntegrity site w es
 
--- without calls, what a level sees of the worlds and the events determines what it is shown
+-- what a level sees of the worlds and the events determines what it is shown, where it sees no call
 abbrev pub LowRunsAreAlike : Type 0
 LowRunsAreAlike =
-    (site : Site) → AreDistinct (site_labels site) → (v : World) (es : List Event) → AreStored site v.db → EventsFit site es → HaveNoCall es → PassesNothingDown site v es
+    (site : Site) → AreDistinct (site_labels site)
+    → (v : World) (es : List Event) → AreStored site v.db → EventsFit site es → AreCallsSecure site es
+    → PassesNothingDown site v es
 
 -- what a level sees of the worlds and the events, and what is released to it, determine what it is shown
 abbrev pub SecureRunsAreAlike : Type 0
@@ -81,4 +89,6 @@ AcceptedRunsAreAlike =
 
 -- what a run shows as a table has no control character but line feeds
 abbrev pub TablesAreHarmless : Type 0
-TablesAreHarmless = (site : Site) (reader : Option ℕ) (w : World) (es : List Event) → IsHarmless (run_shows site (record { reader = reader; form = Table }) w es)
+TablesAreHarmless =
+    (site : Site) (reader : Option ℕ) (w : World) (es : List Event)
+    → IsHarmless (run_shows site (record { reader = reader; form = Table }) w es)

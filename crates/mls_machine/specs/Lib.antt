@@ -5,5 +5,6 @@ pub mod Denying
 pub mod Machine
 pub mod Output
 pub mod Observation
+pub mod Parting
 pub mod Laws
 pub mod History

@@ -1,6 +1,7 @@
 -- The machine of sessions (after Bell and LaPadula 1976): what each event does to the database, the sessions and the
 -- audit list, and what it is answered.
-use Rattle.std.specs.Prelude.{ℕ, ◌&&◌, if◌then◌else◌, nat_eq, List, [], ◌∷◌, ◌++◌, map, Option, Some, None, Result, Ok, Err}
+use Rattle.std.specs.Prelude.{ℕ, ◌&&◌, if◌then◌else◌, nat_eq, List, [], ◌∷◌, ◌++◌, map, Option, Some, None, Result}
+use Rattle.std.specs.Prelude.{Ok, Err}
 use Rattle.std.specs.Str.{bytes_eq}
 use Rattle.mls_lattice.specs.Policy.{Name}
 use Rattle.mls_lattice.specs.Canon.{user_name}
@@ -18,14 +19,16 @@ use Rattle.mls_script.specs.declared.event.Event.{Event}
 use Rattle.mls_script.specs.declared.event.Command.{Command}
 use Rattle.mls_script.specs.declared.event.Command.TheVariants as commands
 use Rattle.mls_machine.specs.declared.reply.Denial.{Denial}
-use Rattle.mls_machine.specs.declared.reply.Denial.TheVariants.{NoSession, AlreadyOpen, UnknownTransaction, NotCertified}
+use Rattle.mls_machine.specs.declared.reply.Denial.TheVariants.{NoSession, AlreadyOpen, UnknownTransaction}
+use Rattle.mls_machine.specs.declared.reply.Denial.TheVariants.{NotCertified}
 use Rattle.mls_machine.specs.declared.reply.Reply.{Reply}
 use Rattle.mls_machine.specs.declared.reply.Reply.TheVariants.{Opened, Closed, Rows, Wrote, Ran, Entries, Denied}
 use Rattle.mls_machine.specs.declared.stored.Stored.{Stored}
 use Rattle.mls_machine.specs.declared.stored.Stored.TheVariants.{Certified, Plain}
 use Rattle.mls_machine.specs.Site.{Site, site_labels, site_scheme}
 use Rattle.mls_machine.specs.Reply.{code_of}
-use Rattle.mls_machine.specs.Denying.{first_denial, user_named, stored_named, fitted, cleared, view_denials, write_denials, call_denials}
+use Rattle.mls_machine.specs.Denying.{first_denial, user_named, stored_named, fitted, cleared, view_denials}
+use Rattle.mls_machine.specs.Denying.{write_denials, call_denials}
 
 -- the user of each open session, by its level and name
 abbrev pub Sessions : Type 0
@@ -65,11 +68,13 @@ module _ (site : Site) where
   -- ---- denials in an open session
 
   abbrev pub denial_entry : Event → ℕ → Denial → Entry
-  denial_entry event user denial = entries.Denied event.level (user_name site.policy.users user) event.session (code_of denial)
+  denial_entry event user denial =
+      entries.Denied event.level (user_name site.policy.users user) event.session (code_of denial)
 
   -- the denial is entered in the audit list
   abbrev pub denied : World → Event → ℕ → Denial → Step
-  denied w event user denial = record { world = record w { audit = w.audit ++ denial_entry event user denial ∷ [] }; reply = Denied denial }
+  denied w event user denial =
+      record { world = record w { audit = w.audit ++ denial_entry event user denial ∷ [] }; reply = Denied denial }
 
   abbrev pub unless : Option Denial → World → Event → ℕ → Step → Step
   unless None w event user effect = effect
@@ -98,7 +103,9 @@ module _ (site : Site) where
 
   -- the call at the level of the session, and then the releases in order
   abbrev pub call_entries : Event → ℕ → Name → List Item → List Entry
-  call_entries event user name released = entries.Called event.level (user_name site.policy.users user) event.session name ∷ map (release_entry event user) released
+  call_entries event user name released =
+      entries.Called event.level (user_name site.policy.users user) event.session name
+      ∷ map (release_entry event user) released
 
   -- the transaction of the name is run
   abbrev pub called : World → Event → ℕ → Name → Tx → List (Option Value) → Step
@@ -112,16 +119,20 @@ module _ (site : Site) where
   -- ---- commands
 
   abbrev pub view_step : World → Event → ℕ → ℕ → ℕ → Step
-  view_step w event user rel label = unless (first_denial (view_denials site event.level user rel label)) w event user (viewed w rel label)
+  view_step w event user rel label =
+      unless (first_denial (view_denials site event.level user rel label)) w event user (viewed w rel label)
 
   abbrev pub write_step : World → Event → ℕ → ℕ → Write → Step
-  write_step w event user rel wr = unless (first_denial (write_denials site event.level user rel wr)) w event user (wrote w event.level rel wr)
+  write_step w event user rel wr =
+      unless (first_denial (write_denials site event.level user rel wr)) w event user (wrote w event.level rel wr)
 
   -- a call of what is stored by the name, if anything is
   abbrev pub call_step : World → Event → ℕ → Name → List (Option Value) → Option Stored → Step
   call_step w event user name args None = denied w event user UnknownTransaction
   call_step w event user name args (Some (Plain tx)) = denied w event user NotCertified
-  call_step w event user name args (Some (Certified k)) = unless (first_denial (call_denials site event.level user k.tx args)) w event user (called w event user name k.tx args)
+  call_step w event user name args (Some (Certified k)) =
+      unless (first_denial (call_denials site event.level user k.tx args)) w event user
+      (called w event user name k.tx args)
 
   -- where the session is open, for this user
   abbrev pub step_inside : World → Event → Command → ℕ → Step
@@ -130,7 +141,8 @@ module _ (site : Site) where
   step_inside w event commands.Audit user = listed w event.level
   step_inside w event (commands.View rel label) user = view_step w event user rel label
   step_inside w event (commands.Insert rel key values) user = write_step w event user rel (Insert key values)
-  step_inside w event (commands.Update rel key key_class from sets) user = write_step w event user rel (Update key key_class from sets)
+  step_inside w event (commands.Update rel key key_class from sets) user =
+      write_step w event user rel (Update key key_class from sets)
   step_inside w event (commands.Delete rel key key_class) user = write_step w event user rel (Delete key key_class)
   step_inside w event (commands.Call name args) user = call_step w event user name args (stored_named site.stored name)
 

@@ -1,5 +1,6 @@
 -- What a level may see of a run, and when two worlds look alike to it.
-use Rattle.std.specs.Prelude.{◌≡◌, ℕ, true, if◌then◌else◌, List, [], ◌∷◌, ◌++◌, map, length, Option, Some, None, ◌↔◌, ◌⊎◌, ⊤}
+use Rattle.std.specs.Prelude.{◌≡◌, ℕ, true, if◌then◌else◌, List, [], ◌∷◌, ◌++◌, map, length, Option, Some, None}
+use Rattle.std.specs.Prelude.{◌↔◌, ◌⊎◌, ⊤}
 use Rattle.std.specs.List.{filter, AllByRecursion}
 use Rattle.std.specs.Option.{IfSome}
 use Rattle.mls_lattice.specs.Labels.{Labels, below}
@@ -24,7 +25,7 @@ use Rattle.mls_machine.specs.declared.form.Audience.{Audience}
 use Rattle.mls_machine.specs.declared.reply.Reply.{Reply}
 use Rattle.mls_machine.specs.declared.reply.Reply.TheVariants.{Ran}
 use Rattle.mls_machine.specs.declared.stored.Stored.{Stored}
-use Rattle.mls_machine.specs.Stored.{tx_of, WhereCertified, IsCertifiedUnder, IsMadeUnder}
+use Rattle.mls_machine.specs.Stored.{tx_of, WhereCertified, IsCertifiedUnder}
 use Rattle.mls_machine.specs.Site.{Site, site_labels, site_scheme}
 use Rattle.mls_machine.specs.Denying.{stored_named}
 use Rattle.mls_machine.specs.Machine.{World, step, end_of}
@@ -50,10 +51,6 @@ AreSecure site = AllByRecursion (WhereCertified (Secure site.policy)) site.store
 -- under their certificates the rules hold
 abbrev pub AreCertified : Site → Type 0
 AreCertified site = AllByRecursion (IsCertifiedUnder site.policy) site.stored
-
--- they were checked under the policy of the site
-abbrev pub AreMadeUnder : Site → Type 0
-AreMadeUnder site = AllByRecursion (IsMadeUnder site.policy) site.stored
 
 -- ---- events
 
@@ -83,7 +80,8 @@ module _ (site : Site) (c : ℕ) where
 
   -- c dominates all that a call can read
   abbrev pub IsBelowCeiling : Command → Type 0
-  IsBelowCeiling (Call name args) = IfSome (stored_named site.stored name) (λ s. below (site_labels site) (tx_of s).hi c ≡ true)
+  IsBelowCeiling (Call name args) =
+      IfSome (stored_named site.stored name) (λ s. below (site_labels site) (tx_of s).hi c ≡ true)
   IsBelowCeiling command = ⊤
 
   -- so of each call that c sees
@@ -96,6 +94,21 @@ IsNoCall command = ⊤
 
 abbrev pub HaveNoCall : List Event → Type 0
 HaveNoCall = AllByRecursion (λ e. IsNoCall e.command)
+
+-- c sees no call: any that is made is made at a level that it does not dominate
+abbrev pub SeesNoCall : Site → ℕ → List Event → Type 0
+SeesNoCall site c es = HaveNoCall (seen site c es)
+
+-- what a command calls was read under the policy and the schemes, and with a certificate it is secure
+abbrev pub IsCallSecure : Site → Command → Type 0
+IsCallSecure site (Call name args) =
+    IfSome (stored_named site.stored name)
+    (λ s. IsReadUnder site.policy site.schemes (tx_of s) × WhereCertified (Secure site.policy) s)
+IsCallSecure site command = ⊤
+
+-- so what each event calls, if any is a call
+abbrev pub AreCallsSecure : Site → List Event → Type 0
+AreCallsSecure site = AllByRecursion (λ e. IsCallSecure site e.command)
 
 -- ---- lines and releases
 
@@ -140,7 +153,8 @@ released_to site c w es = seen_items (site_labels site) c (run_released site w e
 
 -- what c sees of a reply: of a call, the items whose labels it dominates
 abbrev pub reply_shown : Labels → ℕ → Reply → Reply
-reply_shown ls c (Ran run) = Ran (record { emitted = seen_items ls c run.emitted; released = seen_items ls c run.released })
+reply_shown ls c (Ran run) =
+    Ran (record { emitted = seen_items ls c run.emitted; released = seen_items ls c run.released })
 reply_shown ls c reply = reply
 
 -- what c sees of the replies of a run from w: of those at levels that it dominates, in order
@@ -163,20 +177,23 @@ pub record AgreeAt (ls : Labels) (c : ℕ) (v w : World) : Type 0 where
 
 -- two runs show the same lines to c in each form, and the same replies, and end in worlds that look alike to it
 pub record EndAlike (site : Site) (c : ℕ) (v w : World) (es fs : List Event) : Type 0 where
-  pub out : (form : Form) → out (site_labels site) c (run_lines form site v es) ≡ out (site_labels site) c (run_lines form site w fs)
+  pub out : (form : Form)
+      → out (site_labels site) c (run_lines form site v es) ≡ out (site_labels site) c (run_lines form site w fs)
   pub replies : replies_shown site c v es ≡ replies_shown site c w fs
   pub worlds : AgreeAt (site_labels site) c (end_of site v es) (end_of site w fs)
 
--- no information flows down in a run: at each level c, a run without calls from any other world of the stored form that
--- looks alike to c, over any events of which c sees the same, shows c the same
+-- no information flows down in a run: at each level c that sees no call, a run from any other world of the stored form
+-- that looks alike to c, over any events of which c sees the same, shows c the same; what c does not see may be called,
+-- if it is secure
 abbrev pub PassesNothingDown : Site → World → List Event → Type 0
 PassesNothingDown site v es =
-    (c : ℕ) (w : World) (fs : List Event) → AreStored site w.db → EventsFit site fs → HaveNoCall fs
-    → AgreeAt (site_labels site) c v w → seen site c es ≡ seen site c fs → EndAlike site c v w es fs
+    (c : ℕ) (w : World) (fs : List Event) → AreStored site w.db → EventsFit site fs → AreCallsSecure site fs
+    → SeesNoCall site c es → AgreeAt (site_labels site) c v w → seen site c es ≡ seen site c fs
+    → EndAlike site c v w es fs
 
--- no information flows down in a run but what is released: at each level c, a run from any other world of the stored form
--- that looks alike to c, over any events of which c sees the same, shows c the same, if it also releases the same to c, or
--- if c dominates all that the calls that it sees can read
+-- no information flows down in a run but what is released: at each level c, a run from any other world of the stored
+-- form that looks alike to c, over any events of which c sees the same, shows c the same, if it also releases the same
+-- to c, or if c dominates all that the calls that it sees can read
 abbrev pub PassesOnlyReleasesDown : Site → World → List Event → Type 0
 PassesOnlyReleasesDown site v es =
     (c : ℕ) (w : World) (fs : List Event) → AreStored site w.db → EventsFit site fs
@@ -184,8 +201,8 @@ PassesOnlyReleasesDown site v es =
     → (released_to site c v es ≡ released_to site c w fs) ⊎ AreBelowCeiling site c es
     → EndAlike site c v w es fs
 
--- what a run prints for c, in either form, passes nothing down but what is released: its bytes are the same for any other
--- such run
+-- what a run prints for c, in either form, passes nothing down but what is released: its bytes are the same for any
+-- other such run
 abbrev pub ShowsOnlyReleases : Site → ℕ → World → List Event → Type 0
 ShowsOnlyReleases site c v es =
     (form : Form) (w : World) (fs : List Event) → AreStored site w.db → EventsFit site fs

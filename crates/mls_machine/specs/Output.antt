@@ -55,16 +55,19 @@ cell_entry labels class v = cell_text v ++ codes " " ++ label_name labels class 
 -- the key with its class, the elements with theirs, and the class of the tuple
 abbrev pub row_text : Tables → Tuple → List ℕ
 row_text p t =
-    codes "row " ++ flat_map (λ v. cell_entry p.labels t.key_class (Some v)) t.key ++ flat_map (λ e. cell_entry p.labels e.class e.value) t.elements
+    codes "row " ++ flat_map (λ v. cell_entry p.labels t.key_class (Some v)) t.key
+    ++ flat_map (λ e. cell_entry p.labels e.class e.value) t.elements
     ++ name_of p.labels (tuple_class (labels_of p) t)
 
 abbrev pub heading : Tables → Scheme → ℕ → List ℕ
 heading p s label =
-    codes "view " ++ s.name ++ codes " at " ++ label_name p.labels label ++ codes ":" ++ flat_map (λ a. codes " " ++ a.name) s.keys ++ flat_map (λ a. codes " " ++ a.name) s.others
+    codes "view " ++ s.name ++ codes " at " ++ label_name p.labels label ++ codes ":"
+    ++ flat_map (λ a. codes " " ++ a.name) s.keys ++ flat_map (λ a. codes " " ++ a.name) s.others
 
 -- the texts of rows, which answer a view and nothing else
 abbrev pub view_texts : Site → Command → List Tuple → List (List ℕ)
-view_texts site (commands.View rel label) tuples = heading site.policy (scheme_of site.schemes rel) label ∷ map (row_text site.policy) tuples
+view_texts site (commands.View rel label) tuples =
+    heading site.policy (scheme_of site.schemes rel) label ∷ map (row_text site.policy) tuples
 view_texts site command tuples = []
 
 -- ---- rows as a table
@@ -74,7 +77,9 @@ abbrev pub table_cell : List Named → ℕ → Option Value → List ℕ
 table_cell labels class v = escaped (cell_text v ++ codes " " ++ label_name labels class)
 
 abbrev pub tuple_cells : Tables → Tuple → List (List ℕ)
-tuple_cells p t = map (λ v. table_cell p.labels t.key_class (Some v)) t.key ++ map (λ e. table_cell p.labels e.class e.value) t.elements
+tuple_cells p t =
+    map (λ v. table_cell p.labels t.key_class (Some v)) t.key
+    ++ map (λ e. table_cell p.labels e.class e.value) t.elements
 
 abbrev pub name_cells : Scheme → List (List ℕ)
 name_cells s = map (λ a. a.name) s.keys ++ map (λ a. a.name) s.others
@@ -102,28 +107,36 @@ abbrev pub table_row : Tables → List ℕ → Tuple → List ℕ
 table_row p widths t = padded widths 0 (tuple_cells p t) ++ name_of p.labels (tuple_class (labels_of p) t)
 
 abbrev pub table_of : Tables → Scheme → ℕ → List ℕ → List Tuple → List (List ℕ)
-table_of p s label widths tuples = table_title p s label ∷ table_names s widths ∷ table_rule widths ∷ map (table_row p widths) tuples
+table_of p s label widths tuples =
+    table_title p s label ∷ table_names s widths ∷ table_rule widths ∷ map (table_row p widths) tuples
 
 -- the texts of a table, which answers a view and nothing else
 abbrev pub table_texts : Site → Command → List Tuple → List (List ℕ)
-table_texts site (commands.View rel label) tuples = table_of site.policy (scheme_of site.schemes rel) label (table_widths site.policy (scheme_of site.schemes rel) tuples) tuples
+table_texts site (commands.View rel label) tuples =
+    table_of site.policy (scheme_of site.schemes rel) label
+    (table_widths site.policy (scheme_of site.schemes rel) tuples) tuples
 table_texts site command tuples = []
 
 -- ---- entries
 
 -- the label, what was done, the user and the session
 abbrev pub entry_front : Tables → ℕ → List ℕ → Name → Name → List ℕ
-entry_front p label deed user session = codes "entry " ++ label_name p.labels label ++ deed ++ printable user ++ codes " " ++ printable session ++ codes " "
+entry_front p label deed user session =
+    codes "entry " ++ label_name p.labels label ++ deed ++ printable user ++ codes " " ++ printable session ++ codes " "
 
 abbrev pub entry_text : Tables → Entry → List ℕ
-entry_text p (entries.Called label user session transaction) = entry_front p label (codes " called ") user session ++ printable transaction
-entry_text p (entries.Denied label user session code) = entry_front p label (codes " denied ") user session ++ decimal code
-entry_text p (entries.Released label user session value) = entry_front p label (codes " released ") user session ++ cell_text value
+entry_text p (entries.Called label user session transaction) =
+    entry_front p label (codes " called ") user session ++ printable transaction
+entry_text p (entries.Denied label user session code) =
+    entry_front p label (codes " denied ") user session ++ decimal code
+entry_text p (entries.Released label user session value) =
+    entry_front p label (codes " released ") user session ++ cell_text value
 
 -- ---- replies
 
 abbrev pub outcome_text : Outcome → List ℕ
-outcome_text o = if is_done o then codes "done" else codes "refused " ++ decimal (outcome_code o) ++ codes " " ++ outcome_word o
+outcome_text o =
+    if is_done o then codes "done" else codes "refused " ++ decimal (outcome_code o) ++ codes " " ++ outcome_word o
 
 abbrev pub denial_text : Denial → List ℕ
 denial_text d = codes "denied " ++ decimal (code_of d) ++ codes " " ++ word_of d
@@ -157,7 +170,9 @@ pub record Line : Type 0 where
 
 -- a line begins with its label and the session that it answers
 abbrev pub front : Tables → Event → ℕ → List ℕ
-front p e label = label_name p.labels label ++ codes " " ++ label_name p.labels e.level ++ codes "/" ++ printable e.session ++ codes " "
+front p e label =
+    label_name p.labels label ++ codes " " ++ label_name p.labels e.level ++ codes "/" ++ printable e.session
+    ++ codes " "
 
 abbrev pub line : Tables → Event → ℕ → List ℕ → Line
 line p e label text = record { label = label; text = front p e label ++ text }
@@ -168,7 +183,8 @@ item_line p e deed item = line p e item.0 (deed ++ cell_text item.1)
 
 -- the items of a reply: first those that are emitted, then those that are released
 abbrev pub item_lines : Tables → Event → Reply → List Line
-item_lines p e (Ran run) = map (item_line p e (codes "emit ")) run.emitted ++ map (item_line p e (codes "release ")) run.released
+item_lines p e (Ran run) =
+    map (item_line p e (codes "emit ")) run.emitted ++ map (item_line p e (codes "release ")) run.released
 item_lines p e reply = []
 
 -- the lines of a reply: those at the level of the session, with these texts, and then its items
@@ -189,7 +205,8 @@ reply_lines_in Table site e r = map escaped_line (lines_with site e (texts_in_ta
 -- the lines of a run from w
 unfoldable pub run_lines : Form → Site → World → List Event → List Line
 run_lines form site w [] = []
-run_lines form site w (e ∷ es) = reply_lines_in form site e (step site w e).reply ++ run_lines form site (step site w e).world es
+run_lines form site w (e ∷ es) =
+    reply_lines_in form site e (step site w e).reply ++ run_lines form site (step site w e).world es
 
 -- the bytes of lines, each with its end
 abbrev pub printed : List Line → List ℕ

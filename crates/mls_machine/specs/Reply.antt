@@ -1,7 +1,9 @@
 -- The numbers and names of denials.
 use Rattle.std.specs.Prelude.{ℕ, List, codes}
 use Rattle.mls_machine.specs.declared.reply.Denial.{Denial}
-use Rattle.mls_machine.specs.declared.reply.Denial.TheVariants.{NoSession, AlreadyOpen, UnknownUser, UnknownTransaction, NotCertified, Ds, Ss, Star, Trust, Arguments}
+use Rattle.mls_machine.specs.declared.reply.Denial.TheVariants.{NoSession, AlreadyOpen, UnknownUser}
+use Rattle.mls_machine.specs.declared.reply.Denial.TheVariants.{UnknownTransaction, NotCertified, Ds, Ss, Star}
+use Rattle.mls_machine.specs.declared.reply.Denial.TheVariants.{Trust, Arguments}
 
 abbrev pub code_of : Denial → ℕ
 code_of NoSession = 31

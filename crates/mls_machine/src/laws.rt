@@ -1,6 +1,7 @@
 //! The laws of the machine, each the contract of a function.
 ghost use Rattle.mls_machine.specs.History.{HistoriesKeepIntegrity, LowHistoriesAreAlike, SecureHistoriesAreAlike, AcceptedHistoriesAreAlike, HistoriesPassWhatRunsPass, HistoriesShowOnlyReleases};
 ghost use Rattle.mls_machine.specs.Laws.{RefusalsChangeNothing, DenialsAndCallsAreEntered, RunsKeepIntegrity, LowRunsAreAlike, SecureRunsAreAlike, AcceptedRunsAreAlike, TablesAreHarmless};
+ghost use Rattle.mls_machine.specs.Parting.{PoliciesArePlain, RepliesAreLines, RunsAreLines, RunsPartIntoLines, LinesArePicked};
 
 /// A command that is denied, a view, an audit, and a write that is refused leave the database and the sessions as they
 /// were.
@@ -20,9 +21,9 @@ pub fn runs_keep_integrity()
     ensures { RunsKeepIntegrity }
 {}
 
-/// No command but a call passes information to a level that does not dominate that of its session: two runs without
-/// calls from worlds that look alike to a level, over events of which it sees the same, show it the same lines and end
-/// in worlds that look alike to it.
+/// No command but a call passes information to a level that does not dominate that of its session. Take two worlds that
+/// look alike to a level, and two lists of events of which it sees the same and no call: then it is shown the same lines
+/// and replies, and the worlds look alike to it at the end. What is called where it does not see it is secure.
 pub fn low_runs_are_alike()
     ensures { LowRunsAreAlike }
 {}
@@ -70,6 +71,21 @@ pub fn histories_pass_what_runs_pass()
 /// So of the bytes that one reader is shown.
 pub fn histories_show_only_releases()
     ensures { HistoriesShowOnlyReleases }
+{}
+
+/// No line feed stands in a line, in either form: names have none, and what else a line shows is written without it. So
+/// who parts the output at its line feeds gets the lines, in order.
+pub fn lines_have_no_line_feed()
+    ensures names { PoliciesArePlain }
+    ensures replies { RepliesAreLines }
+    ensures runs { RunsAreLines }
+    ensures parts { RunsPartIntoLines }
+{}
+
+/// Who has all lines, and picks those that begin with the name of a label which a level dominates, has what that level is
+/// shown.
+pub fn lines_are_picked()
+    ensures { LinesArePicked }
 {}
 
 /// What a run shows as a table has no control character but line feeds, whatever is stored.

@@ -14,7 +14,10 @@ denial_in site level user (commands.Open name) = Some AlreadyOpen
 denial_in site level user commands.Close = None
 denial_in site level user commands.Audit = None
 denial_in site level user (commands.View rel label) = first_denial (view_denials site level user rel label)
-denial_in site level user (commands.Insert rel key values) = first_denial (write_denials site level user rel (Insert key values))
-denial_in site level user (commands.Update rel key key_class from sets) = first_denial (write_denials site level user rel (Update key key_class from sets))
-denial_in site level user (commands.Delete rel key key_class) = first_denial (write_denials site level user rel (Delete key key_class))
+denial_in site level user (commands.Insert rel key values) =
+    first_denial (write_denials site level user rel (Insert key values))
+denial_in site level user (commands.Update rel key key_class from sets) =
+    first_denial (write_denials site level user rel (Update key key_class from sets))
+denial_in site level user (commands.Delete rel key key_class) =
+    first_denial (write_denials site level user rel (Delete key key_class))
 denial_in site level user (commands.Call name args) = call_denial site level user args (stored_named site.stored name)

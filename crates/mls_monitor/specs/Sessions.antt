@@ -33,6 +33,8 @@ AreForUsers count = AllByRecursion (λ s. s.user < count)
 
 -- sessions changed, and a reply given, as by a step of the machine that looks at nothing else
 pub record IsSessionStep (step : World → Step) (old new : List Session) (r : Reply) : Type 0 where
-  pub reply : (db : Database) (audit : List Entry) → r ≡ (step (record { db = db; sessions = sessions_of old; audit = audit })).reply
+  pub reply : (db : Database) (audit : List Entry)
+      → r ≡ (step (record { db = db; sessions = sessions_of old; audit = audit })).reply
   pub world : (db : Database) (audit : List Entry)
-      → record { db = db; sessions = sessions_of new; audit = audit } ≡ (step (record { db = db; sessions = sessions_of old; audit = audit })).world
+      → record { db = db; sessions = sessions_of new; audit = audit }
+      ≡ (step (record { db = db; sessions = sessions_of old; audit = audit })).world

@@ -1,9 +1,36 @@
--- What the entries of calls leave.
-use Rattle.std.specs.Prelude.{List, ◌++◌, map}
+-- What calls do: they run a transaction, and leave entries.
+use Rattle.std.specs.Prelude.{◌≡◌, IfOk, List, ◌++◌, length, map, Option, Result}
+use Rattle.mls_lattice.specs.Policy.{Tables, labels_of}
+use Rattle.mls_scheme.specs.declared.value.Value.{Value}
+use Rattle.mls_scheme.specs.Scheme.{Schemes}
+use Rattle.mls_filterview.specs.declared.base.BaseFault.{BaseFault}
 use Rattle.mls_filterview.specs.Content.{State}
 use Rattle.mls_audit.specs.declared.entry.Entry.{Entry}
 use Rattle.mls_audit.specs.Spelling.{entry_spelling}
+use Rattle.mls_translang.specs.Tx.{Tx}
+use Rattle.mls_translang.specs.Fits.{IsReadUnder}
+use Rattle.mls_meaning.specs.declared.run.Run.{Run}
+use Rattle.mls_meaning.specs.Meaning.{Progress, run_tx}
+use Rattle.mls_machine.specs.Denying.{fitted}
+use Rattle.mls_trusted.specs.Runs.{with_database, IsEvaluated, HasItems}
 
 -- more entries at the end of the audit list
 abbrev pub with_entries : State → List Entry → State
 with_entries s es = record s { now = record { db = s.now.db; audit = s.now.audit ++ map entry_spelling es } }
+
+-- a transaction was read under the policy and the schemes, and has as many arguments as parameters
+pub record MayRun (policy : Tables) (schemes : Schemes) (tx : Tx) (args : List (Option Value)) : Type 0 where
+  pub read : IsReadUnder policy schemes tx
+  pub count : length args ≡ length tx.params
+
+-- what a transaction does with arguments, of which those of the wrong kind are null
+abbrev pub run_on : Tables → Schemes → Tx → List (Option Value) → State → Progress
+run_on policy schemes tx args s = run_tx (labels_of policy) schemes tx (fitted tx.params args) s.now.db
+
+-- it is run: what it gave has declared labels and kinds, and is what it means, as the database is that it left
+module _ {Self : Type 0} (is_clean : Self → Type 0) (state : Self → State)
+    (policy : Tables) (schemes : Schemes) (tx : Tx) (args : List (Option Value)) where
+  pub record HasRun (old new : Self) (result : Result Run BaseFault) : Type 0 where
+    pub items : IfOk result (HasItems policy)
+    pub done : is_clean new → let run = run_on policy schemes tx args (state old) in
+        IfOk result (IsEvaluated run (with_database (state old) run.db) (state new))

@@ -50,7 +50,8 @@ pub record IsPart (before after : Option (List ℕ)) (bytes : List ℕ) : Type 0
   pub appends : Appends before after part
   pub whole : part ++ rest ≡ bytes
 
-module _ (site : Site) (audience : Audience) (w : World) (event : Event) (before after : Option (List ℕ)) (new : World) where
+module _ (site : Site) (audience : Audience) (w : World) (event : Event)
+    (before after : Option (List ℕ)) (new : World) where
   -- what its reply prints
   abbrev pub answer_text : List ℕ
   answer_text = reply_shows site audience event (step site w event).reply

@@ -1,21 +1,26 @@
 -- What the calls of one event promise.
-use Rattle.std.specs.Prelude.{◌≡◌, ℕ, ◌<◌, ◌≤◌, true, false, Bool, IfErr, length, None, Result}
+use Rattle.std.specs.Prelude.{◌≡◌, ℕ, ◌<◌, ◌≤◌, true, false, Bool, IfErr, IfOk, OnOk, length, None, Result}
 use Rattle.std.specs.List.{AllByRecursion}
+use Rattle.mls_scheme.specs.Scheme.{AreUnder}
 use Rattle.mls_filterview.specs.declared.base.BaseFault.{BaseFault}
 use Rattle.mls_filterview.specs.declared.base.BaseFault.TheVariants as faults
-use Rattle.mls_filterview.specs.Calls.{IsServed}
-use Rattle.mls_filterview.specs.Content.{Content}
+use Rattle.mls_filterview.specs.Calls.{IsCall, IsServed}
+use Rattle.mls_filterview.specs.Content.{Content, State}
+use Rattle.mls_views.specs.Views.{Kept, AreViews}
 use Rattle.mls_script.specs.declared.event.Event.{Event}
 use Rattle.mls_script.specs.declared.event.Command.{Command}
 use Rattle.mls_script.specs.declared.event.Command.TheVariants as commands
+use Rattle.mls_script.specs.Event.{EventFits}
 use Rattle.mls_machine.specs.declared.reply.Reply.{Reply}
 use Rattle.mls_machine.specs.Site.{Site}
 use Rattle.mls_machine.specs.Machine.{Sessions, World, Step, denied, step_inside}
+use Rattle.mls_machine.specs.Observation.{AreRead}
+use Rattle.mls_replies.specs.Known.{HasKnownNumbers}
 use Rattle.mls_sessions.specs.declared.change.Deed.{Deed}
 use Rattle.mls_sessions.specs.declared.change.Deed.TheVariants.{Deny, Write, Call}
 use Rattle.mls_monitor.specs.Denying.{denial_in}
 use Rattle.mls_audit.specs.Spelling.{IsEntryOf}
-use Rattle.mls_sessions.specs.World.{world_at}
+use Rattle.mls_sessions.specs.World.{world_at, IsSound}
 
 -- ---- faults
 
@@ -39,7 +44,8 @@ module _ {Self : Type 0} {Held : Type 0} (is_clean : Self → Type 0) (failures 
 pub record IsStepOver (site : Site) (step : World → Step) (s t : Content) (r : Reply) : Type 0 where
   pub reply : (sessions : Sessions) → r ≡ (step (world_at site sessions s)).reply
   pub world : (sessions : Sessions) → world_at site sessions t ≡ (step (world_at site sessions s)).world
-  pub entries : AllByRecursion (IsEntryOf (length site.policy.labels)) s.audit → AllByRecursion (IsEntryOf (length site.policy.labels)) t.audit
+  pub entries : AllByRecursion (IsEntryOf (length site.policy.labels)) s.audit
+      → AllByRecursion (IsEntryOf (length site.policy.labels)) t.audit
 
 -- ---- deeds
 
@@ -61,11 +67,50 @@ is_call command = false
 abbrev pub IsDeedOf : Site → Event → Deed → Type 0
 IsDeedOf site event (Deny user denial) = user < length site.policy.users
 IsDeedOf site event Write = is_write event.command ≡ true
-IsDeedOf site event (Call user) = (user < length site.policy.users) × (is_call event.command ≡ true) × (denial_in site event.level user event.command ≡ None)
+IsDeedOf site event (Call user) =
+    (user < length site.policy.users) × (is_call event.command ≡ true)
+    × (denial_in site event.level user event.command ≡ None)
 
 -- the denial is entered; the event of a session in which it is not denied is answered
 abbrev pub IsDoneOf : Site → Event → Deed → Content → Content → Reply → Type 0
 IsDoneOf site event (Deny user denial) s t r = IsStepOver site (λ w. denied site w event user denial) s t r
 IsDoneOf site event Write s t r =
-    (user : ℕ) → denial_in site event.level user event.command ≡ None → IsStepOver site (λ w. step_inside site w event event.command user) s t r
+    (user : ℕ) → denial_in site event.level user event.command ≡ None
+    → IsStepOver site (λ w. step_inside site w event event.command user) s t r
 IsDoneOf site event (Call user) s t r = IsStepOver site (λ w. step_inside site w event event.command user) s t r
+
+-- ---- changes
+
+-- the event fits, all that is stored was read under the policy and the schemes, and the deed is one of the event
+pub record MayDo (site : Site) (event : Event) (deed : Deed) : Type 0 where
+  pub fits : EventFits site.policy site.schemes event
+  pub read : AreRead site
+  pub asked : IsDeedOf site event deed
+
+module _ {Self : Type 0} (is_clean : Self → Type 0) (failures : Self → ℕ) (state : Self → State) where
+  -- a step inside a change: it goes on, over what was committed before it; or a fault has ended it
+  pub record GoesOn {A : Type 0} (old new : Self) (result : Result A BaseFault) : Type 0 where
+    pub call : IsCall is_clean failures state old new result
+    pub served : IfErr result IsServed
+    pub mode : OnOk result ((state new).begun ≡ true)
+    pub kept : is_clean new → OnOk result ((state new).kept ≡ (state old).kept)
+
+  -- a whole change, or none: it is over
+  pub record IsOver {A : Type 0} (old new : Self) (result : Result A BaseFault) : Type 0 where
+    pub turn : IsTurn is_clean failures (λ b. (state b).now) old new result
+    pub idle : (state new).begun ≡ false
+
+-- what an event finds: whether a change is begun, sound content, and views of it
+module _ {Self : Type 0} (is_clean : Self → Type 0) (state : Self → State) where
+  pub record Finds (site : Site) (begun : Bool) (base : Self) (kept : Kept) : Type 0 where
+    pub under : AreUnder (length site.policy.labels) site.schemes
+    pub mode : (state base).begun ≡ begun
+    pub sound : is_clean base → IsSound site (state base).now
+    pub views : AreViews site.policy is_clean state base kept
+
+-- a deed is done, and answered by numbers of the policy
+module _ {Self : Type 0} (is_clean : Self → Type 0) (state : Self → State)
+    (site : Site) (event : Event) (deed : Deed) where
+  pub record HasDone (old new : Self) (result : Result Reply BaseFault) : Type 0 where
+    pub done : is_clean new → IfOk result (IsDoneOf site event deed (state old).now (state new).now)
+    pub known : IfOk result (HasKnownNumbers site.policy)

@@ -25,7 +25,8 @@ entries_in count = filter_map (λ bytes. declared count (entry_at bytes))
 -- ---- content
 
 abbrev pub world_at : Site → Sessions → Content → World
-world_at site sessions c = record { db = c.db; sessions = sessions; audit = entries_in (length site.policy.labels) c.audit }
+world_at site sessions c =
+    record { db = c.db; sessions = sessions; audit = entries_in (length site.policy.labels) c.audit }
 
 -- relations of the stored form, and an audit list of entries of declared labels
 pub record IsSound (site : Site) (c : Content) : Type 0 where

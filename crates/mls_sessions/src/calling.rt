@@ -3,27 +3,16 @@ ghost use Rattle.std.specs.Prelude.{◌≡◌, ◌<◌, true, length, map, IfOk,
 ghost use Rattle.std.specs.List.{AllByRecursion};
 ghost use Rattle.mls_lattice.specs.Name.{is_name};
 ghost use Rattle.mls_lattice.specs.Canon.{user_name};
-ghost use Rattle.mls_lattice.specs.Policy.{labels_of};
-ghost use Rattle.mls_scheme.specs.Scheme.{AreUnder};
 ghost use Rattle.mls_filterview.specs.Calls.{IsCall, IsServed};
 ghost use Rattle.mls_filterview.specs.Content.{with_entry};
-ghost use Rattle.mls_filterview.specs.Stored.{AreContent};
 ghost use Rattle.mls_audit.specs.declared.entry.Entry.TheVariants.{Called};
 ghost use Rattle.mls_audit.specs.Spelling.{HasSpelling, entry_spelling};
-ghost use Rattle.mls_translang.specs.Fits.{IsReadUnder};
-ghost use Rattle.mls_meaning.specs.Meaning.{run_tx};
 ghost use Rattle.mls_meaning.specs.Laws.{IsItem};
-ghost use Rattle.mls_script.specs.Event.{EventFits};
-ghost use Rattle.mls_machine.specs.Denying.{fitted};
 ghost use Rattle.mls_machine.specs.Machine.{release_entry, call_entries};
-ghost use Rattle.mls_machine.specs.Observation.{AreRead};
-ghost use Rattle.mls_trusted.specs.Runs.{with_database, IsEvaluated, HasItems};
 ghost use Rattle.mls_monitor.specs.Sessions.{site_of};
 ghost use Rattle.mls_views.specs.Views.{AreViews};
-ghost use Rattle.mls_sessions.specs.World.{IsSound};
-ghost use Rattle.mls_sessions.specs.Calling.{with_entries};
-ghost use Rattle.mls_replies.specs.Known.{HasKnownNumbers};
-ghost use Rattle.mls_sessions.specs.Turns.{IsDeedOf, IsDoneOf};
+ghost use Rattle.mls_sessions.specs.Calling.{with_entries, MayRun, HasRun};
+ghost use Rattle.mls_sessions.specs.Turns.{MayDo, GoesOn, Finds, HasDone};
 
 use crate::change::Deed;
 use mls_audit::{Entry, entry_bytes};
@@ -201,20 +190,11 @@ fn run_certified<B: Base>(
     certified: &Certified,
     args: &[Option<Value>],
 ) -> Result<Run, BaseFault>
-    requires begun { (B.state base.old).begun ≡ true }
-    requires under { AreUnder (length rules.now.policy.now.labels) rules.now.schemes.now }
-    requires read { IsReadUnder rules.now.policy.now rules.now.schemes.now certified.now.tx }
-    requires count { length args.now ≡ length certified.now.tx.params }
-    requires content { B.is_clean base.old → AreContent (labels_of rules.now.policy.now) rules.now.schemes.now
-        (B.state base.old).now.db }
-    requires views { AreViews rules.now.policy.now B.is_clean B.state base.old views.old }
-    ensures call { IsCall B.is_clean B.failures B.state base.old base.new result }
-    ensures served { IfErr result IsServed }
-    ensures mode { OnOk result ((B.state base.new).begun ≡ true) }
-    ensures items { IfOk result (HasItems rules.now.policy.now) }
-    ensures done { B.is_clean base.new → let run = run_tx (labels_of rules.now.policy.now) rules.now.schemes.now
-        certified.now.tx (fitted certified.now.tx.params args.now) (B.state base.old).now.db
-        in IfOk result (IsEvaluated run (with_database (B.state base.old) run.db) (B.state base.new)) }
+    requires found { Finds B.is_clean B.state (site_of rules.now) true base.old views.old }
+    requires may { MayRun rules.now.policy.now rules.now.schemes.now certified.now.tx args.now }
+    ensures step { GoesOn B.is_clean B.failures B.state base.old base.new result }
+    ensures run { HasRun B.is_clean B.state rules.now.policy.now rules.now.schemes.now certified.now.tx args.now
+        base.old base.new result }
     ensures views { OnOk result (AreViews rules.now.policy.now B.is_clean B.state base.new views.new) }
 {
     let args = made(base, fitted(rules.alloc, certified.tx(), args))?;
@@ -237,20 +217,11 @@ pub(crate) fn call<B: Base>(
     event: &Event,
     user: UserNo,
 ) -> Result<Reply, BaseFault>
-    requires begun { (B.state base.old).begun ≡ true }
-    requires under { AreUnder (length rules.now.policy.now.labels) rules.now.schemes.now }
-    requires read { AreRead (site_of rules.now) }
-    requires sound { B.is_clean base.old → IsSound (site_of rules.now) (B.state base.old).now }
-    requires fits { EventFits rules.now.policy.now rules.now.schemes.now event.now }
-    requires deed { IsDeedOf (site_of rules.now) event.now (Deed.Call user) }
-    requires views { AreViews rules.now.policy.now B.is_clean B.state base.old views.old }
-    ensures call { IsCall B.is_clean B.failures B.state base.old base.new result }
-    ensures served { IfErr result IsServed }
-    ensures mode { OnOk result ((B.state base.new).begun ≡ true) }
-    ensures kept { B.is_clean base.new → OnOk result ((B.state base.new).kept ≡ (B.state base.old).kept) }
-    ensures done { B.is_clean base.new → IfOk result (IsDoneOf (site_of rules.now) event.now (Deed.Call user)
-        (B.state base.old).now (B.state base.new).now) }
-    ensures known { IfOk result (HasKnownNumbers rules.now.policy.now) }
+    requires found { Finds B.is_clean B.state (site_of rules.now) true base.old views.old }
+    requires may { MayDo (site_of rules.now) event.now (Deed.Call user) }
+    ensures step { GoesOn B.is_clean B.failures B.state base.old base.new result }
+    ensures done { HasDone B.is_clean B.state (site_of rules.now) event.now (Deed.Call user) base.old base.new
+        result }
     ensures views { OnOk result (AreViews rules.now.policy.now B.is_clean B.state base.new views.new) }
 {
     let Command::Call { tx, args } = &event.command else {

@@ -1,15 +1,10 @@
 //! Events that change the base: denials, which are entered, writes and calls. Each is one change.
-ghost use Rattle.std.specs.Prelude.{◌≡◌, ◌<◌, true, false, length, IfOk, IfErr, OnOk};
-ghost use Rattle.mls_scheme.specs.Scheme.{AreUnder};
-ghost use Rattle.mls_filterview.specs.Calls.{IsCall, IsServed};
+ghost use Rattle.std.specs.Prelude.{◌≡◌, ◌<◌, true, false, length, IfOk, OnOk};
 ghost use Rattle.mls_audit.specs.Spelling.{HasSpelling, entry_spelling};
 ghost use Rattle.mls_script.specs.Event.{EventFits};
 ghost use Rattle.mls_machine.specs.Machine.{denial_entry};
-ghost use Rattle.mls_machine.specs.Observation.{AreRead};
 ghost use Rattle.mls_monitor.specs.Sessions.{site_of};
-ghost use Rattle.mls_sessions.specs.World.{IsSound};
-ghost use Rattle.mls_replies.specs.Known.{HasKnownNumbers};
-ghost use Rattle.mls_sessions.specs.Turns.{IsTurn, IsDeedOf, IsDoneOf};
+ghost use Rattle.mls_sessions.specs.Turns.{MayDo, GoesOn, IsOver, Finds, HasDone};
 ghost use Rattle.mls_views.specs.Views.{AreViews};
 
 use crate::calling::call;
@@ -67,15 +62,10 @@ fn enter<B: Base>(
     denial: Denial,
 ) -> Result<Reply, BaseFault>
     requires begun { (B.state base.old).begun ≡ true }
-    requires fits { EventFits rules.now.policy.now rules.now.schemes.now event.now }
-    requires user { user < length rules.now.policy.now.users }
-    ensures call { IsCall B.is_clean B.failures B.state base.old base.new result }
-    ensures served { IfErr result IsServed }
-    ensures mode { OnOk result ((B.state base.new).begun ≡ true) }
-    ensures kept { B.is_clean base.new → OnOk result ((B.state base.new).kept ≡ (B.state base.old).kept) }
-    ensures done { B.is_clean base.new → IfOk result (IsDoneOf (site_of rules.now) event.now (Deed.Deny user denial)
-        (B.state base.old).now (B.state base.new).now) }
-    ensures known { IfOk result (HasKnownNumbers rules.now.policy.now) }
+    requires may { MayDo (site_of rules.now) event.now (Deed.Deny user denial) }
+    ensures step { GoesOn B.is_clean B.failures B.state base.old base.new result }
+    ensures done { HasDone B.is_clean B.state (site_of rules.now) event.now (Deed.Deny user denial) base.old base.new
+        result }
 {
     let bytes = made(base, denial_bytes(rules, event, user, denial))?;
     base.audit_add(&bytes)?;
@@ -89,19 +79,10 @@ fn write<B: Base>(
     views: &mut Views,
     event: &Event,
 ) -> Result<Reply, BaseFault>
-    requires begun { (B.state base.old).begun ≡ true }
-    requires under { AreUnder (length rules.now.policy.now.labels) rules.now.schemes.now }
-    requires sound { B.is_clean base.old → IsSound (site_of rules.now) (B.state base.old).now }
-    requires fits { EventFits rules.now.policy.now rules.now.schemes.now event.now }
-    requires writes { IsDeedOf (site_of rules.now) event.now Deed.Write }
-    requires views { AreViews rules.now.policy.now B.is_clean B.state base.old views.old }
-    ensures call { IsCall B.is_clean B.failures B.state base.old base.new result }
-    ensures served { IfErr result IsServed }
-    ensures mode { OnOk result ((B.state base.new).begun ≡ true) }
-    ensures kept { B.is_clean base.new → OnOk result ((B.state base.new).kept ≡ (B.state base.old).kept) }
-    ensures done { B.is_clean base.new → IfOk result (IsDoneOf (site_of rules.now) event.now Deed.Write
-        (B.state base.old).now (B.state base.new).now) }
-    ensures known { IfOk result (HasKnownNumbers rules.now.policy.now) }
+    requires found { Finds B.is_clean B.state (site_of rules.now) true base.old views.old }
+    requires may { MayDo (site_of rules.now) event.now Deed.Write }
+    ensures step { GoesOn B.is_clean B.failures B.state base.old base.new result }
+    ensures done { HasDone B.is_clean B.state (site_of rules.now) event.now Deed.Write base.old base.new result }
     ensures views { OnOk result (AreViews rules.now.policy.now B.is_clean B.state base.new views.new) }
 {
     let Rules {
@@ -152,20 +133,10 @@ fn act<B: Base>(
     event: &Event,
     deed: Deed,
 ) -> Result<Reply, BaseFault>
-    requires begun { (B.state base.old).begun ≡ true }
-    requires under { AreUnder (length rules.now.policy.now.labels) rules.now.schemes.now }
-    requires sound { B.is_clean base.old → IsSound (site_of rules.now) (B.state base.old).now }
-    requires fits { EventFits rules.now.policy.now rules.now.schemes.now event.now }
-    requires read { AreRead (site_of rules.now) }
-    requires deed { IsDeedOf (site_of rules.now) event.now deed }
-    requires views { AreViews rules.now.policy.now B.is_clean B.state base.old views.old }
-    ensures call { IsCall B.is_clean B.failures B.state base.old base.new result }
-    ensures served { IfErr result IsServed }
-    ensures mode { OnOk result ((B.state base.new).begun ≡ true) }
-    ensures kept { B.is_clean base.new → OnOk result ((B.state base.new).kept ≡ (B.state base.old).kept) }
-    ensures done { B.is_clean base.new → IfOk result (IsDoneOf (site_of rules.now) event.now deed (B.state base.old).now
-        (B.state base.new).now) }
-    ensures known { IfOk result (HasKnownNumbers rules.now.policy.now) }
+    requires found { Finds B.is_clean B.state (site_of rules.now) true base.old views.old }
+    requires may { MayDo (site_of rules.now) event.now deed }
+    ensures step { GoesOn B.is_clean B.failures B.state base.old base.new result }
+    ensures done { HasDone B.is_clean B.state (site_of rules.now) event.now deed base.old base.new result }
     ensures views { OnOk result (AreViews rules.now.policy.now B.is_clean B.state base.new views.new) }
 {
     match deed {
@@ -183,18 +154,10 @@ fn carry_out<B: Base>(
     event: &Event,
     deed: Deed,
 ) -> Result<Reply, BaseFault>
-    requires idle { (B.state base.old).begun ≡ false }
-    requires under { AreUnder (length rules.now.policy.now.labels) rules.now.schemes.now }
-    requires sound { B.is_clean base.old → IsSound (site_of rules.now) (B.state base.old).now }
-    requires fits { EventFits rules.now.policy.now rules.now.schemes.now event.now }
-    requires read { AreRead (site_of rules.now) }
-    requires deed { IsDeedOf (site_of rules.now) event.now deed }
-    requires views { AreViews rules.now.policy.now B.is_clean B.state base.old views.old }
-    ensures turn { IsTurn B.is_clean B.failures (λ b. (B.state b).now) base.old base.new result }
-    ensures idle { (B.state base.new).begun ≡ false }
-    ensures done { B.is_clean base.new → IfOk result (IsDoneOf (site_of rules.now) event.now deed (B.state base.old).now
-        (B.state base.new).now) }
-    ensures known { IfOk result (HasKnownNumbers rules.now.policy.now) }
+    requires found { Finds B.is_clean B.state (site_of rules.now) false base.old views.old }
+    requires may { MayDo (site_of rules.now) event.now deed }
+    ensures over { IsOver B.is_clean B.failures B.state base.old base.new result }
+    ensures done { HasDone B.is_clean B.state (site_of rules.now) event.now deed base.old base.new result }
     ensures views { OnOk result (AreViews rules.now.policy.now B.is_clean B.state base.new views.new) }
 {
     base.begin()?;
@@ -211,18 +174,10 @@ pub(crate) fn change<B: Base>(
     event: &Event,
     deed: Deed,
 ) -> Result<Reply, BaseFault>
-    requires idle { (B.state base.old).begun ≡ false }
-    requires under { AreUnder (length rules.now.policy.now.labels) rules.now.schemes.now }
-    requires sound { B.is_clean base.old → IsSound (site_of rules.now) (B.state base.old).now }
-    requires fits { EventFits rules.now.policy.now rules.now.schemes.now event.now }
-    requires read { AreRead (site_of rules.now) }
-    requires deed { IsDeedOf (site_of rules.now) event.now deed }
-    requires views { AreViews rules.now.policy.now B.is_clean B.state base.old views.old }
-    ensures turn { IsTurn B.is_clean B.failures (λ b. (B.state b).now) base.old base.new result }
-    ensures idle { (B.state base.new).begun ≡ false }
-    ensures done { B.is_clean base.new → IfOk result (IsDoneOf (site_of rules.now) event.now deed (B.state base.old).now
-        (B.state base.new).now) }
-    ensures known { IfOk result (HasKnownNumbers rules.now.policy.now) }
+    requires found { Finds B.is_clean B.state (site_of rules.now) false base.old views.old }
+    requires may { MayDo (site_of rules.now) event.now deed }
+    ensures over { IsOver B.is_clean B.failures B.state base.old base.new result }
+    ensures done { HasDone B.is_clean B.state (site_of rules.now) event.now deed base.old base.new result }
     ensures views { AreViews rules.now.policy.now B.is_clean B.state base.new views.new }
 {
     let result = carry_out(rules, base, views, event, deed);

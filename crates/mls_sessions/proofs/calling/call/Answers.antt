@@ -18,44 +18,41 @@ pub certified_named-certified-requires : goal.certified_named-certified-requires
 certified_named-certified-requires g c =
     let site = site_of c.args.rules.now in
     let e = c.args.event.now in
-    let found = certified_found site e.level c.args.user c.in-Call.tx c.in-Call.args (call_allowed site e c.args.user c.in-Call.tx c.in-Call.args c.in-Call.is c.requires.deed.2) in
+    let found = certified_found site e.level c.args.user c.in-Call.tx c.in-Call.args (call_allowed site e c.args.user c.in-Call.tx c.in-Call.args c.in-Call.is c.requires.may.asked.2) in
     (found.0, ap (λ xs. stored_named xs c.deref-2.result.now) c.deref.ensures ∙ ap (stored_named c.args.rules.now.stored) c.deref-2.ensures ∙ found.1)
 
-pub run_certified-requires-clause-read : goal.run_certified-requires-clause-read
-run_certified-requires-clause-read g c =
-    found_read (site_of c.args.rules.now) c.in-Call.tx (Certified c.certified_named-certified.result.now) c.requires.read
-    (sym (ap (λ xs. stored_named xs c.deref-2.result.now) c.deref.ensures ∙ ap (stored_named c.args.rules.now.stored) c.deref-2.ensures) ∙ c.certified_named-certified.ensures)
-
-pub run_certified-requires-clause-count : goal.run_certified-requires-clause-count
-run_certified-requires-clause-count g c =
-    let site = site_of c.args.rules.now in
-    let e = c.args.event.now in
-    ap (λ (xs : List (Option Value)). length xs) c.deref-3.ensures
-    ∙ counted site e.level c.args.user c.in-Call.tx c.in-Call.args c.certified_named-certified.result.now
-    (sym (ap (λ xs. stored_named xs c.deref-2.result.now) c.deref.ensures ∙ ap (stored_named c.args.rules.now.stored) c.deref-2.ensures) ∙ c.certified_named-certified.ensures)
-    (call_allowed site e c.args.user c.in-Call.tx c.in-Call.args c.in-Call.is c.requires.deed.2)
-
-pub run_certified-requires-clause-content : goal.run_certified-requires-clause-content
-run_certified-requires-clause-content g c = λ clean. (c.requires.sound clean).content
-
-pub returns-clause-done : goal.returns-clause-done
-returns-clause-done g c = λ clean.
+pub run_certified-requires-clause-may : goal.run_certified-requires-clause-may
+run_certified-requires-clause-may g c =
     let site = site_of c.args.rules.now in
     let e = c.args.event.now in
     let k = c.certified_named-certified.result.now in
-    let s = g.B.Base.state c.args.base.now in
-    let m = g.B.Base.state c.run_certified.new.base in
-    let t = g.B.Base.state c.enter_run.new.base in
-    let run = c.in_ok-run.run' in
-    let ran : (args : List (Option Value)) → _ = λ args. run_tx (site_labels site) site.schemes k.tx (fitted k.tx.params args) s.now.db in
-    call_over site e c.args.user c.in-Call.tx c.in-Call.args c.in-Call.is c.requires.deed.2 k
-    (sym (ap (λ xs. stored_named xs c.deref-2.result.now) c.deref.ensures ∙ ap (stored_named c.args.rules.now.stored) c.deref-2.ensures) ∙ c.certified_named-certified.ensures)
-    s m t run
-    (subst (λ (args : List (Option Value)). IsEvaluated (ran args) (with_database s (ran args).db) m run) c.deref-3.ensures (c.in_ok-run.ensures.done (c.in_ok-enter_run.ensures.call.clean clean)))
-    (c.in_ok-enter_run.ensures.done clean ∙ (λ i. with_entries m (call_entries site e c.args.user (c.deref-4.ensures i) (c.deref-5.ensures i))))
-    (subst (AllByRecursion HasSpelling) (λ i. call_entries site e c.args.user (c.deref-4.ensures i) (c.deref-5.ensures i)) c.in_ok-enter_run.ensures.spelled)
-    c.requires.fits.level c.in_ok-run.ensures.items.released
+    let stored = sym (ap (λ xs. stored_named xs c.deref-2.result.now) c.deref.ensures ∙ ap (stored_named c.args.rules.now.stored) c.deref-2.ensures) ∙ c.certified_named-certified.ensures in
+    record {
+      read = found_read site c.in-Call.tx (Certified k) c.requires.may.read stored;
+      count = ap (λ (xs : List (Option Value)). length xs) c.deref-3.ensures
+          ∙ counted site e.level c.args.user c.in-Call.tx c.in-Call.args k stored (call_allowed site e c.args.user c.in-Call.tx c.in-Call.args c.in-Call.is c.requires.may.asked.2);
+    }
 
-pub returns-clause-known : goal.returns-clause-known
-returns-clause-known g c =
-    (items_known c.args.rules.now.policy.now c.in_ok-run.run'.emitted c.in_ok-run.ensures.items.emitted, items_known c.args.rules.now.policy.now c.in_ok-run.run'.released c.in_ok-run.ensures.items.released)
+pub returns-clause-done : goal.returns-clause-done
+returns-clause-done g c = record {
+  done = λ clean.
+      let site = site_of c.args.rules.now in
+      let e = c.args.event.now in
+      let k = c.certified_named-certified.result.now in
+      let s = g.B.Base.state c.args.base.now in
+      let m = g.B.Base.state c.run_certified.new.base in
+      let t = g.B.Base.state c.enter_run.new.base in
+      let run = c.in_ok-run.run' in
+      let ran : (args : List (Option Value)) → _ = λ args. run_tx (site_labels site) site.schemes k.tx (fitted k.tx.params args) s.now.db in
+      call_over site e c.args.user c.in-Call.tx c.in-Call.args c.in-Call.is c.requires.may.asked.2 k
+      (sym (ap (λ xs. stored_named xs c.deref-2.result.now) c.deref.ensures ∙ ap (stored_named c.args.rules.now.stored) c.deref-2.ensures) ∙ c.certified_named-certified.ensures)
+      s m t run
+      (subst (λ (args : List (Option Value)). IsEvaluated (ran args) (with_database s (ran args).db) m run) c.deref-3.ensures (c.in_ok-run.ensures.run.done (c.in_ok-enter_run.ensures.call.clean clean)))
+      (c.in_ok-enter_run.ensures.done clean ∙ (λ i. with_entries m (call_entries site e c.args.user (c.deref-4.ensures i) (c.deref-5.ensures i))))
+      (subst (AllByRecursion HasSpelling) (λ i. call_entries site e c.args.user (c.deref-4.ensures i) (c.deref-5.ensures i)) c.in_ok-enter_run.ensures.spelled)
+      c.requires.may.fits.level c.in_ok-run.ensures.run.items.released;
+  known = (
+    items_known c.args.rules.now.policy.now c.in_ok-run.run'.emitted c.in_ok-run.ensures.run.items.emitted,
+    items_known c.args.rules.now.policy.now c.in_ok-run.run'.released c.in_ok-run.ensures.run.items.released,
+  );
+}

@@ -12,9 +12,9 @@ evaluate_in-requires-clause-args g c =
     let made : c.in_ok-args.args.items ≡ fitted c.tx.result.now.params c.args.args.now =
     subst (λ r. IfOk r (λ v. v.items ≡ fitted c.tx.result.now.params c.args.args.now)) c.in_ok-args.ensures.value c.fitted.ensures in
     subst (ArgsFit c.args.certified.now.tx) (sym (c.deref.ensures.value ∙ made ∙ ap (λ (t : Tx). fitted t.params c.args.args.now) c.tx.ensures))
-    (fitted_fit c.args.certified.now.tx c.args.args.now c.requires.count)
+    (fitted_fit c.args.certified.now.tx c.args.args.now c.requires.may.count)
 
 pub evaluate_in-requires-clause-content : goal.evaluate_in-requires-clause-content
 evaluate_in-requires-clause-content g c = λ clean.
     subst (λ b. AreContent (labels_of c.args.rules.now.policy.now) c.args.rules.now.schemes.now (g.B.Base.state b).now.db) (sym c.in_ok-args.ensures.same)
-    (c.requires.content (subst g.B.Base.is_clean c.in_ok-args.ensures.same clean))
+    (c.requires.found.sound (subst g.B.Base.is_clean c.in_ok-args.ensures.same clean)).content

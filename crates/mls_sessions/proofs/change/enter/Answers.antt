@@ -7,10 +7,13 @@ use Rattle.mls_sessions.proofs.StepLemmas.{denied_over}
 use Rattle.mls_sessions.proofs.change.enter.Goals as goal
 
 pub returns-clause-done : goal.returns-clause-done
-returns-clause-done g c = λ clean.
-    let site = site_of c.args.rules.now in
-    let entry = denial_entry site c.args.event.now c.args.user c.args.denial in
-    denied_over site (g.B.Base.state c.args.base.now) (g.B.Base.state c.audit_add.new.self) c.args.event.now c.args.user c.args.denial c.in_ok-bytes.bytes.items c.requires.fits.level
-    (subst (λ r. OnOk r (HasSpelling entry)) c.in_ok-bytes.ensures.value c.denial_bytes.ensures.spelled)
-    (subst (λ r. IfOk r (λ v. v.items ≡ entry_spelling entry)) c.in_ok-bytes.ensures.value c.denial_bytes.ensures.bytes)
-    (c.in_ok-audit_add.ensures.done clean ∙ ap (with_entry (g.B.Base.state c.made.new.base)) c.deref.ensures.value ∙ ap (λ b. with_entry (g.B.Base.state b) c.in_ok-bytes.bytes.items) c.in_ok-bytes.ensures.same)
+returns-clause-done g c = record {
+  done = λ clean.
+      let site = site_of c.args.rules.now in
+      let entry = denial_entry site c.args.event.now c.args.user c.args.denial in
+      denied_over site (g.B.Base.state c.args.base.now) (g.B.Base.state c.audit_add.new.self) c.args.event.now c.args.user c.args.denial c.in_ok-bytes.bytes.items c.requires.may.fits.level
+      (subst (λ r. OnOk r (HasSpelling entry)) c.in_ok-bytes.ensures.value c.denial_bytes.ensures.spelled)
+      (subst (λ r. IfOk r (λ v. v.items ≡ entry_spelling entry)) c.in_ok-bytes.ensures.value c.denial_bytes.ensures.bytes)
+      (c.in_ok-audit_add.ensures.done clean ∙ ap (with_entry (g.B.Base.state c.made.new.base)) c.deref.ensures.value ∙ ap (λ b. with_entry (g.B.Base.state b) c.in_ok-bytes.bytes.items) c.in_ok-bytes.ensures.same);
+  known = tt;
+}

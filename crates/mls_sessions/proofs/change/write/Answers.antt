@@ -8,18 +8,18 @@ use Rattle.mls_sessions.proofs.change.write.Goals.{in-Insert+in_ok-outcome-in-In
 use Rattle.mls_sessions.proofs.change.write.Goals as goal
 
 pub insert-requires-clause-stored : goal.insert-requires-clause-stored
-insert-requires-clause-stored g c = λ h. (c.requires.sound h).content c.in-Insert.rel
+insert-requires-clause-stored g c = λ h. (c.requires.found.sound h).content c.in-Insert.rel
 
 pub update-requires-clause-fits : goal.update-requires-clause-fits
 update-requires-clause-fits g c =
     subst (AllByRecursion (λ s. s.0 < length (scheme_of c.args.rules.now.schemes.now c.in-Update.rel).others)) (sym c.deref-in-Update-2.ensures)
-    (subst (CommandFits c.args.rules.now.policy.now c.args.rules.now.schemes.now) c.in-Update.is c.requires.fits.command).4.known
+    (subst (CommandFits c.args.rules.now.policy.now c.args.rules.now.schemes.now) c.in-Update.is c.requires.may.fits.command).4.known
 
 pub update-requires-clause-stored : goal.update-requires-clause-stored
-update-requires-clause-stored g c = λ h. (c.requires.sound h).content c.in-Update.rel
+update-requires-clause-stored g c = λ h. (c.requires.found.sound h).content c.in-Update.rel
 
 pub delete-requires-clause-stored : goal.delete-requires-clause-stored
-delete-requires-clause-stored g c = λ h. (c.requires.sound h).content c.in-Delete.rel
+delete-requires-clause-stored g c = λ h. (c.requires.found.sound h).content c.in-Delete.rel
 
 pub returns-clause-views : goal.returns-clause-views
 returns-clause-views g c =
@@ -30,21 +30,21 @@ returns-clause-views g c =
     let here = c.match-event.base in
     let es = c.args.views.now in
     let left = c.match-event.views in
-    let sound = c.requires.sound in
+    let sound = c.requires.found.sound in
     elim c.match-event.branch [
       | in-Insert+in_ok-outcome-in-Insert w ↦
           let rel = w.in-Insert.rel in
           let done = w.in_ok-outcome-in-Insert.ensures in
           written_views g.B.Base.is_clean g.B.Base.state policy (scheme_of rules.schemes.now rel) rel e.level (Insert w.deref.result.now w.deref-in-Insert.result.now) a w.insert.new.base here w.in_ok-outcome-in-Insert.outcome es w.follow.new.self left
-          w.base-is w.views-is w.follow.ensures done.call.clean (λ k. (sound (done.call.clean k)).content rel) done.done c.requires.views
+          w.base-is w.views-is w.follow.ensures done.call.clean (λ k. (sound (done.call.clean k)).content rel) done.done c.requires.found.views
       | in-Update+in_ok-outcome-in-Update w ↦
           let rel = w.in-Update.rel in
           let done = w.in_ok-outcome-in-Update.ensures in
           written_views g.B.Base.is_clean g.B.Base.state policy (scheme_of rules.schemes.now rel) rel e.level (Update w.deref-in-Update.result.now w.in-Update.key_class w.in-Update.from w.deref-in-Update-2.result.now) a w.update.new.base here w.in_ok-outcome-in-Update.outcome es w.follow-in-Update.new.self left
-          w.base-is w.views-is w.follow-in-Update.ensures done.call.clean (λ k. (sound (done.call.clean k)).content rel) done.done c.requires.views
+          w.base-is w.views-is w.follow-in-Update.ensures done.call.clean (λ k. (sound (done.call.clean k)).content rel) done.done c.requires.found.views
       | in-Delete+in_ok-outcome-in-Delete w ↦
           let rel = w.in-Delete.rel in
           let done = w.in_ok-outcome-in-Delete.ensures in
           written_views g.B.Base.is_clean g.B.Base.state policy (scheme_of rules.schemes.now rel) rel e.level (Delete w.deref-in-Delete.result.now w.in-Delete.key_class) a w.delete.new.base here w.in_ok-outcome-in-Delete.outcome es w.follow-in-Delete.new.self left
-          w.base-is w.views-is w.follow-in-Delete.ensures done.call.clean (λ k. (sound (done.call.clean k)).content rel) done.done c.requires.views
+          w.base-is w.views-is w.follow-in-Delete.ensures done.call.clean (λ k. (sound (done.call.clean k)).content rel) done.done c.requires.found.views
     ]

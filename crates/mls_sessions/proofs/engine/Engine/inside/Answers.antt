@@ -11,18 +11,22 @@ use Rattle.mls_sessions.proofs.engine.Engine.inside.Goals as goal
 pub denial_of-requires-clause-user : goal.denial_of-requires-clause-user
 denial_of-requires-clause-user g c = user_known _ c.args.self.now.sessions.items c.args.event.now.level c.args.event.now.session c.args.user c.requires.ready.users c.requires.held
 
-pub change-requires-clause-deed : goal.change-requires-clause-deed
-change-requires-clause-deed g c = user_known _ c.args.self.now.sessions.items c.args.event.now.level c.args.event.now.session c.args.user c.requires.ready.users c.requires.held
+pub change-requires-clause-may : goal.change-requires-clause-may
+change-requires-clause-may g c = record {
+  fits = c.requires.fits;
+  read = c.requires.ready.read;
+  asked = user_known _ c.args.self.now.sessions.items c.args.event.now.level c.args.event.now.session c.args.user c.requires.ready.users c.requires.held;
+}
 
 pub returns-in-Some-clause-kept : goal.returns-in-Some-clause-kept
 returns-in-Some-clause-kept g c =
     (answers_over g.B.Base.state g.B.Base.is_clean g.B.Base.failures c.args.self.now c.requires.ready c.args.event.now c.requires.fits c.change.new.base
-    (λ w. denied (site c.args.self.now) w c.args.event.now c.args.user c.in-Some.denial) (denied_is (site c.args.self.now) (world_of g.B.Base.state c.args.self.now) c.args.event.now c.args.user c.requires.held c.in-Some.denial (sym c.denial_of.ensures ∙ c.in-Some.is)) c.change.new.views c.change.result c.change.ensures.turn c.change.ensures.idle c.change.ensures.done c.change.ensures.views).kept
+    (λ w. denied (site c.args.self.now) w c.args.event.now c.args.user c.in-Some.denial) (denied_is (site c.args.self.now) (world_of g.B.Base.state c.args.self.now) c.args.event.now c.args.user c.requires.held c.in-Some.denial (sym c.denial_of.ensures ∙ c.in-Some.is)) c.change.new.views c.change.result c.change.ensures.over.turn c.change.ensures.over.idle c.change.ensures.done.done c.change.ensures.views).kept
 
 pub returns-in-Some-clause-done : goal.returns-in-Some-clause-done
 returns-in-Some-clause-done g c =
     (answers_over g.B.Base.state g.B.Base.is_clean g.B.Base.failures c.args.self.now c.requires.ready c.args.event.now c.requires.fits c.change.new.base
-    (λ w. denied (site c.args.self.now) w c.args.event.now c.args.user c.in-Some.denial) (denied_is (site c.args.self.now) (world_of g.B.Base.state c.args.self.now) c.args.event.now c.args.user c.requires.held c.in-Some.denial (sym c.denial_of.ensures ∙ c.in-Some.is)) c.change.new.views c.change.result c.change.ensures.turn c.change.ensures.idle c.change.ensures.done c.change.ensures.views).done
+    (λ w. denied (site c.args.self.now) w c.args.event.now c.args.user c.in-Some.denial) (denied_is (site c.args.self.now) (world_of g.B.Base.state c.args.self.now) c.args.event.now c.args.user c.requires.held c.in-Some.denial (sym c.denial_of.ensures ∙ c.in-Some.is)) c.change.new.views c.change.result c.change.ensures.over.turn c.change.ensures.over.idle c.change.ensures.done.done c.change.ensures.views).done
 
 pub returns-in-View-clause-kept : goal.returns-in-View-clause-kept
 returns-in-View-clause-kept g c =
@@ -47,12 +51,12 @@ returns-in-Audit-clause-done g c =
 pub returns-in-Insert-clause-kept : goal.returns-in-Insert-clause-kept
 returns-in-Insert-clause-kept g c =
     (answers_over g.B.Base.state g.B.Base.is_clean g.B.Base.failures c.args.self.now c.requires.ready c.args.event.now c.requires.fits c.change-in-Insert.new.base
-    (λ w. step_inside (site c.args.self.now) w c.args.event.now c.args.event.now.command c.args.user) (wrote_is (site c.args.self.now) (world_of g.B.Base.state c.args.self.now) c.args.event.now c.args.user c.requires.held) c.change-in-Insert.new.views c.change-in-Insert.result c.change-in-Insert.ensures.turn c.change-in-Insert.ensures.idle (λ clean. IfOk-weaker c.change-in-Insert.result _ _ (λ r each. each c.args.user (sym c.denial_of.ensures ∙ none_from c.denial_of.result c.in_default.not-Some)) (c.change-in-Insert.ensures.done clean)) c.change-in-Insert.ensures.views).kept
+    (λ w. step_inside (site c.args.self.now) w c.args.event.now c.args.event.now.command c.args.user) (wrote_is (site c.args.self.now) (world_of g.B.Base.state c.args.self.now) c.args.event.now c.args.user c.requires.held) c.change-in-Insert.new.views c.change-in-Insert.result c.change-in-Insert.ensures.over.turn c.change-in-Insert.ensures.over.idle (λ clean. IfOk-weaker c.change-in-Insert.result _ _ (λ r each. each c.args.user (sym c.denial_of.ensures ∙ none_from c.denial_of.result c.in_default.not-Some)) (c.change-in-Insert.ensures.done.done clean)) c.change-in-Insert.ensures.views).kept
 
 pub returns-in-Insert-clause-done : goal.returns-in-Insert-clause-done
 returns-in-Insert-clause-done g c =
     (answers_over g.B.Base.state g.B.Base.is_clean g.B.Base.failures c.args.self.now c.requires.ready c.args.event.now c.requires.fits c.change-in-Insert.new.base
-    (λ w. step_inside (site c.args.self.now) w c.args.event.now c.args.event.now.command c.args.user) (wrote_is (site c.args.self.now) (world_of g.B.Base.state c.args.self.now) c.args.event.now c.args.user c.requires.held) c.change-in-Insert.new.views c.change-in-Insert.result c.change-in-Insert.ensures.turn c.change-in-Insert.ensures.idle (λ clean. IfOk-weaker c.change-in-Insert.result _ _ (λ r each. each c.args.user (sym c.denial_of.ensures ∙ none_from c.denial_of.result c.in_default.not-Some)) (c.change-in-Insert.ensures.done clean)) c.change-in-Insert.ensures.views).done
+    (λ w. step_inside (site c.args.self.now) w c.args.event.now c.args.event.now.command c.args.user) (wrote_is (site c.args.self.now) (world_of g.B.Base.state c.args.self.now) c.args.event.now c.args.user c.requires.held) c.change-in-Insert.new.views c.change-in-Insert.result c.change-in-Insert.ensures.over.turn c.change-in-Insert.ensures.over.idle (λ clean. IfOk-weaker c.change-in-Insert.result _ _ (λ r each. each c.args.user (sym c.denial_of.ensures ∙ none_from c.denial_of.result c.in_default.not-Some)) (c.change-in-Insert.ensures.done.done clean)) c.change-in-Insert.ensures.views).done
 
 pub returns-in-Close-clause-kept : goal.returns-in-Close-clause-kept
 returns-in-Close-clause-kept g c =
@@ -64,19 +68,23 @@ returns-in-Close-clause-done g c =
     (answers_closed g.B.Base.state g.B.Base.is_clean g.B.Base.failures c.args.self.now c.requires.ready c.args.event.now c.requires.fits c.close.new.sessions (c.close.ensures.users _ c.requires.ready.users)
     (c.close.ensures.closed ∙ ap (λ name. with_session (sessions_of c.args.self.now.sessions.items) c.args.event.now.level name None) c.deref.ensures) (closed_is (site c.args.self.now) (world_of g.B.Base.state c.args.self.now) c.args.event.now c.args.user c.requires.held c.in-Close.is)).done
 
-pub change-requires-in-Call-clause-deed : goal.change-requires-in-Call-clause-deed
-change-requires-in-Call-clause-deed g c = (
-  user_known _ c.args.self.now.sessions.items c.args.event.now.level c.args.event.now.session c.args.user c.requires.ready.users c.requires.held,
-  ap is_call c.in-Call.is,
-  sym c.denial_of.ensures ∙ none_from c.denial_of.result c.in_default.not-Some,
-)
+pub change-requires-in-Call-clause-may : goal.change-requires-in-Call-clause-may
+change-requires-in-Call-clause-may g c = record {
+  fits = c.requires.fits;
+  read = c.requires.ready.read;
+  asked = (
+    user_known _ c.args.self.now.sessions.items c.args.event.now.level c.args.event.now.session c.args.user c.requires.ready.users c.requires.held,
+    ap is_call c.in-Call.is,
+    sym c.denial_of.ensures ∙ none_from c.denial_of.result c.in_default.not-Some,
+  );
+}
 
 pub returns-in-Call-clause-kept : goal.returns-in-Call-clause-kept
 returns-in-Call-clause-kept g c =
     (answers_over g.B.Base.state g.B.Base.is_clean g.B.Base.failures c.args.self.now c.requires.ready c.args.event.now c.requires.fits c.change-in-Call.new.base
-    (λ w. step_inside (site c.args.self.now) w c.args.event.now c.args.event.now.command c.args.user) (wrote_is (site c.args.self.now) (world_of g.B.Base.state c.args.self.now) c.args.event.now c.args.user c.requires.held) c.change-in-Call.new.views c.change-in-Call.result c.change-in-Call.ensures.turn c.change-in-Call.ensures.idle c.change-in-Call.ensures.done c.change-in-Call.ensures.views).kept
+    (λ w. step_inside (site c.args.self.now) w c.args.event.now c.args.event.now.command c.args.user) (wrote_is (site c.args.self.now) (world_of g.B.Base.state c.args.self.now) c.args.event.now c.args.user c.requires.held) c.change-in-Call.new.views c.change-in-Call.result c.change-in-Call.ensures.over.turn c.change-in-Call.ensures.over.idle c.change-in-Call.ensures.done.done c.change-in-Call.ensures.views).kept
 
 pub returns-in-Call-clause-done : goal.returns-in-Call-clause-done
 returns-in-Call-clause-done g c =
     (answers_over g.B.Base.state g.B.Base.is_clean g.B.Base.failures c.args.self.now c.requires.ready c.args.event.now c.requires.fits c.change-in-Call.new.base
-    (λ w. step_inside (site c.args.self.now) w c.args.event.now c.args.event.now.command c.args.user) (wrote_is (site c.args.self.now) (world_of g.B.Base.state c.args.self.now) c.args.event.now c.args.user c.requires.held) c.change-in-Call.new.views c.change-in-Call.result c.change-in-Call.ensures.turn c.change-in-Call.ensures.idle c.change-in-Call.ensures.done c.change-in-Call.ensures.views).done
+    (λ w. step_inside (site c.args.self.now) w c.args.event.now c.args.event.now.command c.args.user) (wrote_is (site c.args.self.now) (world_of g.B.Base.state c.args.self.now) c.args.event.now c.args.user c.requires.held) c.change-in-Call.new.views c.change-in-Call.result c.change-in-Call.ensures.over.turn c.change-in-Call.ensures.over.idle c.change-in-Call.ensures.done.done c.change-in-Call.ensures.views).done

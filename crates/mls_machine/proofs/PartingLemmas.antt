@@ -1,0 +1,239 @@
+-- No line feed stands in a line, and parted at them the output is its lines.
+use Rattle.std.proofs.Common.{◌≡◌, ℕ, Bool, true, false, cond, List, [], ◌∷◌, ◌++◌, map, Option, Some, None, refl, ap, ◌∙◌, append_assoc, arith}
+use Rattle.std.specs.Prelude.{codes}
+use Rattle.std.specs.List.{filter, All, AllByRecursion, slice_split}
+use Rattle.std.specs.Fmt.{decimal}
+use Rattle.std.proofs.lemmas.List.Folds.{list_any-append}
+use Rattle.std.proofs.lemmas.List.Elements.{All-cons}
+use Rattle.std.proofs.lemmas.List.Splits.{slice_split_at}
+use Rattle.mls_tokens.specs.Writing.{printable}
+use Rattle.mls_lattice.specs.Policy.{Name}
+use Rattle.mls_lattice.specs.Name.{is_name}
+use Rattle.mls_lattice.specs.Canon.{user_name}
+use Rattle.mls_scheme.specs.Scheme.{Scheme, Attribute, IsScheme, scheme_of}
+use Rattle.mls_scheme.specs.declared.tuple.Tuple.{Tuple}
+use Rattle.mls_updates.specs.declared.outcome.Outcome.{Outcome}
+use Rattle.mls_updates.specs.declared.outcome.Outcome.TheVariants as outcomes
+use Rattle.mls_updates.specs.Outcome.{is_done, code_of as outcome_code, word_of as outcome_word}
+use Rattle.mls_meaning.specs.Meaning.{Item}
+use Rattle.mls_script.specs.declared.event.Event.{Event}
+use Rattle.mls_script.specs.declared.event.Command.{Command}
+use Rattle.mls_script.specs.declared.event.Command.TheVariants as commands
+use Rattle.mls_machine.specs.declared.form.Form.{Form}
+use Rattle.mls_machine.specs.declared.form.Form.TheVariants.{Lines, Table}
+use Rattle.mls_machine.specs.declared.reply.Denial.{Denial}
+use Rattle.mls_machine.specs.declared.reply.Denial.TheVariants as denials
+use Rattle.mls_machine.specs.declared.reply.Reply.{Reply}
+use Rattle.mls_machine.specs.declared.reply.Reply.TheVariants.{Opened, Closed, Rows, Wrote, Ran, Entries, Denied}
+use Rattle.mls_machine.specs.Site.{Site, site_labels}
+use Rattle.mls_machine.specs.Reply.{code_of, word_of}
+use Rattle.mls_machine.specs.Machine.{World, step}
+use Rattle.mls_machine.specs.Output.{Line, cell_text, row_text, entry_text, outcome_text, denial_text, view_texts, table_texts, table_widths, call_texts, reply_texts, texts_in_table, front, line, item_line, item_lines, lines_with, escaped_line, reply_lines_in, run_lines, printed}
+use Rattle.mls_machine.specs.Observation.{heard, out}
+use Rattle.mls_machine.specs.Parting.{is_line_feed, IsOneLine, HasPlainNames, IsPlain, PoliciesArePlain, RepliesAreLines, RunsAreLines, RunsPartIntoLines}
+use Rattle.mls_machine.proofs.OneLineLemmas.{one_line-append, one_line-at, each, each_if, each-append, each-map, one_line-printable, one_line-decimal, one_line-escaped, one_line-name, first_of, second_of}
+use Rattle.mls_machine.proofs.RowLineLemmas.{cell_line, scheme_line, label_line, row_line, heading_line, table_lines, entry_line}
+
+-- ---- outcomes and denials
+
+coded_line : (deed word : List ℕ) (n : ℕ) → IsOneLine deed → IsOneLine word → IsOneLine (deed ++ decimal n ++ codes " " ++ word)
+coded_line deed word n h k = simp (list_any-append, h, one_line-decimal n, k)
+
+outcome_word_line : (o : Outcome) → IsOneLine (outcome_word o)
+outcome_word_line outcomes.Done = refl
+outcome_word_line outcomes.KeyNull = refl
+outcome_word_line outcomes.Duplicate = refl
+outcome_word_line outcomes.NoTuple = refl
+outcome_word_line outcomes.NullAboveKey = refl
+outcome_word_line outcomes.Inherited = refl
+outcome_word_line outcomes.OutOfInterval = refl
+outcome_word_line outcomes.AlreadyDerived = refl
+
+outcome_line : (o : Outcome) → IsOneLine (outcome_text o)
+outcome_line o =
+    elim (is_done o) as (λ b. IsOneLine (cond b (codes "done") (codes "refused " ++ decimal (outcome_code o) ++ codes " " ++ outcome_word o))) [
+      | true ↦ refl
+      | false ↦ coded_line (codes "refused ") (outcome_word o) (outcome_code o) refl (outcome_word_line o)
+    ]
+
+denial_word_line : (d : Denial) → IsOneLine (word_of d)
+denial_word_line denials.NoSession = refl
+denial_word_line denials.AlreadyOpen = refl
+denial_word_line denials.UnknownUser = refl
+denial_word_line denials.UnknownTransaction = refl
+denial_word_line denials.NotCertified = refl
+denial_word_line denials.Ds = refl
+denial_word_line denials.Ss = refl
+denial_word_line denials.Star = refl
+denial_word_line denials.Trust = refl
+denial_word_line denials.Arguments = refl
+
+denial_line : (d : Denial) → IsOneLine (denial_text d)
+denial_line d = coded_line (codes "denied ") (word_of d) (code_of d) refl (denial_word_line d)
+
+-- ---- replies
+
+-- no line feed in the text of a line
+abbrev Whole : Line → Type 0
+Whole l = IsOneLine l.text
+
+module _ (site : Site) (plain : IsPlain site) where
+  view_lines : (command : Command) (tuples : List Tuple) → AllByRecursion IsOneLine (view_texts site command tuples)
+  view_lines (commands.View rel label) tuples = (
+    heading_line site.policy plain.labels (scheme_of site.schemes rel) label (scheme_line site.schemes rel plain.relations),
+    each-map IsOneLine (row_text site.policy) tuples (each (λ t. IsOneLine (row_text site.policy t)) (row_line site.policy plain.labels) tuples),
+  )
+  view_lines (commands.Open name) tuples = tt
+  view_lines commands.Close tuples = tt
+  view_lines commands.Audit tuples = tt
+  view_lines (commands.Insert rel key values) tuples = tt
+  view_lines (commands.Update rel key key_class from sets) tuples = tt
+  view_lines (commands.Delete rel key key_class) tuples = tt
+  view_lines (commands.Call name args) tuples = tt
+
+  in_table : (command : Command) (tuples : List Tuple) → AllByRecursion IsOneLine (table_texts site command tuples)
+  in_table (commands.View rel label) tuples =
+      let s = scheme_of site.schemes rel in
+      table_lines site.policy plain.labels s label (table_widths site.policy s tuples) tuples (scheme_line site.schemes rel plain.relations)
+  in_table (commands.Open name) tuples = tt
+  in_table commands.Close tuples = tt
+  in_table commands.Audit tuples = tt
+  in_table (commands.Insert rel key values) tuples = tt
+  in_table (commands.Update rel key key_class from sets) tuples = tt
+  in_table (commands.Delete rel key key_class) tuples = tt
+  in_table (commands.Call name args) tuples = tt
+
+  call_lines : (command : Command) → AllByRecursion IsOneLine (call_texts command)
+  call_lines (commands.Call name args) = (one_line-append (codes "called ") (printable name) refl (one_line-printable name), tt)
+  call_lines (commands.Open name) = tt
+  call_lines commands.Close = tt
+  call_lines commands.Audit = tt
+  call_lines (commands.View rel label) = tt
+  call_lines (commands.Insert rel key values) = tt
+  call_lines (commands.Update rel key key_class from sets) = tt
+  call_lines (commands.Delete rel key key_class) = tt
+
+  opened_line : (user : ℕ) → IsOneLine (codes "opened " ++ user_name site.policy.users user)
+  opened_line user = one_line-append (codes "opened ") (user_name site.policy.users user) refl (one_line-at (λ u. u.name) site.policy.users user plain.users)
+
+  reply_text_lines : (command : Command) (r : Reply) → AllByRecursion IsOneLine (reply_texts site command r)
+  reply_text_lines command (Opened user) = (opened_line user, tt)
+  reply_text_lines command Closed = (refl, tt)
+  reply_text_lines command (Rows tuples) = view_lines command tuples
+  reply_text_lines command (Wrote o) = (outcome_line o, tt)
+  reply_text_lines command (Ran run) = call_lines command
+  reply_text_lines command (Entries es) = (refl, each-map IsOneLine (entry_text site.policy) es (each (λ e. IsOneLine (entry_text site.policy e)) (entry_line site.policy plain.labels) es))
+  reply_text_lines command (Denied d) = (denial_line d, tt)
+
+  table_text_lines : (command : Command) (r : Reply) → AllByRecursion IsOneLine (texts_in_table site command r)
+  table_text_lines command (Opened user) = (opened_line user, tt)
+  table_text_lines command Closed = (refl, tt)
+  table_text_lines command (Rows tuples) = in_table command tuples
+  table_text_lines command (Wrote o) = (outcome_line o, tt)
+  table_text_lines command (Ran run) = call_lines command
+  table_text_lines command (Entries es) = reply_text_lines command (Entries es)
+  table_text_lines command (Denied d) = (denial_line d, tt)
+
+  -- ---- lines
+
+  front_line : (e : Event) (label : ℕ) → IsOneLine (front site.policy e label)
+  front_line e label =
+      simp (list_any-append, label_line site.policy plain.labels label, label_line site.policy plain.labels e.level, one_line-printable e.session)
+
+  whole_line : (e : Event) (label : ℕ) (text : List ℕ) → IsOneLine text → Whole (line site.policy e label text)
+  whole_line e label text h = one_line-append (front site.policy e label) text (front_line e label) h
+
+  whole_item : (e : Event) (deed : List ℕ) (item : Item) → IsOneLine deed → Whole (item_line site.policy e deed item)
+  whole_item e deed item h = whole_line e item.0 (deed ++ cell_text item.1) (one_line-append deed (cell_text item.1) h (cell_line item.1))
+
+  whole_map : (e : Event) (deed : List ℕ) → IsOneLine deed → (items : List Item) → AllByRecursion Whole (map (item_line site.policy e deed) items)
+  whole_map e deed h items = each-map Whole (item_line site.policy e deed) items (each (λ i. Whole (item_line site.policy e deed i)) (λ i. whole_item e deed i h) items)
+
+  whole_items : (e : Event) (r : Reply) → AllByRecursion Whole (item_lines site.policy e r)
+  whole_items e (Opened user) = tt
+  whole_items e Closed = tt
+  whole_items e (Rows tuples) = tt
+  whole_items e (Wrote o) = tt
+  whole_items e (Ran run) =
+      each-append Whole (map (item_line site.policy e (codes "emit ")) run.emitted) (map (item_line site.policy e (codes "release ")) run.released)
+      (whole_map e (codes "emit ") refl run.emitted) (whole_map e (codes "release ") refl run.released)
+  whole_items e (Entries es) = tt
+  whole_items e (Denied d) = tt
+
+  whole_lines : (e : Event) (texts : List (List ℕ)) (r : Reply) → AllByRecursion IsOneLine texts → AllByRecursion Whole (lines_with site e texts r)
+  whole_lines e texts r h =
+      each-append Whole (map (line site.policy e e.level) texts) (item_lines site.policy e r)
+      (each-map Whole (line site.policy e e.level) texts (each_if IsOneLine (λ t. Whole (line site.policy e e.level t)) (λ t k. whole_line e e.level t k) texts h))
+      (whole_items e r)
+
+  whole_reply : (form : Form) (e : Event) (r : Reply) → AllByRecursion Whole (reply_lines_in form site e r)
+  whole_reply Lines e r = whole_lines e (reply_texts site e.command r) r (reply_text_lines e.command r)
+  whole_reply Table e r =
+      let lines = lines_with site e (texts_in_table site e.command r) r in
+      each-map Whole escaped_line lines (each_if Whole (λ l. Whole (escaped_line l)) (λ l k. one_line-escaped l.text k) lines (whole_lines e (texts_in_table site e.command r) r (table_text_lines e.command r)))
+
+  whole_run : (form : Form) (w : World) (es : List Event) → AllByRecursion Whole (run_lines form site w es)
+  unfolding run_lines
+  whole_run form w [] = tt
+  whole_run form w (e ∷ es) =
+      let s = step site w e in
+      each-append Whole (reply_lines_in form site e s.reply) (run_lines form site s.world es) (whole_reply form e s.reply) (whole_run form s.world es)
+
+-- ---- parted again
+
+no_feed : (xs : List ℕ) → IsOneLine xs → All (λ b. is_line_feed b ≡ false) xs
+no_feed [] h = λ k d l. absurd (omega arith)
+no_feed (x ∷ xs) h = All-cons (λ b. is_line_feed b ≡ false) x xs (first_of (is_line_feed x) _ h) (no_feed xs (second_of (is_line_feed x) _ h))
+
+parted : (lines : List Line) → AllByRecursion Whole lines → slice_split is_line_feed (printed lines) ≡ map (λ l. l.text) lines ++ [] ∷ []
+parted [] h = refl
+parted (l ∷ lines) h =
+    ap (slice_split is_line_feed) (append_assoc l.text (codes "\n") (printed lines))
+    ∙ slice_split_at is_line_feed l.text 10 (printed lines) (no_feed l.text h.0) refl
+    ∙ ap (λ ts. l.text ∷ ts) (parted lines h.1)
+
+-- what is left of lines
+whole_filter : (p : Line → Bool) (lines : List Line) → AllByRecursion Whole lines → AllByRecursion Whole (filter p lines)
+whole_filter p [] h = tt
+whole_filter p (l ∷ lines) h =
+    elim (p l) as (λ b. AllByRecursion Whole (cond b (l ∷ filter p lines) (filter p lines))) [
+      | true ↦ (h.0, whole_filter p lines h.1)
+      | false ↦ whole_filter p lines h.1
+    ]
+
+-- ---- names
+
+names_from_map : {A : Type 0} (f : A → Name) (xs : List A) → AllByRecursion (λ name. is_name name ≡ true) (map f xs) → AllByRecursion (λ x. IsOneLine (f x)) xs
+names_from_map f [] h = tt
+names_from_map f (x ∷ xs) h = (one_line-name (f x) h.0, names_from_map f xs h.1)
+
+first_part : {A : Type 0} (P : A → Type 0) (xs ys : List A) → AllByRecursion P (xs ++ ys) → AllByRecursion P xs × AllByRecursion P ys
+first_part P [] ys h = (tt, h)
+first_part P (x ∷ xs) ys h = let k = first_part P xs ys h.1 in ((h.0, k.0), k.1)
+
+plain_scheme : (s : Scheme) → IsScheme s → HasPlainNames s
+plain_scheme s h =
+    let both = first_part (λ (a : Attribute). IsOneLine a.name) s.keys s.others (names_from_map (λ a. a.name) (s.keys ++ s.others) h.names) in
+    record { name = one_line-name s.name h.named; keys = both.0; others = both.1 }
+
+-- ---- the laws
+
+pub policies_plain : PoliciesArePlain
+policies_plain site policy schemes = record {
+  labels = names_from_map (λ l. l.name) site.policy.labels policy.label_names;
+  users = names_from_map (λ u. u.name) site.policy.users policy.user_names;
+  relations = each_if IsScheme HasPlainNames plain_scheme site.schemes schemes.each;
+}
+
+pub replies_whole : RepliesAreLines
+replies_whole site plain form e r = whole_reply site plain form e r
+
+pub runs_whole : RunsAreLines
+runs_whole site plain form w es = whole_run site plain form w es
+
+pub runs_part : RunsPartIntoLines
+runs_part site plain audience w es = parts audience.reader
+  where
+    parts : (reader : Option ℕ) → slice_split is_line_feed (printed (heard (site_labels site) reader (run_lines audience.form site w es))) ≡ map (λ l. l.text) (heard (site_labels site) reader (run_lines audience.form site w es)) ++ [] ∷ []
+    parts None = parted (run_lines audience.form site w es) (whole_run site plain audience.form w es)
+    parts (Some c) = parted (out (site_labels site) c (run_lines audience.form site w es)) (whole_filter _ (run_lines audience.form site w es) (whole_run site plain audience.form w es))

@@ -1,0 +1,113 @@
+-- No line feed stands in what is written of rows and entries, where none stands in a name.
+use Rattle.std.proofs.Common.{ℕ, zero, suc, true, false, cond, List, [], ◌∷◌, ◌++◌, map, Option, Some, None, refl}
+use Rattle.std.specs.Prelude.{codes}
+use Rattle.std.specs.List.{flat_map, AllByRecursion}
+use Rattle.std.specs.Fmt.{decimal}
+use Rattle.std.proofs.lemmas.List.Folds.{list_any-append}
+use Rattle.mls_tokens.specs.Writing.{printable}
+use Rattle.mls_screen.specs.Table.{padded, ruled}
+use Rattle.mls_lattice.specs.Lattice.{Pair, same_pair}
+use Rattle.mls_lattice.specs.Policy.{Name, Named, Tables, labels_of}
+use Rattle.mls_lattice.specs.Canon.{label_name}
+use Rattle.mls_scheme.specs.declared.value.Value.{Value}
+use Rattle.mls_scheme.specs.declared.value.Value.TheVariants as values
+use Rattle.mls_scheme.specs.declared.tuple.Tuple.{Tuple}
+use Rattle.mls_scheme.specs.Tuple.{tuple_class}
+use Rattle.mls_scheme.specs.Scheme.{Scheme, Schemes, scheme_of}
+use Rattle.mls_audit.specs.declared.entry.Entry.{Entry}
+use Rattle.mls_audit.specs.declared.entry.Entry.TheVariants as entries
+use Rattle.mls_machine.specs.Parting.{IsOneLine, HasPlainNames}
+use Rattle.mls_machine.specs.Output.{value_text, cell_text, name_of, cell_entry, row_text, heading, table_cell, tuple_cells, name_cells, table_title, table_row, table_of, entry_front, entry_text}
+use Rattle.mls_machine.proofs.OneLineLemmas.{one_line-append, one_line-flat_map, one_line-at, each, each_if, each-append, each-map, one_line-printable, one_line-quoted, one_line-decimal, one_line-signed, one_line-escaped, one_line-padded, one_line-ruled}
+
+-- ---- values
+
+value_line : (v : Value) → IsOneLine (value_text v)
+value_line (values.Int n) = one_line-signed n
+value_line (values.Text s) = one_line-quoted s
+
+pub cell_line : (v : Option Value) → IsOneLine (cell_text v)
+cell_line None = refl
+cell_line (Some v) = value_line v
+
+-- a relation by its number
+pub scheme_line : (schemes : Schemes) (rel : ℕ) → AllByRecursion HasPlainNames schemes → HasPlainNames (scheme_of schemes rel)
+scheme_line [] rel h = record { name = refl; keys = tt; others = tt }
+scheme_line (s ∷ schemes) zero h = h.0
+scheme_line (s ∷ schemes) (suc rel) h = scheme_line schemes rel h.1
+
+-- ---- rows
+
+module _ (p : Tables) (labels : AllByRecursion (λ l. IsOneLine l.name) p.labels) where
+  pub label_line : (n : ℕ) → IsOneLine (label_name p.labels n)
+  label_line n = one_line-at (λ l. l.name) p.labels n labels
+
+  named : (ls : List Named) (q : Pair) → AllByRecursion (λ l. IsOneLine l.name) ls → IsOneLine (name_of ls q)
+  named [] q h = refl
+  named (l ∷ ls) q h = elim (same_pair l.value q) as (λ b. IsOneLine (cond b l.name (name_of ls q))) [
+    | true ↦ h.0
+    | false ↦ named ls q h.1
+  ]
+
+  class_line : (t : Tuple) → IsOneLine (name_of p.labels (tuple_class (labels_of p) t))
+  class_line t = named p.labels (tuple_class (labels_of p) t) labels
+
+  entry_cell_line : (class : ℕ) (v : Option Value) → IsOneLine (cell_entry p.labels class v)
+  entry_cell_line class v = simp (list_any-append, cell_line v, label_line class)
+
+  pub row_line : (t : Tuple) → IsOneLine (row_text p t)
+  row_line t =
+      let keys = one_line-flat_map (λ v. cell_entry p.labels t.key_class (Some v)) t.key (each (λ v. IsOneLine (cell_entry p.labels t.key_class (Some v))) (λ v. entry_cell_line t.key_class (Some v)) t.key) in
+      let others = one_line-flat_map (λ e. cell_entry p.labels e.class e.value) t.elements (each (λ e. IsOneLine (cell_entry p.labels e.class e.value)) (λ e. entry_cell_line e.class e.value) t.elements) in
+      simp (list_any-append, keys, others, class_line t)
+
+  spaced_line : (s : Scheme) → HasPlainNames s → IsOneLine (flat_map (λ a. codes " " ++ a.name) s.keys) × IsOneLine (flat_map (λ a. codes " " ++ a.name) s.others)
+  spaced_line s h = (
+    one_line-flat_map (λ a. codes " " ++ a.name) s.keys (each_if (λ a. IsOneLine a.name) (λ a. IsOneLine (codes " " ++ a.name)) (λ a k. k) s.keys h.keys),
+    one_line-flat_map (λ a. codes " " ++ a.name) s.others (each_if (λ a. IsOneLine a.name) (λ a. IsOneLine (codes " " ++ a.name)) (λ a k. k) s.others h.others),
+  )
+
+  pub heading_line : (s : Scheme) (label : ℕ) → HasPlainNames s → IsOneLine (heading p s label)
+  heading_line s label h = let k = spaced_line s h in simp (list_any-append, h.name, label_line label, k.0, k.1)
+
+  -- ---- rows as a table
+
+  table_cell_line : (class : ℕ) (v : Option Value) → IsOneLine (table_cell p.labels class v)
+  table_cell_line class v = one_line-escaped (cell_text v ++ codes " " ++ label_name p.labels class) (simp (list_any-append, cell_line v, label_line class))
+
+  tuple_cells_line : (t : Tuple) → AllByRecursion IsOneLine (tuple_cells p t)
+  tuple_cells_line t =
+      each-append IsOneLine (map (λ v. table_cell p.labels t.key_class (Some v)) t.key) (map (λ e. table_cell p.labels e.class e.value) t.elements)
+      (each-map IsOneLine (λ v. table_cell p.labels t.key_class (Some v)) t.key (each (λ v. IsOneLine (table_cell p.labels t.key_class (Some v))) (λ v. table_cell_line t.key_class (Some v)) t.key))
+      (each-map IsOneLine (λ e. table_cell p.labels e.class e.value) t.elements (each (λ e. IsOneLine (table_cell p.labels e.class e.value)) (λ e. table_cell_line e.class e.value) t.elements))
+
+  name_cells_line : (s : Scheme) → HasPlainNames s → AllByRecursion IsOneLine (name_cells s)
+  name_cells_line s h =
+      each-append IsOneLine (map (λ a. a.name) s.keys) (map (λ a. a.name) s.others)
+      (each-map IsOneLine (λ a. a.name) s.keys h.keys) (each-map IsOneLine (λ a. a.name) s.others h.others)
+
+  title_line : (s : Scheme) (label : ℕ) → HasPlainNames s → IsOneLine (table_title p s label)
+  title_line s label h = simp (list_any-append, h.name, label_line label)
+
+  pub table_lines : (s : Scheme) (label : ℕ) (widths : List ℕ) (tuples : List Tuple) → HasPlainNames s → AllByRecursion IsOneLine (table_of p s label widths tuples)
+  table_lines s label widths tuples h =
+      let row = λ (t : Tuple). one_line-append (padded widths 0 (tuple_cells p t)) (name_of p.labels (tuple_class (labels_of p) t)) (one_line-padded widths 0 (tuple_cells p t) (tuple_cells_line t)) (class_line t) in (
+        title_line s label h,
+        (
+          one_line-append (padded widths 0 (name_cells s)) (codes "class") (one_line-padded widths 0 (name_cells s) (name_cells_line s h)) refl,
+          (
+            one_line-append (flat_map ruled widths) (codes "-----") (one_line-ruled widths) refl,
+            each-map IsOneLine (table_row p widths) tuples (each (λ t. IsOneLine (table_row p widths t)) row tuples),
+          ),
+        ),
+      )
+
+  -- ---- entries
+
+  front_line : (label : ℕ) (deed : List ℕ) (user session : Name) → IsOneLine deed → IsOneLine (entry_front p label deed user session)
+  front_line label deed user session h = simp (list_any-append, label_line label, h, one_line-printable user, one_line-printable session)
+
+  pub entry_line : (e : Entry) → IsOneLine (entry_text p e)
+  entry_line (entries.Called label user session transaction) = one_line-append (entry_front p label (codes " called ") user session) (printable transaction) (front_line label (codes " called ") user session refl) (one_line-printable transaction)
+  entry_line (entries.Denied label user session code) = one_line-append (entry_front p label (codes " denied ") user session) (decimal code) (front_line label (codes " denied ") user session refl) (one_line-decimal code)
+  entry_line (entries.Released label user session value) = one_line-append (entry_front p label (codes " released ") user session) (cell_text value) (front_line label (codes " released ") user session refl) (cell_line value)

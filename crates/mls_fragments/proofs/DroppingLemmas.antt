@@ -28,7 +28,7 @@ use Rattle.mls_fragments.proofs.WrittenLemmas.{filter_turned, entity_test, place
 
 -- ---- a table with a tuple less
 
-left_cases : (T : Table) (p q : Place) (es : List Element) → get (remove T p) q ≡ Some es → (is_place q p ≡ false) × (get T q ≡ Some es)
+pub left_cases : (T : Table) (p q : Place) (es : List Element) → get (remove T p) q ≡ Some es → (is_place q p ≡ false) × (get T q ≡ Some es)
 left_cases T p q es h = by (is_place q p) refl (sym (get-remove place_total T p q) ∙ h)
   where
     by : (b : Bool) → is_place q p ≡ b → cond b None (get T q) ≡ Some es → (is_place q p ≡ false) × (get T q ≡ Some es)

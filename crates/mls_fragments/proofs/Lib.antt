@@ -1,5 +1,6 @@
 pub mod OpeningLemmas
 pub mod AddingLemmas
+pub mod ByteLemmas
 pub mod CallLemmas
 pub mod DroppingLemmas
 pub mod FindingLemmas

@@ -10,6 +10,7 @@ use Rattle.mls_statements.specs.Rows.{Tables}
 use Rattle.mls_statements.specs.Store.{TableState, IsClean}
 use Rattle.mls_fragments.specs.declared.noted.Noted.{Noted}
 use Rattle.mls_fragments.specs.Changes.{Change, content_of}
+use Rattle.mls_fragments.specs.Finding.{HasByteClasses}
 use Rattle.mls_fragments.specs.Holding.{Holds}
 
 -- what a base shows: the changes that made its content now and that of the last commit, and the tables below
@@ -37,9 +38,10 @@ abbrev pub fault_of : StoreFault → BaseFault
 fault_of Store = base.Store
 fault_of Memory = base.Memory
 
--- the rows hold the content, and the last entry's number is the count of entries
+-- the rows hold the content, whose classes are bytes, and the last entry's number is the count of entries
 pub record IsNoted (rows : Tables) (n : Noted) : Type 0 where
   pub holds : Holds rows (content_of n.content.changes)
+  pub classes : HasByteClasses (content_of n.content.changes)
   pub last : n.last ≡ pos (length (content_of n.content.changes).audit)
 
 -- the rows now hold what is noted now, and those of the last commit what was noted then; outside a change they are one

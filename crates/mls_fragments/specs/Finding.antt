@@ -22,11 +22,12 @@ use Rattle.mls_audit.specs.Spelling.{IsEntryOf}
 use Rattle.mls_filterview.specs.Content.{Content}
 use Rattle.mls_statements.specs.declared.rows.NodeRow.{NodeRow}
 use Rattle.mls_statements.specs.declared.rows.CellRow.{CellRow}
+use Rattle.mls_statements.specs.Rows.{Tables}
 use Rattle.mls_fragments.specs.declared.reading.RowFault.{RowFault}
 use Rattle.mls_fragments.specs.declared.reading.RowFault.TheVariants.{Memory}
 use Rattle.mls_fragments.specs.declared.finding.Found.{Found}
 use Rattle.mls_fragments.specs.Changes.{Entries, table_in, found}
-use Rattle.mls_fragments.specs.Holding.{node_row, cell_row, IsSpelledNode, IsSpelledCell}
+use Rattle.mls_fragments.specs.Holding.{Holds, node_row, cell_row, IsSpelledNode, IsSpelledCell}
 
 -- ---- rows that can be read
 
@@ -48,6 +49,14 @@ pub record IsCellRow (r : CellRow) : Type 0 where
   pub key_class : cell.key_class < 256
   pub label : cell.label < 256
   pub is : r ≡ cell_row r.rel cell
+
+-- the classes of all tuples are numbers of one byte
+abbrev pub HasByteClasses : Content → Type 0
+HasByteClasses c = (rel : ℕ) (p : Place) (es : List Element) → get (c.db rel) p ≡ Some es → (p.key_class < 256) × (p.class < 256)
+
+-- the rows are those of content, and each can be read
+abbrev pub AreReadable : Tables → Type 0
+AreReadable t = (c : Content) × Holds t c × HasByteClasses c
 
 -- ---- tuples put together from rows
 

@@ -7,7 +7,7 @@ ghost use Rattle.mls_statements.specs.Rows.{described, tables_of};
 ghost use Rattle.mls_statements.specs.Statements.{IsReady};
 ghost use Rattle.mls_statements.specs.Store.{IsClean};
 ghost use Rattle.mls_fragments.specs.Based.{state_of};
-ghost use Rattle.mls_fragments.specs.Finding.{content_found};
+ghost use Rattle.mls_fragments.specs.Finding.{HasByteClasses, content_found};
 ghost use Rattle.mls_fragments.specs.Holding.{Holds};
 
 use crate::entity::{read_entity, read_pattern};
@@ -66,6 +66,7 @@ impl<S: Alter> SqlBase<S> {
         requires mode { store.begun ≡ false }
         requires kept { IsClean store → store.kept ≡ store.now }
         requires holds { IsClean store → Holds store.now (content_found found.now) }
+        requires classes { HasByteClasses (content_found found.now) }
         requires last { found.now.last ≡ pos (length found.now.entries) }
         ensures content { state_of result ≡ record { now = content_found found.now; kept = content_found found.now; begun = false } }
         ensures tables { result.tables ≡ store }
@@ -78,7 +79,7 @@ impl<S: Alter> SqlBase<S> {
         }
     }
 
-    /// The connection: where it is open, its tables hold the content.
+    /// The connection: where it is open, its tables hold the content, and the row that describes it is the one that the base shows.
     pub fn into_connection(self) -> Connection<S>
         requires begun { (state_of self).begun ≡ false }
         ensures clean { HasCleanDisk (state S.Store result) → IsClean self.tables }
@@ -87,6 +88,8 @@ impl<S: Alter> SqlBase<S> {
         ensures rows { HasCleanDisk (state S.Store result) → IsTrue (state S.Store result).is_open
             → IsReady (state S.Store result).now
             × Holds (tables_of (state S.Store result).now.trees) (state_of self).now }
+        ensures tables { HasCleanDisk (state S.Store result) → IsTrue (state S.Store result).is_open
+            → tables_of (state S.Store result).now.trees ≡ self.tables.now }
     {
         let SqlBase {
             alloc: _,

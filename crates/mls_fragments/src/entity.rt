@@ -1,5 +1,5 @@
 //! What the tables hold of one entity.
-ghost use Rattle.std.specs.Prelude.{◌≡◌, [], map, filter, slice_get, IfOk, IsPermutation, OnOk};
+ghost use Rattle.std.specs.Prelude.{◌≡◌, [], map, filter, slice_get, IfOk, IfErr, IsPermutation, OnOk};
 ghost use Rattle.std.specs.Option.{option_map};
 ghost use Rattle.std.specs.FinMap.{get};
 ghost use Rattle.mls_scheme.specs.Spelling.{IsSpelledKey};
@@ -7,6 +7,7 @@ ghost use Rattle.mls_filterview.specs.Content.{Content};
 ghost use Rattle.mls_filterview.specs.Fragment.{IsEntityPart, classes};
 ghost use Rattle.mls_statements.specs.Rows.{is_node, is_cell_in};
 ghost use Rattle.mls_statements.specs.Store.{IsClean, IsCall, IsSame};
+ghost use Rattle.mls_fragments.specs.Finding.{IsMemory, AreReadable};
 ghost use Rattle.mls_fragments.specs.Holding.{Holds};
 
 use crate::reading::{RowFault, fragment_in, give_up, pattern_in};
@@ -80,6 +81,7 @@ pub(crate) fn read_entity<S: Alter>(
     place: &Place,
 ) -> Result<Fragment, StoreFault>
     requires key { IsSpelledKey place.now.key }
+    requires readable { IsClean store.old → AreReadable store.old.now }
     ensures call { IsCall store.old store.new result }
     ensures mode { OnOk result (store.new.begun ≡ store.old.begun) }
     ensures found { IsClean store.new → (c : Content) → Holds store.old.now c
@@ -125,7 +127,8 @@ fn patterns_at<S: Alter>(
 
 /// The classes that the first of these patterns names.
 fn first_in(alloc: Global, patterns: &[Items<u8>]) -> Result<Option<Items<LabelNo>>, RowFault>
-    ensures { IfOk result (λ pattern. pattern ≡ slice_get patterns.now 0) }
+    ensures first { IfOk result (λ pattern. pattern ≡ slice_get patterns.now 0) }
+    ensures only { IfErr result IsMemory }
 {
     match patterns.first() {
         Some(first) => Ok(Some(pattern_in(alloc, first)?)),

@@ -12,7 +12,7 @@ ghost use Rattle.mls_scheme.specs.Extending as older_schemes;
 ghost use Rattle.mls_filterview.specs.Content.{Content};
 ghost use Rattle.mls_statements.specs.Adopting.{AreAll};
 ghost use Rattle.mls_statements.specs.Rows.{Tables, numbered};
-ghost use Rattle.mls_fragments.specs.Finding.{IsMemory, IsSoundContent, IsSpelledEntry, content_found, node_rows, cell_rows};
+ghost use Rattle.mls_fragments.specs.Finding.{HasByteClasses, IsMemory, IsSoundContent, IsSpelledEntry, content_found, node_rows, cell_rows};
 ghost use Rattle.mls_fragments.specs.Holding.{Holds};
 ghost use Rattle.mls_fragments.specs.Migrating.{IsStanding, IsOther, IsBefore, wide_tables, IsWidenedContent, IsSoundBefore};
 
@@ -133,6 +133,7 @@ pub(crate) fn find_widened(
         × IsSoundBefore policy.now schemes.now older.now.labels older.now.counts.items c
         × IsWidenedContent schemes.now older.now.counts.items c (content_found f)) }
     ensures sound { IfOk result (λ f. IsSoundContent policy.now schemes.now (content_found f)) }
+    ensures classes { IfOk result (λ f. HasByteClasses (content_found f)) }
     ensures holds { IfOk result (λ f. (t : Tables)
         → IsPermutation (node_rows 0 (map (λ t. t.entries) f.tables.items)) t.nodes
         → IsPermutation (cell_rows 0 (map (λ t. t.entries) f.tables.items)) t.cells

@@ -315,7 +315,7 @@ impl<F: Start> SqlBase<FileStore<FileFrom<F>>> {
         }
     }
 
-    /// As `open_from`, where what is not opened is let go.
+    /// As `open_from`, where what is not opened is let go, and nothing is said of it.
     pub fn open_path(
         rt: &HostRuntime,
         path: &str,
@@ -324,6 +324,7 @@ impl<F: Start> SqlBase<FileStore<FileFrom<F>>> {
         file: &SchemesFile,
     ) -> Result<SqlBase<FileStore<FileFrom<F>>>, OpenFault>
         requires under { AreUnder (length policy.now.labels) file.now.schemes }
+        ensures over { IfOk result (IsOverFiles policy.now file.now (image_at F.Start)) }
         ensures content { IfOk result (λ b. IsClean b.tables
             → IsTakenOf (IsHeldIn (image_at F.Start)) policy.now file.now (state_of b).now) }
         ensures sound { IfOk result (λ b. IsSoundContent policy.now file.now.schemes (state_of b).now) }
@@ -335,7 +336,7 @@ impl<F: Start> SqlBase<FileStore<FileFrom<F>>> {
         }
     }
 
-    /// Closes the files: the database file alone then holds what was committed. Where that fails, its log holds the rest.
+    /// Closes the files. What they hold then is said of `close_files` alone.
     pub fn close(self) -> Result<(), OpenFault>
         requires begun { (state_of self).begun ≡ false }
         ensures { IfErr result (λ e. (e ≡ OpenFault.Store) ⊎ (e ≡ OpenFault.Memory)) }

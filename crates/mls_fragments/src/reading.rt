@@ -1,20 +1,21 @@
 //! Nodes, cells and entries from rows.
-ghost use Rattle.std.specs.Prelude.{◌≡◌, ◌↔◌, ◌<◌, ◌≤◌, List, map, filter, nat_eq, Option, IsOk, IfOk, IfErr, IfSome, OnOk};
+ghost use Rattle.std.specs.Prelude.{◌≡◌, ◌↔◌, ◌<◌, ◌≤◌, ℕ, List, map, filter, nat_eq, Option, IsOk, IfOk, IfErr, IfSome, OnOk, IsPermutation};
 ghost use Rattle.std.specs.List.{AllByRecursion};
 ghost use Rattle.mls_scheme.specs.declared.value.Value.{Value as SpecValue};
 ghost use Rattle.mls_scheme.specs.declared.key_fault.KeyFault.TheVariants.{Memory as KeyMemory};
 ghost use Rattle.mls_scheme.specs.Spelling.{HasSpelling, IsSpelledKey, key_spelling};
 ghost use Rattle.mls_filterview.specs.Content.{Content};
 ghost use Rattle.mls_filterview.specs.Fragment.{IsFragment};
+ghost use Rattle.mls_statements.specs.Rows.{numbered};
 ghost use Rattle.mls_statements.specs.Store.{IsClean, IsFault, IsCall, IsSame};
 ghost use Rattle.mls_fragments.specs.declared.reading.RowFault.TheVariants.{Memory};
-ghost use Rattle.mls_fragments.specs.Finding.{IsMemory, IsNodeRow, IsCellRow};
+ghost use Rattle.mls_fragments.specs.Finding.{IsMemory, IsNodeRow, IsCellRow, AreReadable};
 ghost use Rattle.mls_fragments.specs.Holding.{Holds, node_row, cell_row, value_bytes, IsSpelledNode, IsSpelledCell};
 
 use mls_filterview::{Cell, Fragment, Node};
 use mls_lattice::{Items, LabelNo};
 use mls_scheme::{KeyFault, RelNo, Value, key_of, value_of};
-use mls_statements::{AuditRow, CellRow, NodeRow, StoreFault, TableStore};
+use mls_statements::{AuditRow, CellRow, NodeRow, StoreFault, TableStore, are_numbered};
 use sqlite::Alter;
 use std::alloc::{AllocError, AllocFailed, Global};
 
@@ -54,8 +55,10 @@ impl From<KeyFault> for RowFault {
     }
 }
 
-/// Ends the change, if one is begun, after a row that can't be read or made. Such a row is a failure of the store.
+/// Ends the change, if one is begun, after a row that can't be read or made. A row that can't be read is a failure of a store
+/// that gives back other rows than were written.
 pub(crate) fn give_up<S: Alter>(store: &mut TableStore<S>, fault: RowFault) -> StoreFault
+    requires { fault ≡ RowFault.BadRow → IsClean store.old → ⊥ }
     ensures clean { IsClean store.new → IsClean store.old }
     ensures fault { IsFault result store.old store.new }
     ensures count { store.old.failures ≤ store.new.failures }
@@ -179,6 +182,7 @@ pub(crate) fn fragment_in(
     ensures nodes { IfOk result (λ f. map (node_row rel) f.nodes ≡ filter (λ r. nat_eq r.rel rel) nodes.now) }
     ensures cells { IfOk result (λ f. map (cell_row rel) f.cells ≡ filter (λ r. nat_eq r.rel rel) cells.now) }
     ensures spelled { IfOk result (λ f. AllByRecursion IsSpelledNode f.nodes × AllByRecursion IsSpelledCell f.cells) }
+    ensures only { AllByRecursion IsNodeRow nodes.now → AllByRecursion IsCellRow cells.now → IfErr result IsMemory }
 {
     Ok(Fragment {
         nodes: nodes_in(alloc, rel, nodes)?,
@@ -193,6 +197,7 @@ pub(crate) fn read_fragment<S: Alter>(
     rel: RelNo,
     label: LabelNo,
 ) -> Result<Fragment, StoreFault>
+    requires readable { IsClean store.old → AreReadable store.old.now }
     ensures call { IsCall store.old store.new result }
     ensures mode { OnOk result (store.new.begun ≡ store.old.begun) }
     ensures found { IsClean store.new → (c : Content) → Holds store.old.now c
@@ -218,11 +223,25 @@ pub(crate) fn entries_in(alloc: Global, rows: Vec<AuditRow>) -> Result<Items<Ite
     Ok(Items::from(entries))
 }
 
+/// The entries of rows, in the order of their numbers, which are 1, 2, .. up to their count.
+fn numbered_in(alloc: Global, mut rows: Vec<AuditRow>) -> Result<Items<Items<u8>>, RowFault>
+    ensures found { (list : List (List ℕ)) → IsPermutation (numbered 1 list) rows.items
+        → IfOk result (λ entries. entries ≡ list) }
+    ensures only { (list : List (List ℕ)) → IsPermutation (numbered 1 list) rows.items → IfErr result IsMemory }
+{
+    rows.sort()?;
+    if !are_numbered(&rows) {
+        return Err(RowFault::BadRow);
+    }
+    entries_in(alloc, rows)
+}
+
 /// The entries of the audit list.
 pub(crate) fn read_entries<S: Alter>(
     store: &mut TableStore<S>,
     alloc: Global,
 ) -> Result<Items<Items<u8>>, StoreFault>
+    requires readable { IsClean store.old → AreReadable store.old.now }
     ensures call { IsCall store.old store.new result }
     ensures mode { OnOk result (store.new.begun ≡ store.old.begun) }
     ensures found { IsClean store.new → (c : Content) → Holds store.old.now c
@@ -230,7 +249,7 @@ pub(crate) fn read_entries<S: Alter>(
     ensures same { IsClean store.new → OnOk result (IsSame store.old store.new) }
 {
     let rows = store.entries()?;
-    match entries_in(alloc, rows) {
+    match numbered_in(alloc, rows) {
         Ok(entries) => Ok(entries),
         Err(fault) => Err(give_up(store, fault)),
     }

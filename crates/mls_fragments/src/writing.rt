@@ -1,5 +1,5 @@
 //! The rows of a tuple, of a value and of an entry, written.
-ghost use Rattle.std.specs.Prelude.{◌≡◌, ◌+ℤ◌, pos, true, map, IfOk, IfErr, IfSome, OnOk};
+ghost use Rattle.std.specs.Prelude.{◌≡◌, ◌<◌, ◌+ℤ◌, pos, true, map, IfOk, IfErr, IfSome, OnOk};
 ghost use Rattle.std.specs.List.{AllByRecursion};
 ghost use Rattle.mls_scheme.specs.Spelling.{HasSpelling, IsSpelledKey, key_spelling};
 ghost use Rattle.mls_filterview.specs.Fragment.{IsCellOf};
@@ -67,6 +67,7 @@ fn number_of(attr: usize) -> Result<u32, RowFault>
 pub(crate) fn row_of_node(alloc: Global, rel: RelNo, node: &Node) -> Result<NodeRow, RowFault>
     requires { IsSpelledKey node.now.key }
     ensures made { IfOk result (λ row. row ≡ node_row rel node.now) }
+    ensures classes { OnOk result ((node.now.key_class < 256) × (node.now.label < 256)) }
     ensures fault { IfErr result IsMemory }
 {
     Ok(NodeRow {
@@ -102,7 +103,8 @@ fn row_of_value(
 ) -> Result<CellRow, RowFault>
     requires key { IsSpelledKey place.now.key }
     requires value { IfSome value.now HasSpelling }
-    ensures { IfOk result (λ row. row ≡ value_row rel place.now attr value.now) }
+    ensures made { IfOk result (λ row. row ≡ value_row rel place.now attr value.now) }
+    ensures fault { IfErr result IsMemory }
 {
     Ok(CellRow {
         rel: u32::from(rel.byte()),
@@ -118,6 +120,7 @@ fn row_of_value(
 fn own_of(alloc: Global, cell: &Cell) -> Result<OwnCell, RowFault>
     requires { IfSome cell.now.value HasSpelling }
     ensures made { IfOk result (λ own. own ≡ own_cell cell.now) }
+    ensures fault { IfErr result IsMemory }
 {
     Ok(OwnCell {
         attr: number_of(cell.attr)?,
@@ -129,6 +132,7 @@ fn own_of(alloc: Global, cell: &Cell) -> Result<OwnCell, RowFault>
 fn own_cells(alloc: Global, cells: &[Cell]) -> Result<Vec<OwnCell>, RowFault>
     requires { AllByRecursion (λ c. IfSome c.value HasSpelling) cells.now }
     ensures made { IfOk result (λ own. own.items ≡ map own_cell cells.now) }
+    ensures fault { IfErr result IsMemory }
 {
     let mut own = Vec::new(alloc);
     for cell in cells {
@@ -154,6 +158,8 @@ fn rows_of_tuple(
     requires cells { AllByRecursion (IsCellOf node.now) cells.now }
     ensures node { IfOk result (λ rows. rows.node ≡ node_row rel node.now) }
     ensures own { IfOk result (λ rows. map (cell_beside rows.node) rows.own.items ≡ map (cell_row rel) cells.now) }
+    ensures classes { OnOk result ((node.now.key_class < 256) × (node.now.label < 256)) }
+    ensures fault { IfErr result IsMemory }
 {
     Ok(TupleRows {
         node: row_of_node(alloc, rel, node)?,
@@ -174,6 +180,7 @@ pub(crate) fn add_tuple<S: Alter>(
     requires cells { AllByRecursion (IsCellOf node.now) cells.now }
     ensures call { IsCall store.old store.new result }
     ensures mode { OnOk result (store.new.begun ≡ true) }
+    ensures classes { OnOk result ((node.now.key_class < 256) × (node.now.label < 256)) }
     ensures done { IsClean store.new → OnOk result
         (Writes (AddsTuple (node_row rel node.now) (map (cell_row rel) cells.now)) store.old store.new) }
 {
@@ -236,7 +243,8 @@ pub(crate) fn drop_tuple<S: Alter>(
 }
 
 fn entry_of(alloc: Global, bytes: &[u8]) -> Result<Items<u8>, RowFault>
-    ensures { IfOk result (λ entry. entry ≡ bytes.now) }
+    ensures made { IfOk result (λ entry. entry ≡ bytes.now) }
+    ensures fault { IfErr result IsMemory }
 {
     let mut entry = Vec::new(alloc);
     entry.extend_from_slice(bytes)?;
@@ -245,7 +253,8 @@ fn entry_of(alloc: Global, bytes: &[u8]) -> Result<Items<u8>, RowFault>
 
 /// The row of the entry after the last one. No memory is left for one whose number would not fit.
 fn row_of_entry(alloc: Global, last: i64, bytes: &[u8]) -> Result<AuditRow, RowFault>
-    ensures { IfOk result (λ row. row ≡ record { number = last +ℤ pos 1; bytes = bytes.now }) }
+    ensures made { IfOk result (λ row. row ≡ record { number = last +ℤ pos 1; bytes = bytes.now }) }
+    ensures fault { IfErr result IsMemory }
 {
     let Some(number) = last.checked_add(1) else {
         return Err(RowFault::Memory);

@@ -1,5 +1,5 @@
 //! Scripts that are run over a database: over an empty one in memory, or over that of a store.
-ghost use Rattle.std.specs.Prelude.{◌≡◌, ◌<◌, [], false, length, Some, Ok, Err, IfOk, IfErr, OnOk};
+ghost use Rattle.std.specs.Prelude.{◌≡◌, ◌<◌, ◌≤◌, [], false, length, Some, Ok, Err, IfOk, IfErr, OnOk};
 ghost use Rattle.std.specs.List.{AllByRecursion};
 ghost use Rattle.std.specs.Option.{IfSome};
 ghost use Rattle.mls_scheme.specs.Scheme.{AreUnder};
@@ -13,6 +13,7 @@ ghost use Rattle.mls_host.specs.Inputs.{AreStoredFrom, IsScriptFrom};
 ghost use Rattle.mls_words.specs.Words.{named};
 ghost use Rattle.mls_host.specs.Refusal.{IsEnd};
 ghost use Rattle.mls_host.specs.Running.{site_of, IsRun};
+ghost use Rattle.mls_sessions.specs.declared.cause.RunCause.TheVariants.{Store as StoreFailed};
 ghost use Rattle.mls_runs.specs.ScriptRun.{IsRunFrom, IsScriptRun, IsRunRefused};
 
 use mls_filterview::Base;
@@ -48,6 +49,9 @@ pub fn run_on<B: Base, W: Write>(
     requires sound { B.is_clean base → IsSound (site_of policy.now schemes.now stored) (B.state base).now }
     ensures clean { B.is_clean result.1 → B.is_clean base }
     ensures idle { (B.state result.1).begun ≡ false }
+    ensures count { B.failures base ≤ B.failures result.1 }
+    ensures store { B.is_clean result.1 → IfErr result.0
+        (λ f. f.cause ≡ StoreFailed → B.failures base < B.failures result.1) }
     ensures run { B.is_clean result.1 → IsRun (site_of policy.now schemes.now stored) audience events.now
         (IsAppended W.contents out.old out.new) result.0 (B.state base).now (B.state result.1).now }
 {

@@ -94,7 +94,7 @@ module _ (old new : State) where
       (ran.1, ran.2, ran.4)
 
   -- a text that is one statement with no parameter is not refused as text
-  not_refused : (sql : List ℕ) (e : Error) → IsWhole sql (understood old.now.schema sql) → ¬ IsNoStatement old sql [] e
+  pub not_refused : (sql : List ℕ) (e : Error) → IsWhole sql (understood old.now.schema sql) → ¬ IsNoStatement old sql [] e
   not_refused sql e whole (inl bad) = subst (IsWhole sql) bad.1 whole
   not_refused sql e whole (inr bad) =
       let known : IsWhole sql (Ok bad.0) = subst (IsWhole sql) bad.1 whole in

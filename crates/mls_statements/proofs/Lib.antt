@@ -1,5 +1,6 @@
 pub mod Adds
 pub mod ApartRows
+pub mod CauseLemmas
 pub mod ChangeLemmas
 pub mod Clears
 pub mod Creates

@@ -308,3 +308,11 @@ IsWhole text (Err e) = ⊥
 pub rollback_whole : (s : Schema) → IsWhole (codes "ROLLBACK") (understood s (codes "ROLLBACK"))
 unfolding understood everything
 rollback_whole s = (lit≤ tt, refl, refl)
+
+pub begin_whole : (s : Schema) → IsWhole (codes "BEGIN") (understood s (codes "BEGIN"))
+unfolding understood everything
+begin_whole s = (lit≤ tt, refl, refl)
+
+pub commit_whole : (s : Schema) → IsWhole (codes "COMMIT") (understood s (codes "COMMIT"))
+unfolding understood everything
+commit_whole s = (lit≤ tt, refl, refl)

@@ -1,5 +1,6 @@
 -- What a store of the four tables shows, and what its calls do to it.
-use Rattle.std.specs.Prelude.{◌≡◌, ℕ, ◌<◌, ◌≤◌, Bool, false, if◌then◌else◌, IsTrue, IfErr, Result}
+use Rattle.std.specs.Prelude.{◌≡◌, ◌⊎◌, ℕ, ◌<◌, ◌≤◌, Bool, false, if◌then◌else◌, IsTrue, IfErr, Result}
+use Rattle.sqlite_disk.specs.Disk.{MoreFaults}
 use Rattle.sqlite_trees.specs.View.{doubt}
 use Rattle.sqlite.specs.State.{State, HasCleanDisk}
 use Rattle.mls_statements.specs.declared.store.StoreFault.{StoreFault}
@@ -8,13 +9,16 @@ use Rattle.mls_statements.specs.Rows.{Tables, tables_of}
 use Rattle.mls_statements.specs.Statements.{IsReady}
 
 -- the rows now and as of the last commit, whether a change is begun, whether the disk has so far given back what was
--- written to it, and how many calls of the store have failed
+-- written to it, how many calls of the store have failed, whether the connection is open, and how many times the disk has
+-- failed or refused
 pub record TableState : Type 0 where
   pub now : Tables
   pub kept : Tables
   pub begun : Bool
   pub is_clean : Bool
   pub failures : ℕ
+  pub is_open : Bool
+  pub faults : ℕ
 
 abbrev pub IsClean : TableState → Type 0
 IsClean s = doubt s.is_clean ≡ 0
@@ -24,6 +28,10 @@ pub record IsFault (fault : StoreFault) (old new : TableState) : Type 0 where
   pub store : fault ≡ Store → old.failures < new.failures
   pub mode : new.begun ≡ false
   pub rows : IsClean new → (new.now ≡ old.kept) × (new.kept ≡ old.kept)
+
+-- the disk failed or refused in this call, or the connection was shut before it
+abbrev pub HasFailed : TableState → TableState → Type 0
+HasFailed old new = MoreFaults old.faults new.faults ⊎ (old.is_open ≡ false)
 
 -- what every call keeps
 pub record IsCall {A : Type 0} (old new : TableState) (result : Result A StoreFault) : Type 0 where
@@ -48,6 +56,8 @@ table_state s begun failures last = record {
   begun = begun;
   is_clean = s.is_clean;
   failures = failures;
+  is_open = s.is_open;
+  faults = s.faults;
 }
 
 -- Inside a change the connection is open. An open one shows the four tables, and `last` is what it committed last, which is

@@ -3,7 +3,6 @@
 
 mod adopting;
 mod decode;
-mod failures;
 mod remembered;
 mod rewriting;
 mod rows;

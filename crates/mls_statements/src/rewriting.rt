@@ -5,10 +5,9 @@ ghost use Rattle.sqlite.specs.Held.{state};
 ghost use Rattle.mls_statements.specs.Statements.{ClearsStore, Rewrites, IsWithin, GoesOn, HasSettled, IsRewritten};
 ghost use Rattle.mls_statements.specs.Store.{HasEnded};
 
-use crate::failures::Failures;
 use crate::rows::{CellRow, NodeRow};
 use crate::statements::{cell, change, meta, node};
-use crate::store::{StoreFault, fall};
+use crate::store::{Failures, StoreFault, fall};
 use sqlite::{Alter, Connection, Error};
 
 /// Drops every node, every cell and the row that describes the store, in a change.

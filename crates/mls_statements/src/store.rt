@@ -1,21 +1,22 @@
-ghost use Rattle.std.specs.Prelude.{◌≡◌, ◌≢◌, ◌⊎◌, ◌+◌, ◌<◌, ◌≤◌, true, false, map, filter, ℕ, List, IsTrue, IfOk, IfErr, OnOk, IsPermutation};
+ghost use Rattle.std.specs.Prelude.{◌≡◌, ◌≢◌, ◌⊎◌, ◌↔◌, ◌+◌, ◌<◌, ◌≤◌, true, false, map, filter, ℕ, List, IsTrue, IfOk, IfErr, OnOk, IsPermutation};
+ghost use Rattle.std.specs.Borrow.{ftrue};
 ghost use Rattle.sqlite.specs.State.{HasCleanDisk};
 ghost use Rattle.sqlite.specs.Held.{state};
+ghost use Rattle.sqlite.specs.declared.error.Error.TheVariants.{SqliteFailure};
+ghost use Rattle.sqlite.specs.declared.error.ErrorCode.TheVariants.{OutOfMemory};
 ghost use Rattle.mls_statements.specs.declared.rows.CellRow.{CellRow as SpecCell};
-ghost use Rattle.mls_statements.specs.Rows.{Tables, tables_of, described, is_node_at, is_node, is_cell_at, is_cell_in, cell_beside, numbered};
+ghost use Rattle.mls_statements.specs.Rows.{Tables, tables_of, described, is_node_at, is_node, is_cell_at, is_cell_in, cell_beside};
 ghost use Rattle.mls_statements.specs.Schema.{no_schema};
 ghost use Rattle.mls_statements.specs.Statements.{IsReady, AddsNode, DropsNode, AddsCells, SetsCell, DropsCells, AddsEntry, IsOne, has_key_of, HasSettled};
-ghost use Rattle.mls_statements.specs.Store.{IsClean, IsFault, IsCall, Writes, IsSame, HasEnded};
+ghost use Rattle.mls_statements.specs.Store.{IsClean, IsFault, IsCall, HasFailed, Writes, IsSame, HasEnded};
 
-use crate::decode::are_numbered;
-use crate::failures::Failures;
 use crate::remembered::Remembered;
 use crate::rows::{AuditRow, CellRow, NodeRow, OwnCell};
 use crate::statements::{audit, cell, change, creation, node};
 use mls_lattice::Items;
 use sqlite::{Alter, Connection, Error, ErrorCode};
 use std::alloc::Global;
-use std::marker::Model;
+use std::marker::{Model, PhantomData};
 
 /// Why a call over the tables gives no answer.
 #[derive(Clone, Copy)]
@@ -24,6 +25,32 @@ pub enum StoreFault {
     Store,
     /// A growth was refused.
     Memory,
+}
+
+/// How many calls failed, as a number that only clauses read.
+#[derive(Drop)]
+pub(crate) struct Failures {
+    marker: PhantomData<u8>,
+    ghost count: { ℕ },
+}
+
+impl Model for Failures {
+    ghost also_owns = { λ _. ftrue };
+}
+
+impl Failures {
+    pub(crate) fn new() -> Failures
+        ensures { result.count ≡ 0 }
+    {
+        Failures {
+            marker: PhantomData,
+        }
+    }
+
+    /// One more call failed.
+    fn rise(&mut self)
+        ensures { self.new.count ≡ self.old.count + 1 }
+    {}
 }
 
 /// The four tables over a connection.
@@ -58,15 +85,24 @@ fn remember<S: Alter>(last: &mut Remembered, _conn: &Connection<S>)
     last.keep();
 }
 
+/// One more call failed, for another cause than want of memory.
+fn rise(count: &mut Failures, _error: Error)
+    requires { _error ≢ SqliteFailure OutOfMemory }
+    ensures { count.new.count ≡ count.old.count + 1 }
+{
+    count.rise();
+}
+
 /// Notes why a call failed.
 fn blame(count: &mut Failures, error: Error) -> StoreFault
+    ensures cause { result ≡ StoreFault.Memory ↔ error ≡ SqliteFailure OutOfMemory }
     ensures store { result ≡ StoreFault.Store → count.new.count ≡ count.old.count + 1 }
     ensures memory { result ≢ StoreFault.Store → count.new.count ≡ count.old.count }
 {
     match error {
         Error::SqliteFailure(ErrorCode::OutOfMemory) => StoreFault::Memory,
-        _ => {
-            count.rise();
+        error => {
+            rise(count, error);
             StoreFault::Store
         }
     }
@@ -80,6 +116,8 @@ pub(crate) fn fall<S: Alter>(
 ) -> StoreFault
     ensures clean { HasCleanDisk (state S.Store conn.new) → HasCleanDisk (state S.Store conn.old) }
     ensures ended { HasCleanDisk (state S.Store conn.new) → HasEnded (state S.Store conn.old) (state S.Store conn.new) }
+    ensures cause { result ≡ StoreFault.Memory ↔ error ≡ SqliteFailure OutOfMemory }
+    ensures faults { (state S.Store conn.old).faults ≤ (state S.Store conn.new).faults }
     ensures count { failures.old.count ≤ failures.new.count }
     ensures store { result ≡ StoreFault.Store → failures.old.count < failures.new.count }
 {
@@ -100,6 +138,8 @@ fn fail<S: Alter>(
     ensures clean { HasCleanDisk (state S.Store conn.new) → HasCleanDisk (state S.Store conn.old) }
     ensures ended { HasCleanDisk (state S.Store conn.new) → HasEnded (state S.Store conn.old) (state S.Store conn.new) }
     ensures mode { begun.new ≡ false }
+    ensures cause { result ≡ StoreFault.Memory ↔ error ≡ SqliteFailure OutOfMemory }
+    ensures faults { (state S.Store conn.old).faults ≤ (state S.Store conn.new).faults }
     ensures count { failures.old.count ≤ failures.new.count }
     ensures store { result ≡ StoreFault.Store → failures.old.count < failures.new.count }
 {
@@ -181,12 +221,16 @@ impl<S: Alter> TableStore<S> {
         }
     }
 
-    /// Counts a failure of the store that shows in what it has answered, and ends the change, if one is begun.
+    /// Counts a failure of a store whose disk gave back other rows than were written to it, and ends the change, if one is begun.
     pub fn condemn(&mut self)
-        ensures clean { IsClean self.new → IsClean self.old }
+        requires { IsClean self.old → ⊥ }
+        ensures clean { IsClean self.new → ⊥ }
         ensures fault { IsFault StoreFault.Store self.old self.new }
     {
-        self.failures.rise();
+        rise(
+            &mut self.failures,
+            Error::SqliteFailure(ErrorCode::DatabaseCorrupt),
+        );
         self.abandon();
     }
 
@@ -201,6 +245,7 @@ impl<S: Alter> TableStore<S> {
     pub fn begin(&mut self) -> Result<(), StoreFault>
         requires begun { self.old.begun ≡ false }
         ensures call { IsCall self.old self.new result }
+        ensures cause { IsClean self.new → IfErr result (λ e. e ≡ StoreFault.Store → HasFailed self.old self.new) }
         ensures mode { OnOk result (self.new.begun ≡ true) }
         ensures done { IsClean self.new → OnOk result ((self.new.now ≡ self.old.now) × (self.new.kept ≡ self.old.now)) }
     {
@@ -217,6 +262,7 @@ impl<S: Alter> TableStore<S> {
     pub fn commit(&mut self) -> Result<(), StoreFault>
         requires begun { self.old.begun ≡ true }
         ensures call { IsCall self.old self.new result }
+        ensures cause { IsClean self.new → IfErr result (λ e. e ≡ StoreFault.Store → HasFailed self.old self.new) }
         ensures mode { OnOk result (self.new.begun ≡ false) }
         ensures done { IsClean self.new → OnOk result ((self.new.now ≡ self.old.now) × (self.new.kept ≡ self.old.now)) }
     {
@@ -234,6 +280,7 @@ impl<S: Alter> TableStore<S> {
     pub fn rollback(&mut self) -> Result<(), StoreFault>
         requires begun { self.old.begun ≡ true }
         ensures call { IsCall self.old self.new result }
+        ensures cause { IsClean self.new → IfErr result (λ e. e ≡ StoreFault.Store → HasFailed self.old self.new) }
         ensures mode { OnOk result (self.new.begun ≡ false) }
         ensures done { IsClean self.new → OnOk result ((self.new.now ≡ self.old.kept)
             × (self.new.kept ≡ self.old.kept)) }
@@ -426,28 +473,12 @@ impl<S: Alter> TableStore<S> {
         }
     }
 
-    /// Every entry, in the order of the numbers, which are 1, 2, .. up to their count.
+    /// Every entry, in any order.
     pub fn entries(&mut self) -> Result<Vec<AuditRow>, StoreFault>
-        ensures call { IsCall self.old self.new result }
-        ensures mode { OnOk result (self.new.begun ≡ self.old.begun) }
-        ensures found { IsClean self.new → (list : List (List ℕ)) → IsPermutation (numbered 1 list) self.old.now.audit
-            → IfOk result (λ entries. entries.items ≡ numbered 1 list) }
-        ensures same { IsClean self.new → OnOk result (IsSame self.old self.new) }
-    {
-        let rows = self.read_entries()?;
-        if are_numbered(&rows) {
-            return Ok(rows);
-        }
-        self.condemn();
-        Err(StoreFault::Store)
-    }
-
-    fn read_entries(&mut self) -> Result<Vec<AuditRow>, StoreFault>
         ensures call { IsCall self.old self.new result }
         ensures mode { OnOk result (self.new.begun ≡ self.old.begun) }
         ensures found { IsClean self.new → IfOk result (λ rows. IsPermutation self.old.now.audit rows.items) }
         ensures same { IsClean self.new → OnOk result (IsSame self.old self.new) }
-        ensures count { OnOk result (self.old.failures ≡ self.new.failures) }
     {
         match audit::read_entries(&mut self.conn, self.alloc) {
             Ok(rows) => Ok(rows),

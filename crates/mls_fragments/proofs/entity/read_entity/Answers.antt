@@ -1,10 +1,13 @@
 use Rattle.std.proofs.Common.{◌≡◌, ◌∙◌, [], sym, map, filter, subst, ap, IsPermutation, rules}
 use Rattle.std.specs.Prelude.{nat_eq}
+use Rattle.std.specs.List.{AllByRecursion}
 use Rattle.std.proofs.lemmas.Bool.Decides.{Decides-eqb}
 use Rattle.std.proofs.lemmas.List.{nil_from_length}
 use Rattle.mls_scheme.specs.Spelling.{key_spelling}
 use Rattle.mls_statements.specs.Rows.{is_node, is_cell_in}
+use Rattle.mls_fragments.specs.Finding.{IsNodeRow, IsCellRow}
 use Rattle.mls_fragments.specs.Holding.{node_row, cell_row}
+use Rattle.mls_fragments.proofs.ByteLemmas.{read_nodes, read_cells}
 use Rattle.mls_fragments.proofs.ReadingLemmas.{found_entity}
 use Rattle.mls_fragments.proofs.ShownLemmas.{shows_nothing}
 use Rattle.mls_fragments.proofs.entity.read_entity.Goals as goal
@@ -36,3 +39,19 @@ returns-then-is_empty-clause-found g c clean content holds =
     let none : c.in_ok-nodes.nodes.items ≡ [] = nil_from_length c.in_ok-nodes.nodes.items (sym c.in_ok-nodes.nodes.ok.0 ∙ (Decides-eqb c.in_ok-nodes.nodes.len 0).0 (sym c.is_empty.ensures ∙ c.if-is_empty.true)) in
     let some = subst (λ e. IsPermutation (filter (is_node c.args.rel e p.key_class p.class) c.args.store.now.now.nodes) c.in_ok-nodes.nodes.items) key (c.in_ok-nodes.ensures.found clean) in
     shows_nothing c.args.store.now.now content c.args.rel p c.nothing.result holds c.requires.key (subst (IsPermutation (filter (is_node c.args.rel (key_spelling p.key) p.key_class p.class) c.args.store.now.now.nodes)) none some) c.nothing.ensures.0 c.nothing.ensures.1
+
+pub give_up-requires-in-Err-fragment_in : goal.give_up-requires-in-Err-fragment_in
+give_up-requires-in-Err-fragment_in g c bad clean =
+    let p = c.args.place.now in
+    let t = c.args.store.now.now in
+    let nodes = c.in_ok-nodes.nodes.items in
+    let cells = c.in_ok-cells.cells.items in
+    let before = c.in_ok-cells.ensures.call.clean clean in
+    let held = c.requires.readable (c.in_ok-nodes.ensures.call.clean before) in
+    let same_cells = ap (λ u. u.cells) (c.in_ok-nodes.ensures.same before).0 in
+    let some_nodes = c.in_ok-nodes.ensures.found before in
+    let some_cells = subst (λ xs. IsPermutation (filter (is_cell_in c.args.rel c.deref-3.result.now p.key_class p.class) xs) cells) same_cells (c.in_ok-cells.ensures.found clean) in
+    let memory = c.in-Err-fragment_in.ensures.only
+    (subst (AllByRecursion IsNodeRow) (sym c.deref-4.ensures.value) (read_nodes t held.0 held.1 held.2 _ nodes some_nodes))
+    (subst (AllByRecursion IsCellRow) (sym c.deref-5.ensures.value) (read_cells t held.0 held.1 held.2 _ cells some_cells)) in
+    (let e = sym bad ∙ memory in cc)

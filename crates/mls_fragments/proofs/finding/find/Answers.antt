@@ -6,6 +6,7 @@ use Rattle.std.specs.Map.{keys_of}
 use Rattle.std.specs.List.{AllByRecursion, list_all}
 use Rattle.mls_lattice.specs.Policy.{Tables as Policy, labels_of}
 use Rattle.mls_fragments.specs.Finding.{is_within, IsNodeRow, IsCellRow, AreAlike, AreAssembled, AreTables, IsSpelledEntry, node_rows, cell_rows}
+use Rattle.mls_fragments.proofs.ByteLemmas.{content_bytes, few_labels}
 use Rattle.mls_fragments.proofs.FindingLemmas.{are_content, finds, tables_each, tables_spelled}
 use Rattle.mls_scheme.specs.Table.{place_cmp}
 use Rattle.mls_statements.specs.Adopting.{AreAll}
@@ -43,6 +44,11 @@ returns-clause-sound c = record {
   entries = c.in_ok-entries.ensures.entries;
 }
 
+pub returns-clause-classes : goal.returns-clause-classes
+returns-clause-classes c =
+    content_bytes (labels_of c.args.policy.now) c.args.schemes.now (found (map (λ t. t.entries) c.in_ok-tables.tables.items) c.in_ok-entries.entries)
+    (few_labels c.args.policy.now c.label_count-labels.ensures.few) (returns-clause-sound c).content
+
 pub returns-clause-spelled : goal.returns-clause-spelled
 returns-clause-spelled c = tables_spelled (λ t. t.entries) c.deref-2.result.now c.deref-3.result.now c.in_ok-tables.tables.items c.in_ok-tables.ensures.assembled
 
@@ -55,9 +61,6 @@ returns-then-not-are_within-clause-only c t all content holds sound =
     ∙ sym c.are_within.ensures ∙ c.if-not-are_within.true))
 
 -- ---- rows that hold sound content are refused only for want of memory
-
-few_labels : (p : Policy) → length p.labels ≤ 64 → length (labels_of p) ≤ 256
-few_labels p h = omega (arith, h, length-map p.labels (λ l. l.value))
 
 pub returns-in_err-tables-clause-only : goal.returns-in_err-tables-clause-only
 returns-in_err-tables-clause-only c t all content holds sound =

@@ -14,6 +14,7 @@ use Rattle.mls_filterview.specs.Stored.{IsContent}
 use Rattle.mls_fragments.specs.Changes.{table_in, found}
 use Rattle.mls_fragments.specs.Finding.{IsSpelledEntry, IsSoundWithin}
 use Rattle.mls_fragments.specs.Migrating.{wide_tables}
+use Rattle.mls_fragments.proofs.ByteLemmas.{content_bytes, few_labels}
 use Rattle.mls_fragments.proofs.FindingLemmas.{none_sorted, tables_each, are_content, holds_found}
 use Rattle.mls_fragments.proofs.MigratingLemmas.{each_table, scheme_each, wide_length, sorted_wide, tables_wide, content_wide, spelled_wide, entries_more}
 use Rattle.mls_fragments.proofs.migrating.find_widened.Goals as goal
@@ -78,6 +79,11 @@ returns-clause-sound c =
           (subst (λ s. IsContent ls s (table_in tables rel)) at (c.in_ok-tables.ensures.sound.content rel)));
       entries = entries_more c.args.older.now.labels (length policy.labels) b.few_labels c.in_ok-tables.field-0.entries c.in_ok-tables.ensures.sound.entries;
     }
+
+pub returns-clause-classes : goal.returns-clause-classes
+returns-clause-classes c =
+    content_bytes (labels_of c.args.policy.now) c.args.schemes.now (found (map (λ t. t.entries) c.in_ok-widened_tables.field-0.items) c.in_ok-tables.field-0.entries)
+    (few_labels c.args.policy.now c.in_ok-tables.ensures.few) (returns-clause-sound c).content
 
 pub returns-clause-widened : goal.returns-clause-widened
 returns-clause-widened c =

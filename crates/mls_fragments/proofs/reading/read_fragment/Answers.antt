@@ -1,7 +1,10 @@
-use Rattle.std.proofs.Common.{◌≡◌, ◌∙◌, map, filter, subst, subst₂, ap, IsPermutation}
+use Rattle.std.proofs.Common.{◌≡◌, ◌∙◌, sym, map, filter, subst, subst₂, ap, IsPermutation}
 use Rattle.std.specs.Prelude.{nat_eq}
+use Rattle.std.specs.List.{AllByRecursion}
 use Rattle.mls_statements.specs.Rows.{is_node_at, is_cell_at}
+use Rattle.mls_fragments.specs.Finding.{IsNodeRow, IsCellRow}
 use Rattle.mls_fragments.specs.Holding.{node_row, cell_row}
+use Rattle.mls_fragments.proofs.ByteLemmas.{read_nodes, read_cells}
 use Rattle.mls_fragments.proofs.ReadingLemmas.{found_fragment}
 use Rattle.mls_fragments.proofs.reading.read_fragment.Goals as goal
 
@@ -20,3 +23,18 @@ returns-in-Ok-clause-found g c clean content holds =
     (subst (λ xs. map (node_row c.args.rel) f.nodes ≡ filter (λ r. nat_eq r.rel c.args.rel) xs) c.deref.ensures.value c.in-Ok.ensures.nodes)
     (subst (λ xs. map (cell_row c.args.rel) f.cells ≡ filter (λ r. nat_eq r.rel c.args.rel) xs) c.deref-2.ensures.value c.in-Ok.ensures.cells)
     c.in-Ok.ensures.spelled.0 c.in-Ok.ensures.spelled.1
+
+pub give_up-requires : goal.give_up-requires
+give_up-requires g c bad clean =
+    let t = c.args.store.now.now in
+    let nodes = c.in_ok-nodes.nodes.items in
+    let cells = c.in_ok-cells.cells.items in
+    let before = c.in_ok-cells.ensures.call.clean clean in
+    let held = c.requires.readable (c.in_ok-nodes.ensures.call.clean before) in
+    let same_cells = ap (λ u. u.cells) (c.in_ok-nodes.ensures.same before).0 in
+    let some_nodes = c.in_ok-nodes.ensures.found before in
+    let some_cells = subst (λ xs. IsPermutation (filter (is_cell_at c.from-3.result c.from-4.result) xs) cells) same_cells (c.in_ok-cells.ensures.found clean) in
+    let memory = c.in-Err.ensures.only
+    (subst (AllByRecursion IsNodeRow) (sym c.deref.ensures.value) (read_nodes t held.0 held.1 held.2 _ nodes some_nodes))
+    (subst (AllByRecursion IsCellRow) (sym c.deref-2.ensures.value) (read_cells t held.0 held.1 held.2 _ cells some_cells)) in
+    (let e = sym bad ∙ memory in cc)

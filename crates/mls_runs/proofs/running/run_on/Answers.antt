@@ -1,6 +1,8 @@
-use Rattle.std.proofs.Common.{◌≡◌, false, sym, ap, subst, ◌∙◌}
+use Rattle.std.proofs.Common.{◌≡◌, ◌<◌, ◌≤◌, false, sym, ap, subst, ◌∙◌}
+use Rattle.std.specs.Prelude.{IfErr}
 use Rattle.mls_machine.specs.Site.{Site}
 use Rattle.mls_machine.specs.Observation.{EventsFit}
+use Rattle.mls_sessions.specs.declared.cause.RunCause.TheVariants.{Store}
 use Rattle.mls_sessions.specs.World.{world_at, IsSound}
 use Rattle.mls_sessions.specs.Engine.{world_of}
 use Rattle.mls_monitor.specs.Sessions.{site_of, sessions_of}
@@ -17,6 +19,19 @@ returns-clause-clean g c = λ clean.
 
 pub returns-clause-idle : goal.returns-clause-idle
 returns-clause-idle g c = subst (λ b. (g.B.Base.state b).begun ≡ false) (sym c.finish.ensures) c.run_to-outcome.ensures.kept.ready.idle
+
+pub returns-clause-count : goal.returns-clause-count
+returns-clause-count g c =
+    subst (λ b. g.B.Base.failures c.args.base ≤ g.B.Base.failures b) (sym c.finish.ensures)
+    (subst (λ b. g.B.Base.failures b ≤ g.B.Base.failures c.run_to-outcome.new.engine.base) c.new-engine.ensures.base c.run_to-outcome.ensures.count)
+
+pub returns-clause-store : goal.returns-clause-store
+returns-clause-store g c = λ clean.
+    let new = c.run_to-outcome.new.engine.base in
+    let outcome = c.run_to-outcome.result in
+    subst (λ b. IfErr outcome (λ f. f.cause ≡ Store → g.B.Base.failures c.args.base < g.B.Base.failures b)) (sym c.finish.ensures)
+    (subst (λ b. IfErr outcome (λ f. f.cause ≡ Store → g.B.Base.failures b < g.B.Base.failures new)) c.new-engine.ensures.base
+    (c.run_to-outcome.ensures.store (subst g.B.Base.is_clean c.finish.ensures clean)))
 
 pub returns-clause-run : goal.returns-clause-run
 returns-clause-run g c = λ clean.

@@ -17,7 +17,7 @@ invariant_of-self g c =
     let made = subst (λ (v : BaseState). IsClean v.tables → (es : List Element) × IsMadeOf ((content_of v.now).db rel) n c.args.cells.now es) (sym c.self.view_is) c.requires.made in
     let clean = c.in-Ok.ensures.call.clean in
     based_on c.self.inside.store c.add_tuple.new.store c.self.inside.now _ c.self.inside.kept c.self.invariant clean c.in-Ok.ensures.mode (λ h. (c.in-Ok.ensures.done h).1)
-    (λ h was. noted_tuple _ _ c.self.inside.now _ was rel n c.args.cells.now c.add.ensures refl c.requires.key c.requires.cells (absent (clean h)) (made (clean h)) (c.in-Ok.ensures.done h).0)
+    (λ h was. noted_tuple _ _ c.self.inside.now _ was rel n c.args.cells.now c.add.ensures refl c.requires.key c.requires.cells (absent (clean h)) (made (clean h)) c.in-Ok.ensures.classes (c.in-Ok.ensures.done h).0)
 
 pub returns-in-Ok-clause-done : goal.returns-in-Ok-clause-done
 returns-in-Ok-clause-done g c = λ h es.

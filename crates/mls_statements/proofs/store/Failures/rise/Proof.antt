@@ -12,11 +12,11 @@ use denote.Ref.{MutRef, mut_vals, mut_Tells}
 use denote.Signature.{plain}
 use denote.Steps.{nothing, opens, closes}
 use denote.Triple.Walked.{says, Stays, stay_ref, Goes-ref, ends_at}
-use Rattle.mls_statements.specs.declared.failures.Failures.{Failures}
-use Rattle.mls_statements.specs.contracts.failures.Failures as T
-use Rattle.mls_statements.specs.contracts.failures.Failures.rise as f
-use Rattle.mls_statements.proofs.failures.Failures.rise.Statement.{statement}
-use Rattle.mls_statements.proofs.failures.Failures.rise.Code as code
+use Rattle.mls_statements.specs.declared.store.Failures.{Failures}
+use Rattle.mls_statements.specs.contracts.store.Failures as T
+use Rattle.mls_statements.specs.contracts.store.Failures.rise as f
+use Rattle.mls_statements.proofs.store.Failures.rise.Statement.{statement}
+use Rattle.mls_statements.proofs.store.Failures.rise.Code as code
 
 abbrev stayed : Stays f.ended.signature.params f.ended.kept
 stayed = (stay_ref (0 ∷ []) tt (plain (λ _. T.the_row)), tt)

@@ -21,12 +21,12 @@ use denote.Triple.Entry.{on_entry}
 use denote.Triple.Spec.{Meets, triple_of}
 use denote.Triple.Table.{entered}
 use denote.Triple.Walked.{says, ends_at, walked, walk_Meets}
-use Rattle.mls_statements.specs.declared.failures.Failures.{Failures}
-use Rattle.mls_statements.specs.contracts.failures.Failures as T
-use Rattle.mls_statements.specs.contracts.failures.Failures.new.Key.{name as #it}
-use Rattle.mls_statements.specs.contracts.failures.Failures.new as it
-use Rattle.mls_statements.proofs.failures.Failures.new.Statement as stated
-use Rattle.mls_statements.proofs.failures.Failures.new.Code as code
+use Rattle.mls_statements.specs.declared.store.Failures.{Failures}
+use Rattle.mls_statements.specs.contracts.store.Failures as T
+use Rattle.mls_statements.specs.contracts.store.Failures.new.Key.{name as #it}
+use Rattle.mls_statements.specs.contracts.store.Failures.new as it
+use Rattle.mls_statements.proofs.store.Failures.new.Statement as stated
+use Rattle.mls_statements.proofs.store.Failures.new.Code as code
 
 abbrev v : Val
 v = vstruct (vcons (vstruct vnil) vnil)

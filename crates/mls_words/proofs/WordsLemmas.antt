@@ -1,10 +1,11 @@
 -- What the words of a command line ask for, by the matches of its parser.
 use Rattle.std.proofs.Common.{◌≡◌, ◌==◌, ◌≤◌, ℕ, List, [], ◌∷◌, Bool, true, false, true≢false, nat_lt, length, Option, Some, None, codes, refl, sym, ap, subst, ◌∙◌}
 use Rattle.std.specs.Prelude.{option_map, is_some}
-use Rattle.std.proofs.Common.{inl, inr}
-use Rattle.std.proofs.lemmas.Bool.{cases_Bool}
+use Rattle.std.proofs.Common.{◌⊎◌, inl, inr}
 use Rattle.std.proofs.lemmas.Option.{same_Some}
-use Rattle.clap.specs.Words.{Row, Text, first_of, subcommand_name_of, subcommand_rows_of, has_subcommand, takes}
+use Rattle.clap.specs.Words.{IsAmong, Kinds, Row, Text, fault_of, first_of, subcommand_name_of, subcommand_rows_of, has_subcommand}
+use Rattle.clap.specs.declared.error.kind.ErrorKind.{ErrorKind}
+use Rattle.clap.specs.declared.error.kind.ErrorKind.TheVariants as kind
 use Rattle.clap.specs.declared.parser.matches.ArgMatches.{ArgMatches}
 use Rattle.mls_words.specs.declared.words.Task.{Task}
 use Rattle.mls_words.specs.declared.words.Task.TheVariants.{ShowPolicy, Picture, Run, Shell, Certify, Check, Explain}
@@ -111,9 +112,20 @@ not_entered m h job k = subst (λ o. IsCommandOf o job) (none_entered _ _ h) k
 
 -- ---- refusals
 
-pub refused : (words : List Text) (u : Usage) → 2 ≤ length words → (takes command_line words ≡ true → u ≡ usage.Memory) → AskNothing words u
-refused words (usage.Text text) some h = (some, elim (cases_Bool (takes command_line words)) [ inl e ↦ absurd (other text (h e)) | inr e ↦ inl e ])
+among_none : (k : ErrorKind) (kinds : Kinds) → IsAmong k kinds → kinds ≡ [] → ⊥
+among_none k [] h e = h
+among_none k (x ∷ xs) h e = absurd cc
+
+-- an error of a parse is of want of memory, or of a fault, with which the words ask for no job
+pub refused : (words : List Text) (k : ErrorKind) (u : Usage) → 2 ≤ length words
+    → (k ≡ kind.OutOfMemory) ⊎ IsAmong k (fault_of command_line words) → (k ≡ kind.OutOfMemory → u ≡ usage.Memory)
+    → AskNothing words u
+refused words k (usage.Text text) some h memory = (some, λ job asks. by_kind h (asks.taken some))
   where
     other : (t : _) → usage.Text t ≡ usage.Memory → ⊥
     other t e = absurd cc
-refused words usage.Memory some h = tt
+
+    by_kind : (k ≡ kind.OutOfMemory) ⊎ IsAmong k (fault_of command_line words) → fault_of command_line words ≡ [] → ⊥
+    by_kind (inl e) none = other text (memory e)
+    by_kind (inr among) none = among_none k (fault_of command_line words) among none
+refused words k usage.Memory some h memory = tt

@@ -1,8 +1,8 @@
 -- What the words of a command line ask for, and what is said where they ask for nothing.
-use Rattle.std.specs.Prelude.{◌≡◌, ℕ, ◌<◌, ◌≤◌, Bool, true, false, List, map, length, codes, string_bytes, Option, Some, None, option_map, ◌⊎◌, ⊤}
+use Rattle.std.specs.Prelude.{◌≡◌, ℕ, ◌<◌, ◌≤◌, Bool, true, false, List, [], map, length, codes, string_bytes, Option, Some, None, option_map, ⊤}
 use Rattle.std.specs.Borrow.{Bor}
 use Rattle.std.specs.Str.{bytes_eq}
-use Rattle.clap.specs.Words.{App, Row, Rule, Text, first_of, new_app, new_rule, subcommand_of, takes, with_rule, with_subcommand}
+use Rattle.clap.specs.Words.{App, Row, Rule, Text, fault_of, first_of, new_app, new_rule, subcommand_of, with_rule, with_subcommand}
 use Rattle.clap.specs.declared.builder.action.ArgAction.TheVariants.{SetTrue}
 use Rattle.mls_words.specs.declared.words.Job.{Job}
 use Rattle.mls_words.specs.declared.words.Documents.{Documents}
@@ -115,14 +115,16 @@ abbrev pub IsCommandOf : Option (Text × List Row) → Job → Type 0
 IsCommandOf None job = ⊥
 IsCommandOf (Some c) job = IsCommand c.0 c.1 job
 
--- the samples without any word after the name of the program; and else what the command among the words says
+-- the samples without any word after the name of the program; and else what the command among the words says, where the parser of
+-- the command line finds no fault in any of them
 pub record Asks (words : List Text) (job : Job) : Type 0 where
   pub samples_are : length words < 2 → job ≡ samples
   pub command_is : 2 ≤ length words → IsCommandOf (subcommand_of command_line words) job
+  pub taken : 2 ≤ length words → fault_of command_line words ≡ []
 
--- words that ask for nothing are no command line, or name no job, and there are some; or there was no memory to read them
+-- there are words, and they ask for no job; or there was no memory to read them
 abbrev pub AskNothing : List Text → Usage → Type 0
-AskNothing words (usage.Text text) = (2 ≤ length words) × ((takes command_line words ≡ false) ⊎ ((job : Job) → Asks words job → ⊥))
+AskNothing words (usage.Text text) = (2 ≤ length words) × ((job : Job) → Asks words job → ⊥)
 AskNothing words usage.Memory = ⊤
 
 -- the name of the label for which alone a task prints

@@ -1,7 +1,7 @@
 //! The command line.
-ghost use Rattle.std.specs.Prelude.{◌≡◌, ◌⊎◌, ◌≤◌, false, length, Some, None, codes, option_map, IfOk, IfErr};
+ghost use Rattle.std.specs.Prelude.{◌≡◌, ◌⊎◌, ◌≤◌, false, [], length, Some, None, codes, option_map, IfOk, IfErr};
 ghost use Rattle.std.specs.Option.{IfSome};
-ghost use Rattle.clap.specs.Words.{app_of, first_of, found_of, kind_of, new_app, new_rule, rows_of, subcommand_of, subcommand_rows_of, with_rule};
+ghost use Rattle.clap.specs.Words.{app_of, fault_of, first_of, found_of, kind_of, new_app, new_rule, rows_of, subcommand_of, subcommand_rows_of, with_rule};
 ghost use Rattle.clap.specs.declared.builder.command.Command.TheViews.{out-Command as fields_of};
 ghost use Rattle.mls_words.specs.declared.words.Task.{Task as SpecTask};
 ghost use Rattle.mls_words.specs.declared.words.Task.TheVariants.{Run};
@@ -572,6 +572,7 @@ fn job_in<'a>(matches: &ArgMatches<'a>) -> Option<Job<'a>>
 fn matches_of<'a>(alloc: Global, words: &'a [&'a str]) -> Result<ArgMatches<'a>, Usage>
     requires some { 2 ≤ length words.now }
     ensures rows { IfOk result (λ m. subcommand_rows_of m ≡ subcommand_of command_line (texts_of words.now)) }
+    ensures taken { IfOk result (λ _. fault_of command_line (texts_of words.now) ≡ []) }
     ensures refused { IfErr result (AskNothing (texts_of words.now)) }
 {
     match command_line(alloc)?.try_get_matches_from(words) {

@@ -1,7 +1,7 @@
 use Rattle.std.proofs.Common.{◌≡◌, IfOk, sym, subst}
 use Rattle.std.specs.Prelude.{MatchOption}
 use Rattle.mls_fragments.specs.Again.{IsTakenOf}
-use Rattle.mldb.proofs.machine.MachineHost.store.Goals as goal
+use Rattle.mls_system.proofs.machine.MachineHost.store.Goals as goal
 
 -- before a run it keeps what the files held
 pub returns-in-None-clause-kept : goal.returns-in-None-clause-kept

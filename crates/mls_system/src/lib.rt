@@ -1,0 +1,9 @@
+//! The machine that the program runs on: files, the standard input and stores in files; and commands over it.
+#![tactic(auto)]
+
+mod machine;
+mod private;
+mod running;
+mod shown;
+
+pub use crate::running::{Written, run, run_from, run_kept, run_kept_from};

@@ -1,0 +1,26 @@
+//! Cases of the program's own machine: what commands do over files of the folder that this program is run in. Adding a case is adding a line
+//! in `data/`, and its answer to `stdout`.
+#![tactic(auto)]
+
+mod commands;
+mod files;
+mod samples;
+mod stores;
+mod table;
+
+use crate::table::{TABLES, Table, told};
+use std::fs;
+use std::io::{self, Write};
+
+fn tell_table(rt: &HostRuntime, file: &str, table: Table) -> io::Result<()> {
+    let text = fs::read_to_string(rt, file)?;
+    let told = told(rt, file, table, &text)?;
+    rt.stdout().write_all(told.as_bytes())
+}
+
+fn main(rt: HostRuntime) -> io::Result<()> {
+    for (file, table) in TABLES {
+        tell_table(&rt, file, table)?;
+    }
+    Ok(())
+}

@@ -196,12 +196,18 @@ pub fn tell_writer<R: Files + AllocGlobal>(rt: &R, case: &Case<'_>, out: &mut To
     }
 }
 
-/// The line on standard error, or that the script is read.
+/// The line on standard error where the script is refused, or that it is read.
 fn answer_of(written: &Written) -> &str {
-    if written.status == 0 {
-        return "read";
+    match written.status {
+        0 => "read",
+        2 => text_of(&written.err).trim_end(),
+        _ => "neither read nor refused",
     }
-    text_of(&written.err).trim_end()
+}
+
+/// Whether a command is given up since its script is refused.
+fn refuses_script(written: &Written) -> bool {
+    written.status == 2 && text_of(&written.err).starts_with("mldb: script: ")
 }
 
 /// Tells standard error for a script in one line, or that it is read.
@@ -217,13 +223,16 @@ pub fn tell_fault<R: Files + AllocGlobal>(rt: &R, line: &str, out: &mut Told) {
     }
 }
 
-/// Tells how long the parts of a script are that are read, itself not among them.
+/// Tells how long the parts of a script are that are read, itself not among them, and which are not refused either.
 fn tell_read<R: Files + AllocGlobal>(rt: &R, script: &[u8], out: &mut Told) {
     for count in 0..script.len() {
         let part = &script[..count];
         let written = written_by(rt, &words_of(""), part, Narrow::wide(rt.alloc()));
         if written.status == 0 {
             out.push(" ");
+            out.push_count(count);
+        } else if !refuses_script(&written) {
+            out.push(" not refused at ");
             out.push_count(count);
         }
     }

@@ -24,8 +24,12 @@ pub fn words_with<'a>(
     Ok(all)
 }
 
-/// What a run writes whose store is a list.
-fn written_over_lists<R: Files + AllocGlobal>(rt: &R, words: &[&str], script: &[u8]) -> Written {
+/// What a command writes at a terminal whose store is a list.
+pub fn written_over_lists<R: Files + AllocGlobal>(
+    rt: &R,
+    words: &[&str],
+    script: &[u8],
+) -> Written {
     let mut out = Vec::new(rt.alloc());
     let mut err = Errors::new(Vec::new(rt.alloc()));
     let mut lists = Lists { rt, script };

@@ -1,10 +1,8 @@
 //! Shells over stores, each with what the one before it left.
 use crate::commands::{Written, tell_written, written_over};
-use crate::lists::Lists;
+use crate::elsewhere::written_over_lists;
 use crate::narrow::Narrow;
 use case_tables::{Case, Told, case_at, inner, text_of, unfolded};
-use mls_command::act;
-use mls_host::Errors;
 use sqlite::{Connection, MemStore};
 use std::alloc::{AllocError, Global};
 use std::rt::Files;
@@ -30,48 +28,94 @@ fn typed_in(alloc: Global, body: &[&str]) -> Result<Vec<u8>, AllocError> {
     Ok(typed)
 }
 
-/// What a command writes whose lines are not shown, at a terminal.
-fn written_quietly<R: Files + AllocGlobal>(rt: &R, words: &[&str], script: &[u8]) -> Written {
-    let mut out = Vec::new(rt.alloc());
-    let mut err = Errors::new(Vec::new(rt.alloc()));
-    let mut lists = Lists { rt, script };
-    let status = act(rt.alloc(), words, &mut lists, &mut out, &mut err);
-    Written {
-        out,
-        err: err.into_writer(),
-        status,
-    }
+/// Whether a line of this number, from 1, is refused on standard error.
+fn is_refused(told: &str, number: usize) -> bool {
+    let mut refused = told.split("mldb: line ").skip(1);
+    refused.any(|line| match line.split_once(':') {
+        Some((at, _)) => at.parse::<usize>() == Ok(number),
+        None => false,
+    })
 }
 
-/// The script of what is typed: the opening, and each line that says something behind the names of the session.
-fn script_of(alloc: Global, label: &str, user: &str, typed: &str) -> Result<String, AllocError> {
-    let mut script = String::new(alloc);
-    writeln!(script, "{label} {user} open {user}")?;
-    for line in typed.lines() {
-        if !line.trim().is_empty() && !line.starts_with('#') && line != "help" {
-            writeln!(script, "{label} {user} {line}")?;
+/// Whether a line that is typed says nothing to the session.
+fn is_silent(line: &str) -> bool {
+    line.trim().is_empty() || line.starts_with('#') || line == "help"
+}
+
+/// Adds what is typed to a session that is opened, up to its end: each line that says something, and is not refused, behind its names.
+fn push_lines(
+    names: &str,
+    typed: &[u8],
+    told: &str,
+    script: &mut String,
+) -> Result<(), AllocError> {
+    for (at, line) in typed.split(|byte| *byte == b'\n').enumerate() {
+        let line = text_of(line);
+        if is_silent(line) || is_refused(told, at.saturating_add(1)) {
+            continue;
         }
+        writeln!(script, "{names} {line}")?;
+        if line.trim() == "close" {
+            break;
+        }
+    }
+    Ok(())
+}
+
+/// The script of a shell: the opening and, unless that is denied, what is typed. A shell whose opening is denied says nothing on
+/// standard error.
+fn script_of(
+    alloc: Global,
+    names: &str,
+    user: &str,
+    typed: &[u8],
+    shell: &Written,
+) -> Result<String, AllocError> {
+    let mut script = String::new(alloc);
+    writeln!(script, "{names} open {user}")?;
+    if shell.status == 0 || !shell.err.is_empty() {
+        push_lines(names, typed, text_of(&shell.err), &mut script)?;
     }
     Ok(script)
 }
 
-/// What there is to tell of a shell at a terminal that refuses nothing: nothing where a run of its script that prints tables writes the
-/// same for its level.
+/// The words of a run of a script that prints tables for a level, with the options and the files of a shell.
+fn words_of_run<'a>(
+    alloc: Global,
+    label: &'a str,
+    rest: &[&'a str],
+) -> Result<Vec<&'a str>, AllocError> {
+    let mut words = Vec::new(alloc);
+    for word in ["mldb", "run", "--table", "--at", label] {
+        words.push(word)?;
+    }
+    for word in rest {
+        words.push(*word)?;
+    }
+    words.push("script")?;
+    Ok(words)
+}
+
+/// What there is to tell of a shell at a terminal that is begun: nothing where a run of its script that prints tables writes the same for
+/// its level.
 fn told_of_run<R: Files + AllocGlobal>(
     rt: &R,
     words: &[&str],
     typed: &[u8],
 ) -> Result<&'static str, AllocError> {
-    let ["mldb", "shell", policy, schemes, label, user] = words else {
+    let ["mldb", "shell", rest @ .., label, user] = words else {
         return Ok("");
     };
-    let shell = written_quietly(rt, words, typed);
-    let script = script_of(rt.alloc(), label, user, text_of(typed))?;
-    let run = [
-        "mldb", "run", "--table", "--at", label, policy, schemes, "script",
-    ];
-    let run = written_quietly(rt, &run, script.as_bytes());
-    if shell.status != 0 || shell.out.as_slice() == run.out.as_slice() {
+    let shell = written_over_lists(rt, words, typed);
+    if shell.status > 1 {
+        return Ok("");
+    }
+    let mut names = String::new(rt.alloc());
+    write!(names, "{label} {user}")?;
+    let script = script_of(rt.alloc(), &names, user, typed, &shell)?;
+    let run = words_of_run(rt.alloc(), label, rest)?;
+    let run = written_over_lists(rt, &run, script.as_bytes());
+    if shell.out.as_slice() == run.out.as_slice() {
         return Ok("");
     }
     Ok("  not so in a run\n")

@@ -2,11 +2,13 @@
 use case_tables::Told;
 use std::alloc::{AllocError, Global};
 
-/// Where a stop is: 0 in the opening of a store, then in one of the events, and last in the closing; and whether its event is done.
+/// Where a stop is: 0 in the opening of a store, then in one of the events, and last in the closing; and what is told of it: whether
+/// its event is done, and its cause.
 #[derive(Clone, Copy)]
 pub struct Place {
     pub number: usize,
     pub done: bool,
+    pub cause: &'static str,
 }
 
 /// Whether the content in this place is what is found.
@@ -62,18 +64,33 @@ impl Left {
     }
 }
 
-/// How many stops there are, how many events are done then, and what is left of what was synced, and of all that was written.
+/// How many stops there are, for one cause, how many events are done then, and what is left of what was synced, and of all that was
+/// written.
 #[derive(Clone, Copy)]
 struct Count {
     stops: usize,
+    cause: &'static str,
     done: usize,
     synced: Left,
     written: Left,
 }
 
+/// The cause of two counts, where they have one.
+fn both_causes(cause: &'static str, other: &'static str) -> &'static str {
+    if cause.is_empty() || cause == other {
+        return other;
+    }
+    if other.is_empty() {
+        cause
+    } else {
+        "several causes"
+    }
+}
+
 impl Count {
     const NONE: Count = Count {
         stops: 0,
+        cause: "",
         done: 0,
         synced: Left::NONE,
         written: Left::NONE,
@@ -82,7 +99,9 @@ impl Count {
     fn tell(&self, name: &str, out: &mut Told) {
         out.push("  ");
         out.push_count(self.stops);
-        out.push(" stops, ");
+        out.push(" stops for ");
+        out.push(self.cause);
+        out.push(", ");
         out.push_count(self.done);
         out.push(" done");
         self.synced.tell("synced", out);
@@ -94,6 +113,7 @@ impl Count {
     fn plus(&self, other: &Count) -> Count {
         Count {
             stops: self.stops.saturating_add(other.stops),
+            cause: both_causes(self.cause, other.cause),
             done: self.done.saturating_add(other.done),
             synced: self.synced.plus(&other.synced),
             written: self.written.plus(&other.written),
@@ -141,6 +161,7 @@ impl Counts {
             return Ok(());
         };
         count.stops = count.stops.saturating_add(1);
+        count.cause = both_causes(count.cause, place.cause);
         count.done = count.done.saturating_add(usize::from(place.done));
         let synced = count.synced.note(contents, place, &found.synced);
         let written = count.written.note(contents, place, &found.written);

@@ -34,13 +34,13 @@ fn followed(alloc: Global, text: &str, ends: &[&str]) -> Option<Vec<String>> {
     Some(contents)
 }
 
-/// What is found before a migration, after it and in the closing: what lists hold under the site, and then what they hold under the
-/// earlier one, which refuses a store that is migrated.
+/// What is found before a migration and after it: what lists hold under the site, and then what they hold under the earlier one, which
+/// refuses a store that is migrated.
 fn contents_of(alloc: Global, migration: &Migration<'_>) -> Option<Vec<String>> {
     let widened = content_of(alloc, migration.site, migration.widened, migration.probe)?;
     let before = content_of(alloc, migration.earlier, migration.script, migration.probe)?;
     let refused = OpenFault::OtherPolicy.word();
-    followed(alloc, &widened, &[before.as_str(), refused, refused])
+    followed(alloc, &widened, &[before.as_str(), refused])
 }
 
 /// Tells the series of a table, of stops of a migration of the store in files.

@@ -10,7 +10,7 @@ ghost use Rattle.mls_runs.specs.History.{IsPrepared};
 
 use crate::narrow::Narrow;
 use crate::site::Site;
-use mls_filterview::{Base, abandon};
+use mls_filterview::{Base, BaseFault, abandon};
 use mls_host::stored_from;
 use mls_machine::{Audience, Form, Stored};
 use mls_runs::{Run, run_on};
@@ -41,24 +41,37 @@ fn script_of<'a>(task: Task<'a>) -> &'a str {
 pub enum End {
     /// All is done.
     Whole,
-    /// The store fails, or the writer, in the event of this number, from 1.
-    Stopped { event: usize, done: bool },
-    /// Something else fails, as memory.
+    /// The event of this number, from 1, is not answered, or not whole.
+    Stopped(RunFault),
+    /// The work is not begun.
     Failed,
 }
 
 fn end_of(outcome: Result<(), RunFault>) -> End {
     match outcome {
         Ok(()) => End::Whole,
-        Err(fault) => {
-            if fault.cause == RunCause::Memory {
-                return End::Failed;
-            }
-            End::Stopped {
-                event: fault.event,
-                done: fault.done,
-            }
-        }
+        Err(fault) => End::Stopped(fault),
+    }
+}
+
+/// The cause that a fault of a base is, where it is that of a call.
+fn cause_of(fault: BaseFault) -> Option<RunCause> {
+    match fault {
+        BaseFault::Store => Some(RunCause::Store),
+        BaseFault::Memory => Some(RunCause::Memory),
+        BaseFault::NotBegun | BaseFault::Begun => None,
+    }
+}
+
+/// How an evaluation ends that a fault of its base stops.
+fn stop_of(fault: BaseFault) -> End {
+    match cause_of(fault) {
+        Some(cause) => End::Stopped(RunFault {
+            event: 1,
+            cause,
+            done: false,
+        }),
+        None => End::Failed,
     }
 }
 
@@ -123,10 +136,7 @@ fn evaluate_first<B: Base>(alloc: Global, site: &Site<'_>, stored: &[Stored], ba
         &[],
     ) {
         Ok(_) => End::Whole,
-        Err(_) => End::Stopped {
-            event: 1,
-            done: false,
-        },
+        Err(fault) => stop_of(fault),
     }
 }
 

@@ -75,15 +75,19 @@ pub fn content_in(alloc: Global, plan: &Plan<'_>, copies: &Copies) -> Option<Str
 
 /// The place of a stop, where there is one: the opening, one of the events, or the closing. A migration is the first event.
 fn place_of(outcome: Outcome, plan: &Plan<'_>) -> Option<Place> {
-    let migrates = plan.earlier.is_some();
-    let (number, done) = match outcome {
-        Outcome::Unopened => (0, false),
-        Outcome::Refused(_) => (usize::from(migrates), false),
-        Outcome::Ended(End::Stopped { event, done }) => (event, done),
-        Outcome::Unclosed => (plan.names.len().saturating_sub(1), migrates),
+    let (number, cause) = match outcome {
+        Outcome::Unopened(fault) => (0, fault.word()),
+        Outcome::Refused(fault) => (usize::from(plan.earlier.is_some()), fault.word()),
+        Outcome::Ended(End::Stopped(fault)) => (fault.event, fault.cause.word()),
+        Outcome::Unclosed(fault) => (plan.names.len().saturating_sub(1), fault.word()),
         Outcome::Ended(End::Whole | End::Failed) => return None,
     };
-    Some(Place { number, done })
+    let done = matches!(outcome, Outcome::Ended(End::Stopped(fault)) if fault.done);
+    Some(Place {
+        number,
+        done,
+        cause,
+    })
 }
 
 /// What is found in the files of a task.

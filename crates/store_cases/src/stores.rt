@@ -14,7 +14,7 @@ use mls_fragments::{OpenFault, SqlBase};
 use mls_lattice::LabelNo;
 use mls_machine::{Audience, Form};
 use mls_runs::{HistoryFault, Run, run_history};
-use sqlite::{Alter, Connection, Files, Options};
+use sqlite::{Alter, Connection, Error, ErrorCode, Files, Options};
 use sqlite_disk::{Fuse, Memory};
 use std::alloc::Global;
 use std::io;
@@ -70,13 +70,21 @@ impl<'a> Job<'a> {
 #[derive(Clone, Copy)]
 pub enum Outcome {
     /// The files are not opened.
-    Unopened,
+    Unopened(OpenFault),
     /// The store is refused.
     Refused(OpenFault),
     /// The work is done so far.
     Ended(End),
     /// The work is done, and the store is not closed.
-    Unclosed,
+    Unclosed(OpenFault),
+}
+
+/// What an error of the store's files is.
+fn fault_of(error: Error) -> OpenFault {
+    match error {
+        Error::SqliteFailure(ErrorCode::OutOfMemory) => OpenFault::Memory,
+        _ => OpenFault::Store,
+    }
 }
 
 impl Outcome {
@@ -88,16 +96,16 @@ impl Outcome {
     /// Adds how it ends.
     pub fn tell(self, out: &mut Told) {
         match self {
-            Outcome::Unopened => out.push("not opened"),
+            Outcome::Unopened(_) => out.push("not opened"),
             Outcome::Refused(fault) => {
                 out.push_count(usize::from(fault.code()));
                 out.push(" ");
                 out.push(fault.word());
             }
             Outcome::Ended(End::Whole) => out.push("all well"),
-            Outcome::Ended(End::Stopped { .. }) => out.push("stopped"),
+            Outcome::Ended(End::Stopped(_)) => out.push("stopped"),
             Outcome::Ended(End::Failed) => out.push("failed"),
-            Outcome::Unclosed => out.push("not closed"),
+            Outcome::Unclosed(_) => out.push("not closed"),
         }
     }
 }
@@ -175,11 +183,11 @@ fn work_in<D: Medium>(
     out: &mut Narrow,
 ) -> (Outcome, Files<D>) {
     if !files.may_be_used() {
-        return (Outcome::Unopened, files);
+        return (Outcome::Unopened(OpenFault::Store), files);
     }
     let conn = match Connection::open_files(alloc, files, options()) {
         Ok(conn) => conn,
-        Err((_, left)) => return (Outcome::Unopened, left.into_files()),
+        Err((error, left)) => return (Outcome::Unopened(fault_of(error)), left.into_files()),
     };
     let (outcome, conn) = work_over(alloc, job.work, conn, out);
     if !job.closes || !outcome.is_whole() {
@@ -187,7 +195,7 @@ fn work_in<D: Medium>(
     }
     match conn.close_files() {
         Ok(files) => (outcome, files),
-        Err((_, store)) => (Outcome::Unclosed, store.close()),
+        Err((error, store)) => (Outcome::Unclosed(fault_of(error)), store.close()),
     }
 }
 

@@ -16,13 +16,15 @@ use Rattle.mls_words.specs.declared.words.Task.TheVariants as tasks
 use Rattle.mls_host.specs.declared.refusal.Refusal.{Refusal}
 use Rattle.mls_host.specs.declared.reason.Reason.{Reason}
 use Rattle.mls_host.specs.declared.refusal.Refusal.TheVariants.{Before, Run, NotClosed, Output}
-use Rattle.mls_host.specs.Hosting.{Hosting, Hosted, IsTold}
+use Rattle.mls_host.specs.Hosting.{Hosting, Hosted, KeepsStores, LeavesStores, IsTold}
+use Rattle.mls_host.specs.Stopping.{IsCaused, HasStopped}
 use Rattle.mls_host.specs.Refusal.{IsEnd}
 use Rattle.mls_listings.specs.Printing.{IsCutOff}
 use Rattle.mls_runs.specs.ScriptRun.{IsScriptRun, IsRunRefused}
 use Rattle.mls_shells.specs.ShellRun.{IsShellRun, IsShellRefused}
 use Rattle.mls_host.proofs.HostingLemmas.{told_nothing}
-use Rattle.mls_command.specs.Acting.{KeepsStores, Prints, IsTaskDone, IsRunOf, IsTaskRefused, IsTaskGivenUp, IsJobRefused, IsDone, IsGivenUp}
+use Rattle.mls_command.specs.Acting.{Prints, IsTaskDone, IsRunOf, IsTaskRefused, IsTaskGivenUp, IsJobRefused, IsDone, IsGivenUp}
+use Rattle.mls_words.specs.Words.{named}
 use Rattle.mls_host.proofs.RunningLemmas.{given_up_before}
 
 -- a host that is not touched keeps them
@@ -31,20 +33,22 @@ stores_kept h echo path c = (λ k. k, λ k. k)
 
 module _ (h : Hosted) (policy : Tables) (file : SchemesFile) (reader : Option ℕ) (Wrote Told : List ℕ → Type 0) where
   -- as its run was
-  pub run_given_up : (files : RunFiles) (refusal : Refusal) → Told [] → IsEnd (IsScriptRun h policy file reader files Wrote) (λ reason. IsRunRefused h.before policy file files reason × Wrote []) (Err refusal)
+  pub run_given_up : (files : RunFiles) (refusal : Refusal) → Told [] → LeavesStores h (named files.store) → IsCaused h (named files.store) refusal → HasStopped h (named files.store) refusal
+      → IsEnd (IsScriptRun h policy file reader files Wrote) (λ reason. IsRunRefused h.before policy file files reason × Wrote []) (Err refusal)
       → IsTaskGivenUp h policy file reader Wrote Told (tasks.Run files) refusal
-  run_given_up files (Before reason) t k = (k.0, t, k.1)
-  run_given_up files (Run f) t k = (t, k)
-  run_given_up files NotClosed t k = (Well, (refl, t, k.1))
-  run_given_up files Output t k = absurd k
+  run_given_up files (Before reason) t leaves caused stopped k = (caused, k.0, t, k.1)
+  run_given_up files (Run f) t leaves caused stopped k = (leaves, (t, stopped, k))
+  run_given_up files NotClosed t leaves caused stopped k = (caused, (Well, (refl, t, k.1)))
+  run_given_up files Output t leaves caused stopped k = absurd k
 
   -- as its shell was
-  pub shell_given_up : (files : ShellFiles) (refusal : Refusal) → IsEnd (IsShellRun h policy file reader files Wrote Told) (λ reason. IsShellRefused h.before policy file reader files reason × Wrote [] × Told []) (Err refusal)
+  pub shell_given_up : (files : ShellFiles) (refusal : Refusal) → LeavesStores h (named files.store) → IsCaused h (named files.store) refusal
+      → IsEnd (IsShellRun h policy file reader files Wrote Told) (λ reason. IsShellRefused h.before policy file reader files reason × Wrote [] × Told []) (Err refusal)
       → IsTaskGivenUp h policy file reader Wrote Told (tasks.Shell files) refusal
-  shell_given_up files (Before reason) k = (k.0, k.2, k.1)
-  shell_given_up files (Run fault) k = k
-  shell_given_up files NotClosed k = k
-  shell_given_up files Output k = absurd k
+  shell_given_up files (Before reason) leaves caused k = (caused, k.0, k.2, k.1)
+  shell_given_up files (Run fault) leaves caused k = (leaves, k)
+  shell_given_up files NotClosed leaves caused k = (caused, k)
+  shell_given_up files Output leaves caused k = absurd k
 
 pub quiet_told : {A F E : Type 0} (contents : E → Option (List ℕ)) (old new : Errors E) (r : Result A F) → OnErr r (new ≡ old) → OnErr r (IsTold contents old new [])
 quiet_told contents old new (Ok a) h = tt
@@ -55,25 +59,31 @@ module _ (h : Hosted) (policy : Tables) (file : SchemesFile) (reader : Option �
 
   -- at the exit of a `?`
   pub not_begun : {A : Type 0} (Told : List ℕ → Type 0) (task same : Task) → same ≡ task → (r : Result A Refusal) (reason : Reason) → IsErrAnd r (λ e. e ≡ Before reason)
-      → IsTaskRefused h policy file reader task reason → Told [] → Wrote [] → IfErr r (IsTaskGivenUp h policy file reader Wrote Told same)
-  not_begun Told task same is r reason err k t w =
-      given_up_before (IsTaskGivenUp h policy file reader Wrote Told same) r reason err (subst (λ (t : Task). IsTaskRefused h policy file reader t reason) (sym is) k, t, w)
+      → IsTaskRefused h policy file reader task reason → Told [] → Wrote [] → KeepsStores h → IfErr r (IsTaskGivenUp h policy file reader Wrote Told same)
+  not_begun Told task same is r reason err k t w kept =
+      given_up_before (IsTaskGivenUp h policy file reader Wrote Told same) r reason err (kept, subst (λ (t : Task). IsTaskRefused h policy file reader t reason) (sym is) k, t, w)
 
   pub run_task_given_up : {A : Type 0} (Told : List ℕ → Type 0) (task : Task) (files : RunFiles) → task ≡ tasks.Run files → Told [] → (r : Result A Refusal) (refusal : Refusal) → IsErrAnd r (λ e. e ≡ refusal)
+      → LeavesStores h (named files.store) → IsCaused h (named files.store) refusal → HasStopped h (named files.store) refusal
       → IsEnd (IsScriptRun h policy file reader files Wrote) (λ reason. IsRunRefused h.before policy file files reason × Wrote []) (Err refusal) → IfErr r (IsTaskGivenUp h policy file reader Wrote Told task)
-  run_task_given_up Told task files is told (Ok a) refusal err k = tt
-  run_task_given_up Told task files is told (Err e) refusal err k =
+  run_task_given_up Told task files is told (Ok a) refusal err leaves caused stopped k = tt
+  run_task_given_up Told task files is told (Err e) refusal err leaves caused stopped k =
       subst (λ (x : Refusal). IsTaskGivenUp h policy file reader Wrote Told task x) (sym err)
-      (subst (λ (t : Task). IsTaskGivenUp h policy file reader Wrote Told t refusal) (sym is) (run_given_up h policy file reader Wrote Told files refusal told k))
+      (subst (λ (t : Task). IsTaskGivenUp h policy file reader Wrote Told t refusal) (sym is) (run_given_up h policy file reader Wrote Told files refusal told leaves caused stopped k))
 
-  pub run_task_done : (Told : List ℕ → Type 0) (task : Task) (files : RunFiles) → task ≡ tasks.Run files → Told [] → IsScriptRun h policy file reader files Wrote (Ok tt)
+  pub run_task_done : (Told : List ℕ → Type 0) (task : Task) (files : RunFiles) → task ≡ tasks.Run files → Told [] → LeavesStores h (named files.store) → IsScriptRun h policy file reader files Wrote (Ok tt)
       → IsTaskDone h policy file reader Wrote Told task Well
-  run_task_done Told task files is told runs = subst (λ (t : Task). IsTaskDone h policy file reader Wrote Told t Well) (sym is) (refl, told, runs)
+  run_task_done Told task files is told leaves runs = subst (λ (t : Task). IsTaskDone h policy file reader Wrote Told t Well) (sym is) (leaves, (refl, told, runs))
 
-  pub shell_task_given_up : {A : Type 0} (Told : List ℕ → Type 0) (task : Task) (files : ShellFiles) → task ≡ tasks.Shell files → (r : Result A Refusal)
+  pub shell_task_done : (Told : List ℕ → Type 0) (task : Task) (files : ShellFiles) → task ≡ tasks.Shell files → LeavesStores h (named files.store) → (r : Result Ending Refusal)
+      → IfOk r (λ end. IsShellRun h policy file reader files Wrote Told (Ok end)) → IfOk r (IsTaskDone h policy file reader Wrote Told task)
+  shell_task_done Told task files is leaves (Ok end) k = subst (λ (t : Task). IsTaskDone h policy file reader Wrote Told t end) (sym is) (leaves, k)
+  shell_task_done Told task files is leaves (Err e) k = tt
+
+  pub shell_task_given_up : {A : Type 0} (Told : List ℕ → Type 0) (task : Task) (files : ShellFiles) → task ≡ tasks.Shell files → LeavesStores h (named files.store) → (r : Result A Refusal) → IfErr r (IsCaused h (named files.store))
       → IfErr r (λ e. IsEnd (IsShellRun h policy file reader files Wrote Told) (λ reason. IsShellRefused h.before policy file reader files reason × Wrote [] × Told []) (Err e)) → IfErr r (IsTaskGivenUp h policy file reader Wrote Told task)
-  shell_task_given_up Told task files is (Ok a) k = tt
-  shell_task_given_up Told task files is (Err e) k = subst (λ (t : Task). IsTaskGivenUp h policy file reader Wrote Told t e) (sym is) (shell_given_up h policy file reader Wrote Told files e k)
+  shell_task_given_up Told task files is leaves (Ok a) caused k = tt
+  shell_task_given_up Told task files is leaves (Err e) caused k = subst (λ (t : Task). IsTaskGivenUp h policy file reader Wrote Told t e) (sym is) (shell_given_up h policy file reader Wrote Told files e leaves caused k)
 
   pub print_given_up : (Told : List ℕ → Type 0) (task same : Task) → same ≡ task → KeepsStores h → (text told : List ℕ) (end : Ending) → Prints h policy file task text told end → (r : Result Ending Refusal)
       → IfErr r (λ e. e ≡ Output) → OnErr r (IsCutOff Wrote text) → OnErr r (Told []) → IfErr r (IsTaskGivenUp h policy file reader Wrote Told same)
@@ -85,9 +95,9 @@ module _ (h : Hosted) (policy : Tables) (file : SchemesFile) (reader : Option �
 -- ---- jobs
 
 module _ (h : Hosted) (job : Job) (Wrote : List ℕ → Type 0) where
-  pub job_before : {A : Type 0} (Told : List ℕ → Type 0) (r : Result A Refusal) (reason : Reason) → IsErrAnd r (λ e. e ≡ Before reason) → IsJobRefused h job reason → Told [] → Wrote []
+  pub job_before : {A : Type 0} (Told : List ℕ → Type 0) (r : Result A Refusal) (reason : Reason) → IsErrAnd r (λ e. e ≡ Before reason) → IsJobRefused h job reason → Told [] → Wrote [] → KeepsStores h
       → IfErr r (IsGivenUp h Wrote Told job)
-  job_before Told r reason is k t w = given_up_before (IsGivenUp h Wrote Told job) r reason is (inl (reason, refl, k, t, w))
+  job_before Told r reason is k t w kept = given_up_before (IsGivenUp h Wrote Told job) r reason is (inl (reason, refl, kept, k, t, w))
 
   module _ (policy : Tables) (file : SchemesFile) (reader : Option ℕ) (policy_is : IsPolicyOf h.before.gives job.documents policy) (schemes_are : AreSchemesOf h.before.gives job.documents policy file)
       (reader_is : IsReader policy job.task reader) (Told : List ℕ → Type 0) where
@@ -107,18 +117,17 @@ module _ (h : Hosted) (Wrote Told More : List ℕ → Type 0) (f : (text : List 
   shell_told policy file reader files end x = record {
     stored = x.stored;
     level = x.level;
-    has_prompt = x.has_prompt;
     before = x.before;
     after = x.after;
     stored_are = x.stored_are;
     level_is = x.level_is;
-    given = x.given;
-    shell = λ clean. let o = x.shell clean in let k = o.leads in record {
+    typed = x.typed;
+    shell = λ clean. let o = x.shell clean in let k = o.leads.talk in record {
       first = o.first;
       left = o.left;
       begins = o.begins;
       kept = o.kept;
-      leads = record { turns = k.turns; run_end = k.run_end; talk = k.talk; told = f _ k.told; written = k.written; begun = k.begun; ended = k.ended; run = k.run };
+      leads = record { talk = record { turns = k.turns; run_end = k.run_end; lines = k.lines; broken = k.broken; told = f _ k.told; ended = k.ended }; run = o.leads.run };
     };
   }
 
@@ -127,7 +136,7 @@ module _ (h : Hosted) (Wrote Told More : List ℕ → Type 0) (f : (text : List 
   run_told policy file reader tasks.ShowPolicy end k = k
   run_told policy file reader tasks.Picture end k = k
   run_told policy file reader (tasks.Run files) (Ok end) k = (k.0, f [] k.1, k.2)
-  run_told policy file reader (tasks.Run files) (Err fault) k = (f [] k.0, k.1)
+  run_told policy file reader (tasks.Run files) (Err fault) k = (f [] k.0, k.1, k.2)
   run_told policy file reader (tasks.Shell files) end k = shell_told policy file reader files end k
   run_told policy file reader (tasks.Certify transactions) end k = k
   run_told policy file reader (tasks.Check transactions certificates) end k = k
@@ -135,11 +144,11 @@ module _ (h : Hosted) (Wrote Told More : List ℕ → Type 0) (f : (text : List 
 
   task_told : (policy : Tables) (file : SchemesFile) (reader : Option ℕ) (task : Task) (r : Refusal)
       → IsTaskGivenUp h policy file reader Wrote Told task r → IsTaskGivenUp h policy file reader Wrote More task r
-  task_told policy file reader task (Before reason) k = (k.0, f [] k.1, k.2)
-  task_told policy file reader task (Run fault) k = run_told policy file reader task (Err fault) k
-  task_told policy file reader task NotClosed k = (k.0, run_told policy file reader task (Ok k.0) k.1)
+  task_told policy file reader task (Before reason) k = (k.0, k.1, f [] k.2, k.3)
+  task_told policy file reader task (Run fault) k = (k.0, run_told policy file reader task (Err fault) k.1)
+  task_told policy file reader task NotClosed k = (k.0, (k.1.0, run_told policy file reader task (Ok k.1.0) k.1.1))
   task_told policy file reader task Output k = (k.0, f [] k.1, k.2)
 
   pub given_up_told : (job : Job) (r : Refusal) → IsGivenUp h Wrote Told job r → IsGivenUp h Wrote More job r
-  given_up_told job r (inl k) = inl (k.0, k.1, k.2, f [] k.3, k.4)
+  given_up_told job r (inl k) = inl (k.0, k.1, k.2, k.3, f [] k.4, k.5)
   given_up_told job r (inr u) = inr (record { policy = u.policy; file = u.file; reader = u.reader; policy_is = u.policy_is; schemes_are = u.schemes_are; reader_is = u.reader_is; does = task_told u.policy u.file u.reader job.task r u.does })

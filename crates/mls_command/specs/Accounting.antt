@@ -1,4 +1,5 @@
--- What is told of the inputs of a command that is explained: all are accepted, and its store is opened or not, or which one is refused first.
+-- What is told of the inputs of a command that is explained: all are accepted, and its store is opened or not, or which
+-- one is refused first.
 use Rattle.std.specs.Prelude.{◌≡◌, ◌≢◌, ℕ, List, [], Option, Some, None, ◌⊎◌, true, ⊤}
 use Rattle.mls_lattice.specs.Name.{is_name}
 use Rattle.mls_lattice.specs.Policy.{Tables}
@@ -37,35 +38,47 @@ module _ (Gives : Option (List ℕ) → List ℕ → Type 0) (policy : Tables) (
   AreReadable transactions = (txs : List Tx) × AreToldIn Gives transactions policy schemes txs
 
   abbrev pub AreCheckable : List ℕ → List ℕ → Type 0
-  AreCheckable transactions certificates = AreReadable transactions × ((blocks : List Block) × AreBlocksIn Gives certificates blocks)
+  AreCheckable transactions certificates =
+      AreReadable transactions × ((blocks : List Block) × AreBlocksIn Gives certificates blocks)
 
   abbrev pub CanBeStored : Option (List ℕ) → Option (List ℕ) → Type 0
-  CanBeStored transactions certificates = (stored : List Stored) × AreStoredFrom Gives transactions certificates policy schemes stored
+  CanBeStored transactions certificates =
+      (stored : List Stored) × AreStoredFrom Gives transactions certificates policy schemes stored
 
   abbrev pub CanBeExplained : List ℕ → Option (List ℕ) → Type 0
-  CanBeExplained transactions name = (text : List ℕ) × (told : List ℕ) × (end : Ending) × IsExplained Gives policy schemes transactions name text told end
+  CanBeExplained transactions name =
+      (text : List ℕ) × (told : List ℕ) × (end : Ending)
+      × IsExplained Gives policy schemes transactions name text told end
 
 -- all that a task reads under a policy and schemes
 abbrev pub IsTaskAccepted : Hosting → Tables → SchemesFile → Task → Type 0
 IsTaskAccepted h policy file ShowPolicy = ⊤
 IsTaskAccepted h policy file Picture = ⊤
 IsTaskAccepted h policy file (Run files) =
-    CanBeStored h.gives policy file.schemes (named files.transactions) (named files.certificates) × ((events : List Event) × IsScriptFrom h.gives (named files.script) policy file.schemes events)
-IsTaskAccepted h policy file (Shell files) = (is_name files.user.now ≡ true) × CanBeStored h.gives policy file.schemes (named files.transactions) (named files.certificates)
+    CanBeStored h.gives policy file.schemes (named files.transactions) (named files.certificates)
+    × ((events : List Event) × IsScriptFrom h.gives (named files.script) policy file.schemes events)
+IsTaskAccepted h policy file (Shell files) =
+    (is_name files.user.now ≡ true)
+    × CanBeStored h.gives policy file.schemes (named files.transactions) (named files.certificates)
 IsTaskAccepted h policy file (Certify transactions) = AreReadable h.gives policy file.schemes transactions.now
-IsTaskAccepted h policy file (Check transactions certificates) = AreCheckable h.gives policy file.schemes transactions.now certificates.now
-IsTaskAccepted h policy file (Explain transactions name) = CanBeExplained h.gives policy file.schemes transactions.now (named name)
+IsTaskAccepted h policy file (Check transactions certificates) =
+    AreCheckable h.gives policy file.schemes transactions.now certificates.now
+IsTaskAccepted h policy file (Explain transactions name) =
+    CanBeExplained h.gives policy file.schemes transactions.now (named name)
 
 -- ---- what is refused
 
 -- why an input of a task is refused, behind the policy and the schemes
 abbrev pub AreInputsRefused : Hosting → Tables → Schemes → Option ℕ → Task → Reason → Type 0
 AreInputsRefused h policy schemes reader (Run files) reason = AreRunInputsRefused h policy schemes files reason
-AreInputsRefused h policy schemes reader (Shell files) reason = AreShellInputsRefused h policy schemes reader files reason
-AreInputsRefused h policy schemes reader (Certify transactions) reason = AreFilesRefused h (Some transactions.now) None policy schemes reason
+AreInputsRefused h policy schemes reader (Shell files) reason =
+    AreShellInputsRefused h policy schemes reader files reason
+AreInputsRefused h policy schemes reader (Certify transactions) reason =
+    AreFilesRefused h (Some transactions.now) None policy schemes reason
 AreInputsRefused h policy schemes reader (Check transactions certificates) reason =
     AreFilesRefused h (Some transactions.now) (Some certificates.now) policy schemes reason
-AreInputsRefused h policy schemes reader (Explain transactions name) reason = IsExplainRefused h policy schemes transactions.now (named name) reason
+AreInputsRefused h policy schemes reader (Explain transactions name) reason =
+    IsExplainRefused h policy schemes transactions.now (named name) reason
 AreInputsRefused h policy schemes reader task reason = ⊥
 
 -- ---- what is told
@@ -73,18 +86,22 @@ AreInputsRefused h policy schemes reader task reason = ⊥
 module _ (h : Hosted) (job : Job) where
   -- all inputs are accepted, under this policy and these schemes
   abbrev pub IsAccepted : Tables → SchemesFile → Type 0
-  IsAccepted policy file = IsUnder h job (λ p f reader. (p ≡ policy) × (f ≡ file) × IsTaskAccepted h.before p f job.task)
+  IsAccepted policy file =
+      IsUnder h job (λ p f reader. (p ≡ policy) × (f ≡ file) × IsTaskAccepted h.before p f job.task)
 
   -- an input is refused for this reason, so that the command would be given up: before its task or in it
   abbrev pub IsRefused : Reason → Type 0
   IsRefused reason = IsJobRefused h job reason
       ⊎ IsUnder h job (λ policy file reader. AreInputsRefused h.before policy file.schemes reader job.task reason)
 
-  -- all inputs are accepted, and what is told then; or one is refused, for another reason than memory, and what is told of it
+  -- all inputs are accepted, and what is told then; or one is refused, for
+  -- another reason than memory, and what is told of it
   pub data Accounts (text told : List ℕ) (end : Ending) : Type 0 where
-    all_accepted : (policy : Tables) (file : SchemesFile) → IsAccepted policy file → IsStoreAccount h.before policy file (store_of job.task) text told end
+    all_accepted : (policy : Tables) (file : SchemesFile) → IsAccepted policy file
+        → IsStoreAccount h.before policy file (store_of job.task) text told end
         → Accounts text told end
-    one_refused : (reason : Reason) → IsRefused reason → reason_status reason ≢ 3 → IsToldOf h.before job reason text → told ≡ [] → end ≡ Refused → Accounts text told end
+    one_refused : (reason : Reason) → IsRefused reason → reason_status reason ≢ 3 → IsToldOf h.before job reason text
+        → told ≡ [] → end ≡ Refused → Accounts text told end
 
   -- there was no memory to read an input, or to tell of it
   abbrev pub IsUnread : Reason → Type 0

@@ -8,7 +8,8 @@ use Rattle.clap.specs.Words.{Text}
 -- the commands whose inputs can be explained
 abbrev pub is_other_command : Text → Bool
 is_other_command name =
-    bytes_eq name (codes "run") || bytes_eq name (codes "shell") || bytes_eq name (codes "show-policy") || bytes_eq name (codes "certify") || bytes_eq name (codes "check")
+    bytes_eq name (codes "run") || bytes_eq name (codes "shell") || bytes_eq name (codes "show-policy")
+    || bytes_eq name (codes "certify") || bytes_eq name (codes "check")
 
 -- `explain` and the name of another command behind it
 abbrev pub is_explained : Text → Text → Bool
@@ -19,4 +20,5 @@ abbrev pub explained_of : List Text → Option (List Text)
 explained_of [] = None
 explained_of (called ∷ []) = None
 explained_of (called ∷ first ∷ []) = None
-explained_of (called ∷ first ∷ second ∷ words) = if is_explained first second then Some (first ∷ second ∷ words) else None
+explained_of (called ∷ first ∷ second ∷ words) =
+    if is_explained first second then Some (first ∷ second ∷ words) else None

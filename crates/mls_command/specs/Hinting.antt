@@ -1,4 +1,5 @@
--- What is told beside the place of a fault: the nearest declared name, the form of a command, or the field of a document.
+-- What is told beside the place of a fault: the nearest declared name, the
+-- form of a command, or the field of a document.
 use Rattle.std.specs.Prelude.{◌≡◌, ℕ, ◌==◌, Bool, true, false, List, []}
 use Rattle.mls_lattice.specs.Policy.{Name, Tables}
 use Rattle.mls_scheme.specs.declared.file.SchemesFile.{SchemesFile}
@@ -47,14 +48,16 @@ module _ (h : Hosting) (job : Job) where
 
   -- the field of schemes, under the policy as the host gives it once more
   pub data IsSchemesHint (code : ℕ) (bytes hint : List ℕ) : Type 0 where
-    under : (policy : Tables) → IsPolicyOf h.gives job.documents policy → IsSchemesField policy code bytes hint → IsSchemesHint code bytes hint
+    under : (policy : Tables) → IsPolicyOf h.gives job.documents policy → IsSchemesField policy code bytes hint
+        → IsSchemesHint code bytes hint
     under_none : (reason : Reason) → IsPolicyRefused h job.documents reason → hint ≡ [] → IsSchemesHint code bytes hint
 
   -- what is told of the bytes of the file that is refused
   abbrev pub IsHint : Reason → List ℕ → List ℕ → Type 0
   IsHint (Policy f) bytes hint = IsPolicyField (policy_faults.code_of f) bytes hint
   IsHint (Schemes f) bytes hint = IsSchemesHint (scheme_faults.code_of f) bytes hint
-  IsHint (Transactions f) bytes hint = IsNearIf (text_faults.code_of f.cause == 23) (spot_at f.line f.column) bytes [] hint
+  IsHint (Transactions f) bytes hint =
+      IsNearIf (text_faults.code_of f.cause == 23) (spot_at f.line f.column) bytes [] hint
   IsHint (Script f) bytes hint =
       let code = script_faults.code_of f.cause in
       IsNearIf (code == 23) (spot_at f.line f.column) bytes (form_if (code == 22) f.line bytes) hint

@@ -8,7 +8,8 @@ use Rattle.mls_words.specs.Words.{named}
 use Rattle.mls_fragments.specs.declared.open_fault.OpenFault.{OpenFault}
 use Rattle.mls_fragments.specs.declared.open_fault.OpenFault.TheVariants as stores
 use Rattle.mls_host.specs.declared.host.StoreCause.{StoreCause}
-use Rattle.mls_host.specs.declared.host.StoreCause.TheVariants.{NoFolder, NoRight, NoFile, InUse, Journal, Unreadable, Memory}
+use Rattle.mls_host.specs.declared.host.StoreCause.TheVariants.{NoFolder, NoRight, NoFile, InUse, Journal, Unreadable}
+use Rattle.mls_host.specs.declared.host.StoreCause.TheVariants.{Memory}
 use Rattle.mls_host.specs.declared.ending.Ending.{Ending}
 use Rattle.mls_host.specs.declared.ending.Ending.TheVariants.{Well, Refused}
 use Rattle.mls_host.specs.declared.reason.Reason.TheVariants.{Store}
@@ -35,9 +36,12 @@ cause_text Unreadable = Some UNREADABLE.now
 cause_text Memory = None
 
 -- what is found of the store at a path: why its files are not shown, or what opening a store with their bytes comes to
-pub data IsSight (h : Hosting) (policy : Tables) (file : SchemesFile) (path : List ℕ) : Option OpenFault → List ℕ → Type 0 where
-  hidden : (cause : StoreCause) (text : List ℕ) → h.hides path cause → Some text ≡ cause_text cause → IsSight h policy file path (Some stores.Store) text
-  shown : (log db : List ℕ) (fault : Option OpenFault) (lines : List ℕ) → h.shows path log db → IsDiagnosis policy file log db fault lines
+pub data IsSight (h : Hosting) (policy : Tables) (file : SchemesFile)
+    (path : List ℕ) : Option OpenFault → List ℕ → Type 0 where
+  hidden : (cause : StoreCause) (text : List ℕ) → h.hides path cause → Some text ≡ cause_text cause
+      → IsSight h policy file path (Some stores.Store) text
+  shown : (log db : List ℕ) (fault : Option OpenFault) (lines : List ℕ) → h.shows path log db
+      → IsDiagnosis policy file log db fault lines
       → IsSight h policy file path fault lines
 
 -- the line that tells why it is not opened; its file; and what is found of it

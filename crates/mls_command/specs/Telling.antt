@@ -1,4 +1,5 @@
--- What is told of an input that is refused: the line that the command tells; where it is; what it means, and what to do.
+-- What is told of an input that is refused: the line that the command
+-- tells; where it is; what it means, and what to do.
 use Rattle.std.specs.Prelude.{◌≡◌, ℕ, List, [], ◌++◌, Option, Some, None, option_map}
 use Rattle.mls_tokens.specs.declared.spots.Spot.{Spot}
 use Rattle.mls_lattice.specs.Fault as policy_faults
@@ -15,7 +16,9 @@ use Rattle.mls_host.specs.declared.host.HostFault.{HostFault}
 use Rattle.mls_host.specs.declared.reason.Role.{Role}
 use Rattle.mls_host.specs.declared.reason.Role.TheVariants as role
 use Rattle.mls_host.specs.declared.reason.Reason.{Reason}
-use Rattle.mls_host.specs.declared.reason.Reason.TheVariants.{Unreadable, TooLong, Policy, Reader, Label, User, Name, Schemes, Transactions, Certificates, Script, Store, Memory}
+use Rattle.mls_host.specs.declared.reason.Reason.TheVariants.{Unreadable, TooLong, Policy, Reader, Label, User, Name}
+use Rattle.mls_host.specs.declared.reason.Reason.TheVariants.{Schemes, Transactions, Certificates, Script, Store}
+use Rattle.mls_host.specs.declared.reason.Reason.TheVariants.{Memory}
 use Rattle.mls_host.specs.Hosting.{Hosting}
 use Rattle.mls_host.specs.Reason.{reason_text}
 use Rattle.mls_fields.specs.Document.{IsDocumentSpot}

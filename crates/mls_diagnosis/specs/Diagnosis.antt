@@ -1,5 +1,5 @@
 -- What opening a store comes to, by the bytes of its two files.
-use Rattle.std.specs.Prelude.{◌≡◌, ◌≢◌, ℕ, Bool, true, false, bytes_eq, List, [], ◌++◌, Option, Some, None, length}
+use Rattle.std.specs.Prelude.{◌≡◌, ℕ, Bool, true, false, bytes_eq, List, [], ◌++◌, Option, Some, None, length}
 use Rattle.sqlite.specs.Effect.{Database}
 use Rattle.sqlite.specs.Recovery.{Image}
 use Rattle.mls_lattice.specs.Policy.{Tables as Policy}
@@ -8,20 +8,17 @@ use Rattle.mls_scheme.specs.declared.file.SchemesFile.{SchemesFile}
 use Rattle.mls_scheme.specs.Scheme.{Schemes}
 use Rattle.mls_scheme.specs.Canon as scheme
 use Rattle.mls_scheme.specs.Extending.{schemes_before}
-use Rattle.mls_filterview.specs.Content.{Content, no_content}
+use Rattle.mls_filterview.specs.Content.{Content}
 use Rattle.mls_statements.specs.declared.rows.MetaRow.{MetaRow}
 use Rattle.mls_statements.specs.declared.adopting.AllRows.{AllRows}
 use Rattle.mls_statements.specs.Adopting.{IsDescribed, HasDescription, HasReadRows, AreAll}
 use Rattle.mls_statements.specs.Rows.{tables_of}
-use Rattle.mls_statements.specs.Schema.{no_schema}
-use Rattle.mls_statements.specs.Store.{IsClean}
-use Rattle.mls_fragments.specs.Based.{BaseState, state_of}
-use Rattle.mls_fragments.specs.Holding.{Holds}
+use Rattle.mls_fragments.specs.Holdings.{HasHoldings, IsTakenOf}
 use Rattle.mls_fragments.specs.declared.open_fault.OpenFault.{OpenFault}
 use Rattle.mls_fragments.specs.declared.open_fault.OpenFault.TheVariants.{Store, OtherPolicy, BadRows}
-use Rattle.mls_fragments.specs.Again.{IsFoundUnder}
+use Rattle.mls_fragments.specs.Again.{FindsHoldings}
 use Rattle.mls_fragments.specs.Migrating.{HasTexts, IsExtended}
-use Rattle.mls_fragments.specs.Opening.{IsFoundIn, IsTaken, IsOfOthers, IsBad}
+use Rattle.mls_fragments.specs.Opening.{IsFoundIn, IsOfOthers, IsBad}
 use Rattle.mls_findings.specs.declared.wrong.Wrong.{Wrong}
 use Rattle.mls_findings.specs.declared.difference.Difference.{Difference}
 use Rattle.mls_findings.specs.Wrong.{IsWrong, AreWhole}
@@ -86,13 +83,9 @@ module _ (policy : Policy) (file : SchemesFile) where
   AreBadTold (Unread m) text = text ≡ UNREAD.now
   AreBadTold (Read m rows) text = AreKnownRowsTold policy file m rows text
 
-  -- a base over a database has its content: none over a new one
-  pub record IsTakenOver (db : Database) : Type 0 where
-    pub base : BaseState
-    pub clean : IsClean base.tables
-    pub new : db.schema ≡ no_schema → (state_of base).now ≡ no_content
-    pub taken : db.schema ≢ no_schema → IsTaken policy file db base.tables.now (state_of base).now
-    pub holds : Holds base.tables.now (state_of base).now
+  -- content is taken of a database
+  abbrev pub IsTakenOver : Database → Type 0
+  IsTakenOver db = (c : Content) × IsTakenOf (HasHoldings db) policy file c
 
 -- ---- files
 
@@ -107,7 +100,7 @@ module _ (log db : List ℕ) where
 module _ (policy : Policy) (file : SchemesFile) (log db : List ℕ) where
   -- content is taken of them
   abbrev pub IsSoundIn : Type 0
-  IsSoundIn = (c : Content) × IsFoundUnder policy file (image log db) c
+  IsSoundIn = (c : Content) × IsTakenOf (FindsHoldings (image log db)) policy file c
 
   abbrev pub IsOthersIn : Type 0
   IsOthersIn = IsHeld log db (IsOfOthers policy file)

@@ -1,75 +1,39 @@
--- What files keep is what a base over them takes, and a sound content is taken as it was.
-use Rattle.std.proofs.Common.{Bool, false, not, IsTrue, ◌≡◌, ◌≢◌, inl, inr, ℕ, zero, suc, List, [], ◌∷◌, ◌++◌, length, Option, Some, None, refl, sym, ap, subst, ◌∙◌, arith, append-nil}
-use Rattle.std.proofs.Math.Logic.{∥∥₁_elim}
+-- What files keep is what a base over them finds.
+use Rattle.std.proofs.Common.{Bool, false, not, IsTrue, ◌≡◌, ◌≢◌, inl, inr, List, [], ◌∷◌, length, refl, sym, ap, subst, ◌∙◌, arith}
+use Rattle.std.proofs.Math.Logic.{∥∥₁_elim, ∥∥₁_map}
 use Rattle.std.specs.List.{AllZip}
-use Rattle.std.specs.Option.{option_map}
-use Rattle.std.specs.FinMap.{get, same_map}
-use Rattle.std.proofs.lemmas.List.{length-take-le}
 use Rattle.sqlite_trees.specs.Objects.{catalog_tree}
 use Rattle.sqlite_trees.specs.Props.{Trees-set}
-use Rattle.sqlite_disk.specs.declared.Disk.{Ghosts}
-use Rattle.sqlite_disk.specs.declared.Files.{Files}
+use Rattle.sqlite_trees.specs.Tree.{Trees}
 use Rattle.sqlite_trees.specs.View.{doubt}
 use Rattle.sqlite_trees.proofs.Doubt.{no_doubt}
-use Rattle.sqlite.specs.Closing.{HoldsAlone, IsCopied}
+use Rattle.sqlite_disk.specs.declared.Disk.{Ghosts}
+use Rattle.sqlite_disk.specs.declared.Files.{Files}
+use Rattle.sqlite_wal.proofs.LogLemmas.{SeenMayStay}
+use Rattle.sqlite_pool.specs.StoredLaws.{recovers_once}
+use Rattle.sqlite_pool.proofs.StateLemmas.{settled, may_leave_is}
+use Rattle.sqlite_store.specs.Laws.{stays_at}
+use Rattle.sqlite_store.specs.FileStore.{schema_in, state as pool_state}
+use Rattle.sqlite_store.specs.Listing.{file_trees}
+use Rattle.sqlite.specs.Closing.{HoldsAlone, IsCopied, files_left}
 use Rattle.sqlite.specs.Effect.{Database, IsDatabase}
-use Rattle.sqlite.specs.Files.{HoldsDatabase, image_of, file_state}
-use Rattle.sqlite.specs.Held.{Held}
+use Rattle.sqlite.specs.Files.{HoldsDatabase, IsCleanLeft, image_of, file_state}
+use Rattle.sqlite.specs.Held.{Held, AreDatabases}
 use Rattle.sqlite.specs.declared.FileStore.{FileStore}
-use Rattle.sqlite.specs.FileStore.{view, files}
+use Rattle.sqlite.specs.declared.file.Leftover.{Leftover}
+use Rattle.sqlite.specs.declared.file.Leftover.TheVariants as left
+use Rattle.sqlite.specs.FileStore.{view, files, recovers}
+use Rattle.sqlite.specs.WalFiles.{outcomes}
 use Rattle.sqlite.specs.WalReads.{AreClean, are_clean}
 use Rattle.sqlite.proofs.OpenLemmas.{pool_files}
+use Rattle.sqlite.proofs.Theorems.{opens_again}
 use Rattle.sqlite.specs.Recovery.{Image}
-use Rattle.mls_lattice.specs.Policy.{Tables as Policy}
-use Rattle.mls_scheme.specs.declared.file.SchemesFile.{SchemesFile}
-use Rattle.mls_scheme.specs.declared.tuple.Element.{Element}
-use Rattle.mls_scheme.specs.declared.place.Place.{Place}
-use Rattle.mls_scheme.specs.Extending.{schemes_before, HadOthers}
-use Rattle.mls_scheme.specs.Scheme.{Schemes, scheme_of}
-use Rattle.mls_scheme.proofs.OrderLemmas.{place_exact, place_total}
-use Rattle.mls_filterview.specs.Content.{Content, no_content}
-use Rattle.mls_filterview.specs.Widen.{nulls}
-use Rattle.mls_statements.specs.Rows.{Tables, tables_of}
+use Rattle.mls_statements.specs.Rows.{tables_of}
 use Rattle.mls_statements.specs.Schema.{HasTables, no_schema, schema}
-use Rattle.mls_statements.specs.Statements.{IsReady}
-use Rattle.mls_statements.specs.Store.{IsClean}
-use Rattle.mls_fragments.specs.Again.{IsHeldBy, no_tables, four_tables, IsTakenOf, DatabaseHoldsOneContent, KeptIsHeld, IsKeptIn, nothing, rows, IsKeptAlone, AreKept, IsTakenFrom, as_it_was, widened, GivenBackIsTaken, KeptIsTaken, FilesKeepOneContent, SoundIsTakenAsItWas}
-use Rattle.mls_fragments.specs.Based.{BaseState, state_of}
-use Rattle.mls_fragments.specs.Finding.{IsSoundContent}
-use Rattle.mls_fragments.specs.Holding.{Holds}
-use Rattle.mls_fragments.specs.Migrating.{more, IsSoundBefore, IsWidenedContent}
-use Rattle.mls_fragments.specs.Opening as opening
-use Rattle.mls_fragments.specs.Opening.{IsTaken, IsFoundIn, IsOverFiles}
-use Rattle.mls_fragments.proofs.OneContentLemmas.{one_content}
-
--- ---- what a database holds
-
--- what has the four tables is not empty
-has_some : (db : Database) → HasTables db.schema → db.schema ≢ no_schema
-has_some db ours bare = let four = ap (λ x. x.tables) (sym ours.is ∙ bare) in absurd cc
-
-pub one_held : DatabaseHoldsOneContent
-one_held db c d (no_tables bare is) (no_tables bare' is') = is ∙ sym is'
-one_held db c d (no_tables bare is) (four_tables ours holds) = absurd (has_some db ours bare)
-one_held db c d (four_tables ours holds) (no_tables bare is) = absurd (has_some db ours bare)
-one_held db c d (four_tables ours holds) (four_tables ours' holds') = one_content (tables_of db.trees) c d holds holds'
-
--- of one without an object nothing is taken
-pub none_taken : (policy : Policy) (file : SchemesFile) (db : Database) (now : Content) → db.schema ≡ no_schema → now ≡ no_content → IsTakenOf (IsHeldBy db) policy file now
-none_taken policy file db now bare is = (now, no_tables bare is, as_it_was refl)
-
-pub some_taken : (policy : Policy) (file : SchemesFile) (db : Database) (t : Tables) (now : Content) → HasTables db.schema → IsTaken policy file db t now → Holds t now → IsTakenOf (IsHeldBy db) policy file now
-some_taken policy file db t now ours (opening.as_it_is m described texts same) holds = (now, four_tables ours (subst (λ u. Holds u now) same holds), as_it_was refl)
-some_taken policy file db t now ours (opening.widened m labels counts old described extended was sound wide meta) holds = (old, four_tables ours was, widened m labels counts extended sound wide)
-
--- ---- over one database
-
-pub given_back_is_taken : GivenBackIsTaken
-given_back_is_taken policy file db before t now held (opening.as_it_is m described texts same) holds =
-    as_it_was (one_content (tables_of db.trees) now before (subst (λ u. Holds u now) same holds) held)
-given_back_is_taken policy file db before t now held (opening.widened m labels counts old described extended was sound wide meta) holds =
-    let same : old ≡ before = one_content (tables_of db.trees) old before was held in
-    widened m labels counts extended (subst (IsSoundBefore policy file.schemes labels counts) same sound) (subst (λ c. IsWidenedContent file.schemes counts c now) same wide)
+use Rattle.mls_fragments.specs.Again.{KeepsHoldings, empty, rows, IsKeptAlone, AreKept, KeptIsFound, KeptIsTaken}
+use Rattle.mls_fragments.specs.Holdings.{Holdings, holdings_of, HaveHoldings, HasHoldings, no_tables, four_tables, Takes}
+use Rattle.mls_fragments.specs.Opening.{IsFoundIn}
+use Rattle.mls_fragments.proofs.HoldingsLemmas.{has_some, have_once}
 
 -- ---- schemas by the list of the objects
 
@@ -86,16 +50,16 @@ zipped_none R (x ∷ xs) ys h e = absurd cc
 not_without : (db other : Database) → HasTables db.schema → IsDatabase db → IsDatabase other → other.trees ≡ db.trees → other.schema ≢ no_schema
 not_without db other ours sound found same none =
     let four : IsDatabase (record { schema = schema ours.others; trees = db.trees }) = subst (λ s. IsDatabase (record { schema = s; trees = db.trees })) ours.is sound in
-    let empty : IsDatabase (record { schema = no_schema; trees = db.trees }) =
+    let bare : IsDatabase (record { schema = no_schema; trees = db.trees }) =
     subst (λ s. IsDatabase (record { schema = s; trees = db.trees })) none (subst (λ ts. IsDatabase (record { schema = other.schema; trees = ts })) same found) in
-    no_both _ _ _ _ empty.lists.listed.tables four.lists.listed.tables
+    no_both _ _ _ _ bare.lists.listed.tables four.lists.listed.tables
 
 -- and trees that list nothing have none
 pub without : (db : Database) → IsDatabase db → db.trees catalog_tree ≡ [] → db.schema ≡ no_schema
-without db sound empty =
-    let tables = zipped_none _ _ _ sound.lists.listed.tables (rw empty refl) in
-    let indexes = zipped_none _ _ _ sound.lists.listed.indexes (rw empty refl) in
-    let views = zipped_none _ _ _ sound.lists.listed.views (rw empty refl) in
+without db sound bare =
+    let tables = zipped_none _ _ _ sound.lists.listed.tables (rw bare refl) in
+    let indexes = zipped_none _ _ _ sound.lists.listed.indexes (rw bare refl) in
+    let views = zipped_none _ _ _ sound.lists.listed.views (rw bare refl) in
     λ i. record { tables = tables i; indexes = indexes i; views = views i }
 
 -- ---- files
@@ -108,79 +72,61 @@ module _ (image : Image) (found : Database) (finds : IsFoundIn image found) wher
   pub found_none : image.db ≡ [] → found.schema ≡ no_schema
   found_none none = elim finds.reads [
     | inl some ↦ absurd (let e = some.3.found.present in omega (arith, e, ap length none))
-    | inr empty ↦ without found finds.sound empty.1.1
+    | inr bare ↦ without found finds.sound bare.1.1
   ]
 
   not_empty : (db : Database) → ∥ HoldsDatabase image db.trees ∥₁ → image.db ≡ [] → ⊥
   not_empty db held none = ∥∥₁_elim held (λ x y. absurd x) (λ h. let e = h.2.found.found.present in omega (arith, e, ap length none))
 
--- what a base has over files that keep content
-taken_of : (policy : Policy) (file : SchemesFile) (image : Image) (before : Content) (b : BaseState) → IsKeptIn image before → IsOverFiles policy file image b → IsClean b.tables
-    → IsTakenFrom policy file before (state_of b).now
-taken_of policy file image before b (nothing empty none) over clean = as_it_was (over.new (found_none image over.db (over.found clean) empty) ∙ sym none)
-taken_of policy file image before b (rows db held ours sound holds) over clean =
-    let finds = over.found clean in
-    let same = same_trees image over.db finds db held in
-    given_back_is_taken policy file over.db before b.tables.now (state_of b).now (subst (λ ts. Holds (tables_of ts) before) (sym same) holds)
-    (over.taken (not_without db over.db ours sound finds.sound same) clean) (over.holds clean)
+-- what files keep is what is found in them
+found_of : (image : Image) (found : Database) → IsFoundIn image found → (h k : Holdings) → KeepsHoldings image h → HasHoldings found k → h ≡ k
+found_of image found finds h k (empty none is) (no_tables bare is') = is ∙ sym is'
+found_of image found finds h k (empty none is) (four_tables ours form has) = absurd (has_some found ours (found_none image found finds none))
+found_of image found finds h k (rows db held sound (no_tables bare is)) (no_tables bare' is') = is ∙ sym is'
+found_of image found finds h k (rows db held sound (no_tables bare is)) (four_tables ours form has) =
+    absurd (not_without found db ours finds.sound sound (sym (same_trees image found finds db held)) bare)
+found_of image found finds h k (rows db held sound (four_tables ours form has)) (no_tables bare is) =
+    absurd (not_without db found ours sound finds.sound (same_trees image found finds db held) bare)
+found_of image found finds h k (rows db held sound (four_tables ours form has)) (four_tables theirs form' has') =
+    have_once (tables_of found.trees) h k (subst (λ ts. HaveHoldings (tables_of ts) h) (sym (same_trees image found finds db held)) has) has'
+
+pub kept_is_found : KeptIsFound
+kept_is_found image h k kept found = found_of image found.0 found.1 h k kept found.2
 
 pub kept_is_taken : KeptIsTaken
-kept_is_taken policy file image before now kept found =
-    subst (IsTakenFrom policy file before) found.is (taken_of policy file image before found.base kept found.over found.clean)
+kept_is_taken policy file image h now kept taken =
+    (taken.row, subst (λ x. Takes policy file x (holdings_of taken.row now)) (sym (kept_is_found image h taken.had kept taken.was)) taken.takes)
 
--- files keep one content where a database is found in them
-one_of : (image : Image) (found : Database) → IsFoundIn image found → (c d : Content) → IsKeptIn image c → IsKeptIn image d → c ≡ d
-one_of image found finds c d (nothing empty none) (nothing empty' none') = none ∙ sym none'
-one_of image found finds c d (nothing empty none) (rows db held ours sound holds) = absurd (not_empty image found finds db held empty)
-one_of image found finds c d (rows db held ours sound holds) (nothing empty none) = absurd (not_empty image found finds db held empty)
-one_of image found finds c d (rows db held ours sound holds) (rows db' held' ours' sound' holds') =
-    let same = same_trees image found finds in
-    one_content (tables_of found.trees) c d (subst (λ ts. Holds (tables_of ts) c) (sym (same db held)) holds) (subst (λ ts. Holds (tables_of ts) d) (sym (same db' held')) holds')
+-- ---- files that are let go
 
-pub one_kept : FilesKeepOneContent
-one_kept policy file image c d now kept also found = one_of image found.over.db (found.over.found found.clean) c d kept also
+-- a store is clean where its files are
+pub clean_store : {D : Type 0} {g : Ghosts D} (it : FileStore D g) (left : Files D) → (left.log, left.db) ≡ files it → AreClean g left.log left.db → doubt (view it).is_clean ≡ 0
+clean_store {D} {g} it left same clean = no_doubt (view it).is_clean ((pool_files it.pool).1 ∙ sym (ap (λ f. are_clean g f.0 f.1) same) ∙ clean)
 
-held_of : (image : Image) (found : Database) → IsFoundIn image found → (c d : Content) → IsKeptIn image c → IsHeldBy found d → c ≡ d
-held_of image found finds c d (nothing empty is) (no_tables bare is') = is ∙ sym is'
-held_of image found finds c d (nothing empty is) (four_tables ours holds) = absurd (has_some found ours (found_none image found finds empty))
-held_of image found finds c d (rows db held ours sound holds) (no_tables bare is) = absurd (not_without db found ours sound finds.sound (same_trees image found finds db held) bare)
-held_of image found finds c d (rows db held ours sound holds) (four_tables theirs holds') =
-    one_content (tables_of found.trees) c d (subst (λ ts. Holds (tables_of ts) c) (sym (same_trees image found finds db held)) holds) holds'
+-- so is what an open that failed leaves
+pub clean_left : {D : Type 0} {g : Ghosts D} (rest : Leftover D g) (now : Files D) → (now.log, now.db) ≡ files_left rest → AreClean g now.log now.db → IsCleanLeft rest
+clean_left {D} {g} (left.Files fs) now same clean = sym (ap (λ f. are_clean g f.0 f.1) same) ∙ clean
+clean_left {D} {g} (left.Unopened it) now same clean = (pool_files it.pool).1 ∙ sym (ap (λ f. are_clean g f.0 f.1) same) ∙ clean
+clean_left {D} {g} (left.Store it) now same clean = (pool_files it.pool).1 ∙ sym (ap (λ f. are_clean g f.0 f.1) same) ∙ clean
 
-pub kept_held : KeptIsHeld
-kept_held image c d kept held = held_of image held.0 held.1 c d kept held.2
+module _ {D : Type 0} {g : Ghosts D} (it : FileStore D g) (stays : SeenMayStay g) (on : IsTrue (view it).is_open) where
+  -- an open store may recover to what it committed, and to nothing else
+  pub only_commit : (trees : Trees) → recovers it trees → trees ≡ (view it).committed
+  only_commit trees may =
+      let s = settled it.pool stays on in
+      let here = stays_at it stays on in
+      ∥∥₁_elim may.3 (Trees-set trees (view it).committed) (λ there. ∥∥₁_elim here.3 (Trees-set trees (view it).committed) (λ back.
+      let size = (pool_state it).page_size in
+      let same : may.1 ≡ here.1 = recovers_once size may.0 may.1 _ there (s.durable may.0 may.2) ∙ sym (recovers_once size here.0 here.1 _ back (s.durable here.0 here.2)) in
+      may.4 ∙ ap (λ pages. file_trees size (schema_in it pages) pages) same ∙ sym here.4))
 
--- ---- widening of what is sound already
-
--- a relation that has as many attributes as it had gains none
-none_more : (p : Policy) (counts : List ℕ) (schemes : Schemes) → AllZip (HadOthers p) counts schemes → (rel : ℕ)
-    → length (scheme_of (schemes_before counts schemes) rel).others ≡ length (scheme_of schemes rel).others → more schemes counts rel ≡ 0
-none_more p [] [] h rel e = refl
-none_more p [] (s ∷ schemes) h rel e = absurd h
-none_more p (n ∷ counts) [] h rel e = absurd h
-none_more p (n ∷ counts) (s ∷ schemes) h zero e = let few = h.0.0 in omega (arith, few, e, length-take-le n s.others few)
-none_more p (n ∷ counts) (s ∷ schemes) h (suc rel) e = none_more p counts schemes h.1 rel e
-
-module _ (policy : Policy) (file : SchemesFile) (before now : Content) (sound : IsSoundContent policy file.schemes before) (labels : ℕ) (counts : List ℕ) (had : AllZip (HadOthers policy) counts file.schemes)
-    (was : IsSoundBefore policy file.schemes labels counts before) (wide : IsWidenedContent file.schemes counts before now) where
-  same_tuple : (rel : ℕ) (p : Place) (o : Option (List Element)) → get (before.db rel) p ≡ o → option_map (λ es. es ++ nulls (more file.schemes counts rel) p.key_class) o ≡ o
-  same_tuple rel p None e = refl
-  same_tuple rel p (Some es) e =
-      let all = ((sound.content rel).stored p es e).count in
-      let some = ((was.content rel).stored p es e).count in
-      ap Some (ap (λ n. es ++ nulls n p.key_class) (none_more policy counts file.schemes had rel (sym some ∙ all)) ∙ append-nil es)
-
-  not_wider : now ≡ before
-  not_wider =
-      let db : (rel : ℕ) → now.db rel ≡ before.db rel =
-      λ rel. same_map place_total place_exact (now.db rel) (before.db rel) (λ p. wide.tables rel p ∙ same_tuple rel p (get (before.db rel) p) refl) in
-      let audit = wide.audit in
-      λ i. record { db = λ rel. db rel i; audit = audit i }
-
-pub sound_is_taken : SoundIsTakenAsItWas
-sound_is_taken policy file before now sound (as_it_was same) = same
-sound_is_taken policy file before now sound (widened m labels counts extended was wide) =
-    not_wider policy file before now sound labels counts extended.counts_are.counts_are was wide
+  -- each outcome of a crash holds it
+  pub holds_commit : IsTrue (view it).is_numbered → AreDatabases (recovers it) → (now : Files D) → (now.log, now.db) ≡ files it → AreClean g now.log now.db
+      → (image : Image) → outcomes g now.log now.db image → ∥ HoldsDatabase image (view it).committed ∥₁
+  holds_commit numbered sound now same clean image may =
+      let clean_now = subst (λ f. AreClean g f.0 f.1) same clean in
+      let may_now = may_leave_is it.pool image clean_now (subst (λ f. outcomes g f.0 f.1 image) same may) in
+      ∥∥₁_map (opens_again it numbered sound image may_now) (λ db. subst (HoldsDatabase image) (only_commit db.0 db.1) db.2)
 
 -- ---- files that are closed
 
@@ -188,18 +134,20 @@ sound_is_taken policy file before now sound (widened m labels counts extended wa
 pub settled_in : (b begun : Bool) → b ≡ not begun → begun ≡ false → IsTrue b
 settled_in b begun is none = is ∙ ap not none
 
--- a store is clean where its files are
-pub clean_store : {D : Type 0} {g : Ghosts D} (it : FileStore D g) (left : Files D) → (left.log, left.db) ≡ files it → AreClean g left.log left.db → doubt (view it).is_clean ≡ 0
-clean_store {D} {g} it left same clean = no_doubt (view it).is_clean ((pool_files it.pool).1 ∙ sym (ap (λ f. are_clean g f.0 f.1) same) ∙ clean)
+module _ {D : Type 0} {g : Ghosts D} (conn : Held (FileStore D g)) (h : Holdings) (settled : (file_state conn).now ≡ (file_state conn).committed) (sound : IsDatabase (file_state conn).now)
+    (has : HasHoldings (file_state conn).now h) where
+  kept_in : (image : Image) → ∥ HoldsDatabase image (file_state conn).committed.trees ∥₁ → KeepsHoldings image h
+  kept_in image held = rows (file_state conn).now (subst (λ (db : Database). ∥ HoldsDatabase image db.trees ∥₁) (sym settled) held) sound has
 
-module _ {D : Type 0} {g : Ghosts D} (conn : Held (FileStore D g)) (c : Content) (settled : (file_state conn).now ≡ (file_state conn).committed) (sound : IsDatabase (file_state conn).now) (ready : IsReady (file_state conn).now)
-    (holds : Holds (tables_of (file_state conn).now.trees) c) where
-  kept_in : (image : Image) → ∥ HoldsDatabase image (file_state conn).committed.trees ∥₁ → IsKeptIn image c
-  kept_in image held = rows (file_state conn).now (subst (λ (db : Database). ∥ HoldsDatabase image db.trees ∥₁) (sym settled) held) ready.0 sound holds
+  kept_alone : (image : Image) → HoldsAlone image (file_state conn).committed.trees → IsKeptAlone image h
+  kept_alone image held = record { both = kept_in image held.both; alone = kept_in (record image { log = [] }) held.alone }
 
-  kept_alone : (image : Image) → HoldsAlone image (file_state conn).committed.trees → IsKeptAlone image c
-  kept_alone image h = record { both = kept_in image h.both; alone = kept_in (record image { log = [] }) h.alone }
-
-  -- they keep the content that the rows of the last commit hold
-  pub closed_keep : (left : Files D) → IsCopied conn left → AreKept g left c
+  -- they keep what the rows of the last commit have
+  pub closed_keep : (left : Files D) → IsCopied conn left → AreKept g left h
   closed_keep left copied = record { seen = kept_alone (image_of g left) copied.seen; left = λ image may. kept_alone image (copied.left image may) }
+
+  -- files that are not closed may recover to trees that have it
+  pub unclosed_find : SeenMayStay g → IsTrue (file_state conn).is_open → (trees : Trees) → recovers conn.store trees → HasHoldings (record (file_state conn).now { trees = trees }) h
+  unclosed_find stays on trees may =
+      let same : (file_state conn).now.trees ≡ trees = ap (λ (db : Database). db.trees) settled ∙ sym (only_commit conn.store stays on trees may) in
+      subst (λ ts. HasHoldings (record (file_state conn).now { trees = ts }) h) same has

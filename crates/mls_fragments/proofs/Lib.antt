@@ -16,4 +16,5 @@ pub mod ShownLemmas
 pub mod SortedLemmas
 pub mod WrittenLemmas
 pub mod OneContentLemmas
+pub mod HoldingsLemmas
 pub mod AgainLemmas

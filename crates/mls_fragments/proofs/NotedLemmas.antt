@@ -4,6 +4,8 @@ use Rattle.std.specs.Prelude.{◌≢◌, IfSome}
 use Rattle.std.specs.List.{AllByRecursion}
 use Rattle.std.specs.FinMap.{get, insert}
 use Rattle.std.proofs.lemmas.List.{length-append}
+use Rattle.mls_lattice.specs.Version.{version_number}
+use Rattle.mls_lattice.specs.declared.version.Version.{Version}
 use Rattle.mls_scheme.specs.declared.value.Value.{Value}
 use Rattle.mls_scheme.specs.declared.tuple.Element.{Element}
 use Rattle.mls_scheme.specs.declared.place.Place.{Place}
@@ -21,6 +23,8 @@ use Rattle.mls_fragments.specs.Changes.{Change, Entries, found, content_of}
 use Rattle.mls_fragments.specs.Changes.Change.{Finds, Adds, Sets, Drops, Appends}
 use Rattle.mls_fragments.specs.Based.{IsNoted, IsBased, base_state, state_with, state_of}
 use Rattle.mls_fragments.specs.Finding.{HasByteClasses, AreReadable}
+use Rattle.mls_fragments.specs.Holdings.{HaveOneMeta}
+use Rattle.mls_fragments.proofs.HoldingsLemmas.{meta_made}
 use Rattle.mls_fragments.specs.Holding.{Holds, AddsTuple, DropsTuple, node_row, cell_row, value_row}
 use Rattle.mls_fragments.proofs.AddingLemmas.{holds_none, holds_tuple, holds_entry}
 use Rattle.mls_fragments.proofs.ByteLemmas.{none_bytes, tuple_bytes, value_bytes, rest_bytes}
@@ -42,21 +46,28 @@ pub readable : (t : TableState) (here last : Noted) → IsBased t here last → 
 readable t here last based clean = (content_of here.content.changes, (based.now clean).holds, (based.now clean).classes)
 
 -- the note of some changes
-noted_as : (rows : Tables) (n : Noted) (changes : List Change) → n.content.changes ≡ changes → n.last ≡ pos (length (content_of changes).audit) → HasByteClasses (content_of changes) → Holds rows (content_of changes) → IsNoted rows n
-noted_as rows n changes is last bytes holds = record {
+noted_as : (rows : Tables) (n : Noted) (changes : List Change) → n.content.changes ≡ changes → n.last ≡ pos (length (content_of changes).audit) → HaveOneMeta rows → HasByteClasses (content_of changes)
+    → Holds rows (content_of changes) → IsNoted rows n
+noted_as rows n changes is last meta bytes holds = record {
+  meta = meta;
   holds = subst (λ cs. Holds rows (content_of cs)) (sym is) holds;
   classes = subst (λ cs. HasByteClasses (content_of cs)) (sym is) bytes;
   last = last ∙ ap (λ cs. pos (length (content_of cs).audit)) (sym is);
 }
 
 -- a new store holds nothing
-pub noted_none : (version : ℕ) (lattice schemes : List ℕ) (rows : Tables) (n : Noted) → rows ≡ described version lattice schemes → n.content.changes ≡ [] → n.last ≡ pos 0 → IsNoted rows n
-noted_none version lattice schemes rows n is changes last = noted_as rows n [] changes last none_bytes (subst (λ t. Holds t (content_of [])) (sym is) (holds_none version lattice schemes))
+pub noted_none : (version : Version) (lattice schemes : List ℕ) (rows : Tables) (n : Noted) → rows ≡ described (version_number version) lattice schemes → n.content.changes ≡ [] → n.last ≡ pos 0 → IsNoted rows n
+noted_none version lattice schemes rows n is changes last =
+    noted_as rows n [] changes last (meta_made version lattice schemes rows is) none_bytes (subst (λ t. Holds t (content_of [])) (sym is) (holds_none (version_number version) lattice schemes))
 
 -- a store that is opened holds what was found
 pub noted_found : (tables : List Entries) (audit : List (List ℕ)) (rows : Tables) (n : Noted) → n.content.changes ≡ Finds tables audit ∷ [] → n.last ≡ pos (length audit)
-    → HasByteClasses (found tables audit) → Holds rows (found tables audit) → IsNoted rows n
-noted_found tables audit rows n changes last bytes holds = noted_as rows n (Finds tables audit ∷ []) changes last bytes holds
+    → HaveOneMeta rows → HasByteClasses (found tables audit) → Holds rows (found tables audit) → IsNoted rows n
+noted_found tables audit rows n changes last meta bytes holds = noted_as rows n (Finds tables audit ∷ []) changes last meta bytes holds
+
+-- rows that are written beside the description
+meta_stays : (t u : Tables) → u.meta ≡ t.meta → HaveOneMeta t → HaveOneMeta u
+meta_stays t u same h = record { row = h.row; one = same ∙ h.one; version = h.version }
 
 -- the note with one change more
 module _ (t u : Tables) (here new : Noted) (was : IsNoted t here) where
@@ -66,23 +77,23 @@ module _ (t u : Tables) (here new : Noted) (was : IsNoted t here) where
   pub noted_tuple : (rel : ℕ) (n : Node) (cells : List Cell) → new.content.changes ≡ Adds rel n cells ∷ here.content.changes → new.last ≡ here.last
       → IsSpelledKey n.key → AllByRecursion (IsCellOf n) cells → get (c.db rel) (place_of_node n) ≡ None → (es : List Element) × IsMadeOf (c.db rel) n cells es
       → (n.key_class < 256) × (n.label < 256) → AddsTuple (node_row rel n) (map (cell_row rel) cells) t u → IsNoted u new
-  noted_tuple rel n cells changes last key each none made small adds = noted_as u new _ changes (last ∙ was.last) (tuple_bytes c rel was.classes n _ small)
+  noted_tuple rel n cells changes last key each none made small adds = noted_as u new _ changes (last ∙ was.last) (meta_stays t u (ap (λ (x : Tables). x.meta) adds.rest) was.meta) (tuple_bytes c rel was.classes n _ small)
       (subst (λ es. Holds u (record c { db = with_table c.db rel (insert (c.db rel) (place_of_node n) es) })) (sym (elements_made (c.db rel) (get (c.db rel)) (λ q. refl) n cells made.0 made.1))
       (holds_tuple t u c rel n cells made.0 was.holds key each none made.1 adds))
 
   pub noted_value : (rel : ℕ) (p : Place) (attr : ℕ) (v : Option Value) → new.content.changes ≡ Sets rel p attr v ∷ here.content.changes → new.last ≡ here.last
       → IsSpelledKey p.key → IfSome v HasSpelling → HasCell (c.db rel) p attr → SetsCell (value_row rel p attr v) t u → IsNoted u new
-  noted_value rel p attr v changes last key value there sets = noted_as u new _ changes (last ∙ was.last) (value_bytes c rel was.classes p attr v) (holds_value t u c rel p attr v was.holds key value there sets)
+  noted_value rel p attr v changes last key value there sets = noted_as u new _ changes (last ∙ was.last) (meta_stays t u (ap (λ (x : Tables). x.meta) sets.0) was.meta) (value_bytes c rel was.classes p attr v) (holds_value t u c rel p attr v was.holds key value there sets)
 
   pub noted_rest : (rel : ℕ) (p : Place) → new.content.changes ≡ Drops rel p ∷ here.content.changes → new.last ≡ here.last
       → IsSpelledKey p.key → get (c.db rel) p ≢ None → IsAlone (c.db rel) p → DropsTuple rel p t u → IsNoted u new
-  noted_rest rel p changes last key there alone drops = noted_as u new _ changes (last ∙ was.last) (rest_bytes c rel was.classes p) (holds_rest t u c rel p was.holds key there alone _ refl drops)
+  noted_rest rel p changes last key there alone drops = noted_as u new _ changes (last ∙ was.last) (meta_stays t u (ap (λ (x : Tables). x.meta) drops) was.meta) (rest_bytes c rel was.classes p) (holds_rest t u c rel p was.holds key there alone _ refl drops)
 
   pub noted_entry : (bytes : List ℕ) → new.content.changes ≡ Appends bytes ∷ here.content.changes → new.last ≡ here.last +ℤ pos 1
       → AddsEntry (record { number = here.last +ℤ pos 1; bytes = bytes }) t u → IsNoted u new
   noted_entry bytes changes last adds =
       let next : here.last +ℤ pos 1 ≡ pos (length c.audit + 1) = ap (λ n. n +ℤ pos 1) was.last in
-      noted_as u new _ changes (last ∙ next ∙ ap pos (sym (length-append c.audit (bytes ∷ [])))) was.classes
+      noted_as u new _ changes (last ∙ next ∙ ap pos (sym (length-append c.audit (bytes ∷ [])))) (meta_stays t u (ap (λ (x : Tables). x.meta) adds.0) was.meta) was.classes
       (holds_entry t u c bytes was.holds (subst (λ n. AddsEntry (record { number = n; bytes = bytes }) t u) next adds))
 
 -- the state in a change, with a tuple more

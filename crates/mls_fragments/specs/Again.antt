@@ -1,98 +1,101 @@
--- Content that files keep from one base to the next.
-use Rattle.std.specs.Prelude.{◌≡◌, ℕ, List, []}
+-- What files keep from one base to the next.
+use Rattle.std.specs.Prelude.{◌≡◌, [], IsTrue}
 use Rattle.sqlite_disk.specs.declared.Disk.{Ghosts}
 use Rattle.sqlite_disk.specs.declared.Files.{Files}
+use Rattle.sqlite_trees.specs.Tree.{Trees}
+use Rattle.sqlite.specs.Closing.{files_left}
 use Rattle.sqlite.specs.Effect.{Database, IsDatabase}
-use Rattle.sqlite.specs.Files.{HoldsDatabase, image_of}
+use Rattle.sqlite.specs.Files.{HoldsDatabase, IsClosed, LeavesFiles, image_of, file_state}
+use Rattle.sqlite.specs.FileStore.{files, recovers, view}
+use Rattle.sqlite.specs.Held.{Held}
 use Rattle.sqlite.specs.Recovery.{Image}
 use Rattle.sqlite.specs.WalFiles.{outcomes}
+use Rattle.sqlite.specs.WalReads.{AreClean}
+use Rattle.sqlite.specs.declared.FileStore.{FileStore}
+use Rattle.sqlite.specs.declared.file.Leftover.{Leftover}
 use Rattle.mls_lattice.specs.Policy.{Tables as Policy}
 use Rattle.mls_scheme.specs.declared.file.SchemesFile.{SchemesFile}
-use Rattle.mls_filterview.specs.Content.{Content, no_content}
+use Rattle.mls_filterview.specs.Content.{Content}
 use Rattle.mls_statements.specs.declared.rows.MetaRow.{MetaRow}
-use Rattle.mls_statements.specs.Rows.{Tables, tables_of}
-use Rattle.mls_statements.specs.Schema.{HasTables, no_schema}
 use Rattle.mls_statements.specs.Store.{IsClean}
-use Rattle.mls_fragments.specs.Based.{BaseState, state_of}
-use Rattle.mls_fragments.specs.Finding.{IsSoundContent}
-use Rattle.mls_fragments.specs.Holding.{Holds}
-use Rattle.mls_fragments.specs.Migrating.{IsExtended, IsSoundBefore, IsWidenedContent}
-use Rattle.mls_fragments.specs.Opening.{IsTaken, IsFoundIn, IsOverFiles}
+use Rattle.mls_fragments.specs.Based.{BaseState, HasRow, state_of}
+use Rattle.mls_fragments.specs.Holdings.{Holdings, no_holdings, holdings_of, HasHoldings, IsTakenOf, Takes}
+use Rattle.mls_fragments.specs.Opening.{IsFoundIn, IsFoundUnadopted, IsStoreOrMemory}
+use Rattle.mls_fragments.specs.declared.open_fault.OpenFault.{OpenFault}
 
--- ---- what is held
+-- ---- what files have
 
--- the content that a database holds: none where it has no object, and else what the rows of the four tables hold
-pub data IsHeldBy (db : Database) (c : Content) : Type 0 where
-  no_tables : db.schema ≡ no_schema → c ≡ no_content → IsHeldBy db c
-  four_tables : HasTables db.schema → Holds (tables_of db.trees) c → IsHeldBy db c
+-- an opening finds a database in the files, which has this
+abbrev pub FindsHoldings : Image → Holdings → Type 0
+FindsHoldings image h = (db : Database) × IsFoundIn image db × HasHoldings db h
 
--- and that files held: so does the database that is found in them
-abbrev pub IsHeldIn : Image → Content → Type 0
-IsHeldIn image c = (db : Database) × IsFoundIn image db × IsHeldBy db c
+-- the database file is empty and there is nothing, or the files hold a database, which has this
+pub data KeepsHoldings (image : Image) (h : Holdings) : Type 0 where
+  empty : image.db ≡ [] → h ≡ no_holdings → KeepsHoldings image h
+  rows : (db : Database) → ∥ HoldsDatabase image db.trees ∥₁ → IsDatabase db → HasHoldings db h → KeepsHoldings image h
 
--- a database holds one content
-abbrev pub DatabaseHoldsOneContent : Type 0
-DatabaseHoldsOneContent = (db : Database) (c d : Content) → IsHeldBy db c → IsHeldBy db d → c ≡ d
-
--- ---- what files keep
-
--- the database file is empty and so is the content, or the files hold a database that has the four tables, whose rows hold it
-pub data IsKeptIn (image : Image) (c : Content) : Type 0 where
-  nothing : image.db ≡ [] → c ≡ no_content → IsKeptIn image c
-  rows : (db : Database) → ∥ HoldsDatabase image db.trees ∥₁ → HasTables db.schema → IsDatabase db → Holds (tables_of db.trees) c → IsKeptIn image c
-
--- so do the files, and the database file with no log
-pub record IsKeptAlone (image : Image) (c : Content) : Type 0 where
-  pub both : IsKeptIn image c
-  pub alone : IsKeptIn (record image { log = [] }) c
+-- so do the two files, and the database file with no log
+pub record IsKeptAlone (image : Image) (h : Holdings) : Type 0 where
+  pub both : KeepsHoldings image h
+  pub alone : KeepsHoldings (record image { log = [] }) h
 
 -- as the files read now, and after a crash
-pub record AreKept {D : Type 0} (g : Ghosts D) (files : Files D) (c : Content) : Type 0 where
-  pub seen : IsKeptAlone (image_of g files) c
-  pub left : (image : Image) → outcomes g files.log files.db image → IsKeptAlone image c
+pub record AreKept {D : Type 0} (g : Ghosts D) (files : Files D) (h : Holdings) : Type 0 where
+  pub seen : IsKeptAlone (image_of g files) h
+  pub left : (image : Image) → outcomes g files.log files.db image → IsKeptAlone image h
 
--- ---- what is taken of it
+-- the files, where they are clean, keep what the base's tables have
+pub record IsBaseKept {D : Type 0} (g : Ghosts D) (files : Files D) (b : BaseState) : Type 0 where
+  pub row : MetaRow
+  pub base : HasRow b row
+  pub kept : AreClean g files.log files.db → AreKept g files (holdings_of row (state_of b).now)
 
--- the content of a base over files, under a policy and schemes, whose store is clean
-pub record IsFoundUnder (policy : Policy) (file : SchemesFile) (image : Image) (c : Content) : Type 0 where
-  pub base : BaseState
-  pub clean : IsClean base.tables
-  pub over : IsOverFiles policy file image base
-  pub is : (state_of base).now ≡ c
+-- what files keep is all that an opening finds in them
+abbrev pub KeptIsFound : Type 0
+KeptIsFound = (image : Image) (h k : Holdings) → KeepsHoldings image h → FindsHoldings image k → h ≡ k
 
--- the content that was kept, or, under texts that extend those of its store, that content with each relation widened
-pub data IsTakenFrom (policy : Policy) (file : SchemesFile) (before now : Content) : Type 0 where
-  as_it_was : now ≡ before → IsTakenFrom policy file before now
-  widened : (m : MetaRow) (labels : ℕ) (counts : List ℕ) → IsExtended policy file m labels counts
-      → IsSoundBefore policy file.schemes labels counts before → IsWidenedContent file.schemes counts before now → IsTakenFrom policy file before now
-
--- what is taken of some content that was held
-abbrev pub IsTakenOf : (Content → Type 0) → Policy → SchemesFile → Content → Type 0
-IsTakenOf WasHeld policy file now = (before : Content) × WasHeld before × IsTakenFrom policy file before now
-
--- what is taken of a store whose rows hold a content, as those of a connection that a base gave back
-abbrev pub GivenBackIsTaken : Type 0
-GivenBackIsTaken =
-    (policy : Policy) (file : SchemesFile) (db : Database) (before : Content) (t : Tables) (now : Content)
-    → Holds (tables_of db.trees) before → IsTaken policy file db t now → Holds t now → IsTakenFrom policy file before now
-
--- and of files that keep it
+-- and so all that is taken of them
 abbrev pub KeptIsTaken : Type 0
 KeptIsTaken =
-    (policy : Policy) (file : SchemesFile) (image : Image) (before now : Content)
-    → IsKeptIn image before → IsFoundUnder policy file image now → IsTakenFrom policy file before now
+    (policy : Policy) (file : SchemesFile) (image : Image) (h : Holdings) (now : Content)
+    → KeepsHoldings image h → IsTakenOf (FindsHoldings image) policy file now
+    → (row : MetaRow) × Takes policy file h (holdings_of row now)
 
--- files in which a base finds something keep one content
-abbrev pub FilesKeepOneContent : Type 0
-FilesKeepOneContent =
-    (policy : Policy) (file : SchemesFile) (image : Image) (c d now : Content)
-    → IsKeptIn image c → IsKeptIn image d → IsFoundUnder policy file image now → c ≡ d
+-- ---- files that are not opened, or not closed
 
--- what files keep is all that they hold
-abbrev pub KeptIsHeld : Type 0
-KeptIsHeld = (image : Image) (c d : Content) → IsKeptIn image c → IsHeldIn image d → c ≡ d
+-- files that no connection was made to: they are as they were, or what the store left of them
+pub data AreUnopened {D : Type 0} (g : Ghosts D) (start now : Files D) : Type 0 where
+  unused : now ≡ start → AreUnopened g start now
+  unread : (rest : Leftover D g) → (now.log, now.db) ≡ files_left rest
+      → (AreClean g now.log now.db → LeavesFiles start rest) → AreUnopened g start now
 
--- content that is sound under a policy and schemes is taken as it was
-abbrev pub SoundIsTakenAsItWas : Type 0
-SoundIsTakenAsItWas =
-    (policy : Policy) (file : SchemesFile) (before now : Content) → IsSoundContent policy file.schemes before → IsTakenFrom policy file before now → now ≡ before
+-- the files of a connection that was let go: no crash has a new outcome, and where the store was open still, each
+-- outcome holds what was committed
+pub record AreLetGo {D : Type 0} {g : Ghosts D} (conn : Held (FileStore D g)) (now : Files D) : Type 0 where
+  pub last : FileStore D g
+  pub files_are : (now.log, now.db) ≡ files last
+  pub closed : IsClosed conn last
+  pub holds : IsTrue (view last).is_open → (image : Image) → outcomes g now.log now.db image
+      → ∥ HoldsDatabase image (file_state conn).committed.trees ∥₁
+
+-- files that no base was made of, and why
+pub data AreRefused {D : Type 0} (g : Ghosts D) (policy : Policy) (file : SchemesFile) (start : Files D) (e : OpenFault)
+    (now : Files D) : Type 0 where
+  unopened : IsStoreOrMemory e → AreUnopened g start now → AreRefused g policy file start e now
+  unadopted : (left : Held (FileStore D g)) → IsFoundUnadopted policy file (image_of g start) e left
+      → (AreClean g now.log now.db → AreLetGo left now) → AreRefused g policy file start e now
+
+-- files of a connection that was not closed: where they are clean and it was open, the trees that they may recover to
+-- have this
+pub record MayKeep {D : Type 0} (g : Ghosts D) (now : Files D) (h : Holdings) : Type 0 where
+  pub conn : Held (FileStore D g)
+  pub last : FileStore D g
+  pub files_are : (now.log, now.db) ≡ files last
+  pub closed : IsClosed conn last
+  pub finds : AreClean g now.log now.db → IsTrue (file_state conn).is_open → (trees : Trees) → recovers last trees
+      → HasHoldings (record (file_state conn).now { trees = trees }) h
+
+-- they may keep what the base's tables have
+pub record AreUnclosed {D : Type 0} (g : Ghosts D) (b : BaseState) (now : Files D) : Type 0 where
+  pub clean : AreClean g now.log now.db → IsClean b.tables
+  pub may : IsClean b.tables → (row : MetaRow) × HasRow b row × MayKeep g now (holdings_of row (state_of b).now)

@@ -1,17 +1,21 @@
 -- A base over the tables of a store.
 use Rattle.std.proofs.Common.{ap}
 use Rattle.std.specs.Prelude.{◌≡◌, pos, Bool, List, false, if◌then◌else◌, length}
+use Rattle.mls_lattice.specs.Policy.{Tables as Policy}
+use Rattle.mls_scheme.specs.declared.file.SchemesFile.{SchemesFile}
 use Rattle.mls_filterview.specs.Content.{Content, State}
 use Rattle.mls_filterview.specs.declared.base.BaseFault.{BaseFault}
 use Rattle.mls_filterview.specs.declared.base.BaseFault.TheVariants as base
 use Rattle.mls_statements.specs.declared.store.StoreFault.{StoreFault}
 use Rattle.mls_statements.specs.declared.store.StoreFault.TheVariants.{Store, Memory}
+use Rattle.mls_statements.specs.declared.rows.MetaRow.{MetaRow}
 use Rattle.mls_statements.specs.Rows.{Tables}
 use Rattle.mls_statements.specs.Store.{TableState, IsClean}
 use Rattle.mls_fragments.specs.declared.noted.Noted.{Noted}
 use Rattle.mls_fragments.specs.Changes.{Change, content_of}
 use Rattle.mls_fragments.specs.Finding.{HasByteClasses}
 use Rattle.mls_fragments.specs.Holding.{Holds}
+use Rattle.mls_fragments.specs.Holdings.{HaveOneMeta, HaveHoldings, Holdings, Takes, holdings_of}
 
 -- what a base shows: the changes that made its content now and that of the last commit, and the tables below
 pub record BaseState : Type 0 where
@@ -38,8 +42,10 @@ abbrev pub fault_of : StoreFault → BaseFault
 fault_of Store = base.Store
 fault_of Memory = base.Memory
 
--- the rows hold the content, whose classes are bytes, and the last entry's number is the count of entries
+-- one row describes the store; the others hold the content, whose classes are bytes; and the last entry's number is the
+-- count of entries
 pub record IsNoted (rows : Tables) (n : Noted) : Type 0 where
+  pub meta : HaveOneMeta rows
   pub holds : Holds rows (content_of n.content.changes)
   pub classes : HasByteClasses (content_of n.content.changes)
   pub last : n.last ≡ pos (length (content_of n.content.changes).audit)
@@ -50,3 +56,15 @@ pub record IsBased (t : TableState) (here last : Noted) : Type 0 where
   pub kept : IsClean t → IsNoted t.kept last
   pub content : t.begun ≡ false → last.content.changes ≡ here.content.changes
   pub number : t.begun ≡ false → last.last ≡ here.last
+
+-- what the base's tables have: this row describes the store, and the others hold the content now
+abbrev pub HasRow : BaseState → MetaRow → Type 0
+HasRow b row = HaveHoldings b.tables.now (holdings_of row (state_of b).now)
+
+-- a base over a store: what the store had, what is taken of it, and that the base's tables have that
+pub record IsBaseOf (Had : Holdings → Type 0) (policy : Policy) (file : SchemesFile) (b : BaseState) : Type 0 where
+  pub had : Holdings
+  pub was : Had had
+  pub row : MetaRow
+  pub takes : Takes policy file had (holdings_of row (state_of b).now)
+  pub base : HasRow b row

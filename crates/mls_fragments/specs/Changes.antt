@@ -12,7 +12,8 @@ use Rattle.mls_filterview.specs.Assembly.{table_of, made_of}
 use Rattle.mls_filterview.specs.Content.{Content, no_content, with_table}
 
 abbrev pub with_tuple : Content → ℕ → Node → List Cell → Content
-with_tuple c rel n cells = record c { db = with_table c.db rel (insert (c.db rel) (place_of_node n) (made_of (get (c.db rel)) n cells)) }
+with_tuple c rel n cells =
+    record c { db = with_table c.db rel (insert (c.db rel) (place_of_node n) (made_of (get (c.db rel)) n cells)) }
 
 abbrev pub with_value : Content → ℕ → Place → ℕ → Option Value → Content
 with_value c rel p attr v = record c { db = with_table c.db rel (change (set_in p attr v) (c.db rel)) }

@@ -1,5 +1,6 @@
 -- What the rows of a store hold.
-use Rattle.std.specs.Prelude.{◌≡◌, ℕ, suc, ◌<◌, Bool, ◌&&◌, nat_eq, nat_lt, List, [], ◌∷◌, ◌++◌, map, length, slice_index_or, Option, Some, IfSome, IsPermutation}
+use Rattle.std.specs.Prelude.{◌≡◌, ℕ, suc, ◌<◌, Bool, ◌&&◌, nat_eq, nat_lt, List, [], ◌∷◌, ◌++◌, map, length}
+use Rattle.std.specs.Prelude.{slice_index_or, Option, Some, IfSome, IsPermutation}
 use Rattle.std.specs.List.{AllByRecursion, filter, flat_map, list_all}
 use Rattle.std.specs.List.Sorted.{IsStrictlySortedBy}
 use Rattle.std.specs.FinMap.{get}
@@ -52,7 +53,8 @@ pub record IsCellRow (r : CellRow) : Type 0 where
 
 -- the classes of all tuples are numbers of one byte
 abbrev pub HasByteClasses : Content → Type 0
-HasByteClasses c = (rel : ℕ) (p : Place) (es : List Element) → get (c.db rel) p ≡ Some es → (p.key_class < 256) × (p.class < 256)
+HasByteClasses c = (rel : ℕ) (p : Place) (es : List Element) → get (c.db rel) p ≡ Some es → (p.key_class < 256)
+    × (p.class < 256)
 
 -- the rows are those of content, and each can be read
 abbrev pub AreReadable : Tables → Type 0
@@ -78,11 +80,13 @@ pub record IsAssembled (rel : ℕ) (nodes : List NodeRow) (cells : List CellRow)
   pub rows : AreRows held ns (λ q. lookup (is_at (place_cmp q)) es)
 
 abbrev pub AreAssembled : List NodeRow → List CellRow → List Entries → Type 0
-AreAssembled nodes cells tables = (rel : ℕ) → rel < length tables → IsAssembled rel nodes cells (slice_index_or tables rel [])
+AreAssembled nodes cells tables = (rel : ℕ) → rel < length tables
+    → IsAssembled rel nodes cells (slice_index_or tables rel [])
 
 -- the tables of relations, each of the stored form with the kinds and intervals of its scheme
 abbrev pub AreTables : Labels → Schemes → List Entries → Type 0
-AreTables ls schemes tables = (rel : ℕ) → rel < length tables → IsContent ls (scheme_of schemes rel) (table_in tables rel)
+AreTables ls schemes tables = (rel : ℕ) → rel < length tables
+    → IsContent ls (scheme_of schemes rel) (table_in tables rel)
 
 -- relations of the stored form under their schemes, and an audit list of entries of declared labels
 pub record IsSoundContent (policy : Policy) (schemes : Schemes) (c : Content) : Type 0 where
@@ -111,7 +115,8 @@ content_found f = found (map (λ t. t.entries) f.tables.items) f.entries
 
 -- two lists have the same rows of each relation
 abbrev pub AreAlike : {R : Type 0} → (R → ℕ) → List R → List R → Type 0
-AreAlike rel_of xs ys = (rel : ℕ) → IsPermutation (filter (λ r. nat_eq (rel_of r) rel) xs) (filter (λ r. nat_eq (rel_of r) rel) ys)
+AreAlike rel_of xs ys = (rel : ℕ)
+    → IsPermutation (filter (λ r. nat_eq (rel_of r) rel) xs) (filter (λ r. nat_eq (rel_of r) rel) ys)
 
 -- the rows of tables, which are numbered from k
 abbrev pub node_rows : ℕ → List Entries → List NodeRow

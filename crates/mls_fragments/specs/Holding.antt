@@ -1,5 +1,6 @@
 -- The rows that content has: each tuple is a node, and each element is kept once, with the tuple of its class.
-use Rattle.std.specs.Prelude.{◌≡◌, ℕ, ◌<◌, not, nat_eq, List, [], ◌∷◌, ◌++◌, map, length, Option, None, Some, IfSome, IsPermutation}
+use Rattle.std.specs.Prelude.{◌≡◌, ℕ, ◌<◌, not, nat_eq, List, [], ◌∷◌, ◌++◌, map, length, Option, None, Some, IfSome}
+use Rattle.std.specs.Prelude.{IsPermutation}
 use Rattle.std.specs.List.{filter, flat_map}
 use Rattle.std.specs.FinMap.{get, entries}
 use Rattle.mls_scheme.specs.declared.value.Value.{Value}
@@ -24,11 +25,20 @@ value_bytes None = 0 ∷ []
 value_bytes (Some v) = value_spelling v
 
 abbrev pub node_row : ℕ → Node → NodeRow
-node_row rel n = record { rel = rel; ent = key_spelling n.key; kclass = n.key_class; label = n.label; pattern = n.pattern }
+node_row rel n =
+    record { rel = rel; ent = key_spelling n.key; kclass = n.key_class; label = n.label; pattern = n.pattern }
 
 abbrev pub cell_row : ℕ → Cell → CellRow
 cell_row rel c =
-    record { rel = rel; ent = key_spelling c.key; kclass = c.key_class; label = c.label; attr = c.attr; value = value_bytes c.value }
+    record {
+      rel = rel;
+      ent = key_spelling c.key;
+      kclass = c.key_class;
+      label = c.label;
+      attr = c.attr;
+      value =
+          value_bytes c.value;
+    }
 
 -- a cell of a tuple's own class, beside the tuple's node
 abbrev pub own_cell : Cell → OwnCell
@@ -44,7 +54,8 @@ cells_in T = flat_map cells_of (entries T)
 pub record IsSharedTuple (T : Table) (p : Place) (es : List Element) : Type 0 where
   pub key : IsSpelledKey p.key
   pub values : (i : ℕ) → i < length es → IfSome (at es i).value HasSpelling
-  pub own : (i : ℕ) → i < length es → (fs : List Element) × (get T (with_class p (at es i).class) ≡ Some fs) × (i < length fs) × (at fs i ≡ at es i)
+  pub own : (i : ℕ) → i < length es → (fs : List Element) × (get T (with_class p (at es i).class) ≡ Some fs)
+      × (i < length fs) × (at fs i ≡ at es i)
 
 -- the rows of a relation are those of its table, in any order
 pub record HoldsTable (t : Tables) (rel : ℕ) (T : Table) : Type 0 where

@@ -1,4 +1,5 @@
 pub mod Holding
+pub mod Holdings
 pub mod Changes
 pub mod Based
 pub mod OpenFault

@@ -20,10 +20,11 @@ use Rattle.mls_fragments.specs.Finding.{IsSoundWithin}
 
 -- both texts are theirs
 abbrev pub HasTexts : Policy → SchemesFile → MetaRow → Type 0
-HasTexts policy file m = (m.lattice ≡ lattice.lattice_of policy) × (m.schemes ≡ scheme.canon_of policy file.version file.schemes)
+HasTexts policy file m = (m.lattice ≡ lattice.lattice_of policy)
+    × (m.schemes ≡ scheme.canon_of policy file.version file.schemes)
 
--- Not both texts are theirs, and they extend both; where a text is not theirs, its file is of version 2. The store's labels are the
--- first ones, and its relations have so many attributes outside their keys.
+-- Not both texts are theirs, and they extend both; where a text is not theirs, its file is of version 2. The store's
+-- labels are the first ones, and its relations have so many attributes outside their keys.
 pub record IsExtended (policy : Policy) (file : SchemesFile) (m : MetaRow) (labels : ℕ) (counts : List ℕ) : Type 0 where
   pub other : ¬ HasTexts policy file m
   pub labels_are : older_lattice.Extends policy m.lattice labels
@@ -64,4 +65,5 @@ pub record IsWidenedContent (schemes : Schemes) (counts : List ℕ) (old new : C
 -- tables of relations numbered from k, whose tuples are widened so
 abbrev pub wide_tables : Schemes → List ℕ → ℕ → List Entries → List Entries
 wide_tables schemes counts k [] = []
-wide_tables schemes counts k (es ∷ tables) = map (widened_entry (more schemes counts k)) es ∷ wide_tables schemes counts (suc k) tables
+wide_tables schemes counts k (es ∷ tables) =
+    map (widened_entry (more schemes counts k)) es ∷ wide_tables schemes counts (suc k) tables

@@ -2,14 +2,15 @@
 ghost use Rattle.std.specs.Prelude.{◌≡◌, ◌⊎◌, false, not, length, IsTrue, IfOk, IfErr};
 ghost use Rattle.sqlite.specs.Closing.{IsCopied};
 ghost use Rattle.sqlite.specs.Effect.{IsDatabase};
-ghost use Rattle.sqlite.specs.Files.{image_of, file_state};
+ghost use Rattle.sqlite.specs.Files.{IsClosed, image_of, file_state};
+ghost use Rattle.sqlite.specs.FileStore as store;
 ghost use Rattle.sqlite.specs.Held.{state};
 ghost use Rattle.sqlite.specs.State.{HasCleanDisk};
 ghost use Rattle.sqlite.specs.WalReads.{AreClean};
 ghost use Rattle.mls_scheme.specs.Scheme.{AreUnder};
 ghost use Rattle.mls_statements.specs.Store.{IsClean};
-ghost use Rattle.mls_fragments.specs.Again.{AreKept, IsFoundUnder};
-ghost use Rattle.mls_fragments.specs.Based.{state_of};
+ghost use Rattle.mls_fragments.specs.Again.{AreLetGo, AreRefused, AreUnclosed, AreUnopened, FindsHoldings, IsBaseKept};
+ghost use Rattle.mls_fragments.specs.Based.{IsBaseOf, state_of};
 ghost use Rattle.mls_fragments.specs.Finding.{IsSoundContent};
 ghost use Rattle.mls_fragments.specs.Opening.{IsFoundIn};
 
@@ -45,6 +46,7 @@ pub fn connected<D: Disk + Drop>(
     ensures clean { IfOk result (λ c. HasCleanDisk (file_state c) → AreClean D.Disk files.log files.db) }
     ensures idle { IfOk result (λ c. c.in_transaction ≡ false) }
     ensures fault { IfErr result (λ e. (e.0 ≡ OpenFault.Store) ⊎ (e.0 ≡ OpenFault.Memory)) }
+    ensures unopened { IfErr result (λ e. AreUnopened D.Disk files e.1) }
 {
     if !files.may_be_used() {
         return Err((OpenFault::Store, files));
@@ -55,8 +57,10 @@ pub fn connected<D: Disk + Drop>(
     }
 }
 
-/// Gives the files of a store back as they are.
-fn left<D: Disk + Drop>(conn: Connection<FileStore<D>>) -> Files<D> {
+/// Gives the files of a store back, which has committed nothing more.
+fn left<D: Disk + Drop>(conn: Connection<FileStore<D>>) -> Files<D>
+    ensures { AreClean D.Disk result.log result.db → AreLetGo conn result }
+{
     conn.into_store().close()
 }
 
@@ -68,6 +72,7 @@ fn files_closed<D: Disk + Drop>(
     ensures copied { IfOk result (λ files. AreClean D.Disk files.log files.db → IsCopied conn files) }
     ensures was_clean { IfErr result (λ e. AreClean D.Disk e.1.log e.1.db → HasCleanDisk (file_state conn)) }
     ensures fault { IfErr result (λ e. (e.0 ≡ OpenFault.Store) ⊎ (e.0 ≡ OpenFault.Memory)) }
+    ensures unclosed { IfErr result (λ e. (last : _) × ((e.1.log, e.1.db) ≡ store.files last) × IsClosed conn last) }
 {
     match conn.close_files() {
         Ok(files) => Ok(files),
@@ -86,10 +91,11 @@ impl<D: Disk + Drop> SqlBase<FileStore<D>> {
     ) -> Result<SqlBase<FileStore<D>>, (OpenFault, Files<D>)>
         requires under { AreUnder (length policy.now.labels) file.now.schemes }
         ensures clean { IfOk result (λ b. IsClean b.tables → AreClean D.Disk files.log files.db) }
-        ensures found { IfOk result (λ b. IsClean b.tables
-            → IsFoundUnder policy.now file.now (image_of D.Disk files) (state_of b).now) }
+        ensures over { IfOk result (λ b. IsClean b.tables
+            → IsBaseOf (FindsHoldings (image_of D.Disk files)) policy.now file.now b) }
         ensures sound { IfOk result (λ b. IsSoundContent policy.now file.now.schemes (state_of b).now) }
         ensures mode { IfOk result (λ b. (state_of b).begun ≡ false) }
+        ensures refused { IfErr result (λ e. AreRefused D.Disk policy.now file.now files e.0 e.1) }
     {
         let conn = match connected(alloc, files, options) {
             Ok(conn) => conn,
@@ -101,16 +107,15 @@ impl<D: Disk + Drop> SqlBase<FileStore<D>> {
         }
     }
 
-    /// Closes the files: the database file alone then holds what was committed, also after a crash. Where that fails, the log holds the
+    /// Closes the files: the database file alone then keeps what was committed, also after a crash. Where that fails, the log keeps the
     /// rest.
     pub fn close_files(self) -> Result<Files<D>, (OpenFault, Files<D>)>
         requires begun { (state_of self).begun ≡ false }
         ensures usable { IfOk result (λ files. IsTrue (D.Disk.is_usable files.log)
             × IsTrue (D.Disk.is_usable files.db)) }
         ensures clean { IfOk result (λ files. AreClean D.Disk files.log files.db → IsClean self.tables) }
-        ensures was_clean { IfErr result (λ e. AreClean D.Disk e.1.log e.1.db → IsClean self.tables) }
-        ensures kept { IfOk result (λ files. AreClean D.Disk files.log files.db
-            → AreKept D.Disk files (state_of self).now) }
+        ensures kept { IfOk result (λ files. IsClean self.tables → IsBaseKept D.Disk files self) }
+        ensures unclosed { IfErr result (λ e. AreUnclosed D.Disk self e.1) }
         ensures fault { IfErr result (λ e. (e.0 ≡ OpenFault.Store) ⊎ (e.0 ≡ OpenFault.Memory)) }
     {
         let conn = self.into_connection();

@@ -3,12 +3,16 @@ ghost use Rattle.std.specs.Prelude.{◌≡◌, List, ℕ, pos, false, length, Is
 ghost use Rattle.sqlite.specs.State.{HasCleanDisk};
 ghost use Rattle.sqlite.specs.Held.{state};
 ghost use Rattle.mls_filterview.specs.Content.{no_content};
+ghost use Rattle.mls_lattice.specs.Version.{version_number};
+ghost use Rattle.mls_lattice.specs.declared.version.Version.{Version};
+ghost use Rattle.mls_statements.specs.declared.rows.MetaRow.{MetaRow};
 ghost use Rattle.mls_statements.specs.Rows.{described, tables_of};
 ghost use Rattle.mls_statements.specs.Statements.{IsReady};
 ghost use Rattle.mls_statements.specs.Store.{IsClean};
-ghost use Rattle.mls_fragments.specs.Based.{state_of};
+ghost use Rattle.mls_fragments.specs.Based.{HasRow, state_of};
 ghost use Rattle.mls_fragments.specs.Finding.{HasByteClasses, content_found};
 ghost use Rattle.mls_fragments.specs.Holding.{Holds};
+ghost use Rattle.mls_fragments.specs.Holdings.{HasHoldings, HaveOneMeta, holdings_of};
 
 use crate::entity::{read_entity, read_pattern};
 use crate::finding::Found;
@@ -48,8 +52,8 @@ impl<S: Alter> SqlBase<S> {
     /// A base over a new store.
     pub(crate) fn over_new(alloc: Global, store: TableStore<S>) -> SqlBase<S>
         requires mode { store.begun ≡ false }
-        requires new { IsClean store → (version : ℕ) × (lattice : List ℕ) × (schemes : List ℕ)
-            × (store.now ≡ described version lattice schemes) × (store.kept ≡ store.now) }
+        requires new { IsClean store → (version : Version) × (lattice : List ℕ) × (schemes : List ℕ)
+            × (store.now ≡ described (version_number version) lattice schemes) × (store.kept ≡ store.now) }
         ensures content { state_of result ≡ record { now = no_content; kept = no_content; begun = false } }
         ensures tables { result.tables ≡ store }
     {
@@ -65,6 +69,7 @@ impl<S: Alter> SqlBase<S> {
     pub(crate) fn over_found(alloc: Global, store: TableStore<S>, found: &Found) -> SqlBase<S>
         requires mode { store.begun ≡ false }
         requires kept { IsClean store → store.kept ≡ store.now }
+        requires meta { IsClean store → HaveOneMeta store.now }
         requires holds { IsClean store → Holds store.now (content_found found.now) }
         requires classes { HasByteClasses (content_found found.now) }
         requires last { found.now.last ≡ pos (length found.now.entries) }
@@ -79,7 +84,7 @@ impl<S: Alter> SqlBase<S> {
         }
     }
 
-    /// The connection: where it is open, its tables hold the content, and the row that describes it is the one that the base shows.
+    /// The connection: where it is open, its tables have what the base's tables have.
     pub fn into_connection(self) -> Connection<S>
         requires begun { (state_of self).begun ≡ false }
         ensures clean { HasCleanDisk (state S.Store result) → IsClean self.tables }
@@ -90,6 +95,10 @@ impl<S: Alter> SqlBase<S> {
             × Holds (tables_of (state S.Store result).now.trees) (state_of self).now }
         ensures tables { HasCleanDisk (state S.Store result) → IsTrue (state S.Store result).is_open
             → tables_of (state S.Store result).now.trees ≡ self.tables.now }
+        ensures row { IsClean self.tables → (row : MetaRow) × HasRow self row }
+        ensures held { HasCleanDisk (state S.Store result) → IsTrue (state S.Store result).is_open
+            → (row : MetaRow) → HasRow self row
+            → HasHoldings (state S.Store result).now (holdings_of row (state_of self).now) }
     {
         let SqlBase {
             alloc: _,

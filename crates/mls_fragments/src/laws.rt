@@ -1,19 +1,20 @@
 //! The laws of what stores keep, each the contract of a function.
 ghost use Rattle.mls_fragments.specs.OneContent.{RowsHoldOneContent};
-ghost use Rattle.mls_fragments.specs.Again.{DatabaseHoldsOneContent, GivenBackIsTaken, KeptIsTaken, FilesKeepOneContent, KeptIsHeld, SoundIsTakenAsItWas};
+ghost use Rattle.mls_fragments.specs.Holdings.{DatabaseHasOneHoldings, GivenBackIsTaken, SoundIsTakenAsItWas};
+ghost use Rattle.mls_fragments.specs.Again.{KeptIsFound, KeptIsTaken};
 
 /// Rows hold one content: all its tables and all its entries.
 pub fn rows_hold_one_content()
     ensures { RowsHoldOneContent }
 {}
 
-/// So does a database: none, or what its rows hold.
-pub fn database_holds_one_content()
-    ensures { DatabaseHoldsOneContent }
+/// So does a database, with one row that describes it: none, or what its rows hold.
+pub fn database_has_one_holdings()
+    ensures { DatabaseHasOneHoldings }
 {}
 
-/// What `adopt` takes of a store whose rows hold a content, as those of a connection that a base gave back, is that content, or, under
-/// texts that extend those of the store, that content widened.
+/// What `adopt` takes of a store, as that of a connection that a base gave back, is what the store has, or, under texts that extend
+/// those of the store, its content widened.
 pub fn given_back_is_taken()
     ensures { GivenBackIsTaken }
 {}
@@ -23,14 +24,9 @@ pub fn kept_is_taken()
     ensures { KeptIsTaken }
 {}
 
-/// Files that a base is over keep one content.
-pub fn files_keep_one_content()
-    ensures { FilesKeepOneContent }
-{}
-
 /// What files keep that were closed is all that the next base over them may find.
-pub fn kept_is_held()
-    ensures { KeptIsHeld }
+pub fn kept_is_found()
+    ensures { KeptIsFound }
 {}
 
 /// Content that is sound under a policy and schemes is taken as it was: nothing is widened.

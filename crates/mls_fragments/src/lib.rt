@@ -19,8 +19,8 @@ pub use again::connected;
 pub use base::SqlBase;
 pub use finding::tables_of;
 pub use laws::{
-    files_keep_one_content, given_back_is_taken, kept_is_taken, rows_hold_one_content,
-    sound_is_taken_as_it_was,
+    database_has_one_holdings, given_back_is_taken, kept_is_found, kept_is_taken,
+    rows_hold_one_content, sound_is_taken_as_it_was,
 };
 pub use migrating::{Older, Standing, standing_of};
 pub use open_fault::OpenFault;

@@ -1,32 +1,35 @@
 //! Stores that are opened.
-ghost use Rattle.std.specs.Prelude.{◌≡◌, ◌≢◌, ◌⊎◌, ◌≤◌, false, [], ◌∷◌, length, map, string_bytes, None, IsTrue, IfOk, IfErr, IfSome, OnOk, OnErr};
-ghost use Rattle.sqlite.specs.State.{HasCleanDisk, KeepsCommit};
+ghost use Rattle.std.specs.Prelude.{◌≡◌, ◌≢◌, ◌⊎◌, ◌≤◌, false, [], ◌∷◌, length, map, string_bytes, None, IsTrue};
+ghost use Rattle.std.specs.Prelude.{IfOk, IfErr, IfSome, OnOk, OnErr};
 ghost use Rattle.std.specs.List.{AllByRecursion};
+ghost use Rattle.sqlite.specs.Files.{file_state};
 ghost use Rattle.sqlite.specs.Held.{state};
+ghost use Rattle.sqlite.specs.State.{HasCleanDisk, KeepsCommit};
+ghost use Rattle.sqlite.specs.WalFiles.{image_at};
 ghost use Rattle.mls_lattice.specs.Canon as lattice;
-ghost use Rattle.mls_scheme.specs.Scheme.{AreUnder};
-ghost use Rattle.mls_scheme.specs.Canon as scheme;
 ghost use Rattle.mls_lattice.specs.Version.{version_number, later};
+ghost use Rattle.mls_scheme.specs.Canon as scheme;
+ghost use Rattle.mls_scheme.specs.Scheme.{AreUnder};
 ghost use Rattle.mls_filterview.specs.Content.{Content, no_content};
 ghost use Rattle.mls_statements.specs.Rows.{described, first_meta, is_meta_row, tables_of};
+ghost use Rattle.mls_statements.specs.Schema.{no_schema};
 ghost use Rattle.mls_statements.specs.Statements.{AreRows, HasSettled, IsRewritten};
-ghost use Rattle.mls_statements.specs.Schema.{no_schema, HasTables};
 ghost use Rattle.mls_statements.specs.Store.{IsClean};
-ghost use Rattle.mls_fragments.specs.Based.{state_of};
+ghost use Rattle.mls_fragments.specs.Again.{FindsHoldings};
+ghost use Rattle.mls_fragments.specs.Based.{IsBaseOf, state_of};
 ghost use Rattle.mls_fragments.specs.Finding.{IsSoundContent, IsSpelledEntry, node_rows, cell_rows};
 ghost use Rattle.mls_fragments.specs.Holding.{Holds};
-ghost use Rattle.sqlite.specs.Files.{file_state};
-ghost use Rattle.sqlite.specs.WalFiles.{image_at};
+ghost use Rattle.mls_fragments.specs.Holdings.{HasHoldings, HaveOneMeta};
 ghost use Rattle.mls_fragments.specs.Migrating.{IsBefore, IsSoundBefore, IsWidenedContent};
-ghost use Rattle.mls_fragments.specs.Opening.{IsRefused, HoldsSound, IsTaken, IsOfOthers, IsBad, IsFoundIn, IsOverFiles, AreFilesRefused};
-ghost use Rattle.mls_fragments.specs.Again.{IsHeldBy, IsHeldIn, IsTakenOf};
+ghost use Rattle.mls_fragments.specs.Opening.{HoldsSound, IsBad, IsOfOthers};
+ghost use Rattle.mls_fragments.specs.Opening.{IsFoundIn, IsFoundUnadopted, IsRefused, IsUnadopted};
 
 use crate::base::SqlBase;
 use crate::comparing::{cell_rows, node_rows};
 use crate::finding::{Found, find};
 use crate::migrating::{Older, Standing, find_widened, standing_of};
 use crate::open_fault::OpenFault;
-use mls_lattice::{Policy, Version};
+use mls_lattice::Policy;
 use mls_scheme::{Schemes, SchemesFile};
 use mls_statements::statements::creation::has_nothing;
 use mls_statements::{TableStore, read_description, read_store, rewrite_store};
@@ -53,19 +56,24 @@ pub fn texts_of(
 fn created<S: Alter>(
     alloc: Global,
     conn: Connection<S>,
-    version: Version,
+    policy: &Policy,
+    file: &SchemesFile,
     texts: &(String, String),
 ) -> Result<SqlBase<S>, (OpenFault, Connection<S>)>
+    requires lattice { string_bytes texts.now.0 ≡ lattice.lattice_of policy.now }
+    requires schemes { string_bytes texts.now.1 ≡ scheme.canon_of policy.now file.now.version file.now.schemes }
     requires nothing { HasCleanDisk (state S.Store conn) → (state S.Store conn).now.schema ≡ no_schema }
     ensures content { IfOk result (λ b. state_of b ≡ record { now = no_content; kept = no_content; begun = false }) }
     ensures described { IfOk result (λ b. IsClean b.tables
-        → b.tables.now ≡ described (version_number version) (string_bytes texts.now.0) (string_bytes texts.now.1)) }
+        → b.tables.now ≡ described (version_number (later policy.now.version file.now.version))
+        (lattice.lattice_of policy.now) (scheme.canon_of policy.now file.now.version file.now.schemes)) }
     ensures clean { IfOk result (λ b. IsClean b.tables → HasCleanDisk (state S.Store conn)) }
     ensures fault { IfErr result (λ e. (e.0 ≡ OpenFault.Store) ⊎ (e.0 ≡ OpenFault.Memory)) }
     ensures refused { IfErr result (λ e. IsRefused (state S.Store conn) (state S.Store e.1)) }
     ensures kept { IfErr result (λ e. HasCleanDisk (state S.Store e.1)
         → KeepsCommit (state S.Store conn) (state S.Store e.1)) }
 {
+    let version = policy.version().later(file.version);
     match TableStore::create(alloc, conn, version.number() as u32, &texts.0, &texts.1) {
         Ok(store) => Ok(SqlBase::over_new(alloc, store)),
         Err((fault, conn)) => Err((OpenFault::from(fault), conn)),
@@ -81,6 +89,7 @@ fn taken<S: Alter>(
 ) -> Result<SqlBase<S>, (OpenFault, Connection<S>)>
     requires under { AreUnder (length policy.now.labels) schemes.now }
     requires described { HasCleanDisk (state S.Store conn) → AreRows is_meta_row ((state S.Store conn).now.trees 5) }
+    requires meta { HasCleanDisk (state S.Store conn) → HaveOneMeta (tables_of (state S.Store conn).now.trees) }
     ensures rows { IfOk result (λ b. IsClean b.tables → b.tables.now ≡ tables_of (state S.Store conn).now.trees) }
     ensures holds { IfOk result (λ b. IsClean b.tables → Holds b.tables.now (state_of b).now) }
     ensures sound { IfOk result (λ b. IsSoundContent policy.now schemes.now (state_of b).now) }
@@ -179,13 +188,10 @@ fn opened<S: Alter>(
     requires under { AreUnder (length policy.now.labels) file.now.schemes }
     requires lattice { string_bytes texts.now.0 ≡ lattice.lattice_of policy.now }
     requires schemes { string_bytes texts.now.1 ≡ scheme.canon_of policy.now file.now.version file.now.schemes }
-    ensures taken { IfOk result (λ b. IsClean b.tables
-        → IsTaken policy.now file.now (state S.Store conn).now b.tables.now (state_of b).now) }
-    ensures holds { IfOk result (λ b. IsClean b.tables → Holds b.tables.now (state_of b).now) }
+    ensures over { IfOk result (λ b. IsClean b.tables → HasCleanDisk (state S.Store conn)
+        × IsBaseOf (HasHoldings (state S.Store conn).now) policy.now file.now b) }
     ensures sound { IfOk result (λ b. IsSoundContent policy.now file.now.schemes (state_of b).now) }
     ensures mode { IfOk result (λ b. (state_of b).begun ≡ false) }
-    ensures schema { OnOk result (HasTables (state S.Store conn).now.schema) }
-    ensures clean { IfOk result (λ b. IsClean b.tables → HasCleanDisk (state S.Store conn)) }
     ensures refused { IfErr result (λ e. IsRefused (state S.Store conn) (state S.Store e.1)) }
     ensures policy { IfErr result (λ e. HasCleanDisk (state S.Store e.1) → e.0 ≡ OpenFault.OtherPolicy
         → IsOfOthers policy.now file.now (state S.Store conn).now) }
@@ -221,36 +227,20 @@ impl<S: Alter> SqlBase<S> {
         requires under { AreUnder (length policy.now.labels) file.now.schemes }
         requires outside { HasCleanDisk (state S.Store conn) → IsTrue (state S.Store conn).is_open
             → (state S.Store conn).in_transaction ≡ false }
-        ensures new { (state S.Store conn).now.schema ≡ no_schema → IfOk result (λ b. (state_of b ≡ record { now = no_content; kept = no_content; begun = false })
-            × (IsClean b.tables → b.tables.now ≡ described (version_number (later policy.now.version file.now.version)) (lattice.lattice_of policy.now) (scheme.canon_of policy.now file.now.version file.now.schemes))) }
-        ensures taken { (state S.Store conn).now.schema ≢ no_schema
-            → IfOk result (λ b. IsClean b.tables
-            → IsTaken policy.now file.now (state S.Store conn).now b.tables.now (state_of b).now) }
-        ensures holds { IfOk result (λ b. IsClean b.tables → Holds b.tables.now (state_of b).now) }
-        ensures content { IfOk result (λ b. IsClean b.tables
-            → IsTakenOf (IsHeldBy (state S.Store conn).now) policy.now file.now (state_of b).now) }
+        ensures new { (state S.Store conn).now.schema ≡ no_schema → IfOk result (λ b. (state_of b).now ≡ no_content) }
+        ensures over { IfOk result (λ b. IsClean b.tables → HasCleanDisk (state S.Store conn)
+            × IsBaseOf (HasHoldings (state S.Store conn).now) policy.now file.now b) }
         ensures sound { IfOk result (λ b. IsSoundContent policy.now file.now.schemes (state_of b).now) }
         ensures mode { IfOk result (λ b. (state_of b).begun ≡ false) }
-        ensures clean { IfOk result (λ b. IsClean b.tables → HasCleanDisk (state S.Store conn)) }
-        ensures schema { OnOk result (((state S.Store conn).now.schema ≡ no_schema)
-            ⊎ HasTables (state S.Store conn).now.schema) }
-        ensures policy { IfErr result (λ e. HasCleanDisk (state S.Store e.1) → e.0 ≡ OpenFault.OtherPolicy
-            → IsOfOthers policy.now file.now (state S.Store conn).now) }
-        ensures bad { IfErr result (λ e. HasCleanDisk (state S.Store e.1) → e.0 ≡ OpenFault.BadRows
-            → IsBad policy.now file.now (state S.Store conn).now) }
-        ensures made { (state S.Store conn).now.schema ≡ no_schema
-            → IfErr result (λ e. (e.0 ≡ OpenFault.Store) ⊎ (e.0 ≡ OpenFault.Memory)) }
-        ensures refused { IfErr result (λ e. IsRefused (state S.Store conn) (state S.Store e.1)) }
-        ensures kept { (state S.Store conn).now.schema ≡ no_schema
-            → IfErr result (λ e. HasCleanDisk (state S.Store e.1)
-            → KeepsCommit (state S.Store conn) (state S.Store e.1)) }
+        ensures refused { IfErr result (λ e.
+            IsUnadopted policy.now file.now (state S.Store conn) (state S.Store e.1) e.0) }
     {
         let texts = match texts_of(alloc, policy, file) {
             Ok(texts) => texts,
             Err(_) => return Err((OpenFault::Memory, conn)),
         };
         if has_nothing(&conn) {
-            return created(alloc, conn, policy.version().later(file.version), &texts);
+            return created(alloc, conn, policy, file, &texts);
         }
         opened(alloc, conn, policy, file, &texts)
     }
@@ -297,13 +287,13 @@ impl<F: Start> SqlBase<FileStore<FileFrom<F>>> {
         (OpenFault, Option<Connection<FileStore<FileFrom<F>>>>),
     >
         requires under { AreUnder (length policy.now.labels) file.now.schemes }
-        ensures over { IfOk result (IsOverFiles policy.now file.now (image_at F.Start)) }
-        ensures content { IfOk result (λ b. IsClean b.tables
-            → IsTakenOf (IsHeldIn (image_at F.Start)) policy.now file.now (state_of b).now) }
+        ensures over { IfOk result (λ b. IsClean b.tables
+            → IsBaseOf (FindsHoldings (image_at F.Start)) policy.now file.now b) }
         ensures sound { IfOk result (λ b. IsSoundContent policy.now file.now.schemes (state_of b).now) }
         ensures mode { IfOk result (λ b. (state_of b).begun ≡ false) }
         ensures unopened { IfErr result (λ e. e.1 ≡ None → (e.0 ≡ OpenFault.Store) ⊎ (e.0 ≡ OpenFault.Memory)) }
-        ensures refused { IfErr result (λ e. IfSome e.1 (AreFilesRefused policy.now file.now (image_at F.Start) e.0)) }
+        ensures refused { IfErr result (λ e. IfSome e.1
+            (IsFoundUnadopted policy.now file.now (image_at F.Start) e.0)) }
     {
         let conn = match connected(rt, path, start) {
             Ok(conn) => conn,
@@ -312,38 +302,6 @@ impl<F: Start> SqlBase<FileStore<FileFrom<F>>> {
         match SqlBase::adopt(rt.alloc(), conn, policy, file) {
             Ok(base) => Ok(base),
             Err((fault, conn)) => Err((fault, Some(conn))),
-        }
-    }
-
-    /// As `open_from`, where what is not opened is let go, and nothing is said of it.
-    pub fn open_path(
-        rt: &HostRuntime,
-        path: &str,
-        start: F,
-        policy: &Policy,
-        file: &SchemesFile,
-    ) -> Result<SqlBase<FileStore<FileFrom<F>>>, OpenFault>
-        requires under { AreUnder (length policy.now.labels) file.now.schemes }
-        ensures over { IfOk result (IsOverFiles policy.now file.now (image_at F.Start)) }
-        ensures content { IfOk result (λ b. IsClean b.tables
-            → IsTakenOf (IsHeldIn (image_at F.Start)) policy.now file.now (state_of b).now) }
-        ensures sound { IfOk result (λ b. IsSoundContent policy.now file.now.schemes (state_of b).now) }
-        ensures mode { IfOk result (λ b. (state_of b).begun ≡ false) }
-    {
-        match SqlBase::open_from(rt, path, start, policy, file) {
-            Ok(base) => Ok(base),
-            Err((fault, _)) => Err(fault),
-        }
-    }
-
-    /// Closes the files. What they hold then is said of `close_files` alone.
-    pub fn close(self) -> Result<(), OpenFault>
-        requires begun { (state_of self).begun ≡ false }
-        ensures { IfErr result (λ e. (e ≡ OpenFault.Store) ⊎ (e ≡ OpenFault.Memory)) }
-    {
-        match self.into_connection().close() {
-            Ok(()) => Ok(()),
-            Err(error) => Err(fault_of(error)),
         }
     }
 }

@@ -2,3 +2,5 @@ pub mod HostingLemmas
 pub mod RunningLemmas
 pub mod StoringLemmas
 pub mod CauseLemmas
+pub mod WholeLemmas
+pub mod StoppingLemmas

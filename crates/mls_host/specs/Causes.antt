@@ -1,4 +1,5 @@
--- Why a command is given up before anything is written: an input is refused, a word names nothing, a store is not opened, or memory.
+-- Why a command is given up before anything is written: an input is refused, a
+-- word names nothing, a store is not opened, or memory.
 use Rattle.std.specs.Prelude.{◌≡◌, ◌≢◌, ℕ, List, Option, Some, None, Err, ⊤}
 use Rattle.std.specs.List.{position}
 use Rattle.std.specs.Str.{bytes_eq}
@@ -34,7 +35,8 @@ use Rattle.mls_host.specs.declared.host.HostFault.{HostFault}
 use Rattle.mls_host.specs.declared.reason.Role.{Role}
 use Rattle.mls_host.specs.declared.reason.Role.TheVariants as role
 use Rattle.mls_host.specs.declared.reason.Reason.{Reason}
-use Rattle.mls_host.specs.declared.reason.Reason.TheVariants.{Policy, Reader, Label, Schemes as OfSchemes, Transactions, Certificates, Script, Store, Memory}
+use Rattle.mls_host.specs.declared.reason.Reason.TheVariants.{Policy, Reader, Label, Schemes as OfSchemes, Transactions}
+use Rattle.mls_host.specs.declared.reason.Reason.TheVariants.{Certificates, Script, Store, Memory}
 use Rattle.mls_host.specs.Hosting.{Hosting}
 use Rattle.mls_host.specs.Inputs.{AreTransactionsFrom}
 use Rattle.mls_host.specs.Reason.{input_reason}
@@ -53,27 +55,36 @@ IsPolicyFault bytes fault = HasFault bytes fault
 abbrev pub IsSchemeFault : Tables → List ℕ → SchemeFault → Type 0
 IsSchemeFault policy bytes schemes.Memory = ⊤
 IsSchemeFault policy bytes schemes.NotToml = IsNoDocument bytes
-IsSchemeFault policy bytes fault = ¬ IsNoDocument bytes × ((document : Members) → IsDocument bytes document → schemes_at policy document ≡ Err fault)
+IsSchemeFault policy bytes fault =
+    ¬ IsNoDocument bytes × ((document : Members) → IsDocument bytes document → schemes_at policy document ≡ Err fault)
 
 abbrev pub RefusesPolicy : List ℕ → Reason → Type 0
 RefusesPolicy bytes reason = (fault : PolicyFault) × (reason ≡ Policy fault) × IsPolicyFault bytes fault
 
 abbrev pub RefusesSchemes : Tables → List ℕ → Reason → Type 0
-RefusesSchemes policy bytes reason = (fault : SchemeFault) × (reason ≡ OfSchemes fault) × IsSchemeFault policy bytes fault
+RefusesSchemes policy bytes reason =
+    (fault : SchemeFault) × (reason ≡ OfSchemes fault) × IsSchemeFault policy bytes fault
 
 -- the first fault, with its place
 abbrev pub RefusesTransactions : Tables → Schemes → List ℕ → Reason → Type 0
-RefusesTransactions policy schemes bytes reason = (fault : TextFault) × (reason ≡ Transactions fault) × (fault.cause ≢ texts.Memory → parse_at policy schemes bytes ≡ Err fault)
+RefusesTransactions policy schemes bytes reason =
+    (fault : TextFault) × (reason ≡ Transactions fault)
+    × (fault.cause ≢ texts.Memory → parse_at policy schemes bytes ≡ Err fault)
 
 abbrev pub RefusesCertificates : List ℕ → Reason → Type 0
-RefusesCertificates bytes reason = (fault : CertFault) × (reason ≡ Certificates fault) × (fault.cause ≢ certs.Memory → file_in bytes ≡ Err fault)
+RefusesCertificates bytes reason =
+    (fault : CertFault) × (reason ≡ Certificates fault) × (fault.cause ≢ certs.Memory → file_in bytes ≡ Err fault)
 
 abbrev pub RefusesScript : Tables → Schemes → List ℕ → Reason → Type 0
-RefusesScript policy schemes bytes reason = (fault : ScriptFault) × (reason ≡ Script fault) × (fault.cause ≢ scripts.Memory → script_at policy schemes bytes ≡ Err fault)
+RefusesScript policy schemes bytes reason =
+    (fault : ScriptFault) × (reason ≡ Script fault)
+    × (fault.cause ≢ scripts.Memory → script_at policy schemes bytes ≡ Err fault)
 
 -- the transactions of a text are refused; or they are told, and the certificates of another are refused; or memory
-pub data AreTextsRefused (transactions certificates : List ℕ) (policy : Tables) (schemes : Schemes) (reason : Reason) : Type 0 where
-  not_told : RefusesTransactions policy schemes transactions reason → AreTextsRefused transactions certificates policy schemes reason
+pub data AreTextsRefused (transactions certificates : List ℕ) (policy : Tables) (schemes : Schemes)
+    (reason : Reason) : Type 0 where
+  not_told : RefusesTransactions policy schemes transactions reason
+      → AreTextsRefused transactions certificates policy schemes reason
   not_certified : (txs : List Tx) → Tells policy schemes transactions txs → RefusesCertificates certificates reason
       → AreTextsRefused transactions certificates policy schemes reason
   not_kept : reason ≡ Memory → AreTextsRefused transactions certificates policy schemes reason
@@ -86,7 +97,9 @@ no_reader (Shell files) = Label
 no_reader task = Reader
 
 abbrev pub IsReaderUnknown : Tables → Task → Reason → Type 0
-IsReaderUnknown policy task reason = (name : List ℕ) × (at_of task ≡ Some name) × (position (λ l. bytes_eq l.name name) policy.labels ≡ None) × (reason ≡ no_reader task)
+IsReaderUnknown policy task reason =
+    (name : List ℕ) × (at_of task ≡ Some name) × (position (λ l. bytes_eq l.name name) policy.labels ≡ None)
+    × (reason ≡ no_reader task)
 
 -- ---- inputs, and stores
 
@@ -94,10 +107,13 @@ module _ (h : Hosting) where
   abbrev pub IsNotGiven : Role → Option (List ℕ) → Reason → Type 0
   IsNotGiven role source reason = (fault : HostFault) × h.lacks source fault × (reason ≡ input_reason role fault)
 
-  -- `Refuses bytes reason`: why a reader refuses bytes. An input is refused where none are given, or bytes that the reader refuses
-  pub data IsInputRefused (role : Role) (source : Option (List ℕ)) (Refuses : List ℕ → Reason → Type 0) (reason : Reason) : Type 0 where
+  -- `Refuses bytes reason`: why a reader refuses bytes. An input is refused
+  -- where none are given, or bytes that the reader refuses
+  pub data IsInputRefused (role : Role) (source : Option (List ℕ)) (Refuses : List ℕ → Reason → Type 0)
+      (reason : Reason) : Type 0 where
     not_given : IsNotGiven role source reason → IsInputRefused role source Refuses reason
-    not_read : (bytes : List ℕ) → h.gives source bytes → Refuses bytes reason → IsInputRefused role source Refuses reason
+    not_read : (bytes : List ℕ) → h.gives source bytes → Refuses bytes reason
+        → IsInputRefused role source Refuses reason
 
   -- the policy and the schemes: those of the samples, or of files
   abbrev pub IsPolicyRefused : Option Documents → Reason → Type 0
@@ -106,7 +122,8 @@ module _ (h : Hosting) where
 
   abbrev pub AreSchemesRefused : Option Documents → Tables → Reason → Type 0
   AreSchemesRefused None policy reason = RefusesSchemes policy SCHEMES.now reason
-  AreSchemesRefused (Some d) policy reason = IsInputRefused role.Schemes (Some d.schemes.now) (RefusesSchemes policy) reason
+  AreSchemesRefused (Some d) policy reason =
+      IsInputRefused role.Schemes (Some d.schemes.now) (RefusesSchemes policy) reason
 
   abbrev pub IsScriptRefused : Option (List ℕ) → Tables → Schemes → Reason → Type 0
   IsScriptRefused source policy schemes reason = IsInputRefused role.Script source (RefusesScript policy schemes) reason
@@ -114,16 +131,20 @@ module _ (h : Hosting) where
   -- none is refused without a path
   abbrev pub AreTransactionsRefused : Option (List ℕ) → Tables → Schemes → Reason → Type 0
   AreTransactionsRefused None policy schemes reason = ⊥
-  AreTransactionsRefused (Some path) policy schemes reason = IsInputRefused role.Transactions (Some path) (RefusesTransactions policy schemes) reason
+  AreTransactionsRefused (Some path) policy schemes reason =
+      IsInputRefused role.Transactions (Some path) (RefusesTransactions policy schemes) reason
 
   abbrev pub AreCertificatesRefused : Option (List ℕ) → Reason → Type 0
   AreCertificatesRefused None reason = ⊥
   AreCertificatesRefused (Some path) reason = IsInputRefused role.Certificates (Some path) RefusesCertificates reason
 
   -- the transactions are refused; or they are read, and the certificates are refused; or memory
-  pub data AreFilesRefused (transactions certificates : Option (List ℕ)) (policy : Tables) (schemes : Schemes) (reason : Reason) : Type 0 where
-    no_transactions : AreTransactionsRefused transactions policy schemes reason → AreFilesRefused transactions certificates policy schemes reason
-    no_certificates : (txs : List Tx) → AreTransactionsFrom h.gives transactions policy schemes txs → AreCertificatesRefused certificates reason
+  pub data AreFilesRefused (transactions certificates : Option (List ℕ)) (policy : Tables) (schemes : Schemes)
+      (reason : Reason) : Type 0 where
+    no_transactions : AreTransactionsRefused transactions policy schemes reason
+        → AreFilesRefused transactions certificates policy schemes reason
+    no_certificates : (txs : List Tx) → AreTransactionsFrom h.gives transactions policy schemes txs
+        → AreCertificatesRefused certificates reason
         → AreFilesRefused transactions certificates policy schemes reason
     no_memory : reason ≡ Memory → AreFilesRefused transactions certificates policy schemes reason
 

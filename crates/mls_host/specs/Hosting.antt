@@ -1,10 +1,11 @@
 -- What a host gives and lacks, keeps and bars, what is done over a store of it, and what is told on standard error.
-use Rattle.std.specs.Prelude.{◌≡◌, ℕ, false, List, Option, Some, None, ⊤}
+use Rattle.std.specs.Prelude.{◌≡◌, ◌↔◌, ℕ, Bool, List, Option, Some, None, ⊤}
 use Rattle.std.specs.Io.KnownBytes.{Appends}
 use Rattle.mls_lattice.specs.Policy.{Tables}
 use Rattle.mls_scheme.specs.declared.file.SchemesFile.{SchemesFile}
 use Rattle.mls_filterview.specs.Content.{Content, no_content}
-use Rattle.mls_fragments.specs.Again.{IsTakenOf}
+use Rattle.mls_statements.specs.declared.rows.MetaRow.{MetaRow}
+use Rattle.mls_fragments.specs.Holdings.{Holdings, holdings_of, IsTakenOf}
 use Rattle.mls_fragments.specs.declared.open_fault.OpenFault.{OpenFault}
 use Rattle.mls_host.specs.declared.host.HostFault.{HostFault}
 use Rattle.mls_host.specs.declared.host.StoreCause.{StoreCause}
@@ -16,8 +17,14 @@ pub record Hosting : Type 1 where
   pub gives : Option (List ℕ) → List ℕ → Type 0
   -- why it gives none
   pub lacks : Option (List ℕ) → HostFault → Type 0
-  -- the content that the store at a path keeps
-  pub keeps : List ℕ → Content → Type 0
+  -- what is known of the bytes that are typed there
+  pub types : Option (List ℕ) → Type 0
+  -- reading them may fail
+  pub breaks : Type 0
+  -- somebody types them at a terminal
+  pub is_terminal : Bool
+  -- what the store at a path keeps: the row that describes it, and its content
+  pub keeps : List ℕ → Holdings → Type 0
   -- why that store is not opened under a policy and schemes
   pub bars : List ℕ → Tables → SchemesFile → OpenFault → Type 0
   -- the bytes of its log and of its database file, as they are shown
@@ -26,6 +33,10 @@ pub record Hosting : Type 1 where
   pub hides : List ℕ → StoreCause → Type 0
   -- the store that it took back last is clean
   pub is_honest : Type 0
+  -- a call of that store failed since it was opened
+  pub has_failed : Type 0
+  -- that store was not closed
+  pub is_unclosed : Type 0
 
 -- a host before and after a command, and what it shows of a line that is typed
 pub record Hosted : Type 1 where
@@ -39,19 +50,32 @@ module _ {Host : Type 0} (hosting : Host → Hosting) (echo : List ℕ → List 
 
 -- ---- stores
 
+-- each store keeps what it kept
+abbrev pub KeepSame : Hosting → Hosting → Type 0
+KeepSame old new = (path : List ℕ) (h : Holdings) → new.keeps path h ↔ old.keeps path h
+
 module _ (h : Hosted) where
+  abbrev pub KeepsStores : Type 0
+  KeepsStores = KeepSame h.before h.after
+
+  -- what is done without a store leaves each store
+  abbrev pub LeavesStores : Option (List ℕ) → Type 0
+  LeavesStores None = KeepsStores
+  LeavesStores (Some path) = ⊤
+
   -- without a path it begins with nothing; with one, with what is taken of what the store there kept
   abbrev pub BeginsWith : Tables → SchemesFile → Option (List ℕ) → Content → Type 0
   BeginsWith policy file None first = first ≡ no_content
   BeginsWith policy file (Some path) first = IsTakenOf (h.before.keeps path) policy file first
 
-  -- and what it leaves is kept there
+  -- and what it leaves is kept there, with a row that describes it
   abbrev pub IsKeptAt : Option (List ℕ) → Content → Type 0
   IsKeptAt None left = ⊤
-  IsKeptAt (Some path) left = h.after.keeps path left
+  IsKeptAt (Some path) left = (row : MetaRow) × h.after.keeps path (holdings_of row left)
 
   -- what leads from one content to another, under a policy and schemes, is done over a store
-  pub record IsOver (policy : Tables) (file : SchemesFile) (store : Option (List ℕ)) (Leads : Content → Content → Type 0) : Type 0 where
+  pub record IsOver (policy : Tables) (file : SchemesFile) (store : Option (List ℕ))
+      (Leads : Content → Content → Type 0) : Type 0 where
     pub first : Content
     pub left : Content
     pub begins : BeginsWith policy file store first
@@ -65,9 +89,10 @@ module _ (h : Hosted) where
 
 -- ---- standard error
 
--- a text was told, unless the writer failed
+-- a text was told, unless a write failed
 abbrev pub IsTold : {E : Type 0} → (E → Option (List ℕ)) → Errors E → Errors E → List ℕ → Type 0
-IsTold contents old new text = new.has_failed ≡ false → (old.has_failed ≡ false) × Appends (contents old.writer) (contents new.writer) text
+IsTold contents old new text =
+    new.failed ≡ None → (old.failed ≡ None) × Appends (contents old.writer) (contents new.writer) text
 
 -- a text was written at the end
 abbrev pub IsAppended : {W : Type 0} → (W → Option (List ℕ)) → W → W → List ℕ → Type 0

@@ -23,13 +23,16 @@ use Rattle.mls_host.specs.Storing.{AreStoredWith}
 -- none without a name; with one, the label of the name
 abbrev pub IsNamed : Tables → Option (List ℕ) → Option ℕ → Type 0
 IsNamed policy None reader = reader ≡ None
-IsNamed policy (Some name) reader = (label : ℕ) × (reader ≡ Some label) × (position (λ l. bytes_eq l.name name) policy.labels ≡ Some label)
+IsNamed policy (Some name) reader =
+    (label : ℕ) × (reader ≡ Some label) × (position (λ l. bytes_eq l.name name) policy.labels ≡ Some label)
 
 abbrev pub IsReader : Tables → Task → Option ℕ → Type 0
 IsReader policy task reader = IsNamed policy (at_of task) reader
 
--- the transactions that a text tells, each with the first certificate of its name in another text where that holds for it
-pub record AreStoredOf (transactions certificates : List ℕ) (policy : Tables) (schemes : Schemes) (stored : List Stored) : Type 0 where
+-- the transactions that a text tells, each with the first certificate of
+-- its name in another text where that holds for it
+pub record AreStoredOf (transactions certificates : List ℕ) (policy : Tables) (schemes : Schemes)
+    (stored : List Stored) : Type 0 where
   pub txs : List Tx
   pub blocks : List Block
   pub told : Tells policy schemes transactions txs
@@ -49,7 +52,8 @@ module _ (Gives : Option (List ℕ) → List ℕ → Type 0) where
 
   abbrev pub AreSchemesOf : Option Documents → Tables → SchemesFile → Type 0
   AreSchemesOf None policy file = ReadsSchemes policy SCHEMES.now file.version file.schemes
-  AreSchemesOf (Some d) policy file = IsFrom (Some d.schemes.now) (λ bytes. ReadsSchemes policy bytes file.version file.schemes)
+  AreSchemesOf (Some d) policy file =
+      IsFrom (Some d.schemes.now) (λ bytes. ReadsSchemes policy bytes file.version file.schemes)
 
   -- the events of a script
   abbrev pub IsScriptFrom : Option (List ℕ) → Tables → Schemes → List Event → Type 0
@@ -71,7 +75,8 @@ module _ (Gives : Option (List ℕ) → List ℕ → Type 0) where
   AreCertificatesFrom (Some path) blocks = AreBlocksIn path blocks
 
   -- the transactions of one file, each with the first certificate of its name in another where that holds for it
-  pub record AreStoredFrom (transactions certificates : Option (List ℕ)) (policy : Tables) (schemes : Schemes) (stored : List Stored) : Type 0 where
+  pub record AreStoredFrom (transactions certificates : Option (List ℕ)) (policy : Tables) (schemes : Schemes)
+      (stored : List Stored) : Type 0 where
     pub txs : List Tx
     pub blocks : List Block
     pub told : AreTransactionsFrom transactions policy schemes txs

@@ -7,3 +7,4 @@ pub mod Storing
 pub mod Running
 pub mod Telling
 pub mod Causes
+pub mod Stopping

@@ -27,7 +27,9 @@ use Rattle.mls_host.specs.declared.host.HostFault.TheVariants as host
 use Rattle.mls_host.specs.declared.reason.Role.{Role}
 use Rattle.mls_host.specs.declared.reason.Role.TheVariants as role
 use Rattle.mls_host.specs.declared.reason.Reason.{Reason}
-use Rattle.mls_host.specs.declared.reason.Reason.TheVariants.{Unreadable, TooLong, Policy, Reader, Label, User, Name, Schemes, Transactions, Certificates, Script, Store, Memory}
+use Rattle.mls_host.specs.declared.reason.Reason.TheVariants.{Unreadable, TooLong, Policy, Reader, Label, User, Name}
+use Rattle.mls_host.specs.declared.reason.Reason.TheVariants.{Schemes, Transactions, Certificates, Script, Store}
+use Rattle.mls_host.specs.declared.reason.Reason.TheVariants.{Memory}
 
 abbrev pub role_word : Role → List ℕ
 role_word role.Policy = codes "policy"
@@ -62,11 +64,14 @@ fault_text r code word = codes "mldb: " ++ role_word r ++ codes ": " ++ decimal 
 
 -- with the line
 abbrev pub line_text : Role → ℕ → List ℕ → ℕ → List ℕ
-line_text r code word line = codes "mldb: " ++ role_word r ++ codes ": " ++ decimal code ++ codes " " ++ word ++ codes " at " ++ decimal line ++ codes "\n"
+line_text r code word line =
+    codes "mldb: " ++ role_word r ++ codes ": " ++ decimal code ++ codes " " ++ word ++ codes " at " ++ decimal line
+    ++ codes "\n"
 
 -- with the line and the column
 abbrev pub front_text : Role → ℕ → List ℕ → List ℕ
-front_text r code word = codes "mldb: " ++ role_word r ++ codes ": " ++ decimal code ++ codes " " ++ word ++ codes " at "
+front_text r code word =
+    codes "mldb: " ++ role_word r ++ codes ": " ++ decimal code ++ codes " " ++ word ++ codes " at "
 
 abbrev pub spot_text : ℕ → ℕ → List ℕ
 spot_text line column = decimal line ++ codes ":" ++ decimal column ++ codes "\n"
@@ -75,13 +80,15 @@ abbrev pub place_text : Role → ℕ → List ℕ → ℕ → ℕ → List ℕ
 place_text r code word line column = front_text r code word ++ spot_text line column
 
 abbrev pub text_fault_text : TextFault → List ℕ
-text_fault_text f = place_text role.Transactions (text_faults.code_of f.cause) (text_faults.word_of f.cause) f.line f.column
+text_fault_text f =
+    place_text role.Transactions (text_faults.code_of f.cause) (text_faults.word_of f.cause) f.line f.column
 
 abbrev pub cert_fault_text : CertFault → List ℕ
 cert_fault_text f = line_text role.Certificates (cert_faults.code_of f.cause) (cert_faults.word_of f.cause) f.line
 
 abbrev pub script_fault_text : ScriptFault → List ℕ
-script_fault_text f = place_text role.Script (script_faults.code_of f.cause) (script_faults.word_of f.cause) f.line f.column
+script_fault_text f =
+    place_text role.Script (script_faults.code_of f.cause) (script_faults.word_of f.cause) f.line f.column
 
 -- what is told of it
 abbrev pub reason_text : Reason → List ℕ

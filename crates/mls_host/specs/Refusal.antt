@@ -37,7 +37,8 @@ module _ {A : Type 0} where
   ended (Ok end) (Err fault) = Err NotClosed
   ended (Ok end) (Ok _) = Ok end
 
-  -- what holds of one that ended, or was given up at a fault; it is whole where its store was not closed; and what holds where none began
+  -- what holds of one that ended, or was given up at a fault; it is whole where its store was not closed; and what
+  -- holds where none began
   abbrev pub IsEnd : (Result A RunFault → Type 0) → (Reason → Type 0) → Result A Refusal → Type 0
   IsEnd Ends Nothing (Ok end) = Ends (Ok end)
   IsEnd Ends Nothing (Err (Before reason)) = Nothing reason

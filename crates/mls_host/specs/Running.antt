@@ -32,12 +32,16 @@ first_world site c = world_at site no_sessions c
 abbrev pub output : Site → Audience → Content → List Event → List ℕ
 output site audience first es = run_shows site audience (first_world site first) es
 
--- the lines before the event that stopped the run, which is one of them, and of its own a first part, which is empty unless the writer failed
-pub record IsStopped (site : Site) (audience : Audience) (first : Content) (es : List Event) (Wrote : List ℕ → Type 0) (fault : RunFault) : Type 0 where
+-- the lines before the event that stopped the run, which is one of them, and of its own a first part, which is empty
+-- unless the writer failed
+pub record IsStopped (site : Site) (audience : Audience) (first : Content) (es : List Event) (Wrote : List ℕ → Type 0)
+    (fault : RunFault) : Type 0 where
   pub part : List ℕ
   pub rest : List ℕ
   pub written : Wrote (output site audience first (take (fault.event - 1) es) ++ part)
-  pub whole : (output site audience first (take (fault.event - 1) es) ++ part) ++ rest ≡ output site audience first (take fault.event es)
+  pub whole :
+      (output site audience first (take (fault.event - 1) es) ++ part) ++ rest
+      ≡ output site audience first (take fault.event es)
   pub none : fault.cause ≢ Write → part ≡ []
   pub is : IsFaultOf es fault
 
@@ -53,10 +57,12 @@ standing es (Err fault) = take (if fault.done then fault.event else fault.event 
 
 -- the content is what the events leave: the relations and the entries of the last world
 abbrev pub IsLeftBy : Site → Content → List Event → Content → Type 0
-IsLeftBy site first es left = (sessions : Sessions) × (world_at site sessions left ≡ end_of site (first_world site first) es)
+IsLeftBy site first es left =
+    (sessions : Sessions) × (world_at site sessions left ≡ end_of site (first_world site first) es)
 
 -- a run of events from one content to another
-pub record IsRun (site : Site) (audience : Audience) (es : List Event) (Wrote : List ℕ → Type 0) (end : Result (Unit {0}) RunFault) (first left : Content) : Type 0 where
+pub record IsRun (site : Site) (audience : Audience) (es : List Event) (Wrote : List ℕ → Type 0)
+    (end : Result (Unit {0}) RunFault) (first left : Content) : Type 0 where
   pub written : IsWritten site audience first es Wrote end
   pub left_by : IsLeftBy site first (standing es end) left
   -- a next run may begin with what is left

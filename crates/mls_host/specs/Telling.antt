@@ -13,4 +13,5 @@ line_told number word = codes "mldb: line " ++ decimal number ++ codes ": " ++ w
 
 abbrev pub fault_told : ℕ → ℕ → ScriptCause → List ℕ
 fault_told number column cause =
-    codes "mldb: line " ++ decimal number ++ codes ": " ++ decimal (faults.code_of cause) ++ codes " " ++ faults.word_of cause ++ codes " at " ++ decimal column ++ codes "\n"
+    codes "mldb: line " ++ decimal number ++ codes ": " ++ decimal (faults.code_of cause) ++ codes " "
+    ++ faults.word_of cause ++ codes " at " ++ decimal column ++ codes "\n"

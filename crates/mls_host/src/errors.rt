@@ -1,29 +1,30 @@
 //! Standard error, and whether it failed.
-ghost use Rattle.std.specs.Prelude.{◌≡◌, false};
+ghost use Rattle.std.specs.Prelude.{◌≡◌, None};
 ghost use Rattle.mls_host.specs.Hosting.{IsTold};
 ghost use Rattle.mls_host.specs.Refusal.{refusal_text};
 ghost use Rattle.mls_words.specs.Words.{usage_text};
 
 use crate::refusal::Refusal;
 use mls_words::Usage;
+use mls_writing::{WriteFault, write_bytes};
 use std::io::Write;
 
 /// Where a command tells what it refuses. A failure of the writer changes nothing but what is promised of it: what was told is
-/// written whole unless `has_failed`.
+/// written whole unless a write failed, and a fault of this writer stands for that, which nothing but a write makes.
 #[derive(Drop)]
 pub struct Errors<E: Write> {
     pub(crate) writer: E,
-    pub(crate) has_failed: bool,
+    pub(crate) failed: Option<WriteFault<E>>,
 }
 
 impl<E: Write> Errors<E> {
     /// Over a writer that has not failed.
     pub fn new(writer: E) -> Errors<E>
-        ensures { result ≡ record { writer = writer; has_failed = false } }
+        ensures { result ≡ record { writer = writer; failed = None } }
     {
         Errors {
             writer,
-            has_failed: false,
+            failed: None,
         }
     }
 
@@ -31,10 +32,7 @@ impl<E: Write> Errors<E> {
     pub fn into_writer(self) -> E
         ensures { result ≡ self.writer }
     {
-        let Errors {
-            writer,
-            has_failed: _,
-        } = self;
+        let Errors { writer, failed: _ } = self;
         writer
     }
 
@@ -42,8 +40,8 @@ impl<E: Write> Errors<E> {
     pub fn tell(&mut self, text: &[u8])
         ensures { IsTold E.contents self.old self.new text.now }
     {
-        if self.writer.write_all(text).is_err() {
-            self.has_failed = true;
+        if let Err(fault) = write_bytes(&mut self.writer, text) {
+            self.failed = Some(fault);
         }
     }
 
@@ -51,8 +49,8 @@ impl<E: Write> Errors<E> {
     pub fn tell_refusal(&mut self, refusal: &Refusal)
         ensures { IsTold E.contents self.old self.new (refusal_text refusal.now) }
     {
-        if refusal.tell(&mut self.writer).is_err() {
-            self.has_failed = true;
+        if let Err(fault) = refusal.tell(&mut self.writer) {
+            self.failed = Some(fault);
         }
     }
 
@@ -60,8 +58,8 @@ impl<E: Write> Errors<E> {
     pub fn tell_usage(&mut self, usage: &Usage)
         ensures { IsTold E.contents self.old self.new (usage_text usage.now) }
     {
-        if usage.tell(&mut self.writer).is_err() {
-            self.has_failed = true;
+        if let Err(fault) = usage.tell(&mut self.writer) {
+            self.failed = Some(fault);
         }
     }
 }

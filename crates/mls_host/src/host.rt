@@ -1,10 +1,11 @@
 //! What a command asks of the machine that it runs on.
-ghost use Rattle.std.specs.Prelude.{◌≡◌, ◌≤◌, ◌↔◌, false, Some, None, length, IfOk, IfErr};
+ghost use Rattle.std.specs.Prelude.{◌≡◌, ◌<◌, ◌≤◌, ◌↔◌, false, Some, None, length, IfOk, IfErr, OnErr, IsErr};
 ghost use Rattle.std.specs.Option.{IfSome};
 ghost use Rattle.mls_scheme.specs.Scheme.{AreUnder};
-ghost use Rattle.mls_fragments.specs.Again.{IsTakenOf};
+ghost use Rattle.mls_fragments.specs.Holdings.{holdings_of, IsTakenOf};
 ghost use Rattle.mls_fragments.specs.Finding.{IsSoundContent};
-ghost use Rattle.mls_host.specs.Hosting.{Hosting};
+ghost use Rattle.mls_statements.specs.declared.rows.MetaRow.{MetaRow};
+ghost use Rattle.mls_host.specs.Hosting.{Hosting, KeepSame};
 
 use mls_filterview::Base;
 use mls_fragments::OpenFault;
@@ -54,8 +55,9 @@ pub enum StoreCause {
 /// Where inputs come from, and where stores are.
 ///
 /// Contracts see which bytes a host gives for the file at a path, and, with no path, for the standard input, and why it gives none;
-/// which content the store at a path keeps, and why it is not opened; which bytes its files are shown to have, and why they are not
-/// shown; and that the store which it took back last was clean.
+/// what is typed there, whether reading that may fail, and whether it is a terminal; what the store at a path keeps, and why it is not
+/// opened; which bytes its files are shown to have, and why they are not shown; and of the store which it took back last, whether it was
+/// clean, whether a call of it failed, and whether it was closed.
 pub trait Host {
     ghost hosting: { Self → Hosting };
 
@@ -75,15 +77,17 @@ pub trait Host {
         ensures given { IfOk result (λ bytes. (hosting self.now).gives None bytes.items) }
         ensures lacking { IfErr result ((hosting self.now).lacks None) };
 
-    /// The lines of the standard input.
+    /// The lines of the standard input. Whatever is read of them, reading fails only where the host says that it may.
     fn lines(&self) -> Self::Lines
-        ensures { IfSome (Self.Lines.remaining result) ((hosting self.now).gives None) };
+        ensures typed { (hosting self.now).types (Self.Lines.remaining result) }
+        ensures broken { (later : Self.Lines) → Self.Lines.breaks later → (hosting self.now).breaks };
 
     /// Whether somebody types them at a terminal.
-    fn is_terminal(&self) -> bool;
+    fn is_terminal(&self) -> bool
+        ensures { result ≡ (hosting self.now).is_terminal };
 
     /// Opens the store at a path, which is made where there is none. What it kept is taken as it was, or, where these files are later
-    /// ones than its own, with its relations widened.
+    /// ones than its own, with its relations widened. One that is refused keeps what it kept.
     fn store(
         &mut self,
         alloc: Global,
@@ -96,7 +100,8 @@ pub trait Host {
         ensures sound { IfOk result (λ b. IsSoundContent policy.now file.now.schemes (Self.Store.Base.state b).now) }
         ensures kept { IfOk result (λ b. Self.Store.Base.is_clean b
             → IsTakenOf ((hosting self.old).keeps path.now) policy.now file.now (Self.Store.Base.state b).now) }
-        ensures barred { IfErr result ((hosting self.old).bars path.now policy.now file.now) };
+        ensures barred { IfErr result ((hosting self.old).bars path.now policy.now file.now) }
+        ensures same { OnErr result (KeepSame (hosting self.old) (hosting self.new)) };
 
     /// The bytes of the files of the store at a path, which stay as they are: no bytes, where there is none yet.
     fn store_files(&self, alloc: Global, path: &str) -> Result<StoreFiles, StoreCause>
@@ -107,13 +112,16 @@ pub trait Host {
     fn keep(&mut self, path: &str, store: Self::Store) -> Result<(), CloseFault>
         requires idle { (Self.Store.Base.state store).begun ≡ false }
         ensures honest { (hosting self.new).is_honest ↔ Self.Store.Base.is_clean store }
-        ensures kept { (hosting self.new).is_honest → (hosting self.new).keeps path.now
-            (Self.Store.Base.state store).now };
+        ensures kept { (hosting self.new).is_honest → (row : MetaRow) × (hosting self.new).keeps path.now
+            (holdings_of row (Self.Store.Base.state store).now) }
+        ensures failed { (hosting self.new).has_failed ↔ (0 < Self.Store.Base.failures store) }
+        ensures closed { (hosting self.new).is_unclosed ↔ IsErr result };
 }
 
 /// All bytes of a reader, where they are at most `MOST_BYTES`.
 pub fn read_whole<R: Read + Drop>(alloc: Global, reader: R) -> Result<Vec<u8>, HostFault>
-    ensures { IfOk result (λ bytes. length bytes.items ≤ 1048576) }
+    ensures bound { IfOk result (λ bytes. length bytes.items ≤ 1048576) }
+    ensures whole { IfOk result (λ bytes. IfSome (R.remaining reader) (λ all. bytes.items ≡ all)) }
 {
     let mut bytes = Vec::new(alloc);
     match reader.take(MOST_BYTES as u64 + 1).read_to_end(&mut bytes) {

@@ -11,8 +11,10 @@ use mls_parser::{TextCause, TextFault};
 use mls_scheme::SchemeFault;
 use mls_script::{ScriptCause, ScriptFault};
 use mls_words::tell_memory;
+use mls_writing::Piece::{Number, Text};
+use mls_writing::{WriteFault, write_bytes, write_pieces};
 use std::alloc::AllocError;
-use std::io::{self, Write};
+use std::io::Write;
 
 /// What an input is to the program.
 #[derive(Clone, Copy)]
@@ -64,34 +66,81 @@ pub enum Reason {
     Memory,
 }
 
-fn tell_input<W: Write>(err: &mut W, role: Role, word: &str) -> io::Result<()>
+fn tell_input<W: Write>(err: &mut W, role: Role, word: &str) -> Result<(), WriteFault<W>>
     ensures { OnOk result (Appends (W.contents err.old) (W.contents err.new) (input_text role word.now)) }
 {
-    writeln!(err, "mldb: {}: {word}", role.word())
+    let pieces = [
+        Text("mldb: "),
+        Text(role.word()),
+        Text(": "),
+        Text(word),
+        Text("\n"),
+    ];
+    write_pieces(err, &pieces)
 }
 
-pub(crate) fn tell_fault<W: Write>(err: &mut W, role: Role, code: u8, word: &str) -> io::Result<()>
+pub(crate) fn tell_fault<W: Write>(
+    err: &mut W,
+    role: Role,
+    code: u8,
+    word: &str,
+) -> Result<(), WriteFault<W>>
     ensures { OnOk result (Appends (W.contents err.old) (W.contents err.new) (fault_text role code word.now)) }
 {
-    writeln!(err, "mldb: {}: {code} {word}", role.word())
+    let pieces = [
+        Text("mldb: "),
+        Text(role.word()),
+        Text(": "),
+        Number(usize::from(code)),
+        Text(" "),
+        Text(word),
+        Text("\n"),
+    ];
+    write_pieces(err, &pieces)
 }
 
-fn tell_line<W: Write>(err: &mut W, role: Role, code: u8, word: &str, line: usize) -> io::Result<()>
+fn tell_line<W: Write>(
+    err: &mut W,
+    role: Role,
+    code: u8,
+    word: &str,
+    line: usize,
+) -> Result<(), WriteFault<W>>
     ensures { OnOk result (Appends (W.contents err.old) (W.contents err.new) (line_text role code word.now line)) }
 {
-    writeln!(err, "mldb: {}: {code} {word} at {line}", role.word())
+    let pieces = [
+        Text("mldb: "),
+        Text(role.word()),
+        Text(": "),
+        Number(usize::from(code)),
+        Text(" "),
+        Text(word),
+        Text(" at "),
+        Number(line),
+        Text("\n"),
+    ];
+    write_pieces(err, &pieces)
 }
 
-fn tell_front<W: Write>(err: &mut W, role: Role, code: u8, word: &str) -> io::Result<()>
+fn tell_front<W: Write>(err: &mut W, role: Role, code: u8, word: &str) -> Result<(), WriteFault<W>>
     ensures { OnOk result (Appends (W.contents err.old) (W.contents err.new) (front_text role code word.now)) }
 {
-    write!(err, "mldb: {}: {code} {word} at ", role.word())
+    let pieces = [
+        Text("mldb: "),
+        Text(role.word()),
+        Text(": "),
+        Number(usize::from(code)),
+        Text(" "),
+        Text(word),
+        Text(" at "),
+    ];
+    write_pieces(err, &pieces)
 }
 
-fn tell_spot<W: Write>(err: &mut W, line: usize, column: usize) -> io::Result<()>
+fn tell_spot<W: Write>(err: &mut W, line: usize, column: usize) -> Result<(), WriteFault<W>>
     ensures { OnOk result (Appends (W.contents err.old) (W.contents err.new) (spot_text line column)) }
 {
-    writeln!(err, "{line}:{column}")
+    write_pieces(err, &[Number(line), Text(":"), Number(column), Text("\n")])
 }
 
 fn tell_place<W: Write>(
@@ -101,7 +150,7 @@ fn tell_place<W: Write>(
     word: &str,
     line: usize,
     column: usize,
-) -> io::Result<()>
+) -> Result<(), WriteFault<W>>
     ensures { OnOk result (Appends (W.contents err.old) (W.contents err.new)
         (place_text role code word.now line column)) }
 {
@@ -109,7 +158,7 @@ fn tell_place<W: Write>(
     tell_spot(err, line, column)
 }
 
-fn tell_text<W: Write>(err: &mut W, fault: &TextFault) -> io::Result<()>
+fn tell_text<W: Write>(err: &mut W, fault: &TextFault) -> Result<(), WriteFault<W>>
     ensures { OnOk result (Appends (W.contents err.old) (W.contents err.new) (text_fault_text fault.now)) }
 {
     let (code, word) = (fault.cause.code(), fault.cause.word());
@@ -123,14 +172,14 @@ fn tell_text<W: Write>(err: &mut W, fault: &TextFault) -> io::Result<()>
     )
 }
 
-fn tell_cert<W: Write>(err: &mut W, fault: &CertFault) -> io::Result<()>
+fn tell_cert<W: Write>(err: &mut W, fault: &CertFault) -> Result<(), WriteFault<W>>
     ensures { OnOk result (Appends (W.contents err.old) (W.contents err.new) (cert_fault_text fault.now)) }
 {
     let (code, word) = (fault.cause.code(), fault.cause.word());
     tell_line(err, Role::Certificates, code, word, fault.line)
 }
 
-fn tell_script<W: Write>(err: &mut W, fault: &ScriptFault) -> io::Result<()>
+fn tell_script<W: Write>(err: &mut W, fault: &ScriptFault) -> Result<(), WriteFault<W>>
     ensures { OnOk result (Appends (W.contents err.old) (W.contents err.new) (script_fault_text fault.now)) }
 {
     let (code, word) = (fault.cause.code(), fault.cause.word());
@@ -182,17 +231,17 @@ impl Reason {
     }
 
     /// Writes the line that tells it.
-    pub fn tell<W: Write>(&self, err: &mut W) -> io::Result<()>
+    pub fn tell<W: Write>(&self, err: &mut W) -> Result<(), WriteFault<W>>
         ensures { OnOk result (Appends (W.contents err.old) (W.contents err.new) (reason_text self.now)) }
     {
         match self {
             Reason::Unreadable(role) => tell_input(err, *role, "unreadable"),
             Reason::TooLong(role) => tell_input(err, *role, "too long"),
             Reason::Policy(fault) => tell_fault(err, Role::Policy, fault.code(), fault.word()),
-            Reason::Reader => err.write_all(b"mldb: at: 23 UnknownName\n"),
-            Reason::Label => err.write_all(b"mldb: label: 23 UnknownName\n"),
-            Reason::User => err.write_all(b"mldb: user: 22 Expected\n"),
-            Reason::Name => err.write_all(b"mldb: name: 23 UnknownName\n"),
+            Reason::Reader => write_bytes(err, b"mldb: at: 23 UnknownName\n"),
+            Reason::Label => write_bytes(err, b"mldb: label: 23 UnknownName\n"),
+            Reason::User => write_bytes(err, b"mldb: user: 22 Expected\n"),
+            Reason::Name => write_bytes(err, b"mldb: name: 23 UnknownName\n"),
             Reason::Schemes(fault) => tell_fault(err, Role::Schemes, fault.code(), fault.word()),
             Reason::Transactions(fault) => tell_text(err, fault),
             Reason::Certificates(fault) => tell_cert(err, fault),

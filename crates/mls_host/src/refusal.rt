@@ -7,8 +7,10 @@ use crate::host::CloseFault;
 use crate::reason::{Reason, Role, tell_fault};
 use mls_fragments::OpenFault;
 use mls_sessions::RunFault;
+use mls_writing::Piece::{Number, Text};
+use mls_writing::{WriteFault, write_bytes, write_pieces};
 use std::alloc::AllocError;
-use std::io::{self, Write};
+use std::io::Write;
 
 /// Why a command ends without success.
 #[derive(Clone, Copy)]
@@ -22,10 +24,17 @@ pub enum Refusal {
     Output,
 }
 
-fn tell_run<W: Write>(err: &mut W, fault: &RunFault) -> io::Result<()>
+fn tell_run<W: Write>(err: &mut W, fault: &RunFault) -> Result<(), WriteFault<W>>
     ensures { OnOk result (Appends (W.contents err.old) (W.contents err.new) (run_text fault.now)) }
 {
-    writeln!(err, "mldb: run: {} at {}", fault.cause.word(), fault.event)
+    let pieces = [
+        Text("mldb: run: "),
+        Text(fault.cause.word()),
+        Text(" at "),
+        Number(fault.event),
+        Text("\n"),
+    ];
+    write_pieces(err, &pieces)
 }
 
 impl Refusal {
@@ -40,7 +49,7 @@ impl Refusal {
     }
 
     /// Writes the line that tells the refusal.
-    pub fn tell<W: Write>(&self, err: &mut W) -> io::Result<()>
+    pub fn tell<W: Write>(&self, err: &mut W) -> Result<(), WriteFault<W>>
         ensures { OnOk result (Appends (W.contents err.old) (W.contents err.new) (refusal_text self.now)) }
     {
         match self {
@@ -52,7 +61,7 @@ impl Refusal {
                 OpenFault::Store.code(),
                 OpenFault::Store.word(),
             ),
-            Refusal::Output => err.write_all(b"mldb: output: Write\n"),
+            Refusal::Output => write_bytes(err, b"mldb: output: Write\n"),
         }
     }
 }

@@ -6,18 +6,31 @@ ghost use Rattle.mls_host.specs.Telling.{prompt_text, line_told, fault_told};
 
 use crate::errors::Errors;
 use mls_script::ScriptCause;
-use std::io::{self, Write};
+use mls_writing::Piece::{Number, Text};
+use mls_writing::{WriteFault, write_pieces};
+use std::io::Write;
 
-fn write_prompt<E: Write>(err: &mut E, label: &str, user: &str) -> io::Result<()>
+fn write_prompt<'a, E: Write>(
+    err: &mut E,
+    label: &'a str,
+    user: &'a str,
+) -> Result<(), WriteFault<E>>
     ensures { OnOk result (Appends (E.contents err.old) (E.contents err.new) (prompt_text label.now user.now)) }
 {
-    write!(err, "{label} {user}> ")
+    write_pieces(err, &[Text(label), Text(" "), Text(user), Text("> ")])
 }
 
-fn write_line<E: Write>(err: &mut E, number: usize, word: &str) -> io::Result<()>
+fn write_line<E: Write>(err: &mut E, number: usize, word: &str) -> Result<(), WriteFault<E>>
     ensures { OnOk result (Appends (E.contents err.old) (E.contents err.new) (line_told number word.now)) }
 {
-    writeln!(err, "mldb: line {number}: {word}")
+    let pieces = [
+        Text("mldb: line "),
+        Number(number),
+        Text(": "),
+        Text(word),
+        Text("\n"),
+    ];
+    write_pieces(err, &pieces)
 }
 
 fn write_fault<E: Write>(
@@ -25,11 +38,21 @@ fn write_fault<E: Write>(
     number: usize,
     column: usize,
     cause: ScriptCause,
-) -> io::Result<()>
+) -> Result<(), WriteFault<E>>
     ensures { OnOk result (Appends (E.contents err.old) (E.contents err.new) (fault_told number column cause)) }
 {
-    let (code, word) = (cause.code(), cause.word());
-    writeln!(err, "mldb: line {number}: {code} {word} at {column}")
+    let pieces = [
+        Text("mldb: line "),
+        Number(number),
+        Text(": "),
+        Number(usize::from(cause.code())),
+        Text(" "),
+        Text(cause.word()),
+        Text(" at "),
+        Number(column),
+        Text("\n"),
+    ];
+    write_pieces(err, &pieces)
 }
 
 impl<E: Write> Errors<E> {
@@ -37,8 +60,8 @@ impl<E: Write> Errors<E> {
     pub fn tell_prompt(&mut self, label: &str, user: &str)
         ensures { IsTold E.contents self.old self.new (prompt_text label.now user.now) }
     {
-        if write_prompt(&mut self.writer, label, user).is_err() {
-            self.has_failed = true;
+        if let Err(fault) = write_prompt(&mut self.writer, label, user) {
+            self.failed = Some(fault);
         }
     }
 
@@ -46,8 +69,8 @@ impl<E: Write> Errors<E> {
     pub fn tell_line(&mut self, number: usize, word: &str)
         ensures { IsTold E.contents self.old self.new (line_told number word.now) }
     {
-        if write_line(&mut self.writer, number, word).is_err() {
-            self.has_failed = true;
+        if let Err(fault) = write_line(&mut self.writer, number, word) {
+            self.failed = Some(fault);
         }
     }
 
@@ -55,8 +78,8 @@ impl<E: Write> Errors<E> {
     pub fn tell_fault(&mut self, number: usize, column: usize, cause: ScriptCause)
         ensures { IsTold E.contents self.old self.new (fault_told number column cause) }
     {
-        if write_fault(&mut self.writer, number, column, cause).is_err() {
-            self.has_failed = true;
+        if let Err(fault) = write_fault(&mut self.writer, number, column, cause) {
+            self.failed = Some(fault);
         }
     }
 }

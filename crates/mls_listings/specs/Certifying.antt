@@ -34,7 +34,8 @@ module _ (policy : Tables) (tx : Tx) where
   abbrev pub HasNoneOf : Version → Type 0
   HasNoneOf v = (cert : Certificate) → IsOf v cert → Obeys cert → ⊥
 
-  -- they hold under it, and each of its labels is dominated by the one at the same place of every other of its version under which they hold
+  -- they hold under it, and each of its labels is dominated by the one at the same place of every other of its version
+  -- under which they hold
   pub record IsLeastOne (cert : Cert) : Type 0 where
     pub obeys : Obeys (One cert)
     pub below : (other : Cert) → Obeys (One other) → Below (claim policy tx (One cert)) (claim policy tx (One other))
@@ -48,7 +49,9 @@ module _ (policy : Tables) (tx : Tx) where
   -- they hold under none; and this is what the least labels of version 2 break first which meet the lower bounds
   pub record HasNoCertificate (stmt : ℕ) (rule : Rule) : Type 0 where
     pub none : (cert : Certificate) → Obeys cert → ⊥
-    pub first : (cert : Certificate) × (IsLeast version.Second policy tx cert × (First (claim policy tx cert) ≡ Err (record { stmt = stmt; rule = rule })))
+    pub first : (cert : Certificate)
+        × (IsLeast version.Second policy tx cert
+        × (First (claim policy tx cert) ≡ Err (record { stmt = stmt; rule = rule })))
 
   abbrev pub AreLabels : Labels → Type 0
   AreLabels (Least (One cert)) = IsLeastOne cert
@@ -108,7 +111,8 @@ pub record IsListing (policy : Tables) (txs : List Tx) (listing : Listing) : Typ
   pub outcome : listing.ending ≡ ending_of answers
 
 -- what is printed and told of the transactions of a file
-pub record IsCertified (Gives : Option (List ℕ) → List ℕ → Type 0) (policy : Tables) (schemes : Schemes) (path text told : List ℕ) (end : Ending) : Type 0 where
+pub record IsCertified (Gives : Option (List ℕ) → List ℕ → Type 0) (policy : Tables) (schemes : Schemes)
+    (path text told : List ℕ) (end : Ending) : Type 0 where
   pub txs : List Tx
   pub answers : List Answer
   pub txs_are : AreToldIn Gives path policy schemes txs

@@ -39,14 +39,17 @@ is_refused Missing = true
 -- a line
 abbrev pub verdict_text : Name → Verdict → List ℕ
 verdict_text name Yes = name ++ codes " yes\n"
-verdict_text name (No refusal) = name ++ codes " no " ++ decimal refusal.stmt ++ codes " " ++ text_of refusal.rule ++ codes "\n"
+verdict_text name (No refusal) =
+    name ++ codes " no " ++ decimal refusal.stmt ++ codes " " ++ text_of refusal.rule ++ codes "\n"
 verdict_text name Missing = name ++ codes " no certificate\n"
 
 abbrev pub line_of : Tables → List Block → Tx → List ℕ
 line_of policy blocks tx = verdict_text tx.name (verdict_of policy blocks tx)
 
--- a line for each transaction of a file in order, with the certificates of another; it is refused just where one is not yes
-pub record IsChecked (Gives : Option (List ℕ) → List ℕ → Type 0) (policy : Tables) (schemes : Schemes) (path certificates text told : List ℕ) (end : Ending) : Type 0 where
+-- a line for each transaction of a file in order, with the certificates of
+-- another; it is refused just where one is not yes
+pub record IsChecked (Gives : Option (List ℕ) → List ℕ → Type 0) (policy : Tables) (schemes : Schemes)
+    (path certificates text told : List ℕ) (end : Ending) : Type 0 where
   pub txs : List Tx
   pub blocks : List Block
   pub txs_are : AreToldIn Gives path policy schemes txs

@@ -32,7 +32,8 @@ abbrev pub lacks_labels : Explained → Bool
 lacks_labels e = not e.labelled
 
 -- what is told of the transactions of a file is printed, and nothing is told on standard error
-pub record IsExplained (Gives : Option (List ℕ) → List ℕ → Type 0) (policy : Tables) (schemes : Schemes) (path : List ℕ) (name : Option Name) (text told : List ℕ) (end : Ending) : Type 0 where
+pub record IsExplained (Gives : Option (List ℕ) → List ℕ → Type 0) (policy : Tables) (schemes : Schemes) (path : List ℕ)
+    (name : Option Name) (text told : List ℕ) (end : Ending) : Type 0 where
   pub txs : List Tx
   pub chosen : List Tx
   pub explained : List Explained
@@ -44,6 +45,9 @@ pub record IsExplained (Gives : Option (List ℕ) → List ℕ → Type 0) (poli
   pub end_is : end ≡ ending_if (list_any lacks_labels explained)
 
 -- the transactions are refused; or they are read, and none has the name; or memory
-pub data IsExplainRefused (h : Hosting) (policy : Tables) (schemes : Schemes) (path : List ℕ) (name : Option Name) (reason : Reason) : Type 0 where
-  no_files : AreFilesRefused h (Some path) None policy schemes reason → IsExplainRefused h policy schemes path name reason
-  no_name : (txs : List Tx) → AreToldIn h.gives path policy schemes txs → HaveNone name txs → reason ≡ reasons.Name → IsExplainRefused h policy schemes path name reason
+pub data IsExplainRefused (h : Hosting) (policy : Tables) (schemes : Schemes) (path : List ℕ) (name : Option Name)
+    (reason : Reason) : Type 0 where
+  no_files : AreFilesRefused h (Some path) None policy schemes reason
+      → IsExplainRefused h policy schemes path name reason
+  no_name : (txs : List Tx) → AreToldIn h.gives path policy schemes txs → HaveNone name txs → reason ≡ reasons.Name
+      → IsExplainRefused h policy schemes path name reason

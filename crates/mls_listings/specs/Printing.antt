@@ -10,7 +10,8 @@ pub record IsCutOff (Wrote : List ℕ → Type 0) (text : List ℕ) : Type 0 whe
   pub whole : part ++ rest ≡ text
 
 -- what a command prints is written, and what it tells is told
-pub record IsPrinted (Prints : List ℕ → List ℕ → Ending → Type 0) (Wrote Told : List ℕ → Type 0) (end : Ending) : Type 0 where
+pub record IsPrinted (Prints : List ℕ → List ℕ → Ending → Type 0) (Wrote Told : List ℕ → Type 0)
+    (end : Ending) : Type 0 where
   pub text : List ℕ
   pub told : List ℕ
   pub prints : Prints text told end

@@ -5,15 +5,13 @@ ghost use Rattle.sqlite_trees.specs.View as view;
 ghost use Rattle.sqlite_store.specs.FileStore as store;
 ghost use Rattle.sqlite.specs.Steps.{IsFresh};
 ghost use Rattle.sqlite.specs.Files.{file_state};
-ghost use Rattle.mls_lattice.specs.Canon as lattice;
 ghost use Rattle.mls_lattice.specs.Version.{version_number, later};
-ghost use Rattle.mls_scheme.specs.Canon as scheme;
 ghost use Rattle.mls_scheme.specs.Scheme.{AreUnder};
 ghost use Rattle.mls_filterview.specs.Content.{no_content};
-ghost use Rattle.mls_statements.specs.Rows.{described};
 ghost use Rattle.mls_statements.specs.Schema.{no_schema};
 ghost use Rattle.mls_statements.specs.Store.{IsClean};
-ghost use Rattle.mls_fragments.specs.Based.{state_of};
+ghost use Rattle.mls_fragments.specs.Based.{HasRow, state_of};
+ghost use Rattle.mls_fragments.specs.Holdings.{row_of};
 
 use crate::memory_file::MemoryFile;
 use mls_filterview::{Base, BaseFault, Cell, Fragment, Node};
@@ -92,8 +90,7 @@ impl MemoryBase {
         ensures content { IfOk result (λ b. state_of b
             ≡ record { now = no_content; kept = no_content; begun = false }) }
         ensures described { IfOk result (λ b. IsClean b.tables
-            → b.tables.now ≡ described (version_number (later policy.now.version file.now.version))
-            (lattice.lattice_of policy.now) (scheme.canon_of policy.now file.now.version file.now.schemes)) }
+            → HasRow b (row_of policy.now file.now (version_number (later policy.now.version file.now.version)))) }
         ensures fault { IfErr result (λ e. e ≡ OpenFault.Memory) }
     {
         let conn = empty_store(alloc)?;
@@ -114,14 +111,15 @@ impl MemoryBase {
     }
 }
 
-#[tactic(auto, using(crate::proofs::MemoryLemmas::memory_call))]
+#[tactic(auto, using(crate::proofs::MemoryLemmas::memory_calls))]
 impl Base for MemoryBase {
     ghost use Rattle.mls_statements.specs.Store.{IsClean};
     ghost use Rattle.mls_fragments.specs.Based.{state_of, settled};
 
     ghost state = { state_of };
 
-    ghost failures = { λ b. b.tables.failures };
+    // No call fails but for want of memory.
+    ghost failures = { λ _. 0 };
 
     ghost is_clean = { λ b. IsClean b.tables };
 

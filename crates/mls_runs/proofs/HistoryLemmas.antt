@@ -13,9 +13,11 @@ use Rattle.mls_lattice.specs.Policy.{Tables, labels_of}
 use Rattle.mls_scheme.specs.Scheme.{Schemes}
 use Rattle.mls_scheme.specs.declared.file.SchemesFile.{SchemesFile}
 use Rattle.mls_filterview.specs.Content.{Content}
-use Rattle.mls_fragments.specs.Again.{AreKept, IsFoundUnder}
+use Rattle.mls_fragments.specs.Again.{FindsHoldings}
+use Rattle.mls_fragments.specs.Holdings.{holdings_of, IsTakenOf}
 use Rattle.mls_fragments.specs.Finding.{IsSoundContent}
-use Rattle.mls_fragments.proofs.AgainLemmas.{kept_is_taken, sound_is_taken}
+use Rattle.mls_fragments.proofs.AgainLemmas.{kept_is_taken}
+use Rattle.mls_fragments.proofs.HoldingsLemmas.{sound_is_taken}
 use Rattle.mls_meaning.specs.Secure.{AreStored}
 use Rattle.mls_script.specs.declared.event.Event.{Event}
 use Rattle.mls_machine.specs.declared.form.Audience.{Audience}
@@ -30,7 +32,7 @@ use Rattle.mls_runs.specs.declared.history.Run.{Run}
 use Rattle.mls_runs.specs.declared.history.HistoryCause.{HistoryCause}
 use Rattle.mls_runs.specs.declared.history.HistoryCause.TheVariants.{Unopened, Stopped, NotClosed}
 use Rattle.mls_host.specs.Running.{site_of, output, IsRun}
-use Rattle.mls_runs.specs.History.{run_of, cause_of, IsPrepared, world_of, IsHistoryRun, IsRunOver, ComesTo, IsHistoryOver, none, some, IsHistoryTo, IsBrokenOff, IsHistoryFault}
+use Rattle.mls_runs.specs.History.{run_of, cause_of, IsPrepared, world_of, IsHistoryRun, IsRunOver, KeepContent, ComesTo, IsHistoryOver, none, some, IsHistoryTo, IsBrokenOff, IsHistoryFault}
 
 -- ---- one run more
 
@@ -142,16 +144,17 @@ module _ (policy : Tables) (schemes : Schemes) where
 module _ {D : Type 0} (g : Ghosts D) (policy : Tables) (file : SchemesFile) (audience : Audience) (distinct : AreDistinct (labels_of policy)) (start : Files D) where
   -- whole runs end with what is found for the next
   reached : (rs : List RunAt) (Wrote : List ℕ → Type 0) (mid : Files D) → IsHistoryOver g policy file audience start rs Wrote mid
-      → (next : Content) → AreClean g mid.log mid.db → IsFoundUnder policy file (image_of g mid) next → IsSoundContent policy file.schemes next
-      → (first : Content) × AreClean g start.log start.db × IsFoundUnder policy file (image_of g start) first × IsHistoryRun policy file.schemes audience rs Wrote first next
+      → (next : Content) → AreClean g mid.log mid.db → IsTakenOf (FindsHoldings (image_of g mid)) policy file next → IsSoundContent policy file.schemes next
+      → (first : Content) × AreClean g start.log start.db × IsTakenOf (FindsHoldings (image_of g start)) policy file first × IsHistoryRun policy file.schemes audience rs Wrote first next
   reached rs Wrote mid (none empty wrote same) next clean found sound = (
     next,
     subst (λ (f : Files D). AreClean g f.log f.db) same clean,
-    subst (λ (f : Files D). IsFoundUnder policy file (image_of g f) next) same found,
+    subst (λ (f : Files D). IsTakenOf (FindsHoldings (image_of g f)) policy file next) same found,
     subst (λ xs. IsHistoryRun policy file.schemes audience xs Wrote next next) (sym empty) (no_runs policy file.schemes distinct audience Wrote next sound wrote),
   )
   reached rs Wrote mid (some first left before at h kept) next clean found sound =
-      let same : next ≡ left = sound_is_taken policy file left next h.sound (kept_is_taken policy file (image_of g mid) left next kept.seen.both found) in (
+      let again = kept_is_taken policy file (image_of g mid) (holdings_of kept.0 left) next kept.1.seen.both found in
+      let same : next ≡ left = sound_is_taken policy file (holdings_of kept.0 left) (holdings_of again.0 next) h.sound again.1 in (
         first,
         before,
         at,
@@ -209,7 +212,7 @@ module _ {D : Type 0} (g : Ghosts D) (policy : Tables) (file : SchemesFile) (aud
 
 -- a run over a base, whose files are closed
 pub closed_run : {D : Type 0} (g : Ghosts D) (Over : Result (Unit {0}) RunFault → Content → Type 0) (now : Files D) (outcome : Result (Unit {0}) RunFault) (r : Result (Unit {0}) HistoryCause) (left : Content) → r ≡ cause_of outcome
-    → (AreClean g now.log now.db → Over outcome left) → (AreClean g now.log now.db → AreKept g now left) → ComesTo g Over ⊥ now r
+    → (AreClean g now.log now.db → Over outcome left) → (AreClean g now.log now.db → KeepContent g now left) → ComesTo g Over ⊥ now r
 closed_run g Over now outcome r left is over kept = subst (ComesTo g Over ⊥ now) (sym is) (by outcome over)
   where
     by : (o : Result (Unit {0}) RunFault) → (AreClean g now.log now.db → Over o left) → ComesTo g Over ⊥ now (cause_of o)

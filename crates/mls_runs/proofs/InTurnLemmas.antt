@@ -9,10 +9,11 @@ use Rattle.mls_lattice.proofs.KeptLemmas.{policy-kept}
 use Rattle.mls_scheme.specs.Scheme.{Schemes}
 use Rattle.mls_scheme.specs.declared.file.SchemesFile.{SchemesFile}
 use Rattle.mls_filterview.specs.Content.{Content}
+use Rattle.mls_statements.specs.declared.rows.MetaRow.{MetaRow}
 use Rattle.mls_filterview.specs.Stored.{AreContent}
-use Rattle.mls_fragments.specs.Again.{IsTakenOf}
+use Rattle.mls_fragments.specs.Holdings.{Holdings, holdings_of, IsTakenOf}
 use Rattle.mls_fragments.specs.Finding.{IsSoundContent}
-use Rattle.mls_fragments.proofs.AgainLemmas.{sound_is_taken}
+use Rattle.mls_fragments.proofs.HoldingsLemmas.{sound_is_taken}
 use Rattle.mls_translang.specs.Tx.{Tx}
 use Rattle.mls_translang.specs.Fits.{IsReadUnder}
 use Rattle.mls_script.specs.declared.event.Event.{Event}
@@ -82,7 +83,7 @@ left_world site first left es h = ap settled (sym h.1)
 begins_at : (h : Hosted) (policy : Tables) (file : SchemesFile) (store : Option (List ℕ)) (path : List ℕ) (c : Content) → store ≡ Some path → BeginsWith h policy file store c → IsTakenOf (h.before.keeps path) policy file c
 begins_at h policy file store path c e b = subst (λ o. BeginsWith h policy file o c) e b
 
-kept_at : (h : Hosted) (store : Option (List ℕ)) (path : List ℕ) (c : Content) → store ≡ Some path → IsKeptAt h store c → h.after.keeps path c
+kept_at : (h : Hosted) (store : Option (List ℕ)) (path : List ℕ) (c : Content) → store ≡ Some path → IsKeptAt h store c → (row : MetaRow) × h.after.keeps path (holdings_of row c)
 kept_at h store path c e b = subst (λ o. IsKeptAt h o c) e b
 
 -- what is sound is so under the same labels and schemes
@@ -95,10 +96,10 @@ sound_later policy later schemes same stored c labels relations sound = record {
 
 -- and is taken as it was left
 taken_again : (h k : Hosted) (path : List ℕ) → KeepsOne h k path → (later : Tables) (again : SchemesFile) (left first : Content) → IsSoundContent later again.schemes left
-    → h.after.keeps path left → IsTakenOf (k.before.keeps path) later again first → left ≡ first
+    → (row : MetaRow) × h.after.keeps path (holdings_of row left) → IsTakenOf (k.before.keeps path) later again first → left ≡ first
 taken_again h k path one later again left first sound kept taken =
-    let same : left ≡ taken.0 = one left taken.0 kept taken.1 in
-    same ∙ sym (sound_is_taken later again taken.0 first (subst (IsSoundContent later again.schemes) same sound) taken.2)
+    let same : left ≡ taken.had.content = ap (λ had. had.content) (one (holdings_of kept.0 left) taken.had kept.1 taken.was) in
+    same ∙ sym (sound_is_taken later again taken.had (holdings_of taken.row first) (subst (IsSoundContent later again.schemes) same sound) taken.takes)
 
 pub in_turn : (h : Hosted) (W : List ℕ → Type 0) (k : Hosted) (V : List ℕ → Type 0) → RunsAreInTurn h W k V
 unfolding history_end history_lines

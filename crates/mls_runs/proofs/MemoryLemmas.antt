@@ -1,24 +1,24 @@
 -- The store of a machine in memory keeps one content, and is not opened for the causes that its connection is handed back for.
-use Rattle.std.proofs.Common.{◌≡◌, ℕ, Bool, List, Option, Some, None, option_map, refl, subst}
-use Rattle.std.specs.Prelude.{MatchOption}
+use Rattle.std.proofs.Common.{◌≡◌, ◌↔◌, ◌⊎◌, inl, inr, ℕ, Bool, List, Option, Some, None, option_map, refl, sym, ◌∙◌, subst}
+use Rattle.std.specs.Prelude.{MatchOption, IsTrue}
 use Rattle.sqlite.specs.Effect.{Database}
 use Rattle.sqlite.specs.Held.{state}
+use Rattle.sqlite.specs.State.{State}
 use Rattle.sqlite.specs.Steps.{over_memory}
-use Rattle.mls_filterview.specs.Content.{Content}
 use Rattle.mls_lattice.specs.Policy.{Tables}
 use Rattle.mls_scheme.specs.declared.file.SchemesFile.{SchemesFile}
-use Rattle.mls_fragments.specs.Again.{IsHeldBy}
-use Rattle.mls_fragments.specs.Opening.{IsOfOthers, IsBad}
+use Rattle.mls_fragments.specs.Holdings.{Holdings, HasHoldings}
+use Rattle.mls_fragments.specs.Opening.{IsOfOthers, IsBad, IsHandedBack}
 use Rattle.mls_fragments.specs.declared.open_fault.OpenFault.{OpenFault}
 use Rattle.mls_fragments.specs.declared.open_fault.OpenFault.TheVariants as stores
-use Rattle.mls_fragments.proofs.AgainLemmas.{one_held}
+use Rattle.mls_fragments.proofs.HoldingsLemmas.{has_once}
 use Rattle.mls_runs.specs.Memory.{in_memory_fault, IsUnopenedFor, hosted_in, RunsInMemoryAreInTurn}
 use Rattle.mls_runs.proofs.InTurnLemmas.{in_turn}
 
-one_of : {A : Type 0} (database : A → Database) (o : Option A) (c d : Content)
-    → MatchOption o ⊥ (λ a. IsHeldBy (database a) c) → MatchOption o ⊥ (λ a. IsHeldBy (database a) d) → c ≡ d
-one_of database None c d x y = absurd x
-one_of database (Some a) c d x y = one_held (database a) c d x y
+one_of : {A : Type 0} (database : A → Database) (o : Option A) (h k : Holdings)
+    → MatchOption o ⊥ (λ a. HasHoldings (database a) h) → MatchOption o ⊥ (λ a. HasHoldings (database a) k) → h ≡ k
+one_of database None h k x y = absurd x
+one_of database (Some a) h k x y = has_once (database a) h k x y
 
 pub in_memory : (R : Type 0) (W V : List ℕ → Type 0) → RunsInMemoryAreInTurn R W V
 in_memory R W V old middle new path = in_turn (hosted_in old middle) W (hosted_in middle new) V path (one_of (λ conn. (state over_memory conn).now) middle.store)
@@ -31,3 +31,19 @@ barred show policy file store conn is stores.Store other bad = tt
 barred show policy file store conn is stores.OtherPolicy other bad = subst (λ o. MatchOption (option_map show o) ⊥ (λ s. IsOfOthers policy file s.1)) is (other refl)
 barred show policy file store conn is stores.BadRows other bad = subst (λ o. MatchOption (option_map show o) ⊥ (λ s. IsBad policy file s.1)) is (bad refl)
 barred show policy file store conn is stores.Memory other bad = tt
+
+-- ---- a store that is refused keeps what it kept
+
+same_now : (old new : State) → (new.committed ≡ old.committed) ⊎ (new.committed ≡ old.now) → new.now ≡ new.committed → old.now ≡ old.committed → new.now ≡ old.now
+same_now old new (inl same) settled was = settled ∙ same ∙ sym was
+same_now old new (inr same) settled was = settled ∙ same
+
+-- a connection that comes back outside a change, as it was given
+pub handed_back : (old new : State) → IsHandedBack old new → IsTrue new.is_open → new.now ≡ new.committed → old.now ≡ old.committed → new.now ≡ old.now
+handed_back old new back opened settled was = same_now old new (back.committed opened) settled was
+
+pub same_held : {A : Type 0} (database : A → Database) (store : Option A) (conn left : A) → Some conn ≡ store → database left ≡ database conn → (h : Holdings)
+    → HasHoldings (database left) h ↔ MatchOption store ⊥ (λ a. HasHoldings (database a) h)
+same_held database store conn left is same h =
+    subst (λ o. HasHoldings (database left) h ↔ MatchOption o ⊥ (λ a. HasHoldings (database a) h)) is
+    (subst (λ d. HasHoldings d h ↔ HasHoldings (database conn) h) (sym same) (λ k. k, λ k. k))

@@ -9,7 +9,9 @@ use Rattle.mls_lattice.specs.Policy.{Tables, labels_of}
 use Rattle.mls_scheme.specs.Scheme.{Schemes}
 use Rattle.mls_scheme.specs.declared.file.SchemesFile.{SchemesFile}
 use Rattle.mls_filterview.specs.Content.{Content}
-use Rattle.mls_fragments.specs.Again.{AreKept, IsFoundUnder}
+use Rattle.mls_statements.specs.declared.rows.MetaRow.{MetaRow}
+use Rattle.mls_fragments.specs.Again.{AreKept, FindsHoldings}
+use Rattle.mls_fragments.specs.Holdings.{holdings_of, IsTakenOf}
 use Rattle.mls_fragments.specs.Finding.{IsSoundContent}
 use Rattle.mls_machine.specs.declared.form.Audience.{Audience}
 use Rattle.mls_machine.specs.Machine.{World, no_sessions}
@@ -48,58 +50,76 @@ world_of policy c = record { db = c.db; sessions = no_sessions; audit = entries_
 -- ---- histories of whole runs
 
 -- from one content to another
-pub record IsHistoryRun (policy : Tables) (schemes : Schemes) (audience : Audience) (rs : List RunAt) (Wrote : List ℕ → Type 0) (first left : Content) : Type 0 where
+pub record IsHistoryRun (policy : Tables) (schemes : Schemes) (audience : Audience) (rs : List RunAt)
+    (Wrote : List ℕ → Type 0) (first left : Content) : Type 0 where
   pub begins : IsSoundContent policy schemes first
   -- what an audience is shown of all runs
   pub written : Wrote (concat (history_bytes (labels_of policy) audience (world_of policy first) rs))
-  -- what is left; each database on the way has the four integrity properties; no information flows down but what is released
+  -- what is left; each database on the way has the four integrity properties;
+  -- no information flows down but what is released
   pub history : IsHistory (labels_of policy) schemes rs (world_of policy first) (world_of policy left)
   -- a next run may begin with what is left
   pub sound : IsSoundContent policy schemes left
   -- the bytes that a reader is shown are the same for any other such history
-  pub shown : IfSome audience.reader (λ c. ShowsOnlyReleasesInHistory (labels_of policy) schemes c (world_of policy first) rs)
+  pub shown : IfSome audience.reader
+      (λ c. ShowsOnlyReleasesInHistory (labels_of policy) schemes c (world_of policy first) rs)
 
 -- ---- over the files of a store, which are closed and opened between runs
 
--- what comes of a run over files: it is whole, and they keep what it leaves; or the store was not opened for it; or it stopped; or
--- it ended or stopped, and the store was not closed
-abbrev pub ComesTo : {D : Type 0} → Ghosts D → (Result (Unit {0}) RunFault → Content → Type 0) → Type 0 → Files D → Result (Unit {0}) HistoryCause → Type 0
-ComesTo g Over Unmade now (Ok _) = AreClean g now.log now.db → (left : Content) × Over (Ok tt) left × AreKept g now left
+-- the files keep this content, with a row that describes it
+abbrev pub KeepContent : {D : Type 0} → Ghosts D → Files D → Content → Type 0
+KeepContent g files left = (row : MetaRow) × AreKept g files (holdings_of row left)
+
+-- what comes of a run over files: it is whole, and they keep what it leaves; or the store was not opened for it; or it
+-- stopped; or it ended or stopped, and the store was not closed
+abbrev pub ComesTo : {D : Type 0} → Ghosts D → (Result (Unit {0}) RunFault → Content → Type 0) → Type 0 → Files D
+    → Result (Unit {0}) HistoryCause → Type 0
+ComesTo g Over Unmade now (Ok _) = AreClean g now.log now.db → (left : Content) × Over (Ok tt) left
+    × KeepContent g now left
 ComesTo g Over Unmade now (Err (Unopened fault)) = Unmade
-ComesTo g Over Unmade now (Err (Stopped fault)) = AreClean g now.log now.db → (left : Content) × Over (Err fault) left × AreKept g now left
-ComesTo g Over Unmade now (Err NotClosed) = AreClean g now.log now.db → (end : Result (Unit {0}) RunFault) × (left : Content) × Over end left
+ComesTo g Over Unmade now (Err (Stopped fault)) =
+    AreClean g now.log now.db → (left : Content) × Over (Err fault) left × KeepContent g now left
+ComesTo g Over Unmade now (Err NotClosed) =
+    AreClean g now.log now.db → (end : Result (Unit {0}) RunFault) × (left : Content) × Over end left
 
 module _ {D : Type 0} (g : Ghosts D) (policy : Tables) (file : SchemesFile) (audience : Audience) where
   -- a run from what is found in the files
-  pub record IsRunOver (start : Files D) (r : RunAt) (Wrote : List ℕ → Type 0) (end : Result (Unit {0}) RunFault) (left : Content) : Type 0 where
+  pub record IsRunOver (start : Files D) (r : RunAt) (Wrote : List ℕ → Type 0) (end : Result (Unit {0}) RunFault)
+      (left : Content) : Type 0 where
     pub first : Content
     pub clean : AreClean g start.log start.db
-    pub found : IsFoundUnder policy file (image_of g start) first
+    pub found : IsTakenOf (FindsHoldings (image_of g start)) policy file first
     pub begins : IsSoundContent policy file.schemes first
     pub run : IsRun r.site audience r.events Wrote end first left
 
   -- whole runs, if there are any: from what is found in the files at first to what they keep
   pub data IsHistoryOver (start : Files D) (rs : List RunAt) (Wrote : List ℕ → Type 0) (now : Files D) : Type 0 where
     none : rs ≡ [] → Wrote [] → now ≡ start → IsHistoryOver start rs Wrote now
-    some : (first left : Content) → AreClean g start.log start.db → IsFoundUnder policy file (image_of g start) first
-        → IsHistoryRun policy file.schemes audience rs Wrote first left → AreKept g now left → IsHistoryOver start rs Wrote now
+    some : (first left : Content) → AreClean g start.log start.db
+        → IsTakenOf (FindsHoldings (image_of g start)) policy file first
+        → IsHistoryRun policy file.schemes audience rs Wrote first left → KeepContent g now left
+        → IsHistoryOver start rs Wrote now
 
   -- whole runs, and then one from what they leave that ended or stopped
-  pub record IsHistoryTo (start : Files D) (rs : List RunAt) (r : RunAt) (Wrote : List ℕ → Type 0) (end : Result (Unit {0}) RunFault) (left : Content) : Type 0 where
+  pub record IsHistoryTo (start : Files D) (rs : List RunAt) (r : RunAt) (Wrote : List ℕ → Type 0)
+      (end : Result (Unit {0}) RunFault) (left : Content) : Type 0 where
     pub first : Content
     pub last : Content
     pub bytes : List ℕ
-    pub found : IsFoundUnder policy file (image_of g start) first
+    pub found : IsTakenOf (FindsHoldings (image_of g start)) policy file first
     pub before : IsHistoryRun policy file.schemes audience rs (λ written. bytes ≡ written) first last
     pub run : IsRun r.site audience r.events (λ part. Wrote (bytes ++ part)) end last left
 
-  -- a run after others, for which the store was not opened, or that is not whole, or after which the store was not closed
+  -- a run after others, for which the store was not opened, or that is not
+  -- whole, or after which the store was not closed
   abbrev pub IsBrokenOff : Files D → List RunAt → RunAt → (List ℕ → Type 0) → Files D → HistoryCause → Type 0
   IsBrokenOff start rs r Wrote now cause =
-      ComesTo g (IsHistoryTo start rs r Wrote) ((was : Files D) × (AreClean g was.log was.db → IsHistoryOver start rs Wrote was)) now (Err cause)
+      ComesTo g (IsHistoryTo start rs r Wrote)
+      ((was : Files D) × (AreClean g was.log was.db → IsHistoryOver start rs Wrote was)) now (Err cause)
 
   -- it is one of the runs, by its number from 1
-  pub record IsHistoryFault (start : Files D) (rs : List RunAt) (Wrote : List ℕ → Type 0) (now : Files D) (fault : HistoryFault) : Type 0 where
+  pub record IsHistoryFault (start : Files D) (rs : List RunAt) (Wrote : List ℕ → Type 0) (now : Files D)
+      (fault : HistoryFault) : Type 0 where
     pub before : List RunAt
     pub run : RunAt
     pub after : List RunAt

@@ -1,17 +1,15 @@
 -- A machine in memory, of which all is known.
-use Rattle.std.specs.Prelude.{◌≡◌, ◌<◌, ℕ, Bool, true, List, [], length, Option, Some, None, option_map, Result, Ok, Err, MatchOption, ⊤}
+use Rattle.std.specs.Prelude.{◌≡◌, ◌<◌, ℕ, Bool, true, false, List, [], length, Option, Some, None, option_map, Result}
+use Rattle.std.specs.Prelude.{Ok, Err, MatchOption, ⊤}
 use Rattle.std.specs.List.{find}
 use Rattle.std.specs.Str.{bytes_eq}
-use Rattle.std.specs.Io.Cursor.{cursor_remaining}
-use Rattle.std.specs.declared.io.Cursor.{Cursor}
 use Rattle.sqlite.specs.Effect.{Database}
 use Rattle.sqlite_trees.specs.declared.memory.MemStore.{MemStore}
 use Rattle.sqlite.specs.Held.{Held, state}
 use Rattle.sqlite.specs.Steps.{over_memory}
-use Rattle.mls_filterview.specs.Content.{Content}
 use Rattle.mls_lattice.specs.Policy.{Tables}
 use Rattle.mls_scheme.specs.declared.file.SchemesFile.{SchemesFile}
-use Rattle.mls_fragments.specs.Again.{IsHeldBy}
+use Rattle.mls_fragments.specs.Holdings.{Holdings, HasHoldings}
 use Rattle.mls_fragments.specs.Opening.{IsOfOthers, IsBad}
 use Rattle.mls_fragments.specs.declared.open_fault.OpenFault.{OpenFault}
 use Rattle.mls_fragments.specs.declared.open_fault.OpenFault.TheVariants as stores
@@ -23,11 +21,6 @@ use Rattle.mls_runs.specs.declared.memory.HeldFile.{HeldFile}
 use Rattle.mls_runs.specs.declared.memory.MemoryHost.{MemoryHost}
 use Rattle.mls_host.specs.Hosting.{Hosting, Hosted, hosted}
 use Rattle.mls_runs.specs.InTurn.{AreRunsInTurn}
-
--- what is left to read of a copy that is there
-abbrev pub left_in : {T : Type 0} → (T → Option (List ℕ)) → Option (Cursor T) → Option (List ℕ)
-left_in bytes None = None
-left_in bytes (Some cursor) = cursor_remaining bytes cursor
 
 -- the first file of a name
 abbrev pub file_named : List HeldFile → List ℕ → Option HeldFile
@@ -59,7 +52,8 @@ in_memory_fault fault = fault
 abbrev pub shown : Held MemStore → Bool × Database
 shown conn = ((state over_memory conn).in_transaction, (state over_memory conn).now)
 
--- why a store is not opened: there is none, or a transaction has begun there; or its texts are those of others, or it is bad; or memory
+-- why a store is not opened: there is none, or a transaction has begun there; or
+-- its texts are those of others, or it is bad; or memory
 abbrev pub IsUnopenedFor : Tables → SchemesFile → Option (Bool × Database) → OpenFault → Type 0
 IsUnopenedFor policy file store stores.Store = MatchOption store ⊤ (λ s. s.0 ≡ true)
 IsUnopenedFor policy file store stores.Memory = ⊤
@@ -72,9 +66,10 @@ module _ {R : Type 0} where
   gives h None bytes = h.input.now ≡ bytes
   gives h (Some name) bytes = option_map (λ f. f.bytes) (file_named h.files.items name) ≡ Some (Ok bytes)
 
-  -- and keeps, whatever the path, what the database of its connection holds, and nothing else; a store in memory is always clean
-  abbrev pub keeps : MemoryHost R → List ℕ → Content → Type 0
-  keeps h path c = MatchOption h.store ⊥ (λ conn. IsHeldBy (state over_memory conn).now c)
+  -- and keeps, whatever the path, what the database of its connection has, and nothing else; a store in memory is
+  -- always clean
+  abbrev pub keeps : MemoryHost R → List ℕ → Holdings → Type 0
+  keeps h path kept = MatchOption h.store ⊥ (λ conn. HasHoldings (state over_memory conn).now kept)
 
   -- why it gives none: no file has the name; or what it holds in place of its bytes; or there are too many; or memory
   abbrev pub lacks : MemoryHost R → Option (List ℕ) → HostFault → Type 0
@@ -92,15 +87,24 @@ module _ {R : Type 0} where
   abbrev pub hides : MemoryHost R → List ℕ → StoreCause → Type 0
   hides h path cause = (fault : HostFault) × lacks h (Some path) fault × (cause ≡ cause_of fault)
 
+  -- a call of the store that it took back last failed
+  abbrev pub has_failed : MemoryHost R → Type 0
+  has_failed h = MatchOption h.left ⊥ (λ l. 0 < l.value.tables.failures)
+
   abbrev pub hosting : MemoryHost R → Hosting
   hosting h = record {
     gives = gives h;
     lacks = lacks h;
+    types = λ known. known ≡ Some h.input.now;
+    breaks = ⊥;
+    is_terminal = false;
     keeps = keeps h;
     bars = bars h;
     shows = shows h;
     hides = hides h;
     is_honest = ⊤;
+    has_failed = has_failed h;
+    is_unclosed = ⊥;
   }
 
   abbrev pub hosted_in : MemoryHost R → MemoryHost R → Hosted
@@ -108,4 +112,6 @@ module _ {R : Type 0} where
 
 -- two runs over its store are a history, with no more said of it
 abbrev pub RunsInMemoryAreInTurn : Type 0 → (List ℕ → Type 0) → (List ℕ → Type 0) → Type 0
-RunsInMemoryAreInTurn R W V = (old middle new : MemoryHost R) (path : List ℕ) → AreRunsInTurn (hosted_in old middle) W (hosted_in middle new) V path
+RunsInMemoryAreInTurn R W V =
+    (old middle new : MemoryHost R) (path : List ℕ)
+    → AreRunsInTurn (hosted_in old middle) W (hosted_in middle new) V path

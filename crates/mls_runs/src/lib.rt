@@ -7,6 +7,6 @@ mod running;
 mod turns;
 
 pub use crate::history::{HistoryCause, HistoryFault, Run, run_history};
-pub use crate::memory::{HeldFile, InputCopy, MemoryHost, runs_in_memory_are_in_turn};
+pub use crate::memory::{HeldFile, MemoryHost, runs_in_memory_are_in_turn};
 pub use crate::running::{run_files, run_on, script_of};
-pub use crate::turns::runs_are_in_turn;
+pub use crate::turns::{runs_are_in_turn, runs_write_the_same};

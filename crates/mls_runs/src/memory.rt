@@ -1,16 +1,17 @@
 //! A machine in memory, of which contracts know all: its files, its standard input, and one store.
-ghost use Rattle.std.specs.Prelude.{◌≡◌, Some, IfOk, IfErr, IfSome, option_map};
+ghost use Rattle.std.specs.Prelude.{◌≡◌, IfOk, IfErr, option_map};
 ghost use Rattle.mls_host.specs.Hosting.{IsAppended};
-ghost use Rattle.mls_runs.specs.Memory.{IsUncopied, file_named, cause_of, in_memory_fault, left_in, RunsInMemoryAreInTurn};
+ghost use Rattle.mls_runs.specs.Memory.{IsUncopied, file_named, cause_of, in_memory_fault, RunsInMemoryAreInTurn};
 
 use mls_fragments::{OpenFault, SqlBase};
 use mls_host::{CloseFault, Host, HostFault, StoreCause, StoreFiles};
 use mls_lattice::{Items, Policy, Str};
 use mls_scheme::SchemesFile;
-use mls_typing::{LinesOf, MOST_BYTES};
+use mls_typing::{BytesIn, LinesOf, MOST_BYTES};
 use sqlite::{Connection, MemStore};
 use std::alloc::Global;
-use std::io::{self, Cursor, Error, ErrorKind, Read, Write};
+use std::io::Write;
+use std::snapshot::Snapshot;
 
 /// A file of a machine in memory: its name, and its bytes or why they are not read.
 #[derive(Drop)]
@@ -30,36 +31,8 @@ pub struct MemoryHost<'a, R: AllocGlobal> {
     pub store: Option<Connection<MemStore>>,
     /// Whether the store was opened, also where it was refused then.
     pub was_opened: bool,
-}
-
-/// A copy of bytes that is read; there is none where memory ran out, and each read fails.
-#[derive(Drop)]
-pub struct InputCopy {
-    bytes: Option<Cursor<Vec<u8>>>,
-}
-
-impl Read for InputCopy {
-    ghost use Rattle.mls_runs.specs.Memory.{left_in};
-
-    ghost remaining = { λ s. left_in (λ v. Some v.items) s.bytes };
-
-    fn read(&mut self, buf: &mut [u8]) -> io::Result<usize> {
-        match &mut self.bytes {
-            Some(cursor) => cursor.read(buf),
-            None => Err(Error::from(ErrorKind::OutOfMemory)),
-        }
-    }
-}
-
-/// A reader of a copy of bytes.
-fn reader_of(alloc: Global, bytes: &[u8]) -> InputCopy
-    ensures { IfSome (left_in (λ v. Some v.items) result.bytes) (λ left. bytes.now ≡ left) }
-{
-    let copied = match Vec::from_slice(alloc, bytes) {
-        Ok(copy) => Some(Cursor::new(copy)),
-        Err(_) => None,
-    };
-    InputCopy { bytes: copied }
+    /// For contracts alone: the store that a run left.
+    pub left: Option<Snapshot<SqlBase<MemStore>>>,
 }
 
 /// The first file of a name.
@@ -115,7 +88,7 @@ impl<'a, R: AllocGlobal> Host for MemoryHost<'a, R> {
 
     type Store = SqlBase<MemStore>;
 
-    type Lines = LinesOf<InputCopy>;
+    type Lines = LinesOf<BytesIn<'a>>;
 
     fn file(&self, alloc: Global, path: &str) -> Result<Vec<u8>, HostFault> {
         let Some(file) = file_named(&self.files, path) else {
@@ -131,8 +104,8 @@ impl<'a, R: AllocGlobal> Host for MemoryHost<'a, R> {
         copy_of(alloc, self.input)
     }
 
-    fn lines(&self) -> LinesOf<InputCopy> {
-        LinesOf::new(reader_of(self.rt.alloc(), self.input))
+    fn lines(&self) -> LinesOf<BytesIn<'a>> {
+        LinesOf::new(BytesIn::new(self.input))
     }
 
     fn is_terminal(&self) -> bool {
@@ -157,6 +130,8 @@ impl<'a, R: AllocGlobal> Host for MemoryHost<'a, R> {
         match SqlBase::adopt(alloc, conn, policy, file) {
             Ok(base) => Ok(base),
             Err((fault, conn)) => {
+                // for what it says of the content, outside a change
+                let _ = conn.is_autocommit();
                 self.store = Some(conn);
                 Err(in_memory_fault(fault))
             }
@@ -174,6 +149,7 @@ impl<'a, R: AllocGlobal> Host for MemoryHost<'a, R> {
     }
 
     fn keep(&mut self, path: &str, store: SqlBase<MemStore>) -> Result<(), CloseFault> {
+        self.left = Some(Snapshot::of(&store));
         self.store = Some(store.into_connection());
         Ok(())
     }

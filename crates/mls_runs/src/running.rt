@@ -7,14 +7,15 @@ ghost use Rattle.mls_filterview.specs.Content.{Content, no_content};
 ghost use Rattle.mls_script.specs.Event.{EventFits};
 ghost use Rattle.mls_machine.specs.Observation.{EventsFit, AreRead, AreCertified};
 ghost use Rattle.mls_sessions.specs.World.{IsSound};
-ghost use Rattle.mls_host.specs.Hosting.{hosted, IsAppended};
+ghost use Rattle.mls_host.specs.Hosting.{hosted, IsAppended, LeavesStores};
+ghost use Rattle.mls_host.specs.Stopping.{IsCaused, HasStopped};
 ghost use Rattle.mls_host.specs.Causes.{IsScriptRefused, IsBarred};
 ghost use Rattle.mls_host.specs.Inputs.{AreStoredFrom, IsScriptFrom};
 ghost use Rattle.mls_words.specs.Words.{named};
 ghost use Rattle.mls_host.specs.Refusal.{IsEnd};
 ghost use Rattle.mls_host.specs.Running.{site_of, IsRun};
 ghost use Rattle.mls_sessions.specs.declared.cause.RunCause.TheVariants.{Store as StoreFailed};
-ghost use Rattle.mls_runs.specs.ScriptRun.{IsRunFrom, IsScriptRun, IsRunRefused};
+ghost use Rattle.mls_runs.specs.ScriptRun.{IsRunFrom, IsScriptRun, IsRunRefused, IsCausedInMemory};
 
 use mls_filterview::Base;
 use mls_fragments::OpenFault;
@@ -75,9 +76,10 @@ fn run_in_memory<W: Write>(
     requires certified { AreCertified (site_of policy.now file.now.schemes stored) }
     requires fits { EventsFit (site_of policy.now file.now.schemes stored) events.now }
     requires declared { IfSome audience.reader (λ c. c < length policy.now.labels) }
-    ensures { IsEnd (λ end. (left : Content) × IsRun (site_of policy.now file.now.schemes stored) audience events.now
+    ensures ends { IsEnd (λ end. (left : Content) × IsRun (site_of policy.now file.now.schemes stored) audience events.now
         (IsAppended W.contents out.old out.new) end no_content left)
         (λ reason. (reason ≡ Reason.Store OpenFault.Memory) × IsAppended W.contents out.old out.new []) result }
+    ensures caused { IfErr result IsCausedInMemory }
 {
     let base = match MemoryBase::open(alloc, policy, file) {
         Ok(base) => base,
@@ -114,10 +116,12 @@ fn run_in_store<H: Host, W: Write>(
     requires certified { AreCertified (site_of policy.now file.now.schemes stored) }
     requires fits { EventsFit (site_of policy.now file.now.schemes stored) events.now }
     requires declared { IfSome audience.reader (λ c. c < length policy.now.labels) }
-    ensures { IsEnd (IsRunFrom (hosted H.hosting H.Lines.echo host.old host.new) file.now (Some path.now)
+    ensures ends { IsEnd (IsRunFrom (hosted H.hosting H.Lines.echo host.old host.new) file.now (Some path.now)
         (site_of policy.now file.now.schemes stored) audience events.now (IsAppended W.contents out.old out.new))
         (λ reason. IsBarred (H.hosting host.old) policy.now file.now (Some path.now) reason
         × IsAppended W.contents out.old out.new []) result }
+    ensures caused { IfErr result (IsCaused (hosted H.hosting H.Lines.echo host.old host.new) (Some path.now)) }
+    ensures stopped { IfErr result (HasStopped (hosted H.hosting H.Lines.echo host.old host.new) (Some path.now)) }
 {
     let base = match host.store(alloc, path, policy, file) {
         Ok(base) => base,
@@ -154,10 +158,13 @@ fn run_events<H: Host, W: Write>(
     requires certified { AreCertified (site_of policy.now file.now.schemes stored) }
     requires fits { EventsFit (site_of policy.now file.now.schemes stored) events.now }
     requires declared { IfSome audience.reader (λ c. c < length policy.now.labels) }
-    ensures { IsEnd (IsRunFrom (hosted H.hosting H.Lines.echo host.old host.new) file.now (named store.entry)
+    ensures ends { IsEnd (IsRunFrom (hosted H.hosting H.Lines.echo host.old host.new) file.now (named store.entry)
         (site_of policy.now file.now.schemes stored) audience events.now (IsAppended W.contents out.old out.new))
         (λ reason. IsBarred (H.hosting host.old) policy.now file.now (named store.entry) reason
         × IsAppended W.contents out.old out.new []) result }
+    ensures leaves { LeavesStores (hosted H.hosting H.Lines.echo host.old host.new) (named store.entry) }
+    ensures caused { IfErr result (IsCaused (hosted H.hosting H.Lines.echo host.old host.new) (named store.entry)) }
+    ensures stopped { IfErr result (HasStopped (hosted H.hosting H.Lines.echo host.old host.new) (named store.entry)) }
 {
     match store {
         None => run_in_memory(alloc, policy, file, stored, events, audience, out),
@@ -204,6 +211,11 @@ pub fn run_files<H: Host, W: Write>(
         policy.now file.now reader files.entry (IsAppended W.contents out.old out.new))
         (λ reason. IsRunRefused (H.hosting host.old) policy.now file.now files.entry reason
         × IsAppended W.contents out.old out.new []) (Err e)) }
+    ensures leaves { LeavesStores (hosted H.hosting H.Lines.echo host.old host.new) (named files.entry.store) }
+    ensures caused { IfErr result (IsCaused (hosted H.hosting H.Lines.echo host.old host.new)
+        (named files.entry.store)) }
+    ensures stopped { IfErr result (HasStopped (hosted H.hosting H.Lines.echo host.old host.new)
+        (named files.entry.store)) }
 {
     let stored = stored_files(
         alloc,

@@ -1,6 +1,6 @@
 -- Shells over stores: where they begin, and how they end.
-use Rattle.std.proofs.Common.{◌≡◌, ℕ, ◌<◌, length, true, ◌∷◌, Bool, List, [], Option, Some, None, Result, Ok, Err, IfOk, IfErr, refl, sym, subst}
-use Rattle.std.specs.Prelude.{IfSome}
+use Rattle.std.proofs.Common.{◌≡◌, ◌≢◌, ℕ, ◌<◌, length, true, ◌∷◌, List, [], Option, Some, None, Result, Ok, Err, IfOk, IfErr, refl, sym, ap, subst}
+use Rattle.std.specs.Prelude.{is_some}
 use Rattle.std.specs.Borrow.{Bor}
 use Rattle.std.specs.Io.KnownBytes.{Appends}
 use Rattle.mls_filterview.specs.Content.{Content, no_content}
@@ -11,7 +11,7 @@ use Rattle.mls_lattice.specs.Policy.{Tables}
 use Rattle.mls_scheme.specs.declared.file.SchemesFile.{SchemesFile}
 use Rattle.mls_machine.specs.declared.stored.Stored.{Stored}
 use Rattle.mls_machine.specs.Site.{Site, site_labels}
-use Rattle.mls_machine.specs.Machine.{Sessions}
+use Rattle.mls_machine.specs.Machine.{World, Sessions}
 use Rattle.mls_machine.specs.Observation.{AreStored, EventsFit, AreRead, AreCertified}
 use Rattle.mls_machine.proofs.KeepingLemmas.{keep_integrity}
 use Rattle.mls_machine.proofs.RunLemmas.{first_accepted_alike}
@@ -22,11 +22,14 @@ use Rattle.mls_shells.specs.declared.seat.Seat.{Seat}
 use Rattle.mls_words.specs.declared.words.ShellFiles.{ShellFiles}
 use Rattle.mls_host.specs.declared.reason.Reason.{Reason}
 use Rattle.mls_host.specs.declared.refusal.Refusal.{Refusal}
-use Rattle.mls_host.specs.Hosting.{Hosted}
+use Rattle.mls_host.specs.declared.refusal.Refusal.TheVariants.{Before, Run, NotClosed, Output}
+use Rattle.mls_host.specs.Hosting.{Hosted, KeepsStores}
 use Rattle.mls_host.specs.Inputs.{AreStoredFrom}
 use Rattle.mls_words.specs.Words.{named}
 use Rattle.mls_host.specs.Causes.{IsBarred}
-use Rattle.mls_host.specs.Refusal.{IsEnd}
+use Rattle.mls_host.specs.Refusal.{ended, IsEnd}
+use Rattle.mls_host.specs.Stopping.{IsCaused}
+use Rattle.mls_host.proofs.StoppingLemmas.{caused_at}
 use Rattle.mls_host.specs.Running.{site_of, first_world}
 use Rattle.mls_shells.specs.Shell.{audience_at, opening, events_in, IsConversation, IsShell}
 use Rattle.mls_shells.specs.ShellRun.{seat_of, IsShellFrom, IsShellRun, IsShellRefused, no_store}
@@ -36,65 +39,90 @@ pub opening_fits : (site : Site) (seat : Seat) → seat.level < length site.poli
 opening_fits site seat level name = (record { level = level; session = name; command = name }, tt)
 
 -- a conversation over a content that it leaves as another
-pub shell_at : (echo : List ℕ → List ℕ) (site : Site) (seat : Seat) (sessions : Sessions) (first left : Content) (before after was is : Option (List ℕ)) (Told : List ℕ → Type 0) (end : Result Ending RunFault)
+pub shell_at : (echo : List ℕ → List ℕ) (site : Site) (seat : Seat) (sessions : Sessions) (first left : Content) (before after was is : Option (List ℕ)) (Broken : Type 0)
+    (Told : List ℕ → Type 0) (end : Result Ending RunFault)
     → AreDistinct (site_labels site) → AreRead site → AreCertified site → IsSound site first → IsSound site left
-    → IsConversation echo site seat (first_world site first) (world_at site sessions left) before after was is Told end
-    → IsShell echo site seat before after (Appends was is) Told end first left
-shell_at echo site seat sessions first left before after was is Told end distinct read certified sound sound_left k =
+    → IsConversation echo site seat before after was is Broken Told end (first_world site first) (world_at site sessions left)
+    → IsShell echo site seat before after Broken (Appends was is) Told end first left
+shell_at echo site seat sessions first left before after was is Broken Told end distinct read certified sound sound_left k =
     let w = first_world site first in
-    let es : List Event = opening seat ∷ events_in k.turns in
+    let es : List Event = opening seat ∷ events_in k.talk.turns in
     let stored : AreStored site w.db = λ rel. (sound.content rel).stored in
     record {
-      turns = k.turns;
-      run_end = k.run_end;
       talk = k.talk;
-      told = k.told;
-      written = k.written;
-      begun = k.begun;
-      ended = k.ended;
       run = λ silent. let a = k.run silent in
-          run_at site (audience_at seat) sessions first left es was is k.run_end sound_left
+          run_at site (audience_at seat) sessions first left es was is k.talk.run_end sound_left
           (record { ok = a.whole; err = a.stopped; fault = a.fault; integrity = keep_integrity site distinct read w es stored k.fits; secret = first_accepted_alike site distinct read certified w es stored k.fits });
     }
 
+-- a conversation at what is the same site, from and to what are the same worlds
+pub conversation_at : (echo : List ℕ → List ℕ) (seat : Seat) (before after was is : Option (List ℕ)) (Broken : Type 0) (Told : List ℕ → Type 0) (end : Result Ending RunFault)
+    (s t : Site) (v x w y : World) → s ≡ t → v ≡ x → w ≡ y
+    → IsConversation echo s seat before after was is Broken Told end v w → IsConversation echo t seat before after was is Broken Told end x y
+conversation_at echo seat before after was is Broken Told end s t v x w y e f g k =
+    subst (λ w. IsConversation echo t seat before after was is Broken Told end x w) g
+    (subst (λ v. IsConversation echo t seat before after was is Broken Told end v w) f (subst (λ s. IsConversation echo s seat before after was is Broken Told end v w) e k))
+
 -- ---- where shells begin
 
-module _ (h : Hosted) (file : SchemesFile) (site : Site) (seat : Seat) (before after : Option (List ℕ)) (Wrote Told : List ℕ → Type 0) (Nothing : Option (List ℕ) → Reason → Type 0)
-    (store : Option (Bor (List ℕ))) (r : Result Ending Refusal) where
-  -- with nothing
-  pub shell_from_memory : store ≡ None → IsEnd (λ end. (left : Content) × IsShell h.echo site seat before after Wrote Told end no_content left) (Nothing None) r
-      → IsEnd (IsShellFrom h file (named store) site seat before after Wrote Told) (Nothing (named store)) r
-  shell_from_memory none shell =
-      let f : (end : Result Ending RunFault) → ((left : Content) × IsShell h.echo site seat before after Wrote Told end no_content left) → IsShellFrom h file None site seat before after Wrote Told end
-      = λ end k. λ clean. record { first = no_content; left = k.0; begins = refl; kept = tt; leads = k.1 } in
-      subst (λ (s : Option (Bor (List ℕ))). IsEnd (IsShellFrom h file (named s) site seat before after Wrote Told) (Nothing (named s)) r) (sym none)
-      (end_weaker (λ end. (left : Content) × IsShell h.echo site seat before after Wrote Told end no_content left) (Nothing None) (IsShellFrom h file None site seat before after Wrote Told) (Nothing None) f (λ _ k. k) r shell)
+module _ (h : Hosted) (file : SchemesFile) (site : Site) (seat : Seat) (before after : Option (List ℕ)) (Broken : Type 0) (Wrote Told : List ℕ → Type 0) where
+  abbrev From : Option (List ℕ) → Result Ending RunFault → Type 0
+  From store = IsShellFrom h before after Broken Wrote Told file store site seat
 
-  -- with what a store kept
-  pub shell_from_store : (path : Bor (List ℕ)) → store ≡ Some path → IsEnd (IsShellFrom h file (Some path.now) site seat before after Wrote Told) (Nothing (Some path.now)) r
-      → IsEnd (IsShellFrom h file (named store) site seat before after Wrote Told) (Nothing (named store)) r
-  shell_from_store path some shell = subst (λ (s : Option (Bor (List ℕ))). IsEnd (IsShellFrom h file (named s) site seat before after Wrote Told) (Nothing (named s)) r) (sym some) shell
+  abbrev Fresh : Result Ending RunFault → Type 0
+  Fresh end = (left : Content) × IsShell h.echo site seat before after Broken Wrote Told end no_content left
+
+  module _ (Nothing : Option (List ℕ) → Reason → Type 0) (store : Option (Bor (List ℕ))) (r : Result Ending Refusal) where
+    -- with nothing
+    pub shell_from_memory : store ≡ None → IsEnd Fresh (Nothing None) r → IsEnd (From (named store)) (Nothing (named store)) r
+    shell_from_memory none shell =
+        let f : (end : Result Ending RunFault) → Fresh end → From None end
+        = λ end k. λ clean. record { first = no_content; left = k.0; begins = refl; kept = tt; leads = k.1 } in
+        subst (λ (s : Option (Bor (List ℕ))). IsEnd (From (named s)) (Nothing (named s)) r) (sym none) (end_weaker Fresh (Nothing None) (From None) (Nothing None) f (λ _ k. k) r shell)
+
+    -- with what a store kept
+    pub shell_from_store : (path : Bor (List ℕ)) → store ≡ Some path → IsEnd (From (Some path.now)) (Nothing (Some path.now)) r → IsEnd (From (named store)) (Nothing (named store)) r
+    shell_from_store path some shell = subst (λ (s : Option (Bor (List ℕ))). IsEnd (From (named s)) (Nothing (named s)) r) (sym some) shell
 
 -- ---- tasks
 
+-- a read of the lines has failed only where the host says that it may
+read_only_so : (echo : List ℕ → List ℕ) (site : Site) (seat : Seat) (before after : Option (List ℕ)) (Broken May : Type 0) (Wrote Told : List ℕ → Type 0) (end : Result Ending RunFault) (first left : Content)
+    → (Broken → May) → IsShell echo site seat before after Broken Wrote Told end first left → IsShell echo site seat before after May Wrote Told end first left
+read_only_so echo site seat before after Broken May Wrote Told end first left f k = record {
+  talk = record { turns = k.talk.turns; run_end = k.talk.run_end; lines = k.talk.lines; broken = λ b. f (k.talk.broken b); told = k.talk.told; ended = k.talk.ended };
+  run = k.run;
+}
+
 module _ (h : Hosted) (policy : Tables) (file : SchemesFile) (reader : Option ℕ) (files : ShellFiles) (Wrote Told : List ℕ → Type 0)
-    (stored : List Stored) (level : ℕ) (has_prompt : Bool) (before after : Option (List ℕ))
+    (stored : List Stored) (level : ℕ) (before after : Option (List ℕ)) (Broken : Type 0)
     (stored_are : AreStoredFrom h.before.gives (named files.transactions) (named files.certificates) policy file.schemes stored)
-    (level_is : reader ≡ Some level) (given : IfSome before (h.before.gives None)) where
+    (level_is : reader ≡ Some level) (user_is : is_name files.user.now ≡ true) (typed : h.before.types before) (broken : Broken → h.before.breaks) where
+  abbrev at : Site
+  at = site_of policy file.schemes stored
+
+  abbrev seat : Seat
+  seat = seat_of files level h.before.is_terminal
+
   abbrev Shells : Result Ending RunFault → Type 0
-  Shells = IsShellFrom h file (named files.store) (site_of policy file.schemes stored) (seat_of files level has_prompt) before after Wrote Told
+  Shells = IsShellFrom h before after Broken Wrote Told file (named files.store) at seat
 
   shell_run : (end : Result Ending RunFault) → Shells end → IsShellRun h policy file reader files Wrote Told end
   shell_run end k = record {
     stored = stored;
     level = level;
-    has_prompt = has_prompt;
     before = before;
     after = after;
     stored_are = stored_are;
     level_is = level_is;
-    given = given;
-    shell = k;
+    typed = typed;
+    shell = λ clean. let o = k clean in record {
+      first = o.first;
+      left = o.left;
+      begins = o.begins;
+      kept = o.kept;
+      leads = read_only_so h.echo at seat before after Broken h.before.breaks Wrote Told end o.first o.left broken o.leads;
+    };
   }
 
   -- its store was barred, and nothing was written
@@ -111,5 +139,22 @@ module _ (h : Hosted) (policy : Tables) (file : SchemesFile) (reader : Option �
   pub shell_given_up : (r : Result Ending Refusal) → IsEnd Shells Barred r → IfErr r (λ e. IsEnd (IsShellRun h policy file reader files Wrote Told) NotBegun (Err e))
   shell_given_up (Ok ending) k = tt
   shell_given_up (Err e) k =
-      let g : (reason : Reason) → Barred reason → NotBegun reason = λ reason n. (no_store stored stored_are n.0, n.1, n.2) in
+      let g : (reason : Reason) → Barred reason → NotBegun reason = λ reason n. (no_store stored (ap is_some level_is) user_is stored_are n.0, n.1, n.2) in
       end_weaker Shells Barred (IsShellRun h policy file reader files Wrote Told) NotBegun shell_run g (Err e) k
+
+-- ---- why shells without a store are given up
+
+pub none_unclosed : (outcome : Result Ending RunFault) → IfErr (ended outcome (Ok tt)) (λ e. e ≢ NotClosed)
+none_unclosed (Ok ending) = tt
+none_unclosed (Err fault) = λ is. cc
+
+module _ (h : Hosted) where
+  without : KeepsStores h → (r : Result Ending Refusal) → IfErr r (λ e. e ≢ NotClosed) → IfErr r (IsCaused h None)
+  without kept (Ok ending) k = tt
+  without kept (Err (Before reason)) k = kept
+  without kept (Err (Run fault)) k = tt
+  without kept (Err NotClosed) k = absurd (k refl)
+  without kept (Err Output) k = tt
+
+  pub shell_caused : (store : Option (Bor (List ℕ))) → store ≡ None → KeepsStores h → (r : Result Ending Refusal) → IfErr r (λ e. e ≢ NotClosed) → IfErr r (IsCaused h (named store))
+  shell_caused store none kept r k = caused_at h store None none r (without kept r k)

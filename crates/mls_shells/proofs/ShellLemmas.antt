@@ -1,12 +1,12 @@
 -- Shells: events, lines and what is told of them, one after another.
-use Rattle.std.proofs.Common.{◌≡◌, ℕ, suc, ◌+◌, ◌-◌, ◌≤◌, Bool, true, false, cond, not, ◌||◌, List, [], ◌∷◌, ◌++◌, length, take, drop, Option, Some, None, ◌⊎◌, inl, inr, refl, sym, ap, ◌∙◌, subst, append_assoc, append-nil, arith}
+use Rattle.std.proofs.Common.{◌≡◌, ℕ, zero, suc, ◌+◌, ◌-◌, ◌≤◌, Bool, true, false, true≢false, cond, not, ◌||◌, List, [], ◌∷◌, ◌++◌, length, take, drop, Option, Result, Ok, Err, refl, sym, ap, ◌∙◌, subst, append_assoc, append-nil, arith}
 use Rattle.std.specs.List.{AllByRecursion, flat_map, list_any}
-use Rattle.std.specs.Io.KnownBytes.{Appends, Consumes, IsAtEnd}
+use Rattle.std.specs.Io.KnownBytes.{Appends}
 use Rattle.std.proofs.KnownBytes.{Appends-nil, Appends-trans}
 use Rattle.std.proofs.lemmas.Grind.{flat_map-append}
-use Rattle.std.proofs.lemmas.List.{length-append}
+use Rattle.std.proofs.lemmas.List.{length-append, take-append-drop}
 use Rattle.std.proofs.lemmas.List.Folds.{list_any-append}
-use Rattle.std.proofs.Math.Seq.{take-append-add, drop-append_seam}
+use Rattle.std.proofs.Math.Seq.{take-append-add, take-append_seam}
 use Rattle.mls_script.specs.declared.event.Event.{Event}
 use Rattle.mls_machine.specs.declared.form.Form.{Form}
 use Rattle.mls_machine.specs.declared.form.Audience.{Audience}
@@ -19,9 +19,10 @@ use Rattle.mls_sessions.specs.declared.cause.RunFault.{RunFault}
 use Rattle.mls_sessions.specs.Run.{IsWhole, IsStopped, IsFaultOf, printed_to, world_after}
 use Rattle.mls_lattice.specs.Policy.{Tables}
 use Rattle.mls_scheme.specs.Scheme.{Schemes}
-use Rattle.mls_typing.specs.Typing.{IsNext}
 use Rattle.mls_shells.specs.declared.seat.Seat.{Seat}
-use Rattle.mls_shells.specs.Shell.{Turn, IsTurn, IsCut, whole, long, cut, behind, AreNext, events_of, events_in, opening, audience_at, is_open, is_refused, prompt_of, told_of, told_from, answers, dialogue, after_opening, transcript, AreWhileOpen, has_refused, IsSilent}
+use Rattle.mls_shells.specs.declared.seat.Fate.{Fate}
+use Rattle.mls_shells.specs.declared.seat.Fate.TheVariants as fates
+use Rattle.mls_shells.specs.Shell.{Turn, IsTurn, whole, long, cut, events_of, events_in, opening, audience_at, is_open, is_refused, is_last, is_failed, prompt_of, told_of, told_from, answers, dialogue, after_opening, transcript, shown_to, AreTurns, has_refused, IsSilent, IsAnswered}
 
 -- ---- events
 
@@ -47,6 +48,20 @@ module _ (site : Site) where
     prints-append w es fs =
         ap (λ l. printed (heard (site_labels site) audience.reader l)) (run_lines-append audience.form w es fs)
         ∙ printed-append (site_labels site) audience.reader (run_lines audience.form site w es) (run_lines audience.form site (end_of site w es) fs)
+
+    -- the first events, and the others
+    prints-split : (w : World) (es : List Event) (n : ℕ) → printed_to site audience w es n ++ prints (end_of site w (take n es)) (drop n es) ≡ prints w es
+    prints-split w es n = sym (prints-append w (take n es) (drop n es)) ∙ ap (prints w) (take-append-drop n es)
+
+    -- whether all are answered or not, a first part of what they print is written
+    pub first_part : (w : World) (es : List Event) (was is : Option (List ℕ)) (new : World) (end : Result (Unit {0}) RunFault) → IsAnswered site audience w es was is new end
+        → (part rest : List ℕ) × Appends was is part × (part ++ rest ≡ prints w es)
+    first_part w es was is new (Ok u) h = (prints w es, [], h.whole.bytes, append-nil (prints w es))
+    first_part w es was is new (Err f) h =
+        let k = h.stopped in
+        let front = printed_to site audience w es (f.event - 1) ++ k.part in
+        let tail = prints (end_of site w (take f.event es)) (drop f.event es) in
+        (front, k.rest ++ tail, k.bytes, sym (append_assoc front k.rest tail) ∙ ap (λ l. l ++ tail) k.reply ∙ prints-split w es f.event)
 
     pub prints-none : (w : World) → prints w [] ≡ []
     unfolding run_lines
@@ -101,10 +116,6 @@ module _ (site : Site) where
 
 -- ---- lists
 
-pub all-snoc : {X : Type 0} (P : X → Type 0) (xs : List X) (x : X) → AllByRecursion P xs → P x → AllByRecursion P (xs ++ x ∷ [])
-all-snoc P [] x h p = (p, tt)
-all-snoc P (y ∷ xs) x h p = (h.0, all-snoc P xs x h.1 p)
-
 pub all-append : {X : Type 0} (P : X → Type 0) (xs ys : List X) → AllByRecursion P xs → AllByRecursion P ys → AllByRecursion P (xs ++ ys)
 all-append P [] ys h k = k
 all-append P (x ∷ xs) ys h k = (h.0, all-append P xs ys h.1 k)
@@ -126,6 +137,14 @@ any-snoc p xs x = list_any-append p xs (x ∷ []) ∙ ap (λ b. list_any p xs ||
 pub length-snoc : {X : Type 0} (xs : List X) (x : X) → length (xs ++ x ∷ []) ≡ length xs + 1
 length-snoc xs x = length-append xs (x ∷ [])
 
+take_all : {X : Type 0} (xs : List X) → take (length xs) xs ≡ xs
+take_all [] = refl
+take_all (x ∷ xs) = ap (λ l. x ∷ l) (take_all xs)
+
+or_none : (a b : Bool) → (a || b) ≡ false → (a ≡ false) × (b ≡ false)
+or_none true b h = absurd (true≢false h)
+or_none false b h = (refl, h)
+
 nil_front : (xs ys : List ℕ) → xs ++ ys ≡ [] → xs ≡ []
 nil_front [] ys h = refl
 nil_front (x ∷ xs) ys h = absurd cc
@@ -134,39 +153,6 @@ nil_front (x ∷ xs) ys h = absurd cc
 
 pub events-snoc : (ts : List Turn) (t : Turn) → events_in (ts ++ t ∷ []) ≡ events_in ts ++ events_of t.fate
 events-snoc ts t = flat-snoc (λ (t : Turn). events_of t.fate) ts t
-
-pub lines-snoc : (ts : List Turn) (t : Turn) → flat_map (λ (t : Turn). t.line) (ts ++ t ∷ []) ≡ flat_map (λ (t : Turn). t.line) ts ++ t.line
-lines-snoc ts t = flat-snoc (λ (t : Turn). t.line) ts t
-
--- of bytes that nobody knows any line comes next
-next_unknown : (a b : Option (List ℕ)) (line : List ℕ) → IsNext a b line → IsNext None None line
-next_unknown a b line n = record { text = n.text; one = n.one; read = tt; whole = ends n.whole }
-  where
-    ends : (line ≡ n.text ++ 10 ∷ []) ⊎ ((line ≡ n.text) × IsAtEnd b) → (line ≡ n.text ++ 10 ∷ []) ⊎ ((line ≡ n.text) × IsAtEnd None)
-    ends (inl h) = inl h
-    ends (inr h) = inr (h.0, tt)
-
-behind_line : (line xs ys : List ℕ) → xs ≡ line ++ ys → drop (length line) xs ≡ ys
-behind_line line xs ys h = ap (drop (length line)) h ∙ drop-append_seam line ys
-
-next_here : (before left over : Option (List ℕ)) (t : Turn) → Consumes before left [] → IsCut t.fate ⊎ IsNext left over t.line → IsCut t.fate ⊎ IsNext before (behind t.line before) t.line
-next_here before left over t none (inl c) = inl c
-next_here None left over t none (inr n) = inr (next_unknown left over t.line n)
-next_here (Some xs) None over t none (inr n) = absurd none
-next_here (Some xs) (Some ys) None t none (inr n) = absurd n.read
-next_here (Some xs) (Some ys) (Some zs) t none (inr n) =
-    inr (subst (λ l. IsNext (Some xs) (Some l) t.line) (sym (behind_line t.line xs zs (none ∙ n.read))) (subst (λ l. IsNext (Some l) (Some zs) t.line) (sym none) n))
-
-consumed_behind : (before left : Option (List ℕ)) (line rest : List ℕ) → Consumes before left (line ++ rest) → Consumes (behind line before) left rest
-consumed_behind None left line rest h = tt
-consumed_behind (Some xs) None line rest h = absurd h
-consumed_behind (Some xs) (Some ys) line rest h = behind_line line xs (rest ++ ys) (h ∙ append_assoc line rest ys)
-
-pub next-snoc : (before left over : Option (List ℕ)) (ts : List Turn) (t : Turn) → AreNext before ts → Consumes before left (flat_map (λ (t : Turn). t.line) ts)
-    → IsCut t.fate ⊎ IsNext left over t.line → AreNext before (ts ++ t ∷ [])
-unfolding AreNext
-next-snoc before left over [] t h read n = (next_here before left over t read n, tt)
-next-snoc before left over (x ∷ ts) t h read n = (h.0, next-snoc (behind x.line before) left over ts t h.1 (consumed_behind before left x.line _ read) n)
 
 pub told-snoc : (seat : Seat) (n : ℕ) (ts : List Turn) (t : Turn) → told_from seat n (ts ++ t ∷ []) ≡ told_from seat n ts ++ (prompt_of seat ++ told_of seat (n + length ts) t.fate)
 unfolding told_from
@@ -180,6 +166,39 @@ told-snoc seat n (x ∷ ts) t =
   where
     same : n + 1 + length ts ≡ n + suc (length ts)
     same = omega arith
+
+-- ---- last lines, and those that were not read
+
+failed_is_last : (fate : Fate) → is_last fate ≡ false → is_failed fate ≡ false
+failed_is_last fates.Over h = refl
+failed_is_last fates.Blank h = refl
+failed_is_last fates.Help h = refl
+failed_is_last (fates.Said events) h = refl
+failed_is_last (fates.Refused fault) h = refl
+failed_is_last fates.TooLong h = refl
+failed_is_last fates.Unreadable h = h
+failed_is_last (fates.Lost cause) h = refl
+
+failed_is : (fate : Fate) → is_failed fate ≡ true → fate ≡ fates.Unreadable
+failed_is fates.Over h = absurd (true≢false (sym h))
+failed_is fates.Blank h = absurd (true≢false (sym h))
+failed_is fates.Help h = absurd (true≢false (sym h))
+failed_is (fates.Said events) h = absurd (true≢false (sym h))
+failed_is (fates.Refused fault) h = absurd (true≢false (sym h))
+failed_is fates.TooLong h = absurd (true≢false (sym h))
+failed_is fates.Unreadable h = refl
+failed_is (fates.Lost cause) h = absurd (true≢false (sym h))
+
+pub none_failed : (ts : List Turn) → list_any (λ (t : Turn). is_last t.fate) ts ≡ false → list_any (λ (t : Turn). is_failed t.fate) ts ≡ false
+none_failed [] h = refl
+none_failed (t ∷ ts) h =
+    let none = or_none (is_last t.fate) (list_any (λ (t : Turn). is_last t.fate) ts) h in
+    ap (λ b. b || list_any (λ (t : Turn). is_failed t.fate) ts) (failed_is_last t.fate none.0) ∙ none_failed ts none.1
+
+-- of lines of which none but one behind them was not read
+pub failed_there : (ts : List Turn) (t : Turn) → list_any (λ (t : Turn). is_last t.fate) ts ≡ false → list_any (λ (t : Turn). is_failed t.fate) (ts ++ t ∷ []) ≡ true → t.fate ≡ fates.Unreadable
+failed_there ts t none h =
+    failed_is t.fate (sym (any-snoc (λ (t : Turn). is_failed t.fate) ts t ∙ ap (λ b. b || is_failed t.fate) (none_failed ts none)) ∙ h)
 
 module _ (site : Site) (seat : Seat) where
   answers-append : (w : World) (es fs : List Event) → answers site seat w (es ++ fs) ≡ answers site seat w es ++ answers site seat (end_of site w es) fs
@@ -195,12 +214,6 @@ module _ (site : Site) (seat : Seat) where
       ap (λ l. here ++ l) (dialogue-snoc v ts t
       ∙ ap (λ u. dialogue site seat v ts ++ (t.shown ++ answers site seat u (events_of t.fate))) (sym (end_of-append site w (events_of x.fate) (events_in ts))))
       ∙ sym (append_assoc here _ _)
-
-  open-snoc : (w : World) (ts : List Turn) (t : Turn) → AreWhileOpen site seat w ts → is_open seat (end_of site w (events_in ts)) ≡ true → AreWhileOpen site seat w (ts ++ t ∷ [])
-  unfolding AreWhileOpen end_of
-  open-snoc w [] t h o = (o, tt)
-  open-snoc w (x ∷ ts) t h o =
-      (h.0, open-snoc (end_of site w (events_of x.fate)) ts t h.1 (subst (λ u. is_open seat u ≡ true) (end_of-append site w (events_of x.fate) (events_in ts)) o))
 
   -- ---- from the opening on
 
@@ -221,8 +234,56 @@ module _ (site : Site) (seat : Seat) where
         ap (λ l. opened ++ l) (dialogue-snoc first ts t ∙ ap (λ u. dialogue site seat first ts ++ (t.shown ++ answers site seat u (events_of t.fate))) (sym (world_is ts)))
         ∙ sym (append_assoc opened (dialogue site seat first ts) _)
 
-    pub while_open-snoc : (ts : List Turn) (t : Turn) → AreWhileOpen site seat first ts → is_open seat (end_of site w (opening seat ∷ events_in ts)) ≡ true → AreWhileOpen site seat first (ts ++ t ∷ [])
-    while_open-snoc ts t h o = open-snoc first ts t h (subst (λ u. is_open seat u ≡ true) (world_is ts) o)
+    -- ---- what is shown before a line, and by it
+
+    pub shown_before : (ts : List Turn) (t : Turn) (line : ℕ) → line ≡ length (ts ++ t ∷ []) → shown_to site seat w (ts ++ t ∷ []) line ≡ transcript site seat w ts
+    shown_before ts t line e =
+        ap (shown_to site seat w (ts ++ t ∷ [])) (e ∙ more) ∙ ap (transcript site seat w) (take-append_seam ts (t ∷ []))
+      where
+        more : length (ts ++ t ∷ []) ≡ suc (length ts)
+        more = let m = length-snoc ts t in omega arith
+
+    pub shown_behind : (ts : List Turn) (line : ℕ) → line ≡ length ts → shown_to site seat w ts (suc line) ≡ transcript site seat w ts
+    shown_behind ts line e = ap (λ n. transcript site seat w (take n ts)) e ∙ ap (transcript site seat w) (take_all ts)
+
+    dialogue_front : (v : World) (n : ℕ) (ts : List Turn) → (more : List ℕ) × (dialogue site seat v (take n ts) ++ more ≡ dialogue site seat v ts)
+    unfolding dialogue
+    dialogue_front v zero ts = (dialogue site seat v ts, refl)
+    dialogue_front v (suc n) [] = ([], refl)
+    dialogue_front v (suc n) (t ∷ ts) =
+        let here = t.shown ++ answers site seat v (events_of t.fate) in
+        let left = dialogue_front (end_of site v (events_of t.fate)) n ts in
+        (left.0, append_assoc here _ left.0 ∙ ap (λ l. here ++ l) left.1)
+
+    -- what is shown from a line on
+    pub shown_from : (ts : List Turn) (n : ℕ) → (more : List ℕ) × (shown_to site seat w ts n ++ more ≡ transcript site seat w ts)
+    shown_from ts zero = (transcript site seat w ts, refl)
+    shown_from ts (suc n) =
+        let opened = answers site seat w (opening seat ∷ []) in
+        let left = dialogue_front first n ts in
+        (left.0, append_assoc opened _ left.0 ∙ ap (λ l. opened ++ l) left.1)
+
+    -- ---- a line more
+
+    module _ (echo : List ℕ → List ℕ) where
+      turns-snoc-at : (v : World) (a b c : Option (List ℕ)) (ts : List Turn) (t : Turn) → AreTurns echo site seat v a b ts → list_any (λ (t : Turn). is_last t.fate) ts ≡ false
+          → is_open seat (end_of site v (events_in ts)) ≡ true → IsTurn echo site.policy site.schemes seat b c t → AreTurns echo site seat v a c (ts ++ t ∷ [])
+      unfolding AreTurns end_of
+      turns-snoc-at v a b c [] t h l o n = (c, o, subst (λ x. IsTurn echo site.policy site.schemes seat x c t) (sym h) n, (λ e. absurd (e refl)), refl)
+      turns-snoc-at v a b c (x ∷ ts) t h l o n =
+          let (left, opened, turn, on, more) = h in
+          let none = or_none (is_last x.fate) (list_any (λ (t : Turn). is_last t.fate) ts) l in (
+            left,
+            opened,
+            turn,
+            (λ e. none.0),
+            turns-snoc-at (end_of site v (events_of x.fate)) left b c ts t more none.1
+                (subst (λ u. is_open seat u ≡ true) (end_of-append site v (events_of x.fate) (events_in ts)) o) n,
+          )
+
+      pub turns-snoc : (a b c : Option (List ℕ)) (ts : List Turn) (t : Turn) → AreTurns echo site seat first a b ts → list_any (λ (t : Turn). is_last t.fate) ts ≡ false
+          → is_open seat (end_of site w (opening seat ∷ events_in ts)) ≡ true → IsTurn echo site.policy site.schemes seat b c t → AreTurns echo site seat first a c (ts ++ t ∷ [])
+      turns-snoc a b c ts t h l o n = turns-snoc-at first a b c ts t h l (subst (λ u. is_open seat u ≡ true) (world_is ts) o) n
 
     pub refused-snoc : (ts : List Turn) (t : Turn) → has_refused site seat w (ts ++ t ∷ []) ≡ (has_refused site seat w ts || is_refused t.fate)
     refused-snoc ts t =
@@ -240,21 +301,21 @@ module _ (site : Site) (seat : Seat) where
       ∙ ap (λ l. answers site seat w (events_of x.fate) ++ l) (quiet v ts h.1)
       ∙ sym (answers-append w (events_of x.fate) (events_in ts))
 
-  quiet_turn : (echo : List ℕ → List ℕ) (policy : Tables) (schemes : Schemes) (t : Turn) → IsSilent echo → IsTurn echo policy schemes seat t → t.shown ≡ []
-  quiet_turn echo policy schemes t silent (whole s a b) = a ∙ silent t.line
-  quiet_turn echo policy schemes t silent (long l a b) = a
-  quiet_turn echo policy schemes t silent (cut line rest e c) = nil_front t.shown rest (e ∙ silent line)
+  pub silent_turn : (echo : List ℕ → List ℕ) (policy : Tables) (schemes : Schemes) (a b : Option (List ℕ)) (t : Turn) → IsSilent echo → IsTurn echo policy schemes seat a b t → t.shown ≡ []
+  silent_turn echo policy schemes a b t silent (whole n s e f) = e ∙ silent t.line
+  silent_turn echo policy schemes a b t silent (long l e f) = e
+  silent_turn echo policy schemes a b t silent (cut line rest r e c) = nil_front t.shown rest (e ∙ silent line)
 
-  quiet_turns : (echo : List ℕ → List ℕ) (policy : Tables) (schemes : Schemes) → IsSilent echo → (ts : List Turn) → AllByRecursion (IsTurn echo policy schemes seat) ts → AllByRecursion (λ (t : Turn). t.shown ≡ []) ts
-  quiet_turns echo policy schemes silent [] h = tt
-  quiet_turns echo policy schemes silent (t ∷ ts) h = (quiet_turn echo policy schemes t silent h.0, quiet_turns echo policy schemes silent ts h.1)
-
-  pub silent_turn : (echo : List ℕ → List ℕ) (policy : Tables) (schemes : Schemes) (t : Turn) → IsSilent echo → IsTurn echo policy schemes seat t → t.shown ≡ []
-  silent_turn = quiet_turn
+  quiet_turns : (echo : List ℕ → List ℕ) → IsSilent echo → (w : World) (a b : Option (List ℕ)) (ts : List Turn) → AreTurns echo site seat w a b ts → AllByRecursion (λ (t : Turn). t.shown ≡ []) ts
+  unfolding AreTurns
+  quiet_turns echo silent w a b [] h = tt
+  quiet_turns echo silent w a b (t ∷ ts) h =
+      let (left, opened, turn, on, more) = h in
+      (silent_turn echo site.policy site.schemes a left t silent turn, quiet_turns echo silent (end_of site w (events_of t.fate)) left b ts more)
 
   -- the lines are those of a run
-  pub silent_lines : (echo : List ℕ → List ℕ) (policy : Tables) (schemes : Schemes) (w : World) (ts : List Turn) → IsSilent echo → AllByRecursion (IsTurn echo policy schemes seat) ts
+  pub silent_lines : (echo : List ℕ → List ℕ) (w : World) (a b : Option (List ℕ)) (ts : List Turn) → IsSilent echo → AreTurns echo site seat (after_opening site seat w) a b ts
       → transcript site seat w ts ≡ answers site seat w (opening seat ∷ events_in ts)
-  silent_lines echo policy schemes w ts silent each =
-      ap (λ l. answers site seat w (opening seat ∷ []) ++ l) (quiet (after_opening site seat w) ts (quiet_turns echo policy schemes silent ts each))
+  silent_lines echo w a b ts silent lines =
+      ap (λ l. answers site seat w (opening seat ∷ []) ++ l) (quiet (after_opening site seat w) ts (quiet_turns echo silent (after_opening site seat w) a b ts lines))
       ∙ sym (answers-append w (opening seat ∷ []) (events_in ts))

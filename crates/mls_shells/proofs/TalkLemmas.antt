@@ -1,9 +1,9 @@
 -- Shells, line by line: what holds of the lines up to here, and how a shell ends.
 use Rattle.std.specs.Prelude.{IsErrAnd}
-use Rattle.std.proofs.Common.{◌≡◌, ℕ, ◌+◌, ◌<◌, Bool, true, false, not, ◌||◌, List, [], ◌∷◌, ◌++◌, length, Option, Result, Ok, Err, OnOk, IfErr, refl, sym, ap, ◌∙◌, subst, inl, inr, ◌⊎◌, append-nil, arith}
-use Rattle.std.specs.List.{AllByRecursion, flat_map, list_any}
-use Rattle.std.specs.Io.KnownBytes.{Appends, Consumes, IsAtEnd}
-use Rattle.std.proofs.KnownBytes.{Appends-trans, Consumes-nil, Consumes-trans}
+use Rattle.std.proofs.Common.{◌≡◌, ℕ, suc, ◌+◌, ◌<◌, Bool, true, false, true≢false, not, ◌||◌, List, [], ◌∷◌, ◌++◌, length, Option, Result, Ok, Err, OnOk, IfErr, refl, sym, ap, ◌∙◌, subst, inl, inr, ◌⊎◌, append_assoc, append-nil, arith}
+use Rattle.std.specs.List.{list_any}
+use Rattle.std.specs.Io.KnownBytes.{Appends, IsAtEnd}
+use Rattle.std.proofs.KnownBytes.{Appends-trans}
 use Rattle.mls_filterview.specs.Content.{State}
 use Rattle.mls_script.specs.declared.event.Event.{Event}
 use Rattle.mls_machine.specs.declared.form.Audience.{Audience}
@@ -25,19 +25,13 @@ use Rattle.mls_shells.specs.declared.seat.Fate.TheVariants as fates
 use Rattle.mls_host.specs.Ending.{ending_if}
 use Rattle.mls_host.specs.Hosting.{IsTold}
 use Rattle.mls_host.proofs.HostingLemmas.{told_nothing, told_more}
-use Rattle.mls_shells.specs.Shell.{audience_at, Turn, IsTurn, events_of, events_in, opening, is_open, is_refused, is_last, is_failed, is_lost, prompt_of, told_of, told_from, answers, after_opening, transcript, AreNext, AreWhileOpen, has_refused, IsSilent, FateFits, IsTalk, IsEndOf, IsAnswered, IsFollowed, IsRead, IsConversation}
-use Rattle.mls_shells.proofs.ShellLemmas.{nothing_done, whole_more, stopped_more, fault_more, all-snoc, all-append, length-snoc, events-snoc, lines-snoc, told-snoc, world-snoc, next-snoc, transcript-snoc, while_open-snoc, refused-snoc, silent_turn, silent_lines, any-snoc}
+use Rattle.mls_shells.specs.Shell.{audience_at, Turn, events_of, events_in, opening, is_open, is_refused, is_last, is_failed, is_lost, prompt_of, told_of, told_from, answers, after_opening, transcript, shown_to, AreTurns, has_refused, IsSilent, FateFits, IsAnswered, IsFollowed, IsRead, IsConversation}
+use Rattle.mls_shells.proofs.ShellLemmas.{nothing_done, whole_more, stopped_more, fault_more, first_part, all-append, length-snoc, events-snoc, told-snoc, world-snoc, transcript-snoc, shown_before, shown_behind, shown_from, turns-snoc, refused-snoc, none_failed, failed_there, silent_turn, silent_lines, any-snoc}
 
 -- the events of a line are answered
 pub followed_whole : (at : Site) (audience : Audience) (w : World) (es : List Event) (was is : Option (List ℕ)) (new : World) (line : ℕ)
     → IsFollowed at audience w es was is new line (Ok tt) → IsWhole at audience w es was is new
 followed_whole at audience w es was is new line h = subst (λ (r : Result (Unit {0}) RunFault). OnOk r (IsWhole at audience w es was is new)) h.ok h.answered.whole
-
--- whether all are answered or not, something is written
-some_written : (at : Site) (audience : Audience) (w : World) (es : List Event) (was is : Option (List ℕ)) (new : World) (end : Result (Unit {0}) RunFault)
-    → IsAnswered at audience w es was is new end → (bytes : List ℕ) × Appends was is bytes
-some_written at audience w es was is new (Ok u) h = (_, h.whole.bytes)
-some_written at audience w es was is new (Err f) h = (_, h.stopped.bytes)
 
 ok_where : (r e : Result (Unit {0}) RunFault) → e ≡ Ok tt → OnOk r (e ≡ Ok tt)
 ok_where (Ok u) e h = h
@@ -104,25 +98,26 @@ fits_at p q policy schemes same a b fate h =
 pub level_at : (p q : Site) (policy : Tables) → p ≡ q → q.policy ≡ policy → (level : ℕ) → level < length policy.labels → level < length p.policy.labels
 level_at p q policy same a level h = subst (λ (x : Site). level < length x.policy.labels) (sym same) (subst (λ (x : Tables). level < length x.labels) (sym a) h)
 
-pub read_at : (echo : List ℕ → List ℕ) (q : Site) (policy : Tables) (schemes : Schemes) (seat : Seat) (a b c d : Option (List ℕ)) (fate : Fate) → q.policy ≡ policy → q.schemes ≡ schemes
-    → IsRead echo policy schemes seat a b c d fate → IsRead echo q.policy q.schemes seat a b c d fate
-read_at echo q policy schemes seat a b c d fate e f h = subst (λ y. IsRead echo q.policy y seat a b c d fate) (sym f) (subst (λ x. IsRead echo x schemes seat a b c d fate) (sym e) h)
+pub read_at : (echo : List ℕ → List ℕ) (q : Site) (policy : Tables) (schemes : Schemes) (seat : Seat) (a b c d : Option (List ℕ)) (Broken : Type 0) (fate : Fate) → q.policy ≡ policy → q.schemes ≡ schemes
+    → IsRead echo policy schemes seat a b c d Broken fate → IsRead echo q.policy q.schemes seat a b c d Broken fate
+read_at echo q policy schemes seat a b c d Broken fate e f h =
+    subst (λ y. IsRead echo q.policy y seat a b c d Broken fate) (sym f) (subst (λ x. IsRead echo x schemes seat a b c d Broken fate) (sym e) h)
 
 -- an error that is passed on
 pub carried : {A F : Type 0} (P : Result A F → Type 0) (r : Result A F) (f : F) → IsErrAnd r (λ e. e ≡ f) → P (Err f) → P r
 carried P (Ok a) f h p = absurd h
 carried P (Err e) f h p = subst (λ x. P (Err x)) (sym h) p
 
--- a line behind which no other is read is the end, or it was not read
-pub last_line : (fate : Fate) (left : Option (List ℕ)) → is_last fate ≡ true → (fate ≡ fates.Over → IsAtEnd left) → IsAtEnd left ⊎ (is_failed fate ≡ true)
-last_line fates.Over left h over = inl (over refl)
-last_line fates.Blank left h over = absurd cc
-last_line fates.Help left h over = absurd cc
-last_line (fates.Said events) left h over = absurd cc
-last_line (fates.Refused fault) left h over = absurd cc
-last_line fates.TooLong left h over = absurd cc
-last_line fates.Unreadable left h over = inr refl
-last_line (fates.Lost cause) left h over = absurd cc
+-- a line behind which no other is read is the end, or it was not read, or the shell is given up at it
+pub last_line : (fate : Fate) (left : Option (List ℕ)) → is_last fate ≡ true → is_lost fate ≡ false → (fate ≡ fates.Over → IsAtEnd left) → IsAtEnd left ⊎ (is_failed fate ≡ true)
+last_line fates.Over left h none over = inl (over refl)
+last_line fates.Blank left h none over = absurd cc
+last_line fates.Help left h none over = absurd cc
+last_line (fates.Said events) left h none over = absurd cc
+last_line (fates.Refused fault) left h none over = absurd cc
+last_line fates.TooLong left h none over = absurd cc
+last_line fates.Unreadable left h none over = inr refl
+last_line (fates.Lost cause) left h none over = absurd cc
 
 pub failed_last : (ts : List Turn) (t : Turn) (left : Option (List ℕ)) → IsAtEnd left ⊎ (is_failed t.fate ≡ true) → IsAtEnd left ⊎ (list_any (λ (t : Turn). is_failed t.fate) (ts ++ t ∷ []) ≡ true)
 failed_last ts t left (inl h) = inl h
@@ -142,21 +137,19 @@ module _ {B E : Type 0} (state : B → State) (is_clean : B → Type 0) (content
   abbrev w : World
   w = world_of state first
 
-  -- so many lines were read and answered
-  pub record SoFar (count : ℕ) (now : Engine B) (err : Errors E) (left is : Option (List ℕ)) (refused : Bool) : Type 0 where
+  -- so many lines were read and answered; of the last it is said whether it is one behind which no other is read
+  pub record SoFar (count : ℕ) (now : Engine B) (err : Errors E) (left is : Option (List ℕ)) (refused last : Bool) : Type 0 where
     pub turns : List Turn
     pub count_is : length turns ≡ count
     pub clean : is_clean now.base → is_clean first.base
     pub kept : IsKept state is_clean first now
-    pub each : AllByRecursion (IsTurn echo at.policy at.schemes seat) turns
-    pub read : Consumes given left (flat_map (λ (t : Turn). t.line) turns)
-    pub next : AreNext given turns
     pub none_lost : list_any (λ (t : Turn). is_lost t.fate) turns ≡ false
+    pub last_is : list_any (λ (t : Turn). is_last t.fate) turns ≡ last
     pub told : IsTold contents quiet err (told_from seat 1 turns)
     pub fits : EventsFit at (events_in turns)
+    pub lines : is_clean now.base → AreTurns echo at seat (after_opening at seat w) given left turns
     pub world : is_clean now.base → world_of state now ≡ end_of at w (opening seat ∷ events_in turns)
     pub written : is_clean now.base → Appends was is (transcript at seat w turns)
-    pub opened : is_clean now.base → AreWhileOpen at seat (after_opening at seat w) turns
     pub refused_is : is_clean now.base → refused ≡ has_refused at seat w turns
 
   -- what is said of the session is said of the world
@@ -166,8 +159,8 @@ module _ {B E : Type 0} (state : B → State) (is_clean : B → Type 0) (content
     pub followed : is_clean now.base → IsFollowed at (audience_at seat) w (opening seat ∷ []) was is (world_of state now) 0 (Ok tt)
     pub refused_is : refused ≡ not (is_open seat (world_of state now))
 
-  pub so_far_start : (now : Engine B) (is : Option (List ℕ)) (refused : Bool) → Opened now is refused → SoFar 0 now quiet given is refused
-  unfolding told_from Rattle.mls_shells.specs.Shell.dialogue AreNext AreWhileOpen
+  pub so_far_start : (now : Engine B) (is : Option (List ℕ)) (refused : Bool) → Opened now is refused → SoFar 0 now quiet given is refused false
+  unfolding told_from Rattle.mls_shells.specs.Shell.dialogue AreTurns
   so_far_start now is refused h =
       let done : is_clean now.base → IsWhole at (audience_at seat) w (opening seat ∷ []) was is (world_of state now) =
       λ c. followed_whole at (audience_at seat) w (opening seat ∷ []) was is (world_of state now) 0 (h.followed c) in
@@ -176,15 +169,13 @@ module _ {B E : Type 0} (state : B → State) (is_clean : B → Type 0) (content
         count_is = refl;
         clean = h.clean;
         kept = h.kept;
-        each = tt;
-        read = Consumes-nil given;
-        next = tt;
         none_lost = refl;
+        last_is = refl;
         told = told_nothing contents quiet;
         fits = tt;
+        lines = λ c. refl;
         world = λ c. (done c).world;
         written = λ c. subst (Appends was is) (sym (append-nil (answers at seat w (opening seat ∷ [])))) (done c).bytes;
-        opened = λ c. tt;
         refused_is = λ c. h.refused_is ∙ ap (λ u. not (is_open seat u)) (done c).world ∙ or_none (not (is_open seat (after_opening at seat w)));
       }
     where
@@ -192,19 +183,19 @@ module _ {B E : Type 0} (state : B → State) (is_clean : B → Type 0) (content
       or_none true = refl
       or_none false = refl
 
-  module _ (count : ℕ) (now : Engine B) (err : Errors E) (left is : Option (List ℕ)) (refused : Bool) (s : SoFar count now err left is refused) where
+  module _ (count : ℕ) (now : Engine B) (err : Errors E) (left is : Option (List ℕ)) (refused : Bool) (s : SoFar count now err left is refused false) where
     same_site : site now ≡ at
     same_site = ap site_of s.kept.rules
 
     -- the prompt is shown, a line is read, and something becomes of it
-    pub record Line (fate : Fate) (asked said : Errors E) (over shown : Option (List ℕ)) : Type 0 where
+    pub record Line (fate : Fate) (asked said : Errors E) (over shown : Option (List ℕ)) (Broken : Type 0) : Type 0 where
       pub was_open : is_open seat (world_of state now) ≡ true
       pub asked_is : IsTold contents err asked (prompt_of seat)
-      pub read : IsRead echo at.policy at.schemes seat left over is shown fate
+      pub read : IsRead echo at.policy at.schemes seat left over is shown Broken fate
       pub fits : FateFits at.policy at.schemes fate
       pub said_is : IsTold contents asked said (told_of seat (count + 1) fate)
 
-    module _ (fate : Fate) (asked said : Errors E) (over shown : Option (List ℕ)) (l : Line fate asked said over shown) where
+    module _ (fate : Fate) (asked said : Errors E) (over shown : Option (List ℕ)) (Broken : Type 0) (l : Line fate asked said over shown Broken) where
       abbrev turn : Turn
       turn = l.read.turn
 
@@ -222,20 +213,14 @@ module _ {B E : Type 0} (state : B → State) (is_clean : B → Type 0) (content
           number : count + 1 ≡ 1 + length s.turns
           number = let e = s.count_is in omega arith
 
-      read_now : Consumes given over (flat_map (λ (t : Turn). t.line) turns)
-      read_now = subst (Consumes given over) (sym (lines-snoc s.turns turn)) (Consumes-trans given left over _ turn.line s.read l.read.read)
-
-      next_now : AreNext given turns
-      next_now = next-snoc given left over s.turns turn s.next s.read l.read.next
-
-      each_now : AllByRecursion (IsTurn echo at.policy at.schemes seat) turns
-      each_now = all-snoc (IsTurn echo at.policy at.schemes seat) s.turns turn s.each l.read.is_turn
-
       fits_now : EventsFit at (events_in turns)
       fits_now = subst (EventsFit at) (sym (events-snoc s.turns turn)) (all-append _ (events_in s.turns) (events_of turn.fate) s.fits (subst (λ (x : Fate). EventsFit at (events_of x)) (sym l.read.same) (fate_fits at fate l.fits)))
 
-      open_now : is_clean now.base → AreWhileOpen at seat (after_opening at seat w) turns
-      open_now c = while_open-snoc at seat w s.turns turn (s.opened c) (subst (λ u. is_open seat u ≡ true) (s.world c) l.was_open)
+      lines_now : is_clean now.base → AreTurns echo at seat (after_opening at seat w) given over turns
+      lines_now c = turns-snoc at seat w echo given left over s.turns turn (s.lines c) s.last_is (subst (λ u. is_open seat u ≡ true) (s.world c) l.was_open) l.read.is_turn
+
+      pub broken_now : list_any (λ (t : Turn). is_failed t.fate) turns ≡ true → Broken
+      broken_now h = l.read.broken (sym l.read.same ∙ failed_there s.turns turn s.last_is h)
 
       count_now : length turns ≡ count + 1
       count_now = length-snoc s.turns turn ∙ ap (λ n. n + 1) s.count_is
@@ -253,7 +238,7 @@ module _ {B E : Type 0} (state : B → State) (is_clean : B → Type 0) (content
             (subst (λ (p : Site). IsFollowed p (audience_at seat) (world_of state now) (events_of fate) shown after (world_of state new) (count + 1) r) same_site h))
 
         pub so_far_more : is_lost fate ≡ false → (is_clean new.base → IsFollowed (site now) (audience_at seat) (world_of state now) (events_of fate) shown after (world_of state new) (count + 1) (Ok tt))
-            → SoFar (count + 1) new said over after (refused || is_refused fate)
+            → SoFar (count + 1) new said over after (refused || is_refused fate) (is_last fate)
         so_far_more found h =
             let done : is_clean new.base → IsWhole at (audience_at seat) (end_of at w (opening seat ∷ events_in s.turns)) (events_of turn.fate) shown after (world_of state new) =
             λ c. followed_whole at (audience_at seat) (end_of at w (opening seat ∷ events_in s.turns)) (events_of turn.fate) shown after (world_of state new) (count + 1) (moved c (h c)) in
@@ -262,16 +247,14 @@ module _ {B E : Type 0} (state : B → State) (is_clean : B → Type 0) (content
               count_is = count_now;
               clean = λ c. s.clean (clean c);
               kept = kept_now;
-              each = each_now;
-              read = read_now;
-              next = next_now;
               none_lost = any-snoc (λ (t : Turn). is_lost t.fate) s.turns turn ∙ ap (λ b. b || is_lost turn.fate) s.none_lost ∙ ap is_lost l.read.same ∙ found;
+              last_is = any-snoc (λ (t : Turn). is_last t.fate) s.turns turn ∙ ap (λ b. b || is_last turn.fate) s.last_is ∙ ap is_last l.read.same;
               told = told_now;
               fits = fits_now;
+              lines = λ c. lines_now (clean c);
               world = λ c. (done c).world ∙ world-snoc at seat w s.turns turn;
               written = λ c. subst (Appends was after) (sym (transcript-snoc at seat w s.turns turn))
                   (Appends-trans was is after (transcript at seat w s.turns) _ (s.written (clean c)) (Appends-trans is shown after turn.shown _ l.read.shown (done c).bytes));
-              opened = λ c. open_now (clean c);
               refused_is = λ c. ap (λ b. b || is_refused fate) (s.refused_is (clean c)) ∙ ap (λ (x : Fate). has_refused at seat w s.turns || is_refused x) (sym l.read.same)
                   ∙ sym (refused-snoc at seat w s.turns turn);
             }
@@ -279,36 +262,42 @@ module _ {B E : Type 0} (state : B → State) (is_clean : B → Type 0) (content
         -- a shell that is given up at the line
         pub broken : EventsFit at (opening seat ∷ []) → (fault : RunFault) → (c : is_clean new.base)
             → IsFollowed (site now) (audience_at seat) (world_of state now) (events_of fate) shown after (world_of state new) (count + 1) (Err fault)
-            → IsConversation echo at seat w (world_of state new) given over was after (IsTold contents quiet said) (Err fault)
+            → IsConversation echo at seat given over was after Broken (IsTold contents quiet said) (Err fault) w (world_of state new)
         broken opens fault c h =
             let k = moved c h in
             let world = end_of at w (opening seat ∷ events_in s.turns) in
-            let answered = some_written at (audience_at seat) world (events_of turn.fate) shown after (world_of state new) k.end k.answered in
+            let (part, rest, bytes, both) = first_part at (audience_at seat) world (events_of turn.fate) shown after (world_of state new) k.end k.answered in
             let es = (opening seat ∷ events_in s.turns) ++ events_of turn.fate in
             let same : es ≡ opening seat ∷ events_in turns = ap (λ (l : List Event). opening seat ∷ l) (sym (events-snoc s.turns turn)) in
             let silent : IsSilent echo → IsWhole at (audience_at seat) w (opening seat ∷ events_in s.turns) was shown world =
             λ q. record {
               bytes = subst (Appends was shown) (append-nil _) (Appends-trans was is shown (answers at seat w (opening seat ∷ events_in s.turns)) []
-                  (subst (Appends was is) (silent_lines at seat echo at.policy at.schemes w s.turns q s.each) (s.written (clean c)))
-                  (subst (Appends is shown) (silent_turn at seat echo at.policy at.schemes turn q l.read.is_turn) l.read.shown));
+                  (subst (Appends was is) (silent_lines at seat echo w given left s.turns q (s.lines (clean c))) (s.written (clean c)))
+                  (subst (Appends is shown) (silent_turn at seat echo at.policy at.schemes left over turn q l.read.is_turn) l.read.shown));
               world = refl;
             } in
+            let line : fault.event ≡ length turns = k.line ∙ sym count_now in
+            let front = transcript at seat w s.turns in
+            let before : shown_to at seat w turns fault.event ≡ front = shown_before at seat w s.turns turn fault.event line in
             record {
-              turns = turns;
-              run_end = later k.end;
-              talk = record { each = each_now; read = read_now; next = next_now; opened = open_now (clean c) };
-              told = told_now;
-              written = tt;
-              begun = λ some. record {
-                whole = s.turns;
-                last = turn ∷ [];
-                parts = refl;
-                one = omega arith;
-                none_lost = s.none_lost;
-                part = turn.shown ++ answered.0;
-                written = Appends-trans was is after (transcript at seat w s.turns) _ (s.written (clean c)) (Appends-trans is shown after turn.shown answered.0 l.read.shown answered.1);
+              talk = record {
+                turns = turns;
+                run_end = later k.end;
+                lines = lines_now (clean c);
+                broken = broken_now;
+                told = told_now;
+                ended = record {
+                  line = line;
+                  cause = later_cause k.end fault k.cause;
+                  part = turn.shown ++ part;
+                  rest = rest;
+                  written = subst (λ t. Appends was after (t ++ (turn.shown ++ part))) (sym before)
+                      (Appends-trans was is after front _ (s.written (clean c)) (Appends-trans is shown after turn.shown part l.read.shown bytes));
+                  whole = ap (λ t. (t ++ (turn.shown ++ part)) ++ rest) before ∙ append_assoc front (turn.shown ++ part) rest
+                      ∙ ap (λ t. front ++ t) (append_assoc turn.shown part rest ∙ ap (λ t. turn.shown ++ t) both)
+                      ∙ sym (transcript-snoc at seat w s.turns turn) ∙ sym (shown_behind at seat w turns fault.event line);
+                };
               };
-              ended = record { line = k.line ∙ sym count_now; cause = later_cause k.end fault k.cause };
               fits = (opens.0, fits_now);
               run = λ q. subst (λ (es : List Event). IsAnswered at (audience_at seat) w es was after (world_of state new) (later k.end)) same (later_answered k.end (silent q) k.answered);
             }
@@ -337,77 +326,110 @@ module _ {B E : Type 0} (state : B → State) (is_clean : B → Type 0) (content
 
   -- ---- how a shell ends
 
-  module _ (opens : EventsFit at (opening seat ∷ [])) where
+  module _ (opens : EventsFit at (opening seat ∷ [])) (Broken : Type 0) where
     -- it is given up at the opening
     pub broken_first : (new : Engine B) (after : Option (List ℕ)) (fault : RunFault) → IsFollowed at (audience_at seat) w (opening seat ∷ []) was after (world_of state new) 0 (Err fault)
-        → IsConversation echo at seat w (world_of state new) given given was after (IsTold contents quiet quiet) (Err fault)
-    unfolding told_from AreNext AreWhileOpen
-    broken_first new after fault h = record {
-      turns = [];
-      run_end = h.end;
-      talk = record { each = tt; read = Consumes-nil given; next = tt; opened = tt };
-      told = told_nothing contents quiet;
-      written = tt;
-      begun = λ some. absurd (some h.line);
-      ended = record { line = h.line; cause = h.cause };
-      fits = opens;
-      run = λ q. h.answered;
-    }
+        → IsConversation echo at seat given given was after Broken (IsTold contents quiet quiet) (Err fault) w (world_of state new)
+    unfolding told_from Rattle.mls_shells.specs.Shell.dialogue AreTurns
+    broken_first new after fault h =
+        let (part, rest, bytes, both) = first_part at (audience_at seat) w (opening seat ∷ []) was after (world_of state new) h.end h.answered in
+        record {
+          talk = record {
+            turns = [];
+            run_end = h.end;
+            lines = refl;
+            broken = λ f. absurd (true≢false (sym f));
+            told = told_nothing contents quiet;
+            ended = record {
+              line = h.line;
+              cause = h.cause;
+              part = part;
+              rest = rest;
+              written = subst (λ n. Appends was after (shown_to at seat w [] n ++ part)) (sym h.line) bytes;
+              whole = subst (λ n. (shown_to at seat w [] n ++ part) ++ rest ≡ shown_to at seat w [] (suc n)) (sym h.line) (both ∙ sym (append-nil (answers at seat w (opening seat ∷ []))));
+            };
+          };
+          fits = opens;
+          run = λ q. h.answered;
+        }
 
-    module _ (count : ℕ) (now : Engine B) (err : Errors E) (left is : Option (List ℕ)) (refused : Bool) (s : SoFar count now err left is refused) (c : is_clean now.base) where
+    module _ (count : ℕ) (now : Engine B) (err : Errors E) (left is : Option (List ℕ)) (refused last : Bool) (s : SoFar count now err left is refused last) (c : is_clean now.base) where
       all_answered : IsSilent echo → IsAnswered at (audience_at seat) w (opening seat ∷ events_in s.turns) was is (world_of state now) (Ok tt)
       all_answered q = record {
-        whole = record { bytes = subst (Appends was is) (silent_lines at seat echo at.policy at.schemes w s.turns q s.each) (s.written c); world = s.world c };
+        whole = record { bytes = subst (Appends was is) (silent_lines at seat echo w given left s.turns q (s.lines c)) (s.written c); world = s.world c };
         stopped = tt;
         fault = tt;
       }
 
       -- it ends well
       pub over : (is_open seat (world_of state now) ≡ true → IsAtEnd left ⊎ (list_any (λ (t : Turn). is_failed t.fate) s.turns ≡ true))
-          → IsConversation echo at seat w (world_of state now) given left was is (IsTold contents quiet err) (Ok (ending_if refused))
-      over all = record {
-        turns = s.turns;
-        run_end = Ok tt;
-        talk = record { each = s.each; read = s.read; next = s.next; opened = s.opened c };
-        told = s.told;
-        written = s.written c;
-        begun = tt;
-        ended = (refl, record { status = ap ending_if (s.refused_is c); none_lost = s.none_lost; all = λ o. all (subst (λ u. is_open seat u ≡ true) (sym (s.world c)) o) });
+          → (list_any (λ (t : Turn). is_failed t.fate) s.turns ≡ true → Broken)
+          → IsConversation echo at seat given left was is Broken (IsTold contents quiet err) (Ok (ending_if refused)) w (world_of state now)
+      over all breaks = record {
+        talk = record {
+          turns = s.turns;
+          run_end = Ok tt;
+          lines = s.lines c;
+          broken = breaks;
+          told = s.told;
+          ended = (
+            refl,
+            record {
+              written = s.written c;
+              status = ap ending_if (s.refused_is c);
+              none_lost = s.none_lost;
+              all = λ o. all (subst (λ u. is_open seat u ≡ true) (sym (s.world c)) o);
+            },
+          );
+        };
         fits = (opens.0, s.fits);
         run = all_answered;
       }
+
+    module _ (count : ℕ) (now : Engine B) (err : Errors E) (left is : Option (List ℕ)) (refused : Bool) (s : SoFar count now err left is refused false) (c : is_clean now.base) where
+      none_broken : list_any (λ (t : Turn). is_failed t.fate) s.turns ≡ true → Broken
+      none_broken f = absurd (true≢false (sym f ∙ none_failed s.turns s.last_is))
+
+      -- it ends well where the session is closed
+      pub over_closed : is_open seat (world_of state now) ≡ false → IsConversation echo at seat given left was is Broken (IsTold contents quiet err) (Ok (ending_if refused)) w (world_of state now)
+      over_closed closed = over count now err left is refused false s c (λ o. absurd (true≢false (sym o ∙ closed))) none_broken
 
       -- it is given up between two lines
-      pub worn_out : (fault : RunFault) → fault.event ≡ count → IsConversation echo at seat w (world_of state now) given left was is (IsTold contents quiet err) (Err fault)
-      worn_out fault e = record {
-        turns = s.turns;
-        run_end = Ok tt;
-        talk = record { each = s.each; read = s.read; next = s.next; opened = s.opened c };
-        told = s.told;
-        written = tt;
-        begun = λ some. record {
-          whole = s.turns;
-          last = [];
-          parts = sym (append-nil s.turns);
-          one = omega arith;
-          none_lost = s.none_lost;
-          part = [];
-          written = subst (Appends was is) (sym (append-nil (transcript at seat w s.turns))) (s.written c);
-        };
-        ended = record { line = e ∙ sym s.count_is; cause = tt };
-        fits = (opens.0, s.fits);
-        run = all_answered;
-      }
+      pub worn_out : (fault : RunFault) → fault.event ≡ count → IsConversation echo at seat given left was is Broken (IsTold contents quiet err) (Err fault) w (world_of state now)
+      worn_out fault e =
+          let line : fault.event ≡ length s.turns = e ∙ sym s.count_is in
+          let rest = shown_from at seat w s.turns fault.event in
+          record {
+            talk = record {
+              turns = s.turns;
+              run_end = Ok tt;
+              lines = s.lines c;
+              broken = none_broken;
+              told = s.told;
+              ended = record {
+                line = line;
+                cause = tt;
+                part = rest.0;
+                rest = [];
+                written = subst (Appends was is) (sym rest.1) (s.written c);
+                whole = append-nil (shown_to at seat w s.turns fault.event ++ rest.0) ∙ rest.1 ∙ sym (shown_behind at seat w s.turns fault.event line);
+              };
+            };
+            fits = (opens.0, s.fits);
+            run = all_answered count now err left is refused false s c;
+          }
 
     -- it ends well at a line behind which no other is read
-    pub over_last : (count : ℕ) (now : Engine B) (err : Errors E) (left is : Option (List ℕ)) (refused : Bool) (s : SoFar count now err left is refused)
-        (fate : Fate) (asked said : Errors E) (past shown : Option (List ℕ)) (l : Line count now err left is refused s fate asked said past shown)
+    pub over_last : (count : ℕ) (now : Engine B) (err : Errors E) (left is : Option (List ℕ)) (refused : Bool) (s : SoFar count now err left is refused false)
+        (fate : Fate) (asked said : Errors E) (past shown : Option (List ℕ)) (l : Line count now err left is refused s fate asked said past shown Broken)
         (new : Engine B) (after : Option (List ℕ)) (clean : is_clean new.base → is_clean now.base) (kept : IsKept state is_clean now new)
         → is_lost fate ≡ false → (is_clean new.base → IsFollowed (site now) (audience_at seat) (world_of state now) (events_of fate) shown after (world_of state new) (count + 1) (Ok tt))
         → is_last fate ≡ true → is_clean new.base
-        → IsConversation echo at seat w (world_of state new) given past was after (IsTold contents quiet said) (Ok (ending_if (refused || is_refused fate)))
+        → IsConversation echo at seat given past was after Broken (IsTold contents quiet said) (Ok (ending_if (refused || is_refused fate))) w (world_of state new)
     unfolding so_far_more
     over_last count now err left is refused s fate asked said past shown l new after clean kept found h last c =
-        over (count + 1) new said past after (refused || is_refused fate)
-        (so_far_more count now err left is refused s fate asked said past shown l new after clean kept found h) c
-        (λ o. failed_last s.turns l.read.turn past (last_line l.read.turn.fate past (ap is_last l.read.same ∙ last) (λ e. l.read.over (sym l.read.same ∙ e))))
+        over (count + 1) new said past after (refused || is_refused fate) (is_last fate)
+        (so_far_more count now err left is refused s fate asked said past shown Broken l new after clean kept found h) c
+        (λ o. failed_last s.turns l.read.turn past
+        (last_line l.read.turn.fate past (ap is_last l.read.same ∙ last) (ap is_lost l.read.same ∙ found) (λ e. l.read.over (sym l.read.same ∙ e))))
+        (broken_now count now err left is refused s fate asked said past shown Broken l)

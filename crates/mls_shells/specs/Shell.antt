@@ -1,5 +1,7 @@
 -- A shell: lines are typed, and each is answered before the next is read.
-use Rattle.std.specs.Prelude.{◌≡◌, ◌≢◌, ℕ, ◌+◌, ◌-◌, ◌≤◌, max, Bool, true, false, not, ◌&&◌, ◌||◌, if◌then◌else◌, nat_eq, List, [], ◌∷◌, ◌++◌, codes, length, drop, Option, option_map, is_some, IfErr, OnOk, Result, Ok, Err, ◌⊎◌, ⊤}
+use Rattle.std.specs.Prelude.{◌≡◌, ◌≢◌, ℕ, zero, suc, ◌+◌, ◌-◌, ◌≤◌, max, nat_eq, Bool, true, false, not, ◌&&◌, ◌||◌}
+use Rattle.std.specs.Prelude.{if◌then◌else◌, List, [], ◌∷◌, ◌++◌, codes, length, take, Option, is_some, ◌⊎◌, ⊤}
+use Rattle.std.specs.Prelude.{IfErr, OnOk, Result, Ok, Err}
 use Rattle.std.specs.List.{AllByRecursion, flat_map, list_all, list_any}
 use Rattle.std.specs.Str.{bytes_eq}
 use Rattle.std.specs.Io.KnownBytes.{Appends, Consumes, IsAtEnd}
@@ -12,19 +14,20 @@ use Rattle.mls_script.specs.declared.fault.ScriptFault.{ScriptFault}
 use Rattle.mls_script.specs.declared.fault.ScriptCause.TheVariants.{Expected}
 use Rattle.mls_script.specs.Event.{EventFits}
 use Rattle.mls_script.specs.Reading.{script_at}
+use Rattle.mls_script.specs.Script.{ReadsScript}
 use Rattle.mls_machine.specs.declared.form.Audience.{Audience}
 use Rattle.mls_machine.specs.Site.{Site}
 use Rattle.mls_machine.specs.Machine.{World, end_of}
 use Rattle.mls_machine.specs.Observation.{EventsFit, run_shows, reader_of}
 use Rattle.mls_sessions.specs.declared.cause.RunFault.{RunFault}
-use Rattle.mls_sessions.specs.declared.cause.RunCause.TheVariants.{Memory}
 use Rattle.mls_sessions.specs.Run.{IsWhole, IsStopped, IsFaultOf}
-use Rattle.mls_typing.specs.Typing.{IsNext}
+use Rattle.mls_typing.specs.Typing.{IsNext, IsLong}
 use Rattle.mls_host.specs.declared.ending.Ending.{Ending}
 use Rattle.mls_shells.specs.declared.help.TheConstants.{HELP}
 use Rattle.mls_shells.specs.declared.seat.Seat.{Seat}
 use Rattle.mls_shells.specs.declared.seat.Fate.{Fate}
-use Rattle.mls_shells.specs.declared.seat.Fate.TheVariants.{Over, Blank, Help, Said, Refused, TooLong, Unreadable, Lost}
+use Rattle.mls_shells.specs.declared.seat.Fate.TheVariants.{Over, Blank, Help, Said, Refused, TooLong}
+use Rattle.mls_shells.specs.declared.seat.Fate.TheVariants.{Unreadable, Lost}
 use Rattle.mls_host.specs.Ending.{ending_if}
 use Rattle.mls_host.specs.Running.{first_world, form_of, IsRun}
 use Rattle.mls_host.specs.Telling.{prompt_text, line_told, fault_told}
@@ -56,27 +59,24 @@ is_own seat e = nat_eq e.level seat.level && bytes_eq e.session seat.user
 
 -- events, all of the session
 abbrev pub fate_of_events : Seat → List Event → Fate
-fate_of_events seat events = if list_all (is_own seat) events then Said events else Refused (record { line = 1; column = 1; cause = Expected })
+fate_of_events seat events =
+    if list_all (is_own seat) events then Said events else Refused (record { line = 1; column = 1; cause = Expected })
 
--- a line that is none behind the prefix is blank where by itself it tells nothing
-abbrev pub fate_of_fault : ScriptFault → Result (List Event) ScriptFault → Fate
-fate_of_fault fault (Ok []) = Blank
-fate_of_fault fault (Ok (e ∷ es)) = Refused fault
-fate_of_fault fault (Err alone) = Refused fault
+-- it is no end, and no call for help
+abbrev pub IsCommand : List ℕ → Type 0
+IsCommand line = (line ≢ []) × (line ≢ codes "help\n")
 
-module _ (policy : Tables) (schemes : Schemes) (seat : Seat) where
-  abbrev pub fate_read : List ℕ → Result (List Event) ScriptFault → Fate
-  fate_read line (Ok events) = fate_of_events seat events
-  fate_read line (Err fault) = fate_of_fault fault (script_at policy schemes line)
-
-  abbrev pub fate_of : List ℕ → Fate
-  fate_of line =
-      if nat_eq (length line) 0 then Over
-      else (if bytes_eq line (codes "help\n") then Help else fate_read line (script_at policy schemes (prefix_of seat ++ line)))
-
--- so it is, unless memory runs out
-abbrev pub Becomes : Fate → Fate → Type 0
-Becomes wanted fate = (fate ≡ wanted) ⊎ (fate ≡ Lost Memory)
+-- behind the words of the session a line tells events; or it tells none so, and nothing by itself; or it is refused for
+-- the first fault behind these words
+pub data IsFate (policy : Tables) (schemes : Schemes) (seat : Seat) (line : List ℕ) (fate : Fate) : Type 0 where
+  over : line ≡ [] → fate ≡ Over → IsFate policy schemes seat line fate
+  help : line ≡ codes "help\n" → fate ≡ Help → IsFate policy schemes seat line fate
+  said : (events : List Event) → IsCommand line → ReadsScript policy schemes (prefix_of seat ++ line) events
+      → fate ≡ fate_of_events seat events → IsFate policy schemes seat line fate
+  blank : IsCommand line → ((events : List Event) → ReadsScript policy schemes (prefix_of seat ++ line) events → ⊥)
+      → ReadsScript policy schemes line [] → fate ≡ Blank → IsFate policy schemes seat line fate
+  refused : (fault : ScriptFault) → IsCommand line → script_at policy schemes (prefix_of seat ++ line) ≡ Err fault
+      → (ReadsScript policy schemes line [] → ⊥) → fate ≡ Refused fault → IsFate policy schemes seat line fate
 
 abbrev pub FateFits : Tables → Schemes → Fate → Type 0
 FateFits policy schemes (Said events) = AllByRecursion (EventFits policy schemes) events
@@ -108,6 +108,7 @@ is_refused fate = false
 abbrev pub is_last : Fate → Bool
 is_last Over = true
 is_last Unreadable = true
+is_last (Lost cause) = true
 is_last fate = false
 
 abbrev pub is_failed : Fate → Bool
@@ -133,20 +134,15 @@ pub record Turn : Type 0 where
   pub shown : List ℕ
   pub fate : Fate
 
--- a line is shown and understood; it is too long; or it is not read or understood whole
-pub data IsTurn (echo : List ℕ → List ℕ) (policy : Tables) (schemes : Schemes) (seat : Seat) (t : Turn) : Type 0 where
-  whole : length t.line ≤ 1048576 → t.shown ≡ echo t.line → t.fate ≡ fate_of policy schemes seat t.line → IsTurn echo policy schemes seat t
-  long : 1048576 ≤ length t.line → t.shown ≡ [] → t.fate ≡ TooLong → IsTurn echo policy schemes seat t
-  cut : (line : List ℕ) (rest : List ℕ) → t.shown ++ rest ≡ echo line → IsCut t.fate → IsTurn echo policy schemes seat t
-
--- what is still to come behind a line
-abbrev pub behind : List ℕ → Option (List ℕ) → Option (List ℕ)
-behind line = option_map (drop (length line))
-
--- each line comes next, up to its LF or up to the end; or it was not read or understood whole
-unfoldable pub AreNext : Option (List ℕ) → List Turn → Type 0
-AreNext before [] = ⊤
-AreNext before (t ∷ ts) = (IsCut t.fate ⊎ IsNext before (behind t.line before) t.line) × AreNext (behind t.line before) ts
+-- a line comes next and is understood; or it is too long; or it is not read or understood whole
+pub data IsTurn (echo : List ℕ → List ℕ) (policy : Tables) (schemes : Schemes) (seat : Seat)
+    (before after : Option (List ℕ)) (t : Turn) : Type 0 where
+  whole : IsNext before after t.line → length t.line ≤ 1048576 → t.shown ≡ echo t.line
+      → IsFate policy schemes seat t.line t.fate → IsTurn echo policy schemes seat before after t
+  long : IsLong before after t.line → t.shown ≡ [] → t.fate ≡ TooLong
+      → IsTurn echo policy schemes seat before after t
+  cut : (line : List ℕ) (rest : List ℕ) → Consumes before after t.line → t.shown ++ rest ≡ echo line → IsCut t.fate
+      → IsTurn echo policy schemes seat before after t
 
 abbrev pub events_in : List Turn → List Event
 events_in = flat_map (λ t. events_of t.fate)
@@ -161,17 +157,17 @@ module _ (site : Site) (seat : Seat) where
   dialogue w [] = []
   dialogue w (t ∷ ts) = (t.shown ++ answers w (events_of t.fate)) ++ dialogue (end_of site w (events_of t.fate)) ts
 
-  -- each line is read while the session is open
-  unfoldable pub AreWhileOpen : World → List Turn → Type 0
-  AreWhileOpen w [] = ⊤
-  AreWhileOpen w (t ∷ ts) = (is_open seat w ≡ true) × AreWhileOpen (end_of site w (events_of t.fate)) ts
-
   -- the world in which the first line is read
   abbrev pub after_opening : World → World
   after_opening w = end_of site w (opening seat ∷ [])
 
   abbrev pub transcript : World → List Turn → List ℕ
   transcript w turns = answers w (opening seat ∷ []) ++ dialogue (after_opening w) turns
+
+  -- what is shown before a line: nothing before the opening, which is as a line 0
+  abbrev pub shown_to : World → List Turn → ℕ → List ℕ
+  shown_to w turns zero = []
+  shown_to w turns (suc n) = transcript w (take n turns)
 
   -- the opening is denied, or a line is refused
   abbrev pub has_refused : World → List Turn → Bool
@@ -188,64 +184,70 @@ IsSilent echo = (line : List ℕ) → echo line ≡ []
 
 -- ---- how a shell ends
 
--- where the session is still open, all lines were read, or a read failed
-pub record IsWellEnded (site : Site) (seat : Seat) (w : World) (turns : List Turn) (left : Option (List ℕ)) (ending : Ending) : Type 0 where
-  pub status : ending ≡ ending_if (has_refused site seat w turns)
-  pub none_lost : list_any (λ t. is_lost t.fate) turns ≡ false
-  pub all : is_open seat (end_of site w (opening seat ∷ events_in turns)) ≡ true → IsAtEnd left ⊎ (list_any (λ t. is_failed t.fate) turns ≡ true)
+module _ (site : Site) (seat : Seat) (w : World) (turns : List Turn) (Wrote : List ℕ → Type 0) where
+  -- all is written; and where the session is still open, all lines were read, or a read failed
+  pub record IsWellEnded (left : Option (List ℕ)) (ending : Ending) : Type 0 where
+    pub written : Wrote (transcript site seat w turns)
+    pub status : ending ≡ ending_if (has_refused site seat w turns)
+    pub none_lost : list_any (λ t. is_lost t.fate) turns ≡ false
+    pub all : is_open seat (end_of site w (opening seat ∷ events_in turns)) ≡ true
+        → IsAtEnd left ⊎ (list_any (λ t. is_failed t.fate) turns ≡ true)
 
--- it is given up behind so many lines, or at the last of them: what was written begins with those before it and their answers
-pub record IsCutShort (site : Site) (seat : Seat) (w : World) (turns : List Turn) (Wrote : List ℕ → Type 0) : Type 0 where
-  pub whole : List Turn
-  pub last : List Turn
-  pub parts : turns ≡ whole ++ last
-  pub one : length last ≤ 1
-  pub none_lost : list_any (λ t. is_lost t.fate) whole ≡ false
-  pub part : List ℕ
-  pub written : Wrote (transcript site seat w whole ++ part)
+  -- it is given up at the last line that was read, or, as at line 0, at the opening: at one of its events, or before
+  -- them; what is shown before it is written, and a first part of what it shows
+  pub record IsGivenUp (end : Result (Unit {0}) RunFault) (fault : RunFault) : Type 0 where
+    pub line : fault.event ≡ length turns
+    pub cause : IfErr end (λ f. (f.cause ≡ fault.cause) × (f.done ≡ fault.done))
+    pub part : List ℕ
+    pub rest : List ℕ
+    pub written : Wrote (shown_to site seat w turns fault.event ++ part)
+    pub whole : (shown_to site seat w turns fault.event ++ part) ++ rest ≡ shown_to site seat w turns (suc fault.event)
 
--- it is given up at the last line that was read, or, as at line 0, at the opening: at one of its events, or before them
-pub record IsGivenUpAt (turns : List Turn) (end : Result (Unit {0}) RunFault) (fault : RunFault) : Type 0 where
-  pub line : fault.event ≡ length turns
-  pub cause : IfErr end (λ f. (f.cause ≡ fault.cause) × (f.done ≡ fault.done))
+  -- how the run of the events ends, by how the shell does
+  abbrev pub IsEndOf : Option (List ℕ) → Result (Unit {0}) RunFault → Result Ending RunFault → Type 0
+  IsEndOf left end (Ok ending) = (end ≡ Ok tt) × IsWellEnded left ending
+  IsEndOf left end (Err fault) = IsGivenUp end fault
 
 -- ---- the whole
 
 module _ (echo : List ℕ → List ℕ) (site : Site) (seat : Seat) where
-  -- lines are read one after another, each while the session is open, none lost
-  pub record IsTalk (w : World) (before after : Option (List ℕ)) (turns : List Turn) : Type 0 where
-    pub each : AllByRecursion (IsTurn echo site.policy site.schemes seat) turns
-    pub read : Consumes before after (flat_map (λ t. t.line) turns)
-    pub next : AreNext before turns
-    pub opened : AreWhileOpen site seat (after_opening site seat w) turns
+  -- lines are read one after another, none lost, each while the session is open, and none behind a last one
+  unfoldable pub AreTurns : World → Option (List ℕ) → Option (List ℕ) → List Turn → Type 0
+  AreTurns w before after [] = before ≡ after
+  AreTurns w before after (t ∷ ts) =
+      (left : Option (List ℕ)) × (is_open seat w ≡ true) × IsTurn echo site.policy site.schemes seat before left t
+      × (ts ≢ [] → is_last t.fate ≡ false) × AreTurns (end_of site w (events_of t.fate)) left after ts
 
-  -- how the run of the events ends, by how the shell does
-  abbrev pub IsEndOf : World → List Turn → Option (List ℕ) → Result (Unit {0}) RunFault → Result Ending RunFault → Type 0
-  IsEndOf w turns left end (Ok ending) = (end ≡ Ok tt) × IsWellEnded site seat w turns left ending
-  IsEndOf w turns left end (Err fault) = IsGivenUpAt turns end fault
+  module _ (before after : Option (List ℕ)) (Broken : Type 0) (Wrote Told : List ℕ → Type 0)
+      (end : Result Ending RunFault) where
+    -- What is typed is answered from a world on, of lines of which a read has failed where one is told as unreadable.
+    pub record IsTalk (w : World) : Type 0 where
+      pub turns : List Turn
+      pub run_end : Result (Unit {0}) RunFault
+      pub lines : AreTurns (after_opening site seat w) before after turns
+      pub broken : list_any (λ t. is_failed t.fate) turns ≡ true → Broken
+      pub told : Told (told_from seat 1 turns)
+      pub ended : IsEndOf site seat w turns Wrote after run_end end
 
-  -- A shell over a content, which it leaves as another. Where the host shows nothing of the lines, it is the run of the opening and of
-  -- all events that are told, for the session's level alone, and writes what that writes.
-  pub record IsShell (before after : Option (List ℕ)) (Wrote Told : List ℕ → Type 0) (end : Result Ending RunFault) (first left : Content) : Type 0 where
-    pub turns : List Turn
-    pub run_end : Result (Unit {0}) RunFault
-    pub talk : IsTalk (first_world site first) before after turns
-    pub told : Told (told_from seat 1 turns)
-    pub written : OnOk end (Wrote (transcript site seat (first_world site first) turns))
-    pub begun : IfErr end (λ fault. fault.event ≢ 0 → IsCutShort site seat (first_world site first) turns Wrote)
-    pub ended : IsEndOf (first_world site first) turns after run_end end
-    pub run : IsSilent echo → IsRun site (audience_at seat) (opening seat ∷ events_in turns) Wrote run_end first left
+    -- A shell over a content, which it leaves as another. Where the host shows nothing of the lines, it is the run of
+    -- the opening and of all events that are told, for the session's level alone, and writes what that writes.
+    pub record IsShell (first left : Content) : Type 0 where
+      pub talk : IsTalk (first_world site first)
+      pub run : IsSilent echo
+          → IsRun site (audience_at seat) (opening seat ∷ events_in talk.turns) Wrote talk.run_end first left
 
 -- ---- between two lines
 
 -- events are answered from w, or not all are, for a fault that the shell tells of
-pub record IsAnswered (site : Site) (audience : Audience) (w : World) (es : List Event) (was is : Option (List ℕ)) (new : World) (end : Result (Unit {0}) RunFault) : Type 0 where
+pub record IsAnswered (site : Site) (audience : Audience) (w : World) (es : List Event) (was is : Option (List ℕ))
+    (new : World) (end : Result (Unit {0}) RunFault) : Type 0 where
   pub whole : OnOk end (IsWhole site audience w es was is new)
   pub stopped : IfErr end (IsStopped site audience w es was is new)
   pub fault : IfErr end (IsFaultOf es)
 
 -- at a line the shell goes on, or is given up
-pub record IsFollowed (site : Site) (audience : Audience) (w : World) (es : List Event) (was is : Option (List ℕ)) (new : World) (number : ℕ) (r : Result (Unit {0}) RunFault) : Type 0 where
+pub record IsFollowed (site : Site) (audience : Audience) (w : World) (es : List Event) (was is : Option (List ℕ))
+    (new : World) (number : ℕ) (r : Result (Unit {0}) RunFault) : Type 0 where
   pub end : Result (Unit {0}) RunFault
   pub answered : IsAnswered site audience w es was is new end
   pub ok : OnOk r (end ≡ Ok tt)
@@ -253,23 +255,19 @@ pub record IsFollowed (site : Site) (audience : Audience) (w : World) (es : List
   pub cause : IfErr r (λ fault. IfErr end (λ f. (f.cause ≡ fault.cause) × (f.done ≡ fault.done)))
 
 -- a line is read, and this becomes of it
-pub record IsRead (echo : List ℕ → List ℕ) (policy : Tables) (schemes : Schemes) (seat : Seat) (before after was is : Option (List ℕ)) (fate : Fate) : Type 0 where
+pub record IsRead (echo : List ℕ → List ℕ) (policy : Tables) (schemes : Schemes) (seat : Seat)
+    (before after was is : Option (List ℕ)) (Broken : Type 0) (fate : Fate) : Type 0 where
   pub turn : Turn
-  pub is_turn : IsTurn echo policy schemes seat turn
+  pub is_turn : IsTurn echo policy schemes seat before after turn
   pub same : turn.fate ≡ fate
-  pub read : Consumes before after turn.line
-  pub next : IsCut turn.fate ⊎ IsNext before after turn.line
   pub shown : Appends was is turn.shown
   pub over : fate ≡ Over → IsAtEnd after
+  pub broken : fate ≡ Unreadable → Broken
 
--- the events of a shell from w to another world, with the lines
-pub record IsConversation (echo : List ℕ → List ℕ) (site : Site) (seat : Seat) (w new : World) (before after was is : Option (List ℕ)) (Told : List ℕ → Type 0) (end : Result Ending RunFault) : Type 0 where
-  pub turns : List Turn
-  pub run_end : Result (Unit {0}) RunFault
-  pub talk : IsTalk echo site seat w before after turns
-  pub told : Told (told_from seat 1 turns)
-  pub written : OnOk end (Appends was is (transcript site seat w turns))
-  pub begun : IfErr end (λ fault. fault.event ≢ 0 → IsCutShort site seat w turns (Appends was is))
-  pub ended : IsEndOf echo site seat w turns after run_end end
-  pub fits : EventsFit site (opening seat ∷ events_in turns)
-  pub run : IsSilent echo → IsAnswered site (audience_at seat) w (opening seat ∷ events_in turns) was is new run_end
+-- a talk from a world to another
+pub record IsConversation (echo : List ℕ → List ℕ) (site : Site) (seat : Seat) (before after was is : Option (List ℕ))
+    (Broken : Type 0) (Told : List ℕ → Type 0) (end : Result Ending RunFault) (w new : World) : Type 0 where
+  pub talk : IsTalk echo site seat before after Broken (Appends was is) Told end w
+  pub fits : EventsFit site (opening seat ∷ events_in talk.turns)
+  pub run : IsSilent echo
+      → IsAnswered site (audience_at seat) w (opening seat ∷ events_in talk.turns) was is new talk.run_end

@@ -1,5 +1,5 @@
 -- A shell that the words of a command line ask for, over a store or over nothing.
-use Rattle.std.specs.Prelude.{◌≡◌, ℕ, Bool, false, List, Option, Some, None, IfSome, Result}
+use Rattle.std.specs.Prelude.{◌≡◌, ℕ, Bool, true, false, List, Option, Some, None, is_some, Result}
 use Rattle.mls_lattice.specs.Name.{is_name}
 use Rattle.mls_lattice.specs.Policy.{Tables}
 use Rattle.mls_scheme.specs.Scheme.{Schemes}
@@ -21,35 +21,45 @@ use Rattle.mls_shells.specs.Shell.{IsShell}
 
 -- who sits at a shell, by its words
 abbrev pub seat_of : ShellFiles → ℕ → Bool → Seat
-seat_of files level has_prompt = record { level = level; label = files.label.now; user = files.user.now; has_prompt = has_prompt }
+seat_of files level has_prompt =
+    record { level = level; label = files.label.now; user = files.user.now; has_prompt = has_prompt }
 
-module _ (h : Hosted) where
+module _ (h : Hosted) (before after : Option (List ℕ)) (Broken : Type 0) (Wrote Told : List ℕ → Type 0) where
   -- what is typed is answered over a store, where that is clean
-  abbrev pub IsShellFrom : SchemesFile → Option (List ℕ) → Site → Seat → Option (List ℕ) → Option (List ℕ) → (List ℕ → Type 0) → (List ℕ → Type 0) → Result Ending RunFault → Type 0
-  IsShellFrom file store site seat before after Wrote Told end = IsClean h store → IsOver h site.policy file store (IsShell h.echo site seat before after Wrote Told end)
+  abbrev pub IsShellFrom : SchemesFile → Option (List ℕ) → Site → Seat → Result Ending RunFault → Type 0
+  IsShellFrom file store site seat end =
+      IsClean h store → IsOver h site.policy file store (IsShell h.echo site seat before after Broken Wrote Told end)
 
-  -- the lines of the standard input are answered, at a label for a user, over what is stored
-  pub record IsShellRun (policy : Tables) (file : SchemesFile) (reader : Option ℕ) (files : ShellFiles) (Wrote Told : List ℕ → Type 0) (end : Result Ending RunFault) : Type 0 where
-    pub stored : List Stored
-    pub level : ℕ
-    pub has_prompt : Bool
-    pub before : Option (List ℕ)
-    pub after : Option (List ℕ)
-    pub stored_are : AreStoredFrom h.before.gives (named files.transactions) (named files.certificates) policy file.schemes stored
-    pub level_is : reader ≡ Some level
-    pub given : IfSome before (h.before.gives None)
-    pub shell : IsShellFrom file (named files.store) (site_of policy file.schemes stored) (seat_of files level has_prompt) before after Wrote Told end
+-- what the host says is typed is answered, at a label for a user, over what is stored
+pub record IsShellRun (h : Hosted) (policy : Tables) (file : SchemesFile) (reader : Option ℕ) (files : ShellFiles)
+    (Wrote Told : List ℕ → Type 0) (end : Result Ending RunFault) : Type 0 where
+  pub stored : List Stored
+  pub level : ℕ
+  pub before : Option (List ℕ)
+  pub after : Option (List ℕ)
+  pub stored_are : AreStoredFrom h.before.gives (named files.transactions) (named files.certificates) policy
+      file.schemes stored
+  pub level_is : reader ≡ Some level
+  pub typed : h.before.types before
+  pub shell : IsShellFrom h before after h.before.breaks Wrote Told file (named files.store)
+      (site_of policy file.schemes stored) (seat_of files level h.before.is_terminal) end
 
--- The inputs of a shell are refused: it has no level; what stands for its user is no name; what it stores; or memory.
-pub data AreShellInputsRefused (h : Hosting) (policy : Tables) (schemes : Schemes) (reader : Option ℕ) (files : ShellFiles) (reason : Reason) : Type 0 where
+-- The inputs of a shell are refused, in this order: it has no level; what stands for its user is no name; what it
+-- stores; or memory.
+pub data AreShellInputsRefused (h : Hosting) (policy : Tables) (schemes : Schemes) (reader : Option ℕ)
+    (files : ShellFiles) (reason : Reason) : Type 0 where
   no_level : reader ≡ None → reason ≡ Label → AreShellInputsRefused h policy schemes reader files reason
-  no_user : is_name files.user.now ≡ false → reason ≡ User → AreShellInputsRefused h policy schemes reader files reason
-  no_files : AreFilesRefused h (named files.transactions) (named files.certificates) policy schemes reason
+  no_user : is_some reader ≡ true → is_name files.user.now ≡ false → reason ≡ User
+      → AreShellInputsRefused h policy schemes reader files reason
+  no_files : is_some reader ≡ true → is_name files.user.now ≡ true
+      → AreFilesRefused h (named files.transactions) (named files.certificates) policy schemes reason
       → AreShellInputsRefused h policy schemes reader files reason
 
 -- A shell is not begun: its inputs are refused; or they are read, and its store is barred.
-pub data IsShellRefused (h : Hosting) (policy : Tables) (file : SchemesFile) (reader : Option ℕ) (files : ShellFiles) (reason : Reason) : Type 0 where
-  no_inputs : AreShellInputsRefused h policy file.schemes reader files reason → IsShellRefused h policy file reader files reason
-  no_store : (stored : List Stored)
+pub data IsShellRefused (h : Hosting) (policy : Tables) (file : SchemesFile) (reader : Option ℕ) (files : ShellFiles)
+    (reason : Reason) : Type 0 where
+  no_inputs : AreShellInputsRefused h policy file.schemes reader files reason
+      → IsShellRefused h policy file reader files reason
+  no_store : (stored : List Stored) → is_some reader ≡ true → is_name files.user.now ≡ true
       → AreStoredFrom h.gives (named files.transactions) (named files.certificates) policy file.schemes stored
       → IsBarred h policy file (named files.store) reason → IsShellRefused h policy file reader files reason

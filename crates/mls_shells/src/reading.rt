@@ -5,7 +5,8 @@ ghost use Rattle.std.specs.List.{AllByRecursion, list_all};
 ghost use Rattle.mls_lattice.specs.Name.{is_name};
 ghost use Rattle.mls_script.specs.Event.{EventFits};
 ghost use Rattle.mls_script.specs.Reading.{IsRead as IsScriptRead, script_at};
-ghost use Rattle.mls_shells.specs.Shell.{prefix_of, opening, is_own, fate_of_events, fate_of_fault, fate_of, Becomes, FateFits, IsRead};
+ghost use Rattle.mls_shells.specs.Shell.{prefix_of, opening, is_own, fate_of_events, FateFits, IsRead};
+ghost use Rattle.mls_shells.specs.Reading.{fate_of_fault, fate_of, Becomes};
 
 use crate::seat::{Fate, Seat};
 use mls_lattice::{Items, Policy, Str};
@@ -151,9 +152,11 @@ pub(crate) fn next_fate<L: TypedLines, W: Write>(
     out: &mut W,
 ) -> Fate
     ensures read { IsRead L.echo policy.now schemes.now seat.now (L.remaining lines.old) (L.remaining lines.new)
-        (W.contents out.old) (W.contents out.new) result }
+        (W.contents out.old) (W.contents out.new) (L.breaks lines.new) result }
     ensures fits { FateFits policy.now schemes.now result }
 {
+    // What every policy and schemes promise: a text tells the events of one list at most.
+    let _names = (policy.label_count(), schemes.count());
     match lines.next_line(alloc, out) {
         Ok(Typed::Line(line)) => fate_of(alloc, policy, schemes, seat, &line),
         Ok(Typed::TooLong) => Fate::TooLong,

@@ -103,7 +103,7 @@ fn is_last(fate: &Fate) -> bool
     ensures { result ≡ is_last fate.now }
 {
     match fate {
-        Fate::Over | Fate::Unreadable => true,
+        Fate::Over | Fate::Unreadable | Fate::Lost(_) => true,
         _ => false,
     }
 }
@@ -129,8 +129,8 @@ fn converse<B: Base, L: TypedLines, W: Write, E: Write>(
     ensures clean { B.is_clean engine.new.base → B.is_clean engine.old.base }
     ensures kept { IsKept B.state B.is_clean engine.old engine.new }
     ensures conversation { B.is_clean engine.new.base → IsConversation L.echo (site engine.old) seat.now
-        (world_of B.state engine.old) (world_of B.state engine.new) (L.remaining lines.old) (L.remaining lines.new)
-        (W.contents out.old) (W.contents out.new) (IsTold E.contents err.old err.new) result }
+        (L.remaining lines.old) (L.remaining lines.new) (W.contents out.old) (W.contents out.new) (L.breaks lines.new)
+        (IsTold E.contents err.old err.new) result (world_of B.state engine.old) (world_of B.state engine.new) }
 {
     answer(engine, seat, 0, first, out)?;
     let mut refused = !engine.is_open(seat.level, seat.user.as_str());
@@ -182,7 +182,7 @@ pub fn shell_on<B: Base, L: TypedLines, W: Write, E: Write>(
     ensures clean { B.is_clean result.1 → B.is_clean base }
     ensures idle { (B.state result.1).begun ≡ false }
     ensures shell { B.is_clean result.1 → IsShell L.echo (site_of policy.now schemes.now stored) seat.now
-        (L.remaining lines.old) (L.remaining lines.new) (IsAppended W.contents out.old out.new)
+        (L.remaining lines.old) (L.remaining lines.new) (L.breaks lines.new) (IsAppended W.contents out.old out.new)
         (IsTold E.contents err.old err.new) result.0 (B.state base).now (B.state result.1).now }
 {
     let mut engine = Engine::new(alloc, base, policy, schemes, stored);

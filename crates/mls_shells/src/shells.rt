@@ -1,11 +1,12 @@
 //! Shells over a database: over an empty one in memory, or over that of a store.
-ghost use Rattle.std.specs.Prelude.{◌≡◌, ◌<◌, ◌∷◌, [], true, length, Some, Ok, Err, IfOk, IfErr};
+ghost use Rattle.std.specs.Prelude.{◌≡◌, ◌≢◌, ◌<◌, ◌∷◌, [], true, length, Some, Ok, Err, IfOk, IfErr};
 ghost use Rattle.std.specs.Option.{IfSome};
 ghost use Rattle.mls_lattice.specs.Name.{is_name};
 ghost use Rattle.mls_scheme.specs.Scheme.{AreUnder};
 ghost use Rattle.mls_filterview.specs.Content.{Content, no_content};
 ghost use Rattle.mls_machine.specs.Observation.{AreRead, AreCertified};
-ghost use Rattle.mls_host.specs.Hosting.{hosted, IsAppended, IsTold};
+ghost use Rattle.mls_host.specs.Hosting.{hosted, IsAppended, IsTold, LeavesStores};
+ghost use Rattle.mls_host.specs.Stopping.{IsCaused};
 ghost use Rattle.mls_words.specs.Words.{named};
 ghost use Rattle.mls_host.specs.Causes.{IsBarred};
 ghost use Rattle.mls_host.specs.Refusal.{IsEnd};
@@ -46,11 +47,12 @@ fn shell_in_memory<L: TypedLines, W: Write, E: Write>(
     requires level { seat.now.level < length policy.now.labels }
     requires user { is_name seat.now.user ≡ true }
     requires first { first.now ≡ opening seat.now ∷ [] }
-    ensures { IsEnd (λ end. (left : Content) × IsShell L.echo (site_of policy.now file.now.schemes stored) seat.now
-        (L.remaining lines.old) (L.remaining lines.new) (IsAppended W.contents out.old out.new)
+    ensures ends { IsEnd (λ end. (left : Content) × IsShell L.echo (site_of policy.now file.now.schemes stored) seat.now
+        (L.remaining lines.old) (L.remaining lines.new) (L.breaks lines.new) (IsAppended W.contents out.old out.new)
         (IsTold E.contents err.old err.new) end no_content left)
         (λ reason. (reason ≡ Reason.Store OpenFault.Memory) × IsAppended W.contents out.old out.new []
         × IsTold E.contents err.old err.new []) result }
+    ensures closed { IfErr result (λ e. e ≢ Refusal.NotClosed) }
 {
     let base = match MemoryBase::open(alloc, policy, file) {
         Ok(base) => base,
@@ -84,11 +86,13 @@ fn shell_in_store<H: Host, L: TypedLines, W: Write, E: Write>(
     requires level { seat.now.level < length policy.now.labels }
     requires user { is_name seat.now.user ≡ true }
     requires first { first.now ≡ opening seat.now ∷ [] }
-    ensures { IsEnd (IsShellFrom (hosted H.hosting L.echo host.old host.new) file.now (Some path.now)
-        (site_of policy.now file.now.schemes stored) seat.now (L.remaining lines.old) (L.remaining lines.new)
-        (IsAppended W.contents out.old out.new) (IsTold E.contents err.old err.new))
+    ensures ends { IsEnd (IsShellFrom (hosted H.hosting L.echo host.old host.new) (L.remaining lines.old)
+        (L.remaining lines.new) (L.breaks lines.new) (IsAppended W.contents out.old out.new)
+        (IsTold E.contents err.old err.new) file.now (Some path.now) (site_of policy.now file.now.schemes stored)
+        seat.now)
         (λ reason. IsBarred (H.hosting host.old) policy.now file.now (Some path.now) reason
         × IsAppended W.contents out.old out.new [] × IsTold E.contents err.old err.new []) result }
+    ensures caused { IfErr result (IsCaused (hosted H.hosting L.echo host.old host.new) (Some path.now)) }
 {
     let base = match host.store(alloc, path, policy, file) {
         Ok(base) => base,
@@ -122,11 +126,14 @@ fn shell_over<H: Host, L: TypedLines, W: Write, E: Write>(
     requires level { seat.now.level < length policy.now.labels }
     requires user { is_name seat.now.user ≡ true }
     requires first { first.now ≡ opening seat.now ∷ [] }
-    ensures { IsEnd (IsShellFrom (hosted H.hosting L.echo host.old host.new) file.now (named store.entry)
-        (site_of policy.now file.now.schemes stored) seat.now (L.remaining lines.old) (L.remaining lines.new)
-        (IsAppended W.contents out.old out.new) (IsTold E.contents err.old err.new))
+    ensures ends { IsEnd (IsShellFrom (hosted H.hosting L.echo host.old host.new) (L.remaining lines.old)
+        (L.remaining lines.new) (L.breaks lines.new) (IsAppended W.contents out.old out.new)
+        (IsTold E.contents err.old err.new) file.now (named store.entry) (site_of policy.now file.now.schemes stored)
+        seat.now)
         (λ reason. IsBarred (H.hosting host.old) policy.now file.now (named store.entry) reason
         × IsAppended W.contents out.old out.new [] × IsTold E.contents err.old err.new []) result }
+    ensures leaves { LeavesStores (hosted H.hosting L.echo host.old host.new) (named store.entry) }
+    ensures caused { IfErr result (IsCaused (hosted H.hosting L.echo host.old host.new) (named store.entry)) }
 {
     match store {
         None => shell_in_memory(alloc, policy, file, stored, seat, first, lines, out, err),
@@ -174,6 +181,9 @@ pub fn shell_files<H: Host, W: Write, E: Write>(
         file.now reader files.entry (IsAppended W.contents out.old out.new) (IsTold E.contents err.old err.new))
         (λ reason. IsShellRefused (H.hosting host.old) policy.now file.now reader files.entry reason
         × IsAppended W.contents out.old out.new [] × IsTold E.contents err.old err.new []) (Err e)) }
+    ensures leaves { LeavesStores (hosted H.hosting H.Lines.echo host.old host.new) (named files.entry.store) }
+    ensures caused { IfErr result (IsCaused (hosted H.hosting H.Lines.echo host.old host.new)
+        (named files.entry.store)) }
 {
     let level = match reader {
         Some(level) => level,

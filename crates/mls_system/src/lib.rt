@@ -1,6 +1,7 @@
 //! The machine that the program runs on: files, the standard input and stores in files; and commands over it.
 #![tactic(auto)]
 
+mod closing;
 mod machine;
 mod private;
 mod running;

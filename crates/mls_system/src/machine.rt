@@ -1,17 +1,20 @@
 //! Files, the standard input and stores, as the program has them.
-ghost use Rattle.std.specs.Prelude.{◌≡◌, false, length, IfOk, MatchOption};
+ghost use Rattle.std.specs.Prelude.{◌≡◌, ◌↔◌, false, length, IfOk, IfErr, IsErr, MatchOption};
 ghost use Rattle.mls_scheme.specs.Scheme.{AreUnder};
-ghost use Rattle.mls_filterview.specs.Content.{Content};
-ghost use Rattle.mls_fragments.specs.Again.{IsTakenOf};
+ghost use Rattle.mls_statements.specs.declared.rows.MetaRow.{MetaRow};
 ghost use Rattle.mls_fragments.specs.Finding.{IsSoundContent};
+ghost use Rattle.mls_fragments.specs.Again.{FindsHoldings};
+ghost use Rattle.mls_fragments.specs.Holdings.{holdings_of, IsTakenOf};
+ghost use Rattle.sqlite.specs.Recovery.{Image};
 
+use crate::closing::{Left, LeftFiles, close};
 use crate::{private, shown};
 use mls_filterview::Base;
 use mls_fragments::{OpenFault, SqlBase};
 use mls_host::{CloseFault, Host, HostFault, StoreCause, StoreFiles, read_whole};
 use mls_lattice::Policy;
 use mls_scheme::SchemesFile;
-use mls_typing::LinesOf;
+use mls_typing::{AnyReader, LinesOf};
 use sqlite::{FileFrom, FileStore, Start};
 use std::alloc::Global;
 use std::fs;
@@ -19,9 +22,9 @@ use std::io::{ErrorKind, Input, IsTerminal};
 use std::snapshot::Snapshot;
 
 /// What opens the stores at paths as bases, and closes them.
-pub trait Opens<B: Base> {
-    // The content that the store held before it was opened.
-    ghost holds: { Self → Content → Type 0 };
+pub trait Opens<B: Base, L: Left> {
+    // The bytes of the store's files before it is opened.
+    ghost image: { Image };
 
     /// The base over the store at a path, which is made where there is none.
     fn open(&mut self, path: &str, policy: &Policy, file: &SchemesFile) -> Result<B, OpenFault>
@@ -29,11 +32,14 @@ pub trait Opens<B: Base> {
         ensures idle { IfOk result (λ b. (B.state b).begun ≡ false) }
         ensures sound { IfOk result (λ b. IsSoundContent policy.now file.now.schemes (B.state b).now) }
         ensures held { IfOk result (λ b. B.is_clean b
-            → IsTakenOf (holds self.old) policy.now file.now (B.state b).now) };
+            → IsTakenOf (FindsHoldings image) policy.now file.now (B.state b).now) }
+        ensures barred { IfErr result (L.bars image policy.now file.now) };
 
-    /// Closes the store of a base.
-    fn close(&mut self, store: B) -> Result<(), CloseFault>
-        requires idle { (B.state store).begun ≡ false };
+    /// Closes the store of a base, and gives what is left of it.
+    fn close(&self, store: B) -> (Result<(), CloseFault>, L)
+        requires idle { (B.state store).begun ≡ false }
+        ensures kept { B.is_clean store → (row : MetaRow) × L.keeps result.1 (holdings_of row (B.state store).now) }
+        ensures closed { L.is_open result.1 ↔ IsErr result.0 };
 }
 
 /// Stores in files. `start` stands for what they held, and is there until the first is opened: a command opens no more.
@@ -43,11 +49,11 @@ pub struct FilesOf<'a, F: Start> {
     pub start: Option<F>,
 }
 
-impl<'a, F: Start> Opens<SqlBase<FileStore<FileFrom<F>>>> for FilesOf<'a, F> {
+impl<'a, F: Start> Opens<SqlBase<FileStore<FileFrom<F>>>, LeftFiles<FileFrom<F>>>
+    for FilesOf<'a, F> {
     ghost use Rattle.sqlite.specs.WalFiles.{image_at};
-    ghost use Rattle.mls_fragments.specs.Again.{IsHeldIn};
 
-    ghost holds = { λ _ c. IsHeldIn (image_at F.Start) c };
+    ghost image = { image_at F.Start };
 
     fn open(
         &mut self,
@@ -57,51 +63,67 @@ impl<'a, F: Start> Opens<SqlBase<FileStore<FileFrom<F>>>> for FilesOf<'a, F> {
     ) -> Result<SqlBase<FileStore<FileFrom<F>>>, OpenFault> {
         let start = self.start.take().ok_or(OpenFault::Store)?;
         private::make(self.rt, path);
-        SqlBase::open_path(self.rt, path, start, policy, file)
+        match SqlBase::open_from(self.rt, path, start, policy, file) {
+            Ok(base) => Ok(base),
+            Err((fault, _)) => Err(fault),
+        }
     }
 
-    fn close(&mut self, store: SqlBase<FileStore<FileFrom<F>>>) -> Result<(), CloseFault> {
-        store.close().map_err(|_| CloseFault)
+    fn close(
+        &self,
+        store: SqlBase<FileStore<FileFrom<F>>>,
+    ) -> (Result<(), CloseFault>, LeftFiles<FileFrom<F>>) {
+        close(store)
     }
 }
 
-/// The machine itself, and, for contracts alone, the store that a run left.
+/// The machine itself, and, for contracts alone, the store that a run left, as a base and as what is left of it.
 #[derive(Drop)]
-pub struct Machine<'a, B: Base + Drop, O: Drop> {
+pub struct Machine<'a, B: Base + Drop, L: Left + Drop, O: Drop> {
     rt: &'a HostRuntime,
     stores: O,
-    left: Option<Snapshot<B>>,
+    is_terminal: bool,
+    base: Option<Snapshot<B>>,
+    left: Option<Snapshot<L>>,
 }
 
-impl<'a, B: Base + Drop, O: Opens<B> + Drop> Machine<'a, B, O> {
+impl<'a, B: Base + Drop, L: Left + Drop, O: Opens<B, L> + Drop> Machine<'a, B, L, O> {
     /// The files and the standard input of a runtime, and stores.
-    pub fn new(rt: &'a HostRuntime, stores: O) -> Machine<'a, B, O> {
+    pub fn new(rt: &'a HostRuntime, stores: O) -> Machine<'a, B, L, O> {
         Machine {
             rt,
             stores,
+            is_terminal: rt.stdin().is_terminal(),
+            base: None,
             left: None,
         }
     }
 }
 
-impl<'a, B: Base + Drop, O: Opens<B> + Drop> Host for Machine<'a, B, O> {
-    ghost use Rattle.std.specs.Prelude.{⊤};
+impl<'a, B: Base + Drop, L: Left + Drop, O: Opens<B, L> + Drop> Host for Machine<'a, B, L, O> {
+    ghost use Rattle.std.specs.Prelude.{⊤, ◌⊎◌, ◌<◌};
+    ghost use Rattle.mls_fragments.specs.Opening.{IsStoreOrMemory};
 
-    // Any bytes, and any cause: what a file has is known to nobody before it is read. A store keeps what the files held, before
-    // anything of it was taken; and after a run, what the base held over them that was taken back. Honest is a base that is clean.
+    // Any bytes, and any cause: what a file has, and what is typed, is known to nobody before it is read. A store keeps what the
+    // files held, before anything of it was taken; and after a run, what is left of it keeps. Honest is a base that is clean.
     ghost hosting = { λ m. record {
       gives = λ _ _. ⊤;
       lacks = λ _ _. ⊤;
-      keeps = λ path c. MatchOption m.left (O.holds m.stores c) (λ l. (B.state l.value).now ≡ c);
-      bars = λ _ _ _ _. ⊤;
+      types = λ _. ⊤;
+      breaks = ⊤;
+      is_terminal = m.is_terminal;
+      keeps = λ path h. MatchOption m.left (FindsHoldings O.image h) (λ l. L.keeps l.value h);
+      bars = λ path policy file e. IsStoreOrMemory e ⊎ L.bars O.image policy file e;
       shows = λ _ _ _. ⊤;
       hides = λ _ _. ⊤;
-      is_honest = MatchOption m.left ⊥ (λ l. B.is_clean l.value);
+      is_honest = MatchOption m.base ⊥ (λ b. B.is_clean b.value);
+      has_failed = MatchOption m.base ⊥ (λ b. 0 < B.failures b.value);
+      is_unclosed = MatchOption m.left ⊥ (λ l. L.is_open l.value);
     } };
 
     type Store = B;
 
-    type Lines = LinesOf<<HostRuntime as Input>::Reader>;
+    type Lines = LinesOf<AnyReader<<HostRuntime as Input>::Reader>>;
 
     fn file(&self, alloc: Global, path: &str) -> Result<Vec<u8>, HostFault> {
         match fs::open(self.rt, path) {
@@ -115,12 +137,12 @@ impl<'a, B: Base + Drop, O: Opens<B> + Drop> Host for Machine<'a, B, O> {
         read_whole(alloc, self.rt.reader())
     }
 
-    fn lines(&self) -> LinesOf<<HostRuntime as Input>::Reader> {
-        LinesOf::new(self.rt.reader())
+    fn lines(&self) -> LinesOf<AnyReader<<HostRuntime as Input>::Reader>> {
+        LinesOf::new(AnyReader::new(self.rt.reader()))
     }
 
     fn is_terminal(&self) -> bool {
-        self.rt.stdin().is_terminal()
+        self.is_terminal
     }
 
     fn store(
@@ -141,7 +163,10 @@ impl<'a, B: Base + Drop, O: Opens<B> + Drop> Host for Machine<'a, B, O> {
     }
 
     fn keep(&mut self, path: &str, store: B) -> Result<(), CloseFault> {
-        self.left = Some(Snapshot::of(&store));
-        self.stores.close(store)
+        let base = Snapshot::of(&store);
+        let (closed, left) = self.stores.close(store);
+        self.base = Some(base);
+        self.left = Some(Snapshot::of(&left));
+        closed
     }
 }

@@ -1,52 +1,22 @@
-//! The lines of a reader.
-ghost use Rattle.std.specs.Prelude.{◌≡◌, false, [], None, IfOk, OnErr};
-ghost use Rattle.std.specs.Io.KnownBytes.{Consumes};
-ghost use Rattle.mls_typing.specs.Typing.{IsByte, IsTaken, IsPart, IsSkipped, IsTyped, left_of};
+//! The lines of a source.
+ghost use Rattle.std.specs.Prelude.{◌≡◌, false, [], None, IfOk, IfErr, OnErr};
+ghost use Rattle.mls_typing.specs.Typing.{IsTaken, IsPart, IsSkipped, IsTyped, IsCause, left_of};
 
+use crate::source::Source;
 use crate::typed::{MOST_BYTES, Part, Typed, TypingFault};
 use crate::typing::TypedLines;
 use std::alloc::Global;
-use std::io::{Error, ErrorKind, Read, Write};
-
-/// How often a read that a signal interrupts is tried again.
-const MOST_TRIES: u32 = u32::MAX;
-
-fn fault_of(error: &Error) -> TypingFault {
-    if error.kind() == ErrorKind::OutOfMemory {
-        TypingFault::Memory
-    } else {
-        TypingFault::Unreadable
-    }
-}
-
-/// The next byte, if there is one: one read, tried again where a signal interrupts it.
-fn byte_from<R: Read>(input: &mut R) -> Result<Option<u8>, TypingFault>
-    ensures byte { IfOk result (IsByte (R.remaining input.old) (R.remaining input.new)) }
-    ensures lost { OnErr result (Consumes (R.remaining input.old) (R.remaining input.new) []) }
-{
-    let mut byte = [0u8];
-    for _ in 0..MOST_TRIES {
-        match input.read(&mut byte) {
-            Ok(0) => return Ok(None),
-            Ok(_) => return Ok(Some(byte[0])),
-            Err(error) => {
-                if error.kind() != ErrorKind::Interrupted {
-                    return Err(fault_of(&error));
-                }
-            }
-        }
-    }
-    Err(TypingFault::Unreadable)
-}
+use std::io::Write;
 
 /// A line, or so many bytes of it as a line may have.
-fn part_from<R: Read>(alloc: Global, input: &mut R) -> Result<Part, TypingFault>
-    ensures part { IfOk result (IsPart (R.remaining input.old) (R.remaining input.new)) }
-    ensures lost { OnErr result (IsTaken (R.remaining input.old) (R.remaining input.new)) }
+fn part_from<S: Source>(alloc: Global, input: &mut S) -> Result<Part, TypingFault>
+    ensures part { IfOk result (IsPart (S.remaining input.old) (S.remaining input.new)) }
+    ensures lost { OnErr result (IsTaken (S.remaining input.old) (S.remaining input.new)) }
+    ensures cause { IfErr result (IsCause (S.fails input.new)) }
 {
     let mut line = Vec::new(alloc);
     for _ in 0..MOST_BYTES {
-        let Some(byte) = byte_from(input)? else {
+        let Some(byte) = input.next_byte()? else {
             return Ok(Part::Last(line));
         };
         if line.push(byte).is_err() {
@@ -60,26 +30,28 @@ fn part_from<R: Read>(alloc: Global, input: &mut R) -> Result<Part, TypingFault>
 }
 
 /// Takes the rest of a line. The answer is whether the end came first.
-fn skip_from<R: Read>(input: &mut R) -> Result<bool, TypingFault>
-    ensures skipped { IfOk result (IsSkipped (R.remaining input.old) (R.remaining input.new)) }
-    ensures lost { OnErr result (IsTaken (R.remaining input.old) (R.remaining input.new)) }
+fn skip_from<S: Source>(input: &mut S) -> Result<bool, TypingFault>
+    ensures skipped { IfOk result (IsSkipped (S.remaining input.old) (S.remaining input.new)) }
+    ensures lost { OnErr result (IsTaken (S.remaining input.old) (S.remaining input.new)) }
+    ensures cause { IfErr result (IsCause (S.fails input.new)) }
 {
     for _ in 0..u64::MAX {
-        let Some(byte) = byte_from(input)? else {
+        let Some(byte) = input.next_byte()? else {
             return Ok(true);
         };
         if byte == b'\n' {
             return Ok(false);
         }
     }
-    Err(TypingFault::Unreadable)
+    Err(TypingFault::Memory)
 }
 
 /// The next line, and whether the end came behind it.
-fn typed_from<R: Read>(alloc: Global, input: &mut R) -> Result<(Typed, bool), TypingFault>
-    ensures typed { IfOk result (λ t. IsTyped (λ _. []) (R.remaining input.old)
-        (left_of t.1 (R.remaining input.new)) None None t.0) }
-    ensures lost { OnErr result (IsTaken (R.remaining input.old) (R.remaining input.new)) }
+fn typed_from<S: Source>(alloc: Global, input: &mut S) -> Result<(Typed, bool), TypingFault>
+    ensures typed { IfOk result (λ t. IsTyped (λ _. []) (S.remaining input.old)
+        (left_of t.1 (S.remaining input.new)) None None t.0) }
+    ensures lost { OnErr result (IsTaken (S.remaining input.old) (S.remaining input.new)) }
+    ensures cause { IfErr result (IsCause (S.fails input.new)) }
 {
     match part_from(alloc, input)? {
         Part::Line(line) => Ok((Typed::Line(line), false)),
@@ -88,16 +60,16 @@ fn typed_from<R: Read>(alloc: Global, input: &mut R) -> Result<(Typed, bool), Ty
     }
 }
 
-/// The lines of a reader. Nothing behind a line is read before it is asked for, and nothing behind the end: a terminal would ask again.
+/// The lines of a source. Nothing behind a line is read before it is asked for, and nothing behind the end: a terminal would ask again.
 #[derive(Drop)]
-pub struct LinesOf<R: Drop> {
-    input: R,
+pub struct LinesOf<S: Drop> {
+    input: S,
     is_over: bool,
 }
 
-impl<R: Read + Drop> LinesOf<R> {
-    /// All lines of a reader.
-    pub fn new(input: R) -> LinesOf<R>
+impl<S: Source + Drop> LinesOf<S> {
+    /// All lines of a source.
+    pub fn new(input: S) -> LinesOf<S>
         ensures { result ≡ record { input = input; is_over = false } }
     {
         LinesOf {
@@ -107,10 +79,12 @@ impl<R: Read + Drop> LinesOf<R> {
     }
 }
 
-impl<R: Read + Drop> TypedLines for LinesOf<R> {
-    ghost remaining = { λ s. left_of s.is_over (R.remaining s.input) };
+impl<S: Source + Drop> TypedLines for LinesOf<S> {
+    ghost remaining = { λ s. left_of s.is_over (S.remaining s.input) };
 
     ghost echo = { λ _. [] };
+
+    ghost breaks = { λ s. S.fails s.input };
 
     fn next_line<W: Write>(&mut self, alloc: Global, out: &mut W) -> Result<Typed, TypingFault> {
         if out.flush().is_err() {

@@ -1,6 +1,6 @@
 //! Where lines come from.
-ghost use Rattle.std.specs.Prelude.{ℕ, List, Option, IfOk, OnErr};
-ghost use Rattle.mls_typing.specs.Typing.{IsTyped, IsLost};
+ghost use Rattle.std.specs.Prelude.{ℕ, List, Option, IfOk, IfErr, OnErr};
+ghost use Rattle.mls_typing.specs.Typing.{IsTyped, IsLost, IsCause};
 
 use crate::typed::{Typed, TypingFault};
 use std::alloc::Global;
@@ -14,10 +14,14 @@ pub trait TypedLines {
     // What is shown of a line, among what is written, when it is read: nothing where somebody types at a terminal of his own.
     ghost echo: { List ℕ → List ℕ };
 
+    // A read of what they come from has failed.
+    ghost breaks: { Self → Type 0 };
+
     /// Waits for the next line, when all that was written is there.
     fn next_line<W: Write>(&mut self, alloc: Global, out: &mut W) -> Result<Typed, TypingFault>
         ensures typed { IfOk result (IsTyped echo (remaining self.old) (remaining self.new) (W.contents out.old)
             (W.contents out.new)) }
         ensures lost { OnErr result (IsLost echo (remaining self.old) (remaining self.new) (W.contents out.old)
-            (W.contents out.new)) };
+            (W.contents out.new)) }
+        ensures cause { IfErr result (IsCause (breaks self.new)) };
 }

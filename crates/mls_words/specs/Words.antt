@@ -1,8 +1,10 @@
 -- What the words of a command line ask for, and what is said where they ask for nothing.
-use Rattle.std.specs.Prelude.{◌≡◌, ℕ, ◌<◌, ◌≤◌, Bool, true, false, List, [], map, length, codes, string_bytes, Option, Some, None, option_map, ⊤}
+use Rattle.std.specs.Prelude.{◌≡◌, ℕ, ◌<◌, ◌≤◌, Bool, true, false, List, [], map, length, codes, string_bytes, Option}
+use Rattle.std.specs.Prelude.{Some, None, option_map, ⊤}
 use Rattle.std.specs.Borrow.{Bor}
 use Rattle.std.specs.Str.{bytes_eq}
-use Rattle.clap.specs.Words.{App, Row, Rule, Text, fault_of, first_of, new_app, new_rule, subcommand_of, with_rule, with_subcommand}
+use Rattle.clap.specs.Words.{App, Row, Rule, Text, fault_of, first_of, new_app, new_rule, subcommand_of, with_rule}
+use Rattle.clap.specs.Words.{with_subcommand}
 use Rattle.clap.specs.declared.builder.action.ArgAction.TheVariants.{SetTrue}
 use Rattle.mls_words.specs.declared.words.Job.{Job}
 use Rattle.mls_words.specs.declared.words.Documents.{Documents}
@@ -40,7 +42,8 @@ abbrev pub with_stored : App → App
 with_stored c = with_rule (with_rule c (option (codes "transactions"))) (option (codes "certificates"))
 
 abbrev pub run : App
-run = with_rule (with_documents (with_stored (with_rule (with_rule (with_rule (new_app (codes "run")) (flag (codes "table"))) (option (codes "at"))) (option (codes "store"))))) (place (codes "SCRIPT"))
+run = with_rule (with_documents (with_stored (with_rule (with_rule (with_rule (new_app (codes "run"))
+    (flag (codes "table"))) (option (codes "at"))) (option (codes "store"))))) (place (codes "SCRIPT"))
 
 abbrev pub shell : App
 shell =
@@ -54,24 +57,39 @@ abbrev pub certify : App
 certify = with_rule (with_documents (new_app (codes "certify"))) (place (codes "TRANSACTIONS"))
 
 abbrev pub check : App
-check = with_rule (with_rule (with_documents (new_app (codes "check"))) (place (codes "TRANSACTIONS"))) (place (codes "CERTIFICATES"))
+check = with_rule (with_rule (with_documents (new_app (codes "check")))
+    (place (codes "TRANSACTIONS"))) (place (codes "CERTIFICATES"))
 
 abbrev pub explain : App
-explain = with_rule (with_rule (with_documents (new_app (codes "explain"))) (new_rule (codes "TRANSACTIONS"))) (new_rule (codes "NAME"))
+explain = with_rule (with_rule (with_documents (new_app (codes "explain")))
+    (new_rule (codes "TRANSACTIONS"))) (new_rule (codes "NAME"))
 
 abbrev pub program : App
-program = let top = new_app (codes "mldb") in record top { top = record top.top { subcommand_required = true; has_version = true } }
+program =
+    let top = new_app (codes "mldb") in
+    record top { top = record top.top { subcommand_required = true; has_version = true } }
 
 -- a command of its own for each task
 abbrev pub command_line : App
 command_line =
-    with_subcommand (with_subcommand (with_subcommand (with_subcommand (with_subcommand (with_subcommand program run.top) shell.top) show_policy.top) certify.top) check.top) explain.top
+    with_subcommand (with_subcommand (with_subcommand (with_subcommand (with_subcommand (with_subcommand program
+    run.top) shell.top) show_policy.top) certify.top) check.top) explain.top
 
 -- ---- jobs
 
 -- the job of a run of the samples, with the script on the standard input
 abbrev pub samples : Job
-samples = record { documents = None; task = Run (record { is_table = false; at = None; store = None; transactions = None; certificates = None; script = None }) }
+samples = record {
+  documents = None;
+  task = Run (record {
+    is_table = false;
+    at = None;
+    store = None;
+    transactions = None;
+    certificates = None;
+    script = None;
+  });
+}
 
 -- a flag is among the words
 abbrev pub is_on : Option Text → Bool
@@ -96,12 +114,15 @@ IsTask name rows (Shell files) =
     × (option_map (λ p. p.now) files.certificates ≡ first_of (codes "certificates") rows)
     × (Some files.label.now ≡ first_of (codes "LABEL") rows)
     × (Some files.user.now ≡ first_of (codes "USER") rows)
-IsTask name rows (Certify transactions) = (name ≡ codes "certify") × (Some transactions.now ≡ first_of (codes "TRANSACTIONS") rows)
+IsTask name rows (Certify transactions) = (name ≡ codes "certify")
+    × (Some transactions.now ≡ first_of (codes "TRANSACTIONS") rows)
 IsTask name rows (Check transactions certificates) =
-    (name ≡ codes "check") × (Some transactions.now ≡ first_of (codes "TRANSACTIONS") rows) × (Some certificates.now ≡ first_of (codes "CERTIFICATES") rows)
+    (name ≡ codes "check") × (Some transactions.now ≡ first_of (codes "TRANSACTIONS") rows)
+    × (Some certificates.now ≡ first_of (codes "CERTIFICATES") rows)
 IsTask name rows Picture = (name ≡ codes "explain") × (first_of (codes "TRANSACTIONS") rows ≡ None)
 IsTask name rows (Explain transactions only) =
-    (name ≡ codes "explain") × (Some transactions.now ≡ first_of (codes "TRANSACTIONS") rows) × (option_map (λ p. p.now) only ≡ first_of (codes "NAME") rows)
+    (name ≡ codes "explain") × (Some transactions.now ≡ first_of (codes "TRANSACTIONS") rows)
+    × (option_map (λ p. p.now) only ≡ first_of (codes "NAME") rows)
 
 -- it is done under the files that are named
 pub record IsCommand (name : Text) (rows : List Row) (job : Job) : Type 0 where
@@ -115,8 +136,8 @@ abbrev pub IsCommandOf : Option (Text × List Row) → Job → Type 0
 IsCommandOf None job = ⊥
 IsCommandOf (Some c) job = IsCommand c.0 c.1 job
 
--- the samples without any word after the name of the program; and else what the command among the words says, where the parser of
--- the command line finds no fault in any of them
+-- the samples without any word after the name of the program; and else what the command among the words says, where the
+-- parser of the command line finds no fault in any of them
 pub record Asks (words : List Text) (job : Job) : Type 0 where
   pub samples_are : length words < 2 → job ≡ samples
   pub command_is : 2 ≤ length words → IsCommandOf (subcommand_of command_line words) job

@@ -3,8 +3,9 @@ ghost use Rattle.std.specs.Prelude.{◌≡◌, OnOk};
 ghost use Rattle.std.specs.Io.KnownBytes.{Appends};
 ghost use Rattle.mls_words.specs.Words.{memory_text, usage_text, usage_status};
 
+use mls_writing::{WriteFault, write_bytes};
 use std::alloc::AllocError;
-use std::io::{self, Write};
+use std::io::Write;
 
 /// Why words ask for nothing that can be done.
 #[derive(Drop)]
@@ -16,10 +17,10 @@ pub enum Usage {
 }
 
 /// Writes the line that tells want of memory.
-pub fn tell_memory<W: Write>(err: &mut W) -> io::Result<()>
+pub fn tell_memory<W: Write>(err: &mut W) -> Result<(), WriteFault<W>>
     ensures { OnOk result (Appends (W.contents err.old) (W.contents err.new) memory_text) }
 {
-    err.write_all(b"mldb: memory\n")
+    write_bytes(err, b"mldb: memory\n")
 }
 
 impl Usage {
@@ -34,11 +35,11 @@ impl Usage {
     }
 
     /// Writes the text.
-    pub fn tell<W: Write>(&self, err: &mut W) -> io::Result<()>
+    pub fn tell<W: Write>(&self, err: &mut W) -> Result<(), WriteFault<W>>
         ensures { OnOk result (Appends (W.contents err.old) (W.contents err.new) (usage_text self.now)) }
     {
         match self {
-            Usage::Text(text) => err.write_all(text.as_bytes()),
+            Usage::Text(text) => write_bytes(err, text.as_bytes()),
             Usage::Memory => tell_memory(err),
         }
     }

@@ -4,7 +4,7 @@ use mls_fragments::OpenFault;
 use mls_host::{HostFault, read_whole};
 use mls_lattice::{Items, Str};
 use mls_runs::{HeldFile, MemoryHost};
-use mls_typing::{LinesOf, MOST_BYTES};
+use mls_typing::{AnyReader, LinesOf, MOST_BYTES};
 use sqlite::{Connection, MemStore};
 use std::alloc::{AllocError, Global};
 use std::fs;
@@ -63,10 +63,10 @@ pub fn file_of<R: Files>(
 }
 
 /// The lines of what is typed, or of a first part where there is no memory for all.
-pub fn lines_of(alloc: Global, typed: &[u8]) -> LinesOf<Cursor<Vec<u8>>> {
+pub fn lines_of(alloc: Global, typed: &[u8]) -> LinesOf<AnyReader<Cursor<Vec<u8>>>> {
     let mut bytes = Vec::new(alloc);
     let _all = bytes.extend_from_slice(typed);
-    LinesOf::new(Cursor::new(bytes))
+    LinesOf::new(AnyReader::new(Cursor::new(bytes)))
 }
 
 /// What a word names: it may stand behind the name of its option.
@@ -109,6 +109,7 @@ pub fn machine_for<'a, R: Files + AllocGlobal>(
         input: script,
         store,
         was_opened: false,
+        left: None,
     }
 }
 

@@ -4,7 +4,7 @@ use mls_fragments::OpenFault;
 use mls_host::{CloseFault, Host, HostFault, StoreCause, StoreFiles, read_whole};
 use mls_lattice::Policy;
 use mls_scheme::SchemesFile;
-use mls_typing::LinesOf;
+use mls_typing::{AnyReader, LinesOf};
 use mls_updates::ListBase;
 use std::alloc::Global;
 use std::io::Cursor;
@@ -18,20 +18,27 @@ pub struct Lists<'a, R: Files> {
 }
 
 impl<'a, R: Files + AllocGlobal> Host for Lists<'a, R> {
+    ghost use Rattle.std.specs.Prelude.{true};
+
     // Any bytes and any content: what a file has is known to nobody before it is read.
     ghost hosting = { λ _. record {
       gives = λ _ _. Unit {0};
       lacks = λ _ _. Unit {0};
+      types = λ _. Unit {0};
+      breaks = Unit {0};
+      is_terminal = true;
       keeps = λ _ _. Unit {0};
       bars = λ _ _ _ _. Unit {0};
       shows = λ _ _ _. Unit {0};
       hides = λ _ _. Unit {0};
       is_honest = Unit {0};
+      has_failed = ⊥;
+      is_unclosed = ⊥;
     } };
 
     type Store = ListBase;
 
-    type Lines = LinesOf<Cursor<Vec<u8>>>;
+    type Lines = LinesOf<AnyReader<Cursor<Vec<u8>>>>;
 
     fn file(&self, alloc: Global, path: &str) -> Result<Vec<u8>, HostFault> {
         file_of(self.rt, self.script, alloc, path)
@@ -41,7 +48,7 @@ impl<'a, R: Files + AllocGlobal> Host for Lists<'a, R> {
         read_whole(alloc, self.script)
     }
 
-    fn lines(&self) -> LinesOf<Cursor<Vec<u8>>> {
+    fn lines(&self) -> LinesOf<AnyReader<Cursor<Vec<u8>>>> {
         lines_of(self.rt.alloc(), self.script)
     }
 

@@ -1,8 +1,7 @@
-use Rattle.std.proofs.Common.{◌≡◌, ◌⊎◌, inl, inr, ◌∙◌, sym, refl, subst, Result, Err, IfErr, OnOk}
+use Rattle.std.proofs.Common.{◌≡◌, ◌⊎◌, inl, inr, ◌∙◌, sym, subst, Result, Err, IfErr, OnOk}
 use Rattle.sqlite.specs.Files.{file_state}
 use Rattle.mls_fragments.specs.declared.open_fault.OpenFault.{OpenFault}
 use Rattle.mls_fragments.specs.declared.open_fault.OpenFault.TheVariants.{OtherPolicy, BadRows, Memory}
-use Rattle.mls_fragments.specs.Based.{state_of}
 use Rattle.mls_fragments.specs.Opening.{IsOfOthers, IsBad}
 use Rattle.mls_memory.proofs.MemoryLemmas.{memory_files_are_clean}
 use Rattle.mls_diagnosis.specs.Diagnosis.{IsTakenOver}
@@ -24,20 +23,10 @@ returns-in-Ok-clause-sound c =
     let outcome = c.adopted-outcome.result.0 in
     let taken = c.adopted-outcome.ensures.sound (memory_files_are_clean c.adopted-outcome.result.1) in
     on_ok (λ is.
-    let t = subst (λ (o : Result (Unit {0}) OpenFault). OnOk o (IsTakenOver c.args.policy.now c.args.file.now (file_state c.in-Ok.conn).now)) is taken in (
-      (state_of t.base).now,
-      record {
-        base = t.base;
-        clean = t.clean;
-        over = record {
-          db = (file_state c.in-Ok.conn).now;
-          found = λ clean. c.in-Ok.ensures.found;
-          new = t.new;
-          taken = λ some clean. t.taken some;
-          holds = λ clean. t.holds;
-        };
-        is = refl;
-      },
+    let db = (file_state c.in-Ok.conn).now in
+    let t = subst (λ (o : Result (Unit {0}) OpenFault). OnOk o (IsTakenOver c.args.policy.now c.args.file.now db)) is taken in (
+      t.0,
+      record { had = t.1.had; was = (db, c.in-Ok.ensures.found, t.1.was); row = t.1.row; takes = t.1.takes },
     )) c.verdict_over.result c.verdict_over.ensures.ok
 
 pub returns-in-Ok-clause-others : goal.returns-in-Ok-clause-others

@@ -7,3 +7,6 @@ returns-in-Err-clause-was_clean g c clean =
     let rises = c.in-Err.ensures.err.0.quiet.clean in
     let now = clean_store c.in-Err.store c.close.result c.close.ensures clean in
     omega (arith, rises, now)
+
+pub returns-in-Err-clause-unclosed : goal.returns-in-Err-clause-unclosed
+returns-in-Err-clause-unclosed g c = (c.in-Err.store, c.close.ensures, c.in-Err.ensures.err.0)

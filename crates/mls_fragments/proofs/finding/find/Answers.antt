@@ -1,10 +1,10 @@
-use Rattle.std.proofs.Common.{◌≡◌, ◌≤◌, [], true, map, length, arith, true≢false, sym, subst, subst₂, ◌∙◌, rules, IsPermutation}
+use Rattle.std.proofs.Common.{◌≡◌, [], true, map, true≢false, sym, subst, subst₂, ◌∙◌, rules, IsPermutation}
 use Rattle.std.proofs.lemmas.List.{length-map}
 use Rattle.std.proofs.lemmas.List.Sorted.{IsPermutation-trans, IsPermutation-refl}
 use Rattle.std.specs.List.Sorted.{IsStrictlySortedBy}
 use Rattle.std.specs.Map.{keys_of}
 use Rattle.std.specs.List.{AllByRecursion, list_all}
-use Rattle.mls_lattice.specs.Policy.{Tables as Policy, labels_of}
+use Rattle.mls_lattice.specs.Policy.{labels_of}
 use Rattle.mls_fragments.specs.Finding.{is_within, IsNodeRow, IsCellRow, AreAlike, AreAssembled, AreTables, IsSpelledEntry, node_rows, cell_rows}
 use Rattle.mls_fragments.proofs.ByteLemmas.{content_bytes, few_labels}
 use Rattle.mls_fragments.proofs.FindingLemmas.{are_content, finds, tables_each, tables_spelled}

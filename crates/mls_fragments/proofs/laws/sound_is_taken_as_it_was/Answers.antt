@@ -1,4 +1,4 @@
-use Rattle.mls_fragments.proofs.AgainLemmas.{sound_is_taken}
+use Rattle.mls_fragments.proofs.HoldingsLemmas.{sound_is_taken}
 use Rattle.mls_fragments.proofs.laws.sound_is_taken_as_it_was.Goals as goal
 
 pub returns : goal.returns

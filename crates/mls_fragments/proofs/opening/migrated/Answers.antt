@@ -1,10 +1,11 @@
-use Rattle.std.proofs.Common.{sym, ap, subst, ◌∙◌, IsPermutation}
+use Rattle.std.proofs.Common.{inr, refl, sym, ap, subst, ◌∙◌, IsPermutation}
 use Rattle.sqlite.specs.Held.{state}
 use Rattle.mls_filterview.specs.Content.{State}
 use Rattle.mls_statements.specs.Rows.{numbered, tables_of}
 use Rattle.mls_statements.specs.Store.{IsClean}
 use Rattle.mls_fragments.specs.Finding.{content_found}
 use Rattle.mls_fragments.specs.Holding.{Holds}
+use Rattle.mls_fragments.specs.Holdings.{HaveOneMeta}
 use Rattle.mls_fragments.specs.Migrating.{IsWidenedContent}
 use Rattle.mls_fragments.specs.OpenFault.{finding_fault}
 use Rattle.mls_fragments.proofs.opening.migrated.Goals as goal
@@ -23,6 +24,11 @@ over_found-requires-clause-holds g c clean =
     let listed = subst (IsPermutation (numbered 1 c.in-Ok-find_widened.found.entries)) (sym (rewritten.rows.audit ∙ ap (λ db. (tables_of db.trees).audit) adopted.same)) (c.in-Ok-find_widened.ensures.listed (tables_of (state g.S.Store c.args.conn).now.trees) adopted.all) in
     subst (λ t. Holds t (content_found c.in-Ok-find_widened.found)) (sym (c.over.ensures.rows clean).0)
     (c.in-Ok-find_widened.ensures.holds (tables_of (state g.S.Store c.rewritten.new.conn).now.trees) rewritten.rows.nodes_are rewritten.rows.cells_are listed)
+
+pub over_found-requires-clause-meta : goal.over_found-requires-clause-meta
+over_found-requires-clause-meta g c clean =
+    let rewritten = c.in-Ok-rewritten.ensures.rewritten (c.over.ensures.clean clean) in
+    subst HaveOneMeta (sym (c.over.ensures.rows clean).0) (record { row = _; one = rewritten.rows.meta; version = inr refl })
 
 pub returns-in-Ok-rewritten-clause-widened : goal.returns-in-Ok-rewritten-clause-widened
 returns-in-Ok-rewritten-clause-widened g c clean =

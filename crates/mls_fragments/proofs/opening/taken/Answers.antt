@@ -1,7 +1,10 @@
 use Rattle.std.proofs.Common.{inr, sym, ap, subst, ◌∙◌, arith}
 use Rattle.std.proofs.lemmas.Grind.{common_steps}
+use Rattle.sqlite.specs.Effect.{Database}
 use Rattle.mls_filterview.specs.Content.{State}
+use Rattle.mls_statements.specs.Rows.{tables_of}
 use Rattle.mls_fragments.specs.Finding.{IsSoundContent, IsSoundWithin, content_found}
+use Rattle.mls_fragments.specs.Holdings.{HaveOneMeta}
 use Rattle.mls_fragments.specs.OpenFault.{finding_fault}
 use Rattle.mls_fragments.proofs.WithinLemmas.{within_whole, sound_whole}
 use Rattle.mls_fragments.proofs.opening.taken.Goals as goal
@@ -28,6 +31,12 @@ returns-in-Err-clause-refused g c = grind (arith, common_steps)
 
 pub returns-in-Err-clause-bad : goal.returns-in-Err-clause-bad
 returns-in-Err-clause-bad g c = grind (arith, common_steps)
+
+pub over_found-requires-clause-meta : goal.over_found-requires-clause-meta
+over_found-requires-clause-meta g c clean =
+    let disk = c.over.ensures.clean clean in
+    let adopted = c.in-Ok.ensures.adopted disk in
+    subst HaveOneMeta (sym ((c.over.ensures.rows clean).0 ∙ ap (λ (db : Database). tables_of db.trees) adopted.same)) (c.requires.meta (c.in-Ok.ensures.clean disk))
 
 pub returns-in-Ok-find-clause-sound : goal.returns-in-Ok-find-clause-sound
 returns-in-Ok-find-clause-sound g c =

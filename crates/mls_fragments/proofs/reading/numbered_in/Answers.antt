@@ -1,4 +1,4 @@
-use Rattle.std.proofs.Common.{true≢false, sym, ap, subst, ◌∙◌, pos, map}
+use Rattle.std.proofs.Common.{true≢false, sym, ap, ◌∙◌, pos, map}
 use Rattle.std.proofs.lemmas.Result.{IfOk-weaker}
 use Rattle.mls_statements.specs.Rows.{are_numbered}
 use Rattle.mls_statements.proofs.NumberedLemmas.{rising}

@@ -19,7 +19,7 @@ returns-in-Ok g c =
       c.run_on-outcome.ensures.clean was,
       subst (λ es. IsRun at c.args.audience es wrote c.run_on-outcome.result.0 first left) c.deref.ensures.value (c.run_on-outcome.ensures.run was),
     ) in
-    closed_run g.D.Disk Over c.in-Ok.files c.run_on-outcome.result.0 c.ended.result left c.ended.ensures (λ clean. over (c.in-Ok.ensures.clean clean)) c.in-Ok.ensures.kept
+    closed_run g.D.Disk Over c.in-Ok.files c.run_on-outcome.result.0 c.ended.result left c.ended.ensures (λ clean. over (c.in-Ok.ensures.clean clean)) (λ clean. let kept = c.in-Ok.ensures.kept (c.in-Ok.ensures.clean clean) in (kept.row, kept.kept clean))
 
 pub returns : goal.returns
 returns g c clean =
@@ -27,7 +27,7 @@ returns g c clean =
     let wrote = IsAppended g.W.Write.contents c.args.out.now c.run_on-outcome.new.out in
     let first = (state_of c.args.base).now in
     let left = (state_of c.run_on-outcome.result.1).now in
-    let was = c.in-Err.ensures.was_clean clean in (
+    let was = c.in-Err.ensures.unclosed.clean clean in (
       c.run_on-outcome.result.0,
       left,
       (

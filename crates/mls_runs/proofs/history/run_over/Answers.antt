@@ -1,7 +1,10 @@
 use Rattle.std.proofs.Common.{Result, [], subst}
 use Rattle.mls_filterview.specs.Content.{Content}
 use Rattle.mls_statements.specs.Store.{IsClean}
+use Rattle.sqlite.specs.Files.{image_of}
+use Rattle.mls_fragments.specs.Again.{FindsHoldings}
 use Rattle.mls_fragments.specs.Based.{state_of}
+use Rattle.mls_fragments.proofs.HoldingsLemmas.{base_is_taken}
 use Rattle.mls_sessions.specs.declared.cause.RunFault.{RunFault}
 use Rattle.mls_host.specs.Hosting.{IsAppended}
 use Rattle.mls_host.specs.Running.{site_of, IsRun}
@@ -19,7 +22,7 @@ returns-in-Ok g c =
     let so : (end : Result (Unit {0}) RunFault) (left : Content) → P end left → Q end left = λ end left h. record {
       first = first;
       clean = c.in-Ok.ensures.clean h.0;
-      found = c.in-Ok.ensures.found h.0;
+      found = base_is_taken (FindsHoldings (image_of g.D.Disk c.args.files)) c.args.policy.now c.args.file.now c.in-Ok.base (c.in-Ok.ensures.over h.0);
       begins = c.in-Ok.ensures.sound;
       run = subst (λ o. IsRun at o c.args.run.events.items wrote end first left) c.same_audience.ensures h.1;
     } in

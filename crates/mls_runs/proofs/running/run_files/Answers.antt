@@ -9,6 +9,7 @@ use Rattle.mls_host.specs.Running.{site_of}
 use Rattle.mls_runs.specs.ScriptRun.{IsRunFrom, IsScriptRun, no_files, no_script, no_inputs}
 use Rattle.mls_runs.proofs.ScriptRunLemmas.{NotBegun, script_run, run_done, run_stopped}
 use Rattle.mls_host.proofs.RunningLemmas.{given_up_before}
+use Rattle.mls_host.proofs.StoppingLemmas.{untouched, left_untouched, caused_before, stopped_before}
 use Rattle.mls_runs.proofs.running.run_files.Goals as goal
 
 pub returns-in_err-stored-clause-given_up : goal.returns-in_err-stored-clause-given_up
@@ -36,7 +37,7 @@ returns-clause-done g c =
     (λ (f : Form). IsEnd (IsRunFrom h c.args.file.now (named c.args.files.store) (site_of c.args.policy.now c.args.file.now.schemes c.in_ok-stored.stored)
     (record { reader = c.args.reader; form = f }) c.deref.result.now wrote)
     (λ reason. IsBarred h.before c.args.policy.now c.args.file.now (named c.args.files.store) reason × wrote []) c.run_events.result)
-    c.form_of.ensures c.run_events.ensures))
+    c.form_of.ensures c.run_events.ensures.ends))
 
 pub returns-clause-given_up : goal.returns-clause-given_up
 returns-clause-given_up g c =
@@ -49,4 +50,28 @@ returns-clause-given_up g c =
     (λ (f : Form). IsEnd (IsRunFrom h c.args.file.now (named c.args.files.store) (site_of c.args.policy.now c.args.file.now.schemes c.in_ok-stored.stored)
     (record { reader = c.args.reader; form = f }) c.deref.result.now wrote)
     (λ reason. IsBarred h.before c.args.policy.now c.args.file.now (named c.args.files.store) reason × wrote []) c.run_events.result)
-    c.form_of.ensures c.run_events.ensures))
+    c.form_of.ensures c.run_events.ensures.ends))
+
+pub returns-in_err-stored-clause-leaves : goal.returns-in_err-stored-clause-leaves
+returns-in_err-stored-clause-leaves g c = left_untouched (g.H.Host.hosting c.args.host.now) g.H.Lines.TypedLines.echo (named c.args.files.store)
+
+pub returns-in_err-stored-clause-caused : goal.returns-in_err-stored-clause-caused
+returns-in_err-stored-clause-caused g c =
+    caused_before (hosted g.H.Host.hosting g.H.Lines.TypedLines.echo c.args.host.now c.args.host.now) (named c.args.files.store) c.from_residual.result c.in_err-stored.field-0.0 c.from_residual.ensures.1
+    (untouched (g.H.Host.hosting c.args.host.now))
+
+pub returns-in_err-events-clause-leaves : goal.returns-in_err-events-clause-leaves
+returns-in_err-events-clause-leaves g c = left_untouched (g.H.Host.hosting c.args.host.now) g.H.Lines.TypedLines.echo (named c.args.files.store)
+
+pub returns-in_err-events-clause-caused : goal.returns-in_err-events-clause-caused
+returns-in_err-events-clause-caused g c =
+    caused_before (hosted g.H.Host.hosting g.H.Lines.TypedLines.echo c.args.host.now c.args.host.now) (named c.args.files.store) c.from_residual-in_err-events.result c.in_err-events.field-0.0 c.from_residual-in_err-events.ensures.1
+    (untouched (g.H.Host.hosting c.args.host.now))
+
+pub returns-in_err-stored-clause-stopped : goal.returns-in_err-stored-clause-stopped
+returns-in_err-stored-clause-stopped g c =
+    stopped_before (hosted g.H.Host.hosting g.H.Lines.TypedLines.echo c.args.host.now c.args.host.now) (named c.args.files.store) c.from_residual.result c.in_err-stored.field-0.0 c.from_residual.ensures.1
+
+pub returns-in_err-events-clause-stopped : goal.returns-in_err-events-clause-stopped
+returns-in_err-events-clause-stopped g c =
+    stopped_before (hosted g.H.Host.hosting g.H.Lines.TypedLines.echo c.args.host.now c.args.host.now) (named c.args.files.store) c.from_residual-in_err-events.result c.in_err-events.field-0.0 c.from_residual-in_err-events.ensures.1

@@ -1,4 +1,4 @@
-use Rattle.std.proofs.Common.{◌≡◌, [], Result, Ok, sym, subst, ap}
+use Rattle.std.proofs.Common.{◌≡◌, [], Result, Ok, IfErr, sym, subst, ap}
 use Rattle.std.proofs.KnownBytes.{Appends-nil}
 use Rattle.std.specs.Io.KnownBytes.{Appends}
 use Rattle.mls_filterview.specs.Content.{State, Content, no_content}
@@ -11,16 +11,18 @@ use Rattle.mls_host.specs.declared.refusal.Refusal.{Refusal}
 use Rattle.mls_host.specs.Refusal.{IsEnd}
 use Rattle.mls_host.specs.Running.{site_of, IsRun}
 use Rattle.mls_host.proofs.RunningLemmas.{none_sound, ended_so}
+use Rattle.mls_runs.specs.ScriptRun.{IsCausedInMemory}
+use Rattle.mls_runs.proofs.ScriptRunLemmas.{ended_in_memory}
 use Rattle.mls_runs.proofs.running.run_in_memory.Goals as goal
 
 pub run_on-outcome-requires-clause-sound : goal.run_on-outcome-requires-clause-sound
 run_on-outcome-requires-clause-sound g c = λ _. none_sound (site_of c.args.policy.now c.args.file.now.schemes c.args.stored) _ c.in-Ok.ensures.content
 
-pub returns-in-Err : goal.returns-in-Err
-returns-in-Err g c = (ap Store c.in-Err.ensures.fault, Appends-nil _)
+pub returns-in-Err-clause-ends : goal.returns-in-Err-clause-ends
+returns-in-Err-clause-ends g c = (ap Store c.in-Err.ensures.fault, Appends-nil _)
 
-pub returns : goal.returns
-returns g c =
+pub returns-clause-ends : goal.returns-clause-ends
+returns-clause-ends g c =
     let at = site_of c.args.policy.now c.args.file.now.schemes c.args.stored in
     let left = (state_of c.run_on-outcome.result.1).now in
     let before = g.W.Write.contents c.args.out.now in
@@ -30,3 +32,8 @@ returns g c =
     let ran : Runs c.run_on-outcome.result.0 = (left, subst (λ (x : State). IsRun at c.args.audience c.args.events.now (Appends before after) c.run_on-outcome.result.0 x.now left) c.in-Ok.ensures.content run) in
     let Nothing : Reason → Type 0 = λ reason. (reason ≡ Store stores.Memory) × Appends before after [] in
     subst (λ (r : Result (Unit {0}) Refusal). IsEnd Runs Nothing r) (sym c.ended.ensures) (ended_so Runs Nothing c.run_on-outcome.result.0 (Ok tt) ran)
+
+pub returns-clause-caused : goal.returns-clause-caused
+returns-clause-caused g c =
+    subst (λ (r : Result (Unit {0}) Refusal). IfErr r IsCausedInMemory) (sym c.ended.ensures)
+    (ended_in_memory c.run_on-outcome.result.0 (c.run_on-outcome.ensures.store c.close.ensures.clean))

@@ -1,18 +1,18 @@
-use Rattle.std.proofs.Common.{◌+◌, true≢false, ◌||◌, Ok, Err, not, refl, sym, ap, ◌∙◌, subst, rules}
+use Rattle.std.proofs.Common.{◌+◌, false, ◌||◌, Ok, Err, not, refl, sym, ap, ◌∙◌, subst, rules}
 use Rattle.std.specs.Prelude.{is_some}
 use Rattle.mls_monitor.specs.Sessions.{site_of}
 use Rattle.mls_sessions.specs.Engine.{site, world_of}
 use Rattle.mls_host.specs.Ending.{ending_if}
 use Rattle.mls_host.specs.Hosting.{IsTold}
-use Rattle.mls_shells.specs.Shell.{audience_at, IsFollowed, IsConversation}
-use Rattle.mls_shells.proofs.TalkLemmas.{SoFar, Line, so_far_start, so_far_more, broken, broken_first, over, over_last, worn_out, fits_at, level_at, read_at, carried}
+use Rattle.mls_shells.specs.Shell.{audience_at, is_refused, IsFollowed, IsConversation}
+use Rattle.mls_shells.proofs.TalkLemmas.{SoFar, Line, so_far_start, so_far_more, broken, broken_first, over_closed, over_last, worn_out, fits_at, level_at, read_at, carried}
 use Rattle.mls_shells.proofs.shell.converse.Goals as goal
 
 pub returns-in_err-answer-clause-conversation : goal.returns-in_err-answer-clause-conversation
 returns-in_err-answer-clause-conversation g c = λ clean.
-    carried (λ r. IsConversation g.L.TypedLines.echo (site c.args.engine.now) c.args.seat.now (world_of g.B.Base.state c.args.engine.now) (world_of g.B.Base.state c.answer.new.engine) (g.L.TypedLines.remaining c.args.lines.now) (g.L.TypedLines.remaining c.args.lines.now) (g.W.Write.contents c.args.out.now) (g.W.Write.contents c.answer.new.out) (IsTold g.E.Write.contents c.args.err.now c.args.err.now) r)
+    carried (λ r. IsConversation g.L.TypedLines.echo (site c.args.engine.now) c.args.seat.now (g.L.TypedLines.remaining c.args.lines.now) (g.L.TypedLines.remaining c.args.lines.now) (g.W.Write.contents c.args.out.now) (g.W.Write.contents c.answer.new.out) (g.L.TypedLines.breaks c.args.lines.now) (IsTold g.E.Write.contents c.args.err.now c.args.err.now) r (world_of g.B.Base.state c.args.engine.now) (world_of g.B.Base.state c.answer.new.engine))
     c.from_residual.result c.in_err-answer.field-0.0 c.from_residual.ensures.1
-    (broken_first g.B.Base.state g.B.Base.is_clean g.E.Write.contents g.L.TypedLines.echo c.args.seat.now c.args.engine.now c.args.err.now (g.L.TypedLines.remaining c.args.lines.now) (g.W.Write.contents c.args.out.now) c.requires.fits c.answer.new.engine (g.W.Write.contents c.answer.new.out) c.in_err-answer.field-0.0
+    (broken_first g.B.Base.state g.B.Base.is_clean g.E.Write.contents g.L.TypedLines.echo c.args.seat.now c.args.engine.now c.args.err.now (g.L.TypedLines.remaining c.args.lines.now) (g.W.Write.contents c.args.out.now) c.requires.fits (g.L.TypedLines.breaks c.args.lines.now) c.answer.new.engine (g.W.Write.contents c.answer.new.out) c.in_err-answer.field-0.0
     (subst (λ es. IsFollowed (site c.args.engine.now) (audience_at c.args.seat.now) (world_of g.B.Base.state c.args.engine.now) es (g.W.Write.contents c.args.out.now) (g.W.Write.contents c.answer.new.out) (world_of g.B.Base.state c.answer.new.engine) 0 (Err c.in_err-answer.field-0.0)) c.requires.first (c.in_err-answer.ensures.followed clean)))
 
 pub loop-before-init : goal.loop-before-init
@@ -34,8 +34,8 @@ returns-then-not-is_open-clause-kept g c = c.loop-before.invariant.kept
 pub returns-then-not-is_open-clause-conversation : goal.returns-then-not-is_open-clause-conversation
 returns-then-not-is_open-clause-conversation g c = λ clean.
     let closed = ap (λ n. is_some ((world_of g.B.Base.state c.loop-before.engine).sessions c.args.seat.now.level n)) (sym c.as_str-in-loop-before.ensures) ∙ sym c.is_open.ensures ∙ c.if-not-is_open.true in
-    subst (λ e. IsConversation g.L.TypedLines.echo (site c.args.engine.now) c.args.seat.now (world_of g.B.Base.state c.args.engine.now) (world_of g.B.Base.state c.loop-before.engine) (g.L.TypedLines.remaining c.args.lines.now) (g.L.TypedLines.remaining c.loop-before.lines) (g.W.Write.contents c.args.out.now) (g.W.Write.contents c.loop-before.out) (IsTold g.E.Write.contents c.args.err.now c.loop-before.err) (Ok e)) (sym c.ending_if.ensures)
-    (over g.B.Base.state g.B.Base.is_clean g.E.Write.contents g.L.TypedLines.echo c.args.seat.now c.args.engine.now c.args.err.now (g.L.TypedLines.remaining c.args.lines.now) (g.W.Write.contents c.args.out.now) c.requires.fits c.loop-before.before c.loop-before.engine c.loop-before.err (g.L.TypedLines.remaining c.loop-before.lines) (g.W.Write.contents c.loop-before.out) c.loop-before.refused c.loop-before.invariant clean (λ o. absurd (true≢false (sym o ∙ closed))))
+    subst (λ e. IsConversation g.L.TypedLines.echo (site c.args.engine.now) c.args.seat.now (g.L.TypedLines.remaining c.args.lines.now) (g.L.TypedLines.remaining c.loop-before.lines) (g.W.Write.contents c.args.out.now) (g.W.Write.contents c.loop-before.out) (g.L.TypedLines.breaks c.loop-before.lines) (IsTold g.E.Write.contents c.args.err.now c.loop-before.err) (Ok e) (world_of g.B.Base.state c.args.engine.now) (world_of g.B.Base.state c.loop-before.engine)) (sym c.ending_if.ensures)
+    (over_closed g.B.Base.state g.B.Base.is_clean g.E.Write.contents g.L.TypedLines.echo c.args.seat.now c.args.engine.now c.args.err.now (g.L.TypedLines.remaining c.args.lines.now) (g.W.Write.contents c.args.out.now) c.requires.fits (g.L.TypedLines.breaks c.loop-before.lines) c.loop-before.before c.loop-before.engine c.loop-before.err (g.L.TypedLines.remaining c.loop-before.lines) (g.W.Write.contents c.loop-before.out) c.loop-before.refused c.loop-before.invariant clean closed)
 
 pub follow-requires-clause-ready : goal.follow-requires-clause-ready
 follow-requires-clause-ready g c = c.loop-before.invariant.kept.ready
@@ -56,16 +56,16 @@ returns-in_err-follow-clause-kept g c = record { rules = c.follow.ensures.kept.r
 
 pub returns-in_err-follow-clause-conversation : goal.returns-in_err-follow-clause-conversation
 returns-in_err-follow-clause-conversation g c = λ clean.
-    let line : Line g.B.Base.state g.B.Base.is_clean g.E.Write.contents g.L.TypedLines.echo c.args.seat.now c.args.engine.now c.args.err.now (g.L.TypedLines.remaining c.args.lines.now) (g.W.Write.contents c.args.out.now) c.loop-before.before c.loop-before.engine c.loop-before.err (g.L.TypedLines.remaining c.loop-before.lines) (g.W.Write.contents c.loop-before.out) c.loop-before.refused c.loop-before.invariant c.next_fate-fate.result c.ask.new.err c.tell_fate.new.err (g.L.TypedLines.remaining c.next_fate-fate.new.lines) (g.W.Write.contents c.next_fate-fate.new.out) = record {
+    let line : Line g.B.Base.state g.B.Base.is_clean g.E.Write.contents g.L.TypedLines.echo c.args.seat.now c.args.engine.now c.args.err.now (g.L.TypedLines.remaining c.args.lines.now) (g.W.Write.contents c.args.out.now) c.loop-before.before c.loop-before.engine c.loop-before.err (g.L.TypedLines.remaining c.loop-before.lines) (g.W.Write.contents c.loop-before.out) c.loop-before.refused c.loop-before.invariant c.next_fate-fate.result c.ask.new.err c.tell_fate.new.err (g.L.TypedLines.remaining c.next_fate-fate.new.lines) (g.W.Write.contents c.next_fate-fate.new.out) (g.L.TypedLines.breaks c.next_fate-fate.new.lines) = record {
       was_open = ap (λ n. is_some ((world_of g.B.Base.state c.loop-before.engine).sessions c.args.seat.now.level n)) (sym c.as_str-in-loop-before.ensures) ∙ sym c.is_open.ensures ∙ c.if-not-is_open.false;
       asked_is = c.ask.ensures;
-      read = read_at g.L.TypedLines.echo (site c.args.engine.now) c.args.policy.now c.args.schemes.now c.args.seat.now _ _ _ _ _ c.requires.policy c.requires.schemes c.next_fate-fate.ensures.read;
+      read = read_at g.L.TypedLines.echo (site c.args.engine.now) c.args.policy.now c.args.schemes.now c.args.seat.now _ _ _ _ _ _ c.requires.policy c.requires.schemes c.next_fate-fate.ensures.read;
       fits = fits_at (site c.args.engine.now) (site c.args.engine.now) c.args.policy.now c.args.schemes.now refl c.requires.policy c.requires.schemes _ c.next_fate-fate.ensures.fits;
       said_is = c.tell_fate.ensures;
     } in
-    carried (λ r. IsConversation g.L.TypedLines.echo (site c.args.engine.now) c.args.seat.now (world_of g.B.Base.state c.args.engine.now) (world_of g.B.Base.state c.follow.new.engine) (g.L.TypedLines.remaining c.args.lines.now) (g.L.TypedLines.remaining c.next_fate-fate.new.lines) (g.W.Write.contents c.args.out.now) (g.W.Write.contents c.follow.new.out) (IsTold g.E.Write.contents c.args.err.now c.tell_fate.new.err) r)
+    carried (λ r. IsConversation g.L.TypedLines.echo (site c.args.engine.now) c.args.seat.now (g.L.TypedLines.remaining c.args.lines.now) (g.L.TypedLines.remaining c.next_fate-fate.new.lines) (g.W.Write.contents c.args.out.now) (g.W.Write.contents c.follow.new.out) (g.L.TypedLines.breaks c.next_fate-fate.new.lines) (IsTold g.E.Write.contents c.args.err.now c.tell_fate.new.err) r (world_of g.B.Base.state c.args.engine.now) (world_of g.B.Base.state c.follow.new.engine))
     c.from_residual-in_err-follow.result c.in_err-follow.field-0.0 c.from_residual-in_err-follow.ensures.1
-    (broken g.B.Base.state g.B.Base.is_clean g.E.Write.contents g.L.TypedLines.echo c.args.seat.now c.args.engine.now c.args.err.now (g.L.TypedLines.remaining c.args.lines.now) (g.W.Write.contents c.args.out.now) c.loop-before.before c.loop-before.engine c.loop-before.err (g.L.TypedLines.remaining c.loop-before.lines) (g.W.Write.contents c.loop-before.out) c.loop-before.refused c.loop-before.invariant c.next_fate-fate.result c.ask.new.err c.tell_fate.new.err (g.L.TypedLines.remaining c.next_fate-fate.new.lines) (g.W.Write.contents c.next_fate-fate.new.out) line c.follow.new.engine (g.W.Write.contents c.follow.new.out) c.follow.ensures.clean c.follow.ensures.kept c.requires.fits c.in_err-follow.field-0.0 clean (c.in_err-follow.ensures.followed clean))
+    (broken g.B.Base.state g.B.Base.is_clean g.E.Write.contents g.L.TypedLines.echo c.args.seat.now c.args.engine.now c.args.err.now (g.L.TypedLines.remaining c.args.lines.now) (g.W.Write.contents c.args.out.now) c.loop-before.before c.loop-before.engine c.loop-before.err (g.L.TypedLines.remaining c.loop-before.lines) (g.W.Write.contents c.loop-before.out) c.loop-before.refused c.loop-before.invariant c.next_fate-fate.result c.ask.new.err c.tell_fate.new.err (g.L.TypedLines.remaining c.next_fate-fate.new.lines) (g.W.Write.contents c.next_fate-fate.new.out) (g.L.TypedLines.breaks c.next_fate-fate.new.lines) line c.follow.new.engine (g.W.Write.contents c.follow.new.out) c.follow.ensures.clean c.follow.ensures.kept c.requires.fits c.in_err-follow.field-0.0 clean (c.in_err-follow.ensures.followed clean))
 
 pub returns-then-is_last-clause-clean : goal.returns-then-is_last-clause-clean
 returns-then-is_last-clause-clean g c = λ clean. c.loop-before.invariant.clean (c.follow.ensures.clean clean)
@@ -75,28 +75,29 @@ returns-then-is_last-clause-kept g c = record { rules = c.follow.ensures.kept.ru
 
 pub returns-then-is_last-clause-conversation : goal.returns-then-is_last-clause-conversation
 returns-then-is_last-clause-conversation g c = λ clean.
-    let line : Line g.B.Base.state g.B.Base.is_clean g.E.Write.contents g.L.TypedLines.echo c.args.seat.now c.args.engine.now c.args.err.now (g.L.TypedLines.remaining c.args.lines.now) (g.W.Write.contents c.args.out.now) c.loop-before.before c.loop-before.engine c.loop-before.err (g.L.TypedLines.remaining c.loop-before.lines) (g.W.Write.contents c.loop-before.out) c.loop-before.refused c.loop-before.invariant c.next_fate-fate.result c.ask.new.err c.tell_fate.new.err (g.L.TypedLines.remaining c.next_fate-fate.new.lines) (g.W.Write.contents c.next_fate-fate.new.out) = record {
+    let line : Line g.B.Base.state g.B.Base.is_clean g.E.Write.contents g.L.TypedLines.echo c.args.seat.now c.args.engine.now c.args.err.now (g.L.TypedLines.remaining c.args.lines.now) (g.W.Write.contents c.args.out.now) c.loop-before.before c.loop-before.engine c.loop-before.err (g.L.TypedLines.remaining c.loop-before.lines) (g.W.Write.contents c.loop-before.out) c.loop-before.refused c.loop-before.invariant c.next_fate-fate.result c.ask.new.err c.tell_fate.new.err (g.L.TypedLines.remaining c.next_fate-fate.new.lines) (g.W.Write.contents c.next_fate-fate.new.out) (g.L.TypedLines.breaks c.next_fate-fate.new.lines) = record {
       was_open = ap (λ n. is_some ((world_of g.B.Base.state c.loop-before.engine).sessions c.args.seat.now.level n)) (sym c.as_str-in-loop-before.ensures) ∙ sym c.is_open.ensures ∙ c.if-not-is_open.false;
       asked_is = c.ask.ensures;
-      read = read_at g.L.TypedLines.echo (site c.args.engine.now) c.args.policy.now c.args.schemes.now c.args.seat.now _ _ _ _ _ c.requires.policy c.requires.schemes c.next_fate-fate.ensures.read;
+      read = read_at g.L.TypedLines.echo (site c.args.engine.now) c.args.policy.now c.args.schemes.now c.args.seat.now _ _ _ _ _ _ c.requires.policy c.requires.schemes c.next_fate-fate.ensures.read;
       fits = fits_at (site c.args.engine.now) (site c.args.engine.now) c.args.policy.now c.args.schemes.now refl c.requires.policy c.requires.schemes _ c.next_fate-fate.ensures.fits;
       said_is = c.tell_fate.ensures;
     } in
     let same = c.ending_if-then-is_last.ensures ∙ ap (λ b. ending_if (c.loop-before.refused || b)) c.is_refused-refused.ensures in
-    subst (λ e. IsConversation g.L.TypedLines.echo (site c.args.engine.now) c.args.seat.now (world_of g.B.Base.state c.args.engine.now) (world_of g.B.Base.state c.follow.new.engine) (g.L.TypedLines.remaining c.args.lines.now) (g.L.TypedLines.remaining c.next_fate-fate.new.lines) (g.W.Write.contents c.args.out.now) (g.W.Write.contents c.follow.new.out) (IsTold g.E.Write.contents c.args.err.now c.tell_fate.new.err) (Ok e)) (sym same)
-    (over_last g.B.Base.state g.B.Base.is_clean g.E.Write.contents g.L.TypedLines.echo c.args.seat.now c.args.engine.now c.args.err.now (g.L.TypedLines.remaining c.args.lines.now) (g.W.Write.contents c.args.out.now) c.requires.fits c.loop-before.before c.loop-before.engine c.loop-before.err (g.L.TypedLines.remaining c.loop-before.lines) (g.W.Write.contents c.loop-before.out) c.loop-before.refused c.loop-before.invariant c.next_fate-fate.result c.ask.new.err c.tell_fate.new.err (g.L.TypedLines.remaining c.next_fate-fate.new.lines) (g.W.Write.contents c.next_fate-fate.new.out) line c.follow.new.engine (g.W.Write.contents c.follow.new.out) c.follow.ensures.clean c.follow.ensures.kept c.in_ok-follow.ensures.found c.in_ok-follow.ensures.followed (sym c.is_last.ensures ∙ c.if-is_last.true) clean)
+    subst (λ e. IsConversation g.L.TypedLines.echo (site c.args.engine.now) c.args.seat.now (g.L.TypedLines.remaining c.args.lines.now) (g.L.TypedLines.remaining c.next_fate-fate.new.lines) (g.W.Write.contents c.args.out.now) (g.W.Write.contents c.follow.new.out) (g.L.TypedLines.breaks c.next_fate-fate.new.lines) (IsTold g.E.Write.contents c.args.err.now c.tell_fate.new.err) (Ok e) (world_of g.B.Base.state c.args.engine.now) (world_of g.B.Base.state c.follow.new.engine)) (sym same)
+    (over_last g.B.Base.state g.B.Base.is_clean g.E.Write.contents g.L.TypedLines.echo c.args.seat.now c.args.engine.now c.args.err.now (g.L.TypedLines.remaining c.args.lines.now) (g.W.Write.contents c.args.out.now) c.requires.fits (g.L.TypedLines.breaks c.next_fate-fate.new.lines) c.loop-before.before c.loop-before.engine c.loop-before.err (g.L.TypedLines.remaining c.loop-before.lines) (g.W.Write.contents c.loop-before.out) c.loop-before.refused c.loop-before.invariant c.next_fate-fate.result c.ask.new.err c.tell_fate.new.err (g.L.TypedLines.remaining c.next_fate-fate.new.lines) (g.W.Write.contents c.next_fate-fate.new.out) line c.follow.new.engine (g.W.Write.contents c.follow.new.out) c.follow.ensures.clean c.follow.ensures.kept c.in_ok-follow.ensures.found c.in_ok-follow.ensures.followed (sym c.is_last.ensures ∙ c.if-is_last.true) clean)
 
 pub loop-before-preserved : goal.loop-before-preserved
 loop-before-preserved g c =
-    let line : Line g.B.Base.state g.B.Base.is_clean g.E.Write.contents g.L.TypedLines.echo c.args.seat.now c.args.engine.now c.args.err.now (g.L.TypedLines.remaining c.args.lines.now) (g.W.Write.contents c.args.out.now) c.loop-before.before c.loop-before.engine c.loop-before.err (g.L.TypedLines.remaining c.loop-before.lines) (g.W.Write.contents c.loop-before.out) c.loop-before.refused c.loop-before.invariant c.next_fate-fate.result c.ask.new.err c.tell_fate.new.err (g.L.TypedLines.remaining c.next_fate-fate.new.lines) (g.W.Write.contents c.next_fate-fate.new.out) = record {
+    let line : Line g.B.Base.state g.B.Base.is_clean g.E.Write.contents g.L.TypedLines.echo c.args.seat.now c.args.engine.now c.args.err.now (g.L.TypedLines.remaining c.args.lines.now) (g.W.Write.contents c.args.out.now) c.loop-before.before c.loop-before.engine c.loop-before.err (g.L.TypedLines.remaining c.loop-before.lines) (g.W.Write.contents c.loop-before.out) c.loop-before.refused c.loop-before.invariant c.next_fate-fate.result c.ask.new.err c.tell_fate.new.err (g.L.TypedLines.remaining c.next_fate-fate.new.lines) (g.W.Write.contents c.next_fate-fate.new.out) (g.L.TypedLines.breaks c.next_fate-fate.new.lines) = record {
       was_open = ap (λ n. is_some ((world_of g.B.Base.state c.loop-before.engine).sessions c.args.seat.now.level n)) (sym c.as_str-in-loop-before.ensures) ∙ sym c.is_open.ensures ∙ c.if-not-is_open.false;
       asked_is = c.ask.ensures;
-      read = read_at g.L.TypedLines.echo (site c.args.engine.now) c.args.policy.now c.args.schemes.now c.args.seat.now _ _ _ _ _ c.requires.policy c.requires.schemes c.next_fate-fate.ensures.read;
+      read = read_at g.L.TypedLines.echo (site c.args.engine.now) c.args.policy.now c.args.schemes.now c.args.seat.now _ _ _ _ _ _ c.requires.policy c.requires.schemes c.next_fate-fate.ensures.read;
       fits = fits_at (site c.args.engine.now) (site c.args.engine.now) c.args.policy.now c.args.schemes.now refl c.requires.policy c.requires.schemes _ c.next_fate-fate.ensures.fits;
       said_is = c.tell_fate.ensures;
     } in
-    let next = so_far_more g.B.Base.state g.B.Base.is_clean g.E.Write.contents g.L.TypedLines.echo c.args.seat.now c.args.engine.now c.args.err.now (g.L.TypedLines.remaining c.args.lines.now) (g.W.Write.contents c.args.out.now) c.loop-before.before c.loop-before.engine c.loop-before.err (g.L.TypedLines.remaining c.loop-before.lines) (g.W.Write.contents c.loop-before.out) c.loop-before.refused c.loop-before.invariant c.next_fate-fate.result c.ask.new.err c.tell_fate.new.err (g.L.TypedLines.remaining c.next_fate-fate.new.lines) (g.W.Write.contents c.next_fate-fate.new.out) line c.follow.new.engine (g.W.Write.contents c.follow.new.out) c.follow.ensures.clean c.follow.ensures.kept c.in_ok-follow.ensures.found c.in_ok-follow.ensures.followed in
-    subst (λ b. SoFar g.B.Base.state g.B.Base.is_clean g.E.Write.contents g.L.TypedLines.echo c.args.seat.now c.args.engine.now c.args.err.now (g.L.TypedLines.remaining c.args.lines.now) (g.W.Write.contents c.args.out.now) (c.loop-before.before + 1) c.follow.new.engine c.tell_fate.new.err (g.L.TypedLines.remaining c.next_fate-fate.new.lines) (g.W.Write.contents c.follow.new.out) (c.loop-before.refused || b)) (sym c.is_refused-refused.ensures) next
+    let next = so_far_more g.B.Base.state g.B.Base.is_clean g.E.Write.contents g.L.TypedLines.echo c.args.seat.now c.args.engine.now c.args.err.now (g.L.TypedLines.remaining c.args.lines.now) (g.W.Write.contents c.args.out.now) c.loop-before.before c.loop-before.engine c.loop-before.err (g.L.TypedLines.remaining c.loop-before.lines) (g.W.Write.contents c.loop-before.out) c.loop-before.refused c.loop-before.invariant c.next_fate-fate.result c.ask.new.err c.tell_fate.new.err (g.L.TypedLines.remaining c.next_fate-fate.new.lines) (g.W.Write.contents c.next_fate-fate.new.out) (g.L.TypedLines.breaks c.next_fate-fate.new.lines) line c.follow.new.engine (g.W.Write.contents c.follow.new.out) c.follow.ensures.clean c.follow.ensures.kept c.in_ok-follow.ensures.found c.in_ok-follow.ensures.followed in
+    subst (λ b. SoFar g.B.Base.state g.B.Base.is_clean g.E.Write.contents g.L.TypedLines.echo c.args.seat.now c.args.engine.now c.args.err.now (g.L.TypedLines.remaining c.args.lines.now) (g.W.Write.contents c.args.out.now) (c.loop-before.before + 1) c.follow.new.engine c.tell_fate.new.err (g.L.TypedLines.remaining c.next_fate-fate.new.lines) (g.W.Write.contents c.follow.new.out) (c.loop-before.refused || b) false) (sym c.is_refused-refused.ensures)
+    (subst (λ b. SoFar g.B.Base.state g.B.Base.is_clean g.E.Write.contents g.L.TypedLines.echo c.args.seat.now c.args.engine.now c.args.err.now (g.L.TypedLines.remaining c.args.lines.now) (g.W.Write.contents c.args.out.now) (c.loop-before.before + 1) c.follow.new.engine c.tell_fate.new.err (g.L.TypedLines.remaining c.next_fate-fate.new.lines) (g.W.Write.contents c.follow.new.out) (c.loop-before.refused || is_refused c.next_fate-fate.result) b) (sym c.is_last.ensures ∙ c.if-is_last.false) next)
 
 pub returns-clause-clean : goal.returns-clause-clean
 returns-clause-clean g c = c.loop-before.invariant.clean
@@ -105,4 +106,4 @@ pub returns-clause-kept : goal.returns-clause-kept
 returns-clause-kept g c = c.loop-before.invariant.kept
 
 pub returns-clause-conversation : goal.returns-clause-conversation
-returns-clause-conversation g c = λ clean. worn_out g.B.Base.state g.B.Base.is_clean g.E.Write.contents g.L.TypedLines.echo c.args.seat.now c.args.engine.now c.args.err.now (g.L.TypedLines.remaining c.args.lines.now) (g.W.Write.contents c.args.out.now) c.requires.fits c.loop-before.before c.loop-before.engine c.loop-before.err (g.L.TypedLines.remaining c.loop-before.lines) (g.W.Write.contents c.loop-before.out) c.loop-before.refused c.loop-before.invariant clean _ (search rules)
+returns-clause-conversation g c = λ clean. worn_out g.B.Base.state g.B.Base.is_clean g.E.Write.contents g.L.TypedLines.echo c.args.seat.now c.args.engine.now c.args.err.now (g.L.TypedLines.remaining c.args.lines.now) (g.W.Write.contents c.args.out.now) c.requires.fits (g.L.TypedLines.breaks c.loop-before.lines) c.loop-before.before c.loop-before.engine c.loop-before.err (g.L.TypedLines.remaining c.loop-before.lines) (g.W.Write.contents c.loop-before.out) c.loop-before.refused c.loop-before.invariant clean _ (search rules)

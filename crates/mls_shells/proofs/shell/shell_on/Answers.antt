@@ -3,12 +3,11 @@ use Rattle.mls_lattice.specs.Labels.{AreDistinct}
 use Rattle.mls_machine.specs.Site.{Site, site_labels}
 use Rattle.mls_machine.specs.Observation.{EventsFit}
 use Rattle.mls_sessions.specs.World.{world_at, IsSound}
-use Rattle.mls_sessions.specs.Engine.{world_of}
 use Rattle.mls_monitor.specs.Sessions.{site_of, sessions_of}
 use Rattle.mls_host.specs.Hosting.{IsTold}
 use Rattle.mls_host.specs.Running.{first_world, site_of as site_for}
-use Rattle.mls_shells.specs.Shell.{opening, IsConversation}
-use Rattle.mls_shells.proofs.ShellEndLemmas.{opening_fits, shell_at}
+use Rattle.mls_shells.specs.Shell.{opening}
+use Rattle.mls_shells.proofs.ShellEndLemmas.{opening_fits, conversation_at, shell_at}
 use Rattle.mls_shells.proofs.shell.shell_on.Goals as goal
 
 pub converse-outcome-requires-clause-policy : goal.converse-outcome-requires-clause-policy
@@ -42,9 +41,7 @@ returns-clause-shell g c = λ clean.
     let last : world_at (site_of new.rules) sessions (g.B.Base.state new.base).now ≡ world_at at sessions left = λ i. world_at (same i) sessions (held i) in
     let distinct : AreDistinct (site_labels at) = subst (λ (s : Site). AreDistinct (site_labels s)) c.new-engine.ensures.site c.new-engine.ensures.ready.distinct in
     let start = c.requires.sound (subst g.B.Base.is_clean c.new-engine.ensures.base (c.converse-outcome.ensures.clean was)) in
-    shell_at g.L.TypedLines.echo at c.args.seat.now sessions first left (g.L.TypedLines.remaining c.args.lines.now) (g.L.TypedLines.remaining c.converse-outcome.new.lines) (g.W.Write.contents c.args.out.now) (g.W.Write.contents c.converse-outcome.new.out)
+    shell_at g.L.TypedLines.echo at c.args.seat.now sessions first left (g.L.TypedLines.remaining c.args.lines.now) (g.L.TypedLines.remaining c.converse-outcome.new.lines) (g.W.Write.contents c.args.out.now) (g.W.Write.contents c.converse-outcome.new.out) (g.L.TypedLines.breaks c.converse-outcome.new.lines)
     (IsTold g.E.Write.contents c.args.err.now c.converse-outcome.new.err) c.converse-outcome.result distinct c.requires.read c.requires.certified start sound
-    (subst (λ w. IsConversation g.L.TypedLines.echo at c.args.seat.now (first_world at first) w (g.L.TypedLines.remaining c.args.lines.now) (g.L.TypedLines.remaining c.converse-outcome.new.lines) (g.W.Write.contents c.args.out.now) (g.W.Write.contents c.converse-outcome.new.out) (IsTold g.E.Write.contents c.args.err.now c.converse-outcome.new.err) c.converse-outcome.result) last
-    (subst (λ v. IsConversation g.L.TypedLines.echo at c.args.seat.now v (world_at (site_of new.rules) sessions (g.B.Base.state new.base).now) (g.L.TypedLines.remaining c.args.lines.now) (g.L.TypedLines.remaining c.converse-outcome.new.lines) (g.W.Write.contents c.args.out.now) (g.W.Write.contents c.converse-outcome.new.out) (IsTold g.E.Write.contents c.args.err.now c.converse-outcome.new.err) c.converse-outcome.result) c.new-engine.ensures.world
-    (subst (λ s. IsConversation g.L.TypedLines.echo s c.args.seat.now (world_of g.B.Base.state c.new-engine.result) (world_at (site_of new.rules) sessions (g.B.Base.state new.base).now) (g.L.TypedLines.remaining c.args.lines.now) (g.L.TypedLines.remaining c.converse-outcome.new.lines) (g.W.Write.contents c.args.out.now) (g.W.Write.contents c.converse-outcome.new.out) (IsTold g.E.Write.contents c.args.err.now c.converse-outcome.new.err) c.converse-outcome.result) c.new-engine.ensures.site
-    (c.converse-outcome.ensures.conversation was))))
+    (conversation_at g.L.TypedLines.echo c.args.seat.now (g.L.TypedLines.remaining c.args.lines.now) (g.L.TypedLines.remaining c.converse-outcome.new.lines) (g.W.Write.contents c.args.out.now) (g.W.Write.contents c.converse-outcome.new.out) (g.L.TypedLines.breaks c.converse-outcome.new.lines)
+    (IsTold g.E.Write.contents c.args.err.now c.converse-outcome.new.err) c.converse-outcome.result _ at _ (first_world at first) _ (world_at at sessions left) c.new-engine.ensures.site c.new-engine.ensures.world last (c.converse-outcome.ensures.conversation was))

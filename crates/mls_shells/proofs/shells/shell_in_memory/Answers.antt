@@ -1,4 +1,4 @@
-use Rattle.std.proofs.Common.{◌≡◌, [], Result, Ok, sym, subst, ap}
+use Rattle.std.proofs.Common.{◌≡◌, ◌≢◌, [], Result, Ok, IfErr, sym, subst, ap}
 use Rattle.std.proofs.KnownBytes.{Appends-nil}
 use Rattle.mls_filterview.specs.Content.{State, Content, no_content}
 use Rattle.mls_fragments.specs.Based.{state_of}
@@ -14,23 +14,29 @@ use Rattle.mls_shells.specs.Shell.{IsShell}
 use Rattle.mls_host.specs.Refusal.{IsEnd}
 use Rattle.mls_host.proofs.RunningLemmas.{none_sound, ended_so}
 use Rattle.mls_host.proofs.HostingLemmas.{told_nothing}
+use Rattle.mls_host.specs.declared.refusal.Refusal.TheVariants.{NotClosed}
+use Rattle.mls_shells.proofs.ShellEndLemmas.{none_unclosed}
 use Rattle.mls_shells.proofs.shells.shell_in_memory.Goals as goal
 
 pub shell_on-outcome-requires-clause-sound : goal.shell_on-outcome-requires-clause-sound
 shell_on-outcome-requires-clause-sound g c = λ _. none_sound (site_of c.args.policy.now c.args.file.now.schemes c.args.stored) _ c.in-Ok.ensures.content
 
-pub returns-in-Err : goal.returns-in-Err
-returns-in-Err g c = (ap Store c.in-Err.ensures.fault, Appends-nil _, told_nothing g.E.Write.contents c.args.err.now)
+pub returns-in-Err-clause-ends : goal.returns-in-Err-clause-ends
+returns-in-Err-clause-ends g c = (ap Store c.in-Err.ensures.fault, Appends-nil _, told_nothing g.E.Write.contents c.args.err.now)
 
-pub returns : goal.returns
-returns g c =
+pub returns-clause-ends : goal.returns-clause-ends
+returns-clause-ends g c =
     let at = site_of c.args.policy.now c.args.file.now.schemes c.args.stored in
     let left = (state_of c.shell_on-outcome.result.1).now in
     let Wrote = IsAppended g.W.Write.contents c.args.out.now c.shell_on-outcome.new.out in
     let Told = IsTold g.E.Write.contents c.args.err.now c.shell_on-outcome.new.err in
     let shell = c.shell_on-outcome.ensures.shell c.close.ensures.clean in
-    let Runs : Result Ending RunFault → Type 0 = λ end. (last : Content) × IsShell g.L.TypedLines.echo at c.args.seat.now (g.L.TypedLines.remaining c.args.lines.now) (g.L.TypedLines.remaining c.shell_on-outcome.new.lines) Wrote Told end no_content last in
+    let Runs : Result Ending RunFault → Type 0 = λ end. (last : Content) × IsShell g.L.TypedLines.echo at c.args.seat.now (g.L.TypedLines.remaining c.args.lines.now) (g.L.TypedLines.remaining c.shell_on-outcome.new.lines) (g.L.TypedLines.breaks c.shell_on-outcome.new.lines) Wrote Told end no_content last in
     let ran : Runs c.shell_on-outcome.result.0 =
-    (left, subst (λ (x : State). IsShell g.L.TypedLines.echo at c.args.seat.now (g.L.TypedLines.remaining c.args.lines.now) (g.L.TypedLines.remaining c.shell_on-outcome.new.lines) Wrote Told c.shell_on-outcome.result.0 x.now left) c.in-Ok.ensures.content shell) in
+    (left, subst (λ (x : State). IsShell g.L.TypedLines.echo at c.args.seat.now (g.L.TypedLines.remaining c.args.lines.now) (g.L.TypedLines.remaining c.shell_on-outcome.new.lines) (g.L.TypedLines.breaks c.shell_on-outcome.new.lines) Wrote Told c.shell_on-outcome.result.0 x.now left) c.in-Ok.ensures.content shell) in
     let Nothing : Reason → Type 0 = λ reason. (reason ≡ Store stores.Memory) × Wrote [] × Told [] in
     subst (λ (r : Result Ending Refusal). IsEnd Runs Nothing r) (sym c.ended.ensures) (ended_so Runs Nothing c.shell_on-outcome.result.0 (Ok tt) ran)
+
+pub returns-clause-closed : goal.returns-clause-closed
+returns-clause-closed g c =
+    subst (λ (r : Result Ending Refusal). IfErr r (λ e. e ≢ NotClosed)) (sym c.ended.ensures) (none_unclosed c.shell_on-outcome.result.0)

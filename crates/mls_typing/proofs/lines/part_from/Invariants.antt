@@ -5,4 +5,4 @@ use Rattle.mls_typing.proofs.lines.part_from.Given as goal
 
 abbrev pub invariant-loop : goal.invariant-loop
 invariant-loop g l =
-    (length l.line.items ≡ l.counter) × HasNoFeed l.line.items × Consumes (g.R.Read.remaining l.initial.input) (g.R.Read.remaining l.input) l.line.items
+    (length l.line.items ≡ l.counter) × HasNoFeed l.line.items × Consumes (g.S.Source.remaining l.initial.input) (g.S.Source.remaining l.input) l.line.items

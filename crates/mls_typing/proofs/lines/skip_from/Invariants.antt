@@ -4,4 +4,4 @@ use Rattle.mls_typing.specs.Typing.{HasNoFeed}
 use Rattle.mls_typing.proofs.lines.skip_from.Given as goal
 
 abbrev pub invariant-loop : goal.invariant-loop
-invariant-loop g l = (text : List ℕ) × HasNoFeed text × Consumes (g.R.Read.remaining l.initial.input) (g.R.Read.remaining l.input) text
+invariant-loop g l = (text : List ℕ) × HasNoFeed text × Consumes (g.S.Source.remaining l.initial.input) (g.S.Source.remaining l.input) text

@@ -1,20 +1,20 @@
-use Rattle.std.proofs.Common.{refl, ap}
-use Rattle.sqlite.specs.Files.{file_state}
-use Rattle.mls_filterview.specs.Content.{State}
+use Rattle.sqlite.specs.Files.{image_of, file_state}
+use Rattle.mls_fragments.specs.Again.{FindsHoldings, unopened, unadopted}
+use Rattle.mls_fragments.specs.Holdings.{HasHoldings}
+use Rattle.mls_fragments.proofs.HoldingsLemmas.{base_among}
 use Rattle.mls_fragments.proofs.again.SqlBase+FileStore+D.open_files.Goals as goal
 
-pub returns-in-Ok-adopt-clause-found : goal.returns-in-Ok-adopt-clause-found
-returns-in-Ok-adopt-clause-found g c clean =
-    let e = c.in-Ok-adopt.ensures in
-    record {
-      base = c.in-Ok-adopt.base;
-      clean = clean;
-      over = record {
-        db = (file_state c.in-Ok.conn).now;
-        found = λ now. c.in-Ok.ensures.found (e.clean now);
-        new = λ none. ap (λ (s : State). s.now) (e.new none).0;
-        taken = e.taken;
-        holds = e.holds;
-      };
-      is = refl;
-    }
+pub returns-in-Ok-adopt-clause-over : goal.returns-in-Ok-adopt-clause-over
+returns-in-Ok-adopt-clause-over g c clean =
+    let over = c.in-Ok-adopt.ensures.over clean in
+    let db = (file_state c.in-Ok.conn).now in
+    base_among (HasHoldings db) (FindsHoldings (image_of g.D.Disk c.args.files)) c.args.policy.now c.args.file.now c.in-Ok-adopt.base (λ h has. (db, c.in-Ok.ensures.found over.0, has)) over.1
+
+pub returns-in-Ok-adopt-clause-clean : goal.returns-in-Ok-adopt-clause-clean
+returns-in-Ok-adopt-clause-clean g c clean = c.in-Ok.ensures.clean (c.in-Ok-adopt.ensures.over clean).0
+
+pub returns-in-Err-clause-refused : goal.returns-in-Err-clause-refused
+returns-in-Err-clause-refused g c = unopened c.in-Err.ensures.fault c.in-Err.ensures.unopened
+
+pub returns-in-Err-adopt-clause-refused : goal.returns-in-Err-adopt-clause-refused
+returns-in-Err-adopt-clause-refused g c = unadopted c.in-Err-adopt.conn (record { was = c.in-Ok.conn; found = c.in-Ok.ensures.found; unadopted = c.in-Err-adopt.ensures.refused }) c.left.ensures

@@ -1,27 +1,19 @@
-use Rattle.std.proofs.Common.{ap}
 use Rattle.sqlite.specs.Files.{file_state}
-use Rattle.mls_filterview.specs.Content.{State}
+use Rattle.sqlite.specs.WalFiles.{image_at}
+use Rattle.mls_fragments.specs.Again.{FindsHoldings}
+use Rattle.mls_fragments.specs.Holdings.{HasHoldings}
+use Rattle.mls_fragments.proofs.HoldingsLemmas.{base_among}
 use Rattle.mls_fragments.proofs.opening.SqlBase+FileStore+FileFrom+F.open_from.Goals as goal
 
 pub returns-in-Ok-adopt-clause-over : goal.returns-in-Ok-adopt-clause-over
-returns-in-Ok-adopt-clause-over g c = record {
-  db = (file_state c.in-Ok.conn).now;
-  found = λ clean. c.in-Ok.ensures.found (c.in-Ok-adopt.ensures.clean clean);
-  new = λ none. ap (λ (s : State). s.now) (c.in-Ok-adopt.ensures.new none).0;
-  taken = c.in-Ok-adopt.ensures.taken;
-  holds = c.in-Ok-adopt.ensures.holds;
-}
-
-pub returns-in-Ok-adopt-clause-content : goal.returns-in-Ok-adopt-clause-content
-returns-in-Ok-adopt-clause-content g c = λ clean.
-    let taken = c.in-Ok-adopt.ensures.content clean in
-    (taken.0, ((file_state c.in-Ok.conn).now, c.in-Ok.ensures.found (c.in-Ok-adopt.ensures.clean clean), taken.1), taken.2)
+returns-in-Ok-adopt-clause-over g c clean =
+    let over = c.in-Ok-adopt.ensures.over clean in
+    let db = (file_state c.in-Ok.conn).now in
+    base_among (HasHoldings db) (FindsHoldings (image_at g.F.Start)) c.args.policy.now c.args.file.now c.in-Ok-adopt.base (λ h has. (db, c.in-Ok.ensures.found over.0, has)) over.1
 
 pub returns-in-Err-adopt-clause-refused : goal.returns-in-Err-adopt-clause-refused
 returns-in-Err-adopt-clause-refused g c = record {
   was = c.in-Ok.conn;
   found = c.in-Ok.ensures.found;
-  texts = c.in-Err-adopt.ensures.policy;
-  bad = c.in-Err-adopt.ensures.bad;
-  refused = c.in-Err-adopt.ensures.refused;
+  unadopted = c.in-Err-adopt.ensures.refused;
 }

@@ -1,8 +1,8 @@
 use Rattle.std.proofs.Common.{ap, refl, sym, subst}
 use Rattle.mls_filterview.specs.Content.{State}
 use Rattle.mls_fragments.specs.Finding.{IsSoundContent}
+use Rattle.mls_fragments.specs.Holdings.{as_it_was, holdings_of, row_of}
 use Rattle.mls_fragments.proofs.FindingLemmas.{nothing_sound}
-use Rattle.mls_fragments.specs.Again.{as_it_was}
 use Rattle.script_cases.proofs.lists.ListsHost.store.Goals as goal
 
 pub returns-clause-idle : goal.returns-clause-idle
@@ -12,4 +12,6 @@ pub returns-clause-sound : goal.returns-clause-sound
 returns-clause-sound g c = subst (λ (s : State). IsSoundContent c.args.policy.now c.args.file.now.schemes s.now) (sym c.new.ensures) (nothing_sound c.args.policy.now c.args.file.now.schemes)
 
 pub returns-clause-kept : goal.returns-clause-kept
-returns-clause-kept g c = λ clean. (_, tt, as_it_was refl)
+returns-clause-kept g c = λ clean.
+    let row = row_of c.args.policy.now c.args.file.now 1 in
+    record { had = holdings_of row _; was = tt; row = row; takes = as_it_was row refl (refl, refl) refl }

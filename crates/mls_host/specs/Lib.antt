@@ -8,3 +8,4 @@ pub mod Running
 pub mod Telling
 pub mod Causes
 pub mod Stopping
+pub mod Deed

@@ -1,10 +1,10 @@
 -- Why a run or a shell is given up, and which stores it leaves then.
-use Rattle.std.specs.Prelude.{◌≡◌, ◌≢◌, ℕ, List, Option, Some, None, ⊤}
+use Rattle.std.specs.Prelude.{◌≡◌, ◌≢◌, ℕ, List, Option, Some, None, Result, Ok, Err, ⊤}
 use Rattle.mls_sessions.specs.declared.cause.RunCause.TheVariants.{Store}
 use Rattle.mls_sessions.specs.declared.cause.RunFault.{RunFault}
 use Rattle.mls_host.specs.declared.refusal.Refusal.{Refusal}
 use Rattle.mls_host.specs.declared.refusal.Refusal.TheVariants.{Before, Run, NotClosed, Output}
-use Rattle.mls_host.specs.Hosting.{Hosted, KeepsStores}
+use Rattle.mls_host.specs.Hosting.{Hosted, KeepsStores, LeavesStores}
 
 module _ (h : Hosted) where
   -- only a store that is named, and that the host did not close, is not closed
@@ -12,19 +12,25 @@ module _ (h : Hosted) where
   IsUnclosed None = ⊥
   IsUnclosed (Some path) = h.after.is_unclosed
 
-  -- where it is not begun, each store keeps what it kept
-  abbrev pub IsCaused : Option (List ℕ) → Refusal → Type 0
-  IsCaused store (Before reason) = KeepsStores h
-  IsCaused store (Run fault) = ⊤
-  IsCaused store NotClosed = IsUnclosed store
-  IsCaused store Output = ⊤
-
   -- It stops for the store only where one is named, of which a call failed, if that is clean. Any may stop for memory,
   -- or for the writer, which tells nobody why it takes no more.
   abbrev pub IsStoppedFor : Option (List ℕ) → RunFault → Type 0
   IsStoppedFor None fault = fault.cause ≢ Store
   IsStoppedFor (Some path) fault = h.after.is_honest → fault.cause ≡ Store → h.after.has_failed
 
-  abbrev pub HasStopped : Option (List ℕ) → Refusal → Type 0
-  HasStopped store (Run fault) = IsStoppedFor store fault
-  HasStopped store refusal = ⊤
+  -- Each store keeps what it kept where none is begun, and where none is named. What stops, or is not closed, has a
+  -- cause.
+  abbrev pub IsCaused : {A : Type 0} → Option (List ℕ) → Result A Refusal → Type 0
+  IsCaused store (Ok end) = LeavesStores h store
+  IsCaused store (Err (Before reason)) = KeepsStores h
+  IsCaused store (Err (Run fault)) = LeavesStores h store × IsStoppedFor store fault
+  IsCaused store (Err NotClosed) = IsUnclosed store
+  IsCaused store (Err Output) = ⊥
+
+-- without a store it stops for none, and none is not closed
+abbrev pub IsCausedInMemory : {A : Type 0} → Result A Refusal → Type 0
+IsCausedInMemory (Ok end) = ⊤
+IsCausedInMemory (Err (Before reason)) = ⊤
+IsCausedInMemory (Err (Run fault)) = fault.cause ≢ Store
+IsCausedInMemory (Err NotClosed) = ⊥
+IsCausedInMemory (Err Output) = ⊥

@@ -118,10 +118,11 @@ pub trait Host {
         ensures closed { (hosting self.new).is_unclosed ↔ IsErr result };
 }
 
-/// All bytes of a reader, where they are at most `MOST_BYTES`.
+/// All bytes of a reader, where they are at most `MOST_BYTES`. `TooLong` where there are more; a reader that fails tells nobody why.
 pub fn read_whole<R: Read + Drop>(alloc: Global, reader: R) -> Result<Vec<u8>, HostFault>
     ensures bound { IfOk result (λ bytes. length bytes.items ≤ 1048576) }
     ensures whole { IfOk result (λ bytes. IfSome (R.remaining reader) (λ all. bytes.items ≡ all)) }
+    ensures long { IfErr result (λ e. e ≡ HostFault.TooLong → IfSome (R.remaining reader) (λ all. 1048576 < length all)) }
 {
     let mut bytes = Vec::new(alloc);
     match reader.take(MOST_BYTES as u64 + 1).read_to_end(&mut bytes) {

@@ -52,4 +52,4 @@ module _ {A : Type 0} (h : Hosted) where
   -- at the exit of a `?`, of a host that is not touched
   pub caused_before : (store : Option (List ℕ)) (r : Result A Refusal) (reason : Reason) → IsErrAnd r (λ e. e ≡ Before reason) → KeepsStores h → IsCaused h store r
   caused_before store (Ok a) reason is k = absurd is
-  caused_before store (Err e) reason is k = subst (λ x. IsCaused h store (Err x)) (sym is) k
+  caused_before store (Err e) reason is k = subst (λ (x : Refusal). let r : Result A Refusal = Err x in IsCaused h store r) (sym is) k

@@ -18,18 +18,3 @@ taken_whole remaining reader t bound was bytes limit inner none few read =
     let from_none = subst (λ ys. IfSome (take_remaining remaining t) (λ xs. bytes ≡ ys ++ xs)) none read in
     let bounded = subst (λ n. IfSome (option_map (take n) (remaining (take_inner t))) (λ xs. bytes ≡ [] ++ xs)) limit from_none in
     whole (remaining reader) bound bytes few (subst (λ r. IfSome (option_map (take bound) (remaining r)) (λ xs. bytes ≡ [] ++ xs)) inner bounded)
-
--- where there are more than a bound, so are all
-pub many : (remaining : Option (List ℕ)) (bound most : ℕ) (bytes : List ℕ) → most < length bytes → IfSome (option_map (take bound) remaining) (λ xs. bytes ≡ [] ++ xs)
-    → IfSome remaining (λ xs. most < length xs)
-many None bound most bytes more read = tt
-many (Some xs) bound most bytes more read =
-    let some : most < length (take bound xs) = subst (λ ys. most < length ys) read more in
-    omega (arith, length-take bound xs, some)
-
-pub taken_long : {R : Type 0} (remaining : R → Option (List ℕ)) (reader : R) (t : Take R) (bound most : ℕ) (was bytes : List ℕ) → take_limit t ≡ bound → take_inner t ≡ reader → was ≡ []
-    → most < length bytes → IfSome (take_remaining remaining t) (λ xs. bytes ≡ was ++ xs) → IfSome (remaining reader) (λ xs. most < length xs)
-taken_long remaining reader t bound most was bytes limit inner none more read =
-    let from_none = subst (λ ys. IfSome (take_remaining remaining t) (λ xs. bytes ≡ ys ++ xs)) none read in
-    let bounded = subst (λ n. IfSome (option_map (take n) (remaining (take_inner t))) (λ xs. bytes ≡ [] ++ xs)) limit from_none in
-    many (remaining reader) bound most bytes more (subst (λ r. IfSome (option_map (take bound) (remaining r)) (λ xs. bytes ≡ [] ++ xs)) inner bounded)

@@ -110,7 +110,7 @@ module _ (policy : Tables) (schemes : Schemes) (seat : Seat) where
         }
     read_whole is_policy are_schemes line n short w fate (inr e) = record {
       turn = record { line = line; shown = echo line; fate = fate };
-      is_turn = cut line [] n.read (append-nil (echo line)) (subst IsCut (sym e) tt);
+      is_turn = cut line [] n.read (append-nil (echo line)) (subst IsCut (sym e) (λ is. cc));
       same = refl;
       shown = w;
       over = λ o. let bad : fates.Lost Memory ≡ fates.Over = sym e ∙ o in absurd cc;

@@ -1,6 +1,6 @@
 -- Shells over stores: where they begin, and how they end.
-use Rattle.std.proofs.Common.{◌≡◌, ◌≢◌, ℕ, ◌<◌, length, true, ◌∷◌, List, [], Option, Some, None, Result, Ok, Err, IfOk, IfErr, refl, sym, ap, subst}
-use Rattle.std.specs.Prelude.{is_some}
+use Rattle.std.proofs.Common.{◌≡◌, ℕ, ◌<◌, length, true, ◌∷◌, List, [], Option, Some, None, Result, refl, sym, ap, subst}
+use Rattle.std.specs.Prelude.{is_some, IsErrAnd}
 use Rattle.std.specs.Borrow.{Bor}
 use Rattle.std.specs.Io.KnownBytes.{Appends}
 use Rattle.mls_filterview.specs.Content.{Content, no_content}
@@ -22,18 +22,17 @@ use Rattle.mls_shells.specs.declared.seat.Seat.{Seat}
 use Rattle.mls_words.specs.declared.words.ShellFiles.{ShellFiles}
 use Rattle.mls_host.specs.declared.reason.Reason.{Reason}
 use Rattle.mls_host.specs.declared.refusal.Refusal.{Refusal}
-use Rattle.mls_host.specs.declared.refusal.Refusal.TheVariants.{Before, Run, NotClosed, Output}
-use Rattle.mls_host.specs.Hosting.{Hosted, KeepsStores}
+use Rattle.mls_host.specs.declared.refusal.Refusal.TheVariants.{Before}
+use Rattle.mls_host.specs.Hosting.{Hosted}
 use Rattle.mls_host.specs.Inputs.{AreStoredFrom}
 use Rattle.mls_words.specs.Words.{named}
 use Rattle.mls_host.specs.Causes.{IsBarred}
-use Rattle.mls_host.specs.Refusal.{ended, IsEnd}
-use Rattle.mls_host.specs.Stopping.{IsCaused}
-use Rattle.mls_host.proofs.StoppingLemmas.{caused_at}
+use Rattle.mls_host.specs.Refusal.{IsEnd}
 use Rattle.mls_host.specs.Running.{site_of, first_world}
 use Rattle.mls_shells.specs.Shell.{audience_at, opening, events_in, IsConversation, IsShell}
 use Rattle.mls_shells.specs.ShellRun.{seat_of, IsShellFrom, IsShellRun, IsShellRefused, no_store}
 use Rattle.mls_host.proofs.RunningLemmas.{run_at, end_weaker}
+use Rattle.mls_shells.proofs.TalkLemmas.{carried}
 
 pub opening_fits : (site : Site) (seat : Seat) → seat.level < length site.policy.labels → is_name seat.user ≡ true → EventsFit site (opening seat ∷ [])
 opening_fits site seat level name = (record { level = level; session = name; command = name }, tt)
@@ -94,67 +93,53 @@ read_only_so echo site seat before after Broken May Wrote Told end first left f 
   run = k.run;
 }
 
-module _ (h : Hosted) (policy : Tables) (file : SchemesFile) (reader : Option ℕ) (files : ShellFiles) (Wrote Told : List ℕ → Type 0)
-    (stored : List Stored) (level : ℕ) (before after : Option (List ℕ)) (Broken : Type 0)
-    (stored_are : AreStoredFrom h.before.gives (named files.transactions) (named files.certificates) policy file.schemes stored)
-    (level_is : reader ≡ Some level) (user_is : is_name files.user.now ≡ true) (typed : h.before.types before) (broken : Broken → h.before.breaks) where
-  abbrev at : Site
-  at = site_of policy file.schemes stored
-
-  abbrev seat : Seat
-  seat = seat_of files level h.before.is_terminal
-
-  abbrev Shells : Result Ending RunFault → Type 0
-  Shells = IsShellFrom h before after Broken Wrote Told file (named files.store) at seat
-
-  shell_run : (end : Result Ending RunFault) → Shells end → IsShellRun h policy file reader files Wrote Told end
-  shell_run end k = record {
-    stored = stored;
-    level = level;
-    before = before;
-    after = after;
-    stored_are = stored_are;
-    level_is = level_is;
-    typed = typed;
-    shell = λ clean. let o = k clean in record {
-      first = o.first;
-      left = o.left;
-      begins = o.begins;
-      kept = o.kept;
-      leads = read_only_so h.echo at seat before after Broken h.before.breaks Wrote Told end o.first o.left broken o.leads;
-    };
-  }
-
-  -- its store was barred, and nothing was written
-  abbrev Barred : Reason → Type 0
-  Barred reason = IsBarred h.before policy file (named files.store) reason × Wrote [] × Told []
-
+module _ (h : Hosted) (policy : Tables) (file : SchemesFile) (reader : Option ℕ) (files : ShellFiles) (Wrote Told : List ℕ → Type 0) where
+  -- it was not begun, and nothing was written or told
   abbrev NotBegun : Reason → Type 0
   NotBegun reason = IsShellRefused h.before policy file reader files reason × Wrote [] × Told []
 
-  pub shell_done : (r : Result Ending Refusal) → IsEnd Shells Barred r → IfOk r (λ end. IsShellRun h policy file reader files Wrote Told (Ok end))
-  shell_done (Ok ending) k = shell_run (Ok ending) k
-  shell_done (Err e) k = tt
+  abbrev Ends : Result Ending Refusal → Type 0
+  Ends r = IsEnd (IsShellRun h policy file reader files Wrote Told) NotBegun r
 
-  pub shell_given_up : (r : Result Ending Refusal) → IsEnd Shells Barred r → IfErr r (λ e. IsEnd (IsShellRun h policy file reader files Wrote Told) NotBegun (Err e))
-  shell_given_up (Ok ending) k = tt
-  shell_given_up (Err e) k =
-      let g : (reason : Reason) → Barred reason → NotBegun reason = λ reason n. (no_store stored (ap is_some level_is) user_is stored_are n.0, n.1, n.2) in
-      end_weaker Shells Barred (IsShellRun h policy file reader files Wrote Told) NotBegun shell_run g (Err e) k
+  -- at the exit of a `?`
+  pub shell_before : (r : Result Ending Refusal) (reason : Reason) → IsErrAnd r (λ e. e ≡ Before reason) → IsShellRefused h.before policy file reader files reason → Wrote [] → Told [] → Ends r
+  shell_before r reason is refused wrote told = carried Ends r (Before reason) is (refused, wrote, told)
 
--- ---- why shells without a store are given up
+  module _ (stored : List Stored) (level : ℕ) (before after : Option (List ℕ)) (Broken : Type 0)
+      (stored_are : AreStoredFrom h.before.gives (named files.transactions) (named files.certificates) policy file.schemes stored)
+      (level_is : reader ≡ Some level) (user_is : is_name files.user.now ≡ true) (typed : h.before.types before) (broken : Broken → h.before.breaks) where
+    abbrev at : Site
+    at = site_of policy file.schemes stored
 
-pub none_unclosed : (outcome : Result Ending RunFault) → IfErr (ended outcome (Ok tt)) (λ e. e ≢ NotClosed)
-none_unclosed (Ok ending) = tt
-none_unclosed (Err fault) = λ is. cc
+    abbrev seat : Seat
+    seat = seat_of files level h.before.is_terminal
 
-module _ (h : Hosted) where
-  without : KeepsStores h → (r : Result Ending Refusal) → IfErr r (λ e. e ≢ NotClosed) → IfErr r (IsCaused h None)
-  without kept (Ok ending) k = tt
-  without kept (Err (Before reason)) k = kept
-  without kept (Err (Run fault)) k = tt
-  without kept (Err NotClosed) k = absurd (k refl)
-  without kept (Err Output) k = tt
+    abbrev Shells : Result Ending RunFault → Type 0
+    Shells = IsShellFrom h before after Broken Wrote Told file (named files.store) at seat
 
-  pub shell_caused : (store : Option (Bor (List ℕ))) → store ≡ None → KeepsStores h → (r : Result Ending Refusal) → IfErr r (λ e. e ≢ NotClosed) → IfErr r (IsCaused h (named store))
-  shell_caused store none kept r k = caused_at h store None none r (without kept r k)
+    shell_run : (end : Result Ending RunFault) → Shells end → IsShellRun h policy file reader files Wrote Told end
+    shell_run end k = record {
+      stored = stored;
+      level = level;
+      before = before;
+      after = after;
+      stored_are = stored_are;
+      level_is = level_is;
+      typed = typed;
+      shell = λ clean. let o = k clean in record {
+        first = o.first;
+        left = o.left;
+        begins = o.begins;
+        kept = o.kept;
+        leads = read_only_so h.echo at seat before after Broken h.before.breaks Wrote Told end o.first o.left broken o.leads;
+      };
+    }
+
+    -- its store was barred, and nothing was written
+    abbrev Barred : Reason → Type 0
+    Barred reason = IsBarred h.before policy file (named files.store) reason × Wrote [] × Told []
+
+    pub shell_of_files : (r : Result Ending Refusal) → IsEnd Shells Barred r → Ends r
+    shell_of_files r k =
+        let g : (reason : Reason) → Barred reason → NotBegun reason = λ reason n. (no_store stored (ap is_some level_is) user_is stored_are n.0, n.1, n.2) in
+        end_weaker Shells Barred (IsShellRun h policy file reader files Wrote Told) NotBegun shell_run g r k

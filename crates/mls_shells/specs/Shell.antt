@@ -19,6 +19,7 @@ use Rattle.mls_machine.specs.declared.form.Audience.{Audience}
 use Rattle.mls_machine.specs.Site.{Site}
 use Rattle.mls_machine.specs.Machine.{World, end_of}
 use Rattle.mls_machine.specs.Observation.{EventsFit, run_shows, reader_of}
+use Rattle.mls_sessions.specs.declared.cause.RunCause.TheVariants.{Store}
 use Rattle.mls_sessions.specs.declared.cause.RunFault.{RunFault}
 use Rattle.mls_sessions.specs.Run.{IsWhole, IsStopped, IsFaultOf}
 use Rattle.mls_typing.specs.Typing.{IsNext, IsLong}
@@ -78,8 +79,10 @@ pub data IsFate (policy : Tables) (schemes : Schemes) (seat : Seat) (line : List
   refused : (fault : ScriptFault) → IsCommand line → script_at policy schemes (prefix_of seat ++ line) ≡ Err fault
       → (ReadsScript policy schemes line [] → ⊥) → fate ≡ Refused fault → IsFate policy schemes seat line fate
 
+-- its events fit; and it is lost for memory or the writer, never for the store
 abbrev pub FateFits : Tables → Schemes → Fate → Type 0
 FateFits policy schemes (Said events) = AllByRecursion (EventFits policy schemes) events
+FateFits policy schemes (Lost cause) = cause ≢ Store
 FateFits policy schemes fate = ⊤
 
 abbrev pub events_of : Fate → List Event
@@ -120,10 +123,10 @@ abbrev pub is_lost : Fate → Bool
 is_lost (Lost cause) = true
 is_lost fate = false
 
--- it was not read or understood whole
+-- it was not read or understood whole: reading failed, or it is lost, for memory or the writer, never for the store
 abbrev pub IsCut : Fate → Type 0
 IsCut Unreadable = ⊤
-IsCut (Lost cause) = ⊤
+IsCut (Lost cause) = cause ≢ Store
 IsCut fate = ⊥
 
 -- ---- lines that are typed one after another

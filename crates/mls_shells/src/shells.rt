@@ -1,12 +1,12 @@
 //! Shells over a database: over an empty one in memory, or over that of a store.
-ghost use Rattle.std.specs.Prelude.{◌≡◌, ◌≢◌, ◌<◌, ◌∷◌, [], true, length, Some, Ok, Err, IfOk, IfErr};
+ghost use Rattle.std.specs.Prelude.{◌≡◌, ◌<◌, ◌∷◌, [], true, length, Some, IfOk};
 ghost use Rattle.std.specs.Option.{IfSome};
 ghost use Rattle.mls_lattice.specs.Name.{is_name};
 ghost use Rattle.mls_scheme.specs.Scheme.{AreUnder};
 ghost use Rattle.mls_filterview.specs.Content.{Content, no_content};
 ghost use Rattle.mls_machine.specs.Observation.{AreRead, AreCertified};
-ghost use Rattle.mls_host.specs.Hosting.{hosted, IsAppended, IsTold, LeavesStores};
-ghost use Rattle.mls_host.specs.Stopping.{IsCaused};
+ghost use Rattle.mls_host.specs.Hosting.{hosted, IsAppended, IsTold};
+ghost use Rattle.mls_host.specs.Stopping.{IsCaused, IsCausedInMemory};
 ghost use Rattle.mls_words.specs.Words.{named};
 ghost use Rattle.mls_host.specs.Causes.{IsBarred};
 ghost use Rattle.mls_host.specs.Refusal.{IsEnd};
@@ -52,7 +52,7 @@ fn shell_in_memory<L: TypedLines, W: Write, E: Write>(
         (IsTold E.contents err.old err.new) end no_content left)
         (λ reason. (reason ≡ Reason.Store OpenFault.Memory) × IsAppended W.contents out.old out.new []
         × IsTold E.contents err.old err.new []) result }
-    ensures closed { IfErr result (λ e. e ≢ Refusal.NotClosed) }
+    ensures caused { IsCausedInMemory result }
 {
     let base = match MemoryBase::open(alloc, policy, file) {
         Ok(base) => base,
@@ -92,7 +92,7 @@ fn shell_in_store<H: Host, L: TypedLines, W: Write, E: Write>(
         seat.now)
         (λ reason. IsBarred (H.hosting host.old) policy.now file.now (Some path.now) reason
         × IsAppended W.contents out.old out.new [] × IsTold E.contents err.old err.new []) result }
-    ensures caused { IfErr result (IsCaused (hosted H.hosting L.echo host.old host.new) (Some path.now)) }
+    ensures caused { IsCaused (hosted H.hosting L.echo host.old host.new) (Some path.now) result }
 {
     let base = match host.store(alloc, path, policy, file) {
         Ok(base) => base,
@@ -132,8 +132,7 @@ fn shell_over<H: Host, L: TypedLines, W: Write, E: Write>(
         seat.now)
         (λ reason. IsBarred (H.hosting host.old) policy.now file.now (named store.entry) reason
         × IsAppended W.contents out.old out.new [] × IsTold E.contents err.old err.new []) result }
-    ensures leaves { LeavesStores (hosted H.hosting L.echo host.old host.new) (named store.entry) }
-    ensures caused { IfErr result (IsCaused (hosted H.hosting L.echo host.old host.new) (named store.entry)) }
+    ensures caused { IsCaused (hosted H.hosting L.echo host.old host.new) (named store.entry) result }
 {
     match store {
         None => shell_in_memory(alloc, policy, file, stored, seat, first, lines, out, err),
@@ -175,15 +174,11 @@ pub fn shell_files<H: Host, W: Write, E: Write>(
 ) -> Result<Ending, Refusal>
     requires under { AreUnder (length policy.now.labels) file.now.schemes }
     requires declared { IfSome reader (λ c. c < length policy.now.labels) }
-    ensures done { IfOk result (λ end. IsShellRun (hosted H.hosting H.Lines.echo host.old host.new) policy.now file.now
-        reader files.entry (IsAppended W.contents out.old out.new) (IsTold E.contents err.old err.new) (Ok end)) }
-    ensures given_up { IfErr result (λ e. IsEnd (IsShellRun (hosted H.hosting H.Lines.echo host.old host.new) policy.now
-        file.now reader files.entry (IsAppended W.contents out.old out.new) (IsTold E.contents err.old err.new))
+    ensures shell { IsEnd (IsShellRun (hosted H.hosting H.Lines.echo host.old host.new) policy.now file.now reader
+        files.entry (IsAppended W.contents out.old out.new) (IsTold E.contents err.old err.new))
         (λ reason. IsShellRefused (H.hosting host.old) policy.now file.now reader files.entry reason
-        × IsAppended W.contents out.old out.new [] × IsTold E.contents err.old err.new []) (Err e)) }
-    ensures leaves { LeavesStores (hosted H.hosting H.Lines.echo host.old host.new) (named files.entry.store) }
-    ensures caused { IfErr result (IsCaused (hosted H.hosting H.Lines.echo host.old host.new)
-        (named files.entry.store)) }
+        × IsAppended W.contents out.old out.new [] × IsTold E.contents err.old err.new []) result }
+    ensures caused { IsCaused (hosted H.hosting H.Lines.echo host.old host.new) (named files.entry.store) result }
 {
     let level = match reader {
         Some(level) => level,

@@ -1,12 +1,18 @@
-use Rattle.std.proofs.Common.{◌+◌, false, ◌||◌, Ok, Err, not, refl, sym, ap, ◌∙◌, subst, rules}
+use Rattle.std.proofs.Common.{◌≡◌, ◌+◌, ◌<◌, false, ◌||◌, Ok, Err, IfErr, not, refl, sym, ap, ◌∙◌, subst, rules, arith}
 use Rattle.std.specs.Prelude.{is_some}
 use Rattle.mls_monitor.specs.Sessions.{site_of}
+use Rattle.mls_sessions.specs.declared.cause.RunCause.TheVariants.{Store}
 use Rattle.mls_sessions.specs.Engine.{site, world_of}
 use Rattle.mls_host.specs.Ending.{ending_if}
 use Rattle.mls_host.specs.Hosting.{IsTold}
 use Rattle.mls_shells.specs.Shell.{audience_at, is_refused, IsFollowed, IsConversation}
 use Rattle.mls_shells.proofs.TalkLemmas.{SoFar, Line, so_far_start, so_far_more, broken, broken_first, over_closed, over_last, worn_out, fits_at, level_at, read_at, carried}
 use Rattle.mls_shells.proofs.shell.converse.Goals as goal
+
+pub returns-in_err-answer-clause-store : goal.returns-in_err-answer-clause-store
+returns-in_err-answer-clause-store g c = λ clean.
+    carried (λ r. IfErr r (λ f. f.cause ≡ Store → g.B.Base.failures c.args.engine.now.base < g.B.Base.failures c.answer.new.engine.base)) c.from_residual.result c.in_err-answer.field-0.0 c.from_residual.ensures.1
+    (c.in_err-answer.ensures.store clean)
 
 pub returns-in_err-answer-clause-conversation : goal.returns-in_err-answer-clause-conversation
 returns-in_err-answer-clause-conversation g c = λ clean.
@@ -16,47 +22,64 @@ returns-in_err-answer-clause-conversation g c = λ clean.
     (subst (λ es. IsFollowed (site c.args.engine.now) (audience_at c.args.seat.now) (world_of g.B.Base.state c.args.engine.now) es (g.W.Write.contents c.args.out.now) (g.W.Write.contents c.answer.new.out) (world_of g.B.Base.state c.answer.new.engine) 0 (Err c.in_err-answer.field-0.0)) c.requires.first (c.in_err-answer.ensures.followed clean)))
 
 pub loop-before-init : goal.loop-before-init
-loop-before-init g c =
-    so_far_start g.B.Base.state g.B.Base.is_clean g.E.Write.contents g.L.TypedLines.echo c.args.seat.now c.args.engine.now c.args.err.now (g.L.TypedLines.remaining c.args.lines.now) (g.W.Write.contents c.args.out.now) c.answer.new.engine (g.W.Write.contents c.answer.new.out) (not c.is_open-refused.result)
-    (record {
-      clean = c.answer.ensures.clean;
-      kept = c.answer.ensures.kept;
-      followed = λ clean. subst (λ es. IsFollowed (site c.args.engine.now) (audience_at c.args.seat.now) (world_of g.B.Base.state c.args.engine.now) es (g.W.Write.contents c.args.out.now) (g.W.Write.contents c.answer.new.out) (world_of g.B.Base.state c.answer.new.engine) 0 (Ok tt)) c.requires.first (c.in_ok-answer.ensures.followed clean);
-      refused_is = ap not (c.is_open-refused.ensures ∙ ap (λ n. is_some ((world_of g.B.Base.state c.answer.new.engine).sessions c.args.seat.now.level n)) c.as_str.ensures);
-    })
+loop-before-init g c = (
+  c.answer.ensures.count,
+  so_far_start g.B.Base.state g.B.Base.is_clean g.E.Write.contents g.L.TypedLines.echo c.args.seat.now c.args.engine.now c.args.err.now (g.L.TypedLines.remaining c.args.lines.now) (g.W.Write.contents c.args.out.now) c.answer.new.engine (g.W.Write.contents c.answer.new.out) (not c.is_open-refused.result)
+      (record {
+        clean = c.answer.ensures.clean;
+        kept = c.answer.ensures.kept;
+        followed = λ clean. subst (λ es. IsFollowed (site c.args.engine.now) (audience_at c.args.seat.now) (world_of g.B.Base.state c.args.engine.now) es (g.W.Write.contents c.args.out.now) (g.W.Write.contents c.answer.new.out) (world_of g.B.Base.state c.answer.new.engine) 0 (Ok tt)) c.requires.first (c.in_ok-answer.ensures.followed clean);
+        refused_is = ap not (c.is_open-refused.ensures ∙ ap (λ n. is_some ((world_of g.B.Base.state c.answer.new.engine).sessions c.args.seat.now.level n)) c.as_str.ensures);
+      }),
+)
 
 pub returns-then-not-is_open-clause-clean : goal.returns-then-not-is_open-clause-clean
-returns-then-not-is_open-clause-clean g c = c.loop-before.invariant.clean
+returns-then-not-is_open-clause-clean g c = c.loop-before.invariant.1.clean
 
 pub returns-then-not-is_open-clause-kept : goal.returns-then-not-is_open-clause-kept
-returns-then-not-is_open-clause-kept g c = c.loop-before.invariant.kept
+returns-then-not-is_open-clause-kept g c = c.loop-before.invariant.1.kept
+
+pub returns-then-not-is_open-clause-count : goal.returns-then-not-is_open-clause-count
+returns-then-not-is_open-clause-count g c = c.loop-before.invariant.0
 
 pub returns-then-not-is_open-clause-conversation : goal.returns-then-not-is_open-clause-conversation
 returns-then-not-is_open-clause-conversation g c = λ clean.
     let closed = ap (λ n. is_some ((world_of g.B.Base.state c.loop-before.engine).sessions c.args.seat.now.level n)) (sym c.as_str-in-loop-before.ensures) ∙ sym c.is_open.ensures ∙ c.if-not-is_open.true in
     subst (λ e. IsConversation g.L.TypedLines.echo (site c.args.engine.now) c.args.seat.now (g.L.TypedLines.remaining c.args.lines.now) (g.L.TypedLines.remaining c.loop-before.lines) (g.W.Write.contents c.args.out.now) (g.W.Write.contents c.loop-before.out) (g.L.TypedLines.breaks c.loop-before.lines) (IsTold g.E.Write.contents c.args.err.now c.loop-before.err) (Ok e) (world_of g.B.Base.state c.args.engine.now) (world_of g.B.Base.state c.loop-before.engine)) (sym c.ending_if.ensures)
-    (over_closed g.B.Base.state g.B.Base.is_clean g.E.Write.contents g.L.TypedLines.echo c.args.seat.now c.args.engine.now c.args.err.now (g.L.TypedLines.remaining c.args.lines.now) (g.W.Write.contents c.args.out.now) c.requires.fits (g.L.TypedLines.breaks c.loop-before.lines) c.loop-before.before c.loop-before.engine c.loop-before.err (g.L.TypedLines.remaining c.loop-before.lines) (g.W.Write.contents c.loop-before.out) c.loop-before.refused c.loop-before.invariant clean closed)
+    (over_closed g.B.Base.state g.B.Base.is_clean g.E.Write.contents g.L.TypedLines.echo c.args.seat.now c.args.engine.now c.args.err.now (g.L.TypedLines.remaining c.args.lines.now) (g.W.Write.contents c.args.out.now) c.requires.fits (g.L.TypedLines.breaks c.loop-before.lines) c.loop-before.before c.loop-before.engine c.loop-before.err (g.L.TypedLines.remaining c.loop-before.lines) (g.W.Write.contents c.loop-before.out) c.loop-before.refused c.loop-before.invariant.1 clean closed)
 
 pub follow-requires-clause-ready : goal.follow-requires-clause-ready
-follow-requires-clause-ready g c = c.loop-before.invariant.kept.ready
+follow-requires-clause-ready g c = c.loop-before.invariant.1.kept.ready
 
 pub follow-requires-clause-fits : goal.follow-requires-clause-fits
 follow-requires-clause-fits g c =
-    fits_at (site c.loop-before.engine) (site c.args.engine.now) c.args.policy.now c.args.schemes.now (ap site_of c.loop-before.invariant.kept.rules) c.requires.policy c.requires.schemes _ c.next_fate-fate.ensures.fits
+    fits_at (site c.loop-before.engine) (site c.args.engine.now) c.args.policy.now c.args.schemes.now (ap site_of c.loop-before.invariant.1.kept.rules) c.requires.policy c.requires.schemes _ c.next_fate-fate.ensures.fits
 
 pub follow-requires-clause-level : goal.follow-requires-clause-level
 follow-requires-clause-level g c =
-    level_at (site c.loop-before.engine) (site c.args.engine.now) c.args.policy.now (ap site_of c.loop-before.invariant.kept.rules) c.requires.policy c.args.seat.now.level c.requires.level
+    level_at (site c.loop-before.engine) (site c.args.engine.now) c.args.policy.now (ap site_of c.loop-before.invariant.1.kept.rules) c.requires.policy c.args.seat.now.level c.requires.level
 
 pub returns-in_err-follow-clause-clean : goal.returns-in_err-follow-clause-clean
-returns-in_err-follow-clause-clean g c = λ clean. c.loop-before.invariant.clean (c.follow.ensures.clean clean)
+returns-in_err-follow-clause-clean g c = λ clean. c.loop-before.invariant.1.clean (c.follow.ensures.clean clean)
 
 pub returns-in_err-follow-clause-kept : goal.returns-in_err-follow-clause-kept
-returns-in_err-follow-clause-kept g c = record { rules = c.follow.ensures.kept.rules ∙ c.loop-before.invariant.kept.rules; ready = c.follow.ensures.kept.ready }
+returns-in_err-follow-clause-kept g c = record { rules = c.follow.ensures.kept.rules ∙ c.loop-before.invariant.1.kept.rules; ready = c.follow.ensures.kept.ready }
+
+pub returns-in_err-follow-clause-count : goal.returns-in_err-follow-clause-count
+returns-in_err-follow-clause-count g c =
+    let before = c.loop-before.invariant.0 in
+    let here = c.follow.ensures.count in
+    omega (arith, before, here)
+
+pub returns-in_err-follow-clause-store : goal.returns-in_err-follow-clause-store
+returns-in_err-follow-clause-store g c = λ clean.
+    let before = c.loop-before.invariant.0 in
+    carried (λ r. IfErr r (λ f. f.cause ≡ Store → g.B.Base.failures c.args.engine.now.base < g.B.Base.failures c.follow.new.engine.base)) c.from_residual-in_err-follow.result c.in_err-follow.field-0.0 c.from_residual-in_err-follow.ensures.1
+    (λ is. let more = c.in_err-follow.ensures.store clean is in omega (arith, before, more))
 
 pub returns-in_err-follow-clause-conversation : goal.returns-in_err-follow-clause-conversation
 returns-in_err-follow-clause-conversation g c = λ clean.
-    let line : Line g.B.Base.state g.B.Base.is_clean g.E.Write.contents g.L.TypedLines.echo c.args.seat.now c.args.engine.now c.args.err.now (g.L.TypedLines.remaining c.args.lines.now) (g.W.Write.contents c.args.out.now) c.loop-before.before c.loop-before.engine c.loop-before.err (g.L.TypedLines.remaining c.loop-before.lines) (g.W.Write.contents c.loop-before.out) c.loop-before.refused c.loop-before.invariant c.next_fate-fate.result c.ask.new.err c.tell_fate.new.err (g.L.TypedLines.remaining c.next_fate-fate.new.lines) (g.W.Write.contents c.next_fate-fate.new.out) (g.L.TypedLines.breaks c.next_fate-fate.new.lines) = record {
+    let line : Line g.B.Base.state g.B.Base.is_clean g.E.Write.contents g.L.TypedLines.echo c.args.seat.now c.args.engine.now c.args.err.now (g.L.TypedLines.remaining c.args.lines.now) (g.W.Write.contents c.args.out.now) c.loop-before.before c.loop-before.engine c.loop-before.err (g.L.TypedLines.remaining c.loop-before.lines) (g.W.Write.contents c.loop-before.out) c.loop-before.refused c.loop-before.invariant.1 c.next_fate-fate.result c.ask.new.err c.tell_fate.new.err (g.L.TypedLines.remaining c.next_fate-fate.new.lines) (g.W.Write.contents c.next_fate-fate.new.out) (g.L.TypedLines.breaks c.next_fate-fate.new.lines) = record {
       was_open = ap (λ n. is_some ((world_of g.B.Base.state c.loop-before.engine).sessions c.args.seat.now.level n)) (sym c.as_str-in-loop-before.ensures) ∙ sym c.is_open.ensures ∙ c.if-not-is_open.false;
       asked_is = c.ask.ensures;
       read = read_at g.L.TypedLines.echo (site c.args.engine.now) c.args.policy.now c.args.schemes.now c.args.seat.now _ _ _ _ _ _ c.requires.policy c.requires.schemes c.next_fate-fate.ensures.read;
@@ -65,17 +88,23 @@ returns-in_err-follow-clause-conversation g c = λ clean.
     } in
     carried (λ r. IsConversation g.L.TypedLines.echo (site c.args.engine.now) c.args.seat.now (g.L.TypedLines.remaining c.args.lines.now) (g.L.TypedLines.remaining c.next_fate-fate.new.lines) (g.W.Write.contents c.args.out.now) (g.W.Write.contents c.follow.new.out) (g.L.TypedLines.breaks c.next_fate-fate.new.lines) (IsTold g.E.Write.contents c.args.err.now c.tell_fate.new.err) r (world_of g.B.Base.state c.args.engine.now) (world_of g.B.Base.state c.follow.new.engine))
     c.from_residual-in_err-follow.result c.in_err-follow.field-0.0 c.from_residual-in_err-follow.ensures.1
-    (broken g.B.Base.state g.B.Base.is_clean g.E.Write.contents g.L.TypedLines.echo c.args.seat.now c.args.engine.now c.args.err.now (g.L.TypedLines.remaining c.args.lines.now) (g.W.Write.contents c.args.out.now) c.loop-before.before c.loop-before.engine c.loop-before.err (g.L.TypedLines.remaining c.loop-before.lines) (g.W.Write.contents c.loop-before.out) c.loop-before.refused c.loop-before.invariant c.next_fate-fate.result c.ask.new.err c.tell_fate.new.err (g.L.TypedLines.remaining c.next_fate-fate.new.lines) (g.W.Write.contents c.next_fate-fate.new.out) (g.L.TypedLines.breaks c.next_fate-fate.new.lines) line c.follow.new.engine (g.W.Write.contents c.follow.new.out) c.follow.ensures.clean c.follow.ensures.kept c.requires.fits c.in_err-follow.field-0.0 clean (c.in_err-follow.ensures.followed clean))
+    (broken g.B.Base.state g.B.Base.is_clean g.E.Write.contents g.L.TypedLines.echo c.args.seat.now c.args.engine.now c.args.err.now (g.L.TypedLines.remaining c.args.lines.now) (g.W.Write.contents c.args.out.now) c.loop-before.before c.loop-before.engine c.loop-before.err (g.L.TypedLines.remaining c.loop-before.lines) (g.W.Write.contents c.loop-before.out) c.loop-before.refused c.loop-before.invariant.1 c.next_fate-fate.result c.ask.new.err c.tell_fate.new.err (g.L.TypedLines.remaining c.next_fate-fate.new.lines) (g.W.Write.contents c.next_fate-fate.new.out) (g.L.TypedLines.breaks c.next_fate-fate.new.lines) line c.follow.new.engine (g.W.Write.contents c.follow.new.out) c.follow.ensures.clean c.follow.ensures.kept c.requires.fits c.in_err-follow.field-0.0 clean (c.in_err-follow.ensures.followed clean))
 
 pub returns-then-is_last-clause-clean : goal.returns-then-is_last-clause-clean
-returns-then-is_last-clause-clean g c = λ clean. c.loop-before.invariant.clean (c.follow.ensures.clean clean)
+returns-then-is_last-clause-clean g c = λ clean. c.loop-before.invariant.1.clean (c.follow.ensures.clean clean)
 
 pub returns-then-is_last-clause-kept : goal.returns-then-is_last-clause-kept
-returns-then-is_last-clause-kept g c = record { rules = c.follow.ensures.kept.rules ∙ c.loop-before.invariant.kept.rules; ready = c.follow.ensures.kept.ready }
+returns-then-is_last-clause-kept g c = record { rules = c.follow.ensures.kept.rules ∙ c.loop-before.invariant.1.kept.rules; ready = c.follow.ensures.kept.ready }
+
+pub returns-then-is_last-clause-count : goal.returns-then-is_last-clause-count
+returns-then-is_last-clause-count g c =
+    let before = c.loop-before.invariant.0 in
+    let here = c.follow.ensures.count in
+    omega (arith, before, here)
 
 pub returns-then-is_last-clause-conversation : goal.returns-then-is_last-clause-conversation
 returns-then-is_last-clause-conversation g c = λ clean.
-    let line : Line g.B.Base.state g.B.Base.is_clean g.E.Write.contents g.L.TypedLines.echo c.args.seat.now c.args.engine.now c.args.err.now (g.L.TypedLines.remaining c.args.lines.now) (g.W.Write.contents c.args.out.now) c.loop-before.before c.loop-before.engine c.loop-before.err (g.L.TypedLines.remaining c.loop-before.lines) (g.W.Write.contents c.loop-before.out) c.loop-before.refused c.loop-before.invariant c.next_fate-fate.result c.ask.new.err c.tell_fate.new.err (g.L.TypedLines.remaining c.next_fate-fate.new.lines) (g.W.Write.contents c.next_fate-fate.new.out) (g.L.TypedLines.breaks c.next_fate-fate.new.lines) = record {
+    let line : Line g.B.Base.state g.B.Base.is_clean g.E.Write.contents g.L.TypedLines.echo c.args.seat.now c.args.engine.now c.args.err.now (g.L.TypedLines.remaining c.args.lines.now) (g.W.Write.contents c.args.out.now) c.loop-before.before c.loop-before.engine c.loop-before.err (g.L.TypedLines.remaining c.loop-before.lines) (g.W.Write.contents c.loop-before.out) c.loop-before.refused c.loop-before.invariant.1 c.next_fate-fate.result c.ask.new.err c.tell_fate.new.err (g.L.TypedLines.remaining c.next_fate-fate.new.lines) (g.W.Write.contents c.next_fate-fate.new.out) (g.L.TypedLines.breaks c.next_fate-fate.new.lines) = record {
       was_open = ap (λ n. is_some ((world_of g.B.Base.state c.loop-before.engine).sessions c.args.seat.now.level n)) (sym c.as_str-in-loop-before.ensures) ∙ sym c.is_open.ensures ∙ c.if-not-is_open.false;
       asked_is = c.ask.ensures;
       read = read_at g.L.TypedLines.echo (site c.args.engine.now) c.args.policy.now c.args.schemes.now c.args.seat.now _ _ _ _ _ _ c.requires.policy c.requires.schemes c.next_fate-fate.ensures.read;
@@ -84,26 +113,36 @@ returns-then-is_last-clause-conversation g c = λ clean.
     } in
     let same = c.ending_if-then-is_last.ensures ∙ ap (λ b. ending_if (c.loop-before.refused || b)) c.is_refused-refused.ensures in
     subst (λ e. IsConversation g.L.TypedLines.echo (site c.args.engine.now) c.args.seat.now (g.L.TypedLines.remaining c.args.lines.now) (g.L.TypedLines.remaining c.next_fate-fate.new.lines) (g.W.Write.contents c.args.out.now) (g.W.Write.contents c.follow.new.out) (g.L.TypedLines.breaks c.next_fate-fate.new.lines) (IsTold g.E.Write.contents c.args.err.now c.tell_fate.new.err) (Ok e) (world_of g.B.Base.state c.args.engine.now) (world_of g.B.Base.state c.follow.new.engine)) (sym same)
-    (over_last g.B.Base.state g.B.Base.is_clean g.E.Write.contents g.L.TypedLines.echo c.args.seat.now c.args.engine.now c.args.err.now (g.L.TypedLines.remaining c.args.lines.now) (g.W.Write.contents c.args.out.now) c.requires.fits (g.L.TypedLines.breaks c.next_fate-fate.new.lines) c.loop-before.before c.loop-before.engine c.loop-before.err (g.L.TypedLines.remaining c.loop-before.lines) (g.W.Write.contents c.loop-before.out) c.loop-before.refused c.loop-before.invariant c.next_fate-fate.result c.ask.new.err c.tell_fate.new.err (g.L.TypedLines.remaining c.next_fate-fate.new.lines) (g.W.Write.contents c.next_fate-fate.new.out) line c.follow.new.engine (g.W.Write.contents c.follow.new.out) c.follow.ensures.clean c.follow.ensures.kept c.in_ok-follow.ensures.found c.in_ok-follow.ensures.followed (sym c.is_last.ensures ∙ c.if-is_last.true) clean)
+    (over_last g.B.Base.state g.B.Base.is_clean g.E.Write.contents g.L.TypedLines.echo c.args.seat.now c.args.engine.now c.args.err.now (g.L.TypedLines.remaining c.args.lines.now) (g.W.Write.contents c.args.out.now) c.requires.fits (g.L.TypedLines.breaks c.next_fate-fate.new.lines) c.loop-before.before c.loop-before.engine c.loop-before.err (g.L.TypedLines.remaining c.loop-before.lines) (g.W.Write.contents c.loop-before.out) c.loop-before.refused c.loop-before.invariant.1 c.next_fate-fate.result c.ask.new.err c.tell_fate.new.err (g.L.TypedLines.remaining c.next_fate-fate.new.lines) (g.W.Write.contents c.next_fate-fate.new.out) line c.follow.new.engine (g.W.Write.contents c.follow.new.out) c.follow.ensures.clean c.follow.ensures.kept c.in_ok-follow.ensures.found c.in_ok-follow.ensures.followed (sym c.is_last.ensures ∙ c.if-is_last.true) clean)
 
 pub loop-before-preserved : goal.loop-before-preserved
 loop-before-preserved g c =
-    let line : Line g.B.Base.state g.B.Base.is_clean g.E.Write.contents g.L.TypedLines.echo c.args.seat.now c.args.engine.now c.args.err.now (g.L.TypedLines.remaining c.args.lines.now) (g.W.Write.contents c.args.out.now) c.loop-before.before c.loop-before.engine c.loop-before.err (g.L.TypedLines.remaining c.loop-before.lines) (g.W.Write.contents c.loop-before.out) c.loop-before.refused c.loop-before.invariant c.next_fate-fate.result c.ask.new.err c.tell_fate.new.err (g.L.TypedLines.remaining c.next_fate-fate.new.lines) (g.W.Write.contents c.next_fate-fate.new.out) (g.L.TypedLines.breaks c.next_fate-fate.new.lines) = record {
+    let line : Line g.B.Base.state g.B.Base.is_clean g.E.Write.contents g.L.TypedLines.echo c.args.seat.now c.args.engine.now c.args.err.now (g.L.TypedLines.remaining c.args.lines.now) (g.W.Write.contents c.args.out.now) c.loop-before.before c.loop-before.engine c.loop-before.err (g.L.TypedLines.remaining c.loop-before.lines) (g.W.Write.contents c.loop-before.out) c.loop-before.refused c.loop-before.invariant.1 c.next_fate-fate.result c.ask.new.err c.tell_fate.new.err (g.L.TypedLines.remaining c.next_fate-fate.new.lines) (g.W.Write.contents c.next_fate-fate.new.out) (g.L.TypedLines.breaks c.next_fate-fate.new.lines) = record {
       was_open = ap (λ n. is_some ((world_of g.B.Base.state c.loop-before.engine).sessions c.args.seat.now.level n)) (sym c.as_str-in-loop-before.ensures) ∙ sym c.is_open.ensures ∙ c.if-not-is_open.false;
       asked_is = c.ask.ensures;
       read = read_at g.L.TypedLines.echo (site c.args.engine.now) c.args.policy.now c.args.schemes.now c.args.seat.now _ _ _ _ _ _ c.requires.policy c.requires.schemes c.next_fate-fate.ensures.read;
       fits = fits_at (site c.args.engine.now) (site c.args.engine.now) c.args.policy.now c.args.schemes.now refl c.requires.policy c.requires.schemes _ c.next_fate-fate.ensures.fits;
       said_is = c.tell_fate.ensures;
     } in
-    let next = so_far_more g.B.Base.state g.B.Base.is_clean g.E.Write.contents g.L.TypedLines.echo c.args.seat.now c.args.engine.now c.args.err.now (g.L.TypedLines.remaining c.args.lines.now) (g.W.Write.contents c.args.out.now) c.loop-before.before c.loop-before.engine c.loop-before.err (g.L.TypedLines.remaining c.loop-before.lines) (g.W.Write.contents c.loop-before.out) c.loop-before.refused c.loop-before.invariant c.next_fate-fate.result c.ask.new.err c.tell_fate.new.err (g.L.TypedLines.remaining c.next_fate-fate.new.lines) (g.W.Write.contents c.next_fate-fate.new.out) (g.L.TypedLines.breaks c.next_fate-fate.new.lines) line c.follow.new.engine (g.W.Write.contents c.follow.new.out) c.follow.ensures.clean c.follow.ensures.kept c.in_ok-follow.ensures.found c.in_ok-follow.ensures.followed in
-    subst (λ b. SoFar g.B.Base.state g.B.Base.is_clean g.E.Write.contents g.L.TypedLines.echo c.args.seat.now c.args.engine.now c.args.err.now (g.L.TypedLines.remaining c.args.lines.now) (g.W.Write.contents c.args.out.now) (c.loop-before.before + 1) c.follow.new.engine c.tell_fate.new.err (g.L.TypedLines.remaining c.next_fate-fate.new.lines) (g.W.Write.contents c.follow.new.out) (c.loop-before.refused || b) false) (sym c.is_refused-refused.ensures)
-    (subst (λ b. SoFar g.B.Base.state g.B.Base.is_clean g.E.Write.contents g.L.TypedLines.echo c.args.seat.now c.args.engine.now c.args.err.now (g.L.TypedLines.remaining c.args.lines.now) (g.W.Write.contents c.args.out.now) (c.loop-before.before + 1) c.follow.new.engine c.tell_fate.new.err (g.L.TypedLines.remaining c.next_fate-fate.new.lines) (g.W.Write.contents c.follow.new.out) (c.loop-before.refused || is_refused c.next_fate-fate.result) b) (sym c.is_last.ensures ∙ c.if-is_last.false) next)
+    let before = c.loop-before.invariant.0 in
+    let here = c.follow.ensures.count in
+    let next = so_far_more g.B.Base.state g.B.Base.is_clean g.E.Write.contents g.L.TypedLines.echo c.args.seat.now c.args.engine.now c.args.err.now (g.L.TypedLines.remaining c.args.lines.now) (g.W.Write.contents c.args.out.now) c.loop-before.before c.loop-before.engine c.loop-before.err (g.L.TypedLines.remaining c.loop-before.lines) (g.W.Write.contents c.loop-before.out) c.loop-before.refused c.loop-before.invariant.1 c.next_fate-fate.result c.ask.new.err c.tell_fate.new.err (g.L.TypedLines.remaining c.next_fate-fate.new.lines) (g.W.Write.contents c.next_fate-fate.new.out) (g.L.TypedLines.breaks c.next_fate-fate.new.lines) line c.follow.new.engine (g.W.Write.contents c.follow.new.out) c.follow.ensures.clean c.follow.ensures.kept c.in_ok-follow.ensures.found c.in_ok-follow.ensures.followed in (
+      omega (arith, before, here),
+      subst (λ b. SoFar g.B.Base.state g.B.Base.is_clean g.E.Write.contents g.L.TypedLines.echo c.args.seat.now c.args.engine.now c.args.err.now (g.L.TypedLines.remaining c.args.lines.now) (g.W.Write.contents c.args.out.now) (c.loop-before.before + 1) c.follow.new.engine c.tell_fate.new.err (g.L.TypedLines.remaining c.next_fate-fate.new.lines) (g.W.Write.contents c.follow.new.out) (c.loop-before.refused || b) false) (sym c.is_refused-refused.ensures)
+          (subst (λ b. SoFar g.B.Base.state g.B.Base.is_clean g.E.Write.contents g.L.TypedLines.echo c.args.seat.now c.args.engine.now c.args.err.now (g.L.TypedLines.remaining c.args.lines.now) (g.W.Write.contents c.args.out.now) (c.loop-before.before + 1) c.follow.new.engine c.tell_fate.new.err (g.L.TypedLines.remaining c.next_fate-fate.new.lines) (g.W.Write.contents c.follow.new.out) (c.loop-before.refused || is_refused c.next_fate-fate.result) b) (sym c.is_last.ensures ∙ c.if-is_last.false) next),
+    )
 
 pub returns-clause-clean : goal.returns-clause-clean
-returns-clause-clean g c = c.loop-before.invariant.clean
+returns-clause-clean g c = c.loop-before.invariant.1.clean
 
 pub returns-clause-kept : goal.returns-clause-kept
-returns-clause-kept g c = c.loop-before.invariant.kept
+returns-clause-kept g c = c.loop-before.invariant.1.kept
+
+pub returns-clause-count : goal.returns-clause-count
+returns-clause-count g c = c.loop-before.invariant.0
+
+pub returns-clause-store : goal.returns-clause-store
+returns-clause-store g c = λ clean is. cc
 
 pub returns-clause-conversation : goal.returns-clause-conversation
-returns-clause-conversation g c = λ clean. worn_out g.B.Base.state g.B.Base.is_clean g.E.Write.contents g.L.TypedLines.echo c.args.seat.now c.args.engine.now c.args.err.now (g.L.TypedLines.remaining c.args.lines.now) (g.W.Write.contents c.args.out.now) c.requires.fits (g.L.TypedLines.breaks c.loop-before.lines) c.loop-before.before c.loop-before.engine c.loop-before.err (g.L.TypedLines.remaining c.loop-before.lines) (g.W.Write.contents c.loop-before.out) c.loop-before.refused c.loop-before.invariant clean _ (search rules)
+returns-clause-conversation g c = λ clean. worn_out g.B.Base.state g.B.Base.is_clean g.E.Write.contents g.L.TypedLines.echo c.args.seat.now c.args.engine.now c.args.err.now (g.L.TypedLines.remaining c.args.lines.now) (g.W.Write.contents c.args.out.now) c.requires.fits (g.L.TypedLines.breaks c.loop-before.lines) c.loop-before.before c.loop-before.engine c.loop-before.err (g.L.TypedLines.remaining c.loop-before.lines) (g.W.Write.contents c.loop-before.out) c.loop-before.refused c.loop-before.invariant.1 clean _ (search rules)

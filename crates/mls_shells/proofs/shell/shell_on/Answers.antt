@@ -1,7 +1,8 @@
-use Rattle.std.proofs.Common.{◌≡◌, false, ◌∷◌, [], sym, ap, subst, ◌∙◌}
+use Rattle.std.proofs.Common.{◌≡◌, ◌<◌, ◌≤◌, false, IfErr, ◌∷◌, [], sym, ap, subst, ◌∙◌}
 use Rattle.mls_lattice.specs.Labels.{AreDistinct}
 use Rattle.mls_machine.specs.Site.{Site, site_labels}
 use Rattle.mls_machine.specs.Observation.{EventsFit}
+use Rattle.mls_sessions.specs.declared.cause.RunCause.TheVariants.{Store}
 use Rattle.mls_sessions.specs.World.{world_at, IsSound}
 use Rattle.mls_monitor.specs.Sessions.{site_of, sessions_of}
 use Rattle.mls_host.specs.Hosting.{IsTold}
@@ -26,6 +27,19 @@ returns-clause-clean g c = λ clean.
 
 pub returns-clause-idle : goal.returns-clause-idle
 returns-clause-idle g c = subst (λ b. (g.B.Base.state b).begun ≡ false) (sym c.finish.ensures) c.converse-outcome.ensures.kept.ready.idle
+
+pub returns-clause-count : goal.returns-clause-count
+returns-clause-count g c =
+    subst (λ b. g.B.Base.failures c.args.base ≤ g.B.Base.failures b) (sym c.finish.ensures)
+    (subst (λ b. g.B.Base.failures b ≤ g.B.Base.failures c.converse-outcome.new.engine.base) c.new-engine.ensures.base c.converse-outcome.ensures.count)
+
+pub returns-clause-store : goal.returns-clause-store
+returns-clause-store g c = λ clean.
+    let new = c.converse-outcome.new.engine.base in
+    let outcome = c.converse-outcome.result in
+    subst (λ b. IfErr outcome (λ f. f.cause ≡ Store → g.B.Base.failures c.args.base < g.B.Base.failures b)) (sym c.finish.ensures)
+    (subst (λ b. IfErr outcome (λ f. f.cause ≡ Store → g.B.Base.failures b < g.B.Base.failures new)) c.new-engine.ensures.base
+    (c.converse-outcome.ensures.store (subst g.B.Base.is_clean c.finish.ensures clean)))
 
 pub returns-clause-shell : goal.returns-clause-shell
 returns-clause-shell g c = λ clean.

@@ -1,4 +1,4 @@
-use Rattle.std.proofs.Common.{◌≡◌, ◌≢◌, [], Result, Ok, IfErr, sym, subst, ap}
+use Rattle.std.proofs.Common.{◌≡◌, [], Result, Ok, sym, subst, ap}
 use Rattle.std.proofs.KnownBytes.{Appends-nil}
 use Rattle.mls_filterview.specs.Content.{State, Content, no_content}
 use Rattle.mls_fragments.specs.Based.{state_of}
@@ -14,8 +14,8 @@ use Rattle.mls_shells.specs.Shell.{IsShell}
 use Rattle.mls_host.specs.Refusal.{IsEnd}
 use Rattle.mls_host.proofs.RunningLemmas.{none_sound, ended_so}
 use Rattle.mls_host.proofs.HostingLemmas.{told_nothing}
-use Rattle.mls_host.specs.declared.refusal.Refusal.TheVariants.{NotClosed}
-use Rattle.mls_shells.proofs.ShellEndLemmas.{none_unclosed}
+use Rattle.mls_host.specs.Stopping.{IsCausedInMemory}
+use Rattle.mls_host.proofs.StoppingLemmas.{ended_in_memory}
 use Rattle.mls_shells.proofs.shells.shell_in_memory.Goals as goal
 
 pub shell_on-outcome-requires-clause-sound : goal.shell_on-outcome-requires-clause-sound
@@ -37,6 +37,7 @@ returns-clause-ends g c =
     let Nothing : Reason → Type 0 = λ reason. (reason ≡ Store stores.Memory) × Wrote [] × Told [] in
     subst (λ (r : Result Ending Refusal). IsEnd Runs Nothing r) (sym c.ended.ensures) (ended_so Runs Nothing c.shell_on-outcome.result.0 (Ok tt) ran)
 
-pub returns-clause-closed : goal.returns-clause-closed
-returns-clause-closed g c =
-    subst (λ (r : Result Ending Refusal). IfErr r (λ e. e ≢ NotClosed)) (sym c.ended.ensures) (none_unclosed c.shell_on-outcome.result.0)
+pub returns-clause-caused : goal.returns-clause-caused
+returns-clause-caused g c =
+    subst (λ (r : Result Ending Refusal). IsCausedInMemory r) (sym c.ended.ensures)
+    (ended_in_memory c.shell_on-outcome.result.0 (c.shell_on-outcome.ensures.store c.close.ensures.clean))

@@ -1,4 +1,4 @@
-use Rattle.std.proofs.Common.{[], Result, Some, IfErr, refl, sym, subst}
+use Rattle.std.proofs.Common.{[], Result, Some, refl, sym, subst}
 use Rattle.std.proofs.KnownBytes.{Appends-nil}
 use Rattle.mls_sessions.specs.declared.cause.RunFault.{RunFault}
 use Rattle.mls_host.specs.declared.ending.Ending.{Ending}
@@ -37,5 +37,6 @@ returns-in-Err-clause-caused g c = c.in-Err.ensures.same
 pub returns-clause-caused : goal.returns-clause-caused
 returns-clause-caused g c =
     let h = hosted g.H.Host.hosting g.L.TypedLines.echo c.args.host.now c.keep-closed.new.self in
-    subst (λ (r : Result Ending Refusal). IfErr r (IsCaused h (Some c.args.path.now))) (sym c.ended.ensures)
-    (caused_in_store h c.args.path.now c.shell_on-outcome.result.0 c.keep-closed.result c.keep-closed.ensures.closed.1)
+    subst (λ (r : Result Ending Refusal). IsCaused h (Some c.args.path.now) r) (sym c.ended.ensures)
+    (caused_in_store h c.args.path.now c.shell_on-outcome.result.0 c.keep-closed.result (g.H.Store.Base.failures c.in-Ok.base) (g.H.Store.Base.failures c.shell_on-outcome.result.1)
+    c.keep-closed.ensures.closed.1 c.keep-closed.ensures.failed.1 (λ honest. c.shell_on-outcome.ensures.store (c.keep-closed.ensures.honest.0 honest)))

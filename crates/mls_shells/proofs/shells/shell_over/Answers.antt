@@ -2,9 +2,9 @@ use Rattle.std.proofs.Common.{[], Some}
 use Rattle.mls_host.specs.Hosting.{hosted, IsAppended, IsTold}
 use Rattle.mls_host.specs.Causes.{IsBarred}
 use Rattle.mls_host.specs.Running.{site_of}
-use Rattle.mls_shells.proofs.ShellEndLemmas.{shell_from_memory, shell_from_store, shell_caused}
+use Rattle.mls_shells.proofs.ShellEndLemmas.{shell_from_memory, shell_from_store}
 use Rattle.mls_words.specs.Words.{named}
-use Rattle.mls_host.proofs.StoppingLemmas.{untouched, left_untouched, left_named, caused_at}
+use Rattle.mls_host.proofs.StoppingLemmas.{untouched, caused_at, caused_from_memory}
 use Rattle.mls_shells.proofs.shells.shell_over.Goals as goal
 
 pub returns-in-None-clause-ends : goal.returns-in-None-clause-ends
@@ -19,16 +19,9 @@ returns-in-Some-clause-ends g c =
     (IsAppended g.W.Write.contents c.args.out.now c.shell_in_store.new.out) (IsTold g.E.Write.contents c.args.err.now c.shell_in_store.new.err)
     (λ store reason. IsBarred (g.H.Host.hosting c.args.host.now) c.args.policy.now c.args.file.now store reason × IsAppended g.W.Write.contents c.args.out.now c.shell_in_store.new.out [] × IsTold g.E.Write.contents c.args.err.now c.shell_in_store.new.err []) c.args.store c.shell_in_store.result c.in-Some.path c.in-Some.is c.shell_in_store.ensures.ends
 
-pub returns-in-None-clause-leaves : goal.returns-in-None-clause-leaves
-returns-in-None-clause-leaves g c = left_untouched (g.H.Host.hosting c.args.host.now) g.L.TypedLines.echo (named c.args.store)
-
-pub returns-in-Some-clause-leaves : goal.returns-in-Some-clause-leaves
-returns-in-Some-clause-leaves g c =
-    left_named (hosted g.H.Host.hosting g.L.TypedLines.echo c.args.host.now c.shell_in_store.new.host) c.args.store c.in-Some.path c.in-Some.is
-
 pub returns-in-None-clause-caused : goal.returns-in-None-clause-caused
 returns-in-None-clause-caused g c =
-    shell_caused (hosted g.H.Host.hosting g.L.TypedLines.echo c.args.host.now c.args.host.now) c.args.store c.in-None.is (untouched (g.H.Host.hosting c.args.host.now)) c.shell_in_memory.result c.shell_in_memory.ensures.closed
+    caused_from_memory (hosted g.H.Host.hosting g.L.TypedLines.echo c.args.host.now c.args.host.now) c.args.store c.in-None.is (untouched (g.H.Host.hosting c.args.host.now)) c.shell_in_memory.result c.shell_in_memory.ensures.caused
 
 pub returns-in-Some-clause-caused : goal.returns-in-Some-clause-caused
 returns-in-Some-clause-caused g c =

@@ -7,4 +7,4 @@ mod private;
 mod running;
 mod shown;
 
-pub use crate::running::{Written, run, run_from, run_kept, run_kept_from};
+pub use crate::running::{Written, answer_from, run, run_kept};

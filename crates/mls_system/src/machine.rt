@@ -1,5 +1,5 @@
 //! Files, the standard input and stores, as the program has them.
-ghost use Rattle.std.specs.Prelude.{◌≡◌, ◌↔◌, false, length, IfOk, IfErr, IsErr, MatchOption};
+ghost use Rattle.std.specs.Prelude.{◌≡◌, ◌↔◌, false, length, IfOk, IfErr, IsErr};
 ghost use Rattle.mls_scheme.specs.Scheme.{AreUnder};
 ghost use Rattle.mls_statements.specs.declared.rows.MetaRow.{MetaRow};
 ghost use Rattle.mls_fragments.specs.Finding.{IsSoundContent};
@@ -101,25 +101,11 @@ impl<'a, B: Base + Drop, L: Left + Drop, O: Opens<B, L> + Drop> Machine<'a, B, L
 }
 
 impl<'a, B: Base + Drop, L: Left + Drop, O: Opens<B, L> + Drop> Host for Machine<'a, B, L, O> {
-    ghost use Rattle.std.specs.Prelude.{⊤, ◌⊎◌, ◌<◌};
-    ghost use Rattle.mls_fragments.specs.Opening.{IsStoreOrMemory};
+    ghost use Rattle.mls_system.specs.Answering.{hosting};
 
-    // Any bytes, and any cause: what a file has, and what is typed, is known to nobody before it is read. A store keeps what the
-    // files held, before anything of it was taken; and after a run, what is left of it keeps. Honest is a base that is clean.
-    ghost hosting = { λ m. record {
-      gives = λ _ _. ⊤;
-      lacks = λ _ _. ⊤;
-      types = λ _. ⊤;
-      breaks = ⊤;
-      is_terminal = m.is_terminal;
-      keeps = λ path h. MatchOption m.left (FindsHoldings O.image h) (λ l. L.keeps l.value h);
-      bars = λ path policy file e. IsStoreOrMemory e ⊎ L.bars O.image policy file e;
-      shows = λ _ _ _. ⊤;
-      hides = λ _ _. ⊤;
-      is_honest = MatchOption m.base ⊥ (λ b. B.is_clean b.value);
-      has_failed = MatchOption m.base ⊥ (λ b. 0 < B.failures b.value);
-      is_unclosed = MatchOption m.left ⊥ (λ l. L.is_open l.value);
-    } };
+    ghost hosting = { hosting
+        (record { is_clean = B.is_clean; failures = B.failures })
+        (record { image = O.image; bars = L.bars; keeps = L.keeps; is_open = L.is_open }) };
 
     type Store = B;
 

@@ -140,7 +140,7 @@ operator_again operators.AtLeast = refl
 operator_again operators.And = refl
 operator_again operators.Or = refl
 
-no_dot : (op : Operator) (us : List Token) → NotNext (is_sign sign.Dot) (operator_token op ∷ us)
+pub no_dot : (op : Operator) (us : List Token) → NotNext (is_sign sign.Dot) (operator_token op ∷ us)
 no_dot operators.Plus us = refl
 no_dot operators.Minus us = refl
 no_dot operators.Times us = refl

@@ -29,6 +29,7 @@ use Rattle.mls_syntax.specs.declared.words.Head.{Head}
 use Rattle.mls_syntax.specs.declared.words.Head.TheVariants as heads
 use Rattle.mls_syntax.specs.ExprTree.{Expr, Literal, Null, Name, Field, No, Op}
 use Rattle.mls_syntax.specs.Limits.{nesting}
+use Rattle.mls_syntax.specs.Places.{ExprIsNamed}
 use Rattle.mls_syntax.specs.Fault.{in_syntax}
 use Rattle.mls_syntax.specs.Words.{head_of_sign, head_of_word, head_of, operator_of_sign, operator_of_word, operator_of, pass_known, pass_head}
 use Rattle.mls_syntax.specs.ReadExpr.{Read, sign_at, too_deep, dotted, behind_head, term_at, negation, second, operation, expr_at, whole_at, after_item, items_from, items_at, list_behind, list_at, set_at, sets_at}
@@ -121,7 +122,7 @@ operator_sign sign.Semicolon op e = absurd cc
 operator_sign sign.Colon op e = absurd cc
 operator_sign sign.Dot op e = absurd cc
 
-operator_is : (t : Token) (op : Operator) → operator_of t ≡ Some op → t ≡ operator_token op
+pub operator_is : (t : Token) (op : Operator) → operator_of t ≡ Some op → t ≡ operator_token op
 operator_is (Word w) op e = operator_word w op e
 operator_is (Int n) op e = absurd cc
 operator_is (Text s) op e = absurd cc
@@ -140,17 +141,19 @@ record BehindFound (d : ℕ) (t : Token) (l : Left) (x : Expr × Left) : Type 0 
   tokens : t ∷ more ≡ expr_tokens x.0
   passed : Passed more l x.1
   nesting : nesting x.0 ≤ d
+  named : ExprIsNamed x.0
 
 pub record ExprFound (d : ℕ) (l : Left) (x : Expr × Left) : Type 0 where
   pub passed : Passed (expr_tokens x.0) l x.1
   pub nesting : nesting x.0 ≤ d
+  pub named : ExprIsNamed x.0
 
 module _ (d : ℕ) (t : Token) where
-  dotted_found : (s : Bytes) (at : ℕ) → t ≡ Word s → (l : Left) (o : Option (ℕ × Left)) (x : Expr × Left) → taken (is_sign sign.Dot) l ≡ o → dotted (s, at) l o ≡ Ok x → BehindFound d t l x
-  dotted_found s at word l None x is e =
+  dotted_found : (s : Bytes) (at : ℕ) → t ≡ Word s → is_name s ≡ true → (l : Left) (o : Option (ℕ × Left)) (x : Expr × Left) → taken (is_sign sign.Dot) l ≡ o → dotted (s, at) l o ≡ Ok x → BehindFound d t l x
+  dotted_found s at word h l None x is e =
       subst (BehindFound d t l) (same_ok (dotted (s, at) l None) (Name (s, at), l) x refl e)
-      (record { more = []; tokens = ap (λ y. y ∷ []) word; passed = passed_none l; nesting = omega arith })
-  dotted_found s at word l (Some dot) x is e =
+      (record { more = []; tokens = ap (λ y. y ∷ []) word; passed = passed_none l; nesting = omega arith; named = h })
+  dotted_found s at word h l (Some dot) x is e =
       let a = bind_ok (pass_name dot.1) (λ a. Ok (Field (s, at) a.0, a.1)) x e in
       let name = name_found dot.1 a.0 a.1 in
       let done : Result (Expr × Left) TokenFault = Ok (Field (s, at) a.0.0, a.0.1) in
@@ -160,6 +163,7 @@ module _ (d : ℕ) (t : Token) where
         tokens = ap (λ y. y ∷ Sign sign.Dot ∷ name_token a.0.0 ∷ []) word;
         passed = passed_more (Sign sign.Dot ∷ []) (name_token a.0.0 ∷ []) l dot.1 a.0.1 (sign_taken sign.Dot l dot is) name.passed;
         nesting = omega arith;
+        named = (h, name.name);
       })
 
   module _ (negated operated : ℕ → Left → Read Expr)
@@ -168,12 +172,12 @@ module _ (d : ℕ) (t : Token) where
     behind_found : (h : Head) (at : ℕ) (l : Left) (x : Expr × Left) → HeadIs t h → behind_head negated operated h at l ≡ Ok x → BehindFound d t l x
     behind_found (heads.Literal v) at l x is e =
         subst (BehindFound d t l) (same_ok (behind_head negated operated (heads.Literal v) at l) (Literal v at, l) x refl e)
-        (record { more = []; tokens = ap (λ y. y ∷ []) is; passed = passed_none l; nesting = omega arith })
+        (record { more = []; tokens = ap (λ y. y ∷ []) is; passed = passed_none l; nesting = omega arith; named = tt })
     behind_found heads.Null at l x is e =
         subst (BehindFound d t l) (same_ok (behind_head negated operated heads.Null at l) (Null at, l) x refl e)
-        (record { more = []; tokens = ap (λ y. y ∷ []) is; passed = passed_none l; nesting = omega arith })
+        (record { more = []; tokens = ap (λ y. y ∷ []) is; passed = passed_none l; nesting = omega arith; named = tt })
     behind_found (heads.Name s) at l x is e =
-        dotted_found s at is.0 l (taken (is_sign sign.Dot) l) x refl (syntax_ok (dotted (s, at) l (taken (is_sign sign.Dot) l)) x e)
+        dotted_found s at is.0 is.1 l (taken (is_sign sign.Dot) l) x refl (syntax_ok (dotted (s, at) l (taken (is_sign sign.Dot) l)) x e)
     behind_found heads.Not at l x is e = subst (λ u. BehindFound d u l x) (sym is) (by_not at l x e)
     behind_found heads.Paren at l x is e = subst (λ u. BehindFound d u l x) (sym is) (by_paren at l x e)
 
@@ -188,6 +192,7 @@ module _ (d : ℕ) (negated operated : ℕ → Left → Read Expr)
       record {
         passed = subst (λ ts. Passed ts l x.1) rest.tokens (passed_more (first.0 ∷ []) rest.more l h.0.1 x.1 first.2 rest.passed);
         nesting = rest.nesting;
+        named = rest.named;
       }
 
 abbrev second_tokens : (Operator × ℕ) × Expr → List Token
@@ -200,9 +205,9 @@ module _ (d : ℕ) (operand : Left → Read Expr) (sound : (l : Left) (x : Expr 
       let found = sound l o.0 o.1 in
       let done : Result (Expr × Left) SyntaxFault = Ok (No at o.0.0, o.0.1) in
       subst (BehindFound (suc d) (Word (codes "not")) l) (same_ok done (No at o.0.0, o.0.1) x refl o.2)
-      (record { more = expr_tokens o.0.0; tokens = refl; passed = found.passed; nesting = (let n = found.nesting in omega (arith, n)) })
+      (record { more = expr_tokens o.0.0; tokens = refl; passed = found.passed; nesting = (let n = found.nesting in omega (arith, n)); named = found.named })
 
-  second_found : (l : Left) (x : ((Operator × ℕ) × Expr) × Left) → second operand l ≡ Ok x → Passed (second_tokens x.0) l x.1 × (nesting x.0.1 ≤ d)
+  second_found : (l : Left) (x : ((Operator × ℕ) × Expr) × Left) → second operand l ≡ Ok x → Passed (second_tokens x.0) l x.1 × (nesting x.0.1 ≤ d) × ExprIsNamed x.0.1
   second_found l x e =
       let o = bind_ok (in_syntax (pass_known operator_of l)) (λ o. operand o.1 >>= λ b. sign_at sign.RightParen b.1 >>= λ p. Ok ((o.0, b.0), p.1)) x e in
       let b = bind_ok (operand o.0.1) (λ b. sign_at sign.RightParen b.1 >>= λ p. Ok ((o.0.0, b.0), p.1)) x o.2 in
@@ -210,10 +215,11 @@ module _ (d : ℕ) (operand : Left → Read Expr) (sound : (l : Left) (x : Expr 
       let right = sound o.0.1 b.0 b.1 in
       let done : Result (((Operator × ℕ) × Expr) × Left) SyntaxFault = Ok ((o.0.0, b.0.0), p.0.1) in
       let close : List Token = Sign sign.RightParen ∷ [] in
-      subst (λ (y : ((Operator × ℕ) × Expr) × Left). Passed (second_tokens y.0) l y.1 × (nesting y.0.1 ≤ d)) (same_ok done ((o.0.0, b.0.0), p.0.1) x refl p.2) (
+      subst (λ (y : ((Operator × ℕ) × Expr) × Left). Passed (second_tokens y.0) l y.1 × (nesting y.0.1 ≤ d) × ExprIsNamed y.0.1) (same_ok done ((o.0.0, b.0.0), p.0.1) x refl p.2) (
         passed_more (operator_token o.0.0.0 ∷ []) (expr_tokens b.0.0 ++ close) l o.0.1 p.0.1 (operator_found l o.0 o.1)
             (passed_more (expr_tokens b.0.0) close o.0.1 b.0.1 p.0.1 right.passed (sign_found sign.RightParen b.0.1 p.0 p.1)),
         right.nesting,
+        right.named,
       )
 
   operation_found : (at : ℕ) (l : Left) (x : Expr × Left) → operation operand at l ≡ Ok x → BehindFound (suc d) (Sign sign.LeftParen) l x
@@ -229,6 +235,7 @@ module _ (d : ℕ) (operand : Left → Read Expr) (sound : (l : Left) (x : Expr 
         tokens = refl;
         passed = passed_more (expr_tokens a.0.0) (second_tokens r.0.0) l a.0.1 r.0.1 left.passed rest.0;
         nesting = (let m = left.nesting in let n = rest.1 in omega (arith, m, n));
+        named = (left.named, rest.2);
       })
 
 never_not : (d at : ℕ) (l : Left) (x : Expr × Left) → too_deep at l ≡ Ok x → BehindFound d (Word (codes "not")) l x

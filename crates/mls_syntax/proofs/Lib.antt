@@ -11,3 +11,6 @@ pub mod ListSteps
 pub mod AgainLemmas
 pub mod BlockAgain
 pub mod TextAgain
+pub mod ConditionSteps
+pub mod ConditionLemmas
+pub mod ConditionAgain

@@ -37,7 +37,7 @@ all_spelled : (ts : List Token) (bytes : List ℕ) → AreTokens ts bytes → Ar
 all_spelled [] bytes h = tt
 all_spelled (t ∷ ts) bytes h = ((h.1.text, h.1.spells), all_spelled ts h.0 h.2)
 
-split : (xs ys : List Token) → AreSpelled (xs ++ ys) → AreSpelled xs × AreSpelled ys
+pub split : (xs ys : List Token) → AreSpelled (xs ++ ys) → AreSpelled xs × AreSpelled ys
 split [] ys h = (tt, h)
 split (x ∷ xs) ys h = let rest = split xs ys h.1 in ((h.0, rest.0), rest.1)
 
@@ -47,7 +47,7 @@ value_literal : (v : Value) → IsSpelled (value_token v) → IsLiteral v
 value_literal (values.Int n) h = h.1.0
 value_literal (values.Text s) h = h.1.1
 
-literals : (e : Expr) → AreSpelled (expr_tokens e) → HasLiterals e
+pub literals : (e : Expr) → AreSpelled (expr_tokens e) → HasLiterals e
 literals (Literal v at) h = value_literal v h.0
 literals (Null at) h = tt
 literals (Name n) h = tt

@@ -15,3 +15,5 @@ pub mod Reading
 pub mod Spelling
 pub mod Places
 pub mod Next
+pub mod ReadCondition
+pub mod Condition

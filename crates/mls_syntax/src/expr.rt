@@ -1,5 +1,6 @@
 //! Expressions.
 ghost use Rattle.std.specs.Prelude.{◌≡◌};
+ghost use Rattle.mls_syntax.specs.ReadCondition.{place_of};
 
 use crate::name::Name;
 use mls_scheme::Value;
@@ -75,5 +76,17 @@ impl From<Term> for Expr {
 
     fn from(term: Term) -> Expr {
         Expr { term }
+    }
+}
+
+/// The place of the first token of an expression.
+pub fn place_of(expr: &Expr) -> usize
+    ensures { result ≡ place_of expr.now }
+{
+    match &expr.term {
+        Term::Name(name) => name.at(),
+        Term::Field { row, .. } => row.at(),
+        Term::Literal { at, .. } | Term::Null { at } | Term::Not { at, .. } | Term::Op { at, .. } =>
+            *at,
     }
 }

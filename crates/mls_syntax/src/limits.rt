@@ -11,3 +11,6 @@ pub(crate) const MAX_NAMES: usize = 64;
 
 /// How many transactions a text may have.
 pub(crate) const MAX_TRANSACTIONS: usize = 64;
+
+/// How many tests a condition may have.
+pub(crate) const MAX_TESTS: usize = 16;

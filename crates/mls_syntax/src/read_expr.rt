@@ -33,7 +33,7 @@ fn new_negation(alloc: Global, at: usize, operand: Expr) -> Result<Expr, SyntaxF
     Ok(Expr::from(Term::Not { at, operand }))
 }
 
-fn new_operation(
+pub(crate) fn new_operation(
     alloc: Global,
     at: usize,
     left: Expr,

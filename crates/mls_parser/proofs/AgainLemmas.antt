@@ -35,7 +35,8 @@ use Rattle.mls_parser.specs.declared.inferred.Inferred.TheVariants as inferred
 use Rattle.mls_parser.specs.Fault.{unless}
 use Rattle.mls_parser.specs.Names.{relation_named, parameter_named, numbered, referent, referent_or, row_scheme, is_taken}
 use Rattle.mls_parser.specs.Infer.{same_kind, may_be, may_be_truth, may_be_value, both, operands_fit, given_by, of_kind, of_referent, of_attribute, of_field, infer}
-use Rattle.mls_parser.specs.Faults.{known, field_faults, expr_faults, tested, place_of, items_faults, list_faults, is_among, set_faults, sets_faults, label_faults, fits_variable, variable_faults, target_faults, outcome_faults, writing_faults, stmt_faults, inside, block_faults}
+use Rattle.mls_syntax.specs.ReadCondition.{place_of}
+use Rattle.mls_parser.specs.Faults.{known, field_faults, expr_faults, tested, items_faults, list_faults, is_among, set_faults, sets_faults, label_faults, fits_variable, variable_faults, target_faults, outcome_faults, writing_faults, stmt_faults, inside, block_faults}
 use Rattle.mls_parser.specs.Elaboration.{refer, field, expr, label, variable, set, writing, stmt, block}
 use Rattle.mls_parser.proofs.WholeLemmas.{all_taken}
 use Rattle.mls_parser.proofs.Written.{named, written, written_label, written_relation, written_variable, written_list, written_set, written_writing, written_stmt, written_block}

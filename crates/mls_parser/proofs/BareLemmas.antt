@@ -30,7 +30,8 @@ use Rattle.mls_parser.specs.declared.inferred.Inferred.TheVariants.{Value}
 use Rattle.mls_parser.specs.Fault.{unless}
 use Rattle.mls_parser.specs.Names.{label_named, relation_named, variable_named, row_named, attribute_named, other_named, numbered, referent, row_scheme, is_taken}
 use Rattle.mls_parser.specs.Infer.{may_be, may_be_truth, may_be_value, operands_fit, infer}
-use Rattle.mls_parser.specs.Faults.{known, field_faults, expr_faults, tested, place_of, items_faults, list_faults, is_among, set_faults, sets_faults, label_faults, fits_variable, variable_faults, target_faults, outcome_faults, writing_faults, scheme_named, stmt_faults, inside, loop_faults, block_faults, kept, param_of, var_of, params_from, params_faults, vars_from, vars_faults, levels_faults, name_faults, outermost, tx_faults, txs_faults}
+use Rattle.mls_syntax.specs.ReadCondition.{place_of}
+use Rattle.mls_parser.specs.Faults.{known, field_faults, expr_faults, tested, items_faults, list_faults, is_among, set_faults, sets_faults, label_faults, fits_variable, variable_faults, target_faults, outcome_faults, writing_faults, scheme_named, stmt_faults, inside, loop_faults, block_faults, kept, param_of, var_of, params_from, params_faults, vars_from, vars_faults, levels_faults, name_faults, outermost, tx_faults, txs_faults}
 use Rattle.mls_parser.specs.Elaboration.{expr, label, set, variable, writing, stmt, block, transaction}
 
 -- ---- causes

@@ -20,3 +20,4 @@ pub mod LeastLemmas
 pub mod AgainLemmas
 pub mod BareLemmas
 pub mod ParsedLemmas
+pub mod ConditionLemmas

@@ -33,7 +33,8 @@ use Rattle.mls_parser.specs.declared.inferred.Inferred.{Inferred}
 use Rattle.mls_parser.specs.declared.inferred.Inferred.TheVariants as inferred
 use Rattle.mls_parser.specs.Names.{variable_named, parameter_named, row_named, or_behind, attribute_named, numbered, referent_or, referent, row_scheme}
 use Rattle.mls_parser.specs.Infer.{may_be, may_be_truth, may_be_value, both, operands_fit, given_by, of_kind, of_referent, of_attribute, of_field, infer}
-use Rattle.mls_parser.specs.Faults.{expr_faults, field_faults, tested, place_of}
+use Rattle.mls_syntax.specs.ReadCondition.{place_of}
+use Rattle.mls_parser.specs.Faults.{expr_faults, field_faults, tested}
 use Rattle.mls_parser.specs.Elaboration.{refer, field, expr}
 use Rattle.mls_parser.proofs.FaultLemmas.{neither, holds}
 

@@ -16,6 +16,7 @@ use Rattle.mls_syntax.specs.declared.list.ExprList.{ExprList}
 use Rattle.mls_syntax.specs.declared.transaction.Parameter.{Parameter as Param}
 use Rattle.mls_syntax.specs.declared.transaction.Variable.{Variable as Var}
 use Rattle.mls_syntax.specs.declared.transaction.Transaction.{Transaction}
+use Rattle.mls_syntax.specs.ReadCondition.{place_of}
 use Rattle.mls_syntax.specs.ExprTree.{Expr, Literal, Null, Name as Named, Field, No, Op}
 use Rattle.mls_syntax.specs.Tree.{Writing, Inserting, Updating, Deleting, Stmt, Assign, Write_at, Release, Emit, Block, End, Do, If, For}
 use Rattle.mls_parser.specs.declared.fault.TextCause.TheVariants as cause
@@ -31,15 +32,6 @@ abbrev pub known : {X : Type 0} → Option X → ℕ → List PlacedFault
 known meaning at = unless (is_some meaning) at cause.UnknownName
 
 -- ---- expressions
-
--- the place of the first token
-abbrev pub place_of : Expr → ℕ
-place_of (Literal v at) = at
-place_of (Null at) = at
-place_of (Named n) = n.1
-place_of (Field row attribute) = row.1
-place_of (No at e) = at
-place_of (Op at left op op_at right) = at
 
 -- ROW.ATTRIBUTE
 abbrev pub field_faults : Place → Option ℕ → PlacedName → PlacedName → List PlacedFault

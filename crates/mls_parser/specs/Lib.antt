@@ -5,4 +5,5 @@ pub mod Infer
 pub mod Faults
 pub mod Elaboration
 pub mod Parsing
+pub mod Conditions
 pub mod Laws

@@ -3,26 +3,14 @@ ghost use Rattle.std.specs.Prelude.{◌≡◌};
 ghost use Rattle.mls_parser.specs.Fault.{least_from};
 ghost use Rattle.mls_parser.specs.Names.{row_named, IsPlace};
 ghost use Rattle.mls_parser.specs.Infer.{may_be, may_be_truth, may_be_value};
-ghost use Rattle.mls_parser.specs.Faults.{place_of, field_faults, expr_faults, tested};
+ghost use Rattle.mls_parser.specs.Faults.{field_faults, expr_faults, tested};
 
 use crate::context::Context;
 use crate::fault::{Found, TextCause, unless};
 use crate::inferred::operands_fit;
 use crate::names::attribute;
 use mls_scheme::Kind;
-use mls_syntax::{Expr, Name, Term};
-
-/// The place of the first token of an expression.
-pub(crate) fn place_of(expr: &Expr) -> usize
-    ensures { result ≡ place_of expr.now }
-{
-    match &expr.term {
-        Term::Name(name) => name.at(),
-        Term::Field { row, .. } => row.at(),
-        Term::Literal { at, .. } | Term::Null { at } | Term::Not { at, .. } | Term::Op { at, .. } =>
-            *at,
-    }
-}
+use mls_syntax::{Expr, Name, Term, place_of};
 
 impl Context<'_> {
     fn check_field(&self, found: Found, row: &Name, name: &Name) -> Found

@@ -13,7 +13,8 @@ use mls_syntax::{Expr as Syntax, ExprList, Name, Term as Part};
 use mls_translang::{Expr, Operator, Term};
 use std::alloc::{AllocError, Global};
 
-fn copy(value: &Value) -> Result<Value, AllocError>
+/// An equal value.
+pub(crate) fn copy(value: &Value) -> Result<Value, AllocError>
     ensures { IfOk result (λ v. v ≡ value.now) }
 {
     value.clone()

@@ -115,7 +115,7 @@ pub struct TextFault {
 
 /// The place of a fault: the bytes of the whole text are counted from 1.
 #[derive(Clone, Copy)]
-pub(crate) struct PlacedFault {
+pub struct PlacedFault {
     pub at: usize,
     pub cause: TextCause,
 }

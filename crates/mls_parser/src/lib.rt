@@ -8,6 +8,7 @@ mod check_block;
 mod check_expr;
 mod check_list;
 mod check_stmt;
+mod conditions;
 mod context;
 mod expr;
 mod fault;
@@ -18,7 +19,8 @@ mod parser;
 mod stmt;
 mod transaction;
 
-pub use fault::{TextCause, TextFault};
+pub use conditions::condition;
+pub use fault::{PlacedFault, TextCause, TextFault};
 pub use parser::parse;
 
 /// A text is read as the transactions that it tells.

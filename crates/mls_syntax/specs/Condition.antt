@@ -33,7 +33,8 @@ pub record SpellsSide (e : Expr) (ts : List Token) : Type 0 where
   pub named : ExprIsNamed e
 
 -- two parts with an operator between them, and no parentheses
-pub record SpellsBetween (SpellsLeft : Expr → List Token → Type 0) (op : Operator) (SpellsRight : Expr → List Token → Type 0) (e : Expr) (ts : List Token) : Type 0 where
+pub record SpellsBetween (IsLeft : Expr → List Token → Type 0) (op : Operator) (IsRight : Expr → List Token → Type 0)
+    (e : Expr) (ts : List Token) : Type 0 where
   pub at : ℕ
   pub left : Expr
   pub op_at : ℕ
@@ -42,12 +43,13 @@ pub record SpellsBetween (SpellsLeft : Expr → List Token → Type 0) (op : Ope
   pub before : List Token
   pub behind : List Token
   pub tokens : ts ≡ before ++ operator_token op ∷ behind
-  pub spells_left : SpellsLeft left before
-  pub spells_right : SpellsRight right behind
+  pub spells_left : IsLeft left before
+  pub spells_right : IsRight right behind
 
 -- an expression, or two with a comparison between them
 abbrev pub SpellsTest : Expr → List Token → Type 0
-SpellsTest e ts = SpellsSide e ts ⊎ ((op : Operator) × (is_comparison op ≡ true) × SpellsBetween SpellsSide op SpellsSide e ts)
+SpellsTest e ts =
+    SpellsSide e ts ⊎ ((op : Operator) × (is_comparison op ≡ true) × SpellsBetween SpellsSide op SpellsSide e ts)
 
 -- tests, n at most, with the operator between each two
 abbrev pub SpellsTests : Operator → ℕ → Expr → List Token → Type 0
@@ -91,4 +93,5 @@ pub record IsRead (l : Left) (e : Expr) (us : List Token) : Type 0 where
 
 abbrev pub ConditionsAreRead : Type 0
 ConditionsAreRead =
-    (l : Left) (e : Expr) (ts us : List Token) → SpellsCondition e ts → EndsCondition us → tokens_in l.placed ≡ ts ++ us → IsRead l e us
+    (l : Left) (e : Expr) (ts us : List Token) → SpellsCondition e ts → EndsCondition us
+    → tokens_in l.placed ≡ ts ++ us → IsRead l e us

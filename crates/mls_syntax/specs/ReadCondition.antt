@@ -90,7 +90,7 @@ joined room before l (Some op) =
     if are_mixed before op.0.0 then Err (fault_at op.0.1 Expected)
     else (if room == 0 then Err (past_most (pass_head op.1)) else (test_at op.1 >>= λ t. Ok (Some (op.0, t.0), t.1)))
 
--- one test more, if a word joins it to those before: there is room for so many, and one word stands between those before
+-- one test more, if a word joins it to those before: there is room for so many, and one word stands between those
 unfoldable pub next_test_at : ℕ → Option Operator → Left → Read (Option ((Operator × ℕ) × Expr))
 next_test_at room before l = joined room before l (taken_as joiner_of l)
 
@@ -101,7 +101,8 @@ with_next more e (Some (op, test), l) = more op.0 (Op (place_of e) e op.0 op.1 t
 -- behind the tests before, of which e is made
 unfoldable pub tests_from : ℕ → Option Operator → Expr → Left → Read Expr
 tests_from zero before e l = next_test_at zero before l >>= λ x. Ok (e, x.1)
-tests_from (suc room) before e l = next_test_at (suc room) before l >>= with_next (λ op whole r. tests_from room (Some op) whole r) e
+tests_from (suc room) before e l =
+    next_test_at (suc room) before l >>= with_next (λ op whole r. tests_from room (Some op) whole r) e
 
 -- tests, at most 16, with one word between each two
 unfoldable pub condition_at : Left → Read Expr

@@ -91,7 +91,7 @@ fn past_most(tokens: &mut Tokens) -> SyntaxFault
     }
 }
 
-/// The word that joins one test more, and this test, if there is one: there is room for so many, and one word stands
+/// The word that joins one test more, and this test, if there is one. There is room for so many, and one word stands
 /// between those before.
 #[tactic(auto, unfolding(crate::specs::ReadCondition::next_test_at))]
 fn next_test(
@@ -138,12 +138,12 @@ fn tests(alloc: Global, tokens: &mut Tokens) -> Result<Expr, SyntaxFault>
     }
 }
 
-/// A condition on a row: a test, or several with `and` between each two, or with `or`; or the first fault: Token where no token
-/// stands, Expected at the first token that nothing goes on with (the end is one), and at the second word where `and` and `or`
-/// are mixed without parentheses, Depth at a `(` or `not` inside 16 others on one side of a comparison and at the first token
-/// of a 17th test, and TooLong at a long text between quotes. Several tests are operations of which the last stands outermost.
-/// A comparison of a test and an operation between tests have the place of their first token. What no condition goes on with is
-/// left to the caller. Memory may stand in place of any answer.
+/// A condition on a row: a test, or several with `and` between each two, or with `or`; or the first fault. It is Token where
+/// no token stands, Expected at the first token that nothing goes on with (the end is one) and at the second word where `and`
+/// and `or` are mixed without parentheses, Depth at a `(` or `not` inside 16 others on one side of a comparison and at the
+/// first token of a 17th test, if that can begin one, and TooLong at a long text between quotes. Memory may stand in place of
+/// any answer. The last of several tests is the outermost operand. An operation with no parentheses has the place of its first
+/// token. What stands behind the condition is left to the caller.
 pub fn condition(alloc: Global, tokens: &mut Tokens) -> Result<Expr, SyntaxFault>
     // The condition and what is left behind it, or the first fault with its place and cause.
     ensures exact { Gives (λ e. (e, tokens.new)) result (condition_at tokens.old) }

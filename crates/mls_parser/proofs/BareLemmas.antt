@@ -65,7 +65,7 @@ module _ (p : Place) where
   infer_bare (No at e) = refl
   infer_bare (Op at left op op_at right) = refl
 
-  expr_bare : (e : Expr) → expr p (bare e) ≡ expr p e
+  pub expr_bare : (e : Expr) → expr p (bare e) ≡ expr p e
   expr_bare (Literal v at) = refl
   expr_bare (Null at) = refl
   expr_bare (Named n) = refl
@@ -92,7 +92,7 @@ module _ (p : Place) where
       (both (unless (operands_fit op (infer p (bare left)) (infer p (bare right))) 0 cause.Kind) (expr_faults p (bare right)) (unless (operands_fit op (infer p left) (infer p right)) op_at cause.Kind) (expr_faults p right)
       (ap (λ b. causes (unless b 0 cause.Kind)) fits ∙ elsewhere (operands_fit op (infer p left) (infer p right)) 0 op_at cause.Kind) (expr_same right))
 
-  tested_same : (test : Inferred → Bool) (e : Expr) → Same (tested p test (bare e)) (tested p test e)
+  pub tested_same : (test : Inferred → Bool) (e : Expr) → Same (tested p test (bare e)) (tested p test e)
   tested_same test e =
       both (unless (test (infer p (bare e))) (place_of (bare e)) cause.Kind) (expr_faults p (bare e)) (unless (test (infer p e)) (place_of e) cause.Kind) (expr_faults p e)
       (ap (λ g. causes (unless (test g) (place_of (bare e)) cause.Kind)) (infer_bare e) ∙ elsewhere (test (infer p e)) (place_of (bare e)) (place_of e) cause.Kind) (expr_same e)

@@ -29,19 +29,23 @@ of_row row (Op at left op op_at right) = Op at (of_row row left) op op_at (of_ro
 
 -- one row, by the name of its relation
 abbrev pub row_scope : Schemes → ℕ → Scope
-row_scope schemes rel = record { params = []; vars = []; rows = record { name = (scheme_of schemes rel).name; relation = rel } ∷ [] }
+row_scope schemes rel =
+    record { params = []; vars = []; rows = record { name = (scheme_of schemes rel).name; relation = rel } ∷ [] }
 
 -- the ceiling is not looked at
 abbrev pub row_place : Tables → Schemes → ℕ → Place
 row_place policy schemes rel = record { policy = policy; schemes = schemes; hi = 0; scope = row_scope schemes rel }
 
 module _ (policy : Tables) (schemes : Schemes) (rel : ℕ) (written : Expr) where
+  abbrev pub named : Expr
+  named = of_row (scheme_of schemes rel).name written
+
   abbrev pub condition_faults : List PlacedFault
-  condition_faults = tested (row_place policy schemes rel) may_be_truth (of_row (scheme_of schemes rel).name written)
+  condition_faults = tested (row_place policy schemes rel) may_be_truth named
 
   -- the condition, or the least fault
   unfoldable pub condition_in : Result core.Expr PlacedFault
-  condition_in = answer (least condition_faults) (expr (row_place policy schemes rel) (of_row (scheme_of schemes rel).name written))
+  condition_in = answer (least condition_faults) (expr (row_place policy schemes rel) named)
 
   -- what is read has no fault; the fault that is answered is one of its faults, and none of them stands before it
   abbrev pub IsJudged : Result core.Expr PlacedFault → Type 0

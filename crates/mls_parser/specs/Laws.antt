@@ -1,11 +1,15 @@
--- What a text tells is what is read from it.
+-- What a text tells is what is read from it, and places change no condition.
 use Rattle.std.specs.Prelude.{◌≡◌, ◌↔◌, ℕ, List, [], ◌∷◌, Ok}
 use Rattle.mls_lattice.specs.Policy.{Tables, IsPolicy}
 use Rattle.mls_scheme.specs.Scheme.{Schemes, AreSchemes}
 use Rattle.mls_translang.specs.Fits.{IsReadUnder}
 use Rattle.mls_translang.specs.Tells.{Tells}
 use Rattle.mls_translang.specs.Tokens.{printed}
+use Rattle.mls_translang.specs.Tree as core
 use Rattle.mls_translang.specs.Tx.{Tx, IsTx}
+use Rattle.mls_syntax.specs.ExprTree.{Expr}
+use Rattle.mls_syntax.specs.Places.{bare}
+use Rattle.mls_parser.specs.Conditions.{condition_in}
 use Rattle.mls_parser.specs.Parsing.{parse_at}
 
 -- no list of transactions is told
@@ -24,6 +28,12 @@ module _ (policy : Tables) (schemes : Schemes) where
   -- the printed text of a transaction is read as it alone
   abbrev pub PrintsAreRead : Type 0
   PrintsAreRead = (tx : Tx) → IsTx tx → IsReadUnder policy schemes tx → parse_at policy schemes (printed policy schemes tx) ≡ Ok (tx ∷ [])
+
+  -- a condition that is read is the same wherever its parts stand
+  abbrev pub PlacesChangeNoCondition : Type 0
+  PlacesChangeNoCondition =
+      (rel : ℕ) (written other : Expr) (e : core.Expr) → bare written ≡ bare other
+      → condition_in policy schemes rel written ≡ Ok e → condition_in policy schemes rel other ≡ Ok e
 
 -- under policies and schemes
 abbrev pub Under : (Tables → Schemes → Type 0) → Type 0

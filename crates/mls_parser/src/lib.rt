@@ -1,7 +1,7 @@
 //! Texts of transactions: what the names of syntax trees stand for, and the transactions that they are.
 #![tactic(auto)]
 
-ghost use Rattle.mls_parser.specs.Laws.{TextsAreReadAsTold, TransactionsAreReadOnce, PrintsAreRead, Under};
+ghost use Rattle.mls_parser.specs.Laws.{TextsAreReadAsTold, TransactionsAreReadOnce, PrintsAreRead, PlacesChangeNoCondition, Under};
 
 mod block;
 mod check_block;
@@ -36,4 +36,9 @@ pub fn transactions_are_read_once()
 /// The printed text of a transaction is read as that transaction alone.
 pub fn prints_are_read()
     ensures { Under PrintsAreRead }
+{}
+
+/// A condition that is read is the same wherever its parts stand.
+pub fn places_change_no_condition()
+    ensures { Under PlacesChangeNoCondition }
 {}

@@ -1,5 +1,5 @@
--- Histories grow by a run at their end, over the files of one store.
-use Rattle.std.proofs.Common.{◌≡◌, ℕ, ◌+◌, List, [], ◌∷◌, ◌++◌, map, length, Option, Some, None, Result, Ok, Err, IfSome, refl, sym, ap, subst, ◌∙◌, arith, append-nil}
+-- Histories grow by runs at their end, over the files of one store.
+use Rattle.std.proofs.Common.{◌≡◌, ℕ, zero, suc, ◌+◌, ◌-◌, if◌then◌else◌, List, [], ◌∷◌, ◌++◌, map, length, take, Option, Some, None, Result, Ok, Err, OnOk, IfErr, IfSome, refl, sym, ap, subst, ◌∙◌, arith, append-nil}
 use Rattle.std.specs.List.{AllByRecursion, concat}
 use Rattle.std.specs.Io.KnownBytes.{Appends}
 use Rattle.std.proofs.KnownBytes.{Appends-nil, Appends-trans}
@@ -13,49 +13,60 @@ use Rattle.mls_lattice.specs.Policy.{Tables, labels_of}
 use Rattle.mls_scheme.specs.Scheme.{Schemes}
 use Rattle.mls_scheme.specs.declared.file.SchemesFile.{SchemesFile}
 use Rattle.mls_filterview.specs.Content.{Content}
-use Rattle.mls_fragments.specs.Again.{FindsHoldings}
-use Rattle.mls_fragments.specs.Holdings.{holdings_of, IsTakenOf}
+use Rattle.mls_fragments.specs.Again.{AreRefused}
+use Rattle.mls_fragments.specs.Holdings.{holdings_of}
 use Rattle.mls_fragments.specs.Finding.{IsSoundContent}
 use Rattle.mls_fragments.proofs.AgainLemmas.{kept_is_taken}
 use Rattle.mls_fragments.proofs.HoldingsLemmas.{sound_is_taken}
 use Rattle.mls_meaning.specs.Secure.{AreStored}
 use Rattle.mls_script.specs.declared.event.Event.{Event}
 use Rattle.mls_machine.specs.declared.form.Audience.{Audience}
+use Rattle.mls_machine.specs.declared.stored.Stored.{Stored}
 use Rattle.mls_machine.specs.Site.{Site}
 use Rattle.mls_machine.specs.Machine.{World}
 use Rattle.mls_machine.specs.Output.{run_lines, printed}
-use Rattle.mls_machine.specs.Observation.{AreCertified, heard}
-use Rattle.mls_machine.specs.History.{RunAt, settled, run_end, history_end, history_lines, history_bytes, HistoryFits, IsHistoryUnder, PassesOnlyReleasesDownInHistory, ShowsOnlyReleasesInHistory}
+use Rattle.mls_machine.specs.Observation.{AreCertified, EventsFit, heard}
+use Rattle.mls_machine.specs.History.{RunAt, settled, run_end, history_end, history_lines, history_bytes, HistoryFits, IsHistoryUnder, IsSiteUnder, ShowsOnlyReleasesInHistory}
 use Rattle.mls_machine.proofs.HistoryLemmas.{histories_keep, accepted_histories, histories_show}
+use Rattle.mls_machine.proofs.OneLineLemmas.{each-append}
 use Rattle.mls_sessions.specs.declared.cause.RunFault.{RunFault}
+use Rattle.mls_host.specs.Running.{site_of, IsRun}
 use Rattle.mls_runs.specs.declared.history.Run.{Run}
 use Rattle.mls_runs.specs.declared.history.HistoryCause.{HistoryCause}
 use Rattle.mls_runs.specs.declared.history.HistoryCause.TheVariants.{Unopened, Stopped, NotClosed}
-use Rattle.mls_host.specs.Running.{site_of, output, IsRun}
-use Rattle.mls_runs.specs.History.{run_of, cause_of, IsPrepared, world_of, IsHistoryRun, IsRunOver, KeepContent, ComesTo, IsHistoryOver, none, some, IsHistoryTo, IsBrokenOff, IsHistoryFault}
+use Rattle.mls_runs.specs.InTurn.{run_to, IsHistory}
+use Rattle.mls_runs.specs.History.{run_of, cause_of, IsPrepared, world_of, IsHistoryRun, KeepContent, BeginsIn, AreRunsKept, AreRunsOver, IsRunAfter, IsBrokenOff, IsHistoryFault}
 
--- ---- one run more
+-- ---- runs behind others
 
-end_more : (w : World) (rs : List RunAt) (r : RunAt) → history_end w (rs ++ r ∷ []) ≡ run_end (history_end w rs) r
+end_more : (w : World) (rs ss : List RunAt) → history_end w (rs ++ ss) ≡ history_end (history_end w rs) ss
 unfolding history_end
-end_more w [] r = refl
-end_more w (s ∷ rs) r = end_more (run_end w s) rs r
+end_more w [] ss = refl
+end_more w (r ∷ rs) ss = end_more (run_end w r) rs ss
 
-bytes_more : (ls : Labels) (audience : Audience) (w : World) (rs : List RunAt) (r : RunAt)
-    → concat (history_bytes ls audience w (rs ++ r ∷ [])) ≡ concat (history_bytes ls audience w rs) ++ printed (heard ls audience.reader (run_lines audience.form r.site (history_end w rs) r.events))
+bytes_more : (ls : Labels) (audience : Audience) (w : World) (rs ss : List RunAt)
+    → concat (history_bytes ls audience w (rs ++ ss)) ≡ concat (history_bytes ls audience w rs) ++ concat (history_bytes ls audience (history_end w rs) ss)
 unfolding history_end history_lines
-bytes_more ls audience w [] r = append-nil (printed (heard ls audience.reader (run_lines audience.form r.site w r.events)))
-bytes_more ls audience w (s ∷ rs) r =
-    let here = printed (heard ls audience.reader (run_lines audience.form s.site w s.events)) in
-    ap (λ l. here ++ l) (bytes_more ls audience (run_end w s) rs r) ∙ sym (append_assoc here (concat (history_bytes ls audience (run_end w s) rs)) (printed (heard ls audience.reader (run_lines audience.form r.site (history_end (run_end w s) rs) r.events))))
+bytes_more ls audience w [] ss = refl
+bytes_more ls audience w (r ∷ rs) ss =
+    let here = printed (heard ls audience.reader (run_lines audience.form r.site w r.events)) in
+    ap (λ l. here ++ l) (bytes_more ls audience (run_end w r) rs ss) ∙ sym (append_assoc here (concat (history_bytes ls audience (run_end w r) rs)) (concat (history_bytes ls audience (history_end (run_end w r) rs) ss)))
 
 bytes_none : (ls : Labels) (audience : Audience) (w : World) → concat (history_bytes ls audience w []) ≡ []
 unfolding history_lines
 bytes_none ls audience w = refl
 
+bytes_one : (ls : Labels) (audience : Audience) (w : World) (r : RunAt) → concat (history_bytes ls audience w (r ∷ [])) ≡ printed (heard ls audience.reader (run_lines audience.form r.site w r.events))
+unfolding history_lines
+bytes_one ls audience w r = append-nil (printed (heard ls audience.reader (run_lines audience.form r.site w r.events)))
+
 end_none : (w : World) → history_end w [] ≡ w
 unfolding history_end
 end_none w = refl
+
+end_one : (w : World) (r : RunAt) → history_end w (r ∷ []) ≡ run_end w r
+unfolding history_end
+end_one w r = refl
 
 -- what is written of a run may be told of otherwise
 told : (site : Site) (audience : Audience) (es : List Event) (P Q : List ℕ → Type 0) (end : Result (Unit {0}) RunFault) (first left : Content) → ((bs : List ℕ) → P bs → Q bs)
@@ -70,205 +81,272 @@ told site audience es P Q (Err fault) first left f h = record {
   shown = h.shown;
 }
 
+-- the first n of a list
+all_taken : {A : Type 0} (P : A → Type 0) (n : ℕ) (xs : List A) → AllByRecursion P xs → AllByRecursion P (take n xs)
+all_taken P zero xs h = tt
+all_taken P (suc n) [] h = tt
+all_taken P (suc n) (x ∷ xs) h = (h.0, all_taken P n xs h.1)
+
 -- ---- runs that are prepared
 
 module _ (policy : Tables) (schemes : Schemes) where
-  abbrev Prepared : List Run → Type 0
-  Prepared = AllByRecursion (IsPrepared policy schemes)
+  -- at a site of the labels and the schemes, where what is stored was checked, and the events fit
+  abbrev pub IsReady : RunAt → Type 0
+  IsReady r = IsSiteUnder (labels_of policy) schemes r.site × EventsFit r.site r.events × AreCertified r.site
 
-  abbrev runs_at : List Run → List RunAt
+  abbrev pub AreReady : List RunAt → Type 0
+  AreReady = AllByRecursion IsReady
+
+  abbrev pub runs_at : List Run → List RunAt
   runs_at = map (run_of policy schemes)
 
-  under : (runs : List Run) → Prepared runs → IsHistoryUnder (labels_of policy) schemes (runs_at runs)
+  pub ready_run : (run : Run) → IsPrepared policy schemes run → IsReady (run_of policy schemes run)
+  ready_run run h = (record { labels = refl; relations = refl; read = h.read }, h.fits, h.certified)
+
+  ready_runs : (runs : List Run) → AllByRecursion (IsPrepared policy schemes) runs → AreReady (runs_at runs)
+  ready_runs [] h = tt
+  ready_runs (run ∷ runs) h = (ready_run run h.0, ready_runs runs h.1)
+
+  -- so is a run up to where it stopped
+  ready_to : (r : RunAt) (end : Result (Unit {0}) RunFault) → IsReady r → IsReady (run_to r end)
+  ready_to r (Ok u) h = h
+  ready_to r (Err fault) h = (h.0, all_taken _ (if fault.done then fault.event else fault.event - 1) r.events h.1, h.2)
+
+  under : (rs : List RunAt) → AreReady rs → IsHistoryUnder (labels_of policy) schemes rs
   under [] h = tt
-  under (r ∷ runs) h = (record { labels = refl; relations = refl; read = h.0.read }, under runs h.1)
+  under (r ∷ rs) h = (h.0.0, under rs h.1)
 
-  fit : (runs : List Run) → Prepared runs → HistoryFits (runs_at runs)
+  fit : (rs : List RunAt) → AreReady rs → HistoryFits rs
   fit [] h = tt
-  fit (r ∷ runs) h = (h.0.fits, fit runs h.1)
+  fit (r ∷ rs) h = (h.0.1, fit rs h.1)
 
-  certified : (runs : List Run) → Prepared runs → AllByRecursion (λ (r : RunAt). AreCertified r.site) (runs_at runs)
+  certified : (rs : List RunAt) → AreReady rs → AllByRecursion (λ (r : RunAt). AreCertified r.site) rs
   certified [] h = tt
-  certified (r ∷ runs) h = (h.0.certified, certified runs h.1)
+  certified (r ∷ rs) h = (h.0.2, certified rs h.1)
 
   stored_of : (c : Content) → IsSoundContent policy schemes c → AreStored (labels_of policy) schemes c.db
   stored_of c sound = λ rel. (sound.content rel).stored
 
-  module _ (distinct : AreDistinct (labels_of policy)) (audience : Audience) where
-    secret_of : (runs : List Run) (first : Content) → Prepared runs → IsSoundContent policy schemes first → PassesOnlyReleasesDownInHistory (labels_of policy) schemes (world_of policy first) (runs_at runs)
-    secret_of runs first h sound =
-        accepted_histories (labels_of policy) schemes distinct (world_of policy first) (runs_at runs) (stored_of first sound) (under runs h) (fit runs h) (certified runs h)
-
-    shown_of : (o : Option ℕ) (runs : List Run) (first : Content) → Prepared runs → IsSoundContent policy schemes first
-        → IfSome o (λ c. ShowsOnlyReleasesInHistory (labels_of policy) schemes c (world_of policy first) (runs_at runs))
-    shown_of None runs first h sound = tt
-    shown_of (Some c) runs first h sound = histories_show (labels_of policy) schemes (world_of policy first) (runs_at runs) (secret_of runs first h sound) c
-
-    -- a history is known by its bytes and by what it leaves
-    history_is : (runs : List Run) (Wrote : List ℕ → Type 0) (first left : Content) → Prepared runs → IsSoundContent policy schemes first
-        → Wrote (concat (history_bytes (labels_of policy) audience (world_of policy first) (runs_at runs))) → world_of policy left ≡ history_end (world_of policy first) (runs_at runs)
-        → IsSoundContent policy schemes left → IsHistoryRun policy schemes audience (runs_at runs) Wrote first left
-    history_is runs Wrote first left h sound wrote leaves sound_left = record {
-      begins = sound;
-      written = wrote;
-      history = record {
-        left_by = sym leaves;
-        integrity = histories_keep (labels_of policy) schemes distinct (world_of policy first) (runs_at runs) (stored_of first sound) (under runs h) (fit runs h);
-        secret = secret_of runs first h sound;
-      };
-      sound = sound_left;
-      shown = shown_of audience.reader runs first h sound;
+  module _ (distinct : AreDistinct (labels_of policy)) where
+    -- a history is known by what it leaves
+    history_is : (rs : List RunAt) (first left : Content) → AreReady rs → IsSoundContent policy schemes first → history_end (world_of policy first) rs ≡ world_of policy left
+        → IsHistory (labels_of policy) schemes rs (world_of policy first) (world_of policy left)
+    history_is rs first left h sound leaves = record {
+      left_by = leaves;
+      integrity = histories_keep (labels_of policy) schemes distinct (world_of policy first) rs (stored_of first sound) (under rs h) (fit rs h);
+      secret = accepted_histories (labels_of policy) schemes distinct (world_of policy first) rs (stored_of first sound) (under rs h) (fit rs h) (certified rs h);
     }
 
-    no_runs : (Wrote : List ℕ → Type 0) (first : Content) → IsSoundContent policy schemes first → Wrote [] → IsHistoryRun policy schemes audience [] Wrote first first
-    no_runs Wrote first sound wrote =
-        history_is [] Wrote first first tt sound (subst Wrote (sym (bytes_none (labels_of policy) audience (world_of policy first))) wrote) (sym (end_none (world_of policy first))) sound
+    -- and its bytes are shown to one reader alone, if there is one
+    history_run : (audience : Audience) (rs : List RunAt) (Wrote : List ℕ → Type 0) (first left : Content) → AreReady rs → IsSoundContent policy schemes first
+        → Wrote (concat (history_bytes (labels_of policy) audience (world_of policy first) rs)) → history_end (world_of policy first) rs ≡ world_of policy left
+        → IsSoundContent policy schemes left → IsHistoryRun policy schemes audience rs Wrote first left
+    history_run audience rs Wrote first left h sound wrote leaves sound_left =
+        let is = history_is rs first left h sound leaves in
+        let shown : (o : Option ℕ) → IfSome o (λ c. ShowsOnlyReleasesInHistory (labels_of policy) schemes c (world_of policy first) rs)
+        = λ o. elim o as (λ x. IfSome x (λ c. ShowsOnlyReleasesInHistory (labels_of policy) schemes c (world_of policy first) rs)) [
+          | None ↦ tt
+          | Some c ↦ histories_show (labels_of policy) schemes (world_of policy first) rs is.secret c
+        ] in
+        record { begins = sound; written = wrote; history = is; sound = sound_left; shown = shown audience.reader }
 
-    more_runs : (runs : List Run) (run : Run) (a b c : Option (List ℕ)) (first mid left : Content) → Prepared (runs ++ run ∷ []) → IsHistoryRun policy schemes audience (runs_at runs) (Appends a b) first mid
-        → IsRun (site_of policy schemes run.stored) audience run.events.items (Appends b c) (Ok tt) mid left → IsHistoryRun policy schemes audience (runs_at (runs ++ run ∷ [])) (Appends a c) first left
-    more_runs runs run a b c first mid left prepared h r =
+    no_runs : (audience : Audience) (Wrote : List ℕ → Type 0) (first : Content) → IsSoundContent policy schemes first → Wrote [] → IsHistoryRun policy schemes audience [] Wrote first first
+    no_runs audience Wrote first sound wrote =
+        history_run audience [] Wrote first first tt sound (subst Wrote (sym (bytes_none (labels_of policy) audience (world_of policy first))) wrote) (end_none (world_of policy first)) sound
+
+    module _ (stored : List Stored) (events : List Event) (audience : Audience) (ready : IsReady (record { site = site_of policy schemes stored; events = events })) where
+      abbrev At : RunAt
+      At = record { site = site_of policy schemes stored; events = events }
+
+      -- what a run leaves without its sessions
+      left_world : (Wrote : List ℕ → Type 0) (end : Result (Unit {0}) RunFault) (first left : Content) → IsRun At.site audience events Wrote end first left → run_end (world_of policy first) (run_to At end) ≡ world_of policy left
+      left_world Wrote end first left r = ap settled (sym r.left_by.1)
+
+      one_run : (Wrote : List ℕ → Type 0) (first left : Content) → IsSoundContent policy schemes first → IsRun At.site audience events Wrote (Ok tt) first left → IsHistoryRun policy schemes audience (At ∷ []) Wrote first left
+      one_run Wrote first left sound r =
+          history_run audience (At ∷ []) Wrote first left (ready, tt) sound (subst Wrote (sym (bytes_one (labels_of policy) audience (world_of policy first) At)) r.written)
+          (end_one (world_of policy first) At ∙ left_world Wrote (Ok tt) first left r) (record { content = r.sound.content; entries = r.sound.entries })
+
+      -- with whole runs before it, up to where it stopped
+      stands_behind : (rs : List RunAt) (P Wrote : List ℕ → Type 0) (end : Result (Unit {0}) RunFault) (first last left : Content) → AreReady rs → IsHistoryRun policy schemes audience rs P first last → IsRun At.site audience events Wrote end last left
+          → IsHistory (labels_of policy) schemes (rs ++ run_to At end ∷ []) (world_of policy first) (world_of policy left)
+      stands_behind rs P Wrote end first last left h before r =
+          let w = world_of policy first in
+          let s = run_to At end in
+          history_is (rs ++ s ∷ []) first left (each-append IsReady rs (s ∷ []) h (ready_to At end ready, tt)) before.begins
+          (end_more w rs (s ∷ []) ∙ end_one (history_end w rs) s ∙ ap (λ v. run_end v s) before.history.left_by ∙ left_world Wrote end last left r)
+
+    -- whole runs behind others
+    runs_more : (audience : Audience) (rs ss : List RunAt) (P Q R : List ℕ → Type 0) (first mid left : Content) → AreReady rs → AreReady ss → ((xs ys : List ℕ) → P xs → Q ys → R (xs ++ ys))
+        → IsHistoryRun policy schemes audience rs P first mid → IsHistoryRun policy schemes audience ss Q mid left → IsHistoryRun policy schemes audience (rs ++ ss) R first left
+    runs_more audience rs ss P Q R first mid left ready later f h k =
         let ls = labels_of policy in
         let w = world_of policy first in
-        let site = site_of policy schemes run.stored in
-        let split : runs_at (runs ++ run ∷ []) ≡ runs_at runs ++ run_of policy schemes run ∷ [] = map-append (run_of policy schemes) runs (run ∷ []) in
-        let bytes = ap (λ rs. concat (history_bytes ls audience w rs)) split ∙ bytes_more ls audience w (runs_at runs) (run_of policy schemes run)
-        ∙ ap (λ v. concat (history_bytes ls audience w (runs_at runs)) ++ printed (heard ls audience.reader (run_lines audience.form site v run.events.items))) h.history.left_by in
-        let leaves : world_of policy left ≡ history_end w (runs_at (runs ++ run ∷ [])) =
-        ap settled r.left_by.1 ∙ ap (λ v. run_end v (run_of policy schemes run)) (sym h.history.left_by) ∙ sym (end_more w (runs_at runs) (run_of policy schemes run)) ∙ ap (history_end w) (sym split) in
-        history_is (runs ++ run ∷ []) (Appends a c) first left prepared h.begins
-        (subst (Appends a c) (sym bytes) (Appends-trans a b c (concat (history_bytes ls audience w (runs_at runs))) (output site audience mid run.events.items) h.written r.written))
-        leaves (record { content = r.sound.content; entries = r.sound.entries })
+        let bytes = bytes_more ls audience w rs ss ∙ ap (λ v. concat (history_bytes ls audience w rs) ++ concat (history_bytes ls audience v ss)) h.history.left_by in
+        history_run audience (rs ++ ss) R first left (each-append IsReady rs ss ready later) h.begins (subst R (sym bytes) (f _ _ h.written k.written))
+        (end_more w rs ss ∙ ap (λ v. history_end v ss) h.history.left_by ∙ k.history.left_by) k.sound
 
--- ---- over files
+-- what is written of whole runs may be told of otherwise
+told_runs : (policy : Tables) (schemes : Schemes) (audience : Audience) (rs : List RunAt) (P Q : List ℕ → Type 0) (first left : Content)
+    → (P (concat (history_bytes (labels_of policy) audience (world_of policy first) rs)) → Q (concat (history_bytes (labels_of policy) audience (world_of policy first) rs)))
+    → IsHistoryRun policy schemes audience rs P first left → IsHistoryRun policy schemes audience rs Q first left
+told_runs policy schemes audience rs P Q first left f h = record { begins = h.begins; written = f h.written; history = h.history; sound = h.sound; shown = h.shown }
+
+-- ---- one run over files
+
+module _ {D : Type 0} (g : Ghosts D) (policy : Tables) (file : SchemesFile) (audience : Audience) (distinct : AreDistinct (labels_of policy)) (start now : Files D) (stored : List Stored) (events : List Event)
+    (Wrote : List ℕ → Type 0) (first left : Content) (ready : IsReady policy file.schemes (record { site = site_of policy file.schemes stored; events = events })) (sound : IsSoundContent policy file.schemes first) where
+  abbrev One : RunAt
+  One = record { site = site_of policy file.schemes stored; events = events }
+
+  -- it begins with what is found in the files
+  abbrev pub Ran : Result (Unit {0}) RunFault → Type 0
+  Ran end = BeginsIn g policy file start first × IsRun One.site audience events Wrote end first left
+
+  pub run_alone : (end : Result (Unit {0}) RunFault) → Ran end → IsRunAfter g policy file audience start [] One Wrote end left
+  run_alone end ran =
+      let before = no_runs policy file.schemes distinct audience (λ text. [] ≡ text) first sound refl in record {
+        first = first;
+        last = first;
+        bytes = [];
+        begins = ran.0;
+        before = before;
+        run = ran.1;
+        stands = stands_behind policy file.schemes distinct stored events audience ready [] (λ text. [] ≡ text) Wrote end first first left tt before ran.1;
+      }
+
+  -- and its files are closed
+  pub closed_whole : (outcome : Result (Unit {0}) RunFault) (r : Result (Unit {0}) HistoryCause) → r ≡ cause_of outcome → (AreClean g now.log now.db → Ran outcome × KeepContent g now left)
+      → OnOk r (AreRunsOver g policy file audience start (One ∷ []) Wrote now)
+  closed_whole (Ok u) r is k = subst (λ x. OnOk x (AreRunsOver g policy file audience start (One ∷ []) Wrote now)) (sym is)
+      (λ clean. let so = k clean in record { first = first; left = left; begins = so.0.0; runs = one_run policy file.schemes distinct stored events audience ready Wrote first left sound so.0.1; kept = so.1 })
+  closed_whole (Err fault) r is k = subst (λ x. OnOk x (AreRunsOver g policy file audience start (One ∷ []) Wrote now)) (sym is) tt
+
+  pub closed_broken : (outcome : Result (Unit {0}) RunFault) (r : Result (Unit {0}) HistoryCause) → r ≡ cause_of outcome → (AreClean g now.log now.db → Ran outcome × KeepContent g now left)
+      → IfErr r (IsBrokenOff g policy file audience start [] One Wrote now)
+  closed_broken (Ok u) r is k = subst (λ x. IfErr x (IsBrokenOff g policy file audience start [] One Wrote now)) (sym is) tt
+  closed_broken (Err fault) r is k = subst (λ x. IfErr x (IsBrokenOff g policy file audience start [] One Wrote now)) (sym is) (λ clean. let so = k clean in (left, run_alone (Err fault) so.0, so.1))
+
+-- ---- behind others
 
 module _ {D : Type 0} (g : Ghosts D) (policy : Tables) (file : SchemesFile) (audience : Audience) (distinct : AreDistinct (labels_of policy)) (start : Files D) where
-  -- whole runs end with what is found for the next
-  reached : (rs : List RunAt) (Wrote : List ℕ → Type 0) (mid : Files D) → IsHistoryOver g policy file audience start rs Wrote mid
-      → (next : Content) → AreClean g mid.log mid.db → IsTakenOf (FindsHoldings (image_of g mid)) policy file next → IsSoundContent policy file.schemes next
-      → (first : Content) × AreClean g start.log start.db × IsTakenOf (FindsHoldings (image_of g start)) policy file first × IsHistoryRun policy file.schemes audience rs Wrote first next
-  reached rs Wrote mid (none empty wrote same) next clean found sound = (
-    next,
-    subst (λ (f : Files D). AreClean g f.log f.db) same clean,
-    subst (λ (f : Files D). IsTakenOf (FindsHoldings (image_of g f)) policy file next) same found,
-    subst (λ xs. IsHistoryRun policy file.schemes audience xs Wrote next next) (sym empty) (no_runs policy file.schemes distinct audience Wrote next sound wrote),
-  )
-  reached rs Wrote mid (some first left before at h kept) next clean found sound =
-      let again = kept_is_taken policy file (image_of g mid) (holdings_of kept.0 left) next kept.1.seen.both found in
-      let same : next ≡ left = sound_is_taken policy file (holdings_of kept.0 left) (holdings_of again.0 next) h.sound again.1 in (
-        first,
-        before,
-        at,
-        subst (IsHistoryRun policy file.schemes audience rs Wrote first) (sym same) h,
-      )
+  -- whole runs end with what the next begins with
+  reached : (rs : List RunAt) (Wrote : List ℕ → Type 0) (mid : Files D) → AreRunsOver g policy file audience start rs Wrote mid → (next : Content) → BeginsIn g policy file mid next → IsSoundContent policy file.schemes next
+      → (first : Content) × BeginsIn g policy file start first × IsHistoryRun policy file.schemes audience rs Wrote first next
+  reached [] Wrote mid over next begins sound = (next, subst (λ (f : Files D). BeginsIn g policy file f next) over.1 begins, no_runs policy file.schemes distinct audience Wrote next sound over.0)
+  reached (r ∷ rs) Wrote mid over next begins sound =
+      let h = over begins.0 in
+      let again = kept_is_taken policy file (image_of g mid) (holdings_of h.kept.0 h.left) next h.kept.1.seen.both begins.1 in
+      let same : next ≡ h.left = sound_is_taken policy file (holdings_of h.kept.0 h.left) (holdings_of again.0 next) h.runs.sound again.1 in
+      (h.first, h.begins, subst (IsHistoryRun policy file.schemes audience (r ∷ rs) Wrote h.first) (sym same) h.runs)
 
-  module _ (runs : List Run) (run : Run) (prepared : AllByRecursion (IsPrepared policy file.schemes) (runs ++ run ∷ [])) (a b c : Option (List ℕ)) (mid now : Files D)
-      (over : AreClean g mid.log mid.db → IsHistoryOver g policy file audience start (runs_at policy file.schemes runs) (Appends a b) mid) where
-    abbrev At : RunAt
-    At = run_of policy file.schemes run
+  over_some : (rs : List RunAt) (r : RunAt) (Wrote : List ℕ → Type 0) (now : Files D) → (AreClean g now.log now.db → AreRunsKept g policy file audience start (rs ++ r ∷ []) Wrote now)
+      → AreRunsOver g policy file audience start (rs ++ r ∷ []) Wrote now
+  over_some [] r Wrote now k = k
+  over_some (s ∷ rs) r Wrote now k = k
+
+  -- nothing more is written
+  over_nothing : (rs : List RunAt) (a b c : Option (List ℕ)) (now : Files D) → Appends b c [] → AreRunsOver g policy file audience start rs (Appends a b) now → AreRunsOver g policy file audience start rs (Appends a c) now
+  over_nothing [] a b c now none over = (Appends-trans a b c [] [] over.0 none, over.1)
+  over_nothing (r ∷ rs) a b c now none over = λ clean.
+      let h = over clean in
+      let bytes = concat (history_bytes (labels_of policy) audience (world_of policy h.first) (r ∷ rs)) in record {
+        first = h.first;
+        left = h.left;
+        begins = h.begins;
+        runs = told_runs policy file.schemes audience (r ∷ rs) (Appends a b) (Appends a c) h.first h.left (λ w. subst (Appends a c) (append-nil bytes) (Appends-trans a b c bytes [] w none)) h.runs;
+        kept = h.kept;
+      }
+
+  module _ (rs : List RunAt) (stored : List Stored) (events : List Event) (a b c : Option (List ℕ)) (mid now : Files D) (ready : AreReady policy file.schemes rs)
+      (fits : IsReady policy file.schemes (record { site = site_of policy file.schemes stored; events = events })) (over : AreRunsOver g policy file audience start rs (Appends a b) mid) where
+    abbrev Next : RunAt
+    Next = record { site = site_of policy file.schemes stored; events = events }
 
     -- a whole run more
-    pub over_more : ComesTo g (IsRunOver g policy file audience mid At (Appends b c)) (Appends b c []) now (Ok tt) → AreClean g now.log now.db
-        → IsHistoryOver g policy file audience start (runs_at policy file.schemes (runs ++ run ∷ [])) (Appends a c) now
-    over_more ended clean =
-        let e = ended clean in
-        let r = e.1 in
-        let so = reached (runs_at policy file.schemes runs) (Appends a b) mid (over r.clean) r.first r.clean r.found r.begins in
-        some so.0 e.0 so.1 so.2 (more_runs policy file.schemes distinct audience runs run a b c so.0 r.first e.0 prepared so.3 r.run) e.2
+    pub whole_more : AreRunsOver g policy file audience mid (Next ∷ []) (Appends b c) now → AreRunsOver g policy file audience start (rs ++ Next ∷ []) (Appends a c) now
+    whole_more one = over_some rs Next (Appends a c) now (λ clean.
+        let h = one clean in
+        let so = reached rs (Appends a b) mid over h.first h.begins h.runs.begins in record {
+          first = so.0;
+          left = h.left;
+          begins = so.1;
+          runs = runs_more policy file.schemes distinct audience rs (Next ∷ []) (Appends a b) (Appends b c) (Appends a c) so.0 h.first h.left ready (fits, tt) (λ xs ys. Appends-trans a b c xs ys) so.2 h.runs;
+          kept = h.kept;
+        })
 
-    -- or one that is not whole
-    run_to : (end : Result (Unit {0}) RunFault) (left : Content) → IsRunOver g policy file audience mid At (Appends b c) end left
-        → IsHistoryTo g policy file audience start (runs_at policy file.schemes runs) At (Appends a c) end left
-    run_to end left r =
-        let rs = runs_at policy file.schemes runs in
-        let so = reached rs (Appends a b) mid (over r.clean) r.first r.clean r.found r.begins in
-        let bytes = concat (history_bytes (labels_of policy) audience (world_of policy so.0) rs) in
-        let h = so.3 in
+    run_more : (end : Result (Unit {0}) RunFault) (left : Content) → IsRunAfter g policy file audience mid [] Next (Appends b c) end left → IsRunAfter g policy file audience start rs Next (Appends a c) end left
+    run_more end left h =
+        let ls = labels_of policy in
+        let so = reached rs (Appends a b) mid over h.first h.begins h.before.begins in
+        let bytes = concat (history_bytes ls audience (world_of policy so.0) rs) in
+        let empty : h.bytes ≡ [] = h.before.written ∙ bytes_none ls audience (world_of policy h.first) in
+        let before = told_runs policy file.schemes audience (rs ++ []) (Appends a b) (λ text. bytes ≡ text) so.0 h.last (λ w. ap (λ xs. concat (history_bytes ls audience (world_of policy so.0) xs)) (sym (append-nil rs)))
+        (runs_more policy file.schemes distinct audience rs [] (Appends a b) (λ text. h.bytes ≡ text) (Appends a b) so.0 h.first h.last ready tt (λ xs ys w e. subst (Appends a b) (sym (append-nil xs) ∙ ap (λ l. xs ++ l) (sym empty ∙ e)) w) so.2 h.before) in
+        let whole = subst (λ xs. IsHistoryRun policy file.schemes audience xs (λ text. bytes ≡ text) so.0 h.last) (append-nil rs) before in
+        let wrote : (part : List ℕ) → Appends b c (h.bytes ++ part) → Appends a c (bytes ++ part) = λ part w. Appends-trans a b c bytes part so.2.written (subst (λ l. Appends b c (l ++ part)) empty w) in
+        let run = told Next.site audience events (λ part. Appends b c (h.bytes ++ part)) (λ part. Appends a c (bytes ++ part)) end h.last left wrote h.run in
         record {
           first = so.0;
-          last = r.first;
+          last = h.last;
           bytes = bytes;
-          found = so.2;
-          before = record { begins = h.begins; written = refl; history = h.history; sound = h.sound; shown = h.shown };
-          run = told At.site audience At.events (Appends b c) (λ part. Appends a c (bytes ++ part)) end r.first left (λ part wrote. Appends-trans a b c bytes part h.written wrote) r.run;
+          begins = so.1;
+          before = whole;
+          run = run;
+          stands = stands_behind policy file.schemes distinct stored events audience fits rs (λ text. bytes ≡ text) (λ part. Appends a c (bytes ++ part)) end so.0 h.last left ready whole run;
         }
 
-    pub broken_off : (cause : HistoryCause) → ComesTo g (IsRunOver g policy file audience mid At (Appends b c)) (Appends b c []) now (Err cause)
-        → IsBrokenOff g policy file audience start (runs_at policy file.schemes runs) At (Appends a c) now cause
-    broken_off (Unopened fault) wrote = (mid, λ clean. retold (over clean))
-      where
-        retold : IsHistoryOver g policy file audience start (runs_at policy file.schemes runs) (Appends a b) mid → IsHistoryOver g policy file audience start (runs_at policy file.schemes runs) (Appends a c) mid
-        retold (none empty w same) = none empty (Appends-trans a b c [] [] w wrote) same
-        retold (some first left before at h kept) = some first left before at (record {
-          begins = h.begins;
-          written = subst (Appends a c) (append-nil (concat (history_bytes (labels_of policy) audience (world_of policy first) (runs_at policy file.schemes runs)))) (Appends-trans a b c _ [] h.written wrote);
-          history = h.history;
-          sound = h.sound;
-          shown = h.shown;
-        }) kept
-    broken_off (Stopped fault) ended = λ clean. let e = ended clean in (e.0, run_to (Err fault) e.0 e.1, e.2)
-    broken_off NotClosed ended = λ clean. let e = ended clean in (e.0, e.1, run_to e.0 e.1 e.2)
-
--- ---- what comes of a run
-
--- a run over a base, whose files are closed
-pub closed_run : {D : Type 0} (g : Ghosts D) (Over : Result (Unit {0}) RunFault → Content → Type 0) (now : Files D) (outcome : Result (Unit {0}) RunFault) (r : Result (Unit {0}) HistoryCause) (left : Content) → r ≡ cause_of outcome
-    → (AreClean g now.log now.db → Over outcome left) → (AreClean g now.log now.db → KeepContent g now left) → ComesTo g Over ⊥ now r
-closed_run g Over now outcome r left is over kept = subst (ComesTo g Over ⊥ now) (sym is) (by outcome over)
-  where
-    by : (o : Result (Unit {0}) RunFault) → (AreClean g now.log now.db → Over o left) → ComesTo g Over ⊥ now (cause_of o)
-    by (Ok u) over = λ clean. (left, over clean, kept clean)
-    by (Err fault) over = λ clean. (left, over clean, kept clean)
-
--- what comes of it may be told of otherwise
-pub comes_so : {D : Type 0} (g : Ghosts D) (P Q : Result (Unit {0}) RunFault → Content → Type 0) (U V : Type 0) (now : Files D) (r : Result (Unit {0}) HistoryCause) → ((end : Result (Unit {0}) RunFault) (left : Content) → P end left → Q end left) → (U → V)
-    → ComesTo g P U now r → ComesTo g Q V now r
-comes_so g P Q U V now (Ok u) f v h = λ clean. let e = h clean in (e.0, f (Ok tt) e.0 e.1, e.2)
-comes_so g P Q U V now (Err (Unopened fault)) f v h = v h
-comes_so g P Q U V now (Err (Stopped fault)) f v h = λ clean. let e = h clean in (e.0, f (Err fault) e.0 e.1, e.2)
-comes_so g P Q U V now (Err NotClosed) f v h = λ clean. let e = h clean in (e.0, e.1, f e.0 e.1 e.2)
+    -- or one that breaks the history off
+    pub broken_more : (cause : HistoryCause) → IsBrokenOff g policy file audience mid [] Next (Appends b c) now cause → IsBrokenOff g policy file audience start rs Next (Appends a c) now cause
+    broken_more (Unopened fault) h = record {
+      was = mid;
+      runs = over_nothing rs a b c mid h.runs.0 over;
+      refused = subst (λ (f : Files D). AreRefused g policy file f fault now) h.runs.1 h.refused;
+    }
+    broken_more (Stopped fault) h = λ clean. let k = h clean in (k.0, run_more (Err fault) k.0 k.1, k.2)
+    broken_more NotClosed h = λ clean. let k = h clean in (k.0, k.1, run_more k.0 k.1 k.2, k.3)
 
 -- ---- runs in order
 
-front : (P : Run → Type 0) (xs : List Run) (y : Run) (ys : List Run) → AllByRecursion P (xs ++ y ∷ ys) → AllByRecursion P (xs ++ y ∷ [])
-front P [] y ys h = (h.0, tt)
-front P (x ∷ xs) y ys h = (h.0, front P xs y ys h.1)
+ready_front : (policy : Tables) (schemes : Schemes) (xs : List Run) (y : Run) (ys : List Run) → AllByRecursion (IsPrepared policy schemes) (xs ++ y ∷ ys) → AreReady policy schemes (runs_at policy schemes xs) × IsReady policy schemes (run_of policy schemes y)
+ready_front policy schemes [] y ys h = (tt, ready_run policy schemes y h.0)
+ready_front policy schemes (x ∷ xs) y ys h = let rest = ready_front policy schemes xs y ys h.1 in ((ready_run policy schemes x h.0, rest.0), rest.1)
 
 -- some of the runs are done, and the others are to come
 pub record Goes {D : Type 0} (g : Ghosts D) (policy : Tables) (file : SchemesFile) (audience : Audience) (runs : List Run) (start : Files D) (before : Option (List ℕ)) (done rest : List Run) (number : ℕ) (now : Files D) (after : Option (List ℕ)) : Type 0 where
   pub all : done ++ rest ≡ runs
   pub count : number ≡ length done
-  pub over : AreClean g now.log now.db → IsHistoryOver g policy file audience start (runs_at policy file.schemes done) (Appends before after) now
+  pub over : AreRunsOver g policy file audience start (runs_at policy file.schemes done) (Appends before after) now
 
 module _ {D : Type 0} (g : Ghosts D) (policy : Tables) (file : SchemesFile) (audience : Audience) (runs : List Run) (start : Files D) (before : Option (List ℕ)) where
   pub goes_first : Goes g policy file audience runs start before [] runs 0 start before
-  goes_first = record { all = refl; count = refl; over = λ clean. none refl (Appends-nil before) refl }
+  goes_first = record { all = refl; count = refl; over = (Appends-nil before, refl) }
 
   pub goes_whole : (done rest : List Run) (number : ℕ) (now : Files D) (after : Option (List ℕ)) → Goes g policy file audience runs start before done rest number now after → rest ≡ []
-      → AreClean g now.log now.db → IsHistoryOver g policy file audience start (runs_at policy file.schemes runs) (Appends before after) now
-  goes_whole done rest number now after h empty clean =
-      subst (λ rs. IsHistoryOver g policy file audience start (runs_at policy file.schemes rs) (Appends before after) now) (sym (append-nil done) ∙ ap (λ rs. done ++ rs) (sym empty) ∙ h.all) (h.over clean)
+      → AreRunsOver g policy file audience start (runs_at policy file.schemes runs) (Appends before after) now
+  goes_whole done rest number now after h empty =
+      subst (λ rs. AreRunsOver g policy file audience start (runs_at policy file.schemes rs) (Appends before after) now) (sym (append-nil done) ∙ ap (λ rs. done ++ rs) (sym empty) ∙ h.all) h.over
 
   module _ (distinct : AreDistinct (labels_of policy)) (prepared : AllByRecursion (IsPrepared policy file.schemes) runs) (done rest : List Run) (run : Run) (number : ℕ) (mid now : Files D) (after last : Option (List ℕ))
       (h : Goes g policy file audience runs start before done (run ∷ rest) number mid after) where
-    ready : AllByRecursion (IsPrepared policy file.schemes) (done ++ run ∷ [])
-    ready = front (IsPrepared policy file.schemes) done run rest (subst (AllByRecursion (IsPrepared policy file.schemes)) (sym h.all) prepared)
+    ready : AreReady policy file.schemes (runs_at policy file.schemes done) × IsReady policy file.schemes (run_of policy file.schemes run)
+    ready = ready_front policy file.schemes done run rest (subst (AllByRecursion (IsPrepared policy file.schemes)) (sym h.all) prepared)
 
-    abbrev Comes : Result (Unit {0}) HistoryCause → Type 0
-    Comes = ComesTo g (IsRunOver g policy file audience mid (run_of policy file.schemes run) (Appends after last)) (Appends after last []) now
-
-    pub goes_more : Comes (Ok tt) → Goes g policy file audience runs start before (done ++ run ∷ []) rest (number + 1) now last
-    goes_more comes = record {
+    pub goes_more : AreRunsOver g policy file audience mid (run_of policy file.schemes run ∷ []) (Appends after last) now → Goes g policy file audience runs start before (done ++ run ∷ []) rest (number + 1) now last
+    goes_more one = record {
       all = append_assoc done (run ∷ []) rest ∙ h.all;
       count = ap (λ n. n + 1) h.count ∙ sym (length-append done (run ∷ []));
-      over = over_more g policy file audience distinct start done run ready before after last mid now h.over comes;
+      over = subst (λ rs. AreRunsOver g policy file audience start rs (Appends before last) now) (sym (map-append (run_of policy file.schemes) done (run ∷ [])))
+          (whole_more g policy file audience distinct start (runs_at policy file.schemes done) run.stored run.events.items before after last mid now ready.0 ready.1 h.over one);
     }
 
-    pub goes_broken : (cause : HistoryCause) → Comes (Err cause) → IsHistoryFault g policy file audience start (runs_at policy file.schemes runs) (Appends before last) now (record { run = number + 1; cause = cause })
-    goes_broken cause comes = record {
+    pub goes_broken : (cause : HistoryCause) → IsBrokenOff g policy file audience mid [] (run_of policy file.schemes run) (Appends after last) now cause
+        → IsHistoryFault g policy file audience start (runs_at policy file.schemes runs) (Appends before last) now (record { run = number + 1; cause = cause })
+    goes_broken cause broken = record {
       before = runs_at policy file.schemes done;
       run = run_of policy file.schemes run;
       after = runs_at policy file.schemes rest;
       all = ap (runs_at policy file.schemes) (sym h.all) ∙ map-append (run_of policy file.schemes) done (run ∷ rest);
       number = omega (arith, h.count, length-map done (run_of policy file.schemes));
-      broken = broken_off g policy file audience distinct start done run ready before after last mid now h.over cause comes;
+      broken = broken_more g policy file audience distinct start (runs_at policy file.schemes done) run.stored run.events.items before after last mid now ready.0 ready.1 h.over cause broken;
     }

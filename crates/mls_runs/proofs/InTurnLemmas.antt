@@ -11,7 +11,7 @@ use Rattle.mls_scheme.specs.declared.file.SchemesFile.{SchemesFile}
 use Rattle.mls_filterview.specs.Content.{Content}
 use Rattle.mls_statements.specs.declared.rows.MetaRow.{MetaRow}
 use Rattle.mls_filterview.specs.Stored.{AreContent}
-use Rattle.mls_fragments.specs.Holdings.{Holdings, holdings_of, IsTakenOf}
+use Rattle.mls_fragments.specs.Holdings.{holdings_of, IsTakenOf}
 use Rattle.mls_fragments.specs.Finding.{IsSoundContent}
 use Rattle.mls_fragments.proofs.HoldingsLemmas.{sound_is_taken}
 use Rattle.mls_translang.specs.Tx.{Tx}
@@ -32,7 +32,7 @@ use Rattle.mls_words.specs.declared.words.Documents.{Documents}
 use Rattle.mls_host.specs.Hosting.{Hosted, BeginsWith, IsKeptAt}
 use Rattle.mls_host.specs.Inputs.{AreTransactionsFrom, AreStoredFrom, IsPolicyOf}
 use Rattle.mls_host.specs.Running.{site_of, first_world, output, standing, IsLeftBy}
-use Rattle.mls_runs.specs.InTurn.{run_at, KeepsOne, RunsAreInTurn}
+use Rattle.mls_runs.specs.InTurn.{run, world_before, KeepsOne, RunsAreInTurn}
 use Rattle.mls_host.proofs.StoringLemmas.{stored_read}
 
 -- ---- up to where a run ended or stopped
@@ -103,28 +103,28 @@ taken_again h k path one later again left first sound kept taken =
 
 pub in_turn : (h : Hosted) (W : List ℕ → Type 0) (k : Hosted) (V : List ℕ → Type 0) → RunsAreInTurn h W k V
 unfolding history_end history_lines
-in_turn h W k V path one documents policy later file again read labels relations reader other files others at there end stop x y was is =
-    let ls = labels_of policy in
-    let a = x.run was in
-    let b = y.run is in
-    let r = run_at policy file.schemes x.stored x.events end in
-    let s = run_at later again.schemes y.stored y.events stop in
-    let v = first_world r.site a.first in
-    let sound = sound_later policy later file.schemes again.schemes x.stored a.left labels relations a.leads.sound in
-    let same : a.left ≡ b.first = taken_again h k path one later again a.left b.first sound (kept_at h _ path a.left at a.kept) (begins_at k later again _ path b.first there b.begins) in
-    let next : run_end v r ≡ first_world s.site b.first
-    = left_world r.site a.first a.left r.events a.leads.left_by ∙ (λ i. world_with (same_count policy later labels i) (same i)) in
-    let passes : EachPassesOnlyReleasesDown v (r ∷ s ∷ []) = (passes_standing r.site v x.events a.leads.secret end, (subst (λ w. PassesOnlyReleasesDown s.site w s.events) (sym next) (passes_standing s.site _ y.events b.leads.secret stop), tt)) in
-    let under : IsHistoryUnder ls file.schemes (r ∷ s ∷ []) = (
-      record { labels = refl; relations = refl; read = are_read h.before.gives _ _ policy file.schemes x.stored x.stored_are },
-      (record { labels = labels; relations = relations; read = are_read k.before.gives _ _ later again.schemes y.stored y.stored_are }, tt),
+in_turn h W k V path one r s shape =
+    let ls = labels_of r.policy in
+    let a = r.is.run r.clean in
+    let b = s.is.run s.clean in
+    let p = run r in
+    let q = run s in
+    let v = world_before r in
+    let sound = sound_later r.policy s.policy r.file.schemes s.file.schemes r.is.stored a.left shape.labels shape.schemes a.leads.sound in
+    let same : a.left ≡ b.first = taken_again h k path one s.policy s.file a.left b.first sound (kept_at h _ path a.left r.over a.kept) (begins_at k s.policy s.file _ path b.first s.over b.begins) in
+    let next : run_end v p ≡ world_before s
+    = left_world p.site a.first a.left p.events a.leads.left_by ∙ (λ i. world_with (same_count r.policy s.policy shape.labels i) (same i)) in
+    let passes : EachPassesOnlyReleasesDown v (p ∷ q ∷ []) = (passes_standing p.site v r.is.events a.leads.secret r.end, (subst (λ w. PassesOnlyReleasesDown q.site w q.events) (sym next) (passes_standing q.site _ s.is.events b.leads.secret s.end), tt)) in
+    let under : IsHistoryUnder ls r.file.schemes (p ∷ q ∷ []) = (
+      record { labels = refl; relations = refl; read = are_read h.before.gives _ _ r.policy r.file.schemes r.is.stored r.is.stored_are },
+      (record { labels = shape.labels; relations = shape.schemes; read = are_read k.before.gives _ _ s.policy s.file.schemes s.is.stored s.is.stored_are }, tt),
     ) in
     record {
       one = same;
       history = record {
-        left_by = ap (λ w. run_end w s) next ∙ left_world s.site b.first b.left s.events b.leads.left_by;
-        integrity = (keeps_standing r.site v x.events a.leads.integrity end, (subst (λ w. KeepsIntegrity s.site w s.events) (sym next) (keeps_standing s.site _ y.events b.leads.integrity stop), tt));
-        secret = histories_pass ls file.schemes (policy_distinct h.before.gives documents policy read) v (r ∷ s ∷ []) under passes;
+        left_by = ap (λ w. run_end w q) next ∙ left_world q.site b.first b.left q.events b.leads.left_by;
+        integrity = (keeps_standing p.site v r.is.events a.leads.integrity r.end, (subst (λ w. KeepsIntegrity q.site w q.events) (sym next) (keeps_standing q.site _ s.is.events b.leads.integrity s.end), tt));
+        secret = histories_pass ls r.file.schemes (policy_distinct h.before.gives shape.documents r.policy shape.read) v (p ∷ q ∷ []) under passes;
       };
-      written = λ audience. λ i. output r.site audience a.first r.events ∷ printed (heard (sym labels i) audience.reader (run_lines audience.form s.site (next i) s.events)) ∷ [];
+      written = λ audience. λ i. output p.site audience a.first p.events ∷ printed (heard (sym shape.labels i) audience.reader (run_lines audience.form q.site (next i) q.events)) ∷ [];
     }

@@ -20,8 +20,8 @@ one_of : {A : Type 0} (database : A → Database) (o : Option A) (h k : Holdings
 one_of database None h k x y = absurd x
 one_of database (Some a) h k x y = has_once (database a) h k x y
 
-pub in_memory : (R : Type 0) (W V : List ℕ → Type 0) → RunsInMemoryAreInTurn R W V
-in_memory R W V old middle new path = in_turn (hosted_in old middle) W (hosted_in middle new) V path (one_of (λ conn. (state over_memory conn).now) middle.store)
+pub in_memory : (W V : List ℕ → Type 0) → RunsInMemoryAreInTurn W V
+in_memory W V old middle new path = in_turn (hosted_in old middle) W (hosted_in middle new) V path (one_of (λ conn. (state over_memory conn).now) middle.store)
 
 -- the store that a connection was, in which no transaction had begun, is not opened for the cause that it comes back with
 pub barred : {A : Type 0} (show : A → Bool × Database) (policy : Tables) (file : SchemesFile) (store : Option A) (conn : A) → Some conn ≡ store → (fault : OpenFault)

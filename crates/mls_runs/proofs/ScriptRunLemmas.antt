@@ -1,6 +1,7 @@
 -- Runs of scripts: where they begin, and how they end.
-use Rattle.std.proofs.Common.{refl, ◌≡◌, ◌<◌, arith, ℕ, List, [], Option, Some, None, Result, Ok, Err, OnOk, IfErr, sym, subst}
+use Rattle.std.proofs.Common.{refl, ◌≡◌, ℕ, List, [], Option, Some, None, Result, Ok, Err, sym, subst}
 use Rattle.std.specs.Borrow.{Bor}
+use Rattle.std.specs.Result.{IsErrAnd}
 use Rattle.mls_filterview.specs.Content.{Content, no_content}
 use Rattle.mls_lattice.specs.Policy.{Tables}
 use Rattle.mls_scheme.specs.declared.file.SchemesFile.{SchemesFile}
@@ -8,22 +9,19 @@ use Rattle.mls_script.specs.declared.event.Event.{Event}
 use Rattle.mls_machine.specs.declared.stored.Stored.{Stored}
 use Rattle.mls_machine.specs.declared.form.Audience.{Audience}
 use Rattle.mls_machine.specs.Site.{Site}
-use Rattle.mls_sessions.specs.declared.cause.RunCause.TheVariants.{Store}
 use Rattle.mls_sessions.specs.declared.cause.RunFault.{RunFault}
 use Rattle.mls_words.specs.declared.words.RunFiles.{RunFiles}
 use Rattle.mls_words.specs.Words.{named}
 use Rattle.mls_host.specs.declared.reason.Reason.{Reason}
 use Rattle.mls_host.specs.declared.refusal.Refusal.{Refusal}
-use Rattle.mls_host.specs.declared.refusal.Refusal.TheVariants.{Before, Run, NotClosed, Output}
-use Rattle.mls_host.specs.Hosting.{Hosted, KeepsStores}
+use Rattle.mls_host.specs.declared.refusal.Refusal.TheVariants.{Before}
+use Rattle.mls_host.specs.Hosting.{Hosted}
 use Rattle.mls_host.specs.Inputs.{AreStoredFrom, IsScriptFrom}
 use Rattle.mls_host.specs.Causes.{IsBarred}
-use Rattle.mls_host.specs.Refusal.{ended, IsEnd}
-use Rattle.mls_host.specs.Stopping.{IsCaused, HasStopped}
-use Rattle.mls_host.proofs.StoppingLemmas.{caused_at, stopped_at}
+use Rattle.mls_host.specs.Refusal.{IsEnd}
 use Rattle.mls_host.specs.Running.{site_of, IsRun}
 use Rattle.mls_host.proofs.RunningLemmas.{end_weaker}
-use Rattle.mls_runs.specs.ScriptRun.{audience_of, IsRunFrom, IsScriptRun, IsRunRefused, IsCausedInMemory, no_store}
+use Rattle.mls_runs.specs.ScriptRun.{audience_of, IsRunFrom, IsScriptRun, IsRunRefused, no_store}
 
 -- ---- where runs begin
 
@@ -65,38 +63,7 @@ module _ (h : Hosted) (policy : Tables) (file : SchemesFile) (reader : Option �
       end_weaker (IsRunFrom h file (named files.store) (site_of policy file.schemes stored) (audience_of reader files) events Wrote) (λ reason. IsBarred h.before policy file (named files.store) reason × Wrote [])
       (IsScriptRun h policy file reader files Wrote) NotBegun f g r run
 
-  pub run_done : (r : Result (Unit {0}) Refusal) → IsEnd (IsScriptRun h policy file reader files Wrote) NotBegun r → OnOk r (IsScriptRun h policy file reader files Wrote (Ok tt))
-  run_done (Ok u) k = k
-  run_done (Err e) k = tt
-
-  pub run_stopped : (r : Result (Unit {0}) Refusal) → IsEnd (IsScriptRun h policy file reader files Wrote) NotBegun r
-      → IfErr r (λ e. IsEnd (IsScriptRun h policy file reader files Wrote) NotBegun (Err e))
-  run_stopped (Ok u) k = tt
-  run_stopped (Err e) k = k
-
--- ---- why runs without a store are given up
-
-pub ended_in_memory : (outcome : Result (Unit {0}) RunFault) → IfErr outcome (λ f. f.cause ≡ Store → 0 < 0) → IfErr (ended outcome (Ok tt)) IsCausedInMemory
-ended_in_memory (Ok u) k = tt
-ended_in_memory (Err fault) k = λ is. let none = k is in absurd (omega (arith, none))
-
-module _ (h : Hosted) where
-  caused_without : KeepsStores h → (r : Result (Unit {0}) Refusal) → IfErr r IsCausedInMemory → IfErr r (IsCaused h None)
-  caused_without kept (Ok u) k = tt
-  caused_without kept (Err (Before reason)) k = kept
-  caused_without kept (Err (Run fault)) k = tt
-  caused_without kept (Err NotClosed) k = absurd k
-  caused_without kept (Err Output) k = tt
-
-  stopped_without : (r : Result (Unit {0}) Refusal) → IfErr r IsCausedInMemory → IfErr r (HasStopped h None)
-  stopped_without (Ok u) k = tt
-  stopped_without (Err (Before reason)) k = tt
-  stopped_without (Err (Run fault)) k = k
-  stopped_without (Err NotClosed) k = tt
-  stopped_without (Err Output) k = tt
-
-  pub caused_from_memory : (store : Option (Bor (List ℕ))) → store ≡ None → KeepsStores h → (r : Result (Unit {0}) Refusal) → IfErr r IsCausedInMemory → IfErr r (IsCaused h (named store))
-  caused_from_memory store none kept r k = caused_at h store None none r (caused_without kept r k)
-
-  pub stopped_from_memory : (store : Option (Bor (List ℕ))) → store ≡ None → (r : Result (Unit {0}) Refusal) → IfErr r IsCausedInMemory → IfErr r (HasStopped h (named store))
-  stopped_from_memory store none r k = stopped_at h store None none r (stopped_without r k)
+  -- at the exit of a `?`
+  pub not_begun : (r : Result (Unit {0}) Refusal) (reason : Reason) → IsErrAnd r (λ e. e ≡ Before reason) → NotBegun reason → IsEnd (IsScriptRun h policy file reader files Wrote) NotBegun r
+  not_begun (Ok u) reason is k = absurd is
+  not_begun (Err e) reason is k = subst (λ x. IsEnd (IsScriptRun h policy file reader files Wrote) NotBegun (Err x)) (sym is) k

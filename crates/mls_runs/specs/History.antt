@@ -10,9 +10,10 @@ use Rattle.mls_scheme.specs.Scheme.{Schemes}
 use Rattle.mls_scheme.specs.declared.file.SchemesFile.{SchemesFile}
 use Rattle.mls_filterview.specs.Content.{Content}
 use Rattle.mls_statements.specs.declared.rows.MetaRow.{MetaRow}
-use Rattle.mls_fragments.specs.Again.{AreKept, FindsHoldings}
+use Rattle.mls_fragments.specs.Again.{AreKept, AreRefused, FindsHoldings, MayKeep}
 use Rattle.mls_fragments.specs.Holdings.{holdings_of, IsTakenOf}
 use Rattle.mls_fragments.specs.Finding.{IsSoundContent}
+use Rattle.mls_fragments.specs.declared.open_fault.OpenFault.{OpenFault}
 use Rattle.mls_machine.specs.declared.form.Audience.{Audience}
 use Rattle.mls_machine.specs.Machine.{World, no_sessions}
 use Rattle.mls_machine.specs.Observation.{AreRead, AreCertified, EventsFit}
@@ -23,7 +24,7 @@ use Rattle.mls_runs.specs.declared.history.Run.{Run}
 use Rattle.mls_runs.specs.declared.history.HistoryCause.{HistoryCause}
 use Rattle.mls_runs.specs.declared.history.HistoryCause.TheVariants.{Unopened, Stopped, NotClosed}
 use Rattle.mls_runs.specs.declared.history.HistoryFault.{HistoryFault}
-use Rattle.mls_runs.specs.InTurn.{IsHistory}
+use Rattle.mls_runs.specs.InTurn.{run_to, IsHistory}
 use Rattle.mls_host.specs.Running.{site_of, IsRun}
 
 -- ---- runs of a history
@@ -70,59 +71,68 @@ pub record IsHistoryRun (policy : Tables) (schemes : Schemes) (audience : Audien
 abbrev pub KeepContent : {D : Type 0} → Ghosts D → Files D → Content → Type 0
 KeepContent g files left = (row : MetaRow) × AreKept g files (holdings_of row left)
 
--- what comes of a run over files: it is whole, and they keep what it leaves; or the store was not opened for it; or it
--- stopped; or it ended or stopped, and the store was not closed
-abbrev pub ComesTo : {D : Type 0} → Ghosts D → (Result (Unit {0}) RunFault → Content → Type 0) → Type 0 → Files D
-    → Result (Unit {0}) HistoryCause → Type 0
-ComesTo g Over Unmade now (Ok _) = AreClean g now.log now.db → (left : Content) × Over (Ok tt) left
-    × KeepContent g now left
-ComesTo g Over Unmade now (Err (Unopened fault)) = Unmade
-ComesTo g Over Unmade now (Err (Stopped fault)) =
-    AreClean g now.log now.db → (left : Content) × Over (Err fault) left × KeepContent g now left
-ComesTo g Over Unmade now (Err NotClosed) =
-    AreClean g now.log now.db → (end : Result (Unit {0}) RunFault) × (left : Content) × Over end left
+-- or, where they were not closed, may keep it
+abbrev pub MayKeepContent : {D : Type 0} → Ghosts D → Files D → Content → Type 0
+MayKeepContent g files left = (row : MetaRow) × MayKeep g files (holdings_of row left)
 
-module _ {D : Type 0} (g : Ghosts D) (policy : Tables) (file : SchemesFile) (audience : Audience) where
-  -- a run from what is found in the files
-  pub record IsRunOver (start : Files D) (r : RunAt) (Wrote : List ℕ → Type 0) (end : Result (Unit {0}) RunFault)
-      (left : Content) : Type 0 where
-    pub first : Content
-    pub clean : AreClean g start.log start.db
-    pub found : IsTakenOf (FindsHoldings (image_of g start)) policy file first
-    pub begins : IsSoundContent policy file.schemes first
-    pub run : IsRun r.site audience r.events Wrote end first left
+module _ {D : Type 0} (g : Ghosts D) (policy : Tables) (file : SchemesFile) where
+  -- the files are clean, and the content is taken of what is found in them
+  abbrev pub BeginsIn : Files D → Content → Type 0
+  BeginsIn files first =
+      AreClean g files.log files.db × IsTakenOf (FindsHoldings (image_of g files)) policy file first
 
-  -- whole runs, if there are any: from what is found in the files at first to what they keep
-  pub data IsHistoryOver (start : Files D) (rs : List RunAt) (Wrote : List ℕ → Type 0) (now : Files D) : Type 0 where
-    none : rs ≡ [] → Wrote [] → now ≡ start → IsHistoryOver start rs Wrote now
-    some : (first left : Content) → AreClean g start.log start.db
-        → IsTakenOf (FindsHoldings (image_of g start)) policy file first
-        → IsHistoryRun policy file.schemes audience rs Wrote first left → KeepContent g now left
-        → IsHistoryOver start rs Wrote now
+  module _ (audience : Audience) (start : Files D) where
+    -- whole runs, from what is found in the files to what they keep
+    pub record AreRunsKept (rs : List RunAt) (Wrote : List ℕ → Type 0) (now : Files D) : Type 0 where
+      pub first : Content
+      pub left : Content
+      pub begins : BeginsIn start first
+      pub runs : IsHistoryRun policy file.schemes audience rs Wrote first left
+      pub kept : KeepContent g now left
 
-  -- whole runs, and then one from what they leave that ended or stopped
-  pub record IsHistoryTo (start : Files D) (rs : List RunAt) (r : RunAt) (Wrote : List ℕ → Type 0)
-      (end : Result (Unit {0}) RunFault) (left : Content) : Type 0 where
-    pub first : Content
-    pub last : Content
-    pub bytes : List ℕ
-    pub found : IsTakenOf (FindsHoldings (image_of g start)) policy file first
-    pub before : IsHistoryRun policy file.schemes audience rs (λ written. bytes ≡ written) first last
-    pub run : IsRun r.site audience r.events (λ part. Wrote (bytes ++ part)) end last left
+    -- whole runs, if the files are clean at the end; where there are none nothing is written, and the files are as they
+    -- were
+    abbrev pub AreRunsOver : List RunAt → (List ℕ → Type 0) → Files D → Type 0
+    AreRunsOver [] Wrote now = Wrote [] × (now ≡ start)
+    AreRunsOver (r ∷ rs) Wrote now = AreClean g now.log now.db → AreRunsKept (r ∷ rs) Wrote now
 
-  -- a run after others, for which the store was not opened, or that is not
-  -- whole, or after which the store was not closed
-  abbrev pub IsBrokenOff : Files D → List RunAt → RunAt → (List ℕ → Type 0) → Files D → HistoryCause → Type 0
-  IsBrokenOff start rs r Wrote now cause =
-      ComesTo g (IsHistoryTo start rs r Wrote)
-      ((was : Files D) × (AreClean g was.log was.db → IsHistoryOver start rs Wrote was)) now (Err cause)
+    -- whole runs, and then one that ended or stopped, which began with what they left
+    pub record IsRunAfter (rs : List RunAt) (r : RunAt) (Wrote : List ℕ → Type 0)
+        (end : Result (Unit {0}) RunFault) (left : Content) : Type 0 where
+      pub first : Content
+      pub last : Content
+      pub bytes : List ℕ
+      pub begins : BeginsIn start first
+      pub before : IsHistoryRun policy file.schemes audience rs (λ text. bytes ≡ text) first last
+      pub run : IsRun r.site audience r.events (λ part. Wrote (bytes ++ part)) end last left
+      -- together they are a history, of the last with the events whose changes stand
+      pub stands :
+          IsHistory (labels_of policy) file.schemes (rs ++ run_to r end ∷ []) (world_of policy first)
+          (world_of policy left)
 
-  -- it is one of the runs, by its number from 1
-  pub record IsHistoryFault (start : Files D) (rs : List RunAt) (Wrote : List ℕ → Type 0) (now : Files D)
-      (fault : HistoryFault) : Type 0 where
-    pub before : List RunAt
-    pub run : RunAt
-    pub after : List RunAt
-    pub all : rs ≡ before ++ run ∷ after
-    pub number : fault.run ≡ suc (length before)
-    pub broken : IsBrokenOff start before run Wrote now fault.cause
+    -- whole runs, and then no base was made of the files as they left them: why, and what became of them
+    pub record IsUnopenedAfter (rs : List RunAt) (Wrote : List ℕ → Type 0) (now : Files D)
+        (fault : OpenFault) : Type 0 where
+      pub was : Files D
+      pub runs : AreRunsOver rs Wrote was
+      pub refused : AreRefused g policy file was fault now
+
+    -- a run after others for which the store was not opened; or that stopped, and the files keep what it left; or that
+    -- ended or stopped, and they may keep it
+    abbrev pub IsBrokenOff : List RunAt → RunAt → (List ℕ → Type 0) → Files D → HistoryCause → Type 0
+    IsBrokenOff rs r Wrote now (Unopened fault) = IsUnopenedAfter rs Wrote now fault
+    IsBrokenOff rs r Wrote now (Stopped fault) =
+        AreClean g now.log now.db → (left : Content) × IsRunAfter rs r Wrote (Err fault) left × KeepContent g now left
+    IsBrokenOff rs r Wrote now NotClosed =
+        AreClean g now.log now.db → (end : Result (Unit {0}) RunFault) × (left : Content)
+        × IsRunAfter rs r Wrote end left × MayKeepContent g now left
+
+    -- it is one of the runs, by its number from 1
+    pub record IsHistoryFault (rs : List RunAt) (Wrote : List ℕ → Type 0) (now : Files D)
+        (fault : HistoryFault) : Type 0 where
+      pub before : List RunAt
+      pub run : RunAt
+      pub after : List RunAt
+      pub all : rs ≡ before ++ run ∷ after
+      pub number : fault.run ≡ suc (length before)
+      pub broken : IsBrokenOff before run Wrote now fault.cause

@@ -5,8 +5,6 @@ use Rattle.mls_lattice.specs.Policy.{Tables, labels_of}
 use Rattle.mls_scheme.specs.Scheme.{Schemes}
 use Rattle.mls_scheme.specs.declared.file.SchemesFile.{SchemesFile}
 use Rattle.mls_filterview.specs.Content.{Content}
-use Rattle.mls_script.specs.declared.event.Event.{Event}
-use Rattle.mls_machine.specs.declared.stored.Stored.{Stored}
 use Rattle.mls_machine.specs.declared.form.Audience.{Audience}
 use Rattle.mls_machine.specs.Machine.{World}
 use Rattle.mls_machine.specs.History.{RunAt, history_end, history_bytes, KeepsIntegrityInHistory}
@@ -14,16 +12,16 @@ use Rattle.mls_machine.specs.History.{PassesOnlyReleasesDownInHistory}
 use Rattle.mls_sessions.specs.declared.cause.RunFault.{RunFault}
 use Rattle.mls_words.specs.declared.words.Documents.{Documents}
 use Rattle.mls_words.specs.declared.words.RunFiles.{RunFiles}
+use Rattle.mls_words.specs.Words.{named}
 use Rattle.mls_fragments.specs.Holdings.{Holdings}
 use Rattle.mls_host.specs.Hosting.{Hosted, IsClean}
 use Rattle.mls_host.specs.Inputs.{IsPolicyOf}
-use Rattle.mls_words.specs.Words.{named}
 use Rattle.mls_host.specs.Running.{site_of, first_world, output, standing}
 use Rattle.mls_runs.specs.ScriptRun.{IsScriptRun}
 
 -- a run up to where it ended or stopped
-abbrev pub run_at : Tables → Schemes → List Stored → List Event → Result (Unit {0}) RunFault → RunAt
-run_at policy schemes stored events end = record { site = site_of policy schemes stored; events = standing events end }
+abbrev pub run_to : RunAt → Result (Unit {0}) RunFault → RunAt
+run_to r end = record r { events = standing r.events end }
 
 -- runs are a history from one world to another
 pub record IsHistory (ls : Labels) (schemes : Schemes) (rs : List RunAt) (first last : World) : Type 0 where
@@ -33,30 +31,62 @@ pub record IsHistory (ls : Labels) (schemes : Schemes) (rs : List RunAt) (first 
   -- no information flows down but what is released
   pub secret : PassesOnlyReleasesDownInHistory ls schemes first rs
 
--- `r` and then `s`, each from one content to another, are a history, which writes what they write
-pub record AreInTurn (ls : Labels) (schemes : Schemes) (r s : RunAt) (first left next last : Content) : Type 0 where
-  -- the second begins with what the first left
-  pub one : left ≡ next
-  pub history : IsHistory ls schemes (r ∷ s ∷ []) (first_world r.site first) (first_world s.site last)
-  pub written : (audience : Audience)
-      → history_bytes ls audience (first_world r.site first) (r ∷ s ∷ [])
-      ≡ output r.site audience first r.events ∷ output s.site audience next s.events ∷ []
+-- a script that was run over the store at a path, which is clean then
+pub record StoreRun (h : Hosted) (Wrote : List ℕ → Type 0) (path : List ℕ) : Type 0 where
+  pub policy : Tables
+  pub file : SchemesFile
+  pub reader : Option ℕ
+  pub files : RunFiles
+  pub end : Result (Unit {0}) RunFault
+  pub over : named files.store ≡ Some path
+  pub is : IsScriptRun h policy file reader files Wrote end
+  pub clean : IsClean h (named files.store)
 
--- Two scripts are run over the store at one path, which is clean. The labels and the schemes are the same; users,
--- rights and transactions may differ.
+module _ {h : Hosted} {Wrote : List ℕ → Type 0} {path : List ℕ} (r : StoreRun h Wrote path) where
+  -- it begins with one content, and leaves another
+  abbrev pub first : Content
+  first = (r.is.run r.clean).first
+
+  abbrev pub left : Content
+  left = (r.is.run r.clean).left
+
+  -- up to where it ended or stopped
+  abbrev pub run : RunAt
+  run = run_to (record { site = site_of r.policy r.file.schemes r.is.stored; events = r.is.events }) r.end
+
+  -- the worlds before and after it, without sessions
+  abbrev pub world_before : World
+  world_before = first_world run.site first
+
+  abbrev pub world_after : World
+  world_after = first_world run.site left
+
+  -- what it prints
+  abbrev pub printed : Audience → List ℕ
+  printed audience = output run.site audience first run.events
+
+module _ {h k : Hosted} {W V : List ℕ → Type 0} {path : List ℕ} (r : StoreRun h W path) (s : StoreRun k V path) where
+  -- one has its policy from documents, and the other has the same labels and schemes; users, rights and transactions
+  -- may differ
+  pub record HaveOneShape : Type 0 where
+    pub documents : Option Documents
+    pub read : IsPolicyOf h.before.gives documents r.policy
+    pub labels : labels_of s.policy ≡ labels_of r.policy
+    pub schemes : s.file.schemes ≡ r.file.schemes
+
+  -- one and then the other are a history, which prints what they print
+  pub record AreInTurn : Type 0 where
+    -- the second begins with what the first left
+    pub one : left r ≡ first s
+    pub history :
+        IsHistory (labels_of r.policy) r.file.schemes (run r ∷ run s ∷ []) (world_before r) (world_after s)
+    pub written : (audience : Audience)
+        → history_bytes (labels_of r.policy) audience (world_before r) (run r ∷ run s ∷ [])
+        ≡ printed r audience ∷ printed s audience ∷ []
+
+-- any two scripts that are run over the store at one path, one after the other
 abbrev pub AreRunsInTurn : Hosted → (List ℕ → Type 0) → Hosted → (List ℕ → Type 0) → List ℕ → Type 0
-AreRunsInTurn h W k V path =
-    (documents : Option Documents) (policy later : Tables) (file again : SchemesFile)
-    → IsPolicyOf h.before.gives documents policy
-    → labels_of later ≡ labels_of policy → again.schemes ≡ file.schemes
-    → (reader other : Option ℕ) (files others : RunFiles) → named files.store ≡ Some path
-    → named others.store ≡ Some path
-    → (end stop : Result (Unit {0}) RunFault) (x : IsScriptRun h policy file reader files W end)
-    → (y : IsScriptRun k later again other others V stop)
-    → (was : IsClean h (named files.store)) (is : IsClean k (named others.store))
-    → AreInTurn (labels_of policy) file.schemes (run_at policy file.schemes x.stored x.events end)
-    (run_at later again.schemes y.stored y.events stop)
-    (x.run was).first (x.run was).left (y.run is).first (y.run is).left
+AreRunsInTurn h W k V path = (r : StoreRun h W path) (s : StoreRun k V path) → HaveOneShape r s → AreInTurn r s
 
 -- the store at a path keeps one thing at most between two commands
 abbrev pub KeepsOne : Hosted → Hosted → List ℕ → Type 0

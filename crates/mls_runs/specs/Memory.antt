@@ -60,58 +60,56 @@ IsUnopenedFor policy file store stores.Memory = ⊤
 IsUnopenedFor policy file store stores.OtherPolicy = MatchOption store ⊥ (λ s. IsOfOthers policy file s.1)
 IsUnopenedFor policy file store stores.BadRows = MatchOption store ⊥ (λ s. IsBad policy file s.1)
 
-module _ {R : Type 0} where
-  -- it gives the bytes that stand there under the name, or its input, and nothing else
-  abbrev pub gives : MemoryHost R → Option (List ℕ) → List ℕ → Type 0
-  gives h None bytes = h.input.now ≡ bytes
-  gives h (Some name) bytes = option_map (λ f. f.bytes) (file_named h.files.items name) ≡ Some (Ok bytes)
+-- it gives the bytes that stand there under the name, or its input, and nothing else
+abbrev pub gives : MemoryHost → Option (List ℕ) → List ℕ → Type 0
+gives h None bytes = h.input.now ≡ bytes
+gives h (Some name) bytes = option_map (λ f. f.bytes) (file_named h.files.items name) ≡ Some (Ok bytes)
 
-  -- and keeps, whatever the path, what the database of its connection has, and nothing else; a store in memory is
-  -- always clean
-  abbrev pub keeps : MemoryHost R → List ℕ → Holdings → Type 0
-  keeps h path kept = MatchOption h.store ⊥ (λ conn. HasHoldings (state over_memory conn).now kept)
+-- and keeps, whatever the path, what the database of its connection has, and nothing else; a store in memory is
+-- always clean
+abbrev pub keeps : MemoryHost → List ℕ → Holdings → Type 0
+keeps h path kept = MatchOption h.store ⊥ (λ conn. HasHoldings (state over_memory conn).now kept)
 
-  -- why it gives none: no file has the name; or what it holds in place of its bytes; or there are too many; or memory
-  abbrev pub lacks : MemoryHost R → Option (List ℕ) → HostFault → Type 0
-  lacks h None fault = IsUncopied h.input.now fault
-  lacks h (Some name) fault = IsLacking (option_map (λ f. f.bytes) (file_named h.files.items name)) fault
+-- why it gives none: no file has the name; or what it holds in place of its bytes; or there are too many; or memory
+abbrev pub lacks : MemoryHost → Option (List ℕ) → HostFault → Type 0
+lacks h None fault = IsUncopied h.input.now fault
+lacks h (Some name) fault = IsLacking (option_map (λ f. f.bytes) (file_named h.files.items name)) fault
 
-  -- why its store is not opened
-  abbrev pub bars : MemoryHost R → List ℕ → Tables → SchemesFile → OpenFault → Type 0
-  bars h path policy file fault = IsUnopenedFor policy file (option_map shown h.store) fault
+-- why its store is not opened
+abbrev pub bars : MemoryHost → List ℕ → Tables → SchemesFile → OpenFault → Type 0
+bars h path policy file fault = IsUnopenedFor policy file (option_map shown h.store) fault
 
-  -- the files of a store that is looked at: what it gives under the name, and no log
-  abbrev pub shows : MemoryHost R → List ℕ → List ℕ → List ℕ → Type 0
-  shows h path log db = (log ≡ []) × gives h (Some path) db
+-- the files of a store that is looked at: what it gives under the name, and no log
+abbrev pub shows : MemoryHost → List ℕ → List ℕ → List ℕ → Type 0
+shows h path log db = (log ≡ []) × gives h (Some path) db
 
-  abbrev pub hides : MemoryHost R → List ℕ → StoreCause → Type 0
-  hides h path cause = (fault : HostFault) × lacks h (Some path) fault × (cause ≡ cause_of fault)
+abbrev pub hides : MemoryHost → List ℕ → StoreCause → Type 0
+hides h path cause = (fault : HostFault) × lacks h (Some path) fault × (cause ≡ cause_of fault)
 
-  -- a call of the store that it took back last failed
-  abbrev pub has_failed : MemoryHost R → Type 0
-  has_failed h = MatchOption h.left ⊥ (λ l. 0 < l.value.tables.failures)
+-- a call of the store that it took back last failed
+abbrev pub has_failed : MemoryHost → Type 0
+has_failed h = MatchOption h.left ⊥ (λ l. 0 < l.value.tables.failures)
 
-  abbrev pub hosting : MemoryHost R → Hosting
-  hosting h = record {
-    gives = gives h;
-    lacks = lacks h;
-    types = λ known. known ≡ Some h.input.now;
-    breaks = ⊥;
-    is_terminal = false;
-    keeps = keeps h;
-    bars = bars h;
-    shows = shows h;
-    hides = hides h;
-    is_honest = ⊤;
-    has_failed = has_failed h;
-    is_unclosed = ⊥;
-  }
+abbrev pub hosting : MemoryHost → Hosting
+hosting h = record {
+  gives = gives h;
+  lacks = lacks h;
+  types = λ known. known ≡ Some h.input.now;
+  breaks = ⊥;
+  is_terminal = false;
+  keeps = keeps h;
+  bars = bars h;
+  shows = shows h;
+  hides = hides h;
+  is_honest = ⊤;
+  has_failed = has_failed h;
+  is_unclosed = ⊥;
+}
 
-  abbrev pub hosted_in : MemoryHost R → MemoryHost R → Hosted
-  hosted_in = hosted hosting (λ line. [])
+abbrev pub hosted_in : MemoryHost → MemoryHost → Hosted
+hosted_in = hosted hosting (λ line. [])
 
 -- two runs over its store are a history, with no more said of it
-abbrev pub RunsInMemoryAreInTurn : Type 0 → (List ℕ → Type 0) → (List ℕ → Type 0) → Type 0
-RunsInMemoryAreInTurn R W V =
-    (old middle new : MemoryHost R) (path : List ℕ)
-    → AreRunsInTurn (hosted_in old middle) W (hosted_in middle new) V path
+abbrev pub RunsInMemoryAreInTurn : (List ℕ → Type 0) → (List ℕ → Type 0) → Type 0
+RunsInMemoryAreInTurn W V =
+    (old middle new : MemoryHost) (path : List ℕ) → AreRunsInTurn (hosted_in old middle) W (hosted_in middle new) V path

@@ -1,23 +1,30 @@
 -- A script that is run, over a store or over nothing.
-use Rattle.std.specs.Prelude.{◌≢◌, ℕ, List, Option, Result, ⊤}
+use Rattle.std.specs.Prelude.{◌<◌, ℕ, List, length, Option, IfSome, Result}
 use Rattle.mls_lattice.specs.Policy.{Tables}
-use Rattle.mls_scheme.specs.Scheme.{Schemes}
+use Rattle.mls_scheme.specs.Scheme.{Schemes, AreUnder}
 use Rattle.mls_scheme.specs.declared.file.SchemesFile.{SchemesFile}
 use Rattle.mls_script.specs.declared.event.Event.{Event}
 use Rattle.mls_machine.specs.declared.stored.Stored.{Stored}
 use Rattle.mls_machine.specs.declared.form.Audience.{Audience}
 use Rattle.mls_machine.specs.Site.{Site}
-use Rattle.mls_sessions.specs.declared.cause.RunCause.TheVariants.{Store}
+use Rattle.mls_machine.specs.Observation.{AreRead, AreCertified, EventsFit}
 use Rattle.mls_sessions.specs.declared.cause.RunFault.{RunFault}
 use Rattle.mls_words.specs.declared.words.RunFiles.{RunFiles}
 use Rattle.mls_host.specs.declared.reason.Reason.{Reason}
-use Rattle.mls_host.specs.declared.refusal.Refusal.{Refusal}
-use Rattle.mls_host.specs.declared.refusal.Refusal.TheVariants.{Run, NotClosed}
 use Rattle.mls_host.specs.Causes.{AreFilesRefused, IsScriptRefused, IsBarred}
 use Rattle.mls_host.specs.Hosting.{Hosting, Hosted, IsClean, IsOver}
 use Rattle.mls_host.specs.Inputs.{AreStoredFrom, IsScriptFrom}
 use Rattle.mls_words.specs.Words.{named}
 use Rattle.mls_host.specs.Running.{IsRun, form_of, site_of}
+
+-- events may be run for an audience: the schemes have the policy's labels, what is stored was read and checked, the
+-- events fit, and the reader, if there is one, is a label
+pub record MayRun (site : Site) (audience : Audience) (events : List Event) : Type 0 where
+  pub under : AreUnder (length site.policy.labels) site.schemes
+  pub read : AreRead site
+  pub certified : AreCertified site
+  pub fits : EventsFit site events
+  pub declared : IfSome audience.reader (λ c. c < length site.policy.labels)
 
 -- the reader, if one is named, and a table where the words ask for one
 abbrev pub audience_of : Option ℕ → RunFiles → Audience
@@ -60,9 +67,3 @@ pub data IsRunRefused (h : Hosting) (policy : Tables) (file : SchemesFile) (file
       → IsScriptFrom h.gives (named files.script) policy file.schemes events
       → IsBarred h policy file (named files.store) reason
       → IsRunRefused h policy file files reason
-
--- why a run without a store is given up: it stops for none, and none is not closed
-abbrev pub IsCausedInMemory : Refusal → Type 0
-IsCausedInMemory (Run fault) = fault.cause ≢ Store
-IsCausedInMemory NotClosed = ⊥
-IsCausedInMemory refusal = ⊤

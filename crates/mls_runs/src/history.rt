@@ -1,15 +1,12 @@
 //! Histories: runs one after another over the files of one store, which are closed and opened between.
-ghost use Rattle.std.specs.Prelude.{◌≡◌, ◌<◌, [], false, length, map, IfErr, OnOk};
+ghost use Rattle.std.specs.Prelude.{◌≡◌, ◌<◌, [], ◌∷◌, length, map, IfErr, OnOk};
 ghost use Rattle.std.specs.List.{AllByRecursion};
 ghost use Rattle.std.specs.Option.{IfSome};
-ghost use Rattle.sqlite.specs.WalReads.{AreClean};
+ghost use Rattle.mls_lattice.specs.Labels.{AreDistinct};
+ghost use Rattle.mls_lattice.specs.Policy.{labels_of};
 ghost use Rattle.mls_scheme.specs.Scheme.{AreUnder};
-ghost use Rattle.mls_statements.specs.Store.{IsClean};
-ghost use Rattle.mls_fragments.specs.Based.{state_of};
-ghost use Rattle.mls_fragments.specs.Finding.{IsSoundContent};
 ghost use Rattle.mls_host.specs.Hosting.{IsAppended};
-ghost use Rattle.mls_runs.specs.History.{run_of, cause_of, IsPrepared, IsRunOver, ComesTo, IsHistoryOver, IsHistoryFault};
-ghost use Rattle.mls_host.specs.Running.{site_of, IsRun};
+ghost use Rattle.mls_runs.specs.History.{run_of, cause_of, IsPrepared, AreRunsOver, IsBrokenOff, IsHistoryFault};
 
 use crate::running::run_on;
 use mls_fragments::{OpenFault, SqlBase};
@@ -58,34 +55,6 @@ fn ended(outcome: Result<(), RunFault>) -> Result<(), HistoryCause>
     }
 }
 
-/// Answers the events of a run over a base, and closes its files.
-fn run_and_close<D: Disk + Drop, W: Write>(
-    alloc: Global,
-    policy: &Policy,
-    file: &SchemesFile,
-    run: Run,
-    base: SqlBase<FileStore<D>>,
-    audience: Audience,
-    out: &mut W,
-) -> (Result<(), HistoryCause>, Files<D>)
-    requires under { AreUnder (length policy.now.labels) file.now.schemes }
-    requires prepared { IsPrepared policy.now file.now.schemes run }
-    requires declared { IfSome audience.reader (λ c. c < length policy.now.labels) }
-    requires idle { (state_of base).begun ≡ false }
-    requires sound { IsSoundContent policy.now file.now.schemes (state_of base).now }
-    ensures { ComesTo D.Disk (λ end left. IsClean base.tables
-        × IsRun (site_of policy.now file.now.schemes run.stored) audience run.events.items
-        (IsAppended W.contents out.old out.new) end (state_of base).now left) ⊥ result.1 result.0 }
-{
-    let Run { stored, events } = run;
-    let schemes = &file.schemes;
-    let (outcome, left) = run_on(alloc, policy, schemes, stored, base, &events, audience, out);
-    match left.close_files() {
-        Ok(files) => (ended(outcome), files),
-        Err((_, files)) => (Err(HistoryCause::NotClosed), files),
-    }
-}
-
 /// The audience, again.
 fn same_audience(audience: &Audience) -> Audience
     ensures { result ≡ audience.now }
@@ -105,15 +74,25 @@ fn run_over<D: Disk + Drop, W: Write>(
     out: &mut W,
 ) -> (Result<(), HistoryCause>, Files<D>)
     requires under { AreUnder (length policy.now.labels) file.now.schemes }
+    requires distinct { AreDistinct (labels_of policy.now) }
     requires prepared { IsPrepared policy.now file.now.schemes run }
     requires declared { IfSome audience.now.reader (λ c. c < length policy.now.labels) }
-    ensures { ComesTo D.Disk (IsRunOver D.Disk policy.now file.now audience.now files
-        (run_of policy.now file.now.schemes run) (IsAppended W.contents out.old out.new))
-        (IsAppended W.contents out.old out.new []) result.1 result.0 }
+    ensures whole { OnOk result.0 (AreRunsOver D.Disk policy.now file.now audience.now files
+        (run_of policy.now file.now.schemes run ∷ []) (IsAppended W.contents out.old out.new) result.1) }
+    ensures broken { IfErr result.0 (IsBrokenOff D.Disk policy.now file.now audience.now files []
+        (run_of policy.now file.now.schemes run) (IsAppended W.contents out.old out.new) result.1) }
 {
-    match SqlBase::open_files(alloc, files, options, policy, file) {
-        Ok(base) => run_and_close(alloc, policy, file, run, base, same_audience(audience), out),
-        Err((fault, files)) => (Err(HistoryCause::Unopened(fault)), files),
+    let base = match SqlBase::open_files(alloc, files, options, policy, file) {
+        Ok(base) => base,
+        Err((fault, files)) => return (Err(HistoryCause::Unopened(fault)), files),
+    };
+    let Run { stored, events } = run;
+    let schemes = &file.schemes;
+    let audience = same_audience(audience);
+    let (outcome, left) = run_on(alloc, policy, schemes, stored, base, &events, audience, out);
+    match left.close_files() {
+        Ok(files) => (ended(outcome), files),
+        Err((_, files)) => (Err(HistoryCause::NotClosed), files),
     }
 }
 
@@ -132,13 +111,12 @@ pub fn run_history<D: Disk + Drop, W: Write>(
     requires under { AreUnder (length policy.now.labels) file.now.schemes }
     requires prepared { AllByRecursion (IsPrepared policy.now file.now.schemes) runs.items }
     requires declared { IfSome audience.reader (λ c. c < length policy.now.labels) }
-    ensures whole { OnOk result.0 (AreClean D.Disk result.1.log result.1.db
-        → IsHistoryOver D.Disk policy.now file.now audience files (map (run_of policy.now file.now.schemes) runs.items)
-        (IsAppended W.contents out.old out.new) result.1) }
+    ensures whole { OnOk result.0 (AreRunsOver D.Disk policy.now file.now audience files
+        (map (run_of policy.now file.now.schemes) runs.items) (IsAppended W.contents out.old out.new) result.1) }
     ensures broken { IfErr result.0 (IsHistoryFault D.Disk policy.now file.now audience files
         (map (run_of policy.now file.now.schemes) runs.items) (IsAppended W.contents out.old out.new) result.1) }
 {
-    // for what holds of every policy
+    // That the labels of a policy are distinct.
     let _labels = policy.label_count();
     let mut left = files;
     let mut number = 0;

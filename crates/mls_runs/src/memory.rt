@@ -23,9 +23,7 @@ pub struct HeldFile {
 /// A machine in memory. Its one store is opened at each path; there is none while it is open, or where it was given none. A store that is
 /// looked at is the file of that name, without a log.
 #[derive(Drop)]
-pub struct MemoryHost<'a, R: AllocGlobal> {
-    /// Where memory comes from.
-    pub rt: &'a R,
+pub struct MemoryHost<'a> {
     pub files: Vec<HeldFile>,
     pub input: &'a [u8],
     pub store: Option<Connection<MemStore>>,
@@ -81,7 +79,7 @@ fn cause_of(fault: HostFault) -> StoreCause
     }
 }
 
-impl<'a, R: AllocGlobal> Host for MemoryHost<'a, R> {
+impl<'a> Host for MemoryHost<'a> {
     ghost use Rattle.mls_runs.specs.Memory.{hosting};
 
     ghost hosting = { hosting };
@@ -157,7 +155,7 @@ impl<'a, R: AllocGlobal> Host for MemoryHost<'a, R> {
 
 /// Two runs of `act` over the store of a machine in memory are a history: the second begins with what the first left. It is
 /// `runs_are_in_turn` at this machine, which needs no premise there.
-pub fn runs_in_memory_are_in_turn<R: AllocGlobal, W: Write, V: Write>()
-    ensures { (first written : W) (second over : V) → RunsInMemoryAreInTurn R (IsAppended W.contents first written)
+pub fn runs_in_memory_are_in_turn<W: Write, V: Write>()
+    ensures { (first written : W) (second over : V) → RunsInMemoryAreInTurn (IsAppended W.contents first written)
         (IsAppended V.contents second over) }
 {}

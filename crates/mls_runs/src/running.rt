@@ -1,21 +1,20 @@
 //! Scripts that are run over a database: over an empty one in memory, or over that of a store.
-ghost use Rattle.std.specs.Prelude.{◌≡◌, ◌<◌, ◌≤◌, [], false, length, Some, Ok, Err, IfOk, IfErr, OnOk};
+ghost use Rattle.std.specs.Prelude.{◌≡◌, ◌<◌, ◌≤◌, [], false, length, Some, IfOk, IfErr};
 ghost use Rattle.std.specs.List.{AllByRecursion};
 ghost use Rattle.std.specs.Option.{IfSome};
 ghost use Rattle.mls_scheme.specs.Scheme.{AreUnder};
 ghost use Rattle.mls_filterview.specs.Content.{Content, no_content};
 ghost use Rattle.mls_script.specs.Event.{EventFits};
-ghost use Rattle.mls_machine.specs.Observation.{EventsFit, AreRead, AreCertified};
 ghost use Rattle.mls_sessions.specs.World.{IsSound};
-ghost use Rattle.mls_host.specs.Hosting.{hosted, IsAppended, LeavesStores};
-ghost use Rattle.mls_host.specs.Stopping.{IsCaused, HasStopped};
+ghost use Rattle.mls_host.specs.Hosting.{hosted, IsAppended};
+ghost use Rattle.mls_host.specs.Stopping.{IsCaused, IsCausedInMemory};
 ghost use Rattle.mls_host.specs.Causes.{IsScriptRefused, IsBarred};
-ghost use Rattle.mls_host.specs.Inputs.{AreStoredFrom, IsScriptFrom};
+ghost use Rattle.mls_host.specs.Inputs.{IsScriptFrom};
 ghost use Rattle.mls_words.specs.Words.{named};
 ghost use Rattle.mls_host.specs.Refusal.{IsEnd};
 ghost use Rattle.mls_host.specs.Running.{site_of, IsRun};
 ghost use Rattle.mls_sessions.specs.declared.cause.RunCause.TheVariants.{Store as StoreFailed};
-ghost use Rattle.mls_runs.specs.ScriptRun.{IsRunFrom, IsScriptRun, IsRunRefused, IsCausedInMemory};
+ghost use Rattle.mls_runs.specs.ScriptRun.{MayRun, IsRunFrom, IsScriptRun, IsRunRefused};
 
 use mls_filterview::Base;
 use mls_fragments::OpenFault;
@@ -41,11 +40,7 @@ pub fn run_on<B: Base, W: Write>(
     audience: Audience,
     out: &mut W,
 ) -> (Result<(), RunFault>, B)
-    requires under { AreUnder (length policy.now.labels) schemes.now }
-    requires read { AreRead (site_of policy.now schemes.now stored) }
-    requires certified { AreCertified (site_of policy.now schemes.now stored) }
-    requires fits { EventsFit (site_of policy.now schemes.now stored) events.now }
-    requires declared { IfSome audience.reader (λ c. c < length policy.now.labels) }
+    requires may { MayRun (site_of policy.now schemes.now stored) audience events.now }
     requires idle { (B.state base).begun ≡ false }
     requires sound { B.is_clean base → IsSound (site_of policy.now schemes.now stored) (B.state base).now }
     ensures clean { B.is_clean result.1 → B.is_clean base }
@@ -71,15 +66,11 @@ fn run_in_memory<W: Write>(
     audience: Audience,
     out: &mut W,
 ) -> Result<(), Refusal>
-    requires under { AreUnder (length policy.now.labels) file.now.schemes }
-    requires read { AreRead (site_of policy.now file.now.schemes stored) }
-    requires certified { AreCertified (site_of policy.now file.now.schemes stored) }
-    requires fits { EventsFit (site_of policy.now file.now.schemes stored) events.now }
-    requires declared { IfSome audience.reader (λ c. c < length policy.now.labels) }
+    requires may { MayRun (site_of policy.now file.now.schemes stored) audience events.now }
     ensures ends { IsEnd (λ end. (left : Content) × IsRun (site_of policy.now file.now.schemes stored) audience events.now
         (IsAppended W.contents out.old out.new) end no_content left)
         (λ reason. (reason ≡ Reason.Store OpenFault.Memory) × IsAppended W.contents out.old out.new []) result }
-    ensures caused { IfErr result IsCausedInMemory }
+    ensures caused { IsCausedInMemory result }
 {
     let base = match MemoryBase::open(alloc, policy, file) {
         Ok(base) => base,
@@ -111,17 +102,12 @@ fn run_in_store<H: Host, W: Write>(
     audience: Audience,
     out: &mut W,
 ) -> Result<(), Refusal>
-    requires under { AreUnder (length policy.now.labels) file.now.schemes }
-    requires read { AreRead (site_of policy.now file.now.schemes stored) }
-    requires certified { AreCertified (site_of policy.now file.now.schemes stored) }
-    requires fits { EventsFit (site_of policy.now file.now.schemes stored) events.now }
-    requires declared { IfSome audience.reader (λ c. c < length policy.now.labels) }
+    requires may { MayRun (site_of policy.now file.now.schemes stored) audience events.now }
     ensures ends { IsEnd (IsRunFrom (hosted H.hosting H.Lines.echo host.old host.new) file.now (Some path.now)
         (site_of policy.now file.now.schemes stored) audience events.now (IsAppended W.contents out.old out.new))
         (λ reason. IsBarred (H.hosting host.old) policy.now file.now (Some path.now) reason
         × IsAppended W.contents out.old out.new []) result }
-    ensures caused { IfErr result (IsCaused (hosted H.hosting H.Lines.echo host.old host.new) (Some path.now)) }
-    ensures stopped { IfErr result (HasStopped (hosted H.hosting H.Lines.echo host.old host.new) (Some path.now)) }
+    ensures caused { IsCaused (hosted H.hosting H.Lines.echo host.old host.new) (Some path.now) result }
 {
     let base = match host.store(alloc, path, policy, file) {
         Ok(base) => base,
@@ -153,18 +139,12 @@ fn run_events<H: Host, W: Write>(
     audience: Audience,
     out: &mut W,
 ) -> Result<(), Refusal>
-    requires under { AreUnder (length policy.now.labels) file.now.schemes }
-    requires read { AreRead (site_of policy.now file.now.schemes stored) }
-    requires certified { AreCertified (site_of policy.now file.now.schemes stored) }
-    requires fits { EventsFit (site_of policy.now file.now.schemes stored) events.now }
-    requires declared { IfSome audience.reader (λ c. c < length policy.now.labels) }
+    requires may { MayRun (site_of policy.now file.now.schemes stored) audience events.now }
     ensures ends { IsEnd (IsRunFrom (hosted H.hosting H.Lines.echo host.old host.new) file.now (named store.entry)
         (site_of policy.now file.now.schemes stored) audience events.now (IsAppended W.contents out.old out.new))
         (λ reason. IsBarred (H.hosting host.old) policy.now file.now (named store.entry) reason
         × IsAppended W.contents out.old out.new []) result }
-    ensures leaves { LeavesStores (hosted H.hosting H.Lines.echo host.old host.new) (named store.entry) }
-    ensures caused { IfErr result (IsCaused (hosted H.hosting H.Lines.echo host.old host.new) (named store.entry)) }
-    ensures stopped { IfErr result (HasStopped (hosted H.hosting H.Lines.echo host.old host.new) (named store.entry)) }
+    ensures caused { IsCaused (hosted H.hosting H.Lines.echo host.old host.new) (named store.entry) result }
 {
     match store {
         None => run_in_memory(alloc, policy, file, stored, events, audience, out),
@@ -205,17 +185,11 @@ pub fn run_files<H: Host, W: Write>(
 ) -> Result<(), Refusal>
     requires under { AreUnder (length policy.now.labels) file.now.schemes }
     requires declared { IfSome reader (λ c. c < length policy.now.labels) }
-    ensures done { OnOk result (IsScriptRun (hosted H.hosting H.Lines.echo host.old host.new) policy.now file.now reader
-        files.entry (IsAppended W.contents out.old out.new) (Ok tt)) }
-    ensures given_up { IfErr result (λ e. IsEnd (IsScriptRun (hosted H.hosting H.Lines.echo host.old host.new)
-        policy.now file.now reader files.entry (IsAppended W.contents out.old out.new))
+    ensures run { IsEnd (IsScriptRun (hosted H.hosting H.Lines.echo host.old host.new) policy.now file.now reader
+        files.entry (IsAppended W.contents out.old out.new))
         (λ reason. IsRunRefused (H.hosting host.old) policy.now file.now files.entry reason
-        × IsAppended W.contents out.old out.new []) (Err e)) }
-    ensures leaves { LeavesStores (hosted H.hosting H.Lines.echo host.old host.new) (named files.entry.store) }
-    ensures caused { IfErr result (IsCaused (hosted H.hosting H.Lines.echo host.old host.new)
-        (named files.entry.store)) }
-    ensures stopped { IfErr result (HasStopped (hosted H.hosting H.Lines.echo host.old host.new)
-        (named files.entry.store)) }
+        × IsAppended W.contents out.old out.new []) result }
+    ensures caused { IsCaused (hosted H.hosting H.Lines.echo host.old host.new) (named files.entry.store) result }
 {
     let stored = stored_files(
         alloc,

@@ -21,7 +21,7 @@ pub struct Written {
 fn written_on<R: AllocGlobal>(
     rt: &R,
     words: &[&str],
-    machine: &mut MemoryHost<'_, R>,
+    machine: &mut MemoryHost<'_>,
     out: Narrow,
 ) -> Written {
     let mut out = out;

@@ -93,18 +93,17 @@ fn add_file<R: Files>(
 
 /// A machine in memory with the files that the words of a command name. The script is its standard input.
 pub fn machine_for<'a, R: Files + AllocGlobal>(
-    rt: &'a R,
+    rt: &R,
     words: &[&str],
     script: &'a [u8],
     store: Option<Connection<MemStore>>,
-) -> MemoryHost<'a, R> {
+) -> MemoryHost<'a> {
     let mut files = Vec::new(rt.alloc());
     for word in words {
         // Without memory a file is lacking, which the command tells.
         let _lacking = add_file(rt, script, rt.alloc(), name_in(word), &mut files);
     }
     MemoryHost {
-        rt,
         files,
         input: script,
         store,

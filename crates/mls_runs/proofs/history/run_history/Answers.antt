@@ -1,7 +1,7 @@
-use Rattle.std.proofs.Common.{◌≡◌, [], rules, subst}
+use Rattle.std.proofs.Common.{◌≡◌, [], ◌∷◌, OnOk, IfErr, rules, subst}
 use Rattle.std.proofs.lemmas.List.{nil_from_length}
 use Rattle.mls_host.specs.Hosting.{IsAppended}
-use Rattle.mls_runs.specs.History.{run_of, IsRunOver, ComesTo}
+use Rattle.mls_runs.specs.History.{run_of, AreRunsOver, IsBrokenOff}
 use Rattle.mls_runs.proofs.HistoryLemmas.{Goes, goes_more, goes_broken, goes_whole}
 use Rattle.mls_runs.proofs.history.run_history.Goals as goal
 
@@ -16,9 +16,9 @@ returns-in-Err-clause-broken g c =
     let rest = c.next.new.self.rest.items in
     let now = c.run_over-outcome.result.1 in
     let goes = subst (λ rs. Goes g.D.Disk policy file c.args.audience c.args.runs.items c.args.files before l.yielded rs l.number l.left after) c.in-Some.ensures.steps.0 l.invariant in
-    let comes = subst (ComesTo g.D.Disk (IsRunOver g.D.Disk policy file c.args.audience l.left (run_of policy file.schemes c.in-Some.run') (IsAppended g.W.Write.contents l.out c.run_over-outcome.new.out))
-    (IsAppended g.W.Write.contents l.out c.run_over-outcome.new.out []) now) c.in-Err.is c.run_over-outcome.ensures in
-    goes_broken g.D.Disk policy file c.args.audience c.args.runs.items c.args.files before c.label_count-labels.ensures.distinct c.requires.prepared l.yielded rest c.in-Some.run' l.number l.left now after last goes c.in-Err.cause comes
+    let broken = subst (λ r. IfErr r (IsBrokenOff g.D.Disk policy file c.args.audience l.left [] (run_of policy file.schemes c.in-Some.run') (IsAppended g.W.Write.contents l.out c.run_over-outcome.new.out) now))
+    c.in-Err.is c.run_over-outcome.ensures.broken in
+    goes_broken g.D.Disk policy file c.args.audience c.args.runs.items c.args.files before c.label_count-labels.ensures.distinct c.requires.prepared l.yielded rest c.in-Some.run' l.number l.left now after last goes c.in-Err.cause broken
 
 pub loop-run-preserved : goal.loop-run-preserved
 loop-run-preserved g c =
@@ -31,12 +31,12 @@ loop-run-preserved g c =
     let rest = c.next.new.self.rest.items in
     let now = c.run_over-outcome.result.1 in
     let goes = subst (λ rs. Goes g.D.Disk policy file c.args.audience c.args.runs.items c.args.files before l.yielded rs l.number l.left after) c.in-Some.ensures.steps.0 l.invariant in
-    let comes = subst (ComesTo g.D.Disk (IsRunOver g.D.Disk policy file c.args.audience l.left (run_of policy file.schemes c.in-Some.run') (IsAppended g.W.Write.contents l.out c.run_over-outcome.new.out))
-    (IsAppended g.W.Write.contents l.out c.run_over-outcome.new.out []) now) c.in_default.is c.run_over-outcome.ensures in
-    goes_more g.D.Disk policy file c.args.audience c.args.runs.items c.args.files before c.label_count-labels.ensures.distinct c.requires.prepared l.yielded rest c.in-Some.run' l.number l.left now after last goes comes
+    let whole = subst (λ r. OnOk r (AreRunsOver g.D.Disk policy file c.args.audience l.left (run_of policy file.schemes c.in-Some.run' ∷ []) (IsAppended g.W.Write.contents l.out c.run_over-outcome.new.out) now))
+    c.in_default.is c.run_over-outcome.ensures.whole in
+    goes_more g.D.Disk policy file c.args.audience c.args.runs.items c.args.files before c.label_count-labels.ensures.distinct c.requires.prepared l.yielded rest c.in-Some.run' l.number l.left now after last goes whole
 
 pub returns-clause-whole : goal.returns-clause-whole
-returns-clause-whole g c clean =
+returns-clause-whole g c =
     let l = c.loop-run in
     let none : l.run-iterator.rest.items ≡ [] = nil_from_length _ (search rules) in
-    goes_whole g.D.Disk c.args.policy.now c.args.file.now c.args.audience c.args.runs.items c.args.files (g.W.Write.contents c.args.out.now) l.yielded l.run-iterator.rest.items l.number l.left (g.W.Write.contents l.out) l.invariant none clean
+    goes_whole g.D.Disk c.args.policy.now c.args.file.now c.args.audience c.args.runs.items c.args.files (g.W.Write.contents c.args.out.now) l.yielded l.run-iterator.rest.items l.number l.left (g.W.Write.contents l.out) l.invariant none

@@ -2,9 +2,8 @@ use Rattle.std.proofs.Common.{[], Some}
 use Rattle.mls_host.specs.Hosting.{hosted, IsAppended}
 use Rattle.mls_host.specs.Causes.{IsBarred}
 use Rattle.mls_host.specs.Running.{site_of}
-use Rattle.mls_runs.proofs.ScriptRunLemmas.{from_memory, from_store, caused_from_memory, stopped_from_memory}
-use Rattle.mls_words.specs.Words.{named}
-use Rattle.mls_host.proofs.StoppingLemmas.{untouched, left_untouched, left_named, caused_at, stopped_at}
+use Rattle.mls_runs.proofs.ScriptRunLemmas.{from_memory, from_store}
+use Rattle.mls_host.proofs.StoppingLemmas.{untouched, caused_at, caused_from_memory}
 use Rattle.mls_runs.proofs.running.run_events.Goals as goal
 
 pub returns-in-None-clause-ends : goal.returns-in-None-clause-ends
@@ -17,13 +16,6 @@ returns-in-Some-clause-ends g c =
     from_store (hosted g.H.Host.hosting g.H.Lines.TypedLines.echo c.args.host.now c.run_in_store.new.host) c.args.file.now (site_of c.args.policy.now c.args.file.now.schemes c.args.stored) c.args.audience c.args.events.now
     (IsAppended g.W.Write.contents c.args.out.now c.run_in_store.new.out) (λ store reason. IsBarred (g.H.Host.hosting c.args.host.now) c.args.policy.now c.args.file.now store reason × IsAppended g.W.Write.contents c.args.out.now c.run_in_store.new.out []) c.args.store c.run_in_store.result c.in-Some.path c.in-Some.is c.run_in_store.ensures.ends
 
-pub returns-in-None-clause-leaves : goal.returns-in-None-clause-leaves
-returns-in-None-clause-leaves g c = left_untouched (g.H.Host.hosting c.args.host.now) g.H.Lines.TypedLines.echo (named c.args.store)
-
-pub returns-in-Some-clause-leaves : goal.returns-in-Some-clause-leaves
-returns-in-Some-clause-leaves g c =
-    left_named (hosted g.H.Host.hosting g.H.Lines.TypedLines.echo c.args.host.now c.run_in_store.new.host) c.args.store c.in-Some.path c.in-Some.is
-
 pub returns-in-None-clause-caused : goal.returns-in-None-clause-caused
 returns-in-None-clause-caused g c =
     caused_from_memory (hosted g.H.Host.hosting g.H.Lines.TypedLines.echo c.args.host.now c.args.host.now) c.args.store c.in-None.is (untouched (g.H.Host.hosting c.args.host.now)) c.run_in_memory.result c.run_in_memory.ensures.caused
@@ -31,11 +23,3 @@ returns-in-None-clause-caused g c =
 pub returns-in-Some-clause-caused : goal.returns-in-Some-clause-caused
 returns-in-Some-clause-caused g c =
     caused_at (hosted g.H.Host.hosting g.H.Lines.TypedLines.echo c.args.host.now c.run_in_store.new.host) c.args.store (Some c.in-Some.path) c.in-Some.is c.run_in_store.result c.run_in_store.ensures.caused
-
-pub returns-in-None-clause-stopped : goal.returns-in-None-clause-stopped
-returns-in-None-clause-stopped g c =
-    stopped_from_memory (hosted g.H.Host.hosting g.H.Lines.TypedLines.echo c.args.host.now c.args.host.now) c.args.store c.in-None.is c.run_in_memory.result c.run_in_memory.ensures.caused
-
-pub returns-in-Some-clause-stopped : goal.returns-in-Some-clause-stopped
-returns-in-Some-clause-stopped g c =
-    stopped_at (hosted g.H.Host.hosting g.H.Lines.TypedLines.echo c.args.host.now c.run_in_store.new.host) c.args.store (Some c.in-Some.path) c.in-Some.is c.run_in_store.result c.run_in_store.ensures.stopped

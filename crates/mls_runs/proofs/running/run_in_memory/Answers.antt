@@ -1,4 +1,4 @@
-use Rattle.std.proofs.Common.{◌≡◌, [], Result, Ok, IfErr, sym, subst, ap}
+use Rattle.std.proofs.Common.{◌≡◌, [], Result, Ok, sym, subst, ap}
 use Rattle.std.proofs.KnownBytes.{Appends-nil}
 use Rattle.std.specs.Io.KnownBytes.{Appends}
 use Rattle.mls_filterview.specs.Content.{State, Content, no_content}
@@ -11,8 +11,8 @@ use Rattle.mls_host.specs.declared.refusal.Refusal.{Refusal}
 use Rattle.mls_host.specs.Refusal.{IsEnd}
 use Rattle.mls_host.specs.Running.{site_of, IsRun}
 use Rattle.mls_host.proofs.RunningLemmas.{none_sound, ended_so}
-use Rattle.mls_runs.specs.ScriptRun.{IsCausedInMemory}
-use Rattle.mls_runs.proofs.ScriptRunLemmas.{ended_in_memory}
+use Rattle.mls_host.specs.Stopping.{IsCausedInMemory}
+use Rattle.mls_host.proofs.StoppingLemmas.{ended_in_memory}
 use Rattle.mls_runs.proofs.running.run_in_memory.Goals as goal
 
 pub run_on-outcome-requires-clause-sound : goal.run_on-outcome-requires-clause-sound
@@ -35,5 +35,5 @@ returns-clause-ends g c =
 
 pub returns-clause-caused : goal.returns-clause-caused
 returns-clause-caused g c =
-    subst (λ (r : Result (Unit {0}) Refusal). IfErr r IsCausedInMemory) (sym c.ended.ensures)
+    subst (λ (r : Result (Unit {0}) Refusal). IsCausedInMemory r) (sym c.ended.ensures)
     (ended_in_memory c.run_on-outcome.result.0 (c.run_on-outcome.ensures.store c.close.ensures.clean))

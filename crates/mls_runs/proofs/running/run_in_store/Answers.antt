@@ -1,4 +1,4 @@
-use Rattle.std.proofs.Common.{[], Result, Some, IfErr, refl, sym, subst}
+use Rattle.std.proofs.Common.{[], Result, Some, refl, sym, subst}
 use Rattle.std.proofs.KnownBytes.{Appends-nil}
 use Rattle.mls_sessions.specs.declared.cause.RunFault.{RunFault}
 use Rattle.mls_host.specs.declared.refusal.Refusal.{Refusal}
@@ -8,8 +8,8 @@ use Rattle.mls_host.specs.Refusal.{IsEnd}
 use Rattle.mls_host.specs.Running.{site_of}
 use Rattle.mls_runs.specs.ScriptRun.{IsRunFrom}
 use Rattle.mls_host.proofs.RunningLemmas.{ended_so}
-use Rattle.mls_host.specs.Stopping.{IsCaused, HasStopped}
-use Rattle.mls_host.proofs.StoppingLemmas.{caused_in_store, stopped_in_store}
+use Rattle.mls_host.specs.Stopping.{IsCaused}
+use Rattle.mls_host.proofs.StoppingLemmas.{caused_in_store}
 use Rattle.mls_runs.proofs.running.run_in_store.Goals as goal
 
 pub returns-in-Err-clause-ends : goal.returns-in-Err-clause-ends
@@ -33,12 +33,6 @@ returns-in-Err-clause-caused g c = c.in-Err.ensures.same
 pub returns-clause-caused : goal.returns-clause-caused
 returns-clause-caused g c =
     let h = hosted g.H.Host.hosting g.H.Lines.TypedLines.echo c.args.host.now c.keep-closed.new.self in
-    subst (λ (r : Result (Unit {0}) Refusal). IfErr r (IsCaused h (Some c.args.path.now))) (sym c.ended.ensures)
-    (caused_in_store h c.args.path.now c.run_on-outcome.result.0 c.keep-closed.result c.keep-closed.ensures.closed.1)
-
-pub returns-clause-stopped : goal.returns-clause-stopped
-returns-clause-stopped g c =
-    let h = hosted g.H.Host.hosting g.H.Lines.TypedLines.echo c.args.host.now c.keep-closed.new.self in
-    subst (λ (r : Result (Unit {0}) Refusal). IfErr r (HasStopped h (Some c.args.path.now))) (sym c.ended.ensures)
-    (stopped_in_store h c.args.path.now c.run_on-outcome.result.0 c.keep-closed.result (g.H.Store.Base.failures c.in-Ok.base) (g.H.Store.Base.failures c.run_on-outcome.result.1)
-    c.keep-closed.ensures.failed.1 (λ honest. c.run_on-outcome.ensures.store (c.keep-closed.ensures.honest.0 honest)))
+    subst (λ (r : Result (Unit {0}) Refusal). IsCaused h (Some c.args.path.now) r) (sym c.ended.ensures)
+    (caused_in_store h c.args.path.now c.run_on-outcome.result.0 c.keep-closed.result (g.H.Store.Base.failures c.in-Ok.base) (g.H.Store.Base.failures c.run_on-outcome.result.1)
+    c.keep-closed.ensures.closed.1 c.keep-closed.ensures.failed.1 (λ honest. c.run_on-outcome.ensures.store (c.keep-closed.ensures.honest.0 honest)))

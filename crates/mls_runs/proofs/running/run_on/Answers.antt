@@ -11,7 +11,7 @@ use Rattle.mls_host.proofs.RunningLemmas.{IsEngineRun, run_at}
 use Rattle.mls_runs.proofs.running.run_on.Goals as goal
 
 pub run_to-outcome-requires-clause-fits : goal.run_to-outcome-requires-clause-fits
-run_to-outcome-requires-clause-fits g c = subst (λ at. EventsFit at c.args.events.now) (sym c.new-engine.ensures.site) c.requires.fits
+run_to-outcome-requires-clause-fits g c = subst (λ at. EventsFit at c.args.events.now) (sym c.new-engine.ensures.site) c.requires.may.fits
 
 pub returns-clause-clean : goal.returns-clause-clean
 returns-clause-clean g c = λ clean.

@@ -9,7 +9,7 @@ use Rattle.mls_runs.proofs.MemoryLemmas.{barred, handed_back, same_held}
 use Rattle.mls_runs.proofs.memory.MemoryHostHost.store.Goals as goal
 
 pub returns-in-Ok-clause-kept : goal.returns-in-Ok-clause-kept
-returns-in-Ok-clause-kept g c = λ clean.
+returns-in-Ok-clause-kept c = λ clean.
     let over = (c.in-Ok.ensures.over clean).1 in record {
       had = over.had;
       was = subst (λ o. MatchOption o ⊥ (λ conn. HasHoldings (state over_memory conn).now over.had)) c.in-Some.ensures.value over.was;
@@ -18,13 +18,13 @@ returns-in-Ok-clause-kept g c = λ clean.
     }
 
 pub returns-in-Err-clause-barred : goal.returns-in-Err-clause-barred
-returns-in-Err-clause-barred g c =
+returns-in-Err-clause-barred c =
     subst (IsUnopenedFor c.args.policy.now c.args.file.now (option_map shown c.args.self.now.store)) (sym c.in_memory_fault.ensures)
     (barred shown c.args.policy.now c.args.file.now c.args.self.now.store c.in-Some.conn c.in-Some.ensures.value c.in-Err.fault
     (c.in-Err.ensures.refused.texts (memory_is_clean c.in-Err.conn)) (c.in-Err.ensures.refused.bad (memory_is_clean c.in-Err.conn)))
 
 pub returns-in-Err-clause-same : goal.returns-in-Err-clause-same
-returns-in-Err-clause-same g c = λ path held.
+returns-in-Err-clause-same c = λ path held.
     let old = state over_memory c.in-Some.conn in
     let new = state over_memory c.in-Err.conn in
     let back = c.in-Err.ensures.refused.refused (memory_is_clean c.in-Err.conn) in

@@ -1,12 +1,13 @@
 -- A shell: lines are typed, and each is answered before the next is read.
-use Rattle.std.specs.Prelude.{◌≡◌, ◌≢◌, ℕ, zero, suc, ◌+◌, ◌-◌, ◌≤◌, max, nat_eq, Bool, true, false, not, ◌&&◌, ◌||◌}
+use Rattle.std.specs.Prelude.{◌≡◌, ◌≢◌, ℕ, zero, suc, ◌+◌, ◌-◌, ◌<◌, ◌≤◌, max, nat_eq, Bool, true, false, not, ◌&&◌, ◌||◌}
 use Rattle.std.specs.Prelude.{if◌then◌else◌, List, [], ◌∷◌, ◌++◌, codes, length, take, Option, is_some, ◌⊎◌, ⊤}
 use Rattle.std.specs.Prelude.{IfErr, OnOk, Result, Ok, Err}
 use Rattle.std.specs.List.{AllByRecursion, flat_map, list_all, list_any}
 use Rattle.std.specs.Str.{bytes_eq}
 use Rattle.std.specs.Io.KnownBytes.{Appends, Consumes, IsAtEnd}
+use Rattle.mls_lattice.specs.Name.{is_name}
 use Rattle.mls_lattice.specs.Policy.{Tables}
-use Rattle.mls_scheme.specs.Scheme.{Schemes}
+use Rattle.mls_scheme.specs.Scheme.{Schemes, AreUnder}
 use Rattle.mls_filterview.specs.Content.{Content}
 use Rattle.mls_script.specs.declared.event.Event.{Event}
 use Rattle.mls_script.specs.declared.event.Command.TheVariants.{Open}
@@ -18,7 +19,7 @@ use Rattle.mls_script.specs.Script.{ReadsScript}
 use Rattle.mls_machine.specs.declared.form.Audience.{Audience}
 use Rattle.mls_machine.specs.Site.{Site}
 use Rattle.mls_machine.specs.Machine.{World, end_of}
-use Rattle.mls_machine.specs.Observation.{EventsFit, run_shows, reader_of}
+use Rattle.mls_machine.specs.Observation.{EventsFit, AreRead, AreCertified, run_shows, reader_of}
 use Rattle.mls_sessions.specs.declared.cause.RunCause.TheVariants.{Store}
 use Rattle.mls_sessions.specs.declared.cause.RunFault.{RunFault}
 use Rattle.mls_sessions.specs.Run.{IsWhole, IsStopped, IsFaultOf}
@@ -55,6 +56,16 @@ is_open seat w = is_some (w.sessions seat.level seat.user)
 -- an event of the session
 abbrev pub is_own : Seat → Event → Bool
 is_own seat e = nat_eq e.level seat.level && bytes_eq e.session seat.user
+
+-- A shell may begin: what is stored was read and checked under the policy, and the first event opens the session of a
+-- user at a level.
+pub record MayTalk (site : Site) (seat : Seat) (events : List Event) : Type 0 where
+  pub under : AreUnder (length site.policy.labels) site.schemes
+  pub read : AreRead site
+  pub certified : AreCertified site
+  pub level : seat.level < length site.policy.labels
+  pub user : is_name seat.user ≡ true
+  pub first : events ≡ opening seat ∷ []
 
 -- ---- what becomes of a line, whatever the database
 

@@ -1,13 +1,11 @@
 //! A shell: a session whose commands are typed, each answered before the next is read.
-ghost use Rattle.std.specs.Prelude.{◌≡◌, ◌<◌, ◌≤◌, ◌∷◌, [], true, false, length, Some, IfErr, OnOk, Err};
-ghost use Rattle.mls_lattice.specs.Name.{is_name};
-ghost use Rattle.mls_scheme.specs.Scheme.{AreUnder};
-ghost use Rattle.mls_machine.specs.Observation.{EventsFit, AreRead, AreCertified};
+ghost use Rattle.std.specs.Prelude.{◌≡◌, ◌<◌, ◌≤◌, ◌∷◌, [], false, length, Some, IfErr, OnOk, Err};
+ghost use Rattle.mls_machine.specs.Observation.{EventsFit};
 ghost use Rattle.mls_sessions.specs.Engine.{site, world_of, IsReady, IsKept};
 ghost use Rattle.mls_sessions.specs.World.{IsSound};
 ghost use Rattle.mls_host.specs.Hosting.{IsAppended, IsTold};
 ghost use Rattle.mls_host.specs.Running.{site_of};
-ghost use Rattle.mls_shells.specs.Shell.{opening, audience_at, told_of, events_of, is_refused, is_last, is_lost, FateFits, IsFollowed, IsConversation, IsShell};
+ghost use Rattle.mls_shells.specs.Shell.{opening, audience_at, told_of, events_of, is_refused, is_last, is_lost, FateFits, MayTalk, IsFollowed, IsConversation, IsShell};
 
 use crate::reading::next_fate;
 use crate::seat::{Fate, Seat};
@@ -180,12 +178,7 @@ pub fn shell_on<B: Base, L: TypedLines, W: Write, E: Write>(
     out: &mut W,
     err: &mut Errors<E>,
 ) -> (Result<Ending, RunFault>, B)
-    requires under { AreUnder (length policy.now.labels) schemes.now }
-    requires read { AreRead (site_of policy.now schemes.now stored) }
-    requires certified { AreCertified (site_of policy.now schemes.now stored) }
-    requires level { seat.now.level < length policy.now.labels }
-    requires user { is_name seat.now.user ≡ true }
-    requires first { first.now ≡ opening seat.now ∷ [] }
+    requires may { MayTalk (site_of policy.now schemes.now stored) seat.now first.now }
     requires idle { (B.state base).begun ≡ false }
     requires sound { B.is_clean base → IsSound (site_of policy.now schemes.now stored) (B.state base).now }
     ensures clean { B.is_clean result.1 → B.is_clean base }

@@ -1,17 +1,15 @@
 //! Shells over a database: over an empty one in memory, or over that of a store.
-ghost use Rattle.std.specs.Prelude.{◌≡◌, ◌<◌, ◌∷◌, [], true, length, Some, IfOk};
+ghost use Rattle.std.specs.Prelude.{◌≡◌, ◌<◌, [], length, Some, IfOk};
 ghost use Rattle.std.specs.Option.{IfSome};
-ghost use Rattle.mls_lattice.specs.Name.{is_name};
 ghost use Rattle.mls_scheme.specs.Scheme.{AreUnder};
 ghost use Rattle.mls_filterview.specs.Content.{Content, no_content};
-ghost use Rattle.mls_machine.specs.Observation.{AreRead, AreCertified};
 ghost use Rattle.mls_host.specs.Hosting.{hosted, IsAppended, IsTold};
 ghost use Rattle.mls_host.specs.Stopping.{IsCaused, IsCausedInMemory};
 ghost use Rattle.mls_words.specs.Words.{named};
 ghost use Rattle.mls_host.specs.Causes.{IsBarred};
 ghost use Rattle.mls_host.specs.Refusal.{IsEnd};
 ghost use Rattle.mls_host.specs.Running.{site_of};
-ghost use Rattle.mls_shells.specs.Shell.{opening, IsShell};
+ghost use Rattle.mls_shells.specs.Shell.{MayTalk, IsShell};
 ghost use Rattle.mls_shells.specs.ShellRun.{seat_of, IsShellFrom, IsShellRun, IsShellRefused};
 
 use crate::reading::opening;
@@ -41,12 +39,7 @@ fn shell_in_memory<L: TypedLines, W: Write, E: Write>(
     out: &mut W,
     err: &mut Errors<E>,
 ) -> Result<Ending, Refusal>
-    requires under { AreUnder (length policy.now.labels) file.now.schemes }
-    requires read { AreRead (site_of policy.now file.now.schemes stored) }
-    requires certified { AreCertified (site_of policy.now file.now.schemes stored) }
-    requires level { seat.now.level < length policy.now.labels }
-    requires user { is_name seat.now.user ≡ true }
-    requires first { first.now ≡ opening seat.now ∷ [] }
+    requires may { MayTalk (site_of policy.now file.now.schemes stored) seat.now first.now }
     ensures ends { IsEnd (λ end. (left : Content) × IsShell L.echo (site_of policy.now file.now.schemes stored) seat.now
         (L.remaining lines.old) (L.remaining lines.new) (L.breaks lines.new) (IsAppended W.contents out.old out.new)
         (IsTold E.contents err.old err.new) end no_content left)
@@ -80,12 +73,7 @@ fn shell_in_store<H: Host, L: TypedLines, W: Write, E: Write>(
     out: &mut W,
     err: &mut Errors<E>,
 ) -> Result<Ending, Refusal>
-    requires under { AreUnder (length policy.now.labels) file.now.schemes }
-    requires read { AreRead (site_of policy.now file.now.schemes stored) }
-    requires certified { AreCertified (site_of policy.now file.now.schemes stored) }
-    requires level { seat.now.level < length policy.now.labels }
-    requires user { is_name seat.now.user ≡ true }
-    requires first { first.now ≡ opening seat.now ∷ [] }
+    requires may { MayTalk (site_of policy.now file.now.schemes stored) seat.now first.now }
     ensures ends { IsEnd (IsShellFrom (hosted H.hosting L.echo host.old host.new) (L.remaining lines.old)
         (L.remaining lines.new) (L.breaks lines.new) (IsAppended W.contents out.old out.new)
         (IsTold E.contents err.old err.new) file.now (Some path.now) (site_of policy.now file.now.schemes stored)
@@ -120,12 +108,7 @@ fn shell_over<H: Host, L: TypedLines, W: Write, E: Write>(
     out: &mut W,
     err: &mut Errors<E>,
 ) -> Result<Ending, Refusal>
-    requires under { AreUnder (length policy.now.labels) file.now.schemes }
-    requires read { AreRead (site_of policy.now file.now.schemes stored) }
-    requires certified { AreCertified (site_of policy.now file.now.schemes stored) }
-    requires level { seat.now.level < length policy.now.labels }
-    requires user { is_name seat.now.user ≡ true }
-    requires first { first.now ≡ opening seat.now ∷ [] }
+    requires may { MayTalk (site_of policy.now file.now.schemes stored) seat.now first.now }
     ensures ends { IsEnd (IsShellFrom (hosted H.hosting L.echo host.old host.new) (L.remaining lines.old)
         (L.remaining lines.new) (L.breaks lines.new) (IsAppended W.contents out.old out.new)
         (IsTold E.contents err.old err.new) file.now (named store.entry) (site_of policy.now file.now.schemes stored)

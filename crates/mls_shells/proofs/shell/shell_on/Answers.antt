@@ -19,7 +19,7 @@ converse-outcome-requires-clause-schemes g c = ap (λ (s : Site). s.schemes) c.n
 
 pub converse-outcome-requires-clause-fits : goal.converse-outcome-requires-clause-fits
 converse-outcome-requires-clause-fits g c = subst (λ (at : Site). EventsFit at (opening c.args.seat.now ∷ [])) (sym c.new-engine.ensures.site)
-    (opening_fits (site_for c.args.policy.now c.args.schemes.now c.args.stored) c.args.seat.now c.requires.level c.requires.user)
+    (opening_fits (site_for c.args.policy.now c.args.schemes.now c.args.stored) c.args.seat.now c.requires.may.level c.requires.may.user)
 
 pub returns-clause-clean : goal.returns-clause-clean
 returns-clause-clean g c = λ clean.
@@ -56,6 +56,6 @@ returns-clause-shell g c = λ clean.
     let distinct : AreDistinct (site_labels at) = subst (λ (s : Site). AreDistinct (site_labels s)) c.new-engine.ensures.site c.new-engine.ensures.ready.distinct in
     let start = c.requires.sound (subst g.B.Base.is_clean c.new-engine.ensures.base (c.converse-outcome.ensures.clean was)) in
     shell_at g.L.TypedLines.echo at c.args.seat.now sessions first left (g.L.TypedLines.remaining c.args.lines.now) (g.L.TypedLines.remaining c.converse-outcome.new.lines) (g.W.Write.contents c.args.out.now) (g.W.Write.contents c.converse-outcome.new.out) (g.L.TypedLines.breaks c.converse-outcome.new.lines)
-    (IsTold g.E.Write.contents c.args.err.now c.converse-outcome.new.err) c.converse-outcome.result distinct c.requires.read c.requires.certified start sound
+    (IsTold g.E.Write.contents c.args.err.now c.converse-outcome.new.err) c.converse-outcome.result distinct c.requires.may.read c.requires.may.certified start sound
     (conversation_at g.L.TypedLines.echo c.args.seat.now (g.L.TypedLines.remaining c.args.lines.now) (g.L.TypedLines.remaining c.converse-outcome.new.lines) (g.W.Write.contents c.args.out.now) (g.W.Write.contents c.converse-outcome.new.out) (g.L.TypedLines.breaks c.converse-outcome.new.lines)
     (IsTold g.E.Write.contents c.args.err.now c.converse-outcome.new.err) c.converse-outcome.result _ at _ (first_world at first) _ (world_at at sessions left) c.new-engine.ensures.site c.new-engine.ensures.world last (c.converse-outcome.ensures.conversation was))

@@ -3,7 +3,6 @@ use Rattle.mls_host.specs.Hosting.{hosted, IsAppended, IsTold}
 use Rattle.mls_host.specs.Causes.{IsBarred}
 use Rattle.mls_host.specs.Running.{site_of}
 use Rattle.mls_shells.proofs.ShellEndLemmas.{shell_from_memory, shell_from_store}
-use Rattle.mls_words.specs.Words.{named}
 use Rattle.mls_host.proofs.StoppingLemmas.{untouched, caused_at, caused_from_memory}
 use Rattle.mls_shells.proofs.shells.shell_over.Goals as goal
 

@@ -1,29 +1,17 @@
--- What is told of inputs, and what is given up.
-use Rattle.std.proofs.Common.{◌≡◌, ◌≢◌, ◌⊎◌, ℕ, List, [], string_bytes, Option, Result, Ok, Err, IfOk, IfErr, OnOk, OnErr, inl, inr, refl, sym, subst}
+-- What is told of inputs.
+use Rattle.std.proofs.Common.{◌≡◌, ◌≢◌, ◌⊎◌, ℕ, [], string_bytes, Option, Result, Ok, Err, IfOk, IfErr, OnOk, inl, inr, refl, sym, subst}
 use Rattle.mls_lattice.specs.Policy.{Tables}
 use Rattle.mls_scheme.specs.declared.file.SchemesFile.{SchemesFile}
 use Rattle.mls_words.specs.declared.words.Job.{Job}
-use Rattle.mls_host.specs.declared.ending.Ending.{Ending}
 use Rattle.mls_host.specs.declared.reason.Reason.{Reason}
 use Rattle.mls_host.specs.declared.reason.Reason.TheVariants.{Memory}
-use Rattle.mls_host.specs.declared.refusal.Refusal.{Refusal}
-use Rattle.mls_host.specs.declared.refusal.Refusal.TheVariants.{Before, Run, NotClosed, Output}
 use Rattle.mls_host.specs.Hosting.{Hosted}
 use Rattle.mls_host.specs.Inputs.{IsPolicyOf, AreSchemesOf, IsReader}
 use Rattle.mls_host.specs.declared.ending.Ending.TheVariants.{Refused}
 use Rattle.mls_host.specs.Reason.{reason_status}
 use Rattle.mls_listings.specs.declared.listing.Listing.{Listing}
-use Rattle.mls_listings.specs.Printing.{IsCutOff}
 use Rattle.mls_command.specs.Telling.{IsToldOf}
-use Rattle.mls_command.specs.Accounting.{AreInputsRefused, IsTaskAccepted, IsAccepted, IsRefused, Accounts, IsUnread, IsAccounted, IsUnaccounted, one_refused}
-
-module _ (h : Hosted) (Wrote Told More : List ℕ → Type 0) (f : (text : List ℕ) → Told text → More text) where
-  -- more is told
-  pub unaccounted_told : (job : Job) (r : Refusal) → IsUnaccounted h Wrote Told job r → IsUnaccounted h Wrote More job r
-  unaccounted_told job (Before reason) k = (k.0, f [] k.1, k.2)
-  unaccounted_told job (Run fault) k = k
-  unaccounted_told job NotClosed k = k
-  unaccounted_told job Output k = (f [] k.0, k.1)
+use Rattle.mls_command.specs.Accounting.{AreInputsRefused, IsTaskAccepted, IsAccepted, IsRefused, Accounts, IsUnread, one_refused}
 
 module _ (h : Hosted) (job : Job) (policy : Tables) (file : SchemesFile) (reader : Option ℕ) (policy_is : IsPolicyOf h.before.gives job.documents policy)
     (schemes_are : AreSchemesOf h.before.gives job.documents policy file) (reader_is : IsReader policy job.task reader) where
@@ -33,21 +21,6 @@ module _ (h : Hosted) (job : Job) (policy : Tables) (file : SchemesFile) (reader
 
   pub task_refused : (reason : Reason) → AreInputsRefused h.before policy file.schemes reader job.task reason → IsRefused h job reason
   task_refused reason k = inr (record { policy = policy; file = file; reader = reader; policy_is = policy_is; schemes_are = schemes_are; reader_is = reader_is; does = k })
-
-module _ (h : Hosted) (job : Job) (Wrote Told : List ℕ → Type 0) where
-  -- what is written whole
-  pub printed : (text told : List ℕ) (end : Ending) → Accounts h job text told end → (r : Result Ending Refusal) → IfOk r (λ e. e ≡ end)
-      → IfOk r (λ e. Wrote text) → IfOk r (λ e. Told told) → IfOk r (IsAccounted h Wrote Told job)
-  printed text told end told_so (Ok e) is wrote said =
-      record { text = text; told = told; prints = subst (λ (x : Ending). Accounts h job text told x) (sym is) told_so; is_written = wrote; is_told = said }
-  printed text told end told_so (Err e) is wrote said = tt
-
-  -- what is not written whole
-  pub cut_off : (text told : List ℕ) (end : Ending) → Accounts h job text told end → (r : Result Ending Refusal) → IfErr r (λ e. e ≡ Output) → OnErr r (IsCutOff Wrote text) → OnErr r (Told [])
-      → IfErr r (IsUnaccounted h Wrote Told job)
-  cut_off text told end told_so (Ok e) out part quiet = tt
-  cut_off text told end told_so (Err e) out part quiet =
-      subst (λ (x : Refusal). IsUnaccounted h Wrote Told job x) (sym out) (quiet, record { text = text; told = told; end = end; prints = told_so; is_cut_off = part })
 
 module _ (h : Hosted) (job : Job) (reason : Reason) (is : IsRefused h job reason) where
   -- one is refused

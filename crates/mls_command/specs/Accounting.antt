@@ -17,14 +17,13 @@ use Rattle.mls_host.specs.declared.ending.Ending.{Ending}
 use Rattle.mls_host.specs.declared.ending.Ending.TheVariants.{Refused}
 use Rattle.mls_host.specs.declared.reason.Reason.{Reason}
 use Rattle.mls_host.specs.declared.reason.Reason.TheVariants.{Memory}
-use Rattle.mls_host.specs.declared.refusal.Refusal.{Refusal}
-use Rattle.mls_host.specs.declared.refusal.Refusal.TheVariants as refusals
 use Rattle.mls_host.specs.Causes.{AreFilesRefused}
+use Rattle.mls_host.specs.Deed.{Deed}
 use Rattle.mls_host.specs.Hosting.{Hosting, Hosted}
 use Rattle.mls_host.specs.Inputs.{AreStoredFrom, IsScriptFrom, AreToldIn, AreBlocksIn}
 use Rattle.mls_host.specs.Reason.{reason_status}
 use Rattle.mls_listings.specs.Explaining.{IsExplained, IsExplainRefused}
-use Rattle.mls_listings.specs.Printing.{IsPrinted, IsPrintedInPart}
+use Rattle.mls_listings.specs.Printing.{IsPrinting}
 use Rattle.mls_runs.specs.ScriptRun.{AreRunInputsRefused}
 use Rattle.mls_shells.specs.ShellRun.{AreShellInputsRefused}
 use Rattle.mls_command.specs.Acting.{IsUnder, IsJobRefused}
@@ -107,12 +106,6 @@ module _ (h : Hosted) (job : Job) where
   abbrev pub IsUnread : Reason → Type 0
   IsUnread reason = (IsRefused reason ⊎ (reason ≡ Memory)) × (reason_status reason ≡ 3)
 
-module _ (h : Hosted) (Wrote Told : List ℕ → Type 0) (job : Job) where
-  abbrev pub IsAccounted : Ending → Type 0
-  IsAccounted end = IsPrinted (Accounts h job) Wrote Told end
-
-  -- nothing was written for want of memory; or a first part of what is told
-  abbrev pub IsUnaccounted : Refusal → Type 0
-  IsUnaccounted (refusals.Before reason) = IsUnread h job reason × Told [] × Wrote []
-  IsUnaccounted refusals.Output = Told [] × IsPrintedInPart (Accounts h job) Wrote
-  IsUnaccounted refusal = ⊥
+  -- which is printed; or nothing is, for want of memory
+  abbrev pub IsAccountOf : Deed → Type 0
+  IsAccountOf d = IsPrinting Accounts IsUnread d

@@ -13,14 +13,15 @@ use Rattle.mls_host.specs.declared.ending.Ending.{Ending}
 use Rattle.mls_host.specs.declared.ending.Ending.TheVariants.{Well}
 use Rattle.mls_host.specs.declared.reason.Reason.{Reason}
 use Rattle.mls_host.specs.declared.reason.Reason.TheVariants.{Memory}
-use Rattle.mls_host.specs.declared.refusal.Refusal.{Refusal}
-use Rattle.mls_host.specs.declared.refusal.Refusal.TheVariants as refusals
-use Rattle.mls_host.specs.Hosting.{Hosted, KeepsStores, LeavesStores}
-use Rattle.mls_host.specs.Stopping.{IsStoppedFor, IsUnclosed}
+use Rattle.mls_host.specs.declared.refusal.Refusal.TheVariants.{Before}
+use Rattle.mls_host.specs.Hosting.{Hosted, KeepsStores}
+use Rattle.mls_host.specs.Stopping.{IsCaused}
+use Rattle.mls_host.specs.Deed.{Deed, IsQuiet}
+use Rattle.mls_host.specs.Refusal.{IsEnd}
 use Rattle.mls_words.specs.Words.{named}
 use Rattle.mls_host.specs.Causes.{IsPolicyRefused, AreSchemesRefused, IsReaderUnknown, AreFilesRefused}
 use Rattle.mls_host.specs.Inputs.{IsPolicyOf, AreSchemesOf, IsReader}
-use Rattle.mls_listings.specs.Printing.{IsPrinted, IsPrintedInPart}
+use Rattle.mls_listings.specs.Printing.{IsPrinting}
 use Rattle.mls_runs.specs.ScriptRun.{IsScriptRun, IsRunRefused}
 use Rattle.mls_shells.specs.ShellRun.{IsShellRun, IsShellRefused}
 use Rattle.mls_listings.specs.Certifying.{IsCertified}
@@ -59,33 +60,28 @@ module _ (h : Hosted) where
   IsTaskRefused policy file reader (Explain transactions name) reason =
       IsExplainRefused h.before policy file.schemes transactions.now (named name) reason
 
-  -- `Wrote`: what was written on standard output; `Told`: what was told on standard error
-  module _ (policy : Tables) (file : SchemesFile) (reader : Option ℕ) (Wrote Told : List ℕ → Type 0) where
-    -- a run or a shell ended so, or stopped; a run tells nothing, and stops
-    -- for the store for a cause; no other task is one
-    abbrev pub IsRunOf : Task → Result Ending RunFault → Type 0
-    IsRunOf (Run files) (Ok end) = (end ≡ Well) × Told [] × IsScriptRun h policy file reader files Wrote (Ok tt)
-    IsRunOf (Run files) (Err fault) =
-        Told [] × IsStoppedFor h (named files.store) fault × IsScriptRun h policy file reader files Wrote (Err fault)
-    IsRunOf (Shell files) end = IsShellRun h policy file reader files Wrote Told end
-    IsRunOf task end = ⊥
+  module _ (policy : Tables) (file : SchemesFile) (reader : Option ℕ) where
+    -- a run or a shell ended so, or stopped; a run tells nothing; no other task is one
+    abbrev pub IsRunOf : Task → Deed → Result Ending RunFault → Type 0
+    IsRunOf (Run files) d (Ok end) =
+        (end ≡ Well) × d.told [] × IsScriptRun h policy file reader files d.wrote (Ok tt)
+    IsRunOf (Run files) d (Err fault) = d.told [] × IsScriptRun h policy file reader files d.wrote (Err fault)
+    IsRunOf (Shell files) d end = IsShellRun h policy file reader files d.wrote d.told end
+    IsRunOf task d end = ⊥
 
-    -- a task is done; one that is no run and no shell over a store leaves the stores
-    abbrev pub IsTaskDone : Task → Ending → Type 0
-    IsTaskDone (Run files) end = LeavesStores h (named files.store) × IsRunOf (Run files) (Ok end)
-    IsTaskDone (Shell files) end = LeavesStores h (named files.store) × IsRunOf (Shell files) (Ok end)
-    IsTaskDone task end = KeepsStores h × IsPrinted (Prints policy file task) Wrote Told end
+    -- It ended, or was given up, for a cause. What was written and told is all, where it ended or its store was not
+    -- closed; what it was up to there, where it stopped; and nothing, where it was not begun.
+    abbrev pub IsRunDeed : Task → Deed → Type 0
+    IsRunDeed task d =
+        IsCaused h (store_of task) d.end
+        × IsEnd (IsRunOf task d) (λ reason. IsTaskRefused policy file reader task reason × IsQuiet d) d.end
 
-    -- What was written, and what was told before the refusal, where a task is given up: nothing, if it is
-    -- not begun; of a run or a shell that stopped, what it was up to there; of one whose store was not
-    -- closed, all; where the output was not taken, a first part of it. Each store keeps what it kept, but
-    -- one that a run or a shell names which was begun.
-    abbrev pub IsTaskGivenUp : Task → Refusal → Type 0
-    IsTaskGivenUp task (refusals.Before reason) =
-        KeepsStores h × IsTaskRefused policy file reader task reason × Told [] × Wrote []
-    IsTaskGivenUp task (refusals.Run fault) = LeavesStores h (store_of task) × IsRunOf task (Err fault)
-    IsTaskGivenUp task refusals.NotClosed = IsUnclosed h (store_of task) × ((end : Ending) × IsRunOf task (Ok end))
-    IsTaskGivenUp task refusals.Output = KeepsStores h × Told [] × IsPrintedInPart (Prints policy file task) Wrote
+    -- what is no run and no shell is printed, and each store keeps what it kept
+    abbrev pub IsTaskDeed : Task → Deed → Type 0
+    IsTaskDeed (Run files) d = IsRunDeed (Run files) d
+    IsTaskDeed (Shell files) d = IsRunDeed (Shell files) d
+    IsTaskDeed task d =
+        KeepsStores h × IsPrinting (Prints policy file task) (IsTaskRefused policy file reader task) d
 
   -- ---- jobs
 
@@ -109,18 +105,12 @@ module _ (h : Hosted) where
         → IsReader policy job.task reader
         → AreSchemesRefused h.before job.documents policy reason → IsJobRefused job reason
 
-  module _ (Wrote Told : List ℕ → Type 0) (job : Job) where
-    abbrev pub IsDone : Ending → Type 0
-    IsDone end = IsUnder job (λ policy file reader. IsTaskDone policy file reader Wrote Told job.task end)
+  -- a job is given up before its task, where nothing is written and each store keeps what it kept
+  abbrev pub IsGivenUpBefore : Job → Deed → Type 0
+  IsGivenUpBefore job d =
+      (reason : Reason) × (d.end ≡ Err (Before reason)) × IsJobRefused job reason × KeepsStores h × IsQuiet d
 
-    -- it is given up before its task, where nothing is written and each store keeps what it kept
-    abbrev pub IsGivenUpBefore : Refusal → Type 0
-    IsGivenUpBefore refusal =
-        (reason : Reason) × (refusal ≡ refusals.Before reason) × KeepsStores h × IsJobRefused job reason × Told []
-        × Wrote []
-
-    -- or as its task is
-    abbrev pub IsGivenUp : Refusal → Type 0
-    IsGivenUp refusal =
-        IsGivenUpBefore refusal
-        ⊎ IsUnder job (λ policy file reader. IsTaskGivenUp policy file reader Wrote Told job.task refusal)
+  -- or its task is done, or given up
+  abbrev pub IsDeedOf : Job → Deed → Type 0
+  IsDeedOf job d =
+      IsGivenUpBefore job d ⊎ IsUnder job (λ policy file reader. IsTaskDeed policy file reader job.task d)

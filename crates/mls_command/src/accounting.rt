@@ -1,9 +1,8 @@
 //! What becomes of the inputs of a command that is explained.
-ghost use Rattle.std.specs.Prelude.{◌≡◌, ◌≢◌, ◌⊎◌, List, [], Some, None, length, string_bytes, IfOk, IfErr, OnOk};
+ghost use Rattle.std.specs.Prelude.{◌≡◌, ◌≢◌, ◌⊎◌, [], Some, None, length, string_bytes, IfOk, IfErr, OnOk};
 ghost use Rattle.mls_scheme.specs.Scheme.{AreUnder};
-ghost use Rattle.clap.specs.Words.{Text};
-ghost use Rattle.mls_words.specs.Words.{Asks, named};
 ghost use Rattle.mls_host.specs.Causes.{AreFilesRefused};
+ghost use Rattle.mls_host.specs.Deed.{deed};
 ghost use Rattle.mls_host.specs.Hosting.{hosted, IsAppended, IsTold};
 ghost use Rattle.mls_host.specs.declared.ending.Ending.TheVariants.{Well, Refused};
 ghost use Rattle.mls_host.specs.declared.reason.Reason.TheVariants.{Memory};
@@ -12,8 +11,8 @@ ghost use Rattle.mls_command.specs.Telling.{IsToldOf};
 ghost use Rattle.mls_words.specs.declared.words.Task.TheVariants.{Run, Shell};
 ghost use Rattle.mls_runs.specs.ScriptRun.{AreRunInputsRefused};
 ghost use Rattle.mls_shells.specs.ShellRun.{AreShellInputsRefused};
-ghost use Rattle.mls_command.specs.Accounting.{AreReadable, AreCheckable, AreInputsRefused, IsTaskAccepted, IsAccepted, IsRefused, Accounts, IsUnread, IsAccounted, IsUnaccounted};
-ghost use Rattle.mls_command.specs.Answering.{IsOutcomeOfAccount};
+ghost use Rattle.mls_command.specs.Accounting.{AreReadable, AreCheckable, AreInputsRefused, IsTaskAccepted, IsAccepted, IsRefused, Accounts, IsUnread, IsAccountOf};
+ghost use Rattle.mls_command.specs.Answering.{IsFinished};
 
 use crate::acting::{policy_of, schemes_of};
 use crate::looking::store_account;
@@ -240,10 +239,8 @@ fn print_account<H: Host, W: Write, E: Write>(
     out: &mut W,
     err: &mut Errors<E>,
 ) -> Result<Ending, Refusal>
-    ensures done { IfOk result (IsAccounted (hosted H.hosting H.Lines.echo host.now host.now)
-        (IsAppended W.contents out.old out.new) (IsTold E.contents err.old err.new) job.entry) }
-    ensures given_up { IfErr result (IsUnaccounted (hosted H.hosting H.Lines.echo host.now host.now)
-        (IsAppended W.contents out.old out.new) (IsTold E.contents err.old err.new) job.entry) }
+    ensures { IsAccountOf (hosted H.hosting H.Lines.echo host.now host.now) job.entry
+        (deed W.contents out.old out.new E.contents err.old err.new result) }
 {
     account(alloc, host, job)?.print(out, err)
 }
@@ -256,9 +253,8 @@ pub(crate) fn finish_account<H: Host, W: Write, E: Write>(
     out: &mut W,
     err: &mut Errors<E>,
 ) -> u8
-    ensures { (words : List Text) → Asks words job.entry → IsOutcomeOfAccount
-        (hosted H.hosting H.Lines.echo host.now host.now) words (IsAppended W.contents out.old out.new)
-        (IsTold E.contents err.old err.new) result }
+    ensures { IsFinished (IsAccountOf (hosted H.hosting H.Lines.echo host.now host.now) job.entry)
+        (IsAppended W.contents out.old out.new) (IsTold E.contents err.old err.new) result }
 {
     match print_account(alloc, host, job, out, err) {
         Ok(ending) => ending.status(),

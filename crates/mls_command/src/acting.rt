@@ -1,15 +1,15 @@
 //! What the program does with its words.
-ghost use Rattle.std.specs.Prelude.{◌≡◌, ◌<◌, length, IfOk, IfErr, OnErr};
+ghost use Rattle.std.specs.Prelude.{◌<◌, length, IfOk, IfErr};
 ghost use Rattle.std.specs.Option.{IfSome};
 ghost use Rattle.mls_scheme.specs.Scheme.{AreUnder};
-ghost use Rattle.clap.specs.Words.{Text};
-ghost use Rattle.std.specs.Prelude.{List};
+ghost use Rattle.mls_host.specs.Deed.{deed};
 ghost use Rattle.mls_host.specs.Hosting.{hosted, IsAppended, IsTold};
-ghost use Rattle.mls_words.specs.Words.{texts_of, Asks};
+ghost use Rattle.mls_words.specs.Words.{texts_of};
 ghost use Rattle.mls_host.specs.Causes.{IsPolicyRefused, AreSchemesRefused};
 ghost use Rattle.mls_host.specs.Inputs.{IsPolicyOf, AreSchemesOf};
-ghost use Rattle.mls_command.specs.Acting.{IsTaskDone, IsTaskGivenUp, IsDone, IsGivenUp};
-ghost use Rattle.mls_command.specs.Answering.{IsOutcomeOfJob, IsOutcomeOfAccount, IsAnswered};
+ghost use Rattle.mls_command.specs.Acting.{IsTaskDeed, IsDeedOf};
+ghost use Rattle.mls_command.specs.Accounting.{IsAccountOf};
+ghost use Rattle.mls_command.specs.Answering.{IsFinished, Answers, IsAnswered};
 
 use crate::accounting::finish_account;
 use crate::explained::explained_of;
@@ -71,10 +71,8 @@ fn perform_task<H: Host, W: Write, E: Write>(
 ) -> Result<Ending, Refusal>
     requires under { AreUnder (length policy.now.labels) file.now.schemes }
     requires declared { IfSome reader (λ c. c < length policy.now.labels) }
-    ensures done { IfOk result (IsTaskDone (hosted H.hosting H.Lines.echo host.old host.new) policy.now file.now reader
-        (IsAppended W.contents out.old out.new) (IsTold E.contents err.old err.new) task.entry) }
-    ensures given_up { IfErr result (IsTaskGivenUp (hosted H.hosting H.Lines.echo host.old host.new) policy.now file.now
-        reader (IsAppended W.contents out.old out.new) (IsTold E.contents err.old err.new) task.entry) }
+    ensures { IsTaskDeed (hosted H.hosting H.Lines.echo host.old host.new) policy.now file.now reader task.entry
+        (deed W.contents out.old out.new E.contents err.old err.new result) }
 {
     match task {
         Task::ShowPolicy => texts(alloc, policy, file)?.print(out, err),
@@ -109,10 +107,8 @@ fn perform<H: Host, W: Write, E: Write>(
     out: &mut W,
     err: &mut Errors<E>,
 ) -> Result<Ending, Refusal>
-    ensures done { IfOk result (IsDone (hosted H.hosting H.Lines.echo host.old host.new)
-        (IsAppended W.contents out.old out.new) (IsTold E.contents err.old err.new) job.entry) }
-    ensures given_up { IfErr result (IsGivenUp (hosted H.hosting H.Lines.echo host.old host.new)
-        (IsAppended W.contents out.old out.new) (IsTold E.contents err.old err.new) job.entry) }
+    ensures { IsDeedOf (hosted H.hosting H.Lines.echo host.old host.new) job.entry
+        (deed W.contents out.old out.new E.contents err.old err.new result) }
 {
     let policy = policy_of(alloc, host, job.documents)?;
     let reader = reader_of(&policy, job.task)?;
@@ -128,9 +124,8 @@ fn finish<H: Host, W: Write, E: Write>(
     out: &mut W,
     err: &mut Errors<E>,
 ) -> u8
-    ensures { (words : List Text) → Asks words job.entry → IsOutcomeOfJob
-        (hosted H.hosting H.Lines.echo host.old host.new) words (IsAppended W.contents out.old out.new)
-        (IsTold E.contents err.old err.new) result }
+    ensures { IsFinished (IsDeedOf (hosted H.hosting H.Lines.echo host.old host.new) job.entry)
+        (IsAppended W.contents out.old out.new) (IsTold E.contents err.old err.new) result }
 {
     match perform(alloc, job, host, out, err) {
         Ok(ending) => ending.status(),
@@ -149,7 +144,8 @@ fn answer<H: Host, W: Write, E: Write>(
     out: &mut W,
     err: &mut Errors<E>,
 ) -> u8
-    ensures { IsOutcomeOfJob (hosted H.hosting H.Lines.echo host.old host.new) (texts_of words.now)
+    ensures { Answers (hosted H.hosting H.Lines.echo host.old host.new)
+        (IsDeedOf (hosted H.hosting H.Lines.echo host.old host.new)) (texts_of words.now)
         (IsAppended W.contents out.old out.new) (IsTold E.contents err.old err.new) result }
 {
     match job_of(alloc, words) {
@@ -169,7 +165,8 @@ fn explain_inputs<H: Host, W: Write, E: Write>(
     out: &mut W,
     err: &mut Errors<E>,
 ) -> u8
-    ensures { IsOutcomeOfAccount (hosted H.hosting H.Lines.echo host.now host.now) (texts_of words.now)
+    ensures { Answers (hosted H.hosting H.Lines.echo host.now host.now)
+        (IsAccountOf (hosted H.hosting H.Lines.echo host.now host.now)) (texts_of words.now)
         (IsAppended W.contents out.old out.new) (IsTold E.contents err.old err.new) result }
 {
     match job_of(alloc, words) {

@@ -1,1 +1,2 @@
 pub mod CertifyingLemmas
+pub mod PrintingLemmas

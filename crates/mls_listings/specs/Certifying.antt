@@ -1,5 +1,6 @@
 -- What the command certify prints: for each transaction the least certificate that holds for it, if there is one.
-use Rattle.std.specs.Prelude.{◌≡◌, ℕ, Bool, true, false, if◌then◌else◌, List, [], ◌++◌, codes, string_bytes, Option, Err}
+use Rattle.std.specs.Prelude.{◌≡◌, ℕ, Bool, true, false, if◌then◌else◌, List, [], ◌++◌, codes, string_bytes, Option}
+use Rattle.std.specs.Prelude.{Err}
 use Rattle.std.specs.List.{flat_map, list_any, AllZip}
 use Rattle.std.specs.Fmt.{decimal}
 use Rattle.mls_lattice.specs.Policy.{Name, Tables}

@@ -1,7 +1,7 @@
 //! What a command other than a run prints on standard output, and tells on standard error.
-ghost use Rattle.std.specs.Prelude.{◌≡◌, string_bytes, IfOk, IfErr, OnErr};
-ghost use Rattle.mls_host.specs.Hosting.{IsAppended, IsTold};
-ghost use Rattle.mls_listings.specs.Printing.{IsCutOff};
+ghost use Rattle.std.specs.Prelude.{◌≡◌, OnErr};
+ghost use Rattle.mls_host.specs.Deed.{deed};
+ghost use Rattle.mls_listings.specs.Printing.{IsListed, IsPrinting};
 
 use mls_host::{Ending, Errors, Refusal};
 use mls_sessions::write_whole;
@@ -24,11 +24,8 @@ impl Listing {
         out: &mut W,
         err: &mut Errors<E>,
     ) -> Result<Ending, Refusal>
-        ensures ending { IfOk result (λ end. end ≡ self.now.ending) }
-        ensures written { IfOk result (λ end. IsAppended W.contents out.old out.new self.now.text.items) }
-        ensures told { IfOk result (λ end. IsTold E.contents err.old err.new (string_bytes self.now.told)) }
-        ensures refused { IfErr result (λ r. r ≡ Refusal.Output) }
-        ensures part { OnErr result (IsCutOff (IsAppended W.contents out.old out.new) self.now.text.items) }
+        ensures print { IsPrinting (IsListed self.now) (λ reason. ⊥)
+            (deed W.contents out.old out.new E.contents err.old err.new result) }
         ensures quiet { OnErr result (err.new ≡ err.old) }
     {
         if write_whole(out, &self.text).is_err() {

@@ -121,7 +121,7 @@ pub fn words_of<'a>(head: &'a str) -> [&'a str; 5] {
     ["mldb", "run", policy, schemes, "script"]
 }
 
-/// Tells what a run of a script writes, and where it writes another thing over other bases, or leaves a store that is not opened again.
+/// Tells what a run of a script writes, and where it writes another thing over other bases, or leaves another content in a store.
 fn tell_run<R: Files + AllocGlobal>(rt: &R, words: &[&str], case: &Case<'_>, out: &mut Told) {
     match joined(rt.alloc(), case.body) {
         Ok(script) => {

@@ -69,7 +69,7 @@ fn tell_reader<R: Files + AllocGlobal>(
 ) {
     let (label, labels) = line.split_once(": ").unwrap_or((line, ""));
     let seen = seen_in(rt.alloc(), labels, text_of(&all.out));
-    let words = words_with(rt.alloc(), words, "--at", label);
+    let words = words_with(rt.alloc(), words, &["--at", label]);
     match (words, seen) {
         (Ok(words), Ok(seen)) => {
             let shown = written_then(rt, &words, case.body);

@@ -1,0 +1,232 @@
+-- The tuples of one key, and the key that a condition demands.
+use Rattle.std.proofs.Common.{◌≡◌, ℕ, suc, Bool, true, false, cond, ◌&&◌, ◌||◌, ◌-◌, List, [], ◌∷◌, ◌++◌, length, map, Option, Some, None, refl, sym, ap, ◌∙◌, subst, arith, eqb-true}
+use Rattle.std.specs.Prelude.{⊤, not, nat_eq, nat_lt, slice_index_or}
+use Rattle.std.specs.List.{filter, list_any, AllByRecursion}
+use Rattle.std.specs.FinMap.{get, entries, entries_sorted, retain_keys}
+use Rattle.std.proofs.lemmas.Bool.{true≢false, and_parts, false_from_ne_true, lt-ltb}
+use Rattle.std.proofs.lemmas.List.{length-append}
+use Rattle.std.proofs.lemmas.Option.{none-some, same_Some}
+use Rattle.mls_lattice.specs.Labels.{Labels, below}
+use Rattle.mls_scheme.specs.declared.value.Value.{Value}
+use Rattle.mls_scheme.specs.declared.tuple.Tuple.{Tuple}
+use Rattle.mls_scheme.specs.declared.place.Place.{Place}
+use Rattle.mls_scheme.specs.Tuple.{at}
+use Rattle.mls_scheme.specs.Table.{Table, tuple_at}
+use Rattle.mls_scheme.proofs.OrderLemmas.{value_eq-true, is_place-true}
+use Rattle.mls_scheme.proofs.TableLemmas.{get_kept, same_table}
+use Rattle.mls_filterview.specs.View.{low, rows, IsAmong}
+use Rattle.mls_filterview.specs.Stored.{with_class}
+use Rattle.mls_filterview.specs.Subsumption.{subsumes_entry, is_max_among}
+use Rattle.mls_filterview.proofs.LowLemmas.{get_low}
+use Rattle.mls_filterview.proofs.AmongLemmas.{among_filter, filter_among}
+use Rattle.mls_filterview.proofs.EntryLemmas.{Entry, among_entries, entries_among, sorted_filter, so_true, so_from, entries_are}
+use Rattle.mls_translang.specs.declared.operator.Operator.TheVariants as operators
+use Rattle.mls_translang.specs.Tree.{Expr, Known, Null, Var, Param, Field, No, Op}
+use Rattle.mls_meaning.specs.Expressions.{eval, same, cell_of, value_in}
+use Rattle.mls_queries.specs.Query.{passes, is_key, reading}
+use Rattle.mls_queries.proofs.PlaceLemmas.{map_filter}
+use Rattle.mls_queries.specs.Demanded.{either, is_field, value_known, equated, demanded, put_first, demanded_from, of_key}
+
+-- ---- filters
+
+-- a filter in a filter, by a test that says the same of what passes the other
+pub within_filter : {A : Type 0} (h p q : A → Bool) → ((x : A) → h x ≡ true → p x ≡ q x) → (xs : List A) → filter p (filter h xs) ≡ filter h (filter q xs)
+within_filter h p q same [] = refl
+within_filter h p q same (x ∷ xs) =
+    elim (h x) as (λ b. h x ≡ b → filter p (cond b (x ∷ filter h xs) (filter h xs)) ≡ filter h (cond (q x) (x ∷ filter q xs) (filter q xs))) [
+      | true ↦ λ e.
+          ap (λ b. cond b (x ∷ filter p (filter h xs)) (filter p (filter h xs))) (same x e)
+          ∙ ap (λ ys. cond (q x) (x ∷ ys) ys) (within_filter h p q same xs)
+          ∙ (elim (q x) as (λ b. cond b (x ∷ filter h (filter q xs)) (filter h (filter q xs)) ≡ filter h (cond b (x ∷ filter q xs) (filter q xs))) [
+            | true ↦ ap (λ b. cond b (x ∷ filter h (filter q xs)) (filter h (filter q xs))) (sym e)
+            | false ↦ refl
+          ])
+      | false ↦ λ e.
+          within_filter h p q same xs
+          ∙ (elim (q x) as (λ b. filter h (filter q xs) ≡ filter h (cond b (x ∷ filter q xs) (filter q xs))) [
+            | true ↦ ap (λ b. cond b (x ∷ filter h (filter q xs)) (filter h (filter q xs))) (sym e)
+            | false ↦ refl
+          ])
+    ] refl
+
+-- whether one of them passes a test that the filter lets through
+pub any_filter : {A : Type 0} (h r : A → Bool) → ((x : A) → r x ≡ true → h x ≡ true) → (xs : List A) → list_any r (filter h xs) ≡ list_any r xs
+any_filter h r through [] = refl
+any_filter h r through (x ∷ xs) =
+    elim (h x) as (λ b. h x ≡ b → list_any r (cond b (x ∷ filter h xs) (filter h xs)) ≡ (r x || list_any r xs)) [
+      | true ↦ λ e. ap (λ b. r x || b) (any_filter h r through xs)
+      | false ↦ λ e.
+          any_filter h r through xs ∙ ap (λ b. b || list_any r xs) (sym (false_from_ne_true (r x) (λ t. true≢false (sym (through x t) ∙ e))))
+    ] refl
+
+-- a filter in a filter that lets through what passes of the list
+pub filter_where : {A : Type 0} (p q : A → Bool) (xs : List A) → AllByRecursion (λ x. p x ≡ true → q x ≡ true) xs → filter p (filter q xs) ≡ filter p xs
+filter_where p q [] h = refl
+filter_where p q (x ∷ xs) h =
+    elim (q x) as (λ b. q x ≡ b → filter p (cond b (x ∷ filter q xs) (filter q xs)) ≡ filter p (x ∷ xs)) [
+      | true ↦ λ e. ap (λ ys. cond (p x) (x ∷ ys) ys) (filter_where p q xs h.1)
+      | false ↦ λ e. filter_where p q xs h.1 ∙ ap (λ b. cond b (x ∷ filter p xs) (filter p xs)) (sym (false_from_ne_true (p x) (λ t. true≢false (sym (h.0 t) ∙ e))))
+    ] refl
+
+-- ---- the tuples of one key
+
+entries_kept : (T : Table) (test : Place → Bool) → entries (retain_keys T test) ≡ filter (λ e. test e.0) (entries T)
+entries_kept T test =
+    sym (entries_are (retain_keys T test) (filter (λ e. test e.0) (entries T))
+    (so_from _ (sorted_filter (λ e. test e.0) (entries T) (so_true _ (entries_sorted T))))
+    (λ e. (to e, from e)))
+  where
+    to : (e : Entry) → IsAmong e (filter (λ e. test e.0) (entries T)) → get (retain_keys T test) e.0 ≡ Some e.1
+    to e i = let r = among_filter (λ e. test e.0) (entries T) e i in get_kept T test e.0 ∙ ap (λ b. cond b (get T e.0) None) r.1 ∙ among_entries T e r.0
+
+    from : (e : Entry) → get (retain_keys T test) e.0 ≡ Some e.1 → IsAmong e (filter (λ e. test e.0) (entries T))
+    from e g =
+        elim (test e.0) as (λ b. test e.0 ≡ b → cond b (get T e.0) None ≡ Some e.1 → IsAmong e (filter (λ e. test e.0) (entries T))) [
+          | true ↦ λ t k. filter_among (λ e. test e.0) (entries T) e (entries_among T e.0 e.1 k) t
+          | false ↦ λ t k. absurd (none-some e.1 k)
+        ] refl (sym (get_kept T test e.0) ∙ g)
+
+low_of_key : (ls : Labels) (c : ℕ) (key : List Value) (T : Table) → low ls c (of_key key T) ≡ of_key key (low ls c T)
+low_of_key ls c key T = same_table _ _ (λ p.
+    get_low ls c (of_key key T) p
+    ∙ ap (λ o. cond (below ls p.class c) o None) (get_kept T (λ q. is_key q.key key) p)
+    ∙ exchanged (below ls p.class c) (is_key p.key key) p
+    ∙ ap (λ o. cond (is_key p.key key) o None) (sym (get_low ls c T p))
+    ∙ sym (get_kept (low ls c T) (λ q. is_key q.key key) p))
+  where
+    exchanged : (a b : Bool) (p : Place) → cond a (cond b (get T p) None) None ≡ cond b (cond a (get T p) None) None
+    exchanged true true p = refl
+    exchanged true false p = refl
+    exchanged false true p = refl
+    exchanged false false p = refl
+
+-- what subsumes an entry has its key
+subsumed_key : (d e : Entry) → subsumes_entry d e ≡ true → d.0.key ≡ e.0.key
+subsumed_key d e h = ap (λ p. p.key) (is_place-true d.0 (with_class e.0 d.0.class) (and_parts _ _ h).0)
+
+max_in_key : (key : List Value) (es : List Entry) (e : Entry) → is_key e.0.key key ≡ true → is_max_among (filter (λ d. is_key d.0.key key) es) e ≡ is_max_among es e
+max_in_key key es e h =
+    ap not (any_filter (λ d. is_key d.0.key key) (λ d. subsumes_entry d e && not (subsumes_entry e d))
+    (λ d t. ap (λ k. is_key k key) (subsumed_key d e (and_parts _ _ t).0) ∙ h) es)
+
+-- the rows of the tuples of a key are those rows that have it
+pub rows_of_key : (ls : Labels) (c : ℕ) (key : List Value) (T : Table) → rows ls c (of_key key T) ≡ filter (λ t. is_key t.key key) (rows ls c T)
+unfolding rows
+rows_of_key ls c key T =
+    let es = entries (low ls c T) in
+    let has = λ (e : Entry). is_key e.0.key key in
+    ap (λ xs. map (λ e. tuple_at e.0 e.1) (filter (is_max_among xs) xs)) (ap entries (low_of_key ls c key T) ∙ entries_kept (low ls c T) (λ p. is_key p.key key))
+    ∙ ap (map (λ e. tuple_at e.0 e.1)) (within_filter has (is_max_among (filter has es)) (is_max_among es) (max_in_key key es) es)
+    ∙ map_filter (λ e. tuple_at e.0 e.1) (λ t. is_key t.key key) (filter (is_max_among es) es)
+
+-- ---- the key that a condition demands
+
+module _ (t : Tuple) where
+  field_reads : (i : ℕ) (e : Expr) → is_field i e ≡ true → value_in (reading t) e ≡ cell_of t i
+  unfolding eval
+  field_reads i (Known v) h = absurd (true≢false (sym h))
+  field_reads i Null h = absurd (true≢false (sym h))
+  field_reads i (Var n) h = absurd (true≢false (sym h))
+  field_reads i (Param n) h = absurd (true≢false (sym h))
+  field_reads i (Field d j) h =
+      let p = and_parts (nat_eq d 0) (nat_eq j i) h in
+      ap (λ d. value_in (reading t) (Field d j)) (eqb-true d 0 p.0) ∙ ap (cell_of t) (eqb-true j i p.1)
+  field_reads i (No e) h = absurd (true≢false (sym h))
+  field_reads i (Op op l r) h = absurd (true≢false (sym h))
+
+  known_reads : (v : Value) (e : Expr) → value_known e ≡ Some v → value_in (reading t) e ≡ Some v
+  unfolding eval
+  known_reads v (Known w) h = h
+  known_reads v Null h = absurd (none-some v h)
+  known_reads v (Var n) h = absurd (none-some v h)
+  known_reads v (Param n) h = absurd (none-some v h)
+  known_reads v (Field d j) h = absurd (none-some v h)
+  known_reads v (No e) h = absurd (none-some v h)
+  known_reads v (Op op l r) h = absurd (none-some v h)
+
+  same_values : (a b : Option Value) → same a b ≡ true → a ≡ b
+  same_values None None h = refl
+  same_values None (Some b) h = absurd (true≢false (sym h))
+  same_values (Some a) None h = absurd (true≢false (sym h))
+  same_values (Some a) (Some b) h = ap Some (value_eq-true a b h)
+
+  equated_reads : (i : ℕ) (v : Value) (l r : Expr) → equated i l r ≡ Some v → same (value_in (reading t) l) (value_in (reading t) r) ≡ true → cell_of t i ≡ Some v
+  equated_reads i v l r h s =
+      elim (is_field i l) as (λ b. is_field i l ≡ b → cond b (value_known r) None ≡ Some v → cell_of t i ≡ Some v) [
+        | true ↦ λ f k. sym (field_reads i l f) ∙ same_values _ _ s ∙ known_reads v r k
+        | false ↦ λ f k. absurd (none-some v k)
+      ] refl h
+
+  turned : (a b : Option Value) → same a b ≡ true → same b a ≡ true
+  turned a b h = subst (λ x. same x a ≡ true) (same_values a b h) (subst (λ x. same a x ≡ true) (sym (same_values a b h)) h)
+
+  one_of : (o p : Option Value) (v : Value) (P : Type 0) → either o p ≡ Some v → (o ≡ Some v → P) → (p ≡ Some v → P) → P
+  one_of (Some w) p v P h first second = first h
+  one_of None p v P h first second = second h
+
+  demanded_reads : (i : ℕ) (v : Value) (e : Expr) → demanded i e ≡ Some v → passes e t ≡ true → cell_of t i ≡ Some v
+  unfolding eval
+  demanded_reads i v (Known w) h p = absurd (none-some v h)
+  demanded_reads i v Null h p = absurd (none-some v h)
+  demanded_reads i v (Var n) h p = absurd (none-some v h)
+  demanded_reads i v (Param n) h p = absurd (none-some v h)
+  demanded_reads i v (Field d j) h p = absurd (none-some v h)
+  demanded_reads i v (No e) h p = absurd (none-some v h)
+  demanded_reads i v (Op operators.And l r) h p =
+      let both = and_parts (passes l t) (passes r t) p in
+      one_of (demanded i l) (demanded i r) v _ h (λ q. demanded_reads i v l q both.0) (λ q. demanded_reads i v r q both.1)
+  demanded_reads i v (Op operators.Equal l r) h p =
+      one_of (equated i l r) (equated i r l) v _ h (λ q. equated_reads i v l r q p) (λ q. equated_reads i v r l q (turned (value_in (reading t) l) (value_in (reading t) r) p))
+  demanded_reads i v (Op operators.Plus l r) h p = absurd (none-some v h)
+  demanded_reads i v (Op operators.Minus l r) h p = absurd (none-some v h)
+  demanded_reads i v (Op operators.Times l r) h p = absurd (none-some v h)
+  demanded_reads i v (Op operators.Unequal l r) h p = absurd (none-some v h)
+  demanded_reads i v (Op operators.Less l r) h p = absurd (none-some v h)
+  demanded_reads i v (Op operators.AtMost l r) h p = absurd (none-some v h)
+  demanded_reads i v (Op operators.Greater l r) h p = absurd (none-some v h)
+  demanded_reads i v (Op operators.AtLeast l r) h p = absurd (none-some v h)
+  demanded_reads i v (Op operators.Or l r) h p = absurd (none-some v h)
+
+  -- the attributes from k on have these values
+  abbrev Reads : ℕ → List Value → Type 0
+  Reads k [] = ⊤
+  Reads k (x ∷ xs) = (cell_of t k ≡ Some x) × Reads (suc k) xs
+
+  nth : (pre : List Value) (x : Value) (rest : List Value) → slice_index_or (map Some (pre ++ x ∷ rest)) (length pre) None ≡ Some x
+  nth [] x rest = refl
+  nth (p ∷ pre) x rest = nth pre x rest
+
+  within : (pre : List Value) (x : Value) (rest : List Value) → nat_lt (length pre) (length (pre ++ x ∷ rest)) ≡ true
+  within pre x rest = let n = length-append pre (x ∷ rest) in lt-ltb (length pre) (length (pre ++ x ∷ rest)) (omega (arith, n))
+
+  cell_in : (pre : List Value) (x : Value) (rest : List Value) → t.key ≡ pre ++ x ∷ rest → cell_of t (length pre) ≡ Some x
+  cell_in pre x rest e =
+      subst (λ (key : List Value). cond (nat_lt (length pre) (length key)) (slice_index_or (map Some key) (length pre) None) (at t.elements (length pre - length key)).value ≡ Some x) (sym e)
+      (ap (λ b. cond b (slice_index_or (map Some (pre ++ x ∷ rest)) (length pre) None) (at t.elements (length pre - length (pre ++ x ∷ rest))).value) (within pre x rest) ∙ nth pre x rest)
+
+  longer : (pre : List Value) (x : Value) → length (pre ++ x ∷ []) ≡ suc (length pre)
+  longer [] x = refl
+  longer (p ∷ pre) x = ap suc (longer pre x)
+
+  moved : (pre : List Value) (x : Value) (rest : List Value) → pre ++ x ∷ rest ≡ (pre ++ x ∷ []) ++ rest
+  moved [] x rest = refl
+  moved (p ∷ pre) x rest = ap (λ ys. p ∷ ys) (moved pre x rest)
+
+  reads_from : (pre rest : List Value) → t.key ≡ pre ++ rest → Reads (length pre) rest
+  reads_from pre [] e = tt
+  reads_from pre (x ∷ rest) e = (cell_in pre x rest e, subst (λ k. Reads k rest) (longer pre x) (reads_from (pre ++ x ∷ []) rest (e ∙ moved pre x rest)))
+
+  both_put : (o : Option Value) (p : Option (List Value)) (vs : List Value) (P : Type 0) → put_first o p ≡ Some vs → ((v : Value) (ws : List Value) → o ≡ Some v → p ≡ Some ws → v ∷ ws ≡ vs → P) → P
+  both_put None p vs P h k = absurd (none-some vs h)
+  both_put (Some v) None vs P h k = absurd (none-some vs h)
+  both_put (Some v) (Some ws) vs P h k = k v ws refl refl (same_Some (v ∷ ws) vs h)
+
+  demanded_are : (e : Expr) → passes e t ≡ true → (k : ℕ) (xs vs : List Value) → Reads k xs → demanded_from k (length xs) e ≡ Some vs → xs ≡ vs
+  demanded_are e p k [] vs r h = same_Some [] vs h
+  demanded_are e p k (x ∷ xs) vs r h =
+      both_put (demanded k e) (demanded_from (suc k) (length xs) e) vs _ h (λ v ws a b c.
+      (λ i. same_Some x v (sym r.0 ∙ demanded_reads k v e a p) i ∷ demanded_are e p (suc k) xs ws r.1 b i) ∙ c)
+
+  -- a row that passes has the key that the condition demands
+  pub key_demanded : (e : Expr) (key : List Value) → passes e t ≡ true → demanded_from 0 (length t.key) e ≡ Some key → t.key ≡ key
+  key_demanded e key p h = demanded_are e p 0 t.key key (reads_from [] t.key refl) h

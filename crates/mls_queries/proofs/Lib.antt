@@ -1,0 +1,11 @@
+pub mod DataLemmas
+pub mod ClassLemmas
+pub mod ConditionLemmas
+pub mod PlaceLemmas
+pub mod TopLemmas
+pub mod KeyLemmas
+pub mod QueryLemmas
+pub mod PartLemmas
+pub mod SeenLemmas
+pub mod DemandLemmas
+pub mod LookLemmas

@@ -1,0 +1,10 @@
+use Rattle.std.proofs.Common.{◌≡◌, drop}
+use Rattle.mls_lattice.specs.Lattice.{pair_of}
+use Rattle.mls_lattice.specs.Policy.{labels_of}
+use Rattle.mls_scheme.specs.Tuple.{join_of, tuple_class}
+use Rattle.mls_queries.proofs.classes.class_of.Given as goal
+
+abbrev pub invariant-loop-element : goal.invariant-loop-element
+invariant-loop-element l =
+    (l.element-items ≡ l.row.elements)
+    × (join_of (labels_of l.policy) (pair_of l.class) (drop l.element-index l.element-items) ≡ tuple_class (labels_of l.policy) l.row)

@@ -1,0 +1,11 @@
+use Rattle.std.proofs.Common.{◌≡◌, take}
+use Rattle.std.specs.Prelude.{slice_index_or}
+use Rattle.std.specs.List.{filter}
+use Rattle.mls_lattice.specs.Policy.{labels_of}
+use Rattle.mls_filterview.specs.Rules.{no_tuple}
+use Rattle.mls_queries.specs.Query.{is_wanted}
+use Rattle.mls_queries.proofs.wanted.wanted.Given as goal
+
+abbrev pub invariant-loop-place : goal.invariant-loop-place
+invariant-loop-place l =
+    l.wanted.items ≡ filter (λ p. is_wanted (labels_of l.policy) l.query (slice_index_or l.rows p no_tuple)) (take l.place-index l.places)

@@ -1,0 +1,76 @@
+//! Classes of rows, and how they stand to labels.
+ghost use Rattle.std.specs.Prelude.{◌≡◌};
+ghost use Rattle.mls_lattice.specs.Lattice.{pair_of, ◌⊑◌};
+ghost use Rattle.mls_lattice.specs.Labels.{label_of};
+ghost use Rattle.mls_lattice.specs.Policy.{labels_of};
+ghost use Rattle.mls_scheme.specs.Tuple.{tuple_class};
+ghost use Rattle.mls_queries.specs.Query.{is_under, stands, has_class};
+
+use crate::query::{ClassTest, Comparison};
+use mls_lattice::{Label, LabelNo, Policy};
+use mls_scheme::Tuple;
+
+/// What a number stands for. A store that is not clean may give any number: one of no label stands for the bottom.
+#[tactic(auto, using(crate::proofs::ClassLemmas::class_steps))]
+fn label_of(policy: &Policy, label: LabelNo) -> Label
+    ensures { pair_of result ≡ label_of (labels_of policy.now) label }
+{
+    if label.index() < policy.label_count() {
+        policy.value(label)
+    } else {
+        Label { rank: 0, cats: 0 }
+    }
+}
+
+/// The class of a row: the join of its key class and the classes of its elements.
+pub(crate) fn class_of(policy: &Policy, row: &Tuple) -> Label
+    ensures { pair_of result ≡ tuple_class (labels_of policy.now) row.now }
+{
+    let mut class = label_of(policy, row.key_class);
+    for element in row.elements.as_slice() {
+        class = class.join(label_of(policy, element.class));
+    }
+    class
+}
+
+/// Whether a label dominates another.
+fn is_at_most(low: Label, high: Label) -> bool
+    ensures { result ≡ (pair_of low ⊑ pair_of high) }
+{
+    high.dominates(low)
+}
+
+/// Whether a label dominates another, and is another.
+pub(crate) fn is_under(low: Label, high: Label) -> bool
+    ensures { result ≡ is_under (pair_of low) (pair_of high) }
+{
+    is_at_most(low, high) && !is_at_most(high, low)
+}
+
+/// Whether a class stands so to a label.
+fn stands(comparison: Comparison, class: Label, label: Label) -> bool
+    ensures { result ≡ stands comparison (pair_of class) (pair_of label) }
+{
+    match comparison {
+        Comparison::Equal => class.same(label),
+        Comparison::Unequal => !class.same(label),
+        Comparison::Less => is_under(class, label),
+        Comparison::AtMost => is_at_most(class, label),
+        Comparison::Greater => is_under(label, class),
+        Comparison::AtLeast => is_at_most(label, class),
+    }
+}
+
+/// Whether the class of a row passes the test, if there is one.
+pub(crate) fn has_class(policy: &Policy, test: Option<ClassTest>, row: &Tuple) -> bool
+    ensures { result ≡ has_class (labels_of policy.now) test row.now }
+{
+    match test {
+        None => true,
+        Some(test) => stands(
+            test.comparison,
+            class_of(policy, row),
+            label_of(policy, test.label),
+        ),
+    }
+}

@@ -1,0 +1,24 @@
+//! Queries: what is found of a view.
+#![tactic(auto)]
+
+mod classes;
+mod condition;
+mod datum;
+mod demand;
+mod finding;
+mod highest;
+mod laws;
+mod looking;
+mod operator;
+mod parts;
+mod query;
+mod selecting;
+mod selection;
+mod wanted;
+
+pub use condition::holds;
+pub use finding::find;
+pub use laws::{keys_are_looked_up, queries_use_the_view, rows_that_pass_are_of_the_view};
+pub use query::{ClassTest, Comparison, Query};
+pub use selecting::select;
+pub use selection::Selection;

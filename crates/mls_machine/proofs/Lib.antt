@@ -11,6 +11,7 @@ pub mod AlikeLemmas
 pub mod CallLemmas
 pub mod FormLemmas
 pub mod RunLemmas
+pub mod ServingLemmas
 pub mod HistoryLemmas
 pub mod LineLemmas
 pub mod ScreenLemmas

@@ -5,6 +5,7 @@ pub mod Denying
 pub mod Machine
 pub mod Output
 pub mod Observation
+pub mod Serving
 pub mod Parting
 pub mod Laws
 pub mod History

@@ -2,6 +2,7 @@
 ghost use Rattle.mls_machine.specs.History.{HistoriesKeepIntegrity, LowHistoriesAreAlike, SecureHistoriesAreAlike, AcceptedHistoriesAreAlike, HistoriesPassWhatRunsPass, HistoriesShowOnlyReleases};
 ghost use Rattle.mls_machine.specs.Laws.{RefusalsChangeNothing, DenialsAndCallsAreEntered, RunsKeepIntegrity, LowRunsAreAlike, SecureRunsAreAlike, AcceptedRunsAreAlike, TablesAreHarmless};
 ghost use Rattle.mls_machine.specs.Parting.{PoliciesArePlain, RepliesAreLines, RunsAreLines, RunsPartIntoLines, LinesArePicked};
+ghost use Rattle.mls_machine.specs.Serving.{ServedRunsAreAlike};
 
 /// A command that is denied, a view, an audit, and a write that is refused leave the database and the sessions as they
 /// were.
@@ -37,6 +38,12 @@ pub fn secure_runs_are_alike()
 /// The same where the rules of certificates hold: the checker's word is enough.
 pub fn accepted_runs_are_alike()
     ensures { AcceptedRunsAreAlike }
+{}
+
+/// Many sessions, each answered what its own level may see: where information flows down in a run by releases alone, so it
+/// does by these answers. What the sessions at levels that a level dominates are answered, event by event, is the same.
+pub fn served_runs_are_alike()
+    ensures { ServedRunsAreAlike }
 {}
 
 /// So of a history of runs, where users, rights and stored transactions may change from run to run: each database on the

@@ -22,12 +22,14 @@ use std::fs;
 use std::io::{self, Error, ErrorKind, Write};
 
 /// The scripts, in the order in which they are told.
-const FILES: [(&str, Trials); 7] = [
+const FILES: [(&str, Trials); 9] = [
     ("first.script", Trials::Each(What::Write)),
     ("audit.script", Trials::Calls),
     ("writes.script", Trials::Calls),
     ("again.script", Trials::Each(What::Fragments)),
     ("recall.script", Trials::Each(What::Fragments)),
+    ("found.script", Trials::Each(What::Fragments)),
+    ("key.script", Trials::Calls),
     ("calls.script", Trials::Calls),
     ("calls.script", Trials::Each(What::Piece)),
 ];

@@ -14,6 +14,8 @@ use Rattle.mls_updates.specs.Writes.{Write, Insert, Update, Delete, Written, wri
 use Rattle.mls_updates.proofs.LawLemmas.{low_use_low}
 use Rattle.mls_audit.specs.declared.entry.Entry.{Entry}
 use Rattle.mls_audit.specs.Entry.{label_of, visible}
+use Rattle.mls_queries.specs.declared.query.Query.{Query}
+use Rattle.mls_queries.specs.Query.{found}
 use Rattle.mls_script.specs.declared.event.Event.{Event}
 use Rattle.mls_script.specs.declared.event.Command.{Command}
 use Rattle.mls_script.specs.declared.event.Command.TheVariants as commands
@@ -69,11 +71,11 @@ module _ (site : Site) (c : ℕ) (v w : World) (e : Event) (seen : below (site_l
 
   -- ---- effects
 
-  alike_view : (user rel label : ℕ) → first_denial (view_denials site e.level user rel label) ≡ None → Alike (viewed site v rel label) (viewed site w rel label)
-  alike_view user rel label none =
+  alike_view : (user rel label : ℕ) (query : Query) → first_denial (view_denials site e.level user rel label) ≡ None → Alike (viewed site v rel label query) (viewed site w rel label query)
+  alike_view user rel label query none =
       let ls = site_labels site in
       let lower = below-trans ls label e.level c (view_below site e.level user rel label none) seen in
-      record { world = h; reply = ap Rows (rows_under ls c label (v.db rel) (w.db rel) (h.tables rel) lower) }
+      record { world = h; reply = ap (λ ts. Rows (found ls query ts)) (rows_under ls c label (v.db rel) (w.db rel) (h.tables rel) lower) }
 
   abbrev result : World → ℕ → Write → Written
   result u rel wr = write (site_labels site) (site_scheme site rel) e.level wr (u.db rel)
@@ -120,7 +122,7 @@ module _ (site : Site) (c : ℕ) (v w : World) (e : Event) (seen : below (site_l
   alike_inside (commands.Open name) user plain = alike_denied user _
   alike_inside commands.Close user plain = record { world = alike_session None; reply = refl }
   alike_inside commands.Audit user plain = alike_listed
-  alike_inside (commands.View rel label) user plain = alike_unless _ user _ _ (alike_view user rel label)
+  alike_inside (commands.View rel label query counts) user plain = alike_unless _ user _ _ (alike_view user rel label query)
   alike_inside (commands.Insert rel key values) user plain = alike_write _ user rel (Insert key values)
   alike_inside (commands.Update rel key key_class from sets) user plain = alike_write _ user rel (Update key key_class from sets)
   alike_inside (commands.Delete rel key key_class) user plain = alike_write _ user rel (Delete key key_class)
@@ -134,7 +136,7 @@ module _ (site : Site) (c : ℕ) (v w : World) (e : Event) (seen : below (site_l
   alike_outside (commands.Open name) = alike_open (cleared site e.level (user_named site.policy name))
   alike_outside commands.Close = record { world = h; reply = refl }
   alike_outside commands.Audit = record { world = h; reply = refl }
-  alike_outside (commands.View rel label) = record { world = h; reply = refl }
+  alike_outside (commands.View rel label query counts) = record { world = h; reply = refl }
   alike_outside (commands.Insert rel key values) = record { world = h; reply = refl }
   alike_outside (commands.Update rel key key_class from sets) = record { world = h; reply = refl }
   alike_outside (commands.Delete rel key key_class) = record { world = h; reply = refl }

@@ -42,7 +42,7 @@ where_called : (site : Site) (P : Tx → Type 0) → ((name : Name) → IfSome (
 where_called site P h (commands.Open name) = tt
 where_called site P h commands.Close = tt
 where_called site P h commands.Audit = tt
-where_called site P h (commands.View rel label) = tt
+where_called site P h (commands.View rel label query counts) = tt
 where_called site P h (commands.Insert rel key values) = tt
 where_called site P h (commands.Update rel key key_class from sets) = tt
 where_called site P h (commands.Delete rel key key_class) = tt
@@ -76,7 +76,7 @@ pub secure_call : (site : Site) (command : Command) → IsCallSecure site comman
 secure_call site (commands.Open name) h = tt
 secure_call site commands.Close h = tt
 secure_call site commands.Audit h = tt
-secure_call site (commands.View rel label) h = tt
+secure_call site (commands.View rel label query counts) h = tt
 secure_call site (commands.Insert rel key values) h = tt
 secure_call site (commands.Update rel key key_class from sets) h = tt
 secure_call site (commands.Delete rel key key_class) h = tt
@@ -97,7 +97,7 @@ pub weaker : (site : Site) (P Q : Tx → Type 0) → ((tx : Tx) → P tx → Q t
 weaker site P Q k (commands.Open name) h = tt
 weaker site P Q k commands.Close h = tt
 weaker site P Q k commands.Audit h = tt
-weaker site P Q k (commands.View rel label) h = tt
+weaker site P Q k (commands.View rel label query counts) h = tt
 weaker site P Q k (commands.Insert rel key values) h = tt
 weaker site P Q k (commands.Update rel key key_class from sets) h = tt
 weaker site P Q k (commands.Delete rel key key_class) h = tt

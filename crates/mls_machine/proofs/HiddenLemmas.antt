@@ -140,7 +140,7 @@ module _ (site : Site) (distinct : AreDistinct (site_labels site)) (c : ℕ) (w 
   hidden_inside (commands.Open name) user safe = hidden_denied user AlreadyOpen
   hidden_inside commands.Close user safe = without_items _ (hidden_session None) refl refl
   hidden_inside commands.Audit user safe = same _ refl refl
-  hidden_inside (commands.View rel label) user safe = hidden_unless _ user (viewed site w rel label) (λ none. same _ refl refl)
+  hidden_inside (commands.View rel label query counts) user safe = hidden_unless _ user (viewed site w rel label query) (λ none. same _ refl refl)
   hidden_inside (commands.Insert rel key values) user safe = hidden_write _ user rel (Insert key values)
   hidden_inside (commands.Update rel key key_class from sets) user safe = hidden_write _ user rel (Update key key_class from sets)
   hidden_inside (commands.Delete rel key key_class) user safe = hidden_write _ user rel (Delete key key_class)
@@ -154,7 +154,7 @@ module _ (site : Site) (distinct : AreDistinct (site_labels site)) (c : ℕ) (w 
   hidden_outside (commands.Open name) = hidden_open (cleared site e.level (user_named site.policy name))
   hidden_outside commands.Close = same _ refl refl
   hidden_outside commands.Audit = same _ refl refl
-  hidden_outside (commands.View rel label) = same _ refl refl
+  hidden_outside (commands.View rel label query counts) = same _ refl refl
   hidden_outside (commands.Insert rel key values) = same _ refl refl
   hidden_outside (commands.Update rel key key_class from sets) = same _ refl refl
   hidden_outside (commands.Delete rel key key_class) = same _ refl refl

@@ -1,6 +1,6 @@
 -- No line feed stands in a line, and parted at them the output is its lines.
 use Rattle.std.proofs.Common.{◌≡◌, ℕ, Bool, true, false, cond, List, [], ◌∷◌, ◌++◌, map, Option, Some, None, refl, ap, ◌∙◌, append_assoc, arith}
-use Rattle.std.specs.Prelude.{codes}
+use Rattle.std.specs.Prelude.{codes, length}
 use Rattle.std.specs.List.{filter, All, AllByRecursion, slice_split}
 use Rattle.std.specs.Fmt.{decimal}
 use Rattle.std.proofs.lemmas.List.Folds.{list_any-append}
@@ -32,7 +32,7 @@ use Rattle.mls_machine.specs.Output.{Line, cell_text, row_text, entry_text, outc
 use Rattle.mls_machine.specs.Observation.{heard, out}
 use Rattle.mls_machine.specs.Parting.{is_line_feed, IsOneLine, HasPlainNames, IsPlain, PoliciesArePlain, RepliesAreLines, RunsAreLines, RunsPartIntoLines}
 use Rattle.mls_machine.proofs.OneLineLemmas.{one_line-append, one_line-at, each, each_if, each-append, each-map, one_line-printable, one_line-decimal, one_line-escaped, one_line-name, first_of, second_of}
-use Rattle.mls_machine.proofs.RowLineLemmas.{cell_line, scheme_line, label_line, row_line, heading_line, table_lines, entry_line}
+use Rattle.mls_machine.proofs.RowLineLemmas.{cell_line, scheme_line, label_line, row_line, heading_line, count_line, table_lines, entry_line}
 
 -- ---- outcomes and denials
 
@@ -79,8 +79,9 @@ Whole l = IsOneLine l.text
 
 module _ (site : Site) (plain : IsPlain site) where
   view_lines : (command : Command) (tuples : List Tuple) → AllByRecursion IsOneLine (view_texts site command tuples)
-  view_lines (commands.View rel label) tuples = (
-    heading_line site.policy plain.labels (scheme_of site.schemes rel) label (scheme_line site.schemes rel plain.relations),
+  view_lines (commands.View rel label query true) tuples = (count_line site.policy plain.labels (scheme_of site.schemes rel) label query (length tuples) (scheme_line site.schemes rel plain.relations), tt)
+  view_lines (commands.View rel label query false) tuples = (
+    heading_line site.policy plain.labels (scheme_of site.schemes rel) label query (scheme_line site.schemes rel plain.relations),
     each-map IsOneLine (row_text site.policy) tuples (each (λ t. IsOneLine (row_text site.policy t)) (row_line site.policy plain.labels) tuples),
   )
   view_lines (commands.Open name) tuples = tt
@@ -92,9 +93,10 @@ module _ (site : Site) (plain : IsPlain site) where
   view_lines (commands.Call name args) tuples = tt
 
   in_table : (command : Command) (tuples : List Tuple) → AllByRecursion IsOneLine (table_texts site command tuples)
-  in_table (commands.View rel label) tuples =
+  in_table (commands.View rel label query true) tuples = view_lines (commands.View rel label query true) tuples
+  in_table (commands.View rel label query false) tuples =
       let s = scheme_of site.schemes rel in
-      table_lines site.policy plain.labels s label (table_widths site.policy s tuples) tuples (scheme_line site.schemes rel plain.relations)
+      table_lines site.policy plain.labels s label query (table_widths site.policy s tuples) tuples (scheme_line site.schemes rel plain.relations)
   in_table (commands.Open name) tuples = tt
   in_table commands.Close tuples = tt
   in_table commands.Audit tuples = tt
@@ -108,7 +110,7 @@ module _ (site : Site) (plain : IsPlain site) where
   call_lines (commands.Open name) = tt
   call_lines commands.Close = tt
   call_lines commands.Audit = tt
-  call_lines (commands.View rel label) = tt
+  call_lines (commands.View rel label query counts) = tt
   call_lines (commands.Insert rel key values) = tt
   call_lines (commands.Update rel key key_class from sets) = tt
   call_lines (commands.Delete rel key key_class) = tt

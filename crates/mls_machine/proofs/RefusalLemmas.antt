@@ -86,7 +86,7 @@ module _ (site : Site) (w : World) (e : Event) where
   inside_left (commands.Open name) user = denied_left _ user _
   inside_left commands.Close user = record { db = λ h. absurd h; sessions = λ h. absurd h; audit = sym (append-nil w.audit) }
   inside_left commands.Audit user = all_left _ (Some user) _ refl refl
-  inside_left (commands.View rel label) user = unless_left _ _ user _ (all_left _ (Some user) _ refl refl)
+  inside_left (commands.View rel label query counts) user = unless_left _ _ user _ (all_left _ (Some user) _ refl refl)
   inside_left (commands.Insert rel key values) user = unless_left _ _ user _ (wrote_left _ user rel (Insert key values) refl)
   inside_left (commands.Update rel key key_class from sets) user = unless_left _ _ user _ (wrote_left _ user rel (Update key key_class from sets) refl)
   inside_left (commands.Delete rel key key_class) user = unless_left _ _ user _ (wrote_left _ user rel (Delete key key_class) refl)
@@ -100,7 +100,7 @@ module _ (site : Site) (w : World) (e : Event) where
   outside_left (commands.Open name) = opened_left name (cleared site e.level (user_named site.policy name))
   outside_left commands.Close = all_left _ None _ refl refl
   outside_left commands.Audit = all_left _ None _ refl refl
-  outside_left (commands.View rel label) = all_left _ None _ refl refl
+  outside_left (commands.View rel label query counts) = all_left _ None _ refl refl
   outside_left (commands.Insert rel key values) = all_left _ None _ refl refl
   outside_left (commands.Update rel key key_class from sets) = all_left _ None _ refl refl
   outside_left (commands.Delete rel key key_class) = all_left _ None _ refl refl

@@ -1,12 +1,13 @@
 -- Over content of the stored form the numbers in a reply are those of the policy.
-use Rattle.std.proofs.Common.{◌≡◌, ℕ, suc, ◌<◌, Bool, true, false, cond, List, [], ◌∷◌, ◌++◌, length, map, Option, Some, None, Ok, Err, inl, inr, refl, sym, subst, arith}
-use Rattle.std.specs.List.{AllByRecursion, filter}
+use Rattle.std.proofs.Common.{◌≡◌, ℕ, suc, ◌<◌, Bool, true, false, cond, not, List, [], ◌∷◌, ◌++◌, length, map, Option, Some, None, Ok, Err, inl, inr, refl, sym, subst, arith}
+use Rattle.std.specs.List.{AllByRecursion, filter, list_any}
 use Rattle.std.specs.FinMap.{get}
 use Rattle.std.specs.Option.{IfSome}
 use Rattle.std.proofs.lemmas.List.{length-map}
 use Rattle.mls_lattice.specs.Labels.{Labels, below, AreDistinct}
 use Rattle.mls_lattice.specs.Policy.{Name, Tables}
 use Rattle.mls_scheme.specs.declared.tuple.Element.{Element}
+use Rattle.mls_scheme.specs.declared.tuple.Tuple.{Tuple}
 use Rattle.mls_scheme.specs.declared.place.Place.{Place}
 use Rattle.mls_scheme.specs.declared.value.Value.{Value}
 use Rattle.mls_scheme.specs.Tuple.{at, HasClassesBelow}
@@ -19,6 +20,10 @@ use Rattle.mls_translang.specs.Fits.{IsReadUnder}
 use Rattle.mls_meaning.specs.Meaning.{Item, run_tx}
 use Rattle.mls_meaning.proofs.LawLemmas.{call_labelled}
 use Rattle.mls_updates.specs.Writes.{Write, Insert, Update, Delete}
+use Rattle.mls_queries.specs.declared.query.Query.{Query}
+use Rattle.mls_queries.specs.Query.{has_class, meets, is_above, highest_of, first_of, found}
+use Rattle.mls_queries.proofs.PlaceLemmas.{all_filter}
+use Rattle.mls_certcheck.proofs.EachLemmas.{all_take}
 use Rattle.mls_audit.specs.declared.entry.Entry.{Entry}
 use Rattle.mls_audit.specs.Entry.{label_of}
 use Rattle.mls_script.specs.declared.event.Event.{Event}
@@ -60,6 +65,23 @@ module _ (ls : Labels) (n : ℕ) (T : Table) (stored : IsStored ls n T) where
       let r = (rows_are_the_view ls distinct n T stored c).1 in
       subst (AllByRecursion (HasClassesBelow (length ls))) (sym r.1) (tuples_below r.0 r.3)
 
+-- ---- what is found of rows
+
+module _ (P : Tuple → Type 0) (ls : Labels) (ts : List Tuple) (h : AllByRecursion P ts) where
+  first_all : (o : Option ℕ) (us : List Tuple) → AllByRecursion P us → AllByRecursion P (first_of o us)
+  first_all None us k = k
+  first_all (Some n) us k = all_take P us n k
+
+  highest_all : (b : Bool) → AllByRecursion P (highest_of ls b ts)
+  highest_all true = all_filter P (λ t. not (list_any (λ s. is_above ls s t) ts)) ts h
+  highest_all false = h
+
+  found_all : (q : Query) → AllByRecursion P (found ls q ts)
+  found_all q =
+      let highest = highest_of ls q.highest ts in
+      let classed = filter (has_class ls q.class) highest in
+      first_all q.first (filter (meets q.test) classed) (all_filter P (meets q.test) classed (all_filter P (has_class ls q.class) highest (highest_all q.highest)))
+
 -- ---- entries
 
 filter_known : (p : Entry → Bool) (policy : Tables) (es : List Entry) → EntriesAreKnown policy es → EntriesAreKnown policy (filter p es)
@@ -86,10 +108,13 @@ module _ (site : Site) (distinct : AreDistinct (site_labels site)) (read : AreRe
   unless_known None user effect h = h
   unless_known (Some denial) user effect h = record { reply = tt; audit = denied_known user denial }
 
-  viewed_known : (rel label : ℕ) → AllByRecursion (HasClassesBelow (length site.policy.labels)) (rows (site_labels site) label (w.db rel))
-  viewed_known rel label =
+  seen_known : (rel label : ℕ) → AllByRecursion (HasClassesBelow (length site.policy.labels)) (rows (site_labels site) label (w.db rel))
+  seen_known rel label =
       subst (λ n. AllByRecursion (HasClassesBelow n) (rows (site_labels site) label (w.db rel))) (length-map site.policy.labels (λ l. l.value))
       (rows_below (site_labels site) (length (site_scheme site rel).others) (w.db rel) (stored rel) distinct label)
+
+  viewed_known : (rel label : ℕ) (query : Query) → AllByRecursion (HasClassesBelow (length site.policy.labels)) (found (site_labels site) query (rows (site_labels site) label (w.db rel)))
+  viewed_known rel label query = found_all (HasClassesBelow (length site.policy.labels)) (site_labels site) (rows (site_labels site) label (w.db rel)) (seen_known rel label) query
 
   wrote_known : (denial : Option Denial) (user rel : ℕ) (wr : Write) → IsKnown site (unless site denial w e user (wrote site w e.level rel wr))
   wrote_known denial user rel wr = unless_known denial user (wrote site w e.level rel wr) (record { reply = tt; audit = known })
@@ -116,7 +141,7 @@ module _ (site : Site) (distinct : AreDistinct (site_labels site)) (read : AreRe
   inside_known (commands.Open name) user = record { reply = tt; audit = denied_known user AlreadyOpen }
   inside_known commands.Close user = record { reply = tt; audit = known }
   inside_known commands.Audit user = record { reply = filter_known (λ x. below (site_labels site) (label_of x) e.level) site.policy w.audit known; audit = known }
-  inside_known (commands.View rel label) user = unless_known _ user (viewed site w rel label) (record { reply = viewed_known rel label; audit = known })
+  inside_known (commands.View rel label query counts) user = unless_known _ user (viewed site w rel label query) (record { reply = viewed_known rel label query; audit = known })
   inside_known (commands.Insert rel key values) user = wrote_known _ user rel (Insert key values)
   inside_known (commands.Update rel key key_class from sets) user = wrote_known _ user rel (Update key key_class from sets)
   inside_known (commands.Delete rel key key_class) user = wrote_known _ user rel (Delete key key_class)
@@ -134,7 +159,7 @@ module _ (site : Site) (distinct : AreDistinct (site_labels site)) (read : AreRe
   outside_known (commands.Open name) = opened_known (user_named site.policy name) (user_below site.policy name)
   outside_known commands.Close = record { reply = tt; audit = known }
   outside_known commands.Audit = record { reply = tt; audit = known }
-  outside_known (commands.View rel label) = record { reply = tt; audit = known }
+  outside_known (commands.View rel label query counts) = record { reply = tt; audit = known }
   outside_known (commands.Insert rel key values) = record { reply = tt; audit = known }
   outside_known (commands.Update rel key key_class from sets) = record { reply = tt; audit = known }
   outside_known (commands.Delete rel key key_class) = record { reply = tt; audit = known }

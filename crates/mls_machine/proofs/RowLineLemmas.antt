@@ -1,6 +1,6 @@
 -- No line feed stands in what is written of rows and entries, where none stands in a name.
-use Rattle.std.proofs.Common.{ℕ, zero, suc, true, false, cond, List, [], ◌∷◌, ◌++◌, map, Option, Some, None, refl}
-use Rattle.std.specs.Prelude.{codes}
+use Rattle.std.proofs.Common.{ℕ, zero, suc, Bool, true, false, cond, List, [], ◌∷◌, ◌++◌, map, Option, Some, None, refl}
+use Rattle.std.specs.Prelude.{codes, is_some}
 use Rattle.std.specs.List.{flat_map, AllByRecursion}
 use Rattle.std.specs.Fmt.{decimal}
 use Rattle.std.proofs.lemmas.List.Folds.{list_any-append}
@@ -14,10 +14,11 @@ use Rattle.mls_scheme.specs.declared.value.Value.TheVariants as values
 use Rattle.mls_scheme.specs.declared.tuple.Tuple.{Tuple}
 use Rattle.mls_scheme.specs.Tuple.{tuple_class}
 use Rattle.mls_scheme.specs.Scheme.{Scheme, Schemes, scheme_of}
+use Rattle.mls_queries.specs.declared.query.Query.{Query}
 use Rattle.mls_audit.specs.declared.entry.Entry.{Entry}
 use Rattle.mls_audit.specs.declared.entry.Entry.TheVariants as entries
 use Rattle.mls_machine.specs.Parting.{IsOneLine, HasPlainNames}
-use Rattle.mls_machine.specs.Output.{value_text, cell_text, name_of, cell_entry, row_text, heading, table_cell, tuple_cells, name_cells, table_title, table_row, table_of, entry_front, entry_text}
+use Rattle.mls_machine.specs.Output.{value_text, cell_text, name_of, cell_entry, row_text, word_if, query_words, asked, heading, count_text, table_cell, tuple_cells, name_cells, table_row, table_of, entry_front, entry_text}
 use Rattle.mls_machine.proofs.OneLineLemmas.{one_line-append, one_line-flat_map, one_line-at, each, each_if, each-append, each-map, one_line-printable, one_line-quoted, one_line-decimal, one_line-signed, one_line-escaped, one_line-padded, one_line-ruled}
 
 -- ---- values
@@ -67,8 +68,33 @@ module _ (p : Tables) (labels : AllByRecursion (λ l. IsOneLine l.name) p.labels
     one_line-flat_map (λ a. codes " " ++ a.name) s.others (each_if (λ a. IsOneLine a.name) (λ a. IsOneLine (codes " " ++ a.name)) (λ a k. k) s.others h.others),
   )
 
-  pub heading_line : (s : Scheme) (label : ℕ) → HasPlainNames s → IsOneLine (heading p s label)
-  heading_line s label h = let k = spaced_line s h in simp (list_any-append, h.name, label_line label, k.0, k.1)
+  -- ---- what was asked
+
+  word_line : (has : Bool) (word : List ℕ) → IsOneLine word → IsOneLine (word_if has word)
+  word_line true word h = one_line-append (codes " ") word refl h
+  word_line false word h = refl
+
+  words_line : (q : Query) → IsOneLine (query_words q)
+  words_line q =
+      simp (list_any-append, word_line q.highest (codes "highest") refl, word_line (is_some q.class) (codes "class") refl, word_line (is_some q.first) (codes "first") refl, word_line (is_some q.test) (codes "where") refl)
+
+  asked_line : (verb : List ℕ) (s : Scheme) (label : ℕ) (q : Query) → IsOneLine verb → HasPlainNames s → IsOneLine (asked p verb s label q)
+  asked_line verb s label q v h =
+      let whole = verb ++ codes " " ++ s.name ++ codes " at " ++ label_name p.labels label in
+      let named : IsOneLine whole = simp (list_any-append, v, h.name, label_line label) in
+      one_line-append (whole ++ query_words q) (codes ":") (one_line-append whole (query_words q) named (words_line q)) refl
+
+  pub heading_line : (s : Scheme) (label : ℕ) (q : Query) → HasPlainNames s → IsOneLine (heading p s label q)
+  heading_line s label q h =
+      let k = spaced_line s h in
+      let keys = flat_map (λ a. codes " " ++ a.name) s.keys in
+      let front = asked p (codes "view") s label q ++ keys in
+      one_line-append front (flat_map (λ a. codes " " ++ a.name) s.others) (one_line-append (asked p (codes "view") s label q) keys (asked_line (codes "view") s label q refl h) k.0) k.1
+
+  pub count_line : (s : Scheme) (label : ℕ) (q : Query) (n : ℕ) → HasPlainNames s → IsOneLine (count_text p s label q n)
+  count_line s label q n h =
+      let front = asked p (codes "count") s label q in
+      one_line-append (front ++ codes " ") (decimal n) (one_line-append front (codes " ") (asked_line (codes "count") s label q refl h) refl) (one_line-decimal n)
 
   -- ---- rows as a table
 
@@ -86,13 +112,10 @@ module _ (p : Tables) (labels : AllByRecursion (λ l. IsOneLine l.name) p.labels
       each-append IsOneLine (map (λ a. a.name) s.keys) (map (λ a. a.name) s.others)
       (each-map IsOneLine (λ a. a.name) s.keys h.keys) (each-map IsOneLine (λ a. a.name) s.others h.others)
 
-  title_line : (s : Scheme) (label : ℕ) → HasPlainNames s → IsOneLine (table_title p s label)
-  title_line s label h = simp (list_any-append, h.name, label_line label)
-
-  pub table_lines : (s : Scheme) (label : ℕ) (widths : List ℕ) (tuples : List Tuple) → HasPlainNames s → AllByRecursion IsOneLine (table_of p s label widths tuples)
-  table_lines s label widths tuples h =
+  pub table_lines : (s : Scheme) (label : ℕ) (q : Query) (widths : List ℕ) (tuples : List Tuple) → HasPlainNames s → AllByRecursion IsOneLine (table_of p s label q widths tuples)
+  table_lines s label q widths tuples h =
       let row = λ (t : Tuple). one_line-append (padded widths 0 (tuple_cells p t)) (name_of p.labels (tuple_class (labels_of p) t)) (one_line-padded widths 0 (tuple_cells p t) (tuple_cells_line t)) (class_line t) in (
-        title_line s label h,
+        asked_line (codes "view") s label q refl h,
         (
           one_line-append (padded widths 0 (name_cells s)) (codes "class") (one_line-padded widths 0 (name_cells s) (name_cells_line s h)) refl,
           (

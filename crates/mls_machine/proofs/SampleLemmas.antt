@@ -11,6 +11,7 @@ use Rattle.mls_lattice.specs.Labels.{Labels, below}
 use Rattle.mls_lattice.specs.Policy.{Name, Tables, modes_in}
 use Rattle.mls_scheme.specs.Scheme.{Scheme}
 use Rattle.mls_audit.specs.declared.entry.Entry.{Entry}
+use Rattle.mls_script.specs.Grammar.{no_query}
 use Rattle.mls_script.specs.declared.event.Event.{Event}
 use Rattle.mls_script.specs.declared.event.Command.{Command}
 use Rattle.mls_script.specs.declared.event.Command.TheVariants.{Open, Audit, View}
@@ -55,10 +56,10 @@ module _ (u s h : Pair) (rights : List Right) where
   opens_b = event 1 (codes "b") (Open (codes "bob"))
 
   abbrev views_t : Event
-  views_t = event 0 (codes "t") (View 0 1)
+  views_t = event 0 (codes "t") (View 0 1 no_query false)
 
   abbrev views_b : Event
-  views_b = event 1 (codes "b") (View 0 2)
+  views_b = event 1 (codes "b") (View 0 2 no_query false)
 
   abbrev audits_t : Event
   audits_t = event 0 (codes "t") Audit
@@ -91,7 +92,7 @@ module _ (u s h : Pair) (rights : List Right) where
   viewing w e user label modes a b =
       unless site
       (first_denial ((not (list_any (λ mode. bit_and modes mode == mode) (read_mode ∷ write_mode ∷ [])), Ds) ∷ (not a || false, Ss) ∷ (not b || false, Star) ∷ []))
-      w e user (viewed site w 0 label)
+      w e user (viewed site w 0 label no_query)
 
   abbrev entry_t : Entry
   entry_t = denial_entry site views_t 0 Star

@@ -15,6 +15,8 @@ use Rattle.mls_audit.specs.declared.entry.Entry.TheVariants as entries
 use Rattle.mls_audit.specs.Entry.{visible}
 use Rattle.mls_translang.specs.Tx.{Tx}
 use Rattle.mls_meaning.specs.Meaning.{Item, run_tx}
+use Rattle.mls_queries.specs.declared.query.Query.{Query}
+use Rattle.mls_queries.specs.Query.{found}
 use Rattle.mls_script.specs.declared.event.Event.{Event}
 use Rattle.mls_script.specs.declared.event.Command.{Command}
 use Rattle.mls_script.specs.declared.event.Command.TheVariants as commands
@@ -82,8 +84,10 @@ module _ (site : Site) where
 
   -- ---- effects in an open session
 
-  abbrev pub viewed : World → ℕ → ℕ → Step
-  viewed w rel label = record { world = w; reply = Rows (rows (site_labels site) label (w.db rel)) }
+  -- what a query finds of the view
+  abbrev pub viewed : World → ℕ → ℕ → Query → Step
+  viewed w rel label query =
+      record { world = w; reply = Rows (found (site_labels site) query (rows (site_labels site) label (w.db rel))) }
 
   -- a write at the level of the session
   abbrev pub wrote : World → ℕ → ℕ → Write → Step
@@ -118,9 +122,9 @@ module _ (site : Site) where
 
   -- ---- commands
 
-  abbrev pub view_step : World → Event → ℕ → ℕ → ℕ → Step
-  view_step w event user rel label =
-      unless (first_denial (view_denials site event.level user rel label)) w event user (viewed w rel label)
+  abbrev pub view_step : World → Event → ℕ → ℕ → ℕ → Query → Step
+  view_step w event user rel label query =
+      unless (first_denial (view_denials site event.level user rel label)) w event user (viewed w rel label query)
 
   abbrev pub write_step : World → Event → ℕ → ℕ → Write → Step
   write_step w event user rel wr =
@@ -139,7 +143,7 @@ module _ (site : Site) where
   step_inside w event (commands.Open name) user = denied w event user AlreadyOpen
   step_inside w event commands.Close user = closed w event
   step_inside w event commands.Audit user = listed w event.level
-  step_inside w event (commands.View rel label) user = view_step w event user rel label
+  step_inside w event (commands.View rel label query counts) user = view_step w event user rel label query
   step_inside w event (commands.Insert rel key values) user = write_step w event user rel (Insert key values)
   step_inside w event (commands.Update rel key key_class from sets) user =
       write_step w event user rel (Update key key_class from sets)

@@ -1,5 +1,5 @@
 -- The printed output: the lines of the replies, in order, with a line feed after each.
-use Rattle.std.specs.Prelude.{ℕ, if◌then◌else◌, List, [], ◌∷◌, ◌++◌, map, Option, Some, None, codes, length, ◌<◌, ⊤}
+use Rattle.std.specs.Prelude.{ℕ, Bool, if◌then◌else◌, is_some, List, [], ◌∷◌, ◌++◌, map, Option, Some, None, codes, length, ◌<◌, ⊤}
 use Rattle.std.specs.List.{flat_map, AllByRecursion}
 use Rattle.std.specs.Fmt.{decimal, signed_decimal}
 use Rattle.mls_tokens.specs.Writing.{printable, quoted}
@@ -19,6 +19,7 @@ use Rattle.mls_audit.specs.declared.entry.Entry.{Entry}
 use Rattle.mls_audit.specs.declared.entry.Entry.TheVariants as entries
 use Rattle.mls_audit.specs.Entry.{label_of}
 use Rattle.mls_meaning.specs.Meaning.{Item}
+use Rattle.mls_queries.specs.declared.query.Query.{Query}
 use Rattle.mls_script.specs.declared.event.Event.{Event}
 use Rattle.mls_script.specs.declared.event.Command.{Command}
 use Rattle.mls_script.specs.declared.event.Command.TheVariants as commands
@@ -59,15 +60,34 @@ row_text p t =
     ++ flat_map (λ e. cell_entry p.labels e.class e.value) t.elements
     ++ name_of p.labels (tuple_class (labels_of p) t)
 
-abbrev pub heading : Tables → Scheme → ℕ → List ℕ
-heading p s label =
-    codes "view " ++ s.name ++ codes " at " ++ label_name p.labels label ++ codes ":"
-    ++ flat_map (λ a. codes " " ++ a.name) s.keys ++ flat_map (λ a. codes " " ++ a.name) s.others
+-- a word behind a space, where a query has that part
+abbrev pub word_if : Bool → List ℕ → List ℕ
+word_if has word = if has then codes " " ++ word else []
 
--- the texts of rows, which answer a view and nothing else
+-- which parts a query has, in the order in which they are written
+abbrev pub query_words : Query → List ℕ
+query_words q =
+    word_if q.highest (codes "highest") ++ word_if (is_some q.class) (codes "class")
+    ++ word_if (is_some q.first) (codes "first") ++ word_if (is_some q.test) (codes "where")
+
+-- what was asked of a relation at a label, under a verb
+abbrev pub asked : Tables → List ℕ → Scheme → ℕ → Query → List ℕ
+asked p verb s label q = verb ++ codes " " ++ s.name ++ codes " at " ++ label_name p.labels label ++ query_words q ++ codes ":"
+
+abbrev pub heading : Tables → Scheme → ℕ → Query → List ℕ
+heading p s label q =
+    asked p (codes "view") s label q ++ flat_map (λ a. codes " " ++ a.name) s.keys
+    ++ flat_map (λ a. codes " " ++ a.name) s.others
+
+-- how many rows were found
+abbrev pub count_text : Tables → Scheme → ℕ → Query → ℕ → List ℕ
+count_text p s label q n = asked p (codes "count") s label q ++ codes " " ++ decimal n
+
+-- the texts of rows, which answer a view and nothing else: the rows or their number
 abbrev pub view_texts : Site → Command → List Tuple → List (List ℕ)
-view_texts site (commands.View rel label) tuples =
-    heading site.policy (scheme_of site.schemes rel) label ∷ map (row_text site.policy) tuples
+view_texts site (commands.View rel label query counts) tuples =
+    if counts then count_text site.policy (scheme_of site.schemes rel) label query (length tuples) ∷ []
+    else heading site.policy (scheme_of site.schemes rel) label query ∷ map (row_text site.policy) tuples
 view_texts site command tuples = []
 
 -- ---- rows as a table
@@ -92,8 +112,8 @@ widths_with p widths (t ∷ ts) = widths_with p (wider widths 0 (tuple_cells p t
 abbrev pub table_widths : Tables → Scheme → List Tuple → List ℕ
 table_widths p s tuples = widths_with p (wider [] 0 (name_cells s)) tuples
 
-abbrev pub table_title : Tables → Scheme → ℕ → List ℕ
-table_title p s label = codes "view " ++ s.name ++ codes " at " ++ label_name p.labels label ++ codes ":"
+abbrev pub table_title : Tables → Scheme → ℕ → Query → List ℕ
+table_title p s label q = asked p (codes "view") s label q
 
 -- the names of the attributes, and a rule below them
 abbrev pub table_names : Scheme → List ℕ → List ℕ
@@ -106,14 +126,15 @@ table_rule widths = flat_map ruled widths ++ codes "-----"
 abbrev pub table_row : Tables → List ℕ → Tuple → List ℕ
 table_row p widths t = padded widths 0 (tuple_cells p t) ++ name_of p.labels (tuple_class (labels_of p) t)
 
-abbrev pub table_of : Tables → Scheme → ℕ → List ℕ → List Tuple → List (List ℕ)
-table_of p s label widths tuples =
-    table_title p s label ∷ table_names s widths ∷ table_rule widths ∷ map (table_row p widths) tuples
+abbrev pub table_of : Tables → Scheme → ℕ → Query → List ℕ → List Tuple → List (List ℕ)
+table_of p s label q widths tuples =
+    table_title p s label q ∷ table_names s widths ∷ table_rule widths ∷ map (table_row p widths) tuples
 
--- the texts of a table, which answers a view and nothing else
+-- the texts of a table, which answers a view and nothing else; a number of rows is told as without a table
 abbrev pub table_texts : Site → Command → List Tuple → List (List ℕ)
-table_texts site (commands.View rel label) tuples =
-    table_of site.policy (scheme_of site.schemes rel) label
+table_texts site (commands.View rel label query counts) tuples =
+    if counts then view_texts site (commands.View rel label query counts) tuples
+    else table_of site.policy (scheme_of site.schemes rel) label query
     (table_widths site.policy (scheme_of site.schemes rel) tuples) tuples
 table_texts site command tuples = []
 
@@ -215,7 +236,7 @@ printed = flat_map (λ l. l.text ++ codes "\n")
 -- ---- the numbers in a reply are those of the policy and the schemes
 
 abbrev pub CommandIsKnown : Site → Command → Type 0
-CommandIsKnown site (commands.View rel label) = (rel < length site.schemes) × (label < length site.policy.labels)
+CommandIsKnown site (commands.View rel label query counts) = (rel < length site.schemes) × (label < length site.policy.labels)
 CommandIsKnown site command = ⊤
 
 -- the labels of entries are declared

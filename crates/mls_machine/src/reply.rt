@@ -3,9 +3,9 @@ ghost use Rattle.std.specs.Prelude.{◌≡◌};
 ghost use Rattle.mls_machine.specs.Reply.{code_of, word_of};
 
 use mls_audit::Entry;
-use mls_filterview::SharedView;
 use mls_lattice::{Items, UserNo};
 use mls_meaning::Run;
+use mls_queries::Selection;
 use mls_updates::Outcome;
 
 /// Why a command is denied. A denial changes no tuple and no session.
@@ -79,8 +79,8 @@ pub enum Reply {
     Opened(UserNo),
     /// The session is open no more.
     Closed,
-    /// The view, in the order of rows.
-    Rows(SharedView),
+    /// What was found of a view, in the order of rows.
+    Rows(Selection),
     /// What became of a write.
     Wrote(Outcome),
     /// What the transaction that was called gave.

@@ -13,7 +13,7 @@ abbrev pub denial_in : Site → ℕ → ℕ → Command → Option Denial
 denial_in site level user (commands.Open name) = Some AlreadyOpen
 denial_in site level user commands.Close = None
 denial_in site level user commands.Audit = None
-denial_in site level user (commands.View rel label) = first_denial (view_denials site level user rel label)
+denial_in site level user (commands.View rel label query counts) = first_denial (view_denials site level user rel label)
 denial_in site level user (commands.Insert rel key values) =
     first_denial (write_denials site level user rel (Insert key values))
 denial_in site level user (commands.Update rel key key_class from sets) =

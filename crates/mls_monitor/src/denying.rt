@@ -104,7 +104,7 @@ pub fn denial_of(rules: &Rules, level: LabelNo, user: UserNo, command: &Command)
     match command {
         Command::Open(_) => Some(Denial::AlreadyOpen),
         Command::Close | Command::Audit => None,
-        Command::View { rel, label } => {
+        Command::View { rel, label, .. } => {
             let modes = [Modes::READ, Modes::WRITE];
             access_denial(rules, level, user, *rel, &modes, &[*label])
         }

@@ -55,12 +55,12 @@ static SENTENCES: [(u8, &str); 23] = [
     ),
     (
         24,
-        "  A value of another kind is wanted here, or the list has the wrong length.\n  See the kinds in the schemes.\n",
+        "  A value of another kind is wanted here, or the list has the wrong length.\n  See the kinds in the schemes; behind `not` put a comparison in parentheses, as in `not (A = 1)`.\n",
     ),
     (25, "  This name is given twice.\n  Take another name.\n"),
     (
         26,
-        "  This stands inside 16 others.\n  Nest fewer, or assign an inner part to a variable first.\n",
+        "  This stands inside 16 others, or is a 17th test.\n  Nest fewer, assign an inner part to a variable first, or join tests inside parentheses.\n",
     ),
     (
         27,

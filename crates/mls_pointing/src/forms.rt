@@ -10,10 +10,17 @@ use crate::places::{first_line, from_line};
 use crate::standing::{behind, first, name_len};
 
 /// A verb, and the form of its command.
-static FORMS: [(&str, &str); 8] = [
+static FORMS: [(&str, &str); 9] = [
     ("open", "  The form: LABEL SESSION open USER\n"),
     ("close", "  The form: LABEL SESSION close\n"),
-    ("view", "  The form: LABEL SESSION view RELATION at LABEL\n"),
+    (
+        "view",
+        "  The form: LABEL SESSION view RELATION at LABEL [highest] [class OP LABEL] [first N] [where CONDITION]\n",
+    ),
+    (
+        "count",
+        "  The form: LABEL SESSION count RELATION at LABEL [highest] [class OP LABEL] [where CONDITION]\n",
+    ),
     (
         "insert",
         "  The form: LABEL SESSION insert RELATION key (VALUE, ..) values (VALUE, ..)\n",
@@ -34,7 +41,7 @@ static FORMS: [(&str, &str); 8] = [
 ];
 
 const NO_VERB: &str =
-    "  The form: LABEL SESSION, then open, close, view, insert, update, delete, audit or call.\n";
+    "  The form: LABEL SESSION, then open, close, view, count, insert, update, delete, audit or call.\n";
 
 fn is_blank(byte: u8) -> bool
     ensures { result ≡ is_blank byte }

@@ -1,5 +1,5 @@
 -- What is printed: the name of a label by its value, and the lines of replies.
-use Rattle.std.proofs.Common.{◌≡◌, ◌+◌, ℕ, ◌<◌, true, false, List, [], ◌∷◌, length, drop, get_or, refl, sym, ap, ◌∙◌, add-one, drop-cons, Option, Some, None, ◌++◌, take, codes, append-nil, append_assoc}
+use Rattle.std.proofs.Common.{◌≡◌, ◌+◌, ℕ, ◌<◌, Bool, true, false, List, [], ◌∷◌, length, drop, get_or, refl, sym, ap, ◌∙◌, add-one, drop-cons, Option, Some, None, ◌++◌, take, codes, append-nil, append_assoc}
 use Rattle.std.specs.List.{flat_map}
 use Rattle.std.specs.Prelude.{map, slice_get, option_map, Result, Ok, Err, OnOk}
 use Rattle.std.proofs.lemmas.List.{get_or-map, flat_map_more, take_more}
@@ -18,6 +18,7 @@ use Rattle.mls_scheme.specs.declared.tuple.Tuple.{Tuple}
 use Rattle.mls_audit.specs.declared.entry.Entry.{Entry}
 use Rattle.mls_meaning.specs.declared.run.Run.{Run}
 use Rattle.mls_meaning.specs.Meaning.{Item}
+use Rattle.mls_queries.specs.declared.query.Query.{Query}
 use Rattle.mls_script.specs.declared.event.Event.{Event}
 use Rattle.mls_script.specs.declared.event.Command.{Command}
 use Rattle.mls_script.specs.declared.event.Command.TheVariants as commands
@@ -27,7 +28,7 @@ use Rattle.mls_machine.specs.declared.reply.Reply.{Reply}
 use Rattle.mls_machine.specs.declared.reply.Reply.TheVariants.{Opened, Closed, Rows, Wrote, Ran, Entries, Denied}
 use Rattle.mls_machine.specs.declared.stored.Stored.{Stored}
 use Rattle.mls_machine.specs.Site.{Site, site_scheme}
-use Rattle.mls_machine.specs.Output.{Line, name_of, cell_text, front, line, item_line, heading, row_text, entry_text, view_texts, call_texts, reply_texts, reply_lines, reply_lines_in, lines_with, escaped_line, table_texts, texts_in_table, printed}
+use Rattle.mls_machine.specs.Output.{Line, name_of, cell_text, front, line, item_line, heading, count_text, row_text, entry_text, view_texts, call_texts, reply_texts, reply_lines, reply_lines_in, lines_with, escaped_line, table_texts, texts_in_table, printed}
 use Rattle.mls_replies.specs.Under.{site_under}
 
 abbrev no_label : Named
@@ -74,17 +75,17 @@ item_parts start f deed cell end =
     ap (λ (x : List ℕ). x ++ end) (append_assoc (start ++ f) deed cell) ∙ line_parts start f (deed ++ cell) end
 
 -- what is written for one thing more
-pub one_more : {X : Type 0} (f : X → List ℕ) (xs : List X) (k : ℕ) (x : X) (start old new : List ℕ) → k < length xs → x ≡ get_or xs k x
+pub one_more : {X : Type 0} (f : X → List ℕ) (xs : List X) (k : ℕ) (x d : X) (start old new : List ℕ) → k < length xs → x ≡ get_or xs k d
     → old ≡ start ++ flat_map f (take k xs) → new ≡ old ++ f x → new ≡ start ++ flat_map f (take (k + 1) xs)
-one_more f xs k x start old new within is before after =
+one_more f xs k x d start old new within is before after =
     after ∙ ap (λ (t : List ℕ). t ++ f x) before ∙ flat_map_more f start (take k xs) x
-    ∙ ap (λ ys. start ++ flat_map f ys) (sym (take_more xs k x within ∙ ap (λ y. take k xs ++ y ∷ []) (sym is)))
+    ∙ ap (λ ys. start ++ flat_map f ys) (sym (take_more xs k d within ∙ ap (λ y. take k xs ++ y ∷ []) (sym is)))
 
-no_texts : (site : Site) (command : Command) (tuples : List Tuple) → ((rel label : ℕ) → command ≡ commands.View rel label → ⊥) → view_texts site command tuples ≡ []
+no_texts : (site : Site) (command : Command) (tuples : List Tuple) → ((rel label : ℕ) (query : Query) (counts : Bool) → command ≡ commands.View rel label query counts → ⊥) → view_texts site command tuples ≡ []
 no_texts site (commands.Open name) tuples other = refl
 no_texts site commands.Close tuples other = refl
 no_texts site commands.Audit tuples other = refl
-no_texts site (commands.View rel label) tuples other = absurd (other rel label refl)
+no_texts site (commands.View rel label query counts) tuples other = absurd (other rel label query counts refl)
 no_texts site (commands.Insert rel key values) tuples other = refl
 no_texts site (commands.Update rel key key_class from sets) tuples other = refl
 no_texts site (commands.Delete rel key key_class) tuples other = refl
@@ -94,7 +95,7 @@ no_call_texts : (command : Command) → ((name : Name) (args : List (Option Valu
 no_call_texts (commands.Open name) other = refl
 no_call_texts commands.Close other = refl
 no_call_texts commands.Audit other = refl
-no_call_texts (commands.View rel label) other = refl
+no_call_texts (commands.View rel label query counts) other = refl
 no_call_texts (commands.Insert rel key values) other = refl
 no_call_texts (commands.Update rel key key_class from sets) other = refl
 no_call_texts (commands.Delete rel key key_class) other = refl
@@ -107,23 +108,36 @@ module _ (site : Site) (e : Event) where
   abbrev on_line : List ℕ → List ℕ
   on_line t = start ++ t ++ codes "\n"
 
-  pub other_texts : (tuples : List Tuple) → ((rel label : ℕ) → e.command ≡ commands.View rel label → ⊥) → [] ≡ flat_map on_line (view_texts site e.command tuples)
+  pub other_texts : (tuples : List Tuple) → ((rel label : ℕ) (query : Query) (counts : Bool) → e.command ≡ commands.View rel label query counts → ⊥) → [] ≡ flat_map on_line (view_texts site e.command tuples)
   other_texts tuples other = sym (ap (flat_map on_line) (no_texts site e.command tuples other))
 
-  pub rows_lines : (rel label : ℕ) (tuples : List Tuple) → e.command ≡ commands.View rel label
-      → on_line (heading site.policy (site_scheme site rel) label) ++ flat_map (λ t. on_line (row_text site.policy t)) tuples ≡ flat_map on_line (view_texts site e.command tuples)
-  rows_lines rel label tuples is =
-      sym (ap (λ x. flat_map on_line (view_texts site x tuples)) is
-      ∙ ap (λ l. on_line (heading site.policy (site_scheme site rel) label) ++ l) (flat_map-map on_line (row_text site.policy) tuples))
+  rows_lines : (rel label : ℕ) (query : Query) (tuples : List Tuple)
+      → on_line (heading site.policy (site_scheme site rel) label query) ++ flat_map (λ t. on_line (row_text site.policy t)) tuples
+      ≡ flat_map on_line (view_texts site (commands.View rel label query false) tuples)
+  rows_lines rel label query tuples =
+      ap (λ l. on_line (heading site.policy (site_scheme site rel) label query) ++ l) (sym (flat_map-map on_line (row_text site.policy) tuples))
 
-  -- after a heading of the scheme of the relation
-  pub rows_more : (rel label : ℕ) (tuples : List Tuple) → e.command ≡ commands.View rel label → (scheme : Scheme) → scheme ≡ site_scheme site rel
-      → (old new : List ℕ) {A F : Type 0} (r : Result A F) → OnOk r (new ≡ old ++ (on_line (heading site.policy scheme label) ++ flat_map (λ t. on_line (row_text site.policy t)) tuples))
-      → OnOk r (new ≡ old ++ flat_map on_line (view_texts site e.command tuples))
-  rows_more rel label tuples is scheme same old new (Ok x) h =
-      h ∙ ap (λ s. old ++ (on_line (heading site.policy s label) ++ flat_map (λ t. on_line (row_text site.policy t)) tuples)) same
-      ∙ ap (λ l. old ++ l) (rows_lines rel label tuples is)
-  rows_more rel label tuples is scheme same old new (Err f) h = h
+  module _ (rel label : ℕ) (query : Query) (counts : Bool) (tuples : List Tuple) (is : e.command ≡ commands.View rel label query counts)
+      (scheme : Scheme) (same : scheme ≡ site_scheme site rel) (old new : List ℕ) where
+    answered : (b : Bool) → counts ≡ b → flat_map on_line (view_texts site (commands.View rel label query b) tuples) ≡ flat_map on_line (view_texts site e.command tuples)
+    answered b h = sym (ap (λ x. flat_map on_line (view_texts site x tuples)) (is ∙ ap (λ c. commands.View rel label query c) h))
+
+    -- after a heading of the scheme of the relation
+    pub rows_more : counts ≡ false → {A F : Type 0} (r : Result A F)
+        → OnOk r (new ≡ old ++ (on_line (heading site.policy scheme label query) ++ flat_map (λ t. on_line (row_text site.policy t)) tuples))
+        → OnOk r (new ≡ old ++ flat_map on_line (view_texts site e.command tuples))
+    rows_more not_counted (Ok x) h =
+        h ∙ ap (λ s. old ++ (on_line (heading site.policy s label query) ++ flat_map (λ t. on_line (row_text site.policy t)) tuples)) same
+        ∙ ap (λ l. old ++ l) (rows_lines rel label query tuples ∙ answered false not_counted)
+    rows_more not_counted (Err f) h = h
+
+    -- their number alone
+    pub count_more : counts ≡ true → (n : ℕ) → n ≡ length tuples → {A F : Type 0} (r : Result A F)
+        → OnOk r (new ≡ old ++ on_line (count_text site.policy scheme label query n)) → OnOk r (new ≡ old ++ flat_map on_line (view_texts site e.command tuples))
+    count_more counted n all (Ok x) h =
+        h ∙ (λ i. old ++ on_line (count_text site.policy (same i) label query (all i)))
+        ∙ ap (λ l. old ++ l) (sym (append-nil (on_line (count_text site.policy (site_scheme site rel) label query (length tuples)))) ∙ answered true counted)
+    count_more counted n all (Err f) h = h
 
   printed_lines : (texts : List (List ℕ)) → printed (map (line site.policy e e.level) texts) ≡ flat_map on_line texts
   printed_lines texts = flat_map-map (λ (l : Line). l.text ++ codes "\n") (line site.policy e e.level) texts
@@ -174,7 +188,7 @@ same_views : (p : Tables) (s : Schemes) (stored : List Stored) (command : Comman
 same_views p s stored (commands.Open name) tuples = refl
 same_views p s stored commands.Close tuples = refl
 same_views p s stored commands.Audit tuples = refl
-same_views p s stored (commands.View rel label) tuples = refl
+same_views p s stored (commands.View rel label query counts) tuples = refl
 same_views p s stored (commands.Insert rel key values) tuples = refl
 same_views p s stored (commands.Update rel key key_class from sets) tuples = refl
 same_views p s stored (commands.Delete rel key key_class) tuples = refl
@@ -192,7 +206,7 @@ same_texts p s stored command (Denied d) = refl
 
 same_tables : (p : Tables) (s : Schemes) (stored : List Stored) (command : Command) (tuples : List Tuple)
     → table_texts (site_under p s) command tuples ≡ table_texts (record { policy = p; schemes = s; stored = stored }) command tuples
-same_tables p s stored (commands.View rel label) tuples = refl
+same_tables p s stored (commands.View rel label query counts) tuples = refl
 same_tables p s stored command tuples = refl
 
 same_in_table : (p : Tables) (s : Schemes) (stored : List Stored) (command : Command) (r : Reply)

@@ -13,8 +13,11 @@ use Rattle.mls_machine.specs.Output.{EntriesAreKnown, ItemsAreKnown}
 abbrev pub elements_known : ℕ → List Element → Bool
 elements_known count = list_all (λ e. nat_lt e.class count)
 
+abbrev pub tuple_known : ℕ → Tuple → Bool
+tuple_known count t = nat_lt t.key_class count && elements_known count t.elements
+
 abbrev pub tuples_known : ℕ → List Tuple → Bool
-tuples_known count = list_all (λ t. nat_lt t.key_class count && elements_known count t.elements)
+tuples_known count = list_all (tuple_known count)
 
 -- ---- replies over any store
 

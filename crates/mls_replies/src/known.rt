@@ -1,10 +1,11 @@
 //! Whether what a store gave can be printed.
 ghost use Rattle.std.specs.Prelude.{◌≡◌, length, IsTrue};
 ghost use Rattle.mls_machine.specs.Output.{ReplyIsKnown};
-ghost use Rattle.mls_replies.specs.Known.{elements_known, tuples_known, HasKnownNumbers};
+ghost use Rattle.mls_replies.specs.Known.{elements_known, tuple_known, tuples_known, HasKnownNumbers};
 
 use mls_lattice::Policy;
 use mls_machine::Reply;
+use mls_queries::Selection;
 use mls_scheme::{Element, Tuple};
 
 fn are_elements_known(count: usize, elements: &[Element]) -> bool
@@ -18,14 +19,17 @@ fn are_elements_known(count: usize, elements: &[Element]) -> bool
     true
 }
 
-fn are_tuples_known(count: usize, tuples: &[Tuple]) -> bool
-    ensures { result ≡ tuples_known count tuples.now }
+fn is_tuple_known(count: usize, tuple: &Tuple) -> bool
+    ensures { result ≡ tuple_known count tuple.now }
 {
-    for tuple in tuples {
-        if tuple.key_class.index() >= count {
-            return false;
-        }
-        if !are_elements_known(count, &tuple.elements) {
+    tuple.key_class.index() < count && are_elements_known(count, &tuple.elements)
+}
+
+fn are_rows_known(count: usize, rows: &Selection) -> bool
+    ensures { result ≡ tuples_known count rows.now }
+{
+    for place in 0..rows.len() {
+        if !is_tuple_known(count, rows.get(place)) {
             return false;
         }
     }
@@ -40,7 +44,7 @@ pub fn is_known(policy: &Policy, reply: &Reply) -> bool
     ensures clean { ReplyIsKnown policy.now reply.now → IsTrue result }
 {
     match reply {
-        Reply::Rows(tuples) => are_tuples_known(policy.label_count(), tuples.as_slice()),
+        Reply::Rows(rows) => are_rows_known(policy.label_count(), rows),
         _ => true,
     }
 }

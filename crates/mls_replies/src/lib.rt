@@ -2,6 +2,7 @@
 //! reply can be printed.
 #![tactic(auto)]
 
+mod asked;
 mod known;
 mod printing;
 mod printing_items;

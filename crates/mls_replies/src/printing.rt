@@ -53,10 +53,15 @@ pub(crate) fn push_cell(
     }
 }
 
-fn push_code(alloc: Global, text: &mut Vec<u8>, code: u8) -> Result<(), AllocError>
-    ensures { OnOk result (text.new.items ≡ text.old.items ++ decimal code) }
+/// Appends a number.
+pub(crate) fn push_number(
+    alloc: Global,
+    text: &mut Vec<u8>,
+    number: usize,
+) -> Result<(), AllocError>
+    ensures { OnOk result (text.new.items ≡ text.old.items ++ decimal number) }
 {
-    let digits = format!(in alloc; "{code}")?;
+    let digits = format!(in alloc; "{number}")?;
     push_str(text, &digits)
 }
 
@@ -109,7 +114,7 @@ pub(crate) fn push_entry(
             code,
         } => {
             push_entry_front(text, policy, *label, " denied ", user, session)?;
-            push_code(alloc, text, *code)
+            push_number(alloc, text, usize::from(*code))
         }
         Entry::Released {
             label,

@@ -6,15 +6,17 @@ ghost use Rattle.mls_lattice.specs.Canon.{user_name};
 ghost use Rattle.mls_scheme.specs.Tuple.{HasClassesBelow};
 ghost use Rattle.mls_updates.specs.Outcome.{is_done};
 ghost use Rattle.mls_replies.specs.Under.{site_under};
-ghost use Rattle.mls_machine.specs.Output.{front, heading, outcome_text, denial_text, row_text, entry_text, view_texts, reply_lines, printed, CommandIsKnown, EntriesAreKnown, CanBePrinted};
+ghost use Rattle.mls_machine.specs.Output.{front, heading, count_text, outcome_text, denial_text, row_text, entry_text, view_texts, reply_lines, printed, CommandIsKnown, EntriesAreKnown, CanBePrinted};
 
-use crate::printing::{push_entry, push_front};
+use crate::asked::{Asked, push_asked};
+use crate::printing::{push_entry, push_front, push_number};
 use crate::printing_items::ran_bytes;
 use crate::printing_rows::push_row;
 use mls_audit::Entry;
-use mls_lattice::{LabelNo, Policy, UserNo};
+use mls_lattice::{Policy, UserNo};
 use mls_machine::{Denial, Reply};
-use mls_scheme::{Attributes, Scheme, Schemes, Tuple};
+use mls_queries::Selection;
+use mls_scheme::{Attributes, Schemes};
 use mls_script::{Command, Event};
 use mls_tokens::push_str;
 use mls_updates::Outcome;
@@ -66,22 +68,31 @@ fn push_attributes(text: &mut Vec<u8>, attributes: &Attributes) -> Result<(), Al
     Ok(())
 }
 
-fn push_heading(
+fn push_heading(text: &mut Vec<u8>, policy: &Policy, what: &Asked) -> Result<(), AllocError>
+    requires { what.now.label < length policy.now.labels }
+    ensures { OnOk result (text.new.items ≡ text.old.items
+        ++ heading policy.now what.now.scheme.now what.now.label what.now.query.now) }
+{
+    push_asked(text, policy, "view", what)?;
+    push_attributes(text, what.scheme.keys())?;
+    push_attributes(text, what.scheme.others())
+}
+
+/// Appends how many rows were found.
+fn push_count(
+    alloc: Global,
     text: &mut Vec<u8>,
     policy: &Policy,
-    scheme: &Scheme,
-    label: LabelNo,
+    what: &Asked,
+    count: usize,
 ) -> Result<(), AllocError>
-    requires { label < length policy.now.labels }
-    ensures { OnOk result (text.new.items ≡ text.old.items ++ heading policy.now scheme.now label) }
+    requires { what.now.label < length policy.now.labels }
+    ensures { OnOk result (text.new.items ≡ text.old.items
+        ++ count_text policy.now what.now.scheme.now what.now.label what.now.query.now count) }
 {
-    push_str(text, "view ")?;
-    push_str(text, scheme.name())?;
-    push_str(text, " at ")?;
-    push_str(text, policy.name(label))?;
-    push_str(text, ":")?;
-    push_attributes(text, scheme.keys())?;
-    push_attributes(text, scheme.others())
+    push_asked(text, policy, "count", what)?;
+    push_str(text, " ")?;
+    push_number(alloc, text, count)
 }
 
 fn push_rows(
@@ -89,17 +100,17 @@ fn push_rows(
     text: &mut Vec<u8>,
     policy: &Policy,
     event: &Event,
-    tuples: &[Tuple],
+    rows: &Selection,
 ) -> Result<(), AllocError>
     requires level { event.now.level < length policy.now.labels }
-    requires classes { AllByRecursion (HasClassesBelow (length policy.now.labels)) tuples.now }
+    requires classes { AllByRecursion (HasClassesBelow (length policy.now.labels)) rows.now }
     ensures { OnOk result (text.new.items ≡ text.old.items
         ++ flat_map (λ t. front policy.now event.now event.now.level ++ row_text policy.now t
-        ++ codes "\n") tuples.now) }
+        ++ codes "\n") rows.now) }
 {
-    for tuple in tuples {
+    for place in 0..rows.len() {
         push_front(text, policy, event, event.level)?;
-        push_row(alloc, text, policy, tuple)?;
+        push_row(alloc, text, policy, rows.get(place))?;
         push_str(text, "\n")?;
     }
     Ok(())
@@ -131,45 +142,78 @@ fn push_view(
     alloc: Global,
     text: &mut Vec<u8>,
     policy: &Policy,
-    scheme: &Scheme,
     event: &Event,
-    label: LabelNo,
-    tuples: &[Tuple],
+    what: &Asked,
+    rows: &Selection,
 ) -> Result<(), AllocError>
     requires level { event.now.level < length policy.now.labels }
-    requires label { label < length policy.now.labels }
-    requires classes { AllByRecursion (HasClassesBelow (length policy.now.labels)) tuples.now }
+    requires label { what.now.label < length policy.now.labels }
+    requires classes { AllByRecursion (HasClassesBelow (length policy.now.labels)) rows.now }
     ensures { OnOk result (text.new.items ≡ text.old.items
-        ++ ((front policy.now event.now event.now.level ++ heading policy.now scheme.now label ++ codes "\n")
+        ++ ((front policy.now event.now event.now.level
+        ++ heading policy.now what.now.scheme.now what.now.label what.now.query.now ++ codes "\n")
         ++ flat_map (λ t. front policy.now event.now event.now.level ++ row_text policy.now t
-        ++ codes "\n") tuples.now)) }
+        ++ codes "\n") rows.now)) }
 {
     push_front(text, policy, event, event.level)?;
-    push_heading(text, policy, scheme, label)?;
+    push_heading(text, policy, what)?;
     push_str(text, "\n")?;
-    push_rows(alloc, text, policy, event, tuples)
+    push_rows(alloc, text, policy, event, rows)
 }
 
-/// Appends the lines of rows, which answer a view and nothing else.
+/// Appends the line that says how many rows were found.
+pub(crate) fn push_count_line(
+    alloc: Global,
+    text: &mut Vec<u8>,
+    policy: &Policy,
+    event: &Event,
+    what: &Asked,
+    count: usize,
+) -> Result<(), AllocError>
+    requires level { event.now.level < length policy.now.labels }
+    requires label { what.now.label < length policy.now.labels }
+    ensures { OnOk result (text.new.items ≡ text.old.items
+        ++ (front policy.now event.now event.now.level
+        ++ count_text policy.now what.now.scheme.now what.now.label what.now.query.now count ++ codes "\n")) }
+{
+    push_front(text, policy, event, event.level)?;
+    push_count(alloc, text, policy, what, count)?;
+    push_str(text, "\n")
+}
+
+/// Appends the lines of rows, or of their number alone, which answer a view and nothing else.
 fn push_answer(
     alloc: Global,
     text: &mut Vec<u8>,
     policy: &Policy,
     schemes: &Schemes,
     event: &Event,
-    tuples: &[Tuple],
+    rows: &Selection,
 ) -> Result<(), AllocError>
     requires level { event.now.level < length policy.now.labels }
     requires command { CommandIsKnown (site_under policy.now schemes.now) event.now.command }
-    requires classes { AllByRecursion (HasClassesBelow (length policy.now.labels)) tuples.now }
+    requires classes { AllByRecursion (HasClassesBelow (length policy.now.labels)) rows.now }
     ensures { OnOk result (text.new.items ≡ text.old.items
         ++ flat_map (λ t. front policy.now event.now event.now.level ++ t
-        ++ codes "\n") (view_texts (site_under policy.now schemes.now) event.now.command tuples.now)) }
+        ++ codes "\n") (view_texts (site_under policy.now schemes.now) event.now.command rows.now)) }
 {
     match &event.command {
-        Command::View { rel, label } => {
-            let scheme = schemes.scheme(*rel);
-            push_view(alloc, text, policy, scheme, event, *label, tuples)
+        Command::View {
+            rel,
+            label,
+            query,
+            counts,
+        } => {
+            let what = Asked {
+                scheme: schemes.scheme(*rel),
+                label: *label,
+                query,
+            };
+            if *counts {
+                push_count_line(alloc, text, policy, event, &what, rows.len())
+            } else {
+                push_view(alloc, text, policy, event, &what, rows)
+            }
         }
         _ => Ok(()),
     }
@@ -181,17 +225,17 @@ fn view_bytes(
     policy: &Policy,
     schemes: &Schemes,
     event: &Event,
-    tuples: &[Tuple],
+    rows: &Selection,
 ) -> Result<Vec<u8>, AllocError>
     requires level { event.now.level < length policy.now.labels }
     requires command { CommandIsKnown (site_under policy.now schemes.now) event.now.command }
-    requires classes { AllByRecursion (HasClassesBelow (length policy.now.labels)) tuples.now }
+    requires classes { AllByRecursion (HasClassesBelow (length policy.now.labels)) rows.now }
     ensures { IfOk result (λ text. text.items
         ≡ flat_map (λ t. front policy.now event.now event.now.level ++ t
-        ++ codes "\n") (view_texts (site_under policy.now schemes.now) event.now.command tuples.now)) }
+        ++ codes "\n") (view_texts (site_under policy.now schemes.now) event.now.command rows.now)) }
 {
     let mut text = Vec::new(alloc);
-    push_answer(alloc, &mut text, policy, schemes, event, tuples)?;
+    push_answer(alloc, &mut text, policy, schemes, event, rows)?;
     Ok(text)
 }
 
@@ -263,7 +307,7 @@ pub fn reply_bytes(
     match reply {
         Reply::Opened(user) => opened_bytes(alloc, policy, event, *user),
         Reply::Closed => line_bytes(alloc, policy, event, "closed"),
-        Reply::Rows(tuples) => view_bytes(alloc, policy, schemes, event, tuples.as_slice()),
+        Reply::Rows(rows) => view_bytes(alloc, policy, schemes, event, rows),
         Reply::Wrote(outcome) => {
             line_bytes(alloc, policy, event, &outcome_text(alloc, *outcome)?)
         }

@@ -14,7 +14,8 @@ use crate::shown::shown_bytes;
 use crate::table::table_bytes;
 use mls_lattice::{LabelNo, Policy};
 use mls_machine::{Audience, Form, Reply};
-use mls_scheme::{Schemes, Tuple};
+use mls_queries::Selection;
+use mls_scheme::Schemes;
 use mls_screen::escape;
 use mls_script::Event;
 use std::alloc::{AllocError, Global};
@@ -58,20 +59,20 @@ fn heard_table(
     policy: &Policy,
     schemes: &Schemes,
     event: &Event,
-    tuples: &[Tuple],
+    rows: &Selection,
     reader: Option<LabelNo>,
 ) -> Result<Vec<u8>, AllocError>
     requires level { event.now.level < length policy.now.labels }
     requires command { CommandIsKnown (site_under policy.now schemes.now) event.now.command }
-    requires classes { AllByRecursion (HasClassesBelow (length policy.now.labels)) tuples.now }
+    requires classes { AllByRecursion (HasClassesBelow (length policy.now.labels)) rows.now }
     requires reader { IfSome reader (λ c. c < length policy.now.labels) }
     ensures { IfOk result (λ text. text.items
         ≡ printed (heard (labels_of policy.now) reader
         (map (line policy.now event.now event.now.level)
-        (table_texts (site_under policy.now schemes.now) event.now.command tuples.now)))) }
+        (table_texts (site_under policy.now schemes.now) event.now.command rows.now)))) }
 {
     if is_shown(policy, event.level, reader) {
-        table_bytes(alloc, policy, schemes, event, tuples)
+        table_bytes(alloc, policy, schemes, event, rows)
     } else {
         Ok(Vec::new(alloc))
     }
@@ -94,14 +95,7 @@ fn bare_bytes(
         (texts_in_table (site_under policy.now schemes.now) event.now.command reply.now) reply.now))) }
 {
     match reply {
-        Reply::Rows(tuples) => heard_table(
-            alloc,
-            policy,
-            schemes,
-            event,
-            tuples.as_slice(),
-            reader,
-        ),
+        Reply::Rows(rows) => heard_table(alloc, policy, schemes, event, rows, reader),
         _ => heard_bytes(alloc, policy, schemes, event, reply, reader),
     }
 }

@@ -8,9 +8,12 @@ ghost use Rattle.mls_screen.specs.Table.{wider, padded};
 ghost use Rattle.mls_replies.specs.Under.{site_under};
 ghost use Rattle.mls_machine.specs.Output.{front, table_cell, tuple_cells, name_cells, widths_with, table_title, table_names, table_rule, table_row, table_widths, table_texts, CommandIsKnown};
 
+use crate::asked::{Asked, push_asked};
 use crate::printing::{push_cell, push_front, push_value};
 use crate::printing_rows::name_of;
+use crate::replies::push_count_line;
 use mls_lattice::{Items, LabelNo, Policy};
+use mls_queries::Selection;
 use mls_scheme::{Attributes, Element, Scheme, Schemes, Tuple, Value, tuple_class};
 use mls_screen::{escape, push_row, push_rule, wider};
 use mls_script::{Command, Event};
@@ -158,50 +161,34 @@ fn widths_of(
     alloc: Global,
     policy: &Policy,
     names: &[Items<u8>],
-    tuples: &[Tuple],
+    rows: &Selection,
 ) -> Result<Vec<usize>, AllocError>
-    requires { AllByRecursion (HasClassesBelow (length policy.now.labels)) tuples.now }
-    ensures { IfOk result (λ widths. widths.items ≡ widths_with policy.now (wider [] 0 names.now) tuples.now) }
+    requires { AllByRecursion (HasClassesBelow (length policy.now.labels)) rows.now }
+    ensures { IfOk result (λ widths. widths.items ≡ widths_with policy.now (wider [] 0 names.now) rows.now) }
 {
     let mut widths = wider(alloc, &[], names)?;
-    for tuple in tuples {
-        widths = widened(alloc, policy, &widths, tuple)?;
+    for place in 0..rows.len() {
+        widths = widened(alloc, policy, &widths, rows.get(place))?;
     }
     Ok(widths)
 }
 
 // ---- lines
 
-fn push_title(
-    text: &mut Vec<u8>,
-    policy: &Policy,
-    scheme: &Scheme,
-    label: LabelNo,
-) -> Result<(), AllocError>
-    requires { label < length policy.now.labels }
-    ensures { OnOk result (text.new.items ≡ text.old.items ++ table_title policy.now scheme.now label) }
-{
-    push_str(text, "view ")?;
-    push_str(text, scheme.name())?;
-    push_str(text, " at ")?;
-    push_str(text, policy.name(label))?;
-    push_str(text, ":")
-}
-
 fn push_title_line(
     text: &mut Vec<u8>,
     policy: &Policy,
-    scheme: &Scheme,
     event: &Event,
-    label: LabelNo,
+    what: &Asked,
 ) -> Result<(), AllocError>
     requires level { event.now.level < length policy.now.labels }
-    requires label { label < length policy.now.labels }
+    requires label { what.now.label < length policy.now.labels }
     ensures { OnOk result (text.new.items ≡ text.old.items
-        ++ (front policy.now event.now event.now.level ++ table_title policy.now scheme.now label ++ codes "\n")) }
+        ++ (front policy.now event.now event.now.level
+        ++ table_title policy.now what.now.scheme.now what.now.label what.now.query.now ++ codes "\n")) }
 {
     push_front(text, policy, event, event.level)?;
-    push_title(text, policy, scheme, label)?;
+    push_asked(text, policy, "view", what)?;
     push_str(text, "\n")?;
     Ok(())
 }
@@ -264,17 +251,17 @@ fn push_tuples(
     policy: &Policy,
     event: &Event,
     widths: &[usize],
-    tuples: &[Tuple],
+    rows: &Selection,
 ) -> Result<(), AllocError>
     requires level { event.now.level < length policy.now.labels }
-    requires classes { AllByRecursion (HasClassesBelow (length policy.now.labels)) tuples.now }
+    requires classes { AllByRecursion (HasClassesBelow (length policy.now.labels)) rows.now }
     ensures { OnOk result (text.new.items ≡ text.old.items
         ++ flat_map (λ t. front policy.now event.now event.now.level ++ table_row policy.now widths.now t
-        ++ codes "\n") tuples.now) }
+        ++ codes "\n") rows.now) }
 {
-    for tuple in tuples {
+    for place in 0..rows.len() {
         push_front(text, policy, event, event.level)?;
-        push_tuple(alloc, text, policy, widths, tuple)?;
+        push_tuple(alloc, text, policy, widths, rows.get(place))?;
         push_str(text, "\n")?;
     }
     Ok(())
@@ -285,51 +272,64 @@ fn push_table(
     alloc: Global,
     text: &mut Vec<u8>,
     policy: &Policy,
-    scheme: &Scheme,
     event: &Event,
-    label: LabelNo,
-    tuples: &[Tuple],
+    what: &Asked,
+    rows: &Selection,
 ) -> Result<(), AllocError>
     requires level { event.now.level < length policy.now.labels }
-    requires label { label < length policy.now.labels }
-    requires classes { AllByRecursion (HasClassesBelow (length policy.now.labels)) tuples.now }
+    requires label { what.now.label < length policy.now.labels }
+    requires classes { AllByRecursion (HasClassesBelow (length policy.now.labels)) rows.now }
     ensures { OnOk result (text.new.items ≡ text.old.items
-        ++ ((front policy.now event.now event.now.level ++ table_title policy.now scheme.now label ++ codes "\n")
         ++ ((front policy.now event.now event.now.level
-        ++ table_names scheme.now (table_widths policy.now scheme.now tuples.now)
+        ++ table_title policy.now what.now.scheme.now what.now.label what.now.query.now ++ codes "\n")
+        ++ ((front policy.now event.now event.now.level
+        ++ table_names what.now.scheme.now (table_widths policy.now what.now.scheme.now rows.now)
         ++ codes "\n") ++ ((front policy.now event.now event.now.level
-        ++ table_rule (table_widths policy.now scheme.now tuples.now)
+        ++ table_rule (table_widths policy.now what.now.scheme.now rows.now)
         ++ codes "\n") ++ flat_map (λ t. front policy.now event.now event.now.level
-        ++ table_row policy.now (table_widths policy.now scheme.now tuples.now) t ++ codes "\n") tuples.now)))) }
+        ++ table_row policy.now (table_widths policy.now what.now.scheme.now rows.now) t ++ codes "\n") rows.now)))) }
 {
-    let names = name_cells(alloc, scheme)?;
-    let widths = widths_of(alloc, policy, &names, tuples)?;
-    push_title_line(text, policy, scheme, event, label)?;
+    let names = name_cells(alloc, what.scheme)?;
+    let widths = widths_of(alloc, policy, &names, rows)?;
+    push_title_line(text, policy, event, what)?;
     push_names_line(text, policy, event, &names, &widths)?;
     push_rule_line(text, policy, event, &widths)?;
-    push_tuples(alloc, text, policy, event, &widths, tuples)
+    push_tuples(alloc, text, policy, event, &widths, rows)
 }
 
-/// Appends the lines of rows, which answer a view and nothing else.
+/// Appends the lines of rows, or of their number alone, which answer a view and nothing else.
 fn push_answer(
     alloc: Global,
     text: &mut Vec<u8>,
     policy: &Policy,
     schemes: &Schemes,
     event: &Event,
-    tuples: &[Tuple],
+    rows: &Selection,
 ) -> Result<(), AllocError>
     requires level { event.now.level < length policy.now.labels }
     requires command { CommandIsKnown (site_under policy.now schemes.now) event.now.command }
-    requires classes { AllByRecursion (HasClassesBelow (length policy.now.labels)) tuples.now }
+    requires classes { AllByRecursion (HasClassesBelow (length policy.now.labels)) rows.now }
     ensures { OnOk result (text.new.items ≡ text.old.items
         ++ flat_map (λ t. front policy.now event.now event.now.level ++ t
-        ++ codes "\n") (table_texts (site_under policy.now schemes.now) event.now.command tuples.now)) }
+        ++ codes "\n") (table_texts (site_under policy.now schemes.now) event.now.command rows.now)) }
 {
     match &event.command {
-        Command::View { rel, label } => {
-            let scheme = schemes.scheme(*rel);
-            push_table(alloc, text, policy, scheme, event, *label, tuples)
+        Command::View {
+            rel,
+            label,
+            query,
+            counts,
+        } => {
+            let what = Asked {
+                scheme: schemes.scheme(*rel),
+                label: *label,
+                query,
+            };
+            if *counts {
+                push_count_line(alloc, text, policy, event, &what, rows.len())
+            } else {
+                push_table(alloc, text, policy, event, &what, rows)
+            }
         }
         _ => Ok(()),
     }
@@ -341,16 +341,16 @@ pub(crate) fn table_bytes(
     policy: &Policy,
     schemes: &Schemes,
     event: &Event,
-    tuples: &[Tuple],
+    rows: &Selection,
 ) -> Result<Vec<u8>, AllocError>
     requires level { event.now.level < length policy.now.labels }
     requires command { CommandIsKnown (site_under policy.now schemes.now) event.now.command }
-    requires classes { AllByRecursion (HasClassesBelow (length policy.now.labels)) tuples.now }
+    requires classes { AllByRecursion (HasClassesBelow (length policy.now.labels)) rows.now }
     ensures { IfOk result (λ text. text.items
         ≡ flat_map (λ t. front policy.now event.now event.now.level ++ t
-        ++ codes "\n") (table_texts (site_under policy.now schemes.now) event.now.command tuples.now)) }
+        ++ codes "\n") (table_texts (site_under policy.now schemes.now) event.now.command rows.now)) }
 {
     let mut text = Vec::new(alloc);
-    push_answer(alloc, &mut text, policy, schemes, event, tuples)?;
+    push_answer(alloc, &mut text, policy, schemes, event, rows)?;
     Ok(text)
 }

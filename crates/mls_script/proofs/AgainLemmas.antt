@@ -31,7 +31,8 @@ use Rattle.mls_script.specs.Event.{Sets, SetsFit}
 use Rattle.mls_tokens.specs.Text.{separated}
 use Rattle.mls_lattice.specs.Canon.{label_name}
 use Rattle.mls_script.specs.Tokens.{relation_name, value_token, list_tokens, set_tokens}
-use Rattle.mls_script.specs.Reading.{known_or, label_named, relation_named, value_in, valued, PlacedValue, pass_value, after_item, items_from, none_listed, push_value, list_behind, pass_list, misfit, place_at, set_at, push_set, pass_setting, pass_sets}
+use Rattle.mls_script.specs.ReadQuery.{known_or, label_named}
+use Rattle.mls_script.specs.Reading.{relation_named, value_in, valued, PlacedValue, pass_value, after_item, items_from, none_listed, push_value, list_behind, pass_list, misfit, place_at, set_at, push_set, pass_setting, pass_sets}
 use Rattle.mls_script.proofs.FoundLemmas.{pushed}
 
 -- ---- one name, one number

@@ -1,35 +1,41 @@
 -- A script that is read tells its events.
-use Rattle.std.proofs.Common.{◌≡◌, ◌≢◌, ℕ, ◌+◌, Bool, true, false, List, [], ◌∷◌, ◌++◌, length, Option, Some, None, Result, Ok, Err, inl, inr, refl, sym, ap, ◌∙◌, subst, arith, append_assoc, cond, ◌==◌}
+use Rattle.std.proofs.Common.{◌≡◌, ◌≢◌, ℕ, ◌<◌, ◌+◌, Bool, true, false, List, [], ◌∷◌, ◌++◌, length, Option, Some, None, Result, Ok, Err, inl, inr, refl, sym, ap, ◌∙◌, subst, arith, append_assoc, cond, ◌==◌}
 use Rattle.std.specs.Prelude.{IfOk, option_to_list}
 use Rattle.std.specs.List.{flat_map, filter_map, AllByRecursion}
-use Rattle.std.proofs.lemmas.Bool.{cases_Bool, eqb-true}
+use Rattle.std.proofs.lemmas.Bool.{cases_Bool, eqb-true, lt-ltb}
 use Rattle.std.proofs.lemmas.List.{append-nil}
 use Rattle.std.proofs.lemmas.List.Elements.{filter_map-append}
 use Rattle.mls_lattice.specs.Policy.{Tables}
 use Rattle.mls_lattice.specs.Reading.{◌>>=◌}
-use Rattle.mls_lattice.proofs.ReadingLemmas.{bind_ok, same_ok}
+use Rattle.mls_lattice.proofs.ReadingLemmas.{ok_is, bind_ok, same_ok}
 use Rattle.mls_scheme.specs.Scheme.{Schemes}
 use Rattle.mls_tokens.specs.declared.fault.TokenCause.TheVariants as causes
 use Rattle.mls_tokens.specs.declared.fault.TokenFault.{TokenFault}
+use Rattle.mls_tokens.specs.declared.token.Token.{Token}
 use Rattle.mls_tokens.specs.declared.token.Token.TheVariants.{Word}
 use Rattle.mls_tokens.specs.Scanning.{Left, tokens_in, tokens_at}
 use Rattle.mls_tokens.specs.Passing.{is_word, taken, is_over, pass_end}
 use Rattle.mls_tokens.proofs.TokensLemmas.{tokens_exact}
-use Rattle.mls_tokens.proofs.PassedLemmas.{Passed, passed_more, word_taken, over_is}
+use Rattle.mls_tokens.proofs.PassedLemmas.{Passed, passed_none, passed_more, word_taken, over_is}
+use Rattle.mls_queries.specs.declared.query.Query.{Query}
 use Rattle.mls_script.specs.declared.event.Event.{Event}
+use Rattle.mls_script.specs.declared.event.Command.TheVariants as commands
 use Rattle.mls_script.specs.declared.fault.ScriptCause.TheVariants.{Unterminated}
 use Rattle.mls_script.specs.declared.fault.LineFault.{LineFault}
 use Rattle.mls_script.specs.declared.fault.ScriptFault.{ScriptFault}
 use Rattle.mls_script.specs.declared.draft.Draft.{Draft}
 use Rattle.mls_script.specs.declared.grammar.Verb.{Verb}
-use Rattle.mls_script.specs.declared.grammar.Verb.TheVariants.{Open, Close, Audit, View, Insert, Update, Delete, Call}
+use Rattle.mls_script.specs.declared.grammar.Verb.TheVariants.{Open, Close, Audit, View, Count, Insert, Update, Delete, Call}
 use Rattle.mls_script.specs.declared.grammar.Part.TheVariants as parts
 use Rattle.mls_script.specs.Event.{CommandFits, EventFits}
-use Rattle.mls_script.specs.Grammar.{verbs, verb_word, parts_of, blank, command_of, event_of, verb_of}
+use Rattle.mls_script.specs.Grammar.{verbs, verb_word, parts_of, blank, no_query, command_of, event_of}
 use Rattle.mls_script.specs.Tokens.{parts_tokens, event_tokens}
-use Rattle.mls_script.specs.Reading.{Looked, parts_at, verb_or, verb_among, command_at, sentence_at, told_at, form_of, event_in, line_at, in_script, lines_at, split_lines, script_at, IsRead}
+use Rattle.mls_script.specs.QueryTokens.{TellsTail}
+use Rattle.mls_script.specs.ReadQuery.{form_of, query_at, tail_at}
+use Rattle.mls_script.specs.Reading.{Looked, parts_at, verb_or, verb_among, relation_in, event_from, command_at, sentence_at, told_at, event_in, line_at, in_script, lines_at, split_lines, script_at, IsRead}
 use Rattle.mls_script.specs.Script.{Line, Tells, IsLineOf, ReadsScript}
 use Rattle.mls_script.proofs.KindLemmas.{IsToken, all_tokens, list_kinds}
+use Rattle.mls_script.proofs.QueryFound.{told, form_found, of_text, query_found}
 use Rattle.mls_script.proofs.PartLemmas.{upto, PartFits, PartsFound, parts_found, Rising}
 
 -- ---- verbs
@@ -53,49 +59,74 @@ module _ (policy : Tables) (schemes : Schemes) where
   parts_rise Close = tt
   parts_rise Audit = tt
   parts_rise View = (omega arith, (omega arith, tt))
+  parts_rise Count = (omega arith, (omega arith, tt))
   parts_rise Insert = (omega arith, (omega arith, (omega arith, tt)))
   parts_rise Update = (omega arith, (omega arith, (omega arith, (omega arith, (omega arith, tt)))))
   parts_rise Delete = (omega arith, (omega arith, (omega arith, tt)))
   parts_rise Call = (omega arith, (omega arith, tt))
 
-  command_fits : (v : Verb) (d : Draft) → AllByRecursion (PartFits policy schemes d) (parts_of v) → AllByRecursion IsToken (parts_tokens policy schemes d (parts_of v)) → CommandFits policy schemes (command_of v d)
-  command_fits Open d h tokens = h.0
-  command_fits Close d h tokens = tt
-  command_fits Audit d h tokens = tt
-  command_fits View d h tokens = (h.0, h.1.0)
-  command_fits Insert d h tokens = (h.0, h.1.0, h.1.1.0)
-  command_fits Update d h tokens = (h.0, h.1.0, h.1.1.0, h.1.1.1.0, h.1.1.1.1.0)
-  command_fits Delete d h tokens = (h.0, h.1.0, h.1.1.0)
-  command_fits Call d h tokens = (h.0, list_kinds d.values [] tokens.1)
+  -- what a query says that stands behind the parts of a verb
+  record TailFound (v : Verb) (d : Draft) (q : Query) (l r : Left) : Type 0 where
+    tokens : List Token
+    passed : Passed tokens l r
+    tells : TellsTail policy schemes (command_of v d q) tokens
+    fits : (l0 : Left) (ts : List Token) → Passed ts l0 l → AllByRecursion IsToken (tokens_in l0.placed) → AllByRecursion (PartFits policy schemes d) (parts_of v)
+        → AllByRecursion IsToken (parts_tokens policy schemes d (parts_of v)) → CommandFits policy schemes (command_of v d q)
+
+  in_relation : (d : Draft) → d.rel < length schemes → relation_in schemes (Ok d) ≡ Some d.rel
+  in_relation d within = rw (lt-ltb d.rel (length schemes) within) refl
+
+  no_tail : (v : Verb) (d : Draft) (q : Query) (l : Left) (y : Result Query LineFault × Left)
+      → ((p : Query) → TellsTail policy schemes (command_of v d p) [])
+      → ((p : Query) → AllByRecursion (PartFits policy schemes d) (parts_of v) → AllByRecursion IsToken (parts_tokens policy schemes d (parts_of v)) → CommandFits policy schemes (command_of v d p))
+      → Path (Result (Result Query LineFault × Left) LineFault) (Ok (Ok no_query, l)) (Ok y) → y.0 ≡ Ok q → TailFound v d q l y.1
+  no_tail v d q l y none fits e was =
+      let pair = ok_is (Ok no_query, l) y e in
+      subst (TailFound v d q l) (ap (λ (z : Result Query LineFault × Left). z.1) pair)
+      (record { tokens = []; passed = passed_none l; tells = none q; fits = λ l0 ts p all h tokens. fits q h tokens })
+
+  a_query : (v : Verb) (counts : Bool) (d : Draft) (q : Query) (l : Left) (y : Result Query LineFault × Left) → command_of v d q ≡ commands.View d.rel d.label q counts
+      → (AllByRecursion (PartFits policy schemes d) (parts_of v) → (d.rel < length schemes) × (d.label < length policy.labels)) → d.rel < length schemes
+      → query_at policy schemes counts (relation_in schemes (Ok d)) l ≡ Ok y → y.0 ≡ Ok q → TailFound v d q l y.1
+  a_query v counts d q l y same known within e was =
+      let found = query_found policy schemes d.rel counts l y q (ap (λ o. query_at policy schemes counts o l) (sym (in_relation d within)) ∙ e) was in
+      record {
+        tokens = found.tokens;
+        passed = found.passed;
+        tells = subst (λ c. TellsTail policy schemes c found.tokens) (sym same) found.tells;
+        fits = λ l0 ts p all h tokens. subst (CommandFits policy schemes) (sym same) ((known h).0, (known h).1, found.fits (of_text ts l0 l p all).1);
+      }
+
+  tail_found : (v : Verb) (d : Draft) (q : Query) (l : Left) (y : Result Query LineFault × Left) → AllByRecursion (PartFits policy schemes d) (parts_of v)
+      → tail_at policy schemes v (relation_in schemes (Ok d)) l ≡ Ok y → y.0 ≡ Ok q → TailFound v d q l y.1
+  tail_found Open d q l y fits e was = no_tail Open d q l y (λ p. refl) (λ p h tokens. h.0) e was
+  tail_found Close d q l y fits e was = no_tail Close d q l y (λ p. refl) (λ p h tokens. tt) e was
+  tail_found Audit d q l y fits e was = no_tail Audit d q l y (λ p. refl) (λ p h tokens. tt) e was
+  tail_found View d q l y fits e was = a_query View false d q l y refl (λ h. (h.0, h.1.0)) fits.0 e was
+  tail_found Count d q l y fits e was = a_query Count true d q l y refl (λ h. (h.0, h.1.0)) fits.0 e was
+  tail_found Insert d q l y fits e was = no_tail Insert d q l y (λ p. refl) (λ p h tokens. (h.0, h.1.0, h.1.1.0)) e was
+  tail_found Update d q l y fits e was = no_tail Update d q l y (λ p. refl) (λ p h tokens. (h.0, h.1.0, h.1.1.0, h.1.1.1.0, h.1.1.1.1.0)) e was
+  tail_found Delete d q l y fits e was = no_tail Delete d q l y (λ p. refl) (λ p h tokens. (h.0, h.1.0, h.1.1.0)) e was
+  tail_found Call d q l y fits e was = no_tail Call d q l y (λ p. refl) (λ p h tokens. (h.0, list_kinds d.values [] tokens.1)) e was
 
   -- the draft that an event is told by says the same
-  verb_kept : (v : Verb) (d : Draft) → verb_of (command_of v d) ≡ v
-  verb_kept Open d = refl
-  verb_kept Close d = refl
-  verb_kept Audit d = refl
-  verb_kept View d = refl
-  verb_kept Insert d = refl
-  verb_kept Update d = refl
-  verb_kept Delete d = refl
-  verb_kept Call d = refl
+  tokens_kept : (v : Verb) (d : Draft) (q : Query) → event_tokens policy schemes (event_of v d q) ≡ parts_tokens policy schemes d (parts.Level ∷ parts.Session ∷ []) ++ Word (verb_word v) ∷ parts_tokens policy schemes d (parts_of v)
+  tokens_kept Open d q = refl
+  tokens_kept Close d q = refl
+  tokens_kept Audit d q = refl
+  tokens_kept View d q = refl
+  tokens_kept Count d q = refl
+  tokens_kept Insert d q = refl
+  tokens_kept Update d q = refl
+  tokens_kept Delete d q = refl
+  tokens_kept Call d q = refl
 
-  tokens_kept : (v : Verb) (d : Draft) → event_tokens policy schemes (event_of v d) ≡ parts_tokens policy schemes d (parts.Level ∷ parts.Session ∷ []) ++ Word (verb_word v) ∷ parts_tokens policy schemes d (parts_of v)
-  tokens_kept Open d = refl
-  tokens_kept Close d = refl
-  tokens_kept Audit d = refl
-  tokens_kept View d = refl
-  tokens_kept Insert d = refl
-  tokens_kept Update d = refl
-  tokens_kept Delete d = refl
-  tokens_kept Call d = refl
-
-  -- an event whose tokens are those of some text
-  abbrev pub FitsTold : Event → Type 0
-  FitsTold e = AllByRecursion IsToken (event_tokens policy schemes e) → EventFits policy schemes e
-
-  record EventFound (e : Event) (l r : Left) : Type 0 where
-    fits : FitsTold e
-    passed : Passed (event_tokens policy schemes e) l r
+  -- an event that was read, from tokens of a text
+  pub record EventFound (e : Event) (l r : Left) : Type 0 where
+    pub tail : List Token
+    pub query : TellsTail policy schemes e.command tail
+    pub fits : AllByRecursion IsToken (tokens_in l.placed) → EventFits policy schemes e
+    pub passed : Passed (event_tokens policy schemes e ++ tail) l r
 
   front_tokens : (d f : Draft) → upto 2 d ≡ upto 2 f → parts_tokens policy schemes d (parts.Level ∷ parts.Session ∷ []) ≡ parts_tokens policy schemes f (parts.Level ∷ parts.Session ∷ [])
   front_tokens d f same = ap (λ (x : Draft). parts_tokens policy schemes x (parts.Level ∷ parts.Session ∷ [])) same
@@ -103,17 +134,26 @@ module _ (policy : Tables) (schemes : Schemes) where
   front_fits : (d f : Draft) → upto 2 d ≡ upto 2 f → AllByRecursion (PartFits policy schemes d) (parts.Level ∷ parts.Session ∷ []) → AllByRecursion (PartFits policy schemes f) (parts.Level ∷ parts.Session ∷ [])
   front_fits d f same h = subst (λ (x : Draft). AllByRecursion (PartFits policy schemes x) (parts.Level ∷ parts.Session ∷ [])) same h
 
-  event_found : (v : Verb) (front : Looked) (d : Draft) (l m n r : Left) → PartsFound policy schemes 2 (parts_of v) front d n r → Passed (Word (verb_word v) ∷ []) m n
-      → ((f : Draft) → front ≡ Ok f → PartsFound policy schemes 0 (parts.Level ∷ parts.Session ∷ []) (Ok blank) f l m) → EventFound (event_of v d) l r
-  event_found v front d l m n r more word start =
+  event_found : (v : Verb) (front : Looked) (d : Draft) (q : Query) (l m n k r : Left) → PartsFound policy schemes 2 (parts_of v) front d n k → Passed (Word (verb_word v) ∷ []) m n
+      → TailFound v d q k r
+      → ((f : Draft) → front ≡ Ok f → PartsFound policy schemes 0 (parts.Level ∷ parts.Session ∷ []) (Ok blank) f l m) → EventFound (event_of v d q) l r
+  event_found v front d q l m n k r more word tail start =
       let first = start more.front more.was in
       let fits = front_fits more.front d more.kept first.fits in
+      let behind = parts_tokens policy schemes d (parts_of v) in
+      let heads = parts_tokens policy schemes d (parts.Level ∷ parts.Session ∷ []) in
+      let to_verb : Passed heads l m = subst (λ ts. Passed ts l m) (front_tokens more.front d more.kept) first.passed in
+      let to_parts = passed_more heads (Word (verb_word v) ∷ []) l m n to_verb word in
+      let whole = passed_more heads (Word (verb_word v) ∷ behind) l m k to_verb (passed_more (Word (verb_word v) ∷ []) behind m n k word more.passed) in
       record {
-        fits = λ told. record { level = fits.0; session = fits.1.0; command = command_fits v d more.fits (subst (AllByRecursion IsToken) (tokens_kept v d) told).1.1.1 };
-        passed = subst (λ ts. Passed ts l r) (sym (tokens_kept v d))
-            (passed_more (parts_tokens policy schemes d (parts.Level ∷ parts.Session ∷ [])) (Word (verb_word v) ∷ parts_tokens policy schemes d (parts_of v)) l m r
-            (subst (λ ts. Passed ts l m) (front_tokens more.front d more.kept) first.passed)
-            (passed_more (Word (verb_word v) ∷ []) (parts_tokens policy schemes d (parts_of v)) m n r word more.passed));
+        tail = tail.tokens;
+        query = tail.tells;
+        fits = λ all. record {
+          level = fits.0;
+          session = fits.1.0;
+          command = tail.fits l (heads ++ Word (verb_word v) ∷ behind) whole all more.fits (of_text behind n k more.passed (of_text (heads ++ Word (verb_word v) ∷ []) l n to_parts all).1).0;
+        };
+        passed = subst (λ ts. Passed (ts ++ tail.tokens) l r) (sym (tokens_kept v d q)) (passed_more (heads ++ Word (verb_word v) ∷ behind) tail.tokens l k r whole tail.passed);
       }
 
   end_found : (l : Left) (u : Unit {0}) → pass_end l ≡ Ok u → is_over l ≡ true
@@ -123,37 +163,64 @@ module _ (policy : Tables) (schemes : Schemes) where
         | inr more ↦ absurd (let h = rw more at e in cc)
       ]
 
-  pub sentence_found : (l : Left) (e : Event) → sentence_at policy schemes l ≡ Ok (Ok e) → FitsTold e × (tokens_in l.placed ≡ event_tokens policy schemes e) × (l.stop.cause ≡ causes.Expected)
-  unfolding sentence_at command_at
+  ended_at : {X : Type 0} (l : Left) (x : X) (y : X) → (form_of (pass_end l) >>= λ _. let r : Result X LineFault = Ok x in r) ≡ Ok y → (is_over l ≡ true) × (x ≡ y)
+  ended_at {X = X} l x y h =
+      let over = bind_ok (form_of (pass_end l)) (λ _. let r : Result X LineFault = Ok x in r) y h in
+      (end_found l over.0 (form_found (pass_end l) over.0 over.1), ok_is {E = LineFault} x y over.2)
+
+  -- what a verb, its parts and what stands behind them say
+  behind_parts : (v : Verb) (l m n k r : Left) (front looked : Looked) (asked : Result Query LineFault) (e : Event)
+      → ((f : Draft) → front ≡ Ok f → PartsFound policy schemes 0 (parts.Level ∷ parts.Session ∷ []) (Ok blank) f l m) → Passed (Word (verb_word v) ∷ []) m n
+      → parts_at policy schemes (parts_of v) front n ≡ Ok (looked, k) → tail_at policy schemes v (relation_in schemes looked) k ≡ Ok (asked, r) → event_from v looked asked ≡ Ok e → EventFound e l r
+  behind_parts v l m n k r front (Err f) asked e start word parts tail from = absurd cc
+  behind_parts v l m n k r front (Ok d) (Err f) e start word parts tail from = absurd cc
+  behind_parts v l m n k r front (Ok d) (Ok q) e start word parts tail from =
+      let more = parts_found policy schemes 2 (parts_of v) front n (Ok d, k) d (parts_rise v) parts refl in
+      subst (λ z. EventFound z l r) (ok_is {E = LineFault} (event_of v d q) e from)
+      (event_found v front d q l m n k r more word (tail_found v d q k (Ok q, r) more.fits tail refl) start)
+
+  command_found : (l m : Left) (front : Looked) (x : Result Event LineFault × Left) (e : Event)
+      → ((f : Draft) → front ≡ Ok f → PartsFound policy schemes 0 (parts.Level ∷ parts.Session ∷ []) (Ok blank) f l m)
+      → command_at policy schemes front m ≡ Ok x → x.0 ≡ Ok e → EventFound e l x.1
+  unfolding command_at
+  command_found l m front x e start h was =
+      let v = bind_ok (form_of (verb_among verbs m)) (λ v. form_of (parts_at policy schemes (parts_of v.0) front v.1) >>= λ x. tail_at policy schemes v.0 (relation_in schemes x.0) x.1 >>= λ q. Ok (event_from v.0 x.0 q.0, q.1)) x h in
+      let y = bind_ok (form_of (parts_at policy schemes (parts_of v.0.0) front v.0.1)) (λ x. tail_at policy schemes v.0.0 (relation_in schemes x.0) x.1 >>= λ q. Ok (event_from v.0.0 x.0 q.0, q.1)) x v.2 in
+      let t = bind_ok (tail_at policy schemes v.0.0 (relation_in schemes y.0.0) y.0.1) (λ q. Ok (event_from v.0.0 y.0.0 q.0, q.1)) x y.2 in
+      told (λ z r. EventFound z l r) (event_from v.0.0 y.0.0 t.0.0) t.0.1 x e t.2 was
+      (behind_parts v.0.0 l m v.0.1 y.0.1 t.0.1 front y.0.0 t.0.0 e start (verb_found verbs m v.0 (form_found (verb_among verbs m) v.0 v.1)) (form_found (parts_at policy schemes (parts_of v.0.0) front v.0.1) y.0 y.1) t.1)
+
+  record SentenceFound (e : Event) (l : Left) : Type 0 where
+    tail : List Token
+    query : TellsTail policy schemes e.command tail
+    fits : AllByRecursion IsToken (tokens_in l.placed) → EventFits policy schemes e
+    tokens : tokens_in l.placed ≡ event_tokens policy schemes e ++ tail
+    stop : l.stop.cause ≡ causes.Expected
+
+  at_end : (e : Event) (l r : Left) → EventFound e l r → is_over r ≡ true → SentenceFound e l
+  at_end e l r found over =
+      let end = over_is r.placed r.stop over in
+      record {
+        tail = found.tail;
+        query = found.query;
+        fits = found.fits;
+        tokens = found.passed.tokens ∙ ap (λ ts. (event_tokens policy schemes e ++ found.tail) ++ ts) end.0 ∙ append-nil (event_tokens policy schemes e ++ found.tail);
+        stop = ap (λ (s : TokenFault). s.cause) (sym found.passed.stop) ∙ end.1;
+      }
+
+  sentence_found : (l : Left) (e : Event) → sentence_at policy schemes l ≡ Ok (Ok e) → SentenceFound e l
+  unfolding sentence_at
   sentence_found l e h =
-      let front = bind_ok (parts_at policy schemes (parts.Level ∷ parts.Session ∷ []) (Ok blank) l) (λ front. command_at policy schemes front.0 front.1 >>= λ x. pass_end x.1 >>= λ _. Ok x.0) (Ok e) h in
-      let x = bind_ok (command_at policy schemes front.0.0 front.0.1) (λ x. pass_end x.1 >>= λ _. Ok x.0) (Ok e) front.2 in
-      let over = bind_ok (pass_end x.0.1) (λ _. Ok x.0.0) (Ok e) x.2 in
-      let done : Result (Result Event LineFault) TokenFault = Ok x.0.0 in
-      let event : x.0.0 ≡ Ok e = same_ok done x.0.0 (Ok e) refl over.2 in
-      let v = bind_ok (verb_among verbs front.0.1) (λ v. parts_at policy schemes (parts_of v.0) front.0.0 v.1 >>= λ x. Ok ((x.0 >>= λ d. Ok (event_of v.0 d)), x.1)) x.0 x.1 in
-      let y = bind_ok (parts_at policy schemes (parts_of v.0.0) front.0.0 v.0.1) (λ x. Ok ((x.0 >>= λ d. Ok (event_of v.0.0 d)), x.1)) x.0 v.2 in
-      let made : Result (Result Event LineFault × Left) TokenFault = Ok ((y.0.0 >>= λ d. Ok (event_of v.0.0 d)), y.0.1) in
-      let pair : ((y.0.0 >>= λ d. Ok (event_of v.0.0 d)), y.0.1) ≡ x.0 = same_ok made ((y.0.0 >>= λ d. Ok (event_of v.0.0 d)), y.0.1) x.0 refl y.2 in
-      let d = bind_ok y.0.0 (λ d. Ok (event_of v.0.0 d)) e (ap (λ (z : Result Event LineFault × Left). z.0) pair ∙ event) in
-      let told : Result Event LineFault = Ok (event_of v.0.0 d.0) in
-      let same : event_of v.0.0 d.0 ≡ e = same_ok told (event_of v.0.0 d.0) e refl d.2 in
-      let more = parts_found policy schemes 2 (parts_of v.0.0) front.0.0 v.0.1 y.0 d.0 (parts_rise v.0.0) y.1 d.1 in
-      let found = event_found v.0.0 front.0.0 d.0 l front.0.1 v.0.1 y.0.1 more (verb_found verbs front.0.1 v.0 v.1)
-      (λ f is. parts_found policy schemes 0 (parts.Level ∷ parts.Session ∷ []) (Ok blank) l front.0 f (omega arith, (omega arith, tt)) front.1 is) in
-      let end = over_is x.0.1.placed x.0.1.stop (end_found x.0.1 over.0 over.1) in
-      let last : y.0.1 ≡ x.0.1 = ap (λ (z : Result Event LineFault × Left). z.1) pair in
-      let passed : Passed (event_tokens policy schemes e) l x.0.1 = subst (λ z. Passed (event_tokens policy schemes z) l x.0.1) same (subst (λ z. Passed (event_tokens policy schemes (event_of v.0.0 d.0)) l z) last found.passed) in (
-        subst FitsTold same found.fits,
-        passed.tokens ∙ ap (λ ts. event_tokens policy schemes e ++ ts) end.0 ∙ append-nil (event_tokens policy schemes e),
-        ap (λ (s : TokenFault). s.cause) (sym passed.stop) ∙ end.1,
-      )
+      let front = bind_ok (form_of (parts_at policy schemes (parts.Level ∷ parts.Session ∷ []) (Ok blank) l)) (λ front. command_at policy schemes front.0 front.1 >>= λ x. form_of (pass_end x.1) >>= λ _. Ok x.0) (Ok e) h in
+      let x = bind_ok (command_at policy schemes front.0.0 front.0.1) (λ x. form_of (pass_end x.1) >>= λ _. Ok x.0) (Ok e) front.2 in
+      let end = ended_at x.0.1 x.0.0 (Ok e) x.2 in
+      at_end e l x.0.1
+      (command_found l front.0.1 front.0.0 x.0 e
+      (λ f is. parts_found policy schemes 0 (parts.Level ∷ parts.Session ∷ []) (Ok blank) l front.0 f (omega arith, (omega arith, tt)) (form_found (parts_at policy schemes (parts.Level ∷ parts.Session ∷ []) (Ok blank) l) front.0 front.1) is)
+      x.1 end.1)
+      end.0
 
   -- ---- a line
-
-  form_found : {X : Type 0} (r : Result X TokenFault) (x : X) → form_of r ≡ Ok x → r ≡ Ok x
-  form_found (Ok y) x e = ap (λ z. Ok z) (same_ok (form_of (Ok y)) y x refl e)
-  form_found (Err f) x e = absurd cc
 
   told_found : (line : List ℕ) (told : Option (Result Event LineFault)) (o : Option Event) → told_at policy schemes (tokens_at line) ≡ Ok told → event_in told ≡ Ok o → Tells policy schemes line o
   told_found line told o e is =
@@ -169,17 +236,18 @@ module _ (policy : Tables) (schemes : Schemes) where
             let event = bind_ok r.0 (λ x. Ok (Some x)) o (ap event_in some ∙ is) in
             let found = sentence_found (tokens_at line) event.0 (r.1 ∙ ap (λ z. Ok z) event.1) in
             let told_event : Some event.0 ≡ o = let h = event.2 in cc in
-            let tokens = (tokens_exact line (event_tokens policy schemes event.0)).0 (found.1, found.2) in
-            subst (Tells policy schemes line) told_event (found.0 (all_tokens (event_tokens policy schemes event.0) line tokens), tokens)
+            let tokens = (tokens_exact line (event_tokens policy schemes event.0 ++ found.tail)).0 (found.tokens, found.stop) in
+            let all = subst (AllByRecursion IsToken) (sym found.tokens) (all_tokens (event_tokens policy schemes event.0 ++ found.tail) line tokens) in
+            subst (Tells policy schemes line) told_event (record { fits = found.fits all; tail = found.tail; tokens = tokens; query = found.query })
       ]
 
   pub line_found : (line : List ℕ) (ended : Bool) (o : Option Event) → line_at policy schemes line ended ≡ Ok o → (ended ≡ true) × Tells policy schemes line o
   unfolding line_at
   line_found line true o e =
-      let told = bind_ok (form_of (told_at policy schemes (tokens_at line))) (λ told. event_in told) o e in
-      (refl, told_found line told.0 o (form_found (told_at policy schemes (tokens_at line)) told.0 told.1) told.2)
+      let told = bind_ok (told_at policy schemes (tokens_at line)) (λ told. event_in told) o e in
+      (refl, told_found line told.0 o told.1 told.2)
   line_found line false o e =
-      let told = bind_ok (form_of (told_at policy schemes (tokens_at line))) (λ (told : Option (Result Event LineFault)). let r : Result (Option Event) LineFault = Err (record { at = length line + 1; cause = Unterminated }) in r) o e in
+      let told = bind_ok (told_at policy schemes (tokens_at line)) (λ (told : Option (Result Event LineFault)). let r : Result (Option Event) LineFault = Err (record { at = length line + 1; cause = Unterminated }) in r) o e in
       absurd (let h = told.2 in cc)
 
 -- ---- the lines of a text
@@ -282,7 +350,7 @@ module _ (policy : Tables) (schemes : Schemes) where
       one : (text : List ℕ) (o : Option Event) → Tells policy schemes text o → AllByRecursion (EventFits policy schemes) (filter_map (λ (x : Line). x.event) told)
           → AllByRecursion (EventFits policy schemes) (filter_map (λ (x : Line). x.event) (record { text = text; event = o } ∷ told))
       one text None tells more = more
-      one text (Some e) tells more = (tells.0, more)
+      one text (Some e) tells more = (tells.fits, more)
 
   pub fits_found : {X : Type 0} (view : X → List Event) (bytes : List ℕ) (r : Result X ScriptFault) → IsRead view r (script_at policy schemes bytes) → IfOk r (λ v. AllByRecursion (EventFits policy schemes) (view v))
   fits_found view bytes (Ok v) h = let reads = script_found bytes (view v) h in subst (AllByRecursion (EventFits policy schemes)) (sym reads.told) (all_fit reads.lines reads.each)

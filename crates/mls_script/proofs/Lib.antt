@@ -3,7 +3,9 @@ pub mod FitSteps
 pub mod ScriptSteps
 pub mod KindLemmas
 pub mod FoundLemmas
+pub mod QueryFound
 pub mod PartLemmas
 pub mod LawLemmas
 pub mod AgainLemmas
+pub mod QueryAgain
 pub mod TellingLemmas

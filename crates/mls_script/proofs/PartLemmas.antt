@@ -39,14 +39,10 @@ use Rattle.mls_script.specs.Grammar.{part_word}
 use Rattle.mls_tokens.specs.Text.{separated}
 use Rattle.mls_lattice.specs.Canon.{label_name}
 use Rattle.mls_script.specs.Tokens.{relation_name, value_token, list_tokens, set_tokens, word_tokens, said, part_tokens, parts_tokens}
-use Rattle.mls_script.specs.Reading.{Looked, known_or, label_named, relation_named, misfit, fit_or, held, place_at, new_or, kind_or, set_at, push_set, pass_setting, pass_sets, pass_list, put_label, put_name, put_values, attributes_of, with_label, with_name, with_relation, with_sets, with_values, with_arguments, label_at, name_at, relation_at, list_at, arguments_at, sets_at, content_at, pass_word, part_at, parts_at}
+use Rattle.mls_script.specs.ReadQuery.{known_or, label_named}
+use Rattle.mls_script.specs.Reading.{Looked, relation_named, misfit, fit_or, held, place_at, new_or, kind_or, set_at, push_set, pass_setting, pass_sets, pass_list, put_label, put_name, put_values, attributes_of, with_label, with_name, with_relation, with_sets, with_values, with_arguments, label_at, name_at, relation_at, list_at, arguments_at, sets_at, content_at, pass_word, part_at, parts_at}
+use Rattle.mls_script.proofs.QueryFound.{known_found}
 use Rattle.mls_script.proofs.FoundLemmas.{pushed, all_found, list_found, setting_tokens, setting_found}
-
--- ---- names by number
-
-known_found : (at : ℕ) (o : Option ℕ) (n : ℕ) → known_or at o ≡ Ok n → o ≡ Some n
-known_found at None n e = absurd cc
-known_found at (Some m) n e = ap (λ (x : ℕ). Some x) (same_ok (known_or at (Some m)) m n refl e)
 
 -- ---- values
 

@@ -3,7 +3,7 @@ use Rattle.std.proofs.Common.{◌≡◌, ℕ, ◌<◌, ◌+◌, true, false, Lis
 use Rattle.std.specs.Prelude.{option_map, option_to_list, IfErr, ⊤}
 use Rattle.std.specs.List.{flat_map, filter_map, AllByRecursion, slice_get}
 use Rattle.std.specs.Str.{bytes_eq}
-use Rattle.std.proofs.lemmas.Bool.{cases_Bool}
+use Rattle.std.proofs.lemmas.Bool.{cases_Bool, lt-ltb}
 use Rattle.std.proofs.lemmas.List.{append-nil}
 use Rattle.std.proofs.lemmas.List.Elements.{filter_map-append}
 use Rattle.std.proofs.lemmas.Option.{slice_get-get_or}
@@ -37,15 +37,18 @@ use Rattle.mls_script.specs.declared.grammar.Part.{Part}
 use Rattle.mls_script.specs.declared.grammar.Part.TheVariants.{Level, Session, Name as Named, Relation, Key, Values, Arguments, At, Class, From, Sets as Settings}
 use Rattle.mls_script.specs.declared.lists.Listed.{Listed}
 use Rattle.mls_script.specs.Event.{Sets, SetsFit, CommandFits, EventFits}
-use Rattle.mls_script.specs.Grammar.{verbs, verb_word, parts_of, part_word, blank, event_of, verb_of, draft_of, drafted}
+use Rattle.mls_script.specs.Grammar.{verbs, verb_word, parts_of, part_word, blank, no_query, event_of, verb_of, draft_of, drafted, query_of}
 use Rattle.mls_tokens.specs.Text.{separated}
 use Rattle.mls_lattice.specs.Canon.{label_name}
 use Rattle.mls_script.specs.Tokens.{relation_name, list_tokens, set_tokens, word_tokens, said, part_tokens, parts_tokens, event_tokens}
-use Rattle.mls_script.specs.Reading.{Looked, label_named, relation_named, pass_sets, fit_or, held, put_label, put_values, attributes_of, with_label, with_name, with_relation, with_sets, with_values, with_arguments, label_at, name_at, relation_at, list_at, arguments_at, sets_at, content_at, pass_word, part_at, parts_at, verb_or, verb_among, command_at, sentence_at, told_at, form_of, event_in, line_at, in_script, lines_at, split_lines, script_at, IsRead}
+use Rattle.mls_script.specs.QueryTokens.{TellsTail}
+use Rattle.mls_script.specs.ReadQuery.{label_named, form_of, query_at, tail_at}
+use Rattle.mls_script.specs.Reading.{Looked, relation_named, pass_sets, fit_or, held, put_label, put_values, attributes_of, with_label, with_name, with_relation, with_sets, with_values, with_arguments, label_at, name_at, relation_at, list_at, arguments_at, sets_at, content_at, pass_word, part_at, parts_at, verb_or, verb_among, relation_in, event_from, command_at, sentence_at, told_at, event_in, line_at, in_script, lines_at, split_lines, script_at, IsRead}
 use Rattle.mls_script.specs.Script.{Line, Tells, IsLineOf, ReadsScript, ScriptsAreOnce}
 use Rattle.mls_script.proofs.ScriptSteps.{split_ended}
 use Rattle.mls_script.proofs.PartLemmas.{PartFits}
 use Rattle.mls_script.proofs.LawLemmas.{listed}
+use Rattle.mls_script.proofs.QueryAgain.{form_again, query_no_comma, query_read}
 use Rattle.mls_script.proofs.AgainLemmas.{label_again, relation_again, list_read, kinds_again, sets_read}
 
 -- ---- what a part puts into a draft
@@ -212,6 +215,7 @@ known_verb v.Open = refl
 known_verb v.Close = refl
 known_verb v.Audit = refl
 known_verb v.View = refl
+known_verb v.Count = refl
 known_verb v.Insert = refl
 known_verb v.Update = refl
 known_verb v.Delete = refl
@@ -232,26 +236,22 @@ verb_read (y ∷ ys) w x us l e first =
 
 -- ---- a line
 
-abbrev told_by : Verb → Looked → Result Event LineFault
-told_by x looked = looked >>= λ d. Ok (event_of x d)
-
 abbrev Commanded : Type 0
-Commanded = Result (Result Event LineFault × Left) TokenFault
+Commanded = Result (Result Event LineFault × Left) LineFault
 
-abbrev commanded : Verb → Result (Looked × Left) TokenFault → Commanded
-commanded x r = r >>= λ (y : Looked × Left). let told : Result Event LineFault × Left = (told_by x y.0, y.1) in Ok told
-
-abbrev ended : Commanded → Result (Result Event LineFault) TokenFault
-ended r = r >>= λ x. pass_end x.1 >>= λ _. Ok x.0
+abbrev ended : Commanded → Result (Result Event LineFault) LineFault
+ended r = r >>= λ x. form_of (pass_end x.1) >>= λ _. Ok x.0
 
 abbrev begun : ℕ → Name → Draft
 begun level session = record blank { level = level; session = session }
 
-event_again : (level : ℕ) (session : Name) (c : Command) → event_of (verb_of c) (filled (parts_of (verb_of c)) (draft_of (begun level session) c) (begun level session)) ≡ record { level = level; session = session; command = c }
+event_again : (level : ℕ) (session : Name) (c : Command)
+    → event_of (verb_of c) (filled (parts_of (verb_of c)) (draft_of (begun level session) c) (begun level session)) (query_of c) ≡ record { level = level; session = session; command = c }
 event_again level session (commands.Open user) = refl
 event_again level session commands.Close = refl
 event_again level session commands.Audit = refl
-event_again level session (commands.View rel label) = refl
+event_again level session (commands.View rel label query false) = refl
+event_again level session (commands.View rel label query true) = refl
 event_again level session (commands.Insert rel key values) = refl
 event_again level session (commands.Update rel key key_class from sets) = refl
 event_again level session (commands.Delete rel key key_class) = refl
@@ -262,7 +262,7 @@ module _ (policy : Tables) (schemes : Schemes) where
   front_same level session (commands.Open user) = refl
   front_same level session commands.Close = refl
   front_same level session commands.Audit = refl
-  front_same level session (commands.View rel label) = refl
+  front_same level session (commands.View rel label query counts) = refl
   front_same level session (commands.Insert rel key values) = refl
   front_same level session (commands.Update rel key key_class from sets) = refl
   front_same level session (commands.Delete rel key key_class) = refl
@@ -272,7 +272,8 @@ module _ (policy : Tables) (schemes : Schemes) where
   parts_fit b (commands.Open user) h = (h, tt)
   parts_fit b commands.Close h = tt
   parts_fit b commands.Audit h = tt
-  parts_fit b (commands.View rel label) h = (h.0, (h.1, tt))
+  parts_fit b (commands.View rel label query false) h = (h.0, (h.1, tt))
+  parts_fit b (commands.View rel label query true) h = (h.0, (h.1, tt))
   parts_fit b (commands.Insert rel key values) h = (h.0, (h.1, (h.2, tt)))
   parts_fit b (commands.Update rel key key_class from sets) h = (h.0, (h.1, (h.2, (h.3, (h.4, tt)))))
   parts_fit b (commands.Delete rel key key_class) h = (h.0, (h.1, (h.2, tt)))
@@ -283,34 +284,86 @@ module _ (policy : Tables) (schemes : Schemes) where
     parts_known b f (commands.Open user) h = (tt, tt)
     parts_known b f commands.Close h = tt
     parts_known b f commands.Audit h = tt
-    parts_known b f (commands.View rel label) h = (tt, (tt, tt))
+    parts_known b f (commands.View rel label query false) h = (tt, (tt, tt))
+    parts_known b f (commands.View rel label query true) h = (tt, (tt, tt))
     parts_known b f (commands.Insert rel key values) h = (tt, ((refl, h.0), ((refl, h.0), tt)))
     parts_known b f (commands.Update rel key key_class from sets) h = (tt, ((refl, h.0), (tt, (tt, ((refl, h.0), tt)))))
     parts_known b f (commands.Delete rel key key_class) h = (tt, ((refl, h.0), (tt, tt)))
     parts_known b f (commands.Call tx args) h = (tt, (tt, tt))
 
-    sentence_again : (e : Event) (l : Left) → EventFits policy schemes e → tokens_in l.placed ≡ event_tokens policy schemes e → l.stop.cause ≡ causes.Expected → sentence_at policy schemes l ≡ Ok (Ok e)
-    unfolding sentence_at command_at
-    sentence_again e l fits tokens stop =
+    -- what stands behind the parts is the query, or nothing
+    tail_read : (b : Draft) (c : Command) (ts : List Token) (l : Left) → CommandFits policy schemes c → TellsTail policy schemes c ts → tokens_in l.placed ≡ ts
+        → Gets (tail_at policy schemes (verb_of c) (relation_in schemes (Ok (filled (parts_of (verb_of c)) (draft_of b c) b))) l) l (λ x. x ≡ Ok (query_of c)) []
+    tail_read b (commands.Open user) ts l fits tells e = gets_done (Ok no_query) l (λ x. x ≡ Ok no_query) [] refl (e ∙ tells)
+    tail_read b commands.Close ts l fits tells e = gets_done (Ok no_query) l (λ x. x ≡ Ok no_query) [] refl (e ∙ tells)
+    tail_read b commands.Audit ts l fits tells e = gets_done (Ok no_query) l (λ x. x ≡ Ok no_query) [] refl (e ∙ tells)
+    tail_read b (commands.View rel label query false) ts l fits tells e =
+        gets_is (query_at policy schemes false (relation_in schemes (Ok (record b { rel = rel; label = label }))) l) (query_at policy schemes false (Some rel) l) l (λ x. x ≡ Ok query) []
+        (rw (lt-ltb rel (length schemes) fits.0) refl) (query_read policy schemes rel is_policy false query ts l fits.2 tells e)
+    tail_read b (commands.View rel label query true) ts l fits tells e =
+        gets_is (query_at policy schemes true (relation_in schemes (Ok (record b { rel = rel; label = label }))) l) (query_at policy schemes true (Some rel) l) l (λ x. x ≡ Ok query) []
+        (rw (lt-ltb rel (length schemes) fits.0) refl) (query_read policy schemes rel is_policy true query ts l fits.2 tells e)
+    tail_read b (commands.Insert rel key values) ts l fits tells e = gets_done (Ok no_query) l (λ x. x ≡ Ok no_query) [] refl (e ∙ tells)
+    tail_read b (commands.Update rel key key_class from sets) ts l fits tells e = gets_done (Ok no_query) l (λ x. x ≡ Ok no_query) [] refl (e ∙ tells)
+    tail_read b (commands.Delete rel key key_class) ts l fits tells e = gets_done (Ok no_query) l (λ x. x ≡ Ok no_query) [] refl (e ∙ tells)
+    tail_read b (commands.Call tx args) ts l fits tells e = gets_done (Ok no_query) l (λ x. x ≡ Ok no_query) [] refl (e ∙ tells)
+
+    -- no query begins with a comma
+    tail_no_comma : (c : Command) (ts : List Token) → TellsTail policy schemes c ts → NotNext (is_sign Comma) ts
+    tail_no_comma (commands.Open user) ts tells = subst (NotNext (is_sign Comma)) (sym tells) tt
+    tail_no_comma commands.Close ts tells = subst (NotNext (is_sign Comma)) (sym tells) tt
+    tail_no_comma commands.Audit ts tells = subst (NotNext (is_sign Comma)) (sym tells) tt
+    tail_no_comma (commands.View rel label query counts) ts tells = subst (NotNext (is_sign Comma)) (sym tells.tokens) (query_no_comma policy schemes rel query tells.behind tells.test)
+    tail_no_comma (commands.Insert rel key values) ts tells = subst (NotNext (is_sign Comma)) (sym tells) tt
+    tail_no_comma (commands.Update rel key key_class from sets) ts tells = subst (NotNext (is_sign Comma)) (sym tells) tt
+    tail_no_comma (commands.Delete rel key key_class) ts tells = subst (NotNext (is_sign Comma)) (sym tells) tt
+    tail_no_comma (commands.Call tx args) ts tells = subst (NotNext (is_sign Comma)) (sym tells) tt
+
+    abbrev heads : Event → List Token
+    heads e = parts_tokens policy schemes (drafted e) (Level ∷ Session ∷ [])
+
+    abbrev behind_heads : Event → List Token
+    behind_heads e = Word (verb_word (verb_of e.command)) ∷ parts_tokens policy schemes (drafted e) (parts_of (verb_of e.command))
+
+    command_again : (e : Event) (ts : List Token) (l : Left) → EventFits policy schemes e → TellsTail policy schemes e.command ts → tokens_in l.placed ≡ behind_heads e ++ ts
+        → Gets (command_at policy schemes (Ok (begun e.level e.session)) l) l (λ x. x ≡ Ok e) []
+    unfolding command_at
+    command_again e ts l fits tells tokens =
         let b = begun e.level e.session in
         let d = draft_of b e.command in
         let x = verb_of e.command in
-        let behind = Word (verb_word x) ∷ parts_tokens policy schemes d (parts_of x) in
-        let front = parts_read policy schemes is_policy are_schemes (Level ∷ Session ∷ []) b blank behind l (tt, (tt, tt)) (fits.level, (fits.session, tt)) refl
-        (tokens ∙ ap (λ ts. ts ++ behind) (front_same e.level e.session e.command)) in
-        let verb = verb_read verbs (verb_word x) x (parts_tokens policy schemes d (parts_of x)) front.rest front.tokens (known_verb x) in
-        let parts = parts_read policy schemes is_policy are_schemes (parts_of x) d b [] verb.rest (parts_known b b e.command fits.command) (parts_fit b e.command fits.command) tt
-        (verb.tokens ∙ sym (append-nil (parts_tokens policy schemes d (parts_of x)))) in
-        let over : is_over parts.rest ≡ true = over_again parts.rest.placed parts.rest.stop parts.tokens (ap (λ (s : TokenFault). s.cause) (parts.stop ∙ verb.stop ∙ front.stop) ∙ stop) in
-        let end : pass_end parts.rest ≡ Ok tt = rw over refl in
-        let event : (parts.value >>= λ d. Ok (event_of x d)) ≡ Ok e = ap (λ r. r >>= λ d. Ok (event_of x d)) parts.holds ∙ ap (λ (z : Event). Ok z) (event_again e.level e.session e.command) in
+        gets_more (λ v. form_of (parts_at policy schemes (parts_of v.0) (Ok b) v.1) >>= λ p. tail_at policy schemes v.0 (relation_in schemes p.0) p.1 >>= λ q. done (event_from v.0 p.0 q.0) q.1)
+        (form_again (verb_read verbs (verb_word x) x (parts_tokens policy schemes d (parts_of x) ++ ts) l tokens (known_verb x)))
+        (λ v m same t. gets_is _
+        (form_of (parts_at policy schemes (parts_of x) (Ok b) m) >>= λ p. tail_at policy schemes x (relation_in schemes p.0) p.1 >>= λ q. done (event_from x p.0 q.0) q.1) m (λ y. y ≡ Ok e) []
+        (ap (λ (w : Verb). form_of (parts_at policy schemes (parts_of w) (Ok b) m) >>= λ p. tail_at policy schemes w (relation_in schemes p.0) p.1 >>= λ q. done (event_from w p.0 q.0) q.1) same)
+        (gets_more (λ p. tail_at policy schemes x (relation_in schemes p.0) p.1 >>= λ q. done (event_from x p.0 q.0) q.1)
+        (form_again (parts_read policy schemes is_policy are_schemes (parts_of x) d b ts m (parts_known b b e.command fits.command) (parts_fit b e.command fits.command) (tail_no_comma e.command ts tells) t))
+        (λ p m2 put t2. gets_is _
+        (tail_at policy schemes x (relation_in schemes (Ok (filled (parts_of x) d b))) m2 >>= λ q. done (event_from x (Ok (filled (parts_of x) d b)) q.0) q.1) m2 (λ y. y ≡ Ok e) []
+        (ap (λ (looked : Looked). tail_at policy schemes x (relation_in schemes looked) m2 >>= λ q. done (event_from x looked q.0) q.1) put)
+        (gets_more (λ q. done (event_from x (Ok (filled (parts_of x) d b)) q.0) q.1)
+        (tail_read b e.command ts m2 fits.command tells t2)
+        (λ q m3 asked t3. gets_done (event_from x (Ok (filled (parts_of x) d b)) q) m3 (λ y. y ≡ Ok e) []
+        (ap (event_from x (Ok (filled (parts_of x) d b))) asked ∙ ap (λ (z : Event). Ok z) (event_again e.level e.session e.command)) t3)))))
+
+    sentence_again : (e : Event) (ts : List Token) (l : Left) → EventFits policy schemes e → TellsTail policy schemes e.command ts → tokens_in l.placed ≡ event_tokens policy schemes e ++ ts
+        → l.stop.cause ≡ causes.Expected → sentence_at policy schemes l ≡ Ok (Ok e)
+    unfolding sentence_at
+    sentence_again e ts l fits tells tokens stop =
+        let b = begun e.level e.session in
+        let d = draft_of b e.command in
+        let behind = behind_heads e ++ ts in
+        let front = form_again (parts_read policy schemes is_policy are_schemes (Level ∷ Session ∷ []) b blank behind l (tt, (tt, tt)) (fits.level, (fits.session, tt)) refl
+        (tokens ∙ append_assoc (heads e) (behind_heads e) ts ∙ ap (λ ts. ts ++ behind) (front_same e.level e.session e.command))) in
+        let command = command_again e ts front.rest fits tells front.tokens in
+        let over : is_over command.rest ≡ true = over_again command.rest.placed command.rest.stop command.tokens (ap (λ (s : TokenFault). s.cause) (command.stop ∙ front.stop) ∙ stop) in
+        let end : pass_end command.rest ≡ Ok tt = rw over refl in
         ap (λ r. r >>= λ (front : Looked × Left). ended (command_at policy schemes front.0 front.1)) front.is
         ∙ ap (λ looked. ended (command_at policy schemes looked front.rest)) front.holds
-        ∙ ap (λ r. ended (r >>= λ (v : Verb × Left). commanded v.0 (parts_at policy schemes (parts_of v.0) (Ok b) v.1))) verb.is
-        ∙ ap (λ (v : Verb). ended (commanded v (parts_at policy schemes (parts_of v) (Ok b) verb.rest))) verb.holds
-        ∙ ap (λ r. ended (commanded x r)) parts.is
-        ∙ ap (λ r. r >>= λ (u : Unit {0}). Ok (told_by x parts.value)) end
-        ∙ ap (λ (r : Result Event LineFault). Ok r) event
+        ∙ ap ended command.is
+        ∙ ap (λ r. form_of r >>= λ (u : Unit {0}). Ok command.value) end
+        ∙ ap (λ (r : Result Event LineFault). Ok r) command.holds
 
     line_again : (line : List ℕ) (o : Option Event) → Tells policy schemes line o → line_at policy schemes line true ≡ Ok o
     unfolding line_at
@@ -318,13 +371,13 @@ module _ (policy : Tables) (schemes : Schemes) where
         let t = (tokens_exact line []).1 h in
         let over : is_over (tokens_at line) ≡ true = over_again (tokens_at line).placed (tokens_at line).stop t.0 t.1 in
         let told : told_at policy schemes (tokens_at line) ≡ Ok None = rw over refl in
-        ap (λ r. form_of r >>= λ told. event_in told) told
+        ap (λ r. r >>= λ told. event_in told) told
     line_again line (Some e) h =
-        let t = (tokens_exact line (event_tokens policy schemes e)).1 h.1 in
-        let first = t.0 ∙ ap (λ ts. ts ++ Word (verb_word (verb_of e.command)) ∷ parts_tokens policy schemes (drafted e) (parts_of (verb_of e.command))) (front_same e.level e.session e.command) in
+        let t = (tokens_exact line (event_tokens policy schemes e ++ h.tail)).1 h.tokens in
+        let first = t.0 ∙ append_assoc (heads e) (behind_heads e) h.tail ∙ ap (λ ts. ts ++ (behind_heads e ++ h.tail)) (front_same e.level e.session e.command) in
         let more : is_over (tokens_at line) ≡ false = not_over (tokens_at line).placed (tokens_at line).stop _ _ first in
-        let told : told_at policy schemes (tokens_at line) ≡ Ok (Some (Ok e)) = rw more (ap (λ r. r >>= λ x. Ok (Some x)) (sentence_again e (tokens_at line) h.0 t.0 t.1)) in
-        ap (λ r. form_of r >>= λ told. event_in told) told
+        let told : told_at policy schemes (tokens_at line) ≡ Ok (Some (Ok e)) = rw more (ap (λ r. r >>= λ x. Ok (Some x)) (sentence_again e h.tail (tokens_at line) h.fits h.query t.0 t.1)) in
+        ap (λ r. r >>= λ told. event_in told) told
 
     -- ---- all lines
 

@@ -1,5 +1,5 @@
 -- Events, and the numbers and kinds that each event of a script keeps to.
-use Rattle.std.specs.Prelude.{◌≡◌, ℕ, ◌<◌, true, nat_eq, List, map, length, Option, ⊤}
+use Rattle.std.specs.Prelude.{◌≡◌, ℕ, ◌<◌, Bool, true, nat_eq, List, map, length, Option, None, IfSome, ⊤}
 use Rattle.std.specs.List.{AllByRecursion, IsDistinct}
 use Rattle.mls_lattice.specs.Name.{is_name}
 use Rattle.mls_lattice.specs.Policy.{Tables}
@@ -8,6 +8,8 @@ use Rattle.mls_scheme.specs.declared.value.Value.{Value}
 use Rattle.mls_scheme.specs.Value.{fits_kind}
 use Rattle.mls_scheme.specs.Scheme.{Scheme, Schemes, scheme_of, other_of}
 use Rattle.mls_scheme.specs.Fits.{HaveKinds}
+use Rattle.mls_parser.specs.Conditions.{IsConditionOf}
+use Rattle.mls_queries.specs.declared.query.Query.{Query}
 use Rattle.mls_script.specs.declared.event.Event.{Event}
 use Rattle.mls_script.specs.declared.event.Command.{Command}
 use Rattle.mls_script.specs.declared.event.Command.TheVariants.{Open, Close, Audit, View, Insert, Update, Delete, Call}
@@ -27,11 +29,18 @@ pub record SetsFit (scheme : Scheme) (sets : Sets) : Type 0 where
 abbrev pub HasSomeKind : Option Value → Type 0
 HasSomeKind v = (k : Kind) × (fits_kind v k ≡ true)
 
+-- a query on the rows of a relation; where they are counted it asks for no first ones
+pub record QueryFits (policy : Tables) (schemes : Schemes) (rel : ℕ) (query : Query) (counts : Bool) : Type 0 where
+  pub class : IfSome query.class (λ c. c.label < length policy.labels)
+  pub test : IfSome query.test (IsConditionOf schemes rel)
+  pub whole : counts ≡ true → query.first ≡ None
+
 abbrev pub CommandFits : Tables → Schemes → Command → Type 0
 CommandFits policy schemes (Open user) = is_name user ≡ true
 CommandFits policy schemes Close = ⊤
 CommandFits policy schemes Audit = ⊤
-CommandFits policy schemes (View rel label) = (rel < length schemes) × (label < length policy.labels)
+CommandFits policy schemes (View rel label query counts) =
+    (rel < length schemes) × (label < length policy.labels) × QueryFits policy schemes rel query counts
 CommandFits policy schemes (Insert rel key values) =
     (rel < length schemes) × HaveKinds (scheme_of schemes rel).keys key × HaveKinds (scheme_of schemes rel).others values
 CommandFits policy schemes (Update rel key key_class from sets) =

@@ -1,12 +1,18 @@
 -- The numbers and names of the causes for which scripts are refused.
 use Rattle.std.specs.Prelude.{ℕ, List, codes}
 use Rattle.mls_script.specs.declared.fault.ScriptCause.{ScriptCause}
-use Rattle.mls_script.specs.declared.fault.ScriptCause.TheVariants.{Token, Expected, UnknownName, Kind, Repeated, TooLong, Memory, Unterminated}
+use Rattle.mls_script.specs.declared.fault.ScriptCause.TheVariants.{Token, Expected, UnknownName, Kind, Repeated, Depth, TooLong, Memory, Unterminated}
 use Rattle.mls_script.specs.declared.fault.LineFault.{LineFault}
 use Rattle.mls_script.specs.declared.fault.ScriptFault.{ScriptFault}
 use Rattle.mls_tokens.specs.declared.fault.TokenCause.{TokenCause}
 use Rattle.mls_tokens.specs.declared.fault.TokenCause.TheVariants as tokens
 use Rattle.mls_tokens.specs.declared.fault.TokenFault.{TokenFault}
+use Rattle.mls_syntax.specs.declared.fault.SyntaxCause.{SyntaxCause}
+use Rattle.mls_syntax.specs.declared.fault.SyntaxCause.TheVariants as syntax
+use Rattle.mls_syntax.specs.declared.fault.SyntaxFault.{SyntaxFault}
+use Rattle.mls_parser.specs.declared.fault.TextCause.{TextCause}
+use Rattle.mls_parser.specs.declared.fault.TextCause.TheVariants as texts
+use Rattle.mls_parser.specs.declared.fault.PlacedFault.{PlacedFault}
 
 abbrev pub code_of : ScriptCause → ℕ
 code_of Token = 21
@@ -14,6 +20,7 @@ code_of Expected = 22
 code_of UnknownName = 23
 code_of Kind = 24
 code_of Repeated = 25
+code_of Depth = 26
 code_of TooLong = 27
 code_of Memory = 29
 code_of Unterminated = 30
@@ -24,6 +31,7 @@ word_of Expected = codes "Expected"
 word_of UnknownName = codes "UnknownName"
 word_of Kind = codes "Kind"
 word_of Repeated = codes "Repeated"
+word_of Depth = codes "Depth"
 word_of TooLong = codes "TooLong"
 word_of Memory = codes "Memory"
 word_of Unterminated = codes "Unterminated"
@@ -46,3 +54,23 @@ lifted_cause tokens.Memory = Memory
 
 abbrev pub lifted : TokenFault → LineFault
 lifted f = line_fault f.at (lifted_cause f.cause)
+
+-- ---- faults of conditions
+
+abbrev pub form_cause : SyntaxCause → ScriptCause
+form_cause syntax.Token = Token
+form_cause syntax.Expected = Expected
+form_cause syntax.Depth = Depth
+form_cause syntax.TooLong = TooLong
+form_cause syntax.Memory = Memory
+
+abbrev pub of_form : SyntaxFault → LineFault
+of_form f = line_fault f.at (form_cause f.cause)
+
+abbrev pub condition_cause : TextCause → ScriptCause
+condition_cause texts.UnknownName = UnknownName
+condition_cause texts.Memory = Memory
+condition_cause _ = Kind
+
+abbrev pub of_condition : PlacedFault → LineFault
+of_condition f = line_fault f.at (condition_cause f.cause)

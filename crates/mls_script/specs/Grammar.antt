@@ -1,23 +1,25 @@
 -- The grammar of commands: a verb, and the parts that follow it. What the parts say is drafted; the draft and the verb are
 -- the event.
-use Rattle.std.specs.Prelude.{ℕ, List, [], ◌∷◌, codes, Option, Some, None}
+use Rattle.std.specs.Prelude.{ℕ, true, false, if◌then◌else◌, List, [], ◌∷◌, codes, Option, Some, None}
+use Rattle.mls_queries.specs.declared.query.Query.{Query}
 use Rattle.mls_script.specs.declared.event.Event.{Event}
 use Rattle.mls_script.specs.declared.event.Command.{Command}
 use Rattle.mls_script.specs.declared.event.Command.TheVariants as commands
 use Rattle.mls_script.specs.declared.draft.Draft.{Draft}
 use Rattle.mls_script.specs.declared.grammar.Verb.{Verb}
-use Rattle.mls_script.specs.declared.grammar.Verb.TheVariants.{Open, Close, Audit, View, Insert, Update, Delete, Call}
+use Rattle.mls_script.specs.declared.grammar.Verb.TheVariants.{Open, Close, Audit, View, Count, Insert, Update, Delete, Call}
 use Rattle.mls_script.specs.declared.grammar.Part.{Part}
 use Rattle.mls_script.specs.declared.grammar.Part.TheVariants.{Level, Session, Name, Relation, Key, Values, Arguments, At, Class, From, Sets}
 
 abbrev pub verbs : List Verb
-verbs = Open ∷ Close ∷ Audit ∷ View ∷ Insert ∷ Update ∷ Delete ∷ Call ∷ []
+verbs = Open ∷ Close ∷ Audit ∷ View ∷ Count ∷ Insert ∷ Update ∷ Delete ∷ Call ∷ []
 
 abbrev pub verb_word : Verb → List ℕ
 verb_word Open = codes "open"
 verb_word Close = codes "close"
 verb_word Audit = codes "audit"
 verb_word View = codes "view"
+verb_word Count = codes "count"
 verb_word Insert = codes "insert"
 verb_word Update = codes "update"
 verb_word Delete = codes "delete"
@@ -28,6 +30,7 @@ parts_of Open = Name ∷ []
 parts_of Close = []
 parts_of Audit = []
 parts_of View = Relation ∷ At ∷ []
+parts_of Count = Relation ∷ At ∷ []
 parts_of Insert = Relation ∷ Key ∷ Values ∷ []
 parts_of Update = Relation ∷ Key ∷ Class ∷ From ∷ Sets ∷ []
 parts_of Delete = Relation ∷ Key ∷ Class ∷ []
@@ -53,18 +56,24 @@ part_word Sets = Some (codes "set")
 abbrev pub blank : Draft
 blank = record { level = 0; session = []; name = []; rel = 0; key = []; values = []; label = 0; from = 0; sets = [] }
 
-abbrev pub command_of : Verb → Draft → Command
-command_of Open d = commands.Open d.name
-command_of Close d = commands.Close
-command_of Audit d = commands.Audit
-command_of View d = commands.View d.rel d.label
-command_of Insert d = commands.Insert d.rel d.key d.values
-command_of Update d = commands.Update d.rel d.key d.label d.from d.sets
-command_of Delete d = commands.Delete d.rel d.key d.label
-command_of Call d = commands.Call d.name d.values
+-- all rows
+abbrev pub no_query : Query
+no_query = record { highest = false; class = None; test = None; first = None }
 
-abbrev pub event_of : Verb → Draft → Event
-event_of verb d = record { level = d.level; session = d.session; command = command_of verb d }
+-- a query is that of a view
+abbrev pub command_of : Verb → Draft → Query → Command
+command_of Open d q = commands.Open d.name
+command_of Close d q = commands.Close
+command_of Audit d q = commands.Audit
+command_of View d q = commands.View d.rel d.label q false
+command_of Count d q = commands.View d.rel d.label q true
+command_of Insert d q = commands.Insert d.rel d.key d.values
+command_of Update d q = commands.Update d.rel d.key d.label d.from d.sets
+command_of Delete d q = commands.Delete d.rel d.key d.label
+command_of Call d q = commands.Call d.name d.values
+
+abbrev pub event_of : Verb → Draft → Query → Event
+event_of verb d q = record { level = d.level; session = d.session; command = command_of verb d q }
 
 -- ---- the verb and the draft of an event
 
@@ -72,7 +81,7 @@ abbrev pub verb_of : Command → Verb
 verb_of (commands.Open user) = Open
 verb_of commands.Close = Close
 verb_of commands.Audit = Audit
-verb_of (commands.View rel label) = View
+verb_of (commands.View rel label query counts) = if counts then Count else View
 verb_of (commands.Insert rel key values) = Insert
 verb_of (commands.Update rel key key_class from sets) = Update
 verb_of (commands.Delete rel key key_class) = Delete
@@ -83,7 +92,7 @@ abbrev pub draft_of : Draft → Command → Draft
 draft_of d (commands.Open user) = record d { name = user }
 draft_of d commands.Close = d
 draft_of d commands.Audit = d
-draft_of d (commands.View rel label) = record d { rel = rel; label = label }
+draft_of d (commands.View rel label query counts) = record d { rel = rel; label = label }
 draft_of d (commands.Insert rel key values) = record d { rel = rel; key = key; values = values }
 draft_of d (commands.Update rel key key_class from sets) = record d { rel = rel; key = key; label = key_class; from = from; sets = sets }
 draft_of d (commands.Delete rel key key_class) = record d { rel = rel; key = key; label = key_class }
@@ -91,3 +100,7 @@ draft_of d (commands.Call tx args) = record d { name = tx; values = args }
 
 abbrev pub drafted : Event → Draft
 drafted e = draft_of (record blank { level = e.level; session = e.session }) e.command
+
+abbrev pub query_of : Command → Query
+query_of (commands.View rel label query counts) = query
+query_of command = no_query

@@ -1,5 +1,5 @@
 -- What a script says, or its first fault: line by line, on a line first its form, then its names and kinds.
-use Rattle.std.specs.Prelude.{◌≡◌, ℕ, zero, suc, ◌+◌, Bool, true, false, ◌==◌, nat_eq, if◌then◌else◌, List, [], ◌∷◌, ◌++◌, map, length, drop, slice_index_or, codes, Option, Some, None, option_map, option_to_list, Result, Ok, Err}
+use Rattle.std.specs.Prelude.{◌≡◌, ℕ, zero, suc, ◌+◌, Bool, true, false, ◌==◌, nat_eq, nat_lt, if◌then◌else◌, List, [], ◌∷◌, ◌++◌, map, length, drop, slice_index_or, codes, Option, Some, None, option_map, option_to_list, Result, Ok, Err}
 use Rattle.std.specs.List.{position, slice_get, list_any}
 use Rattle.std.specs.Str.{bytes_eq}
 use Rattle.mls_lattice.specs.Policy.{Name, Tables}
@@ -16,6 +16,7 @@ use Rattle.mls_tokens.specs.declared.token.Placed.{Placed}
 use Rattle.mls_tokens.specs.declared.sign.Sign.TheVariants.{LeftParen, RightParen, Comma, Equals}
 use Rattle.mls_tokens.specs.Scanning.{Left, fault_at, tokens_at}
 use Rattle.mls_tokens.specs.Passing.{left, refused, is_word, is_sign, taken, pass, PlacedName, pass_name, is_over, pass_end}
+use Rattle.mls_queries.specs.declared.query.Query.{Query}
 use Rattle.mls_script.specs.declared.event.Event.{Event}
 use Rattle.mls_script.specs.declared.fault.ScriptCause.TheVariants.{UnknownName, Kind, Repeated, Memory, Unterminated}
 use Rattle.mls_script.specs.declared.fault.LineFault.{LineFault}
@@ -27,12 +28,9 @@ use Rattle.mls_script.specs.declared.grammar.Part.TheVariants as parts
 use Rattle.mls_script.specs.declared.lists.Listed.{Listed}
 use Rattle.mls_script.specs.declared.lists.Setting.{Setting}
 use Rattle.mls_script.specs.Event.{Sets}
-use Rattle.mls_script.specs.Fault.{line_fault, in_line, lifted}
+use Rattle.mls_script.specs.Fault.{line_fault, in_line}
 use Rattle.mls_script.specs.Grammar.{verbs, verb_word, parts_of, part_word, blank, event_of}
-
--- What a function returned, seen by view, is what reading gives, unless memory ran out.
-abbrev pub Gives : {X Y : Type 0} → (X → Y) → Result X LineFault → Result Y LineFault → Type 0
-Gives = GivesUnless (λ e. e.cause ≡ Memory)
+use Rattle.mls_script.specs.ReadQuery.{known_or, label_named, form_of, tail_at}
 
 -- ---- values
 
@@ -113,13 +111,6 @@ Holds (Ok u) found l = found ≡ Ok l.values
 Holds (Err e) found l = found ≡ Err e
 
 -- ---- names
-
-abbrev pub known_or : ℕ → Option ℕ → Result ℕ LineFault
-known_or at (Some n) = Ok n
-known_or at None = Err (line_fault at UnknownName)
-
-abbrev pub label_named : Tables → PlacedName → Result ℕ LineFault
-label_named policy name = known_or name.1 (position (λ l. bytes_eq l.name name.0) policy.labels)
 
 abbrev pub relation_named : Schemes → PlacedName → Result ℕ LineFault
 relation_named schemes name = known_or name.1 (position (λ s. bytes_eq s.name name.0) schemes)
@@ -231,15 +222,16 @@ abbrev pub verb_among : List Verb → Left → Result (Verb × Left) TokenFault
 verb_among [] l = Err (refused l)
 verb_among (v ∷ vs) l = verb_or (λ r. verb_among vs r) l v (taken (is_word (verb_word v)) l)
 
--- the event of a verb, if what its parts say has no fault
-abbrev pub event_from : Verb → Looked → Result Event LineFault
-event_from v looked = looked >>= λ d. Ok (event_of v d)
+-- the number of the relation that the parts name, if there is one and they had no fault
+abbrev pub relation_in : Schemes → Looked → Option ℕ
+relation_in schemes (Ok d) = if nat_lt d.rel (length schemes) then Some d.rel else None
+relation_in schemes (Err e) = None
 
--- ---- the form of a line in its place, and a line in a script
+-- the event of a verb, if what its parts and its query say has no fault
+abbrev pub event_from : Verb → Looked → Result Query LineFault → Result Event LineFault
+event_from v looked asked = looked >>= λ d. asked >>= λ q. Ok (event_of v d q)
 
-abbrev pub form_of : {X : Type 0} → Result X TokenFault → Result X LineFault
-form_of (Ok x) = Ok x
-form_of (Err e) = Err (lifted e)
+-- ---- a line in a script
 
 abbrev pub event_in : Option (Result Event LineFault) → Result (Option Event) LineFault
 event_in None = Ok None
@@ -273,23 +265,25 @@ module _ (policy : Tables) (schemes : Schemes) where
 
   -- ---- a line
 
-  unfoldable pub command_at : Looked → Left → Result (Result Event LineFault × Left) TokenFault
+  unfoldable pub command_at : Looked → Left → Result (Result Event LineFault × Left) LineFault
   command_at looked l =
-      verb_among verbs l >>= λ v. parts_at (parts_of v.0) looked v.1 >>= λ x. Ok (event_from v.0 x.0, x.1)
+      form_of (verb_among verbs l) >>= λ v. form_of (parts_at (parts_of v.0) looked v.1)
+      >>= λ x. tail_at policy schemes v.0 (relation_in schemes x.0) x.1 >>= λ q. Ok (event_from v.0 x.0 q.0, q.1)
 
   -- the event, or the first fault of its names and kinds
-  unfoldable pub sentence_at : Left → Result (Result Event LineFault) TokenFault
+  unfoldable pub sentence_at : Left → Result (Result Event LineFault) LineFault
   sentence_at l =
-      parts_at (parts.Level ∷ parts.Session ∷ []) (Ok blank) l >>= λ front. command_at front.0 front.1 >>= λ x. pass_end x.1 >>= λ _. Ok x.0
+      form_of (parts_at (parts.Level ∷ parts.Session ∷ []) (Ok blank) l)
+      >>= λ front. command_at front.0 front.1 >>= λ x. form_of (pass_end x.1) >>= λ _. Ok x.0
 
   -- nothing, where the line is blank
-  abbrev pub told_at : Left → Result (Option (Result Event LineFault)) TokenFault
+  abbrev pub told_at : Left → Result (Option (Result Event LineFault)) LineFault
   told_at l = if is_over l then Ok None else (sentence_at l >>= λ x. Ok (Some x))
 
   -- a line without its end is a fault between the two passes
   unfoldable pub line_at : List ℕ → Bool → Result (Option Event) LineFault
   line_at line ended =
-      form_of (told_at (tokens_at line)) >>= λ told. if ended then event_in told else Err (line_fault (length line + 1) Unterminated)
+      told_at (tokens_at line) >>= λ told. if ended then event_in told else Err (line_fault (length line + 1) Unterminated)
 
   -- ---- all lines
 

@@ -3,20 +3,28 @@ use Rattle.std.specs.Prelude.{◌≡◌, ◌≢◌, ℕ, List, [], ◌∷◌, �
 use Rattle.std.specs.List.{AllByRecursion, flat_map, filter_map}
 use Rattle.mls_lattice.specs.Policy.{Tables, IsPolicy}
 use Rattle.mls_scheme.specs.Scheme.{Schemes, AreSchemes}
+use Rattle.mls_tokens.specs.declared.token.Token.{Token}
 use Rattle.mls_tokens.specs.Text.{AreTokens}
 use Rattle.mls_script.specs.declared.event.Event.{Event}
 use Rattle.mls_script.specs.Event.{EventFits}
 use Rattle.mls_script.specs.Tokens.{event_tokens}
+use Rattle.mls_script.specs.QueryTokens.{TellsTail}
 
 -- a line without its LF, and the event that it tells, if it is not blank
 pub record Line : Type 0 where
   pub text : List ℕ
   pub event : Option Event
 
--- the tokens of the line are those of its event
+-- the tokens of the line are those of its event, and behind them those of its query
+pub record TellsEvent (policy : Tables) (schemes : Schemes) (text : List ℕ) (e : Event) : Type 0 where
+  pub fits : EventFits policy schemes e
+  pub tail : List Token
+  pub tokens : AreTokens (event_tokens policy schemes e ++ tail) text
+  pub query : TellsTail policy schemes e.command tail
+
 abbrev pub Tells : Tables → Schemes → List ℕ → Option Event → Type 0
 Tells policy schemes text None = AreTokens [] text
-Tells policy schemes text (Some e) = EventFits policy schemes e × AreTokens (event_tokens policy schemes e) text
+Tells policy schemes text (Some e) = TellsEvent policy schemes text e
 
 pub record IsLineOf (policy : Tables) (schemes : Schemes) (line : Line) : Type 0 where
   pub one : AllByRecursion (λ b. b ≢ 10) line.text

@@ -5,6 +5,7 @@ ghost use Rattle.mls_script.specs.Grammar.{blank, command_of, event_of};
 use crate::event::{Command, Event};
 use crate::grammar::Verb;
 use mls_lattice::{Items, LabelNo, Str};
+use mls_queries::Query;
 use mls_scheme::{RelNo, Value};
 use std::alloc::Global;
 
@@ -40,9 +41,9 @@ impl Draft {
         }
     }
 
-    /// The event of a verb.
-    pub fn into_event(self, verb: Verb) -> Event
-        ensures { result ≡ event_of verb self }
+    /// The event of a verb, with the query of a view.
+    pub fn into_event(self, verb: Verb, query: Query) -> Event
+        ensures { result ≡ event_of verb self query }
     {
         let Draft {
             level,
@@ -59,7 +60,18 @@ impl Draft {
             Verb::Open => Command::Open(name),
             Verb::Close => Command::Close,
             Verb::Audit => Command::Audit,
-            Verb::View => Command::View { rel, label },
+            Verb::View => Command::View {
+                rel,
+                label,
+                query,
+                counts: false,
+            },
+            Verb::Count => Command::View {
+                rel,
+                label,
+                query,
+                counts: true,
+            },
             Verb::Insert => Command::Insert { rel, key, values },
             Verb::Update => Command::Update {
                 rel,

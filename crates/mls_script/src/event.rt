@@ -1,5 +1,6 @@
 //! What sessions do.
 use mls_lattice::{Items, LabelNo, Str};
+use mls_queries::Query;
 use mls_scheme::{RelNo, Value};
 
 /// A command of a session, which is named by its level and its name.
@@ -20,10 +21,13 @@ pub enum Command {
     Close,
     /// Shows the entries of the audit list that the session's level dominates.
     Audit,
-    /// Shows what is seen of a relation at a label.
+    /// Shows what a query finds of what is seen of a relation at a label.
     View {
         rel: RelNo,
         label: LabelNo,
+        query: Query,
+        /// Whether only the number of the rows that are found is told.
+        counts: bool,
     },
     /// Adds a tuple at the session's level.
     Insert {

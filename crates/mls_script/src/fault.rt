@@ -1,6 +1,8 @@
 ghost use Rattle.std.specs.Prelude.{◌≡◌};
-ghost use Rattle.mls_script.specs.Fault.{code_of, word_of, lifted, in_line};
+ghost use Rattle.mls_script.specs.Fault.{code_of, word_of, lifted, of_form, of_condition, in_line};
 
+use mls_parser::{PlacedFault, TextCause};
+use mls_syntax::{SyntaxCause, SyntaxFault};
 use mls_tokens::{TokenCause, TokenFault};
 use std::fmt;
 use thiserror::Error;
@@ -18,6 +20,8 @@ pub enum ScriptCause {
     Kind,
     /// A name stands twice.
     Repeated,
+    /// The parts of a condition are nested too deeply, or it has too many tests.
+    Depth,
     /// A text is too long.
     TooLong,
     /// A growth was refused.
@@ -37,6 +41,7 @@ impl ScriptCause {
             ScriptCause::UnknownName => 23,
             ScriptCause::Kind => 24,
             ScriptCause::Repeated => 25,
+            ScriptCause::Depth => 26,
             ScriptCause::TooLong => 27,
             ScriptCause::Memory => 29,
             ScriptCause::Unterminated => 30,
@@ -53,6 +58,7 @@ impl ScriptCause {
             ScriptCause::UnknownName => "UnknownName",
             ScriptCause::Kind => "Kind",
             ScriptCause::Repeated => "Repeated",
+            ScriptCause::Depth => "Depth",
             ScriptCause::TooLong => "TooLong",
             ScriptCause::Memory => "Memory",
             ScriptCause::Unterminated => "Unterminated",
@@ -106,6 +112,42 @@ impl From<TokenFault> for LineFault {
             TokenCause::Expected => ScriptCause::Expected,
             TokenCause::TooLong => ScriptCause::TooLong,
             TokenCause::Memory => ScriptCause::Memory,
+        };
+        LineFault {
+            at: fault.at,
+            cause,
+        }
+    }
+}
+
+/// A fault of the form of a condition.
+impl From<SyntaxFault> for LineFault {
+    ghost from_gives = { λ f e. e ≡ of_form f };
+
+    fn from(fault: SyntaxFault) -> LineFault {
+        let cause = match fault.cause {
+            SyntaxCause::Token => ScriptCause::Token,
+            SyntaxCause::Expected => ScriptCause::Expected,
+            SyntaxCause::Depth => ScriptCause::Depth,
+            SyntaxCause::TooLong => ScriptCause::TooLong,
+            SyntaxCause::Memory => ScriptCause::Memory,
+        };
+        LineFault {
+            at: fault.at,
+            cause,
+        }
+    }
+}
+
+/// A fault of the names and kinds of a condition, which has none but these.
+impl From<PlacedFault> for LineFault {
+    ghost from_gives = { λ f e. e ≡ of_condition f };
+
+    fn from(fault: PlacedFault) -> LineFault {
+        let cause = match fault.cause {
+            TextCause::UnknownName => ScriptCause::UnknownName,
+            TextCause::Memory => ScriptCause::Memory,
+            _ => ScriptCause::Kind,
         };
         LineFault {
             at: fault.at,

@@ -9,6 +9,7 @@ pub(crate) enum Verb {
     Close,
     Audit,
     View,
+    Count,
     Insert,
     Update,
     Delete,
@@ -43,11 +44,12 @@ pub(crate) enum Part {
 }
 
 /// Every verb.
-pub(crate) static VERBS: [Verb; 8] = [
+pub(crate) static VERBS: [Verb; 9] = [
     Verb::Open,
     Verb::Close,
     Verb::Audit,
     Verb::View,
+    Verb::Count,
     Verb::Insert,
     Verb::Update,
     Verb::Delete,
@@ -63,6 +65,7 @@ impl Verb {
             Verb::Close => "close",
             Verb::Audit => "audit",
             Verb::View => "view",
+            Verb::Count => "count",
             Verb::Insert => "insert",
             Verb::Update => "update",
             Verb::Delete => "delete",
@@ -78,7 +81,7 @@ impl Verb {
             Verb::Open => &[Part::Name],
             Verb::Close => &[],
             Verb::Audit => &[],
-            Verb::View => &[Part::Relation, Part::At],
+            Verb::View | Verb::Count => &[Part::Relation, Part::At],
             Verb::Insert => &[Part::Relation, Part::Key, Part::Values],
             Verb::Update => &[
                 Part::Relation,

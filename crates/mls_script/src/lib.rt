@@ -9,6 +9,7 @@ mod fault;
 mod grammar;
 mod lists;
 mod lookup;
+mod query;
 mod reading;
 mod sentence;
 

@@ -1,7 +1,8 @@
 //! The second pass: names and values, held against policy and schemes.
-ghost use Rattle.std.specs.Prelude.{◌≡◌, ◌<◌, length, nat_eq, map, option_map, slice_index_or, IfOk};
+ghost use Rattle.std.specs.Prelude.{◌≡◌, ◌<◌, length, nat_eq, map, option_map, slice_index_or, IfOk, IfSome};
 ghost use Rattle.std.specs.List.{list_any, slice_get};
-ghost use Rattle.mls_script.specs.Reading.{misfit, held, Holds, attributes_of, label_named, relation_named, place_at, set_at, set_in, with_arguments, with_label, with_name, with_relation, with_sets, with_values, scheme_in};
+ghost use Rattle.mls_script.specs.ReadQuery.{label_named};
+ghost use Rattle.mls_script.specs.Reading.{misfit, held, Holds, attributes_of, relation_in, relation_named, place_at, set_at, set_in, with_arguments, with_label, with_name, with_relation, with_sets, with_values, scheme_in};
 
 use crate::draft::Draft;
 use crate::fault::{LineFault, ScriptCause};
@@ -47,6 +48,17 @@ fn scheme_at(schemes: &Schemes, rel: RelNo) -> Option<&Scheme>
         Some(schemes.scheme(rel))
     } else {
         None
+    }
+}
+
+/// The number of the relation that a draft names, if there was no fault before.
+pub(crate) fn relation_in(schemes: &Schemes, looked: &Looked) -> Option<RelNo>
+    ensures exact { result ≡ relation_in schemes.now looked.now }
+    ensures within { IfSome result (λ n. n < length schemes.now) }
+{
+    match looked {
+        Ok(draft) if draft.rel.index() < schemes.count() => Some(draft.rel),
+        _ => None,
     }
 }
 

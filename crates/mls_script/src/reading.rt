@@ -5,7 +5,8 @@ ghost use Rattle.mls_script.specs.declared.event.Event.{Event as TheEvent};
 ghost use Rattle.mls_script.specs.declared.fault.ScriptCause.TheVariants.{Memory};
 ghost use Rattle.mls_script.specs.Event.{EventFits};
 ghost use Rattle.mls_script.specs.Script.{ReadsScript};
-ghost use Rattle.mls_script.specs.Reading.{Gives, IsRead, line_at, script_at};
+ghost use Rattle.mls_script.specs.ReadQuery.{Gives};
+ghost use Rattle.mls_script.specs.Reading.{IsRead, line_at, script_at};
 
 use crate::event::Event;
 use crate::fault::{LineFault, ScriptCause, ScriptFault};
@@ -92,8 +93,9 @@ fn events_of(
     Ok(events)
 }
 
-/// The events of a script, in order. The first line that has a fault refuses the whole: on it 21 Token, 22 Expected, 27
-/// TooLong and 30 Unterminated come before 23 UnknownName, 24 Kind and 25 Repeated. 29 Memory may stand in place of any answer.
+/// The events of a script, in order. The first line that has a fault refuses the whole: on it 21 Token, 22 Expected, 26
+/// Depth, 27 TooLong and 30 Unterminated come before 23 UnknownName, 24 Kind and 25 Repeated. 29 Memory may stand in place of any
+/// answer.
 pub fn script(
     alloc: Global,
     policy: &Policy,

@@ -2,6 +2,7 @@
 ghost use Rattle.std.specs.Prelude.{◌≡◌, Ok};
 ghost use Rattle.mls_tokens.specs.Scanning.{Reads};
 ghost use Rattle.mls_script.specs.Reading.{label_at, name_at, relation_at, list_at, arguments_at, sets_at, content_at, pass_word, part_at, parts_at, verb_among, event_from, command_at, sentence_at, told_at};
+ghost use Rattle.mls_script.specs.ReadQuery.{Gives};
 ghost use Rattle.mls_script.specs.Grammar.{part_word, verbs};
 
 use crate::draft::Draft;
@@ -11,9 +12,11 @@ use crate::grammar::{Part, VERBS, Verb};
 use crate::lists::{list, new_sets};
 use crate::lookup::{
     Looked, label_named, put_arguments, put_label, put_name, put_relation, put_sets, put_values,
-    relation_named, scheme_in,
+    relation_in, relation_named, scheme_in,
 };
+use crate::query::tail;
 use mls_lattice::Policy;
+use mls_queries::Query;
 use mls_scheme::Schemes;
 use mls_tokens::{TokenFault, Tokens};
 use std::alloc::Global;
@@ -161,27 +164,35 @@ fn verb_among(verbs: &[Verb], tokens: &mut Tokens) -> Result<Verb, TokenFault>
     Err(tokens.refused())
 }
 
-/// The event of a verb, if what its parts say has no fault.
-fn event_from(verb: Verb, looked: Looked) -> Result<Event, LineFault>
-    ensures { result ≡ event_from verb looked }
+/// The event of a verb, if what its parts and its query say has no fault.
+fn event_from(
+    verb: Verb,
+    looked: Looked,
+    asked: Result<Query, LineFault>,
+) -> Result<Event, LineFault>
+    ensures { result ≡ event_from verb looked asked }
 {
-    Ok(looked?.into_event(verb))
+    let draft = looked?;
+    Ok(draft.into_event(verb, asked?))
 }
 
-/// A verb and its parts.
+/// A verb, its parts and what stands behind them.
 #[tactic(auto, unfolding(crate::specs::Reading::command_at))]
 fn command(
     alloc: Global,
     policy: &Policy,
     schemes: &Schemes,
-    mut looked: Looked,
+    looked: &mut Looked,
     tokens: &mut Tokens,
-) -> Result<Result<Event, LineFault>, TokenFault>
-    ensures { Reads (λ x. (x, tokens.new)) result (command_at policy.now schemes.now looked tokens.old) }
+) -> Result<(Verb, Result<Query, LineFault>), LineFault>
+    ensures { Gives (λ x. (event_from x.0 looked.new x.1, tokens.new)) result
+        (command_at policy.now schemes.now looked.old tokens.old) }
 {
     let verb = verb_among(&VERBS, tokens)?;
-    parts(alloc, policy, schemes, verb.parts(), &mut looked, tokens)?;
-    Ok(event_from(verb, looked))
+    parts(alloc, policy, schemes, verb.parts(), looked, tokens)?;
+    let rel = relation_in(schemes, looked);
+    let asked = tail(alloc, policy, schemes, verb, rel, tokens)?;
+    Ok((verb, asked))
 }
 
 /// The event of a line that is not blank; or the first fault of its names and kinds.
@@ -191,15 +202,15 @@ fn sentence(
     policy: &Policy,
     schemes: &Schemes,
     tokens: &mut Tokens,
-) -> Result<Result<Event, LineFault>, TokenFault>
-    ensures { Reads (λ x. x) result (sentence_at policy.now schemes.now tokens.old) }
+) -> Result<Result<Event, LineFault>, LineFault>
+    ensures { Gives (λ x. x) result (sentence_at policy.now schemes.now tokens.old) }
 {
     let front = [Part::Level, Part::Session];
     let mut looked = Ok(Draft::new(alloc));
     parts(alloc, policy, schemes, &front, &mut looked, tokens)?;
-    let event = command(alloc, policy, schemes, looked, tokens)?;
+    let (verb, asked) = command(alloc, policy, schemes, &mut looked, tokens)?;
     tokens.end()?;
-    Ok(event)
+    Ok(event_from(verb, looked, asked))
 }
 
 /// The same of any line: nothing, if it is blank.
@@ -208,8 +219,8 @@ pub(crate) fn told(
     policy: &Policy,
     schemes: &Schemes,
     tokens: &mut Tokens,
-) -> Result<Option<Result<Event, LineFault>>, TokenFault>
-    ensures { Reads (λ x. x) result (told_at policy.now schemes.now tokens.old) }
+) -> Result<Option<Result<Event, LineFault>>, LineFault>
+    ensures { Gives (λ x. x) result (told_at policy.now schemes.now tokens.old) }
 {
     if tokens.is_over() {
         return Ok(None);

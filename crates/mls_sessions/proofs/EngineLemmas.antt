@@ -1,5 +1,5 @@
 -- What each way through a step does is the machine's step, and the engine keeps what it holds.
-use Rattle.std.proofs.Common.{◌≡◌, ℕ, false, List, length, Option, Some, None, Result, Ok, Err, refl, sym, ap, ◌∙◌, subst, Vec, Global, arith}
+use Rattle.std.proofs.Common.{◌≡◌, ℕ, Bool, false, List, length, Option, Some, None, Result, Ok, Err, refl, sym, ap, ◌∙◌, subst, Vec, Global, arith}
 use Rattle.std.specs.Prelude.{IfOk, IfErr, OnErr}
 use Rattle.mls_filterview.specs.declared.base.BaseFault.{BaseFault}
 use Rattle.mls_filterview.specs.declared.base.BaseFault.TheVariants as faults
@@ -9,6 +9,7 @@ use Rattle.mls_filterview.specs.Stored.{AreContent}
 use Rattle.mls_updates.specs.Writes.{Insert, Update, Delete}
 use Rattle.mls_lattice.specs.Policy.{Name}
 use Rattle.mls_scheme.specs.declared.value.Value.{Value}
+use Rattle.mls_queries.specs.declared.query.Query.{Query}
 use Rattle.mls_script.specs.declared.event.Event.{Event}
 use Rattle.mls_script.specs.declared.event.Command.{Command}
 use Rattle.mls_script.specs.declared.event.Command.TheVariants as commands
@@ -61,7 +62,7 @@ module _ (at : Site) (w : World) (e : Event) where
     denied_inside (commands.Open name) d h = ap (denied at w e user) (some_is AlreadyOpen d h)
     denied_inside commands.Close d h = none_is d h
     denied_inside commands.Audit d h = none_is d h
-    denied_inside (commands.View rel label) d h = ap (λ o. unless at o w e user (viewed at w rel label)) h
+    denied_inside (commands.View rel label query counts) d h = ap (λ o. unless at o w e user (viewed at w rel label query)) h
     denied_inside (commands.Insert rel key values) d h = ap (λ o. unless at o w e user (wrote at w e.level rel (Insert key values))) h
     denied_inside (commands.Update rel key key_class from sets) d h = ap (λ o. unless at o w e user (wrote at w e.level rel (Update key key_class from sets))) h
     denied_inside (commands.Delete rel key key_class) d h = ap (λ o. unless at o w e user (wrote at w e.level rel (Delete key key_class))) h
@@ -70,10 +71,10 @@ module _ (at : Site) (w : World) (e : Event) where
     pub denied_is : (d : Denial) → denial_in at e.level user e.command ≡ Some d → step at w e ≡ denied at w e user d
     denied_is d h = inside_is ∙ denied_inside e.command d h
 
-    pub viewed_is : (rel label : ℕ) → e.command ≡ commands.View rel label → denial_in at e.level user e.command ≡ None → step at w e ≡ viewed at w rel label
-    viewed_is rel label is h =
+    pub viewed_is : (rel label : ℕ) (query : Query) (counts : Bool) → e.command ≡ commands.View rel label query counts → denial_in at e.level user e.command ≡ None → step at w e ≡ viewed at w rel label query
+    viewed_is rel label query counts is h =
         inside_is ∙ ap (λ x. step_inside at w e x user) is
-        ∙ ap (λ o. unless at o w e user (viewed at w rel label)) (sym (ap (denial_in at e.level user) is) ∙ h)
+        ∙ ap (λ o. unless at o w e user (viewed at w rel label query)) (sym (ap (denial_in at e.level user) is) ∙ h)
 
     pub listed_is : e.command ≡ commands.Audit → step at w e ≡ listed at w e.level
     listed_is is = inside_is ∙ ap (λ x. step_inside at w e x user) is

@@ -8,7 +8,6 @@ use Rattle.std.proofs.lemmas.List.Elements.{filter_map-append}
 use Rattle.mls_lattice.specs.Labels.{Labels, below}
 use Rattle.mls_scheme.specs.declared.tuple.Tuple.{Tuple}
 use Rattle.mls_filterview.specs.Content.{State, with_entry}
-use Rattle.mls_filterview.specs.View.{rows}
 use Rattle.mls_updates.specs.declared.outcome.Outcome.{Outcome}
 use Rattle.mls_updates.specs.Writes.{Write}
 use Rattle.mls_updates.specs.Calls.{IsWritten}
@@ -20,10 +19,10 @@ use Rattle.mls_audit.specs.Reading.{entry_at}
 use Rattle.mls_audit.proofs.EntryLemmas.{entry_again}
 use Rattle.mls_script.specs.declared.event.Event.{Event}
 use Rattle.mls_machine.specs.declared.reply.Denial.{Denial}
-use Rattle.mls_machine.specs.declared.reply.Reply.TheVariants.{Rows, Wrote, Entries, Denied}
+use Rattle.mls_machine.specs.declared.reply.Reply.TheVariants.{Wrote, Entries, Denied}
 use Rattle.mls_machine.specs.Site.{Site, site_labels, site_scheme}
 use Rattle.mls_machine.specs.Denying.{first_denial, write_denials}
-use Rattle.mls_machine.specs.Machine.{denial_entry, denied, unless, viewed, wrote, listed, write_step}
+use Rattle.mls_machine.specs.Machine.{denial_entry, denied, unless, wrote, listed, write_step}
 use Rattle.mls_sessions.specs.World.{declared, entries_in, world_at}
 use Rattle.mls_sessions.specs.Turns.{IsStepOver}
 
@@ -98,13 +97,6 @@ module _ (site : Site) (s t : State) where
   }
 
   module _ (same : t ≡ s) where
-    pub viewed_over : (rel label : ℕ) (tuples : List Tuple) → tuples ≡ rows (site_labels site) label (s.now.db rel) → IsStepOver site (λ w. viewed site w rel label) s.now t.now (Rows tuples)
-    viewed_over rel label tuples h = record {
-      reply = λ sessions. ap Rows h;
-      world = λ sessions. ap (λ (x : State). world_at site sessions x.now) same;
-      entries = λ all. subst (λ (x : State). AllByRecursion (IsEntryOf (length site.policy.labels)) x.now.audit) (sym same) all;
-    }
-
     pub listed_over : (level : ℕ) (es : List Entry) → es ≡ visible (site_labels site) level (entries_in (length site.policy.labels) s.now.audit) → IsStepOver site (λ w. listed site w level) s.now t.now (Entries es)
     listed_over level es h = record {
       reply = λ sessions. ap Entries h;

@@ -123,12 +123,18 @@ impl<'a, B: Base> Engine<'a, B> {
                 close(&mut self.sessions, event.level, &event.session);
                 Ok(Reply::Closed)
             }
-            Command::View { rel, label } => look(
+            Command::View {
+                rel,
+                label,
+                query,
+                ..
+            } => look(
                 &self.rules,
                 &mut self.base,
                 &mut self.views,
                 *rel,
                 *label,
+                query,
             ),
             Command::Audit => audit(&self.rules, &mut self.base, event.level),
             Command::Insert { .. } | Command::Update { .. } | Command::Delete { .. } => {

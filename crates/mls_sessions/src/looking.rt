@@ -16,31 +16,43 @@ use mls_filterview::{Base, BaseFault, made};
 use mls_lattice::{Items, LabelNo};
 use mls_machine::Reply;
 use mls_monitor::Rules;
+use mls_queries::{Query, find};
 use mls_scheme::RelNo;
 use mls_views::Views;
 use std::alloc::AllocError;
 
-/// Answers a view.
+/// Answers a view by what its query finds.
 pub(crate) fn look<B: Base>(
     rules: &Rules,
     base: &mut B,
     views: &mut Views,
     rel: RelNo,
     label: LabelNo,
+    query: &Query,
 ) -> Result<Reply, BaseFault>
     requires idle { (B.state base.old).begun ≡ false }
+    requires rel { rel < length rules.now.schemes.now }
     requires label { label < length rules.now.policy.now.labels }
     requires sound { B.is_clean base.old → IsSound (site_of rules.now) (B.state base.old).now }
     requires views { AreViews rules.now.policy.now B.is_clean B.state base.old views.old }
     ensures turn { IsTurn B.is_clean B.failures (λ b. (B.state b).now) base.old base.new result }
     ensures idle { (B.state base.new).begun ≡ false }
     ensures done { B.is_clean base.new → IfOk result (IsStepOver (site_of rules.now)
-        (λ w. viewed (site_of rules.now) w rel label) (B.state base.old).now (B.state base.new).now) }
+        (λ w. viewed (site_of rules.now) w rel label query.now) (B.state base.old).now (B.state base.new).now) }
     ensures known { IfOk result (HasKnownNumbers rules.now.policy.now) }
     ensures views { AreViews rules.now.policy.now B.is_clean B.state base.new views.new }
 {
-    let tuples = views.view(rules.alloc, base, rules.policy, rel, label)?;
-    Ok(Reply::Rows(tuples))
+    let found = find(
+        rules.alloc,
+        base,
+        views,
+        rules.policy,
+        rules.schemes,
+        rel,
+        label,
+        query,
+    )?;
+    Ok(Reply::Rows(found))
 }
 
 /// The entry of a declared label that bytes spell.

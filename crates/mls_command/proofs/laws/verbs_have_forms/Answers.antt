@@ -12,11 +12,12 @@ only word none =
     let b = or_parts (bytes_eq (codes "close") word) _ a.1 in
     let c = or_parts (bytes_eq (codes "audit") word) _ b.1 in
     let d = or_parts (bytes_eq (codes "view") word) _ c.1 in
-    let e = or_parts (bytes_eq (codes "insert") word) _ d.1 in
-    let f = or_parts (bytes_eq (codes "update") word) _ e.1 in
-    let g = or_parts (bytes_eq (codes "delete") word) _ f.1 in
-    let h = or_parts (bytes_eq (codes "call") word) _ g.1 in
-    simp (a.0, b.0, c.0, d.0, e.0, f.0, g.0, h.0) refl
+    let e = or_parts (bytes_eq (codes "count") word) _ d.1 in
+    let f = or_parts (bytes_eq (codes "insert") word) _ e.1 in
+    let g = or_parts (bytes_eq (codes "update") word) _ f.1 in
+    let h = or_parts (bytes_eq (codes "delete") word) _ g.1 in
+    let i = or_parts (bytes_eq (codes "call") word) _ h.1 in
+    simp (a.0, b.0, c.0, d.0, e.0, f.0, g.0, h.0, i.0) refl
 
 pub returns : goal.returns
 returns c = record { each = refl; only = only }

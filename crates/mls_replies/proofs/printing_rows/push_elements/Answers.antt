@@ -7,7 +7,7 @@ use Rattle.mls_replies.proofs.printing_rows.push_elements.Goals as goal
 pub loop-element-preserved : goal.loop-element-preserved
 loop-element-preserved c =
     let name = label_name c.args.policy.now.labels c.element-item.result.class in
-    one_more (λ e. cell_entry c.args.policy.now.labels e.class e.value) c.args.elements.now c.loop-element.element-index c.element-item.result
+    one_more (λ e. cell_entry c.args.policy.now.labels e.class e.value) c.args.elements.now c.loop-element.element-index c.element-item.result c.element-item.result
     c.args.text.now.items c.loop-element.text.items c.push_class.new.text.items c.loop-element-test.true c.element-item.is c.loop-element.invariant
     (c.in_ok-push_class.ensures
     ∙ ap (λ (x : List ℕ). x ++ codes " " ++ name ++ codes " | ") c.in_ok-push_cell.ensures

@@ -1,6 +1,6 @@
 use Rattle.std.proofs.Common.{◌∙◌, ap, sym}
 use Rattle.std.proofs.lemmas.Result.{IfOk-weaker}
-use Rattle.mls_machine.specs.declared.reply.Reply.TheVariants.{Rows, Entries}
+use Rattle.mls_machine.specs.declared.reply.Reply.TheVariants.{Entries}
 use Rattle.mls_replies.specs.Under.{site_under}
 use Rattle.mls_replies.proofs.PrintingSteps.{rows_printed, entries_printed, ran_printed}
 use Rattle.mls_replies.proofs.replies.reply_bytes.Goals as goal
@@ -8,7 +8,7 @@ use Rattle.mls_replies.proofs.replies.reply_bytes.Goals as goal
 pub returns-in-Rows : goal.returns-in-Rows
 returns-in-Rows c =
     IfOk-weaker c.view_bytes.result _ _
-    (λ v h. h ∙ rows_printed (site_under c.args.policy.now c.args.schemes.now) c.args.event.now c.args.reply.now c.as_slice.result.now (c.in-Rows.is ∙ ap Rows (sym c.as_slice.ensures))) c.view_bytes.ensures
+    (λ v h. h ∙ rows_printed (site_under c.args.policy.now c.args.schemes.now) c.args.event.now c.args.reply.now c.in-Rows.rows c.in-Rows.is) c.view_bytes.ensures
 
 pub returns-in-Entries : goal.returns-in-Entries
 returns-in-Entries c =

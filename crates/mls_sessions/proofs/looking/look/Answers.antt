@@ -1,4 +1,4 @@
 use Rattle.mls_sessions.proofs.looking.look.Goals as goal
 
-pub view-requires-clause-stored : goal.view-requires-clause-stored
-view-requires-clause-stored g c = λ h. (_, ((c.requires.sound h).content c.args.rel).stored)
+pub find-requires-clause-content : goal.find-requires-clause-content
+find-requires-clause-content g c = λ h. (c.requires.sound h).content c.args.rel

@@ -31,12 +31,12 @@ returns-in-Some-clause-done g c =
 pub returns-in-View-clause-kept : goal.returns-in-View-clause-kept
 returns-in-View-clause-kept g c =
     (answers_over g.B.Base.state g.B.Base.is_clean g.B.Base.failures c.args.self.now c.requires.ready c.args.event.now c.requires.fits c.look.new.base
-    (λ w. viewed (site c.args.self.now) w c.in-View.rel c.in-View.label) (viewed_is (site c.args.self.now) (world_of g.B.Base.state c.args.self.now) c.args.event.now c.args.user c.requires.held c.in-View.rel c.in-View.label c.in-View.is (sym c.denial_of.ensures ∙ none_from c.denial_of.result c.in_default.not-Some)) c.look.new.views c.look.result c.look.ensures.turn c.look.ensures.idle c.look.ensures.done c.look.ensures.views).kept
+    (λ w. viewed (site c.args.self.now) w c.in-View.rel c.in-View.label c.in-View.query) (viewed_is (site c.args.self.now) (world_of g.B.Base.state c.args.self.now) c.args.event.now c.args.user c.requires.held c.in-View.rel c.in-View.label c.in-View.query c.in-View.counts c.in-View.is (sym c.denial_of.ensures ∙ none_from c.denial_of.result c.in_default.not-Some)) c.look.new.views c.look.result c.look.ensures.turn c.look.ensures.idle c.look.ensures.done c.look.ensures.views).kept
 
 pub returns-in-View-clause-done : goal.returns-in-View-clause-done
 returns-in-View-clause-done g c =
     (answers_over g.B.Base.state g.B.Base.is_clean g.B.Base.failures c.args.self.now c.requires.ready c.args.event.now c.requires.fits c.look.new.base
-    (λ w. viewed (site c.args.self.now) w c.in-View.rel c.in-View.label) (viewed_is (site c.args.self.now) (world_of g.B.Base.state c.args.self.now) c.args.event.now c.args.user c.requires.held c.in-View.rel c.in-View.label c.in-View.is (sym c.denial_of.ensures ∙ none_from c.denial_of.result c.in_default.not-Some)) c.look.new.views c.look.result c.look.ensures.turn c.look.ensures.idle c.look.ensures.done c.look.ensures.views).done
+    (λ w. viewed (site c.args.self.now) w c.in-View.rel c.in-View.label c.in-View.query) (viewed_is (site c.args.self.now) (world_of g.B.Base.state c.args.self.now) c.args.event.now c.args.user c.requires.held c.in-View.rel c.in-View.label c.in-View.query c.in-View.counts c.in-View.is (sym c.denial_of.ensures ∙ none_from c.denial_of.result c.in_default.not-Some)) c.look.new.views c.look.result c.look.ensures.turn c.look.ensures.idle c.look.ensures.done c.look.ensures.views).done
 
 pub returns-in-Audit-clause-kept : goal.returns-in-Audit-clause-kept
 returns-in-Audit-clause-kept g c =

@@ -1,0 +1,258 @@
+-- What a query says is what was read, and fits.
+use Rattle.std.proofs.Common.{◌≡◌, ℕ, ◌<◌, Bool, true, false, ℤ, pos, negsuc, List, [], ◌∷◌, ◌++◌, length, Option, Some, None, Result, Ok, Err, refl, sym, ap, ◌∙◌, subst}
+use Rattle.std.specs.Prelude.{codes, IfSome}
+use Rattle.mls_lattice.specs.Policy.{Name, Tables}
+use Rattle.mls_lattice.specs.Reading.{◌>>=◌}
+use Rattle.mls_lattice.proofs.NamedLemmas.{label_found}
+use Rattle.mls_lattice.proofs.ReadingLemmas.{ok_is, bind_ok}
+use Rattle.mls_scheme.specs.Scheme.{Schemes}
+use Rattle.mls_tokens.specs.declared.fault.TokenFault.{TokenFault}
+use Rattle.mls_tokens.specs.declared.token.Token.{Token}
+use Rattle.mls_tokens.specs.declared.token.Token.TheVariants.{Word, Int, Text, Sign}
+use Rattle.mls_tokens.specs.declared.token.Placed.{Placed}
+use Rattle.mls_tokens.specs.Scanning.{Left, tokens_in}
+use Rattle.mls_tokens.specs.Passing.{left, is_word, is_sign, taken, pass_name}
+use Rattle.mls_tokens.proofs.PassedLemmas.{Passed, passed_none, passed_more, word_taken, sign_taken, name_found}
+use Rattle.mls_translang.specs.Tree as core
+use Rattle.mls_syntax.specs.declared.fault.SyntaxFault.{SyntaxFault}
+use Rattle.mls_syntax.specs.ExprTree.{Expr}
+use Rattle.mls_syntax.specs.Condition.{AreOfText}
+use Rattle.mls_syntax.specs.ReadCondition.{condition_at}
+use Rattle.mls_syntax.proofs.ConditionLemmas.{spelled_kept, literals_kept}
+use Rattle.mls_syntax.proofs.LimitLemmas.{split}
+use Rattle.mls_parser.specs.declared.fault.PlacedFault.{PlacedFault}
+use Rattle.mls_parser.specs.Conditions.{condition_in, IsConditionOf}
+use Rattle.mls_parser.proofs.ConditionLemmas.{is_fit}
+use Rattle.mls_queries.specs.declared.query.Comparison.{Comparison}
+use Rattle.mls_queries.specs.declared.query.ClassTest.{ClassTest}
+use Rattle.mls_queries.specs.declared.query.Query.{Query}
+use Rattle.mls_script.specs.declared.fault.LineFault.{LineFault}
+use Rattle.mls_script.specs.Event.{QueryFits}
+use Rattle.mls_script.specs.QueryTokens.{comparison_sign, highest_tokens, class_tokens, first_tokens, TellsTest, TellsQuery}
+use Rattle.mls_script.specs.ReadQuery.{form_of, known_or, label_named, highest_behind, highest_at, comparisons, comparison_or, comparison_among, class_test, class_behind, class_at, number_in, numbered, pass_number_of, pass_number, count_or, first_behind, first_at, syntax_of, test_of, query_from, resolved, where_behind, where_at, query_at}
+
+-- what a part says, and what is left, where both are known
+pub told : {X E : Type 0} (P : X → Left → Type 0) (found : Result X LineFault) (l : Left) (y : Result X LineFault × Left) (x : X)
+    → Path (Result (Result X LineFault × Left) E) (Ok (found, l)) (Ok y) → y.0 ≡ Ok x → (found ≡ Ok x → P x l) → P x y.1
+told P found l y x e was h =
+    let pair = ok_is (found, l) y e in
+    subst (P x) (ap (λ (z : Result _ LineFault × Left). z.1) pair) (h (ap (λ (z : Result _ LineFault × Left). z.0) pair ∙ was))
+
+pub form_found : {X : Type 0} (r : Result X TokenFault) (x : X) → form_of r ≡ Ok x → r ≡ Ok x
+form_found (Ok y) x e = ap (λ z. Ok z) (ok_is y x e)
+form_found (Err f) x e = absurd cc
+
+pub known_found : (at : ℕ) (o : Option ℕ) (n : ℕ) → known_or at o ≡ Ok n → o ≡ Some n
+known_found at None n e = absurd cc
+known_found at (Some m) n e = ap (λ (x : ℕ). Some x) (ok_is m n e)
+
+-- the tokens that are left are of a text, where those before were
+pub of_text : (ts : List Token) (l r : Left) → Passed ts l r → AreOfText (tokens_in l.placed) → AreOfText ts × AreOfText (tokens_in r.placed)
+of_text ts l r h all = split ts (tokens_in r.placed) (subst AreOfText h.tokens all)
+
+-- ---- the highest
+
+abbrev HighestFound : Left → Bool × Left → Type 0
+HighestFound l x = Passed (highest_tokens x.0) l x.1
+
+highest_found : (l : Left) → HighestFound l (highest_at l)
+highest_found l = behind (taken (is_word (codes "highest")) l) refl
+  where
+    behind : (o : Option (ℕ × Left)) → taken (is_word (codes "highest")) l ≡ o → HighestFound l (highest_behind l o)
+    behind None is = passed_none l
+    behind (Some x) is = word_taken (codes "highest") l x is
+
+-- ---- the class
+
+comparison_found : (cs : List Comparison) (l : Left) (x : Comparison × Left) → comparison_among cs l ≡ Ok x → Passed (Sign (comparison_sign x.0) ∷ []) l x.1
+comparison_found [] l x e = absurd cc
+comparison_found (c ∷ cs) l x e = behind (taken (is_sign (comparison_sign c)) l) refl e (comparison_found cs l x)
+  where
+    behind : (o : Option (ℕ × Left)) → taken (is_sign (comparison_sign c)) l ≡ o → comparison_or (λ r. comparison_among cs r) l c o ≡ Ok x
+        → (comparison_among cs l ≡ Ok x → Passed (Sign (comparison_sign x.0) ∷ []) l x.1) → Passed (Sign (comparison_sign x.0) ∷ []) l x.1
+    behind None is h more = more h
+    behind (Some y) is h more =
+        subst (λ (z : Comparison × Left). Passed (Sign (comparison_sign z.0) ∷ []) l z.1) (ok_is {E = TokenFault} (c, y.1) x h) (sign_taken (comparison_sign c) l y is)
+
+module _ (policy : Tables) where
+  record ClassFound (l : Left) (c : Option ClassTest) (r : Left) : Type 0 where
+    passed : Passed (class_tokens policy c) l r
+    within : IfSome c (λ c. c.label < length policy.labels)
+
+  one_class : (l m r : Left) (at : ℕ) (c : Comparison) (name : Name) (found : Result ℕ LineFault) (o : Option ClassTest)
+      → Passed (Word (codes "class") ∷ Sign (comparison_sign c) ∷ Word name ∷ []) l r → found ≡ label_named policy (name, at) → class_test c found ≡ Ok o → ClassFound l o r
+  one_class l m r at c name found o passed is e =
+      let n = bind_ok found (λ n. Ok (Some (record { comparison = c; label = n }))) o e in
+      let label = label_found policy.labels name n.0 (known_found at _ n.0 (sym is ∙ n.1)) in
+      let test : ClassTest = record { comparison = c; label = n.0 } in
+      let same : Some test ≡ o = ok_is {E = LineFault} (Some test) o n.2 in
+      subst (λ (x : Option ClassTest). ClassFound l x r) same (record {
+        passed = subst (λ (s : Name). Passed (Word (codes "class") ∷ Sign (comparison_sign c) ∷ Word s ∷ []) l r) (sym label.1) passed;
+        within = label.0;
+      })
+
+  class_found : (l : Left) (y : Result (Option ClassTest) LineFault × Left) (c : Option ClassTest) → class_at policy l ≡ Ok y → y.0 ≡ Ok c → ClassFound l c y.1
+  unfolding class_at
+  class_found l y c e was = behind (taken (is_word (codes "class")) l) refl e
+    where
+      behind : (o : Option (ℕ × Left)) → taken (is_word (codes "class")) l ≡ o → class_behind policy l o ≡ Ok y → ClassFound l c y.1
+      behind None is h =
+          told (ClassFound l) (Ok None) l y c h was
+          (λ same. subst (λ (x : Option ClassTest). ClassFound l x l) (ok_is {E = LineFault} None c same) (record { passed = passed_none l; within = tt }))
+      behind (Some x) is h =
+          let k = bind_ok (comparison_among comparisons x.1) (λ k. pass_name k.1 >>= λ n. Ok (class_test k.0 (label_named policy n.0), n.1)) y h in
+          let n = bind_ok (pass_name k.0.1) (λ n. Ok (class_test k.0.0 (label_named policy n.0), n.1)) y k.2 in
+          let passed =
+          passed_more (Word (codes "class") ∷ []) (Sign (comparison_sign k.0.0) ∷ Word n.0.0.0 ∷ []) l x.1 n.0.1 (word_taken (codes "class") l x is)
+          (passed_more (Sign (comparison_sign k.0.0) ∷ []) (Word n.0.0.0 ∷ []) x.1 k.0.1 n.0.1 (comparison_found comparisons x.1 k.0 k.1) (name_found k.0.1 n.0 n.1).passed) in
+          told (ClassFound l) (class_test k.0.0 (label_named policy n.0.0)) n.0.1 y c n.2 was
+          (λ same. one_class l x.1 n.0.1 n.0.0.1 k.0.0 n.0.0.0 (label_named policy n.0.0) c passed refl same)
+
+-- ---- the first
+
+abbrev NumberFound : Left → (ℤ × ℕ) × Left → Type 0
+NumberFound l x = Passed (Int x.0.0 ∷ []) l x.1
+
+number_is : (t : Token) (n : ℤ) → number_in t ≡ Some n → t ≡ Int n
+number_is (Word w) n e = absurd cc
+number_is (Int m) n e = let same : m ≡ n = cc in ap (λ (x : ℤ). Int x) same
+number_is (Text s) n e = absurd cc
+number_is (Sign s) n e = absurd cc
+
+number_first : (t : Token) (ps : List Placed) (stop : TokenFault) (at : ℕ) (o : Option ℤ) (x : (ℤ × ℕ) × Left) → number_in t ≡ o → numbered at (left ps stop) o ≡ Ok x
+    → NumberFound (left (record { token = t; at = at } ∷ ps) stop) x
+number_first t ps stop at None x is e = absurd cc
+number_first t ps stop at (Some n) x is e =
+    subst (λ y. NumberFound (left (record { token = t; at = at } ∷ ps) stop) y) (ok_is {E = TokenFault} ((n, at), left ps stop) x e)
+    (record { tokens = ap (λ y. y ∷ tokens_in ps) (number_is t n is); stop = refl })
+
+number_of_found : (ps : List Placed) (stop : TokenFault) (x : (ℤ × ℕ) × Left) → pass_number_of ps stop ≡ Ok x → NumberFound (left ps stop) x
+number_of_found [] stop x e = absurd cc
+number_of_found (p ∷ ps) stop x e = number_first p.token ps stop p.at (number_in p.token) x refl e
+
+number_found : (l : Left) (x : (ℤ × ℕ) × Left) → pass_number l ≡ Ok x → NumberFound l x
+number_found l x e = number_of_found l.placed l.stop x e
+
+record FirstFound (counts : Bool) (l : Left) (f : Option ℕ) (r : Left) : Type 0 where
+  passed : Passed (first_tokens f) l r
+  whole : counts ≡ true → f ≡ None
+
+no_first : (counts : Bool) (l : Left) (y : Result (Option ℕ) LineFault × Left) (f : Option ℕ) → Path (Result (Result (Option ℕ) LineFault × Left) TokenFault) (Ok (Ok None, l)) (Ok y)
+    → y.0 ≡ Ok f → FirstFound counts l f y.1
+no_first counts l y f e was =
+    told (FirstFound counts l) (Ok None) l y f e was
+    (λ same. subst (λ (x : Option ℕ). FirstFound counts l x l) (ok_is {E = LineFault} None f same) (record { passed = passed_none l; whole = λ _. refl }))
+
+one_first : (l r : Left) (at : ℕ) (n : ℤ) (f : Option ℕ) → Passed (Word (codes "first") ∷ Int n ∷ []) l r → count_or at n ≡ Ok f → FirstFound false l f r
+one_first l r at (pos n) f passed e =
+    subst (λ (x : Option ℕ). FirstFound false l x r) (ok_is {E = LineFault} (Some n) f e) (record { passed = passed; whole = λ h. absurd cc })
+one_first l r at (negsuc n) f passed e = absurd cc
+
+first_found : (counts : Bool) (l : Left) (y : Result (Option ℕ) LineFault × Left) (f : Option ℕ) → first_at counts l ≡ Ok y → y.0 ≡ Ok f → FirstFound counts l f y.1
+unfolding first_at
+first_found true l y f e was = no_first true l y f e was
+first_found false l y f e was = behind (taken (is_word (codes "first")) l) refl e
+  where
+    behind : (o : Option (ℕ × Left)) → taken (is_word (codes "first")) l ≡ o → first_behind l o ≡ Ok y → FirstFound false l f y.1
+    behind None is h = no_first false l y f h was
+    behind (Some x) is h =
+        let n = bind_ok (pass_number x.1) (λ n. Ok (count_or n.0.1 n.0.0, n.1)) y h in
+        let passed = passed_more (Word (codes "first") ∷ []) (Int n.0.0.0 ∷ []) l x.1 n.0.1 (word_taken (codes "first") l x is) (number_found x.1 n.0 n.1) in
+        told (FirstFound false l) (count_or n.0.0.1 n.0.0.0) n.0.1 y f n.2 was (λ same. one_first l n.0.1 n.0.0.1 n.0.0.0 f passed same)
+
+-- ---- the condition
+
+syntax_found : {X : Type 0} (r : Result X SyntaxFault) (x : X) → syntax_of r ≡ Ok x → r ≡ Ok x
+syntax_found (Ok y) x e = ap (λ z. Ok z) (ok_is y x e)
+syntax_found (Err f) x e = absurd cc
+
+test_found : (r : Result core.Expr PlacedFault) (t : Option core.Expr) → test_of r ≡ Ok t → (e : core.Expr) × (r ≡ Ok e) × (Some e ≡ t)
+test_found (Ok e) t h = (e, refl, ok_is {E = LineFault} (Some e) t h)
+test_found (Err f) t h = absurd cc
+
+module _ (policy : Tables) (schemes : Schemes) (rel : ℕ) where
+  record TestFound (l : Left) (t : Option core.Expr) (r : Left) : Type 0 where
+    tokens : List Token
+    passed : Passed tokens l r
+    tells : TellsTest policy schemes rel t tokens
+    fits : AreOfText (tokens_in l.placed) → IfSome t (IsConditionOf schemes rel)
+
+  one_test : (l m r : Left) (at : ℕ) (written : Expr) (t : Option core.Expr) → taken (is_word (codes "where")) l ≡ Some (at, m) → condition_at m ≡ Ok (written, r)
+      → resolved policy schemes (Some rel) written ≡ Ok t → TestFound l t r
+  one_test l m r at written t is read e =
+      let word = word_taken (codes "where") l (at, m) is in
+      let found = spelled_kept m r (Ok written) read in
+      let test = test_found (condition_in policy schemes rel written) t e in
+      let tokens = Word (codes "where") ∷ found.tokens in
+      let passed : Passed tokens l r = passed_more (Word (codes "where") ∷ []) found.tokens l m r word (record { tokens = found.passed; stop = found.stop }) in
+      subst (λ (x : Option core.Expr). TestFound l x r) test.2 (record {
+        tokens = tokens;
+        passed = passed;
+        tells = record { written = written; condition = found.tokens; tokens = refl; spells = found.spells; is = test.1 };
+        fits = λ all. is_fit policy schemes rel written (Ok test.0) test.1 (literals_kept m r (Ok written) read (of_text (Word (codes "where") ∷ []) l m word all).1);
+      })
+
+  where_found : (l : Left) (y : Result (Option core.Expr) LineFault × Left) (t : Option core.Expr) → where_at policy schemes (Some rel) l ≡ Ok y → y.0 ≡ Ok t → TestFound l t y.1
+  unfolding where_at
+  where_found l y t e was = behind (taken (is_word (codes "where")) l) refl e
+    where
+      behind : (o : Option (ℕ × Left)) → taken (is_word (codes "where")) l ≡ o → where_behind policy schemes (Some rel) l o ≡ Ok y → TestFound l t y.1
+      behind None is h =
+          told (TestFound l) (Ok None) l y t h was
+          (λ same. subst (λ (x : Option core.Expr). TestFound l x l) (ok_is {E = LineFault} None t same) (record { tokens = []; passed = passed_none l; tells = refl; fits = λ _. tt }))
+      behind (Some x) is h =
+          let c = bind_ok (syntax_of (condition_at x.1)) (λ c. Ok (resolved policy schemes (Some rel) c.0, c.1)) y h in
+          told (TestFound l) (resolved policy schemes (Some rel) c.0.0) c.0.1 y t c.2 was
+          (λ same. one_test l x.1 c.0.1 x.0 c.0.0 t is (syntax_found (condition_at x.1) c.0 c.1) same)
+
+  -- ---- a query
+
+  pub record QueryFound (counts : Bool) (l : Left) (q : Query) (r : Left) : Type 0 where
+    pub tokens : List Token
+    pub passed : Passed tokens l r
+    pub tells : TellsQuery policy schemes rel q tokens
+    pub fits : AreOfText (tokens_in l.placed) → QueryFits policy schemes rel q counts
+
+  record PartsSaid (highest : Bool) (class : Result (Option ClassTest) LineFault) (first : Result (Option ℕ) LineFault) (test : Result (Option core.Expr) LineFault) (q : Query) : Type 0 where
+    highest_is : q.highest ≡ highest
+    class_is : class ≡ Ok q.class
+    first_is : first ≡ Ok q.first
+    test_is : test ≡ Ok q.test
+
+  parts_said : (highest : Bool) (class : Result (Option ClassTest) LineFault) (first : Result (Option ℕ) LineFault) (test : Result (Option core.Expr) LineFault) (q : Query)
+      → query_from highest class first test ≡ Ok q → PartsSaid highest class first test q
+  parts_said highest (Ok c) (Ok f) (Ok t) q e =
+      let made : Query = record { highest = highest; class = c; test = t; first = f } in
+      subst (PartsSaid highest (Ok c) (Ok f) (Ok t)) (ok_is {E = LineFault} made q e) (record { highest_is = refl; class_is = refl; first_is = refl; test_is = refl })
+  parts_said highest (Err x) first test q e = absurd cc
+  parts_said highest (Ok c) (Err x) test q e = absurd cc
+  parts_said highest (Ok c) (Ok f) (Err x) q e = absurd cc
+
+  pub query_found : (counts : Bool) (l : Left) (y : Result Query LineFault × Left) (q : Query) → query_at policy schemes counts (Some rel) l ≡ Ok y → y.0 ≡ Ok q → QueryFound counts l q y.1
+  unfolding query_at
+  query_found counts l y q e was =
+      let h = highest_at l in
+      let c = bind_ok (form_of (class_at policy h.1)) (λ c. form_of (first_at counts c.1) >>= λ f. where_at policy schemes (Some rel) f.1 >>= λ t. Ok (query_from h.0 c.0 f.0 t.0, t.1)) y e in
+      let f = bind_ok (form_of (first_at counts c.0.1)) (λ f. where_at policy schemes (Some rel) f.1 >>= λ t. Ok (query_from h.0 c.0.0 f.0 t.0, t.1)) y c.2 in
+      let t = bind_ok (where_at policy schemes (Some rel) f.0.1) (λ t. Ok (query_from h.0 c.0.0 f.0.0 t.0, t.1)) y f.2 in
+      told (QueryFound counts l) (query_from h.0 c.0.0 f.0.0 t.0.0) t.0.1 y q t.2 was (λ same.
+      let said = parts_said h.0 c.0.0 f.0.0 t.0.0 q same in
+      let highest : Passed (highest_tokens q.highest) l h.1 = subst (λ (b : Bool). Passed (highest_tokens b) l h.1) (sym said.highest_is) (highest_found l) in
+      let class = class_found policy h.1 c.0 q.class (form_found (class_at policy h.1) c.0 c.1) said.class_is in
+      let first = first_found counts c.0.1 f.0 q.first (form_found (first_at counts c.0.1) f.0 f.1) said.first_is in
+      let test = where_found f.0.1 t.0 q.test t.1 said.test_is in
+      let behind_class = passed_more (first_tokens q.first) test.tokens c.0.1 f.0.1 t.0.1 first.passed test.passed in
+      let behind_highest = passed_more (class_tokens policy q.class) (first_tokens q.first ++ test.tokens) h.1 c.0.1 t.0.1 class.passed behind_class in
+      record {
+        tokens = highest_tokens q.highest ++ (class_tokens policy q.class ++ (first_tokens q.first ++ test.tokens));
+        passed = passed_more (highest_tokens q.highest) (class_tokens policy q.class ++ (first_tokens q.first ++ test.tokens)) l h.1 t.0.1 highest behind_highest;
+        tells = record { behind = test.tokens; tokens = refl; test = test.tells };
+        fits = λ all. record {
+          class = class.within;
+          test = test.fits
+              (of_text (first_tokens q.first) c.0.1 f.0.1 first.passed
+              (of_text (class_tokens policy q.class) h.1 c.0.1 class.passed
+              (of_text (highest_tokens q.highest) l h.1 highest all).1).1).1;
+          whole = first.whole;
+        };
+      })

@@ -1,0 +1,63 @@
+-- The tokens of a query, which stand behind the label of a view.
+use Rattle.std.specs.Prelude.{◌≡◌, ℕ, pos, Bool, if◌then◌else◌, List, [], ◌∷◌, ◌++◌, codes, Option, Some, None, Ok}
+use Rattle.mls_lattice.specs.Canon.{label_name}
+use Rattle.mls_lattice.specs.Policy.{Tables}
+use Rattle.mls_scheme.specs.Scheme.{Schemes}
+use Rattle.mls_tokens.specs.declared.token.Token.{Token}
+use Rattle.mls_tokens.specs.declared.token.Token.TheVariants.{Word, Int, Sign as Sign_token}
+use Rattle.mls_tokens.specs.declared.sign.Sign.{Sign}
+use Rattle.mls_tokens.specs.declared.sign.Sign.TheVariants as signs
+use Rattle.mls_translang.specs.Tree as core
+use Rattle.mls_syntax.specs.ExprTree.{Expr}
+use Rattle.mls_syntax.specs.Condition.{SpellsCondition}
+use Rattle.mls_parser.specs.Conditions.{condition_in}
+use Rattle.mls_queries.specs.declared.query.Comparison.{Comparison}
+use Rattle.mls_queries.specs.declared.query.Comparison.TheVariants as compared
+use Rattle.mls_queries.specs.declared.query.ClassTest.{ClassTest}
+use Rattle.mls_queries.specs.declared.query.Query.{Query}
+use Rattle.mls_script.specs.declared.event.Command.{Command}
+use Rattle.mls_script.specs.declared.event.Command.TheVariants as commands
+
+abbrev pub comparison_sign : Comparison → Sign
+comparison_sign compared.Equal = signs.Equals
+comparison_sign compared.Unequal = signs.Differs
+comparison_sign compared.Less = signs.Less
+comparison_sign compared.AtMost = signs.AtMost
+comparison_sign compared.Greater = signs.Greater
+comparison_sign compared.AtLeast = signs.AtLeast
+
+abbrev pub highest_tokens : Bool → List Token
+highest_tokens highest = if highest then Word (codes "highest") ∷ [] else []
+
+abbrev pub class_tokens : Tables → Option ClassTest → List Token
+class_tokens policy None = []
+class_tokens policy (Some c) =
+    Word (codes "class") ∷ Sign_token (comparison_sign c.comparison) ∷ Word (label_name policy.labels c.label) ∷ []
+
+abbrev pub first_tokens : Option ℕ → List Token
+first_tokens None = []
+first_tokens (Some n) = Word (codes "first") ∷ Int (pos n) ∷ []
+
+module _ (policy : Tables) (schemes : Schemes) where
+  -- a condition on rows of a relation, behind its word: its parentheses and the places of its parts are free
+  pub record TellsCondition (rel : ℕ) (test : core.Expr) (ts : List Token) : Type 0 where
+    pub written : Expr
+    pub condition : List Token
+    pub tokens : ts ≡ Word (codes "where") ∷ condition
+    pub spells : SpellsCondition written condition
+    pub is : condition_in policy schemes rel written ≡ Ok test
+
+  abbrev pub TellsTest : ℕ → Option core.Expr → List Token → Type 0
+  TellsTest rel None ts = ts ≡ []
+  TellsTest rel (Some test) ts = TellsCondition rel test ts
+
+  pub record TellsQuery (rel : ℕ) (q : Query) (ts : List Token) : Type 0 where
+    pub behind : List Token
+    pub tokens :
+        ts ≡ highest_tokens q.highest ++ (class_tokens policy q.class ++ (first_tokens q.first ++ behind))
+    pub test : TellsTest rel q.test behind
+
+  -- what stands behind the parts of a command: nothing but the query of a view
+  abbrev pub TellsTail : Command → List Token → Type 0
+  TellsTail (commands.View rel label query counts) ts = TellsQuery rel query ts
+  TellsTail command ts = ts ≡ []

@@ -1,0 +1,158 @@
+-- What stands behind the label of a view, from the tokens that are left: on its form, and then on its names and kinds.
+use Rattle.std.specs.Prelude.{◌≡◌, ℕ, ℤ, pos, negsuc, Bool, true, false, if◌then◌else◌, List, [], ◌∷◌, codes, Option, Some, None, Result, Ok, Err}
+use Rattle.std.specs.List.{position}
+use Rattle.std.specs.Str.{bytes_eq}
+use Rattle.mls_lattice.specs.Policy.{Tables}
+use Rattle.mls_lattice.specs.Reading.{◌>>=◌, GivesUnless}
+use Rattle.mls_scheme.specs.Scheme.{Schemes}
+use Rattle.mls_tokens.specs.declared.fault.TokenCause.TheVariants as tokens
+use Rattle.mls_tokens.specs.declared.fault.TokenFault.{TokenFault}
+use Rattle.mls_tokens.specs.declared.token.Token.{Token}
+use Rattle.mls_tokens.specs.declared.token.Token.TheVariants.{Word, Int, Text, Sign}
+use Rattle.mls_tokens.specs.declared.token.Placed.{Placed}
+use Rattle.mls_tokens.specs.Scanning.{Left, fault_at}
+use Rattle.mls_tokens.specs.Passing.{left, refuse, refused, is_word, is_sign, taken, PlacedName, pass_name}
+use Rattle.mls_translang.specs.Tree as core
+use Rattle.mls_syntax.specs.declared.fault.SyntaxFault.{SyntaxFault}
+use Rattle.mls_syntax.specs.ExprTree.{Expr}
+use Rattle.mls_syntax.specs.ReadCondition.{condition_at}
+use Rattle.mls_parser.specs.declared.fault.PlacedFault.{PlacedFault}
+use Rattle.mls_parser.specs.Conditions.{condition_in}
+use Rattle.mls_queries.specs.declared.query.Comparison.{Comparison}
+use Rattle.mls_queries.specs.declared.query.Comparison.TheVariants.{Equal, Unequal, Less, AtMost, Greater, AtLeast}
+use Rattle.mls_queries.specs.declared.query.ClassTest.{ClassTest}
+use Rattle.mls_queries.specs.declared.query.Query.{Query}
+use Rattle.mls_script.specs.declared.fault.ScriptCause.TheVariants.{UnknownName, Kind, Memory}
+use Rattle.mls_script.specs.declared.fault.LineFault.{LineFault}
+use Rattle.mls_script.specs.declared.grammar.Verb.{Verb}
+use Rattle.mls_script.specs.declared.grammar.Verb.TheVariants as verb
+use Rattle.mls_script.specs.Fault.{line_fault, lifted, of_form, of_condition}
+use Rattle.mls_script.specs.Grammar.{no_query}
+use Rattle.mls_script.specs.QueryTokens.{comparison_sign}
+
+-- What a function returned, seen by view, is what reading gives, unless memory ran out.
+abbrev pub Gives : {X Y : Type 0} → (X → Y) → Result X LineFault → Result Y LineFault → Type 0
+Gives = GivesUnless (λ e. e.cause ≡ Memory)
+
+-- the form of a line in its place
+abbrev pub form_of : {X : Type 0} → Result X TokenFault → Result X LineFault
+form_of (Ok x) = Ok x
+form_of (Err e) = Err (lifted e)
+
+-- ---- names
+
+abbrev pub known_or : ℕ → Option ℕ → Result ℕ LineFault
+known_or at (Some n) = Ok n
+known_or at None = Err (line_fault at UnknownName)
+
+abbrev pub label_named : Tables → PlacedName → Result ℕ LineFault
+label_named policy name = known_or name.1 (position (λ l. bytes_eq l.name name.0) policy.labels)
+
+-- ---- the highest
+
+abbrev pub highest_behind : Left → Option (ℕ × Left) → Bool × Left
+highest_behind l None = (false, l)
+highest_behind l (Some x) = (true, x.1)
+
+abbrev pub highest_at : Left → Bool × Left
+highest_at l = highest_behind l (taken (is_word (codes "highest")) l)
+
+-- ---- the class
+
+abbrev pub comparisons : List Comparison
+comparisons = Equal ∷ Unequal ∷ Less ∷ AtMost ∷ Greater ∷ AtLeast ∷ []
+
+abbrev pub comparison_or : (Left → Result (Comparison × Left) TokenFault) → Left → Comparison → Option (ℕ × Left) → Result (Comparison × Left) TokenFault
+comparison_or next l c (Some x) = Ok (c, x.1)
+comparison_or next l c None = next l
+
+-- the first of some comparisons whose sign is next
+abbrev pub comparison_among : List Comparison → Left → Result (Comparison × Left) TokenFault
+comparison_among [] l = Err (refused l)
+comparison_among (c ∷ cs) l =
+    comparison_or (λ r. comparison_among cs r) l c (taken (is_sign (comparison_sign c)) l)
+
+abbrev pub class_test : Comparison → Result ℕ LineFault → Result (Option ClassTest) LineFault
+class_test c found = found >>= λ n. Ok (Some (record { comparison = c; label = n }))
+
+abbrev pub class_behind : Tables → Left → Option (ℕ × Left) → Result (Result (Option ClassTest) LineFault × Left) TokenFault
+class_behind policy l None = Ok (Ok None, l)
+class_behind policy l (Some x) =
+    comparison_among comparisons x.1 >>= λ c. pass_name c.1 >>= λ n. Ok (class_test c.0 (label_named policy n.0), n.1)
+
+unfoldable pub class_at : Tables → Left → Result (Result (Option ClassTest) LineFault × Left) TokenFault
+class_at policy l = class_behind policy l (taken (is_word (codes "class")) l)
+
+-- ---- the first
+
+abbrev pub number_in : Token → Option ℤ
+number_in (Word s) = None
+number_in (Int n) = Some n
+number_in (Text s) = None
+number_in (Sign s) = None
+
+abbrev pub numbered : ℕ → Left → Option ℤ → Result ((ℤ × ℕ) × Left) TokenFault
+numbered at rest (Some n) = Ok ((n, at), rest)
+numbered at rest None = Err (fault_at at tokens.Expected)
+
+abbrev pub pass_number_of : List Placed → TokenFault → Result ((ℤ × ℕ) × Left) TokenFault
+pass_number_of [] stop = Err (refuse [] stop)
+pass_number_of (p ∷ ps) stop = numbered p.at (left ps stop) (number_in p.token)
+
+-- a number, and its place
+abbrev pub pass_number : Left → Result ((ℤ × ℕ) × Left) TokenFault
+pass_number l = pass_number_of l.placed l.stop
+
+-- a number of rows is not negative
+abbrev pub count_or : ℕ → ℤ → Result (Option ℕ) LineFault
+count_or at (pos n) = Ok (Some n)
+count_or at (negsuc n) = Err (line_fault at Kind)
+
+abbrev pub first_behind : Left → Option (ℕ × Left) → Result (Result (Option ℕ) LineFault × Left) TokenFault
+first_behind l None = Ok (Ok None, l)
+first_behind l (Some x) = pass_number x.1 >>= λ n. Ok (count_or n.0.1 n.0.0, n.1)
+
+-- rows that are counted are all that are found
+unfoldable pub first_at : Bool → Left → Result (Result (Option ℕ) LineFault × Left) TokenFault
+first_at counts l = if counts then Ok (Ok None, l) else first_behind l (taken (is_word (codes "first")) l)
+
+-- ---- the condition
+
+abbrev pub syntax_of : {X : Type 0} → Result X SyntaxFault → Result X LineFault
+syntax_of (Ok x) = Ok x
+syntax_of (Err e) = Err (of_form e)
+
+abbrev pub test_of : Result core.Expr PlacedFault → Result (Option core.Expr) LineFault
+test_of (Ok e) = Ok (Some e)
+test_of (Err f) = Err (of_condition f)
+
+-- what a query says; its first fault is that of the part that stands first
+abbrev pub query_from : Bool → Result (Option ClassTest) LineFault → Result (Option ℕ) LineFault → Result (Option core.Expr) LineFault → Result Query LineFault
+query_from highest class first test =
+    class >>= λ c. first >>= λ f. test >>= λ t. Ok (record { highest = highest; class = c; test = t; first = f })
+
+module _ (policy : Tables) (schemes : Schemes) where
+  -- where the relation is not known, that is the first fault of the line
+  abbrev pub resolved : Option ℕ → Expr → Result (Option core.Expr) LineFault
+  resolved None written = Ok None
+  resolved (Some rel) written = test_of (condition_in policy schemes rel written)
+
+  abbrev pub where_behind : Option ℕ → Left → Option (ℕ × Left) → Result (Result (Option core.Expr) LineFault × Left) LineFault
+  where_behind rel l None = Ok (Ok None, l)
+  where_behind rel l (Some x) = syntax_of (condition_at x.1) >>= λ c. Ok (resolved rel c.0, c.1)
+
+  unfoldable pub where_at : Option ℕ → Left → Result (Result (Option core.Expr) LineFault × Left) LineFault
+  where_at rel l = where_behind rel l (taken (is_word (codes "where")) l)
+
+  -- ---- a query
+
+  unfoldable pub query_at : Bool → Option ℕ → Left → Result (Result Query LineFault × Left) LineFault
+  query_at counts rel l =
+      form_of (class_at policy (highest_at l).1) >>= λ c. form_of (first_at counts c.1) >>= λ f. where_at rel f.1
+      >>= λ t. Ok (query_from (highest_at l).0 c.0 f.0 t.0, t.1)
+
+  -- what stands behind the parts of a verb
+  abbrev pub tail_at : Verb → Option ℕ → Left → Result (Result Query LineFault × Left) LineFault
+  tail_at verb.View rel l = query_at false rel l
+  tail_at verb.Count rel l = query_at true rel l
+  tail_at _ rel l = Ok (Ok no_query, l)

@@ -1,0 +1,221 @@
+//! What stands behind the label of a view: which of its rows are asked for.
+ghost use Rattle.std.specs.Prelude.{◌≡◌, ◌<◌, length, option_map, IfSome};
+ghost use Rattle.mls_tokens.specs.Scanning.{Reads};
+ghost use Rattle.mls_script.specs.QueryTokens.{comparison_sign};
+ghost use Rattle.mls_script.specs.ReadQuery.{Gives, comparison_among, class_at, pass_number, count_or, first_at, resolved, where_at, query_from, query_at, tail_at};
+
+use crate::fault::{LineFault, ScriptCause};
+use crate::grammar::Verb;
+use crate::lookup::label_named;
+use mls_lattice::Policy;
+use mls_parser::TextCause;
+use mls_queries::{ClassTest, Comparison, Query};
+use mls_scheme::{RelNo, Schemes};
+use mls_syntax::Expr as Syntax;
+use mls_tokens::{Sign, Token, TokenCause, TokenFault, Tokens};
+use mls_translang::Expr;
+use std::alloc::Global;
+
+/// Every comparison.
+static COMPARISONS: [Comparison; 6] = [
+    Comparison::Equal,
+    Comparison::Unequal,
+    Comparison::Less,
+    Comparison::AtMost,
+    Comparison::Greater,
+    Comparison::AtLeast,
+];
+
+/// The sign of a comparison.
+fn sign_of(comparison: Comparison) -> Sign
+    ensures { result ≡ comparison_sign comparison }
+{
+    match comparison {
+        Comparison::Equal => Sign::Equals,
+        Comparison::Unequal => Sign::Differs,
+        Comparison::Less => Sign::Less,
+        Comparison::AtMost => Sign::AtMost,
+        Comparison::Greater => Sign::Greater,
+        Comparison::AtLeast => Sign::AtLeast,
+    }
+}
+
+/// The first of some comparisons whose sign is next.
+fn comparison_among(
+    comparisons: &[Comparison],
+    tokens: &mut Tokens,
+) -> Result<Comparison, TokenFault>
+    ensures { Reads (λ c. (c, tokens.new)) result (comparison_among comparisons.now tokens.old) }
+{
+    for comparison in comparisons {
+        if tokens.takes_sign(sign_of(*comparison)).is_some() {
+            return Ok(*comparison);
+        }
+    }
+    Err(tokens.refused())
+}
+
+/// Passes a test of classes if its word is next.
+#[tactic(auto, unfolding(crate::specs::ReadQuery::class_at))]
+fn class(
+    policy: &Policy,
+    tokens: &mut Tokens,
+) -> Result<Result<Option<ClassTest>, LineFault>, TokenFault>
+    ensures { Reads (λ c. (c, tokens.new)) result (class_at policy.now tokens.old) }
+{
+    if tokens.takes_word("class").is_none() {
+        return Ok(Ok(None));
+    }
+    let comparison = comparison_among(&COMPARISONS, tokens)?;
+    let (name, at) = tokens.name()?;
+    match label_named(policy, &name, at) {
+        Ok(label) => Ok(Ok(Some(ClassTest { comparison, label }))),
+        Err(fault) => Ok(Err(fault)),
+    }
+}
+
+/// Passes a number, and gives it with its place.
+fn number(tokens: &mut Tokens) -> Result<(i64, usize), TokenFault>
+    ensures { Reads (λ x. ((x.0, x.1), tokens.new)) result (pass_number tokens.old) }
+{
+    let Some(first) = tokens.pop() else {
+        return Err(tokens.refused());
+    };
+    match first.token {
+        Token::Int(number) => Ok((number, first.at)),
+        _ => Err(TokenFault {
+            at: first.at,
+            cause: TokenCause::Expected,
+        }),
+    }
+}
+
+/// A number of rows, which is not negative.
+fn count_or(at: usize, number: i64) -> Result<Option<usize>, LineFault>
+    ensures { result ≡ count_or at number }
+{
+    if number >= 0 {
+        Ok(Some(number as usize))
+    } else {
+        Err(LineFault {
+            at,
+            cause: ScriptCause::Kind,
+        })
+    }
+}
+
+/// Passes how many rows are asked for, if the word is next. Rows that are counted are all that are found.
+#[tactic(auto, unfolding(crate::specs::ReadQuery::first_at))]
+fn first(counts: bool, tokens: &mut Tokens) -> Result<Result<Option<usize>, LineFault>, TokenFault>
+    ensures { Reads (λ f. (f, tokens.new)) result (first_at counts tokens.old) }
+{
+    if counts || tokens.takes_word("first").is_none() {
+        return Ok(Ok(None));
+    }
+    let (number, at) = number(tokens)?;
+    Ok(count_or(at, number))
+}
+
+/// The condition on the rows of a relation that was written, if the relation is known.
+fn resolved(
+    alloc: Global,
+    policy: &Policy,
+    schemes: &Schemes,
+    rel: Option<RelNo>,
+    written: &Syntax,
+) -> Result<Result<Option<Expr>, LineFault>, LineFault>
+    requires { IfSome rel (λ n. n < length schemes.now) }
+    ensures { Gives (λ t. t) result (Ok (resolved policy.now schemes.now rel written.now)) }
+{
+    let Some(rel) = rel else {
+        return Ok(Ok(None));
+    };
+    match mls_parser::condition(alloc, policy, schemes, rel, written) {
+        Ok(test) => Ok(Ok(Some(test))),
+        Err(fault) if fault.cause == TextCause::Memory => Err(LineFault::from(fault)),
+        Err(fault) => Ok(Err(LineFault::from(fault))),
+    }
+}
+
+/// Passes a condition if its word is next.
+#[tactic(auto, unfolding(crate::specs::ReadQuery::where_at))]
+fn condition(
+    alloc: Global,
+    policy: &Policy,
+    schemes: &Schemes,
+    rel: Option<RelNo>,
+    tokens: &mut Tokens,
+) -> Result<Result<Option<Expr>, LineFault>, LineFault>
+    requires { IfSome rel (λ n. n < length schemes.now) }
+    ensures { Gives (λ t. (t, tokens.new)) result (where_at policy.now schemes.now rel tokens.old) }
+{
+    if tokens.takes_word("where").is_none() {
+        return Ok(Ok(None));
+    }
+    let written = mls_syntax::condition(alloc, tokens)?;
+    resolved(alloc, policy, schemes, rel, &written)
+}
+
+/// What a query says, or the fault of its part that stands first.
+fn query_from(
+    highest: bool,
+    class: Result<Option<ClassTest>, LineFault>,
+    first: Result<Option<usize>, LineFault>,
+    test: Result<Option<Expr>, LineFault>,
+) -> Result<Query, LineFault>
+    ensures { result ≡ query_from highest class first test }
+{
+    let class = class?;
+    let first = first?;
+    let test = test?;
+    Ok(Query {
+        highest,
+        class,
+        test,
+        first,
+    })
+}
+
+/// Passes what is asked of the rows of a view.
+#[tactic(auto, unfolding(crate::specs::ReadQuery::query_at))]
+fn query(
+    alloc: Global,
+    policy: &Policy,
+    schemes: &Schemes,
+    counts: bool,
+    rel: Option<RelNo>,
+    tokens: &mut Tokens,
+) -> Result<Result<Query, LineFault>, LineFault>
+    requires { IfSome rel (λ n. n < length schemes.now) }
+    ensures { Gives (λ q. (q, tokens.new)) result (query_at policy.now schemes.now counts rel tokens.old) }
+{
+    let highest = tokens.takes_word("highest").is_some();
+    let class = class(policy, tokens)?;
+    let first = first(counts, tokens)?;
+    let test = condition(alloc, policy, schemes, rel, tokens)?;
+    Ok(query_from(highest, class, first, test))
+}
+
+/// Passes what stands behind the parts of a verb: the query of a view, on a relation that is known or not.
+pub(crate) fn tail(
+    alloc: Global,
+    policy: &Policy,
+    schemes: &Schemes,
+    verb: Verb,
+    rel: Option<RelNo>,
+    tokens: &mut Tokens,
+) -> Result<Result<Query, LineFault>, LineFault>
+    requires { IfSome rel (λ n. n < length schemes.now) }
+    ensures { Gives (λ q. (q, tokens.new)) result (tail_at policy.now schemes.now verb rel tokens.old) }
+{
+    match verb {
+        Verb::View => query(alloc, policy, schemes, false, rel, tokens),
+        Verb::Count => query(alloc, policy, schemes, true, rel, tokens),
+        _ => Ok(Ok(Query {
+            highest: false,
+            class: None,
+            test: None,
+            first: None,
+        })),
+    }
+}

@@ -26,6 +26,7 @@ USERS = {"U": ("a", "ann"), "M": ("m", "mia"), "S": ("b", "bob"), "H": ("h", "ha
 ATTRIBUTES = ("Objective", "Destination")
 REFUSED = {12: "Duplicate", 13: "NoTuple", 15: "Inherited", 17: "AlreadyDerived"}
 MOST_BYTES = 1_048_576
+COLUMNS = ("Starship",) + ATTRIBUTES
 TALLY = """transaction Tally levels S to S () {
   var k: int;
   k := 0;
@@ -94,9 +95,10 @@ class Workload:
         self.less = less
 
 
-def workloads(seed):
+def workloads(seed, entities):
     sizes, calls, stores = (2000, 4000, 8000), (1000, 2000, 4000), (4000, 8000, 16000)
     views = [(level, "view", level) for level in NAMES] * 13
+    stored = lambda n: instances(entities)
     return [
         Workload("n inserts", sizes, inserts),
         Workload("n inserts, file", sizes, inserts, in_file=True),
@@ -107,8 +109,21 @@ def workloads(seed):
         Workload("n calls that read 134 tuples", calls, lambda n: inserts(100) + raised(34) + [("S", "call")] * n, calls=True),
         Workload("opening: n entities, 2.1 n tuples", stores, lambda n: [], before=instances, in_file=True),
         Workload("50 views of n entities", sizes, lambda n: views[:50], before=instances, in_file=True, less=True),
+        Workload(f"n look-ups by key, {entities:,} entities", sizes, lambda n: looked_up(n, entities), before=stored, in_file=True, less=True),
+        Workload(f"n conditions, {entities:,} entities", (25, 50, 100), conditions, before=stored, in_file=True, less=True),
         Workload("n denied, and an audit", sizes, lambda n: [("U", "view", "S")] * n + [("U", "audit")]),
     ]
+
+
+def looked_up(n, entities):
+    """n look-ups by key, at four levels in turn, spread over the entities."""
+    return [(NAMES[i % 4], "view", NAMES[i % 4], 0, f"{i * 7919 % entities}") for i in range(n)]
+
+
+def conditions(n):
+    """n conditions that name no key, at four levels in turn, each of which finds a third or a tenth of the rows, or none."""
+    asked = [(1, "Vulcan"), (2, "Talos"), (1, "Spying"), (2, "Vega")]
+    return [(NAMES[i % 4], "view", NAMES[i % 4], *asked[i // 4 % 4]) for i in range(n)]
 
 
 def raised(n):
@@ -136,7 +151,8 @@ def line_of(command):
     if what == "delete":
         return f"{head} SOD key ({spelled(rest[0])}) class U\n"
     if what == "view":
-        return f"{head} SOD at {rest[0]}\n"
+        test = f" where {COLUMNS[rest[1]]} = {spelled(rest[2])}" if len(rest) > 1 else ""
+        return f"{head} SOD at {rest[0]}{test}\n"
     return f"{head} Tally ()\n" if what == "call" else f"{head}\n"
 
 
@@ -178,10 +194,14 @@ def covers(a):
     return f"((o.class{a} = n.class{a} AND o{a}.value IS n{a}.value) OR (n{a}.value IS NULL AND o{a}.value IS NOT NULL))"
 
 
-def view_text(level, shown):
-    """The tuples that a level sees: those of the labels below that no other one subsumes."""
+SHOWN = ("n.ent", "n0.value", "n1.value")
+
+
+def view_text(level, shown, column=None):
+    """The tuples that a level sees: those of the labels below that no other one subsumes; of them those with a value in a column."""
     low = "(" + ", ".join(str(LABELS[name]) for name in BELOW[level]) + ")"
-    return f"""SELECT {shown} FROM node n {cell_of('n', 0)} {cell_of('n', 1)} WHERE n.rel = 0 AND n.label IN {low}
+    test = "" if column is None else f"AND {SHOWN[column]} = ? "
+    return f"""SELECT {shown} FROM node n {cell_of('n', 0)} {cell_of('n', 1)} WHERE n.rel = 0 AND n.label IN {low} {test}
 AND ((n0.value IS NOT NULL AND n1.value IS NOT NULL) OR NOT EXISTS (SELECT 1 FROM node o {cell_of('o', 0)} {cell_of('o', 1)}
   WHERE o.rel = 0 AND o.ent = n.ent AND o.kclass = n.kclass AND o.label IN {low} AND o.label <> n.label AND {covers(0)} AND {covers(1)}))
 ORDER BY n.ent, n.kclass, n.label"""
@@ -214,6 +234,7 @@ class Plain:
         self.conn.executescript(TABLES)
         self.out = out
         self.views = {level: view_text(level, row_text(level)) for level in NAMES}
+        self.found = {(level, at): view_text(level, row_text(level), at) for level in NAMES for at in range(3)}
         self.tally = view_text("S", "n.ent, n0.value, n1.value")
 
     def perform(self, command):
@@ -275,13 +296,18 @@ class Plain:
         self.run(f"DELETE FROM cell WHERE {AT} AND label IN ({high})", (key,))
         return self.end()
 
-    def view(self, level, label):
+    def view(self, level, label, column=None, value=None):
         if label not in BELOW[level]:
             session, user = USERS[level]
             self.run(ADD_ENTRY, (f"entry {level} denied {user} {session} 37",))
             return ["denied 37 Ss"]
-        self.out.write(f"{level} {level}/{USERS[level][0]} view SOD at {label}: Starship {' '.join(ATTRIBUTES)}\n")
-        self.out.writelines(f"{row}\n" for row, in self.run(self.views[label]))
+        words = "" if column is None else " where"
+        self.out.write(f"{level} {level}/{USERS[level][0]} view SOD at {label}{words}: {' '.join(COLUMNS)}\n")
+        if column is None:
+            rows = self.run(self.views[label])
+        else:
+            rows = self.run(self.found[label, column], (value if column else value.encode(),))
+        self.out.writelines(f"{row}\n" for row, in rows)
         return []
 
     def call(self, level):
@@ -414,13 +440,14 @@ def main():
     parser = argparse.ArgumentParser(description=__doc__, formatter_class=argparse.RawDescriptionHelpFormatter)
     parser.add_argument("--program", default=f"{ROOT}/crates/mldb/out/mldb")
     parser.add_argument("--seed", type=int, default=7)
+    parser.add_argument("--entities", type=int, default=16000, help="how many the queries are asked of")
     parser.add_argument("--times", type=int, default=3, help="how often each is run; the best is printed")
     parser.add_argument("--only", default="", help="only the workloads whose titles have this in them")
     parser.add_argument("--folder", help="where the files lie meanwhile")
     args = parser.parse_args()
     with tempfile.TemporaryDirectory(dir=args.folder) as folder:
         bench = Bench(args.program, folder, args.times)
-        table(bench, [work for work in workloads(args.seed) if args.only in work.title])
+        table(bench, [work for work in workloads(args.seed, args.entities) if args.only in work.title])
 
 
 if __name__ == "__main__":

@@ -1,5 +1,5 @@
 -- Tasks and jobs: what is done, and what is given up.
-use Rattle.std.proofs.Common.{◌≡◌, ℕ, List, [], ◌++◌, Option, Result, Ok, Err, inl, inr, refl, sym, subst}
+use Rattle.std.proofs.Common.{◌≡◌, ℕ, List, [], ◌++◌, Option, Some, None, Result, Ok, Err, inl, inr, refl, sym, subst}
 use Rattle.std.proofs.lemmas.List.{append-nil}
 use Rattle.std.specs.Result.{IsErrAnd}
 use Rattle.mls_lattice.specs.Policy.{Tables}
@@ -10,7 +10,9 @@ use Rattle.mls_words.specs.declared.words.RunFiles.{RunFiles}
 use Rattle.mls_words.specs.declared.words.ShellFiles.{ShellFiles}
 use Rattle.mls_words.specs.declared.words.Task.{Task}
 use Rattle.mls_words.specs.declared.words.Task.TheVariants as tasks
-use Rattle.mls_words.specs.Words.{named}
+use Rattle.mls_words.specs.Words.{named, usage_text, usage_status}
+use Rattle.mls_words.specs.declared.usage.Usage.TheVariants as usages
+use Rattle.clap.specs.Words.{Text}
 use Rattle.mls_host.specs.declared.ending.Ending.{Ending}
 use Rattle.mls_host.specs.declared.ending.Ending.TheVariants.{Well}
 use Rattle.mls_host.specs.declared.reason.Reason.{Reason}
@@ -25,6 +27,7 @@ use Rattle.mls_listings.proofs.PrintingLemmas.{printing_told}
 use Rattle.mls_runs.specs.ScriptRun.{IsScriptRun, IsRunRefused}
 use Rattle.mls_shells.specs.ShellRun.{IsShellRun, IsShellRefused}
 use Rattle.mls_command.specs.Acting.{Prints, IsRunOf, IsRunDeed, IsTaskRefused, IsTaskDeed, IsJobRefused, IsDeedOf}
+use Rattle.mls_command.specs.Answering.{IsAnsweredAs, not_asked}
 use Rattle.mls_command.specs.Looking.{store_of}
 
 -- ---- runs and shells
@@ -92,7 +95,7 @@ module _ (h : Hosted) (wrote told more : List ℕ → Type 0) (f : (text : List 
       left = o.left;
       begins = o.begins;
       kept = o.kept;
-      leads = record { talk = record { turns = k.turns; run_end = k.run_end; lines = k.lines; broken = k.broken; told = f _ k.told; ended = k.ended }; run = o.leads.run };
+      leads = record { talk = record { turns = k.turns; run_end = k.run_end; lines = k.lines; broken = k.broken; told = record { lines = k.told.lines; are = k.told.are; opening = record { more = k.told.opening.more; none = k.told.opening.none; leads = f _ k.told.opening.leads } }; ended = k.ended }; run = o.leads.run };
     };
   }
 
@@ -134,3 +137,15 @@ module _ (h : Hosted) (wrote told more : List ℕ → Type 0) (f : (text : List 
 -- nothing more is told of what ended
 pub told_end : (told : List ℕ → Type 0) (ending : Ending) (text : List ℕ) → told text → told (text ++ end_text (Ok ending))
 told_end told ending text t = subst told (sym (append-nil text)) t
+
+-- nor is anything explained
+pub told_all : (told : List ℕ → Type 0) (ending : Ending) (text : List ℕ) → told text → told ((text ++ end_text (Ok ending)) ++ [])
+told_all told ending text t = subst told (sym (append-nil (text ++ end_text (Ok ending)))) (told_end told ending text t)
+
+-- ---- words
+
+-- there was no memory for them
+pub lacks_memory : (h : Hosted) (other : Option (List Text)) (words : List Text) (wrote told : List ℕ → Type 0) (status : ℕ) → KeepsStores h → wrote [] → told (usage_text usages.Memory) → status ≡ usage_status usages.Memory
+    → IsAnsweredAs h other words wrote told status
+lacks_memory h None words wrote told status kept w t s = not_asked usages.Memory tt kept w t s
+lacks_memory h (Some other) words wrote told status kept w t s = (kept, not_asked usages.Memory tt kept w t s)

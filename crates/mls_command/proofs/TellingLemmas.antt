@@ -1,19 +1,32 @@
--- What is told of a file, with what the host gives of it.
-use Rattle.std.proofs.Common.{◌≡◌, List, ℕ, Some, Result, Ok, Err, IfOk, subst}
-use Rattle.mls_words.specs.declared.words.Job.{Job}
-use Rattle.mls_host.specs.declared.host.HostFault.{HostFault}
-use Rattle.mls_host.specs.declared.reason.Reason.{Reason}
-use Rattle.mls_host.specs.Hosting.{Hosting}
-use Rattle.mls_pointing.specs.Excerpt.{file_line}
-use Rattle.mls_command.specs.Telling.{IsShown, AreLinesAt, given, lacking}
+-- What is told of a file.
+use Rattle.std.proofs.Common.{◌≡◌, ℕ, List, [], ◌++◌, append_assoc, append-nil, Option, Some, None, Result, Ok, Err, IfOk, inl, inr, refl, sym, ap, ◌∙◌}
+use Rattle.mls_advice.specs.Excerpt.{Begins}
+use Rattle.mls_command.specs.declared.paths.Place.{Place}
+use Rattle.mls_command.specs.Telling.{IsPlaceTold}
 
-module _ {A E : Type 0} (items : A → List ℕ) (h : Hosting) (job : Job) (reason : Reason) (path : List ℕ) where
-  pub lines_given : (r : Result A E) (bytes now : List ℕ) → now ≡ bytes → h.gives (Some path) bytes → IfOk r (λ v. IsShown h job reason path now (items v))
-      → IfOk r (λ v. AreLinesAt h job reason path (items v))
-  lines_given (Ok v) bytes now same gives is = given bytes gives (subst (λ b. IsShown h job reason path b (items v)) same is)
-  lines_given (Err e) bytes now same gives is = tt
+-- a text that begins so still does with more behind it
+pub begins_more : (front text more : List ℕ) → Begins front text → Begins front (text ++ more)
+begins_more front text more b = (b.0 ++ more, ap (λ t. t ++ more) b.1 ∙ append_assoc front b.0 more)
 
-  pub lines_lacking : (r : Result A E) (fault : HostFault) → h.lacks (Some path) fault → IfOk r (λ v. items v ≡ file_line path)
-      → IfOk r (λ v. AreLinesAt h job reason path (items v))
-  lines_lacking (Ok v) fault lacks is = lacking fault lacks is
-  lines_lacking (Err e) fault lacks is = tt
+pub begins_with : (front more : List ℕ) → Begins front (front ++ more)
+begins_with front more = (more, refl)
+
+-- a text begins with itself
+pub begins_same : (front text : List ℕ) → text ≡ front → Begins front text
+begins_same front text e = ([], e ∙ sym (append-nil front))
+
+pub place_told_more : (source : Option (List ℕ)) (place : Option Place) (lines more : List ℕ) → IsPlaceTold source place lines → IsPlaceTold source place (lines ++ more)
+place_told_more None place lines more is = tt
+place_told_more (Some path) None lines more is = tt
+place_told_more (Some path) (Some place) lines more (inl b) = inl (begins_more _ lines more b)
+place_told_more (Some path) (Some place) lines more (inr b) = inr (begins_more _ lines more b)
+
+-- ---- answers
+
+pub if_ok : {A E : Type 0} {P Q : A → Type 0} → ((v : A) → P v → Q v) → (r : Result A E) → IfOk r P → IfOk r Q
+if_ok f (Ok v) p = f v p
+if_ok f (Err e) p = tt
+
+pub if_both : {A E : Type 0} {P Q R : A → Type 0} → ((v : A) → P v → Q v → R v) → (r : Result A E) → IfOk r P → IfOk r Q → IfOk r R
+if_both f (Ok v) p q = f v p q
+if_both f (Err e) p q = tt

@@ -1,6 +1,6 @@
--- What is told of the inputs of a command that is explained: all are accepted, and its store is opened or not, or which
--- one is refused first.
-use Rattle.std.specs.Prelude.{◌≡◌, ◌≢◌, ℕ, List, [], Option, Some, None, ◌⊎◌, true, ⊤}
+-- What is told of the inputs of a command that is explained: all are accepted, and its store is opened or not; or the
+-- session of its shell is denied; or which one is refused first.
+use Rattle.std.specs.Prelude.{◌≡◌, ◌≢◌, ℕ, List, [], ◌++◌, Option, Some, None, ◌⊎◌, true, ⊤}
 use Rattle.mls_lattice.specs.Name.{is_name}
 use Rattle.mls_lattice.specs.Policy.{Tables}
 use Rattle.mls_scheme.specs.Scheme.{Schemes}
@@ -22,12 +22,14 @@ use Rattle.mls_host.specs.Deed.{Deed}
 use Rattle.mls_host.specs.Hosting.{Hosting, Hosted}
 use Rattle.mls_host.specs.Inputs.{AreStoredFrom, IsScriptFrom, AreToldIn, AreBlocksIn}
 use Rattle.mls_host.specs.Reason.{reason_status}
+use Rattle.mls_machine.specs.declared.reply.Denial.{Denial}
 use Rattle.mls_listings.specs.Explaining.{IsExplained, IsExplainRefused}
 use Rattle.mls_listings.specs.Printing.{IsPrinting}
 use Rattle.mls_runs.specs.ScriptRun.{AreRunInputsRefused}
 use Rattle.mls_shells.specs.ShellRun.{AreShellInputsRefused}
 use Rattle.mls_command.specs.Acting.{IsUnder, IsJobRefused}
 use Rattle.mls_command.specs.Looking.{store_of, IsStoreAccount}
+use Rattle.mls_command.specs.Opening.{opening_denial, denial_text}
 use Rattle.mls_command.specs.Telling.{IsToldOf}
 
 -- ---- what is accepted
@@ -83,23 +85,27 @@ AreInputsRefused h policy schemes reader task reason = ⊥
 -- ---- what is told
 
 module _ (h : Hosted) (job : Job) where
-  -- all inputs are accepted, under this policy and these schemes
-  abbrev pub IsAccepted : Tables → SchemesFile → Type 0
-  IsAccepted policy file =
-      IsUnder h job (λ p f reader. (p ≡ policy) × (f ≡ file) × IsTaskAccepted h.before p f job.task)
+  -- all inputs are accepted, under this policy and these schemes, for this reader
+  abbrev pub IsAccepted : Tables → SchemesFile → Option ℕ → Type 0
+  IsAccepted policy file reader =
+      IsUnder h job (λ p f r. (p ≡ policy) × (f ≡ file) × (r ≡ reader) × IsTaskAccepted h.before p f job.task)
 
   -- an input is refused for this reason, so that the command would be given up: before its task or in it
   abbrev pub IsRefused : Reason → Type 0
   IsRefused reason = IsJobRefused h job reason
       ⊎ IsUnder h job (λ policy file reader. AreInputsRefused h.before policy file.schemes reader job.task reason)
 
-  -- all inputs are accepted, and what is told then; or one is refused, for
-  -- another reason than memory, and what is told of it
+  -- all inputs are accepted, and the session of a shell is opened, and what is told then; or that is denied; or an input
+  -- is refused, for another reason than memory; and the line which tells that
   pub data Accounts (text told : List ℕ) (end : Ending) : Type 0 where
-    all_accepted : (policy : Tables) (file : SchemesFile) → IsAccepted policy file
+    all_accepted : (policy : Tables) (file : SchemesFile) (reader : Option ℕ) → IsAccepted policy file reader
+        → opening_denial policy reader job.task ≡ None
         → IsStoreAccount h.before policy file (store_of job.task) text told end
         → Accounts text told end
-    one_refused : (reason : Reason) → IsRefused reason → reason_status reason ≢ 3 → IsToldOf h.before job reason text
+    one_denied : (policy : Tables) (file : SchemesFile) (reader : Option ℕ) (denial : Denial) (more : List ℕ)
+        → IsAccepted policy file reader → opening_denial policy reader job.task ≡ Some denial
+        → text ≡ denial_text denial ++ more → told ≡ [] → end ≡ Refused → Accounts text told end
+    one_refused : (reason : Reason) → IsRefused reason → reason_status reason ≢ 3 → IsToldOf job reason text
         → told ≡ [] → end ≡ Refused → Accounts text told end
 
   -- there was no memory to read an input, or to tell of it

@@ -4,7 +4,6 @@ use Rattle.mls_lattice.specs.Policy.{Tables}
 use Rattle.mls_lattice.specs.Canon as lattice
 use Rattle.mls_scheme.specs.declared.file.SchemesFile.{SchemesFile}
 use Rattle.mls_scheme.specs.Canon as scheme
-use Rattle.mls_diagram.specs.Picture.{picture}
 use Rattle.mls_sessions.specs.declared.cause.RunFault.{RunFault}
 use Rattle.mls_words.specs.declared.words.Job.{Job}
 use Rattle.mls_words.specs.declared.words.Task.{Task}
@@ -22,6 +21,7 @@ use Rattle.mls_words.specs.Words.{named}
 use Rattle.mls_host.specs.Causes.{IsPolicyRefused, AreSchemesRefused, IsReaderUnknown, AreFilesRefused}
 use Rattle.mls_host.specs.Inputs.{IsPolicyOf, AreSchemesOf, IsReader}
 use Rattle.mls_listings.specs.Printing.{IsPrinting}
+use Rattle.mls_listings.specs.Showing.{IsPictured}
 use Rattle.mls_runs.specs.ScriptRun.{IsScriptRun, IsRunRefused}
 use Rattle.mls_shells.specs.ShellRun.{IsShellRun, IsShellRefused}
 use Rattle.mls_listings.specs.Certifying.{IsCertified}
@@ -37,7 +37,7 @@ module _ (h : Hosted) where
   abbrev pub Prints : Tables → SchemesFile → Task → List ℕ → List ℕ → Ending → Type 0
   Prints policy file ShowPolicy text told end =
       (text ≡ lattice.canon_of policy ++ scheme.canon_of policy file.version file.schemes) × (told ≡ []) × (end ≡ Well)
-  Prints policy file Picture text told end = (text ≡ picture policy file.schemes) × (told ≡ []) × (end ≡ Well)
+  Prints policy file Picture text told end = ((ignored : List ℕ) × IsPictured ignored text end) × (told ≡ [])
   Prints policy file (Certify transactions) text told end =
       IsCertified h.before.gives policy file.schemes transactions.now text told end
   Prints policy file (Check transactions certificates) text told end =

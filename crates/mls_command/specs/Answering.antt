@@ -1,5 +1,5 @@
 -- What comes of a command line, by what its host gives.
-use Rattle.std.specs.Prelude.{◌≡◌, ℕ, List, [], ◌++◌, Option, Some, None, Result}
+use Rattle.std.specs.Prelude.{◌≡◌, ℕ, Bool, false, List, [], ◌++◌, Option, Some, None, Result}
 use Rattle.clap.specs.Words.{Text}
 use Rattle.mls_words.specs.declared.words.Job.{Job}
 use Rattle.mls_words.specs.declared.usage.Usage.{Usage}
@@ -12,17 +12,20 @@ use Rattle.mls_host.specs.Hosting.{Hosted, KeepsStores}
 use Rattle.mls_command.specs.Acting.{IsDeedOf}
 use Rattle.mls_command.specs.Accounting.{IsAccountOf}
 
--- a deed was done; where it was given up, the line of that was told behind all else; and the status is that of its end
-pub record IsFinished (Does : Deed → Type 0) (wrote told : List ℕ → Type 0) (status : ℕ) : Type 0 where
+-- A deed was done; where it was given up, the line of that was told behind all else, and, where somebody reads standard
+-- error at a terminal, more of it; and the status is that of its end.
+pub record IsFinished (is_watched : Bool) (Does : Deed → Type 0) (wrote told : List ℕ → Type 0) (status : ℕ) : Type 0 where
   pub end : Result Ending Refusal
-  pub does : Does (record { wrote = wrote; told = λ text. told (text ++ end_text end); end = end })
+  pub more : List ℕ
+  pub does : Does (record { wrote = wrote; told = λ text. told ((text ++ end_text end) ++ more); end = end })
+  pub plain : is_watched ≡ false → more ≡ []
   pub status_is : status ≡ end_status end
 
 module _ (h : Hosted) where
   -- the words ask for a job, which is done or given up; or for none, and each store keeps what it kept
   pub data Answers (Does : Job → Deed → Type 0) (words : List Text) (wrote told : List ℕ → Type 0)
       (status : ℕ) : Type 0 where
-    asked : (job : Job) → Asks words job → IsFinished (Does job) wrote told status
+    asked : (job : Job) → Asks words job → IsFinished h.before.is_watched (Does job) wrote told status
         → Answers Does words wrote told status
     not_asked : (usage : Usage) → AskNothing words usage → KeepsStores h → wrote [] → told (usage_text usage)
         → status ≡ usage_status usage → Answers Does words wrote told status

@@ -15,10 +15,10 @@ is_other_command name =
 abbrev pub is_explained : Text → Text → Bool
 is_explained first second = bytes_eq first (codes "explain") && is_other_command second
 
--- the words of that command, behind `explain` in place of the program's name
+-- the words of that command, behind the program's name
 abbrev pub explained_of : List Text → Option (List Text)
 explained_of [] = None
 explained_of (called ∷ []) = None
 explained_of (called ∷ first ∷ []) = None
 explained_of (called ∷ first ∷ second ∷ words) =
-    if is_explained first second then Some (first ∷ second ∷ words) else None
+    if is_explained first second then Some (called ∷ second ∷ words) else None

@@ -1,5 +1,6 @@
 //! What becomes of the inputs of a command that is explained.
-ghost use Rattle.std.specs.Prelude.{◌≡◌, ◌≢◌, ◌⊎◌, [], Some, None, length, string_bytes, IfOk, IfErr, OnOk};
+ghost use Rattle.std.specs.Prelude.{◌≡◌, ◌≢◌, ◌<◌, ◌⊎◌, [], Some, None, length, string_bytes, IfOk, IfErr, OnOk};
+ghost use Rattle.std.specs.Option.{IfSome};
 ghost use Rattle.mls_scheme.specs.Scheme.{AreUnder};
 ghost use Rattle.mls_host.specs.Causes.{AreFilesRefused};
 ghost use Rattle.mls_host.specs.Deed.{deed};
@@ -14,8 +15,9 @@ ghost use Rattle.mls_shells.specs.ShellRun.{AreShellInputsRefused};
 ghost use Rattle.mls_command.specs.Accounting.{AreReadable, AreCheckable, AreInputsRefused, IsTaskAccepted, IsAccepted, IsRefused, Accounts, IsUnread, IsAccountOf};
 ghost use Rattle.mls_command.specs.Answering.{IsFinished};
 
-use crate::acting::{policy_of, schemes_of};
+use crate::documents::{ignored_of, policy_of, schemes_of};
 use crate::looking::store_account;
+use crate::opening::{denied_text, opening_denial};
 use crate::telling::told_of;
 use mls_host::{
     Ending, Errors, Host, Reason, Refusal, certificates_in, reader_of, stored_files,
@@ -28,8 +30,6 @@ use mls_scheme::{Schemes, SchemesFile};
 use mls_words::{Job, RunFiles, ShellFiles, Task};
 use std::alloc::{AllocError, Global};
 use std::io::Write;
-
-pub(crate) const ACCEPTED: &str = "All inputs are accepted.\n";
 
 /// Reads what a run reads.
 fn accept_run<H: Host>(
@@ -154,25 +154,32 @@ fn accept_task<H: Host>(
     }
 }
 
-/// A policy and schemes under which inputs are accepted.
+/// A policy and schemes under which inputs are accepted, and the label for which alone is printed.
 #[derive(Drop)]
-struct Site {
-    policy: Policy,
-    file: SchemesFile,
+pub(crate) struct Site {
+    pub policy: Policy,
+    pub file: SchemesFile,
+    pub reader: Option<LabelNo>,
 }
 
 /// Reads what a command reads, in its order, up to the first input that is refused. No store is opened.
 fn accept<H: Host>(alloc: Global, host: &H, job: Job) -> Result<Site, Reason>
     ensures accepted { IfOk result
-        (λ s. IsAccepted (hosted H.hosting H.Lines.echo host.now host.now) job.entry s.policy s.file) }
+        (λ s. IsAccepted (hosted H.hosting H.Lines.echo host.now host.now) job.entry s.policy s.file s.reader) }
     ensures under { IfOk result (λ s. AreUnder (length s.policy.labels) s.file.schemes) }
+    ensures declared { IfOk result (λ s. IfSome s.reader (λ c. c < length s.policy.labels)) }
     ensures refused { IfErr result (IsRefused (hosted H.hosting H.Lines.echo host.now host.now) job.entry) }
 {
     let policy = policy_of(alloc, host, job.documents)?;
     let reader = reader_of(&policy, job.task)?;
     let file = schemes_of(alloc, host, &policy, job.documents)?;
-    accept_task(alloc, host, &policy, &file, reader, job.task)?;
-    Ok(Site { policy, file })
+    let site = Site {
+        policy,
+        file,
+        reader,
+    };
+    accept_task(alloc, host, &site.policy, &site.file, site.reader, job.task)?;
+    Ok(site)
 }
 
 /// A text that is printed, where nothing is told on standard error.
@@ -188,14 +195,29 @@ pub(crate) fn listing_of(alloc: Global, text: Vec<u8>, ending: Ending) -> Listin
     }
 }
 
-/// What is told where all inputs are accepted.
-pub(crate) fn accepted_listing(alloc: Global) -> Result<Listing, AllocError>
-    ensures text { IfOk result (λ l. l.text.items ≡ ACCEPTED.now) }
-    ensures told { IfOk result (λ l. string_bytes l.told ≡ []) }
-    ensures end { IfOk result (λ l. l.ending ≡ Well) }
+/// What is told where all inputs are accepted, with the fields that nobody reads: of the session of a shell, where that would be denied;
+/// else of the store, where the job names one.
+fn accepted_listing<H: Host>(
+    alloc: Global,
+    host: &H,
+    job: Job,
+    site: &Site,
+) -> Result<Listing, AllocError>
+    requires accepted { IsAccepted (hosted H.hosting H.Lines.echo host.now host.now) job site.now.policy
+        site.now.file site.now.reader }
+    requires under { AreUnder (length site.now.policy.labels) site.now.file.schemes }
+    requires declared { IfSome site.now.reader (λ c. c < length site.now.policy.labels) }
+    ensures { IfOk result (λ l. Accounts (hosted H.hosting H.Lines.echo host.now host.now) job.entry l.text.items
+        (string_bytes l.told) l.ending) }
 {
-    let text = Vec::from_slice(alloc, ACCEPTED.as_bytes())?;
-    Ok(listing_of(alloc, text, Ending::Well))
+    let ignored = ignored_of(alloc, host, job.documents)?;
+    match opening_denial(&site.policy, site.reader, job.task) {
+        Some(denial) => {
+            let text = denied_text(alloc, &site.policy, job.task, denial, &ignored)?;
+            Ok(listing_of(alloc, text, Ending::Refused))
+        }
+        None => store_account(alloc, host, &site.policy, &site.file, job.task, &ignored),
+    }
 }
 
 /// What is told where one is refused, but for want of memory.
@@ -206,7 +228,7 @@ fn refused_listing<H: Host>(
     reason: Reason,
 ) -> Result<Listing, Reason>
     ensures other { OnOk result (reason_status reason ≢ 3) }
-    ensures text { IfOk result (λ l. IsToldOf (H.hosting host.now) job.entry reason l.text.items) }
+    ensures text { IfOk result (λ l. IsToldOf job.entry reason l.text.items) }
     ensures told { IfOk result (λ l. string_bytes l.told ≡ []) }
     ensures end { IfOk result (λ l. l.ending ≡ Refused) }
     ensures same { IfErr result (λ e. (e ≡ reason) ⊎ (e ≡ Memory)) }
@@ -226,7 +248,7 @@ fn account<H: Host>(alloc: Global, host: &H, job: Job) -> Result<Listing, Reason
     ensures unread { IfErr result (IsUnread (hosted H.hosting H.Lines.echo host.now host.now) job.entry) }
 {
     match accept(alloc, host, job) {
-        Ok(site) => Ok(store_account(alloc, host, &site.policy, &site.file, job.task)?),
+        Ok(site) => Ok(accepted_listing(alloc, host, job, &site)?),
         Err(reason) => refused_listing(alloc, host, job, reason),
     }
 }
@@ -253,7 +275,8 @@ pub(crate) fn finish_account<H: Host, W: Write, E: Write>(
     out: &mut W,
     err: &mut Errors<E>,
 ) -> u8
-    ensures { IsFinished (IsAccountOf (hosted H.hosting H.Lines.echo host.now host.now) job.entry)
+    ensures { IsFinished (H.hosting host.now).is_watched
+        (IsAccountOf (hosted H.hosting H.Lines.echo host.now host.now) job.entry)
         (IsAppended W.contents out.old out.new) (IsTold E.contents err.old err.new) result }
 {
     match print_account(alloc, host, job, out, err) {

@@ -1,82 +1,49 @@
 //! What the program does with its words.
-ghost use Rattle.std.specs.Prelude.{◌<◌, length, IfOk, IfErr};
+ghost use Rattle.std.specs.Prelude.{◌<◌, length};
 ghost use Rattle.std.specs.Option.{IfSome};
 ghost use Rattle.mls_scheme.specs.Scheme.{AreUnder};
 ghost use Rattle.mls_host.specs.Deed.{deed};
 ghost use Rattle.mls_host.specs.Hosting.{hosted, IsAppended, IsTold};
 ghost use Rattle.mls_words.specs.Words.{texts_of};
-ghost use Rattle.mls_host.specs.Causes.{IsPolicyRefused, AreSchemesRefused};
-ghost use Rattle.mls_host.specs.Inputs.{IsPolicyOf, AreSchemesOf};
 ghost use Rattle.mls_command.specs.Acting.{IsTaskDeed, IsDeedOf};
 ghost use Rattle.mls_command.specs.Accounting.{IsAccountOf};
 ghost use Rattle.mls_command.specs.Answering.{IsFinished, Answers, IsAnswered};
 
 use crate::accounting::finish_account;
+use crate::documents::{picture_of, policy_of, schemes_of};
 use crate::explained::explained_of;
-use mls_host::{
-    Ending, Errors, Host, Reason, Refusal, policy_in, read_policy, read_schemes, reader_of,
-    samples, schemes_in,
-};
+use crate::telling::explain_refusal;
+use mls_host::{Ending, Errors, Host, Refusal, reader_of};
 use mls_lattice::{LabelNo, Policy};
-use mls_listings::{certified, checked, explained, pictured, texts};
+use mls_listings::{certified, checked, explained, texts};
 use mls_runs::run_files;
 use mls_scheme::SchemesFile;
 use mls_shells::shell_files;
-use mls_words::{Documents, Job, Task, job_of};
+use mls_words::{Job, Task, Usage, job_of};
 use std::alloc::Global;
 use std::io::Write;
 
-/// The policy of a file, or that of the samples.
-pub(crate) fn policy_of<H: Host>(
-    alloc: Global,
-    host: &H,
-    documents: Option<Documents>,
-) -> Result<Policy, Reason>
-    ensures policy { IfOk result (IsPolicyOf (H.hosting host.now).gives documents.entry) }
-    ensures refused { IfErr result (IsPolicyRefused (H.hosting host.now) documents.entry) }
-{
-    match documents {
-        None => read_policy(alloc, samples::POLICY.as_bytes()),
-        Some(files) => policy_in(alloc, host, files.policy),
-    }
-}
-
-/// The schemes of a file, or those of the samples.
-pub(crate) fn schemes_of<H: Host>(
-    alloc: Global,
-    host: &H,
-    policy: &Policy,
-    documents: Option<Documents>,
-) -> Result<SchemesFile, Reason>
-    ensures schemes { IfOk result (AreSchemesOf (H.hosting host.now).gives documents.entry policy.now) }
-    ensures under { IfOk result (λ file. AreUnder (length policy.now.labels) file.schemes) }
-    ensures refused { IfErr result (AreSchemesRefused (H.hosting host.now) documents.entry policy.now) }
-{
-    match documents {
-        None => read_schemes(alloc, policy, samples::SCHEMES.as_bytes()),
-        Some(files) => schemes_in(alloc, host, policy, files.schemes),
-    }
-}
-
-/// Does a task under a policy and schemes, for a reader alone where there is one.
+/// Does the task of a job under its policy and schemes, for a reader alone where there is one.
 fn perform_task<H: Host, W: Write, E: Write>(
     alloc: Global,
     host: &mut H,
     policy: &Policy,
     file: &SchemesFile,
     reader: Option<LabelNo>,
-    task: Task,
+    job: Job,
     out: &mut W,
     err: &mut Errors<E>,
 ) -> Result<Ending, Refusal>
     requires under { AreUnder (length policy.now.labels) file.now.schemes }
     requires declared { IfSome reader (λ c. c < length policy.now.labels) }
-    ensures { IsTaskDeed (hosted H.hosting H.Lines.echo host.old host.new) policy.now file.now reader task.entry
+    ensures { IsTaskDeed (hosted H.hosting H.Lines.echo host.old host.new) policy.now file.now reader job.entry.task
         (deed W.contents out.old out.new E.contents err.old err.new result) }
 {
-    match task {
+    match job.task {
         Task::ShowPolicy => texts(alloc, policy, file)?.print(out, err),
-        Task::Picture => pictured(alloc, policy, &file.schemes)?.print(out, err),
+        Task::Picture => {
+            picture_of(alloc, host, policy, &file.schemes, job.documents)?.print(out, err)
+        }
         Task::Run(files) => {
             run_files(alloc, host, policy, file, files, reader, out)?;
             Ok(Ending::Well)
@@ -113,10 +80,10 @@ fn perform<H: Host, W: Write, E: Write>(
     let policy = policy_of(alloc, host, job.documents)?;
     let reader = reader_of(&policy, job.task)?;
     let file = schemes_of(alloc, host, &policy, job.documents)?;
-    perform_task(alloc, host, &policy, &file, reader, job.task, out, err)
+    perform_task(alloc, host, &policy, &file, reader, job, out, err)
 }
 
-/// Does a job, and answers the exit status.
+/// Does a job, and answers the exit status. A refusal is told, and, where somebody reads standard error at a terminal, explained.
 fn finish<H: Host, W: Write, E: Write>(
     alloc: Global,
     job: Job,
@@ -124,13 +91,16 @@ fn finish<H: Host, W: Write, E: Write>(
     out: &mut W,
     err: &mut Errors<E>,
 ) -> u8
-    ensures { IsFinished (IsDeedOf (hosted H.hosting H.Lines.echo host.old host.new) job.entry)
+    ensures { IsFinished (H.hosting host.old).is_watched
+        (IsDeedOf (hosted H.hosting H.Lines.echo host.old host.new) job.entry)
         (IsAppended W.contents out.old out.new) (IsTold E.contents err.old err.new) result }
 {
+    let is_watched = host.is_watched();
     match perform(alloc, job, host, out, err) {
         Ok(ending) => ending.status(),
         Err(refusal) => {
             err.tell_refusal(&refusal);
+            explain_refusal(alloc, host, job, &refusal, is_watched, err);
             refusal.status()
         }
     }
@@ -192,8 +162,13 @@ pub fn act<H: Host, W: Write, E: Write>(
     ensures { IsAnswered (hosted H.hosting H.Lines.echo host.old host.new) (texts_of words.now)
         (IsAppended W.contents out.old out.new) (IsTold E.contents err.old err.new) result }
 {
-    match explained_of(words) {
-        Some(asked) => explain_inputs(alloc, asked, host, out, err),
-        None => answer(alloc, words, host, out, err),
+    match explained_of(alloc, words) {
+        Ok(Some(asked)) => explain_inputs(alloc, &asked, host, out, err),
+        Ok(None) => answer(alloc, words, host, out, err),
+        Err(_) => {
+            let usage = Usage::Memory;
+            err.tell_usage(&usage);
+            usage.status()
+        }
     }
 }

@@ -1,7 +1,9 @@
 //! Words that ask what becomes of the inputs of another command.
-ghost use Rattle.std.specs.Prelude.{◌≡◌, option_map};
+ghost use Rattle.std.specs.Prelude.{◌≡◌, option_map, IfOk};
 ghost use Rattle.mls_words.specs.Words.{texts_of};
 ghost use Rattle.mls_command.specs.Explained.{is_other_command, is_explained, explained_of};
+
+use std::alloc::{AllocError, Global};
 
 /// Whether this is the name of a command whose inputs can be explained.
 fn is_other_command(name: &str) -> bool
@@ -20,12 +22,20 @@ fn is_explained(first: &str, second: &str) -> bool
     first == "explain" && is_other_command(second)
 }
 
-/// The words of another command, where `explain` stands before its name; `explain` then stands for the program's name.
-pub fn explained_of<'a>(words: &'a [&'a str]) -> Option<&'a [&'a str]>
-    ensures { option_map (λ asked. texts_of asked.now) result ≡ explained_of (texts_of words.now) }
+/// The words of another command, where `explain` stands before its name.
+pub fn explained_of<'a>(
+    alloc: Global,
+    words: &[&'a str],
+) -> Result<Option<Vec<&'a str>>, AllocError>
+    ensures { IfOk result (λ asked. option_map (λ v. texts_of v.items) asked ≡ explained_of (texts_of words.now)) }
 {
     match words {
-        [_, first, second, ..] if is_explained(first, second) => Some(&words[1..]),
-        _ => None,
+        [called, first, second, ..] if is_explained(first, second) => {
+            let mut asked = Vec::new(alloc);
+            asked.push(*called)?;
+            asked.extend_from_slice(&words[2..])?;
+            Ok(Some(asked))
+        }
+        _ => Ok(None),
     }
 }

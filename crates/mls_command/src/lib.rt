@@ -3,11 +3,11 @@
 
 mod accounting;
 mod acting;
+mod documents;
 mod explained;
-mod hinting;
-mod laws;
 mod looking;
+mod opening;
+mod paths;
 mod telling;
 
 pub use crate::acting::act;
-pub use crate::laws::verbs_have_forms;

@@ -1,36 +1,40 @@
 //! The store that a command names, which is looked at and not opened.
-ghost use Rattle.std.specs.Prelude.{◌≡◌, [], Some, option_map, length, string_bytes, IfOk};
+ghost use Rattle.std.specs.Prelude.{◌≡◌, ◌≢◌, [], Some, length, string_bytes, IfOk};
+ghost use Rattle.std.specs.Option.{IfSome};
 ghost use Rattle.mls_scheme.specs.Scheme.{AreUnder};
 ghost use Rattle.mls_words.specs.Words.{named};
-ghost use Rattle.mls_command.specs.Looking.{store_of, cause_text, IsSight, store_text, found_text, found_ending, IsStoreAccount};
+ghost use Rattle.mls_host.specs.declared.host.StoreCause.TheVariants as causes;
+ghost use Rattle.mls_advice.specs.Excerpt.{Begins};
+ghost use Rattle.mls_command.specs.Looking.{store_of, IsSight, IsFound, found_text, found_ending, IsStoreAccount};
 
-use crate::accounting::{accepted_listing, listing_of};
+use crate::accounting::listing_of;
+use crate::documents::{policy_of, schemes_of};
 use crate::telling::push_reason;
+use mls_advice::file_line;
 use mls_diagnosis::{Diagnosis, diagnosis_of};
 use mls_fragments::OpenFault;
 use mls_host::{Ending, Host, Reason, StoreCause};
 use mls_lattice::Policy;
 use mls_listings::Listing;
-use mls_pointing::file_line;
 use mls_scheme::SchemesFile;
-use mls_words::Task;
+use mls_words::{Job, Task};
 use std::alloc::{AllocError, Global};
 
-pub(crate) const NO_FOLDER: &str = "  There is no such folder.\n  Make it, or name another path.\n";
+pub(crate) const ACCEPTED: &str = "All inputs are accepted.\n";
 
-pub(crate) const NO_RIGHT: &str =
+const NO_FOLDER: &str = "  There is no such folder.\n  Make it, or name another path.\n";
+
+const NO_RIGHT: &str =
     "  The file may not be read and written.\n  See to its rights and its folder's.\n";
 
-pub(crate) const NO_FILE: &str =
-    "  What stands there is no plain file of one name.\n  Name another path.\n";
+const NO_FILE: &str = "  What stands there is no plain file of one name.\n  Name another path.\n";
 
-pub(crate) const IN_USE: &str =
-    "  Another process has the store open.\n  Wait until it ends, or end it.\n";
+const IN_USE: &str = "  Another process has the store open.\n  Wait until it ends, or end it.\n";
 
-pub(crate) const JOURNAL: &str =
+const JOURNAL: &str =
     "  SQLite left a journal beside the file.\n  Open the file with sqlite3, which plays it back.\n";
 
-pub(crate) const UNREADABLE: &str = "  The file cannot be read.\n  See to its disk.\n";
+const UNREADABLE: &str = "  The file cannot be read.\n  See to its disk.\n";
 
 /// The path of the store of a task.
 pub(crate) fn store_of<'a>(task: Task<'a>) -> Option<&'a str>
@@ -45,7 +49,7 @@ pub(crate) fn store_of<'a>(task: Task<'a>) -> Option<&'a str>
 
 /// Why the files of a store are not read, and what to do; none for want of memory.
 fn cause_text(cause: StoreCause) -> Option<&'static str>
-    ensures { option_map (λ text. text.now) result ≡ cause_text cause }
+    ensures { IfSome result (λ _. cause ≢ causes.Memory) }
 {
     match cause {
         StoreCause::NoFolder => Some(NO_FOLDER),
@@ -61,7 +65,7 @@ fn cause_text(cause: StoreCause) -> Option<&'static str>
 /// What is found of a store whose files are not shown.
 fn hidden_by(alloc: Global, cause: StoreCause) -> Result<Diagnosis, AllocError>
     ensures fault { IfOk result (λ d. d.fault ≡ Some OpenFault.Store) }
-    ensures text { IfOk result (λ d. Some d.text.items ≡ cause_text cause) }
+    ensures cause { IfOk result (λ d. cause ≢ causes.Memory) }
 {
     match cause_text(cause) {
         Some(text) => Ok(Diagnosis {
@@ -81,7 +85,7 @@ fn sight_of<H: Host>(
     path: &str,
 ) -> Result<Diagnosis, AllocError>
     requires under { AreUnder (length policy.now.labels) file.now.schemes }
-    ensures { IfOk result (λ d. IsSight (H.hosting host.now) policy.now file.now path.now d.fault d.text.items) }
+    ensures { IfOk result (λ d. IsSight (H.hosting host.now) policy.now file.now path.now d.fault) }
 {
     match host.store_files(alloc, path) {
         Ok(files) => diagnosis_of(alloc, &files.log, &files.db, policy, file),
@@ -89,56 +93,93 @@ fn sight_of<H: Host>(
     }
 }
 
-/// The line that tells why a store is not opened; its file; and what is found of it.
-fn store_text(
+/// What is found of the store of a task: nothing wrong, where it names none.
+fn found_of<H: Host>(
     alloc: Global,
-    path: &str,
-    fault: OpenFault,
-    lines: &[u8],
-) -> Result<Vec<u8>, AllocError>
-    ensures { IfOk result (λ v. v.items ≡ store_text path.now fault lines.now) }
+    host: &H,
+    policy: &Policy,
+    file: &SchemesFile,
+    task: Task,
+) -> Result<Diagnosis, AllocError>
+    requires under { AreUnder (length policy.now.labels) file.now.schemes }
+    ensures { IfOk result (λ d. IsFound (H.hosting host.now) policy.now file.now (store_of task.entry) d.fault) }
 {
-    let place = file_line(alloc, path)?;
-    let mut text = Vec::new(alloc);
-    push_reason(&mut text, &Reason::Store(fault))?;
-    text.extend_from_slice(&place)?;
-    text.extend_from_slice(lines)?;
-    Ok(text)
-}
-
-/// What is told of the store at a path, where the inputs are accepted.
-fn found_listing(alloc: Global, path: &str, found: &Diagnosis) -> Result<Listing, AllocError>
-    ensures text { IfOk result (λ l. l.text.items ≡ found_text path.now found.now.fault found.now.text.items) }
-    ensures told { IfOk result (λ l. string_bytes l.told ≡ []) }
-    ensures end { IfOk result (λ l. l.ending ≡ found_ending found.now.fault) }
-{
-    match found.fault {
-        None => accepted_listing(alloc),
-        Some(fault) => Ok(listing_of(
-            alloc,
-            store_text(alloc, path, fault, &found.text)?,
-            Ending::Refused,
-        )),
+    match store_of(task) {
+        Some(path) => sight_of(alloc, host, policy, file, path),
+        None => Ok(Diagnosis {
+            fault: None,
+            text: Vec::new(alloc),
+        }),
     }
 }
 
-/// What is told where all inputs are accepted: of the store, where the task names one.
+/// The file of a store, and what is found of it.
+fn lines_of(alloc: Global, task: Task, found: &Diagnosis) -> Result<Vec<u8>, AllocError> {
+    let mut text = match store_of(task) {
+        Some(path) => file_line(alloc, path)?.into_bytes(),
+        None => Vec::new(alloc),
+    };
+    text.extend_from_slice(&found.text)?;
+    Ok(text)
+}
+
+/// The line that tells that all inputs are accepted, or why the store is not opened, with what is found of it.
+fn found_text(alloc: Global, task: Task, found: &Diagnosis) -> Result<Vec<u8>, AllocError>
+    ensures { IfOk result (λ v. Begins (found_text found.now.fault) v.items) }
+{
+    match found.fault {
+        None => Vec::from_slice(alloc, ACCEPTED.as_bytes()),
+        Some(fault) => {
+            let lines = lines_of(alloc, task, found)?;
+            let mut text = Vec::new(alloc);
+            push_reason(&mut text, &Reason::Store(fault))?;
+            text.extend_from_slice(&lines)?;
+            Ok(text)
+        }
+    }
+}
+
+/// How that ends.
+fn found_ending(found: &Diagnosis) -> Ending
+    ensures { result ≡ found_ending found.now.fault }
+{
+    match found.fault {
+        None => Ending::Well,
+        Some(_) => Ending::Refused,
+    }
+}
+
+/// What is told where all inputs are accepted: of the store, where the task names one, and other lines.
 pub(crate) fn store_account<H: Host>(
     alloc: Global,
     host: &H,
     policy: &Policy,
     file: &SchemesFile,
     task: Task,
+    lines: &str,
 ) -> Result<Listing, AllocError>
     requires under { AreUnder (length policy.now.labels) file.now.schemes }
     ensures { IfOk result (λ l. IsStoreAccount (H.hosting host.now) policy.now file.now (store_of task.entry)
         l.text.items (string_bytes l.told) l.ending) }
 {
-    match store_of(task) {
-        None => accepted_listing(alloc),
-        Some(path) => {
-            let found = sight_of(alloc, host, policy, file, path)?;
-            found_listing(alloc, path, &found)
-        }
-    }
+    let found = found_of(alloc, host, policy, file, task)?;
+    let mut text = found_text(alloc, task, &found)?;
+    text.extend_from_slice(lines.as_bytes())?;
+    Ok(listing_of(alloc, text, found_ending(&found)))
+}
+
+/// What is told of the store of a job that was not opened, whose policy and schemes are read once more.
+pub(crate) fn store_lines<H: Host>(
+    alloc: Global,
+    host: &H,
+    job: Job,
+) -> Result<Vec<u8>, AllocError> {
+    let Ok(policy) = policy_of(alloc, host, job.documents) else {
+        return Ok(Vec::new(alloc));
+    };
+    let Ok(file) = schemes_of(alloc, host, &policy, job.documents) else {
+        return Ok(Vec::new(alloc));
+    };
+    let found = found_of(alloc, host, &policy, &file, job.task)?;
+    lines_of(alloc, job.task, &found)
 }

@@ -1,16 +1,23 @@
 //! What is told of an input that is refused.
-ghost use Rattle.std.specs.Prelude.{◌≡◌, ◌++◌, option_map, IfOk, OnOk};
+ghost use Rattle.std.specs.Prelude.{◌≡◌, ◌++◌, [], List, ℕ, false, string_bytes, option_map, IfOk, OnOk};
+ghost use Rattle.mls_host.specs.Hosting.{IsTold};
 ghost use Rattle.mls_host.specs.Reason.{reason_text};
 ghost use Rattle.mls_words.specs.Words.{named};
-ghost use Rattle.mls_command.specs.Telling.{advice, place_of, role_of, place_at, IsDocumentPlace, IsPlace, transactions_of, certificates_of, script_of, policy_of, schemes_of, path_of, source_of, shown, IsShown, AreLinesAt, AreLines, IsToldOf};
+ghost use Rattle.mls_command.specs.Telling.{place_of, source_of, IsPlaceTold, IsToldOf, IsMore};
 
-use crate::hinting::hint_of;
-use mls_fields::document_spot;
-use mls_host::{Host, Reason, Role};
-use mls_pointing::{advice_of, excerpt, file_line};
-use mls_tokens::Spot;
-use mls_words::{Job, Task};
+use crate::documents::{ignored_of, policy_of, schemes_of};
+use crate::looking::store_lines;
+use crate::paths::{place_of, source_of};
+use mls_advice::{
+    advice_of, declared_names, excerpt, file_line, form_at, kinds_at, nearest_line, policy_lines,
+    schemes_lines, token_at,
+};
+use mls_host::{Errors, Host, Reason, Refusal};
+use mls_lattice::{Policy, Str};
+use mls_scheme::SchemesFile;
+use mls_words::Job;
 use std::alloc::{AllocError, Global};
+use std::io::Write;
 
 const UNREADABLE: &str =
     "  The file is not there, or cannot be read.\n  See to the path and its rights.\n";
@@ -23,233 +30,134 @@ const NO_USER: &str = "  What stands for the user is no name.\n  Name a user of 
 
 const NO_TRANSACTION: &str = "  No transaction has this name.\n  Name one that the file has.\n";
 
-/// A line of an input, and a place in it.
-#[derive(Clone, Copy)]
-pub(crate) struct Place {
-    pub line: usize,
-    pub column: Option<usize>,
-}
-
-/// What a refusal means, and what to do.
-fn advice(reason: &Reason) -> &'static str
-    ensures { result.now ≡ advice reason.now }
-{
+/// What a refusal means, and what to do; that of a policy and of schemes stands with the field.
+fn advice(reason: &Reason) -> &'static str {
     match reason {
         Reason::Unreadable(_) => UNREADABLE,
         Reason::TooLong(_) => TOO_LONG,
-        Reason::Policy(fault) => advice_of(fault.code()),
-        Reason::Schemes(fault) => advice_of(fault.code()),
         Reason::Transactions(fault) => advice_of(fault.cause.code()),
         Reason::Certificates(fault) => advice_of(fault.cause.code()),
         Reason::Script(fault) => advice_of(fault.cause.code()),
         Reason::Reader | Reason::Label => NO_LABEL,
         Reason::User => NO_USER,
         Reason::Name => NO_TRANSACTION,
-        Reason::Store(_) | Reason::Memory => "",
+        Reason::Policy(_) | Reason::Schemes(_) | Reason::Store(_) | Reason::Memory => "",
     }
 }
 
-/// Where a fault says that it stands, if it says so.
-fn place_of(reason: &Reason) -> Option<Place>
-    ensures { result ≡ place_of reason.now }
-{
-    match reason {
-        Reason::Transactions(fault) => Some(Place {
-            line: fault.line,
-            column: Some(fault.column),
-        }),
-        Reason::Certificates(fault) => Some(Place {
-            line: fault.line,
-            column: None,
-        }),
-        Reason::Script(fault) => Some(Place {
-            line: fault.line,
-            column: Some(fault.column),
-        }),
-        _ => None,
+/// The names that the policy and the schemes of a job declare; none where one is refused.
+fn names_of<H: Host>(alloc: Global, host: &H, job: Job) -> Result<Vec<Str>, AllocError> {
+    let Ok(policy) = policy_of(alloc, host, job.documents) else {
+        return Ok(Vec::new(alloc));
+    };
+    match schemes_of(alloc, host, &policy, job.documents) {
+        Ok(file) => declared_names(alloc, &policy, &file.schemes),
+        Err(_) => Ok(Vec::new(alloc)),
     }
 }
 
-fn place_at(spot: Option<Spot>) -> Option<Place>
-    ensures { result ≡ option_map place_at spot }
-{
-    spot.map(|spot| Place {
-        line: spot.line,
-        column: Some(spot.column),
-    })
-}
-
-/// Where bytes cease to be a document, if they are none.
-fn document_place(alloc: Global, bytes: &[u8]) -> Result<Option<Place>, AllocError>
-    ensures { IfOk result (IsDocumentPlace bytes.now) }
-{
-    let spot = document_spot(alloc, bytes)?;
-    Ok(place_at(spot))
-}
-
-/// Where an input with these bytes is refused, if a place is told.
-fn place_in(alloc: Global, reason: &Reason, bytes: &[u8]) -> Result<Option<Place>, AllocError>
-    ensures { IfOk result (IsPlace reason.now bytes.now) }
-{
-    match reason {
-        Reason::Policy(_) | Reason::Schemes(_) => document_place(alloc, bytes),
-        _ => Ok(place_of(reason)),
-    }
-}
-
-/// Which input is refused, where one is.
-fn role_of(reason: &Reason) -> Option<Role>
-    ensures { result ≡ role_of reason.now }
-{
-    match reason {
-        Reason::Unreadable(role) | Reason::TooLong(role) => Some(*role),
-        Reason::Policy(_) => Some(Role::Policy),
-        Reason::Schemes(_) => Some(Role::Schemes),
-        Reason::Transactions(_) => Some(Role::Transactions),
-        Reason::Certificates(_) => Some(Role::Certificates),
-        Reason::Script(_) => Some(Role::Script),
-        _ => None,
-    }
-}
-
-fn transactions_of<'a>(task: Task<'a>) -> Option<&'a str>
-    ensures { named result ≡ transactions_of task.entry }
-{
-    match task {
-        Task::Run(files) => files.transactions,
-        Task::Shell(files) => files.transactions,
-        Task::Certify { transactions } => Some(transactions),
-        Task::Check { transactions, .. } => Some(transactions),
-        Task::Explain { transactions, .. } => Some(transactions),
-        Task::ShowPolicy | Task::Picture => None,
-    }
-}
-
-fn certificates_of<'a>(task: Task<'a>) -> Option<&'a str>
-    ensures { named result ≡ certificates_of task.entry }
-{
-    match task {
-        Task::Run(files) => files.certificates,
-        Task::Shell(files) => files.certificates,
-        Task::Check { certificates, .. } => Some(certificates),
-        _ => None,
-    }
-}
-
-fn script_of<'a>(task: Task<'a>) -> Option<&'a str>
-    ensures { named result ≡ script_of task.entry }
-{
-    match task {
-        Task::Run(files) => files.script,
-        _ => None,
-    }
-}
-
-fn policy_of<'a>(job: Job<'a>) -> Option<&'a str>
-    ensures { named result ≡ policy_of job.entry.documents }
-{
-    match job.documents {
-        Some(documents) => Some(documents.policy),
-        None => None,
-    }
-}
-
-fn schemes_of<'a>(job: Job<'a>) -> Option<&'a str>
-    ensures { named result ≡ schemes_of job.entry.documents }
-{
-    match job.documents {
-        Some(documents) => Some(documents.schemes),
-        None => None,
-    }
-}
-
-/// The file of an input.
-fn path_of<'a>(job: Job<'a>, role: Role) -> Option<&'a str>
-    ensures { named result ≡ path_of job.entry role }
-{
-    match role {
-        Role::Policy => policy_of(job),
-        Role::Schemes => schemes_of(job),
-        Role::Transactions => transactions_of(job.task),
-        Role::Certificates => certificates_of(job.task),
-        Role::Script => script_of(job.task),
-        Role::Store => None,
-    }
-}
-
-/// The file that is refused.
-fn source_of<'a>(job: Job<'a>, reason: &Reason) -> Option<&'a str>
-    ensures { named result ≡ source_of job.entry reason.now }
-{
-    match role_of(reason) {
-        Some(role) => path_of(job, role),
-        None => None,
-    }
-}
-
-/// The place in a file, or its name where no place is told.
-fn shown(
+/// What is told beside a place: the nearest declared name, the form of a script's command, or the kinds.
+fn hint_of<H: Host>(
     alloc: Global,
-    path: &str,
-    place: Option<Place>,
+    host: &H,
+    job: Job,
+    reason: &Reason,
     bytes: &[u8],
-) -> Result<Vec<u8>, AllocError>
-    ensures { IfOk result (λ v. v.items ≡ shown path.now place bytes.now) }
-{
-    match place {
-        None => file_line(alloc, path),
-        Some(place) => excerpt(alloc, path, place.line, place.column, bytes),
-    }
+) -> Result<String, AllocError> {
+    let (line, column) = match reason {
+        Reason::Script(fault) if fault.cause.code() == 22 => {
+            return String::from_str(alloc, form_at(fault.line, bytes));
+        }
+        Reason::Transactions(fault) if fault.cause.code() == 22 => {
+            return String::from_str(alloc, kinds_at(fault.line, fault.column, bytes));
+        }
+        Reason::Transactions(fault) if fault.cause.code() == 23 => (fault.line, fault.column),
+        Reason::Script(fault) if fault.cause.code() == 23 => (fault.line, fault.column),
+        _ => return Ok(String::new(alloc)),
+    };
+    let names = names_of(alloc, host, job)?;
+    nearest_line(alloc, token_at(bytes, line, column), &names)
 }
 
-/// The place, and what is told beside it.
-fn shown_with_hint<H: Host>(
+/// What is told of a policy or of schemes with these bytes, which are read once more to say where reading stopped.
+fn document_lines<H: Host>(
     alloc: Global,
     host: &H,
     job: Job,
     reason: &Reason,
     path: &str,
     bytes: &[u8],
-) -> Result<Vec<u8>, AllocError>
-    ensures { IfOk result (λ v. IsShown (H.hosting host.now) job.entry reason.now path.now bytes.now v.items) }
-{
-    let hint = hint_of(alloc, host, job, reason, bytes)?;
-    let place = place_in(alloc, reason, bytes)?;
-    let mut text = shown(alloc, path, place, bytes)?;
-    text.extend_from_slice(&hint)?;
-    Ok(text)
+) -> Result<String, AllocError> {
+    if let Reason::Policy(_) = reason {
+        return match Policy::read_at(alloc, bytes) {
+            Ok(_) => file_line(alloc, path),
+            Err(refused) => policy_lines(alloc, path, bytes, &refused),
+        };
+    }
+    let Ok(policy) = policy_of(alloc, host, job.documents) else {
+        return file_line(alloc, path);
+    };
+    match SchemesFile::read_at(alloc, &policy, bytes) {
+        Ok(_) => file_line(alloc, path),
+        Err(refused) => schemes_lines(alloc, path, &policy, bytes, &refused),
+    }
 }
 
-/// What is told of a file; its name alone, where the host no longer gives it.
-fn lines_at<H: Host>(
+/// What is told of a file with these bytes.
+fn lines_in<H: Host>(
     alloc: Global,
     host: &H,
     job: Job,
     reason: &Reason,
     path: &str,
-) -> Result<Vec<u8>, AllocError>
-    ensures { IfOk result (λ v. AreLinesAt (H.hosting host.now) job.entry reason.now path.now v.items) }
+    bytes: &[u8],
+) -> Result<String, AllocError>
+    ensures { IfOk result (λ s. IsPlaceTold (Some path.now) (place_of reason.now) (string_bytes s)) }
 {
-    match host.file(alloc, path) {
-        Ok(bytes) => shown_with_hint(alloc, host, job, reason, path, &bytes),
-        Err(_) => file_line(alloc, path),
+    match (reason, place_of(reason)) {
+        (_, Some(place)) => {
+            let mut text = excerpt(alloc, path, place.line, place.column, bytes)?;
+            text.push_str(&hint_of(alloc, host, job, reason, bytes)?)?;
+            Ok(text)
+        }
+        (Reason::Policy(_) | Reason::Schemes(_), None) => {
+            document_lines(alloc, host, job, reason, path, bytes)
+        }
+        _ => file_line(alloc, path),
     }
 }
 
-/// What is told of the file that is refused, if one is.
+/// What is told of the file that is refused, if one is; its name alone, where the host no longer gives it.
+fn file_lines<H: Host>(
+    alloc: Global,
+    host: &H,
+    job: Job,
+    reason: &Reason,
+) -> Result<String, AllocError>
+    ensures { IfOk result (λ s. IsPlaceTold (source_of job.entry reason.now) (place_of reason.now) (string_bytes s)) }
+{
+    match source_of(job, reason) {
+        None => Ok(String::new(alloc)),
+        Some(path) => match host.file(alloc, path) {
+            Ok(bytes) => lines_in(alloc, host, job, reason, path, &bytes),
+            Err(_) => file_line(alloc, path),
+        },
+    }
+}
+
+/// All that is told behind the line of a refusal: where it is, what it means, what to do, and which fields nobody reads.
 fn lines_of<H: Host>(
     alloc: Global,
     host: &H,
     job: Job,
     reason: &Reason,
-) -> Result<Vec<u8>, AllocError>
-    ensures { IfOk result (λ v. AreLines (H.hosting host.now) job.entry reason.now
-        (source_of job.entry reason.now) v.items) }
+) -> Result<String, AllocError>
+    ensures { IfOk result (λ s. IsPlaceTold (source_of job.entry reason.now) (place_of reason.now) (string_bytes s)) }
 {
-    match source_of(job, reason) {
-        None => Ok(Vec::new(alloc)),
-        Some(path) => lines_at(alloc, host, job, reason, path),
-    }
+    let mut text = file_lines(alloc, host, job, reason)?;
+    text.push_str(advice(reason))?;
+    text.push_str(&ignored_of(alloc, host, job.documents)?)?;
+    Ok(text)
 }
 
 pub(crate) fn push_reason(text: &mut Vec<u8>, reason: &Reason) -> Result<(), AllocError>
@@ -268,12 +176,44 @@ pub(crate) fn told_of<H: Host>(
     job: Job,
     reason: &Reason,
 ) -> Result<Vec<u8>, AllocError>
-    ensures { IfOk result (λ v. IsToldOf (H.hosting host.now) job.entry reason.now v.items) }
+    ensures { IfOk result (λ v. IsToldOf job.entry reason.now v.items) }
 {
     let lines = lines_of(alloc, host, job, reason)?;
     let mut text = Vec::new(alloc);
     push_reason(&mut text, reason)?;
-    text.extend_from_slice(&lines)?;
-    text.extend_from_slice(advice(reason).as_bytes())?;
+    text.extend_from_slice(lines.as_bytes())?;
     Ok(text)
+}
+
+/// What is told behind the line of a refusal of a command.
+fn refusal_lines<H: Host>(
+    alloc: Global,
+    host: &H,
+    job: Job,
+    refusal: &Refusal,
+) -> Result<Vec<u8>, AllocError> {
+    match refusal {
+        Refusal::Before(Reason::Store(_)) => store_lines(alloc, host, job),
+        Refusal::Before(reason) => Ok(lines_of(alloc, host, job, reason)?.into_bytes()),
+        Refusal::Run(_) | Refusal::NotClosed | Refusal::Output => Ok(Vec::new(alloc)),
+    }
+}
+
+/// Explains a refusal, where somebody reads it at a terminal; want of memory leaves it as it was told.
+pub(crate) fn explain_refusal<H: Host, E: Write>(
+    alloc: Global,
+    host: &H,
+    job: Job,
+    refusal: &Refusal,
+    is_watched: bool,
+    err: &mut Errors<E>,
+)
+    ensures { IsMore is_watched (IsTold E.contents err.old err.new) }
+{
+    if !is_watched {
+        return;
+    }
+    if let Ok(text) = refusal_lines(alloc, host, job, refusal) {
+        err.tell(&text);
+    }
 }

@@ -1,16 +1,17 @@
 //! Stores over copies of their files.
-ghost use Rattle.std.specs.Prelude.{◌≡◌, ◌⊎◌, Ok, Err, false, length, IfOk, IfErr, OnOk};
+ghost use Rattle.std.specs.Prelude.{◌≡◌, ◌⊎◌, Ok, Err, false, length, IsTrue, IfOk, IfErr, OnOk};
 ghost use Rattle.sqlite.specs.Files.{file_state};
+ghost use Rattle.sqlite.specs.Held.{state};
+ghost use Rattle.sqlite.specs.State.{HasCleanDisk};
 ghost use Rattle.mls_scheme.specs.Scheme.{AreUnder};
-ghost use Rattle.mls_fragments.specs.Opening.{IsFoundIn};
-ghost use Rattle.mls_diagnosis.specs.Diagnosis.{image, IsReadIn, IsSoundIn, IsOthersIn, IsBadIn};
+ghost use Rattle.mls_fragments.specs.Opening.{IsFoundIn, IsOfOthers, IsBad};
+ghost use Rattle.mls_diagnosis.specs.Diagnosis.{image, IsTakenOver, IsSoundIn, IsOthersIn, IsBadIn};
 
-use crate::reading::{Reading, adopted, reading_of};
-use mls_fragments::{OpenFault, connected};
+use mls_fragments::{OpenFault, SqlBase, connected};
 use mls_lattice::Policy;
 use mls_memory::MemoryFile;
 use mls_scheme::SchemesFile;
-use sqlite::{Connection, FileStore, Files, Options};
+use sqlite::{Alter, Connection, FileStore, Files, Options};
 use std::alloc::{AllocError, Global};
 
 /// Why files in memory are not opened: for want of memory, where one of them could not grow.
@@ -25,7 +26,7 @@ fn fault_in(files: &Files<MemoryFile>, fault: OpenFault) -> OpenFault
 }
 
 /// A connection to the store in copies of a log and a database file.
-fn connection(
+pub(crate) fn connection(
     alloc: Global,
     log: &[u8],
     db: &[u8],
@@ -41,6 +42,30 @@ fn connection(
     match connected(alloc, files, Options::new(0)) {
         Ok(conn) => Ok(conn),
         Err((fault, files)) => Err(fault_in(&files, fault)),
+    }
+}
+
+/// How a base is made over a connection's store, or why none is. The connection is given back.
+fn adopted<S: Alter>(
+    alloc: Global,
+    conn: Connection<S>,
+    policy: &Policy,
+    file: &SchemesFile,
+) -> (Result<(), OpenFault>, Connection<S>)
+    requires under { AreUnder (length policy.now.labels) file.now.schemes }
+    requires outside { HasCleanDisk (state S.Store conn) → IsTrue (state S.Store conn).is_open
+        → (state S.Store conn).in_transaction ≡ false }
+    ensures sound { HasCleanDisk (state S.Store result.1)
+        → OnOk result.0 (IsTakenOver policy.now file.now (state S.Store conn).now) }
+    ensures others { HasCleanDisk (state S.Store result.1) → IfErr result.0
+        (λ e. e ≡ OpenFault.OtherPolicy → IsOfOthers policy.now file.now (state S.Store conn).now) }
+    ensures bad { HasCleanDisk (state S.Store result.1) → IfErr result.0
+        (λ e. e ≡ OpenFault.BadRows → IsBad policy.now file.now (state S.Store conn).now) }
+    ensures clean { HasCleanDisk (state S.Store result.1) → HasCleanDisk (state S.Store conn) }
+{
+    match SqlBase::adopt(alloc, conn, policy, file) {
+        Ok(base) => (Ok(()), base.into_connection()),
+        Err((fault, conn)) => (Err(fault), conn),
     }
 }
 
@@ -77,15 +102,5 @@ pub(crate) fn verdict(
             verdict_over(outcome, conn)
         }
         Err(fault) => Err(fault),
-    }
-}
-
-/// What is read of the store. It was opened before, so that only memory can lack.
-pub(crate) fn reading(alloc: Global, log: &[u8], db: &[u8]) -> Result<Reading, AllocError>
-    ensures { IfOk result (IsReadIn log.now db.now) }
-{
-    match connection(alloc, log, db) {
-        Ok(mut conn) => reading_of(&mut conn, alloc),
-        Err(_) => Err(AllocError),
     }
 }

@@ -1,10 +1,10 @@
 //! What becomes of a store that is opened, found over copies of its files.
 #![tactic(auto)]
 
-mod bad;
 mod copies;
 mod diagnosis;
+mod names;
 mod others;
-mod reading;
+mod rows;
 
 pub use diagnosis::{Diagnosis, diagnosis_of};

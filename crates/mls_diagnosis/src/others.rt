@@ -1,59 +1,97 @@
 //! Stores of another policy or of other schemes: the first line in which their texts differ from those of the files.
-ghost use Rattle.std.specs.Prelude.{length, string_bytes, IfOk};
+ghost use Rattle.std.specs.Prelude.{length};
 ghost use Rattle.mls_scheme.specs.Scheme.{AreUnder};
-ghost use Rattle.mls_diagnosis.specs.Diagnosis.{IsTextTold, AreTextsTold, AreOthersTold};
 
-use crate::reading::Reading;
-use mls_findings::{first_difference, tell_difference};
 use mls_fragments::texts_of;
 use mls_lattice::Policy;
 use mls_scheme::SchemesFile;
-use mls_statements::MetaRow;
+use mls_statements::read_description;
+use sqlite::{Alter, Connection};
 use std::alloc::{AllocError, Global};
+use std::fmt::Write;
 
-pub(crate) const LABELS: &str = "labels";
+/// How many characters are told of a line.
+const WIDTH: usize = 160;
 
-pub(crate) const SCHEMES: &str = "schemes";
-
-/// Two lines that tell the first line in which a text of a store differs from another; no text where they are one.
-fn tell_text(alloc: Global, what: &str, left: &str, right: &str) -> Result<Vec<u8>, AllocError>
-    ensures { IfOk result (λ v. IsTextTold what.now left.now right.now v.items) }
-{
-    match first_difference(alloc, left.as_bytes(), right.as_bytes())? {
-        Some(difference) => tell_difference(alloc, what, &difference),
-        None => Ok(Vec::new(alloc)),
+/// Writes what a line is, if there is one.
+fn line_to(text: &mut String, line: Option<&str>) -> Result<(), AllocError> {
+    let Some(line) = line else {
+        return text.push_str(": none.\n");
+    };
+    text.push_str(": `")?;
+    for c in line.chars().take(WIDTH) {
+        text.push(c)?;
     }
+    text.push_str("`.\n")
 }
 
-/// The same of both texts of a store: of the labels, or else of the schemes.
-fn tell_texts(
-    alloc: Global,
-    found: &MetaRow,
-    texts: &(String, String),
-) -> Result<Vec<u8>, AllocError>
-    ensures { IfOk result (λ v. AreTextsTold (string_bytes texts.now.0) (string_bytes texts.now.1) found.now v.items) }
-{
-    let lattice = found.lattice.as_str();
-    if lattice == texts.0.as_str() {
-        tell_text(alloc, SCHEMES, found.schemes.as_str(), &texts.1)
-    } else {
-        tell_text(alloc, LABELS, lattice, &texts.0)
-    }
+/// Tells the first line in which the lines of a store differ from others. What they say is given in the plural.
+fn tell_difference(
+    text: &mut String,
+    what: &str,
+    kept: &[&str],
+    present: &[&str],
+) -> Result<(), AllocError> {
+    let same = kept
+        .iter()
+        .zip(present)
+        .take_while(|pair| pair.0 == pair.1)
+        .count();
+    let number = same.saturating_add(1);
+    write!(text, "  Line {number} of the store's {what}")?;
+    line_to(text, kept.get(same).copied())?;
+    write!(text, "  Line {number} of those of the files")?;
+    line_to(text, present.get(same).copied())
 }
 
-/// What is told of a store that is of others, which has a description then.
-pub(crate) fn tell_others(
+/// The first line that begins a relation and is none of others.
+fn relation_beside<'a>(lines: &[&'a str], others: &[&str]) -> Option<&'a str> {
+    for line in lines {
+        if line.starts_with("relation ") && !others.iter().any(|other| other == line) {
+            return Some(*line);
+        }
+    }
+    None
+}
+
+/// Tells of a relation that only the files have, or only the store.
+fn tell_relation(text: &mut String, kept: &[&str], present: &[&str]) -> Result<(), AllocError> {
+    if let Some(relation) = relation_beside(present, kept) {
+        writeln!(
+            text,
+            "  The store has no {relation}, and no store gets one later."
+        )?;
+    }
+    if let Some(relation) = relation_beside(kept, present) {
+        writeln!(
+            text,
+            "  The files have no {relation}, and no store loses one."
+        )?;
+    }
+    Ok(())
+}
+
+/// Tells how the texts of a connection's store differ from those of the files: the labels, or else the schemes.
+pub(crate) fn tell_others<S: Alter>(
     alloc: Global,
+    text: &mut String,
     policy: &Policy,
     file: &SchemesFile,
-    read: &Reading,
-) -> Result<Vec<u8>, AllocError>
+    conn: &mut Connection<S>,
+) -> Result<(), AllocError>
     requires under { AreUnder (length policy.now.labels) file.now.schemes }
-    ensures { IfOk result (λ v. AreOthersTold policy.now file.now read.now v.items) }
 {
     let texts = texts_of(alloc, policy, file)?;
-    match read {
-        Reading::Undescribed => Err(AllocError),
-        Reading::Unread(found) | Reading::Read(found, _) => tell_texts(alloc, found, &texts),
+    let Ok(found) = read_description(conn, alloc) else {
+        return Err(AllocError);
+    };
+    let kept: Vec<&str> = found.lattice.as_str().lines().collect(alloc)?;
+    let present: Vec<&str> = texts.0.lines().collect(alloc)?;
+    if found.lattice.as_str() != texts.0.as_str() {
+        return tell_difference(text, "labels", &kept, &present);
     }
+    let kept: Vec<&str> = found.schemes.as_str().lines().collect(alloc)?;
+    let present: Vec<&str> = texts.1.lines().collect(alloc)?;
+    tell_difference(text, "schemes", &kept, &present)?;
+    tell_relation(text, &kept, &present)
 }

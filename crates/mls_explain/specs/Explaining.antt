@@ -1,8 +1,6 @@
--- What is told of a transaction: its text with numbers; and its least labels, or the first rule that they break.
-use Rattle.std.specs.Prelude.{◌≡◌, ℕ, ◌+◌, Bool, true, false, List, ◌++◌, length}
+-- What came of the least labels of a transaction.
+use Rattle.std.specs.Prelude.{Bool, true, false}
 use Rattle.mls_lattice.specs.Policy.{Tables}
-use Rattle.mls_scheme.specs.Scheme.{Schemes}
-use Rattle.mls_translang.specs.Tokens.{printed}
 use Rattle.mls_translang.specs.Tx.{Tx}
 use Rattle.mls_certificate.specs.declared.cert.Certificate.{Certificate}
 use Rattle.mls_certificate.specs.declared.cert.Certificate.TheVariants.{One, Two}
@@ -13,19 +11,8 @@ use Rattle.mls_labeller.specs.Least.{IsOf, IsLeast}
 use Rattle.mls_labeller.specs.Fault.{IsFirst}
 use Rattle.mls_labeller.specs.declared.fault.LabelFault.TheVariants.{NoLabels}
 use Rattle.mls_chains.specs.Chains.{IsChainTo}
-use Rattle.mls_explain.specs.Numbering.{numbered}
-use Rattle.mls_explain.specs.Lines.{label_lines, lines_of, refused_lines}
-use Rattle.mls_explain.specs.declared.walk.Telling.TheVariants.{Releases}
 use Rattle.mls_explain.specs.declared.outcome.Outcome.{Outcome}
 use Rattle.mls_explain.specs.declared.outcome.Outcome.TheVariants.{Labelled, Refused}
-
-abbrev pub told : Tables → Tx → Outcome → List ℕ
-told p tx (Labelled cert) = label_lines p tx cert ++ lines_of p tx Releases
-told p tx (Refused stmt r chain) = refused_lines p tx stmt r chain
-
--- the heading and the variables have no number
-abbrev pub explanation : Tables → Schemes → Tx → Outcome → List ℕ
-explanation p schemes tx o = numbered (1 + length tx.vars) (printed p schemes tx) ++ told p tx o
 
 -- no certificate of a version passes
 abbrev pub NonePasses : Version → Tables → Tx → Type 0
@@ -43,10 +30,3 @@ IsOutcome p tx (Refused stmt r chain) =
 abbrev pub has_labels : Outcome → Bool
 has_labels (Labelled cert) = true
 has_labels (Refused stmt r chain) = false
-
--- the text explains the transaction, and whether it has labels
-pub record Explains (p : Tables) (schemes : Schemes) (tx : Tx) (told_text : List ℕ) (is_labelled : Bool) : Type 0 where
-  pub outcome : Outcome
-  pub least : IsOutcome p tx outcome
-  pub text : told_text ≡ explanation p schemes tx outcome
-  pub labelled : is_labelled ≡ has_labels outcome

@@ -1,14 +1,17 @@
-//! What is told of transactions: their texts with numbers, and their least labels or the rule that these break.
+//! What is told of transactions: their texts with numbers, and their least labels, or why they have none and how to mend them.
 #![tactic(auto)]
 
-mod causes;
-mod chains;
 mod explaining;
 mod label_lines;
+mod mending;
 mod naming;
 mod numbering;
 mod outcome;
+mod reading;
+mod refusing;
+mod statements;
+mod steps;
 mod teller;
-mod walk;
 
 pub use explaining::{Explained, explain};
+pub use outcome::Outcome;

@@ -14,7 +14,7 @@ use std::alloc::{AllocError, Global};
 /// The least labels, where they pass, or the first rule that those of version 2 break, the number of its statement, and how what must not
 /// flow there came, if it came by a chain of flows.
 #[derive(Drop)]
-pub(crate) enum Outcome {
+pub enum Outcome {
     Labelled(Certificate),
     Refused {
         stmt: usize,
@@ -25,7 +25,7 @@ pub(crate) enum Outcome {
 
 impl Outcome {
     /// Whether there are labels.
-    pub(crate) fn has_labels(&self) -> bool
+    pub fn has_labels(&self) -> bool
         ensures { result ≡ has_labels self.now }
     {
         match self {

@@ -1,41 +1,26 @@
-//! Names of what numbers stand for, and what expressions are made of.
-ghost use Rattle.std.specs.Prelude.{◌≡◌, ◌==◌, ◌++◌, map, slice_index, string_bytes, IfOk, OnOk};
-ghost use Rattle.mls_lattice.specs.Lattice.{pair_of};
-ghost use Rattle.mls_lattice.specs.Labels.{label_of};
-ghost use Rattle.mls_lattice.specs.Policy.{labels_of};
-ghost use Rattle.mls_translang.specs.Tokens.{name_at};
-ghost use Rattle.mls_explain.specs.Reads.{label_text, is_under, not_over, over_ceiling, with_label, reads, all_read};
+//! Names of what numbers stand for, and the order of declared labels.
 
-use crate::naming::flows;
-use mls_lattice::{Label, LabelNo, Policy};
-use mls_translang::{Expr, Term, Tx};
+use crate::statements::Statement;
+use mls_lattice::{LabelNo, Policy};
+use mls_scheme::{RelNo, Schemes};
+use mls_translang::{Stmt, Tx};
 use std::alloc::{AllocError, Global};
 
-/// A transaction under a policy.
+/// A transaction under a policy and schemes: its statements by number, its heading, and the line of each statement.
 #[derive(Drop)]
 pub(crate) struct Teller<'a> {
+    pub alloc: Global,
     pub policy: &'a Policy,
+    pub schemes: &'a Schemes,
     pub tx: &'a Tx,
+    pub statements: &'a [Statement<'a>],
+    pub lines: &'a [&'a str],
 }
 
-/// The label of the loop that stands so many loops outwards, or the first label.
-fn row_label(rows: &[LabelNo], depth: u8) -> LabelNo
-    ensures { result ≡ slice_index rows.now depth }
-{
-    let depth = usize::from(depth);
-    if depth < rows.len() {
-        rows[depth]
-    } else {
-        LabelNo::new(0)
-    }
-}
+impl<'a> Teller<'a> {
+    // ---- names
 
-impl Teller<'_> {
-    /// The name of a label.
-    #[tactic(auto, using(crate::proofs::TellingLemmas::past_names), unfolding(crate::specs::Reads::label_text))]
-    pub(crate) fn label(&self, label: LabelNo) -> &str
-        ensures { result.now ≡ label_text self.now.policy.now label }
-    {
+    pub(crate) fn label(&self, label: LabelNo) -> &'a str {
         if label.index() < self.policy.label_count() {
             self.policy.name(label)
         } else {
@@ -43,44 +28,7 @@ impl Teller<'_> {
         }
     }
 
-    /// The name of the lower end.
-    pub(crate) fn floor(&self) -> &str
-        ensures { result.now ≡ label_text self.now.policy.now self.now.tx.now.lo }
-    {
-        self.label(self.tx.lo())
-    }
-
-    /// The name of the ceiling.
-    pub(crate) fn ceiling(&self) -> &str
-        ensures { result.now ≡ label_text self.now.policy.now self.now.tx.now.hi }
-    {
-        self.label(self.tx.hi())
-    }
-
-    #[tactic(auto, using(crate::proofs::TellingLemmas::past_labels))]
-    fn declared(&self, label: LabelNo) -> Label
-        ensures { pair_of result ≡ label_of (labels_of self.now.policy.now) label }
-    {
-        if label.index() < self.policy.label_count() {
-            self.policy.value(label)
-        } else {
-            Label { rank: 0, cats: 0 }
-        }
-    }
-
-    /// Whether the one label is dominated by the other.
-    #[tactic(auto, unfolding(crate::specs::Reads::is_under))]
-    pub(crate) fn is_under(&self, low: LabelNo, high: LabelNo) -> bool
-        ensures { result ≡ is_under self.now.policy.now low high }
-    {
-        flows(self.declared(low), self.declared(high))
-    }
-
-    /// The name of a variable.
-    #[tactic(auto, using(crate::proofs::TellingLemmas::past_names))]
-    pub(crate) fn variable(&self, place: usize) -> &str
-        ensures { result.now ≡ name_at self.now.tx.now.vars place }
-    {
+    pub(crate) fn variable(&self, place: usize) -> &'a str {
         let vars = self.tx.vars();
         if place < vars.len() {
             vars.name(place)
@@ -89,10 +37,7 @@ impl Teller<'_> {
         }
     }
 
-    #[tactic(auto, using(crate::proofs::TellingLemmas::past_names))]
-    pub(crate) fn parameter(&self, place: usize) -> &str
-        ensures { result.now ≡ name_at self.now.tx.now.params place }
-    {
+    pub(crate) fn parameter(&self, place: usize) -> &'a str {
         let params = self.tx.params();
         if place < params.len() {
             params.name(place)
@@ -101,108 +46,123 @@ impl Teller<'_> {
         }
     }
 
-    pub(crate) fn parameter_label(&self, place: usize) -> LabelNo
-        ensures { result ≡ slice_index (map (λ p. p.1.label) self.now.tx.now.params) place }
-    {
+    pub(crate) fn parameter_label(&self, place: usize) -> LabelNo {
         let params = self.tx.params();
         if place < params.len() {
             params.get(place).label
         } else {
-            LabelNo::new(0)
+            self.tx.lo()
         }
     }
 
-    fn with_label(&self, text: &mut String, name: &str, label: LabelNo) -> Result<(), AllocError>
-        ensures { OnOk result (string_bytes text.new ≡ string_bytes text.old
-            ++ with_label self.now.policy.now self.now.tx.now name.now label) }
-    {
-        let label = self.label(label);
-        write!(text, ", {name} ({label})")
+    pub(crate) fn relation(&self, relation: RelNo) -> &'a str {
+        if relation.index() < self.schemes.count() {
+            self.schemes.scheme(relation).name()
+        } else {
+            ""
+        }
     }
 
-    /// Adds what an expression is made of.
-    pub(crate) fn reads_to(
-        &self,
-        text: &mut String,
-        rows: &[LabelNo],
-        expr: &Expr,
-    ) -> Result<(), AllocError>
-        ensures { OnOk result (string_bytes text.new ≡ string_bytes text.old
-            ++ reads self.now.policy.now self.now.tx.now rows.now expr.now) }
-    {
-        match &expr.term {
-            Term::Known(_) | Term::Null => Ok(()),
-            Term::Variable(place) => {
-                let name = self.variable(usize::from(*place));
-                write!(text, ", {name}")
+    /// An attribute by its number, the key first.
+    pub(crate) fn attribute(&self, relation: RelNo, place: usize) -> &'a str {
+        if relation.index() >= self.schemes.count() {
+            return "";
+        }
+        let scheme = self.schemes.scheme(relation);
+        let keys = scheme.keys();
+        let others = scheme.others();
+        if place < keys.len() {
+            keys.name(place)
+        } else if place - keys.len() < others.len() {
+            others.name(place - keys.len())
+        } else {
+            ""
+        }
+    }
+
+    // ---- labels
+
+    /// Whether one label is seen at another.
+    pub(crate) fn is_seen(&self, low: LabelNo, high: LabelNo) -> bool {
+        let count = self.policy.label_count();
+        low.index() < count && high.index() < count && self.policy.dominates(high, low)
+    }
+
+    /// Whether a label sees both of two.
+    fn sees_both(&self, label: LabelNo, one: LabelNo, other: LabelNo) -> bool {
+        self.is_seen(one, label) && self.is_seen(other, label)
+    }
+
+    /// A lowest declared label that sees both: below the ceiling, where that sees them.
+    pub(crate) fn lowest_over(&self, one: LabelNo, other: LabelNo) -> Option<LabelNo> {
+        let ceiling = self.tx.hi();
+        let mut lowest = if self.sees_both(ceiling, one, other) {
+            Some(ceiling)
+        } else {
+            None
+        };
+        for place in 0..self.policy.label_count() {
+            let label = LabelNo::new(place as u8);
+            let is_lower = match lowest {
+                Some(high) => self.is_seen(label, high),
+                None => true,
+            };
+            if is_lower && self.sees_both(label, one, other) {
+                lowest = Some(label);
             }
-            Term::Parameter(place) => {
-                let place = usize::from(*place);
-                self.with_label(text, self.parameter(place), self.parameter_label(place))
+        }
+        lowest
+    }
+
+    /// A highest declared label that both see.
+    pub(crate) fn highest_under(&self, one: LabelNo, other: LabelNo) -> Option<LabelNo> {
+        let mut highest = None;
+        for place in 0..self.policy.label_count() {
+            let label = LabelNo::new(place as u8);
+            let is_higher = match highest {
+                Some(low) => self.is_seen(low, label),
+                None => true,
+            };
+            if is_higher && self.is_seen(label, one) && self.is_seen(label, other) {
+                highest = Some(label);
             }
-            Term::Field { depth, .. } => { self.with_label(text, "a row", row_label(rows, *depth)) }
-            Term::Not(expr) => self.reads_to(text, rows, expr),
-            Term::Op(_, left, right) => {
-                self.reads_to(text, rows, left)?;
-                self.reads_to(text, rows, right)
+        }
+        highest
+    }
+
+    // ---- statements
+
+    pub(crate) fn statement(&self, number: usize) -> Option<Statement<'a>> {
+        self.statements.get(number.checked_sub(1)?).copied()
+    }
+
+    pub(crate) fn stmt(&self, number: usize) -> Option<&'a Stmt> {
+        Some(self.statement(number)?.stmt)
+    }
+
+    /// The number of what is around a statement: 0 is the transaction itself.
+    pub(crate) fn around(&self, number: usize) -> usize {
+        self.statement(number)
+            .map_or(0, |statement| statement.around)
+    }
+
+    /// The numbers of the loops and branches around a statement, the innermost first.
+    pub(crate) fn all_around(&self, number: usize) -> Result<Vec<usize>, AllocError> {
+        let mut all = Vec::new(self.alloc);
+        let mut around = self.around(number);
+        for _ in 0..self.statements.len() {
+            if around == 0 {
+                break;
             }
+            all.push(around)?;
+            around = self.around(around);
         }
+        Ok(all)
     }
 
-    /// Adds what expressions are made of.
-    pub(crate) fn all_read_to(
-        &self,
-        text: &mut String,
-        rows: &[LabelNo],
-        exprs: &[Expr],
-    ) -> Result<(), AllocError>
-        ensures { OnOk result (string_bytes text.new ≡ string_bytes text.old
-            ++ all_read self.now.policy.now self.now.tx.now rows.now exprs.now) }
-    {
-        for expr in exprs {
-            self.reads_to(text, rows, expr)?;
-        }
-        Ok(())
-    }
-
-    /// Adds what the new values of an update are made of.
-    pub(crate) fn sets_read_to(
-        &self,
-        text: &mut String,
-        rows: &[LabelNo],
-        sets: &[(u8, Expr)],
-    ) -> Result<(), AllocError>
-        ensures { OnOk result (string_bytes text.new ≡ string_bytes text.old
-            ++ all_read self.now.policy.now self.now.tx.now rows.now (map (λ s. s.1) sets.now)) }
-    {
-        for set in sets {
-            self.reads_to(text, rows, &set.1)?;
-        }
-        Ok(())
-    }
-
-    /// The one label does not dominate the other.
-    #[tactic(auto, unfolding(crate::specs::Reads::not_over))]
-    pub(crate) fn not_over(
-        &self,
-        alloc: Global,
-        high: LabelNo,
-        low: LabelNo,
-    ) -> Result<String, AllocError>
-        ensures { IfOk result (λ s. string_bytes s ≡ not_over self.now.policy.now high low) }
-    {
-        let high = self.label(high);
-        let low = self.label(low);
-        let sentence = format!(in alloc; "{high} does not dominate {low}")?;
-        Ok(sentence)
-    }
-
-    /// The ceiling does not dominate a label.
-    pub(crate) fn over_ceiling(&self, alloc: Global, label: LabelNo) -> Result<String, AllocError>
-        ensures { IfOk result (λ s. string_bytes s ≡ over_ceiling self.now.policy.now self.now.tx.now label) }
-    {
-        let rest = self.not_over(alloc, self.tx.hi(), label)?;
-        let sentence = format!(in alloc; "the ceiling {rest}")?;
-        Ok(sentence)
+    /// Adds the line of a statement, with its number in front. 0 is the heading.
+    pub(crate) fn line_to(&self, text: &mut String, number: usize) -> Result<(), AllocError> {
+        let line = self.lines.get(number).copied().unwrap_or("");
+        write!(text, "{number:>4}  {line}")
     }
 }

@@ -112,12 +112,14 @@ fn is_stored_row(
 /// Whether rows are content: a relation of the stored form with the kinds and intervals of the scheme, each tuple at its
 /// place.
 ///
-/// It takes memory for one tuple at a time, and looks up the other tuples of an entity by their places.
+/// It takes memory for one tuple at a time, and looks up the other tuples of an entity by their places. `at` is increased by the
+/// number of tuples before the one that is not as it should be.
 pub fn is_content(
     alloc: Global,
     policy: &Policy,
     scheme: &Scheme,
     rows: &Rows,
+    at: &mut usize,
 ) -> Result<bool, AllocError>
     requires under { IsUnder (length policy.now.labels) scheme.now }
     ensures { IfOk result (λ b. IsTrue b ↔ IsContent (labels_of policy.now) scheme.now (table_of rows.now.entries)) }
@@ -128,6 +130,7 @@ pub fn is_content(
         if !is_stored_row(policy, scheme, rows, place, elements)? {
             return Ok(false);
         }
+        *at = at.saturating_add(1);
     }
     Ok(true)
 }

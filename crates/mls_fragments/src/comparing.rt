@@ -5,6 +5,7 @@ ghost use Rattle.mls_filterview.specs.Fragment.{node_of, cells_of};
 ghost use Rattle.mls_fragments.specs.Finding.{IsMemory, IsSpelledEntry, AreAlike, node_rows, cell_rows};
 ghost use Rattle.mls_fragments.specs.Holding.{node_row, cell_row};
 
+use crate::place::{Step, Where};
 use crate::reading::RowFault;
 use crate::writing::{row_of_cell, row_of_node};
 use mls_filterview::{Rows, cells_of, nodes_of};
@@ -79,23 +80,39 @@ pub(crate) fn cell_rows(alloc: Global, tables: &[Rows]) -> Result<Vec<CellRow>, 
 }
 
 /// Whether two lists have the same rows, each as often.
-fn have_same_nodes(mut left: Vec<NodeRow>, mut right: Vec<NodeRow>) -> Result<bool, AllocError>
+fn have_same_nodes(
+    mut left: Vec<NodeRow>,
+    mut right: Vec<NodeRow>,
+    at: &mut Where,
+) -> Result<bool, AllocError>
     ensures same { IfOk result (λ b. IsTrue b → IsPermutation left.items right.items) }
     ensures only { AreAlike (λ r. r.rel) left.items right.items → IfOk result IsTrue }
 {
     left.sort()?;
     right.sort()?;
-    Ok(left.as_slice() == right.as_slice())
+    let are_same = left.as_slice() == right.as_slice();
+    if !are_same {
+        at.compare(Step::LooseNode, Step::LooseNode, &right, &left);
+    }
+    Ok(are_same)
 }
 
 /// Whether two lists have the same rows, each as often.
-fn have_same_cells(mut left: Vec<CellRow>, mut right: Vec<CellRow>) -> Result<bool, AllocError>
+fn have_same_cells(
+    mut left: Vec<CellRow>,
+    mut right: Vec<CellRow>,
+    at: &mut Where,
+) -> Result<bool, AllocError>
     ensures same { IfOk result (λ b. IsTrue b → IsPermutation left.items right.items) }
     ensures only { AreAlike (λ r. r.rel) left.items right.items → IfOk result IsTrue }
 {
     left.sort()?;
     right.sort()?;
-    Ok(left.as_slice() == right.as_slice())
+    let are_same = left.as_slice() == right.as_slice();
+    if !are_same {
+        at.compare(Step::LooseCell, Step::MissingCell, &right, &left);
+    }
+    Ok(are_same)
 }
 
 /// Whether the nodes and the cells of tables are these.
@@ -104,6 +121,7 @@ pub(crate) fn have_rows(
     tables: &[Rows],
     nodes: Vec<NodeRow>,
     cells: Vec<CellRow>,
+    at: &mut Where,
 ) -> Result<bool, RowFault>
     requires few { length tables.now ≤ 256 }
     requires spelled { AllByRecursion (λ t. AllByRecursion IsSpelledEntry t.entries) tables.now }
@@ -114,8 +132,8 @@ pub(crate) fn have_rows(
         → AreAlike (λ r. r.rel) (cell_rows 0 (map (λ t. t.entries) tables.now)) cells.items → IfOk result IsTrue }
     ensures fault { IfErr result IsMemory }
 {
-    if !have_same_nodes(node_rows(alloc, tables)?, nodes)? {
+    if !have_same_nodes(node_rows(alloc, tables)?, nodes, at)? {
         return Ok(false);
     }
-    Ok(have_same_cells(cell_rows(alloc, tables)?, cells)?)
+    Ok(have_same_cells(cell_rows(alloc, tables)?, cells, at)?)
 }

@@ -14,6 +14,7 @@ ghost use Rattle.mls_fragments.specs.Finding.{HasByteClasses, IsMemory, IsNodeRo
 ghost use Rattle.mls_fragments.specs.Holding.{Holds};
 
 use crate::comparing::have_rows;
+use crate::place::{Step, Where};
 use crate::reading::{RowFault, cells_in, entries_in, nodes_in};
 use mls_audit::entry_of;
 use mls_filterview::{Rows, is_content, rows_of, values_of};
@@ -28,12 +29,13 @@ fn assembled(
     rel: RelNo,
     nodes: &[NodeRow],
     cells: &[CellRow],
+    at: &mut Where,
 ) -> Result<Rows, RowFault>
     ensures assembled { IfOk result (λ rows. IsAssembled rel nodes.now cells.now rows.entries) }
     ensures only { AllByRecursion IsNodeRow nodes.now → AllByRecursion IsCellRow cells.now → IfErr result IsMemory }
 {
-    let nodes = nodes_in(alloc, rel, nodes)?;
-    let values = values_of(alloc, cells_in(alloc, rel, cells)?)?;
+    let nodes = nodes_in(alloc, rel, nodes, at)?;
+    let values = values_of(alloc, cells_in(alloc, rel, cells, at)?)?;
     Ok(rows_of(alloc, nodes, &values)?)
 }
 
@@ -43,6 +45,7 @@ pub fn tables_of(
     count: usize,
     nodes: &[NodeRow],
     cells: &[CellRow],
+    at: &mut Where,
 ) -> Result<Vec<Rows>, RowFault>
     requires few { count ≤ 256 }
     ensures count { IfOk result (λ tables. length tables.items ≡ count) }
@@ -51,7 +54,7 @@ pub fn tables_of(
 {
     let mut tables = Vec::new(alloc);
     for rel in 0..count {
-        tables.push(assembled(alloc, RelNo::new(rel as u8), nodes, cells)?)?;
+        tables.push(assembled(alloc, RelNo::new(rel as u8), nodes, cells, at)?)?;
     }
     Ok(tables)
 }
@@ -62,6 +65,7 @@ fn are_content(
     policy: &Policy,
     schemes: &Schemes,
     tables: &[Rows],
+    at: &mut Where,
 ) -> Result<bool, AllocError>
     requires under { AreUnder (length policy.now.labels) schemes.now }
     requires few { length tables.now ≤ 256 }
@@ -70,8 +74,10 @@ fn are_content(
         ↔ AreTables (labels_of policy.now) schemes.now (map (λ t. t.entries) tables.now)) }
 {
     for (rel, table) in tables.iter().enumerate() {
-        let scheme = schemes.scheme(RelNo::new(rel as u8));
-        if !is_content(alloc, policy, scheme, table)? {
+        let rel = RelNo::new(rel as u8);
+        at.begin(Step::Tuple(rel));
+        let scheme = schemes.scheme(rel);
+        if !is_content(alloc, policy, scheme, table, &mut at.row)? {
             return Ok(false);
         }
     }
@@ -92,14 +98,34 @@ fn check_entry(alloc: Global, labels: usize, bytes: &[u8]) -> Result<(), RowFaul
 }
 
 /// Refuses rows with bytes that are no entry of one of the first labels.
-fn check_entries(alloc: Global, labels: usize, rows: &[AuditRow]) -> Result<(), RowFault>
+fn check_entries(
+    alloc: Global,
+    labels: usize,
+    rows: &[AuditRow],
+    at: &mut Where,
+) -> Result<(), RowFault>
     ensures found { OnOk result (AllByRecursion (λ r. IsEntryOf labels r.bytes) rows.now) }
     ensures only { AllByRecursion (λ r. IsEntryOf labels r.bytes) rows.now → IfErr result IsMemory }
 {
+    at.begin(Step::Entry);
     for row in rows {
         check_entry(alloc, labels, &row.bytes)?;
+        at.pass();
     }
     Ok(())
+}
+
+/// Goes to the first row that has not the next number.
+fn pass_numbered(rows: &[AuditRow], at: &mut Where) {
+    at.begin(Step::Number);
+    let mut last: i64 = 0;
+    for row in rows {
+        last = last.saturating_add(1);
+        if row.number != last {
+            return;
+        }
+        at.pass();
+    }
 }
 
 /// The entries of rows whose numbers are 1, 2, .. up to their count.
@@ -107,6 +133,7 @@ fn entries_of(
     alloc: Global,
     labels: usize,
     mut rows: Vec<AuditRow>,
+    at: &mut Where,
 ) -> Result<Items<Items<u8>>, RowFault>
     ensures numbered { IfOk result (λ entries. IsPermutation (numbered 1 entries) rows.items) }
     ensures entries { IfOk result (AllByRecursion (IsEntryOf labels)) }
@@ -115,9 +142,10 @@ fn entries_of(
 {
     rows.sort()?;
     if !are_numbered(&rows) {
+        pass_numbered(&rows, at);
         return Err(RowFault::BadRow);
     }
-    check_entries(alloc, labels, &rows)?;
+    check_entries(alloc, labels, &rows, at)?;
     entries_in(alloc, rows)
 }
 
@@ -141,13 +169,15 @@ fn is_within(labels: usize, node: &NodeRow) -> bool
 }
 
 /// Whether the classes of all tuples are.
-fn are_within(labels: usize, nodes: &[NodeRow]) -> bool
+fn are_within(labels: usize, nodes: &[NodeRow], at: &mut Where) -> bool
     ensures { result ≡ list_all (is_within labels) nodes.now }
 {
+    at.begin(Step::Classes);
     for node in nodes {
         if !is_within(labels, node) {
             return false;
         }
+        at.pass();
     }
     true
 }
@@ -164,13 +194,14 @@ pub(crate) struct Found {
 }
 
 /// What rows hold, where that is content of the stored form whose classes are among the first labels, and entries of such
-/// labels.
+/// labels. Where it is not, the judging stands at a row of it.
 pub(crate) fn find(
     alloc: Global,
     policy: &Policy,
     schemes: &Schemes,
     labels: usize,
     rows: AllRows,
+    at: &mut Where,
 ) -> Result<Found, RowFault>
     requires under { AreUnder (length policy.now.labels) schemes.now }
     ensures held { IfOk result (λ f. (t : Tables) → AreAll t rows → Holds t (content_found f)) }
@@ -193,17 +224,17 @@ pub(crate) fn find(
     } = rows;
     // for how many labels there are
     let _labels = policy.label_count();
-    if !are_within(labels, &nodes) {
+    if !are_within(labels, &nodes, at) {
         return Err(RowFault::BadRow);
     }
-    let tables = tables_of(alloc, schemes.count(), &nodes, &cells)?;
-    if !are_content(alloc, policy, schemes, &tables)? {
+    let tables = tables_of(alloc, schemes.count(), &nodes, &cells, at)?;
+    if !are_content(alloc, policy, schemes, &tables, at)? {
         return Err(RowFault::BadRow);
     }
-    if !have_rows(alloc, &tables, nodes, cells)? {
+    if !have_rows(alloc, &tables, nodes, cells, at)? {
         return Err(RowFault::BadRow);
     }
-    let entries = entries_of(alloc, labels, entries)?;
+    let entries = entries_of(alloc, labels, entries, at)?;
     let Ok(last) = i64::try_from(entries.len()) else {
         return Err(RowFault::Memory);
     };

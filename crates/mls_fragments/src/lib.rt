@@ -11,8 +11,10 @@ mod migrating;
 mod noted;
 mod open_fault;
 mod opening;
+mod place;
 mod reading;
 mod recalled;
+mod refusing;
 mod writing;
 
 pub use again::connected;
@@ -25,4 +27,6 @@ pub use laws::{
 pub use migrating::{Older, Standing, standing_of};
 pub use open_fault::OpenFault;
 pub use opening::texts_of;
+pub use place::{Step, Where};
 pub use reading::RowFault;
+pub use refusing::bad_row;

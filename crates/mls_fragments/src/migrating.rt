@@ -17,6 +17,7 @@ ghost use Rattle.mls_fragments.specs.Holding.{Holds};
 ghost use Rattle.mls_fragments.specs.Migrating.{IsStanding, IsOther, IsBefore, wide_tables, IsWidenedContent, IsSoundBefore};
 
 use crate::finding::{Found, find};
+use crate::place::Where;
 use crate::reading::RowFault;
 use mls_filterview::{Rows, widened};
 use mls_lattice::{Policy, Version};
@@ -126,6 +127,7 @@ pub(crate) fn find_widened(
     schemes: &Schemes,
     older: &Older,
     rows: AllRows,
+    at: &mut Where,
 ) -> Result<Found, RowFault>
     requires under { AreUnder (length policy.now.labels) schemes.now }
     requires before { IsBefore policy.now schemes.now older.now.labels older.now.counts.items }
@@ -150,7 +152,7 @@ pub(crate) fn find_widened(
         tables,
         entries,
         last,
-    } = find(alloc, policy, &before, older.labels, rows)?;
+    } = find(alloc, policy, &before, older.labels, rows, at)?;
     Ok(Found {
         tables: widened_tables(alloc, schemes, &older.counts, tables)?,
         entries,

@@ -29,6 +29,7 @@ use crate::comparing::{cell_rows, node_rows};
 use crate::finding::{Found, find};
 use crate::migrating::{Older, Standing, find_widened, standing_of};
 use crate::open_fault::OpenFault;
+use crate::place::Where;
 use mls_lattice::Policy;
 use mls_scheme::{Schemes, SchemesFile};
 use mls_statements::statements::creation::has_nothing;
@@ -104,7 +105,8 @@ fn taken<S: Alter>(
         Ok(rows) => rows,
         Err(fault) => return Err((OpenFault::from(fault), conn)),
     };
-    match find(alloc, policy, schemes, policy.label_count(), rows) {
+    let mut at = Where::start();
+    match find(alloc, policy, schemes, policy.label_count(), rows, &mut at) {
         Ok(found) => Ok(SqlBase::over_found(alloc, TableStore::over(alloc, conn), &found)),
         Err(fault) => Err((OpenFault::from(fault), conn)),
     }
@@ -167,7 +169,8 @@ fn migrated<S: Alter>(
         Ok(rows) => rows,
         Err(fault) => return Err((OpenFault::from(fault), conn)),
     };
-    let found = match find_widened(alloc, policy, schemes, older, rows) {
+    let mut at = Where::start();
+    let found = match find_widened(alloc, policy, schemes, older, rows, &mut at) {
         Ok(found) => found,
         Err(fault) => return Err((OpenFault::from(fault), conn)),
     };

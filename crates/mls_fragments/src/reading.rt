@@ -12,6 +12,7 @@ ghost use Rattle.mls_fragments.specs.declared.reading.RowFault.TheVariants.{Memo
 ghost use Rattle.mls_fragments.specs.Finding.{IsMemory, IsNodeRow, IsCellRow, AreReadable};
 ghost use Rattle.mls_fragments.specs.Holding.{Holds, node_row, cell_row, value_bytes, IsSpelledNode, IsSpelledCell};
 
+use crate::place::{Step, Where};
 use mls_filterview::{Cell, Fragment, Node};
 use mls_lattice::{Items, LabelNo};
 use mls_scheme::{KeyFault, RelNo, Value, key_of, value_of};
@@ -116,16 +117,23 @@ fn node_in(alloc: Global, row: &NodeRow) -> Result<Node, RowFault>
 }
 
 /// The nodes of one relation among rows.
-pub(crate) fn nodes_in(alloc: Global, rel: RelNo, rows: &[NodeRow]) -> Result<Items<Node>, RowFault>
+pub(crate) fn nodes_in(
+    alloc: Global,
+    rel: RelNo,
+    rows: &[NodeRow],
+    at: &mut Where,
+) -> Result<Items<Node>, RowFault>
     ensures shown { IfOk result (λ nodes. map (node_row rel) nodes ≡ filter (λ r. nat_eq r.rel rel) rows.now) }
     ensures spelled { IfOk result (AllByRecursion IsSpelledNode) }
     ensures only { AllByRecursion IsNodeRow rows.now → IfErr result IsMemory }
 {
+    at.begin(Step::Node);
     let mut nodes = Vec::new(alloc);
     for row in rows {
         if row.rel == u32::from(rel.byte()) {
             nodes.push(node_in(alloc, row)?)?;
         }
+        at.pass();
     }
     Ok(Items::from(nodes))
 }
@@ -159,16 +167,23 @@ fn cell_in(alloc: Global, row: &CellRow) -> Result<Cell, RowFault>
 }
 
 /// The cells of one relation among rows.
-pub(crate) fn cells_in(alloc: Global, rel: RelNo, rows: &[CellRow]) -> Result<Items<Cell>, RowFault>
+pub(crate) fn cells_in(
+    alloc: Global,
+    rel: RelNo,
+    rows: &[CellRow],
+    at: &mut Where,
+) -> Result<Items<Cell>, RowFault>
     ensures shown { IfOk result (λ cells. map (cell_row rel) cells ≡ filter (λ r. nat_eq r.rel rel) rows.now) }
     ensures spelled { IfOk result (AllByRecursion IsSpelledCell) }
     ensures only { AllByRecursion IsCellRow rows.now → IfErr result IsMemory }
 {
+    at.begin(Step::Cell);
     let mut cells = Vec::new(alloc);
     for row in rows {
         if row.rel == u32::from(rel.byte()) {
             cells.push(cell_in(alloc, row)?)?;
         }
+        at.pass();
     }
     Ok(Items::from(cells))
 }
@@ -184,9 +199,10 @@ pub(crate) fn fragment_in(
     ensures spelled { IfOk result (λ f. AllByRecursion IsSpelledNode f.nodes × AllByRecursion IsSpelledCell f.cells) }
     ensures only { AllByRecursion IsNodeRow nodes.now → AllByRecursion IsCellRow cells.now → IfErr result IsMemory }
 {
+    let mut at = Where::start();
     Ok(Fragment {
-        nodes: nodes_in(alloc, rel, nodes)?,
-        cells: cells_in(alloc, rel, cells)?,
+        nodes: nodes_in(alloc, rel, nodes, &mut at)?,
+        cells: cells_in(alloc, rel, cells, &mut at)?,
     })
 }
 

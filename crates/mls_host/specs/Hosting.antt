@@ -23,6 +23,8 @@ pub record Hosting : Type 1 where
   pub breaks : Type 0
   -- somebody types them at a terminal
   pub is_terminal : Bool
+  -- somebody reads standard error at a terminal
+  pub is_watched : Bool
   -- what the store at a path keeps: the row that describes it, and its content
   pub keeps : List ℕ → Holdings → Type 0
   -- why that store is not opened under a policy and schemes

@@ -55,8 +55,8 @@ pub enum StoreCause {
 /// Where inputs come from, and where stores are.
 ///
 /// Contracts see which bytes a host gives for the file at a path, and, with no path, for the standard input, and why it gives none;
-/// what is typed there, whether reading that may fail, and whether it is a terminal; what the store at a path keeps, and why it is not
-/// opened; which bytes its files are shown to have, and why they are not shown; and of the store which it took back last, whether it was
+/// what is typed there, whether reading that may fail, and whether it is a terminal, as standard error may be; what the store at a path
+/// keeps, and why it is not opened; which bytes its files are shown to have, and why they are not shown; and of the store which it took back last, whether it was
 /// clean, whether a call of it failed, and whether it was closed.
 pub trait Host {
     ghost hosting: { Self → Hosting };
@@ -85,6 +85,10 @@ pub trait Host {
     /// Whether somebody types them at a terminal.
     fn is_terminal(&self) -> bool
         ensures { result ≡ (hosting self.now).is_terminal };
+
+    /// Whether somebody reads standard error at a terminal: then more is told there of what is refused.
+    fn is_watched(&self) -> bool
+        ensures { result ≡ (hosting self.now).is_watched };
 
     /// Opens the store at a path, which is made where there is none. What it kept is taken as it was, or, where these files are later
     /// ones than its own, with its relations widened. One that is refused keeps what it kept.

@@ -7,6 +7,7 @@ ghost use Rattle.mls_lattice.specs.Reading.{Gives, wanted, text_at, integer_at, 
 
 use crate::fault::PolicyFault;
 use crate::name::is_name;
+use crate::trail::Trail;
 use crate::version::Version;
 use toml::{Table, Value};
 
@@ -40,10 +41,10 @@ pub fn integer_of(value: &Value) -> Result<i64, PolicyFault>
 
 /// The version, which is 1 or 2.
 #[tactic(auto, unfolding(crate::specs::Reading::version_at))]
-pub fn version_of(document: &Table) -> Result<Version, PolicyFault>
+pub fn version_of(document: &Table, at: &mut Trail) -> Result<Version, PolicyFault>
     ensures { Gives (λ v. v) result (version_at (table_view document.now)) }
 {
-    match integer_of(wanted(document, "version")?)? {
+    match integer_of(wanted(document, at.field(0, "version"))?)? {
         1 => Ok(Version::One),
         2 => Ok(Version::Two),
         _ => Err(PolicyFault::WrongKind),

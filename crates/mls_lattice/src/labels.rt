@@ -15,6 +15,7 @@ use crate::label::Label;
 use crate::names::place_of;
 use crate::tables::NamedLabel;
 use crate::text::Str;
+use crate::trail::Trail;
 use std::alloc::Global;
 use toml::{Table, Value};
 
@@ -23,12 +24,13 @@ const MAX_LABELS: usize = 64;
 
 /// The words of a set with the categories of these names.
 #[tactic(auto, using(crate::proofs::PolicyReadingLemmas::category_steps))]
-fn categories_in(categories: &[Str], items: &[Value]) -> Result<u32, PolicyFault>
+fn categories_in(categories: &[Str], items: &[Value], at: &mut Trail) -> Result<u32, PolicyFault>
     requires { length categories.now ≤ 32 }
     ensures { Gives cats_of result (more_categories categories.now set.empty (items_view items.now)) }
 {
     let mut label = Label { rank: 0, cats: 0 };
     for value in items {
+        at.next(1);
         let place = place_of(categories, name_of(value)?)? as u32;
         if label.has(place) {
             return Err(PolicyFault::Repeated);
@@ -52,13 +54,19 @@ fn has_value(labels: &[NamedLabel], label: Label) -> bool
 
 /// The rank and the categories that the fields of a label say.
 #[tactic(auto, unfolding(crate::specs::PolicyReading::value_at))]
-fn value_of(levels: &[Str], categories: &[Str], fields: &Table) -> Result<Label, PolicyFault>
+fn value_of(
+    levels: &[Str],
+    categories: &[Str],
+    fields: &Table,
+    at: &mut Trail,
+) -> Result<Label, PolicyFault>
     requires few_levels { length levels.now ≤ 16 }
     requires few_categories { length categories.now ≤ 32 }
     ensures { Gives pair_of result (value_at levels.now categories.now (table_view fields.now)) }
 {
-    let rank = place_of(levels, name_field(fields, "level")?)? as u8;
-    let cats = categories_in(categories, optional_texts(fields, "categories")?)?;
+    let rank = place_of(levels, name_field(fields, at.field(1, "level"))?)? as u8;
+    let items = optional_texts(fields, at.field(1, "categories"))?;
+    let cats = categories_in(categories, items, at)?;
     Ok(Label { rank, cats })
 }
 
@@ -69,17 +77,19 @@ fn label_of(
     categories: &[Str],
     labels: &[NamedLabel],
     value: &Value,
+    at: &mut Trail,
 ) -> Result<NamedLabel, PolicyFault>
     requires few_levels { length levels.now ≤ 16 }
     requires few_categories { length categories.now ≤ 32 }
     ensures { Gives named result (label_at levels.now categories.now (map named labels.now) (view value.now)) }
 {
     let fields = table_of(value)?;
-    let name = name_field(fields, "name")?;
+    let name = name_field(fields, at.field(1, "name"))?;
     if has_name(labels, name) {
         return Err(PolicyFault::Repeated);
     }
-    let label = value_of(levels, categories, fields)?;
+    let label = value_of(levels, categories, fields, at)?;
+    at.back(0);
     if has_value(labels, label) {
         return Err(PolicyFault::Repeated);
     }
@@ -92,6 +102,7 @@ fn rows_of(
     levels: &[Str],
     categories: &[Str],
     items: &[Value],
+    at: &mut Trail,
 ) -> Result<Vec<NamedLabel>, PolicyFault>
     requires few_levels { length levels.now ≤ 16 }
     requires few_categories { length categories.now ≤ 32 }
@@ -101,7 +112,8 @@ fn rows_of(
 {
     let mut labels = Vec::new(alloc);
     for value in items {
-        let label = label_of(alloc, levels, categories, &labels, value)?;
+        at.next(0);
+        let label = label_of(alloc, levels, categories, &labels, value, at)?;
         labels.push(label)?;
     }
     Ok(labels)
@@ -114,6 +126,7 @@ pub(crate) fn labels_of(
     levels: &[Str],
     categories: &[Str],
     document: &Table,
+    at: &mut Trail,
 ) -> Result<Vec<NamedLabel>, PolicyFault>
     requires few_levels { length levels.now ≤ 16 }
     requires few_categories { length categories.now ≤ 32 }
@@ -121,9 +134,9 @@ pub(crate) fn labels_of(
         (labels_at levels.now categories.now (table_view document.now)) }
     ensures count { IfOk result (λ v. length v.items ≤ 64) }
 {
-    let all = tables_of(wanted(document, "label")?)?;
+    let all = tables_of(wanted(document, at.field(0, "label"))?)?;
     let items = some_of(all, MAX_LABELS)?;
-    rows_of(alloc, levels, categories, items)
+    rows_of(alloc, levels, categories, items, at)
 }
 
 /// Where the first label of a name stands.

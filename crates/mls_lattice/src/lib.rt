@@ -22,6 +22,7 @@ mod number;
 mod policy;
 mod tables;
 mod text;
+mod trail;
 mod users;
 mod version;
 
@@ -33,6 +34,7 @@ pub use name::{is_name, is_name_byte, is_reserved};
 pub use number::{LabelNo, UserNo};
 pub use policy::Policy;
 pub use text::{Str, ascii_text, digits_len};
+pub use trail::{Refused, Step, Trail};
 pub use version::Version;
 
 /// Dominance is an order.

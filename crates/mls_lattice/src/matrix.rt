@@ -12,6 +12,7 @@ use crate::modes::Modes;
 use crate::number::UserNo;
 use crate::tables::{Right, User};
 use crate::text::Str;
+use crate::trail::Trail;
 use crate::users::user_place;
 use bitflags::Flags;
 use std::alloc::Global;
@@ -35,11 +36,12 @@ fn mode_of(word: &str) -> Result<Modes, PolicyFault>
 
 /// The modes of an array of words, none of them twice.
 #[tactic(auto, using(crate::proofs::PolicyReadingLemmas::mode_steps))]
-fn modes_of(items: &[Value]) -> Result<Modes, PolicyFault>
+fn modes_of(items: &[Value], at: &mut Trail) -> Result<Modes, PolicyFault>
     ensures { Gives (λ m. m.0) result (more_modes 0 (items_view items.now)) }
 {
     let mut modes = Modes::empty();
     for value in items {
+        at.next(1);
         let mode = mode_of(text_of(value)?)?;
         if modes.contains(mode) {
             return Err(PolicyFault::Repeated);
@@ -80,14 +82,17 @@ fn right_of(
     users: &[User],
     matrix: &[Right],
     value: &Value,
+    at: &mut Trail,
 ) -> Result<Right, PolicyFault>
     requires { length users.now ≤ 64 }
     ensures { Gives (λ r. r) result (right_at users.now matrix.now (view value.now)) }
 {
     let fields = table_of(value)?;
-    let user = UserNo::new(user_place(users, name_field(fields, "user")?)? as u8);
-    let object = name_field(fields, "object")?;
-    let modes = modes_of(texts_of(wanted(fields, "modes")?)?)?;
+    let user = UserNo::new(user_place(users, name_field(fields, at.field(1, "user"))?)? as u8);
+    let object = name_field(fields, at.field(1, "object"))?;
+    let words = texts_of(wanted(fields, at.field(1, "modes"))?)?;
+    let modes = modes_of(words, at)?;
+    at.back(0);
     if has_entry(matrix, user, object) {
         return Err(PolicyFault::Repeated);
     }
@@ -99,13 +104,19 @@ fn right_of(
     })
 }
 
-fn rows_of(alloc: Global, users: &[User], items: &[Value]) -> Result<Vec<Right>, PolicyFault>
+fn rows_of(
+    alloc: Global,
+    users: &[User],
+    items: &[Value],
+    at: &mut Trail,
+) -> Result<Vec<Right>, PolicyFault>
     requires { length users.now ≤ 64 }
     ensures { Gives (λ v. v.items) result (rows_at (right_at users.now) [] (items_view items.now)) }
 {
     let mut matrix = Vec::new(alloc);
     for value in items {
-        let right = right_of(alloc, users, &matrix, value)?;
+        at.next(0);
+        let right = right_of(alloc, users, &matrix, value, at)?;
         matrix.push(right)?;
     }
     Ok(matrix)
@@ -117,11 +128,12 @@ pub(crate) fn matrix_of(
     alloc: Global,
     users: &[User],
     document: &Table,
+    at: &mut Trail,
 ) -> Result<Vec<Right>, PolicyFault>
     requires { length users.now ≤ 64 }
     ensures { Gives (λ v. v.items) result (matrix_at users.now (table_view document.now)) }
 {
-    let all = optional_tables(document, "matrix")?;
+    let all = optional_tables(document, at.field(0, "matrix"))?;
     let items = at_most(all, MAX_RIGHTS)?;
-    rows_of(alloc, users, items)
+    rows_of(alloc, users, items, at)
 }

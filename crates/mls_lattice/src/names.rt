@@ -9,6 +9,7 @@ ghost use Rattle.mls_lattice.specs.PolicyReading.{rows_at, new_name_at, place_in
 use crate::document::name_of;
 use crate::fault::PolicyFault;
 use crate::text::Str;
+use crate::trail::Trail;
 use std::alloc::Global;
 use toml::Value;
 
@@ -30,12 +31,17 @@ fn new_name<'a>(names: &[Str], value: &'a Value) -> Result<&'a str, PolicyFault>
 }
 
 /// The names of an array, none of them twice.
-pub(crate) fn names_of(alloc: Global, items: &[Value]) -> Result<Vec<Str>, PolicyFault>
+pub(crate) fn names_of(
+    alloc: Global,
+    items: &[Value],
+    at: &mut Trail,
+) -> Result<Vec<Str>, PolicyFault>
     ensures reads { Gives (λ v. v.items) result (rows_at new_name_at [] (items_view items.now)) }
     ensures count { IfOk result (λ v. length v.items ≡ length items.now) }
 {
     let mut names = Vec::new(alloc);
     for value in items {
+        at.next(0);
         let name = new_name(&names, value)?;
         names.push(Str::copy_of(alloc, name)?)?;
     }

@@ -28,6 +28,7 @@ use crate::names::names_of;
 use crate::number::{LabelNo, UserNo};
 use crate::tables::{NamedLabel, Right, User};
 use crate::text::Str;
+use crate::trail::{Refused, Trail};
 use crate::users::{position_of_user, users_of};
 use crate::version::Version;
 use std::alloc::{AllocError, Global};
@@ -63,21 +64,47 @@ impl Model for Policy {
 impl Policy {
     /// Reads the bytes of a TOML document. NotToml is the answer where they are none, and also where they are not UTF-8;
     /// the other faults come in the order of the fields, as `policy_at` has them. Memory may stand in place of any answer.
-    pub fn read(alloc: Global, bytes: &[u8]) -> Result<Policy, PolicyFault>
+    /// Beside the fault stands where in the document the reader stopped.
+    pub fn read_at(alloc: Global, bytes: &[u8]) -> Result<Policy, Refused<PolicyFault>>
         // What is read is what the bytes say.
         ensures found { IfOk result (ReadsPolicy bytes.now) }
         // Nothing that says a policy is refused, unless memory runs out.
-        ensures refused { IfErr result (λ e. e ≢ PolicyFault.Memory → (p : Tables) → ReadsPolicy bytes.now p → ⊥) }
+        ensures refused { IfErr result (λ e. e.fault ≢ PolicyFault.Memory → (p : Tables) → ReadsPolicy bytes.now p → ⊥) }
         // Another fault of a document is its first.
-        ensures first { IfErr result (λ e. e ≢ PolicyFault.Memory → e ≢ PolicyFault.NotToml → HasFault bytes.now e) }
+        ensures first { IfErr result (λ e. e.fault ≢ PolicyFault.Memory → e.fault ≢ PolicyFault.NotToml
+            → HasFault bytes.now e.fault) }
         // NotToml is the answer exactly where the bytes are no document.
+        ensures not_toml { IfErr result (λ e. e.fault ≢ PolicyFault.Memory
+            → (e.fault ≡ PolicyFault.NotToml) ↔ ((document : Members) → IsDocument bytes.now document → ⊥)) }
+    {
+        let mut at = Trail::new();
+        match toml::table_from_slice(alloc, bytes) {
+            Ok(document) => match policy_of(alloc, &document, &mut at) {
+                Ok(policy) => Ok(policy),
+                Err(fault) => Err(Refused { fault, at }),
+            },
+            Err(e) if e.is_memory() => Err(Refused {
+                fault: PolicyFault::Memory,
+                at,
+            }),
+            Err(_) => Err(Refused {
+                fault: PolicyFault::NotToml,
+                at,
+            }),
+        }
+    }
+
+    /// The same, with the fault alone.
+    pub fn read(alloc: Global, bytes: &[u8]) -> Result<Policy, PolicyFault>
+        ensures found { IfOk result (ReadsPolicy bytes.now) }
+        ensures refused { IfErr result (λ e. e ≢ PolicyFault.Memory → (p : Tables) → ReadsPolicy bytes.now p → ⊥) }
+        ensures first { IfErr result (λ e. e ≢ PolicyFault.Memory → e ≢ PolicyFault.NotToml → HasFault bytes.now e) }
         ensures not_toml { IfErr result (λ e. e ≢ PolicyFault.Memory
             → (e ≡ PolicyFault.NotToml) ↔ ((document : Members) → IsDocument bytes.now document → ⊥)) }
     {
-        match toml::table_from_slice(alloc, bytes) {
-            Ok(document) => policy_of(alloc, &document),
-            Err(e) if e.is_memory() => Err(PolicyFault::Memory),
-            Err(_) => Err(PolicyFault::NotToml),
+        match Policy::read_at(alloc, bytes) {
+            Ok(policy) => Ok(policy),
+            Err(refused) => Err(refused.fault),
         }
     }
 
@@ -244,35 +271,35 @@ const MAX_LEVELS: usize = 16;
 const MAX_CATEGORIES: usize = 32;
 
 #[tactic(auto, using(crate::proofs::ReadingLemmas::counts), unfolding(crate::specs::PolicyReading::levels_at))]
-fn levels_of(alloc: Global, document: &Table) -> Result<Vec<Str>, PolicyFault>
+fn levels_of(alloc: Global, document: &Table, at: &mut Trail) -> Result<Vec<Str>, PolicyFault>
     ensures reads { Gives (λ v. v.items) result (levels_at (table_view document.now)) }
     ensures count { IfOk result (λ v. length v.items ≤ 16) }
 {
-    let all = texts_of(wanted(document, "levels")?)?;
+    let all = texts_of(wanted(document, at.field(0, "levels"))?)?;
     let items = some_of(all, MAX_LEVELS)?;
-    names_of(alloc, items)
+    names_of(alloc, items, at)
 }
 
 #[tactic(auto, using(crate::proofs::ReadingLemmas::counts), unfolding(crate::specs::PolicyReading::categories_at))]
-fn categories_of(alloc: Global, document: &Table) -> Result<Vec<Str>, PolicyFault>
+fn categories_of(alloc: Global, document: &Table, at: &mut Trail) -> Result<Vec<Str>, PolicyFault>
     ensures reads { Gives (λ v. v.items) result (categories_at (table_view document.now)) }
     ensures count { IfOk result (λ v. length v.items ≤ 32) }
 {
-    let all = optional_texts(document, "categories")?;
+    let all = optional_texts(document, at.field(0, "categories"))?;
     let items = at_most(all, MAX_CATEGORIES)?;
-    names_of(alloc, items)
+    names_of(alloc, items, at)
 }
 
 #[tactic(auto, unfolding(crate::specs::PolicyReading::policy_at))]
-fn policy_of(alloc: Global, document: &Table) -> Result<Policy, PolicyFault>
+fn policy_of(alloc: Global, document: &Table, at: &mut Trail) -> Result<Policy, PolicyFault>
     ensures { Gives (λ p. p) result (policy_at (table_view document.now)) }
 {
-    let version = version_of(document)?;
-    let levels = levels_of(alloc, document)?;
-    let categories = categories_of(alloc, document)?;
-    let labels = labels_of(alloc, &levels, &categories, document)?;
-    let users = users_of(alloc, &labels, document)?;
-    let matrix = matrix_of(alloc, &users, document)?;
+    let version = version_of(document, at)?;
+    let levels = levels_of(alloc, document, at)?;
+    let categories = categories_of(alloc, document, at)?;
+    let labels = labels_of(alloc, &levels, &categories, document, at)?;
+    let users = users_of(alloc, &labels, document, at)?;
+    let matrix = matrix_of(alloc, &users, document, at)?;
     Ok(Policy {
         version,
         levels: Items::from(levels),

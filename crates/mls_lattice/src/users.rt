@@ -15,6 +15,7 @@ use crate::labels::label_place;
 use crate::number::LabelNo;
 use crate::tables::{NamedLabel, User};
 use crate::text::Str;
+use crate::trail::Trail;
 use std::alloc::Global;
 use toml::{Table, Value};
 
@@ -45,6 +46,7 @@ fn is_interval(labels: &[NamedLabel], low: LabelNo, high: LabelNo) -> bool
 fn interval_of(
     labels: &[NamedLabel],
     items: &[Value],
+    at: &mut Trail,
 ) -> Result<Option<(LabelNo, LabelNo)>, PolicyFault>
     requires { length labels.now ≤ 64 }
     ensures { Gives (λ i. i) result (interval_at (map named labels.now) (items_view items.now)) }
@@ -52,8 +54,11 @@ fn interval_of(
     let [low, high] = items else {
         return Err(PolicyFault::WrongKind);
     };
+    at.next(1);
     let low = label_named(labels, low)?;
+    at.next(1);
     let high = label_named(labels, high)?;
+    at.field(1, "trusted");
     if is_interval(labels, low, high) {
         Ok(Some((low, high)))
     } else {
@@ -64,13 +69,14 @@ fn interval_of(
 fn trusted_of(
     labels: &[NamedLabel],
     fields: &Table,
+    at: &mut Trail,
 ) -> Result<Option<(LabelNo, LabelNo)>, PolicyFault>
     requires { length labels.now ≤ 64 }
     ensures { Gives (λ i. i) result (trusted_at (map named labels.now)
         (get_member (codes "trusted") (table_view fields.now))) }
 {
-    match field(fields, "trusted") {
-        Some(value) => interval_of(labels, texts_of(value)?),
+    match field(fields, at.field(1, "trusted")) {
+        Some(value) => interval_of(labels, texts_of(value)?, at),
         None => Ok(None),
     }
 }
@@ -87,17 +93,18 @@ fn user_of(
     labels: &[NamedLabel],
     users: &[User],
     value: &Value,
+    at: &mut Trail,
 ) -> Result<User, PolicyFault>
     requires { length labels.now ≤ 64 }
     ensures { Gives (λ u. u) result (user_at (map named labels.now) users.now (view value.now)) }
 {
     let fields = table_of(value)?;
-    let name = name_field(fields, "name")?;
+    let name = name_field(fields, at.field(1, "name"))?;
     if has_name(users, name) {
         return Err(PolicyFault::Repeated);
     }
-    let clearance = label_place(labels, name_field(fields, "clearance")?)? as u8;
-    let trusted = trusted_of(labels, fields)?;
+    let clearance = label_place(labels, name_field(fields, at.field(1, "clearance"))?)? as u8;
+    let trusted = trusted_of(labels, fields, at)?;
     let name = Str::copy_of(alloc, name)?;
     Ok(User {
         name,
@@ -106,14 +113,20 @@ fn user_of(
     })
 }
 
-fn rows_of(alloc: Global, labels: &[NamedLabel], items: &[Value]) -> Result<Vec<User>, PolicyFault>
+fn rows_of(
+    alloc: Global,
+    labels: &[NamedLabel],
+    items: &[Value],
+    at: &mut Trail,
+) -> Result<Vec<User>, PolicyFault>
     requires { length labels.now ≤ 64 }
     ensures reads { Gives (λ v. v.items) result (rows_at (user_at (map named labels.now)) [] (items_view items.now)) }
     ensures count { IfOk result (λ v. length v.items ≡ length items.now) }
 {
     let mut users = Vec::new(alloc);
     for value in items {
-        let user = user_of(alloc, labels, &users, value)?;
+        at.next(0);
+        let user = user_of(alloc, labels, &users, value, at)?;
         users.push(user)?;
     }
     Ok(users)
@@ -125,14 +138,15 @@ pub(crate) fn users_of(
     alloc: Global,
     labels: &[NamedLabel],
     document: &Table,
+    at: &mut Trail,
 ) -> Result<Vec<User>, PolicyFault>
     requires { length labels.now ≤ 64 }
     ensures reads { Gives (λ v. v.items) result (users_at (map named labels.now) (table_view document.now)) }
     ensures count { IfOk result (λ v. length v.items ≤ 64) }
 {
-    let all = optional_tables(document, "user")?;
+    let all = optional_tables(document, at.field(0, "user"))?;
     let items = at_most(all, MAX_USERS)?;
-    rows_of(alloc, labels, items)
+    rows_of(alloc, labels, items, at)
 }
 
 /// Where the first user of a name stands.

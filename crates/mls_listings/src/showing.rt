@@ -1,14 +1,14 @@
 //! The canonical texts of a policy and its schemes, and what is told of them.
-ghost use Rattle.std.specs.Prelude.{◌≡◌, ◌++◌, [], length, string_bytes, IfOk, IfErr};
+ghost use Rattle.std.specs.Prelude.{◌≡◌, ◌++◌, [], length, string_bytes, IfOk};
 ghost use Rattle.mls_scheme.specs.Scheme.{AreUnder};
 ghost use Rattle.mls_lattice.specs.Canon as lattice;
 ghost use Rattle.mls_scheme.specs.Canon as scheme;
-ghost use Rattle.mls_diagram.specs.Picture.{picture};
+ghost use Rattle.mls_listings.specs.Showing.{IsPictured};
 ghost use Rattle.mls_host.specs.declared.ending.Ending.TheVariants.{Well};
 
 use crate::listing::Listing;
-use mls_diagram::picture;
-use mls_host::Ending;
+use mls_advice::picture;
+use mls_host::{Ending, ending_if};
 use mls_lattice::Policy;
 use mls_scheme::{Schemes, SchemesFile};
 use std::alloc::{AllocError, Global};
@@ -40,17 +40,23 @@ pub fn texts(alloc: Global, policy: &Policy, file: &SchemesFile) -> Result<Listi
     })
 }
 
-/// The labels, the users, their rights and the relations, as they are printed.
-pub fn pictured(alloc: Global, policy: &Policy, schemes: &Schemes) -> Result<Listing, AllocError>
+/// The labels, the users, their rights and the relations, as they are printed, and behind them the fields of their files that nobody
+/// reads, which end the command with 1.
+pub fn pictured(
+    alloc: Global,
+    policy: &Policy,
+    schemes: &Schemes,
+    ignored: &str,
+) -> Result<Listing, AllocError>
     requires { AreUnder (length policy.now.labels) schemes.now }
-    ensures text { IfOk result (λ l. l.text.items ≡ picture policy.now schemes.now) }
+    ensures text { IfOk result (λ l. IsPictured ignored.now l.text.items l.ending) }
     ensures told { IfOk result (λ l. string_bytes l.told ≡ []) }
-    ensures end { IfOk result (λ l. l.ending ≡ Well) }
 {
-    let text = picture(alloc, policy, schemes)?;
+    let mut text = picture(alloc, policy, schemes)?;
+    text.push_str(ignored)?;
     Ok(Listing {
-        text,
+        text: text.into_bytes(),
         told: String::new(alloc),
-        ending: Ending::Well,
+        ending: ending_if(!ignored.is_empty()),
     })
 }

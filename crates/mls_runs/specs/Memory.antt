@@ -97,6 +97,7 @@ hosting h = record {
   types = λ known. known ≡ Some h.input.now;
   breaks = ⊥;
   is_terminal = false;
+  is_watched = h.is_watched;
   keeps = keeps h;
   bars = bars h;
   shows = shows h;

@@ -27,6 +27,8 @@ pub struct MemoryHost<'a> {
     pub files: Vec<HeldFile>,
     pub input: &'a [u8],
     pub store: Option<Connection<MemStore>>,
+    /// Whether somebody reads its standard error at a terminal.
+    pub is_watched: bool,
     /// Whether the store was opened, also where it was refused then.
     pub was_opened: bool,
     /// For contracts alone: the store that a run left.
@@ -108,6 +110,10 @@ impl<'a> Host for MemoryHost<'a> {
 
     fn is_terminal(&self) -> bool {
         false
+    }
+
+    fn is_watched(&self) -> bool {
+        self.is_watched
     }
 
     fn store(

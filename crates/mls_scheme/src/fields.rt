@@ -9,7 +9,7 @@ use crate::value::Kind;
 use mls_lattice::document::{
     at_most, name_of, optional_tables, some_of, table_of, tables_of, text_of, wanted,
 };
-use mls_lattice::{LabelNo, Policy};
+use mls_lattice::{LabelNo, Policy, Trail};
 use toml::{Table, Value};
 
 /// The fields of a table.
@@ -77,10 +77,10 @@ const MAX_RELATIONS: usize = 16;
 
 /// The tables of the key attributes.
 #[tactic(auto, using(mls_lattice::proofs::ReadingLemmas::counts), unfolding(crate::specs::Reading::key_items))]
-pub(crate) fn key_items(fields: &Table) -> Result<&[Value], SchemeFault>
+pub(crate) fn key_items<'a>(fields: &'a Table, at: &mut Trail) -> Result<&'a [Value], SchemeFault>
     ensures { Gives (λ items. items_view items.now) result (key_items (table_view fields.now)) }
 {
-    let items = optional_tables(fields, "key")?;
+    let items = optional_tables(fields, at.field(1, "key"))?;
     if items.is_empty() {
         return Err(SchemeFault::NoKey);
     }
@@ -89,19 +89,22 @@ pub(crate) fn key_items(fields: &Table) -> Result<&[Value], SchemeFault>
 
 /// The tables of the attributes outside the key.
 #[tactic(auto, unfolding(crate::specs::Reading::other_items))]
-pub(crate) fn other_items(fields: &Table) -> Result<&[Value], SchemeFault>
+pub(crate) fn other_items<'a>(fields: &'a Table, at: &mut Trail) -> Result<&'a [Value], SchemeFault>
     ensures { Gives (λ items. items_view items.now) result (other_items (table_view fields.now)) }
 {
-    let items = optional_tables(fields, "attribute")?;
+    let items = optional_tables(fields, at.field(1, "attribute"))?;
     Ok(at_most(items, MAX_OTHERS)?)
 }
 
 /// The tables of the relations.
 #[tactic(auto, unfolding(crate::specs::Reading::relation_items))]
-pub(crate) fn relation_items(document: &Table) -> Result<&[Value], SchemeFault>
+pub(crate) fn relation_items<'a>(
+    document: &'a Table,
+    at: &mut Trail,
+) -> Result<&'a [Value], SchemeFault>
     ensures { Gives (λ items. items_view items.now) result (relation_items (table_view document.now)) }
 {
-    let value = wanted(document, "relation")?;
+    let value = wanted(document, at.field(0, "relation"))?;
     let items = tables_of(value)?;
     Ok(some_of(items, MAX_RELATIONS)?)
 }

@@ -13,7 +13,7 @@ use crate::canon::relations_to;
 use crate::fault::SchemeFault;
 use crate::reading::schemes_of;
 use crate::scheme::Schemes;
-use mls_lattice::{Policy, Version};
+use mls_lattice::{Policy, Refused, Trail, Version};
 use std::alloc::{AllocError, Global};
 
 /// What a file of schemes says: its version, and its relations.
@@ -27,13 +27,46 @@ impl SchemesFile {
     /// Reads the schemes of a TOML document, whose labels are those of a policy.
     ///
     /// `NotToml` where the bytes are no document or not UTF-8, else the first fault in the order of the fields. `Memory` may
-    /// stand in place of any answer.
-    pub fn read(alloc: Global, policy: &Policy, bytes: &[u8]) -> Result<SchemesFile, SchemeFault>
+    /// stand in place of any answer. Beside the fault stands where in the document the reader stopped.
+    pub fn read_at(
+        alloc: Global,
+        policy: &Policy,
+        bytes: &[u8],
+    ) -> Result<SchemesFile, Refused<SchemeFault>>
         // What is read is what the bytes say.
         ensures found { IfOk result (λ f. ReadsSchemes policy.now bytes.now f.version f.schemes) }
         ensures under { IfOk result (λ f. AreUnder (length policy.now.labels) f.schemes) }
         ensures intervals { IfOk result (λ f. HaveIntervals (labels_of policy.now) f.schemes) }
         // Unless memory runs out, nothing that says schemes is refused, and the fault is the first of the document.
+        ensures refused { IfErr result (λ e. e.fault ≢ SchemeFault.Memory → (v : FileVersion) (s : List Relation)
+            → ReadsSchemes policy.now bytes.now v s → ⊥) }
+        ensures first { IfErr result (λ e. e.fault ≢ SchemeFault.Memory → (document : Members)
+            → IsDocument bytes.now document → schemes_at policy.now document ≡ Err e.fault) }
+        ensures not_toml { IfErr result (λ e. e.fault ≢ SchemeFault.Memory
+            → (e.fault ≡ SchemeFault.NotToml) ↔ ((document : Members) → IsDocument bytes.now document → ⊥)) }
+    {
+        let mut at = Trail::new();
+        match toml::table_from_slice(alloc, bytes) {
+            Ok(document) => match schemes_of(alloc, policy, &document, &mut at) {
+                Ok(file) => Ok(file),
+                Err(fault) => Err(Refused { fault, at }),
+            },
+            Err(e) if e.is_memory() => Err(Refused {
+                fault: SchemeFault::Memory,
+                at,
+            }),
+            Err(_) => Err(Refused {
+                fault: SchemeFault::NotToml,
+                at,
+            }),
+        }
+    }
+
+    /// The same, with the fault alone.
+    pub fn read(alloc: Global, policy: &Policy, bytes: &[u8]) -> Result<SchemesFile, SchemeFault>
+        ensures found { IfOk result (λ f. ReadsSchemes policy.now bytes.now f.version f.schemes) }
+        ensures under { IfOk result (λ f. AreUnder (length policy.now.labels) f.schemes) }
+        ensures intervals { IfOk result (λ f. HaveIntervals (labels_of policy.now) f.schemes) }
         ensures refused { IfErr result (λ e. e ≢ SchemeFault.Memory → (v : FileVersion) (s : List Relation)
             → ReadsSchemes policy.now bytes.now v s → ⊥) }
         ensures first { IfErr result (λ e. e ≢ SchemeFault.Memory → (document : Members)
@@ -41,10 +74,9 @@ impl SchemesFile {
         ensures not_toml { IfErr result (λ e. e ≢ SchemeFault.Memory
             → (e ≡ SchemeFault.NotToml) ↔ ((document : Members) → IsDocument bytes.now document → ⊥)) }
     {
-        match toml::table_from_slice(alloc, bytes) {
-            Ok(document) => schemes_of(alloc, policy, &document),
-            Err(e) if e.is_memory() => Err(SchemeFault::Memory),
-            Err(_) => Err(SchemeFault::NotToml),
+        match SchemesFile::read_at(alloc, policy, bytes) {
+            Ok(file) => Ok(file),
+            Err(refused) => Err(refused.fault),
         }
     }
 

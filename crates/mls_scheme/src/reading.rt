@@ -12,17 +12,17 @@ use crate::fields::{
 use crate::file::SchemesFile;
 use crate::scheme::{Scheme, Schemes};
 use mls_lattice::document::version_of;
-use mls_lattice::{Policy, Str};
+use mls_lattice::{Policy, Str, Trail};
 use std::alloc::Global;
 use toml::{Table, Value};
 
 #[tactic(auto, unfolding(crate::specs::Reading::column_at))]
-fn column_of(policy: &Policy, fields: &Table) -> Result<Column, SchemeFault>
+fn column_of(policy: &Policy, fields: &Table, at: &mut Trail) -> Result<Column, SchemeFault>
     ensures { Gives (λ c. c) result (column_at policy.now (table_view fields.now)) }
 {
-    let kind = kind_in(text_field(fields, "kind")?)?;
-    let low = label_field(policy, fields, "low")?;
-    let high = label_field(policy, fields, "high")?;
+    let kind = kind_in(text_field(fields, at.field(2, "kind"))?)?;
+    let low = label_field(policy, fields, at.field(2, "low"))?;
+    let high = label_field(policy, fields, at.field(2, "high"))?;
     if policy.dominates(high, low) {
         Ok(Column { kind, low, high })
     } else {
@@ -45,16 +45,17 @@ fn attribute_in(
     keys: &Attributes,
     others: &Attributes,
     value: &Value,
+    at: &mut Trail,
 ) -> Result<(String, Column), SchemeFault>
     ensures reads { Gives attribute_of result (attribute_at policy.now (keys.now ++ others.now) (view value.now)) }
     ensures fresh { IfOk result (λ a. has_attribute (keys.now ++ others.now) (string_bytes a.0) ≡ false) }
 {
     let fields = fields_of(value)?;
-    let name = name_field(fields, "name")?;
+    let name = name_field(fields, at.field(2, "name"))?;
     if is_taken(keys, others, name) {
         return Err(SchemeFault::Repeated);
     }
-    let column = column_of(policy, fields)?;
+    let column = column_of(policy, fields, at)?;
     Ok((String::from_str(alloc, name)?, column))
 }
 
@@ -75,12 +76,14 @@ fn key_in(
     policy: &Policy,
     keys: &Attributes,
     value: &Value,
+    at: &mut Trail,
 ) -> Result<(String, Column), SchemeFault>
     ensures reads { Gives attribute_of result (key_at policy.now keys.now (view value.now)) }
     ensures fresh { IfOk result (λ a. has_attribute keys.now (string_bytes a.0) ≡ false) }
 {
     let none = Attributes::new(alloc);
-    let attribute = attribute_in(alloc, policy, &none, keys, value)?;
+    let attribute = attribute_in(alloc, policy, &none, keys, value, at)?;
+    at.back(1);
     if has_key_interval(keys, attribute.1) {
         Ok(attribute)
     } else {
@@ -95,21 +98,28 @@ fn other_in(
     keys: &Attributes,
     others: &Attributes,
     value: &Value,
+    at: &mut Trail,
 ) -> Result<(String, Column), SchemeFault>
     ensures reads { Gives attribute_of result (other_at policy.now keys.now others.now (view value.now)) }
     ensures fresh { IfOk result (λ a. has_attribute others.now (string_bytes a.0) ≡ false) }
 {
-    attribute_in(alloc, policy, keys, others, value)
+    attribute_in(alloc, policy, keys, others, value, at)
 }
 
 /// The key attributes.
 #[tactic(auto, using(crate::proofs::SchemeSteps::gather_steps))]
-fn keys_in(alloc: Global, policy: &Policy, items: &[Value]) -> Result<Attributes, SchemeFault>
+fn keys_in(
+    alloc: Global,
+    policy: &Policy,
+    items: &[Value],
+    at: &mut Trail,
+) -> Result<Attributes, SchemeFault>
     ensures { Gives (λ a. a) result (gather (key_at policy.now) [] (items_view items.now)) }
 {
     let mut keys = Attributes::new(alloc);
     for value in items {
-        let attribute = key_in(alloc, policy, &keys, value)?;
+        at.next(1);
+        let attribute = key_in(alloc, policy, &keys, value, at)?;
         keys.push(attribute)?;
     }
     Ok(keys)
@@ -122,12 +132,14 @@ fn others_in(
     policy: &Policy,
     keys: &Attributes,
     items: &[Value],
+    at: &mut Trail,
 ) -> Result<Attributes, SchemeFault>
     ensures { Gives (λ a. a) result (gather (other_at policy.now keys.now) [] (items_view items.now)) }
 {
     let mut others = Attributes::new(alloc);
     for value in items {
-        let attribute = other_in(alloc, policy, keys, &others, value)?;
+        at.next(1);
+        let attribute = other_in(alloc, policy, keys, &others, value, at)?;
         others.push(attribute)?;
     }
     Ok(others)
@@ -145,11 +157,14 @@ fn attributes_in(
     alloc: Global,
     policy: &Policy,
     fields: &Table,
+    at: &mut Trail,
 ) -> Result<(Attributes, Attributes), SchemeFault>
     ensures { Gives (λ a. a) result (attributes_at policy.now (table_view fields.now)) }
 {
-    let keys = keys_in(alloc, policy, key_items(fields)?)?;
-    let others = others_in(alloc, policy, &keys, other_items(fields)?)?;
+    let items = key_items(fields, at)?;
+    let keys = keys_in(alloc, policy, items, at)?;
+    let items = other_items(fields, at)?;
+    let others = others_in(alloc, policy, &keys, items, at)?;
     Ok((keys, others))
 }
 
@@ -159,26 +174,33 @@ fn scheme_in(
     policy: &Policy,
     before: &[Scheme],
     value: &Value,
+    at: &mut Trail,
 ) -> Result<Scheme, SchemeFault>
     ensures { Gives (λ s. s) result (scheme_at policy.now before.now (view value.now)) }
 {
     let fields = fields_of(value)?;
-    let name = name_field(fields, "name")?;
+    let name = name_field(fields, at.field(1, "name"))?;
     if has_relation(before, name) {
         return Err(SchemeFault::Repeated);
     }
-    let (keys, others) = attributes_in(alloc, policy, fields)?;
+    let (keys, others) = attributes_in(alloc, policy, fields, at)?;
     let name = Str::copy_of(alloc, name)?;
     Ok(Scheme::new(name, keys, others))
 }
 
 #[tactic(auto, using(crate::proofs::SchemeSteps::gather_steps))]
-fn relations_in(alloc: Global, policy: &Policy, items: &[Value]) -> Result<Vec<Scheme>, SchemeFault>
+fn relations_in(
+    alloc: Global,
+    policy: &Policy,
+    items: &[Value],
+    at: &mut Trail,
+) -> Result<Vec<Scheme>, SchemeFault>
     ensures { Gives (λ v. v.items) result (gather (scheme_at policy.now) [] (items_view items.now)) }
 {
     let mut relations = Vec::new(alloc);
     for value in items {
-        let scheme = scheme_in(alloc, policy, &relations, value)?;
+        at.next(0);
+        let scheme = scheme_in(alloc, policy, &relations, value, at)?;
         relations.push(scheme)?;
     }
     Ok(relations)
@@ -189,11 +211,13 @@ pub(crate) fn schemes_of(
     alloc: Global,
     policy: &Policy,
     document: &Table,
+    at: &mut Trail,
 ) -> Result<SchemesFile, SchemeFault>
     ensures { Gives (λ f. (f.version, f.schemes)) result (schemes_at policy.now (table_view document.now)) }
 {
-    let version = version_of(document)?;
-    let relations = relations_in(alloc, policy, relation_items(document)?)?;
+    let version = version_of(document, at)?;
+    let items = relation_items(document, at)?;
+    let relations = relations_in(alloc, policy, items, at)?;
     Ok(SchemesFile {
         version,
         schemes: Schemes::new(relations),

@@ -11,6 +11,7 @@ ghost use Rattle.mls_replies.specs.Known.{HasKnownNumbers};
 
 use crate::change::{Deed, change};
 use crate::looking::{audit, look};
+use crate::notice::Notice;
 use mls_filterview::{Base, BaseFault};
 use mls_lattice::{Items, LabelNo, Policy, UserNo};
 use mls_machine::{Reply, Stored};
@@ -26,6 +27,7 @@ pub struct Engine<'a, B: Base> {
     base: B,
     sessions: Vec<Session>,
     views: Views,
+    pub(crate) notice: Option<Notice>,
 }
 
 impl<'a, B: Base> Engine<'a, B> {
@@ -65,6 +67,7 @@ impl<'a, B: Base> Engine<'a, B> {
             base,
             sessions: Vec::new(alloc),
             views: Views::new(),
+            notice: None,
         }
     }
 
@@ -77,6 +80,7 @@ impl<'a, B: Base> Engine<'a, B> {
             rules: _,
             sessions: _,
             views: _,
+            notice: _,
         } = self;
         base
     }
@@ -86,6 +90,11 @@ impl<'a, B: Base> Engine<'a, B> {
         ensures { result ≡ is_some ((world_of B.state self.now).sessions level name.now) }
     {
         user_of(&self.sessions, level, name).is_some()
+    }
+
+    /// Why the event that a run answered last was not done.
+    pub fn notice(&self) -> Option<Notice> {
+        self.notice
     }
 
     /// Answers an event whose session is not open. It asks nothing of the base.

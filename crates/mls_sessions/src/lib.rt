@@ -6,6 +6,7 @@ mod cause;
 mod change;
 mod engine;
 mod looking;
+mod notice;
 mod running;
 mod writing;
 
@@ -14,5 +15,6 @@ pub use engine::Engine;
 pub use mls_machine::{Denial, Reply, Stored};
 pub use mls_meaning::Run;
 pub use mls_script::{Command, Event, ScriptCause, ScriptFault};
+pub use notice::Notice;
 pub use running::{run, run_to};
 pub use writing::write_whole;

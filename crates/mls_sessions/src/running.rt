@@ -12,6 +12,7 @@ ghost use Rattle.mls_sessions.specs.Run.{IsWhole, IsStopped, IsFaultOf, IsAnswer
 
 use crate::cause::{RunCause, RunFault, cause_of};
 use crate::engine::Engine;
+use crate::notice::notice_of;
 use crate::writing::write_whole;
 use mls_filterview::Base;
 use mls_machine::{Audience, Form, Reply};
@@ -58,8 +59,8 @@ fn text_of(
     }
 }
 
-/// Answers one event, and writes the lines of the reply that the audience is shown. Where there are none, nothing is asked of
-/// the writer.
+/// Answers one event, notes why it was not done, and writes the lines of the reply that the audience is shown. Where there are
+/// none, nothing is asked of the writer.
 fn answer<B: Base, W: Write>(
     engine: &mut Engine<B>,
     event: &Event,
@@ -91,6 +92,7 @@ fn answer<B: Base, W: Write>(
             });
         }
     };
+    engine.notice = notice_of(&reply);
     let bytes = match text_of(&engine.rules, event, &reply, audience) {
         Ok(bytes) => bytes,
         Err(cause) => return Err(Stop { cause, done: true }),

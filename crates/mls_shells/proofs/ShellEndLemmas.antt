@@ -112,7 +112,7 @@ module _ (h : Hosted) (policy : Tables) (file : SchemesFile) (reader : Option â„
     at = site_of policy file.schemes stored
 
     abbrev seat : Seat
-    seat = seat_of files level h.before.is_terminal
+    seat = seat_of files level h.before.is_terminal h.before.is_watched
 
     abbrev Shells : Result Ending RunFault â†’ Type 0
     Shells = IsShellFrom h before after Broken Wrote Told file (named files.store) at seat

@@ -19,10 +19,13 @@ use Rattle.mls_sessions.specs.declared.cause.RunFault.{RunFault}
 use Rattle.mls_sessions.specs.Run.{IsWhole, IsStopped, IsFaultOf, printed_to, world_after}
 use Rattle.mls_lattice.specs.Policy.{Tables}
 use Rattle.mls_scheme.specs.Scheme.{Schemes}
+use Rattle.mls_host.specs.declared.errors.Errors.{Errors}
+use Rattle.mls_host.specs.Hosting.{IsTold}
+use Rattle.mls_host.proofs.HostingLemmas.{told_more}
 use Rattle.mls_shells.specs.declared.seat.Seat.{Seat}
 use Rattle.mls_shells.specs.declared.seat.Fate.{Fate}
 use Rattle.mls_shells.specs.declared.seat.Fate.TheVariants as fates
-use Rattle.mls_shells.specs.Shell.{Turn, IsTurn, whole, long, cut, events_of, events_in, opening, audience_at, is_open, is_refused, is_last, is_failed, prompt_of, told_of, told_from, answers, dialogue, after_opening, transcript, shown_to, AreTurns, has_refused, IsSilent, IsAnswered}
+use Rattle.mls_shells.specs.Shell.{Turn, IsTurn, whole, long, cut, events_of, events_in, opening, audience_at, is_open, is_refused, is_last, is_failed, prompt_of, told_of, told_from, IsMore, AreTold, PipesAreToldNoMore, answers, dialogue, after_opening, transcript, shown_to, AreTurns, has_refused, IsSilent, IsAnswered}
 
 -- ---- events
 
@@ -154,18 +157,58 @@ nil_front (x ∷ xs) ys h = absurd cc
 pub events-snoc : (ts : List Turn) (t : Turn) → events_in (ts ++ t ∷ []) ≡ events_in ts ++ events_of t.fate
 events-snoc ts t = flat-snoc (λ (t : Turn). events_of t.fate) ts t
 
-pub told-snoc : (seat : Seat) (n : ℕ) (ts : List Turn) (t : Turn) → told_from seat n (ts ++ t ∷ []) ≡ told_from seat n ts ++ (prompt_of seat ++ told_of seat (n + length ts) t.fate)
-unfolding told_from
-told-snoc seat n [] t = append-nil (prompt_of seat ++ told_of seat n t.fate) ∙ ap (λ k. prompt_of seat ++ told_of seat k t.fate) same
+pub told-snoc : (seat : Seat) (n : ℕ) (ts : List Turn) (t : Turn) (text more : List ℕ) → (seat.is_watched ≡ false → more ≡ []) → AreTold seat n ts text
+    → AreTold seat n (ts ++ t ∷ []) (text ++ (prompt_of seat ++ (told_of seat (n + length ts) t.fate ++ more)))
+unfolding AreTold
+told-snoc seat n [] t text more none h = record {
+  more = more;
+  none = none;
+  leads = ([], ap (λ l. l ++ here (n + 0)) h ∙ ap here same ∙ sym (append-nil (here n)), refl);
+}
   where
-    same : n ≡ n + 0
+    here : ℕ → List ℕ
+    here k = prompt_of seat ++ (told_of seat k t.fate ++ more)
+
+    same : n + 0 ≡ n
     same = omega arith
-told-snoc seat n (x ∷ ts) t =
-    let here = prompt_of seat ++ told_of seat n x.fate in
-    ap (λ l. here ++ l) (told-snoc seat (n + 1) ts t ∙ ap (λ k. told_from seat (n + 1) ts ++ (prompt_of seat ++ told_of seat k t.fate)) same) ∙ sym (append_assoc here _ _)
+told-snoc seat n (x ∷ ts) t text more none h =
+    let (rest, is, are) = h.leads in
+    record {
+      more = h.more;
+      none = h.none;
+      leads = (
+        rest ++ here (n + suc (length ts)),
+        ap (λ l. l ++ here (n + suc (length ts))) is ∙ append_assoc (prompt_of seat ++ (told_of seat n x.fate ++ h.more)) rest (here (n + suc (length ts))),
+        subst (λ (k : ℕ). AreTold seat (n + 1) (ts ++ t ∷ []) (rest ++ here k)) same (told-snoc seat (n + 1) ts t rest more none are),
+      );
+    }
   where
+    here : ℕ → List ℕ
+    here k = prompt_of seat ++ (told_of seat k t.fate ++ more)
+
     same : n + 1 + length ts ≡ n + suc (length ts)
     same = omega arith
+
+plainly : (seat : Seat) (n : ℕ) (ts : List Turn) (text : List ℕ) → seat.is_watched ≡ false → AreTold seat n ts text → text ≡ told_from seat n ts
+unfolding told_from AreTold
+plainly seat n [] text off h = h
+plainly seat n (t ∷ ts) text off h =
+    let (rest, is, are) = h.leads in
+    is ∙ ap (λ more. (prompt_of seat ++ (told_of seat n t.fate ++ more)) ++ rest) (h.none off)
+    ∙ ap (λ own. (prompt_of seat ++ own) ++ rest) (append-nil (told_of seat n t.fate))
+    ∙ ap (λ more. (prompt_of seat ++ told_of seat n t.fate) ++ more) (plainly seat (n + 1) ts rest off are)
+
+pub pipes_told : PipesAreToldNoMore
+pipes_told = plainly
+
+-- ---- more that is told
+
+module _ {E : Type 0} (contents : E → Option (List ℕ)) (seat : Seat) (a b : Errors E) (text : List ℕ) (h : IsTold contents a b text) where
+  pub said_more : (c : Errors E) → IsMore seat (IsTold contents b c) → IsMore seat (λ more. IsTold contents a c (text ++ more))
+  said_more c k = record { more = k.more; none = k.none; leads = told_more contents a b c text k.more h k.leads }
+
+  pub said_once : IsMore seat (λ more. IsTold contents a b (text ++ more))
+  said_once = record { more = []; none = λ off. refl; leads = subst (IsTold contents a b) (sym (append-nil text)) h }
 
 -- ---- last lines, and those that were not read
 

@@ -25,7 +25,7 @@ use Rattle.mls_shells.specs.declared.seat.Fate.TheVariants as fates
 use Rattle.mls_host.specs.Ending.{ending_if}
 use Rattle.mls_host.specs.Hosting.{IsTold}
 use Rattle.mls_host.proofs.HostingLemmas.{told_nothing, told_more}
-use Rattle.mls_shells.specs.Shell.{audience_at, Turn, events_of, events_in, opening, is_open, is_refused, is_last, is_failed, is_lost, prompt_of, told_of, told_from, answers, after_opening, transcript, shown_to, AreTurns, has_refused, IsSilent, FateFits, IsAnswered, IsFollowed, IsRead, IsConversation}
+use Rattle.mls_shells.specs.Shell.{audience_at, Turn, events_of, events_in, opening, is_open, is_refused, is_last, is_failed, is_lost, prompt_of, told_of, IsMore, AreTold, AreAllTold, answers, after_opening, transcript, shown_to, AreTurns, has_refused, IsSilent, FateFits, IsAnswered, IsFollowed, IsRead, IsConversation}
 use Rattle.mls_shells.proofs.ShellLemmas.{nothing_done, whole_more, stopped_more, fault_more, first_part, all-append, length-snoc, events-snoc, told-snoc, world-snoc, transcript-snoc, shown_before, shown_behind, shown_from, turns-snoc, refused-snoc, none_failed, failed_there, silent_turn, silent_lines, any-snoc}
 
 -- the events of a line are answered
@@ -145,7 +145,7 @@ module _ {B E : Type 0} (state : B → State) (is_clean : B → Type 0) (content
     pub kept : IsKept state is_clean first now
     pub none_lost : list_any (λ (t : Turn). is_lost t.fate) turns ≡ false
     pub last_is : list_any (λ (t : Turn). is_last t.fate) turns ≡ last
-    pub told : IsTold contents quiet err (told_from seat 1 turns)
+    pub told : AreAllTold seat turns (IsTold contents quiet err)
     pub fits : EventsFit at (events_in turns)
     pub lines : is_clean now.base → AreTurns echo at seat (after_opening at seat w) given left turns
     pub world : is_clean now.base → world_of state now ≡ end_of at w (opening seat ∷ events_in turns)
@@ -159,9 +159,9 @@ module _ {B E : Type 0} (state : B → State) (is_clean : B → Type 0) (content
     pub followed : is_clean now.base → IsFollowed at (audience_at seat) w (opening seat ∷ []) was is (world_of state now) 0 (Ok tt)
     pub refused_is : refused ≡ not (is_open seat (world_of state now))
 
-  pub so_far_start : (now : Engine B) (is : Option (List ℕ)) (refused : Bool) → Opened now is refused → SoFar 0 now quiet given is refused false
-  unfolding told_from Rattle.mls_shells.specs.Shell.dialogue AreTurns
-  so_far_start now is refused h =
+  pub so_far_start : (now : Engine B) (is : Option (List ℕ)) (refused : Bool) → Opened now is refused → (err : Errors E) → IsMore seat (IsTold contents quiet err) → SoFar 0 now err given is refused false
+  unfolding AreTold Rattle.mls_shells.specs.Shell.dialogue AreTurns
+  so_far_start now is refused h err m =
       let done : is_clean now.base → IsWhole at (audience_at seat) w (opening seat ∷ []) was is (world_of state now) =
       λ c. followed_whole at (audience_at seat) w (opening seat ∷ []) was is (world_of state now) 0 (h.followed c) in
       record {
@@ -171,7 +171,7 @@ module _ {B E : Type 0} (state : B → State) (is_clean : B → Type 0) (content
         kept = h.kept;
         none_lost = refl;
         last_is = refl;
-        told = told_nothing contents quiet;
+        told = record { lines = []; are = refl; opening = record { more = m.more; none = m.none; leads = subst (IsTold contents quiet err) (sym (append-nil m.more)) m.leads } };
         fits = tt;
         lines = λ c. refl;
         world = λ c. (done c).world;
@@ -187,13 +187,13 @@ module _ {B E : Type 0} (state : B → State) (is_clean : B → Type 0) (content
     same_site : site now ≡ at
     same_site = ap site_of s.kept.rules
 
-    -- the prompt is shown, a line is read, and something becomes of it
+    -- the prompt is shown, a line is read, something becomes of it, and that is told
     pub record Line (fate : Fate) (asked said : Errors E) (over shown : Option (List ℕ)) (Broken : Type 0) : Type 0 where
       pub was_open : is_open seat (world_of state now) ≡ true
       pub asked_is : IsTold contents err asked (prompt_of seat)
       pub read : IsRead echo at.policy at.schemes seat left over is shown Broken fate
       pub fits : FateFits at.policy at.schemes fate
-      pub said_is : IsTold contents asked said (told_of seat (count + 1) fate)
+      pub said_is : IsMore seat (λ more. IsTold contents asked said (told_of seat (count + 1) fate ++ more))
 
     module _ (fate : Fate) (asked said : Errors E) (over shown : Option (List ℕ)) (Broken : Type 0) (l : Line fate asked said over shown Broken) where
       abbrev turn : Turn
@@ -202,15 +202,23 @@ module _ {B E : Type 0} (state : B → State) (is_clean : B → Type 0) (content
       abbrev turns : List Turn
       turns = s.turns ++ turn ∷ []
 
-      told_now : IsTold contents quiet said (told_from seat 1 turns)
-      told_now =
-          subst (IsTold contents quiet said) (sym (told-snoc seat 1 s.turns turn))
-          (told_more contents quiet err said (told_from seat 1 s.turns) _ s.told
-          (subst (λ (n : ℕ). IsTold contents err said (prompt_of seat ++ told_of seat n turn.fate)) number
-          (subst (λ (x : Fate). IsTold contents err said (prompt_of seat ++ told_of seat (count + 1) x)) (sym l.read.same)
-          (told_more contents err asked said (prompt_of seat) (told_of seat (count + 1) fate) l.asked_is l.said_is))))
+      told_now : AreAllTold seat turns (IsTold contents quiet said)
+      told_now = record {
+        lines = s.told.lines ++ here (count + 1) fate;
+        are = subst (λ (x : Fate). AreTold seat 1 turns (s.told.lines ++ here (count + 1) x)) l.read.same
+            (subst (λ (n : ℕ). AreTold seat 1 turns (s.told.lines ++ here n turn.fate)) number (told-snoc seat 1 s.turns turn s.told.lines l.said_is.more l.said_is.none s.told.are));
+        opening = record {
+          more = s.told.opening.more;
+          none = s.told.opening.none;
+          leads = subst (IsTold contents quiet said) (append_assoc s.told.opening.more s.told.lines (here (count + 1) fate))
+              (told_more contents quiet err said _ _ s.told.opening.leads (told_more contents err asked said (prompt_of seat) _ l.asked_is l.said_is.leads));
+        };
+      }
         where
-          number : count + 1 ≡ 1 + length s.turns
+          here : ℕ → Fate → List ℕ
+          here n x = prompt_of seat ++ (told_of seat n x ++ l.said_is.more)
+
+          number : 1 + length s.turns ≡ count + 1
           number = let e = s.count_is in omega arith
 
       fits_now : EventsFit at (events_in turns)
@@ -330,7 +338,7 @@ module _ {B E : Type 0} (state : B → State) (is_clean : B → Type 0) (content
     -- it is given up at the opening
     pub broken_first : (new : Engine B) (after : Option (List ℕ)) (fault : RunFault) → IsFollowed at (audience_at seat) w (opening seat ∷ []) was after (world_of state new) 0 (Err fault)
         → IsConversation echo at seat given given was after Broken (IsTold contents quiet quiet) (Err fault) w (world_of state new)
-    unfolding told_from Rattle.mls_shells.specs.Shell.dialogue AreTurns
+    unfolding AreTold Rattle.mls_shells.specs.Shell.dialogue AreTurns
     broken_first new after fault h =
         let (part, rest, bytes, both) = first_part at (audience_at seat) w (opening seat ∷ []) was after (world_of state new) h.end h.answered in
         record {
@@ -339,7 +347,7 @@ module _ {B E : Type 0} (state : B → State) (is_clean : B → Type 0) (content
             run_end = h.end;
             lines = refl;
             broken = λ f. absurd (true≢false (sym f));
-            told = told_nothing contents quiet;
+            told = record { lines = []; are = refl; opening = record { more = []; none = λ off. refl; leads = told_nothing contents quiet } };
             ended = record {
               line = h.line;
               cause = h.cause;

@@ -187,10 +187,35 @@ module _ (site : Site) (seat : Seat) where
   abbrev pub has_refused : World → List Turn → Bool
   has_refused w turns = not (is_open seat (after_opening w)) || list_any (λ t. is_refused t.fate) turns
 
--- what is told, from the line of a number on: the prompt before each line, and what is said of it
+-- what is told where nobody reads it at a terminal, from the line of a number on: the prompt before each line, and
+-- what is said of it
 unfoldable pub told_from : Seat → ℕ → List Turn → List ℕ
 told_from seat number [] = []
 told_from seat number (t ∷ ts) = (prompt_of seat ++ told_of seat number t.fate) ++ told_from seat (number + 1) ts
+
+-- a text by which more is told where somebody reads it, to explain what was refused: any text there, and none elsewhere
+pub record IsMore (seat : Seat) (Then : List ℕ → Type 0) : Type 0 where
+  pub more : List ℕ
+  pub none : seat.is_watched ≡ false → more ≡ []
+  pub leads : Then more
+
+-- what is told, from the line of a number on: of each line the same, and behind it perhaps more
+unfoldable pub AreTold : Seat → ℕ → List Turn → List ℕ → Type 0
+AreTold seat number [] text = text ≡ []
+AreTold seat number (t ∷ ts) text = IsMore seat (λ more.
+    (rest : List ℕ) × (text ≡ (prompt_of seat ++ (told_of seat number t.fate ++ more)) ++ rest)
+    × AreTold seat (number + 1) ts rest)
+
+-- what is told of a shell: perhaps more behind its opening, and then what is told of its lines
+pub record AreAllTold (seat : Seat) (turns : List Turn) (Told : List ℕ → Type 0) : Type 0 where
+  pub lines : List ℕ
+  pub are : AreTold seat 1 turns lines
+  pub opening : IsMore seat (λ more. Told (more ++ lines))
+
+-- where nobody reads it, what is told of lines is what stands above
+abbrev pub PipesAreToldNoMore : Type 0
+PipesAreToldNoMore = (seat : Seat) (number : ℕ) (turns : List Turn) (text : List ℕ) → seat.is_watched ≡ false
+    → AreTold seat number turns text → text ≡ told_from seat number turns
 
 -- no line is shown
 abbrev pub IsSilent : (List ℕ → List ℕ) → Type 0
@@ -240,7 +265,7 @@ module _ (echo : List ℕ → List ℕ) (site : Site) (seat : Seat) where
       pub run_end : Result (Unit {0}) RunFault
       pub lines : AreTurns (after_opening site seat w) before after turns
       pub broken : list_any (λ t. is_failed t.fate) turns ≡ true → Broken
-      pub told : Told (told_from seat 1 turns)
+      pub told : AreAllTold seat turns Told
       pub ended : IsEndOf site seat w turns Wrote after run_end end
 
     -- A shell over a content, which it leaves as another. Where the host shows nothing of the lines, it is the run of

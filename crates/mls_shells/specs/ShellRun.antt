@@ -20,9 +20,14 @@ use Rattle.mls_host.specs.Running.{site_of}
 use Rattle.mls_shells.specs.Shell.{IsShell}
 
 -- who sits at a shell, by its words
-abbrev pub seat_of : ShellFiles → ℕ → Bool → Seat
-seat_of files level has_prompt =
-    record { level = level; label = files.label.now; user = files.user.now; has_prompt = has_prompt }
+abbrev pub seat_of : ShellFiles → ℕ → Bool → Bool → Seat
+seat_of files level has_prompt is_watched = record {
+  level = level;
+  label = files.label.now;
+  user = files.user.now;
+  has_prompt = has_prompt;
+  is_watched = is_watched;
+}
 
 module _ (h : Hosted) (before after : Option (List ℕ)) (Broken : Type 0) (Wrote Told : List ℕ → Type 0) where
   -- what is typed is answered over a store, where that is clean
@@ -42,7 +47,7 @@ pub record IsShellRun (h : Hosted) (policy : Tables) (file : SchemesFile) (reade
   pub level_is : reader ≡ Some level
   pub typed : h.before.types before
   pub shell : IsShellFrom h before after h.before.breaks Wrote Told file (named files.store)
-      (site_of policy file.schemes stored) (seat_of files level h.before.is_terminal) end
+      (site_of policy file.schemes stored) (seat_of files level h.before.is_terminal h.before.is_watched) end
 
 -- The inputs of a shell are refused, in this order: it has no level; what stands for its user is no name; what it
 -- stores; or memory.

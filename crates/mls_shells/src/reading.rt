@@ -86,7 +86,7 @@ fn fate_of_fault(
 }
 
 /// A line behind the words that stand before it in a script.
-fn text_of(alloc: Global, seat: &Seat, line: &[u8]) -> Result<Vec<u8>, AllocError>
+pub(crate) fn text_of(alloc: Global, seat: &Seat, line: &[u8]) -> Result<Vec<u8>, AllocError>
     ensures { IfOk result (λ v. v.items ≡ prefix_of seat.now ++ line.now) }
 {
     let (label, user) = (seat.label.as_str(), seat.user.as_str());
@@ -142,7 +142,7 @@ fn fate_of(alloc: Global, policy: &Policy, schemes: &Schemes, seat: &Seat, line:
     }
 }
 
-/// Reads the next line, when all that was written is there, and says what becomes of it.
+/// Reads the next line, when all that was written is there, and says what becomes of it. Its bytes are put into `heard`.
 pub(crate) fn next_fate<L: TypedLines, W: Write>(
     alloc: Global,
     policy: &Policy,
@@ -150,6 +150,7 @@ pub(crate) fn next_fate<L: TypedLines, W: Write>(
     seat: &Seat,
     lines: &mut L,
     out: &mut W,
+    heard: &mut Vec<u8>,
 ) -> Fate
     ensures read { IsRead L.echo policy.now schemes.now seat.now (L.remaining lines.old) (L.remaining lines.new)
         (W.contents out.old) (W.contents out.new) (L.breaks lines.new) result }
@@ -158,7 +159,11 @@ pub(crate) fn next_fate<L: TypedLines, W: Write>(
     // What every policy and schemes promise: a text tells the events of one list at most.
     let _names = (policy.label_count(), schemes.count());
     match lines.next_line(alloc, out) {
-        Ok(Typed::Line(line)) => fate_of(alloc, policy, schemes, seat, &line),
+        Ok(Typed::Line(line)) => {
+            let fate = fate_of(alloc, policy, schemes, seat, &line);
+            *heard = line;
+            fate
+        }
         Ok(Typed::TooLong) => Fate::TooLong,
         Err(TypingFault::Unreadable) => Fate::Unreadable,
         Err(TypingFault::Memory) => Fate::Lost(RunCause::Memory),

@@ -12,6 +12,8 @@ pub struct Seat {
     pub user: Str,
     /// Whether somebody types at a terminal: a prompt is shown before each line, and views as tables.
     pub has_prompt: bool,
+    /// Whether somebody reads standard error at a terminal: what is refused is explained there.
+    pub is_watched: bool,
 }
 
 /// What becomes of a line.

@@ -7,9 +7,10 @@ ghost use Rattle.mls_host.specs.Hosting.{IsAppended, IsTold};
 ghost use Rattle.mls_host.specs.Running.{site_of};
 ghost use Rattle.mls_shells.specs.Shell.{opening, audience_at, told_of, events_of, is_refused, is_last, is_lost, FateFits, MayTalk, IsFollowed, IsConversation, IsShell};
 
+use crate::explaining::Listener;
 use crate::reading::next_fate;
 use crate::seat::{Fate, Seat};
-use crate::telling::{ask, tell_fate};
+use crate::telling::{ask, tell_fate, tell_more};
 use mls_filterview::Base;
 use mls_host::{Ending, Errors, ending_if, form_of};
 use mls_lattice::{Items, Policy};
@@ -112,7 +113,8 @@ fn is_last(fate: &Fate) -> bool
     }
 }
 
-/// Opens the session, and answers each line before it reads the next, as long as the session is open and there are lines.
+/// Opens the session, and answers each line before it reads the next, as long as the session is open and there are lines. What is
+/// refused is explained where somebody reads that.
 fn converse<B: Base, L: TypedLines, W: Write, E: Write>(
     alloc: Global,
     engine: &mut Engine<B>,
@@ -139,16 +141,29 @@ fn converse<B: Base, L: TypedLines, W: Write, E: Write>(
         (L.remaining lines.old) (L.remaining lines.new) (W.contents out.old) (W.contents out.new) (L.breaks lines.new)
         (IsTold E.contents err.old err.new) result (world_of B.state engine.old) (world_of B.state engine.new) }
 {
+    let listener = Listener {
+        alloc,
+        policy,
+        schemes,
+        seat,
+    };
     answer(engine, seat, 0, first, out)?;
+    tell_more(err, seat, listener.event_text(first, engine.notice()));
     let mut refused = !engine.is_open(seat.level, seat.user.as_str());
     for before in 0..usize::MAX {
         if !engine.is_open(seat.level, seat.user.as_str()) {
             return Ok(ending_if(refused));
         }
         ask(err, seat);
-        let fate = next_fate(alloc, policy, schemes, seat, lines, out);
+        let mut heard = Vec::new(alloc);
+        let fate = next_fate(alloc, policy, schemes, seat, lines, out, &mut heard);
         tell_fate(err, seat, before + 1, &fate);
         follow(engine, seat, before + 1, &fate, out)?;
+        tell_more(
+            err,
+            seat,
+            listener.line_text(&heard, &fate, engine.notice()),
+        );
         refused = refused | is_refused(&fate);
         if is_last(&fate) {
             return Ok(ending_if(refused));

@@ -133,14 +133,16 @@ fn seat_of(
     files: ShellFiles,
     level: LabelNo,
     has_prompt: bool,
+    is_watched: bool,
 ) -> Result<Seat, AllocError>
-    ensures { IfOk result (λ seat. seat ≡ seat_of files.entry level has_prompt) }
+    ensures { IfOk result (λ seat. seat ≡ seat_of files.entry level has_prompt is_watched) }
 {
     Ok(Seat {
         level,
         label: Str::copy_of(alloc, files.label)?,
         user: Str::copy_of(alloc, files.user)?,
         has_prompt,
+        is_watched,
     })
 }
 
@@ -170,7 +172,7 @@ pub fn shell_files<H: Host, W: Write, E: Write>(
     if !is_name(files.user) {
         return Err(Refusal::Before(Reason::User));
     }
-    let seat = seat_of(alloc, files, level, host.is_terminal())?;
+    let seat = seat_of(alloc, files, level, host.is_terminal(), host.is_watched())?;
     let first = opening(alloc, &seat)?;
     let schemes = &file.schemes;
     let stored = stored_files(

@@ -1,15 +1,16 @@
 //! What a shell says on standard error.
 ghost use Rattle.std.specs.Prelude.{◌≡◌};
 ghost use Rattle.mls_host.specs.Hosting.{IsTold};
-ghost use Rattle.mls_shells.specs.Shell.{prompt_of, column_of, told_of};
+ghost use Rattle.mls_shells.specs.Shell.{prompt_of, column_of, told_of, IsMore};
 
 use crate::help::HELP;
 use crate::seat::{Fate, Seat};
 use mls_host::Errors;
+use std::alloc::AllocError;
 use std::io::Write;
 
 /// The column in what was typed.
-fn column_of(seat: &Seat, column: usize) -> usize
+pub(crate) fn column_of(seat: &Seat, column: usize) -> usize
     ensures { result ≡ column_of seat.now column }
 {
     let blanks = 2;
@@ -43,5 +44,19 @@ pub(crate) fn tell_fate<E: Write>(err: &mut Errors<E>, seat: &Seat, number: usiz
         Fate::TooLong => err.tell_line(number, "too long"),
         Fate::Unreadable => err.tell_line(number, "unreadable"),
         Fate::Over | Fate::Blank | Fate::Said(_) | Fate::Lost(_) => err.tell(b""),
+    }
+}
+
+/// Tells more, where somebody reads it and there is memory for it.
+pub(crate) fn tell_more<E: Write>(
+    err: &mut Errors<E>,
+    seat: &Seat,
+    text: Result<String, AllocError>,
+)
+    ensures { IsMore seat.now (IsTold E.contents err.old err.new) }
+{
+    match text {
+        Ok(text) if seat.is_watched => err.tell(text.as_bytes()),
+        _ => err.tell(b""),
     }
 }

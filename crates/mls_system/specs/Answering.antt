@@ -39,6 +39,7 @@ module _ {B L O : Type 0} (b : Bases B) (s : Stores L) where
     types = λ _. ⊤;
     breaks = ⊤;
     is_terminal = m.is_terminal;
+    is_watched = m.is_watched;
     keeps = λ path h. MatchOption m.left (FindsHoldings s.image h) (λ l. s.keeps l.value h);
     bars = λ path policy file e. IsStoreOrMemory e ⊎ s.bars s.image policy file e;
     shows = λ _ _ _. ⊤;

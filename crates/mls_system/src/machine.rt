@@ -83,6 +83,7 @@ pub struct Machine<'a, B: Base + Drop, L: Left + Drop, O: Drop> {
     rt: &'a HostRuntime,
     stores: O,
     is_terminal: bool,
+    is_watched: bool,
     base: Option<Snapshot<B>>,
     left: Option<Snapshot<L>>,
 }
@@ -94,6 +95,7 @@ impl<'a, B: Base + Drop, L: Left + Drop, O: Opens<B, L> + Drop> Machine<'a, B, L
             rt,
             stores,
             is_terminal: rt.stdin().is_terminal(),
+            is_watched: rt.stderr().is_terminal(),
             base: None,
             left: None,
         }
@@ -129,6 +131,10 @@ impl<'a, B: Base + Drop, L: Left + Drop, O: Opens<B, L> + Drop> Host for Machine
 
     fn is_terminal(&self) -> bool {
         self.is_terminal
+    }
+
+    fn is_watched(&self) -> bool {
+        self.is_watched
     }
 
     fn store(

@@ -4,8 +4,9 @@ use sqlite::Unknown;
 use sqlite_disk::{Disk, Files};
 use sqlite_std_file::{OpenError, open};
 use std::alloc::Global;
-use std::fs::{self, OpenOptions};
+use std::fs::{self, Metadata, OpenOptions};
 use std::io::{self, ErrorKind, Read};
+use std::os::unix::fs::MetadataExt;
 use std::path::Path;
 
 /// Why a call of the system failed.
@@ -38,19 +39,41 @@ fn is_there(rt: &HostRuntime, path: &str) -> Result<bool, StoreCause> {
     }
 }
 
-/// The files of a store that is yet to be made, where the folder of its path is there.
-fn no_files(rt: &HostRuntime, alloc: Global, path: &str) -> Result<StoreFiles, StoreCause> {
+/// Whether this process may make files in a folder, as far as modes tell: a group's right counts for everybody.
+fn may_make(rt: &HostRuntime, folder: &Metadata) -> bool {
+    let both = 0o3;
+    let mode = folder.mode();
+    match fs::metadata(rt, "/proc/self") {
+        Ok(own) if own.uid() == 0 => true,
+        Ok(own) if own.uid() == folder.uid() => (mode >> 6) & both == both,
+        Ok(_) => (mode | (mode >> 3)) & both == both,
+        Err(_) => true,
+    }
+}
+
+/// Looks whether a file can be made beside a path: in a folder that is there, and in which this process may make files.
+fn check_folder(rt: &HostRuntime, path: &str) -> Result<(), StoreCause> {
     let folder = match Path::new(path).parent() {
         Some(folder) if !folder.as_str().is_empty() => folder.as_str(),
         _ => ".",
     };
     match fs::metadata(rt, folder) {
-        Ok(found) if found.is_dir() => Ok(StoreFiles {
+        Ok(found) if !found.is_dir() => Err(StoreCause::NoFolder),
+        Ok(found) if !may_make(rt, &found) => Err(StoreCause::NoRight),
+        Ok(_) => Ok(()),
+        Err(error) => Err(cause_of(error)),
+    }
+}
+
+/// The files of a store that is yet to be made. A link that leads nowhere stands in the way of one.
+fn no_files(rt: &HostRuntime, alloc: Global, path: &str) -> Result<StoreFiles, StoreCause> {
+    check_folder(rt, path)?;
+    match fs::symlink_metadata(rt, path) {
+        Ok(_) => Err(StoreCause::NoFile),
+        Err(_) => Ok(StoreFiles {
             log: Vec::new(alloc),
             db: Vec::new(alloc),
         }),
-        Ok(_) => Err(StoreCause::NoFolder),
-        Err(error) => Err(cause_of(error)),
     }
 }
 
@@ -118,13 +141,16 @@ fn files_there(rt: &HostRuntime, alloc: Global, path: &str) -> Result<StoreFiles
     if has_journal(rt, &beside(alloc, path, "-journal")?).map_err(cause_of)? {
         return Err(StoreCause::Journal);
     }
-    file_alone(rt, alloc, path).map_err(cause_of)
+    let files = file_alone(rt, alloc, path).map_err(cause_of)?;
+    // where its log is made
+    check_folder(rt, path)?;
+    Ok(files)
 }
 
 /// The bytes of the files of the store at a path; none, where there is none yet.
 pub fn files_at(rt: &HostRuntime, alloc: Global, path: &str) -> Result<StoreFiles, StoreCause> {
-    // sqlite's name for a store in memory
-    if path == ":memory:" {
+    // sqlite's names for a store in memory, and for one in a file that nobody finds
+    if path == ":memory:" || path.is_empty() {
         return Err(StoreCause::NoFile);
     }
     if !is_there(rt, path)? {

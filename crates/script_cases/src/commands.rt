@@ -35,21 +35,23 @@ fn written_on<R: AllocGlobal>(
 }
 
 /// What a command writes with a script, which is its standard input too, and the last store that was opened: of the stores `left` is
-/// the one before.
-pub fn written_over<R: Files + AllocGlobal>(
+/// the one before. Its standard error may be read at a terminal.
+pub fn written_where<R: Files + AllocGlobal>(
     rt: &R,
     words: &[&str],
     script: &[u8],
     out: Narrow,
     left: Option<Connection<MemStore>>,
+    is_watched: bool,
 ) -> (Written, Option<Connection<MemStore>>) {
     let name = store_word(words);
     if name == "left" {
-        let mut machine = machine_for(rt, words, script, left);
+        let mut machine = machine_for(rt, words, script, left, is_watched);
         let written = written_on(rt, words, &mut machine, out);
         return (written, machine.store);
     }
-    let mut machine = machine_for(rt, words, script, store_named(rt.alloc(), name));
+    let store = store_named(rt.alloc(), name);
+    let mut machine = machine_for(rt, words, script, store, is_watched);
     let written = written_on(rt, words, &mut machine, out);
     let last = if machine.was_opened {
         machine.store
@@ -57,6 +59,17 @@ pub fn written_over<R: Files + AllocGlobal>(
         left
     };
     (written, last)
+}
+
+/// What a command writes with a script, which is its standard input too, and the last store that was opened.
+pub fn written_over<R: Files + AllocGlobal>(
+    rt: &R,
+    words: &[&str],
+    script: &[u8],
+    out: Narrow,
+    left: Option<Connection<MemStore>>,
+) -> (Written, Option<Connection<MemStore>>) {
+    written_where(rt, words, script, out, left, false)
 }
 
 /// What a command writes with a script, which is its standard input too, over the store that the last run left.

@@ -91,12 +91,14 @@ fn add_file<R: Files>(
     Ok(())
 }
 
-/// A machine in memory with the files that the words of a command name. The script is its standard input.
+/// A machine in memory with the files that the words of a command name. The script is its standard input, and its standard error may be
+/// read at a terminal.
 pub fn machine_for<'a, R: Files + AllocGlobal>(
     rt: &R,
     words: &[&str],
     script: &'a [u8],
     store: Option<Connection<MemStore>>,
+    is_watched: bool,
 ) -> MemoryHost<'a> {
     let mut files = Vec::new(rt.alloc());
     for word in words {
@@ -107,6 +109,7 @@ pub fn machine_for<'a, R: Files + AllocGlobal>(
         files,
         input: script,
         store,
+        is_watched,
         was_opened: false,
         left: None,
     }

@@ -27,6 +27,7 @@ impl<'a, R: Files + AllocGlobal> Host for Lists<'a, R> {
       types = λ _. Unit {0};
       breaks = Unit {0};
       is_terminal = true;
+      is_watched = true;
       keeps = λ _ _. Unit {0};
       bars = λ _ _ _ _. Unit {0};
       shows = λ _ _ _. Unit {0};
@@ -53,6 +54,10 @@ impl<'a, R: Files + AllocGlobal> Host for Lists<'a, R> {
     }
 
     fn is_terminal(&self) -> bool {
+        true
+    }
+
+    fn is_watched(&self) -> bool {
         true
     }
 

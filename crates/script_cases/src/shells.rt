@@ -1,5 +1,5 @@
 //! Shells over stores, each with what the one before it left.
-use crate::commands::{Written, tell_written, written_over};
+use crate::commands::{Written, tell_written, written_where};
 use crate::elsewhere::written_over_lists;
 use crate::narrow::Narrow;
 use case_tables::{Case, Told, case_at, inner, text_of, unfolded};
@@ -62,8 +62,8 @@ fn push_lines(
     Ok(())
 }
 
-/// The script of a shell: the opening and, unless that is denied, what is typed. A shell whose opening is denied says nothing on
-/// standard error.
+/// The script of a shell at a terminal: the opening and, unless that is denied, what is typed. A shell whose opening is denied shows no
+/// prompt.
 fn script_of(
     alloc: Global,
     names: &str,
@@ -73,7 +73,8 @@ fn script_of(
 ) -> Result<String, AllocError> {
     let mut script = String::new(alloc);
     writeln!(script, "{names} open {user}")?;
-    if shell.status == 0 || !shell.err.is_empty() {
+    let prompt = format!(in alloc; "{names}> ")?;
+    if text_of(&shell.err).contains(prompt.as_str()) {
         push_lines(names, typed, text_of(&shell.err), &mut script)?;
     }
     Ok(script)
@@ -137,10 +138,11 @@ fn tell_typed<R: Files + AllocGlobal>(
     words: &[&str],
     typed: &[u8],
     left: Option<Connection<MemStore>>,
+    is_watched: bool,
     out: &mut Told,
 ) -> Option<Connection<MemStore>> {
     let to = Narrow::wide(rt.alloc());
-    let (written, left) = written_over(rt, words, typed, to, left);
+    let (written, left) = written_where(rt, words, typed, to, left, is_watched);
     tell_written(&written, out);
     out.push(told_of_run(rt, words, typed).unwrap_or("  no memory\n"));
     left
@@ -150,6 +152,7 @@ fn tell_case<R: Files + AllocGlobal>(
     rt: &R,
     case: &Case<'_>,
     left: Option<Connection<MemStore>>,
+    is_watched: bool,
     out: &mut Told,
 ) -> Option<Connection<MemStore>> {
     out.push_line(case.head);
@@ -162,18 +165,18 @@ fn tell_case<R: Files + AllocGlobal>(
     };
     let words: Result<Vec<&str>, _> = words.iter().map(|word| word.as_str()).collect(rt.alloc());
     match words {
-        Ok(words) => tell_typed(rt, &words, &typed, left, out),
+        Ok(words) => tell_typed(rt, &words, &typed, left, is_watched, out),
         Err(_) => left,
     }
 }
 
-/// Tells what shells write, each line where it was read, and where a run of the script would write something else. The store `left` is
-/// what the last one left.
-pub fn tell_all<R: Files + AllocGlobal>(rt: &R, lines: &[&str], out: &mut Told) {
+/// Tells what shells write, each line where it was read, and where a run of the script would write something else. Their standard error
+/// may be read at a terminal. The store `left` is what the last one left.
+pub fn tell_all<R: Files + AllocGlobal>(rt: &R, lines: &[&str], is_watched: bool, out: &mut Told) {
     let mut left = None;
     for at in 0..lines.len() {
         if let Some(case) = case_at(&lines[at..]) {
-            left = tell_case(rt, &case, left, out);
+            left = tell_case(rt, &case, left, is_watched, out);
         }
     }
 }

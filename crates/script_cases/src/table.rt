@@ -17,11 +17,12 @@ pub enum Table {
     Counts,
     Stores,
     Shells,
+    Watched,
     Samples,
     Readers,
 }
 
-pub const TABLES: [(&str, Table); 17] = [
+pub const TABLES: [(&str, Table); 18] = [
     ("script_faults.txt", Table::Faults),
     ("prefixes.txt", Table::Prefixes),
     ("scripts.txt", Table::Scripts),
@@ -37,6 +38,7 @@ pub const TABLES: [(&str, Table); 17] = [
     ("stores.txt", Table::Stores),
     ("migrations.txt", Table::Stores),
     ("shells.txt", Table::Shells),
+    ("watched.txt", Table::Watched),
     ("samples.txt", Table::Samples),
     ("readers.txt", Table::Readers),
 ];
@@ -54,7 +56,8 @@ pub fn told<R: Files + AllocGlobal>(
     out.push_line(file);
     match table {
         Table::Stores => stores::tell_all(rt, &lines, &mut out),
-        Table::Shells => shells::tell_all(rt, &lines, &mut out),
+        Table::Shells => shells::tell_all(rt, &lines, false, &mut out),
+        Table::Watched => shells::tell_all(rt, &lines, true, &mut out),
         _ => tell_cases(rt, table, &lines, &mut out),
     }
     out.finish()
@@ -81,6 +84,6 @@ fn tell_case<R: Files + AllocGlobal>(rt: &R, table: Table, case: &Case<'_>, out:
         Table::Samples => samples::tell(rt, case, out),
         Table::Readers => readers::tell(rt, case, out),
         // Each of these goes on with what the one before it left.
-        Table::Stores | Table::Shells => {}
+        Table::Stores | Table::Shells | Table::Watched => {}
     }
 }

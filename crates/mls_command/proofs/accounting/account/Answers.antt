@@ -2,15 +2,15 @@ use Rattle.std.proofs.Common.{refl, inr}
 use Rattle.mls_host.specs.declared.reason.Reason.TheVariants.{Memory}
 use Rattle.mls_host.specs.Hosting.{hosted}
 use Rattle.mls_host.proofs.CauseLemmas.{same_reason}
-use Rattle.mls_command.specs.Accounting.{IsUnread, all_accepted}
+use Rattle.mls_command.specs.Accounting.{IsUnread}
 use Rattle.mls_command.proofs.AccountLemmas.{refused_told, refused_unread}
 use Rattle.mls_command.proofs.accounting.account.Goals as goal
 
-pub returns-in_ok-store_account-in-Ok-clause-told : goal.returns-in_ok-store_account-in-Ok-clause-told
-returns-in_ok-store_account-in-Ok-clause-told g c = all_accepted _ _ c.in-Ok.ensures.accepted c.in_ok-store_account-in-Ok.ensures
+pub returns-in_ok-accepted_listing-in-Ok-clause-told : goal.returns-in_ok-accepted_listing-in-Ok-clause-told
+returns-in_ok-accepted_listing-in-Ok-clause-told g c = c.in_ok-accepted_listing-in-Ok.ensures
 
-pub returns-in_err-store_account-in-Ok-clause-unread : goal.returns-in_err-store_account-in-Ok-clause-unread
-returns-in_err-store_account-in-Ok-clause-unread g c =
+pub returns-in_err-accepted_listing-in-Ok-clause-unread : goal.returns-in_err-accepted_listing-in-Ok-clause-unread
+returns-in_err-accepted_listing-in-Ok-clause-unread g c =
     same_reason (IsUnread (hosted g.H.Host.hosting g.H.Lines.TypedLines.echo c.args.host.now c.args.host.now) c.args.job) c.from_residual.result Memory c.from_residual.ensures.1 (inr refl, refl)
 
 pub returns-in-Err-clause-told : goal.returns-in-Err-clause-told

@@ -1,4 +1,5 @@
-use Rattle.std.proofs.Common.{◌++◌, Result, Ok, Err, subst}
+use Rattle.std.proofs.Common.{◌++◌, [], Result, Ok, Err, refl, sym, subst}
+use Rattle.std.proofs.lemmas.List.{append-nil}
 use Rattle.mls_host.specs.declared.ending.Ending.{Ending}
 use Rattle.mls_host.specs.declared.refusal.Refusal.{Refusal}
 use Rattle.mls_host.specs.Deed.{deed, end_text}
@@ -6,14 +7,16 @@ use Rattle.mls_host.specs.Hosting.{hosted, IsAppended, IsTold}
 use Rattle.mls_host.proofs.HostingLemmas.{told_more}
 use Rattle.mls_listings.proofs.PrintingLemmas.{printing_told}
 use Rattle.mls_command.specs.Accounting.{Accounts, IsUnread, IsAccountOf}
-use Rattle.mls_command.proofs.ActingLemmas.{told_end}
+use Rattle.mls_command.proofs.ActingLemmas.{told_all}
 use Rattle.mls_command.proofs.accounting.finish_account.Goals as goal
 
 pub returns-in-Ok : goal.returns-in-Ok
 returns-in-Ok g c = record {
   end = (Ok c.in-Ok.ending);
-  does = printing_told (Accounts (hosted g.H.Host.hosting g.H.Lines.TypedLines.echo c.args.host.now c.args.host.now) c.args.job) (IsUnread (hosted g.H.Host.hosting g.H.Lines.TypedLines.echo c.args.host.now c.args.host.now) c.args.job) (IsAppended g.W.Write.contents c.args.out.now c.print_account.new.out) (IsTold g.E.Write.contents c.args.err.now c.print_account.new.err) (λ text. IsTold g.E.Write.contents c.args.err.now c.print_account.new.err (text ++ end_text (Ok c.in-Ok.ending)))
-      (told_end (IsTold g.E.Write.contents c.args.err.now c.print_account.new.err) c.in-Ok.ending) (Ok c.in-Ok.ending)
+  more = [];
+  plain = λ no. refl;
+  does = printing_told (Accounts (hosted g.H.Host.hosting g.H.Lines.TypedLines.echo c.args.host.now c.args.host.now) c.args.job) (IsUnread (hosted g.H.Host.hosting g.H.Lines.TypedLines.echo c.args.host.now c.args.host.now) c.args.job) (IsAppended g.W.Write.contents c.args.out.now c.print_account.new.out) (IsTold g.E.Write.contents c.args.err.now c.print_account.new.err) (λ text. IsTold g.E.Write.contents c.args.err.now c.print_account.new.err ((text ++ end_text (Ok c.in-Ok.ending)) ++ []))
+      (told_all (IsTold g.E.Write.contents c.args.err.now c.print_account.new.err) c.in-Ok.ending) (Ok c.in-Ok.ending)
       (subst (λ (r : Result Ending Refusal). IsAccountOf (hosted g.H.Host.hosting g.H.Lines.TypedLines.echo c.args.host.now c.args.host.now) c.args.job (deed g.W.Write.contents c.args.out.now c.print_account.new.out g.E.Write.contents c.args.err.now c.print_account.new.err r)) c.in-Ok.is c.print_account.ensures);
   status_is = c.status.ensures;
 }
@@ -21,8 +24,10 @@ returns-in-Ok g c = record {
 pub returns-in-Err : goal.returns-in-Err
 returns-in-Err g c = record {
   end = (Err c.in-Err.refusal);
-  does = printing_told (Accounts (hosted g.H.Host.hosting g.H.Lines.TypedLines.echo c.args.host.now c.args.host.now) c.args.job) (IsUnread (hosted g.H.Host.hosting g.H.Lines.TypedLines.echo c.args.host.now c.args.host.now) c.args.job) (IsAppended g.W.Write.contents c.args.out.now c.print_account.new.out) (IsTold g.E.Write.contents c.args.err.now c.print_account.new.err) (λ text. IsTold g.E.Write.contents c.args.err.now c.tell_refusal.new.self (text ++ end_text (Err c.in-Err.refusal)))
-      (λ text t. told_more g.E.Write.contents c.args.err.now c.print_account.new.err c.tell_refusal.new.self text (end_text (Err c.in-Err.refusal)) t c.tell_refusal.ensures) (Err c.in-Err.refusal)
+  more = [];
+  plain = λ no. refl;
+  does = printing_told (Accounts (hosted g.H.Host.hosting g.H.Lines.TypedLines.echo c.args.host.now c.args.host.now) c.args.job) (IsUnread (hosted g.H.Host.hosting g.H.Lines.TypedLines.echo c.args.host.now c.args.host.now) c.args.job) (IsAppended g.W.Write.contents c.args.out.now c.print_account.new.out) (IsTold g.E.Write.contents c.args.err.now c.print_account.new.err) (λ text. IsTold g.E.Write.contents c.args.err.now c.tell_refusal.new.self ((text ++ end_text (Err c.in-Err.refusal)) ++ []))
+      (λ text t. subst (IsTold g.E.Write.contents c.args.err.now c.tell_refusal.new.self) (sym (append-nil (text ++ end_text (Err c.in-Err.refusal)))) (told_more g.E.Write.contents c.args.err.now c.print_account.new.err c.tell_refusal.new.self text (end_text (Err c.in-Err.refusal)) t c.tell_refusal.ensures)) (Err c.in-Err.refusal)
       (subst (λ (r : Result Ending Refusal). IsAccountOf (hosted g.H.Host.hosting g.H.Lines.TypedLines.echo c.args.host.now c.args.host.now) c.args.job (deed g.W.Write.contents c.args.out.now c.print_account.new.out g.E.Write.contents c.args.err.now c.print_account.new.err r)) c.in-Err.is c.print_account.ensures);
   status_is = c.status-in-Err.ensures;
 }

@@ -22,12 +22,12 @@ returns-in_err-texts-in-ShowPolicy g c =
           (deed g.W.Write.contents c.args.out.now c.args.out.now g.E.Write.contents c.args.err.now c.args.err.now c.from_residual.result) Memory c.from_residual.ensures.1 refl (Appends-nil _, told_nothing g.E.Write.contents c.args.err.now),
     )
 
-pub returns-in_err-pictured-in-Picture : goal.returns-in_err-pictured-in-Picture
-returns-in_err-pictured-in-Picture g c =
-    subst (λ (t : Task). IsTaskDeed (hosted g.H.Host.hosting g.H.Lines.TypedLines.echo c.args.host.now c.args.host.now) c.args.policy.now c.args.file.now c.args.reader t (deed g.W.Write.contents c.args.out.now c.args.out.now g.E.Write.contents c.args.err.now c.args.err.now c.from_residual-in_err-pictured-in-Picture.result)) (sym c.in-Picture.is) (
+pub returns-in_err-picture_of-in-Picture : goal.returns-in_err-picture_of-in-Picture
+returns-in_err-picture_of-in-Picture g c =
+    subst (λ (t : Task). IsTaskDeed (hosted g.H.Host.hosting g.H.Lines.TypedLines.echo c.args.host.now c.args.host.now) c.args.policy.now c.args.file.now c.args.reader t (deed g.W.Write.contents c.args.out.now c.args.out.now g.E.Write.contents c.args.err.now c.args.err.now c.from_residual-in_err-picture_of-in-Picture.result)) (sym c.in-Picture.is) (
       untouched (g.H.Host.hosting c.args.host.now),
       not_printed (Prints (hosted g.H.Host.hosting g.H.Lines.TypedLines.echo c.args.host.now c.args.host.now) c.args.policy.now c.args.file.now Picture) (IsTaskRefused (hosted g.H.Host.hosting g.H.Lines.TypedLines.echo c.args.host.now c.args.host.now) c.args.policy.now c.args.file.now c.args.reader Picture)
-          (deed g.W.Write.contents c.args.out.now c.args.out.now g.E.Write.contents c.args.err.now c.args.err.now c.from_residual-in_err-pictured-in-Picture.result) Memory c.from_residual-in_err-pictured-in-Picture.ensures.1 refl (Appends-nil _, told_nothing g.E.Write.contents c.args.err.now),
+          (deed g.W.Write.contents c.args.out.now c.args.out.now g.E.Write.contents c.args.err.now c.args.err.now c.from_residual-in_err-picture_of-in-Picture.result) Memory c.from_residual-in_err-picture_of-in-Picture.ensures.1 refl (Appends-nil _, told_nothing g.E.Write.contents c.args.err.now),
     )
 
 pub returns-in_err-certified-in-Certify : goal.returns-in_err-certified-in-Certify
@@ -62,12 +62,12 @@ returns-in_ok-texts-in-ShowPolicy g c =
           c.in_ok-texts-in-ShowPolicy.field-0 (deed g.W.Write.contents c.args.out.now c.print.new.out g.E.Write.contents c.args.err.now c.print.new.err c.print.result) (c.in_ok-texts-in-ShowPolicy.ensures.text, c.in_ok-texts-in-ShowPolicy.ensures.told, c.in_ok-texts-in-ShowPolicy.ensures.end) c.print.ensures.print,
     )
 
-pub returns-in_ok-pictured-in-Picture : goal.returns-in_ok-pictured-in-Picture
-returns-in_ok-pictured-in-Picture g c =
+pub returns-in_ok-picture_of-in-Picture : goal.returns-in_ok-picture_of-in-Picture
+returns-in_ok-picture_of-in-Picture g c =
     subst (λ (t : Task). IsTaskDeed (hosted g.H.Host.hosting g.H.Lines.TypedLines.echo c.args.host.now c.args.host.now) c.args.policy.now c.args.file.now c.args.reader t (deed g.W.Write.contents c.args.out.now c.print-in-Picture.new.out g.E.Write.contents c.args.err.now c.print-in-Picture.new.err c.print-in-Picture.result)) (sym c.in-Picture.is) (
       untouched (g.H.Host.hosting c.args.host.now),
       listing_printed (Prints (hosted g.H.Host.hosting g.H.Lines.TypedLines.echo c.args.host.now c.args.host.now) c.args.policy.now c.args.file.now Picture) (IsTaskRefused (hosted g.H.Host.hosting g.H.Lines.TypedLines.echo c.args.host.now c.args.host.now) c.args.policy.now c.args.file.now c.args.reader Picture)
-          c.in_ok-pictured-in-Picture.field-0 (deed g.W.Write.contents c.args.out.now c.print-in-Picture.new.out g.E.Write.contents c.args.err.now c.print-in-Picture.new.err c.print-in-Picture.result) (c.in_ok-pictured-in-Picture.ensures.text, c.in_ok-pictured-in-Picture.ensures.told, c.in_ok-pictured-in-Picture.ensures.end) c.print-in-Picture.ensures.print,
+          c.in_ok-picture_of-in-Picture.field-0 (deed g.W.Write.contents c.args.out.now c.print-in-Picture.new.out g.E.Write.contents c.args.err.now c.print-in-Picture.new.err c.print-in-Picture.result) (c.in_ok-picture_of-in-Picture.ensures.text, c.in_ok-picture_of-in-Picture.ensures.told) c.print-in-Picture.ensures.print,
     )
 
 pub returns-in_ok-certified-in-Certify : goal.returns-in_ok-certified-in-Certify

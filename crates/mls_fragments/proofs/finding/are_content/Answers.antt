@@ -13,7 +13,7 @@ returns-then-not-branch c = (
   λ no. absurd (true≢false (sym no)),
   λ all.
       let here = all c.loop-rel.rel (let l = c.loop-rel-test.true in omega (arith, l, length-map c.args.tables.now (λ t. t.entries))) in
-      let same = subst₂ (λ s es. IsContent (labels_of c.args.policy.now) s (table_of es)) (sym (c.scheme-scheme.ensures.row ∙ ap (scheme_of c.args.schemes.now) c.new.ensures))
+      let same = subst₂ (λ s es. IsContent (labels_of c.args.policy.now) s (table_of es)) (sym (c.scheme-scheme.ensures.row ∙ ap (scheme_of c.args.schemes.now) c.new-rel.ensures))
       (table_at (λ t. t.entries) c.args.tables.now c.loop-rel.rel c.index-tables-rel.result c.loop-rel-test.true c.index-tables-rel.is) here in
       absurd (true≢false (sym (c.in_ok-is_content.ensures.1 same) ∙ c.if-not-branch.true)),
 )
@@ -21,7 +21,7 @@ returns-then-not-branch c = (
 pub loop-rel-preserved : goal.loop-rel-preserved
 loop-rel-preserved c =
     up_to (λ rel. IsContent (labels_of c.args.policy.now) (scheme_of c.args.schemes.now rel) (table_in (map (λ t. t.entries) c.args.tables.now) rel)) c.loop-rel.rel c.loop-rel.invariant
-    (subst₂ (λ s es. IsContent (labels_of c.args.policy.now) s (table_of es)) (c.scheme-scheme.ensures.row ∙ ap (scheme_of c.args.schemes.now) c.new.ensures)
+    (subst₂ (λ s es. IsContent (labels_of c.args.policy.now) s (table_of es)) (c.scheme-scheme.ensures.row ∙ ap (scheme_of c.args.schemes.now) c.new-rel.ensures)
     (sym (table_at (λ t. t.entries) c.args.tables.now c.loop-rel.rel c.index-tables-rel.result c.loop-rel-test.true c.index-tables-rel.is))
     (c.in_ok-is_content.ensures.0 c.if-not-branch.false))
 

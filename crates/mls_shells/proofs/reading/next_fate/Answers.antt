@@ -8,8 +8,8 @@ use Rattle.mls_shells.proofs.reading.next_fate.Goals as goal
 pub returns-in-Ok-Line-clause-read : goal.returns-in-Ok-Line-clause-read
 returns-in-Ok-Line-clause-read g c =
     let (next, shown, short) = rw c.in-Ok-Line.field-0-is at c.in-Ok-Line.ensures.typed in
-    read_whole c.args.policy.now c.args.schemes.now c.args.seat.now g.L.TypedLines.echo _ _ _ _ _ c.label_count.ensures.valid c.count.ensures.valid c.in-Ok-Line.line.items next short shown c.fate_of.result
-    (subst (λ line. Becomes (fate_of c.args.policy.now c.args.schemes.now c.args.seat.now line) c.fate_of.result) c.deref.ensures.value c.fate_of.ensures.is)
+    read_whole c.args.policy.now c.args.schemes.now c.args.seat.now g.L.TypedLines.echo _ _ _ _ _ c.label_count.ensures.valid c.count.ensures.valid c.in-Ok-Line.line.items next short shown c.fate_of-fate.result
+    (subst (λ line. Becomes (fate_of c.args.policy.now c.args.schemes.now c.args.seat.now line) c.fate_of-fate.result) c.deref.ensures.value c.fate_of-fate.ensures.is)
 
 pub returns-in-Ok-TooLong-clause-read : goal.returns-in-Ok-TooLong-clause-read
 returns-in-Ok-TooLong-clause-read g c =

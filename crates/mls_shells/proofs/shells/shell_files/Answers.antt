@@ -49,7 +49,7 @@ returns-clause-shell g c =
     c.in_ok-stored.ensures.from c.in-Some.is (sym c.is_name.ensures ∙ c.if-not-is_name.false) c.lines-lines.ensures.typed (c.lines-lines.ensures.broken c.shell_over.new.lines) c.shell_over.result
     (subst (λ seat. IsEnd (IsShellFrom h before after Broken Wrote Told c.args.file.now (named c.args.files.store) (site_of c.args.policy.now c.args.file.now.schemes c.in_ok-stored.stored) seat)
     (λ reason. IsBarred (g.H.Host.hosting c.args.host.now) c.args.policy.now c.args.file.now (named c.args.files.store) reason × Wrote [] × Told []) c.shell_over.result)
-    (c.in_ok-seat.ensures ∙ ap (seat_of c.args.files c.in-Some.level) c.is_terminal.ensures) c.shell_over.ensures.ends)
+    (c.in_ok-seat.ensures ∙ ap (λ b. seat_of c.args.files c.in-Some.level b c.is_watched.result) c.is_terminal.ensures ∙ ap (seat_of c.args.files c.in-Some.level (g.H.Host.hosting c.args.host.now).is_terminal) c.is_watched.ensures) c.shell_over.ensures.ends)
 
 pub returns-in-None-clause-caused : goal.returns-in-None-clause-caused
 returns-in-None-clause-caused g c = untouched (g.H.Host.hosting c.args.host.now)

@@ -1,0 +1,25 @@
+-- What is written of control characters.
+use Rattle.std.proofs.Common.{◌≡◌, ℕ, List, ◌<◌, ◌-◌, ◌^◌, ◌∙◌, true, false, [], ◌++◌, ap, length, arith}
+use Rattle.std.specs.Prelude.{codes, chars, IsUtf8}
+use Rattle.std.specs.List.{flat_map}
+use Rattle.std.specs.Char.{is_control, encode_utf8}
+use Rattle.std.specs.Fmt.{digits, padded_integral, format_spec}
+use Rattle.std.proofs.lemmas.Fmt.{hex_byte}
+use Rattle.std.proofs.lemmas.Str.{chars_past_char, chars-nil}
+use Rattle.std.proofs.lemmas.List.{nil_from_length}
+use Rattle.mls_screen.specs.Screen.{hex_escape}
+use Rattle.mls_advice.specs.Excerpt.{shown_char, shown}
+
+pub escape_written : (n : ℕ) → n < 256 → codes "\\x" ++ padded_integral (format_spec 32 0 4 2 (2 ^ 64 - 1)) false [] (digits 16 false n) ≡ hex_escape n
+escape_written n lt = ap (λ d. codes "\\x" ++ d) (hex_byte false n lt)
+
+pub control_below : (c : ℕ) → is_control c ≡ true → c < 256
+control_below c e = grind arith
+
+pub shown_step : (text rest : List ℕ) (c : ℕ) → IsUtf8 text → text ≡ encode_utf8 c ++ rest → shown text ≡ shown_char c ++ shown rest
+unfolding shown
+shown_step text rest c utf8 parts = ap (flat_map shown_char) (chars_past_char text rest c utf8 parts)
+
+pub shown_over : (text : List ℕ) → length text ≡ 0 → shown text ≡ []
+unfolding shown
+shown_over text none = ap (λ t. flat_map shown_char (chars t)) (nil_from_length text none) ∙ ap (flat_map shown_char) chars-nil

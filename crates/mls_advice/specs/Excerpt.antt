@@ -1,0 +1,29 @@
+-- The line with which what is told of a place in a file begins.
+use Rattle.std.specs.Prelude.{◌≡◌, ℕ, Bool, if◌then◌else◌, List, ◌++◌, codes, chars, Option, Some, None}
+use Rattle.std.specs.List.{flat_map}
+use Rattle.std.specs.Char.{is_control, encode_utf8}
+use Rattle.std.specs.Fmt.{decimal}
+use Rattle.mls_screen.specs.Screen.{hex_escape}
+
+-- a character as a screen is given it
+abbrev pub shown_char : ℕ → List ℕ
+shown_char c = if is_control c then hex_escape c else encode_utf8 c
+
+unfoldable pub shown : List ℕ → List ℕ
+shown text = flat_map shown_char (chars text)
+
+abbrev pub column_part : Option ℕ → List ℕ
+column_part None = codes ": "
+column_part (Some column) = codes ":" ++ (decimal column ++ codes ": ")
+
+-- the file, the line, and the column where one is told
+unfoldable pub place_line : List ℕ → ℕ → Option ℕ → List ℕ
+place_line path line column = codes "  " ++ (shown path ++ (codes ":" ++ (decimal line ++ column_part column)))
+
+-- a file of which no line is told
+unfoldable pub file_line : List ℕ → List ℕ
+file_line path = codes "  " ++ (shown path ++ codes "\n")
+
+-- a text begins with another
+abbrev pub Begins : List ℕ → List ℕ → Type 0
+Begins front text = (rest : List ℕ) × (text ≡ front ++ rest)

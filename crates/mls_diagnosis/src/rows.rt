@@ -1,0 +1,185 @@
+//! Stores with bad tables or rows: the row at which their opening stops.
+ghost use Rattle.std.specs.Prelude.{length};
+ghost use Rattle.mls_scheme.specs.Scheme.{AreUnder};
+
+use crate::names::Names;
+use mls_audit::{EntryFault, entry_of};
+use mls_fragments::{OpenFault, Step, Where, bad_row, tables_of};
+use mls_lattice::Policy;
+use mls_scheme::{RelNo, SchemesFile};
+use mls_statements::{AdoptFault, AllRows, AuditRow, CellRow, NodeRow, read_description};
+use sqlite::{Alter, Connection};
+use std::alloc::{AllocError, Global};
+use std::fmt::Write;
+
+const UNDESCRIBED: &str =
+    "  The file has other tables than a store, or no row of version 1 or 2 that describes one.\n";
+
+const UNREAD: &str = "  A row of table node, cell or audit has a number that no store has.\n";
+
+fn tell_node(
+    text: &mut String,
+    names: &Names,
+    step: Step,
+    node: &NodeRow,
+) -> Result<(), AllocError> {
+    let key = names.key(&node.ent)?;
+    names.row_to(text, "node", node.rel, &key, node.kclass, node.label)?;
+    text.push_str(match step {
+        _ if names.scheme(node.rel).is_none() => ".\n  No relation has this number.\n",
+        _ if !key.starts_with("(") => ".\n  Its key does not read as one.\n",
+        Step::LooseNode => ".\n  Another row stands for the same tuple.\n",
+        _ => ".\n  A class of it is no label of the store's policy.\n",
+    })
+}
+
+fn tell_cell(
+    text: &mut String,
+    names: &Names,
+    step: Step,
+    cell: &CellRow,
+) -> Result<(), AllocError> {
+    let key = names.key(&cell.ent)?;
+    names.row_to(text, "cell", cell.rel, &key, cell.kclass, cell.label)?;
+    names.attribute_to(text, cell.rel, cell.attr)?;
+    text.push_str(match step {
+        _ if names.scheme(cell.rel).is_none() => ".\n  No relation has this number.\n",
+        Step::LooseCell => ".\n  No tuple of table node has this element.\n",
+        _ if !key.starts_with("(") => ".\n  Its key does not read as one.\n",
+        _ => ".\n  Its value does not read as one, or a class of it is no label.\n",
+    })
+}
+
+/// Tells of the tuple of a relation that has so many before it.
+fn tell_tuple(
+    text: &mut String,
+    names: &Names,
+    rel: RelNo,
+    before: usize,
+    rows: &AllRows,
+) -> Result<(), AllocError> {
+    let mut at = Where::start();
+    let count = names.schemes.count();
+    let Ok(tables) = tables_of(names.alloc, count, &rows.nodes, &rows.cells, &mut at) else {
+        return Err(AllocError);
+    };
+    if let Some(table) = tables.get(rel.index())
+        && let Some((place, _)) = table.iter().nth(before)
+    {
+        let key = names.key_of(&place.key)?;
+        let (key_class, class) = (place.key_class.byte(), place.class.byte());
+        names.row_to(
+            text,
+            "node",
+            u32::from(rel.byte()),
+            &key,
+            u32::from(key_class),
+            u32::from(class),
+        )?;
+        text.push_str(
+            ".\n  A value or a class of it does not fit, or another tuple of its key is missing or differs.\n",
+        )?;
+    }
+    Ok(())
+}
+
+/// The first attribute of a node whose element has the node's class, and no cell.
+fn missing_in(node: &NodeRow, cells: &[CellRow]) -> Option<u32> {
+    for (attr, class) in (0..u32::MAX).zip(node.pattern.iter()) {
+        let is_own = u32::from(*class) == node.label;
+        let mut beside = cells.iter().filter(|cell| {
+            cell.rel == node.rel && cell.kclass == node.kclass && cell.label == node.label
+        });
+        if is_own && !beside.any(|cell| cell.attr == attr && cell.ent == node.ent) {
+            return Some(attr);
+        }
+    }
+    None
+}
+
+/// Tells of the first element that is missing.
+fn tell_missing(text: &mut String, names: &Names, rows: &AllRows) -> Result<(), AllocError> {
+    for node in &rows.nodes {
+        if let Some(attr) = missing_in(node, &rows.cells) {
+            let key = names.key(&node.ent)?;
+            names.row_to(text, "node", node.rel, &key, node.kclass, node.label)?;
+            names.attribute_to(text, node.rel, attr)?;
+            return text.push_str(".\n  This element of it is missing in table cell.\n");
+        }
+    }
+    Ok(())
+}
+
+fn tell_entry(
+    alloc: Global,
+    text: &mut String,
+    step: Step,
+    entry: &AuditRow,
+) -> Result<(), AllocError> {
+    let number = entry.number;
+    write!(text, "  Table audit: number {number}.\n")?;
+    if let Step::Number = step {
+        return text.push_str("  Entries are numbered from 1, one by one.\n");
+    }
+    match entry_of(alloc, &entry.bytes) {
+        Ok(_) => text.push_str("  Its label is none of the store's policy.\n"),
+        Err(EntryFault::Memory) => Err(AllocError),
+        Err(_) => text.push_str("  Its bytes are no entry.\n"),
+    }
+}
+
+/// Tells of the row at which the opening of a store stops.
+fn tell_row(
+    text: &mut String,
+    names: &Names,
+    at: &Where,
+    rows: &AllRows,
+) -> Result<(), AllocError> {
+    match at.step {
+        Step::Classes | Step::Node | Step::LooseNode => match rows.nodes.get(at.row) {
+            Some(node) => tell_node(text, names, at.step, node),
+            None => Ok(()),
+        },
+        Step::Cell | Step::LooseCell => match rows.cells.get(at.row) {
+            Some(cell) => tell_cell(text, names, at.step, cell),
+            None => Ok(()),
+        },
+        Step::Number | Step::Entry => match rows.entries.get(at.row) {
+            Some(entry) => tell_entry(names.alloc, text, at.step, entry),
+            None => Ok(()),
+        },
+        Step::Tuple(rel) => tell_tuple(text, names, rel, at.row, rows),
+        Step::MissingCell => tell_missing(text, names, rows),
+        Step::Rows => Ok(()),
+    }
+}
+
+/// Tells of the tables or the row at which the opening of a connection's store stops.
+pub(crate) fn tell_bad<S: Alter>(
+    alloc: Global,
+    text: &mut String,
+    policy: &Policy,
+    file: &SchemesFile,
+    conn: &mut Connection<S>,
+) -> Result<(), AllocError>
+    requires under { AreUnder (length policy.now.labels) file.now.schemes }
+{
+    let described = match read_description(conn, alloc) {
+        Ok(described) => described,
+        Err(AdoptFault::BadRows) => return text.push_str(UNDESCRIBED),
+        Err(AdoptFault::Store | AdoptFault::Memory) => return Err(AllocError),
+    };
+    match bad_row(conn, alloc, policy, file, &described) {
+        Ok(Some((at, rows))) => {
+            let names = Names {
+                alloc,
+                policy,
+                schemes: &file.schemes,
+            };
+            tell_row(text, &names, &at, &rows)
+        }
+        Ok(None) => Ok(()),
+        Err(OpenFault::BadRows) => text.push_str(UNREAD),
+        Err(_) => Err(AllocError),
+    }
+}

@@ -1,4 +1,0 @@
-pub mod CoverLemmas
-pub mod RankLemmas
-pub mod RelationLemmas
-pub mod RowLemmas

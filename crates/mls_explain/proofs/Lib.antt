@@ -1,2 +1,0 @@
-pub mod TellingLemmas
-pub mod WalkLemmas

@@ -1,0 +1,156 @@
+//! How a transaction is mended, so that it has labels.
+
+use crate::steps::Way;
+use crate::teller::Teller;
+use mls_certcheck::Slot;
+use mls_chains::Origin;
+use mls_lattice::LabelNo;
+use mls_translang::Stmt;
+use std::alloc::AllocError;
+
+/// How something comes out of a statement.
+#[derive(Clone, Copy, PartialEq, Eq)]
+pub(crate) enum Deed {
+    Emit,
+    Write,
+    Release,
+}
+
+impl Deed {
+    pub(crate) fn verb(self) -> &'static str {
+        match self {
+            Deed::Emit => "emit",
+            Deed::Write => "write",
+            Deed::Release => "release",
+        }
+    }
+}
+
+impl Teller<'_> {
+    /// Ends the ways to mend with a higher ceiling, which sees a label.
+    pub(crate) fn ceiling_way_to(
+        &self,
+        text: &mut String,
+        label: LabelNo,
+    ) -> Result<(), AllocError> {
+        if let Some(high) = self.lowest_over(self.tx.hi(), label) {
+            let low = self.label(self.tx.lo());
+            let high = self.label(high);
+            write!(text, "; or raise the ceiling (`levels {low} to {high}`)")?;
+        }
+        text.push_str(".\n")
+    }
+
+    /// Ends them with levels that begin lower, at what a label sees.
+    pub(crate) fn floor_way_to(&self, text: &mut String, label: LabelNo) -> Result<(), AllocError> {
+        if let Some(low) = self.highest_under(self.tx.lo(), label) {
+            let low = self.label(low);
+            let high = self.label(self.tx.hi());
+            write!(
+                text,
+                "; or begin the levels at {low} (`levels {low} to {high}`)"
+            )?;
+        }
+        text.push_str(".\n")
+    }
+
+    /// The outermost loop or branch around a statement that tells more than a label sees.
+    fn outermost(
+        &self,
+        number: usize,
+        label: LabelNo,
+        cause: Option<usize>,
+    ) -> Result<Option<usize>, AllocError> {
+        let mut outermost = None;
+        let around = self.all_around(number)?;
+        for around in &around {
+            if cause == Some(*around) || !self.sees_inside(label, *around)? {
+                outermost = Some(*around);
+            }
+        }
+        Ok(outermost)
+    }
+
+    /// Ends them with a release behind a loop or a branch. Where nothing is read, a number of turns stands for what comes out.
+    fn behind_way_to(
+        &self,
+        text: &mut String,
+        number: usize,
+        around: usize,
+        deed: Deed,
+        label: LabelNo,
+        way: &Way,
+    ) -> Result<(), AllocError> {
+        let counts = self.turns(way) && deed != Deed::Write && self.names_at(number)?.is_empty();
+        let how = if counts {
+            "count in a variable"
+        } else {
+            "set a variable here"
+        };
+        let kind = match self.stmt(around) {
+            Some(Stmt::For { .. }) => "loop",
+            _ => "`if`",
+        };
+        let label = self.label(label);
+        let (release, to, then) = match deed {
+            Deed::Release => ("and release that", "", ""),
+            Deed::Emit => ("release that to ", label, ", and emit it there"),
+            Deed::Write => ("release that to ", label, ", and write there"),
+        };
+        writeln!(
+            text,
+            "; or {how}, {release}{to} behind the {kind} at {around}{then}."
+        )
+    }
+
+    /// Ends them with a release of the value in front of the statement.
+    fn before_way_to(
+        &self,
+        text: &mut String,
+        deed: Deed,
+        label: LabelNo,
+        end: Origin,
+    ) -> Result<(), AllocError> {
+        let (what, into) = match (deed, end) {
+            (Deed::Emit, _) => ("the value", "a variable"),
+            (Deed::Write, Origin::Held(Slot::Variable { place, .. })) => {
+                (self.variable(place), "another variable")
+            }
+            (Deed::Write, Origin::Parameter(place)) => {
+                (self.parameter(usize::from(place)), "a variable")
+            }
+            _ => return text.push_str(".\n"),
+        };
+        let label = self.label(label);
+        let verb = deed.verb();
+        writeln!(
+            text,
+            "; or release {what} to {label} into {into}, and {verb} that."
+        )
+    }
+
+    /// Adds how what comes out of a statement at a label is mended.
+    pub(crate) fn out_ways_to(
+        &self,
+        text: &mut String,
+        number: usize,
+        deed: Deed,
+        label: LabelNo,
+        way: &Way,
+    ) -> Result<(), AllocError> {
+        let how = match deed {
+            Deed::Emit => "emit at",
+            Deed::Write => "write at",
+            Deed::Release => "release to",
+        };
+        let higher = self.label(self.lowest_over(label, way.root).unwrap_or(self.tx.hi()));
+        write!(text, "   To mend it: {how} {higher}")?;
+        if way.cause == Some(0) {
+            return self.floor_way_to(text, label);
+        }
+        match self.outermost(number, label, way.cause)? {
+            Some(around) => self.behind_way_to(text, number, around, deed, label, way),
+            None => self.before_way_to(text, deed, label, way.end),
+        }
+    }
+}

@@ -1,7 +1,0 @@
-pub mod ContentLemmas
-pub mod WalkLemmas
-pub mod NamingLemmas
-pub mod UntoldLemmas
-pub mod LawLemmas
-pub mod LimitLemmas
-pub mod DocumentLemmas

@@ -1,4 +1,0 @@
-pub mod Rules
-pub mod Wrong
-pub mod Telling
-pub mod Difference

@@ -1,3 +1,0 @@
-pub mod PlaceLemmas
-pub mod NearestLemmas
-pub mod NamesLemmas

@@ -1,0 +1,92 @@
+//! Why a line is refused, or what it asks for is not done, in sentences.
+use crate::denials::denial_text;
+use crate::reading::text_of;
+use crate::refusals::refusal_text;
+use crate::seat::{Fate, Seat};
+use crate::telling::column_of;
+use mls_advice::{advice_of, declared_names, form_at, nearest_line, token_at, typed_excerpt};
+use mls_lattice::Policy;
+use mls_scheme::Schemes;
+use mls_script::{Event, ScriptCause, ScriptFault};
+use mls_sessions::Notice;
+use std::alloc::{AllocError, Global};
+
+const TOO_LONG: &str =
+    "  A line has at most 1,048,575 bytes before its end. Nothing of this one was done.\n";
+
+const NO_VERB: &str =
+    "  A line begins with view, count, insert, update, delete, call, audit or close. `help` has examples.\n";
+
+/// Who is told why, under which policy and schemes.
+#[derive(Drop)]
+pub(crate) struct Listener<'a> {
+    pub(crate) alloc: Global,
+    pub(crate) policy: &'a Policy,
+    pub(crate) schemes: &'a Schemes,
+    pub(crate) seat: &'a Seat,
+}
+
+impl Listener<'_> {
+    /// Why an event was not done, where somebody reads that.
+    pub(crate) fn event_text(
+        &self,
+        events: &[Event],
+        notice: Option<Notice>,
+    ) -> Result<String, AllocError> {
+        match (events.first(), notice) {
+            (Some(event), Some(notice)) if self.seat.is_watched => self.notice_text(event, notice),
+            _ => Ok(String::new(self.alloc)),
+        }
+    }
+
+    fn notice_text(&self, event: &Event, notice: Notice) -> Result<String, AllocError> {
+        match notice {
+            Notice::Denied(denial) => denial_text(self, &event.command, denial),
+            Notice::Refused(outcome) => refusal_text(self, &event.command, outcome),
+        }
+    }
+
+    /// Why nothing was done of a line, where somebody reads that.
+    pub(crate) fn line_text(
+        &self,
+        line: &[u8],
+        fate: &Fate,
+        notice: Option<Notice>,
+    ) -> Result<String, AllocError> {
+        match fate {
+            Fate::Said(events) => self.event_text(events, notice),
+            Fate::Refused(fault) if self.seat.is_watched => self.fault_text(line, fault),
+            Fate::TooLong if self.seat.is_watched => String::from_str(self.alloc, TOO_LONG),
+            _ => Ok(String::new(self.alloc)),
+        }
+    }
+
+    /// The line with a caret where it goes wrong, what could stand there, and what to do.
+    fn fault_text(&self, line: &[u8], fault: &ScriptFault) -> Result<String, AllocError> {
+        let column = column_of(self.seat, fault.column);
+        let mut text = typed_excerpt(self.alloc, column, line)?;
+        match fault.cause {
+            ScriptCause::Expected => self.form_to(&mut text, line)?,
+            ScriptCause::UnknownName => self.nearest_to(&mut text, line, column)?,
+            _ => {}
+        }
+        text.push_str(advice_of(fault.cause.code()))?;
+        Ok(text)
+    }
+
+    /// Appends the form of the command in a line.
+    fn form_to(&self, text: &mut String, line: &[u8]) -> Result<(), AllocError> {
+        let whole = text_of(self.alloc, self.seat, line)?;
+        match form_at(1, &whole).split_once("LABEL SESSION ") {
+            Some((_, form)) => write!(text, "  The form: {form}"),
+            None => text.push_str(NO_VERB),
+        }
+    }
+
+    /// Appends the declared name that is the nearest to what stands at a column.
+    fn nearest_to(&self, text: &mut String, line: &[u8], column: usize) -> Result<(), AllocError> {
+        let names = declared_names(self.alloc, self.policy, self.schemes)?;
+        let nearest = nearest_line(self.alloc, token_at(line, 1, column), &names)?;
+        text.push_str(&nearest)
+    }
+}

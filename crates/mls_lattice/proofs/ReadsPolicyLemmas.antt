@@ -8,7 +8,7 @@ use Rattle.mls_lattice.specs.Policy.{Tables}
 use Rattle.mls_lattice.specs.Reading.{Gives, version_at}
 use Rattle.mls_lattice.specs.PolicyReading.{new_name_at, levels_at, categories_at, label_at, labels_at, user_at, users_at, right_at, matrix_at, policy_at}
 use Rattle.mls_lattice.specs.Says.{SaysName, SaysLabel, SaysUser, SaysRight, Says}
-use Rattle.mls_lattice.specs.ReadsPolicy.{IsDocument, ReadsPolicy, HasFault, SaysOne, ReadingIsExact}
+use Rattle.mls_lattice.specs.ReadsPolicy.{IsDocument, ReadsPolicy, SaysOne, ReadingIsExact}
 use Rattle.mls_lattice.proofs.ReadingLemmas.{ok_is, same_ok, bind_ok}
 use Rattle.mls_lattice.proofs.SaysLemmas.{required_found, required_again, optional_rows_found, optional_rows_again}
 use Rattle.mls_lattice.proofs.SaysTablesLemmas.{new_name_found, new_name_again, name_kind, label_found, label_again, label_kind, user_found, user_again, user_kind, right_found, right_again, right_kind, version_found, version_again}
@@ -93,11 +93,6 @@ read_refused bytes document (Err e) is given = λ other p (read, is_read, says).
     let ok : policy_at document ≡ Ok p = ap policy_at (sym same) ∙ says_again read p says in
     let err : policy_at document ≡ Err e = given other in
     absurd cc
-
-pub read_fault : (bytes : List ℕ) (document : Members) (r : Result Tables PolicyFault) → IsDocument bytes document → Gives (λ p. p) r (policy_at document)
-    → IfErr r (λ e. e ≢ Memory → e ≢ NotToml → HasFault bytes e)
-read_fault bytes document (Ok p) is given = tt
-read_fault bytes document (Err e) is given = λ other _. (document, is, given other)
 
 pub read_not_toml : (bytes : List ℕ) (document : Members) (r : Result Tables PolicyFault) → IsDocument bytes document → IfErr r (λ e. e ≢ NotToml)
     → IfErr r (λ e. e ≢ Memory → (e ≡ NotToml) ↔ ((document : Members) → IsDocument bytes document → ⊥))

@@ -237,6 +237,28 @@ impl Policy {
         user_name(&self.users, user)
     }
 
+    /// How many users are declared.
+    pub fn user_count(&self) -> usize
+        ensures { result ≡ length self.now.users }
+    {
+        self.users.len()
+    }
+
+    /// How many rights are declared.
+    pub fn right_count(&self) -> usize
+        ensures { result ≡ length self.now.matrix }
+    {
+        self.matrix.len()
+    }
+
+    /// The object of a right, by its place among the rights.
+    pub fn object(&self, right: usize) -> &str
+        requires { right < length self.now.matrix }
+        ensures { option_map (λ r. r.object) (slice_get self.now.matrix right) ≡ Some result.now }
+    {
+        self.matrix[right].object.as_str()
+    }
+
     /// The label up to which a user may open sessions and look.
     pub fn clearance(&self, user: UserNo) -> LabelNo
         requires { user < length self.now.users }

@@ -396,11 +396,6 @@ module _ {F : Type 0} (file : F → Version × Schemes) (p : Tables) (document :
       let err : schemes_at p document ≡ Err e = given other in
       absurd cc
 
-  pub read_first : (bytes : List ℕ) (r : Result F SchemeFault) → IsDocument bytes document → Gives file r (schemes_at p document)
-      → IfErr r (λ e. e ≢ Memory → (d : Members) → IsDocument bytes d → schemes_at p d ≡ Err e)
-  read_first bytes (Ok f) is given = tt
-  read_first bytes (Err e) is given = λ other d is_read. ap (schemes_at p) (one_document bytes d document is_read is) ∙ given other
-
 pub read_not_toml : {F : Type 0} (bytes : List ℕ) (document : Members) (r : Result F SchemeFault) → IsDocument bytes document → IfErr r (λ e. e ≢ NotToml)
     → IfErr r (λ e. e ≢ Memory → (e ≡ NotToml) ↔ ((d : Members) → IsDocument bytes d → ⊥))
 read_not_toml bytes document (Ok f) is other = tt

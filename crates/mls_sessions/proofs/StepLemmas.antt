@@ -6,7 +6,6 @@ use Rattle.std.specs.List.{AllByRecursion, cons_option}
 use Rattle.std.proofs.lemmas.List.{take_more}
 use Rattle.std.proofs.lemmas.List.Elements.{filter_map-append}
 use Rattle.mls_lattice.specs.Labels.{Labels, below}
-use Rattle.mls_scheme.specs.declared.tuple.Tuple.{Tuple}
 use Rattle.mls_filterview.specs.Content.{State, with_entry}
 use Rattle.mls_updates.specs.declared.outcome.Outcome.{Outcome}
 use Rattle.mls_updates.specs.Writes.{Write}
@@ -19,10 +18,10 @@ use Rattle.mls_audit.specs.Reading.{entry_at}
 use Rattle.mls_audit.proofs.EntryLemmas.{entry_again}
 use Rattle.mls_script.specs.declared.event.Event.{Event}
 use Rattle.mls_machine.specs.declared.reply.Denial.{Denial}
-use Rattle.mls_machine.specs.declared.reply.Reply.TheVariants.{Wrote, Entries, Denied}
+use Rattle.mls_machine.specs.declared.reply.Reply.TheVariants.{Wrote, Denied}
 use Rattle.mls_machine.specs.Site.{Site, site_labels, site_scheme}
 use Rattle.mls_machine.specs.Denying.{first_denial, write_denials}
-use Rattle.mls_machine.specs.Machine.{denial_entry, denied, unless, wrote, listed, write_step}
+use Rattle.mls_machine.specs.Machine.{denial_entry, denied, unless, wrote, write_step}
 use Rattle.mls_sessions.specs.World.{declared, entries_in, world_at}
 use Rattle.mls_sessions.specs.Turns.{IsStepOver}
 
@@ -95,11 +94,3 @@ module _ (site : Site) (s t : State) where
         ∙ sym (ap (λ d. (unless site d (world_at site sessions s.now) event user (wrote site (world_at site sessions s.now) event.level rel wr)).world) none);
     entries = λ all. subst (λ (x : State). AllByRecursion (IsEntryOf (length site.policy.labels)) x.now.audit) (sym h.state) all;
   }
-
-  module _ (same : t ≡ s) where
-    pub listed_over : (level : ℕ) (es : List Entry) → es ≡ visible (site_labels site) level (entries_in (length site.policy.labels) s.now.audit) → IsStepOver site (λ w. listed site w level) s.now t.now (Entries es)
-    listed_over level es h = record {
-      reply = λ sessions. ap Entries h;
-      world = λ sessions. ap (λ (x : State). world_at site sessions x.now) same;
-      entries = λ all. subst (λ (x : State). AllByRecursion (IsEntryOf (length site.policy.labels)) x.now.audit) (sym same) all;
-    }

@@ -9,14 +9,9 @@ use Rattle.mls_certcheck.specs.declared.flow.Source.{Source}
 use Rattle.mls_certcheck.specs.declared.flow.Source.TheVariants.{Held, Parameter, Declared}
 use Rattle.mls_certcheck.specs.declared.flow.Flow.{Flow}
 use Rattle.mls_certcheck.specs.declared.flow.Flow.TheVariants.{Into, Kept, Within, Under}
-use Rattle.mls_certcheck.specs.declared.refusal.Refusal.{Refusal}
+pub use Rattle.mls_certcheck.specs.declared.flow.Line.{Line}
 use Rattle.mls_certcheck.specs.declared.refusal.Rule.{Rule}
 use Rattle.mls_certcheck.specs.declared.refusal.Rule.TheVariants as rule
-
--- what flows, and what is said where it must not
-pub record Line : Type 0 where
-  pub flow : Flow
-  pub refusal : Refusal
 
 -- the lines of a rule at a statement
 abbrev pub by : ℕ → Rule → List Flow → List Line

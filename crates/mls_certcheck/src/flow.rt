@@ -1,10 +1,11 @@
 //! What a line of the rules asks for.
 
+use crate::refusal::Refusal;
 use mls_lattice::{Items, LabelNo};
 
 /// What a certificate has a label for: a variable, by its place, after a statement, or a statement, by its number. Number 0 is the
 /// transaction itself, whose label is the lower end, and after which its body begins.
-#[derive(Clone, Copy)]
+#[derive(Clone, Copy, PartialEq, Eq)]
 pub enum Slot {
     /// A variable after a statement.
     Variable { after: usize, place: usize },
@@ -13,7 +14,7 @@ pub enum Slot {
 }
 
 /// What has a label: a slot, a parameter by its place, or what is declared to have it.
-#[derive(Clone, Copy)]
+#[derive(Clone, Copy, PartialEq, Eq)]
 pub enum Source {
     /// The label is the certificate's.
     Held(Slot),
@@ -46,4 +47,11 @@ pub enum Flow {
     Under {
         sources: Items<Source>,
     },
+}
+
+/// What flows, and what is said where it must not.
+#[derive(Drop)]
+pub struct Line {
+    pub flow: Flow,
+    pub refusal: Refusal,
 }

@@ -26,7 +26,8 @@ pub fn last_number(before: usize, first: usize, block: &Block) -> usize
     end
 }
 
-fn is_target(target: Option<u8>, place: usize) -> bool
+/// Whether a variable is the target.
+pub fn is_target(target: Option<u8>, place: usize) -> bool
     ensures { result ≡ is_target target place }
 {
     match target {

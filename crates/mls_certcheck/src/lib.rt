@@ -15,7 +15,7 @@ mod walk;
 
 pub use certified::Certified;
 pub use checking::check;
-pub use flow::{Flow, Slot, Source};
-pub use keeping::last_number;
+pub use flow::{Flow, Line, Slot, Source};
+pub use keeping::{is_target, last_number};
 pub use laws::{flat_certificates_lift, rules_make_secure};
 pub use refusal::{Refusal, Rule};

@@ -1,4 +1,1 @@
-pub mod PlaceLemmas
-pub mod ReachLemmas
-pub mod WalkLemmas
-pub mod ChainLemmas
+pub mod SearchLemmas

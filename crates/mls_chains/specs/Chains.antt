@@ -1,59 +1,94 @@
--- Chains of flows: something of a root comes into one slot after another, and to where it must not be.
-use Rattle.std.specs.Prelude.{◌≡◌, ℕ, zero, suc, ◌≤◌, Bool, false, not, slice_index, Option, Some, None}
-use Rattle.std.specs.Prelude.{List, [], ◌∷◌, ◌++◌, length, map}
+-- Chains of flows: something of a root comes into one slot after another, and flows out to where it must not be.
+use Rattle.std.specs.Prelude.{◌≡◌, ℕ, zero, suc, ◌≤◌, Bool, true, false, not, slice_index, Option, Some, None}
+use Rattle.std.specs.Prelude.{List, [], ◌∷◌, length, map}
 use Rattle.std.specs.List.{Contains}
 use Rattle.mls_lattice.specs.Lattice.{◌⊑◌}
 use Rattle.mls_lattice.specs.Labels.{label_of}
 use Rattle.mls_lattice.specs.Policy.{Tables, labels_of}
 use Rattle.mls_translang.specs.Tx.{Tx}
+use Rattle.mls_certcheck.specs.declared.flow.Slot.{Slot}
 use Rattle.mls_certcheck.specs.declared.flow.Slot.TheVariants.{Variable, Statement}
-use Rattle.mls_chains.specs.declared.origin.Origin.{Origin}
-use Rattle.mls_chains.specs.declared.origin.Origin.TheVariants.{Held, Parameter, Declared}
+use Rattle.mls_certcheck.specs.declared.flow.Source.{Source}
+use Rattle.mls_certcheck.specs.declared.flow.Source.TheVariants.{Held, Parameter, Declared}
+use Rattle.mls_certcheck.specs.declared.flow.Line.{Line}
+use Rattle.mls_certcheck.specs.declared.flow.Flow.{Flow}
+use Rattle.mls_certcheck.specs.declared.flow.Flow.TheVariants.{Into, Kept, Within, Under}
+use Rattle.mls_certcheck.specs.declared.refusal.Refusal.{Refusal}
 use Rattle.mls_certcheck.specs.declared.refusal.Rule.{Rule}
-use Rattle.mls_chains.specs.declared.outlets.Outlet.{Outlet}
+use Rattle.mls_labeller.specs.Flows.{body_lines}
+use Rattle.mls_chains.specs.declared.chain.Origin.{Origin}
+use Rattle.mls_chains.specs.declared.chain.Origin.TheVariants as origin
 use Rattle.mls_chains.specs.declared.chain.Chain.{Chain}
-use Rattle.mls_chains.specs.Steps.{steps}
-use Rattle.mls_chains.specs.Outlets.{outlets}
-use Rattle.mls_chains.specs.Ways.{IsWay, FindsWay}
+use Rattle.mls_chains.specs.declared.step.Step.{Step}
+use Rattle.mls_chains.specs.Steps.{step, steps}
 
-module _ (p : Tables) (tx : Tx) where
-  -- a limit does not dominate a declared label
-  unfoldable pub is_above : ℕ → ℕ → Bool
-  is_above limit label = not (label_of (labels_of p) label ⊑ label_of (labels_of p) limit)
+abbrev pub origin_of : Source → Origin
+origin_of (Held slot) = origin.Held slot
+origin_of (Parameter i) = origin.Parameter i
+origin_of (Declared label) = origin.Declared label
 
-  -- declared to have a label that a limit does not dominate: a parameter, what is at a label, the transaction itself
-  unfoldable pub is_root : ℕ → Origin → Bool
-  is_root limit (Held (Variable n x)) = false
-  is_root limit (Held (Statement zero)) = is_above limit tx.lo
-  is_root limit (Held (Statement (suc n))) = false
-  is_root limit (Parameter i) = is_above limit (slice_index (map (λ p. p.1.label) tx.params) i)
-  is_root limit (Declared label) = is_above limit label
+-- steps lead from a source into one slot after another
+abbrev pub Leads : (Step → Type 0) → Source → List Slot → Type 0
+Leads Steps s [] = Unit {0}
+Leads Steps s (t ∷ ts) = Steps (step s t) × Leads Steps (Held t) ts
 
-  -- something of the root flows out by the rule to where it must not
-  pub record IsChain (outlets : List Outlet) (r : Rule) (c : Chain) : Type 0 where
-    pub outlet : Outlet
-    pub among : Contains outlets outlet
-    pub rule : outlet.rule ≡ r
-    pub way : IsWay (is_root outlet.limit) (steps tx) outlet.sources c
+-- the last of them
+abbrev pub end_of : Source → List Slot → Source
+end_of s [] = s
+end_of s (t ∷ ts) = end_of (Held t) ts
+
+-- a limit does not dominate a declared label
+unfoldable pub is_above : Tables → ℕ → ℕ → Bool
+is_above p limit label = not (label_of (labels_of p) label ⊑ label_of (labels_of p) limit)
+
+-- declared to have a label that a limit does not dominate: a parameter, what is at a label, the transaction itself
+unfoldable pub is_root : Tables → Tx → ℕ → Source → Bool
+is_root p tx limit (Held (Variable n x)) = false
+is_root p tx limit (Held (Statement zero)) = is_above p limit tx.lo
+is_root p tx limit (Held (Statement (suc n))) = false
+is_root p tx limit (Parameter i) = is_above p limit (slice_index (map (λ p. p.1.label) tx.params) i)
+is_root p tx limit (Declared label) = is_above p limit label
+
+-- these sources flow out to where a label has to dominate them
+pub record Outlet : Type 0 where
+  pub limit : ℕ
+  pub sources : List Source
+
+-- a flow, where hi is the ceiling
+abbrev pub IsOut : ℕ → Flow → Outlet → Type 0
+IsOut hi (Into targets sources) o = ⊥
+IsOut hi (Kept m n but) o = ⊥
+IsOut hi (Within limit sources) o = record { limit = limit; sources = sources } ≡ o
+IsOut hi (Under sources) o = record { limit = hi; sources = sources } ≡ o
+
+-- by a line of the rule at the statement
+abbrev pub IsBroken : ℕ → List Line → Refusal → Outlet → Type 0
+IsBroken hi lines broken o = (l : Line) × Contains lines l × (l.refusal ≡ broken) × IsOut hi l.flow o
+
+module _ (p : Tables) (tx : Tx) (steps : List Step) where
+  -- something of the root comes along steps to where it must not be
+  pub record IsWay (o : Outlet) (c : Chain) : Type 0 where
+    pub source : Source
+    pub is : c.root ≡ origin_of source
+    pub root : is_root p tx o.limit source ≡ true
+    pub leads : Leads (Contains steps) source c.slots
+    pub ends : Contains o.sources (end_of source c.slots)
+
+  -- to one of these ends
+  abbrev pub IsChain : (Outlet → Type 0) → Chain → Type 0
+  IsChain Ends c = (o : Outlet) × Ends o × IsWay o c
 
   -- there is no chain of fewer slots
-  pub record IsShortestChain (outlets : List Outlet) (r : Rule) (c : Chain) : Type 0 where
-    pub chain : IsChain outlets r c
-    pub least : (d : Chain) → IsChain outlets r d → length c.slots ≤ length d.slots
+  pub record IsShortestChain (Ends : Outlet → Type 0) (c : Chain) : Type 0 where
+    pub chain : IsChain Ends c
+    pub least : (d : Chain) → IsChain Ends d → length c.slots ≤ length d.slots
 
   -- a shortest chain, if there is any
-  abbrev pub Finds : List Outlet → Rule → Option Chain → Type 0
-  Finds outlets r None = (d : Chain) → IsChain outlets r d → ⊥
-  Finds outlets r (Some c) = IsShortestChain outlets r c
-
-  -- a shortest way to one outlet, if there is any
-  abbrev pub FindsWayTo : Outlet → Option Chain → Type 0
-  FindsWayTo o way = FindsWay (is_root o.limit) (steps tx) o.sources way
-
-  -- where the best was found for some outlets, this is found for them and one more
-  abbrev pub FindsMore : Outlet → Rule → Option Chain → Option Chain → Type 0
-  FindsMore o r best found = (seen : List Outlet) → Finds seen r best → Finds (seen ++ o ∷ []) r found
+  abbrev pub Finds : (Outlet → Type 0) → Option Chain → Type 0
+  Finds Ends None = (d : Chain) → IsChain Ends d → ⊥
+  Finds Ends (Some c) = IsShortestChain Ends c
 
 -- where a rule is told of a statement, a shortest chain by which something flows there that must not
 abbrev pub IsChainTo : Tables → Tx → ℕ → Rule → Option Chain → Type 0
-IsChainTo p tx stmt r chain = Finds p tx (outlets tx stmt) r chain
+IsChainTo p tx stmt r chain =
+    Finds p tx (steps tx) (IsBroken tx.hi (body_lines tx) (record { stmt = stmt; rule = r })) chain

@@ -1,10 +1,3 @@
-pub mod Origins
 pub mod Steps
-pub mod Ways
-pub mod Outlets
 pub mod Chains
-pub mod Roots
-pub mod Places
-pub mod Reaching
-pub mod Walk
-pub mod Shorter
+pub mod Search

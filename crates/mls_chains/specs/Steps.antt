@@ -6,21 +6,19 @@ use Rattle.mls_certcheck.specs.Checks.{is_target}
 use Rattle.mls_certcheck.specs.declared.flow.Slot.{Slot}
 use Rattle.mls_certcheck.specs.declared.flow.Slot.TheVariants.{Variable}
 use Rattle.mls_certcheck.specs.declared.flow.Source.{Source}
+use Rattle.mls_certcheck.specs.declared.flow.Source.TheVariants.{Held}
 use Rattle.mls_certcheck.specs.declared.flow.Flow.{Flow}
 use Rattle.mls_certcheck.specs.declared.flow.Flow.TheVariants.{Into, Kept, Within, Under}
-use Rattle.mls_labeller.specs.Flows.{flows}
-use Rattle.mls_chains.specs.declared.origin.Origin.{Origin}
-use Rattle.mls_chains.specs.declared.origin.Origin.TheVariants.{Held}
+use Rattle.mls_labeller.specs.Flows.{body_lines}
 use Rattle.mls_chains.specs.declared.step.Step.{Step}
-use Rattle.mls_chains.specs.Origins.{origin}
 
 -- something of the source comes into the slot
-abbrev pub step : Origin → Slot → Step
+abbrev pub step : Source → Slot → Step
 step s t = record { source = s; target = t }
 
 -- each source into one target
 abbrev pub steps_to : Slot → List Source → List Step
-steps_to t sources = map (λ s. step (origin s) t) sources
+steps_to t sources = map (λ s. step s t) sources
 
 -- and into each
 abbrev pub into_steps : List Slot → List Source → List Step
@@ -40,4 +38,4 @@ steps_in vars (Under sources) = []
 
 -- all that flows, under the rules
 abbrev pub steps : Tx → List Step
-steps tx = flat_map (steps_in (length tx.vars)) (flows tx)
+steps tx = flat_map (λ l. steps_in (length tx.vars) l.flow) (body_lines tx)

@@ -1,18 +1,41 @@
 //! Shortest chains of flows to where a rule is broken.
-ghost use Rattle.std.specs.Prelude.{◌≡◌, ◌≢◌, IfOk, true, false};
-ghost use Rattle.mls_chains.specs.Chains.{IsChainTo};
-ghost use Rattle.mls_chains.specs.Shorter.{IsWithin};
+ghost use Rattle.std.specs.Prelude.{◌≡◌, IfOk};
+ghost use Rattle.mls_lattice.specs.Policy.{Tables};
+ghost use Rattle.mls_labeller.specs.Flows.{body_lines};
+ghost use Rattle.mls_chains.specs.Steps.{steps};
+ghost use Rattle.mls_chains.specs.Chains.{origin_of, IsBroken, IsChainTo};
+ghost use Rattle.mls_chains.specs.Search.{chain_of, IsUnderway};
 
-use crate::origin::Origin;
-use crate::outlets::Outlet;
-use crate::search::Search;
-use crate::step::{Step, Steps};
-use crate::walk::outlets_of;
-use mls_certcheck::{Rule, Slot};
-use mls_labeller::flows_of;
+use crate::search::{Search, Tail, root_in};
+use crate::step::steps_of;
+use mls_certcheck::{Refusal, Rule, Slot, Source};
+use mls_labeller::{Labeller, lines_of};
 use mls_lattice::{Items, Policy};
 use mls_translang::Tx;
 use std::alloc::{AllocError, Global};
+
+/// A source of a flow: a slot, a parameter by its place, or what is declared to have a label, by the label's number.
+#[derive(Clone, Copy)]
+pub enum Origin {
+    /// What the slot holds.
+    Held(Slot),
+    /// What the parameter brings.
+    Parameter(u8),
+    /// What is at the label.
+    Declared(u8),
+}
+
+impl Origin {
+    fn of(source: Source) -> Origin
+        ensures { result ≡ origin_of source }
+    {
+        match source {
+            Source::Held(slot) => Origin::Held(slot),
+            Source::Parameter(place) => Origin::Parameter(place),
+            Source::Declared(label) => Origin::Declared(label.byte()),
+        }
+    }
+}
 
 /// Something of a root comes into one slot after another.
 #[derive(Drop)]
@@ -21,85 +44,24 @@ pub struct Chain {
     pub slots: Items<Slot>,
 }
 
-/// What chains there are to a rule that is broken.
-#[derive(Drop)]
-struct Finder<'a> {
-    policy: &'a Policy,
-    tx: &'a Tx,
-    steps: &'a [Step],
-    rule: Rule,
+impl Chain {
+    fn of(tail: &Tail) -> Result<Chain, AllocError>
+        ensures { IfOk result (λ c. c ≡ chain_of tail.now) }
+    {
+        let root = Origin::of(tail.root);
+        let slots = tail.slots.clone()?;
+        Ok(Chain { root, slots })
+    }
 }
 
-fn is_same(a: Rule, b: Rule) -> bool
-    ensures yes { result ≡ true → a ≡ b }
-    ensures no { result ≡ false → a ≢ b }
+/// The search from where a rule is broken at a statement.
+fn search_of(alloc: Global, tx: &Tx, broken: Refusal) -> Result<Search, AllocError>
+    ensures { IfOk result (λ s. (p : Tables)
+        → IsUnderway p tx.now (steps tx.now) (IsBroken tx.now.hi (body_lines tx.now) broken) 0 s.tails.items s.left.items) }
 {
-    a == b
-}
-
-/// Whether there is a chain over no more than so many slots.
-fn is_within(chain: &Option<Chain>, count: usize) -> bool
-    ensures { IsWithin chain.now count result }
-{
-    match chain {
-        Some(chain) => chain.slots.len() <= count,
-        None => false,
-    }
-}
-
-impl Finder<'_> {
-    ghost use Rattle.mls_chains.specs.Steps.{steps};
-    ghost use Rattle.mls_chains.specs.Chains.{Finds, FindsMore, FindsWayTo};
-
-    /// A shortest way to where something flows out.
-    fn way_to(&self, alloc: Global, outlet: &Outlet) -> Result<Option<Chain>, AllocError>
-        requires { self.now.steps.now ≡ steps self.now.tx.now }
-        ensures { IfOk result (FindsWayTo self.now.policy.now self.now.tx.now outlet.now) }
-    {
-        let search = Search {
-            policy: self.policy,
-            tx: self.tx,
-            steps: self.steps,
-            limit: outlet.limit,
-        };
-        let links = search.reached(alloc)?;
-        search.shortest(alloc, &links, &outlet.sources)
-    }
-
-    /// The shorter of the shortest chain so far and those to one more outlet.
-    fn shorter(
-        &self,
-        alloc: Global,
-        best: Option<Chain>,
-        outlet: &Outlet,
-    ) -> Result<Option<Chain>, AllocError>
-        requires { self.now.steps.now ≡ steps self.now.tx.now }
-        ensures { IfOk result (FindsMore self.now.policy.now self.now.tx.now outlet.now self.now.rule best) }
-    {
-        if !is_same(outlet.rule, self.rule) {
-            return Ok(best);
-        }
-        match self.way_to(alloc, outlet)? {
-            None => Ok(best),
-            Some(chain) => {
-                if is_within(&best, chain.slots.len()) {
-                    return Ok(best);
-                }
-                Ok(Some(chain))
-            }
-        }
-    }
-
-    fn shortest(&self, alloc: Global, outlets: &[Outlet]) -> Result<Option<Chain>, AllocError>
-        requires { self.now.steps.now ≡ steps self.now.tx.now }
-        ensures { IfOk result (Finds self.now.policy.now self.now.tx.now outlets.now self.now.rule) }
-    {
-        let mut best = None;
-        for outlet in outlets {
-            best = self.shorter(alloc, best, outlet)?;
-        }
-        Ok(best)
-    }
+    let lines = lines_of(alloc, tx)?;
+    let steps = steps_of(alloc, &lines, tx.vars().len())?;
+    Search::start(alloc, &steps, &lines, tx.hi(), broken)
 }
 
 /// A shortest chain of flows by which something comes to where a rule is broken at a statement, if there is any.
@@ -112,14 +74,14 @@ pub fn chain_to(
 ) -> Result<Option<Chain>, AllocError>
     ensures { IfOk result (IsChainTo policy.now tx.now stmt rule) }
 {
-    let flows = flows_of(alloc, tx)?;
-    let steps = Steps::of_flows(alloc, &flows, tx.vars().len())?;
-    let outlets = outlets_of(alloc, tx, stmt)?;
-    let finder = Finder {
-        policy,
-        tx,
-        steps: &steps.steps,
-        rule,
-    };
-    finder.shortest(alloc, &outlets)
+    let mut search = search_of(alloc, tx, Refusal { stmt, rule })?;
+    let labeller = Labeller { policy, tx };
+    while !search.tails.is_empty() {
+        if let Some(tail) = root_in(&labeller, &search.tails) {
+            let chain = Chain::of(tail)?;
+            return Ok(Some(chain));
+        }
+        search = search.next(alloc)?;
+    }
+    Ok(None)
 }

@@ -2,13 +2,7 @@
 #![tactic(auto)]
 
 mod chain;
-mod links;
-mod origin;
-mod outlets;
-mod roots;
 mod search;
 mod step;
-mod walk;
 
-pub use chain::{Chain, chain_to};
-pub use origin::Origin;
+pub use chain::{Chain, Origin, chain_to};

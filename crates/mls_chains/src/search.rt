@@ -1,173 +1,232 @@
-//! The search for shortest chains.
-ghost use Rattle.std.specs.Prelude.{◌≡◌, false, [], ◌∷◌, IfOk, IsSome};
-ghost use Rattle.std.specs.List.{Contains, AllByRecursion};
-ghost use Rattle.mls_chains.specs.Ways.{FindsWay};
-ghost use Rattle.mls_chains.specs.Reaching.{HasPlace, reach, AreFounded, Reaches, AreSettled};
-ghost use Rattle.mls_chains.specs.Reaching.{Finds, FindsMore, IsFrom, IsBest};
-ghost use Rattle.mls_chains.specs.Roots.{begins};
+//! The search: breadth first, back from where something must not be.
+ghost use Rattle.std.specs.Prelude.{◌≡◌, ◌≢◌, ◌↔◌, ◌++◌, [], true, false, None, IsTrue, IfOk, OnOk, IfSome};
+ghost use Rattle.std.specs.List.{AllByRecursion, Contains};
+ghost use Rattle.mls_lattice.specs.Policy.{Tables};
+ghost use Rattle.mls_translang.specs.Tx.{Tx as SpecTx};
+ghost use Rattle.mls_certcheck.specs.declared.flow.Source.TheVariants.{Held};
+ghost use Rattle.mls_chains.specs.Chains.{is_above, is_root, IsBroken};
+ghost use Rattle.mls_chains.specs.Search.{longer, IsAt};
 
-use crate::chain::Chain;
-use crate::links::{Link, Links, sum};
-use crate::origin::Origin;
 use crate::step::Step;
-use mls_certcheck::Slot;
-use mls_lattice::{Items, LabelNo, Policy};
-use mls_translang::Tx;
+use mls_certcheck::{Flow, Line, Refusal, Slot, Source};
+use mls_labeller::Labeller;
+use mls_lattice::{Items, LabelNo};
 use std::alloc::{AllocError, Global};
 
-/// The steps of a transaction under a policy, and the label that must dominate what flows out.
+/// Something of the root comes into these slots, one after another, and flows out to where this label has to dominate it.
 #[derive(Drop)]
-pub(crate) struct Search<'a> {
-    pub policy: &'a Policy,
-    pub tx: &'a Tx,
-    pub steps: &'a [Step],
+pub(crate) struct Tail {
     pub limit: LabelNo,
+    pub root: Source,
+    pub slots: Items<Slot>,
 }
 
-impl Search<'_> {
-    /// How many slots there are from a root to a source at most, itself among them.
-    #[tactic(auto, unfolding(crate::specs::Reaching::reach))]
-    fn reach(&self, links: &Links, source: Origin) -> Option<usize>
-        ensures { result ≡ reach (begins self.now) links.now source }
+impl Tail {
+    /// What leads to the tail, before it.
+    fn longer(&self, alloc: Global, step: Step) -> Result<Tail, AllocError>
+        ensures { IfOk result (λ t. t ≡ longer self.now step) }
     {
-        if self.begins(source) {
-            return Some(0);
+        let mut slots = vec![in alloc; step.target]?;
+        for slot in self.slots.as_slice() {
+            slots.push(*slot)?;
         }
-        match source {
-            Origin::Held(slot) => links.look(slot).map(|link| link.length),
-            Origin::Parameter(_) | Origin::Declared(_) => None,
-        }
-    }
-
-    /// Reaches a target over a source: false where it is reached over no more slots.
-    fn relax(&self, links: &mut Links, step: Step) -> Result<bool, AllocError>
-        requires contained { Contains self.now.steps.now step }
-        requires place { HasPlace links.old step.target }
-        requires founded { AreFounded (begins self.now) self.now.steps.now links.old }
-        ensures { IfOk result (Reaches (begins self.now) self.now.steps.now links.old links.new (step ∷ [])) }
-    {
-        let Some(length) = self.reach(links, step.source) else {
-            return Ok(false);
-        };
-        let length = sum(length, 1)?;
-        if links.reaches(step.target, length) {
-            return Ok(false);
-        }
-        let from = step.source;
-        links.put(step.target, Link { length, from });
-        Ok(true)
-    }
-
-    /// Reaches what each step leads to, in turn: false where all is reached already.
-    fn round(&self, links: &mut Links) -> Result<bool, AllocError>
-        requires places { AllByRecursion (λ s. HasPlace links.old s.target) self.now.steps.now }
-        requires founded { AreFounded (begins self.now) self.now.steps.now links.old }
-        ensures { IfOk result (Reaches (begins self.now) self.now.steps.now links.old links.new self.now.steps.now) }
-    {
-        let mut changed = false;
-        for step in self.steps {
-            if self.relax(links, *step)? {
-                changed = true;
-            }
-        }
-        Ok(changed)
-    }
-
-    /// How all slots are reached.
-    pub(crate) fn reached(&self, alloc: Global) -> Result<Links, AllocError>
-        ensures { IfOk result (AreSettled (begins self.now) self.now.steps.now) }
-    {
-        let mut links = Links::new(alloc, self.steps)?;
-        loop {
-            if !self.round(&mut links)? {
-                return Ok(links);
-            }
-        }
-    }
-
-    /// The nearer of the nearest so far and a source.
-    fn nearer(
-        &self,
-        links: &Links,
-        best: Option<(usize, Origin)>,
-        source: Origin,
-    ) -> Option<(usize, Origin)>
-        ensures { FindsMore (begins self.now) links.now source best result }
-    {
-        let Some(length) = self.reach(links, source) else {
-            return best;
-        };
-        if let Some((least, _)) = best {
-            if least <= length {
-                return best;
-            }
-        }
-        Some((length, source))
-    }
-
-    /// The nearest of the sources that are reached.
-    fn nearest(&self, links: &Links, sources: &[Origin]) -> Option<(usize, Origin)>
-        ensures { Finds (begins self.now) links.now sources.now result }
-    {
-        let mut best = None;
-        for source in sources {
-            best = self.nearer(links, best, *source);
-        }
-        best
-    }
-
-    /// The slot that a source is, and from what it is reached.
-    fn behind(&self, links: &Links, source: Origin) -> (Slot, Origin)
-        requires reached { IsSome (reach (begins self.now) links.now source) }
-        requires further { begins self.now source ≡ false }
-        requires founded { AreFounded (begins self.now) self.now.steps.now links.now }
-        ensures { IsFrom (begins self.now) self.now.steps.now links.now source result.0 result.1 }
-    {
-        match source {
-            Origin::Held(slot) => match links.look(slot) {
-                Some(link) => (slot, link.from),
-                None => unreachable!(),
-            },
-            Origin::Parameter(_) | Origin::Declared(_) => unreachable!(),
-        }
-    }
-
-    /// A way to a source over no more slots than it is reached over.
-    fn way(&self, alloc: Global, links: &Links, end: Origin) -> Result<Chain, AllocError>
-        requires reached { IsSome (reach (begins self.now) links.now end) }
-        requires founded { AreFounded (begins self.now) self.now.steps.now links.now }
-        ensures { IfOk result (IsBest (begins self.now) self.now.steps.now links.now end) }
-    {
-        let mut slots = Vec::new(alloc);
-        let mut source = end;
-        while !self.begins(source) {
-            let (slot, from) = self.behind(links, source);
-            slots.push(slot)?;
-            source = from;
-        }
-        slots.reverse();
-        Ok(Chain {
-            root: source,
+        Ok(Tail {
+            limit: self.limit,
+            root: step.source,
             slots: Items::from(slots),
         })
     }
 
-    /// A shortest way to one of the sources, if there is any.
-    pub(crate) fn shortest(
+    fn is_at(&self, limit: LabelNo, slot: Slot) -> bool
+        ensures { IsTrue result ↔ IsAt limit slot self.now }
+    {
+        self.limit == limit && self.root == Source::Held(slot)
+    }
+}
+
+/// A tail whose root is what a slot holds.
+fn tail_at(tails: &[Tail], limit: LabelNo, slot: Slot) -> Option<&Tail>
+    ensures found { IfSome result (λ t. Contains tails.now t.now × IsAt limit slot t.now) }
+    ensures none { result ≡ None → AllByRecursion (λ t. IsAt limit slot t → ⊥) tails.now }
+{
+    for tail in tails {
+        if tail.is_at(limit, slot) {
+            return Some(tail);
+        }
+    }
+    None
+}
+
+/// Whether the limit does not dominate a label.
+#[tactic(auto, unfolding(crate::specs::Chains::is_above))]
+fn is_above(labeller: &Labeller, limit: LabelNo, label: LabelNo) -> bool
+    ensures { result ≡ is_above labeller.now.policy.now limit label }
+{
+    !labeller.declared(limit).dominates(labeller.declared(label))
+}
+
+#[tactic(auto, unfolding(crate::specs::Chains::is_root))]
+fn slot_is_root(labeller: &Labeller, limit: LabelNo, slot: Slot) -> bool
+    ensures { result ≡ is_root labeller.now.policy.now labeller.now.tx.now limit (Held slot) }
+{
+    match slot {
+        Slot::Statement(0) => is_above(labeller, limit, labeller.tx.lo()),
+        Slot::Statement(_) | Slot::Variable { .. } => false,
+    }
+}
+
+#[tactic(auto, unfolding(crate::specs::Chains::is_root))]
+fn is_root(labeller: &Labeller, limit: LabelNo, source: Source) -> bool
+    ensures { result ≡ is_root labeller.now.policy.now labeller.now.tx.now limit source }
+{
+    match source {
+        Source::Held(slot) => slot_is_root(labeller, limit, slot),
+        Source::Parameter(place) => is_above(labeller, limit, labeller.parameter_no(place)),
+        Source::Declared(label) => is_above(labeller, limit, label),
+    }
+}
+
+/// A tail whose root is one of chains.
+pub(crate) fn root_in<'a>(labeller: &Labeller, tails: &'a [Tail]) -> Option<&'a Tail>
+    ensures found { IfSome result (λ t. Contains tails.now t.now
+        × (is_root labeller.now.policy.now labeller.now.tx.now t.now.limit t.now.root ≡ true)) }
+    ensures none { result ≡ None → AllByRecursion (λ t. is_root labeller.now.policy.now labeller.now.tx.now
+        t.limit t.root ≡ false) tails.now }
+{
+    for tail in tails {
+        if is_root(labeller, tail.limit, tail.root) {
+            return Some(tail);
+        }
+    }
+    None
+}
+
+fn is_same(a: Refusal, b: Refusal) -> bool
+    ensures yes { result ≡ true → a ≡ b }
+    ensures no { result ≡ false → a ≢ b }
+{
+    a == b
+}
+
+/// Tails of one length, and for each limit the steps that lead to no shorter ones.
+#[derive(Drop)]
+pub(crate) struct Search {
+    pub tails: Vec<Tail>,
+    pub left: Vec<(LabelNo, Step)>,
+}
+
+impl Search {
+    ghost use Rattle.mls_chains.specs.Search.{tails_out, steps_out, tails_of, limited, IsRound, IsRoundMore, IsUnderway};
+
+    fn empty(alloc: Global) -> Search
+        ensures tails { result.tails.items ≡ [] }
+        ensures left { result.left.items ≡ [] }
+    {
+        Search {
+            tails: Vec::new(alloc),
+            left: Vec::new(alloc),
+        }
+    }
+
+    fn end_to(
+        &mut self,
+        alloc: Global,
+        limit: LabelNo,
+        sources: &[Source],
+    ) -> Result<(), AllocError>
+        ensures tails { OnOk result (self.new.tails.items ≡ self.old.tails.items ++ tails_of limit sources.now) }
+        ensures left { self.new.left ≡ self.old.left }
+    {
+        for source in sources {
+            let slots = Items::from(Vec::new(alloc));
+            let root = *source;
+            self.tails.push(Tail { limit, root, slots })?;
+        }
+        Ok(())
+    }
+
+    fn steps_to(&mut self, limit: LabelNo, steps: &[Step]) -> Result<(), AllocError>
+        ensures left { OnOk result (self.new.left.items ≡ self.old.left.items ++ limited limit steps.now) }
+        ensures tails { self.new.tails ≡ self.old.tails }
+    {
+        for step in steps {
+            self.left.push((limit, *step))?;
+        }
+        Ok(())
+    }
+
+    /// Adds what flows out by a line, over no slot, and all steps for its limit.
+    fn line_to(
+        &mut self,
+        alloc: Global,
+        steps: &[Step],
+        line: &Line,
+        hi: LabelNo,
+    ) -> Result<(), AllocError>
+        ensures tails { OnOk result (self.new.tails.items ≡ self.old.tails.items ++ tails_out hi line.now.flow) }
+        ensures left { OnOk result (self.new.left.items ≡ self.old.left.items
+            ++ steps_out steps.now hi line.now.flow) }
+    {
+        match &line.flow {
+            Flow::Within { limit, sources } => {
+                self.end_to(alloc, *limit, sources)?;
+                self.steps_to(*limit, steps)
+            }
+            Flow::Under { sources } => {
+                self.end_to(alloc, hi, sources)?;
+                self.steps_to(hi, steps)
+            }
+            Flow::Into { .. } | Flow::Kept { .. } => Ok(()),
+        }
+    }
+
+    /// From where something flows out by the rule that is broken at a statement.
+    pub(crate) fn start(
+        alloc: Global,
+        steps: &[Step],
+        lines: &[Line],
+        hi: LabelNo,
+        broken: Refusal,
+    ) -> Result<Search, AllocError>
+        ensures { IfOk result (λ s. (p : Tables) (tx : SpecTx)
+            → IsUnderway p tx steps.now (IsBroken hi lines.now broken) 0 s.tails.items s.left.items) }
+    {
+        let mut search = Search::empty(alloc);
+        for line in lines {
+            if !is_same(line.refusal, broken) {
+                continue;
+            }
+            search.line_to(alloc, steps, line, hi)?;
+        }
+        Ok(search)
+    }
+
+    /// Takes a step back if it leads to a tail, and else leaves it.
+    fn step_to(
         &self,
         alloc: Global,
-        links: &Links,
-        sources: &[Origin],
-    ) -> Result<Option<Chain>, AllocError>
-        requires { AreSettled (begins self.now) self.now.steps.now links.now }
-        ensures { IfOk result (FindsWay (begins self.now) self.now.steps.now sources.now) }
+        next: &mut Search,
+        entry: (LabelNo, Step),
+    ) -> Result<(), AllocError>
+        ensures { OnOk result (IsRoundMore self.now.tails.items entry next.old next.new) }
     {
-        match self.nearest(links, sources) {
-            None => Ok(None),
-            Some(nearest) => {
-                let way = self.way(alloc, links, nearest.1)?;
-                Ok(Some(way))
-            }
+        let Some(tail) = tail_at(&self.tails, entry.0, entry.1.target) else {
+            next.left.push(entry)?;
+            return Ok(());
+        };
+        let longer = tail.longer(alloc, entry.1)?;
+        next.tails.push(longer)?;
+        Ok(())
+    }
+
+    /// Takes each step back that leads to a tail, and leaves the others.
+    pub(crate) fn next(&self, alloc: Global) -> Result<Search, AllocError>
+        ensures { IfOk result (λ s. IsRound self.now.tails.items self.now.left.items s.tails.items s.left.items) }
+    {
+        let mut next = Search::empty(alloc);
+        for entry in &self.left {
+            self.step_to(alloc, &mut next, *entry)?;
         }
+        Ok(next)
     }
 }

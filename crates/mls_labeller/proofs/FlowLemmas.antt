@@ -1,12 +1,13 @@
 -- The lines of the rules set lower bounds, and labels that meet these break a line only where all greater labels do.
-use Rattle.std.proofs.Common.{List}
-use Rattle.std.specs.List.{AllByRecursion}
+use Rattle.std.proofs.Common.{ℕ, List, [], ◌∷◌}
+use Rattle.std.specs.List.{flat_map, AllByRecursion}
 use Rattle.mls_lattice.specs.Lattice.{Pair, Dominates}
 use Rattle.mls_lattice.specs.Labels.{Labels, label_of}
 use Rattle.mls_lattice.proofs.LatticeLemmas.{Dominates-refl, Dominates-trans}
 use Rattle.mls_translang.specs.Tx.{Tx}
 use Rattle.mls_certificate.specs.declared.cert.Certificate.{Certificate}
-use Rattle.mls_certcheck.specs.Lines.{lines}
+use Rattle.mls_certcheck.specs.declared.flow.Line.{Line}
+use Rattle.mls_certcheck.specs.Lines.{by, within_ends, tx_lines, lines}
 use Rattle.mls_certcheck.specs.Rules.{Claim, Rules, hi, slot_label, source_label, IsOver, Holds}
 use Rattle.mls_certcheck.specs.declared.flow.Slot.{Slot}
 use Rattle.mls_certcheck.specs.declared.flow.Slot.TheVariants.{Variable, Statement}
@@ -14,25 +15,41 @@ use Rattle.mls_certcheck.specs.declared.flow.Source.{Source}
 use Rattle.mls_certcheck.specs.declared.flow.Source.TheVariants.{Held, Parameter, Declared}
 use Rattle.mls_certcheck.specs.declared.flow.Flow.{Flow}
 use Rattle.mls_certcheck.specs.declared.flow.Flow.TheVariants.{Into, Kept, Within, Under}
-use Rattle.mls_certcheck.proofs.EachLemmas.{all_map, all_zip, flat_each, each_flat}
-use Rattle.mls_labeller.specs.Flows.{raising}
+use Rattle.mls_certcheck.specs.declared.refusal.Rule.{Rule}
+use Rattle.mls_certcheck.specs.declared.refusal.Rule.TheVariants as rule
+use Rattle.mls_certcheck.proofs.EachLemmas.{all_both, all_back, all_map, all_zip}
+use Rattle.mls_labeller.specs.Flows.{body_lines, IsBounded}
 use Rattle.mls_labeller.specs.Least.{Meets, Below}
 
 -- ---- the lines hold: so do those that raise labels
 
 module _ (c : Claim) where
-  raising_holds : (f : Flow) → Holds c f → AllByRecursion (Holds c) (raising f)
-  raising_holds (Into ts ss) h = (h, tt)
-  raising_holds (Kept m n but) h = (h, tt)
-  raising_holds (Within limit ss) h = tt
-  raising_holds (Under ss) h = tt
+  abbrev Bounded : Line → Type 0
+  Bounded line = IsBounded c line.flow
+
+  is_bounded : (f : Flow) → Holds c f → IsBounded c f
+  is_bounded (Into ts ss) h = h
+  is_bounded (Kept m n but) h = h
+  is_bounded (Within limit ss) h = tt
+  is_bounded (Under ss) h = tt
 
   pub rules_meet : Rules c → Meets c
   rules_meet r = record {
     var_count = r.var_count;
     stmt_count = r.stmt_count;
-    bounds = each_flat (Holds c) (λ l. raising l.flow) (lines c.tx) (all_map (λ l. Holds c l.flow) (λ l. AllByRecursion (Holds c) (raising l.flow)) (λ l. raising_holds l.flow) (lines c.tx) r.lines);
+    bounds = all_map (λ line. Holds c line.flow) Bounded (λ line. is_bounded line.flow) (lines c.tx) r.lines;
   }
+
+  -- those of the transaction itself raise none
+  ends_bounded : {A : Type 0} (label : A → ℕ) (r : Rule) (xs : List A) → AllByRecursion Bounded (by 0 r (flat_map (λ x. within_ends (label x)) xs))
+  ends_bounded label r [] = tt
+  ends_bounded label r (x ∷ xs) = (tt, (tt, ends_bounded label r xs))
+
+  pub all_bounded : AllByRecursion Bounded (body_lines c.tx) → AllByRecursion Bounded (lines c.tx)
+  all_bounded h = all_both Bounded (tx_lines c.tx) (body_lines c.tx) (tt, ends_bounded (λ p. p.1.label) rule.Context c.tx.params) h
+
+  pub body_bounded : AllByRecursion Bounded (lines c.tx) → AllByRecursion Bounded (body_lines c.tx)
+  body_bounded h = all_back Bounded (tx_lines c.tx) (body_lines c.tx) h
 
 -- ---- what greater labels obey, lesser labels do that meet the bounds
 
@@ -56,9 +73,9 @@ module _ (ls : Labels) (tx : Tx) (x y : Certificate) where
     over_falls : (p : Pair) (ss : List Source) → IsOver cy p ss → IsOver cx p ss
     over_falls p ss h = all_map (λ s. Dominates p (source_label cy s)) (λ s. Dominates p (source_label cx s)) (λ s d. Dominates-trans p (source_label cy s) (source_label cx s) d (source_falls s)) ss h
 
-    flow_falls : (f : Flow) → AllByRecursion (Holds cx) (raising f) → Holds cy f → Holds cx f
-    flow_falls (Into ts ss) h g = h.0
-    flow_falls (Kept m n but) h g = h.0
+    flow_falls : (f : Flow) → IsBounded cx f → Holds cy f → Holds cx f
+    flow_falls (Into ts ss) h g = h
+    flow_falls (Kept m n but) h g = h
     flow_falls (Within limit ss) h g = over_falls (label_of ls limit) ss g
     flow_falls (Under ss) h g = over_falls (hi cy) ss g
 
@@ -66,5 +83,5 @@ module _ (ls : Labels) (tx : Tx) (x y : Certificate) where
     lesser_obey m r = record {
       var_count = m.var_count;
       stmt_count = m.stmt_count;
-      lines = all_zip (λ l. AllByRecursion (Holds cx) (raising l.flow)) (λ l. Holds cy l.flow) (λ l. Holds cx l.flow) (λ l. flow_falls l.flow) (lines tx) (flat_each (Holds cx) (λ l. raising l.flow) (lines tx) m.bounds) r.lines;
+      lines = all_zip (λ line. IsBounded cx line.flow) (λ line. Holds cy line.flow) (λ line. Holds cx line.flow) (λ line. flow_falls line.flow) (lines tx) m.bounds r.lines;
     }

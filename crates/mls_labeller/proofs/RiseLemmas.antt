@@ -13,13 +13,15 @@ use Rattle.mls_certificate.specs.declared.cert.Certificate.{Certificate}
 use Rattle.mls_certificate.specs.declared.cert.Certificate.TheVariants.{One, Two}
 use Rattle.mls_certcheck.proofs.LabelLemmas.{above_bottom, label_here}
 use Rattle.mls_certcheck.specs.Rules.{Claim, claim, after, pc, slot_label, source_label, Holds}
+use Rattle.mls_labeller.specs.Flows.{IsBounded}
 use Rattle.mls_labeller.specs.Least.{IsOf, Below}
 use Rattle.mls_certificate.specs.declared.cert.Version.{Version}
 use Rattle.mls_certificate.specs.declared.cert.Version.TheVariants as version
 use Rattle.mls_labeller.specs.Rising.{certificate, HasSlot, HasCounts, AreLowest, IsLowest, put, room_of, room_in, room, IsJoin, Over, Each, Keeps, KeepsBelow, Rises}
 use Rattle.mls_certcheck.specs.declared.flow.Slot.{Slot}
 use Rattle.mls_certcheck.specs.declared.flow.Slot.TheVariants.{Variable, Statement}
-use Rattle.mls_certcheck.specs.declared.flow.Flow.TheVariants.{Into, Kept}
+use Rattle.mls_certcheck.specs.declared.flow.Flow.{Flow}
+use Rattle.mls_certcheck.specs.declared.flow.Flow.TheVariants.{Into, Kept, Within, Under}
 use Rattle.mls_certcheck.specs.declared.flow.Source.{Source}
 use Rattle.mls_labeller.specs.declared.least.Labeller.{Labeller}
 use Rattle.mls_certcheck.proofs.EachLemmas.{all_both, all_front, all_back, all_map, all_at, all_set}
@@ -356,6 +358,13 @@ module _ (k : Labeller) where
         (all_map (Over p (at y)) (λ t. AllByRecursion (λ s. Dominates (slot_label (at y) t) (source_label (at x) s)) ss) (λ t g. all_map (λ s. Dominates p (source_label (at x) s)) (λ s. Dominates (slot_label (at y) t) (source_label (at x) s)) (λ s. Dominates-trans (slot_label (at y) t) p (source_label (at x) s) g) ss j.above) ts (h.hold e));
     room = h.room;
   }
+
+  -- what flows out raises none
+  pub rises_none : (x : Certificate) (f : Flow) → ((ts : List Slot) (ss : List Source) → f ≡ Into ts ss → ⊥) → ((m n : ℕ) (but : Option ℕ) → f ≡ Kept m n but → ⊥) → Rises k (λ c. IsBounded c f) x x false
+  rises_none x (Into ts ss) into kept = absurd (into ts ss refl)
+  rises_none x (Kept m n but) into kept = absurd (kept m n but refl)
+  rises_none x (Within limit ss) into kept = rises_not (λ c. IsBounded c (Within limit ss)) x tt
+  rises_none x (Under ss) into kept = rises_not (λ c. IsBounded c (Under ss)) x tt
 
   -- ---- what is kept
 

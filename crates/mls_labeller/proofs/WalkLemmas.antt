@@ -1,29 +1,26 @@
 -- How the walk goes from statement to statement.
-use Rattle.std.proofs.Common.{◌≡◌, ℕ, ◌+◌, ◌<◌, List, [], ◌∷◌, ◌++◌, length, drop, get_or, map, Option, Some, None, refl, sym, ap, ◌∙◌, append_assoc, arith}
+use Rattle.std.proofs.Common.{◌≡◌, ℕ, zero, suc, ◌+◌, ◌-◌, ◌<◌, List, [], ◌∷◌, ◌++◌, length, drop, get_or, map, refl, sym, ap, ◌∙◌, append_assoc, arith}
 use Rattle.std.specs.List.{flat_map}
 use Rattle.std.proofs.lemmas.List.{append-nil, map-append}
 use Rattle.std.proofs.lemmas.Grind.{flat_map-append}
-use Rattle.mls_translang.specs.Tree.{Expr, Stmt as Simple, Writing, Assign, Write_at, Inserting, Updating, Deleting, Release, Emit, Block, End, Do, If, For, statements}
-use Rattle.mls_translang.specs.Tx.{Tx}
+use Rattle.mls_translang.specs.Tree.{Expr, Stmt as Simple, Block, End, Do, If, For, statements}
 use Rattle.mls_translang.specs.Blocks.{block_of}
 use Rattle.mls_translang.specs.declared.block.Stmt.{Stmt}
 use Rattle.mls_translang.specs.declared.block.Stmt.TheVariants as stmt
-use Rattle.mls_certcheck.specs.Place.{Place, Plain, directs, branching, looping, places}
-use Rattle.mls_certcheck.specs.Lines.{by, target, outcome_flows, within_ends, stmt_lines, rest as rest_lines, lines_at, tx_lines, all_places}
+use Rattle.mls_certcheck.specs.Place.{Place, directs, places}
+use Rattle.mls_certcheck.specs.declared.flow.Line.{Line}
+use Rattle.mls_certcheck.specs.Lines.{variables, lines_at}
 use Rattle.mls_certcheck.proofs.WalkLemmas.{drop_here, places_first}
-use Rattle.mls_labeller.specs.Flows.{raising, flows_in, flows}
-use Rattle.mls_labeller.specs.Walk.{own_slots, stmt_flows, own_flows, flows_at, block_flows, plain_flows, if_flows, for_flows}
 use Rattle.mls_certcheck.specs.declared.flow.Slot.{Slot}
-use Rattle.mls_certcheck.specs.declared.flow.Slot.TheVariants.{Statement}
+use Rattle.mls_certcheck.specs.declared.flow.Slot.TheVariants.{Variable, Statement}
+use Rattle.mls_certcheck.specs.declared.flow.Source.{Source}
 use Rattle.mls_certcheck.specs.declared.flow.Source.TheVariants.{Held}
-use Rattle.mls_certcheck.specs.declared.flow.Flow.{Flow}
-use Rattle.mls_certcheck.specs.declared.flow.Flow.TheVariants.{Into, Kept}
-use Rattle.mls_certcheck.specs.declared.refusal.Rule.{Rule}
-use Rattle.mls_certcheck.specs.declared.refusal.Rule.TheVariants as rule
+use Rattle.mls_labeller.specs.Walk.{own_slots, walked_lines, here_lines, block_lines}
+use Rattle.mls_labeller.specs.declared.own.Here.{Here}
 
 -- ---- lists, one behind another
 
-pub behind : (out two three a b all : List Flow) → two ≡ out ++ a → three ≡ two ++ b → a ++ b ≡ all → three ≡ out ++ all
+pub behind : {A : Type 0} (out two three a b all : List A) → two ≡ out ++ a → three ≡ two ++ b → a ++ b ≡ all → three ≡ out ++ all
 behind out two three a b all h k e = k ∙ ap (λ l. l ++ b) h ∙ append_assoc out a b ∙ ap (λ l. out ++ l) e
 
 notes_more : {A : Type 0} (out two a x y all : List A) → two ≡ out ++ a → x ≡ a ++ y → out ++ x ≡ all → two ++ y ≡ all
@@ -53,13 +50,13 @@ module _ (items : List Stmt) (i : ℕ) (s : Stmt) (within : i < length items) (i
       ap (λ (ss : List Stmt). own_slots n (block_of ss)) (drop_here items i s within is) ∙ ap (map (λ k. Statement k)) (directs-first n s (drop (i + 1) items)) in
       notes_more out two (Statement n ∷ []) _ _ all put (x ∙ ap (λ (k : ℕ). Statement n ∷ own_slots k (block_of (drop (i + 1) items))) (sym next)) whole
 
-  pub block_more : (n m around b : ℕ) (rows : List ℕ) (out two all : List Flow) → m ≡ n + statements (block_of (s ∷ [])) → two ≡ out ++ block_flows n around b rows (block_of (s ∷ [])) → out ++ block_flows n around b rows (block_of (drop i items)) ≡ all → two ++ block_flows m around n rows (block_of (drop (i + 1) items)) ≡ all
-  unfolding block_flows
-  block_more n m around b rows out two all next put whole =
-      let a = block_flows n around b rows (block_of (s ∷ [])) in
-      let x : block_flows n around b rows (block_of (drop i items)) ≡ a ++ block_flows (n + statements (block_of (s ∷ []))) around n rows (block_of (drop (i + 1) items)) =
-      ap (λ (ss : List Stmt). flat_map flows_at (places n around b rows (block_of ss))) (drop_here items i s within is) ∙ ap (flat_map flows_at) (places_first n around b rows s (drop (i + 1) items)) ∙ flat_map-append flows_at _ _ in
-      notes_more out two a _ _ all put (x ∙ ap (λ (k : ℕ). a ++ block_flows k around n rows (block_of (drop (i + 1) items))) (sym next)) whole
+  pub block_more : (vars n m around b : ℕ) (rows : List ℕ) (out two all : List Line) → m ≡ n + statements (block_of (s ∷ [])) → two ≡ out ++ walked_lines vars n around b rows (block_of (s ∷ [])) → out ++ walked_lines vars n around b rows (block_of (drop i items)) ≡ all → two ++ walked_lines vars m around n rows (block_of (drop (i + 1) items)) ≡ all
+  unfolding walked_lines
+  block_more vars n m around b rows out two all next put whole =
+      let a = walked_lines vars n around b rows (block_of (s ∷ [])) in
+      let x : walked_lines vars n around b rows (block_of (drop i items)) ≡ a ++ walked_lines vars (n + statements (block_of (s ∷ []))) around n rows (block_of (drop (i + 1) items)) =
+      ap (λ (ss : List Stmt). flat_map (lines_at vars) (places n around b rows (block_of ss))) (drop_here items i s within is) ∙ ap (flat_map (lines_at vars)) (places_first n around b rows s (drop (i + 1) items)) ∙ flat_map-append (lines_at vars) _ _ in
+      notes_more out two a _ _ all put (x ∙ ap (λ (k : ℕ). a ++ walked_lines vars k around n rows (block_of (drop (i + 1) items))) (sym next)) whole
 
 -- ---- a whole block
 
@@ -67,86 +64,71 @@ pub slots_done : (n : ℕ) (out : List Slot) → out ++ own_slots n End ≡ out
 unfolding own_slots
 slots_done n out = append-nil out
 
-pub block_done : (n around b : ℕ) (rows : List ℕ) (out : List Flow) → out ++ block_flows n around b rows End ≡ out
-unfolding block_flows
-block_done n around b rows out = append-nil out
-
--- the lines that raise labels are those of the statements
-flows_whole_at : (vars : ℕ) (ps : List Place) → flows_in (flat_map (lines_at vars) ps) ≡ flat_map flows_at ps
-flows_whole_at vars [] = refl
-flows_whole_at vars (p ∷ ps) = flat_map-append (λ l. raising l.flow) (lines_at vars p) (flat_map (lines_at vars) ps) ∙ ap (λ (l : List Flow). flows_at p ++ l) (flows_whole_at vars ps)
-
-ends_raise_none : {A : Type 0} (label : A → ℕ) (r : Rule) (xs : List A) → flows_in (by 0 r (flat_map (λ x. within_ends (label x)) xs)) ≡ []
-ends_raise_none label r [] = refl
-ends_raise_none label r (x ∷ xs) = ends_raise_none label r xs
-
-pub flows_whole : (tx : Tx) → block_flows 1 0 0 [] tx.body ≡ flows tx
-unfolding block_flows
-flows_whole tx =
-    let vars = length tx.vars in
-    sym (flat_map-append (λ l. raising l.flow) (tx_lines tx) (flat_map (lines_at vars) (all_places tx))
-    ∙ (λ i. ends_raise_none (λ p. p.1.label) rule.Context tx.params i ++ flows_whole_at vars (all_places tx) i))
+pub block_done : (vars n around b : ℕ) (rows : List ℕ) (out : List Line) → out ++ walked_lines vars n around b rows End ≡ out
+unfolding walked_lines
+block_done vars n around b rows out = append-nil out
 
 -- ---- one statement
 
--- of a write, only the outcome is set
-pub write_flows : (n b : ℕ) (rows : List ℕ) (rel w : ℕ) (writing : Writing) (outcome : Option ℕ) → stmt_flows n b rows (Write_at rel w writing outcome) ≡ outcome_flows n w outcome
-write_flows n b rows rel w (Inserting key values) None = refl
-write_flows n b rows rel w (Inserting key values) (Some x) = refl
-write_flows n b rows rel w (Updating key key_class from sets) None = refl
-write_flows n b rows rel w (Updating key key_class from sets) (Some x) = refl
-write_flows n b rows rel w (Deleting key key_class) None = refl
-write_flows n b rows rel w (Deleting key key_class) (Some x) = refl
+module _ (h : Here) where
+  abbrev inside : ℕ → ℕ → List ℕ → Block → List Line
+  inside n b rows block = walked_lines h.vars n h.number b rows block
 
-pub plain_split : (n b : ℕ) (rows : List ℕ) (s : Simple) → own_flows n b rows (Plain s) ≡ stmt_flows n b rows s ++ Kept b n (target s) ∷ []
-plain_split n b rows s = flat_map-append (λ l. raising l.flow) (stmt_lines n b rows s) (rest_lines n b s)
-
-module _ (n around b : ℕ) (rows : List ℕ) where
-  abbrev entry : List Flow
-  entry = Into (Statement n ∷ []) (Held (Statement around) ∷ []) ∷ []
-
-  if_whole : (guard : Expr) (one other : Block) → entry ++ if_flows n b rows guard one other ≡ block_flows n around b rows (If guard one other End)
-  unfolding block_flows
+  if_whole : (guard : Expr) (one other : Block) → here_lines h (If guard one other End) ++ (inside (h.number + 1) h.before h.rows.now one ++ inside (h.number + 1 + statements one) h.before h.rows.now other) ≡ block_lines h (If guard one other End)
+  unfolding walked_lines
   if_whole guard one other =
-      let own = own_flows n b rows (branching n b guard one other) in
-      let p = places (n + 1) n b rows one in
-      let q = places (n + 1 + statements one) n b rows other in
-      sym (append_assoc entry own (flat_map flows_at p ++ flat_map flows_at q))
-      ∙ ap (λ (l : List Flow). (entry ++ own) ++ l) (sym (flat_map-append flows_at p q) ∙ ap (λ (ps : List Place). flat_map flows_at (p ++ ps)) (sym (append-nil q)))
+      let f = lines_at h.vars in
+      let p = places (h.number + 1) h.number h.before h.rows.now one in
+      let q = places (h.number + 1 + statements one) h.number h.before h.rows.now other in
+      ap (λ (l : List Line). here_lines h (If guard one other End) ++ l) (sym (flat_map-append f p q) ∙ ap (λ (ps : List Place). flat_map f (p ++ ps)) (sym (append-nil q)))
 
-  for_whole : (row : List ℕ) (rel label : ℕ) (body : Block) → entry ++ for_flows n b rows label body ≡ block_flows n around b rows (For row rel label body End)
-  unfolding block_flows
+  for_whole : (row : List ℕ) (rel label : ℕ) (body : Block) → here_lines h (For row rel label body End) ++ inside (h.number + 1) h.number (label ∷ h.rows.now) body ≡ block_lines h (For row rel label body End)
+  unfolding walked_lines
   for_whole row rel label body =
-      let own = own_flows n b rows (looping n b label body) in
-      let p = places (n + 1) n n (label ∷ rows) body in
-      sym (append_assoc entry own (flat_map flows_at p)) ∙ ap (λ (ps : List Place). (entry ++ own) ++ flat_map flows_at ps) (sym (append-nil p))
+      ap (λ (ps : List Place). here_lines h (For row rel label body End) ++ flat_map (lines_at h.vars) ps) (sym (append-nil (places (h.number + 1) h.number h.number (label ∷ h.rows.now) body)))
 
-  do_whole : (s : Simple) → entry ++ own_flows n b rows (Plain s) ≡ block_flows n around b rows (Do s End)
-  unfolding block_flows
-  do_whole s = sym (append-nil (entry ++ own_flows n b rows (Plain s)))
+  do_whole : (s : Simple) → here_lines h (Do s End) ≡ block_lines h (Do s End)
+  unfolding walked_lines
+  do_whole s = sym (append-nil (here_lines h (Do s End)))
 
-  -- what was put for a statement, once it is known which
-  module _ (out two three : List Flow) (entered : two ≡ out ++ entry) where
-    pub if_put : (s : Stmt) (guard : Expr) (one other : Block) → s ≡ stmt.If guard one other → three ≡ two ++ if_flows n b rows guard one other → three ≡ out ++ block_flows n around b rows (block_of (s ∷ []))
-    if_put s guard one other is h =
-        behind out two three _ _ _ entered h (if_whole guard one other) ∙ ap (λ (t : Stmt). out ++ block_flows n around b rows (block_of (t ∷ []))) (sym is)
+  abbrev of_one : Stmt → List Line
+  of_one s = block_lines h (block_of (s ∷ []))
 
-    pub for_put : (s : Stmt) (row : List ℕ) (rel label : ℕ) (body : Block) → s ≡ stmt.For row rel label body → three ≡ two ++ for_flows n b rows label body → three ≡ out ++ block_flows n around b rows (block_of (s ∷ []))
-    for_put s row rel label body is h =
-        behind out two three _ _ _ entered h (for_whole row rel label body) ∙ ap (λ (t : Stmt). out ++ block_flows n around b rows (block_of (t ∷ []))) (sym is)
+  -- what was noted of a statement, once it is known which
+  module _ (out two : List Line) (s : Stmt) (noted : two ≡ out ++ here_lines h (block_of (s ∷ []))) where
+    pub if_noted : (three four : List Line) (guard : Expr) (one other : Block) (second : ℕ) → s ≡ stmt.If guard one other → second ≡ h.number + 1 + statements one → three ≡ two ++ inside (h.number + 1) h.before h.rows.now one → four ≡ three ++ inside second h.before h.rows.now other → four ≡ out ++ of_one s
+    if_noted three four guard one other second is next put k =
+        let here = noted ∙ ap (λ (t : Stmt). out ++ here_lines h (block_of (t ∷ []))) is in
+        let inner = behind two three four _ _ _ put (k ∙ ap (λ (m : ℕ). three ++ inside m h.before h.rows.now other) next) refl in
+        behind out two four _ _ _ here inner (if_whole guard one other) ∙ ap (λ (t : Stmt). out ++ of_one t) (sym is)
 
-    do_put : (s : Simple) → three ≡ two ++ (stmt_flows n b rows s ++ Kept b n (target s) ∷ []) → three ≡ out ++ block_flows n around b rows (Do s End)
-    do_put s h = behind out two three _ _ _ entered (h ∙ ap (λ (l : List Flow). two ++ l) (sym (plain_split n b rows s))) (do_whole s)
+    pub for_noted : (three : List Line) (row : List ℕ) (rel label : ℕ) (body : Block) (rows : List ℕ) → s ≡ stmt.For row rel label body → rows ≡ label ∷ h.rows.now → three ≡ two ++ inside (h.number + 1) h.number rows body → three ≡ out ++ of_one s
+    for_noted three row rel label body rows is loops put =
+        let here = noted ∙ ap (λ (t : Stmt). out ++ here_lines h (block_of (t ∷ []))) is in
+        behind out two three _ _ _ here (put ∙ ap (λ (r : List ℕ). two ++ inside (h.number + 1) h.number r body) loops) (for_whole row rel label body)
+        ∙ ap (λ (t : Stmt). out ++ of_one t) (sym is)
 
-    pub plain_put : (s : Stmt) (not_if : (guard : Expr) (one other : Block) → s ≡ stmt.If guard one other → ⊥) (not_for : (row : List ℕ) (rel label : ℕ) (body : Block) → s ≡ stmt.For row rel label body → ⊥) → three ≡ two ++ plain_flows n b rows (block_of (s ∷ [])) → three ≡ out ++ block_flows n around b rows (block_of (s ∷ []))
-    plain_put (stmt.Assign x value) not_if not_for h = do_put (Assign x value) h
-    plain_put (stmt.If guard one other) not_if not_for h = absurd (not_if guard one other refl)
-    plain_put (stmt.For row rel label body) not_if not_for h = absurd (not_for row rel label body refl)
-    plain_put (stmt.Insert rel key values w outcome) not_if not_for h = do_put (Write_at rel w (Inserting key values) outcome) h
-    plain_put (stmt.Update rel key key_class from w sets outcome) not_if not_for h = do_put (Write_at rel w (Updating key key_class from sets) outcome) h
-    plain_put (stmt.Delete rel key key_class w outcome) not_if not_for h = do_put (Write_at rel w (Deleting key key_class) outcome) h
-    plain_put (stmt.Release value to into) not_if not_for h = do_put (Release value to into) h
-    plain_put (stmt.Emit value label) not_if not_for h = do_put (Emit value label) h
+  module _ (s : Stmt) (not_if : (guard : Expr) (one other : Block) → s ≡ stmt.If guard one other → ⊥) (not_for : (row : List ℕ) (rel label : ℕ) (body : Block) → s ≡ stmt.For row rel label body → ⊥) where
+    simple : (t : Stmt) → s ≡ t → here_lines h (block_of (t ∷ [])) ≡ of_one t
+    simple (stmt.Assign x value) is = do_whole _
+    simple (stmt.If guard one other) is = absurd (not_if guard one other is)
+    simple (stmt.For row rel label body) is = absurd (not_for row rel label body is)
+    simple (stmt.Insert rel key values w outcome) is = do_whole _
+    simple (stmt.Update rel key key_class from w sets outcome) is = do_whole _
+    simple (stmt.Delete rel key key_class w outcome) is = do_whole _
+    simple (stmt.Release value to into) is = do_whole _
+    simple (stmt.Emit value label) is = do_whole _
+
+    pub plain_noted : (out two : List Line) → two ≡ out ++ here_lines h (block_of (s ∷ [])) → two ≡ out ++ of_one s
+    plain_noted out two noted = noted ∙ ap (λ (l : List Line). out ++ l) (simple s refl)
+
+-- ---- variables, the last one first
+
+pub variables_more : (n k : ℕ) (out two all : List Source) → 0 < k → two ≡ out ++ Held (Variable n (k - 1)) ∷ [] → out ++ variables n k ≡ all → two ++ variables n (k - 1) ≡ all
+variables_more n zero out two all low put whole = absurd (omega (arith, low))
+variables_more n (suc j) out two all low put whole =
+    let e : suc j - 1 ≡ j = omega arith in
+    (λ i. (put ∙ ap (λ (k : ℕ). out ++ Held (Variable n k) ∷ []) e) i ++ variables n (e i)) ∙ append_assoc out (Held (Variable n j) ∷ []) (variables n j) ∙ whole
 
 -- ---- the targets of a branch
 

@@ -7,8 +7,9 @@ use Rattle.mls_translang.specs.Tree.{statements}
 use Rattle.mls_translang.specs.Tx.{Tx}
 use Rattle.mls_certificate.specs.declared.cert.Certificate.{Certificate}
 use Rattle.mls_certificate.specs.declared.cert.Certificate.TheVariants.{One, Two}
-use Rattle.mls_certcheck.specs.Rules.{Claim, claim, after, pc, var_rows, Counts, Holds}
-use Rattle.mls_labeller.specs.Flows.{flows}
+use Rattle.mls_certcheck.specs.Lines.{lines}
+use Rattle.mls_certcheck.specs.Rules.{Claim, claim, after, pc, var_rows, Counts}
+use Rattle.mls_labeller.specs.Flows.{IsBounded}
 use Rattle.mls_certificate.specs.declared.cert.Version.{Version}
 use Rattle.mls_certificate.specs.declared.cert.Version.TheVariants as version
 
@@ -24,7 +25,7 @@ module _ (c : Claim) where
   pub record Meets : Type 0 where
     pub var_count : AllByRecursion (λ row. length row ≡ length c.tx.vars) (var_rows c.cert)
     pub stmt_count : Counts (statements c.tx.body) c.cert
-    pub bounds : AllByRecursion (Holds c) (flows c.tx)
+    pub bounds : AllByRecursion (λ line. IsBounded c line.flow) (lines c.tx)
 
 -- each label of the first is dominated by the label at the same place of the second
 pub record Below (c d : Claim) : Type 0 where

@@ -6,7 +6,9 @@ use Rattle.mls_lattice.specs.Lattice.{Pair, Dominates, bottom, pair_of}
 use Rattle.mls_lattice.specs.declared.label.Label.{Label}
 use Rattle.mls_certificate.specs.declared.cert.Certificate.{Certificate}
 use Rattle.mls_certificate.specs.declared.cert.Certificate.TheVariants.{One, Two}
+use Rattle.mls_certcheck.specs.declared.flow.Line.{Line}
 use Rattle.mls_certcheck.specs.Rules.{Claim, claim, after, row_after, var_rows, pc_labels, Counts, slot_label, IsOver}
+use Rattle.mls_labeller.specs.Flows.{IsBounded}
 use Rattle.mls_labeller.specs.Least.{IsOf, Below}
 use Rattle.mls_certificate.specs.declared.cert.Version.{Version}
 use Rattle.mls_certificate.specs.declared.cert.Version.TheVariants as version
@@ -43,11 +45,15 @@ HasSlots x slots = AllByRecursion (HasSlot x) slots
 abbrev pub HasRow : ℕ → Certificate → ℕ → Type 0
 HasRow vars x n = (i : ℕ) → i < vars → HasSlot x (Variable n i)
 
+-- each that something flows into
 abbrev pub HasFlow : ℕ → Certificate → Flow → Type 0
 HasFlow vars x (Into targets sources) = HasSlots x targets
 HasFlow vars x (Kept m n but) = HasRow vars x n
-HasFlow vars x (Within limit sources) = ⊥
-HasFlow vars x (Under sources) = ⊥
+HasFlow vars x (Within limit sources) = Unit {0}
+HasFlow vars x (Under sources) = Unit {0}
+
+abbrev pub HasFlows : ℕ → Certificate → List Line → Type 0
+HasFlows vars x lines = AllByRecursion (λ line. HasFlow vars x line.flow) lines
 
 -- labels for so many variables and statements
 pub record HasCounts (v s : ℕ) (x : Certificate) : Type 0 where
@@ -92,6 +98,9 @@ Over p c t = Dominates (slot_label c t) p
 -- each bound of a list
 abbrev pub Each : {A : Type 0} → (Claim → A → Type 0) → List A → Claim → Type 0
 Each H bounds c = AllByRecursion (H c) bounds
+
+abbrev pub AreBounded : List Line → Claim → Type 0
+AreBounded lines c = Each (λ d line. IsBounded d line.flow) lines c
 
 -- what a variable (but one) holds after the statement m, it may hold after the statement n
 abbrev pub Keeps : Claim → ℕ → ℕ → Option ℕ → ℕ → Type 0

@@ -8,8 +8,8 @@ ghost use Rattle.mls_certificate.specs.declared.cert.Cert2.{Cert2 as SpecCert2};
 ghost use Rattle.mls_certificate.specs.declared.cert.Certificate.TheVariants.{One, Two};
 
 use crate::fault::LabelFault;
-use crate::flows::flows_of;
 use crate::least::Labeller;
+use crate::lines::lines_of;
 use mls_certcheck::check;
 use mls_certificate::{Cert, Cert2, Certificate, Version};
 use mls_lattice::Policy;
@@ -28,9 +28,9 @@ fn labelled(
     ensures none { IfErr result (HasNone version policy.now tx.now) }
     ensures first { IfErr result (IsFirst version policy.now tx.now) }
 {
-    let flows = flows_of(alloc, tx)?;
+    let lines = lines_of(alloc, tx)?;
     let labeller = Labeller { policy, tx };
-    let cert = labeller.least(alloc, version, &flows)?.into_cert(alloc)?;
+    let cert = labeller.least(alloc, version, &lines)?.into_cert(alloc)?;
     check(policy, tx, &cert)?;
     Ok(cert)
 }

@@ -1,19 +1,18 @@
 //! The labels rise until every lower bound holds.
 ghost use Rattle.std.specs.Prelude.{◌≡◌, ◌↔◌, IsTrue, Some, IfOk, length, slice_index, slice_index_or, map};
-ghost use Rattle.std.specs.List.{AllByRecursion};
 ghost use Rattle.mls_lattice.specs.Lattice.{pair_of, bottom};
 ghost use Rattle.mls_lattice.specs.Labels.{label_of};
 ghost use Rattle.mls_lattice.specs.Policy.{labels_of};
 ghost use Rattle.mls_translang.specs.Tree.{statements};
-ghost use Rattle.mls_certcheck.specs.Rules.{claim, pc, param_label, slot_label, source_label, Holds};
-ghost use Rattle.mls_labeller.specs.Flows.{flows as flows_in};
+ghost use Rattle.mls_certcheck.specs.Rules.{claim, slot_label, source_label, Holds};
+ghost use Rattle.mls_labeller.specs.Flows.{IsBounded, body_lines};
 ghost use Rattle.mls_labeller.specs.Least.{IsLeast};
-ghost use Rattle.mls_labeller.specs.Rising.{cert_of, claim_at, HasSlot, HasSlots, HasRow, HasFlow, IsJoin, Over, Each, Keeps, Rises};
+ghost use Rattle.mls_labeller.specs.Rising.{cert_of, claim_at, HasSlot, HasSlots, HasRow, HasFlow, HasFlows, IsJoin, Over, Each, AreBounded, Keeps, Rises};
 ghost use Rattle.mls_certcheck.specs.declared.flow.Slot.TheVariants.{Variable};
 ghost use Rattle.mls_certcheck.specs.declared.flow.Flow.TheVariants.{Into, Kept};
 
 use crate::labels::Labels;
-use mls_certcheck::{Flow, Slot, Source};
+use mls_certcheck::{Flow, Line, Slot, Source};
 use mls_certificate::Version;
 use mls_lattice::{Label, LabelNo, Policy};
 use mls_translang::{Tx, statements};
@@ -21,7 +20,7 @@ use std::alloc::{AllocError, Global};
 
 /// A transaction, under a policy.
 #[derive(Drop)]
-pub(crate) struct Labeller<'a> {
+pub struct Labeller<'a> {
     pub policy: &'a Policy,
     pub tx: &'a Tx,
 }
@@ -57,7 +56,7 @@ fn is_it(variable: Option<u8>, place: usize) -> bool
 impl Labeller<'_> {
     /// What a number of a label stands for.
     #[tactic(auto, using(mls_certcheck::proofs::LabelLemmas::past_labels))]
-    fn declared(&self, label: LabelNo) -> Label
+    pub fn declared(&self, label: LabelNo) -> Label
         ensures { pair_of result ≡ label_of (labels_of self.now.policy.now) label }
     {
         if label.index() < self.policy.label_count() {
@@ -67,7 +66,8 @@ impl Labeller<'_> {
         }
     }
 
-    fn parameter_no(&self, place: u8) -> LabelNo
+    /// The number of a parameter's label.
+    pub fn parameter_no(&self, place: u8) -> LabelNo
         ensures { result ≡ slice_index (map (λ p. p.1.label) self.now.tx.now.params) place }
     {
         let params = self.tx.params();
@@ -184,23 +184,23 @@ impl Labeller<'_> {
     /// Raises labels until what flows is bounded: false where they all were there.
     fn follow(&self, labels: &mut Labels, flow: &Flow) -> bool
         requires { HasFlow (length self.now.tx.now.vars) (cert_of labels.old) flow.now }
-        ensures { Rises self.now (λ c. Holds c flow.now) (cert_of labels.old) (cert_of labels.new) result }
+        ensures { Rises self.now (λ c. IsBounded c flow.now) (cert_of labels.old) (cert_of labels.new) result }
     {
         match flow {
             Flow::Into { targets, sources } => self.pour(labels, targets, sources),
             Flow::Kept { from, to, but } => self.keep_all(labels, *from, *to, *but),
-            Flow::Within { .. } | Flow::Under { .. } => unreachable!(),
+            _ => false,
         }
     }
 
-    /// Follows each flow in turn: false where all labels were there.
-    fn round(&self, labels: &mut Labels, flows: &[Flow]) -> bool
-        requires { AllByRecursion (HasFlow (length self.now.tx.now.vars) (cert_of labels.old)) flows.now }
-        ensures { Rises self.now (Each Holds flows.now) (cert_of labels.old) (cert_of labels.new) result }
+    /// Follows each line in turn: false where all labels were there.
+    fn round(&self, labels: &mut Labels, lines: &[Line]) -> bool
+        requires { HasFlows (length self.now.tx.now.vars) (cert_of labels.old) lines.now }
+        ensures { Rises self.now (AreBounded lines.now) (cert_of labels.old) (cert_of labels.new) result }
     {
         let mut rose = false;
-        for flow in flows {
-            if self.follow(labels, flow) {
+        for line in lines {
+            if self.follow(labels, &line.flow) {
                 rose = true;
             }
         }
@@ -212,15 +212,15 @@ impl Labeller<'_> {
         &self,
         alloc: Global,
         version: Version,
-        flows: &[Flow],
+        lines: &[Line],
     ) -> Result<Labels, AllocError>
-        requires { flows.now ≡ flows_in self.now.tx.now }
+        requires { lines.now ≡ body_lines self.now.tx.now }
         ensures { IfOk result (λ l. IsLeast version self.now.policy.now self.now.tx.now (cert_of l)) }
     {
         let vars = self.tx.vars().len();
         let mut labels = Labels::all_of(alloc, version, lowest(), vars, statements(self.tx))?;
         loop {
-            if !self.round(&mut labels, flows) {
+            if !self.round(&mut labels, lines) {
                 return Ok(labels);
             }
         }

@@ -2,13 +2,14 @@
 #![tactic(auto)]
 
 mod fault;
-mod flows;
 mod labelling;
 mod labels;
 mod least;
+mod lines;
+mod own;
 mod sources;
 
 pub use fault::LabelFault;
-pub use flows::flows_of;
 pub use labelling::{label_tx, label_tx2};
-pub use sources::{names_to, rows_inside, sources_of};
+pub use least::Labeller;
+pub use lines::lines_of;

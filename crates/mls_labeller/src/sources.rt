@@ -22,7 +22,7 @@ fn row_label(rows: &[LabelNo], depth: u8) -> LabelNo
 }
 
 /// Adds the names in an expression that stands after a statement.
-pub fn names_to(
+pub(crate) fn names_to(
     sources: &mut Vec<Source>,
     before: usize,
     rows: &[LabelNo],
@@ -51,7 +51,7 @@ pub fn names_to(
 }
 
 /// What flows on where a statement runs, after another, that asks for an expression.
-pub fn sources_of(
+pub(crate) fn sources_of(
     alloc: Global,
     number: usize,
     before: usize,
@@ -67,7 +67,7 @@ pub fn sources_of(
 }
 
 /// The labels of the loops inside one more, the innermost first.
-pub fn rows_inside(
+pub(crate) fn rows_inside(
     alloc: Global,
     label: LabelNo,
     rows: &[LabelNo],

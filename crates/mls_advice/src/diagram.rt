@@ -1,7 +1,7 @@
 //! A policy and schemes for people: labels in rows, which covers which, users and rights, and the intervals of attributes.
 use crate::columns::{columns_to, copies_to, row_of};
 use bitflags::Flags;
-use mls_lattice::{LabelNo, Modes, Policy};
+use mls_lattice::{LabelNo, Modes, Policy, UserNo};
 use mls_scheme::{Attributes, RelNo, Schemes};
 use std::alloc::{AllocError, Global};
 
@@ -158,32 +158,28 @@ fn interval_of(
     format!(in alloc; "{low} to {high}")
 }
 
-/// The words at a place of those lines of a canonical text that begin with a word, each once.
-fn words_at(
-    alloc: Global,
-    canon: &str,
-    first: &str,
-    place: usize,
-) -> Result<Vec<String>, AllocError> {
-    let mut found: Vec<String> = Vec::new(alloc);
-    for line in canon.lines() {
-        let mut words = line.split(' ');
-        let is_one = words.next() == Some(first);
-        match words.nth(place) {
-            Some(word) if is_one && !found.iter().any(|other| other.as_str() == word) => {
-                found.push(String::from_str(alloc, word)?)?;
-            }
-            _ => {}
+/// No policy has more users.
+const MOST_USERS: u8 = 64;
+
+/// The users, by number.
+fn users_of(alloc: Global, policy: &Policy) -> Result<Vec<UserNo>, AllocError> {
+    let mut users = Vec::new(alloc);
+    for number in 0..MOST_USERS {
+        let user = UserNo::new(number);
+        if user.index() < policy.user_count() {
+            users.push(user)?;
         }
     }
-    Ok(found)
+    Ok(users)
 }
 
-fn user_row(alloc: Global, policy: &Policy, name: &str) -> Result<Vec<String>, AllocError> {
-    let Some(user) = policy.user(name) else {
+/// A user's name, clearance and trusted interval; nothing of one that is not declared.
+fn user_row(alloc: Global, policy: &Policy, user: UserNo) -> Result<Vec<String>, AllocError> {
+    if user.index() >= policy.user_count() {
         return Ok(Vec::new(alloc));
-    };
-    let mut row = row_of(alloc, &[name, name_of(policy, policy.clearance(user))])?;
+    }
+    let clearance = name_of(policy, policy.clearance(user));
+    let mut row = row_of(alloc, &[policy.user_name(user), clearance])?;
     row.push(match policy.trusted(user) {
         Some((low, high)) => interval_of(alloc, policy, low, high)?,
         None => String::from_str(alloc, "-")?,
@@ -195,15 +191,27 @@ fn users_to(
     alloc: Global,
     text: &mut String,
     policy: &Policy,
-    users: &[String],
+    users: &[UserNo],
 ) -> Result<(), AllocError> {
     let heading = row_of(alloc, &["user", "clearance", "trusted"])?;
     let mut rows = Vec::new(alloc);
     for user in users {
-        rows.push(user_row(alloc, policy, user)?)?;
+        rows.push(user_row(alloc, policy, *user)?)?;
     }
     text.push_str("users:\n")?;
     columns_to(alloc, text, &heading, &rows)
+}
+
+/// The objects that rights are on, each once.
+fn objects_of(alloc: Global, policy: &Policy) -> Result<Vec<String>, AllocError> {
+    let mut objects: Vec<String> = Vec::new(alloc);
+    for place in 0..policy.right_count() {
+        let object = policy.object(place);
+        if !objects.iter().any(|other| other.as_str() == object) {
+            objects.push(String::from_str(alloc, object)?)?;
+        }
+    }
+    Ok(objects)
 }
 
 /// Appends the letter of a mode, where it is among some.
@@ -236,16 +244,17 @@ fn right_heading(alloc: Global, objects: &[String]) -> Result<Vec<String>, Alloc
     Ok(heading)
 }
 
+/// What a user may do with each object; nothing of a user who is not declared.
 fn right_row(
     alloc: Global,
     policy: &Policy,
     objects: &[String],
-    name: &str,
+    user: UserNo,
 ) -> Result<Vec<String>, AllocError> {
-    let Some(user) = policy.user(name) else {
+    if user.index() >= policy.user_count() {
         return Ok(Vec::new(alloc));
-    };
-    let mut row = row_of(alloc, &[name])?;
+    }
+    let mut row = row_of(alloc, &[policy.user_name(user)])?;
     for object in objects {
         row.push(letters_of(alloc, policy.modes(user, object))?)?;
     }
@@ -256,13 +265,13 @@ fn rights_to(
     alloc: Global,
     text: &mut String,
     policy: &Policy,
-    users: &[String],
-    objects: &[String],
+    users: &[UserNo],
 ) -> Result<(), AllocError> {
-    let heading = right_heading(alloc, objects)?;
+    let objects = objects_of(alloc, policy)?;
+    let heading = right_heading(alloc, &objects)?;
     let mut rows = Vec::new(alloc);
     for user in users {
-        rows.push(right_row(alloc, policy, objects, user)?)?;
+        rows.push(right_row(alloc, policy, &objects, *user)?)?;
     }
     text.push_str("rights (e execute, r read, a append, w write):\n")?;
     columns_to(alloc, text, &heading, &rows)
@@ -322,13 +331,11 @@ fn relations_to(
 
 /// The labels, in rows and each with those that it covers, the users, their rights, and the intervals of the relations.
 pub fn picture(alloc: Global, policy: &Policy, schemes: &Schemes) -> Result<String, AllocError> {
-    let canon = String::from_utf8_lossy(alloc, &policy.canon(alloc)?)?;
-    let users = words_at(alloc, &canon, "user", 0)?;
-    let objects = words_at(alloc, &canon, "matrix", 1)?;
+    let users = users_of(alloc, policy)?;
     let mut text = String::new(alloc);
     labels_to(alloc, &mut text, policy)?;
     users_to(alloc, &mut text, policy, &users)?;
-    rights_to(alloc, &mut text, policy, &users, &objects)?;
+    rights_to(alloc, &mut text, policy, &users)?;
     relations_to(alloc, &mut text, policy, schemes)?;
     Ok(text)
 }

@@ -4,7 +4,7 @@ use crate::shown::text_to;
 use mls_lattice::{LabelNo, Policy, Str};
 use mls_scheme::{Attributes, RelNo, Scheme, Schemes};
 use std::alloc::{AllocError, Global};
-use strsim::generic_levenshtein;
+use strsim::osa_distance;
 
 /// No name has more bytes.
 const LONGEST: usize = 32;
@@ -59,7 +59,7 @@ pub fn declared_names(
 // ---- the nearest one
 
 /// The nearest of some names, whatever the case of letters, the first where several are as near. A near name differs in a third of the
-/// length of the given one at most, or in 1.
+/// length of the given one at most, or in 1; two neighbours that are swapped are one difference.
 pub(crate) fn nearest<'a>(
     alloc: Global,
     name: &[u8],
@@ -68,12 +68,12 @@ pub(crate) fn nearest<'a>(
     if name.len() > LONGEST + 1 {
         return Ok(None);
     }
-    let name = name.to_ascii_lowercase(alloc)?;
+    let name = String::from_utf8_lossy(alloc, name)?.to_ascii_lowercase(alloc)?;
     let mut found = None;
     let mut bound = name.len().max(3) / 3 + 1;
     for other in names {
-        let folded = other.as_str().as_bytes().to_ascii_lowercase(alloc)?;
-        let apart = generic_levenshtein(alloc, name.as_slice(), folded.as_slice())?;
+        let folded = other.as_str().to_ascii_lowercase(alloc)?;
+        let apart = osa_distance(alloc, &name, &folded)?;
         if apart < bound {
             found = Some(other.as_str());
             bound = apart;

@@ -1,5 +1,5 @@
 -- What comes of a command line, by what its host gives.
-use Rattle.std.specs.Prelude.{◌≡◌, ℕ, Bool, false, List, [], ◌++◌, Option, Some, None, Result}
+use Rattle.std.specs.Prelude.{◌≡◌, ℕ, Bool, false, List, [], ◌++◌, Option, Some, None, Result, IfOk}
 use Rattle.clap.specs.Words.{Text}
 use Rattle.mls_words.specs.declared.words.Job.{Job}
 use Rattle.mls_words.specs.declared.usage.Usage.{Usage}
@@ -19,6 +19,7 @@ pub record IsFinished (is_watched : Bool) (Does : Deed → Type 0) (wrote told :
   pub more : List ℕ
   pub does : Does (record { wrote = wrote; told = λ text. told ((text ++ end_text end) ++ more); end = end })
   pub plain : is_watched ≡ false → more ≡ []
+  pub of_refusals : IfOk end (λ ending. more ≡ [])
   pub status_is : status ≡ end_status end
 
 module _ (h : Hosted) where
@@ -34,7 +35,8 @@ module _ (h : Hosted) where
   -- left
   abbrev pub IsAnsweredAs : Option (List Text) → List Text → (wrote told : List ℕ → Type 0) → ℕ → Type 0
   IsAnsweredAs None words wrote told status = Answers (IsDeedOf h) words wrote told status
-  IsAnsweredAs (Some other) words wrote told status = KeepsStores h × Answers (IsAccountOf h) other wrote told status
+  IsAnsweredAs (Some other) words wrote told status =
+      KeepsStores h × Answers (IsAccountOf h.before) other wrote told status
 
   abbrev pub IsAnswered : List Text → (wrote told : List ℕ → Type 0) → ℕ → Type 0
   IsAnswered words wrote told status = IsAnsweredAs (explained_of words) words wrote told status

@@ -20,7 +20,7 @@ denial_at policy level user = denial_of (cleared (site_of policy [] []) level (u
 
 -- the same of the session that a shell is to open; no other task opens one by its words
 abbrev pub opening_denial : Tables → Option ℕ → Task → Option Denial
-opening_denial policy (Some level) (Shell files) = denial_at policy level files.user.now
+opening_denial policy (Some level) (Shell label user) = denial_at policy level user.now
 opening_denial policy reader task = None
 
 -- the line that tells it

@@ -1,9 +1,7 @@
 -- What is told of an input that is refused: the line that the command tells; the place of the fault; and more, for people.
-use Rattle.std.specs.Prelude.{◌≡◌, ◌⊎◌, ℕ, Bool, false, List, [], ◌++◌, Option, Some, None, option_map, ⊤}
+use Rattle.std.specs.Prelude.{◌≡◌, ◌⊎◌, ℕ, List, [], ◌++◌, Option, Some, None, option_map, ⊤}
 use Rattle.mls_words.specs.declared.words.Documents.{Documents}
 use Rattle.mls_words.specs.declared.words.Job.{Job}
-use Rattle.mls_words.specs.declared.words.Task.{Task}
-use Rattle.mls_words.specs.declared.words.Task.TheVariants.{Run, Shell, Certify, Check, Explain}
 use Rattle.mls_words.specs.Words.{named}
 use Rattle.mls_host.specs.declared.reason.Role.{Role}
 use Rattle.mls_host.specs.declared.reason.Role.TheVariants as role
@@ -32,24 +30,6 @@ role_of (Certificates f) = Some role.Certificates
 role_of (Script f) = Some role.Script
 role_of reason = None
 
-abbrev pub transactions_of : Task → Option (List ℕ)
-transactions_of (Run files) = named files.transactions
-transactions_of (Shell files) = named files.transactions
-transactions_of (Certify transactions) = Some transactions.now
-transactions_of (Check transactions certificates) = Some transactions.now
-transactions_of (Explain transactions name) = Some transactions.now
-transactions_of task = None
-
-abbrev pub certificates_of : Task → Option (List ℕ)
-certificates_of (Run files) = named files.certificates
-certificates_of (Shell files) = named files.certificates
-certificates_of (Check transactions certificates) = Some certificates.now
-certificates_of task = None
-
-abbrev pub script_of : Task → Option (List ℕ)
-script_of (Run files) = named files.script
-script_of task = None
-
 abbrev pub policy_of : Option Documents → Option (List ℕ)
 policy_of = option_map (λ d. d.policy.now)
 
@@ -60,9 +40,9 @@ schemes_of = option_map (λ d. d.schemes.now)
 abbrev pub path_of : Job → Role → Option (List ℕ)
 path_of job role.Policy = policy_of job.documents
 path_of job role.Schemes = schemes_of job.documents
-path_of job role.Transactions = transactions_of job.task
-path_of job role.Certificates = certificates_of job.task
-path_of job role.Script = script_of job.task
+path_of job role.Transactions = named job.files.transactions
+path_of job role.Certificates = named job.files.certificates
+path_of job role.Script = named job.files.script
 path_of job role.Store = None
 
 abbrev pub path_if : Job → Option Role → Option (List ℕ)
@@ -85,9 +65,3 @@ pub record IsToldOf (job : Job) (reason : Reason) (text : List ℕ) : Type 0 whe
   pub lines : List ℕ
   pub lines_are : IsPlaceTold (source_of job reason) (place_of reason) lines
   pub text_is : text ≡ reason_text reason ++ lines
-
--- more is told, of which nothing is known; and nothing, where nobody reads it
-pub record IsMore (is_watched : Bool) (told : List ℕ → Type 0) : Type 0 where
-  pub more : List ℕ
-  pub told_more : told more
-  pub plain : is_watched ≡ false → more ≡ []

@@ -1,67 +1,62 @@
 //! What the program does with its words.
-ghost use Rattle.std.specs.Prelude.{◌<◌, length};
-ghost use Rattle.std.specs.Option.{IfSome};
-ghost use Rattle.mls_scheme.specs.Scheme.{AreUnder};
 ghost use Rattle.mls_host.specs.Deed.{deed};
 ghost use Rattle.mls_host.specs.Hosting.{hosted, IsAppended, IsTold};
-ghost use Rattle.mls_words.specs.Words.{texts_of};
+ghost use Rattle.mls_host.specs.Reading.{AreReady, HasUser};
+ghost use Rattle.mls_words.specs.Words.{named, texts_of};
 ghost use Rattle.mls_command.specs.Acting.{IsTaskDeed, IsDeedOf};
 ghost use Rattle.mls_command.specs.Accounting.{IsAccountOf};
 ghost use Rattle.mls_command.specs.Answering.{IsFinished, Answers, IsAnswered};
 
 use crate::accounting::finish_account;
-use crate::documents::{picture_of, policy_of, schemes_of};
+use crate::documents::picture_of;
 use crate::explained::explained_of;
 use crate::telling::explain_refusal;
-use mls_host::{Ending, Errors, Host, Refusal, reader_of};
-use mls_lattice::{LabelNo, Policy};
+use mls_host::{Ending, Errors, Host, Inputs, Refusal, inputs_of};
 use mls_listings::{certified, checked, explained, texts};
-use mls_runs::run_files;
-use mls_scheme::SchemesFile;
-use mls_shells::shell_files;
+use mls_runs::run_script;
+use mls_shells::run_shell;
 use mls_words::{Job, Task, Usage, job_of};
 use std::alloc::Global;
 use std::io::Write;
 
-/// Does the task of a job under its policy and schemes, for a reader alone where there is one.
+/// Does the task of a job with what it has read.
 fn perform_task<H: Host, W: Write, E: Write>(
     alloc: Global,
     host: &mut H,
-    policy: &Policy,
-    file: &SchemesFile,
-    reader: Option<LabelNo>,
+    inputs: Inputs,
     job: Job,
     out: &mut W,
     err: &mut Errors<E>,
 ) -> Result<Ending, Refusal>
-    requires under { AreUnder (length policy.now.labels) file.now.schemes }
-    requires declared { IfSome reader (λ c. c < length policy.now.labels) }
-    ensures { IsTaskDeed (hosted H.hosting H.Lines.echo host.old host.new) policy.now file.now reader job.entry.task
+    requires ready { AreReady inputs }
+    requires user { HasUser job.task }
+    ensures { IsTaskDeed (hosted H.hosting H.Lines.echo host.old host.new) inputs (named job.entry.files.store) job.entry.task
         (deed W.contents out.old out.new E.contents err.old err.new result) }
 {
+    let store = job.files.store;
     match job.task {
-        Task::ShowPolicy => texts(alloc, policy, file)?.print(out, err),
-        Task::Picture => {
-            picture_of(alloc, host, policy, &file.schemes, job.documents)?.print(out, err)
+        Task::ShowPolicy => {
+            texts(alloc, &inputs.setting.policy, &inputs.setting.file)?.print(out, err)
         }
-        Task::Run(files) => {
-            run_files(alloc, host, policy, file, files, reader, out)?;
+        Task::Picture => picture_of(alloc, host, &inputs.setting, job.documents)?.print(out, err),
+        Task::Run { is_table, .. } => {
+            run_script(alloc, host, store, inputs, is_table, out)?;
             Ok(Ending::Well)
         }
-        Task::Shell(files) => shell_files(alloc, host, policy, file, files, reader, out, err),
-        Task::Certify { transactions } => {
-            certified(alloc, host, policy, &file.schemes, transactions)?.print(out, err)
+        Task::Shell { label, user } => {
+            run_shell(alloc, host, store, inputs, label, user, out, err)
         }
-        Task::Check {
-            transactions,
-            certificates,
-        } => {
-            let schemes = &file.schemes;
-            let listing = checked(alloc, host, policy, schemes, transactions, certificates)?;
+        Task::Certify => {
+            certified(alloc, &inputs.setting.policy, &inputs.transactions)?.print(out, err)
+        }
+        Task::Check => {
+            let policy = &inputs.setting.policy;
+            let listing = checked(alloc, policy, &inputs.transactions, &inputs.certificates)?;
             listing.print(out, err)
         }
-        Task::Explain { transactions, name } => {
-            explained(alloc, host, policy, &file.schemes, transactions, name)?.print(out, err)
+        Task::Explain { name } => {
+            let (policy, schemes) = (&inputs.setting.policy, &inputs.setting.file.schemes);
+            explained(alloc, policy, schemes, &inputs.transactions, name)?.print(out, err)
         }
     }
 }
@@ -77,10 +72,8 @@ fn perform<H: Host, W: Write, E: Write>(
     ensures { IsDeedOf (hosted H.hosting H.Lines.echo host.old host.new) job.entry
         (deed W.contents out.old out.new E.contents err.old err.new result) }
 {
-    let policy = policy_of(alloc, host, job.documents)?;
-    let reader = reader_of(&policy, job.task)?;
-    let file = schemes_of(alloc, host, &policy, job.documents)?;
-    perform_task(alloc, host, &policy, &file, reader, job, out, err)
+    let inputs = inputs_of(alloc, host, job)?;
+    perform_task(alloc, host, inputs, job, out, err)
 }
 
 /// Does a job, and answers the exit status. A refusal is told, and, where somebody reads standard error at a terminal, explained.
@@ -136,7 +129,7 @@ fn explain_inputs<H: Host, W: Write, E: Write>(
     err: &mut Errors<E>,
 ) -> u8
     ensures { Answers (hosted H.hosting H.Lines.echo host.now host.now)
-        (IsAccountOf (hosted H.hosting H.Lines.echo host.now host.now)) (texts_of words.now)
+        (IsAccountOf (H.hosting host.now)) (texts_of words.now)
         (IsAppended W.contents out.old out.new) (IsTold E.contents err.old err.new) result }
 {
     match job_of(alloc, words) {

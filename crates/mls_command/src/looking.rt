@@ -1,23 +1,20 @@
 //! The store that a command names, which is looked at and not opened.
-ghost use Rattle.std.specs.Prelude.{◌≡◌, ◌≢◌, [], Some, length, string_bytes, IfOk};
+ghost use Rattle.std.specs.Prelude.{◌≡◌, ◌≢◌, Some, string_bytes, IfOk};
 ghost use Rattle.std.specs.Option.{IfSome};
-ghost use Rattle.mls_scheme.specs.Scheme.{AreUnder};
+ghost use Rattle.mls_host.specs.Reading.{IsMadeWell};
 ghost use Rattle.mls_words.specs.Words.{named};
 ghost use Rattle.mls_host.specs.declared.host.StoreCause.TheVariants as causes;
 ghost use Rattle.mls_advice.specs.Excerpt.{Begins};
-ghost use Rattle.mls_command.specs.Looking.{store_of, IsSight, IsFound, found_text, found_ending, IsStoreAccount};
+ghost use Rattle.mls_command.specs.Looking.{IsSight, IsFound, found_text, found_ending, IsStoreAccount};
 
 use crate::accounting::listing_of;
-use crate::documents::{policy_of, schemes_of};
 use crate::telling::push_reason;
 use mls_advice::file_line;
 use mls_diagnosis::{Diagnosis, diagnosis_of};
 use mls_fragments::OpenFault;
-use mls_host::{Ending, Host, Reason, StoreCause};
-use mls_lattice::Policy;
+use mls_host::{Ending, Host, Reason, Setting, StoreCause, inputs_of};
 use mls_listings::Listing;
-use mls_scheme::SchemesFile;
-use mls_words::{Job, Task};
+use mls_words::Job;
 use std::alloc::{AllocError, Global};
 
 pub(crate) const ACCEPTED: &str = "All inputs are accepted.\n";
@@ -35,17 +32,6 @@ const JOURNAL: &str =
     "  SQLite left a journal beside the file.\n  Open the file with sqlite3, which plays it back.\n";
 
 const UNREADABLE: &str = "  The file cannot be read.\n  See to its disk.\n";
-
-/// The path of the store of a task.
-pub(crate) fn store_of<'a>(task: Task<'a>) -> Option<&'a str>
-    ensures { named result ≡ store_of task.entry }
-{
-    match task {
-        Task::Run(files) => files.store,
-        Task::Shell(files) => files.store,
-        _ => None,
-    }
-}
 
 /// Why the files of a store are not read, and what to do; none for want of memory.
 fn cause_text(cause: StoreCause) -> Option<&'static str>
@@ -80,32 +66,30 @@ fn hidden_by(alloc: Global, cause: StoreCause) -> Result<Diagnosis, AllocError>
 fn sight_of<H: Host>(
     alloc: Global,
     host: &H,
-    policy: &Policy,
-    file: &SchemesFile,
+    setting: &Setting,
     path: &str,
 ) -> Result<Diagnosis, AllocError>
-    requires under { AreUnder (length policy.now.labels) file.now.schemes }
-    ensures { IfOk result (λ d. IsSight (H.hosting host.now) policy.now file.now path.now d.fault) }
+    requires { IsMadeWell setting.now }
+    ensures { IfOk result (λ d. IsSight (H.hosting host.now) setting.now path.now d.fault) }
 {
     match host.store_files(alloc, path) {
-        Ok(files) => diagnosis_of(alloc, &files.log, &files.db, policy, file),
+        Ok(files) => diagnosis_of(alloc, &files.log, &files.db, &setting.policy, &setting.file),
         Err(cause) => hidden_by(alloc, cause),
     }
 }
 
-/// What is found of the store of a task: nothing wrong, where it names none.
+/// What is found of a store: nothing wrong, where none is named.
 fn found_of<H: Host>(
     alloc: Global,
     host: &H,
-    policy: &Policy,
-    file: &SchemesFile,
-    task: Task,
+    setting: &Setting,
+    store: Option<&str>,
 ) -> Result<Diagnosis, AllocError>
-    requires under { AreUnder (length policy.now.labels) file.now.schemes }
-    ensures { IfOk result (λ d. IsFound (H.hosting host.now) policy.now file.now (store_of task.entry) d.fault) }
+    requires { IsMadeWell setting.now }
+    ensures { IfOk result (λ d. IsFound (H.hosting host.now) setting.now (named store.entry) d.fault) }
 {
-    match store_of(task) {
-        Some(path) => sight_of(alloc, host, policy, file, path),
+    match store {
+        Some(path) => sight_of(alloc, host, setting, path),
         None => Ok(Diagnosis {
             fault: None,
             text: Vec::new(alloc),
@@ -114,8 +98,8 @@ fn found_of<H: Host>(
 }
 
 /// The file of a store, and what is found of it.
-fn lines_of(alloc: Global, task: Task, found: &Diagnosis) -> Result<Vec<u8>, AllocError> {
-    let mut text = match store_of(task) {
+fn lines_of(alloc: Global, store: Option<&str>, found: &Diagnosis) -> Result<Vec<u8>, AllocError> {
+    let mut text = match store {
         Some(path) => file_line(alloc, path)?.into_bytes(),
         None => Vec::new(alloc),
     };
@@ -124,13 +108,13 @@ fn lines_of(alloc: Global, task: Task, found: &Diagnosis) -> Result<Vec<u8>, All
 }
 
 /// The line that tells that all inputs are accepted, or why the store is not opened, with what is found of it.
-fn found_text(alloc: Global, task: Task, found: &Diagnosis) -> Result<Vec<u8>, AllocError>
+fn found_text(alloc: Global, store: Option<&str>, found: &Diagnosis) -> Result<Vec<u8>, AllocError>
     ensures { IfOk result (λ v. Begins (found_text found.now.fault) v.items) }
 {
     match found.fault {
         None => Vec::from_slice(alloc, ACCEPTED.as_bytes()),
         Some(fault) => {
-            let lines = lines_of(alloc, task, found)?;
+            let lines = lines_of(alloc, store, found)?;
             let mut text = Vec::new(alloc);
             push_reason(&mut text, &Reason::Store(fault))?;
             text.extend_from_slice(&lines)?;
@@ -149,37 +133,33 @@ fn found_ending(found: &Diagnosis) -> Ending
     }
 }
 
-/// What is told where all inputs are accepted: of the store, where the task names one, and other lines.
+/// What is told where all inputs are accepted: of the store, where one is named, and other lines.
 pub(crate) fn store_account<H: Host>(
     alloc: Global,
     host: &H,
-    policy: &Policy,
-    file: &SchemesFile,
-    task: Task,
+    setting: &Setting,
+    store: Option<&str>,
     lines: &str,
 ) -> Result<Listing, AllocError>
-    requires under { AreUnder (length policy.now.labels) file.now.schemes }
-    ensures { IfOk result (λ l. IsStoreAccount (H.hosting host.now) policy.now file.now (store_of task.entry)
-        l.text.items (string_bytes l.told) l.ending) }
+    requires { IsMadeWell setting.now }
+    ensures { IfOk result (λ l. IsStoreAccount (H.hosting host.now) setting.now (named store.entry) l.text.items
+        (string_bytes l.told) l.ending) }
 {
-    let found = found_of(alloc, host, policy, file, task)?;
-    let mut text = found_text(alloc, task, &found)?;
+    let found = found_of(alloc, host, setting, store)?;
+    let mut text = found_text(alloc, store, &found)?;
     text.extend_from_slice(lines.as_bytes())?;
     Ok(listing_of(alloc, text, found_ending(&found)))
 }
 
-/// What is told of the store of a job that was not opened, whose policy and schemes are read once more.
+/// What is told of the store of a job that was not opened, whose inputs are read once more.
 pub(crate) fn store_lines<H: Host>(
     alloc: Global,
     host: &H,
     job: Job,
 ) -> Result<Vec<u8>, AllocError> {
-    let Ok(policy) = policy_of(alloc, host, job.documents) else {
+    let Ok(inputs) = inputs_of(alloc, host, job) else {
         return Ok(Vec::new(alloc));
     };
-    let Ok(file) = schemes_of(alloc, host, &policy, job.documents) else {
-        return Ok(Vec::new(alloc));
-    };
-    let found = found_of(alloc, host, &policy, &file, job.task)?;
-    lines_of(alloc, job.task, &found)
+    let found = found_of(alloc, host, &inputs.setting, job.files.store)?;
+    lines_of(alloc, job.files.store, &found)
 }

@@ -27,7 +27,7 @@ pub(crate) fn opening_denial(policy: &Policy, reader: Option<LabelNo>, task: Tas
     ensures { result ≡ opening_denial policy.now reader task.entry }
 {
     match (reader, task) {
-        (Some(level), Task::Shell(files)) => denial_at(policy, level, files.user),
+        (Some(level), Task::Shell { user, .. }) => denial_at(policy, level, user),
         _ => None,
     }
 }
@@ -65,10 +65,9 @@ fn denied_lines(
     task: Task,
     denial: Denial,
 ) -> Result<String, AllocError> {
-    let Task::Shell(files) = task else {
+    let Task::Shell { label, user } = task else {
         return Ok(String::new(alloc));
     };
-    let (user, label) = (files.user, files.label);
     match (denial, policy.user(user)) {
         (Denial::Ss, Some(known)) => {
             let clearance = policy.name(policy.clearance(known));

@@ -1,10 +1,10 @@
 //! Which file of a command is refused, and at which place.
 ghost use Rattle.std.specs.Prelude.{◌≡◌};
 ghost use Rattle.mls_words.specs.Words.{named};
-ghost use Rattle.mls_command.specs.Telling.{place_of, role_of, transactions_of, certificates_of, script_of, policy_of, schemes_of, path_of, source_of};
+ghost use Rattle.mls_command.specs.Telling.{place_of, role_of, policy_of, schemes_of, path_of, source_of};
 
 use mls_host::{Reason, Role};
-use mls_words::{Job, Task};
+use mls_words::Job;
 
 /// A line of an input, and a place in it.
 #[derive(Clone, Copy)]
@@ -49,39 +49,6 @@ fn role_of(reason: &Reason) -> Option<Role>
     }
 }
 
-fn transactions_of<'a>(task: Task<'a>) -> Option<&'a str>
-    ensures { named result ≡ transactions_of task.entry }
-{
-    match task {
-        Task::Run(files) => files.transactions,
-        Task::Shell(files) => files.transactions,
-        Task::Certify { transactions } => Some(transactions),
-        Task::Check { transactions, .. } => Some(transactions),
-        Task::Explain { transactions, .. } => Some(transactions),
-        Task::ShowPolicy | Task::Picture => None,
-    }
-}
-
-fn certificates_of<'a>(task: Task<'a>) -> Option<&'a str>
-    ensures { named result ≡ certificates_of task.entry }
-{
-    match task {
-        Task::Run(files) => files.certificates,
-        Task::Shell(files) => files.certificates,
-        Task::Check { certificates, .. } => Some(certificates),
-        _ => None,
-    }
-}
-
-fn script_of<'a>(task: Task<'a>) -> Option<&'a str>
-    ensures { named result ≡ script_of task.entry }
-{
-    match task {
-        Task::Run(files) => files.script,
-        _ => None,
-    }
-}
-
 fn policy_of<'a>(job: Job<'a>) -> Option<&'a str>
     ensures { named result ≡ policy_of job.entry.documents }
 {
@@ -107,9 +74,9 @@ fn path_of<'a>(job: Job<'a>, role: Role) -> Option<&'a str>
     match role {
         Role::Policy => policy_of(job),
         Role::Schemes => schemes_of(job),
-        Role::Transactions => transactions_of(job.task),
-        Role::Certificates => certificates_of(job.task),
-        Role::Script => script_of(job.task),
+        Role::Transactions => job.files.transactions,
+        Role::Certificates => job.files.certificates,
+        Role::Script => job.files.script,
         Role::Store => None,
     }
 }

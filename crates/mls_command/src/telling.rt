@@ -3,16 +3,17 @@ ghost use Rattle.std.specs.Prelude.{◌≡◌, ◌++◌, [], List, ℕ, false, s
 ghost use Rattle.mls_host.specs.Hosting.{IsTold};
 ghost use Rattle.mls_host.specs.Reason.{reason_text};
 ghost use Rattle.mls_words.specs.Words.{named};
-ghost use Rattle.mls_command.specs.Telling.{place_of, source_of, IsPlaceTold, IsToldOf, IsMore};
+ghost use Rattle.mls_command.specs.Telling.{place_of, source_of, IsPlaceTold, IsToldOf};
+ghost use Rattle.mls_host.specs.Telling.{IsMore};
 
-use crate::documents::{ignored_of, policy_of, schemes_of};
+use crate::documents::ignored_of;
 use crate::looking::store_lines;
 use crate::paths::{place_of, source_of};
 use mls_advice::{
     advice_of, declared_names, excerpt, file_line, form_at, kinds_at, nearest_line, policy_lines,
     schemes_lines, token_at,
 };
-use mls_host::{Errors, Host, Reason, Refusal};
+use mls_host::{Errors, Host, Reason, Refusal, policy_of, schemes_of};
 use mls_lattice::{Policy, Str};
 use mls_scheme::SchemesFile;
 use mls_words::Job;

@@ -28,7 +28,7 @@ use Rattle.mls_fragments.specs.declared.open_fault.OpenFault.{OpenFault}
 use Rattle.mls_fragments.specs.declared.open_fault.OpenFault.TheVariants as stores
 use Rattle.mls_words.specs.declared.words.Documents.{Documents}
 use Rattle.mls_words.specs.declared.words.Task.{Task}
-use Rattle.mls_words.specs.declared.words.Task.TheVariants.{Shell}
+use Rattle.mls_words.specs.declared.words.Task.TheVariants.{Run, Shell}
 use Rattle.mls_words.specs.Words.{at_of}
 use Rattle.mls_host.specs.declared.samples.TheConstants.{POLICY, SCHEMES}
 use Rattle.mls_host.specs.declared.host.HostFault.{HostFault}
@@ -38,7 +38,6 @@ use Rattle.mls_host.specs.declared.reason.Reason.{Reason}
 use Rattle.mls_host.specs.declared.reason.Reason.TheVariants.{Policy, Reader, Label, Schemes as OfSchemes, Transactions}
 use Rattle.mls_host.specs.declared.reason.Reason.TheVariants.{Certificates, Script, Store, Memory}
 use Rattle.mls_host.specs.Hosting.{Hosting}
-use Rattle.mls_host.specs.Inputs.{AreTransactionsFrom}
 use Rattle.mls_host.specs.Reason.{input_reason}
 
 -- ---- bytes that a reader refuses, and why; memory may stand in place of any cause
@@ -93,7 +92,7 @@ pub data AreTextsRefused (transactions certificates : List ℕ) (policy : Tables
 
 -- what is told where no label has the name for which a task prints, or at which its shell is
 abbrev pub no_reader : Task → Reason
-no_reader (Shell files) = Label
+no_reader (Shell label user) = Label
 no_reader task = Reader
 
 abbrev pub IsReaderUnknown : Tables → Task → Reason → Type 0
@@ -138,17 +137,16 @@ module _ (h : Hosting) where
   AreCertificatesRefused None reason = ⊥
   AreCertificatesRefused (Some path) reason = IsInputRefused role.Certificates (Some path) RefusesCertificates reason
 
-  -- the transactions are refused; or they are read, and the certificates are refused; or memory
-  pub data AreFilesRefused (transactions certificates : Option (List ℕ)) (policy : Tables) (schemes : Schemes)
-      (reason : Reason) : Type 0 where
-    no_transactions : AreTransactionsRefused transactions policy schemes reason
-        → AreFilesRefused transactions certificates policy schemes reason
-    no_certificates : (txs : List Tx) → AreTransactionsFrom h.gives transactions policy schemes txs
-        → AreCertificatesRefused certificates reason
-        → AreFilesRefused transactions certificates policy schemes reason
-    no_memory : reason ≡ Memory → AreFilesRefused transactions certificates policy schemes reason
+  abbrev pub AreEventsRefused : Task → Option (List ℕ) → Tables → Schemes → Reason → Type 0
+  AreEventsRefused (Run at is_table) source policy schemes reason = IsScriptRefused source policy schemes reason
+  AreEventsRefused task source policy schemes reason = ⊥
 
   -- a store in memory lacks memory alone; one at a path is not opened for what the host says
   abbrev pub IsBarred : Tables → SchemesFile → Option (List ℕ) → Reason → Type 0
   IsBarred policy file None reason = reason ≡ Store stores.Memory
   IsBarred policy file (Some path) reason = (fault : OpenFault) × h.bars path policy file fault × (reason ≡ Store fault)
+
+  -- what is done over a store is not begun: there is no memory for what it needs; or its store is barred
+  pub data IsNotBegun (policy : Tables) (file : SchemesFile) (store : Option (List ℕ)) (reason : Reason) : Type 0 where
+    no_memory : reason ≡ Memory → IsNotBegun policy file store reason
+    no_store : IsBarred policy file store reason → IsNotBegun policy file store reason

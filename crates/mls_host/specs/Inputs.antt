@@ -17,6 +17,7 @@ use Rattle.mls_machine.specs.declared.stored.Stored.{Stored}
 use Rattle.mls_host.specs.declared.samples.TheConstants.{POLICY, SCHEMES}
 use Rattle.mls_words.specs.declared.words.Documents.{Documents}
 use Rattle.mls_words.specs.declared.words.Task.{Task}
+use Rattle.mls_words.specs.declared.words.Task.TheVariants.{Run}
 use Rattle.mls_words.specs.Words.{at_of}
 use Rattle.mls_host.specs.Storing.{AreStoredWith}
 
@@ -74,11 +75,7 @@ module _ (Gives : Option (List ℕ) → List ℕ → Type 0) where
   AreCertificatesFrom None blocks = blocks ≡ []
   AreCertificatesFrom (Some path) blocks = AreBlocksIn path blocks
 
-  -- the transactions of one file, each with the first certificate of its name in another where that holds for it
-  pub record AreStoredFrom (transactions certificates : Option (List ℕ)) (policy : Tables) (schemes : Schemes)
-      (stored : List Stored) : Type 0 where
-    pub txs : List Tx
-    pub blocks : List Block
-    pub told : AreTransactionsFrom transactions policy schemes txs
-    pub certified : AreCertificatesFrom certificates blocks
-    pub each : AreStoredWith policy blocks txs stored
+  -- those of the script of a run; no other task has any
+  abbrev pub AreEventsOf : Task → Option (List ℕ) → Tables → Schemes → List Event → Type 0
+  AreEventsOf (Run at is_table) source policy schemes events = IsScriptFrom source policy schemes events
+  AreEventsOf task source policy schemes events = events ≡ []

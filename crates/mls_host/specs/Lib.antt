@@ -9,3 +9,4 @@ pub mod Telling
 pub mod Causes
 pub mod Stopping
 pub mod Deed
+pub mod Reading

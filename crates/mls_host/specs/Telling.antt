@@ -1,5 +1,5 @@
--- What is told of lines that are typed.
-use Rattle.std.specs.Prelude.{ℕ, List, ◌++◌, codes}
+-- What is told of lines that are typed, and what is told beside it.
+use Rattle.std.specs.Prelude.{◌≡◌, ℕ, Bool, false, List, [], ◌++◌, codes}
 use Rattle.std.specs.Fmt.{decimal}
 use Rattle.mls_script.specs.declared.fault.ScriptCause.{ScriptCause}
 use Rattle.mls_script.specs.Fault as faults
@@ -15,3 +15,10 @@ abbrev pub fault_told : ℕ → ℕ → ScriptCause → List ℕ
 fault_told number column cause =
     codes "mldb: line " ++ decimal number ++ codes ": " ++ decimal (faults.code_of cause) ++ codes " "
     ++ faults.word_of cause ++ codes " at " ++ decimal column ++ codes "\n"
+
+-- a text by which more is told where somebody reads standard error, to explain what was refused: any text there, and none
+-- elsewhere
+pub record IsMore (is_watched : Bool) (Then : List ℕ → Type 0) : Type 0 where
+  pub more : List ℕ
+  pub none : is_watched ≡ false → more ≡ []
+  pub leads : Then more

@@ -6,18 +6,25 @@ ghost use Rattle.mls_scheme.specs.Scheme.{AreUnder};
 ghost use Rattle.mls_translang.specs.Fits.{IsReadUnder};
 ghost use Rattle.mls_lattice.specs.ReadsPolicy.{ReadsPolicy};
 ghost use Rattle.mls_scheme.specs.Document.{ReadsSchemes};
-ghost use Rattle.mls_host.specs.Causes.{IsNotGiven, IsInputRefused, RefusesPolicy, RefusesSchemes, AreTransactionsRefused, AreCertificatesRefused, no_reader, IsReaderUnknown};
-ghost use Rattle.mls_host.specs.Inputs.{IsFrom, IsReader, AreToldIn, AreBlocksIn, AreTransactionsFrom, AreCertificatesFrom};
+ghost use Rattle.mls_script.specs.Event.{EventFits};
+ghost use Rattle.mls_host.specs.Causes.{IsNotGiven, IsInputRefused, RefusesPolicy, RefusesSchemes, IsPolicyRefused, AreSchemesRefused};
+ghost use Rattle.mls_host.specs.Causes.{AreTransactionsRefused, AreCertificatesRefused, IsScriptRefused, AreEventsRefused, no_reader, IsReaderUnknown};
+ghost use Rattle.mls_host.specs.Inputs.{IsFrom, IsPolicyOf, AreSchemesOf, IsReader, AreToldIn, AreBlocksIn, AreTransactionsFrom, AreCertificatesFrom};
+ghost use Rattle.mls_host.specs.Inputs.{IsScriptFrom, AreEventsOf};
 ghost use Rattle.mls_words.specs.Words.{named};
 
 use crate::host::{Host, HostFault};
-use crate::readers::{read_certificates, read_policy, read_schemes, read_transactions};
+use crate::readers::{
+    read_certificates, read_policy, read_schemes, read_script, read_transactions,
+};
 use crate::reason::{Reason, Role};
+use crate::samples;
 use mls_certificate::Certificate;
 use mls_lattice::{Items, LabelNo, Policy, Str};
 use mls_scheme::{Schemes, SchemesFile};
+use mls_script::Event;
 use mls_translang::Tx;
-use mls_words::Task;
+use mls_words::{Documents, Job, Task};
 use std::alloc::Global;
 
 /// What the host gives for a file, or, with no path, for the standard input.
@@ -32,7 +39,7 @@ fn given_of<H: Host>(alloc: Global, host: &H, path: Option<&str>) -> Result<Vec<
 }
 
 /// The bytes of a file, or, with no path, of the standard input.
-pub fn input_of<H: Host>(
+fn input_of<H: Host>(
     alloc: Global,
     host: &H,
     role: Role,
@@ -48,7 +55,7 @@ pub fn input_of<H: Host>(
 }
 
 /// The policy of a file.
-pub fn policy_in<H: Host>(alloc: Global, host: &H, path: &str) -> Result<Policy, Reason>
+fn policy_in<H: Host>(alloc: Global, host: &H, path: &str) -> Result<Policy, Reason>
     ensures policy { IfOk result (λ policy. IsFrom (H.hosting host.now).gives (Some path.now)
         (λ bytes. ReadsPolicy bytes policy)) }
     ensures refused { IfErr result (IsInputRefused (H.hosting host.now) Role.Policy (Some path.now) RefusesPolicy) }
@@ -57,8 +64,23 @@ pub fn policy_in<H: Host>(alloc: Global, host: &H, path: &str) -> Result<Policy,
     read_policy(alloc, &bytes)
 }
 
+/// The policy of a file, or that of the samples.
+pub fn policy_of<H: Host>(
+    alloc: Global,
+    host: &H,
+    documents: Option<Documents>,
+) -> Result<Policy, Reason>
+    ensures policy { IfOk result (IsPolicyOf (H.hosting host.now).gives documents.entry) }
+    ensures refused { IfErr result (IsPolicyRefused (H.hosting host.now) documents.entry) }
+{
+    match documents {
+        None => read_policy(alloc, samples::POLICY.as_bytes()),
+        Some(files) => policy_in(alloc, host, files.policy),
+    }
+}
+
 /// The schemes of a file.
-pub fn schemes_in<H: Host>(
+fn schemes_in<H: Host>(
     alloc: Global,
     host: &H,
     policy: &Policy,
@@ -74,18 +96,35 @@ pub fn schemes_in<H: Host>(
     read_schemes(alloc, policy, &bytes)
 }
 
+/// The schemes of a file, or those of the samples.
+pub fn schemes_of<H: Host>(
+    alloc: Global,
+    host: &H,
+    policy: &Policy,
+    documents: Option<Documents>,
+) -> Result<SchemesFile, Reason>
+    ensures schemes { IfOk result (AreSchemesOf (H.hosting host.now).gives documents.entry policy.now) }
+    ensures under { IfOk result (λ file. AreUnder (length policy.now.labels) file.schemes) }
+    ensures refused { IfErr result (AreSchemesRefused (H.hosting host.now) documents.entry policy.now) }
+{
+    match documents {
+        None => read_schemes(alloc, policy, samples::SCHEMES.as_bytes()),
+        Some(files) => schemes_in(alloc, host, policy, files.schemes),
+    }
+}
+
 /// Why a task has no reader.
 fn no_reader(task: Task) -> Reason
     ensures { result ≡ no_reader task.entry }
 {
     match task {
-        Task::Shell(_) => Reason::Label,
+        Task::Shell { .. } => Reason::Label,
         _ => Reason::Reader,
     }
 }
 
 /// The label of the name for which alone a task prints, if it names one.
-pub fn reader_of(policy: &Policy, task: Task) -> Result<Option<LabelNo>, Reason>
+pub(crate) fn reader_of(policy: &Policy, task: Task) -> Result<Option<LabelNo>, Reason>
     ensures named { IfOk result (IsReader policy.now task.entry) }
     ensures declared { IfOk result (λ reader. IfSome reader (λ c. c < length policy.now.labels)) }
     ensures unknown { IfErr result (IsReaderUnknown policy.now task.entry) }
@@ -100,7 +139,7 @@ pub fn reader_of(policy: &Policy, task: Task) -> Result<Option<LabelNo>, Reason>
 }
 
 /// The transactions of a file.
-pub fn transactions_in<H: Host>(
+fn transactions_in<H: Host>(
     alloc: Global,
     host: &H,
     policy: &Policy,
@@ -137,7 +176,7 @@ pub(crate) fn transactions_of<H: Host>(
 }
 
 /// The certificates of a file, with the names of their transactions.
-pub fn certificates_in<H: Host>(
+fn certificates_in<H: Host>(
     alloc: Global,
     host: &H,
     path: &str,
@@ -162,5 +201,42 @@ pub(crate) fn certificates_of<H: Host>(
     match path {
         None => Ok(Vec::new(alloc)),
         Some(path) => certificates_in(alloc, host, path),
+    }
+}
+
+/// The events of a script, in a file or on the standard input.
+fn script_in<H: Host>(
+    alloc: Global,
+    host: &H,
+    policy: &Policy,
+    schemes: &Schemes,
+    path: Option<&str>,
+) -> Result<Vec<Event>, Reason>
+    ensures read { IfOk result (λ events. IsScriptFrom (H.hosting host.now).gives
+        (named path.entry) policy.now schemes.now events.items) }
+    ensures fits { IfOk result (λ events. AllByRecursion (EventFits policy.now schemes.now) events.items) }
+    ensures refused { IfErr result (IsScriptRefused (H.hosting host.now) (named path.entry) policy.now schemes.now) }
+{
+    let bytes = input_of(alloc, host, Role::Script, path)?;
+    read_script(alloc, policy, schemes, &bytes)
+}
+
+/// The events of the script of a run; no other task has any.
+pub(crate) fn events_of<H: Host>(
+    alloc: Global,
+    host: &H,
+    policy: &Policy,
+    schemes: &Schemes,
+    job: Job,
+) -> Result<Vec<Event>, Reason>
+    ensures read { IfOk result (λ events. AreEventsOf (H.hosting host.now).gives job.entry.task
+        (named job.entry.files.script) policy.now schemes.now events.items) }
+    ensures fits { IfOk result (λ events. AllByRecursion (EventFits policy.now schemes.now) events.items) }
+    ensures refused { IfErr result (AreEventsRefused (H.hosting host.now) job.entry.task (named job.entry.files.script)
+        policy.now schemes.now) }
+{
+    match job.task {
+        Task::Run { .. } => script_in(alloc, host, policy, schemes, job.files.script),
+        _ => Ok(Vec::new(alloc)),
     }
 }

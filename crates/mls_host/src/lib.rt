@@ -6,7 +6,9 @@ mod errors;
 mod form;
 mod host;
 mod inputs;
+mod job;
 mod readers;
+mod reading;
 mod reason;
 mod refusal;
 pub mod samples;
@@ -17,10 +19,10 @@ pub use crate::ending::{Ending, ending_if};
 pub use crate::errors::Errors;
 pub use crate::form::form_of;
 pub use crate::host::{CloseFault, Host, HostFault, StoreCause, StoreFiles, read_whole};
-pub use crate::inputs::{
-    certificates_in, input_of, policy_in, reader_of, schemes_in, transactions_in,
-};
-pub use crate::readers::{read_policy, read_schemes, read_script};
+pub use crate::inputs::{policy_of, schemes_of};
+pub use crate::job::{Inputs, Setting};
+pub use crate::readers::read_script;
+pub use crate::reading::inputs_of;
 pub use crate::reason::{Reason, Role};
 pub use crate::refusal::{Refusal, ended};
-pub use crate::storing::{cert_named, stored_files, stored_from};
+pub use crate::storing::{cert_named, stored_from, stored_of};

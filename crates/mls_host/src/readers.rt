@@ -21,7 +21,7 @@ use mls_translang::Tx;
 use std::alloc::Global;
 
 /// A policy.
-pub fn read_policy(alloc: Global, bytes: &[u8]) -> Result<Policy, Reason>
+pub(crate) fn read_policy(alloc: Global, bytes: &[u8]) -> Result<Policy, Reason>
     ensures read { IfOk result (ReadsPolicy bytes.now) }
     ensures refused { IfErr result (RefusesPolicy bytes.now) }
 {
@@ -32,7 +32,11 @@ pub fn read_policy(alloc: Global, bytes: &[u8]) -> Result<Policy, Reason>
 }
 
 /// Schemes under a policy.
-pub fn read_schemes(alloc: Global, policy: &Policy, bytes: &[u8]) -> Result<SchemesFile, Reason>
+pub(crate) fn read_schemes(
+    alloc: Global,
+    policy: &Policy,
+    bytes: &[u8],
+) -> Result<SchemesFile, Reason>
     ensures read { IfOk result (λ file. ReadsSchemes policy.now bytes.now file.version file.schemes) }
     ensures under { IfOk result (λ file. AreUnder (length policy.now.labels) file.schemes) }
     ensures refused { IfErr result (RefusesSchemes policy.now bytes.now) }

@@ -1,14 +1,11 @@
 //! Transactions as they are stored: with the certificates that hold for them, or without.
 ghost use Rattle.std.specs.Prelude.{◌≡◌, IfOk, IfErr, option_map};
 ghost use Rattle.mls_machine.specs.Observation.{AreRead, AreCertified};
-ghost use Rattle.mls_host.specs.Causes.{AreFilesRefused, AreTextsRefused};
-ghost use Rattle.mls_host.specs.Inputs.{AreStoredFrom, AreStoredOf};
+ghost use Rattle.mls_host.specs.Causes.{AreTextsRefused};
+ghost use Rattle.mls_host.specs.Inputs.{AreStoredOf};
 ghost use Rattle.mls_host.specs.Running.{site_of};
 ghost use Rattle.mls_host.specs.Storing.{cert_named, IsChecked, IsStoredWith, AreStoredWith};
-ghost use Rattle.mls_words.specs.Words.{named};
 
-use crate::host::Host;
-use crate::inputs::{certificates_of, transactions_of};
 use crate::readers::{read_certificates, read_transactions};
 use crate::reason::Reason;
 use mls_certcheck::Certified;
@@ -52,7 +49,7 @@ fn stored_as(policy: &Policy, blocks: &[(Str, Certificate)], tx: Tx) -> Result<S
 
 /// Transactions as they are stored, in order: each with the first certificate of its name where that holds for it under the policy.
 /// Certificates of other names are ignored.
-pub(crate) fn stored_of(
+pub fn stored_of(
     alloc: Global,
     policy: &Policy,
     txs: Items<Tx>,
@@ -83,27 +80,5 @@ pub fn stored_from(
 {
     let txs = read_transactions(alloc, policy, schemes, transactions)?;
     let blocks = read_certificates(alloc, certificates)?;
-    Ok(stored_of(alloc, policy, txs, &blocks)?)
-}
-
-/// What a run or a shell stores.
-#[tactic(auto, using(crate::proofs::StoringLemmas::stored_read))]
-pub fn stored_files<H: Host>(
-    alloc: Global,
-    host: &H,
-    policy: &Policy,
-    schemes: &Schemes,
-    transactions: Option<&str>,
-    certificates: Option<&str>,
-) -> Result<Items<Stored>, Reason>
-    ensures from { IfOk result (AreStoredFrom (H.hosting host.now).gives (named transactions.entry)
-        (named certificates.entry) policy.now schemes.now) }
-    ensures read { IfOk result (λ ss. AreRead (site_of policy.now schemes.now ss)) }
-    ensures certified { IfOk result (λ ss. AreCertified (site_of policy.now schemes.now ss)) }
-    ensures refused { IfErr result (AreFilesRefused (H.hosting host.now) (named transactions.entry)
-        (named certificates.entry) policy.now schemes.now) }
-{
-    let txs = transactions_of(alloc, host, policy, schemes, transactions)?;
-    let blocks = certificates_of(alloc, host, certificates)?;
     Ok(stored_of(alloc, policy, txs, &blocks)?)
 }

@@ -1,10 +1,9 @@
 -- What the command certify prints: for each transaction the least certificate that holds for it, if there is one.
-use Rattle.std.specs.Prelude.{◌≡◌, ℕ, Bool, true, false, if◌then◌else◌, List, [], ◌++◌, codes, string_bytes, Option}
+use Rattle.std.specs.Prelude.{◌≡◌, ℕ, Bool, true, false, if◌then◌else◌, List, [], ◌++◌, codes}
 use Rattle.std.specs.Prelude.{Err}
 use Rattle.std.specs.List.{flat_map, list_any, AllZip}
 use Rattle.std.specs.Fmt.{decimal}
 use Rattle.mls_lattice.specs.Policy.{Name, Tables}
-use Rattle.mls_scheme.specs.Scheme.{Schemes}
 use Rattle.mls_translang.specs.Tx.{Tx}
 use Rattle.mls_certificate.specs.declared.cert.Cert.{Cert}
 use Rattle.mls_certificate.specs.declared.cert.Cert2.{Cert2}
@@ -23,8 +22,6 @@ use Rattle.mls_host.specs.declared.ending.Ending.TheVariants.{Well, Refused}
 use Rattle.mls_listings.specs.declared.certifying.Labels.{Labels}
 use Rattle.mls_listings.specs.declared.certifying.Labels.TheVariants.{Least, Missing}
 use Rattle.mls_listings.specs.declared.certifying.Answer.{Answer}
-use Rattle.mls_listings.specs.declared.listing.Listing.{Listing}
-use Rattle.mls_host.specs.Inputs.{AreToldIn}
 
 module _ (policy : Tables) (tx : Tx) where
   -- the rules hold under a certificate
@@ -104,19 +101,8 @@ abbrev pub ending_of : List Answer → Ending
 ending_of answers = if list_any has_none answers then Refused else Well
 
 -- blocks on standard output, lines of those without one on standard error, and how it ends
-pub record IsListing (policy : Tables) (txs : List Tx) (listing : Listing) : Type 0 where
+pub record IsCertified (policy : Tables) (txs : List Tx) (text told : List ℕ) (end : Ending) : Type 0 where
   pub answers : List Answer
-  pub labels : AreAnswers policy txs answers
-  pub text : listing.text.items ≡ flat_map block_of answers
-  pub told : string_bytes listing.told ≡ flat_map refusal_of answers
-  pub outcome : listing.ending ≡ ending_of answers
-
--- what is printed and told of the transactions of a file
-pub record IsCertified (Gives : Option (List ℕ) → List ℕ → Type 0) (policy : Tables) (schemes : Schemes)
-    (path text told : List ℕ) (end : Ending) : Type 0 where
-  pub txs : List Tx
-  pub answers : List Answer
-  pub txs_are : AreToldIn Gives path policy schemes txs
   pub labels : AreAnswers policy txs answers
   pub text_is : text ≡ flat_map block_of answers
   pub told_is : told ≡ flat_map refusal_of answers

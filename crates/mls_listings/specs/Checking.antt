@@ -4,7 +4,6 @@ use Rattle.std.specs.Prelude.{Result, Ok, Err}
 use Rattle.std.specs.List.{flat_map, list_any}
 use Rattle.std.specs.Fmt.{decimal}
 use Rattle.mls_lattice.specs.Policy.{Name, Tables}
-use Rattle.mls_scheme.specs.Scheme.{Schemes}
 use Rattle.mls_translang.specs.Tx.{Tx}
 use Rattle.mls_certificate.specs.declared.cert.Certificate.{Certificate}
 use Rattle.mls_certificate.specs.Reading.{Block}
@@ -12,7 +11,6 @@ use Rattle.mls_certcheck.specs.Rules.{claim}
 use Rattle.mls_certcheck.specs.Checks.{First}
 use Rattle.mls_certcheck.specs.Refusal.{text_of}
 use Rattle.mls_certcheck.specs.declared.refusal.Refusal.{Refusal}
-use Rattle.mls_host.specs.Inputs.{AreToldIn, AreBlocksIn}
 use Rattle.mls_host.specs.Storing.{cert_named}
 use Rattle.mls_host.specs.declared.ending.Ending.{Ending}
 use Rattle.mls_host.specs.declared.ending.Ending.TheVariants.{Well, Refused}
@@ -47,14 +45,9 @@ verdict_text name Missing = name ++ codes " no certificate\n"
 abbrev pub line_of : Tables → List Block → Tx → List ℕ
 line_of policy blocks tx = verdict_text tx.name (verdict_of policy blocks tx)
 
--- a line for each transaction of a file in order, with the certificates of
--- another; it is refused just where one is not yes
-pub record IsChecked (Gives : Option (List ℕ) → List ℕ → Type 0) (policy : Tables) (schemes : Schemes)
-    (path certificates text told : List ℕ) (end : Ending) : Type 0 where
-  pub txs : List Tx
-  pub blocks : List Block
-  pub txs_are : AreToldIn Gives path policy schemes txs
-  pub blocks_are : AreBlocksIn Gives certificates blocks
+-- a line for each transaction in order; it is refused just where one is not yes
+pub record IsChecked (policy : Tables) (txs : List Tx) (blocks : List Block) (text told : List ℕ)
+    (end : Ending) : Type 0 where
   pub text_is : text ≡ flat_map (line_of policy blocks) txs
   pub told_is : told ≡ []
   pub end_is : end ≡ (if list_any (λ tx. is_refused (verdict_of policy blocks tx)) txs then Refused else Well)

@@ -1,19 +1,15 @@
 -- What the command explain tells: what came of the least labels of each transaction of a file, or of the one of a name.
-use Rattle.std.specs.Prelude.{◌≡◌, ℕ, Bool, false, not, List, [], ◌∷◌, Option, None, Some, Contains}
-use Rattle.std.specs.List.{list_any, AllZip}
+use Rattle.std.specs.Prelude.{◌≡◌, ℕ, Bool, false, not, List, [], ◌∷◌, Option, None, Some, Contains, string_bytes}
+use Rattle.std.specs.List.{flat_map, list_any, AllZip}
 use Rattle.std.specs.Str.{bytes_eq}
 use Rattle.mls_lattice.specs.Policy.{Name, Tables}
-use Rattle.mls_scheme.specs.Scheme.{Schemes}
 use Rattle.mls_translang.specs.Tx.{Tx}
 use Rattle.mls_explain.specs.declared.explaining.Explained.{Explained}
 use Rattle.mls_explain.specs.Explaining.{IsOutcome, has_labels}
 use Rattle.mls_host.specs.declared.ending.Ending.{Ending}
 use Rattle.mls_host.specs.declared.reason.Reason.{Reason}
 use Rattle.mls_host.specs.declared.reason.Reason.TheVariants as reasons
-use Rattle.mls_host.specs.Hosting.{Hosting}
-use Rattle.mls_host.specs.Causes.{AreFilesRefused}
 use Rattle.mls_host.specs.Ending.{ending_if}
-use Rattle.mls_host.specs.Inputs.{AreToldIn}
 
 -- all are chosen; or the one that has the name
 abbrev pub AreChosen : Option Name → List Tx → List Tx → Type 0
@@ -31,22 +27,18 @@ AreExplained policy = AllZip (λ tx e. IsOutcome policy tx e.outcome)
 abbrev pub lacks_labels : Explained → Bool
 lacks_labels e = not (has_labels e.outcome)
 
--- what came of the transactions of a file is told, in a text of which nothing is said, and nothing is told on standard error
-pub record IsExplained (Gives : Option (List ℕ) → List ℕ → Type 0) (policy : Tables) (schemes : Schemes) (path : List ℕ)
-    (name : Option Name) (text told : List ℕ) (end : Ending) : Type 0 where
-  pub txs : List Tx
+-- what came of each transaction is told, one behind the other, and nothing on standard error
+pub record IsExplained (policy : Tables) (txs : List Tx) (name : Option Name) (text told : List ℕ)
+    (end : Ending) : Type 0 where
   pub chosen : List Tx
   pub explained : List Explained
-  pub txs_are : AreToldIn Gives path policy schemes txs
   pub chosen_are : AreChosen name txs chosen
   pub explained_are : AreExplained policy chosen explained
+  pub text_is : text ≡ flat_map (λ e. string_bytes e.text) explained
   pub told_is : told ≡ []
   pub end_is : end ≡ ending_if (list_any lacks_labels explained)
 
--- the transactions are refused; or they are read, and none has the name; or memory
-pub data IsExplainRefused (h : Hosting) (policy : Tables) (schemes : Schemes) (path : List ℕ) (name : Option Name)
-    (reason : Reason) : Type 0 where
-  no_files : AreFilesRefused h (Some path) None policy schemes reason
-      → IsExplainRefused h policy schemes path name reason
-  no_name : (txs : List Tx) → AreToldIn h.gives path policy schemes txs → HaveNone name txs → reason ≡ reasons.Name
-      → IsExplainRefused h policy schemes path name reason
+-- none has the name; or memory
+pub data IsUnexplained (txs : List Tx) (name : Option Name) (reason : Reason) : Type 0 where
+  no_name : HaveNone name txs → reason ≡ reasons.Name → IsUnexplained txs name reason
+  no_memory : reason ≡ reasons.Memory → IsUnexplained txs name reason

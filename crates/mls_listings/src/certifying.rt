@@ -1,17 +1,15 @@
 //! Transactions get the least certificates that hold for them.
-ghost use Rattle.std.specs.Prelude.{◌≡◌, ◌++◌, Some, None, string_bytes, IfOk, IfErr, OnOk};
+ghost use Rattle.std.specs.Prelude.{◌≡◌, ◌++◌, string_bytes, IfOk, OnOk};
 ghost use Rattle.std.specs.List.{flat_map, list_any, AllByRecursion};
 ghost use Rattle.mls_certificate.specs.declared.cert.Version.TheVariants.{First};
-ghost use Rattle.mls_host.specs.Causes.{AreFilesRefused};
-ghost use Rattle.mls_listings.specs.Certifying.{HasNoneOf, HaveText, AreLabels, IsAnswer, AreAnswers, block_of, none_front, none_text, refusal_of, has_none, ending_of, IsListing, IsCertified};
+ghost use Rattle.mls_listings.specs.Certifying.{HasNoneOf, HaveText, AreLabels, IsAnswer, AreAnswers, block_of, none_front, none_text, refusal_of, has_none, ending_of, IsCertified};
 
 use crate::listing::Listing;
 use mls_certcheck::Rule;
 use mls_certificate::{Certificate, block_print};
-use mls_host::{Ending, Host, Reason, transactions_in};
+use mls_host::Ending;
 use mls_labeller::{LabelFault, label_tx, label_tx2};
 use mls_lattice::Policy;
-use mls_scheme::Schemes;
 use mls_translang::Tx;
 use std::alloc::{AllocError, Global};
 
@@ -162,9 +160,9 @@ fn ending_of(answers: &[Answer<'_>]) -> Ending
     }
 }
 
-/// All that is printed and told of transactions.
-fn listing_of(alloc: Global, policy: &Policy, txs: &[Tx]) -> Result<Listing, AllocError>
-    ensures { IfOk result (IsListing policy.now txs.now) }
+/// The least certificate of each transaction that has one, and a line for each other.
+pub fn certified(alloc: Global, policy: &Policy, txs: &[Tx]) -> Result<Listing, AllocError>
+    ensures { IfOk result (λ l. IsCertified policy.now txs.now l.text.items (string_bytes l.told) l.ending) }
 {
     let answers = answers_of(alloc, policy, txs)?;
     let blocks = blocks_of(alloc, &answers)?;
@@ -174,21 +172,4 @@ fn listing_of(alloc: Global, policy: &Policy, txs: &[Tx]) -> Result<Listing, All
         told: refusals,
         ending: ending_of(&answers),
     })
-}
-
-/// The least certificate of each transaction of a file that has one, and a line for each other.
-pub fn certified<H: Host>(
-    alloc: Global,
-    host: &H,
-    policy: &Policy,
-    schemes: &Schemes,
-    transactions: &str,
-) -> Result<Listing, Reason>
-    ensures listing { IfOk result (λ l. IsCertified (H.hosting host.now).gives policy.now schemes.now transactions.now
-        l.text.items (string_bytes l.told) l.ending) }
-    ensures refused { IfErr result (AreFilesRefused (H.hosting host.now)
-        (Some transactions.now) None policy.now schemes.now) }
-{
-    let txs = transactions_in(alloc, host, policy, schemes, transactions)?;
-    Ok(listing_of(alloc, policy, &txs)?)
 }

@@ -1,9 +1,8 @@
 //! Certificates are checked against the transactions of their names.
-ghost use Rattle.std.specs.Prelude.{◌≡◌, ◌↔◌, ◌++◌, Some, string_bytes, IfOk, IfErr, OnOk};
+ghost use Rattle.std.specs.Prelude.{◌≡◌, ◌↔◌, ◌++◌, Some, string_bytes, IfOk, OnOk};
 ghost use Rattle.std.specs.List.{flat_map, list_any};
 ghost use Rattle.mls_certcheck.specs.Rules.{Rules, claim};
 ghost use Rattle.mls_certificate.specs.declared.cert.Certificate.{Certificate as SpecCertificate};
-ghost use Rattle.mls_host.specs.Causes.{AreFilesRefused};
 ghost use Rattle.mls_host.specs.Storing.{cert_named};
 ghost use Rattle.mls_listings.specs.declared.checking.Verdict.TheVariants.{Yes};
 ghost use Rattle.mls_listings.specs.Checking.{verdict_of, verdict_text, line_of, is_refused, IsChecked};
@@ -11,9 +10,8 @@ ghost use Rattle.mls_listings.specs.Checking.{verdict_of, verdict_text, line_of,
 use crate::listing::Listing;
 use mls_certcheck::{Refusal, check};
 use mls_certificate::Certificate;
-use mls_host::{Host, Reason, cert_named, certificates_in, ending_if, transactions_in};
+use mls_host::{cert_named, ending_if};
 use mls_lattice::{Policy, Str};
-use mls_scheme::Schemes;
 use mls_translang::Tx;
 use std::alloc::{AllocError, Global};
 
@@ -92,23 +90,16 @@ fn verdicts_of(
     Ok(Verdicts { text, refused })
 }
 
-/// For each transaction of a file whether the first certificate of its name in another file holds for it.
-pub fn checked<H: Host>(
+/// For each transaction whether the first certificate of its name holds for it.
+pub fn checked(
     alloc: Global,
-    host: &H,
     policy: &Policy,
-    schemes: &Schemes,
-    transactions: &str,
-    certificates: &str,
-) -> Result<Listing, Reason>
-    ensures listing { IfOk result (λ l. IsChecked (H.hosting host.now).gives policy.now schemes.now transactions.now
-        certificates.now l.text.items (string_bytes l.told) l.ending) }
-    ensures refused { IfErr result (AreFilesRefused (H.hosting host.now) (Some transactions.now)
-        (Some certificates.now) policy.now schemes.now) }
+    txs: &[Tx],
+    blocks: &[(Str, Certificate)],
+) -> Result<Listing, AllocError>
+    ensures { IfOk result (λ l. IsChecked policy.now txs.now blocks.now l.text.items (string_bytes l.told) l.ending) }
 {
-    let txs = transactions_in(alloc, host, policy, schemes, transactions)?;
-    let blocks = certificates_in(alloc, host, certificates)?;
-    let verdicts = verdicts_of(alloc, policy, &blocks, &txs)?;
+    let verdicts = verdicts_of(alloc, policy, blocks, txs)?;
     Ok(Listing {
         text: verdicts.text.into_bytes(),
         told: String::new(alloc),

@@ -1,14 +1,14 @@
 //! What is told of transactions: their labels, or why they have none.
 ghost use Rattle.std.specs.Prelude.{◌≡◌, [], Some, None, IfOk, IfErr, IfSome, string_bytes};
-ghost use Rattle.std.specs.List.{list_any, AllByRecursion};
+ghost use Rattle.std.specs.List.{flat_map, list_any, AllByRecursion};
 ghost use Rattle.mls_translang.specs.Fits.{IsReadUnder};
-ghost use Rattle.mls_listings.specs.Explaining.{AreChosen, HaveNone, AreExplained, lacks_labels, IsExplained, IsExplainRefused};
+ghost use Rattle.mls_listings.specs.Explaining.{AreChosen, HaveNone, AreExplained, lacks_labels, IsExplained, IsUnexplained};
 ghost use Rattle.mls_host.specs.Ending.{ending_if};
 ghost use Rattle.mls_words.specs.Words.{named};
 
 use crate::listing::Listing;
 use mls_explain::{Explained, explain};
-use mls_host::{Host, Reason, ending_if, transactions_in};
+use mls_host::{Reason, ending_if};
 use mls_lattice::Policy;
 use mls_scheme::Schemes;
 use mls_translang::Tx;
@@ -56,7 +56,10 @@ fn each_explained(
     Ok(told)
 }
 
-fn text_of(alloc: Global, explained: &[Explained]) -> Result<Vec<u8>, AllocError> {
+/// What is told of each, one behind the other.
+fn text_of(alloc: Global, explained: &[Explained]) -> Result<Vec<u8>, AllocError>
+    ensures { IfOk result (λ text. text.items ≡ flat_map (λ e. string_bytes e.text) explained.now) }
+{
     let mut text = Vec::new(alloc);
     for one in explained {
         text.extend_from_slice(one.text.as_bytes())?;
@@ -77,6 +80,7 @@ fn lacks_some(explained: &[Explained]) -> bool
 }
 
 fn listing_of(alloc: Global, explained: &[Explained]) -> Result<Listing, AllocError>
+    ensures text { IfOk result (λ l. l.text.items ≡ flat_map (λ e. string_bytes e.text) explained.now) }
     ensures told { IfOk result (λ l. string_bytes l.told ≡ []) }
     ensures end { IfOk result (λ l. l.ending ≡ ending_if (list_any lacks_labels explained.now)) }
 {
@@ -87,22 +91,20 @@ fn listing_of(alloc: Global, explained: &[Explained]) -> Result<Listing, AllocEr
     })
 }
 
-/// The transactions of a file, or the one of a name, explained. `Name` where none has the name.
-pub fn explained<H: Host>(
+/// Transactions, or the one of a name, explained. `Name` where none has the name.
+pub fn explained(
     alloc: Global,
-    host: &H,
     policy: &Policy,
     schemes: &Schemes,
-    transactions: &str,
+    txs: &[Tx],
     name: Option<&str>,
 ) -> Result<Listing, Reason>
-    ensures listing { IfOk result (λ l. IsExplained (H.hosting host.now).gives policy.now schemes.now transactions.now
-        (named name.entry) l.text.items (string_bytes l.told) l.ending) }
-    ensures refused { IfErr result (IsExplainRefused (H.hosting host.now) policy.now schemes.now transactions.now
-        (named name.entry)) }
+    requires { AllByRecursion (IsReadUnder policy.now schemes.now) txs.now }
+    ensures listing { IfOk result (λ l. IsExplained policy.now txs.now (named name.entry) l.text.items
+        (string_bytes l.told) l.ending) }
+    ensures refused { IfErr result (IsUnexplained txs.now (named name.entry)) }
 {
-    let txs = transactions_in(alloc, host, policy, schemes, transactions)?;
-    let chosen = match chosen_of(&txs, name) {
+    let chosen = match chosen_of(txs, name) {
         Some(chosen) => chosen,
         None => return Err(Reason::Name),
     };

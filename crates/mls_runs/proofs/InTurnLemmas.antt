@@ -29,10 +29,16 @@ use Rattle.mls_machine.proofs.HistoryLemmas.{histories_pass}
 use Rattle.mls_sessions.specs.declared.cause.RunFault.{RunFault}
 use Rattle.mls_sessions.specs.World.{entries_in, IsSound}
 use Rattle.mls_words.specs.declared.words.Documents.{Documents}
-use Rattle.mls_host.specs.Hosting.{Hosted, BeginsWith, IsKeptAt}
-use Rattle.mls_host.specs.Inputs.{AreTransactionsFrom, AreStoredFrom, IsPolicyOf}
+use Rattle.mls_words.specs.declared.words.Job.{Job}
+use Rattle.mls_words.specs.Words.{named}
+use Rattle.mls_host.specs.Hosting.{Hosting, Hosted}
+use Rattle.mls_host.specs.Inputs.{AreTransactionsFrom, IsPolicyOf}
+use Rattle.mls_host.specs.declared.job.Inputs.{Inputs}
+use Rattle.mls_host.specs.Reading.{AreInputs}
+use Rattle.mls_host.specs.Storing.{AreStoredWith}
+use Rattle.mls_runs.specs.ScriptRun.{site_under}
 use Rattle.mls_host.specs.Running.{site_of, first_world, output, standing, IsLeftBy}
-use Rattle.mls_runs.specs.InTurn.{run, world_before, KeepsOne, RunsAreInTurn}
+use Rattle.mls_runs.specs.InTurn.{setting, run, world_before, KeepsOne, RunsAreInTurn}
 use Rattle.mls_host.proofs.StoringLemmas.{stored_read}
 
 -- ---- up to where a run ended or stopped
@@ -52,10 +58,9 @@ transactions_read : (gives : Option (List ℕ) → List ℕ → Type 0) (path : 
 transactions_read gives None policy schemes txs h = subst (AllByRecursion (IsReadUnder policy schemes)) (sym h) tt
 transactions_read gives (Some path) policy schemes txs h = h.2.read.each
 
-are_read : (gives : Option (List ℕ) → List ℕ → Type 0) (transactions certificates : Option (List ℕ)) (policy : Tables) (schemes : Schemes) (stored : List Stored)
-    → AreStoredFrom gives transactions certificates policy schemes stored → AreRead (site_of policy schemes stored)
-are_read gives transactions certificates policy schemes stored h =
-    stored_read policy schemes h.blocks h.txs stored (transactions_read gives transactions policy schemes h.txs h.told) h.each
+are_read : (h : Hosting) (job : Job) (i : Inputs) (stored : List Stored) → AreInputs h job i → AreStoredWith i.setting.policy i.certificates i.transactions stored → AreRead (site_under i.setting stored)
+are_read h job i stored are each =
+    stored_read i.setting.policy i.setting.file.schemes i.certificates i.transactions stored (transactions_read h.gives (named job.files.transactions) i.setting.policy i.setting.file.schemes i.transactions are.1.txs_are) each
 
 -- ---- the labels of a policy that was read differ
 
@@ -80,12 +85,6 @@ left_world site first left es h = ap settled (sym h.1)
 
 -- ---- a store that keeps one content
 
-begins_at : (h : Hosted) (policy : Tables) (file : SchemesFile) (store : Option (List ℕ)) (path : List ℕ) (c : Content) → store ≡ Some path → BeginsWith h policy file store c → IsTakenOf (h.before.keeps path) policy file c
-begins_at h policy file store path c e b = subst (λ o. BeginsWith h policy file o c) e b
-
-kept_at : (h : Hosted) (store : Option (List ℕ)) (path : List ℕ) (c : Content) → store ≡ Some path → IsKeptAt h store c → (row : MetaRow) × h.after.keeps path (holdings_of row c)
-kept_at h store path c e b = subst (λ o. IsKeptAt h o c) e b
-
 -- what is sound is so under the same labels and schemes
 sound_later : (policy later : Tables) (schemes same : Schemes) (stored : List Stored) (c : Content) → labels_of later ≡ labels_of policy → same ≡ schemes
     → IsSound (site_of policy schemes stored) c → IsSoundContent later same c
@@ -104,27 +103,29 @@ taken_again h k path one later again left first sound kept taken =
 pub in_turn : (h : Hosted) (W : List ℕ → Type 0) (k : Hosted) (V : List ℕ → Type 0) → RunsAreInTurn h W k V
 unfolding history_end history_lines
 in_turn h W k V path one r s shape =
-    let ls = labels_of r.policy in
+    let t = setting r in
+    let u = setting s in
+    let ls = labels_of t.policy in
     let a = r.is.run r.clean in
     let b = s.is.run s.clean in
     let p = run r in
     let q = run s in
     let v = world_before r in
-    let sound = sound_later r.policy s.policy r.file.schemes s.file.schemes r.is.stored a.left shape.labels shape.schemes a.leads.sound in
-    let same : a.left ≡ b.first = taken_again h k path one s.policy s.file a.left b.first sound (kept_at h _ path a.left r.over a.kept) (begins_at k s.policy s.file _ path b.first s.over b.begins) in
+    let sound = sound_later t.policy u.policy t.file.schemes u.file.schemes r.is.stored a.left shape.labels shape.schemes a.leads.sound in
+    let same : a.left ≡ b.first = taken_again h k path one u.policy u.file a.left b.first sound a.kept b.begins in
     let next : run_end v p ≡ world_before s
-    = left_world p.site a.first a.left p.events a.leads.left_by ∙ (λ i. world_with (same_count r.policy s.policy shape.labels i) (same i)) in
-    let passes : EachPassesOnlyReleasesDown v (p ∷ q ∷ []) = (passes_standing p.site v r.is.events a.leads.secret r.end, (subst (λ w. PassesOnlyReleasesDown q.site w q.events) (sym next) (passes_standing q.site _ s.is.events b.leads.secret s.end), tt)) in
-    let under : IsHistoryUnder ls r.file.schemes (p ∷ q ∷ []) = (
-      record { labels = refl; relations = refl; read = are_read h.before.gives _ _ r.policy r.file.schemes r.is.stored r.is.stored_are },
-      (record { labels = shape.labels; relations = shape.schemes; read = are_read k.before.gives _ _ s.policy s.file.schemes s.is.stored s.is.stored_are }, tt),
+    = left_world p.site a.first a.left p.events a.leads.left_by ∙ (λ i. world_with (same_count t.policy u.policy shape.labels i) (same i)) in
+    let passes : EachPassesOnlyReleasesDown v (p ∷ q ∷ []) = (passes_standing p.site v r.inputs.events a.leads.secret r.end, (subst (λ w. PassesOnlyReleasesDown q.site w q.events) (sym next) (passes_standing q.site _ s.inputs.events b.leads.secret s.end), tt)) in
+    let under : IsHistoryUnder ls t.file.schemes (p ∷ q ∷ []) = (
+      record { labels = refl; relations = refl; read = are_read h.before r.job r.inputs r.is.stored r.inputs_are r.is.stored_are },
+      (record { labels = shape.labels; relations = shape.schemes; read = are_read k.before s.job s.inputs s.is.stored s.inputs_are s.is.stored_are }, tt),
     ) in
     record {
       one = same;
       history = record {
         left_by = ap (λ w. run_end w q) next ∙ left_world q.site b.first b.left q.events b.leads.left_by;
-        integrity = (keeps_standing p.site v r.is.events a.leads.integrity r.end, (subst (λ w. KeepsIntegrity q.site w q.events) (sym next) (keeps_standing q.site _ s.is.events b.leads.integrity s.end), tt));
-        secret = histories_pass ls r.file.schemes (policy_distinct h.before.gives shape.documents r.policy shape.read) v (p ∷ q ∷ []) under passes;
+        integrity = (keeps_standing p.site v r.inputs.events a.leads.integrity r.end, (subst (λ w. KeepsIntegrity q.site w q.events) (sym next) (keeps_standing q.site _ s.inputs.events b.leads.integrity s.end), tt));
+        secret = histories_pass ls t.file.schemes (policy_distinct h.before.gives r.job.documents t.policy r.inputs_are.0.policy_is) v (p ∷ q ∷ []) under passes;
       };
       written = λ audience. λ i. output p.site audience a.first p.events ∷ printed (heard (sym shape.labels i) audience.reader (run_lines audience.form q.site (next i) q.events)) ∷ [];
     }

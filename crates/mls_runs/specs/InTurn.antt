@@ -1,23 +1,22 @@
 -- Two runs over one store, one after the other.
-use Rattle.std.specs.Prelude.{◌≡◌, ℕ, List, [], ◌∷◌, Option, Some, Result}
+use Rattle.std.specs.Prelude.{◌≡◌, ℕ, Bool, List, [], ◌∷◌, Some, Result}
 use Rattle.mls_lattice.specs.Labels.{Labels}
-use Rattle.mls_lattice.specs.Policy.{Tables, labels_of}
+use Rattle.mls_lattice.specs.Policy.{labels_of}
 use Rattle.mls_scheme.specs.Scheme.{Schemes}
-use Rattle.mls_scheme.specs.declared.file.SchemesFile.{SchemesFile}
 use Rattle.mls_filterview.specs.Content.{Content}
 use Rattle.mls_machine.specs.declared.form.Audience.{Audience}
 use Rattle.mls_machine.specs.Machine.{World}
 use Rattle.mls_machine.specs.History.{RunAt, history_end, history_bytes, KeepsIntegrityInHistory}
 use Rattle.mls_machine.specs.History.{PassesOnlyReleasesDownInHistory}
 use Rattle.mls_sessions.specs.declared.cause.RunFault.{RunFault}
-use Rattle.mls_words.specs.declared.words.Documents.{Documents}
-use Rattle.mls_words.specs.declared.words.RunFiles.{RunFiles}
-use Rattle.mls_words.specs.Words.{named}
 use Rattle.mls_fragments.specs.Holdings.{Holdings}
 use Rattle.mls_host.specs.Hosting.{Hosted, IsClean}
-use Rattle.mls_host.specs.Inputs.{IsPolicyOf}
-use Rattle.mls_host.specs.Running.{site_of, first_world, output, standing}
-use Rattle.mls_runs.specs.ScriptRun.{IsScriptRun}
+use Rattle.mls_host.specs.Running.{first_world, output, standing}
+use Rattle.mls_host.specs.declared.job.Inputs.{Inputs}
+use Rattle.mls_host.specs.declared.job.Setting.{Setting}
+use Rattle.mls_host.specs.Reading.{AreInputs}
+use Rattle.mls_words.specs.declared.words.Job.{Job}
+use Rattle.mls_runs.specs.ScriptRun.{site_under, IsScriptRun}
 
 -- a run up to where it ended or stopped
 abbrev pub run_to : RunAt → Result (Unit {0}) RunFault → RunAt
@@ -31,18 +30,21 @@ pub record IsHistory (ls : Labels) (schemes : Schemes) (rs : List RunAt) (first 
   -- no information flows down but what is released
   pub secret : PassesOnlyReleasesDownInHistory ls schemes first rs
 
--- a script that was run over the store at a path, which is clean then
+-- a job whose script was run over the store at a path, which is clean then
 pub record StoreRun (h : Hosted) (Wrote : List ℕ → Type 0) (path : List ℕ) : Type 0 where
-  pub policy : Tables
-  pub file : SchemesFile
-  pub reader : Option ℕ
-  pub files : RunFiles
+  pub job : Job
+  pub inputs : Inputs
+  pub is_table : Bool
   pub end : Result (Unit {0}) RunFault
-  pub over : named files.store ≡ Some path
-  pub is : IsScriptRun h policy file reader files Wrote end
-  pub clean : IsClean h (named files.store)
+  pub inputs_are : AreInputs h.before job inputs
+  pub is : IsScriptRun h inputs (Some path) is_table Wrote end
+  pub clean : IsClean h (Some path)
 
 module _ {h : Hosted} {Wrote : List ℕ → Type 0} {path : List ℕ} (r : StoreRun h Wrote path) where
+  -- under a policy and schemes
+  abbrev pub setting : Setting
+  setting = r.inputs.setting
+
   -- it begins with one content, and leaves another
   abbrev pub first : Content
   first = (r.is.run r.clean).first
@@ -52,7 +54,7 @@ module _ {h : Hosted} {Wrote : List ℕ → Type 0} {path : List ℕ} (r : Store
 
   -- up to where it ended or stopped
   abbrev pub run : RunAt
-  run = run_to (record { site = site_of r.policy r.file.schemes r.is.stored; events = r.is.events }) r.end
+  run = run_to (record { site = site_under setting r.is.stored; events = r.inputs.events }) r.end
 
   -- the worlds before and after it, without sessions
   abbrev pub world_before : World
@@ -66,22 +68,20 @@ module _ {h : Hosted} {Wrote : List ℕ → Type 0} {path : List ℕ} (r : Store
   printed audience = output run.site audience first run.events
 
 module _ {h k : Hosted} {W V : List ℕ → Type 0} {path : List ℕ} (r : StoreRun h W path) (s : StoreRun k V path) where
-  -- one has its policy from documents, and the other has the same labels and schemes; users, rights and transactions
-  -- may differ
+  -- they have the same labels and schemes; users, rights and transactions may differ
   pub record HaveOneShape : Type 0 where
-    pub documents : Option Documents
-    pub read : IsPolicyOf h.before.gives documents r.policy
-    pub labels : labels_of s.policy ≡ labels_of r.policy
-    pub schemes : s.file.schemes ≡ r.file.schemes
+    pub labels : labels_of (setting s).policy ≡ labels_of (setting r).policy
+    pub schemes : (setting s).file.schemes ≡ (setting r).file.schemes
 
   -- one and then the other are a history, which prints what they print
   pub record AreInTurn : Type 0 where
     -- the second begins with what the first left
     pub one : left r ≡ first s
     pub history :
-        IsHistory (labels_of r.policy) r.file.schemes (run r ∷ run s ∷ []) (world_before r) (world_after s)
+        IsHistory (labels_of (setting r).policy) (setting r).file.schemes (run r ∷ run s ∷ []) (world_before r)
+        (world_after s)
     pub written : (audience : Audience)
-        → history_bytes (labels_of r.policy) audience (world_before r) (run r ∷ run s ∷ [])
+        → history_bytes (labels_of (setting r).policy) audience (world_before r) (run r ∷ run s ∷ [])
         ≡ printed r audience ∷ printed s audience ∷ []
 
 -- any two scripts that are run over the store at one path, one after the other

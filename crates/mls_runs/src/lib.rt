@@ -8,5 +8,5 @@ mod turns;
 
 pub use crate::history::{HistoryCause, HistoryFault, Run, run_history};
 pub use crate::memory::{HeldFile, MemoryHost, runs_in_memory_are_in_turn};
-pub use crate::running::{run_files, run_on, script_of};
+pub use crate::running::{run_on, run_script};
 pub use crate::turns::{runs_are_in_turn, runs_write_the_same};

@@ -1,31 +1,26 @@
 //! Scripts that are run over a database: over an empty one in memory, or over that of a store.
-ghost use Rattle.std.specs.Prelude.{◌≡◌, ◌<◌, ◌≤◌, [], false, length, Some, IfOk, IfErr};
-ghost use Rattle.std.specs.List.{AllByRecursion};
-ghost use Rattle.std.specs.Option.{IfSome};
-ghost use Rattle.mls_scheme.specs.Scheme.{AreUnder};
+ghost use Rattle.std.specs.Prelude.{◌≡◌, ◌<◌, ◌≤◌, [], false, Some, IfErr};
 ghost use Rattle.mls_filterview.specs.Content.{Content, no_content};
-ghost use Rattle.mls_script.specs.Event.{EventFits};
 ghost use Rattle.mls_sessions.specs.World.{IsSound};
 ghost use Rattle.mls_host.specs.Hosting.{hosted, IsAppended};
 ghost use Rattle.mls_host.specs.Stopping.{IsCaused, IsCausedInMemory};
-ghost use Rattle.mls_host.specs.Causes.{IsScriptRefused, IsBarred};
-ghost use Rattle.mls_host.specs.Inputs.{IsScriptFrom};
+ghost use Rattle.mls_host.specs.Causes.{IsBarred, IsNotBegun};
+ghost use Rattle.mls_host.specs.Reading.{AreReady};
 ghost use Rattle.mls_words.specs.Words.{named};
 ghost use Rattle.mls_host.specs.Refusal.{IsEnd};
 ghost use Rattle.mls_host.specs.Running.{site_of, IsRun};
 ghost use Rattle.mls_sessions.specs.declared.cause.RunCause.TheVariants.{Store as StoreFailed};
-ghost use Rattle.mls_runs.specs.ScriptRun.{MayRun, IsRunFrom, IsScriptRun, IsRunRefused};
+ghost use Rattle.mls_runs.specs.ScriptRun.{MayRun, IsRunFrom, IsScriptRun};
 
 use mls_filterview::Base;
 use mls_fragments::OpenFault;
-use mls_host::{Host, Reason, Refusal, Role, ended, form_of, input_of, read_script, stored_files};
-use mls_lattice::{Items, LabelNo, Policy};
+use mls_host::{Host, Inputs, Reason, Refusal, ended, form_of, stored_of};
+use mls_lattice::{Items, Policy};
 use mls_machine::Audience;
 use mls_memory::MemoryBase;
 use mls_scheme::{Schemes, SchemesFile};
 use mls_script::Event;
 use mls_sessions::{Engine, RunFault, Stored, run_to};
-use mls_words::RunFiles;
 use std::alloc::Global;
 use std::io::Write;
 
@@ -156,63 +151,35 @@ fn run_events<H: Host, W: Write>(
     }
 }
 
-/// The script of a file, or of the standard input.
-pub fn script_of<H: Host>(
-    alloc: Global,
-    host: &H,
-    policy: &Policy,
-    schemes: &Schemes,
-    path: Option<&str>,
-) -> Result<Vec<Event>, Reason>
-    ensures read { IfOk result (λ events. IsScriptFrom (H.hosting host.now).gives
-        (named path.entry) policy.now schemes.now events.items) }
-    ensures fits { IfOk result (λ events. AllByRecursion (EventFits policy.now schemes.now) events.items) }
-    ensures refused { IfErr result (IsScriptRefused (H.hosting host.now) (named path.entry) policy.now schemes.now) }
-{
-    let bytes = input_of(alloc, host, Role::Script, path)?;
-    read_script(alloc, policy, schemes, &bytes)
-}
-
-/// Runs a script, over the transactions and certificates of files, for a reader alone where there is one.
-pub fn run_files<H: Host, W: Write>(
+/// Runs the events of a job over what it stores, for its reader alone where there is one.
+pub fn run_script<H: Host, W: Write>(
     alloc: Global,
     host: &mut H,
-    policy: &Policy,
-    file: &SchemesFile,
-    files: RunFiles,
-    reader: Option<LabelNo>,
+    store: Option<&str>,
+    inputs: Inputs,
+    is_table: bool,
     out: &mut W,
 ) -> Result<(), Refusal>
-    requires under { AreUnder (length policy.now.labels) file.now.schemes }
-    requires declared { IfSome reader (λ c. c < length policy.now.labels) }
-    ensures run { IsEnd (IsScriptRun (hosted H.hosting H.Lines.echo host.old host.new) policy.now file.now reader
-        files.entry (IsAppended W.contents out.old out.new))
-        (λ reason. IsRunRefused (H.hosting host.old) policy.now file.now files.entry reason
+    requires ready { AreReady inputs }
+    ensures run { IsEnd (IsScriptRun (hosted H.hosting H.Lines.echo host.old host.new) inputs (named store.entry) is_table
+        (IsAppended W.contents out.old out.new))
+        (λ reason. IsNotBegun (H.hosting host.old) inputs.setting.policy inputs.setting.file (named store.entry) reason
         × IsAppended W.contents out.old out.new []) result }
-    ensures caused { IsCaused (hosted H.hosting H.Lines.echo host.old host.new) (named files.entry.store) result }
+    ensures caused { IsCaused (hosted H.hosting H.Lines.echo host.old host.new) (named store.entry) result }
 {
-    let stored = stored_files(
-        alloc,
-        host,
-        policy,
-        &file.schemes,
-        files.transactions,
-        files.certificates,
-    )?;
-    let events = script_of(alloc, host, policy, &file.schemes, files.script)?;
+    let Inputs {
+        setting,
+        transactions,
+        certificates,
+        events,
+    } = inputs;
+    let stored = stored_of(alloc, &setting.policy, transactions, &certificates)?;
     let audience = Audience {
-        reader,
-        form: form_of(files.is_table),
+        reader: setting.reader,
+        form: form_of(is_table),
     };
+    let (policy, file) = (&setting.policy, &setting.file);
     run_events(
-        alloc,
-        host,
-        files.store,
-        policy,
-        file,
-        stored,
-        &events,
-        audience,
-        out,
+        alloc, host, store, policy, file, stored, &events, audience, out,
     )
 }

@@ -1,13 +1,12 @@
 -- Shells over stores: where they begin, and how they end.
 use Rattle.std.proofs.Common.{◌≡◌, ℕ, ◌<◌, length, true, ◌∷◌, List, [], Option, Some, None, Result, refl, sym, ap, subst}
-use Rattle.std.specs.Prelude.{is_some, IsErrAnd}
+use Rattle.std.specs.Prelude.{IsErrAnd}
 use Rattle.std.specs.Borrow.{Bor}
 use Rattle.std.specs.Io.KnownBytes.{Appends}
 use Rattle.mls_filterview.specs.Content.{Content, no_content}
 use Rattle.mls_lattice.specs.Name.{is_name}
 use Rattle.mls_lattice.specs.Labels.{AreDistinct}
 use Rattle.mls_script.specs.declared.event.Event.{Event}
-use Rattle.mls_lattice.specs.Policy.{Tables}
 use Rattle.mls_scheme.specs.declared.file.SchemesFile.{SchemesFile}
 use Rattle.mls_machine.specs.declared.stored.Stored.{Stored}
 use Rattle.mls_machine.specs.Site.{Site, site_labels}
@@ -19,18 +18,19 @@ use Rattle.mls_sessions.specs.World.{world_at, IsSound}
 use Rattle.mls_sessions.specs.declared.cause.RunFault.{RunFault}
 use Rattle.mls_host.specs.declared.ending.Ending.{Ending}
 use Rattle.mls_shells.specs.declared.seat.Seat.{Seat}
-use Rattle.mls_words.specs.declared.words.ShellFiles.{ShellFiles}
 use Rattle.mls_host.specs.declared.reason.Reason.{Reason}
 use Rattle.mls_host.specs.declared.refusal.Refusal.{Refusal}
 use Rattle.mls_host.specs.declared.refusal.Refusal.TheVariants.{Before}
 use Rattle.mls_host.specs.Hosting.{Hosted}
-use Rattle.mls_host.specs.Inputs.{AreStoredFrom}
+use Rattle.mls_host.specs.declared.reason.Reason.TheVariants.{Memory}
+use Rattle.mls_host.specs.declared.job.Inputs.{Inputs}
+use Rattle.mls_host.specs.Storing.{AreStoredWith}
 use Rattle.mls_words.specs.Words.{named}
-use Rattle.mls_host.specs.Causes.{IsBarred}
+use Rattle.mls_host.specs.Causes.{IsBarred, no_memory, no_store}
 use Rattle.mls_host.specs.Refusal.{IsEnd}
 use Rattle.mls_host.specs.Running.{site_of, first_world}
 use Rattle.mls_shells.specs.Shell.{audience_at, opening, events_in, IsConversation, IsShell}
-use Rattle.mls_shells.specs.ShellRun.{seat_of, IsShellFrom, IsShellRun, IsShellRefused, no_store}
+use Rattle.mls_shells.specs.ShellRun.{seat_of, IsShellFrom, IsShellRun, IsShellRefused, not_begun}
 use Rattle.mls_host.proofs.RunningLemmas.{run_at, end_weaker}
 use Rattle.mls_shells.proofs.TalkLemmas.{carried}
 
@@ -93,31 +93,31 @@ read_only_so echo site seat before after Broken May Wrote Told end first left f 
   run = k.run;
 }
 
-module _ (h : Hosted) (policy : Tables) (file : SchemesFile) (reader : Option ℕ) (files : ShellFiles) (Wrote Told : List ℕ → Type 0) where
+module _ (h : Hosted) (inputs : Inputs) (store : Option (List ℕ)) (label user : List ℕ) (Wrote Told : List ℕ → Type 0) where
   -- it was not begun, and nothing was written or told
-  abbrev NotBegun : Reason → Type 0
-  NotBegun reason = IsShellRefused h.before policy file reader files reason × Wrote [] × Told []
+  abbrev Nothing : Reason → Type 0
+  Nothing reason = IsShellRefused h.before inputs.setting store reason × Wrote [] × Told []
 
   abbrev Ends : Result Ending Refusal → Type 0
-  Ends r = IsEnd (IsShellRun h policy file reader files Wrote Told) NotBegun r
+  Ends r = IsEnd (IsShellRun h inputs store label user Wrote Told) Nothing r
 
   -- at the exit of a `?`
-  pub shell_before : (r : Result Ending Refusal) (reason : Reason) → IsErrAnd r (λ e. e ≡ Before reason) → IsShellRefused h.before policy file reader files reason → Wrote [] → Told [] → Ends r
-  shell_before r reason is refused wrote told = carried Ends r (Before reason) is (refused, wrote, told)
+  pub shell_before : (r : Result Ending Refusal) → IsErrAnd r (λ e. e ≡ Before Memory) → Wrote [] → Told [] → Ends r
+  shell_before r is wrote told = carried Ends r (Before Memory) is (not_begun (no_memory refl), wrote, told)
 
   module _ (stored : List Stored) (level : ℕ) (before after : Option (List ℕ)) (Broken : Type 0)
-      (stored_are : AreStoredFrom h.before.gives (named files.transactions) (named files.certificates) policy file.schemes stored)
-      (level_is : reader ≡ Some level) (user_is : is_name files.user.now ≡ true) (typed : h.before.types before) (broken : Broken → h.before.breaks) where
+      (stored_are : AreStoredWith inputs.setting.policy inputs.certificates inputs.transactions stored)
+      (level_is : inputs.setting.reader ≡ Some level) (typed : h.before.types before) (broken : Broken → h.before.breaks) where
     abbrev at : Site
-    at = site_of policy file.schemes stored
+    at = site_of inputs.setting.policy inputs.setting.file.schemes stored
 
     abbrev seat : Seat
-    seat = seat_of files level h.before.is_terminal h.before.is_watched
+    seat = seat_of label user level h.before.is_terminal h.before.is_watched
 
     abbrev Shells : Result Ending RunFault → Type 0
-    Shells = IsShellFrom h before after Broken Wrote Told file (named files.store) at seat
+    Shells = IsShellFrom h before after Broken Wrote Told inputs.setting.file store at seat
 
-    shell_run : (end : Result Ending RunFault) → Shells end → IsShellRun h policy file reader files Wrote Told end
+    shell_run : (end : Result Ending RunFault) → Shells end → IsShellRun h inputs store label user Wrote Told end
     shell_run end k = record {
       stored = stored;
       level = level;
@@ -137,9 +137,9 @@ module _ (h : Hosted) (policy : Tables) (file : SchemesFile) (reader : Option �
 
     -- its store was barred, and nothing was written
     abbrev Barred : Reason → Type 0
-    Barred reason = IsBarred h.before policy file (named files.store) reason × Wrote [] × Told []
+    Barred reason = IsBarred h.before inputs.setting.policy inputs.setting.file store reason × Wrote [] × Told []
 
-    pub shell_of_files : (r : Result Ending Refusal) → IsEnd Shells Barred r → Ends r
-    shell_of_files r k =
-        let g : (reason : Reason) → Barred reason → NotBegun reason = λ reason n. (no_store stored (ap is_some level_is) user_is stored_are n.0, n.1, n.2) in
-        end_weaker Shells Barred (IsShellRun h policy file reader files Wrote Told) NotBegun shell_run g r k
+    pub shell_over_stored : (r : Result Ending Refusal) → IsEnd Shells Barred r → Ends r
+    shell_over_stored r k =
+        let g : (reason : Reason) → Barred reason → Nothing reason = λ reason n. (not_begun (no_store n.0), n.1, n.2) in
+        end_weaker Shells Barred (IsShellRun h inputs store label user Wrote Told) Nothing shell_run g r k

@@ -19,13 +19,14 @@ use Rattle.mls_sessions.specs.declared.cause.RunFault.{RunFault}
 use Rattle.mls_sessions.specs.Run.{IsWhole, IsStopped, IsFaultOf, printed_to, world_after}
 use Rattle.mls_lattice.specs.Policy.{Tables}
 use Rattle.mls_scheme.specs.Scheme.{Schemes}
+use Rattle.mls_host.specs.Telling.{IsMore}
 use Rattle.mls_host.specs.declared.errors.Errors.{Errors}
 use Rattle.mls_host.specs.Hosting.{IsTold}
 use Rattle.mls_host.proofs.HostingLemmas.{told_more}
 use Rattle.mls_shells.specs.declared.seat.Seat.{Seat}
 use Rattle.mls_shells.specs.declared.seat.Fate.{Fate}
 use Rattle.mls_shells.specs.declared.seat.Fate.TheVariants as fates
-use Rattle.mls_shells.specs.Shell.{Turn, IsTurn, whole, long, cut, events_of, events_in, opening, audience_at, is_open, is_refused, is_last, is_failed, prompt_of, told_of, told_from, IsMore, AreTold, PipesAreToldNoMore, answers, dialogue, after_opening, transcript, shown_to, AreTurns, has_refused, IsSilent, IsAnswered}
+use Rattle.mls_shells.specs.Shell.{Turn, IsTurn, whole, long, cut, events_of, events_in, opening, audience_at, is_open, is_refused, is_last, is_failed, prompt_of, told_of, told_from, AreTold, PipesAreToldNoMore, answers, dialogue, after_opening, transcript, shown_to, AreTurns, has_refused, IsSilent, IsAnswered}
 
 -- ---- events
 
@@ -204,10 +205,10 @@ pipes_told = plainly
 -- ---- more that is told
 
 module _ {E : Type 0} (contents : E → Option (List ℕ)) (seat : Seat) (a b : Errors E) (text : List ℕ) (h : IsTold contents a b text) where
-  pub said_more : (c : Errors E) → IsMore seat (IsTold contents b c) → IsMore seat (λ more. IsTold contents a c (text ++ more))
+  pub said_more : (c : Errors E) → IsMore seat.is_watched (IsTold contents b c) → IsMore seat.is_watched (λ more. IsTold contents a c (text ++ more))
   said_more c k = record { more = k.more; none = k.none; leads = told_more contents a b c text k.more h k.leads }
 
-  pub said_once : IsMore seat (λ more. IsTold contents a b (text ++ more))
+  pub said_once : IsMore seat.is_watched (λ more. IsTold contents a b (text ++ more))
   said_once = record { more = []; none = λ off. refl; leads = subst (IsTold contents a b) (sym (append-nil text)) h }
 
 -- ---- last lines, and those that were not read

@@ -18,6 +18,7 @@ use Rattle.mls_sessions.specs.declared.cause.RunCause.{RunCause}
 use Rattle.mls_sessions.specs.declared.engine.Engine.{Engine}
 use Rattle.mls_sessions.specs.Engine.{site, world_of, IsKept}
 use Rattle.mls_sessions.specs.Run.{IsWhole}
+use Rattle.mls_host.specs.Telling.{IsMore}
 use Rattle.mls_host.specs.declared.errors.Errors.{Errors}
 use Rattle.mls_shells.specs.declared.seat.Seat.{Seat}
 use Rattle.mls_shells.specs.declared.seat.Fate.{Fate}
@@ -25,7 +26,7 @@ use Rattle.mls_shells.specs.declared.seat.Fate.TheVariants as fates
 use Rattle.mls_host.specs.Ending.{ending_if}
 use Rattle.mls_host.specs.Hosting.{IsTold}
 use Rattle.mls_host.proofs.HostingLemmas.{told_nothing, told_more}
-use Rattle.mls_shells.specs.Shell.{audience_at, Turn, events_of, events_in, opening, is_open, is_refused, is_last, is_failed, is_lost, prompt_of, told_of, IsMore, AreTold, AreAllTold, answers, after_opening, transcript, shown_to, AreTurns, has_refused, IsSilent, FateFits, IsAnswered, IsFollowed, IsRead, IsConversation}
+use Rattle.mls_shells.specs.Shell.{audience_at, Turn, events_of, events_in, opening, is_open, is_refused, is_last, is_failed, is_lost, prompt_of, told_of, AreTold, AreAllTold, answers, after_opening, transcript, shown_to, AreTurns, has_refused, IsSilent, FateFits, IsAnswered, IsFollowed, IsRead, IsConversation}
 use Rattle.mls_shells.proofs.ShellLemmas.{nothing_done, whole_more, stopped_more, fault_more, first_part, all-append, length-snoc, events-snoc, told-snoc, world-snoc, transcript-snoc, shown_before, shown_behind, shown_from, turns-snoc, refused-snoc, none_failed, failed_there, silent_turn, silent_lines, any-snoc}
 
 -- the events of a line are answered
@@ -159,7 +160,7 @@ module _ {B E : Type 0} (state : B → State) (is_clean : B → Type 0) (content
     pub followed : is_clean now.base → IsFollowed at (audience_at seat) w (opening seat ∷ []) was is (world_of state now) 0 (Ok tt)
     pub refused_is : refused ≡ not (is_open seat (world_of state now))
 
-  pub so_far_start : (now : Engine B) (is : Option (List ℕ)) (refused : Bool) → Opened now is refused → (err : Errors E) → IsMore seat (IsTold contents quiet err) → SoFar 0 now err given is refused false
+  pub so_far_start : (now : Engine B) (is : Option (List ℕ)) (refused : Bool) → Opened now is refused → (err : Errors E) → IsMore seat.is_watched (IsTold contents quiet err) → SoFar 0 now err given is refused false
   unfolding AreTold Rattle.mls_shells.specs.Shell.dialogue AreTurns
   so_far_start now is refused h err m =
       let done : is_clean now.base → IsWhole at (audience_at seat) w (opening seat ∷ []) was is (world_of state now) =
@@ -193,7 +194,7 @@ module _ {B E : Type 0} (state : B → State) (is_clean : B → Type 0) (content
       pub asked_is : IsTold contents err asked (prompt_of seat)
       pub read : IsRead echo at.policy at.schemes seat left over is shown Broken fate
       pub fits : FateFits at.policy at.schemes fate
-      pub said_is : IsMore seat (λ more. IsTold contents asked said (told_of seat (count + 1) fate ++ more))
+      pub said_is : IsMore seat.is_watched (λ more. IsTold contents asked said (told_of seat (count + 1) fate ++ more))
 
     module _ (fate : Fate) (asked said : Errors E) (over shown : Option (List ℕ)) (Broken : Type 0) (l : Line fate asked said over shown Broken) where
       abbrev turn : Turn

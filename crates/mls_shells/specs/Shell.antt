@@ -24,6 +24,7 @@ use Rattle.mls_sessions.specs.declared.cause.RunCause.TheVariants.{Store}
 use Rattle.mls_sessions.specs.declared.cause.RunFault.{RunFault}
 use Rattle.mls_sessions.specs.Run.{IsWhole, IsStopped, IsFaultOf}
 use Rattle.mls_typing.specs.Typing.{IsNext, IsLong}
+use Rattle.mls_host.specs.Telling.{IsMore}
 use Rattle.mls_host.specs.declared.ending.Ending.{Ending}
 use Rattle.mls_shells.specs.declared.help.TheConstants.{HELP}
 use Rattle.mls_shells.specs.declared.seat.Seat.{Seat}
@@ -193,16 +194,10 @@ unfoldable pub told_from : Seat → ℕ → List Turn → List ℕ
 told_from seat number [] = []
 told_from seat number (t ∷ ts) = (prompt_of seat ++ told_of seat number t.fate) ++ told_from seat (number + 1) ts
 
--- a text by which more is told where somebody reads it, to explain what was refused: any text there, and none elsewhere
-pub record IsMore (seat : Seat) (Then : List ℕ → Type 0) : Type 0 where
-  pub more : List ℕ
-  pub none : seat.is_watched ≡ false → more ≡ []
-  pub leads : Then more
-
 -- what is told, from the line of a number on: of each line the same, and behind it perhaps more
 unfoldable pub AreTold : Seat → ℕ → List Turn → List ℕ → Type 0
 AreTold seat number [] text = text ≡ []
-AreTold seat number (t ∷ ts) text = IsMore seat (λ more.
+AreTold seat number (t ∷ ts) text = IsMore seat.is_watched (λ more.
     (rest : List ℕ) × (text ≡ (prompt_of seat ++ (told_of seat number t.fate ++ more)) ++ rest)
     × AreTold seat (number + 1) ts rest)
 
@@ -210,7 +205,7 @@ AreTold seat number (t ∷ ts) text = IsMore seat (λ more.
 pub record AreAllTold (seat : Seat) (turns : List Turn) (Told : List ℕ → Type 0) : Type 0 where
   pub lines : List ℕ
   pub are : AreTold seat 1 turns lines
-  pub opening : IsMore seat (λ more. Told (more ++ lines))
+  pub opening : IsMore seat.is_watched (λ more. Told (more ++ lines))
 
 -- where nobody reads it, what is told of lines is what stands above
 abbrev pub PipesAreToldNoMore : Type 0

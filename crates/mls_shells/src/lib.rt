@@ -16,7 +16,7 @@ mod words;
 
 pub use crate::seat::Seat;
 pub use crate::shell::shell_on;
-pub use crate::shells::shell_files;
+pub use crate::shells::run_shell;
 
 /// Where nobody reads standard error at a terminal, nothing is told of a shell but the prompts and what is said of each line.
 pub fn pipes_are_told_no_more()

@@ -1,29 +1,28 @@
 //! Shells over a database: over an empty one in memory, or over that of a store.
-ghost use Rattle.std.specs.Prelude.{◌≡◌, ◌<◌, [], length, Some, IfOk};
-ghost use Rattle.std.specs.Option.{IfSome};
-ghost use Rattle.mls_scheme.specs.Scheme.{AreUnder};
+ghost use Rattle.std.specs.Prelude.{◌≡◌, ◌∷◌, [], Some, true, IfOk};
+ghost use Rattle.mls_lattice.specs.Name.{is_name};
 ghost use Rattle.mls_filterview.specs.Content.{Content, no_content};
 ghost use Rattle.mls_host.specs.Hosting.{hosted, IsAppended, IsTold};
 ghost use Rattle.mls_host.specs.Stopping.{IsCaused, IsCausedInMemory};
 ghost use Rattle.mls_words.specs.Words.{named};
 ghost use Rattle.mls_host.specs.Causes.{IsBarred};
 ghost use Rattle.mls_host.specs.Refusal.{IsEnd};
+ghost use Rattle.mls_host.specs.Reading.{AreReady};
 ghost use Rattle.mls_host.specs.Running.{site_of};
-ghost use Rattle.mls_shells.specs.Shell.{MayTalk, IsShell};
+ghost use Rattle.mls_shells.specs.Shell.{opening, MayTalk, IsShell};
 ghost use Rattle.mls_shells.specs.ShellRun.{seat_of, IsShellFrom, IsShellRun, IsShellRefused};
 
 use crate::reading::opening;
 use crate::seat::Seat;
 use crate::shell::shell_on;
 use mls_fragments::OpenFault;
-use mls_host::{Ending, Errors, Host, Reason, Refusal, ended, stored_files};
-use mls_lattice::{Items, LabelNo, Policy, Str, is_name};
+use mls_host::{Ending, Errors, Host, Inputs, Reason, Refusal, ended, stored_of};
+use mls_lattice::{Items, LabelNo, Policy, Str};
 use mls_memory::MemoryBase;
 use mls_scheme::SchemesFile;
 use mls_script::Event;
 use mls_sessions::Stored;
 use mls_typing::TypedLines;
-use mls_words::ShellFiles;
 use std::alloc::{AllocError, Global};
 use std::io::Write;
 
@@ -127,74 +126,70 @@ fn shell_over<H: Host, L: TypedLines, W: Write, E: Write>(
     }
 }
 
-/// Who sits at a shell, by its words.
-fn seat_of(
+/// Who sits at a shell, by its words, and the event that opens the session.
+fn seated(
     alloc: Global,
-    files: ShellFiles,
+    label: &str,
+    user: &str,
     level: LabelNo,
     has_prompt: bool,
     is_watched: bool,
-) -> Result<Seat, AllocError>
-    ensures { IfOk result (λ seat. seat ≡ seat_of files.entry level has_prompt is_watched) }
+) -> Result<(Seat, Vec<Event>), AllocError>
+    ensures seat { IfOk result (λ s. s.0 ≡ seat_of label.now user.now level has_prompt is_watched) }
+    ensures first { IfOk result (λ s. s.1.items ≡ opening s.0 ∷ []) }
 {
-    Ok(Seat {
+    let seat = Seat {
         level,
-        label: Str::copy_of(alloc, files.label)?,
-        user: Str::copy_of(alloc, files.user)?,
+        label: Str::copy_of(alloc, label)?,
+        user: Str::copy_of(alloc, user)?,
         has_prompt,
         is_watched,
-    })
+    };
+    let first = opening(alloc, &seat)?;
+    Ok((seat, first))
 }
 
-/// A shell for the user and the label of its words, over the transactions and certificates of files.
-pub fn shell_files<H: Host, W: Write, E: Write>(
+/// A shell for a user, at the label of a name, over what a job stores.
+pub fn run_shell<H: Host, W: Write, E: Write>(
     alloc: Global,
     host: &mut H,
-    policy: &Policy,
-    file: &SchemesFile,
-    files: ShellFiles,
-    reader: Option<LabelNo>,
+    store: Option<&str>,
+    inputs: Inputs,
+    label: &str,
+    user: &str,
     out: &mut W,
     err: &mut Errors<E>,
 ) -> Result<Ending, Refusal>
-    requires under { AreUnder (length policy.now.labels) file.now.schemes }
-    requires declared { IfSome reader (λ c. c < length policy.now.labels) }
-    ensures shell { IsEnd (IsShellRun (hosted H.hosting H.Lines.echo host.old host.new) policy.now file.now reader
-        files.entry (IsAppended W.contents out.old out.new) (IsTold E.contents err.old err.new))
-        (λ reason. IsShellRefused (H.hosting host.old) policy.now file.now reader files.entry reason
+    requires ready { AreReady inputs }
+    requires user { is_name user.now ≡ true }
+    ensures shell { IsEnd (IsShellRun (hosted H.hosting H.Lines.echo host.old host.new) inputs (named store.entry) label.now
+        user.now (IsAppended W.contents out.old out.new) (IsTold E.contents err.old err.new))
+        (λ reason. IsShellRefused (H.hosting host.old) inputs.setting (named store.entry) reason
         × IsAppended W.contents out.old out.new [] × IsTold E.contents err.old err.new []) result }
-    ensures caused { IsCaused (hosted H.hosting H.Lines.echo host.old host.new) (named files.entry.store) result }
+    ensures caused { IsCaused (hosted H.hosting H.Lines.echo host.old host.new) (named store.entry) result }
 {
-    let level = match reader {
+    let Inputs {
+        setting,
+        transactions,
+        certificates,
+        ..
+    } = inputs;
+    let level = match setting.reader {
         Some(level) => level,
         None => return Err(Refusal::Before(Reason::Label)),
     };
-    if !is_name(files.user) {
-        return Err(Refusal::Before(Reason::User));
-    }
-    let seat = seat_of(alloc, files, level, host.is_terminal(), host.is_watched())?;
-    let first = opening(alloc, &seat)?;
-    let schemes = &file.schemes;
-    let stored = stored_files(
+    let (policy, file) = (&setting.policy, &setting.file);
+    let stored = stored_of(alloc, policy, transactions, &certificates)?;
+    let (seat, first) = seated(
         alloc,
-        host,
-        policy,
-        schemes,
-        files.transactions,
-        files.certificates,
+        label,
+        user,
+        level,
+        host.is_terminal(),
+        host.is_watched(),
     )?;
     let mut lines = host.lines();
     shell_over(
-        alloc,
-        host,
-        files.store,
-        policy,
-        file,
-        stored,
-        &seat,
-        &first,
-        &mut lines,
-        out,
-        err,
+        alloc, host, store, policy, file, stored, &seat, &first, &mut lines, out, err,
     )
 }

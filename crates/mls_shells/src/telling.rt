@@ -1,7 +1,8 @@
 //! What a shell says on standard error.
 ghost use Rattle.std.specs.Prelude.{◌≡◌};
 ghost use Rattle.mls_host.specs.Hosting.{IsTold};
-ghost use Rattle.mls_shells.specs.Shell.{prompt_of, column_of, told_of, IsMore};
+ghost use Rattle.mls_shells.specs.Shell.{prompt_of, column_of, told_of};
+ghost use Rattle.mls_host.specs.Telling.{IsMore};
 
 use crate::help::HELP;
 use crate::seat::{Fate, Seat};
@@ -53,7 +54,7 @@ pub(crate) fn tell_more<E: Write>(
     seat: &Seat,
     text: Result<String, AllocError>,
 )
-    ensures { IsMore seat.now (IsTold E.contents err.old err.new) }
+    ensures { IsMore seat.now.is_watched (IsTold E.contents err.old err.new) }
 {
     match text {
         Ok(text) if seat.is_watched => err.tell(text.as_bytes()),

@@ -26,63 +26,67 @@ apart b s t h k e = true≢false (sym h ∙ ap (begins b) e ∙ k)
 pub no_task : (name : Text) (rows : List Row) → (name ≡ codes "run" → ⊥) → (name ≡ codes "shell" → ⊥) → (name ≡ codes "show-policy" → ⊥) → (name ≡ codes "certify" → ⊥) → (name ≡ codes "check" → ⊥) → (name ≡ codes "explain" → ⊥)
     → (task : Task) → IsTask name rows task → ⊥
 no_task name rows run shell show certify check explain ShowPolicy h = show h
-no_task name rows run shell show certify check explain (Run files) h = run h.0
-no_task name rows run shell show certify check explain (Shell files) h = shell h.0
-no_task name rows run shell show certify check explain (Certify transactions) h = certify h.0
-no_task name rows run shell show certify check explain (Check transactions certificates) h = check h.0
+no_task name rows run shell show certify check explain (Run at is_table) h = run h.0
+no_task name rows run shell show certify check explain (Shell label user) h = shell h.0
+no_task name rows run shell show certify check explain Certify h = certify h.0
+no_task name rows run shell show certify check explain Check h = check h.0
 no_task name rows run shell show certify check explain Picture h = explain h.0
-no_task name rows run shell show certify check explain (Explain transactions only) h = explain h.0
+no_task name rows run shell show certify check explain (Explain only) h = explain h.0
 
 nothing : {A X : Type 0} (x : X) (o : Option X) → Some x ≡ o → o ≡ None → A
 nothing x o h k = let e : Some x ≡ None = h ∙ k in absurd cc
 
+-- what is there is not missing
+missing : {A X : Type 0} (o : Option X) → is_some o ≡ true → o ≡ None → A
+missing o h k = let e : false ≡ true = sym (ap is_some k) ∙ h in absurd cc
+
 pub no_certify : (rows : List Row) → first_of (codes "TRANSACTIONS") rows ≡ None → (task : Task) → IsTask (codes "certify") rows task → ⊥
 no_certify rows none ShowPolicy h = let e : codes "certify" ≡ codes "show-policy" = h in absurd cc
-no_certify rows none (Run files) h = let e : codes "certify" ≡ codes "run" = h.0 in absurd cc
-no_certify rows none (Shell files) h = absurd (apart 99 (codes "certify") (codes "shell") refl refl h.0)
-no_certify rows none (Certify transactions) h = nothing _ _ h.1 none
-no_certify rows none (Check transactions certificates) h = let e : codes "certify" ≡ codes "check" = h.0 in absurd cc
+no_certify rows none (Run at is_table) h = let e : codes "certify" ≡ codes "run" = h.0 in absurd cc
+no_certify rows none (Shell label user) h = absurd (apart 99 (codes "certify") (codes "shell") refl refl h.0)
+no_certify rows none Certify h = missing _ h.1 none
+no_certify rows none Check h = let e : codes "certify" ≡ codes "check" = h.0 in absurd cc
 no_certify rows none Picture h = absurd (apart 99 (codes "certify") (codes "explain") refl refl h.0)
-no_certify rows none (Explain transactions only) h = absurd (apart 99 (codes "certify") (codes "explain") refl refl h.0)
+no_certify rows none (Explain only) h = absurd (apart 99 (codes "certify") (codes "explain") refl refl h.0)
 
 pub no_transactions : (rows : List Row) → first_of (codes "TRANSACTIONS") rows ≡ None → (task : Task) → IsTask (codes "check") rows task → ⊥
 no_transactions rows none ShowPolicy h = let e : codes "check" ≡ codes "show-policy" = h in absurd cc
-no_transactions rows none (Run files) h = let e : codes "check" ≡ codes "run" = h.0 in absurd cc
-no_transactions rows none (Shell files) h = absurd (apart 99 (codes "check") (codes "shell") refl refl h.0)
-no_transactions rows none (Certify transactions) h = let e : codes "check" ≡ codes "certify" = h.0 in absurd cc
-no_transactions rows none (Check transactions certificates) h = nothing _ _ h.1 none
+no_transactions rows none (Run at is_table) h = let e : codes "check" ≡ codes "run" = h.0 in absurd cc
+no_transactions rows none (Shell label user) h = absurd (apart 99 (codes "check") (codes "shell") refl refl h.0)
+no_transactions rows none Certify h = let e : codes "check" ≡ codes "certify" = h.0 in absurd cc
+no_transactions rows none Check h = missing _ h.1 none
 no_transactions rows none Picture h = absurd (apart 99 (codes "check") (codes "explain") refl refl h.0)
-no_transactions rows none (Explain transactions only) h = absurd (apart 99 (codes "check") (codes "explain") refl refl h.0)
+no_transactions rows none (Explain only) h = absurd (apart 99 (codes "check") (codes "explain") refl refl h.0)
 
 pub no_certificates : (rows : List Row) → first_of (codes "CERTIFICATES") rows ≡ None → (task : Task) → IsTask (codes "check") rows task → ⊥
 no_certificates rows none ShowPolicy h = let e : codes "check" ≡ codes "show-policy" = h in absurd cc
-no_certificates rows none (Run files) h = let e : codes "check" ≡ codes "run" = h.0 in absurd cc
-no_certificates rows none (Shell files) h = absurd (apart 99 (codes "check") (codes "shell") refl refl h.0)
-no_certificates rows none (Certify transactions) h = let e : codes "check" ≡ codes "certify" = h.0 in absurd cc
-no_certificates rows none (Check transactions certificates) h = nothing _ _ h.2 none
+no_certificates rows none (Run at is_table) h = let e : codes "check" ≡ codes "run" = h.0 in absurd cc
+no_certificates rows none (Shell label user) h = absurd (apart 99 (codes "check") (codes "shell") refl refl h.0)
+no_certificates rows none Certify h = let e : codes "check" ≡ codes "certify" = h.0 in absurd cc
+no_certificates rows none Check h = missing _ h.2 none
 no_certificates rows none Picture h = absurd (apart 99 (codes "check") (codes "explain") refl refl h.0)
-no_certificates rows none (Explain transactions only) h = absurd (apart 99 (codes "check") (codes "explain") refl refl h.0)
+no_certificates rows none (Explain only) h = absurd (apart 99 (codes "check") (codes "explain") refl refl h.0)
 
 longer : codes "shell" ≡ codes "show-policy" → ⊥
 longer h = true≢false (sym (ap (λ t. nat_lt 5 (length t)) h))
 
 pub no_label : (rows : List Row) → first_of (codes "LABEL") rows ≡ None → (task : Task) → IsTask (codes "shell") rows task → ⊥
 no_label rows none ShowPolicy h = absurd (longer h)
-no_label rows none (Run files) h = absurd (apart 115 (codes "shell") (codes "run") refl refl h.0)
-no_label rows none (Shell files) h = nothing _ _ h.4 none
-no_label rows none (Certify transactions) h = absurd (apart 115 (codes "shell") (codes "certify") refl refl h.0)
-no_label rows none (Check transactions certificates) h = absurd (apart 115 (codes "shell") (codes "check") refl refl h.0)
+no_label rows none (Run at is_table) h = absurd (apart 115 (codes "shell") (codes "run") refl refl h.0)
+no_label rows none (Shell label user) h = nothing _ _ h.1 none
+no_label rows none Certify h = absurd (apart 115 (codes "shell") (codes "certify") refl refl h.0)
+no_label rows none Check h = absurd (apart 115 (codes "shell") (codes "check") refl refl h.0)
 no_label rows none Picture h = absurd (apart 115 (codes "shell") (codes "explain") refl refl h.0)
-no_label rows none (Explain transactions only) h = absurd (apart 115 (codes "shell") (codes "explain") refl refl h.0)
+no_label rows none (Explain only) h = absurd (apart 115 (codes "shell") (codes "explain") refl refl h.0)
 
 pub no_user : (rows : List Row) → first_of (codes "USER") rows ≡ None → (task : Task) → IsTask (codes "shell") rows task → ⊥
 no_user rows none ShowPolicy h = absurd (longer h)
-no_user rows none (Run files) h = absurd (apart 115 (codes "shell") (codes "run") refl refl h.0)
-no_user rows none (Shell files) h = nothing _ _ h.5 none
-no_user rows none (Certify transactions) h = absurd (apart 115 (codes "shell") (codes "certify") refl refl h.0)
-no_user rows none (Check transactions certificates) h = absurd (apart 115 (codes "shell") (codes "check") refl refl h.0)
+no_user rows none (Run at is_table) h = absurd (apart 115 (codes "shell") (codes "run") refl refl h.0)
+no_user rows none (Shell label user) h = nothing _ _ h.2 none
+no_user rows none Certify h = absurd (apart 115 (codes "shell") (codes "certify") refl refl h.0)
+no_user rows none Check h = absurd (apart 115 (codes "shell") (codes "check") refl refl h.0)
 no_user rows none Picture h = absurd (apart 115 (codes "shell") (codes "explain") refl refl h.0)
-no_user rows none (Explain transactions only) h = absurd (apart 115 (codes "shell") (codes "explain") refl refl h.0)
+no_user rows none (Explain only) h = absurd (apart 115 (codes "shell") (codes "explain") refl refl h.0)
 
 pub no_policy : (name : Text) (rows : List Row) → first_of (codes "POLICY") rows ≡ None → (job : Job) → IsCommand name rows job → ⊥
 no_policy name rows none job h = nothing _ _ h.policy none

@@ -1,6 +1,6 @@
 -- What the words of a command line ask for, and what is said where they ask for nothing.
 use Rattle.std.specs.Prelude.{◌≡◌, ℕ, ◌<◌, ◌≤◌, Bool, true, false, List, [], map, length, codes, string_bytes, Option}
-use Rattle.std.specs.Prelude.{Some, None, option_map, ⊤}
+use Rattle.std.specs.Prelude.{Some, None, option_map, is_some, ⊤}
 use Rattle.std.specs.Borrow.{Bor}
 use Rattle.std.specs.Str.{bytes_eq}
 use Rattle.clap.specs.Words.{App, Row, Rule, Text, fault_of, first_of, new_app, new_rule, subcommand_of, with_rule}
@@ -8,6 +8,7 @@ use Rattle.clap.specs.Words.{with_subcommand}
 use Rattle.clap.specs.declared.builder.action.ArgAction.TheVariants.{SetTrue}
 use Rattle.mls_words.specs.declared.words.Job.{Job}
 use Rattle.mls_words.specs.declared.words.Documents.{Documents}
+use Rattle.mls_words.specs.declared.words.Files.{Files}
 use Rattle.mls_words.specs.declared.words.Task.{Task}
 use Rattle.mls_words.specs.declared.words.Task.TheVariants.{ShowPolicy, Picture, Run, Shell, Certify, Check, Explain}
 use Rattle.mls_words.specs.declared.usage.Usage.{Usage}
@@ -81,14 +82,8 @@ command_line =
 abbrev pub samples : Job
 samples = record {
   documents = None;
-  task = Run (record {
-    is_table = false;
-    at = None;
-    store = None;
-    transactions = None;
-    certificates = None;
-    script = None;
-  });
+  files = record { store = None; transactions = None; certificates = None; script = None };
+  task = Run None false;
 }
 
 -- a flag is among the words
@@ -99,30 +94,39 @@ is_on (Some t) = bytes_eq t (codes "true")
 -- a task, by the name of its command and the values of its arguments
 abbrev pub IsTask : Text → List Row → Task → Type 0
 IsTask name rows ShowPolicy = name ≡ codes "show-policy"
-IsTask name rows (Run files) =
-    (name ≡ codes "run")
-    × (option_map (λ p. p.now) files.at ≡ first_of (codes "at") rows)
-    × (option_map (λ p. p.now) files.store ≡ first_of (codes "store") rows)
-    × (option_map (λ p. p.now) files.transactions ≡ first_of (codes "transactions") rows)
-    × (option_map (λ p. p.now) files.certificates ≡ first_of (codes "certificates") rows)
-    × (option_map (λ p. p.now) files.script ≡ first_of (codes "SCRIPT") rows)
-    × (files.is_table ≡ is_on (first_of (codes "table") rows))
-IsTask name rows (Shell files) =
-    (name ≡ codes "shell")
-    × (option_map (λ p. p.now) files.store ≡ first_of (codes "store") rows)
-    × (option_map (λ p. p.now) files.transactions ≡ first_of (codes "transactions") rows)
-    × (option_map (λ p. p.now) files.certificates ≡ first_of (codes "certificates") rows)
-    × (Some files.label.now ≡ first_of (codes "LABEL") rows)
-    × (Some files.user.now ≡ first_of (codes "USER") rows)
-IsTask name rows (Certify transactions) = (name ≡ codes "certify")
-    × (Some transactions.now ≡ first_of (codes "TRANSACTIONS") rows)
-IsTask name rows (Check transactions certificates) =
-    (name ≡ codes "check") × (Some transactions.now ≡ first_of (codes "TRANSACTIONS") rows)
-    × (Some certificates.now ≡ first_of (codes "CERTIFICATES") rows)
-IsTask name rows Picture = (name ≡ codes "explain") × (first_of (codes "TRANSACTIONS") rows ≡ None)
-IsTask name rows (Explain transactions only) =
-    (name ≡ codes "explain") × (Some transactions.now ≡ first_of (codes "TRANSACTIONS") rows)
-    × (option_map (λ p. p.now) only ≡ first_of (codes "NAME") rows)
+IsTask name rows (Run at is_table) =
+    (name ≡ codes "run") × (named at ≡ first_of (codes "at") rows) × (is_table ≡ is_on (first_of (codes "table") rows))
+IsTask name rows (Shell label user) =
+    (name ≡ codes "shell") × (Some label.now ≡ first_of (codes "LABEL") rows) × (Some user.now ≡ first_of (codes "USER") rows)
+IsTask name rows Certify = (name ≡ codes "certify") × (is_some (first_of (codes "TRANSACTIONS") rows) ≡ true)
+IsTask name rows Check =
+    (name ≡ codes "check") × (is_some (first_of (codes "TRANSACTIONS") rows) ≡ true)
+    × (is_some (first_of (codes "CERTIFICATES") rows) ≡ true)
+IsTask name rows Picture = (name ≡ codes "explain") × (is_some (first_of (codes "TRANSACTIONS") rows) ≡ false)
+IsTask name rows (Explain only) =
+    (name ≡ codes "explain") × (is_some (first_of (codes "TRANSACTIONS") rows) ≡ true)
+    × (named only ≡ first_of (codes "NAME") rows)
+
+-- files, by what names each
+pub record AreNamed (files : Files) (store transactions certificates script : Option Text) : Type 0 where
+  pub store_is : named files.store ≡ store
+  pub transactions_are : named files.transactions ≡ transactions
+  pub certificates_are : named files.certificates ≡ certificates
+  pub script_is : named files.script ≡ script
+
+-- the files of a task, by the values of its command's arguments
+abbrev pub AreFilesOf : List Row → Task → Files → Type 0
+AreFilesOf rows (Run at is_table) files =
+    AreNamed files (first_of (codes "store") rows) (first_of (codes "transactions") rows)
+    (first_of (codes "certificates") rows) (first_of (codes "SCRIPT") rows)
+AreFilesOf rows (Shell label user) files =
+    AreNamed files (first_of (codes "store") rows) (first_of (codes "transactions") rows)
+    (first_of (codes "certificates") rows) (first_of (codes "SCRIPT") rows)
+AreFilesOf rows Certify files = AreNamed files None (first_of (codes "TRANSACTIONS") rows) None None
+AreFilesOf rows Check files =
+    AreNamed files None (first_of (codes "TRANSACTIONS") rows) (first_of (codes "CERTIFICATES") rows) None
+AreFilesOf rows (Explain only) files = AreNamed files None (first_of (codes "TRANSACTIONS") rows) None None
+AreFilesOf rows task files = AreNamed files None None None None
 
 -- it is done under the files that are named
 pub record IsCommand (name : Text) (rows : List Row) (job : Job) : Type 0 where
@@ -131,6 +135,7 @@ pub record IsCommand (name : Text) (rows : List Row) (job : Job) : Type 0 where
   pub policy : Some documents.policy.now ≡ first_of (codes "POLICY") rows
   pub schemes : Some documents.schemes.now ≡ first_of (codes "SCHEMES") rows
   pub task : IsTask name rows job.task
+  pub files : AreFilesOf rows job.task job.files
 
 abbrev pub IsCommandOf : Option (Text × List Row) → Job → Type 0
 IsCommandOf None job = ⊥
@@ -152,11 +157,11 @@ AskNothing words usage.Memory = ⊤
 abbrev pub at_of : Task → Option (List ℕ)
 at_of ShowPolicy = None
 at_of Picture = None
-at_of (Run files) = named files.at
-at_of (Shell files) = Some files.label.now
-at_of (Certify transactions) = None
-at_of (Check transactions certificates) = None
-at_of (Explain transactions name) = None
+at_of (Run at is_table) = named at
+at_of (Shell label user) = Some label.now
+at_of Certify = None
+at_of Check = None
+at_of (Explain name) = None
 
 -- ---- what is said
 

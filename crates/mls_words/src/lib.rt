@@ -5,4 +5,4 @@ mod usage;
 mod words;
 
 pub use crate::usage::{Usage, tell_memory};
-pub use crate::words::{Documents, Job, RunFiles, ShellFiles, Task, job_of};
+pub use crate::words::{Documents, Files, Job, Task, job_of};

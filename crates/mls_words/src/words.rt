@@ -4,10 +4,9 @@ ghost use Rattle.std.specs.Option.{IfSome};
 ghost use Rattle.clap.specs.Words.{app_of, fault_of, first_of, found_of, kind_of, new_app, new_rule, rows_of, subcommand_of, subcommand_rows_of, with_rule};
 ghost use Rattle.clap.specs.declared.builder.command.Command.TheViews.{out-Command as fields_of};
 ghost use Rattle.mls_words.specs.declared.words.Task.{Task as SpecTask};
-ghost use Rattle.mls_words.specs.declared.words.Task.TheVariants.{Run};
 ghost use Rattle.mls_words.specs.declared.words.Job.{Job as SpecJob};
 ghost use Rattle.mls_words.specs.declared.usage.Usage.TheVariants.{Memory};
-ghost use Rattle.mls_words.specs.Words.{at_of, texts_of, place, option, flag, is_on, with_stored, run, shell, show_policy, certify, check, explain, program, command_line, IsTask, IsCommand, IsCommandOf, Asks, AskNothing};
+ghost use Rattle.mls_words.specs.Words.{at_of, texts_of, place, option, flag, is_on, AreFilesOf, with_stored, run, shell, show_policy, certify, check, explain, program, command_line, IsTask, IsCommand, IsCommandOf, Asks, AskNothing};
 
 use crate::usage::Usage;
 use clap::error::ErrorKind;
@@ -118,54 +117,32 @@ const STORED_TRANSACTIONS: &str = "The stored transactions, which the script can
 
 const STORED_CERTIFICATES: &str = "Their certificates: without one that holds, no call is allowed";
 
-/// The names of a run: whether it prints tables; the label for which alone it prints, and the files of the store, the transactions and
-/// the certificates, where they are given; and the script, which is else on standard input.
+/// The files that a command names, beside those of its policy and schemes; a run without a script reads it from standard input.
 #[derive(Clone, Copy)]
-pub struct RunFiles<'a> {
-    pub is_table: bool,
-    pub at: Option<&'a str>,
+pub struct Files<'a> {
     pub store: Option<&'a str>,
     pub transactions: Option<&'a str>,
     pub certificates: Option<&'a str>,
     pub script: Option<&'a str>,
 }
 
-/// The names of a shell: the files of the store, the transactions and the certificates, where they are given; and the label and the user of
-/// its session.
-#[derive(Clone, Copy)]
-pub struct ShellFiles<'a> {
-    pub store: Option<&'a str>,
-    pub transactions: Option<&'a str>,
-    pub certificates: Option<&'a str>,
-    pub label: &'a str,
-    pub user: &'a str,
-}
-
-/// What is done under a policy and schemes, with files that are each named by a path.
+/// What is done under a policy and schemes, with the files that are named.
 #[derive(Clone, Copy)]
 pub enum Task<'a> {
     /// Their canonical texts are printed.
     ShowPolicy,
-    /// A script is run.
-    Run(RunFiles<'a>),
-    /// Commands are typed.
-    Shell(ShellFiles<'a>),
+    /// A script is run; for the label of a name alone, where there is one.
+    Run { at: Option<&'a str>, is_table: bool },
+    /// Commands are typed, in a session at a label for a user.
+    Shell { label: &'a str, user: &'a str },
     /// Transactions get their certificates.
-    Certify {
-        transactions: &'a str,
-    },
+    Certify,
     /// Certificates are held against transactions.
-    Check {
-        transactions: &'a str,
-        certificates: &'a str,
-    },
+    Check,
     /// What they say is explained.
     Picture,
     /// Transactions, or the one of a name, are explained.
-    Explain {
-        transactions: &'a str,
-        name: Option<&'a str>,
-    },
+    Explain { name: Option<&'a str> },
 }
 
 impl<'a> Task<'a> {
@@ -174,8 +151,8 @@ impl<'a> Task<'a> {
         ensures { option_map (λ p. p.now) result ≡ at_of self.entry }
     {
         match self {
-            Task::Run(files) => files.at,
-            Task::Shell(files) => Some(files.label),
+            Task::Run { at, .. } => at,
+            Task::Shell { label, .. } => Some(label),
             _ => None,
         }
     }
@@ -188,24 +165,30 @@ pub struct Documents<'a> {
     pub schemes: &'a str,
 }
 
-/// What the words ask for: a task, under the policy and the schemes of files, or of the samples.
+/// What the words ask for: a task, with its files, under the policy and the schemes of others, or of the samples.
 #[derive(Clone, Copy)]
 pub struct Job<'a> {
     pub documents: Option<Documents<'a>>,
+    pub files: Files<'a>,
     pub task: Task<'a>,
 }
+
+/// No file is named.
+const NO_FILES: Files<'static> = Files {
+    store: None,
+    transactions: None,
+    certificates: None,
+    script: None,
+};
 
 /// The script on standard input, under the samples.
 const SAMPLES: Job<'static> = Job {
     documents: None,
-    task: Task::Run(RunFiles {
-        is_table: false,
+    files: NO_FILES,
+    task: Task::Run {
         at: None,
-        store: None,
-        transactions: None,
-        certificates: None,
-        script: None,
-    }),
+        is_table: false,
+    },
 };
 
 /// A command without arguments, and what help says of it: a line, and notes below its arguments.
@@ -448,32 +431,13 @@ fn is_on(value: Option<&str>) -> bool
     }
 }
 
-fn run_files<'a>(run: &ArgMatches<'a>) -> RunFiles<'a>
-    ensures { IsTask (codes "run") (rows_of (found_of run.now)) (Run result) }
-{
-    RunFiles {
-        is_table: is_on(value_of(run, "table")),
-        at: value_of(run, "at"),
-        store: value_of(run, "store"),
-        transactions: value_of(run, "transactions"),
-        certificates: value_of(run, "certificates"),
-        script: value_of(run, "SCRIPT"),
-    }
-}
-
 fn shell_task<'a>(matches: &ArgMatches<'a>) -> Option<Task<'a>>
     ensures some { IfSome result (IsTask (codes "shell") (rows_of (found_of matches.now))) }
     ensures none { result ≡ None → (task : SpecTask) → IsTask (codes "shell") (rows_of (found_of matches.now)) task
         → ⊥ }
 {
     match (value_of(matches, "LABEL"), value_of(matches, "USER")) {
-        (Some(label), Some(user)) => Some(Task::Shell(ShellFiles {
-            store: value_of(matches, "store"),
-            transactions: value_of(matches, "transactions"),
-            certificates: value_of(matches, "certificates"),
-            label,
-            user,
-        })),
+        (Some(label), Some(user)) => Some(Task::Shell { label, user }),
         _ => None,
     }
 }
@@ -484,7 +448,7 @@ fn certify_task<'a>(matches: &ArgMatches<'a>) -> Option<Task<'a>>
         → ⊥ }
 {
     match value_of(matches, "TRANSACTIONS") {
-        Some(transactions) => Some(Task::Certify { transactions }),
+        Some(_) => Some(Task::Certify),
         None => None,
     }
 }
@@ -498,10 +462,7 @@ fn check_task<'a>(matches: &ArgMatches<'a>) -> Option<Task<'a>>
         value_of(matches, "TRANSACTIONS"),
         value_of(matches, "CERTIFICATES"),
     ) {
-        (Some(transactions), Some(certificates)) => Some(Task::Check {
-            transactions,
-            certificates,
-        }),
+        (Some(_), Some(_)) => Some(Task::Check),
         _ => None,
     }
 }
@@ -510,8 +471,7 @@ fn explain_task<'a>(matches: &ArgMatches<'a>) -> Task<'a>
     ensures { IsTask (codes "explain") (rows_of (found_of matches.now)) result }
 {
     match value_of(matches, "TRANSACTIONS") {
-        Some(transactions) => Task::Explain {
-            transactions,
+        Some(_) => Task::Explain {
             name: value_of(matches, "NAME"),
         },
         None => Task::Picture,
@@ -523,13 +483,43 @@ fn task_of<'a>(name: &str, matches: &ArgMatches<'a>) -> Option<Task<'a>>
     ensures none { result ≡ None → (task : SpecTask) → IsTask name.now (rows_of (found_of matches.now)) task → ⊥ }
 {
     match name {
-        "run" => Some(Task::Run(run_files(matches))),
+        "run" => Some(Task::Run {
+            at: value_of(matches, "at"),
+            is_table: is_on(value_of(matches, "table")),
+        }),
         "shell" => shell_task(matches),
         "show-policy" => Some(Task::ShowPolicy),
         "certify" => certify_task(matches),
         "check" => check_task(matches),
         "explain" => Some(explain_task(matches)),
         _ => None,
+    }
+}
+
+/// The files of a task, by the arguments of its command.
+fn files_of<'a>(matches: &ArgMatches<'a>, task: Task<'a>) -> Files<'a>
+    ensures { AreFilesOf (rows_of (found_of matches.now)) task.entry result }
+{
+    match task {
+        Task::ShowPolicy | Task::Picture => NO_FILES,
+        Task::Run { .. } | Task::Shell { .. } => Files {
+            store: value_of(matches, "store"),
+            transactions: value_of(matches, "transactions"),
+            certificates: value_of(matches, "certificates"),
+            script: value_of(matches, "SCRIPT"),
+        },
+        Task::Certify | Task::Explain { .. } => Files {
+            store: None,
+            transactions: value_of(matches, "TRANSACTIONS"),
+            certificates: None,
+            script: None,
+        },
+        Task::Check => Files {
+            store: None,
+            transactions: value_of(matches, "TRANSACTIONS"),
+            certificates: value_of(matches, "CERTIFICATES"),
+            script: None,
+        },
     }
 }
 
@@ -553,6 +543,7 @@ fn job_named<'a>(name: &str, matches: &ArgMatches<'a>) -> Option<Job<'a>>
     match (documents_of(matches), task_of(name, matches)) {
         (Some(documents), Some(task)) => Some(Job {
             documents: Some(documents),
+            files: files_of(matches, task),
             task,
         }),
         _ => None,

@@ -1,6 +1,5 @@
 use Rattle.std.proofs.Common.{sym, subst, ◌∙◌}
 use Rattle.mls_advice.specs.Excerpt.{Begins}
-use Rattle.mls_host.specs.Hosting.{hosted}
 use Rattle.mls_command.specs.Accounting.{all_accepted}
 use Rattle.mls_command.specs.Opening.{denial_text}
 use Rattle.mls_command.proofs.AccountLemmas.{denied_told}
@@ -9,10 +8,8 @@ use Rattle.mls_command.proofs.accounting.accepted_listing.Goals as goal
 
 pub returns-in-Some : goal.returns-in-Some
 returns-in-Some g c =
-    denied_told (hosted g.H.Host.hosting g.H.Lines.TypedLines.echo c.args.host.now c.args.host.now) c.args.job c.args.site.now.policy c.args.site.now.file c.args.site.now.reader c.in-Some.denial
-    c.requires.accepted (sym c.opening_denial.ensures ∙ c.in-Some.is) _ _ _
+    denied_told (g.H.Host.hosting c.args.host.now) c.args.job c.args.inputs.now c.in-Some.denial c.requires.read (sym c.opening_denial.ensures ∙ c.in-Some.is) _ _ _
     (subst (Begins (denial_text c.in-Some.denial)) (sym c.listing_of.ensures.text) c.in_ok-text-in-Some.ensures) c.listing_of.ensures.told c.listing_of.ensures.end
 
 pub returns : goal.returns
-returns g c =
-    if_ok (λ l is. all_accepted c.args.site.now.policy c.args.site.now.file c.args.site.now.reader c.requires.accepted (sym c.opening_denial.ensures ∙ c.in-None.is) is) c.store_account.result c.store_account.ensures
+returns g c = if_ok (λ l is. all_accepted c.args.inputs.now c.requires.read (sym c.opening_denial.ensures ∙ c.in-None.is) is) c.store_account.result c.store_account.ensures

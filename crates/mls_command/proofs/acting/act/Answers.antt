@@ -18,7 +18,7 @@ returns-in-Ok-Some g c =
     (IsAppended g.W.Write.contents c.args.out.now c.explain_inputs.new.out) (IsTold g.E.Write.contents c.args.err.now c.explain_inputs.new.err) c.explain_inputs.result)
     is (
       untouched (g.H.Host.hosting c.args.host.now),
-      subst (λ words. Answers (hosted g.H.Host.hosting g.H.Lines.TypedLines.echo c.args.host.now c.args.host.now) (IsAccountOf (hosted g.H.Host.hosting g.H.Lines.TypedLines.echo c.args.host.now c.args.host.now)) (texts_of words)
+      subst (λ words. Answers (hosted g.H.Host.hosting g.H.Lines.TypedLines.echo c.args.host.now c.args.host.now) (IsAccountOf (g.H.Host.hosting c.args.host.now)) (texts_of words)
           (IsAppended g.W.Write.contents c.args.out.now c.explain_inputs.new.out) (IsTold g.E.Write.contents c.args.err.now c.explain_inputs.new.err) c.explain_inputs.result) c.deref.ensures.value c.explain_inputs.ensures,
     )
 

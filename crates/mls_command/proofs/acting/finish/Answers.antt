@@ -17,6 +17,7 @@ returns-in-Ok g c = record {
       (told_all (IsTold g.E.Write.contents c.args.err.now c.perform.new.err) c.in-Ok.ending) c.args.job (Ok c.in-Ok.ending)
       (subst (λ (r : Result Ending Refusal). IsDeedOf (hosted g.H.Host.hosting g.H.Lines.TypedLines.echo c.args.host.now c.perform.new.host) c.args.job (deed g.W.Write.contents c.args.out.now c.perform.new.out g.E.Write.contents c.args.err.now c.perform.new.err r)) c.in-Ok.is c.perform.ensures);
   plain = λ no. refl;
+  of_refusals = refl;
   status_is = c.status.ensures;
 }
 
@@ -27,8 +28,9 @@ returns-in-Err g c =
       more = e.more;
       does = deed_told (hosted g.H.Host.hosting g.H.Lines.TypedLines.echo c.args.host.now c.perform.new.host) (IsAppended g.W.Write.contents c.args.out.now c.perform.new.out) (IsTold g.E.Write.contents c.args.err.now c.perform.new.err) (λ text. IsTold g.E.Write.contents c.args.err.now c.explain_refusal.new.err ((text ++ end_text (Err c.in-Err.refusal)) ++ e.more))
           (λ text t. told_more g.E.Write.contents c.args.err.now c.tell_refusal.new.self c.explain_refusal.new.err (text ++ end_text (Err c.in-Err.refusal)) e.more
-          (told_more g.E.Write.contents c.args.err.now c.perform.new.err c.tell_refusal.new.self text (end_text (Err c.in-Err.refusal)) t c.tell_refusal.ensures) e.told_more) c.args.job (Err c.in-Err.refusal)
+          (told_more g.E.Write.contents c.args.err.now c.perform.new.err c.tell_refusal.new.self text (end_text (Err c.in-Err.refusal)) t c.tell_refusal.ensures) e.leads) c.args.job (Err c.in-Err.refusal)
           (subst (λ (r : Result Ending Refusal). IsDeedOf (hosted g.H.Host.hosting g.H.Lines.TypedLines.echo c.args.host.now c.perform.new.host) c.args.job (deed g.W.Write.contents c.args.out.now c.perform.new.out g.E.Write.contents c.args.err.now c.perform.new.err r)) c.in-Err.is c.perform.ensures);
-      plain = λ no. e.plain (c.is_watched-is_watched.ensures ∙ no);
+      plain = λ no. e.none (c.is_watched-is_watched.ensures ∙ no);
+      of_refusals = tt;
       status_is = c.status-in-Err.ensures;
     }

@@ -9,11 +9,11 @@ pub returns-in-Ok : goal.returns-in-Ok
 returns-in-Ok g c =
     let files = c.in-Ok.files in
     if_ok (λ d is. shown files.log.items files.db.items d.fault c.in-Ok.ensures.shown
-    (subst₂ (λ (log db : List ℕ). IsDiagnosis c.args.policy.now c.args.file.now log db d.fault) c.deref.ensures.value c.deref-in-Ok.ensures.value is))
+    (subst₂ (λ (log db : List ℕ). IsDiagnosis c.args.setting.now.policy c.args.setting.now.file log db d.fault) c.deref.ensures.value c.deref-in-Ok.ensures.value is))
     c.diagnosis_of.result c.diagnosis_of.ensures
 
 pub returns-in-Err : goal.returns-in-Err
 returns-in-Err g c =
     if_both (λ d fault cause.
-    subst (λ (f : Option OpenFault). IsSight (g.H.Host.hosting c.args.host.now) c.args.policy.now c.args.file.now c.args.path.now f) (sym fault) (hidden c.in-Err.cause c.in-Err.ensures.hidden cause))
+    subst (λ (f : Option OpenFault). IsSight (g.H.Host.hosting c.args.host.now) c.args.setting.now c.args.path.now f) (sym fault) (hidden c.in-Err.cause c.in-Err.ensures.hidden cause))
     c.hidden_by.result c.hidden_by.ensures.fault c.hidden_by.ensures.cause

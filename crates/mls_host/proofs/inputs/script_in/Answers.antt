@@ -2,7 +2,7 @@ use Rattle.mls_words.specs.Words.{named}
 use Rattle.mls_host.specs.declared.reason.Role.TheVariants as role
 use Rattle.mls_host.specs.Causes.{IsScriptRefused, RefusesScript, not_given}
 use Rattle.mls_host.proofs.CauseLemmas.{same_reason, not_read_of}
-use Rattle.mls_runs.proofs.running.script_of.Goals as goal
+use Rattle.mls_host.proofs.inputs.script_in.Goals as goal
 
 pub returns-in_err-bytes-clause-refused : goal.returns-in_err-bytes-clause-refused
 returns-in_err-bytes-clause-refused g c =

@@ -1,8 +1,0 @@
-use Rattle.std.proofs.Common.{Some, None}
-use Rattle.mls_host.specs.Causes.{AreFilesRefused, no_transactions}
-use Rattle.mls_host.proofs.CauseLemmas.{same_reason}
-use Rattle.mls_command.proofs.accounting.accept_certify.Goals as goal
-
-pub returns-in_err-_txs-clause-refused : goal.returns-in_err-_txs-clause-refused
-returns-in_err-_txs-clause-refused g c =
-    same_reason (AreFilesRefused (g.H.Host.hosting c.args.host.now) (Some c.args.transactions.now) None c.args.policy.now c.args.schemes.now) c.from_residual.result c.in_err-_txs.field-0.0 c.from_residual.ensures.1 (no_transactions c.in_err-_txs.ensures.refused)

@@ -1,0 +1,24 @@
+//! What a job has read before it does anything.
+use mls_certificate::Certificate;
+use mls_lattice::{Items, LabelNo, Policy, Str};
+use mls_scheme::SchemesFile;
+use mls_script::Event;
+use mls_translang::Tx;
+
+/// The policy and the schemes that a job is done under, and the label for which alone it prints, if there is one.
+#[derive(Drop)]
+pub struct Setting {
+    pub policy: Policy,
+    pub file: SchemesFile,
+    pub reader: Option<LabelNo>,
+}
+
+/// All that a job reads: no transactions, certificates or events where it names no file of them.
+#[derive(Drop)]
+pub struct Inputs {
+    pub setting: Setting,
+    pub transactions: Items<Tx>,
+    /// With the names of their transactions.
+    pub certificates: Items<(Str, Certificate)>,
+    pub events: Items<Event>,
+}

@@ -1,8 +1,11 @@
-//! Rows below a heading, in columns.
+//! Rows in columns, the first of them as a heading.
 use std::alloc::{AllocError, Global};
 
+/// That something was added to a text, or that memory lacks.
+pub(crate) type Told = Result<(), AllocError>;
+
 /// Appends a text so many times.
-pub(crate) fn copies_to(text: &mut String, words: &str, count: usize) -> Result<(), AllocError> {
+pub(crate) fn copies_to(text: &mut String, words: &str, count: usize) -> Told {
     for _ in 0..count {
         text.push_str(words)?;
     }
@@ -10,31 +13,27 @@ pub(crate) fn copies_to(text: &mut String, words: &str, count: usize) -> Result<
 }
 
 /// The bytes of the longest cell of a column.
-fn width_of(heading: &str, rows: &[Vec<String>], place: usize) -> usize {
-    let mut width = heading.len();
+fn width_of(rows: &[Vec<String>], place: usize) -> usize {
+    let mut width = 0;
     for row in rows {
         if let Some(cell) = row.get(place) {
-            width = width.max(cell.len());
+            width = cell.len().max(width);
         }
     }
     width
 }
 
 /// The widths of all columns.
-fn widths_of(
-    alloc: Global,
-    heading: &[String],
-    rows: &[Vec<String>],
-) -> Result<Vec<usize>, AllocError> {
+fn widths_of(alloc: Global, rows: &[Vec<String>]) -> Result<Vec<usize>, AllocError> {
     let mut widths = Vec::new(alloc);
-    for (place, cell) in heading.iter().enumerate() {
-        widths.push(width_of(cell, rows, place))?;
+    for place in 0..rows.first().map_or(0, |heading| heading.len()) {
+        widths.push(width_of(rows, place))?;
     }
     Ok(widths)
 }
 
 /// Appends a row; nothing stands behind its last cell.
-fn row_to(text: &mut String, widths: &[usize], row: &[String]) -> Result<(), AllocError> {
+fn row_to(text: &mut String, widths: &[usize], row: &[String]) -> Told {
     let last = row.len().saturating_sub(1);
     text.push_str("  ")?;
     for (place, cell) in row.iter().enumerate() {
@@ -49,7 +48,7 @@ fn row_to(text: &mut String, widths: &[usize], row: &[String]) -> Result<(), All
 }
 
 /// Appends the dashes below a heading.
-fn rule_to(text: &mut String, widths: &[usize]) -> Result<(), AllocError> {
+fn rule_to(text: &mut String, widths: &[usize]) -> Told {
     let last = widths.len().saturating_sub(1);
     text.push_str("  ")?;
     for width in widths.iter().take(last) {
@@ -59,18 +58,14 @@ fn rule_to(text: &mut String, widths: &[usize]) -> Result<(), AllocError> {
     text.push_str("---\n")
 }
 
-/// Appends rows of ASCII below a heading.
-pub(crate) fn columns_to(
-    alloc: Global,
-    text: &mut String,
-    heading: &[String],
-    rows: &[Vec<String>],
-) -> Result<(), AllocError> {
-    let widths = widths_of(alloc, heading, rows)?;
-    row_to(text, &widths, heading)?;
-    rule_to(text, &widths)?;
-    for row in rows {
+/// Appends rows of ASCII, with dashes below the first.
+pub(crate) fn columns_to(alloc: Global, text: &mut String, rows: &[Vec<String>]) -> Told {
+    let widths = widths_of(alloc, rows)?;
+    for (place, row) in rows.iter().enumerate() {
         row_to(text, &widths, row)?;
+        if place == 0 {
+            rule_to(text, &widths)?;
+        }
     }
     Ok(())
 }

@@ -1,5 +1,6 @@
 //! What is told of a policy or of schemes that are refused.
 use crate::advice::advice_of;
+use crate::columns::Told;
 use crate::excerpts::{cut_off, document_excerpt, file_line};
 use crate::keys::{Known, POLICY, SCHEMES, Thing, known_at};
 use crate::nearest::{label_names, nearest_line, push_name};
@@ -29,10 +30,7 @@ fn value_below<'a>(table: Option<&'a Table>, step: &Step) -> Option<&'a Value> {
 }
 
 fn table_in(value: Option<&Value>) -> Option<&Table> {
-    match value {
-        Some(value) => value.as_table(),
-        None => None,
-    }
+    value?.as_table()
 }
 
 /// The value at the end of some steps, and the table that has it.
@@ -49,7 +47,7 @@ fn value_at<'a>(document: &'a Table, steps: &[Step]) -> (Option<&'a Value>, Opti
 }
 
 /// Appends a step: the item of an array of tables at the top has brackets, as its heading has.
-fn step_to(text: &mut String, is_top: bool, step: &Step) -> Result<(), AllocError> {
+fn step_to(text: &mut String, is_top: bool, step: &Step) -> Told {
     let field = step.field;
     match step.item {
         None => write!(text, "{field}"),
@@ -61,7 +59,7 @@ fn step_to(text: &mut String, is_top: bool, step: &Step) -> Result<(), AllocErro
     }
 }
 
-fn way_to(text: &mut String, steps: &[Step]) -> Result<(), AllocError> {
+fn way_to(text: &mut String, steps: &[Step]) -> Told {
     for (depth, step) in steps.iter().enumerate() {
         if depth > 0 {
             text.push_str(", ")?;
@@ -71,7 +69,8 @@ fn way_to(text: &mut String, steps: &[Step]) -> Result<(), AllocError> {
     Ok(())
 }
 
-fn items_of(value: Option<&Value>) -> &[Value] {
+/// What stands in an array.
+pub(crate) fn items_of(value: Option<&Value>) -> &[Value] {
     match value {
         Some(Value::Array(items)) => items.as_slice(),
         _ => &[],
@@ -79,7 +78,7 @@ fn items_of(value: Option<&Value>) -> &[Value] {
 }
 
 /// Appends a value inside of another one.
-fn inner_to(text: &mut String, value: &Value) -> Result<(), AllocError> {
+fn inner_to(text: &mut String, value: &Value) -> Told {
     match value {
         Value::String(words) => write!(text, "\"{words}\""),
         Value::Integer(number) => write!(text, "{number}"),
@@ -89,7 +88,7 @@ fn inner_to(text: &mut String, value: &Value) -> Result<(), AllocError> {
     }
 }
 
-fn list_to(text: &mut String, items: &[Value]) -> Result<(), AllocError> {
+fn list_to(text: &mut String, items: &[Value]) -> Told {
     text.push_str("[")?;
     for (place, item) in items.iter().enumerate() {
         if place > 0 {
@@ -100,7 +99,7 @@ fn list_to(text: &mut String, items: &[Value]) -> Result<(), AllocError> {
     text.push_str("]")
 }
 
-fn member_to(text: &mut String, key: &str, value: &Value) -> Result<(), AllocError> {
+fn member_to(text: &mut String, key: &str, value: &Value) -> Told {
     write!(text, "{key} = ")?;
     match value {
         Value::Array(items) => list_to(text, items.as_slice()),
@@ -108,7 +107,7 @@ fn member_to(text: &mut String, key: &str, value: &Value) -> Result<(), AllocErr
     }
 }
 
-fn table_to(text: &mut String, table: &Table) -> Result<(), AllocError> {
+fn table_to(text: &mut String, table: &Table) -> Told {
     let mut is_first = true;
     text.push_str("{ ")?;
     for (key, value) in table.iter() {
@@ -134,7 +133,7 @@ fn value_of(alloc: Global, value: &Value) -> Result<String, AllocError> {
 }
 
 /// Appends what stands at a field. Of a long list its length is told.
-fn standing_to(alloc: Global, text: &mut String, value: Option<&Value>) -> Result<(), AllocError> {
+fn standing_to(alloc: Global, text: &mut String, value: Option<&Value>) -> Told {
     let Some(value) = value else {
         return text.push_str("  Nothing stands there.\n");
     };
@@ -197,12 +196,7 @@ fn names_of(
 }
 
 /// Appends the nearest name to a text, or to the first of a list that has one.
-fn nearest_to(
-    alloc: Global,
-    text: &mut String,
-    value: &Value,
-    names: &[Str],
-) -> Result<(), AllocError> {
+fn nearest_to(alloc: Global, text: &mut String, value: &Value, names: &[Str]) -> Told {
     if let Some(name) = value.as_str() {
         return text.push_str(&nearest_line(alloc, name.as_bytes(), names)?);
     }
@@ -216,30 +210,94 @@ fn nearest_to(
 
 // ---- all of it
 
-/// A document that was read, and by which keys.
+/// A file that is refused: of schemes, where a policy is given. The number of its fault, and the steps to where reading stopped.
 #[derive(Clone, Copy)]
 struct Site<'a> {
-    document: &'a Table,
+    alloc: Global,
+    path: &'a str,
     policy: Option<&'a Policy>,
-    keys: &'a [Known],
+    code: u8,
+    steps: &'a [Step],
 }
 
-/// What is known of the field at the end of some steps.
-fn known_of<'a>(keys: &'a [Known], steps: &[Step]) -> Option<&'a Known> {
-    let last = steps.last()?;
-    if last.item.is_some()
-        && let Some(known) = known_at(keys, last.field, "")
-    {
-        return Some(known);
+impl Site<'_> {
+    /// What is known of the field.
+    fn known(&self) -> Option<&'static Known> {
+        let keys: &[Known] = if self.policy.is_some() {
+            &SCHEMES
+        } else {
+            &POLICY
+        };
+        let last = self.steps.last()?;
+        if last.item.is_some()
+            && let Some(known) = known_at(keys, last.field, "")
+        {
+            return Some(known);
+        }
+        match self.steps {
+            [.., above, _] => known_at(keys, above.field, last.field),
+            _ => known_at(keys, "", last.field),
+        }
     }
-    match steps {
-        [.., above, _] => known_at(keys, above.field, last.field),
-        _ => known_at(keys, "", last.field),
+
+    /// Appends what stands at the field, and what could.
+    fn field_to(&self, text: &mut String, document: &Table) -> Told {
+        let (value, table) = value_at(document, self.steps);
+        standing_to(self.alloc, text, value)?;
+        if self.code == PolicyFault::EmptyInterval.code() {
+            low_to(text, table)?;
+        }
+        let Some(known) = self.known() else {
+            return Ok(());
+        };
+        if self.code == PolicyFault::UnknownName.code()
+            && let Some(value) = value
+        {
+            let names = names_of(self.alloc, self.policy, document, known.names)?;
+            nearest_to(self.alloc, text, value, &names)?;
+        }
+        let wanted = known.wanted;
+        writeln!(text, "  Wanted: {wanted}.")
+    }
+
+    /// The field at which reading stopped.
+    fn field_lines(&self, document: &Table) -> Result<String, AllocError> {
+        if self.steps.is_empty() {
+            return file_line(self.alloc, self.path);
+        }
+        let mut text = String::from_str(self.alloc, "  ")?;
+        text_to(&mut text, self.path)?;
+        text.push_str(": ")?;
+        way_to(&mut text, self.steps)?;
+        text.push_str("\n")?;
+        self.field_to(&mut text, document)?;
+        Ok(text)
+    }
+
+    /// The place at which the reader of TOML stopped, and what it says.
+    fn toml_lines(&self, bytes: &[u8], fault: &toml::de::Error) -> Result<String, AllocError> {
+        let Some(span) = fault.span() else {
+            return Err(AllocError);
+        };
+        let spot = spot_at(bytes, span.start);
+        let mut text = document_excerpt(self.alloc, self.path, spot.line, spot.column, bytes)?;
+        let message = fault.message();
+        writeln!(text, "  The reader of TOML says: {message}.")?;
+        Ok(text)
+    }
+
+    fn lines_of(&self, bytes: &[u8]) -> Result<String, AllocError> {
+        let mut text = match toml::table_from_slice(self.alloc, bytes) {
+            Err(fault) => self.toml_lines(bytes, &fault)?,
+            Ok(document) => self.field_lines(&document)?,
+        };
+        text.push_str(advice_of(self.code))?;
+        Ok(text)
     }
 }
 
 /// Appends the lower end of an interval, whose other end stands beside it.
-fn low_to(text: &mut String, table: Option<&Table>) -> Result<(), AllocError> {
+fn low_to(text: &mut String, table: Option<&Table>) -> Told {
     let Some(table) = table else {
         return Ok(());
     };
@@ -251,124 +309,37 @@ fn low_to(text: &mut String, table: Option<&Table>) -> Result<(), AllocError> {
     Ok(())
 }
 
-/// Appends what stands at a field, and what could.
-fn field_to(
-    alloc: Global,
-    text: &mut String,
-    site: &Site,
-    code: u8,
-    steps: &[Step],
-) -> Result<(), AllocError> {
-    let (value, table) = value_at(site.document, steps);
-    standing_to(alloc, text, value)?;
-    if code == PolicyFault::EmptyInterval.code() {
-        low_to(text, table)?;
-    }
-    let Some(known) = known_of(site.keys, steps) else {
-        return Ok(());
-    };
-    if code == PolicyFault::UnknownName.code()
-        && let Some(value) = value
-    {
-        let names = names_of(alloc, site.policy, site.document, known.names)?;
-        nearest_to(alloc, text, value, &names)?;
-    }
-    let wanted = known.wanted;
-    writeln!(text, "  Wanted: {wanted}.")
-}
-
-/// The field at which reading stopped.
-fn field_lines(
-    alloc: Global,
-    path: &str,
-    site: &Site,
-    code: u8,
-    steps: &[Step],
-) -> Result<String, AllocError> {
-    if steps.is_empty() {
-        return file_line(alloc, path);
-    }
-    let mut text = String::from_str(alloc, "  ")?;
-    text_to(&mut text, path)?;
-    text.push_str(": ")?;
-    way_to(&mut text, steps)?;
-    text.push_str("\n")?;
-    field_to(alloc, &mut text, site, code, steps)?;
-    Ok(text)
-}
-
-/// The place at which the reader of TOML stopped, and what it says.
-fn toml_lines(
-    alloc: Global,
-    path: &str,
-    bytes: &[u8],
-    fault: &toml::de::Error,
-) -> Result<String, AllocError> {
-    let Some(span) = fault.span() else {
-        return Err(AllocError);
-    };
-    let spot = spot_at(bytes, span.start);
-    let mut text = document_excerpt(alloc, path, spot.line, spot.column, bytes)?;
-    let message = fault.message();
-    writeln!(text, "  The reader of TOML says: {message}.")?;
-    Ok(text)
-}
-
-fn lines_of(
-    alloc: Global,
-    path: &str,
-    bytes: &[u8],
-    policy: Option<&Policy>,
-    code: u8,
-    steps: &[Step],
-) -> Result<String, AllocError> {
-    let keys: &[Known] = if policy.is_some() { &SCHEMES } else { &POLICY };
-    let mut text = match toml::table_from_slice(alloc, bytes) {
-        Err(fault) => toml_lines(alloc, path, bytes, &fault)?,
-        Ok(document) => {
-            let site = Site {
-                document: &document,
-                policy,
-                keys,
-            };
-            field_lines(alloc, path, &site, code, steps)?
-        }
-    };
-    text.push_str(advice_of(code))?;
-    Ok(text)
-}
-
 /// What is told of a policy that is refused: where, what stands there, what is wanted, and what to do.
-pub fn policy_lines(
+pub fn policy_lines<'a>(
     alloc: Global,
-    path: &str,
+    path: &'a str,
     bytes: &[u8],
-    refused: &Refused<PolicyFault>,
+    refused: &'a Refused<PolicyFault>,
 ) -> Result<String, AllocError> {
-    lines_of(
+    let site = Site {
         alloc,
         path,
-        bytes,
-        None,
-        refused.fault.code(),
-        refused.at.steps(),
-    )
+        policy: None,
+        code: refused.fault.code(),
+        steps: refused.at.steps(),
+    };
+    site.lines_of(bytes)
 }
 
 /// The same of schemes, under the policy that declares their labels.
-pub fn schemes_lines(
+pub fn schemes_lines<'a>(
     alloc: Global,
-    path: &str,
-    policy: &Policy,
+    path: &'a str,
+    policy: &'a Policy,
     bytes: &[u8],
-    refused: &Refused<SchemeFault>,
+    refused: &'a Refused<SchemeFault>,
 ) -> Result<String, AllocError> {
-    lines_of(
+    let site = Site {
         alloc,
         path,
-        bytes,
-        Some(policy),
-        refused.fault.code(),
-        refused.at.steps(),
-    )
+        policy: Some(policy),
+        code: refused.fault.code(),
+        steps: refused.at.steps(),
+    };
+    site.lines_of(bytes)
 }

@@ -2,7 +2,7 @@
 ghost use Rattle.std.specs.Prelude.{◌≡◌, ◌++◌, string_bytes, OnOk, IfOk};
 ghost use Rattle.mls_advice.specs.Excerpt.{Begins, place_line, file_line};
 
-use crate::columns::copies_to;
+use crate::columns::{Told, copies_to};
 use crate::shown::{bytes_to, text_to};
 use mls_lattice::is_name_byte;
 use mls_screen::columns;
@@ -82,13 +82,6 @@ pub(crate) fn token_of(bytes: &[u8]) -> &[u8] {
 
 // ---- a text between quotes that goes wrong
 
-/// Where a text between quotes goes wrong, counted from its first quote, and why.
-#[derive(Clone, Copy)]
-struct Wrong {
-    place: usize,
-    why: &'static str,
-}
-
 const BACKSLASH: &str = "  In a text a `\\` stands before `\"` or another `\\` alone.\n";
 
 const CONTROL: &str = "  A text has no tab, and no other control character.\n";
@@ -105,43 +98,31 @@ fn valid_len(line: &[u8]) -> usize {
     }
 }
 
-/// What goes wrong in a line behind the quote of a text.
-fn wrong_inside(inside: &[u8]) -> Option<Wrong> {
+/// Where a line goes wrong behind the quote of a text, counted from that, and why.
+fn wrong_inside(inside: &[u8]) -> Option<(usize, &'static str)> {
     let valid = valid_len(inside);
     let mut escaped = false;
     for (place, byte) in inside.iter().enumerate() {
         let is_mark = *byte == b'"' || *byte == b'\\';
         if escaped && !is_mark {
-            return Some(Wrong {
-                place,
-                why: BACKSLASH,
-            });
+            return Some((place, BACKSLASH));
         }
         if !escaped && *byte == b'"' {
             return None;
         }
         if *byte < 32 || *byte == 127 {
-            return Some(Wrong {
-                place: place + 1,
-                why: CONTROL,
-            });
+            return Some((place + 1, CONTROL));
         }
         if place >= valid {
-            return Some(Wrong {
-                place: place + 1,
-                why: NO_UTF8,
-            });
+            return Some((place + 1, NO_UTF8));
         }
         escaped = !escaped && *byte == b'\\';
     }
-    Some(Wrong {
-        place: 0,
-        why: UNCLOSED,
-    })
+    Some((0, UNCLOSED))
 }
 
-/// What goes wrong in the text between quotes with which a line goes on, if it does.
-fn wrong_in(line: &[u8]) -> Option<Wrong> {
+/// The same of the text between quotes with which a line goes on, if it does.
+fn wrong_in(line: &[u8]) -> Option<(usize, &'static str)> {
     match line {
         [b'"', inside @ ..] => wrong_inside(inside),
         _ => None,
@@ -151,12 +132,7 @@ fn wrong_in(line: &[u8]) -> Option<Wrong> {
 // ---- the lines
 
 #[tactic(auto, unfolding(crate::specs::Excerpt::place_line))]
-fn place_to(
-    text: &mut String,
-    path: &str,
-    line: usize,
-    column: Option<usize>,
-) -> Result<(), AllocError>
+fn place_to(text: &mut String, path: &str, line: usize, column: Option<usize>) -> Told
     ensures { OnOk result (string_bytes text.new ≡ string_bytes text.old ++ place_line path.now line column) }
 {
     text.push_str("  ")?;
@@ -180,7 +156,7 @@ pub fn file_line(alloc: Global, path: &str) -> Result<String, AllocError>
 }
 
 /// Appends what stands at the beginning of bytes.
-fn standing_to(text: &mut String, bytes: &[u8]) -> Result<(), AllocError> {
+fn standing_to(text: &mut String, bytes: &[u8]) -> Told {
     match bytes.first() {
         None => text.push_str("  There stands the end of the file.\n"),
         Some(b'\n') => text.push_str("  There stands the end of the line.\n"),
@@ -227,9 +203,9 @@ fn shown_line(
         return Ok(text);
     };
     let skipped = column.saturating_sub(1);
-    if by_rules && let Some(wrong) = wrong_in(behind(first_line(bytes), skipped)) {
-        let mut text = pointed(alloc, before, skipped.saturating_add(wrong.place), bytes)?;
-        text.push_str(wrong.why)?;
+    if by_rules && let Some((place, why)) = wrong_in(behind(first_line(bytes), skipped)) {
+        let mut text = pointed(alloc, before, skipped.saturating_add(place), bytes)?;
+        text.push_str(why)?;
         return Ok(text);
     }
     pointed(alloc, before, skipped, bytes)

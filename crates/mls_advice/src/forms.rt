@@ -2,36 +2,25 @@
 use crate::excerpts::{behind, first, first_line, from_line};
 use mls_lattice::is_name_byte;
 
+/// Verbs, and the lines that tell the forms of their commands.
+macro_rules! forms {
+    ($($verb:literal $form:literal)*) => {
+        [$(($verb, concat!("  The form: LABEL SESSION ", $verb, $form, "\n"))),*]
+    };
+}
+
 /// A verb, and the form of its command.
-static FORMS: [(&str, &str); 9] = [
-    ("open", "  The form: LABEL SESSION open USER\n"),
-    ("close", "  The form: LABEL SESSION close\n"),
-    (
-        "view",
-        "  The form: LABEL SESSION view RELATION at LABEL [highest] [class OP LABEL] [first N] [where CONDITION]\n",
-    ),
-    (
-        "count",
-        "  The form: LABEL SESSION count RELATION at LABEL [highest] [class OP LABEL] [where CONDITION]\n",
-    ),
-    (
-        "insert",
-        "  The form: LABEL SESSION insert RELATION key (VALUE, ..) values (VALUE, ..)\n",
-    ),
-    (
-        "update",
-        "  The form: LABEL SESSION update RELATION key (VALUE, ..) class LABEL from LABEL set ATTRIBUTE = VALUE, ..\n",
-    ),
-    (
-        "delete",
-        "  The form: LABEL SESSION delete RELATION key (VALUE, ..) class LABEL\n",
-    ),
-    ("audit", "  The form: LABEL SESSION audit\n"),
-    (
-        "call",
-        "  The form: LABEL SESSION call TRANSACTION (VALUE, ..)\n",
-    ),
-];
+static FORMS: [(&str, &str); 9] = forms! {
+    "open" " USER"
+    "close" ""
+    "view" " RELATION at LABEL [highest] [class OP LABEL] [first N] [where CONDITION]"
+    "count" " RELATION at LABEL [highest] [class OP LABEL] [where CONDITION]"
+    "insert" " RELATION key (VALUE, ..) values (VALUE, ..)"
+    "update" " RELATION key (VALUE, ..) class LABEL from LABEL set ATTRIBUTE = VALUE, .."
+    "delete" " RELATION key (VALUE, ..) class LABEL"
+    "audit" ""
+    "call" " TRANSACTION (VALUE, ..)"
+};
 
 const NO_VERB: &str =
     "  The form: LABEL SESSION, then open, close, view, count, insert, update, delete, audit or call.\n";

@@ -1,6 +1,6 @@
 -- What is told of inputs.
 use Rattle.std.proofs.Common.{◌≡◌, ◌⊎◌, ℕ, List, [], string_bytes, Some, Result, Ok, Err, IfOk, IfErr, inl, inr, sym, subst}
-use Rattle.mls_words.specs.declared.words.Job.{Job}
+use Rattle.mls_host.specs.declared.words.Job.{Job}
 use Rattle.mls_host.specs.declared.job.Inputs.{Inputs}
 use Rattle.mls_host.specs.declared.reason.Reason.{Reason}
 use Rattle.mls_host.specs.declared.reason.Reason.TheVariants.{Memory}
@@ -9,7 +9,7 @@ use Rattle.mls_host.specs.declared.ending.Ending.TheVariants.{Refused}
 use Rattle.mls_host.specs.Hosting.{Hosting}
 use Rattle.mls_host.specs.Reading.{AreInputs, AreInputsRefused}
 use Rattle.mls_host.specs.Reason.{reason_status}
-use Rattle.mls_listings.specs.declared.listing.Listing.{Listing}
+use Rattle.mls_command.specs.declared.listing.Listing.{Listing}
 use Rattle.mls_advice.specs.Excerpt.{Begins}
 use Rattle.mls_machine.specs.declared.reply.Denial.{Denial}
 use Rattle.mls_command.specs.Opening.{opening_denial, denial_text}

@@ -3,11 +3,11 @@ use Rattle.std.proofs.Common.{◌≡◌, ℕ, Bool, List, [], ◌++◌, Option, 
 use Rattle.std.proofs.lemmas.List.{append-nil}
 use Rattle.std.specs.Result.{IsErrAnd}
 use Rattle.mls_sessions.specs.declared.cause.RunFault.{RunFault}
-use Rattle.mls_words.specs.declared.words.Job.{Job}
-use Rattle.mls_words.specs.declared.words.Task.{Task}
-use Rattle.mls_words.specs.declared.words.Task.TheVariants as tasks
-use Rattle.mls_words.specs.Words.{named, usage_text, usage_status}
-use Rattle.mls_words.specs.declared.usage.Usage.TheVariants as usages
+use Rattle.mls_host.specs.declared.words.Job.{Job}
+use Rattle.mls_host.specs.declared.words.Task.{Task}
+use Rattle.mls_host.specs.declared.words.Task.TheVariants as tasks
+use Rattle.mls_host.specs.Words.{named, usage_text, usage_status}
+use Rattle.mls_host.specs.declared.usage.Usage.TheVariants as usages
 use Rattle.clap.specs.Words.{Text}
 use Rattle.std.specs.Borrow.{Bor}
 use Rattle.mls_host.specs.declared.ending.Ending.{Ending}
@@ -15,19 +15,24 @@ use Rattle.mls_host.specs.declared.ending.Ending.TheVariants.{Well}
 use Rattle.mls_host.specs.declared.job.Inputs.{Inputs}
 use Rattle.mls_host.specs.declared.reason.Reason.{Reason}
 use Rattle.mls_host.specs.declared.refusal.Refusal.{Refusal}
-use Rattle.mls_host.specs.declared.refusal.Refusal.TheVariants.{Before, Run, NotClosed, Output}
+use Rattle.mls_host.specs.declared.refusal.Refusal.TheVariants.{Before, Run, NotClosed, Output, Served, Unread}
 use Rattle.mls_host.specs.Deed.{Deed, IsQuiet, end_text}
-use Rattle.mls_host.specs.Hosting.{Hosted, KeepsStores}
+use Rattle.mls_host.specs.declared.errors.Errors.{Errors}
+use Rattle.mls_host.specs.Hosting.{Hosted, KeepsStores, IsTold}
+use Rattle.mls_host.proofs.HostingLemmas.{told_more}
 use Rattle.mls_host.specs.Causes.{IsNotBegun}
 use Rattle.mls_host.specs.Reading.{AreInputsRefused}
 use Rattle.mls_host.specs.Refusal.{IsEnd, refusal_text}
 use Rattle.mls_host.specs.Stopping.{IsCaused}
-use Rattle.mls_listings.specs.Printing.{IsPrinting}
-use Rattle.mls_listings.proofs.PrintingLemmas.{printing_told}
+use Rattle.mls_command.specs.Printing.{IsPrinting}
+use Rattle.mls_command.proofs.PrintingLemmas.{printing_told}
 use Rattle.mls_runs.specs.ScriptRun.{IsScriptRun}
 use Rattle.mls_shells.specs.ShellRun.{IsShellRun, IsShellRefused}
+use Rattle.mls_runs.specs.DeskRun.{IsDeskRun}
 use Rattle.mls_command.specs.Acting.{Prints, IsRunOf, IsRunDeed, IsTaskRefused, IsTaskDeed, IsDeedOf}
-use Rattle.mls_command.specs.Answering.{IsAnsweredAs, not_asked}
+use Rattle.mls_command.specs.Accounting.{Accounts, IsUnread, IsAccountOf}
+use Rattle.mls_command.specs.Answering.{IsFinished, IsNoted, Answers, asked, IsAnsweredAs, IsAnswered, not_asked}
+use Rattle.mls_command.specs.Explained.{explained_of}
 
 -- ---- tasks
 
@@ -49,6 +54,8 @@ module _ (h : Hosted) (inputs : Inputs) (store : Option (List ℕ)) where
     run_ended (Run fault) k quiet = (k.0, (quiet, k.1))
     run_ended NotClosed k quiet = (k.0, (Well, (refl, quiet, k.1.1)))
     run_ended Output k quiet = absurd k.1
+    run_ended (Served cause) k quiet = absurd k.1
+    run_ended Unread k quiet = absurd k.1
 
     -- one that was given up, at the exit of a `?`
     pub run_given_up : (r : Result (Unit {0}) Refusal) (e : Refusal) → r ≡ Err e → IsRunEnd r → told [] → (end : Result Ending Refusal) → IsErrAnd end (λ x. x ≡ e)
@@ -66,6 +73,20 @@ module _ (h : Hosted) (inputs : Inputs) (store : Option (List ℕ)) where
   shell_ended label user wrote told (Err (Run fault)) caused k = (caused, k)
   shell_ended label user wrote told (Err NotClosed) caused k = (caused, k)
   shell_ended label user wrote told (Err Output) caused k = absurd k
+  shell_ended label user wrote told (Err (Served cause)) caused k = absurd k
+  shell_ended label user wrote told (Err Unread) caused k = absurd k
+
+  -- a desk that ended, or was given up
+  pub desk_ended : (wrote told : List ℕ → Type 0) (r : Result Ending Refusal) → IsCaused h store r
+      → IsEnd (IsDeskRun h inputs store wrote) (λ reason. IsNotBegun h.before inputs.setting.policy inputs.setting.file store reason × wrote []) r → told []
+      → IsRunDeed h inputs store tasks.Serve (record { wrote = wrote; told = told; end = r })
+  desk_ended wrote told (Ok end) caused k quiet = (caused, (quiet, k))
+  desk_ended wrote told (Err (Before reason)) caused k quiet = (caused, (k.0, (k.1, quiet)))
+  desk_ended wrote told (Err (Run fault)) caused k quiet = (caused, (quiet, k))
+  desk_ended wrote told (Err NotClosed) caused k quiet = (caused, (k.0, (quiet, k.1)))
+  desk_ended wrote told (Err Output) caused k quiet = absurd k
+  desk_ended wrote told (Err (Served cause)) caused k quiet = absurd k
+  desk_ended wrote told (Err Unread) caused k quiet = absurd k
 
 -- ---- jobs
 
@@ -105,6 +126,18 @@ module _ (h : Hosted) (wrote told more : List ℕ → Type 0) (f : (text : List 
     shell_end_told label user (Err (Run fault)) k = (k.0, shell_told label.now user.now (Err fault) k.1)
     shell_end_told label user (Err NotClosed) k = (k.0, (k.1.0, shell_told label.now user.now (Ok k.1.0) k.1.1))
     shell_end_told label user (Err Output) k = k
+    shell_end_told label user (Err (Served cause)) k = k
+    shell_end_told label user (Err Unread) k = k
+
+    desk_end_told : (end : Result Ending Refusal) → IsRunDeed h inputs store tasks.Serve (record { wrote = wrote; told = told; end = end })
+        → IsRunDeed h inputs store tasks.Serve (record { wrote = wrote; told = more; end = end })
+    desk_end_told (Ok end) k = (k.0, (f [] k.1.0, k.1.1))
+    desk_end_told (Err (Before reason)) k = (k.0, (k.1.0, (k.1.1.0, f [] k.1.1.1)))
+    desk_end_told (Err (Run fault)) k = (k.0, (f [] k.1.0, k.1.1))
+    desk_end_told (Err NotClosed) k = (k.0, (k.1.0, (f [] k.1.1.0, k.1.1.1)))
+    desk_end_told (Err Output) k = k
+    desk_end_told (Err (Served cause)) k = k
+    desk_end_told (Err Unread) k = k
 
     run_end_told : (at : Option (Bor (List ℕ))) (is_table : Bool) (end : Result Ending Refusal) → IsRunDeed h inputs store (tasks.Run at is_table) (record { wrote = wrote; told = told; end = end })
         → IsRunDeed h inputs store (tasks.Run at is_table) (record { wrote = wrote; told = more; end = end })
@@ -113,15 +146,18 @@ module _ (h : Hosted) (wrote told more : List ℕ → Type 0) (f : (text : List 
     run_end_told at is_table (Err (Run fault)) k = (k.0, (f [] k.1.0, k.1.1))
     run_end_told at is_table (Err NotClosed) k = (k.0, (k.1.0, (k.1.1.0, f [] k.1.1.1, k.1.1.2)))
     run_end_told at is_table (Err Output) k = k
+    run_end_told at is_table (Err (Served cause)) k = k
+    run_end_told at is_table (Err Unread) k = k
 
-    printed_told : (task : Task) (end : Result Ending Refusal) → KeepsStores h × IsPrinting (Prints h inputs store task) (IsTaskRefused h inputs store task) (record { wrote = wrote; told = told; end = end })
-        → KeepsStores h × IsPrinting (Prints h inputs store task) (IsTaskRefused h inputs store task) (record { wrote = wrote; told = more; end = end })
-    printed_told task end k = (k.0, printing_told (Prints h inputs store task) (IsTaskRefused h inputs store task) wrote told more f end k.1)
+    printed_told : (task : Task) (end : Result Ending Refusal) → KeepsStores h × IsPrinting (Prints inputs task) (IsTaskRefused h inputs store task) (record { wrote = wrote; told = told; end = end })
+        → KeepsStores h × IsPrinting (Prints inputs task) (IsTaskRefused h inputs store task) (record { wrote = wrote; told = more; end = end })
+    printed_told task end k = (k.0, printing_told (Prints inputs task) (IsTaskRefused h inputs store task) wrote told more f end k.1)
 
     task_told : (end : Result Ending Refusal) (task : Task) → IsTaskDeed h inputs store task (record { wrote = wrote; told = told; end = end })
         → IsTaskDeed h inputs store task (record { wrote = wrote; told = more; end = end })
     task_told end (tasks.Run at is_table) k = run_end_told at is_table end k
     task_told end (tasks.Shell label user) k = shell_end_told label user end k
+    task_told end tasks.Serve k = (k.0, k.1, desk_end_told k.0 k.2)
     task_told end tasks.ShowPolicy k = printed_told tasks.ShowPolicy end k
     task_told end tasks.Picture k = printed_told tasks.Picture end k
     task_told end tasks.Certify k = printed_told tasks.Certify end k
@@ -131,6 +167,39 @@ module _ (h : Hosted) (wrote told more : List ℕ → Type 0) (f : (text : List 
   pub deed_told : (job : Job) (end : Result Ending Refusal) → IsDeedOf h job (record { wrote = wrote; told = told; end = end }) → IsDeedOf h job (record { wrote = wrote; told = more; end = end })
   deed_told job end (inl k) = inl (k.0, k.1, k.2, k.3, (k.4.0, f [] k.4.1))
   deed_told job end (inr u) = inr (u.0, u.1, task_told u.0 (named job.files.store) end job.task u.2)
+
+module _ (h : Hosted) (wrote told more : List ℕ → Type 0) (f : (text : List ℕ) → told text → more text) where
+  module _ (status : ℕ) where
+    -- a deed whose told texts can be told otherwise
+    abbrev Retells : (Deed → Type 0) → Type 1
+    Retells Does = (t m : List ℕ → Type 0) → ((text : List ℕ) → t text → m text) → (end : Result Ending Refusal) → Does (record { wrote = wrote; told = t; end = end }) → Does (record { wrote = wrote; told = m; end = end })
+
+    finished_told : (is_watched : Bool) (Does : Deed → Type 0) → Retells Does → IsFinished is_watched Does wrote told status → IsFinished is_watched Does wrote more status
+    finished_told is_watched Does retell x = record {
+      end = x.end;
+      more = x.more;
+      does = retell (λ text. told ((text ++ end_text x.end) ++ x.more)) (λ text. more ((text ++ end_text x.end) ++ x.more)) (λ text t. f ((text ++ end_text x.end) ++ x.more) t) x.end x.does;
+      plain = x.plain;
+      of_refusals = x.of_refusals;
+      status_is = x.status_is;
+    }
+
+    answers_told : (Does : Job → Deed → Type 0) → ((job : Job) → Retells (Does job)) → (words : List Text) → Answers h Does words wrote told status → Answers h Does words wrote more status
+    answers_told Does retell words (asked job is finished) = asked job is (finished_told h.before.is_watched (Does job) (retell job) finished)
+    answers_told Does retell words (not_asked usage nothing kept w t s) = not_asked usage nothing kept w (f (usage_text usage) t) s
+
+    pub answered_told : (other : Option (List Text)) (words : List Text) → IsAnsweredAs h other words wrote told status → IsAnsweredAs h other words wrote more status
+    answered_told None words k = answers_told (IsDeedOf h) (λ job t m g end d. deed_told h wrote t m g job end d) words k
+    answered_told (Some other) words k = (k.0, answers_told (IsAccountOf h.before) (λ job t m g end d. printing_told (Accounts h.before job) (IsUnread h.before job) wrote t m g end d) other k.1)
+
+-- a command, behind what is told before all else
+pub noted : {E : Type 0} (contents : E → Option (List ℕ)) (old mid new : Errors E) (h : Hosted) (words : List Text) (wrote : List ℕ → Type 0) (status : ℕ) → IsNoted h.before words (IsTold contents old mid)
+    → IsAnsweredAs h (explained_of words) words wrote (IsTold contents mid new) status → IsAnswered h words wrote (IsTold contents old new) status
+noted contents old mid new h words wrote status n k = record {
+  note = n.note;
+  none = n.none;
+  leads = answered_told h wrote (IsTold contents mid new) (λ text. IsTold contents old new (n.note ++ text)) (λ text t. told_more contents old mid new n.note text n.leads t) status (explained_of words) words k;
+}
 
 -- nothing more is told of what ended
 pub told_end : (told : List ℕ → Type 0) (ending : Ending) (text : List ℕ) → told text → told (text ++ end_text (Ok ending))

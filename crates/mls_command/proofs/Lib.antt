@@ -1,3 +1,5 @@
 pub mod ActingLemmas
 pub mod AccountLemmas
 pub mod TellingLemmas
+pub mod CertifyingLemmas
+pub mod PrintingLemmas

@@ -30,3 +30,7 @@ if_ok f (Err e) p = tt
 pub if_both : {A E : Type 0} {P Q R : A → Type 0} → ((v : A) → P v → Q v → R v) → (r : Result A E) → IfOk r P → IfOk r Q → IfOk r R
 if_both f (Ok v) p q = f v p q
 if_both f (Err e) p q = tt
+
+pub if_three : {A E : Type 0} {P Q R S : A → Type 0} → ((v : A) → P v → Q v → R v → S v) → (r : Result A E) → IfOk r P → IfOk r Q → IfOk r R → IfOk r S
+if_three f (Ok v) p q r = f v p q r
+if_three f (Err e) p q r = tt

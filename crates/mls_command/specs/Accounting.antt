@@ -1,8 +1,8 @@
 -- What is told of the inputs of a command that is explained: all are accepted, and its store is opened or not; or the
 -- session of its shell is denied; or which one is refused first.
 use Rattle.std.specs.Prelude.{◌≡◌, ◌≢◌, ℕ, List, [], ◌++◌, Some, None, ◌⊎◌}
-use Rattle.mls_words.specs.declared.words.Job.{Job}
-use Rattle.mls_words.specs.Words.{named}
+use Rattle.mls_host.specs.declared.words.Job.{Job}
+use Rattle.mls_host.specs.Words.{named}
 use Rattle.mls_host.specs.declared.ending.Ending.{Ending}
 use Rattle.mls_host.specs.declared.ending.Ending.TheVariants.{Refused}
 use Rattle.mls_host.specs.declared.job.Inputs.{Inputs}
@@ -13,7 +13,7 @@ use Rattle.mls_host.specs.Hosting.{Hosting}
 use Rattle.mls_host.specs.Reading.{AreInputs, AreInputsRefused}
 use Rattle.mls_host.specs.Reason.{reason_status}
 use Rattle.mls_machine.specs.declared.reply.Denial.{Denial}
-use Rattle.mls_listings.specs.Printing.{IsPrinting}
+use Rattle.mls_command.specs.Printing.{IsPrinting}
 use Rattle.mls_command.specs.Looking.{IsStoreAccount}
 use Rattle.mls_command.specs.Opening.{opening_denial, denial_text}
 use Rattle.mls_command.specs.Telling.{IsToldOf}

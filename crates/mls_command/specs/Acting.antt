@@ -3,10 +3,10 @@ use Rattle.std.specs.Prelude.{◌≡◌, ℕ, List, [], ◌++◌, Option, Some, 
 use Rattle.mls_lattice.specs.Canon as lattice
 use Rattle.mls_scheme.specs.Canon as scheme
 use Rattle.mls_sessions.specs.declared.cause.RunFault.{RunFault}
-use Rattle.mls_words.specs.declared.words.Job.{Job}
-use Rattle.mls_words.specs.declared.words.Task.{Task}
-use Rattle.mls_words.specs.declared.words.Task.TheVariants.{ShowPolicy, Picture, Run, Shell, Certify, Check, Explain}
-use Rattle.mls_words.specs.Words.{named}
+use Rattle.mls_host.specs.declared.words.Job.{Job}
+use Rattle.mls_host.specs.declared.words.Task.{Task}
+use Rattle.mls_host.specs.declared.words.Task.TheVariants.{ShowPolicy, Picture, Run, Shell, Serve, Certify, Check, Explain}
+use Rattle.mls_host.specs.Words.{named}
 use Rattle.mls_host.specs.declared.ending.Ending.{Ending}
 use Rattle.mls_host.specs.declared.ending.Ending.TheVariants.{Well}
 use Rattle.mls_host.specs.declared.job.Inputs.{Inputs}
@@ -16,18 +16,20 @@ use Rattle.mls_host.specs.declared.refusal.Refusal.TheVariants.{Before}
 use Rattle.mls_host.specs.Hosting.{Hosted, KeepsStores}
 use Rattle.mls_host.specs.Stopping.{IsCaused}
 use Rattle.mls_host.specs.Deed.{Deed, IsQuiet}
-use Rattle.mls_host.specs.Refusal.{IsEnd}
+use Rattle.mls_host.specs.declared.refusal.Refusal.{Refusal}
+use Rattle.mls_host.specs.Refusal.{IsEnd, served}
 use Rattle.mls_host.specs.Causes.{IsNotBegun}
 use Rattle.mls_host.specs.Reading.{AreInputs, AreInputsRefused}
-use Rattle.mls_listings.specs.Printing.{IsPrinting}
-use Rattle.mls_listings.specs.Showing.{IsPictured}
-use Rattle.mls_listings.specs.Certifying.{IsCertified}
-use Rattle.mls_listings.specs.Checking.{IsChecked}
-use Rattle.mls_listings.specs.Explaining.{IsExplained, IsUnexplained}
+use Rattle.mls_command.specs.Printing.{IsPrinting}
+use Rattle.mls_command.specs.Showing.{IsPictured}
+use Rattle.mls_command.specs.Certifying.{IsCertified}
+use Rattle.mls_command.specs.Checking.{IsChecked}
+use Rattle.mls_command.specs.Explaining.{IsExplained, IsUnexplained}
 use Rattle.mls_runs.specs.ScriptRun.{IsScriptRun}
 use Rattle.mls_shells.specs.ShellRun.{IsShellRun, IsShellRefused}
+use Rattle.mls_runs.specs.DeskRun.{IsDeskRun}
 
-module _ (h : Hosted) (inputs : Inputs) (store : Option (List ℕ)) where
+module _ (inputs : Inputs) where
   -- what a command other than a run or a shell prints on standard output,
   -- what it tells on standard error, and how it ends
   abbrev pub Prints : Task → List ℕ → List ℕ → Ending → Type 0
@@ -40,23 +42,26 @@ module _ (h : Hosted) (inputs : Inputs) (store : Option (List ℕ)) where
   Prints Check text told end =
       IsChecked inputs.setting.policy inputs.transactions inputs.certificates text told end
   Prints (Explain name) text told end =
-      IsExplained inputs.setting.policy inputs.transactions (named name) text told end
+      IsExplained inputs.setting.policy inputs.setting.file.schemes inputs.transactions (named name) text told end
   Prints task text told end = ⊥
 
+module _ (h : Hosted) (inputs : Inputs) (store : Option (List ℕ)) where
   -- why a task is not begun: its store is not opened; or none has the name that it explains; or memory
   abbrev pub IsTaskRefused : Task → Reason → Type 0
   IsTaskRefused (Run at is_table) reason =
       IsNotBegun h.before inputs.setting.policy inputs.setting.file store reason
   IsTaskRefused (Shell label user) reason = IsShellRefused h.before inputs.setting store reason
+  IsTaskRefused Serve reason = IsNotBegun h.before inputs.setting.policy inputs.setting.file store reason
   IsTaskRefused (Explain name) reason = IsUnexplained inputs.transactions (named name) reason
   IsTaskRefused task reason = reason ≡ Memory
 
-  -- a run or a shell ended so, or stopped; a run tells nothing; no other task is one
+  -- a run, a shell or a desk ended so, or stopped; a run and a desk tell nothing; no other task is one
   abbrev pub IsRunOf : Task → Deed → Result Ending RunFault → Type 0
   IsRunOf (Run at is_table) d (Ok end) =
       (end ≡ Well) × d.told [] × IsScriptRun h inputs store is_table d.wrote (Ok tt)
   IsRunOf (Run at is_table) d (Err fault) = d.told [] × IsScriptRun h inputs store is_table d.wrote (Err fault)
   IsRunOf (Shell label user) d end = IsShellRun h inputs store label.now user.now d.wrote d.told end
+  IsRunOf Serve d end = d.told [] × IsDeskRun h inputs store d.wrote end
   IsRunOf task d end = ⊥
 
   -- It ended, or was given up, for a cause. What was written and told is all, where it ended or its store was not
@@ -65,11 +70,18 @@ module _ (h : Hosted) (inputs : Inputs) (store : Option (List ℕ)) where
   IsRunDeed task d =
       IsCaused h store d.end × IsEnd (IsRunOf task d) (λ reason. IsTaskRefused task reason × IsQuiet d) d.end
 
-  -- what is no run and no shell is printed, and each store keeps what it kept
+  -- of a desk it is told without a number how it ended
+  abbrev pub IsDeskDeed : Deed → Type 0
+  IsDeskDeed d =
+      (end : Result Ending Refusal) × (d.end ≡ served end)
+      × IsRunDeed Serve (record { wrote = d.wrote; told = d.told; end = end })
+
+  -- what is no run, no shell and no desk is printed, and each store keeps what it kept
   abbrev pub IsTaskDeed : Task → Deed → Type 0
   IsTaskDeed (Run at is_table) d = IsRunDeed (Run at is_table) d
   IsTaskDeed (Shell label user) d = IsRunDeed (Shell label user) d
-  IsTaskDeed task d = KeepsStores h × IsPrinting (Prints task) (IsTaskRefused task) d
+  IsTaskDeed Serve d = IsDeskDeed d
+  IsTaskDeed task d = KeepsStores h × IsPrinting (Prints inputs task) (IsTaskRefused task) d
 
 module _ (h : Hosted) (job : Job) where
   -- an input is refused: nothing is written, and each store keeps what it kept

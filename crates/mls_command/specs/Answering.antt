@@ -1,14 +1,14 @@
 -- What comes of a command line, by what its host gives.
-use Rattle.std.specs.Prelude.{◌≡◌, ℕ, Bool, false, List, [], ◌++◌, Option, Some, None, Result, IfOk}
+use Rattle.std.specs.Prelude.{◌≡◌, ℕ, ◌≤◌, Bool, false, List, [], ◌++◌, length, Option, Some, None, Result, IfOk, ◌⊎◌}
 use Rattle.clap.specs.Words.{Text}
-use Rattle.mls_words.specs.declared.words.Job.{Job}
-use Rattle.mls_words.specs.declared.usage.Usage.{Usage}
-use Rattle.mls_words.specs.Words.{Asks, AskNothing, usage_text, usage_status}
+use Rattle.mls_host.specs.declared.words.Job.{Job}
+use Rattle.mls_host.specs.declared.usage.Usage.{Usage}
+use Rattle.mls_host.specs.Words.{Asks, AskNothing, usage_text, usage_status}
 use Rattle.mls_command.specs.Explained.{explained_of}
 use Rattle.mls_host.specs.declared.ending.Ending.{Ending}
 use Rattle.mls_host.specs.declared.refusal.Refusal.{Refusal}
 use Rattle.mls_host.specs.Deed.{Deed, end_text, end_status}
-use Rattle.mls_host.specs.Hosting.{Hosted, KeepsStores}
+use Rattle.mls_host.specs.Hosting.{Hosting, Hosted, KeepsStores}
 use Rattle.mls_command.specs.Acting.{IsDeedOf}
 use Rattle.mls_command.specs.Accounting.{IsAccountOf}
 
@@ -21,6 +21,13 @@ pub record IsFinished (is_watched : Bool) (Does : Deed → Type 0) (wrote told :
   pub plain : is_watched ≡ false → more ≡ []
   pub of_refusals : IfOk end (λ ending. more ≡ [])
   pub status_is : status ≡ end_status end
+
+-- what is told before all else: nothing, but where the program is called without words and somebody reads standard error
+-- at a terminal
+pub record IsNoted (h : Hosting) (words : List Text) (Then : List ℕ → Type 0) : Type 0 where
+  pub note : List ℕ
+  pub none : (h.is_watched ≡ false) ⊎ (2 ≤ length words) → note ≡ []
+  pub leads : Then note
 
 module _ (h : Hosted) where
   -- the words ask for a job, which is done or given up; or for none, and each store keeps what it kept
@@ -39,4 +46,5 @@ module _ (h : Hosted) where
       KeepsStores h × Answers (IsAccountOf h.before) other wrote told status
 
   abbrev pub IsAnswered : List Text → (wrote told : List ℕ → Type 0) → ℕ → Type 0
-  IsAnswered words wrote told status = IsAnsweredAs (explained_of words) words wrote told status
+  IsAnswered words wrote told status =
+      IsNoted h.before words (λ note. IsAnsweredAs (explained_of words) words wrote (λ text. told (note ++ text)) status)

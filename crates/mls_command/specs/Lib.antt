@@ -5,3 +5,8 @@ pub mod Telling
 pub mod Looking
 pub mod Accounting
 pub mod Answering
+pub mod Printing
+pub mod Certifying
+pub mod Checking
+pub mod Explaining
+pub mod Showing

@@ -1,8 +1,8 @@
 -- What is told of an input that is refused: the line that the command tells; the place of the fault; and more, for people.
 use Rattle.std.specs.Prelude.{◌≡◌, ◌⊎◌, ℕ, List, [], ◌++◌, Option, Some, None, option_map, ⊤}
-use Rattle.mls_words.specs.declared.words.Documents.{Documents}
-use Rattle.mls_words.specs.declared.words.Job.{Job}
-use Rattle.mls_words.specs.Words.{named}
+use Rattle.mls_host.specs.declared.words.Documents.{Documents}
+use Rattle.mls_host.specs.declared.words.Job.{Job}
+use Rattle.mls_host.specs.Words.{named}
 use Rattle.mls_host.specs.declared.reason.Role.{Role}
 use Rattle.mls_host.specs.declared.reason.Role.TheVariants as role
 use Rattle.mls_host.specs.declared.reason.Reason.{Reason}

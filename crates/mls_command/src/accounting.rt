@@ -2,19 +2,18 @@
 ghost use Rattle.std.specs.Prelude.{◌≡◌, ◌⊎◌, [], string_bytes, IfOk, IfErr};
 ghost use Rattle.mls_host.specs.Deed.{deed};
 ghost use Rattle.mls_host.specs.Hosting.{IsAppended, IsTold};
-ghost use Rattle.mls_host.specs.Reading.{IsMadeWell, AreInputs};
+ghost use Rattle.mls_host.specs.Reading.{IsConsistent, AreInputs};
 ghost use Rattle.mls_host.specs.declared.reason.Reason.TheVariants.{Memory};
 ghost use Rattle.mls_host.specs.Reason.{reason_status};
 ghost use Rattle.mls_command.specs.Accounting.{IsRefusalTold, Accounts, IsUnread, IsAccountOf};
 ghost use Rattle.mls_command.specs.Answering.{IsFinished};
 
 use crate::documents::ignored_of;
+use crate::listing::Listing;
 use crate::looking::store_account;
 use crate::opening::{denied_text, opening_denial};
 use crate::telling::told_of;
-use mls_host::{Ending, Errors, Host, Inputs, Reason, Refusal, inputs_of};
-use mls_listings::Listing;
-use mls_words::Job;
+use mls_host::{Ending, Errors, Host, Inputs, Job, Reason, Refusal, inputs_of};
 use std::alloc::{AllocError, Global};
 use std::io::Write;
 
@@ -40,7 +39,7 @@ fn accepted_listing<H: Host>(
     inputs: &Inputs,
 ) -> Result<Listing, AllocError>
     requires read { AreInputs (H.hosting host.now) job inputs.now }
-    requires well { IsMadeWell inputs.now.setting }
+    requires consistent { IsConsistent inputs.now.setting }
     ensures { IfOk result (λ l. Accounts (H.hosting host.now) job.entry l.text.items (string_bytes l.told) l.ending) }
 {
     let setting = &inputs.setting;

@@ -2,22 +2,31 @@
 ghost use Rattle.mls_host.specs.Deed.{deed};
 ghost use Rattle.mls_host.specs.Hosting.{hosted, IsAppended, IsTold};
 ghost use Rattle.mls_host.specs.Reading.{AreReady, HasUser};
-ghost use Rattle.mls_words.specs.Words.{named, texts_of};
+ghost use Rattle.mls_host.specs.Words.{named, texts_of};
 ghost use Rattle.mls_command.specs.Acting.{IsTaskDeed, IsDeedOf};
 ghost use Rattle.mls_command.specs.Accounting.{IsAccountOf};
-ghost use Rattle.mls_command.specs.Answering.{IsFinished, Answers, IsAnswered};
+ghost use Rattle.mls_command.specs.Answering.{IsFinished, IsNoted, Answers, IsAnswered};
 
 use crate::accounting::finish_account;
+use crate::certifying::certified;
+use crate::checking::checked;
 use crate::documents::picture_of;
 use crate::explained::explained_of;
+use crate::explaining::explained;
+use crate::listing::print_made;
+use crate::showing::texts;
 use crate::telling::explain_refusal;
-use mls_host::{Ending, Errors, Host, Inputs, Refusal, inputs_of};
-use mls_listings::{certified, checked, explained, texts};
-use mls_runs::run_script;
+use mls_host::{
+    Ending, Errors, Host, Inputs, Job, Refusal, Task, Usage, inputs_of, job_of, served,
+};
+use mls_runs::{run_desk, run_script};
 use mls_shells::run_shell;
-use mls_words::{Job, Task, Usage, job_of};
 use std::alloc::Global;
 use std::io::Write;
+
+const NOTE: &str = "\
+mldb: reads a script from here, under the sample policy, up to the end of input (Ctrl-D); mldb --help shows what else there is
+";
 
 /// Does the task of a job with what it has read.
 fn perform_task<H: Host, W: Write, E: Write>(
@@ -36,9 +45,26 @@ fn perform_task<H: Host, W: Write, E: Write>(
     let store = job.files.store;
     match job.task {
         Task::ShowPolicy => {
-            texts(alloc, &inputs.setting.policy, &inputs.setting.file)?.print(out, err)
+            let made = texts(alloc, &inputs.setting.policy, &inputs.setting.file);
+            print_made(made, out, err)
         }
-        Task::Picture => picture_of(alloc, host, &inputs.setting, job.documents)?.print(out, err),
+        Task::Picture => {
+            let made = picture_of(alloc, host, &inputs.setting, job.documents);
+            print_made(made, out, err)
+        }
+        Task::Certify => {
+            let made = certified(alloc, &inputs.setting.policy, &inputs.transactions);
+            print_made(made, out, err)
+        }
+        Task::Check => {
+            let policy = &inputs.setting.policy;
+            let made = checked(alloc, policy, &inputs.transactions, &inputs.certificates);
+            print_made(made, out, err)
+        }
+        Task::Explain { name } => {
+            let (policy, schemes) = (&inputs.setting.policy, &inputs.setting.file.schemes);
+            explained(alloc, policy, schemes, &inputs.transactions, name)?.print(out, err)
+        }
         Task::Run { is_table, .. } => {
             run_script(alloc, host, store, inputs, is_table, out)?;
             Ok(Ending::Well)
@@ -46,18 +72,7 @@ fn perform_task<H: Host, W: Write, E: Write>(
         Task::Shell { label, user } => {
             run_shell(alloc, host, store, inputs, label, user, out, err)
         }
-        Task::Certify => {
-            certified(alloc, &inputs.setting.policy, &inputs.transactions)?.print(out, err)
-        }
-        Task::Check => {
-            let policy = &inputs.setting.policy;
-            let listing = checked(alloc, policy, &inputs.transactions, &inputs.certificates)?;
-            listing.print(out, err)
-        }
-        Task::Explain { name } => {
-            let (policy, schemes) = (&inputs.setting.policy, &inputs.setting.file.schemes);
-            explained(alloc, policy, schemes, &inputs.transactions, name)?.print(out, err)
-        }
+        Task::Serve => served(run_desk(alloc, host, store, inputs, out)),
     }
 }
 
@@ -141,9 +156,20 @@ fn explain_inputs<H: Host, W: Write, E: Write>(
     }
 }
 
+/// Tells who calls the program without words, at a terminal, what it waits for.
+fn tell_note<H: Host, E: Write>(words: &[&str], host: &H, err: &mut Errors<E>)
+    ensures { IsNoted (H.hosting host.now) (texts_of words.now) (IsTold E.contents err.old err.new) }
+{
+    if words.len() < 2 && host.is_terminal() && host.is_watched() {
+        err.tell(NOTE.as_bytes());
+    } else {
+        err.tell(b"");
+    }
+}
+
 /// Does what the words ask for, and answers the exit status: 0 all well, 1 a transaction has no certificate or none that holds, an input
-/// that is explained is refused or its store is not opened, or a shell's opening was denied or a line of it refused, 2 an input or the
-/// command line was refused, 3 store, writing or memory. Files are read in the order policy, schemes, transactions, certificates, script,
+/// that is explained is refused or its store is not opened, or a shell's opening was denied or a line of it refused, or a line of a desk
+/// was not read, 2 an input or the command line was refused, 3 store, writing or memory. Files are read in the order policy, schemes, transactions, certificates, script,
 /// store, and nothing runs before all were accepted.
 pub fn act<H: Host, W: Write, E: Write>(
     alloc: Global,
@@ -155,6 +181,7 @@ pub fn act<H: Host, W: Write, E: Write>(
     ensures { IsAnswered (hosted H.hosting H.Lines.echo host.old host.new) (texts_of words.now)
         (IsAppended W.contents out.old out.new) (IsTold E.contents err.old err.new) result }
 {
+    tell_note(words, host, err);
     match explained_of(alloc, words) {
         Ok(Some(asked)) => explain_inputs(alloc, &asked, host, out, err),
         Ok(None) => answer(alloc, words, host, out, err),

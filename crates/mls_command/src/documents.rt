@@ -1,12 +1,12 @@
 //! The fields of the policy and the schemes of a job that nobody reads, and what is drawn of these.
 ghost use Rattle.std.specs.Prelude.{◌≡◌, ℕ, List, [], string_bytes, IfOk};
-ghost use Rattle.mls_host.specs.Reading.{IsMadeWell};
-ghost use Rattle.mls_listings.specs.Showing.{IsPictured};
+ghost use Rattle.mls_host.specs.Reading.{IsConsistent};
+ghost use Rattle.mls_command.specs.Showing.{IsPictured};
 
+use crate::listing::Listing;
+use crate::showing::pictured;
 use mls_advice::{ignored_in_policy, ignored_in_schemes};
-use mls_host::{Host, Setting};
-use mls_listings::{Listing, pictured};
-use mls_words::Documents;
+use mls_host::{Documents, Host, Setting};
 use std::alloc::{AllocError, Global};
 
 /// The fields of the two files that nobody reads, a line for each; of a file that the host no longer gives, none.
@@ -35,7 +35,7 @@ pub(crate) fn picture_of<H: Host>(
     setting: &Setting,
     documents: Option<Documents>,
 ) -> Result<Listing, AllocError>
-    requires { IsMadeWell setting.now }
+    requires { IsConsistent setting.now }
     ensures text { IfOk result (λ l. (ignored : List ℕ) × IsPictured ignored l.text.items l.ending) }
     ensures told { IfOk result (λ l. string_bytes l.told ≡ []) }
 {

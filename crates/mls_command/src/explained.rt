@@ -1,6 +1,6 @@
 //! Words that ask what becomes of the inputs of another command.
 ghost use Rattle.std.specs.Prelude.{◌≡◌, option_map, IfOk};
-ghost use Rattle.mls_words.specs.Words.{texts_of};
+ghost use Rattle.mls_host.specs.Words.{texts_of};
 ghost use Rattle.mls_command.specs.Explained.{is_other_command, is_explained, explained_of};
 
 use std::alloc::{AllocError, Global};

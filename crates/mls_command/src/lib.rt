@@ -3,11 +3,16 @@
 
 mod accounting;
 mod acting;
+mod certifying;
+mod checking;
 mod documents;
 mod explained;
+mod explaining;
+mod listing;
 mod looking;
 mod opening;
 mod paths;
+mod showing;
 mod telling;
 
 pub use crate::acting::act;

@@ -1,20 +1,19 @@
 //! The store that a command names, which is looked at and not opened.
 ghost use Rattle.std.specs.Prelude.{◌≡◌, ◌≢◌, Some, string_bytes, IfOk};
 ghost use Rattle.std.specs.Option.{IfSome};
-ghost use Rattle.mls_host.specs.Reading.{IsMadeWell};
-ghost use Rattle.mls_words.specs.Words.{named};
+ghost use Rattle.mls_host.specs.Reading.{IsConsistent};
+ghost use Rattle.mls_host.specs.Words.{named};
 ghost use Rattle.mls_host.specs.declared.host.StoreCause.TheVariants as causes;
 ghost use Rattle.mls_advice.specs.Excerpt.{Begins};
 ghost use Rattle.mls_command.specs.Looking.{IsSight, IsFound, found_text, found_ending, IsStoreAccount};
 
 use crate::accounting::listing_of;
+use crate::listing::Listing;
 use crate::telling::push_reason;
 use mls_advice::file_line;
 use mls_diagnosis::{Diagnosis, diagnosis_of};
 use mls_fragments::OpenFault;
-use mls_host::{Ending, Host, Reason, Setting, StoreCause, inputs_of};
-use mls_listings::Listing;
-use mls_words::Job;
+use mls_host::{Ending, Host, Job, Reason, Setting, StoreCause, setting_of};
 use std::alloc::{AllocError, Global};
 
 pub(crate) const ACCEPTED: &str = "All inputs are accepted.\n";
@@ -69,7 +68,7 @@ fn sight_of<H: Host>(
     setting: &Setting,
     path: &str,
 ) -> Result<Diagnosis, AllocError>
-    requires { IsMadeWell setting.now }
+    requires { IsConsistent setting.now }
     ensures { IfOk result (λ d. IsSight (H.hosting host.now) setting.now path.now d.fault) }
 {
     match host.store_files(alloc, path) {
@@ -85,7 +84,7 @@ fn found_of<H: Host>(
     setting: &Setting,
     store: Option<&str>,
 ) -> Result<Diagnosis, AllocError>
-    requires { IsMadeWell setting.now }
+    requires { IsConsistent setting.now }
     ensures { IfOk result (λ d. IsFound (H.hosting host.now) setting.now (named store.entry) d.fault) }
 {
     match store {
@@ -141,7 +140,7 @@ pub(crate) fn store_account<H: Host>(
     store: Option<&str>,
     lines: &str,
 ) -> Result<Listing, AllocError>
-    requires { IsMadeWell setting.now }
+    requires { IsConsistent setting.now }
     ensures { IfOk result (λ l. IsStoreAccount (H.hosting host.now) setting.now (named store.entry) l.text.items
         (string_bytes l.told) l.ending) }
 {
@@ -151,15 +150,15 @@ pub(crate) fn store_account<H: Host>(
     Ok(listing_of(alloc, text, found_ending(&found)))
 }
 
-/// What is told of the store of a job that was not opened, whose inputs are read once more.
+/// What is told of the store of a job that was not opened, whose policy and schemes are read once more.
 pub(crate) fn store_lines<H: Host>(
     alloc: Global,
     host: &H,
     job: Job,
 ) -> Result<Vec<u8>, AllocError> {
-    let Ok(inputs) = inputs_of(alloc, host, job) else {
+    let Ok(setting) = setting_of(alloc, host, job) else {
         return Ok(Vec::new(alloc));
     };
-    let found = found_of(alloc, host, &inputs.setting, job.files.store)?;
+    let found = found_of(alloc, host, &setting, job.files.store)?;
     lines_of(alloc, job.files.store, &found)
 }

@@ -4,9 +4,9 @@ ghost use Rattle.std.specs.Option.{IfSome};
 ghost use Rattle.mls_advice.specs.Excerpt.{Begins};
 ghost use Rattle.mls_command.specs.Opening.{denial_at, opening_denial, denial_text};
 
+use mls_host::Task;
 use mls_lattice::{LabelNo, Policy};
 use mls_machine::Denial;
-use mls_words::Task;
 use std::alloc::{AllocError, Global};
 
 /// Why a user's session at a level would be denied, if it would.

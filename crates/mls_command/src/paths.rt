@@ -1,10 +1,9 @@
 //! Which file of a command is refused, and at which place.
 ghost use Rattle.std.specs.Prelude.{◌≡◌};
-ghost use Rattle.mls_words.specs.Words.{named};
+ghost use Rattle.mls_host.specs.Words.{named};
 ghost use Rattle.mls_command.specs.Telling.{place_of, role_of, policy_of, schemes_of, path_of, source_of};
 
-use mls_host::{Reason, Role};
-use mls_words::Job;
+use mls_host::{Job, Reason, Role};
 
 /// A line of an input, and a place in it.
 #[derive(Clone, Copy)]

@@ -2,7 +2,7 @@
 ghost use Rattle.std.specs.Prelude.{◌≡◌, ◌++◌, [], List, ℕ, false, string_bytes, option_map, IfOk, OnOk};
 ghost use Rattle.mls_host.specs.Hosting.{IsTold};
 ghost use Rattle.mls_host.specs.Reason.{reason_text};
-ghost use Rattle.mls_words.specs.Words.{named};
+ghost use Rattle.mls_host.specs.Words.{named};
 ghost use Rattle.mls_command.specs.Telling.{place_of, source_of, IsPlaceTold, IsToldOf};
 ghost use Rattle.mls_host.specs.Telling.{IsMore};
 
@@ -13,10 +13,9 @@ use mls_advice::{
     advice_of, declared_names, excerpt, file_line, form_at, kinds_at, nearest_line, policy_lines,
     schemes_lines, token_at,
 };
-use mls_host::{Errors, Host, Reason, Refusal, policy_of, schemes_of};
+use mls_host::{Errors, Host, Job, Reason, Refusal, policy_of, schemes_of};
 use mls_lattice::{Policy, Str};
 use mls_scheme::SchemesFile;
-use mls_words::Job;
 use std::alloc::{AllocError, Global};
 use std::io::Write;
 
@@ -196,7 +195,7 @@ fn refusal_lines<H: Host>(
     match refusal {
         Refusal::Before(Reason::Store(_)) => store_lines(alloc, host, job),
         Refusal::Before(reason) => Ok(lines_of(alloc, host, job, reason)?.into_bytes()),
-        Refusal::Run(_) | Refusal::NotClosed | Refusal::Output => Ok(Vec::new(alloc)),
+        _ => Ok(Vec::new(alloc)),
     }
 }
 

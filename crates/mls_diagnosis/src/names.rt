@@ -5,6 +5,9 @@ use mls_scheme::{KeyFault, RelNo, Scheme, Schemes, Value, key_of};
 use std::alloc::{AllocError, Global};
 use std::fmt::Write;
 
+/// That something was added to a text, or that memory lacks.
+pub(crate) type Told = Result<(), AllocError>;
+
 /// A policy and schemes, which name what a store has as numbers.
 #[derive(Clone, Copy)]
 pub(crate) struct Names<'a> {
@@ -22,7 +25,7 @@ impl<'a> Names<'a> {
         }
     }
 
-    fn label_to(&self, text: &mut String, label: u32) -> Result<(), AllocError> {
+    fn label_to(&self, text: &mut String, label: u32) -> Told {
         if (label as usize) < self.policy.label_count() {
             text.push_str(self.policy.name(LabelNo::new(label as u8)))
         } else {
@@ -31,12 +34,7 @@ impl<'a> Names<'a> {
     }
 
     /// Writes which attribute outside the key it is.
-    pub(crate) fn attribute_to(
-        &self,
-        text: &mut String,
-        rel: u32,
-        attr: u32,
-    ) -> Result<(), AllocError> {
+    pub(crate) fn attribute_to(&self, text: &mut String, rel: u32, attr: u32) -> Told {
         match self.scheme(rel) {
             Some(scheme) if (attr as usize) < scheme.others().len() => {
                 let name = scheme.others().name(attr as usize);
@@ -55,20 +53,15 @@ impl<'a> Names<'a> {
         key: &str,
         key_class: u32,
         label: u32,
-    ) -> Result<(), AllocError> {
+    ) -> Told {
         match self.scheme(rel) {
             Some(scheme) => {
                 let name = scheme.name();
-                write!(
-                    text,
-                    "  Table {table}: relation {name}, key {key}, key class "
-                )?;
+                write!(text, "  Table {table}: relation {name}")?;
             }
-            None => write!(
-                text,
-                "  Table {table}: relation {rel}, key {key}, key class "
-            )?,
+            None => write!(text, "  Table {table}: relation {rel}")?,
         }
+        write!(text, ", key {key}, key class ")?;
         self.label_to(text, key_class)?;
         text.push_str(", label ")?;
         self.label_to(text, label)
@@ -110,7 +103,7 @@ impl<'a> Names<'a> {
 }
 
 /// Writes a text between quotes, on one line.
-fn quoted_to(text: &mut String, inside: &str) -> Result<(), AllocError> {
+fn quoted_to(text: &mut String, inside: &str) -> Told {
     text.push('"')?;
     for c in inside.chars() {
         match c {

@@ -2,6 +2,7 @@
 ghost use Rattle.std.specs.Prelude.{length};
 ghost use Rattle.mls_scheme.specs.Scheme.{AreUnder};
 
+use crate::names::Told;
 use mls_fragments::texts_of;
 use mls_lattice::Policy;
 use mls_scheme::SchemesFile;
@@ -14,7 +15,7 @@ use std::fmt::Write;
 const WIDTH: usize = 160;
 
 /// Writes what a line is, if there is one.
-fn line_to(text: &mut String, line: Option<&str>) -> Result<(), AllocError> {
+fn line_to(text: &mut String, line: Option<&str>) -> Told {
     let Some(line) = line else {
         return text.push_str(": none.\n");
     };
@@ -26,12 +27,7 @@ fn line_to(text: &mut String, line: Option<&str>) -> Result<(), AllocError> {
 }
 
 /// Tells the first line in which the lines of a store differ from others. What they say is given in the plural.
-fn tell_difference(
-    text: &mut String,
-    what: &str,
-    kept: &[&str],
-    present: &[&str],
-) -> Result<(), AllocError> {
+fn tell_difference(text: &mut String, what: &str, kept: &[&str], present: &[&str]) -> Told {
     let same = kept
         .iter()
         .zip(present)
@@ -55,18 +51,14 @@ fn relation_beside<'a>(lines: &[&'a str], others: &[&str]) -> Option<&'a str> {
 }
 
 /// Tells of a relation that only the files have, or only the store.
-fn tell_relation(text: &mut String, kept: &[&str], present: &[&str]) -> Result<(), AllocError> {
+fn tell_relation(text: &mut String, kept: &[&str], present: &[&str]) -> Told {
     if let Some(relation) = relation_beside(present, kept) {
-        writeln!(
-            text,
-            "  The store has no {relation}, and no store gets one later."
-        )?;
+        write!(text, "  The store has no {relation}")?;
+        text.push_str(", and no store gets one later.\n")?;
     }
     if let Some(relation) = relation_beside(kept, present) {
-        writeln!(
-            text,
-            "  The files have no {relation}, and no store loses one."
-        )?;
+        write!(text, "  The files have no {relation}")?;
+        text.push_str(", and no store loses one.\n")?;
     }
     Ok(())
 }
@@ -78,7 +70,7 @@ pub(crate) fn tell_others<S: Alter>(
     policy: &Policy,
     file: &SchemesFile,
     conn: &mut Connection<S>,
-) -> Result<(), AllocError>
+) -> Told
     requires under { AreUnder (length policy.now.labels) file.now.schemes }
 {
     let texts = texts_of(alloc, policy, file)?;

@@ -2,7 +2,7 @@
 ghost use Rattle.std.specs.Prelude.{length};
 ghost use Rattle.mls_scheme.specs.Scheme.{AreUnder};
 
-use crate::names::Names;
+use crate::names::{Names, Told};
 use mls_audit::{EntryFault, entry_of};
 use mls_fragments::{OpenFault, Step, Where, bad_row, tables_of};
 use mls_lattice::Policy;
@@ -17,12 +17,7 @@ const UNDESCRIBED: &str =
 
 const UNREAD: &str = "  A row of table node, cell or audit has a number that no store has.\n";
 
-fn tell_node(
-    text: &mut String,
-    names: &Names,
-    step: Step,
-    node: &NodeRow,
-) -> Result<(), AllocError> {
+fn tell_node(text: &mut String, names: &Names, step: Step, node: &NodeRow) -> Told {
     let key = names.key(&node.ent)?;
     names.row_to(text, "node", node.rel, &key, node.kclass, node.label)?;
     text.push_str(match step {
@@ -33,12 +28,7 @@ fn tell_node(
     })
 }
 
-fn tell_cell(
-    text: &mut String,
-    names: &Names,
-    step: Step,
-    cell: &CellRow,
-) -> Result<(), AllocError> {
+fn tell_cell(text: &mut String, names: &Names, step: Step, cell: &CellRow) -> Told {
     let key = names.key(&cell.ent)?;
     names.row_to(text, "cell", cell.rel, &key, cell.kclass, cell.label)?;
     names.attribute_to(text, cell.rel, cell.attr)?;
@@ -51,13 +41,7 @@ fn tell_cell(
 }
 
 /// Tells of the tuple of a relation that has so many before it.
-fn tell_tuple(
-    text: &mut String,
-    names: &Names,
-    rel: RelNo,
-    before: usize,
-    rows: &AllRows,
-) -> Result<(), AllocError> {
+fn tell_tuple(text: &mut String, names: &Names, rel: RelNo, before: usize, rows: &AllRows) -> Told {
     let mut at = Where::start();
     let count = names.schemes.count();
     let Ok(tables) = tables_of(names.alloc, count, &rows.nodes, &rows.cells, &mut at) else {
@@ -67,15 +51,10 @@ fn tell_tuple(
         && let Some((place, _)) = table.iter().nth(before)
     {
         let key = names.key_of(&place.key)?;
-        let (key_class, class) = (place.key_class.byte(), place.class.byte());
-        names.row_to(
-            text,
-            "node",
-            u32::from(rel.byte()),
-            &key,
-            u32::from(key_class),
-            u32::from(class),
-        )?;
+        let rel = u32::from(rel.byte());
+        let key_class = u32::from(place.key_class.byte());
+        let class = u32::from(place.class.byte());
+        names.row_to(text, "node", rel, &key, key_class, class)?;
         text.push_str(
             ".\n  A value or a class of it does not fit, or another tuple of its key is missing or differs.\n",
         )?;
@@ -98,7 +77,7 @@ fn missing_in(node: &NodeRow, cells: &[CellRow]) -> Option<u32> {
 }
 
 /// Tells of the first element that is missing.
-fn tell_missing(text: &mut String, names: &Names, rows: &AllRows) -> Result<(), AllocError> {
+fn tell_missing(text: &mut String, names: &Names, rows: &AllRows) -> Told {
     for node in &rows.nodes {
         if let Some(attr) = missing_in(node, &rows.cells) {
             let key = names.key(&node.ent)?;
@@ -110,12 +89,7 @@ fn tell_missing(text: &mut String, names: &Names, rows: &AllRows) -> Result<(), 
     Ok(())
 }
 
-fn tell_entry(
-    alloc: Global,
-    text: &mut String,
-    step: Step,
-    entry: &AuditRow,
-) -> Result<(), AllocError> {
+fn tell_entry(alloc: Global, text: &mut String, step: Step, entry: &AuditRow) -> Told {
     let number = entry.number;
     write!(text, "  Table audit: number {number}.\n")?;
     if let Step::Number = step {
@@ -129,28 +103,19 @@ fn tell_entry(
 }
 
 /// Tells of the row at which the opening of a store stops.
-fn tell_row(
-    text: &mut String,
-    names: &Names,
-    at: &Where,
-    rows: &AllRows,
-) -> Result<(), AllocError> {
-    match at.step {
-        Step::Classes | Step::Node | Step::LooseNode => match rows.nodes.get(at.row) {
-            Some(node) => tell_node(text, names, at.step, node),
-            None => Ok(()),
-        },
-        Step::Cell | Step::LooseCell => match rows.cells.get(at.row) {
-            Some(cell) => tell_cell(text, names, at.step, cell),
-            None => Ok(()),
-        },
-        Step::Number | Step::Entry => match rows.entries.get(at.row) {
-            Some(entry) => tell_entry(names.alloc, text, at.step, entry),
-            None => Ok(()),
-        },
-        Step::Tuple(rel) => tell_tuple(text, names, rel, at.row, rows),
-        Step::MissingCell => tell_missing(text, names, rows),
-        Step::Rows => Ok(()),
+fn tell_row(text: &mut String, names: &Names, at: &Where, rows: &AllRows) -> Told {
+    let (node, cell) = (rows.nodes.get(at.row), rows.cells.get(at.row));
+    match (at.step, node, cell, rows.entries.get(at.row)) {
+        (Step::Classes | Step::Node | Step::LooseNode, Some(node), _, _) => {
+            tell_node(text, names, at.step, node)
+        }
+        (Step::Cell | Step::LooseCell, _, Some(cell), _) => tell_cell(text, names, at.step, cell),
+        (Step::Number | Step::Entry, _, _, Some(entry)) => {
+            tell_entry(names.alloc, text, at.step, entry)
+        }
+        (Step::Tuple(rel), _, _, _) => tell_tuple(text, names, rel, at.row, rows),
+        (Step::MissingCell, _, _, _) => tell_missing(text, names, rows),
+        _ => Ok(()),
     }
 }
 
@@ -161,7 +126,7 @@ pub(crate) fn tell_bad<S: Alter>(
     policy: &Policy,
     file: &SchemesFile,
     conn: &mut Connection<S>,
-) -> Result<(), AllocError>
+) -> Told
     requires under { AreUnder (length policy.now.labels) file.now.schemes }
 {
     let described = match read_description(conn, alloc) {

@@ -1,1 +1,2 @@
 pub mod Explaining
+pub mod Telling

@@ -1,9 +1,9 @@
 //! What is told of a transaction.
-ghost use Rattle.std.specs.Prelude.{◌≡◌, IfOk};
+ghost use Rattle.std.specs.Prelude.{◌≡◌, string_bytes, IfOk};
 ghost use Rattle.mls_translang.specs.Fits.{IsReadUnder};
-ghost use Rattle.mls_explain.specs.Explaining.{IsOutcome, has_labels};
+ghost use Rattle.mls_explain.specs.Telling.{IsTold, IsExplanation};
 
-use crate::numbering::numbered_to;
+use crate::numbering::numbered;
 use crate::outcome::{Outcome, outcome_of};
 use crate::statements::block_to;
 use crate::teller::Teller;
@@ -19,15 +19,6 @@ pub struct Explained {
     pub outcome: Outcome,
 }
 
-impl Explained {
-    /// Whether the transaction has labels.
-    pub fn has_labels(&self) -> bool
-        ensures { result ≡ has_labels self.now.outcome }
-    {
-        self.outcome.has_labels()
-    }
-}
-
 /// The canonical text of a transaction with the number of each statement, and what came of its least labels.
 fn text_of(
     alloc: Global,
@@ -37,11 +28,11 @@ fn text_of(
     outcome: &Outcome,
 ) -> Result<String, AllocError>
     requires { IsReadUnder policy.now schemes.now tx.now }
+    ensures { IfOk result (λ s. IsTold policy.now schemes.now tx.now outcome.now (string_bytes s)) }
 {
     let printed = print(alloc, policy, schemes, tx)?;
     let printed = String::from_utf8_lossy(alloc, &printed)?;
-    let mut text = String::new(alloc);
-    let lines = numbered_to(alloc, &mut text, 1 + tx.vars().len(), &printed)?;
+    let (mut text, lines) = numbered(alloc, 1 + tx.vars().len(), &printed)?;
     let mut statements = Vec::new(alloc);
     block_to(&mut statements, 0, tx.body())?;
     let teller = Teller {
@@ -52,12 +43,9 @@ fn text_of(
         statements: &statements,
         lines: &lines,
     };
-    match outcome {
-        Outcome::Labelled(cert) => teller.labels_to(&mut text, cert)?,
-        Outcome::Refused { stmt, rule, chain } => {
-            teller.refused_to(&mut text, *stmt, *rule, chain)?;
-        }
-    }
+    teller.head_to(&mut text, outcome)?;
+    let advice = teller.advice_of(outcome)?;
+    text.push_str(&advice)?;
     Ok(text)
 }
 
@@ -71,7 +59,7 @@ pub fn explain(
     tx: &Tx,
 ) -> Result<Explained, AllocError>
     requires { IsReadUnder policy.now schemes.now tx.now }
-    ensures { IfOk result (λ e. IsOutcome policy.now tx.now e.outcome) }
+    ensures { IfOk result (IsExplanation policy.now schemes.now tx.now) }
 {
     let outcome = outcome_of(alloc, policy, tx)?;
     let text = text_of(alloc, policy, schemes, tx, &outcome)?;

@@ -1,68 +1,125 @@
-//! The lines of least labels, and of what is released.
+//! The lines of least labels, of a refusal, and of what is released.
+ghost use Rattle.std.specs.Prelude.{◌≡◌, ◌++◌, ◌+◌, ◌<◌, ◌^◌, [], slice_get, string_bytes, OnOk};
+ghost use Rattle.std.specs.Option.{unwrap_or};
+ghost use Rattle.mls_explain.specs.Telling.{variable_line, variable_lines, at_line, statement_line, statement_lines, one_lines, two_lines, refused_front, refused_line, head};
 
 use crate::naming::words_of;
-use crate::teller::Teller;
-use mls_certificate::Certificate;
+use crate::numbering::four_to;
+use crate::outcome::Outcome;
+use crate::teller::{Teller, Told};
+use mls_certcheck::Rule;
+use mls_certificate::{Cert, Cert2, Certificate};
 use mls_lattice::{Items, Label};
 use mls_translang::Stmt;
-use std::alloc::AllocError;
+
+/// The labels of the variables after a statement, where there are rows of them.
+fn row_at(rows: &[Items<Label>], place: usize) -> &[Label]
+    ensures { result.now ≡ unwrap_or (slice_get rows.now place) [] }
+{
+    match rows.get(place) {
+        Some(row) => row.as_slice(),
+        None => &[],
+    }
+}
+
+#[tactic(auto, unfolding(crate::specs::Telling::refused_front))]
+fn refused_front_to(text: &mut String, name: &str) -> Told
+    ensures { OnOk result (string_bytes text.new ≡ string_bytes text.old ++ refused_front name.now) }
+{
+    write!(text, "{name} is refused: ")
+}
+
+/// Adds the place and the rule of a refusal.
+fn refused_to(text: &mut String, name: &str, stmt: usize, rule: Rule) -> Told
+    ensures { OnOk result (string_bytes text.new ≡ string_bytes text.old ++ refused_line name.now stmt rule) }
+{
+    refused_front_to(text, name)?;
+    let rule = rule.text();
+    writeln!(text, "{stmt} {rule}")
+}
 
 impl Teller<'_> {
-    fn variables_to(&self, text: &mut String, labels: &[Label]) -> Result<(), AllocError> {
+    fn variable_to(&self, text: &mut String, place: usize, label: Label) -> Told
+        ensures { OnOk result (string_bytes text.new ≡ string_bytes text.old
+            ++ variable_line self.now.policy.now self.now.tx.now.vars (place, label)) }
+    {
+        let name = self.variable(place);
+        let words = words_of(self.alloc, self.policy, label)?;
+        writeln!(text, "      {name}:{words}")
+    }
+
+    fn variables_to(&self, text: &mut String, labels: &[Label]) -> Told
+        ensures { OnOk result (string_bytes text.new ≡ string_bytes text.old
+            ++ variable_lines self.now.policy.now self.now.tx.now.vars labels.now) }
+    {
         for (place, label) in labels.iter().enumerate() {
-            let name = self.variable(place);
-            let words = words_of(self.alloc, self.policy, *label)?;
-            writeln!(text, "      {name}:{words}")?;
+            self.variable_to(text, place, *label)?;
         }
         Ok(())
     }
 
-    /// Statements, each with the variables after it where there are rows of them.
-    fn statements_to(
-        &self,
-        text: &mut String,
-        rows: &[Items<Label>],
-        labels: &[Label],
-    ) -> Result<(), AllocError> {
+    fn at_to(&self, text: &mut String, place: usize, label: Label) -> Told
+        requires { place + 1 < 2 ^ 64 }
+        ensures { OnOk result (string_bytes text.new ≡ string_bytes text.old
+            ++ at_line self.now.policy.now (place, label)) }
+    {
+        four_to(text, place + 1)?;
+        let words = words_of(self.alloc, self.policy, label)?;
+        writeln!(text, "  at{words}")?;
+        Ok(())
+    }
+
+    fn statements_to(&self, text: &mut String, rows: &[Items<Label>], labels: &[Label]) -> Told
+        ensures { OnOk result (string_bytes text.new ≡ string_bytes text.old
+            ++ statement_lines self.now.policy.now self.now.tx.now.vars rows.now labels.now) }
+    {
         for (place, label) in labels.iter().enumerate() {
-            let number = place + 1;
-            let words = words_of(self.alloc, self.policy, *label)?;
-            writeln!(text, "{number:>4}  at{words}")?;
-            if let Some(row) = rows.get(place) {
-                self.variables_to(text, row)?;
-            }
+            self.at_to(text, place, *label)?;
+            self.variables_to(text, row_at(rows, place))?;
         }
         Ok(())
     }
 
-    fn releases_to(&self, text: &mut String) -> Result<(), AllocError> {
+    fn one_to(&self, text: &mut String, cert: &Cert) -> Told
+        ensures { OnOk result (string_bytes text.new ≡ string_bytes text.old
+            ++ one_lines self.now.policy.now self.now.tx.now.vars cert.now) }
+    {
+        text.push_str("labels, version 1:\n")?;
+        self.variables_to(text, &cert.var_labels)?;
+        self.statements_to(text, &[], &cert.pc_labels)?;
+        Ok(())
+    }
+
+    fn two_to(&self, text: &mut String, cert: &Cert2) -> Told
+        ensures { OnOk result (string_bytes text.new ≡ string_bytes text.old
+            ++ two_lines self.now.policy.now self.now.tx.now.vars cert.now) }
+    {
+        text.push_str("labels, version 2:\n")?;
+        self.statements_to(text, &cert.rows, &cert.pc_labels)?;
+        Ok(())
+    }
+
+    /// The labels of a certificate, or the place and the rule of a refusal.
+    pub(crate) fn head_to(&self, text: &mut String, outcome: &Outcome) -> Told
+        ensures { OnOk result (string_bytes text.new ≡ string_bytes text.old
+            ++ head self.now.policy.now self.now.tx.now outcome.now) }
+    {
+        match outcome {
+            Outcome::Labelled(Certificate::One(cert)) => self.one_to(text, cert),
+            Outcome::Labelled(Certificate::Two(cert)) => self.two_to(text, cert),
+            Outcome::Refused { stmt, rule, .. } => refused_to(text, self.tx.name(), *stmt, *rule),
+        }
+    }
+
+    /// What each release tells to which label.
+    pub(crate) fn releases_to(&self, text: &mut String) -> Told {
         for (place, statement) in self.statements.iter().enumerate() {
             if let Stmt::Release { to, .. } = statement.stmt {
-                let number = place + 1;
+                four_to(text, place + 1)?;
                 let label = self.label(*to);
-                writeln!(text, "{number:>4}  releases to {label}")?;
+                writeln!(text, "  releases to {label}")?;
             }
         }
         Ok(())
-    }
-
-    /// The labels of a certificate, and what each release tells to which label.
-    pub(crate) fn labels_to(
-        &self,
-        text: &mut String,
-        cert: &Certificate,
-    ) -> Result<(), AllocError> {
-        match cert {
-            Certificate::One(cert) => {
-                text.push_str("labels, version 1:\n")?;
-                self.variables_to(text, &cert.var_labels)?;
-                self.statements_to(text, &[], &cert.pc_labels)?;
-            }
-            Certificate::Two(cert) => {
-                text.push_str("labels, version 2:\n")?;
-                self.statements_to(text, &cert.rows, &cert.pc_labels)?;
-            }
-        }
-        self.releases_to(text)
     }
 }

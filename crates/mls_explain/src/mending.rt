@@ -1,7 +1,7 @@
 //! How a transaction is mended, so that it has labels.
 
 use crate::steps::Way;
-use crate::teller::Teller;
+use crate::teller::{Teller, Told};
 use mls_certcheck::Slot;
 use mls_chains::Origin;
 use mls_lattice::LabelNo;
@@ -26,13 +26,17 @@ impl Deed {
     }
 }
 
+/// How something comes out of the statement of a number, and the label at which it does.
+#[derive(Clone, Copy)]
+pub(crate) struct Outlet {
+    pub number: usize,
+    pub deed: Deed,
+    pub label: LabelNo,
+}
+
 impl Teller<'_> {
     /// Ends the ways to mend with a higher ceiling, which sees a label.
-    pub(crate) fn ceiling_way_to(
-        &self,
-        text: &mut String,
-        label: LabelNo,
-    ) -> Result<(), AllocError> {
+    pub(crate) fn ceiling_way_to(&self, text: &mut String, label: LabelNo) -> Told {
         if let Some(high) = self.lowest_over(self.tx.hi(), label) {
             let low = self.label(self.tx.lo());
             let high = self.label(high);
@@ -42,14 +46,12 @@ impl Teller<'_> {
     }
 
     /// Ends them with levels that begin lower, at what a label sees.
-    pub(crate) fn floor_way_to(&self, text: &mut String, label: LabelNo) -> Result<(), AllocError> {
+    pub(crate) fn floor_way_to(&self, text: &mut String, label: LabelNo) -> Told {
         if let Some(low) = self.highest_under(self.tx.lo(), label) {
             let low = self.label(low);
             let high = self.label(self.tx.hi());
-            write!(
-                text,
-                "; or begin the levels at {low} (`levels {low} to {high}`)"
-            )?;
+            write!(text, "; or begin the levels at {low}")?;
+            write!(text, " (`levels {low} to {high}`)")?;
         }
         text.push_str(".\n")
     }
@@ -72,17 +74,9 @@ impl Teller<'_> {
     }
 
     /// Ends them with a release behind a loop or a branch. Where nothing is read, a number of turns stands for what comes out.
-    fn behind_way_to(
-        &self,
-        text: &mut String,
-        number: usize,
-        around: usize,
-        deed: Deed,
-        label: LabelNo,
-        way: &Way,
-    ) -> Result<(), AllocError> {
-        let counts = self.turns(way) && deed != Deed::Write && self.names_at(number)?.is_empty();
-        let how = if counts {
+    fn behind_way_to(&self, text: &mut String, around: usize, out: &Outlet, way: &Way) -> Told {
+        let is_write = out.deed == Deed::Write;
+        let how = if self.turns(way) && !is_write && self.names_at(out.number)?.is_empty() {
             "count in a variable"
         } else {
             "set a variable here"
@@ -91,27 +85,19 @@ impl Teller<'_> {
             Some(Stmt::For { .. }) => "loop",
             _ => "`if`",
         };
-        let label = self.label(label);
-        let (release, to, then) = match deed {
+        let label = self.label(out.label);
+        let (release, to, then) = match out.deed {
             Deed::Release => ("and release that", "", ""),
             Deed::Emit => ("release that to ", label, ", and emit it there"),
             Deed::Write => ("release that to ", label, ", and write there"),
         };
-        writeln!(
-            text,
-            "; or {how}, {release}{to} behind the {kind} at {around}{then}."
-        )
+        write!(text, "; or {how}, {release}{to} behind the {kind}")?;
+        writeln!(text, " at {around}{then}.")
     }
 
     /// Ends them with a release of the value in front of the statement.
-    fn before_way_to(
-        &self,
-        text: &mut String,
-        deed: Deed,
-        label: LabelNo,
-        end: Origin,
-    ) -> Result<(), AllocError> {
-        let (what, into) = match (deed, end) {
+    fn before_way_to(&self, text: &mut String, out: &Outlet, end: Origin) -> Told {
+        let (what, into) = match (out.deed, end) {
             (Deed::Emit, _) => ("the value", "a variable"),
             (Deed::Write, Origin::Held(Slot::Variable { place, .. })) => {
                 (self.variable(place), "another variable")
@@ -121,36 +107,28 @@ impl Teller<'_> {
             }
             _ => return text.push_str(".\n"),
         };
-        let label = self.label(label);
-        let verb = deed.verb();
-        writeln!(
-            text,
-            "; or release {what} to {label} into {into}, and {verb} that."
-        )
+        let label = self.label(out.label);
+        let verb = out.deed.verb();
+        write!(text, "; or release {what} to {label} into {into}")?;
+        writeln!(text, ", and {verb} that.")
     }
 
     /// Adds how what comes out of a statement at a label is mended.
-    pub(crate) fn out_ways_to(
-        &self,
-        text: &mut String,
-        number: usize,
-        deed: Deed,
-        label: LabelNo,
-        way: &Way,
-    ) -> Result<(), AllocError> {
-        let how = match deed {
-            Deed::Emit => "emit at",
-            Deed::Write => "write at",
-            Deed::Release => "release to",
+    pub(crate) fn out_ways_to(&self, text: &mut String, out: &Outlet, way: &Way) -> Told {
+        let verb = out.deed.verb();
+        let to = match out.deed {
+            Deed::Release => "to",
+            Deed::Emit | Deed::Write => "at",
         };
-        let higher = self.label(self.lowest_over(label, way.root).unwrap_or(self.tx.hi()));
-        write!(text, "   To mend it: {how} {higher}")?;
+        let over = self.lowest_over(out.label, way.root);
+        let higher = self.label(over.unwrap_or(self.tx.hi()));
+        write!(text, "   To mend it: {verb} {to} {higher}")?;
         if way.cause == Some(0) {
-            return self.floor_way_to(text, label);
+            return self.floor_way_to(text, out.label);
         }
-        match self.outermost(number, label, way.cause)? {
-            Some(around) => self.behind_way_to(text, number, around, deed, label, way),
-            None => self.before_way_to(text, deed, label, way.end),
+        match self.outermost(out.number, out.label, way.cause)? {
+            Some(around) => self.behind_way_to(text, around, out, way),
+            None => self.before_way_to(text, out, way.end),
         }
     }
 }

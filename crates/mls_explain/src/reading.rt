@@ -1,6 +1,6 @@
 //! What statements read.
 
-use crate::teller::Teller;
+use crate::teller::{Teller, Told};
 use mls_certcheck::Slot;
 use mls_chains::Origin;
 use mls_lattice::LabelNo;
@@ -8,7 +8,7 @@ use mls_translang::{Expr, Stmt, Term};
 use std::alloc::AllocError;
 
 /// Adds the variables, parameters and fields of an expression.
-fn names_to<'a>(names: &mut Vec<&'a Term>, expr: &'a Expr) -> Result<(), AllocError> {
+fn names_to<'a>(names: &mut Vec<&'a Term>, expr: &'a Expr) -> Told {
     match &expr.term {
         Term::Known(_) | Term::Null => Ok(()),
         Term::Not(inner) => names_to(names, inner),
@@ -20,14 +20,14 @@ fn names_to<'a>(names: &mut Vec<&'a Term>, expr: &'a Expr) -> Result<(), AllocEr
     }
 }
 
-fn all_names_to<'a>(names: &mut Vec<&'a Term>, exprs: &'a [Expr]) -> Result<(), AllocError> {
+fn all_names_to<'a>(names: &mut Vec<&'a Term>, exprs: &'a [Expr]) -> Told {
     for expr in exprs {
         names_to(names, expr)?;
     }
     Ok(())
 }
 
-fn sets_names_to<'a>(names: &mut Vec<&'a Term>, sets: &'a [(u8, Expr)]) -> Result<(), AllocError> {
+fn sets_names_to<'a>(names: &mut Vec<&'a Term>, sets: &'a [(u8, Expr)]) -> Told {
     for set in sets {
         names_to(names, &set.1)?;
     }
@@ -95,39 +95,34 @@ impl<'a> Teller<'a> {
         Ok(names.iter().all(|name| self.sees_name(label, &loops, name)))
     }
 
-    /// The field that a name is in these loops, if it has a label.
+    /// The row and the attribute that a name is in these loops, if it is a field of a label.
     fn field_of(
         &self,
         loops: &[&'a Stmt],
         name: &Term,
         label: LabelNo,
     ) -> Option<(&'a str, &'a str)> {
-        match name {
-            Term::Field { depth, attribute } => match loops.get(usize::from(*depth)) {
-                Some(
-                    Stmt::For {
-                        row,
-                        relation,
-                        label: of,
-                        ..
-                    },
-                ) if of.index() == label.index() => {
-                    let attribute = self.attribute(*relation, usize::from(*attribute));
-                    Some((row.as_str(), attribute))
-                }
-                _ => None,
-            },
+        let Term::Field { depth, attribute } = name else {
+            return None;
+        };
+        match loops.get(usize::from(*depth)) {
+            Some(
+                Stmt::For {
+                    row,
+                    relation,
+                    label: of,
+                    ..
+                },
+            ) if of.index() == label.index() => {
+                let attribute = self.attribute(*relation, usize::from(*attribute));
+                Some((row.as_str(), attribute))
+            }
             _ => None,
         }
     }
 
     /// Adds the first field of a label that a statement reads.
-    pub(crate) fn field_to(
-        &self,
-        text: &mut String,
-        number: usize,
-        label: LabelNo,
-    ) -> Result<(), AllocError> {
+    pub(crate) fn field_to(&self, text: &mut String, number: usize, label: LabelNo) -> Told {
         let loops = self.loops_around(number)?;
         let names = self.names_at(number)?;
         for name in &names {
@@ -139,12 +134,7 @@ impl<'a> Teller<'a> {
     }
 
     /// Adds what a statement reads of a source.
-    pub(crate) fn value_to(
-        &self,
-        text: &mut String,
-        number: usize,
-        source: Origin,
-    ) -> Result<(), AllocError> {
+    pub(crate) fn value_to(&self, text: &mut String, number: usize, source: Origin) -> Told {
         match source {
             Origin::Held(Slot::Variable { place, .. }) => text.push_str(self.variable(place)),
             Origin::Held(Slot::Statement(other)) => write!(text, "whether {other} runs"),

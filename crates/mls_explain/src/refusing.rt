@@ -1,8 +1,9 @@
 //! Why a transaction is refused, in sentences.
 
-use crate::mending::Deed;
+use crate::mending::{Deed, Outlet};
+use crate::outcome::Outcome;
 use crate::steps::Way;
-use crate::teller::Teller;
+use crate::teller::{Teller, Told};
 use mls_certcheck::{Rule, Slot};
 use mls_chains::{Chain, Origin};
 use mls_lattice::LabelNo;
@@ -27,31 +28,37 @@ fn purpose(rule: Rule) -> &'static str {
     }
 }
 
-/// How something comes out of a statement, and the label at which it does.
-fn outlet_of(stmt: &Stmt) -> Option<(Deed, LabelNo)> {
-    match stmt {
-        Stmt::Emit { label, .. } => Some((Deed::Emit, *label)),
+/// How something comes out of the statement of a number, if it does.
+fn outlet_of(number: usize, stmt: &Stmt) -> Option<Outlet> {
+    let (deed, label) = match stmt {
+        Stmt::Emit { label, .. } => (Deed::Emit, *label),
         Stmt::Insert { at, .. } | Stmt::Update { at, .. } | Stmt::Delete { at, .. } => {
-            Some((Deed::Write, *at))
+            (Deed::Write, *at)
         }
-        Stmt::Release { to, .. } => Some((Deed::Release, *to)),
-        Stmt::Assign { .. } | Stmt::If { .. } | Stmt::For { .. } => None,
-    }
+        Stmt::Release { to, .. } => (Deed::Release, *to),
+        Stmt::Assign { .. } | Stmt::If { .. } | Stmt::For { .. } => return None,
+    };
+    Some(Outlet {
+        number,
+        deed,
+        label,
+    })
 }
 
 impl Teller<'_> {
     // ---- the ends of the levels
 
     /// Adds a parameter whose label does not lie between the ends, and how it is mended.
-    fn beside_to(&self, text: &mut String, name: &str, label: LabelNo) -> Result<(), AllocError> {
+    fn beside_to(&self, text: &mut String, name: &str, label: LabelNo) -> Told {
         let low = self.label(self.tx.lo());
         let high = self.label(self.tx.hi());
         let of = self.label(label);
         let tx = self.tx.name();
-        writeln!(
+        write!(
             text,
-            "   The parameter {name} is at {of}, which does not lie between {low} and {high}, the levels of {tx}."
+            "   The parameter {name} is at {of}, which does not lie"
         )?;
+        writeln!(text, " between {low} and {high}, the levels of {tx}.")?;
         if self.is_seen(label, self.tx.hi()) {
             write!(text, "   To mend it: declare {name} at {low}")?;
             self.floor_way_to(text, label)
@@ -61,7 +68,7 @@ impl Teller<'_> {
         }
     }
 
-    fn parameters_to(&self, text: &mut String) -> Result<(), AllocError> {
+    fn parameters_to(&self, text: &mut String) -> Told {
         for place in 0..self.tx.params().len() {
             let label = self.parameter_label(place);
             if !self.is_seen(self.tx.lo(), label) || !self.is_seen(label, self.tx.hi()) {
@@ -72,18 +79,16 @@ impl Teller<'_> {
     }
 
     /// Adds that the ceiling does not see a label.
-    fn unseen_to(&self, text: &mut String, label: LabelNo) -> Result<(), AllocError> {
+    fn unseen_to(&self, text: &mut String, label: LabelNo) -> Told {
         let tx = self.tx.name();
         let high = self.label(self.tx.hi());
         let label = self.label(label);
-        write!(
-            text,
-            "The levels of {tx} end at {high}, which does not see {label}."
-        )
+        write!(text, "The levels of {tx} end at {high}")?;
+        write!(text, ", which does not see {label}.")
     }
 
     /// Adds that a statement names a label that the ceiling does not see, and how it is mended.
-    fn above_to(&self, text: &mut String, verb: &str, label: LabelNo) -> Result<(), AllocError> {
+    fn above_to(&self, text: &mut String, verb: &str, label: LabelNo) -> Told {
         let at = self.label(label);
         write!(text, "   This {verb}s at {at}. ")?;
         self.unseen_to(text, label)?;
@@ -102,7 +107,7 @@ impl Teller<'_> {
         names: bool,
         low: LabelNo,
         high: LabelNo,
-    ) -> Result<(), AllocError> {
+    ) -> Told {
         let (does, verb) = if starts {
             ("starts from what stands at", "start from")
         } else {
@@ -116,18 +121,16 @@ impl Teller<'_> {
         let higher = self.label(self.lowest_over(low, high).unwrap_or(high));
         let low = self.label(low);
         let high = self.label(high);
-        writeln!(
-            text,
-            "   This {does} {low} and {named} {high}, which {low} does not see. What comes of it would tell whether something stands there."
+        write!(text, "   This {does} {low} and {named} {high}, which {low}")?;
+        text.push_str(
+            " does not see. What comes of it would tell whether something stands there.\n",
         )?;
-        writeln!(
-            text,
-            "   To mend it: {verb} {higher}; or {other} {low} sees (`{word} {low}`)."
-        )
+        write!(text, "   To mend it: {verb} {higher}; or {other}")?;
+        writeln!(text, " {low} sees (`{word} {low}`).")
     }
 
     /// Adds that an update or a delete names a class that it does not see, and how it is mended.
-    fn classes_to(&self, text: &mut String, stmt: &Stmt) -> Result<(), AllocError> {
+    fn classes_to(&self, text: &mut String, stmt: &Stmt) -> Told {
         match stmt {
             Stmt::Update {
                 key_class,
@@ -151,7 +154,7 @@ impl Teller<'_> {
     // ---- what comes out
 
     /// Adds what is known, and at which label.
-    fn known_to(&self, text: &mut String, way: &Way, number: usize) -> Result<(), AllocError> {
+    fn known_to(&self, text: &mut String, way: &Way, number: usize) -> Told {
         let root = self.label(way.root);
         match way.end {
             Origin::Parameter(place) => {
@@ -168,18 +171,16 @@ impl Teller<'_> {
             }
             Origin::Held(Slot::Statement(_)) if way.cause == Some(0) => {
                 let tx = self.tx.name();
-                write!(
-                    text,
-                    "That this runs is known at {root}, where the levels of {tx} begin"
-                )
+                write!(text, "That this runs is known at {root}")?;
+                write!(text, ", where the levels of {tx} begin")
             }
             Origin::Held(Slot::Statement(_)) => {
-                let how = if self.turns(way) {
+                text.push_str(if self.turns(way) {
                     "How often"
                 } else {
                     "Whether"
-                };
-                write!(text, "{how} this runs is known at {root}")
+                })?;
+                write!(text, " this runs is known at {root}")
             }
         }
     }
@@ -198,35 +199,23 @@ impl Teller<'_> {
     }
 
     /// Adds what comes out of a statement that must not, and how it is mended.
-    fn out_to(
-        &self,
-        text: &mut String,
-        number: usize,
-        deed: Deed,
-        label: LabelNo,
-        chain: &Chain,
-    ) -> Result<(), AllocError> {
-        if !self.is_seen(label, self.tx.hi()) {
-            return self.above_to(text, deed.verb(), label);
+    fn out_to(&self, text: &mut String, out: &Outlet, chain: &Chain) -> Told {
+        if !self.is_seen(out.label, self.tx.hi()) {
+            return self.above_to(text, out.deed.verb(), out.label);
         }
-        let way = self.way_of(chain, number)?;
+        let way = self.way_of(chain, out.number)?;
         text.push_str("   ")?;
-        self.known_to(text, &way, number)?;
+        self.known_to(text, &way, out.number)?;
         self.one_reason_to(text, &way)?;
-        let at = self.label(label);
-        let harm = self.harm(deed, &way);
+        let at = self.label(out.label);
+        let harm = self.harm(out.deed, &way);
         write!(text, " Whoever sees {at} {harm}.")?;
         self.steps_to(text, &way)?;
-        self.out_ways_to(text, number, deed, label, &way)
+        self.out_ways_to(text, out, &way)
     }
 
     /// Adds a variable that may hold what the ceiling does not see, and how it is mended.
-    fn held_above_to(
-        &self,
-        text: &mut String,
-        number: usize,
-        chain: &Chain,
-    ) -> Result<(), AllocError> {
+    fn held_above_to(&self, text: &mut String, number: usize, chain: &Chain) -> Told {
         let way = self.way_of(chain, number)?;
         text.push_str("   ")?;
         self.unseen_to(text, way.root)?;
@@ -246,22 +235,20 @@ impl Teller<'_> {
     }
 
     /// Adds why a rule is broken at a statement, and how it is mended.
-    fn broken_to(
-        &self,
-        text: &mut String,
-        number: usize,
-        rule: Rule,
-        stmt: &Stmt,
-        chain: &Option<Chain>,
-    ) -> Result<(), AllocError> {
-        match (rule, stmt, chain) {
-            (Rule::Order, _, _) => self.classes_to(text, stmt),
-            (Rule::RowLoop, Stmt::For { label, .. }, _) => self.above_to(text, "read", *label),
+    fn why_to(&self, text: &mut String, number: usize, rule: Rule, chain: &Option<Chain>) -> Told {
+        match (rule, self.stmt(number), chain) {
+            (_, None, _) => self.parameters_to(text),
+            (Rule::Order, Some(stmt), _) => self.classes_to(text, stmt),
+            (Rule::RowLoop, Some(Stmt::For { label, .. }), _) => {
+                self.above_to(text, "read", *label)
+            }
             (Rule::AboveCeiling, _, Some(chain)) => self.held_above_to(text, number, chain),
-            (Rule::Write | Rule::Release | Rule::Emit, _, Some(chain)) => match outlet_of(stmt) {
-                Some((deed, label)) => self.out_to(text, number, deed, label, chain),
-                None => Ok(()),
-            },
+            (Rule::Write | Rule::Release | Rule::Emit, Some(stmt), Some(chain)) => {
+                match outlet_of(number, stmt) {
+                    Some(out) => self.out_to(text, &out, chain),
+                    None => Ok(()),
+                }
+            }
             _ => {
                 let purpose = purpose(rule);
                 writeln!(text, "   {purpose}")
@@ -269,22 +256,17 @@ impl Teller<'_> {
         }
     }
 
-    /// Adds why a transaction has no labels, with the line of the statement, and how it is mended.
-    pub(crate) fn refused_to(
-        &self,
-        text: &mut String,
-        number: usize,
-        rule: Rule,
-        chain: &Option<Chain>,
-    ) -> Result<(), AllocError> {
-        let name = self.tx.name();
-        let word = rule.text();
-        writeln!(text, "{name} is refused: {number} {word}")?;
-        self.line_to(text, number)?;
-        text.push_str("\n")?;
-        match self.stmt(number) {
-            Some(stmt) => self.broken_to(text, number, rule, stmt, chain),
-            None => self.parameters_to(text),
+    /// What each release tells to which label; or why a rule is broken, with the line of the statement, and how that is mended.
+    pub(crate) fn advice_of(&self, outcome: &Outcome) -> Result<String, AllocError> {
+        let mut text = String::new(self.alloc);
+        match outcome {
+            Outcome::Labelled(_) => self.releases_to(&mut text)?,
+            Outcome::Refused { stmt, rule, chain } => {
+                self.line_to(&mut text, *stmt)?;
+                text.push_str("\n")?;
+                self.why_to(&mut text, *stmt, *rule, chain)?;
+            }
         }
+        Ok(text)
     }
 }

@@ -1,6 +1,6 @@
 //! A chain of flows, step by step.
 
-use crate::teller::Teller;
+use crate::teller::{Teller, Told};
 use mls_certcheck::Slot;
 use mls_chains::{Chain, Origin};
 use mls_lattice::LabelNo;
@@ -45,15 +45,13 @@ impl Teller<'_> {
 
     /// Whether a step is worth no line: a variable keeps what it held, and not for the next turn of a loop.
     fn is_silent(&self, step: Step, next: usize) -> Result<bool, AllocError> {
-        match (step.source, step.target) {
-            (Origin::Held(Slot::Variable { place: from, .. }), Slot::Variable { place: to, .. }) =>
-                {
-                    let turns = matches!(self.stmt(step.number), Some(Stmt::For { .. }))
-                        && self.all_around(next)?.contains(&step.number);
-                    Ok(from == to && !turns)
-                }
-            _ => Ok(false),
-        }
+        let turns = self.is_loop(step.number) && self.all_around(next)?.contains(&step.number);
+        Ok(match (step.source, step.target) {
+            (Origin::Held(Slot::Variable { place, .. }), Slot::Variable { place: to, .. }) => {
+                place == to && !turns
+            }
+            _ => false,
+        })
     }
 
     /// The steps of a chain to a statement.
@@ -91,10 +89,14 @@ impl Teller<'_> {
         cause
     }
 
+    fn is_loop(&self, number: usize) -> bool {
+        matches!(self.stmt(number), Some(Stmt::For { .. }))
+    }
+
     /// Whether something runs as often as a loop turns.
     pub(crate) fn turns(&self, way: &Way) -> bool {
         match way.cause {
-            Some(cause) => matches!(self.stmt(cause), Some(Stmt::For { .. })),
+            Some(cause) => self.is_loop(cause),
             None => false,
         }
     }
@@ -127,14 +129,12 @@ impl Teller<'_> {
     }
 
     /// Adds how it comes to be known whether a statement runs.
-    fn runs_to(
-        &self,
-        text: &mut String,
-        step: Step,
-        inside: usize,
-        at: &str,
-    ) -> Result<(), AllocError> {
+    fn runs_to(&self, text: &mut String, step: Step, inside: usize, at: &str) -> Told {
         match (self.stmt(step.number), step.source) {
+            (None, _) => {
+                let floor = self.label(self.tx.lo());
+                write!(text, "the levels begin at {floor}")
+            }
             (
                 Some(
                     Stmt::For {
@@ -147,33 +147,21 @@ impl Teller<'_> {
             ) => {
                 let relation = self.relation(*relation);
                 let label = self.label(*label);
-                write!(
-                    text,
-                    "the loop{at} goes over the rows of {relation} that {label} sees"
-                )
+                write!(text, "the loop{at} goes over the rows of {relation}")?;
+                write!(text, " that {label} sees")
             }
-            (Some(_), Origin::Held(Slot::Statement(_))) => {
+            (_, Origin::Held(Slot::Statement(_))) => {
                 write!(text, "{inside} runs only where this does")
             }
-            (Some(_), source) => {
+            (_, source) => {
                 write!(text, "the guard{at} reads ")?;
                 self.value_to(text, step.number, source)
-            }
-            (None, _) => {
-                let floor = self.label(self.tx.lo());
-                write!(text, "the levels begin at {floor}")
             }
         }
     }
 
     /// Adds how a variable comes to hold something.
-    fn held_to(
-        &self,
-        text: &mut String,
-        step: Step,
-        name: &str,
-        at: &str,
-    ) -> Result<(), AllocError> {
+    fn held_to(&self, text: &mut String, step: Step, name: &str, at: &str) -> Told {
         match (self.stmt(step.number), step.source) {
             (_, Origin::Held(Slot::Statement(_))) => write!(text, "{name} tells whether this runs"),
             (Some(Stmt::Assign { .. }), source) => {
@@ -186,17 +174,15 @@ impl Teller<'_> {
             }
             (_, Origin::Declared(label)) => {
                 let label = self.label(LabelNo::new(label));
-                write!(
-                    text,
-                    "the write{at} puts its outcome into {name}, which tells what {label} sees"
-                )
+                write!(text, "the write{at} puts its outcome into {name}")?;
+                write!(text, ", which tells what {label} sees")
             }
             _ => write!(text, "{name} keeps it for the next turn"),
         }
     }
 
     /// Adds why something flows, with the number of the statement or without.
-    fn reason_to(&self, text: &mut String, step: Step, at: &str) -> Result<(), AllocError> {
+    fn reason_to(&self, text: &mut String, step: Step, at: &str) -> Told {
         match step.target {
             Slot::Statement(inside) => self.runs_to(text, step, inside, at),
             Slot::Variable { place, .. } => self.held_to(text, step, self.variable(place), at),
@@ -204,7 +190,7 @@ impl Teller<'_> {
     }
 
     /// Adds why something is known, behind a colon, where that is one step.
-    pub(crate) fn one_reason_to(&self, text: &mut String, way: &Way) -> Result<(), AllocError> {
+    pub(crate) fn one_reason_to(&self, text: &mut String, way: &Way) -> Told {
         if let [step] = way.steps.as_slice() {
             let number = step.number;
             let at = format!(in self.alloc; " at {number}")?;
@@ -218,7 +204,7 @@ impl Teller<'_> {
     }
 
     /// Ends the sentence, and adds a line for each step, where there are more than one.
-    pub(crate) fn steps_to(&self, text: &mut String, way: &Way) -> Result<(), AllocError> {
+    pub(crate) fn steps_to(&self, text: &mut String, way: &Way) -> Told {
         if way.steps.len() < 2 {
             return text.push_str("\n");
         }

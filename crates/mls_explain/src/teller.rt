@@ -1,10 +1,16 @@
 //! Names of what numbers stand for, and the order of declared labels.
+ghost use Rattle.std.specs.Prelude.{◌≡◌, [], slice_get, option_map};
+ghost use Rattle.std.specs.Option.{unwrap_or};
 
+use crate::numbering::four_to;
 use crate::statements::Statement;
 use mls_lattice::{LabelNo, Policy};
 use mls_scheme::{RelNo, Schemes};
 use mls_translang::{Stmt, Tx};
 use std::alloc::{AllocError, Global};
+
+/// That something was added to a text, or that memory lacks.
+pub(crate) type Told = Result<(), AllocError>;
 
 /// A transaction under a policy and schemes: its statements by number, its heading, and the line of each statement.
 #[derive(Drop)]
@@ -28,7 +34,9 @@ impl<'a> Teller<'a> {
         }
     }
 
-    pub(crate) fn variable(&self, place: usize) -> &'a str {
+    pub(crate) fn variable(&self, place: usize) -> &'a str
+        ensures { result.now ≡ unwrap_or (option_map (λ v. v.0) (slice_get self.now.tx.now.vars place)) [] }
+    {
         let vars = self.tx.vars();
         if place < vars.len() {
             vars.name(place)
@@ -161,8 +169,9 @@ impl<'a> Teller<'a> {
     }
 
     /// Adds the line of a statement, with its number in front. 0 is the heading.
-    pub(crate) fn line_to(&self, text: &mut String, number: usize) -> Result<(), AllocError> {
+    pub(crate) fn line_to(&self, text: &mut String, number: usize) -> Told {
         let line = self.lines.get(number).copied().unwrap_or("");
-        write!(text, "{number:>4}  {line}")
+        four_to(text, number)?;
+        write!(text, "  {line}")
     }
 }

@@ -4,3 +4,4 @@ pub mod StoringLemmas
 pub mod CauseLemmas
 pub mod WholeLemmas
 pub mod StoppingLemmas
+pub mod WordsLemmas

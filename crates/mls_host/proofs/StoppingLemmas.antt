@@ -7,11 +7,11 @@ use Rattle.mls_sessions.specs.declared.cause.RunFault.{RunFault}
 use Rattle.mls_host.specs.declared.host.CloseFault.{CloseFault}
 use Rattle.mls_host.specs.declared.reason.Reason.{Reason}
 use Rattle.mls_host.specs.declared.refusal.Refusal.{Refusal}
-use Rattle.mls_host.specs.declared.refusal.Refusal.TheVariants.{Before, Run, NotClosed, Output}
+use Rattle.mls_host.specs.declared.refusal.Refusal.TheVariants.{Before, Run, NotClosed, Output, Served, Unread}
 use Rattle.mls_host.specs.Hosting.{Hosting, Hosted, KeepSame, KeepsStores}
 use Rattle.mls_host.specs.Refusal.{ended}
 use Rattle.mls_host.specs.Stopping.{IsCaused, IsCausedInMemory}
-use Rattle.mls_words.specs.Words.{named}
+use Rattle.mls_host.specs.Words.{named}
 
 -- a host that is not touched
 pub untouched : (h : Hosting) → KeepSame h h
@@ -34,6 +34,8 @@ module _ {A : Type 0} (h : Hosted) where
   caused_without kept (Err (Run fault)) k = (kept, k)
   caused_without kept (Err NotClosed) k = absurd k
   caused_without kept (Err Output) k = absurd k
+  caused_without kept (Err (Served cause)) k = absurd k
+  caused_without kept (Err Unread) k = absurd k
 
   -- over a store, of which a call failed where more have failed than before
   pub caused_in_store : (path : List ℕ) (outcome : Result A RunFault) (closed : Result (Unit {0}) CloseFault) (before after : ℕ) → (IsErr closed → h.after.is_unclosed) → (0 < after → h.after.has_failed)

@@ -26,10 +26,10 @@ use Rattle.mls_script.specs.declared.fault.ScriptFault.{ScriptFault}
 use Rattle.mls_script.specs.declared.fault.ScriptCause.TheVariants as scripts
 use Rattle.mls_fragments.specs.declared.open_fault.OpenFault.{OpenFault}
 use Rattle.mls_fragments.specs.declared.open_fault.OpenFault.TheVariants as stores
-use Rattle.mls_words.specs.declared.words.Documents.{Documents}
-use Rattle.mls_words.specs.declared.words.Task.{Task}
-use Rattle.mls_words.specs.declared.words.Task.TheVariants.{Run, Shell}
-use Rattle.mls_words.specs.Words.{at_of}
+use Rattle.mls_host.specs.declared.words.Documents.{Documents}
+use Rattle.mls_host.specs.declared.words.Task.{Task}
+use Rattle.mls_host.specs.declared.words.Task.TheVariants.{Run, Shell}
+use Rattle.mls_host.specs.Words.{at_of}
 use Rattle.mls_host.specs.declared.samples.TheConstants.{POLICY, SCHEMES}
 use Rattle.mls_host.specs.declared.host.HostFault.{HostFault}
 use Rattle.mls_host.specs.declared.reason.Role.{Role}

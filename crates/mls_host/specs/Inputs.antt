@@ -15,10 +15,10 @@ use Rattle.mls_certificate.specs.Reading.{Block}
 use Rattle.mls_certificate.specs.Spelling.{IsFile, file_text}
 use Rattle.mls_machine.specs.declared.stored.Stored.{Stored}
 use Rattle.mls_host.specs.declared.samples.TheConstants.{POLICY, SCHEMES}
-use Rattle.mls_words.specs.declared.words.Documents.{Documents}
-use Rattle.mls_words.specs.declared.words.Task.{Task}
-use Rattle.mls_words.specs.declared.words.Task.TheVariants.{Run}
-use Rattle.mls_words.specs.Words.{at_of}
+use Rattle.mls_host.specs.declared.words.Documents.{Documents}
+use Rattle.mls_host.specs.declared.words.Task.{Task}
+use Rattle.mls_host.specs.declared.words.Task.TheVariants.{Run}
+use Rattle.mls_host.specs.Words.{at_of}
 use Rattle.mls_host.specs.Storing.{AreStoredWith}
 
 -- none without a name; with one, the label of the name

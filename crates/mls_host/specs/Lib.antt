@@ -10,3 +10,4 @@ pub mod Causes
 pub mod Stopping
 pub mod Deed
 pub mod Reading
+pub mod Words

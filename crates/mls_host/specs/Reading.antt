@@ -10,10 +10,10 @@ use Rattle.mls_script.specs.Event.{EventFits}
 use Rattle.mls_translang.specs.Tx.{Tx}
 use Rattle.mls_translang.specs.Fits.{IsReadUnder}
 use Rattle.mls_certificate.specs.Reading.{Block}
-use Rattle.mls_words.specs.declared.words.Job.{Job}
-use Rattle.mls_words.specs.declared.words.Task.{Task}
-use Rattle.mls_words.specs.declared.words.Task.TheVariants.{Shell}
-use Rattle.mls_words.specs.Words.{named}
+use Rattle.mls_host.specs.declared.words.Job.{Job}
+use Rattle.mls_host.specs.declared.words.Task.{Task}
+use Rattle.mls_host.specs.declared.words.Task.TheVariants.{Shell}
+use Rattle.mls_host.specs.Words.{named}
 use Rattle.mls_host.specs.declared.job.Setting.{Setting}
 use Rattle.mls_host.specs.declared.job.Inputs.{Inputs}
 use Rattle.mls_host.specs.declared.reason.Reason.{Reason}
@@ -54,17 +54,17 @@ module _ (h : Hosting) (job : Job) where
 -- ---- what is known of it
 
 -- the schemes have the policy's labels, and the reader, if there is one, is one of these
-pub record IsMadeWell (s : Setting) : Type 0 where
+pub record IsConsistent (s : Setting) : Type 0 where
   pub under : AreUnder (length s.policy.labels) s.file.schemes
   pub declared : IfSome s.reader (λ c. c < length s.policy.labels)
 
 -- transactions and events fit the policy and the schemes
-pub record FitTogether (s : Setting) (txs : List Tx) (events : List Event) : Type 0 where
+pub record FitSetting (s : Setting) (txs : List Tx) (events : List Event) : Type 0 where
   pub read : AllByRecursion (IsReadUnder s.policy s.file.schemes) txs
   pub fits : AllByRecursion (EventFits s.policy s.file.schemes) events
 
 abbrev pub AreReady : Inputs → Type 0
-AreReady i = IsMadeWell i.setting × FitTogether i.setting i.transactions i.events
+AreReady i = IsConsistent i.setting × FitSetting i.setting i.transactions i.events
 
 -- ---- what is refused
 

@@ -21,7 +21,7 @@ use Rattle.mls_script.specs.declared.fault.ScriptCause.TheVariants as scripts
 use Rattle.mls_script.specs.Fault as script_faults
 use Rattle.mls_fragments.specs.declared.open_fault.OpenFault.TheVariants as stores
 use Rattle.mls_fragments.specs.OpenFault as store_faults
-use Rattle.mls_words.specs.Words.{memory_text}
+use Rattle.mls_host.specs.Words.{memory_text}
 use Rattle.mls_host.specs.declared.host.HostFault.{HostFault}
 use Rattle.mls_host.specs.declared.host.HostFault.TheVariants as host
 use Rattle.mls_host.specs.declared.reason.Role.{Role}

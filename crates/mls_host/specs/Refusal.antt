@@ -3,17 +3,23 @@ use Rattle.std.specs.Prelude.{ℕ, List, ◌++◌, codes, Result, Ok, Err}
 use Rattle.std.specs.Fmt.{decimal}
 use Rattle.mls_fragments.specs.declared.open_fault.OpenFault.TheVariants as stores
 use Rattle.mls_fragments.specs.OpenFault as store_faults
+use Rattle.mls_sessions.specs.declared.cause.RunCause.{RunCause}
 use Rattle.mls_sessions.specs.declared.cause.RunFault.{RunFault}
 use Rattle.mls_sessions.specs.Cause.{cause_word}
 use Rattle.mls_host.specs.declared.host.CloseFault.{CloseFault}
 use Rattle.mls_host.specs.declared.reason.Reason.{Reason}
 use Rattle.mls_host.specs.declared.reason.Role.TheVariants as role
 use Rattle.mls_host.specs.declared.refusal.Refusal.{Refusal}
-use Rattle.mls_host.specs.declared.refusal.Refusal.TheVariants.{Before, Run, NotClosed, Output}
+use Rattle.mls_host.specs.declared.refusal.Refusal.TheVariants.{Before, Run, NotClosed, Output, Served, Unread}
+use Rattle.mls_host.specs.declared.ending.Ending.{Ending}
+use Rattle.mls_host.specs.declared.ending.Ending.TheVariants.{Well, Refused}
 use Rattle.mls_host.specs.Reason.{fault_text, reason_text, reason_status}
 
 abbrev pub run_text : RunFault → List ℕ
 run_text f = codes "mldb: run: " ++ cause_word f.cause ++ codes " at " ++ decimal f.event ++ codes "\n"
+
+abbrev pub served_text : RunCause → List ℕ
+served_text cause = codes "mldb: serve: " ++ cause_word cause ++ codes "\n"
 
 -- what is told of a refusal
 abbrev pub refusal_text : Refusal → List ℕ
@@ -21,12 +27,16 @@ refusal_text (Before reason) = reason_text reason
 refusal_text (Run f) = run_text f
 refusal_text NotClosed = fault_text role.Store (store_faults.code_of stores.Store) (store_faults.word_of stores.Store)
 refusal_text Output = codes "mldb: output: Write\n"
+refusal_text (Served cause) = served_text cause
+refusal_text Unread = codes "mldb: serve: Unreadable\n"
 
 abbrev pub refusal_status : Refusal → ℕ
 refusal_status (Before reason) = reason_status reason
 refusal_status (Run f) = 3
 refusal_status NotClosed = 3
 refusal_status Output = 3
+refusal_status (Served cause) = 3
+refusal_status Unread = 1
 
 -- ---- over a store
 
@@ -45,3 +55,12 @@ module _ {A : Type 0} where
   IsEnd Ends Nothing (Err (Run fault)) = Ends (Err fault)
   IsEnd Ends Nothing (Err NotClosed) = (end : A) × Ends (Ok end)
   IsEnd Ends Nothing (Err Output) = ⊥
+  IsEnd Ends Nothing (Err (Served cause)) = ⊥
+  IsEnd Ends Nothing (Err Unread) = ⊥
+
+-- how a desk ended, as it is told: without a number, and a line that could not be read as a refusal
+abbrev pub served : Result Ending Refusal → Result Ending Refusal
+served (Ok Well) = Ok Well
+served (Ok Refused) = Err Unread
+served (Err (Run fault)) = Err (Served fault.cause)
+served (Err refusal) = Err refusal

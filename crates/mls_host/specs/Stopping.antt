@@ -3,7 +3,7 @@ use Rattle.std.specs.Prelude.{◌≡◌, ◌≢◌, ℕ, List, Option, Some, Non
 use Rattle.mls_sessions.specs.declared.cause.RunCause.TheVariants.{Store}
 use Rattle.mls_sessions.specs.declared.cause.RunFault.{RunFault}
 use Rattle.mls_host.specs.declared.refusal.Refusal.{Refusal}
-use Rattle.mls_host.specs.declared.refusal.Refusal.TheVariants.{Before, Run, NotClosed, Output}
+use Rattle.mls_host.specs.declared.refusal.Refusal.TheVariants.{Before, Run, NotClosed, Output, Served, Unread}
 use Rattle.mls_host.specs.Hosting.{Hosted, KeepsStores, LeavesStores}
 
 module _ (h : Hosted) where
@@ -26,6 +26,8 @@ module _ (h : Hosted) where
   IsCaused store (Err (Run fault)) = LeavesStores h store × IsStoppedFor store fault
   IsCaused store (Err NotClosed) = IsUnclosed store
   IsCaused store (Err Output) = ⊥
+  IsCaused store (Err (Served cause)) = ⊥
+  IsCaused store (Err Unread) = ⊥
 
 -- without a store it stops for none, and none is not closed
 abbrev pub IsCausedInMemory : {A : Type 0} → Result A Refusal → Type 0
@@ -34,3 +36,5 @@ IsCausedInMemory (Err (Before reason)) = ⊤
 IsCausedInMemory (Err (Run fault)) = fault.cause ≢ Store
 IsCausedInMemory (Err NotClosed) = ⊥
 IsCausedInMemory (Err Output) = ⊥
+IsCausedInMemory (Err (Served cause)) = ⊥
+IsCausedInMemory (Err Unread) = ⊥

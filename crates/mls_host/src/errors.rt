@@ -2,11 +2,11 @@
 ghost use Rattle.std.specs.Prelude.{◌≡◌, None};
 ghost use Rattle.mls_host.specs.Hosting.{IsTold};
 ghost use Rattle.mls_host.specs.Refusal.{refusal_text};
-ghost use Rattle.mls_words.specs.Words.{usage_text};
+ghost use Rattle.mls_host.specs.Words.{usage_text};
 
 use crate::refusal::Refusal;
-use mls_words::Usage;
-use mls_writing::{WriteFault, write_bytes};
+use crate::usage::Usage;
+use mls_lines::{WriteFault, write_bytes};
 use std::io::Write;
 
 /// Where a command tells what it refuses. A failure of the writer changes nothing but what is promised of it: what was told is

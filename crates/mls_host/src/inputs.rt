@@ -11,7 +11,7 @@ ghost use Rattle.mls_host.specs.Causes.{IsNotGiven, IsInputRefused, RefusesPolic
 ghost use Rattle.mls_host.specs.Causes.{AreTransactionsRefused, AreCertificatesRefused, IsScriptRefused, AreEventsRefused, no_reader, IsReaderUnknown};
 ghost use Rattle.mls_host.specs.Inputs.{IsFrom, IsPolicyOf, AreSchemesOf, IsReader, AreToldIn, AreBlocksIn, AreTransactionsFrom, AreCertificatesFrom};
 ghost use Rattle.mls_host.specs.Inputs.{IsScriptFrom, AreEventsOf};
-ghost use Rattle.mls_words.specs.Words.{named};
+ghost use Rattle.mls_host.specs.Words.{named};
 
 use crate::host::{Host, HostFault};
 use crate::readers::{
@@ -19,12 +19,12 @@ use crate::readers::{
 };
 use crate::reason::{Reason, Role};
 use crate::samples;
+use crate::words::{Documents, Job, Task};
 use mls_certificate::Certificate;
 use mls_lattice::{Items, LabelNo, Policy, Str};
 use mls_scheme::{Schemes, SchemesFile};
 use mls_script::Event;
 use mls_translang::Tx;
-use mls_words::{Documents, Job, Task};
 use std::alloc::Global;
 
 /// What the host gives for a file, or, with no path, for the standard input.

@@ -1,4 +1,4 @@
-//! What a command asks of the machine that it runs on, what it reads of inputs, and what it refuses.
+//! The words of a command line, what a command asks of the machine that it runs on, what it reads of inputs, and what it refuses.
 #![tactic(auto)]
 
 mod ending;
@@ -14,6 +14,8 @@ mod refusal;
 pub mod samples;
 mod storing;
 mod telling;
+mod usage;
+mod words;
 
 pub use crate::ending::{Ending, ending_if};
 pub use crate::errors::Errors;
@@ -22,7 +24,10 @@ pub use crate::host::{CloseFault, Host, HostFault, StoreCause, StoreFiles, read_
 pub use crate::inputs::{policy_of, schemes_of};
 pub use crate::job::{Inputs, Setting};
 pub use crate::readers::read_script;
-pub use crate::reading::inputs_of;
+pub use crate::reading::{inputs_of, setting_of};
 pub use crate::reason::{Reason, Role};
-pub use crate::refusal::{Refusal, ended};
+pub use crate::refusal::{Refusal, ended, served};
 pub use crate::storing::{cert_named, stored_from, stored_of};
+pub use crate::telling::Tally;
+pub use crate::usage::{Usage, tell_memory};
+pub use crate::words::{Documents, Files, Job, Task, job_of};

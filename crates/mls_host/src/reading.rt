@@ -1,7 +1,7 @@
 //! A job's inputs, read in their order, for who does the job and for who explains it.
 ghost use Rattle.std.specs.Prelude.{IfOk, IfErr, OnOk};
 ghost use Rattle.mls_host.specs.Reading.{HasUser, IsUserRefused, IsSetting, IsSettingRefused, AreContents, AreContentsRefused, AreInputs, AreInputsRefused};
-ghost use Rattle.mls_host.specs.Reading.{IsMadeWell, FitTogether, AreReady};
+ghost use Rattle.mls_host.specs.Reading.{IsConsistent, FitSetting, AreReady};
 
 use crate::host::Host;
 use crate::inputs::{
@@ -9,20 +9,20 @@ use crate::inputs::{
 };
 use crate::job::{Inputs, Setting};
 use crate::reason::Reason;
+use crate::words::{Job, Task};
 use mls_certificate::Certificate;
 use mls_lattice::{Items, Str, is_name};
 use mls_script::Event;
 use mls_translang::Tx;
-use mls_words::{Job, Task};
 use std::alloc::Global;
 
 /// Transactions, certificates with the names of theirs, and events.
 type Contents = (Items<Tx>, Items<(Str, Certificate)>, Items<Event>);
 
-/// The policy, the reader and the schemes of a job.
-fn setting_of<H: Host>(alloc: Global, host: &H, job: Job) -> Result<Setting, Reason>
+/// The policy, the reader and the schemes of a job. No other file is read.
+pub fn setting_of<H: Host>(alloc: Global, host: &H, job: Job) -> Result<Setting, Reason>
     ensures read { IfOk result (IsSetting (H.hosting host.now) job.entry) }
-    ensures well { IfOk result IsMadeWell }
+    ensures consistent { IfOk result IsConsistent }
     ensures refused { IfErr result (IsSettingRefused (H.hosting host.now) job.entry) }
 {
     let policy = policy_of(alloc, host, job.documents)?;
@@ -54,7 +54,7 @@ fn contents_of<H: Host>(
     job: Job,
 ) -> Result<Contents, Reason>
     ensures read { IfOk result (λ c. AreContents (H.hosting host.now) job.entry setting.now c.0 c.1 c.2) }
-    ensures fit { IfOk result (λ c. FitTogether setting.now c.0 c.2) }
+    ensures fit { IfOk result (λ c. FitSetting setting.now c.0 c.2) }
     ensures refused { IfErr result (AreContentsRefused (H.hosting host.now) job.entry setting.now) }
 {
     check_user(job.task)?;

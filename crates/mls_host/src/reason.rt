@@ -4,15 +4,15 @@ ghost use Rattle.std.specs.Io.KnownBytes.{Appends};
 ghost use Rattle.mls_host.specs.Reason.{role_word, input_reason, input_text, fault_text, line_text, front_text, spot_text, place_text, text_fault_text, cert_fault_text, script_fault_text, reason_text, reason_status};
 
 use crate::host::HostFault;
+use crate::usage::tell_memory;
 use mls_certificate::{CertCause, CertFault};
 use mls_fragments::OpenFault;
 use mls_lattice::PolicyFault;
+use mls_lines::Piece::{Number, Text};
+use mls_lines::{WriteFault, write_bytes, write_pieces};
 use mls_parser::{TextCause, TextFault};
 use mls_scheme::SchemeFault;
 use mls_script::{ScriptCause, ScriptFault};
-use mls_words::tell_memory;
-use mls_writing::Piece::{Number, Text};
-use mls_writing::{WriteFault, write_bytes, write_pieces};
 use std::alloc::AllocError;
 use std::io::Write;
 

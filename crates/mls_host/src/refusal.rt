@@ -1,14 +1,15 @@
 //! Why a command ends without success, and how that is told.
 ghost use Rattle.std.specs.Prelude.{◌≡◌, OnOk};
 ghost use Rattle.std.specs.Io.KnownBytes.{Appends};
-ghost use Rattle.mls_host.specs.Refusal.{run_text, refusal_text, refusal_status, ended};
+ghost use Rattle.mls_host.specs.Refusal.{run_text, served_text, refusal_text, refusal_status, ended, served};
 
+use crate::ending::Ending;
 use crate::host::CloseFault;
 use crate::reason::{Reason, Role, tell_fault};
 use mls_fragments::OpenFault;
-use mls_sessions::RunFault;
-use mls_writing::Piece::{Number, Text};
-use mls_writing::{WriteFault, write_bytes, write_pieces};
+use mls_lines::Piece::{Number, Text};
+use mls_lines::{WriteFault, write_bytes, write_pieces};
+use mls_sessions::{RunCause, RunFault};
 use std::alloc::AllocError;
 use std::io::Write;
 
@@ -22,6 +23,10 @@ pub enum Refusal {
     NotClosed,
     /// What a command other than a run prints was not taken.
     Output,
+    /// A desk was given up: which of its lines it was at would tell of all of them.
+    Served(RunCause),
+    /// A line of a desk could not be read.
+    Unread,
 }
 
 fn tell_run<W: Write>(err: &mut W, fault: &RunFault) -> Result<(), WriteFault<W>>
@@ -37,14 +42,22 @@ fn tell_run<W: Write>(err: &mut W, fault: &RunFault) -> Result<(), WriteFault<W>
     write_pieces(err, &pieces)
 }
 
+fn tell_served<W: Write>(err: &mut W, cause: RunCause) -> Result<(), WriteFault<W>>
+    ensures { OnOk result (Appends (W.contents err.old) (W.contents err.new) (served_text cause)) }
+{
+    let pieces = [Text("mldb: serve: "), Text(cause.word()), Text("\n")];
+    write_pieces(err, &pieces)
+}
+
 impl Refusal {
-    /// The exit status: 2 where an input was refused, 3 for store, writing and memory.
+    /// The exit status: 2 where an input was refused, 1 where a line of a desk was not read, 3 for store, writing and memory.
     pub fn status(&self) -> u8
         ensures { result ≡ refusal_status self.now }
     {
         match self {
             Refusal::Before(reason) => reason.status(),
-            Refusal::Run(_) | Refusal::NotClosed | Refusal::Output => 3,
+            Refusal::Unread => 1,
+            Refusal::Run(_) | Refusal::NotClosed | Refusal::Output | Refusal::Served(_) => 3,
         }
     }
 
@@ -62,6 +75,8 @@ impl Refusal {
                 OpenFault::Store.word(),
             ),
             Refusal::Output => write_bytes(err, b"mldb: output: Write\n"),
+            Refusal::Served(cause) => tell_served(err, *cause),
+            Refusal::Unread => write_bytes(err, b"mldb: serve: Unreadable\n"),
         }
     }
 }
@@ -77,6 +92,18 @@ pub fn ended<T: Drop>(
         (Err(fault), _) => Err(Refusal::Run(fault)),
         (Ok(_), Err(_)) => Err(Refusal::NotClosed),
         (Ok(end), Ok(())) => Ok(end),
+    }
+}
+
+/// How a desk ended, as it is told: a fault without the number of a line, and a line that could not be read as a refusal.
+pub fn served(outcome: Result<Ending, Refusal>) -> Result<Ending, Refusal>
+    ensures { result ≡ served outcome }
+{
+    match outcome {
+        Ok(Ending::Well) => Ok(Ending::Well),
+        Ok(Ending::Refused) => Err(Refusal::Unread),
+        Err(Refusal::Run(fault)) => Err(Refusal::Served(fault.cause)),
+        Err(refusal) => Err(refusal),
     }
 }
 

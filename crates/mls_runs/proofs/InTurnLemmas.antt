@@ -28,9 +28,9 @@ use Rattle.mls_machine.proofs.KeepingLemmas.{first_integrity}
 use Rattle.mls_machine.proofs.HistoryLemmas.{histories_pass}
 use Rattle.mls_sessions.specs.declared.cause.RunFault.{RunFault}
 use Rattle.mls_sessions.specs.World.{entries_in, IsSound}
-use Rattle.mls_words.specs.declared.words.Documents.{Documents}
-use Rattle.mls_words.specs.declared.words.Job.{Job}
-use Rattle.mls_words.specs.Words.{named}
+use Rattle.mls_host.specs.declared.words.Documents.{Documents}
+use Rattle.mls_host.specs.declared.words.Job.{Job}
+use Rattle.mls_host.specs.Words.{named}
 use Rattle.mls_host.specs.Hosting.{Hosting, Hosted}
 use Rattle.mls_host.specs.Inputs.{AreTransactionsFrom, IsPolicyOf}
 use Rattle.mls_host.specs.declared.job.Inputs.{Inputs}

@@ -3,3 +3,8 @@ pub mod InTurnLemmas
 pub mod MemoryLemmas
 pub mod HistoryLemmas
 pub mod AlikeLemmas
+pub mod ReadingLemmas
+pub mod AnsweringLemmas
+pub mod DeskLemmas
+pub mod DeskEndLemmas
+pub mod LawLemmas

@@ -15,7 +15,7 @@ use Rattle.mls_host.specs.Running.{first_world, output, standing}
 use Rattle.mls_host.specs.declared.job.Inputs.{Inputs}
 use Rattle.mls_host.specs.declared.job.Setting.{Setting}
 use Rattle.mls_host.specs.Reading.{AreInputs}
-use Rattle.mls_words.specs.declared.words.Job.{Job}
+use Rattle.mls_host.specs.declared.words.Job.{Job}
 use Rattle.mls_runs.specs.ScriptRun.{site_under, IsScriptRun}
 
 -- a run up to where it ended or stopped

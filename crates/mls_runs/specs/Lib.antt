@@ -3,3 +3,8 @@ pub mod InTurn
 pub mod Memory
 pub mod History
 pub mod Alike
+pub mod Desk
+pub mod DeskRun
+pub mod Laws
+pub mod Marks
+pub mod Reading

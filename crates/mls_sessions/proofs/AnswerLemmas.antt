@@ -1,8 +1,9 @@
 -- One event of a run, and a run up to an event.
-use Rattle.std.proofs.Common.{◌≡◌, ℕ, zero, suc, ◌+◌, ◌-◌, ◌<◌, ◌≤◌, Bool, true, false, cond, List, [], ◌∷◌, ◌++◌, Option, length, get_or, refl, sym, ap, ◌∙◌, subst, append_assoc, arith}
+use Rattle.std.proofs.Common.{◌≡◌, ℕ, zero, suc, ◌+◌, ◌-◌, ◌<◌, ◌≤◌, ◌&&◌, ◌||◌, Bool, true, false, not, cond, List, [], ◌∷◌, ◌++◌, Option, None, length, take, get_or, refl, sym, ap, ◌∙◌, subst, append_assoc, arith}
 use Rattle.std.specs.Io.KnownBytes.{Appends}
 use Rattle.std.proofs.KnownBytes.{Appends-nil, Appends-trans}
-use Rattle.std.proofs.lemmas.List.{take_all}
+use Rattle.std.proofs.lemmas.List.{take_all, take_more}
+use Rattle.std.specs.Prelude.{is_some}
 use Rattle.std.specs.List.{AllByRecursion}
 use Rattle.mls_filterview.specs.declared.base.BaseFault.{BaseFault}
 use Rattle.mls_filterview.specs.declared.base.BaseFault.TheVariants as faults
@@ -24,7 +25,7 @@ use Rattle.mls_sessions.specs.declared.engine.Engine.{Engine}
 use Rattle.mls_sessions.specs.Cause.{cause_of}
 use Rattle.mls_monitor.specs.Sessions.{site_of}
 use Rattle.mls_sessions.specs.Engine.{site, world_of, IsReady, IsStep, IsKept}
-use Rattle.mls_sessions.specs.Run.{printed_to, world_after, IsWhole, IsStopped, IsPart, answer_text, IsAnswered, IsHalted}
+use Rattle.mls_sessions.specs.Run.{is_done, are_done, printed_to, world_after, IsWhole, IsStopped, IsPart, answer_text, IsAnswered, IsHalted}
 use Rattle.mls_sessions.proofs.StepLemmas.{entries_known}
 
 -- ---- one event
@@ -86,6 +87,32 @@ only_store faults.Memory h k = absurd (let e : Memory ≡ Store = k in cc)
 only_store faults.NotBegun h k = absurd (h.0 refl)
 only_store faults.Begun h k = absurd (h.1 refl)
 
+-- ---- whether events are done
+
+module _ (site : Site) where
+  pub are_done-snoc : (w : World) (es : List Event) (e : Event) → are_done site w (es ++ e ∷ []) ≡ (are_done site w es && is_done (step site (end_of site w es) e).reply)
+  unfolding are_done end_of
+  are_done-snoc w [] e = and_true (is_done (step site w e).reply)
+    where
+      and_true : (b : Bool) → (b && true) ≡ b
+      and_true true = refl
+      and_true false = refl
+  are_done-snoc w (x ∷ es) e =
+      ap (λ b. is_done (step site w x).reply && b) (are_done-snoc (step site w x).world es e) ∙ and_assoc (is_done (step site w x).reply) _ _
+    where
+      and_assoc : (a b c : Bool) → (a && (b && c)) ≡ ((a && b) && c)
+      and_assoc true b c = refl
+      and_assoc false b c = refl
+
+  -- one event more
+  done_more : (w : World) (es : List Event) (i : ℕ) (e : Event) → i < length es → get_or es i e ≡ e
+      → are_done site w (take (i + 1) es) ≡ (are_done site w (take i es) && is_done (step site (end_of site w (take i es)) e).reply)
+  done_more w es i e within is = ap (are_done site w) (take_more es i e within ∙ ap (λ x. take i es ++ x ∷ []) is) ∙ are_done-snoc w (take i es) e
+
+not_both : (a b : Bool) → (not a || not b) ≡ not (a && b)
+not_both true b = refl
+not_both false b = refl
+
 -- ---- a run up to an event
 
 -- the first i events are answered
@@ -95,17 +122,31 @@ pub record Running {B : Type 0} (state : B → State) (is_clean : B → Type 0) 
   pub kept : IsKept state is_clean first now
   pub bytes : is_clean now.base → Appends start held (printed_to (site first) audience (world_of state first) es i)
   pub world : is_clean now.base → world_of state now ≡ world_after (site first) (world_of state first) es i
+  pub noticed : is_clean now.base → is_some now.notice ≡ not (are_done (site first) (world_of state first) (take i es))
 
 moved : (P : Site → World → Type 0) (p q : Site) (v w : World) → p ≡ q → v ≡ w → P p v → P q w
 moved P p q v w a b h = subst (λ x. P x w) a (subst (P p) b h)
 
 module _ {B : Type 0} (state : B → State) (is_clean : B → Type 0) (failures : B → ℕ) (audience : Audience) (es : List Event) (first : Engine B) (start : Option (List ℕ)) where
-  pub running_start : IsReady state is_clean first → Running state is_clean failures audience es first start 0 first start
-  unfolding end_of run_lines
+  pub running_start : IsReady state is_clean first → Running state is_clean failures audience es first start 0 (record first { notice = None }) start
+  unfolding end_of run_lines are_done
   running_start ready = record {
     clean = λ c. c;
     count = omega arith;
-    kept = record { rules = refl; ready = ready };
+    kept = record {
+      rules = refl;
+      ready = record {
+        under = ready.under;
+        distinct = ready.distinct;
+        read = ready.read;
+        certified = ready.certified;
+        users = ready.users;
+        idle = ready.idle;
+        sound = ready.sound;
+        views = ready.views;
+      };
+    };
+    noticed = λ c. refl;
     bytes = λ c. subst (Appends start start) (sym (nothing_heard (site_labels (site first)) audience.reader)) (Appends-nil start);
     world = λ c. refl;
   }
@@ -128,6 +169,10 @@ module _ {B : Type 0} (state : B → State) (is_clean : B → Type 0) (failures 
         world = r.world c ∙ ap (end_of (site first) w) all;
       }
 
+  pub running_noticed : (i : ℕ) (now : Engine B) (held : Option (List ℕ)) → Running state is_clean failures audience es first start i now held → length es ≤ i → is_clean now.base
+      → is_some now.notice ≡ not (are_done (site first) w es)
+  running_noticed i now held r l c = r.noticed c ∙ ap (λ x. not (are_done (site first) w x)) (take_all i es l)
+
   module _ (i : ℕ) (now : Engine B) (held : Option (List ℕ)) (r : Running state is_clean failures audience es first start i now held)
       (e : Event) (within : i < length es) (is : get_or es i e ≡ e) (new : Engine B) (after : Option (List ℕ)) (clean : is_clean new.base → is_clean now.base) where
     same_site : site now ≡ site first
@@ -135,8 +180,9 @@ module _ {B : Type 0} (state : B → State) (is_clean : B → Type 0) (failures 
 
     pub running_more : failures now.base ≤ failures new.base → IsKept state is_clean now new
         → (is_clean new.base → IsAnswered (site now) audience (world_of state now) e held after (world_of state new))
+        → (is_clean new.base → is_some new.notice ≡ (is_some now.notice || not (is_done (step (site now) (world_of state now) e).reply)))
         → Running state is_clean failures audience es first start (i + 1) new after
-    running_more count kept answer =
+    running_more count kept answer notice =
         let h : is_clean new.base → IsAnswered (site first) audience (at i) e held after (world_of state new) =
         λ c. moved (λ p v. IsAnswered p audience v e held after (world_of state new)) (site now) (site first) (world_of state now) (at i) same_site (r.world (clean c)) (answer c) in
         record {
@@ -145,6 +191,11 @@ module _ {B : Type 0} (state : B → State) (is_clean : B → Type 0) (failures 
           kept = record { rules = kept.rules ∙ r.kept.rules; ready = kept.ready };
           bytes = λ c. subst (Appends start after) (sym (printed_more (site first) w es i e within is audience)) (Appends-trans start held after (to i) _ (r.bytes (clean c)) (h c).bytes);
           world = λ c. (h c).world ∙ sym (end_more (site first) w es i e within is);
+          noticed = λ c.
+              moved (λ p v. is_some new.notice ≡ (is_some now.notice || not (is_done (step p v e).reply))) (site now) (site first) (world_of state now) (at i) same_site (r.world (clean c)) (notice c)
+              ∙ ap (λ b. b || not (is_done (step (site first) (at i) e).reply)) (r.noticed (clean c))
+              ∙ not_both (are_done (site first) w (take i es)) (is_done (step (site first) (at i) e).reply)
+              ∙ ap not (sym (done_more (site first) w es i e within is));
         }
       where
         least : {a b c : ℕ} → a ≤ b → b ≤ c → a ≤ c

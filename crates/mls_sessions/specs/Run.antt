@@ -1,8 +1,12 @@
 -- What a run writes for an audience, and where a run that stops leaves things.
-use Rattle.std.specs.Prelude.{◌≡◌, ◌≢◌, ℕ, ◌-◌, ◌≤◌, if◌then◌else◌, Bool, true, List, [], ◌++◌, length, take, Option}
+use Rattle.std.specs.Prelude.{◌≡◌, ◌≢◌, ℕ, ◌-◌, ◌≤◌, if◌then◌else◌, ◌&&◌, Bool, true, false, List, [], ◌∷◌, ◌++◌, length}
+use Rattle.std.specs.Prelude.{take, Option}
 use Rattle.std.specs.Io.KnownBytes.{Appends}
 use Rattle.mls_script.specs.declared.event.Event.{Event}
+use Rattle.mls_updates.specs.Outcome.{is_done as is_write_done}
 use Rattle.mls_machine.specs.declared.form.Audience.{Audience}
+use Rattle.mls_machine.specs.declared.reply.Reply.{Reply}
+use Rattle.mls_machine.specs.declared.reply.Reply.TheVariants.{Denied, Wrote}
 use Rattle.mls_machine.specs.Site.{Site}
 use Rattle.mls_machine.specs.Machine.{World, step, end_of}
 use Rattle.mls_machine.specs.Observation.{reply_shows, run_shows}
@@ -13,6 +17,17 @@ use Rattle.mls_sessions.specs.declared.cause.RunFault.{RunFault}
 -- the world after the first n events of a run from w
 abbrev pub world_after : Site → World → List Event → ℕ → World
 world_after site w es n = end_of site w (take n es)
+
+-- what was asked for is done: it is not denied, and is no write that is refused
+abbrev pub is_done : Reply → Bool
+is_done (Denied denial) = false
+is_done (Wrote outcome) = is_write_done outcome
+is_done reply = true
+
+-- all events of a run from a world are done
+unfoldable pub are_done : Site → World → List Event → Bool
+are_done site w [] = true
+are_done site w (e ∷ es) = is_done (step site w e).reply && are_done site (step site w e).world es
 
 -- a run from w, of which the lines are written whose labels the reader dominates, or all, in the audience's form
 module _ (site : Site) (audience : Audience) (w : World) (es : List Event) where

@@ -92,8 +92,10 @@ impl<'a, B: Base> Engine<'a, B> {
         user_of(&self.sessions, level, name).is_some()
     }
 
-    /// Why the event that a run answered last was not done.
-    pub fn notice(&self) -> Option<Notice> {
+    /// Why the last event of the last run that was not done was not, where there is one.
+    pub fn notice(&self) -> Option<Notice>
+        ensures { result ≡ self.now.notice }
+    {
         self.notice
     }
 

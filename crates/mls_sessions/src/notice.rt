@@ -1,4 +1,7 @@
 //! What there is to explain of an answer.
+ghost use Rattle.std.specs.Prelude.{◌≡◌, ◌||◌, not, is_some};
+ghost use Rattle.mls_sessions.specs.Run.{is_done};
+
 use mls_machine::{Denial, Reply};
 use mls_updates::Outcome;
 
@@ -11,10 +14,22 @@ pub enum Notice {
 }
 
 /// Why an event with this reply was not done. What became of the statements of a call is no part of that.
-pub(crate) fn notice_of(reply: &Reply) -> Option<Notice> {
+fn notice_of(reply: &Reply) -> Option<Notice>
+    ensures { is_some result ≡ not (is_done reply.now) }
+{
     match reply {
         Reply::Denied(denial) => Some(Notice::Denied(*denial)),
         Reply::Wrote(outcome) if !outcome.is_done() => Some(Notice::Refused(*outcome)),
         _ => None,
+    }
+}
+
+/// Why the last event that was not done was not, from what is known of the events before one with this reply.
+pub(crate) fn notice_with(earlier: Option<Notice>, reply: &Reply) -> Option<Notice>
+    ensures { is_some result ≡ (is_some earlier || not (is_done reply.now)) }
+{
+    match notice_of(reply) {
+        Some(notice) => Some(notice),
+        None => earlier,
     }
 }

@@ -1,18 +1,19 @@
 //! Runs: events answered in order, and their replies written, whole or what one reader may see of them.
-ghost use Rattle.std.specs.Prelude.{◌≡◌, ◌≢◌, ℕ, ◌≤◌, ◌<◌, true, length, take, IfOk, IfErr, OnOk, OnErr};
+ghost use Rattle.std.specs.Prelude.{◌≡◌, ◌≢◌, ℕ, ◌≤◌, ◌<◌, ◌||◌, true, not, length, take, is_some, IfOk, IfErr, OnOk, OnErr};
 ghost use Rattle.std.specs.Option.{IfSome};
 ghost use Rattle.mls_script.specs.Event.{EventFits};
+ghost use Rattle.mls_machine.specs.Machine.{step};
 ghost use Rattle.mls_machine.specs.Output.{ReplyIsKnown};
 ghost use Rattle.mls_machine.specs.Observation.{EventsFit, PassesOnlyReleasesDown, reply_shows, everyone};
 ghost use Rattle.mls_machine.specs.Laws.{KeepsIntegrity};
 ghost use Rattle.mls_monitor.specs.Sessions.{site_of};
 ghost use Rattle.mls_replies.specs.Known.{HasKnownNumbers};
 ghost use Rattle.mls_sessions.specs.Engine.{site, world_of, IsReady, IsKept};
-ghost use Rattle.mls_sessions.specs.Run.{IsWhole, IsStopped, IsFaultOf, IsAnswered, IsHalted};
+ghost use Rattle.mls_sessions.specs.Run.{is_done, are_done, IsWhole, IsStopped, IsFaultOf, IsAnswered, IsHalted};
 
 use crate::cause::{RunCause, RunFault, cause_of};
 use crate::engine::Engine;
-use crate::notice::notice_of;
+use crate::notice::notice_with;
 use crate::writing::write_whole;
 use mls_filterview::Base;
 use mls_machine::{Audience, Form, Reply};
@@ -82,7 +83,11 @@ fn answer<B: Base, W: Write>(
     ensures write { IfErr result (λ s. s.cause ≡ RunCause.Write → s.done ≡ true) }
     ensures store { B.is_clean engine.new.base → IfErr result
         (λ s. s.cause ≡ RunCause.Store → B.failures engine.old.base < B.failures engine.new.base) }
+    ensures noticed { B.is_clean engine.new.base → OnOk result (is_some engine.new.notice
+        ≡ (is_some engine.old.notice || not (is_done
+        (step (site engine.old) (world_of B.state engine.old) event.now).reply))) }
 {
+    let earlier = engine.notice;
     let reply = match engine.step(event) {
         Ok(reply) => reply,
         Err(fault) => {
@@ -92,7 +97,7 @@ fn answer<B: Base, W: Write>(
             });
         }
     };
-    engine.notice = notice_of(&reply);
+    engine.notice = notice_with(earlier, &reply);
     let bytes = match text_of(&engine.rules, event, &reply, audience) {
         Ok(bytes) => bytes,
         Err(cause) => return Err(Stop { cause, done: true }),
@@ -143,7 +148,11 @@ pub fn run_to<B: Base, W: Write>(
     // No information flows down but what is released: over all events, and over the first n of them.
     ensures secret { B.is_clean engine.new.base → (n : ℕ) → PassesOnlyReleasesDown (site engine.old)
         (world_of B.state engine.old) (take n events.now) }
+    // There is a notice afterwards where an event was not done.
+    ensures noticed { B.is_clean engine.new.base → OnOk result (is_some engine.new.notice
+        ≡ not (are_done (site engine.old) (world_of B.state engine.old) events.now)) }
 {
+    engine.notice = None;
     let audience = &audience;
     for (place, event) in events.iter().enumerate() {
         if let Err(stop) = answer(engine, event, audience, out) {

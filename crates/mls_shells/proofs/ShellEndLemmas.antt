@@ -25,7 +25,7 @@ use Rattle.mls_host.specs.Hosting.{Hosted}
 use Rattle.mls_host.specs.declared.reason.Reason.TheVariants.{Memory}
 use Rattle.mls_host.specs.declared.job.Inputs.{Inputs}
 use Rattle.mls_host.specs.Storing.{AreStoredWith}
-use Rattle.mls_words.specs.Words.{named}
+use Rattle.mls_host.specs.Words.{named}
 use Rattle.mls_host.specs.Causes.{IsBarred, no_memory, no_store}
 use Rattle.mls_host.specs.Refusal.{IsEnd}
 use Rattle.mls_host.specs.Running.{site_of, first_world}

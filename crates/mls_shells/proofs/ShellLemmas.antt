@@ -1,10 +1,11 @@
 -- Shells: events, lines and what is told of them, one after another.
 use Rattle.std.proofs.Common.{◌≡◌, ℕ, zero, suc, ◌+◌, ◌-◌, ◌≤◌, Bool, true, false, true≢false, cond, not, ◌||◌, List, [], ◌∷◌, ◌++◌, length, take, drop, Option, Result, Ok, Err, refl, sym, ap, ◌∙◌, subst, append_assoc, append-nil, arith}
-use Rattle.std.specs.List.{AllByRecursion, flat_map, list_any}
+use Rattle.std.specs.List.{AllByRecursion, filter, flat_map, list_any}
 use Rattle.std.specs.Io.KnownBytes.{Appends}
 use Rattle.std.proofs.KnownBytes.{Appends-nil, Appends-trans}
 use Rattle.std.proofs.lemmas.Grind.{flat_map-append}
 use Rattle.std.proofs.lemmas.List.{length-append, take-append-drop}
+use Rattle.std.proofs.lemmas.List.Elements.{filter-append}
 use Rattle.std.proofs.lemmas.List.Folds.{list_any-append}
 use Rattle.std.proofs.Math.Seq.{take-append-add, take-append_seam}
 use Rattle.mls_script.specs.declared.event.Event.{Event}
@@ -16,17 +17,19 @@ use Rattle.mls_machine.specs.Output.{reply_lines_in, run_lines, printed}
 use Rattle.mls_machine.specs.Observation.{heard, run_shows}
 use Rattle.mls_machine.proofs.LineLemmas.{printed-append, nothing_heard}
 use Rattle.mls_sessions.specs.declared.cause.RunFault.{RunFault}
-use Rattle.mls_sessions.specs.Run.{IsWhole, IsStopped, IsFaultOf, printed_to, world_after}
-use Rattle.mls_lattice.specs.Policy.{Tables}
-use Rattle.mls_scheme.specs.Scheme.{Schemes}
+use Rattle.mls_sessions.specs.Run.{are_done, IsWhole, IsStopped, IsFaultOf, printed_to, world_after}
 use Rattle.mls_host.specs.Telling.{IsMore}
 use Rattle.mls_host.specs.declared.errors.Errors.{Errors}
+use Rattle.mls_host.specs.declared.telling.Tally.{Tally}
 use Rattle.mls_host.specs.Hosting.{IsTold}
 use Rattle.mls_host.proofs.HostingLemmas.{told_more}
 use Rattle.mls_shells.specs.declared.seat.Seat.{Seat}
 use Rattle.mls_shells.specs.declared.seat.Fate.{Fate}
 use Rattle.mls_shells.specs.declared.seat.Fate.TheVariants as fates
-use Rattle.mls_shells.specs.Shell.{Turn, IsTurn, whole, long, cut, events_of, events_in, opening, audience_at, is_open, is_refused, is_last, is_failed, prompt_of, told_of, told_from, AreTold, PipesAreToldNoMore, answers, dialogue, after_opening, transcript, shown_to, AreTurns, has_refused, IsSilent, IsAnswered}
+use Rattle.mls_shells.specs.declared.tally.Verdict.{Verdict}
+use Rattle.mls_shells.specs.declared.tally.Verdict.TheVariants as verdicts
+use Rattle.mls_shells.specs.Tally.{tally_with}
+use Rattle.mls_shells.specs.Shell.{Turn, IsTurn, IsFate, whole, long, cut, events_of, events_in, opening, audience_at, is_open, is_last, is_failed, verdict_of, says, is_refused, is_misunderstood, tally, prompt_of, told_of, told_from, AreTold, PipesAreToldNoMore, answers, dialogue, after_opening, transcript, shown_to, AreTurns, verdicts_in, tally_of, IsSilent, IsAnswered}
 
 -- ---- events
 
@@ -127,10 +130,6 @@ all-append P (x ∷ xs) ys h k = (h.0, all-append P xs ys h.1 k)
 flat-snoc : {X A : Type 0} (f : X → List A) (xs : List X) (x : X) → flat_map f (xs ++ x ∷ []) ≡ flat_map f xs ++ f x
 flat-snoc f xs x = flat_map-append f xs (x ∷ []) ∙ ap (λ l. flat_map f xs ++ l) (append-nil (f x))
 
-or_assoc : (a b c : Bool) → (a || (b || c)) ≡ ((a || b) || c)
-or_assoc true b c = refl
-or_assoc false b c = refl
-
 or_false : (b : Bool) → (b || false) ≡ b
 or_false true = refl
 or_false false = refl
@@ -217,6 +216,7 @@ failed_is_last : (fate : Fate) → is_last fate ≡ false → is_failed fate ≡
 failed_is_last fates.Over h = refl
 failed_is_last fates.Blank h = refl
 failed_is_last fates.Help h = refl
+failed_is_last fates.Asked h = refl
 failed_is_last (fates.Said events) h = refl
 failed_is_last (fates.Refused fault) h = refl
 failed_is_last fates.TooLong h = refl
@@ -227,6 +227,7 @@ failed_is : (fate : Fate) → is_failed fate ≡ true → fate ≡ fates.Unreada
 failed_is fates.Over h = absurd (true≢false (sym h))
 failed_is fates.Blank h = absurd (true≢false (sym h))
 failed_is fates.Help h = absurd (true≢false (sym h))
+failed_is fates.Asked h = absurd (true≢false (sym h))
 failed_is (fates.Said events) h = absurd (true≢false (sym h))
 failed_is (fates.Refused fault) h = absurd (true≢false (sym h))
 failed_is fates.TooLong h = absurd (true≢false (sym h))
@@ -244,6 +245,42 @@ pub failed_there : (ts : List Turn) (t : Turn) → list_any (λ (t : Turn). is_l
 failed_there ts t none h =
     failed_is t.fate (sym (any-snoc (λ (t : Turn). is_failed t.fate) ts t ∙ ap (λ b. b || is_failed t.fate) (none_failed ts none)) ∙ h)
 
+-- ---- what is counted of lines
+
+count-snoc : {X : Type 0} (p : X → Bool) (xs : List X) (x : X) → length (filter p (xs ++ x ∷ [])) ≡ length (filter p xs) + length (filter p (x ∷ []))
+count-snoc p xs x = ap length (filter-append p xs (x ∷ [])) ∙ length-append (filter p xs) (filter p (x ∷ []))
+
+plus_none : (n : ℕ) → n + 0 ≡ n
+plus_none n = omega arith
+
+one_more : (t : Tally) (v : Verdict)
+    → record { lines = t.lines + length (filter says (v ∷ [])); refused = t.refused + length (filter is_refused (v ∷ [])); misunderstood = t.misunderstood + length (filter is_misunderstood (v ∷ [])) } ≡ tally_with t v
+one_more t verdicts.Silent = λ i. record { lines = plus_none t.lines i; refused = plus_none t.refused i; misunderstood = plus_none t.misunderstood i }
+one_more t verdicts.Done = λ i. record { lines = t.lines + 1; refused = plus_none t.refused i; misunderstood = plus_none t.misunderstood i }
+one_more t verdicts.Refused = λ i. record { lines = t.lines + 1; refused = t.refused + 1; misunderstood = plus_none t.misunderstood i }
+one_more t verdicts.Misunderstood = λ i. record { lines = t.lines + 1; refused = plus_none t.refused i; misunderstood = t.misunderstood + 1 }
+
+counted : (vs : List Verdict) (v : Verdict) → tally (vs ++ v ∷ []) ≡ tally_with (tally vs) v
+counted vs v = (λ i. record { lines = count-snoc says vs v i; refused = count-snoc is_refused vs v i; misunderstood = count-snoc is_misunderstood vs v i }) ∙ one_more (tally vs) v
+
+-- each count is one of so many lines
+pub record AreFew (t : Tally) (n : ℕ) : Type 0 where
+  pub lines : t.lines ≤ n
+  pub refused : t.refused ≤ n
+  pub misunderstood : t.misunderstood ≤ n
+
+at_most : {a b : ℕ} → a ≤ b → a ≤ b + 1
+at_most k = omega arith
+
+one_each : {a b : ℕ} → a ≤ b → a + 1 ≤ b + 1
+one_each k = omega arith
+
+pub few_more : (t : Tally) (n : ℕ) (v : Verdict) → AreFew t n → AreFew (tally_with t v) (n + 1)
+few_more t n verdicts.Silent h = record { lines = at_most h.lines; refused = at_most h.refused; misunderstood = at_most h.misunderstood }
+few_more t n verdicts.Done h = record { lines = one_each h.lines; refused = at_most h.refused; misunderstood = at_most h.misunderstood }
+few_more t n verdicts.Refused h = record { lines = one_each h.lines; refused = one_each h.refused; misunderstood = at_most h.misunderstood }
+few_more t n verdicts.Misunderstood h = record { lines = one_each h.lines; refused = at_most h.refused; misunderstood = one_each h.misunderstood }
+
 module _ (site : Site) (seat : Seat) where
   answers-append : (w : World) (es fs : List Event) → answers site seat w (es ++ fs) ≡ answers site seat w es ++ answers site seat (end_of site w es) fs
   answers-append w es fs = prints-append site (audience_at seat) w es fs
@@ -258,6 +295,15 @@ module _ (site : Site) (seat : Seat) where
       ap (λ l. here ++ l) (dialogue-snoc v ts t
       ∙ ap (λ u. dialogue site seat v ts ++ (t.shown ++ answers site seat u (events_of t.fate))) (sym (end_of-append site w (events_of x.fate) (events_in ts))))
       ∙ sym (append_assoc here _ _)
+
+  verdicts-snoc : (w : World) (ts : List Turn) (t : Turn)
+      → verdicts_in site seat w (ts ++ t ∷ []) ≡ verdicts_in site seat w ts ++ verdict_of (are_done site (end_of site w (events_in ts)) (events_of t.fate)) t.fate ∷ []
+  unfolding verdicts_in end_of
+  verdicts-snoc w [] t = refl
+  verdicts-snoc w (x ∷ ts) t =
+      let v = end_of site w (events_of x.fate) in
+      ap (λ vs. verdict_of (are_done site w (events_of x.fate)) x.fate ∷ vs) (verdicts-snoc v ts t
+      ∙ ap (λ u. verdicts_in site seat v ts ++ verdict_of (are_done site u (events_of t.fate)) t.fate ∷ []) (sym (end_of-append site w (events_of x.fate) (events_in ts))))
 
   -- ---- from the opening on
 
@@ -311,9 +357,9 @@ module _ (site : Site) (seat : Seat) where
 
     module _ (echo : List ℕ → List ℕ) where
       turns-snoc-at : (v : World) (a b c : Option (List ℕ)) (ts : List Turn) (t : Turn) → AreTurns echo site seat v a b ts → list_any (λ (t : Turn). is_last t.fate) ts ≡ false
-          → is_open seat (end_of site v (events_in ts)) ≡ true → IsTurn echo site.policy site.schemes seat b c t → AreTurns echo site seat v a c (ts ++ t ∷ [])
+          → is_open seat (end_of site v (events_in ts)) ≡ true → IsTurn echo (IsFate site.policy site.schemes seat) b c t → AreTurns echo site seat v a c (ts ++ t ∷ [])
       unfolding AreTurns end_of
-      turns-snoc-at v a b c [] t h l o n = (c, o, subst (λ x. IsTurn echo site.policy site.schemes seat x c t) (sym h) n, (λ e. absurd (e refl)), refl)
+      turns-snoc-at v a b c [] t h l o n = (c, o, subst (λ x. IsTurn echo (IsFate site.policy site.schemes seat) x c t) (sym h) n, (λ e. absurd (e refl)), refl)
       turns-snoc-at v a b c (x ∷ ts) t h l o n =
           let (left, opened, turn, on, more) = h in
           let none = or_none (is_last x.fate) (list_any (λ (t : Turn). is_last t.fate) ts) l in (
@@ -326,13 +372,14 @@ module _ (site : Site) (seat : Seat) where
           )
 
       pub turns-snoc : (a b c : Option (List ℕ)) (ts : List Turn) (t : Turn) → AreTurns echo site seat first a b ts → list_any (λ (t : Turn). is_last t.fate) ts ≡ false
-          → is_open seat (end_of site w (opening seat ∷ events_in ts)) ≡ true → IsTurn echo site.policy site.schemes seat b c t → AreTurns echo site seat first a c (ts ++ t ∷ [])
+          → is_open seat (end_of site w (opening seat ∷ events_in ts)) ≡ true → IsTurn echo (IsFate site.policy site.schemes seat) b c t → AreTurns echo site seat first a c (ts ++ t ∷ [])
       turns-snoc a b c ts t h l o n = turns-snoc-at first a b c ts t h l (subst (λ u. is_open seat u ≡ true) (world_is ts) o) n
 
-    pub refused-snoc : (ts : List Turn) (t : Turn) → has_refused site seat w (ts ++ t ∷ []) ≡ (has_refused site seat w ts || is_refused t.fate)
-    refused-snoc ts t =
-        let denied = not (is_open seat first) in
-        ap (λ b. denied || b) (any-snoc (λ (t : Turn). is_refused t.fate) ts t) ∙ or_assoc denied (list_any (λ (t : Turn). is_refused t.fate) ts) (is_refused t.fate)
+    pub tally-snoc : (ts : List Turn) (t : Turn)
+        → tally_of site seat w (ts ++ t ∷ []) ≡ tally_with (tally_of site seat w ts) (verdict_of (are_done site (end_of site w (opening seat ∷ events_in ts)) (events_of t.fate)) t.fate)
+    tally-snoc ts t =
+        ap tally (verdicts-snoc first ts t ∙ ap (λ u. verdicts_in site seat first ts ++ verdict_of (are_done site u (events_of t.fate)) t.fate ∷ []) (sym (world_is ts)))
+        ∙ counted (verdicts_in site seat first ts) _
 
   -- ---- where nothing is shown
 
@@ -345,17 +392,17 @@ module _ (site : Site) (seat : Seat) where
       ∙ ap (λ l. answers site seat w (events_of x.fate) ++ l) (quiet v ts h.1)
       ∙ sym (answers-append w (events_of x.fate) (events_in ts))
 
-  pub silent_turn : (echo : List ℕ → List ℕ) (policy : Tables) (schemes : Schemes) (a b : Option (List ℕ)) (t : Turn) → IsSilent echo → IsTurn echo policy schemes seat a b t → t.shown ≡ []
-  silent_turn echo policy schemes a b t silent (whole n s e f) = e ∙ silent t.line
-  silent_turn echo policy schemes a b t silent (long l e f) = e
-  silent_turn echo policy schemes a b t silent (cut line rest r e c) = nil_front t.shown rest (e ∙ silent line)
+  pub silent_turn : (echo : List ℕ → List ℕ) (IsFateOf : List ℕ → Fate → Type 0) (a b : Option (List ℕ)) (t : Turn) → IsSilent echo → IsTurn echo IsFateOf a b t → t.shown ≡ []
+  silent_turn echo IsFateOf a b t silent (whole n s e f) = e ∙ silent t.line
+  silent_turn echo IsFateOf a b t silent (long l e f) = e
+  silent_turn echo IsFateOf a b t silent (cut line rest r e c) = nil_front t.shown rest (e ∙ silent line)
 
   quiet_turns : (echo : List ℕ → List ℕ) → IsSilent echo → (w : World) (a b : Option (List ℕ)) (ts : List Turn) → AreTurns echo site seat w a b ts → AllByRecursion (λ (t : Turn). t.shown ≡ []) ts
   unfolding AreTurns
   quiet_turns echo silent w a b [] h = tt
   quiet_turns echo silent w a b (t ∷ ts) h =
       let (left, opened, turn, on, more) = h in
-      (silent_turn echo site.policy site.schemes a left t silent turn, quiet_turns echo silent (end_of site w (events_of t.fate)) left b ts more)
+      (silent_turn echo (IsFate site.policy site.schemes seat) a left t silent turn, quiet_turns echo silent (end_of site w (events_of t.fate)) left b ts more)
 
   -- the lines are those of a run
   pub silent_lines : (echo : List ℕ → List ℕ) (w : World) (a b : Option (List ℕ)) (ts : List Turn) → IsSilent echo → AreTurns echo site seat (after_opening site seat w) a b ts

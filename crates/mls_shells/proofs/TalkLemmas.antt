@@ -17,17 +17,19 @@ use Rattle.mls_sessions.specs.declared.cause.RunFault.{RunFault}
 use Rattle.mls_sessions.specs.declared.cause.RunCause.{RunCause}
 use Rattle.mls_sessions.specs.declared.engine.Engine.{Engine}
 use Rattle.mls_sessions.specs.Engine.{site, world_of, IsKept}
-use Rattle.mls_sessions.specs.Run.{IsWhole}
+use Rattle.mls_sessions.specs.Run.{are_done, IsWhole}
 use Rattle.mls_host.specs.Telling.{IsMore}
 use Rattle.mls_host.specs.declared.errors.Errors.{Errors}
+use Rattle.mls_host.specs.declared.telling.Tally.{Tally}
 use Rattle.mls_shells.specs.declared.seat.Seat.{Seat}
 use Rattle.mls_shells.specs.declared.seat.Fate.{Fate}
 use Rattle.mls_shells.specs.declared.seat.Fate.TheVariants as fates
+use Rattle.mls_shells.specs.Tally.{tally_with}
 use Rattle.mls_host.specs.Ending.{ending_if}
 use Rattle.mls_host.specs.Hosting.{IsTold}
 use Rattle.mls_host.proofs.HostingLemmas.{told_nothing, told_more}
-use Rattle.mls_shells.specs.Shell.{audience_at, Turn, events_of, events_in, opening, is_open, is_refused, is_last, is_failed, is_lost, prompt_of, told_of, AreTold, AreAllTold, answers, after_opening, transcript, shown_to, AreTurns, has_refused, IsSilent, FateFits, IsAnswered, IsFollowed, IsRead, IsConversation}
-use Rattle.mls_shells.proofs.ShellLemmas.{nothing_done, whole_more, stopped_more, fault_more, first_part, all-append, length-snoc, events-snoc, told-snoc, world-snoc, transcript-snoc, shown_before, shown_behind, shown_from, turns-snoc, refused-snoc, none_failed, failed_there, silent_turn, silent_lines, any-snoc}
+use Rattle.mls_shells.specs.Shell.{audience_at, verdicts_in, Turn, IsFate, events_of, events_in, opening, is_open, is_last, is_failed, is_lost, verdict_of, is_short, end_told, prompt_of, told_of, AreTold, AreAllTold, answers, after_opening, transcript, shown_to, AreTurns, tally_of, has_refused, IsSilent, FateFits, IsAnswered, IsFollowed, IsRead, IsConversation}
+use Rattle.mls_shells.proofs.ShellLemmas.{nothing_done, whole_more, stopped_more, fault_more, first_part, all-append, length-snoc, events-snoc, told-snoc, world-snoc, transcript-snoc, shown_before, shown_behind, shown_from, turns-snoc, AreFew, few_more, tally-snoc, none_failed, failed_there, silent_turn, silent_lines, any-snoc}
 
 -- the events of a line are answered
 pub followed_whole : (at : Site) (audience : Audience) (w : World) (es : List Event) (was is : Option (List ℕ)) (new : World) (line : ℕ)
@@ -57,6 +59,7 @@ pub none_is_lost : (fate : Fate) → ((cause : RunCause) → fate ≡ fates.Lost
 none_is_lost fates.Over h = refl
 none_is_lost fates.Blank h = refl
 none_is_lost fates.Help h = refl
+none_is_lost fates.Asked h = refl
 none_is_lost (fates.Said events) h = refl
 none_is_lost (fates.Refused fault) h = refl
 none_is_lost fates.TooLong h = refl
@@ -67,10 +70,11 @@ pub followed_lost : (at : Site) (audience : Audience) (w : World) (fate : Fate) 
     → IsFollowed at audience w (events_of fate) a a w line (Err (record { event = line; cause = cause; done = false }))
 followed_lost at audience w fate a line cause is = followed_nothing at audience w (events_of fate) a line _ (ap events_of is) refl
 
-no_events : (fate : Fate) → ((events : List Event) → fate ≡ fates.Said events → ⊥) → events_of fate ≡ []
+pub no_events : (fate : Fate) → ((events : List Event) → fate ≡ fates.Said events → ⊥) → events_of fate ≡ []
 no_events fates.Over h = refl
 no_events fates.Blank h = refl
 no_events fates.Help h = refl
+no_events fates.Asked h = refl
 no_events (fates.Said events) h = absurd (h events refl)
 no_events (fates.Refused fault) h = refl
 no_events fates.TooLong h = refl
@@ -81,15 +85,40 @@ pub followed_none : (at : Site) (audience : Audience) (w : World) (fate : Fate) 
     → IsFollowed at audience w (events_of fate) a a w line (Ok tt)
 followed_none at audience w fate a line h = followed_nothing at audience w (events_of fate) a line (Ok tt) (no_events fate h) tt
 
-fate_fits : (at : Site) (fate : Fate) → FateFits at.policy at.schemes fate → EventsFit at (events_of fate)
+pub fate_fits : (at : Site) (fate : Fate) → FateFits at.policy at.schemes fate → EventsFit at (events_of fate)
 fate_fits at fates.Over h = tt
 fate_fits at fates.Blank h = tt
 fate_fits at fates.Help h = tt
+fate_fits at fates.Asked h = tt
 fate_fits at (fates.Said events) h = h
 fate_fits at (fates.Refused fault) h = tt
 fate_fits at fates.TooLong h = tt
 fate_fits at fates.Unreadable h = tt
 fate_fits at (fates.Lost cause) h = tt
+
+-- ---- what is counted of a line
+
+-- of one without events, whatever is said of events
+pub verdict_same : (fate : Fate) (a b : Bool) → ((events : List Event) → fate ≡ fates.Said events → ⊥) → verdict_of a fate ≡ verdict_of b fate
+verdict_same fates.Over a b h = refl
+verdict_same fates.Blank a b h = refl
+verdict_same fates.Help a b h = refl
+verdict_same fates.Asked a b h = refl
+verdict_same (fates.Said events) a b h = absurd (h events refl)
+verdict_same (fates.Refused fault) a b h = refl
+verdict_same fates.TooLong a b h = refl
+verdict_same fates.Unreadable a b h = refl
+verdict_same (fates.Lost cause) a b h = refl
+
+-- of one whose events are answered, by whether there is a notice
+pub verdict_noticed : (at : Site) (w : World) (fate : Fate) (events es : List Event) (noticed : Bool) → fate ≡ fates.Said events → es ≡ events → noticed ≡ not (are_done at w es)
+    → verdict_of (not noticed) fate ≡ verdict_of (are_done at w (events_of fate)) fate
+verdict_noticed at w fate events es noticed is same h =
+    ap (λ b. verdict_of (not b) fate) h ∙ ap (λ b. verdict_of b fate) (not_not (are_done at w es) ∙ ap (are_done at w) (same ∙ sym (ap events_of is)))
+  where
+    not_not : (b : Bool) → not (not b) ≡ b
+    not_not true = refl
+    not_not false = refl
 
 -- what is read under the policy and the schemes is read under the site
 pub fits_at : (p q : Site) (policy : Tables) (schemes : Schemes) → p ≡ q → q.policy ≡ policy → q.schemes ≡ schemes → (fate : Fate) → FateFits policy schemes fate → FateFits p.policy p.schemes fate
@@ -100,9 +129,9 @@ pub level_at : (p q : Site) (policy : Tables) → p ≡ q → q.policy ≡ polic
 level_at p q policy same a level h = subst (λ (x : Site). level < length x.policy.labels) (sym same) (subst (λ (x : Tables). level < length x.labels) (sym a) h)
 
 pub read_at : (echo : List ℕ → List ℕ) (q : Site) (policy : Tables) (schemes : Schemes) (seat : Seat) (a b c d : Option (List ℕ)) (Broken : Type 0) (fate : Fate) → q.policy ≡ policy → q.schemes ≡ schemes
-    → IsRead echo policy schemes seat a b c d Broken fate → IsRead echo q.policy q.schemes seat a b c d Broken fate
+    → IsRead echo (IsFate policy schemes seat) a b c d Broken fate → IsRead echo (IsFate q.policy q.schemes seat) a b c d Broken fate
 read_at echo q policy schemes seat a b c d Broken fate e f h =
-    subst (λ y. IsRead echo q.policy y seat a b c d Broken fate) (sym f) (subst (λ x. IsRead echo x schemes seat a b c d Broken fate) (sym e) h)
+    subst (λ y. IsRead echo (IsFate q.policy y seat) a b c d Broken fate) (sym f) (subst (λ x. IsRead echo (IsFate x schemes seat) a b c d Broken fate) (sym e) h)
 
 -- an error that is passed on
 pub carried : {A F : Type 0} (P : Result A F → Type 0) (r : Result A F) (f : F) → IsErrAnd r (λ e. e ≡ f) → P (Err f) → P r
@@ -114,6 +143,7 @@ pub last_line : (fate : Fate) (left : Option (List ℕ)) → is_last fate ≡ tr
 last_line fates.Over left h none over = inl (over refl)
 last_line fates.Blank left h none over = absurd cc
 last_line fates.Help left h none over = absurd cc
+last_line fates.Asked left h none over = absurd cc
 last_line (fates.Said events) left h none over = absurd cc
 last_line (fates.Refused fault) left h none over = absurd cc
 last_line fates.TooLong left h none over = absurd cc
@@ -138,31 +168,48 @@ module _ {B E : Type 0} (state : B → State) (is_clean : B → Type 0) (content
   abbrev w : World
   w = world_of state first
 
-  -- so many lines were read and answered; of the last it is said whether it is one behind which no other is read
-  pub record SoFar (count : ℕ) (now : Engine B) (err : Errors E) (left is : Option (List ℕ)) (refused last : Bool) : Type 0 where
+  -- what is told of these lines, perhaps behind more
+  pub record AreSoFarTold (turns : List Turn) (err : Errors E) : Type 0 where
+    pub lines : List ℕ
+    pub are : AreTold seat 1 turns lines
+    pub opening : IsMore seat.is_watched (λ more. IsTold contents quiet err (more ++ lines))
+
+  -- and behind it the last
+  all_told : (turns : List Turn) (last : List ℕ) (err final : Errors E) → AreSoFarTold turns err → IsTold contents err final last → AreAllTold seat turns last (IsTold contents quiet final)
+  all_told turns last err final h k = record {
+    lines = h.lines;
+    are = h.are;
+    opening = record { more = h.opening.more; none = h.opening.none; leads = told_more contents quiet err final (h.opening.more ++ h.lines) last h.opening.leads k };
+  }
+
+  -- so many lines were read, answered and counted; of the last it is said whether it is one behind which no other is read
+  pub record SoFar (count : ℕ) (now : Engine B) (err : Errors E) (left is : Option (List ℕ)) (was_opened : Bool) (tally : Tally) (last : Bool) : Type 0 where
     pub turns : List Turn
     pub count_is : length turns ≡ count
     pub clean : is_clean now.base → is_clean first.base
     pub kept : IsKept state is_clean first now
     pub none_lost : list_any (λ (t : Turn). is_lost t.fate) turns ≡ false
     pub last_is : list_any (λ (t : Turn). is_last t.fate) turns ≡ last
-    pub told : AreAllTold seat turns (IsTold contents quiet err)
+    pub told : AreSoFarTold turns err
     pub fits : EventsFit at (events_in turns)
     pub lines : is_clean now.base → AreTurns echo at seat (after_opening at seat w) given left turns
     pub world : is_clean now.base → world_of state now ≡ end_of at w (opening seat ∷ events_in turns)
     pub written : is_clean now.base → Appends was is (transcript at seat w turns)
-    pub refused_is : is_clean now.base → refused ≡ has_refused at seat w turns
+    pub few : AreFew tally count
+    pub opened_is : is_clean now.base → was_opened ≡ is_open seat (after_opening at seat w)
+    pub tally_is : is_clean now.base → tally ≡ tally_of at seat w turns
 
   -- what is said of the session is said of the world
-  pub record Opened (now : Engine B) (is : Option (List ℕ)) (refused : Bool) : Type 0 where
+  pub record Opened (now : Engine B) (is : Option (List ℕ)) (was_opened : Bool) : Type 0 where
     pub clean : is_clean now.base → is_clean first.base
     pub kept : IsKept state is_clean first now
     pub followed : is_clean now.base → IsFollowed at (audience_at seat) w (opening seat ∷ []) was is (world_of state now) 0 (Ok tt)
-    pub refused_is : refused ≡ not (is_open seat (world_of state now))
+    pub opened_is : was_opened ≡ is_open seat (world_of state now)
 
-  pub so_far_start : (now : Engine B) (is : Option (List ℕ)) (refused : Bool) → Opened now is refused → (err : Errors E) → IsMore seat.is_watched (IsTold contents quiet err) → SoFar 0 now err given is refused false
-  unfolding AreTold Rattle.mls_shells.specs.Shell.dialogue AreTurns
-  so_far_start now is refused h err m =
+  pub so_far_start : (now : Engine B) (is : Option (List ℕ)) (was_opened : Bool) → Opened now is was_opened → (err : Errors E) → IsMore seat.is_watched (IsTold contents quiet err)
+      → SoFar 0 now err given is was_opened (record { lines = 0; refused = 0; misunderstood = 0 }) false
+  unfolding AreTold Rattle.mls_shells.specs.Shell.dialogue AreTurns verdicts_in
+  so_far_start now is was_opened h err m =
       let done : is_clean now.base → IsWhole at (audience_at seat) w (opening seat ∷ []) was is (world_of state now) =
       λ c. followed_whole at (audience_at seat) w (opening seat ∷ []) was is (world_of state now) 0 (h.followed c) in
       record {
@@ -177,14 +224,12 @@ module _ {B E : Type 0} (state : B → State) (is_clean : B → Type 0) (content
         lines = λ c. refl;
         world = λ c. (done c).world;
         written = λ c. subst (Appends was is) (sym (append-nil (answers at seat w (opening seat ∷ [])))) (done c).bytes;
-        refused_is = λ c. h.refused_is ∙ ap (λ u. not (is_open seat u)) (done c).world ∙ or_none (not (is_open seat (after_opening at seat w)));
+        few = record { lines = omega arith; refused = omega arith; misunderstood = omega arith };
+        opened_is = λ c. h.opened_is ∙ ap (is_open seat) (done c).world;
+        tally_is = λ c. refl;
       }
-    where
-      or_none : (b : Bool) → b ≡ (b || false)
-      or_none true = refl
-      or_none false = refl
 
-  module _ (count : ℕ) (now : Engine B) (err : Errors E) (left is : Option (List ℕ)) (refused : Bool) (s : SoFar count now err left is refused false) where
+  module _ (count : ℕ) (now : Engine B) (err : Errors E) (left is : Option (List ℕ)) (was_opened : Bool) (tally : Tally) (s : SoFar count now err left is was_opened tally false) where
     same_site : site now ≡ at
     same_site = ap site_of s.kept.rules
 
@@ -192,7 +237,7 @@ module _ {B E : Type 0} (state : B → State) (is_clean : B → Type 0) (content
     pub record Line (fate : Fate) (asked said : Errors E) (over shown : Option (List ℕ)) (Broken : Type 0) : Type 0 where
       pub was_open : is_open seat (world_of state now) ≡ true
       pub asked_is : IsTold contents err asked (prompt_of seat)
-      pub read : IsRead echo at.policy at.schemes seat left over is shown Broken fate
+      pub read : IsRead echo (IsFate at.policy at.schemes seat) left over is shown Broken fate
       pub fits : FateFits at.policy at.schemes fate
       pub said_is : IsMore seat.is_watched (λ more. IsTold contents asked said (told_of seat (count + 1) fate ++ more))
 
@@ -203,7 +248,7 @@ module _ {B E : Type 0} (state : B → State) (is_clean : B → Type 0) (content
       abbrev turns : List Turn
       turns = s.turns ++ turn ∷ []
 
-      told_now : AreAllTold seat turns (IsTold contents quiet said)
+      told_now : AreSoFarTold turns said
       told_now = record {
         lines = s.told.lines ++ here (count + 1) fate;
         are = subst (λ (x : Fate). AreTold seat 1 turns (s.told.lines ++ here (count + 1) x)) l.read.same
@@ -246,9 +291,17 @@ module _ {B E : Type 0} (state : B → State) (is_clean : B → Type 0) (content
             (subst (λ (u : World). IsFollowed at (audience_at seat) u (events_of fate) shown after (world_of state new) (count + 1) r) (s.world (clean c))
             (subst (λ (p : Site). IsFollowed p (audience_at seat) (world_of state now) (events_of fate) shown after (world_of state new) (count + 1) r) same_site h))
 
+        moved_verdict : (done : Bool) → is_clean new.base → verdict_of done fate ≡ verdict_of (are_done (site now) (world_of state now) (events_of fate)) fate
+            → verdict_of done fate ≡ verdict_of (are_done at (end_of at w (opening seat ∷ events_in s.turns)) (events_of turn.fate)) turn.fate
+        moved_verdict done c h =
+            h ∙ ap (λ (p : Site). verdict_of (are_done p (world_of state now) (events_of fate)) fate) same_site
+            ∙ ap (λ (u : World). verdict_of (are_done at u (events_of fate)) fate) (s.world (clean c))
+            ∙ ap (λ (x : Fate). verdict_of (are_done at (end_of at w (opening seat ∷ events_in s.turns)) (events_of x)) x) (sym l.read.same)
+
         pub so_far_more : is_lost fate ≡ false → (is_clean new.base → IsFollowed (site now) (audience_at seat) (world_of state now) (events_of fate) shown after (world_of state new) (count + 1) (Ok tt))
-            → SoFar (count + 1) new said over after (refused || is_refused fate) (is_last fate)
-        so_far_more found h =
+            → (done : Bool) → (is_clean new.base → verdict_of done fate ≡ verdict_of (are_done (site now) (world_of state now) (events_of fate)) fate)
+            → SoFar (count + 1) new said over after was_opened (tally_with tally (verdict_of done fate)) (is_last fate)
+        so_far_more found h all counts =
             let done : is_clean new.base → IsWhole at (audience_at seat) (end_of at w (opening seat ∷ events_in s.turns)) (events_of turn.fate) shown after (world_of state new) =
             λ c. followed_whole at (audience_at seat) (end_of at w (opening seat ∷ events_in s.turns)) (events_of turn.fate) shown after (world_of state new) (count + 1) (moved c (h c)) in
             record {
@@ -264,8 +317,9 @@ module _ {B E : Type 0} (state : B → State) (is_clean : B → Type 0) (content
               world = λ c. (done c).world ∙ world-snoc at seat w s.turns turn;
               written = λ c. subst (Appends was after) (sym (transcript-snoc at seat w s.turns turn))
                   (Appends-trans was is after (transcript at seat w s.turns) _ (s.written (clean c)) (Appends-trans is shown after turn.shown _ l.read.shown (done c).bytes));
-              refused_is = λ c. ap (λ b. b || is_refused fate) (s.refused_is (clean c)) ∙ ap (λ (x : Fate). has_refused at seat w s.turns || is_refused x) (sym l.read.same)
-                  ∙ sym (refused-snoc at seat w s.turns turn);
+              few = few_more tally count (verdict_of all fate) s.few;
+              opened_is = λ c. s.opened_is (clean c);
+              tally_is = λ c. (λ i. tally_with (s.tally_is (clean c) i) (moved_verdict all c (counts c) i)) ∙ sym (tally-snoc at seat w s.turns turn);
             }
 
         -- a shell that is given up at the line
@@ -282,7 +336,7 @@ module _ {B E : Type 0} (state : B → State) (is_clean : B → Type 0) (content
             λ q. record {
               bytes = subst (Appends was shown) (append-nil _) (Appends-trans was is shown (answers at seat w (opening seat ∷ events_in s.turns)) []
                   (subst (Appends was is) (silent_lines at seat echo w given left s.turns q (s.lines (clean c))) (s.written (clean c)))
-                  (subst (Appends is shown) (silent_turn at seat echo at.policy at.schemes left over turn q l.read.is_turn) l.read.shown));
+                  (subst (Appends is shown) (silent_turn at seat echo (IsFate at.policy at.schemes seat) left over turn q l.read.is_turn) l.read.shown));
               world = refl;
             } in
             let line : fault.event ≡ length turns = k.line ∙ sym count_now in
@@ -294,7 +348,7 @@ module _ {B E : Type 0} (state : B → State) (is_clean : B → Type 0) (content
                 run_end = later k.end;
                 lines = lines_now (clean c);
                 broken = broken_now;
-                told = told_now;
+                told = all_told turns [] said said told_now (told_nothing contents said);
                 ended = record {
                   line = line;
                   cause = later_cause k.end fault k.cause;
@@ -362,7 +416,7 @@ module _ {B E : Type 0} (state : B → State) (is_clean : B → Type 0) (content
           run = λ q. h.answered;
         }
 
-    module _ (count : ℕ) (now : Engine B) (err : Errors E) (left is : Option (List ℕ)) (refused last : Bool) (s : SoFar count now err left is refused last) (c : is_clean now.base) where
+    module _ (count : ℕ) (now : Engine B) (err : Errors E) (left is : Option (List ℕ)) (was_opened : Bool) (tally : Tally) (last : Bool) (s : SoFar count now err left is was_opened tally last) (c : is_clean now.base) where
       all_answered : IsSilent echo → IsAnswered at (audience_at seat) w (opening seat ∷ events_in s.turns) was is (world_of state now) (Ok tt)
       all_answered q = record {
         whole = record { bytes = subst (Appends was is) (silent_lines at seat echo w given left s.turns q (s.lines c)) (s.written c); world = s.world c };
@@ -373,19 +427,20 @@ module _ {B E : Type 0} (state : B → State) (is_clean : B → Type 0) (content
       -- it ends well
       pub over : (is_open seat (world_of state now) ≡ true → IsAtEnd left ⊎ (list_any (λ (t : Turn). is_failed t.fate) s.turns ≡ true))
           → (list_any (λ (t : Turn). is_failed t.fate) s.turns ≡ true → Broken)
-          → IsConversation echo at seat given left was is Broken (IsTold contents quiet err) (Ok (ending_if refused)) w (world_of state now)
-      over all breaks = record {
+          → (final : Errors E) → IsTold contents err final (end_told seat tally)
+          → IsConversation echo at seat given left was is Broken (IsTold contents quiet final) (Ok (ending_if (not was_opened || is_short tally))) w (world_of state now)
+      over all breaks final end = record {
         talk = record {
           turns = s.turns;
           run_end = Ok tt;
           lines = s.lines c;
           broken = breaks;
-          told = s.told;
+          told = all_told s.turns (end_told seat (tally_of at seat w s.turns)) err final s.told (subst (λ t. IsTold contents err final (end_told seat t)) (s.tally_is c) end);
           ended = (
             refl,
             record {
               written = s.written c;
-              status = ap ending_if (s.refused_is c);
+              status = λ i. ending_if (not (s.opened_is c i) || is_short (s.tally_is c i));
               none_lost = s.none_lost;
               all = λ o. all (subst (λ u. is_open seat u ≡ true) (sym (s.world c)) o);
             },
@@ -395,13 +450,14 @@ module _ {B E : Type 0} (state : B → State) (is_clean : B → Type 0) (content
         run = all_answered;
       }
 
-    module _ (count : ℕ) (now : Engine B) (err : Errors E) (left is : Option (List ℕ)) (refused : Bool) (s : SoFar count now err left is refused false) (c : is_clean now.base) where
+    module _ (count : ℕ) (now : Engine B) (err : Errors E) (left is : Option (List ℕ)) (was_opened : Bool) (tally : Tally) (s : SoFar count now err left is was_opened tally false) (c : is_clean now.base) where
       none_broken : list_any (λ (t : Turn). is_failed t.fate) s.turns ≡ true → Broken
       none_broken f = absurd (true≢false (sym f ∙ none_failed s.turns s.last_is))
 
       -- it ends well where the session is closed
-      pub over_closed : is_open seat (world_of state now) ≡ false → IsConversation echo at seat given left was is Broken (IsTold contents quiet err) (Ok (ending_if refused)) w (world_of state now)
-      over_closed closed = over count now err left is refused false s c (λ o. absurd (true≢false (sym o ∙ closed))) none_broken
+      pub over_closed : is_open seat (world_of state now) ≡ false → (final : Errors E) → IsTold contents err final (end_told seat tally)
+          → IsConversation echo at seat given left was is Broken (IsTold contents quiet final) (Ok (ending_if (not was_opened || is_short tally))) w (world_of state now)
+      over_closed closed = over count now err left is was_opened tally false s c (λ o. absurd (true≢false (sym o ∙ closed))) none_broken
 
       -- it is given up between two lines
       pub worn_out : (fault : RunFault) → fault.event ≡ count → IsConversation echo at seat given left was is Broken (IsTold contents quiet err) (Err fault) w (world_of state now)
@@ -414,7 +470,7 @@ module _ {B E : Type 0} (state : B → State) (is_clean : B → Type 0) (content
               run_end = Ok tt;
               lines = s.lines c;
               broken = none_broken;
-              told = s.told;
+              told = all_told s.turns [] err err s.told (told_nothing contents err);
               ended = record {
                 line = line;
                 cause = tt;
@@ -425,20 +481,21 @@ module _ {B E : Type 0} (state : B → State) (is_clean : B → Type 0) (content
               };
             };
             fits = (opens.0, s.fits);
-            run = all_answered count now err left is refused false s c;
+            run = all_answered count now err left is was_opened tally false s c;
           }
 
     -- it ends well at a line behind which no other is read
-    pub over_last : (count : ℕ) (now : Engine B) (err : Errors E) (left is : Option (List ℕ)) (refused : Bool) (s : SoFar count now err left is refused false)
-        (fate : Fate) (asked said : Errors E) (past shown : Option (List ℕ)) (l : Line count now err left is refused s fate asked said past shown Broken)
+    pub over_last : (count : ℕ) (now : Engine B) (err : Errors E) (left is : Option (List ℕ)) (was_opened : Bool) (tally : Tally) (s : SoFar count now err left is was_opened tally false)
+        (fate : Fate) (asked said : Errors E) (past shown : Option (List ℕ)) (l : Line count now err left is was_opened tally s fate asked said past shown Broken)
         (new : Engine B) (after : Option (List ℕ)) (clean : is_clean new.base → is_clean now.base) (kept : IsKept state is_clean now new)
         → is_lost fate ≡ false → (is_clean new.base → IsFollowed (site now) (audience_at seat) (world_of state now) (events_of fate) shown after (world_of state new) (count + 1) (Ok tt))
-        → is_last fate ≡ true → is_clean new.base
-        → IsConversation echo at seat given past was after Broken (IsTold contents quiet said) (Ok (ending_if (refused || is_refused fate))) w (world_of state new)
+        → (done : Bool) → (is_clean new.base → verdict_of done fate ≡ verdict_of (are_done (site now) (world_of state now) (events_of fate)) fate)
+        → is_last fate ≡ true → is_clean new.base → (final : Errors E) → IsTold contents said final (end_told seat (tally_with tally (verdict_of done fate)))
+        → IsConversation echo at seat given past was after Broken (IsTold contents quiet final) (Ok (ending_if (not was_opened || is_short (tally_with tally (verdict_of done fate))))) w (world_of state new)
     unfolding so_far_more
-    over_last count now err left is refused s fate asked said past shown l new after clean kept found h last c =
-        over (count + 1) new said past after (refused || is_refused fate) (is_last fate)
-        (so_far_more count now err left is refused s fate asked said past shown Broken l new after clean kept found h) c
+    over_last count now err left is was_opened tally s fate asked said past shown l new after clean kept found h done counts last c =
+        over (count + 1) new said past after was_opened (tally_with tally (verdict_of done fate)) (is_last fate)
+        (so_far_more count now err left is was_opened tally s fate asked said past shown Broken l new after clean kept found h done counts) c
         (λ o. failed_last s.turns l.read.turn past
         (last_line l.read.turn.fate past (ap is_last l.read.same ∙ last) (ap is_lost l.read.same ∙ found) (λ e. l.read.over (sym l.read.same ∙ e))))
-        (broken_now count now err left is refused s fate asked said past shown Broken l)
+        (broken_now count now err left is was_opened tally s fate asked said past shown Broken l)

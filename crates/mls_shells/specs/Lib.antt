@@ -1,3 +1,4 @@
 pub mod Reading
 pub mod Shell
 pub mod ShellRun
+pub mod Tally

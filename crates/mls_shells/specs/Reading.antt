@@ -9,8 +9,8 @@ use Rattle.mls_script.specs.Reading.{script_at}
 use Rattle.mls_sessions.specs.declared.cause.RunCause.TheVariants.{Memory}
 use Rattle.mls_shells.specs.declared.seat.Seat.{Seat}
 use Rattle.mls_shells.specs.declared.seat.Fate.{Fate}
-use Rattle.mls_shells.specs.declared.seat.Fate.TheVariants.{Over, Blank, Help, Refused, Lost}
-use Rattle.mls_shells.specs.Shell.{prefix_of, fate_of_events}
+use Rattle.mls_shells.specs.declared.seat.Fate.TheVariants.{Over, Blank, Help, Asked, Refused, Lost}
+use Rattle.mls_shells.specs.Shell.{prefix_of, is_asked, meant, fate_of_events}
 
 -- a line that is none behind the prefix is blank where by itself it tells nothing
 abbrev pub fate_of_fault : ScriptFault → Result (List Event) ScriptFault → Fate
@@ -27,7 +27,8 @@ module _ (policy : Tables) (schemes : Schemes) (seat : Seat) where
   fate_of line =
       if nat_eq (length line) 0 then Over
       else (if bytes_eq line (codes "help\n") then Help
-      else fate_read line (script_at policy schemes (prefix_of seat ++ line)))
+      else (if is_asked seat line then Asked
+      else fate_read (meant seat line) (script_at policy schemes (prefix_of seat ++ meant seat line))))
 
 -- so it is, unless memory runs out
 abbrev pub Becomes : Fate → Fate → Type 0

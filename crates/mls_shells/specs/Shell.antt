@@ -1,8 +1,8 @@
 -- A shell: lines are typed, and each is answered before the next is read.
-use Rattle.std.specs.Prelude.{◌≡◌, ◌≢◌, ℕ, zero, suc, ◌+◌, ◌-◌, ◌<◌, ◌≤◌, max, nat_eq, Bool, true, false, not}
+use Rattle.std.specs.Prelude.{◌≡◌, ◌≢◌, ℕ, zero, suc, ◌+◌, ◌-◌, ◌<◌, ◌≤◌, max, nat_eq, nat_lt, Bool, true, false, not}
 use Rattle.std.specs.Prelude.{if◌then◌else◌, List, [], ◌∷◌, ◌++◌, codes, length, take, Option, is_some, ◌⊎◌, ⊤}
 use Rattle.std.specs.Prelude.{◌&&◌, ◌||◌, IfErr, OnOk, Result, Ok, Err}
-use Rattle.std.specs.List.{AllByRecursion, flat_map, list_all, list_any}
+use Rattle.std.specs.List.{AllByRecursion, filter, flat_map, list_all, list_any, starts_with}
 use Rattle.std.specs.Str.{bytes_eq}
 use Rattle.std.specs.Io.KnownBytes.{Appends, Consumes, IsAtEnd}
 use Rattle.mls_lattice.specs.Name.{is_name}
@@ -22,18 +22,20 @@ use Rattle.mls_machine.specs.Machine.{World, end_of}
 use Rattle.mls_machine.specs.Observation.{EventsFit, AreRead, AreCertified, run_shows, reader_of}
 use Rattle.mls_sessions.specs.declared.cause.RunCause.TheVariants.{Store}
 use Rattle.mls_sessions.specs.declared.cause.RunFault.{RunFault}
-use Rattle.mls_sessions.specs.Run.{IsWhole, IsStopped, IsFaultOf}
-use Rattle.mls_typing.specs.Typing.{IsNext, IsLong}
-use Rattle.mls_host.specs.Telling.{IsMore}
+use Rattle.mls_sessions.specs.Run.{are_done, IsWhole, IsStopped, IsFaultOf}
+use Rattle.mls_lines.specs.Typing.{IsNext, IsLong}
 use Rattle.mls_host.specs.declared.ending.Ending.{Ending}
+use Rattle.mls_host.specs.declared.telling.Tally.{Tally}
 use Rattle.mls_shells.specs.declared.help.TheConstants.{HELP}
 use Rattle.mls_shells.specs.declared.seat.Seat.{Seat}
 use Rattle.mls_shells.specs.declared.seat.Fate.{Fate}
-use Rattle.mls_shells.specs.declared.seat.Fate.TheVariants.{Over, Blank, Help, Said, Refused, TooLong}
+use Rattle.mls_shells.specs.declared.seat.Fate.TheVariants.{Over, Blank, Help, Asked, Said, Refused, TooLong}
 use Rattle.mls_shells.specs.declared.seat.Fate.TheVariants.{Unreadable, Lost}
+use Rattle.mls_shells.specs.declared.tally.Verdict.{Verdict}
+use Rattle.mls_shells.specs.declared.tally.Verdict.TheVariants as verdicts
 use Rattle.mls_host.specs.Ending.{ending_if}
 use Rattle.mls_host.specs.Running.{first_world, form_of, IsRun}
-use Rattle.mls_host.specs.Telling.{prompt_text, line_told, fault_told}
+use Rattle.mls_host.specs.Telling.{IsMore, prompt_text, line_told, fault_told, tally_told}
 
 -- ---- who sits there
 
@@ -75,21 +77,36 @@ abbrev pub fate_of_events : Seat → List Event → Fate
 fate_of_events seat events =
     if list_all (is_own seat) events then Said events else Refused (record { line = 1; column = 1; cause = Expected })
 
--- it is no end, and no call for help
-abbrev pub IsCommand : List ℕ → Type 0
-IsCommand line = (line ≢ []) × (line ≢ codes "help\n")
+-- at a terminal a line asks what is declared, or for help with something
+abbrev pub is_asked : Seat → List ℕ → Bool
+is_asked seat line =
+    seat.has_prompt && (bytes_eq line (codes "describe\n") || starts_with nat_eq line (codes "help "))
 
--- behind the words of the session a line tells events; or it tells none so, and nothing by itself; or it is refused for
--- the first fault behind these words
+-- at a terminal `quit` and `exit` mean `close`
+abbrev pub meant : Seat → List ℕ → List ℕ
+meant seat line =
+    if seat.has_prompt && (bytes_eq line (codes "quit\n") || bytes_eq line (codes "exit\n")) then codes "close\n" else line
+
+-- it is no end, and asks for no help
+abbrev pub IsCommand : Seat → List ℕ → Type 0
+IsCommand seat line = (line ≢ []) × (line ≢ codes "help\n") × (is_asked seat line ≡ false)
+
+-- behind the words of the session what a line means tells events; or it tells none so, and nothing by itself; or it is
+-- refused for the first fault behind these words
 pub data IsFate (policy : Tables) (schemes : Schemes) (seat : Seat) (line : List ℕ) (fate : Fate) : Type 0 where
   over : line ≡ [] → fate ≡ Over → IsFate policy schemes seat line fate
   help : line ≡ codes "help\n" → fate ≡ Help → IsFate policy schemes seat line fate
-  said : (events : List Event) → IsCommand line → ReadsScript policy schemes (prefix_of seat ++ line) events
+  asked : is_asked seat line ≡ true → fate ≡ Asked → IsFate policy schemes seat line fate
+  said : (events : List Event) → IsCommand seat line
+      → ReadsScript policy schemes (prefix_of seat ++ meant seat line) events
       → fate ≡ fate_of_events seat events → IsFate policy schemes seat line fate
-  blank : IsCommand line → ((events : List Event) → ReadsScript policy schemes (prefix_of seat ++ line) events → ⊥)
-      → ReadsScript policy schemes line [] → fate ≡ Blank → IsFate policy schemes seat line fate
-  refused : (fault : ScriptFault) → IsCommand line → script_at policy schemes (prefix_of seat ++ line) ≡ Err fault
-      → (ReadsScript policy schemes line [] → ⊥) → fate ≡ Refused fault → IsFate policy schemes seat line fate
+  blank : IsCommand seat line
+      → ((events : List Event) → ReadsScript policy schemes (prefix_of seat ++ meant seat line) events → ⊥)
+      → ReadsScript policy schemes (meant seat line) [] → fate ≡ Blank → IsFate policy schemes seat line fate
+  refused : (fault : ScriptFault) → IsCommand seat line
+      → script_at policy schemes (prefix_of seat ++ meant seat line) ≡ Err fault
+      → (ReadsScript policy schemes (meant seat line) [] → ⊥) → fate ≡ Refused fault
+      → IsFate policy schemes seat line fate
 
 -- its events fit; and it is lost for memory or the writer, never for the store
 abbrev pub FateFits : Tables → Schemes → Fate → Type 0
@@ -113,12 +130,6 @@ told_of seat number TooLong = line_told number (codes "too long")
 told_of seat number Unreadable = line_told number (codes "unreadable")
 told_of seat number fate = []
 
-abbrev pub is_refused : Fate → Bool
-is_refused (Refused fault) = true
-is_refused TooLong = true
-is_refused Unreadable = true
-is_refused fate = false
-
 -- no line is read behind it
 abbrev pub is_last : Fate → Bool
 is_last Over = true
@@ -141,6 +152,46 @@ IsCut Unreadable = ⊤
 IsCut (Lost cause) = cause ≢ Store
 IsCut fate = ⊥
 
+-- ---- what is counted of lines
+
+-- of a line whose events are all done, or not
+abbrev pub verdict_of : Bool → Fate → Verdict
+verdict_of done Help = verdicts.Done
+verdict_of done Asked = verdicts.Done
+verdict_of done (Said events) = if done then verdicts.Done else verdicts.Refused
+verdict_of done (Refused fault) = verdicts.Misunderstood
+verdict_of done TooLong = verdicts.Misunderstood
+verdict_of done Unreadable = verdicts.Misunderstood
+verdict_of done fate = verdicts.Silent
+
+abbrev pub says : Verdict → Bool
+says verdicts.Silent = false
+says v = true
+
+abbrev pub is_refused : Verdict → Bool
+is_refused verdicts.Refused = true
+is_refused v = false
+
+abbrev pub is_misunderstood : Verdict → Bool
+is_misunderstood verdicts.Misunderstood = true
+is_misunderstood v = false
+
+-- how many lines say something, and how many of these are refused and not understood
+abbrev pub tally : List Verdict → Tally
+tally vs = record {
+  lines = length (filter says vs);
+  refused = length (filter is_refused vs);
+  misunderstood = length (filter is_misunderstood vs);
+}
+
+-- not all of them are done
+abbrev pub is_short : Tally → Bool
+is_short t = nat_lt 0 t.refused || nat_lt 0 t.misunderstood
+
+-- what is told at the end where nobody types at a terminal
+abbrev pub end_told : Seat → Tally → List ℕ
+end_told seat t = if seat.has_prompt then [] else tally_told t
+
 -- ---- lines that are typed one after another
 
 -- a line, what the host shows of it when it is read, and what becomes of it
@@ -149,15 +200,15 @@ pub record Turn : Type 0 where
   pub shown : List ℕ
   pub fate : Fate
 
--- a line comes next and is understood; or it is too long; or it is not read or understood whole
-pub data IsTurn (echo : List ℕ → List ℕ) (policy : Tables) (schemes : Schemes) (seat : Seat)
-    (before after : Option (List ℕ)) (t : Turn) : Type 0 where
+-- a line comes next, and this becomes of it; or it is too long; or it is not read or understood whole
+pub data IsTurn (echo : List ℕ → List ℕ) (IsFateOf : List ℕ → Fate → Type 0) (before after : Option (List ℕ))
+    (t : Turn) : Type 0 where
   whole : IsNext before after t.line → length t.line ≤ 1048576 → t.shown ≡ echo t.line
-      → IsFate policy schemes seat t.line t.fate → IsTurn echo policy schemes seat before after t
+      → IsFateOf t.line t.fate → IsTurn echo IsFateOf before after t
   long : IsLong before after t.line → t.shown ≡ [] → t.fate ≡ TooLong
-      → IsTurn echo policy schemes seat before after t
+      → IsTurn echo IsFateOf before after t
   cut : (line : List ℕ) (rest : List ℕ) → Consumes before after t.line → t.shown ++ rest ≡ echo line → IsCut t.fate
-      → IsTurn echo policy schemes seat before after t
+      → IsTurn echo IsFateOf before after t
 
 abbrev pub events_in : List Turn → List Event
 events_in = flat_map (λ t. events_of t.fate)
@@ -184,9 +235,23 @@ module _ (site : Site) (seat : Seat) where
   shown_to w turns zero = []
   shown_to w turns (suc n) = transcript w (take n turns)
 
-  -- the opening is denied, or a line is refused
+  -- what is counted of each line, from the world on in which the first is read
+  unfoldable pub verdicts_in : World → List Turn → List Verdict
+  verdicts_in w [] = []
+  verdicts_in w (t ∷ ts) =
+      verdict_of (are_done site w (events_of t.fate)) t.fate ∷ verdicts_in (end_of site w (events_of t.fate)) ts
+
+  abbrev pub tally_of : World → List Turn → Tally
+  tally_of w turns = tally (verdicts_in (after_opening w) turns)
+
+  -- not all is done: the opening is denied, or a line is refused or not understood
   abbrev pub has_refused : World → List Turn → Bool
-  has_refused w turns = not (is_open seat (after_opening w)) || list_any (λ t. is_refused t.fate) turns
+  has_refused w turns = not (is_open seat (after_opening w)) || is_short (tally_of w turns)
+
+  -- what is told behind all lines, of a shell that is not given up
+  abbrev pub last_told : World → List Turn → Result Ending RunFault → List ℕ
+  last_told w turns (Ok ending) = end_told seat (tally_of w turns)
+  last_told w turns (Err fault) = []
 
 -- what is told where nobody reads it at a terminal, from the line of a number on: the prompt before each line, and
 -- what is said of it
@@ -201,11 +266,11 @@ AreTold seat number (t ∷ ts) text = IsMore seat.is_watched (λ more.
     (rest : List ℕ) × (text ≡ (prompt_of seat ++ (told_of seat number t.fate ++ more)) ++ rest)
     × AreTold seat (number + 1) ts rest)
 
--- what is told of a shell: perhaps more behind its opening, and then what is told of its lines
-pub record AreAllTold (seat : Seat) (turns : List Turn) (Told : List ℕ → Type 0) : Type 0 where
+-- what is told of a shell: perhaps more behind its opening, then what is told of its lines, and the last
+pub record AreAllTold (seat : Seat) (turns : List Turn) (last : List ℕ) (Told : List ℕ → Type 0) : Type 0 where
   pub lines : List ℕ
   pub are : AreTold seat 1 turns lines
-  pub opening : IsMore seat.is_watched (λ more. Told (more ++ lines))
+  pub opening : IsMore seat.is_watched (λ more. Told (more ++ lines ++ last))
 
 -- where nobody reads it, what is told of lines is what stands above
 abbrev pub PipesAreToldNoMore : Type 0
@@ -249,7 +314,8 @@ module _ (echo : List ℕ → List ℕ) (site : Site) (seat : Seat) where
   unfoldable pub AreTurns : World → Option (List ℕ) → Option (List ℕ) → List Turn → Type 0
   AreTurns w before after [] = before ≡ after
   AreTurns w before after (t ∷ ts) =
-      (left : Option (List ℕ)) × (is_open seat w ≡ true) × IsTurn echo site.policy site.schemes seat before left t
+      (left : Option (List ℕ)) × (is_open seat w ≡ true)
+      × IsTurn echo (IsFate site.policy site.schemes seat) before left t
       × (ts ≢ [] → is_last t.fate ≡ false) × AreTurns (end_of site w (events_of t.fate)) left after ts
 
   module _ (before after : Option (List ℕ)) (Broken : Type 0) (Wrote Told : List ℕ → Type 0)
@@ -260,7 +326,7 @@ module _ (echo : List ℕ → List ℕ) (site : Site) (seat : Seat) where
       pub run_end : Result (Unit {0}) RunFault
       pub lines : AreTurns (after_opening site seat w) before after turns
       pub broken : list_any (λ t. is_failed t.fate) turns ≡ true → Broken
-      pub told : AreAllTold seat turns Told
+      pub told : AreAllTold seat turns (last_told site seat w turns end) Told
       pub ended : IsEndOf site seat w turns Wrote after run_end end
 
     -- A shell over a content, which it leaves as another. Where the host shows nothing of the lines, it is the run of
@@ -289,10 +355,10 @@ pub record IsFollowed (site : Site) (audience : Audience) (w : World) (es : List
   pub cause : IfErr r (λ fault. IfErr end (λ f. (f.cause ≡ fault.cause) × (f.done ≡ fault.done)))
 
 -- a line is read, and this becomes of it
-pub record IsRead (echo : List ℕ → List ℕ) (policy : Tables) (schemes : Schemes) (seat : Seat)
+pub record IsRead (echo : List ℕ → List ℕ) (IsFateOf : List ℕ → Fate → Type 0)
     (before after was is : Option (List ℕ)) (Broken : Type 0) (fate : Fate) : Type 0 where
   pub turn : Turn
-  pub is_turn : IsTurn echo policy schemes seat before after turn
+  pub is_turn : IsTurn echo IsFateOf before after turn
   pub same : turn.fate ≡ fate
   pub shown : Appends was is turn.shown
   pub over : fate ≡ Over → IsAtEnd after

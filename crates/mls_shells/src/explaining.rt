@@ -1,5 +1,6 @@
 //! Why a line is refused, or what it asks for is not done, in sentences.
 use crate::denials::denial_text;
+use crate::describing::asked_text;
 use crate::reading::text_of;
 use crate::refusals::refusal_text;
 use crate::seat::{Fate, Seat};
@@ -17,6 +18,17 @@ const TOO_LONG: &str =
 const NO_VERB: &str =
     "  A line begins with view, count, insert, update, delete, call, audit or close. `help` has examples.\n";
 
+const MORE_WORDS: &str =
+    "  `describe` shows what is declared, and `quit` and `exit` end the shell too.\n";
+
+const GREETING: &str =
+    "  Type a command, `help` for examples, `describe` for what is declared, or `close` to leave.\n";
+
+const MORE_HELP: &str = "\
+help COMMAND                                                   tells how a command is typed
+describe                                                       shows the relations that you see, your rights and the labels
+";
+
 /// Who is told why, under which policy and schemes.
 #[derive(Drop)]
 pub(crate) struct Listener<'a> {
@@ -27,12 +39,20 @@ pub(crate) struct Listener<'a> {
 }
 
 impl Listener<'_> {
-    /// Why an event was not done, where somebody reads that.
-    pub(crate) fn event_text(
+    /// What is told behind the opening: why it was not done, or, to who types at a terminal, what can be typed.
+    pub(crate) fn opening_text(
         &self,
         events: &[Event],
         notice: Option<Notice>,
     ) -> Result<String, AllocError> {
+        if notice.is_none() && self.seat.has_prompt {
+            return String::from_str(self.alloc, GREETING);
+        }
+        self.event_text(events, notice)
+    }
+
+    /// Why an event was not done, where somebody reads that.
+    fn event_text(&self, events: &[Event], notice: Option<Notice>) -> Result<String, AllocError> {
         match (events.first(), notice) {
             (Some(event), Some(notice)) if self.seat.is_watched => self.notice_text(event, notice),
             _ => Ok(String::new(self.alloc)),
@@ -46,7 +66,7 @@ impl Listener<'_> {
         }
     }
 
-    /// Why nothing was done of a line, where somebody reads that.
+    /// What is told behind what is said of a line: why nothing was done of it, or what it asks for.
     pub(crate) fn line_text(
         &self,
         line: &[u8],
@@ -57,6 +77,8 @@ impl Listener<'_> {
             Fate::Said(events) => self.event_text(events, notice),
             Fate::Refused(fault) if self.seat.is_watched => self.fault_text(line, fault),
             Fate::TooLong if self.seat.is_watched => String::from_str(self.alloc, TOO_LONG),
+            Fate::Asked => asked_text(self, line),
+            Fate::Help if self.seat.has_prompt => String::from_str(self.alloc, MORE_HELP),
             _ => Ok(String::new(self.alloc)),
         }
     }
@@ -79,6 +101,10 @@ impl Listener<'_> {
         let whole = text_of(self.alloc, self.seat, line)?;
         match form_at(1, &whole).split_once("LABEL SESSION ") {
             Some((_, form)) => write!(text, "  The form: {form}"),
+            None if self.seat.has_prompt => {
+                text.push_str(NO_VERB)?;
+                text.push_str(MORE_WORDS)
+            }
             None => text.push_str(NO_VERB),
         }
     }

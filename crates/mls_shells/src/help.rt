@@ -13,3 +13,75 @@ call Known (1, \"x\", null)                                      runs a stored t
 audit                                                          shows the audit list up to your level
 close                                                          ends the session, and the shell
 ";
+
+const LEAVING: &str = "  close
+  It ends the session, and the shell. Or type quit or exit.
+";
+
+/// Each command, and its form, an example and what it does.
+pub(crate) static TOPICS: [(&str, &str); 12] = [
+    (
+        "view",
+        "  view RELATION at LABEL [highest] [class OP LABEL] [first N] [where CONDITION]
+  For example: view SOD at U highest where Objective = \"Spying\"
+  It shows the rows of a relation that are seen at a label.
+",
+    ),
+    (
+        "count",
+        "  count RELATION at LABEL [highest] [class OP LABEL] [where CONDITION]
+  For example: count SOD at U class = U
+  It counts the rows that a view would show.
+",
+    ),
+    (
+        "insert",
+        "  insert RELATION key (VALUE, ..) values (VALUE, ..)
+  For example: insert SOD key (\"Enterprise\") values (\"Exploration\", null)
+  It adds a tuple at the session's level.
+",
+    ),
+    (
+        "update",
+        "  update RELATION key (VALUE, ..) class LABEL from LABEL set ATTRIBUTE = VALUE, ..
+  For example: update SOD key (\"Enterprise\") class U from U set Objective = \"Spying\"
+  It gives a tuple new values at the session's level; behind class stands the class of its key, behind from its own.
+",
+    ),
+    (
+        "delete",
+        "  delete RELATION key (VALUE, ..) class LABEL
+  For example: delete SOD key (\"Enterprise\") class U
+  It removes the tuple of a key, and of the class of that key, at the session's level.
+",
+    ),
+    (
+        "call",
+        "  call TRANSACTION (VALUE, ..)
+  For example: call Known (1, \"x\", null)
+  It runs a stored transaction.
+",
+    ),
+    (
+        "audit",
+        "  audit
+  It shows the audit list up to the session's level.
+",
+    ),
+    (
+        "describe",
+        "  describe
+  It shows the relations, the rights and the labels that the session sees.
+",
+    ),
+    (
+        "help",
+        "  help [COMMAND]
+  For example: help view
+  It shows all commands, or how one is typed.
+",
+    ),
+    ("close", LEAVING),
+    ("quit", LEAVING),
+    ("exit", LEAVING),
+];

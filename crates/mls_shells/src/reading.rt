@@ -1,19 +1,19 @@
 //! What a typed line tells.
-ghost use Rattle.std.specs.Prelude.{◌≡◌, ◌∷◌, ◌++◌, [], codes, IfOk};
+ghost use Rattle.std.specs.Prelude.{◌≡◌, ◌∷◌, ◌++◌, ◌||◌, [], codes, IfOk};
 ghost use Rattle.std.specs.Str.{bytes_eq};
 ghost use Rattle.std.specs.List.{AllByRecursion, list_all};
 ghost use Rattle.mls_lattice.specs.Name.{is_name};
 ghost use Rattle.mls_script.specs.Event.{EventFits};
 ghost use Rattle.mls_script.specs.Reading.{IsRead as IsScriptRead, script_at};
-ghost use Rattle.mls_shells.specs.Shell.{prefix_of, opening, is_own, fate_of_events, FateFits, IsRead};
+ghost use Rattle.mls_shells.specs.Shell.{prefix_of, opening, is_own, fate_of_events, is_asked, meant, IsFate, FateFits, IsRead};
 ghost use Rattle.mls_shells.specs.Reading.{fate_of_fault, fate_of, Becomes};
 
 use crate::seat::{Fate, Seat};
 use mls_lattice::{Items, Policy, Str};
+use mls_lines::{Typed, TypedLines, TypingFault};
 use mls_scheme::Schemes;
 use mls_script::{Command, Event, ScriptCause, ScriptFault, script};
 use mls_sessions::RunCause;
-use mls_typing::{Typed, TypedLines, TypingFault};
 use std::alloc::{AllocError, Global};
 use std::io::Write;
 
@@ -124,6 +124,30 @@ fn is_help(line: &[u8]) -> bool
     line == b"help\n".as_slice()
 }
 
+/// Whether a line asks for more at a terminal.
+fn is_asked(seat: &Seat, line: &[u8]) -> bool
+    ensures { result ≡ is_asked seat.now line.now }
+{
+    seat.has_prompt && (line == b"describe\n".as_slice() || line.starts_with(b"help "))
+}
+
+fn is_farewell(line: &[u8]) -> bool
+    ensures { result ≡ (bytes_eq line.now (codes "quit\n") || bytes_eq line.now (codes "exit\n")) }
+{
+    line == b"quit\n".as_slice() || line == b"exit\n".as_slice()
+}
+
+/// What a line means.
+fn meant<'a>(seat: &Seat, line: &'a [u8]) -> &'a [u8]
+    ensures { result.now ≡ meant seat.now line.now }
+{
+    if seat.has_prompt && is_farewell(line) {
+        b"close\n"
+    } else {
+        line
+    }
+}
+
 /// What becomes of a line.
 fn fate_of(alloc: Global, policy: &Policy, schemes: &Schemes, seat: &Seat, line: &[u8]) -> Fate
     ensures is { Becomes (fate_of policy.now schemes.now seat.now line.now) result }
@@ -135,6 +159,10 @@ fn fate_of(alloc: Global, policy: &Policy, schemes: &Schemes, seat: &Seat, line:
     if is_help(line) {
         return Fate::Help;
     }
+    if is_asked(seat, line) {
+        return Fate::Asked;
+    }
+    let line = meant(seat, line);
     match events_of(alloc, policy, schemes, seat, line) {
         Ok(events) => fate_of_events(seat, events),
         Err(fault) if fault.cause == ScriptCause::Memory => Fate::Lost(RunCause::Memory),
@@ -152,7 +180,7 @@ pub(crate) fn next_fate<L: TypedLines, W: Write>(
     out: &mut W,
     heard: &mut Vec<u8>,
 ) -> Fate
-    ensures read { IsRead L.echo policy.now schemes.now seat.now (L.remaining lines.old) (L.remaining lines.new)
+    ensures read { IsRead L.echo (IsFate policy.now schemes.now seat.now) (L.remaining lines.old) (L.remaining lines.new)
         (W.contents out.old) (W.contents out.new) (L.breaks lines.new) result }
     ensures fits { FateFits policy.now schemes.now result }
 {

@@ -18,13 +18,15 @@ pub struct Seat {
 
 /// What becomes of a line.
 #[derive(Drop)]
-pub(crate) enum Fate {
+pub enum Fate {
     /// There is none: the lines are over.
     Over,
     /// It says nothing.
     Blank,
     /// It asks which commands there are.
     Help,
+    /// It asks what is declared, or for help with something.
+    Asked,
     /// It tells events of the session.
     Said(Items<Event>),
     /// It tells none.

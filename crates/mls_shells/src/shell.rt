@@ -1,24 +1,27 @@
 //! A shell: a session whose commands are typed, each answered before the next is read.
-ghost use Rattle.std.specs.Prelude.{◌≡◌, ◌<◌, ◌≤◌, ◌∷◌, [], false, length, Some, IfErr, OnOk, Err};
+ghost use Rattle.std.specs.Prelude.{◌≡◌, ◌<◌, ◌≤◌, ◌∷◌, ◌||◌, [], false, not, length, Some, is_some, IfErr, OnOk, Err};
 ghost use Rattle.mls_machine.specs.Observation.{EventsFit};
 ghost use Rattle.mls_sessions.specs.Engine.{site, world_of, IsReady, IsKept};
 ghost use Rattle.mls_sessions.specs.World.{IsSound};
+ghost use Rattle.mls_sessions.specs.Run.{are_done};
+ghost use Rattle.mls_host.specs.Ending.{ending_if};
 ghost use Rattle.mls_host.specs.Hosting.{IsAppended, IsTold};
 ghost use Rattle.mls_host.specs.Running.{site_of};
-ghost use Rattle.mls_shells.specs.Shell.{opening, audience_at, told_of, events_of, is_refused, is_last, is_lost, FateFits, MayTalk, IsFollowed, IsConversation, IsShell};
+ghost use Rattle.mls_shells.specs.Shell.{opening, audience_at, told_of, events_of, verdict_of, is_short, end_told, is_last, is_lost, FateFits, MayTalk, IsFollowed, IsConversation, IsShell};
 
 use crate::explaining::Listener;
 use crate::reading::next_fate;
 use crate::seat::{Fate, Seat};
-use crate::telling::{ask, tell_fate, tell_more};
+use crate::tally::{is_short, tally_with};
+use crate::telling::{ask, tell_end, tell_fate, tell_more};
 use mls_filterview::Base;
-use mls_host::{Ending, Errors, ending_if, form_of};
+use mls_host::{Ending, Errors, Tally, ending_if, form_of};
 use mls_lattice::{Items, Policy};
+use mls_lines::TypedLines;
 use mls_machine::Audience;
 use mls_scheme::Schemes;
 use mls_script::Event;
 use mls_sessions::{Engine, RunCause, RunFault, Stored, run_to};
-use mls_typing::TypedLines;
 use std::alloc::Global;
 use std::io::Write;
 
@@ -51,6 +54,8 @@ fn answer<B: Base, W: Write>(
     ensures followed { B.is_clean engine.new.base → IsFollowed (site engine.old) (audience_at seat.now)
         (world_of B.state engine.old) events.now (W.contents out.old) (W.contents out.new)
         (world_of B.state engine.new) line result }
+    ensures noticed { B.is_clean engine.new.base → OnOk result (is_some engine.new.notice
+        ≡ not (are_done (site engine.old) (world_of B.state engine.old) events.now)) }
 {
     match run_to(engine, events, audience_at(seat), out) {
         Ok(()) => Ok(()),
@@ -82,6 +87,8 @@ fn follow<B: Base, W: Write>(
         (world_of B.state engine.old) (events_of fate.now) (W.contents out.old) (W.contents out.new)
         (world_of B.state engine.new) line result }
     ensures found { OnOk result (is_lost fate.now ≡ false) }
+    ensures noticed { B.is_clean engine.new.base → OnOk result (verdict_of (not (is_some engine.new.notice)) fate.now
+        ≡ verdict_of (are_done (site engine.old) (world_of B.state engine.old) (events_of fate.now)) fate.now) }
 {
     match fate {
         Fate::Said(events) => answer(engine, seat, line, events, out),
@@ -94,23 +101,23 @@ fn follow<B: Base, W: Write>(
     }
 }
 
-fn is_refused(fate: &Fate) -> bool
-    ensures { result ≡ is_refused fate.now }
-{
-    match fate {
-        Fate::Refused(_) | Fate::TooLong | Fate::Unreadable => true,
-        _ => false,
-    }
-}
-
 /// Whether no line is read behind it.
-fn is_last(fate: &Fate) -> bool
+pub fn is_last(fate: &Fate) -> bool
     ensures { result ≡ is_last fate.now }
 {
     match fate {
         Fate::Over | Fate::Unreadable | Fate::Lost(_) => true,
         _ => false,
     }
+}
+
+/// Ends a shell that is not given up: tells how many lines are done, and says whether all are.
+fn finish<E: Write>(err: &mut Errors<E>, seat: &Seat, was_opened: bool, tally: &Tally) -> Ending
+    ensures told { IsTold E.contents err.old err.new (end_told seat.now tally.now) }
+    ensures is { result ≡ ending_if (not was_opened || is_short tally.now) }
+{
+    tell_end(err, seat, tally);
+    ending_if(!was_opened || is_short(tally))
 }
 
 /// Opens the session, and answers each line before it reads the next, as long as the session is open and there are lines. What is
@@ -148,25 +155,27 @@ fn converse<B: Base, L: TypedLines, W: Write, E: Write>(
         seat,
     };
     answer(engine, seat, 0, first, out)?;
-    tell_more(err, seat, listener.event_text(first, engine.notice()));
-    let mut refused = !engine.is_open(seat.level, seat.user.as_str());
+    tell_more(err, seat, listener.opening_text(first, engine.notice()));
+    let was_opened = engine.is_open(seat.level, seat.user.as_str());
+    let mut tally = Tally {
+        lines: 0,
+        refused: 0,
+        misunderstood: 0,
+    };
     for before in 0..usize::MAX {
         if !engine.is_open(seat.level, seat.user.as_str()) {
-            return Ok(ending_if(refused));
+            return Ok(finish(err, seat, was_opened, &tally));
         }
         ask(err, seat);
         let mut heard = Vec::new(alloc);
         let fate = next_fate(alloc, policy, schemes, seat, lines, out, &mut heard);
         tell_fate(err, seat, before + 1, &fate);
         follow(engine, seat, before + 1, &fate, out)?;
-        tell_more(
-            err,
-            seat,
-            listener.line_text(&heard, &fate, engine.notice()),
-        );
-        refused = refused | is_refused(&fate);
+        let notice = engine.notice();
+        tell_more(err, seat, listener.line_text(&heard, &fate, notice));
+        tally = tally_with(tally, &fate, notice);
         if is_last(&fate) {
-            return Ok(ending_if(refused));
+            return Ok(finish(err, seat, was_opened, &tally));
         }
     }
     Err(RunFault {

@@ -1,12 +1,12 @@
 //! What a shell says on standard error.
 ghost use Rattle.std.specs.Prelude.{◌≡◌};
 ghost use Rattle.mls_host.specs.Hosting.{IsTold};
-ghost use Rattle.mls_shells.specs.Shell.{prompt_of, column_of, told_of};
+ghost use Rattle.mls_shells.specs.Shell.{prompt_of, column_of, told_of, end_told};
 ghost use Rattle.mls_host.specs.Telling.{IsMore};
 
 use crate::help::HELP;
 use crate::seat::{Fate, Seat};
-use mls_host::Errors;
+use mls_host::{Errors, Tally};
 use std::alloc::AllocError;
 use std::io::Write;
 
@@ -44,7 +44,18 @@ pub(crate) fn tell_fate<E: Write>(err: &mut Errors<E>, seat: &Seat, number: usiz
         }
         Fate::TooLong => err.tell_line(number, "too long"),
         Fate::Unreadable => err.tell_line(number, "unreadable"),
-        Fate::Over | Fate::Blank | Fate::Said(_) | Fate::Lost(_) => err.tell(b""),
+        Fate::Over | Fate::Blank | Fate::Asked | Fate::Said(_) | Fate::Lost(_) => err.tell(b""),
+    }
+}
+
+/// Tells at the end how many lines are done, where nobody types at a terminal.
+pub(crate) fn tell_end<E: Write>(err: &mut Errors<E>, seat: &Seat, tally: &Tally)
+    ensures { IsTold E.contents err.old err.new (end_told seat.now tally.now) }
+{
+    if seat.has_prompt {
+        err.tell(b"")
+    } else {
+        err.tell_tally(tally)
     }
 }
 

@@ -13,7 +13,7 @@ pub(crate) fn label_name(policy: &Policy, label: LabelNo) -> &str {
     }
 }
 
-fn is_dominated(policy: &Policy, low: LabelNo, high: LabelNo) -> bool {
+pub(crate) fn is_dominated(policy: &Policy, low: LabelNo, high: LabelNo) -> bool {
     let count = policy.label_count();
     if low.index() >= count || high.index() >= count {
         return false;

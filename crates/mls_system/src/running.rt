@@ -1,5 +1,5 @@
 //! What words ask for, done over the machine itself.
-ghost use Rattle.mls_words.specs.Words.{texts_of};
+ghost use Rattle.mls_host.specs.Words.{texts_of};
 ghost use Rattle.mls_host.specs.Hosting.{IsAppended, IsTold};
 ghost use Rattle.mls_system.specs.Answering.{IsAnsweredHere, IsAnsweredOver};
 

@@ -37,9 +37,21 @@ fn is_refused(told: &str, number: usize) -> bool {
     })
 }
 
-/// Whether a line that is typed says nothing to the session.
+/// Whether a line that is typed at a terminal says nothing to the session.
 fn is_silent(line: &str) -> bool {
-    line.trim().is_empty() || line.starts_with('#') || line == "help"
+    line.trim().is_empty()
+        || line.starts_with('#')
+        || line == "help"
+        || line == "describe"
+        || line.starts_with("help ")
+}
+
+/// The command that a line is which is typed at a terminal.
+fn meant(line: &str) -> &str {
+    match line {
+        "quit" | "exit" => "close",
+        _ => line,
+    }
 }
 
 /// Adds what is typed to a session that is opened, up to its end: each line that says something, and is not refused, behind its names.
@@ -54,8 +66,9 @@ fn push_lines(
         if is_silent(line) || is_refused(told, at.saturating_add(1)) {
             continue;
         }
-        writeln!(script, "{names} {line}")?;
-        if line.trim() == "close" {
+        let command = meant(line);
+        writeln!(script, "{names} {command}")?;
+        if command.trim() == "close" {
             break;
         }
     }
@@ -178,5 +191,24 @@ pub fn tell_all<R: Files + AllocGlobal>(rt: &R, lines: &[&str], is_watched: bool
         if let Some(case) = case_at(&lines[at..]) {
             left = tell_case(rt, &case, left, is_watched, out);
         }
+    }
+}
+
+/// Tells what a shell at a terminal writes with the lines below its words.
+pub fn tell_at_terminal<R: Files + AllocGlobal>(rt: &R, case: &Case<'_>, out: &mut Told) {
+    let (Ok(words), Ok(typed)) = (
+        words_in(rt.alloc(), case.head),
+        typed_in(rt.alloc(), case.body),
+    ) else {
+        out.fail();
+        return;
+    };
+    let words: Result<Vec<&str>, _> = words.iter().map(|word| word.as_str()).collect(rt.alloc());
+    match words {
+        Ok(words) => {
+            out.push_line(case.head);
+            tell_written(&written_over_lists(rt, &words, &typed), out);
+        }
+        Err(_) => out.fail(),
     }
 }

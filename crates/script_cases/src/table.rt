@@ -13,16 +13,18 @@ pub enum Table {
     Commands,
     Writers,
     Worlds,
+    DeskWorlds,
     Calls,
     Counts,
     Stores,
     Shells,
     Watched,
+    Terminals,
     Samples,
     Readers,
 }
 
-pub const TABLES: [(&str, Table); 18] = [
+pub const TABLES: [(&str, Table); 21] = [
     ("script_faults.txt", Table::Faults),
     ("prefixes.txt", Table::Prefixes),
     ("scripts.txt", Table::Scripts),
@@ -38,7 +40,10 @@ pub const TABLES: [(&str, Table); 18] = [
     ("stores.txt", Table::Stores),
     ("migrations.txt", Table::Stores),
     ("shells.txt", Table::Shells),
+    ("desks.txt", Table::Shells),
+    ("desk_worlds.txt", Table::DeskWorlds),
     ("watched.txt", Table::Watched),
+    ("terminals.txt", Table::Terminals),
     ("samples.txt", Table::Samples),
     ("readers.txt", Table::Readers),
 ];
@@ -78,11 +83,13 @@ fn tell_case<R: Files + AllocGlobal>(rt: &R, table: Table, case: &Case<'_>, out:
         Table::Scripts => commands::tell_script(rt, case, out),
         Table::Commands => commands::tell_command(rt, case, out),
         Table::Writers => commands::tell_writer(rt, case, out),
-        Table::Worlds => worlds::tell(rt, case, out),
+        Table::Worlds => worlds::tell(rt, case, false, out),
+        Table::DeskWorlds => worlds::tell(rt, case, true, out),
         Table::Calls => commands::tell_call(rt, case, out),
         Table::Counts => counts::tell(rt, case, out),
         Table::Samples => samples::tell(rt, case, out),
         Table::Readers => readers::tell(rt, case, out),
+        Table::Terminals => shells::tell_at_terminal(rt, case, out),
         // Each of these goes on with what the one before it left.
         Table::Stores | Table::Shells | Table::Watched => {}
     }

@@ -1,4 +1,4 @@
-//! Two worlds, and what a level sees of them: the real engine runs two scripts event by event.
+//! Two worlds, and what a level sees of them: the real engine runs two scripts event by event, or two desks answer them.
 ghost use Rattle.std.specs.Prelude.{◌≤◌, length};
 
 use crate::commands::{call_words_of, written_by};
@@ -9,6 +9,25 @@ use std::rt::Files;
 
 /// The files that both worlds run under.
 const FILES: &str = "policy.toml transactions.txt certificates.txt";
+
+/// The words of a desk over the same files.
+const DESK: [&str; 8] = [
+    "mldb",
+    "serve",
+    "--transactions",
+    "transactions.txt",
+    "--certificates",
+    "certificates.txt",
+    "policy.toml",
+    "schemes.toml",
+];
+
+/// Who looks at two worlds: labels, at what a run of a script prints or at what a desk answers.
+#[derive(Clone, Copy)]
+struct Look<'a> {
+    labels: &'a str,
+    is_at_desk: bool,
+}
 
 /// The worlds that a line is for: `=` both, `1` and `2` one of them; `?` asks either, after all events.
 fn is_for(line: &str, world: &str) -> bool {
@@ -34,34 +53,58 @@ fn push_lines(script: &mut Told, lines: &[&str], world: &str) {
     }
 }
 
+/// Whether a line begins with one of the labels.
+fn is_seen(labels: &str, line: &str) -> bool {
+    let label = line.split_once(' ').map_or("", |parts| parts.0);
+    labels.split(' ').any(|seen| seen == label)
+}
+
 /// Adds the lines that begin with one of the labels.
 pub fn push_seen(seen: &mut Told, labels: &str, text: &str) {
     for line in text.lines() {
-        let label = line.split_once(' ').map_or("", |parts| parts.0);
-        if labels.split(' ').any(|seen| seen == label) {
+        if is_seen(labels, line) {
             seen.push_line(line);
         }
     }
 }
 
-/// What the labels see of a run of a script.
+/// Adds what a desk answers to the lines of a script that begin with one of the labels, each answer with its mark.
+fn push_answers(seen: &mut Told, labels: &str, script: &str, answers: &str) {
+    let mut asked = script.lines();
+    let mut line = asked.next();
+    for answer in answers.lines() {
+        if line.map_or(false, |line| is_seen(labels, line)) {
+            seen.push_line(answer);
+        }
+        if answer.starts_with('=') {
+            line = asked.next();
+        }
+    }
+}
+
+/// What the labels see of a run of a script, or of a desk that answers its lines.
 fn seen_by<R: Files + AllocGlobal>(
     rt: &R,
-    labels: &str,
+    look: Look<'_>,
     script: &str,
 ) -> Result<String, AllocError> {
     let to = Narrow::wide(rt.alloc());
-    let written = written_by(rt, &call_words_of(FILES), script.as_bytes(), to);
     let mut seen = Told::new(rt.alloc());
-    push_seen(&mut seen, labels, text_of(&written.err));
-    push_seen(&mut seen, labels, text_of(&written.out));
+    if look.is_at_desk {
+        let written = written_by(rt, &DESK, script.as_bytes(), to);
+        push_answers(&mut seen, look.labels, script, text_of(&written.out));
+    } else {
+        let written = written_by(rt, &call_words_of(FILES), script.as_bytes(), to);
+        push_seen(&mut seen, look.labels, text_of(&written.err));
+        push_seen(&mut seen, look.labels, text_of(&written.out));
+    }
     seen.finish()
 }
 
 /// What the labels see of a world after some events, and of the questions.
 fn seen_of<R: Files + AllocGlobal>(
     rt: &R,
-    labels: &str,
+    look: Look<'_>,
     world: &str,
     events: &[&str],
     questions: &[&str],
@@ -69,17 +112,17 @@ fn seen_of<R: Files + AllocGlobal>(
     let mut script = Told::new(rt.alloc());
     push_lines(&mut script, events, world);
     push_lines(&mut script, questions, world);
-    seen_by(rt, labels, &script.finish()?)
+    seen_by(rt, look, &script.finish()?)
 }
 
 fn look_alike<R: Files + AllocGlobal>(
     rt: &R,
-    labels: &str,
+    look: Look<'_>,
     events: &[&str],
     questions: &[&str],
 ) -> Result<bool, AllocError> {
-    let first = seen_of(rt, labels, "1", events, questions)?;
-    let second = seen_of(rt, labels, "2", events, questions)?;
+    let first = seen_of(rt, look, "1", events, questions)?;
+    let second = seen_of(rt, look, "2", events, questions)?;
     Ok(first.as_str() == second.as_str())
 }
 
@@ -98,13 +141,13 @@ fn first_question(lines: &[&str]) -> usize
 /// Tells what the labels see of a world after some events, and of the questions.
 fn tell_seen<R: Files + AllocGlobal>(
     rt: &R,
-    labels: &str,
+    look: Look<'_>,
     world: &str,
     events: &[&str],
     questions: &[&str],
     out: &mut Told,
 ) {
-    match seen_of(rt, labels, world, events, questions) {
+    match seen_of(rt, look, world, events, questions) {
         Ok(seen) => out.push_indented(&seen),
         Err(_) => out.fail(),
     }
@@ -114,18 +157,18 @@ fn tell_seen<R: Files + AllocGlobal>(
 /// the second.
 fn tell_likeness<R: Files + AllocGlobal>(
     rt: &R,
-    labels: &str,
+    look: Look<'_>,
     events: &[&str],
     questions: &[&str],
     out: &mut Told,
 ) {
     for at in 0..events.len() {
-        match look_alike(rt, labels, &events[..at + 1], questions) {
+        match look_alike(rt, look, &events[..at + 1], questions) {
             Ok(true) => {}
             Ok(false) => {
                 out.push("  differ after ");
                 out.push_line(inner(events[at]));
-                return tell_seen(rt, labels, "2", events, questions, out);
+                return tell_seen(rt, look, "2", events, questions, out);
             }
             Err(_) => return out.fail(),
         }
@@ -133,11 +176,12 @@ fn tell_likeness<R: Files + AllocGlobal>(
     out.push("  alike\n")
 }
 
-/// Tells what labels see of two worlds: a case is `LABEL..: title`, and the events of both below, then questions.
-pub fn tell<R: Files + AllocGlobal>(rt: &R, case: &Case<'_>, out: &mut Told) {
+/// Tells what labels see of two worlds, in a run or at a desk: a case is `LABEL..: title`, and the events of both below, then questions.
+pub fn tell<R: Files + AllocGlobal>(rt: &R, case: &Case<'_>, is_at_desk: bool, out: &mut Told) {
     let labels = case.head.split_once(':').map_or("", |parts| parts.0);
+    let look = Look { labels, is_at_desk };
     let (events, questions) = case.body.split_at(first_question(case.body));
     out.push_line(case.head);
-    tell_seen(rt, labels, "1", events, questions, out);
-    tell_likeness(rt, labels, events, questions, out);
+    tell_seen(rt, look, "1", events, questions, out);
+    tell_likeness(rt, look, events, questions, out);
 }

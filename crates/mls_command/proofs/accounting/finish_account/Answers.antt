@@ -5,7 +5,7 @@ use Rattle.mls_host.specs.declared.refusal.Refusal.{Refusal}
 use Rattle.mls_host.specs.Deed.{deed, end_text}
 use Rattle.mls_host.specs.Hosting.{IsAppended, IsTold}
 use Rattle.mls_host.proofs.HostingLemmas.{told_more}
-use Rattle.mls_listings.proofs.PrintingLemmas.{printing_told}
+use Rattle.mls_command.proofs.PrintingLemmas.{printing_told}
 use Rattle.mls_command.specs.Accounting.{Accounts, IsUnread, IsAccountOf}
 use Rattle.mls_command.proofs.ActingLemmas.{told_all}
 use Rattle.mls_command.proofs.accounting.finish_account.Goals as goal

@@ -1,7 +1,7 @@
 use Rattle.std.proofs.KnownBytes.{Appends-nil}
 use Rattle.mls_host.specs.Deed.{deed}
 use Rattle.mls_host.proofs.HostingLemmas.{told_nothing}
-use Rattle.mls_listings.proofs.PrintingLemmas.{listing_printed, not_printed}
+use Rattle.mls_command.proofs.PrintingLemmas.{listing_printed, not_printed}
 use Rattle.mls_command.specs.Accounting.{Accounts, IsUnread}
 use Rattle.mls_command.proofs.accounting.print_account.Goals as goal
 

@@ -1,4 +1,4 @@
-use Rattle.mls_words.specs.Words.{named}
+use Rattle.mls_host.specs.Words.{named}
 use Rattle.mls_host.specs.declared.reason.Role.TheVariants as role
 use Rattle.mls_host.specs.Causes.{IsScriptRefused, RefusesScript, not_given}
 use Rattle.mls_host.proofs.CauseLemmas.{same_reason, not_read_of}

@@ -2,7 +2,7 @@ use Rattle.std.proofs.Common.{subst, []}
 use Rattle.std.proofs.KnownBytes.{Appends-nil}
 use Rattle.mls_machine.specs.declared.form.Form.{Form}
 use Rattle.mls_host.specs.Hosting.{hosted, IsAppended}
-use Rattle.mls_words.specs.Words.{named}
+use Rattle.mls_host.specs.Words.{named}
 use Rattle.mls_host.specs.Causes.{IsBarred}
 use Rattle.mls_host.specs.Storing.{AreStoredWith}
 use Rattle.mls_host.specs.Refusal.{IsEnd}

@@ -16,7 +16,7 @@ returns-in-Err-clause-err g c = λ h. running_stopped g.B.Base.state g.B.Base.is
 pub loop-place-preserved : goal.loop-place-preserved
 loop-place-preserved g c = running_more g.B.Base.state g.B.Base.is_clean g.B.Base.failures c.args.audience c.args.events.now c.args.engine.now (g.W.Write.contents c.args.out.now)
     c.loop-place.place c.loop-place.engine (g.W.Write.contents c.loop-place.out) c.loop-place.invariant c.index-events-place.result c.loop-place-test.true (search rules)
-    c.answer.new.engine (g.W.Write.contents c.answer.new.out) c.answer.ensures.clean c.answer.ensures.count c.answer.ensures.kept (search rules)
+    c.answer.new.engine (g.W.Write.contents c.answer.new.out) c.answer.ensures.clean c.answer.ensures.count c.answer.ensures.kept (search rules) (search rules)
 
 pub returns-in-Err-clause-integrity : goal.returns-in-Err-clause-integrity
 returns-in-Err-clause-integrity g c = λ h. keep_integrity (site c.args.engine.now) c.requires.ready.distinct c.requires.ready.read (world_of g.B.Base.state c.args.engine.now) c.args.events.now

@@ -5,7 +5,8 @@ use Rattle.mls_sessions.specs.declared.cause.RunCause.TheVariants.{Store}
 use Rattle.mls_sessions.specs.Engine.{site, world_of}
 use Rattle.mls_host.specs.Ending.{ending_if}
 use Rattle.mls_host.specs.Hosting.{IsTold}
-use Rattle.mls_shells.specs.Shell.{audience_at, is_refused, IsFollowed, IsConversation}
+use Rattle.mls_shells.specs.Shell.{audience_at, verdict_of, is_short, end_told, IsFollowed, IsConversation}
+use Rattle.mls_shells.specs.Tally.{tally_with}
 use Rattle.mls_shells.proofs.ShellLemmas.{said_more, said_once}
 use Rattle.mls_shells.proofs.TalkLemmas.{SoFar, Line, so_far_start, so_far_more, broken, broken_first, over_closed, over_last, worn_out, fits_at, level_at, read_at, carried}
 use Rattle.mls_shells.proofs.shell.converse.Goals as goal
@@ -25,12 +26,12 @@ returns-in_err-answer-clause-conversation g c = λ clean.
 pub loop-before-init : goal.loop-before-init
 loop-before-init g c = (
   c.answer.ensures.count,
-  so_far_start g.B.Base.state g.B.Base.is_clean g.E.Write.contents g.L.TypedLines.echo c.args.seat.now c.args.engine.now c.args.err.now (g.L.TypedLines.remaining c.args.lines.now) (g.W.Write.contents c.args.out.now) c.answer.new.engine (g.W.Write.contents c.answer.new.out) (not c.is_open-refused.result)
+  so_far_start g.B.Base.state g.B.Base.is_clean g.E.Write.contents g.L.TypedLines.echo c.args.seat.now c.args.engine.now c.args.err.now (g.L.TypedLines.remaining c.args.lines.now) (g.W.Write.contents c.args.out.now) c.answer.new.engine (g.W.Write.contents c.answer.new.out) c.is_open-was_opened.result
       (record {
         clean = c.answer.ensures.clean;
         kept = c.answer.ensures.kept;
         followed = λ clean. subst (λ es. IsFollowed (site c.args.engine.now) (audience_at c.args.seat.now) (world_of g.B.Base.state c.args.engine.now) es (g.W.Write.contents c.args.out.now) (g.W.Write.contents c.answer.new.out) (world_of g.B.Base.state c.answer.new.engine) 0 (Ok tt)) c.requires.first (c.in_ok-answer.ensures.followed clean);
-        refused_is = ap not (c.is_open-refused.ensures ∙ ap (λ n. is_some ((world_of g.B.Base.state c.answer.new.engine).sessions c.args.seat.now.level n)) c.as_str.ensures);
+        opened_is = c.is_open-was_opened.ensures ∙ ap (λ n. is_some ((world_of g.B.Base.state c.answer.new.engine).sessions c.args.seat.now.level n)) c.as_str.ensures;
       }) c.tell_more.new.err c.tell_more.ensures,
 )
 
@@ -46,8 +47,8 @@ returns-then-not-is_open-clause-count g c = c.loop-before.invariant.0
 pub returns-then-not-is_open-clause-conversation : goal.returns-then-not-is_open-clause-conversation
 returns-then-not-is_open-clause-conversation g c = λ clean.
     let closed = ap (λ n. is_some ((world_of g.B.Base.state c.loop-before.engine).sessions c.args.seat.now.level n)) (sym c.as_str-in-loop-before.ensures) ∙ sym c.is_open.ensures ∙ c.if-not-is_open.true in
-    subst (λ e. IsConversation g.L.TypedLines.echo (site c.args.engine.now) c.args.seat.now (g.L.TypedLines.remaining c.args.lines.now) (g.L.TypedLines.remaining c.loop-before.lines) (g.W.Write.contents c.args.out.now) (g.W.Write.contents c.loop-before.out) (g.L.TypedLines.breaks c.loop-before.lines) (IsTold g.E.Write.contents c.args.err.now c.loop-before.err) (Ok e) (world_of g.B.Base.state c.args.engine.now) (world_of g.B.Base.state c.loop-before.engine)) (sym c.ending_if.ensures)
-    (over_closed g.B.Base.state g.B.Base.is_clean g.E.Write.contents g.L.TypedLines.echo c.args.seat.now c.args.engine.now c.args.err.now (g.L.TypedLines.remaining c.args.lines.now) (g.W.Write.contents c.args.out.now) c.requires.fits (g.L.TypedLines.breaks c.loop-before.lines) c.loop-before.before c.loop-before.engine c.loop-before.err (g.L.TypedLines.remaining c.loop-before.lines) (g.W.Write.contents c.loop-before.out) c.loop-before.refused c.loop-before.invariant.1 clean closed)
+    subst (λ e. IsConversation g.L.TypedLines.echo (site c.args.engine.now) c.args.seat.now (g.L.TypedLines.remaining c.args.lines.now) (g.L.TypedLines.remaining c.loop-before.lines) (g.W.Write.contents c.args.out.now) (g.W.Write.contents c.loop-before.out) (g.L.TypedLines.breaks c.loop-before.lines) (IsTold g.E.Write.contents c.args.err.now c.finish.new.err) (Ok e) (world_of g.B.Base.state c.args.engine.now) (world_of g.B.Base.state c.loop-before.engine)) (sym c.finish.ensures.is)
+    (over_closed g.B.Base.state g.B.Base.is_clean g.E.Write.contents g.L.TypedLines.echo c.args.seat.now c.args.engine.now c.args.err.now (g.L.TypedLines.remaining c.args.lines.now) (g.W.Write.contents c.args.out.now) c.requires.fits (g.L.TypedLines.breaks c.loop-before.lines) c.loop-before.before c.loop-before.engine c.loop-before.err (g.L.TypedLines.remaining c.loop-before.lines) (g.W.Write.contents c.loop-before.out) c.is_open-was_opened.result c.loop-before.tally c.loop-before.invariant.1 clean closed c.finish.new.err c.finish.ensures.told)
 
 pub follow-requires-clause-ready : goal.follow-requires-clause-ready
 follow-requires-clause-ready g c = c.loop-before.invariant.1.kept.ready
@@ -80,7 +81,7 @@ returns-in_err-follow-clause-store g c = λ clean.
 
 pub returns-in_err-follow-clause-conversation : goal.returns-in_err-follow-clause-conversation
 returns-in_err-follow-clause-conversation g c = λ clean.
-    let line : Line g.B.Base.state g.B.Base.is_clean g.E.Write.contents g.L.TypedLines.echo c.args.seat.now c.args.engine.now c.args.err.now (g.L.TypedLines.remaining c.args.lines.now) (g.W.Write.contents c.args.out.now) c.loop-before.before c.loop-before.engine c.loop-before.err (g.L.TypedLines.remaining c.loop-before.lines) (g.W.Write.contents c.loop-before.out) c.loop-before.refused c.loop-before.invariant.1 c.next_fate-fate.result c.ask.new.err c.tell_fate.new.err (g.L.TypedLines.remaining c.next_fate-fate.new.lines) (g.W.Write.contents c.next_fate-fate.new.out) (g.L.TypedLines.breaks c.next_fate-fate.new.lines) = record {
+    let line : Line g.B.Base.state g.B.Base.is_clean g.E.Write.contents g.L.TypedLines.echo c.args.seat.now c.args.engine.now c.args.err.now (g.L.TypedLines.remaining c.args.lines.now) (g.W.Write.contents c.args.out.now) c.loop-before.before c.loop-before.engine c.loop-before.err (g.L.TypedLines.remaining c.loop-before.lines) (g.W.Write.contents c.loop-before.out) c.is_open-was_opened.result c.loop-before.tally c.loop-before.invariant.1 c.next_fate-fate.result c.ask.new.err c.tell_fate.new.err (g.L.TypedLines.remaining c.next_fate-fate.new.lines) (g.W.Write.contents c.next_fate-fate.new.out) (g.L.TypedLines.breaks c.next_fate-fate.new.lines) = record {
       was_open = ap (λ n. is_some ((world_of g.B.Base.state c.loop-before.engine).sessions c.args.seat.now.level n)) (sym c.as_str-in-loop-before.ensures) ∙ sym c.is_open.ensures ∙ c.if-not-is_open.false;
       asked_is = c.ask.ensures;
       read = read_at g.L.TypedLines.echo (site c.args.engine.now) c.args.policy.now c.args.schemes.now c.args.seat.now _ _ _ _ _ _ c.requires.policy c.requires.schemes c.next_fate-fate.ensures.read;
@@ -89,7 +90,7 @@ returns-in_err-follow-clause-conversation g c = λ clean.
     } in
     carried (λ r. IsConversation g.L.TypedLines.echo (site c.args.engine.now) c.args.seat.now (g.L.TypedLines.remaining c.args.lines.now) (g.L.TypedLines.remaining c.next_fate-fate.new.lines) (g.W.Write.contents c.args.out.now) (g.W.Write.contents c.follow.new.out) (g.L.TypedLines.breaks c.next_fate-fate.new.lines) (IsTold g.E.Write.contents c.args.err.now c.tell_fate.new.err) r (world_of g.B.Base.state c.args.engine.now) (world_of g.B.Base.state c.follow.new.engine))
     c.from_residual-in_err-follow.result c.in_err-follow.field-0.0 c.from_residual-in_err-follow.ensures.1
-    (broken g.B.Base.state g.B.Base.is_clean g.E.Write.contents g.L.TypedLines.echo c.args.seat.now c.args.engine.now c.args.err.now (g.L.TypedLines.remaining c.args.lines.now) (g.W.Write.contents c.args.out.now) c.loop-before.before c.loop-before.engine c.loop-before.err (g.L.TypedLines.remaining c.loop-before.lines) (g.W.Write.contents c.loop-before.out) c.loop-before.refused c.loop-before.invariant.1 c.next_fate-fate.result c.ask.new.err c.tell_fate.new.err (g.L.TypedLines.remaining c.next_fate-fate.new.lines) (g.W.Write.contents c.next_fate-fate.new.out) (g.L.TypedLines.breaks c.next_fate-fate.new.lines) line c.follow.new.engine (g.W.Write.contents c.follow.new.out) c.follow.ensures.clean c.follow.ensures.kept c.requires.fits c.in_err-follow.field-0.0 clean (c.in_err-follow.ensures.followed clean))
+    (broken g.B.Base.state g.B.Base.is_clean g.E.Write.contents g.L.TypedLines.echo c.args.seat.now c.args.engine.now c.args.err.now (g.L.TypedLines.remaining c.args.lines.now) (g.W.Write.contents c.args.out.now) c.loop-before.before c.loop-before.engine c.loop-before.err (g.L.TypedLines.remaining c.loop-before.lines) (g.W.Write.contents c.loop-before.out) c.is_open-was_opened.result c.loop-before.tally c.loop-before.invariant.1 c.next_fate-fate.result c.ask.new.err c.tell_fate.new.err (g.L.TypedLines.remaining c.next_fate-fate.new.lines) (g.W.Write.contents c.next_fate-fate.new.out) (g.L.TypedLines.breaks c.next_fate-fate.new.lines) line c.follow.new.engine (g.W.Write.contents c.follow.new.out) c.follow.ensures.clean c.follow.ensures.kept c.requires.fits c.in_err-follow.field-0.0 clean (c.in_err-follow.ensures.followed clean))
 
 pub returns-then-is_last-clause-clean : goal.returns-then-is_last-clause-clean
 returns-then-is_last-clause-clean g c = λ clean. c.loop-before.invariant.1.clean (c.follow.ensures.clean clean)
@@ -105,32 +106,38 @@ returns-then-is_last-clause-count g c =
 
 pub returns-then-is_last-clause-conversation : goal.returns-then-is_last-clause-conversation
 returns-then-is_last-clause-conversation g c = λ clean.
-    let line : Line g.B.Base.state g.B.Base.is_clean g.E.Write.contents g.L.TypedLines.echo c.args.seat.now c.args.engine.now c.args.err.now (g.L.TypedLines.remaining c.args.lines.now) (g.W.Write.contents c.args.out.now) c.loop-before.before c.loop-before.engine c.loop-before.err (g.L.TypedLines.remaining c.loop-before.lines) (g.W.Write.contents c.loop-before.out) c.loop-before.refused c.loop-before.invariant.1 c.next_fate-fate.result c.ask.new.err c.tell_more-in-loop-before.new.err (g.L.TypedLines.remaining c.next_fate-fate.new.lines) (g.W.Write.contents c.next_fate-fate.new.out) (g.L.TypedLines.breaks c.next_fate-fate.new.lines) = record {
+    let line : Line g.B.Base.state g.B.Base.is_clean g.E.Write.contents g.L.TypedLines.echo c.args.seat.now c.args.engine.now c.args.err.now (g.L.TypedLines.remaining c.args.lines.now) (g.W.Write.contents c.args.out.now) c.loop-before.before c.loop-before.engine c.loop-before.err (g.L.TypedLines.remaining c.loop-before.lines) (g.W.Write.contents c.loop-before.out) c.is_open-was_opened.result c.loop-before.tally c.loop-before.invariant.1 c.next_fate-fate.result c.ask.new.err c.tell_more-in-loop-before.new.err (g.L.TypedLines.remaining c.next_fate-fate.new.lines) (g.W.Write.contents c.next_fate-fate.new.out) (g.L.TypedLines.breaks c.next_fate-fate.new.lines) = record {
       was_open = ap (λ n. is_some ((world_of g.B.Base.state c.loop-before.engine).sessions c.args.seat.now.level n)) (sym c.as_str-in-loop-before.ensures) ∙ sym c.is_open.ensures ∙ c.if-not-is_open.false;
       asked_is = c.ask.ensures;
       read = read_at g.L.TypedLines.echo (site c.args.engine.now) c.args.policy.now c.args.schemes.now c.args.seat.now _ _ _ _ _ _ c.requires.policy c.requires.schemes c.next_fate-fate.ensures.read;
       fits = fits_at (site c.args.engine.now) (site c.args.engine.now) c.args.policy.now c.args.schemes.now refl c.requires.policy c.requires.schemes _ c.next_fate-fate.ensures.fits;
       said_is = said_more g.E.Write.contents c.args.seat.now c.ask.new.err c.tell_fate.new.err _ c.tell_fate.ensures c.tell_more-in-loop-before.new.err c.tell_more-in-loop-before.ensures;
     } in
-    let same = c.ending_if-then-is_last.ensures ∙ ap (λ b. ending_if (c.loop-before.refused || b)) c.is_refused-refused.ensures in
-    subst (λ e. IsConversation g.L.TypedLines.echo (site c.args.engine.now) c.args.seat.now (g.L.TypedLines.remaining c.args.lines.now) (g.L.TypedLines.remaining c.next_fate-fate.new.lines) (g.W.Write.contents c.args.out.now) (g.W.Write.contents c.follow.new.out) (g.L.TypedLines.breaks c.next_fate-fate.new.lines) (IsTold g.E.Write.contents c.args.err.now c.tell_more-in-loop-before.new.err) (Ok e) (world_of g.B.Base.state c.args.engine.now) (world_of g.B.Base.state c.follow.new.engine)) (sym same)
-    (over_last g.B.Base.state g.B.Base.is_clean g.E.Write.contents g.L.TypedLines.echo c.args.seat.now c.args.engine.now c.args.err.now (g.L.TypedLines.remaining c.args.lines.now) (g.W.Write.contents c.args.out.now) c.requires.fits (g.L.TypedLines.breaks c.next_fate-fate.new.lines) c.loop-before.before c.loop-before.engine c.loop-before.err (g.L.TypedLines.remaining c.loop-before.lines) (g.W.Write.contents c.loop-before.out) c.loop-before.refused c.loop-before.invariant.1 c.next_fate-fate.result c.ask.new.err c.tell_more-in-loop-before.new.err (g.L.TypedLines.remaining c.next_fate-fate.new.lines) (g.W.Write.contents c.next_fate-fate.new.out) line c.follow.new.engine (g.W.Write.contents c.follow.new.out) c.follow.ensures.clean c.follow.ensures.kept c.in_ok-follow.ensures.found c.in_ok-follow.ensures.followed (sym c.is_last.ensures ∙ c.if-is_last.true) clean)
+    let notice = c.notice-notice.result in
+    let same : is_some notice ≡ is_some c.follow.new.engine.notice = ap is_some c.notice-notice.ensures in
+    subst (λ e. IsConversation g.L.TypedLines.echo (site c.args.engine.now) c.args.seat.now (g.L.TypedLines.remaining c.args.lines.now) (g.L.TypedLines.remaining c.next_fate-fate.new.lines) (g.W.Write.contents c.args.out.now) (g.W.Write.contents c.follow.new.out) (g.L.TypedLines.breaks c.next_fate-fate.new.lines) (IsTold g.E.Write.contents c.args.err.now c.finish-then-is_last.new.err) (Ok e) (world_of g.B.Base.state c.args.engine.now) (world_of g.B.Base.state c.follow.new.engine)) (sym (c.finish-then-is_last.ensures.is ∙ ap (λ t. ending_if (not c.is_open-was_opened.result || is_short t)) c.tally_with-tally.ensures))
+    (over_last g.B.Base.state g.B.Base.is_clean g.E.Write.contents g.L.TypedLines.echo c.args.seat.now c.args.engine.now c.args.err.now (g.L.TypedLines.remaining c.args.lines.now) (g.W.Write.contents c.args.out.now) c.requires.fits (g.L.TypedLines.breaks c.next_fate-fate.new.lines) c.loop-before.before c.loop-before.engine c.loop-before.err (g.L.TypedLines.remaining c.loop-before.lines) (g.W.Write.contents c.loop-before.out) c.is_open-was_opened.result c.loop-before.tally c.loop-before.invariant.1 c.next_fate-fate.result c.ask.new.err c.tell_more-in-loop-before.new.err (g.L.TypedLines.remaining c.next_fate-fate.new.lines) (g.W.Write.contents c.next_fate-fate.new.out) line c.follow.new.engine (g.W.Write.contents c.follow.new.out) c.follow.ensures.clean c.follow.ensures.kept c.in_ok-follow.ensures.found c.in_ok-follow.ensures.followed
+    (not (is_some notice)) (λ h. ap (λ b. verdict_of (not b) c.next_fate-fate.result) same ∙ c.in_ok-follow.ensures.noticed h) (sym c.is_last.ensures ∙ c.if-is_last.true) clean
+    c.finish-then-is_last.new.err (subst (λ t. IsTold g.E.Write.contents c.tell_more-in-loop-before.new.err c.finish-then-is_last.new.err (end_told c.args.seat.now t)) c.tally_with-tally.ensures c.finish-then-is_last.ensures.told))
 
 pub loop-before-preserved : goal.loop-before-preserved
 loop-before-preserved g c =
-    let line : Line g.B.Base.state g.B.Base.is_clean g.E.Write.contents g.L.TypedLines.echo c.args.seat.now c.args.engine.now c.args.err.now (g.L.TypedLines.remaining c.args.lines.now) (g.W.Write.contents c.args.out.now) c.loop-before.before c.loop-before.engine c.loop-before.err (g.L.TypedLines.remaining c.loop-before.lines) (g.W.Write.contents c.loop-before.out) c.loop-before.refused c.loop-before.invariant.1 c.next_fate-fate.result c.ask.new.err c.tell_more-in-loop-before.new.err (g.L.TypedLines.remaining c.next_fate-fate.new.lines) (g.W.Write.contents c.next_fate-fate.new.out) (g.L.TypedLines.breaks c.next_fate-fate.new.lines) = record {
+    let line : Line g.B.Base.state g.B.Base.is_clean g.E.Write.contents g.L.TypedLines.echo c.args.seat.now c.args.engine.now c.args.err.now (g.L.TypedLines.remaining c.args.lines.now) (g.W.Write.contents c.args.out.now) c.loop-before.before c.loop-before.engine c.loop-before.err (g.L.TypedLines.remaining c.loop-before.lines) (g.W.Write.contents c.loop-before.out) c.is_open-was_opened.result c.loop-before.tally c.loop-before.invariant.1 c.next_fate-fate.result c.ask.new.err c.tell_more-in-loop-before.new.err (g.L.TypedLines.remaining c.next_fate-fate.new.lines) (g.W.Write.contents c.next_fate-fate.new.out) (g.L.TypedLines.breaks c.next_fate-fate.new.lines) = record {
       was_open = ap (λ n. is_some ((world_of g.B.Base.state c.loop-before.engine).sessions c.args.seat.now.level n)) (sym c.as_str-in-loop-before.ensures) ∙ sym c.is_open.ensures ∙ c.if-not-is_open.false;
       asked_is = c.ask.ensures;
       read = read_at g.L.TypedLines.echo (site c.args.engine.now) c.args.policy.now c.args.schemes.now c.args.seat.now _ _ _ _ _ _ c.requires.policy c.requires.schemes c.next_fate-fate.ensures.read;
       fits = fits_at (site c.args.engine.now) (site c.args.engine.now) c.args.policy.now c.args.schemes.now refl c.requires.policy c.requires.schemes _ c.next_fate-fate.ensures.fits;
       said_is = said_more g.E.Write.contents c.args.seat.now c.ask.new.err c.tell_fate.new.err _ c.tell_fate.ensures c.tell_more-in-loop-before.new.err c.tell_more-in-loop-before.ensures;
     } in
+    let notice = c.notice-notice.result in
+    let same : is_some notice ≡ is_some c.follow.new.engine.notice = ap is_some c.notice-notice.ensures in
     let before = c.loop-before.invariant.0 in
     let here = c.follow.ensures.count in
-    let next = so_far_more g.B.Base.state g.B.Base.is_clean g.E.Write.contents g.L.TypedLines.echo c.args.seat.now c.args.engine.now c.args.err.now (g.L.TypedLines.remaining c.args.lines.now) (g.W.Write.contents c.args.out.now) c.loop-before.before c.loop-before.engine c.loop-before.err (g.L.TypedLines.remaining c.loop-before.lines) (g.W.Write.contents c.loop-before.out) c.loop-before.refused c.loop-before.invariant.1 c.next_fate-fate.result c.ask.new.err c.tell_more-in-loop-before.new.err (g.L.TypedLines.remaining c.next_fate-fate.new.lines) (g.W.Write.contents c.next_fate-fate.new.out) (g.L.TypedLines.breaks c.next_fate-fate.new.lines) line c.follow.new.engine (g.W.Write.contents c.follow.new.out) c.follow.ensures.clean c.follow.ensures.kept c.in_ok-follow.ensures.found c.in_ok-follow.ensures.followed in (
+    let next = so_far_more g.B.Base.state g.B.Base.is_clean g.E.Write.contents g.L.TypedLines.echo c.args.seat.now c.args.engine.now c.args.err.now (g.L.TypedLines.remaining c.args.lines.now) (g.W.Write.contents c.args.out.now) c.loop-before.before c.loop-before.engine c.loop-before.err (g.L.TypedLines.remaining c.loop-before.lines) (g.W.Write.contents c.loop-before.out) c.is_open-was_opened.result c.loop-before.tally c.loop-before.invariant.1 c.next_fate-fate.result c.ask.new.err c.tell_more-in-loop-before.new.err (g.L.TypedLines.remaining c.next_fate-fate.new.lines) (g.W.Write.contents c.next_fate-fate.new.out) (g.L.TypedLines.breaks c.next_fate-fate.new.lines) line c.follow.new.engine (g.W.Write.contents c.follow.new.out) c.follow.ensures.clean c.follow.ensures.kept c.in_ok-follow.ensures.found c.in_ok-follow.ensures.followed
+    (not (is_some notice)) (λ h. ap (λ b. verdict_of (not b) c.next_fate-fate.result) same ∙ c.in_ok-follow.ensures.noticed h) in (
       omega (arith, before, here),
-      subst (λ b. SoFar g.B.Base.state g.B.Base.is_clean g.E.Write.contents g.L.TypedLines.echo c.args.seat.now c.args.engine.now c.args.err.now (g.L.TypedLines.remaining c.args.lines.now) (g.W.Write.contents c.args.out.now) (c.loop-before.before + 1) c.follow.new.engine c.tell_more-in-loop-before.new.err (g.L.TypedLines.remaining c.next_fate-fate.new.lines) (g.W.Write.contents c.follow.new.out) (c.loop-before.refused || b) false) (sym c.is_refused-refused.ensures)
-          (subst (λ b. SoFar g.B.Base.state g.B.Base.is_clean g.E.Write.contents g.L.TypedLines.echo c.args.seat.now c.args.engine.now c.args.err.now (g.L.TypedLines.remaining c.args.lines.now) (g.W.Write.contents c.args.out.now) (c.loop-before.before + 1) c.follow.new.engine c.tell_more-in-loop-before.new.err (g.L.TypedLines.remaining c.next_fate-fate.new.lines) (g.W.Write.contents c.follow.new.out) (c.loop-before.refused || is_refused c.next_fate-fate.result) b) (sym c.is_last.ensures ∙ c.if-is_last.false) next),
+      subst (λ t. SoFar g.B.Base.state g.B.Base.is_clean g.E.Write.contents g.L.TypedLines.echo c.args.seat.now c.args.engine.now c.args.err.now (g.L.TypedLines.remaining c.args.lines.now) (g.W.Write.contents c.args.out.now) (c.loop-before.before + 1) c.follow.new.engine c.tell_more-in-loop-before.new.err (g.L.TypedLines.remaining c.next_fate-fate.new.lines) (g.W.Write.contents c.follow.new.out) c.is_open-was_opened.result t false) (sym c.tally_with-tally.ensures)
+          (subst (λ b. SoFar g.B.Base.state g.B.Base.is_clean g.E.Write.contents g.L.TypedLines.echo c.args.seat.now c.args.engine.now c.args.err.now (g.L.TypedLines.remaining c.args.lines.now) (g.W.Write.contents c.args.out.now) (c.loop-before.before + 1) c.follow.new.engine c.tell_more-in-loop-before.new.err (g.L.TypedLines.remaining c.next_fate-fate.new.lines) (g.W.Write.contents c.follow.new.out) c.is_open-was_opened.result (tally_with c.loop-before.tally (verdict_of (not (is_some notice)) c.next_fate-fate.result)) b) (sym c.is_last.ensures ∙ c.if-is_last.false) next),
     )
 
 pub returns-clause-clean : goal.returns-clause-clean
@@ -146,4 +153,4 @@ pub returns-clause-store : goal.returns-clause-store
 returns-clause-store g c = λ clean is. cc
 
 pub returns-clause-conversation : goal.returns-clause-conversation
-returns-clause-conversation g c = λ clean. worn_out g.B.Base.state g.B.Base.is_clean g.E.Write.contents g.L.TypedLines.echo c.args.seat.now c.args.engine.now c.args.err.now (g.L.TypedLines.remaining c.args.lines.now) (g.W.Write.contents c.args.out.now) c.requires.fits (g.L.TypedLines.breaks c.loop-before.lines) c.loop-before.before c.loop-before.engine c.loop-before.err (g.L.TypedLines.remaining c.loop-before.lines) (g.W.Write.contents c.loop-before.out) c.loop-before.refused c.loop-before.invariant.1 clean _ (search rules)
+returns-clause-conversation g c = λ clean. worn_out g.B.Base.state g.B.Base.is_clean g.E.Write.contents g.L.TypedLines.echo c.args.seat.now c.args.engine.now c.args.err.now (g.L.TypedLines.remaining c.args.lines.now) (g.W.Write.contents c.args.out.now) c.requires.fits (g.L.TypedLines.breaks c.loop-before.lines) c.loop-before.before c.loop-before.engine c.loop-before.err (g.L.TypedLines.remaining c.loop-before.lines) (g.W.Write.contents c.loop-before.out) c.is_open-was_opened.result c.loop-before.tally c.loop-before.invariant.1 clean _ (search rules)

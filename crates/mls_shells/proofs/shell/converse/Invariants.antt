@@ -6,4 +6,4 @@ abbrev pub invariant-loop-before : goal.invariant-loop-before
 invariant-loop-before g l =
     (g.B.Base.failures l.fn.engine.base ≤ g.B.Base.failures l.engine.base)
     × SoFar g.B.Base.state g.B.Base.is_clean g.E.Write.contents g.L.TypedLines.echo l.seat l.fn.engine l.fn.err (g.L.TypedLines.remaining l.fn.lines) (g.W.Write.contents l.fn.out)
-    l.before l.engine l.err (g.L.TypedLines.remaining l.lines) (g.W.Write.contents l.out) l.refused false
+    l.before l.engine l.err (g.L.TypedLines.remaining l.lines) (g.W.Write.contents l.out) l.was_opened l.tally false

@@ -4,7 +4,7 @@ use Rattle.mls_shells.specs.declared.seat.Seat.{Seat}
 use Rattle.std.proofs.KnownBytes.{Appends-nil}
 use Rattle.mls_host.specs.declared.reason.Reason.TheVariants.{Memory}
 use Rattle.mls_host.specs.Running.{site_of}
-use Rattle.mls_words.specs.Words.{named}
+use Rattle.mls_host.specs.Words.{named}
 use Rattle.mls_host.specs.Causes.{IsBarred}
 use Rattle.mls_host.specs.Storing.{AreStoredWith}
 use Rattle.mls_host.specs.Refusal.{IsEnd}

@@ -1,0 +1,2 @@
+pub mod TypingLemmas
+pub mod PieceLemmas

@@ -1,2 +1,0 @@
-pub mod CertifyingLemmas
-pub mod PrintingLemmas

@@ -1,8 +1,0 @@
-use Rattle.std.proofs.Common.{◌≡◌, take, string_bytes}
-use Rattle.std.specs.List.{flat_map}
-use Rattle.mls_listings.specs.Certifying.{refusal_of}
-use Rattle.mls_listings.proofs.certifying.refusals_of.Given as goal
-
--- what is written of the answers so far
-abbrev pub invariant-loop-answer : goal.invariant-loop-answer
-invariant-loop-answer l = string_bytes l.text ≡ flat_map refusal_of (take l.answer-index l.answers)

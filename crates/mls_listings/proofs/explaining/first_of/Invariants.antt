@@ -1,7 +1,0 @@
-use Rattle.std.proofs.Common.{◌≡◌, drop}
-use Rattle.std.specs.List.{list_any}
-use Rattle.std.specs.Str.{bytes_eq}
-use Rattle.mls_listings.proofs.explaining.first_of.Given as goal
-
-abbrev pub invariant-loop-place : goal.invariant-loop-place
-invariant-loop-place l = list_any (λ tx. bytes_eq tx.name l.name) (drop l.place l.txs) ≡ list_any (λ tx. bytes_eq tx.name l.name) l.txs

@@ -1,0 +1,132 @@
+-- Desks over stores: where they begin, and how they end.
+use Rattle.std.proofs.Common.{◌≡◌, ℕ, List, [], Option, Some, None, Result, refl, sym, subst, take}
+use Rattle.std.specs.Prelude.{IsErrAnd}
+use Rattle.std.specs.Borrow.{Bor}
+use Rattle.mls_filterview.specs.Content.{Content, no_content}
+use Rattle.mls_lattice.specs.Labels.{AreDistinct}
+use Rattle.mls_scheme.specs.declared.file.SchemesFile.{SchemesFile}
+use Rattle.mls_machine.specs.declared.stored.Stored.{Stored}
+use Rattle.mls_machine.specs.Site.{Site, site_labels}
+use Rattle.mls_machine.specs.Machine.{Sessions}
+use Rattle.mls_machine.specs.Observation.{AreStored, AreRead, AreCertified, PassesOnlyReleasesDown}
+use Rattle.mls_machine.proofs.KeepingLemmas.{keep_integrity}
+use Rattle.mls_machine.proofs.RunLemmas.{first_accepted_alike}
+use Rattle.mls_machine.proofs.ServingLemmas.{served_alike}
+use Rattle.mls_sessions.specs.World.{world_at, IsSound}
+use Rattle.mls_sessions.specs.declared.cause.RunFault.{RunFault}
+use Rattle.mls_host.specs.declared.ending.Ending.{Ending}
+use Rattle.mls_host.specs.declared.reason.Reason.{Reason}
+use Rattle.mls_host.specs.declared.reason.Reason.TheVariants.{Memory}
+use Rattle.mls_host.specs.declared.refusal.Refusal.{Refusal}
+use Rattle.mls_host.specs.declared.refusal.Refusal.TheVariants.{Before}
+use Rattle.mls_host.specs.declared.job.Inputs.{Inputs}
+use Rattle.mls_host.specs.Hosting.{Hosted}
+use Rattle.mls_host.specs.Storing.{AreStoredWith}
+use Rattle.mls_host.specs.Causes.{IsBarred, IsNotBegun, no_memory, no_store}
+use Rattle.mls_host.specs.Refusal.{IsEnd}
+use Rattle.mls_host.specs.Running.{site_of, first_world}
+use Rattle.mls_host.proofs.RunningLemmas.{end_weaker}
+use Rattle.mls_host.specs.Words.{named}
+use Rattle.mls_shells.specs.Shell.{events_in}
+use Rattle.mls_shells.proofs.TalkLemmas.{carried}
+use Rattle.mls_runs.specs.Desk.{IsService, IsDesk}
+use Rattle.mls_runs.specs.DeskRun.{IsDeskFrom, IsDeskRun}
+
+-- lines that are answered over a content, which is left as another
+pub desk_at : (echo : List ℕ → List ℕ) (site : Site) (sessions : Sessions) (first left : Content) (before after : Option (List ℕ)) (Broken : Type 0) (Wrote : List ℕ → Type 0) (end : Result Ending RunFault)
+    → AreDistinct (site_labels site) → AreRead site → AreCertified site → IsSound site first → IsSound site left
+    → IsService echo site before after Broken Wrote end (first_world site first) (world_at site sessions left)
+    → IsDesk echo site before after Broken Wrote end first left
+desk_at echo site sessions first left before after Broken Wrote end distinct read certified sound sound_left k =
+    let w = first_world site first in
+    let es = events_in k.service.turns in
+    let stored : AreStored site w.db = λ rel. (sound.content rel).stored in
+    let secret : (n : ℕ) → PassesOnlyReleasesDown site w (take n es) = first_accepted_alike site distinct read certified w es stored k.fits in
+    record {
+      service = k.service;
+      left_by = (sessions, k.world);
+      sound = sound_left;
+      integrity = keep_integrity site distinct read w es stored k.fits;
+      secret = secret;
+      served = λ c n. served_alike site c w (take n es) (secret n);
+    }
+
+-- ---- where desks begin
+
+module _ (h : Hosted) (file : SchemesFile) (site : Site) (before after : Option (List ℕ)) (Broken : Type 0) (Wrote : List ℕ → Type 0) where
+  abbrev From : Option (List ℕ) → Result Ending RunFault → Type 0
+  From store = IsDeskFrom h before after Broken Wrote file store site
+
+  abbrev Fresh : Result Ending RunFault → Type 0
+  Fresh end = (left : Content) × IsDesk h.echo site before after Broken Wrote end no_content left
+
+  module _ (Nothing : Option (List ℕ) → Reason → Type 0) (store : Option (Bor (List ℕ))) (r : Result Ending Refusal) where
+    -- with nothing
+    pub desk_from_memory : store ≡ None → IsEnd Fresh (Nothing None) r → IsEnd (From (named store)) (Nothing (named store)) r
+    desk_from_memory none desk =
+        let f : (end : Result Ending RunFault) → Fresh end → From None end
+        = λ end k. λ clean. record { first = no_content; left = k.0; begins = refl; kept = tt; leads = k.1 } in
+        subst (λ (s : Option (Bor (List ℕ))). IsEnd (From (named s)) (Nothing (named s)) r) (sym none) (end_weaker Fresh (Nothing None) (From None) (Nothing None) f (λ _ k. k) r desk)
+
+    -- with what a store kept
+    pub desk_from_store : (path : Bor (List ℕ)) → store ≡ Some path → IsEnd (From (Some path.now)) (Nothing (Some path.now)) r → IsEnd (From (named store)) (Nothing (named store)) r
+    desk_from_store path some desk = subst (λ (s : Option (Bor (List ℕ))). IsEnd (From (named s)) (Nothing (named s)) r) (sym some) desk
+
+-- ---- tasks
+
+-- a read of the lines has failed only where the host says that it may
+read_only_so : (echo : List ℕ → List ℕ) (site : Site) (before after : Option (List ℕ)) (Broken May : Type 0) (Wrote : List ℕ → Type 0) (end : Result Ending RunFault) (first left : Content)
+    → (Broken → May) → IsDesk echo site before after Broken Wrote end first left → IsDesk echo site before after May Wrote end first left
+read_only_so echo site before after Broken May Wrote end first left f k = record {
+  service = record { turns = k.service.turns; run_end = k.service.run_end; lines = k.service.lines; broken = λ b. f (k.service.broken b); written = k.service.written; ends = k.service.ends };
+  left_by = k.left_by;
+  sound = k.sound;
+  integrity = k.integrity;
+  secret = k.secret;
+  served = k.served;
+}
+
+module _ (h : Hosted) (inputs : Inputs) (store : Option (List ℕ)) (Wrote : List ℕ → Type 0) where
+  -- it was not begun, and nothing was written
+  abbrev Nothing : Reason → Type 0
+  Nothing reason = IsNotBegun h.before inputs.setting.policy inputs.setting.file store reason × Wrote []
+
+  abbrev Ends : Result Ending Refusal → Type 0
+  Ends r = IsEnd (IsDeskRun h inputs store Wrote) Nothing r
+
+  -- at the exit of a `?`
+  pub desk_before : (r : Result Ending Refusal) → IsErrAnd r (λ e. e ≡ Before Memory) → Wrote [] → Ends r
+  desk_before r is wrote = carried Ends r (Before Memory) is (no_memory refl, wrote)
+
+  module _ (stored : List Stored) (before after : Option (List ℕ)) (Broken : Type 0)
+      (stored_are : AreStoredWith inputs.setting.policy inputs.certificates inputs.transactions stored) (typed : h.before.types before) (broken : Broken → h.before.breaks) where
+    abbrev at : Site
+    at = site_of inputs.setting.policy inputs.setting.file.schemes stored
+
+    abbrev Desks : Result Ending RunFault → Type 0
+    Desks = IsDeskFrom h before after Broken Wrote inputs.setting.file store at
+
+    desk_run : (end : Result Ending RunFault) → Desks end → IsDeskRun h inputs store Wrote end
+    desk_run end k = record {
+      stored = stored;
+      before = before;
+      after = after;
+      stored_are = stored_are;
+      typed = typed;
+      desk = λ clean. let o = k clean in record {
+        first = o.first;
+        left = o.left;
+        begins = o.begins;
+        kept = o.kept;
+        leads = read_only_so h.echo at before after Broken h.before.breaks Wrote end o.first o.left broken o.leads;
+      };
+    }
+
+    -- its store was barred, and nothing was written
+    abbrev Barred : Reason → Type 0
+    Barred reason = IsBarred h.before inputs.setting.policy inputs.setting.file store reason × Wrote []
+
+    pub desk_over_stored : (r : Result Ending Refusal) → IsEnd Desks Barred r → Ends r
+    desk_over_stored r k =
+        let g : (reason : Reason) → Barred reason → Nothing reason = λ reason n. (no_store n.0, n.1) in
+        end_weaker Desks Barred (IsDeskRun h inputs store Wrote) Nothing desk_run g r k

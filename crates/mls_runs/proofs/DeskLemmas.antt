@@ -1,0 +1,270 @@
+-- Desks, line by line: what holds of the lines up to here, and how a desk ends.
+use Rattle.std.proofs.Common.{◌≡◌, ℕ, ◌+◌, ◌-◌, ◌≤◌, Bool, true, false, true≢false, cond, ◌||◌, List, [], ◌∷◌, ◌++◌, length, take, Option, Result, Ok, Err, OnOk, IfErr, refl, sym, ap, ◌∙◌, subst, append_assoc, append-nil, arith}
+use Rattle.std.specs.List.{list_any}
+use Rattle.std.specs.Io.KnownBytes.{Appends}
+use Rattle.std.proofs.KnownBytes.{Appends-nil, Appends-trans}
+use Rattle.std.proofs.lemmas.List.{length-append}
+use Rattle.std.proofs.Math.Seq.{take-append-add}
+use Rattle.mls_lattice.specs.Policy.{Tables}
+use Rattle.mls_scheme.specs.Scheme.{Schemes}
+use Rattle.mls_filterview.specs.Content.{State}
+use Rattle.mls_script.specs.declared.event.Event.{Event}
+use Rattle.mls_machine.specs.Site.{Site}
+use Rattle.mls_machine.specs.Machine.{World, end_of}
+use Rattle.mls_machine.specs.Observation.{EventsFit}
+use Rattle.mls_machine.specs.Serving.{answers_to}
+use Rattle.mls_monitor.specs.Sessions.{site_of}
+use Rattle.mls_sessions.specs.declared.cause.RunCause.TheVariants.{Memory}
+use Rattle.mls_sessions.specs.declared.cause.RunFault.{RunFault}
+use Rattle.mls_sessions.specs.declared.engine.Engine.{Engine}
+use Rattle.mls_sessions.specs.Engine.{site, world_of, IsReady, IsKept}
+use Rattle.mls_sessions.specs.Run.{IsFaultOf}
+use Rattle.mls_host.specs.declared.ending.Ending.{Ending}
+use Rattle.mls_host.specs.Ending.{ending_if}
+use Rattle.mls_host.specs.Running.{standing}
+use Rattle.mls_shells.specs.declared.seat.Fate.{Fate}
+use Rattle.mls_shells.specs.Shell.{Turn, IsTurn, events_of, events_in, is_last, is_failed, is_lost, FateFits, IsRead}
+use Rattle.mls_shells.proofs.ShellLemmas.{end_of-append, all-append, events-snoc, any-snoc, none_failed, failed_there}
+use Rattle.mls_shells.proofs.TalkLemmas.{fate_fits, last_line, failed_last}
+use Rattle.mls_runs.specs.Marks.{mark_of}
+use Rattle.mls_runs.specs.Desk.{IsFate, AreLines, answer_of, desk, IsFollowed, IsService, at_line, between}
+
+or_none : (a b : Bool) → (a || b) ≡ false → (a ≡ false) × (b ≡ false)
+or_none true b h = absurd (true≢false h)
+or_none false b h = (refl, h)
+
+-- ---- a line more
+
+module _ (site : Site) where
+  pub desk-snoc : (w : World) (ts : List Turn) (t : Turn)
+      → desk site w (ts ++ t ∷ []) ≡ desk site w ts ++ (answer_of site (end_of site w (events_in ts)) t ++ mark_of t.fate)
+  unfolding desk end_of
+  desk-snoc w [] t = append-nil (answer_of site w t ++ mark_of t.fate)
+  desk-snoc w (x ∷ ts) t =
+      let here = answer_of site w x ++ mark_of x.fate in
+      let v = end_of site w (events_of x.fate) in
+      ap (λ l. here ++ l) (desk-snoc v ts t
+      ∙ ap (λ u. desk site v ts ++ (answer_of site u t ++ mark_of t.fate)) (sym (end_of-append site w (events_of x.fate) (events_in ts))))
+      ∙ sym (append_assoc here _ _)
+
+  world-snoc : (w : World) (ts : List Turn) (t : Turn) → end_of site (end_of site w (events_in ts)) (events_of t.fate) ≡ end_of site w (events_in (ts ++ t ∷ []))
+  world-snoc w ts t = sym (ap (end_of site w) (events-snoc ts t) ∙ end_of-append site w (events_in ts) (events_of t.fate))
+
+lines-snoc : (echo : List ℕ → List ℕ) (policy : Tables) (schemes : Schemes) (a b c : Option (List ℕ)) (ts : List Turn) (t : Turn) → AreLines echo policy schemes a b ts → list_any (λ (t : Turn). is_last t.fate) ts ≡ false
+    → IsTurn echo (IsFate policy schemes) b c t → AreLines echo policy schemes a c (ts ++ t ∷ [])
+unfolding AreLines
+lines-snoc echo policy schemes a b c [] t h l n = (c, subst (λ x. IsTurn echo (IsFate policy schemes) x c t) (sym h) n, (λ e. absurd (e refl)), refl)
+lines-snoc echo policy schemes a b c (x ∷ ts) t h l n =
+    let (left, turn, on, more) = h in
+    let none = or_none (is_last x.fate) (list_any (λ (t : Turn). is_last t.fate) ts) l in
+    (left, turn, (λ e. none.0), lines-snoc echo policy schemes left b c ts t more none.1 n)
+
+-- ---- the lines up to here
+
+module _ {B : Type 0} (state : B → State) (is_clean : B → Type 0) (echo : List ℕ → List ℕ) (first : Engine B) (given was : Option (List ℕ)) where
+  abbrev at : Site
+  at = site first
+
+  abbrev w : World
+  w = world_of state first
+
+  -- the lines that were read and answered; of the last it is said whether it is one behind which no other is read
+  pub record SoFar (now : Engine B) (left is : Option (List ℕ)) (last : Bool) : Type 0 where
+    pub turns : List Turn
+    pub clean : is_clean now.base → is_clean first.base
+    pub kept : IsKept state is_clean first now
+    pub none_lost : list_any (λ (t : Turn). is_lost t.fate) turns ≡ false
+    pub last_is : list_any (λ (t : Turn). is_last t.fate) turns ≡ last
+    pub fits : EventsFit at (events_in turns)
+    pub lines : AreLines echo at.policy at.schemes given left turns
+    pub world : is_clean now.base → world_of state now ≡ end_of at w (events_in turns)
+    pub written : is_clean now.base → Appends was is (desk at w turns)
+
+  pub so_far_start : IsReady state is_clean first → SoFar first given was false
+  unfolding desk AreLines end_of
+  so_far_start ready = record {
+    turns = [];
+    clean = λ c. c;
+    kept = record { rules = refl; ready = ready };
+    none_lost = refl;
+    last_is = refl;
+    fits = tt;
+    lines = refl;
+    world = λ c. refl;
+    written = λ c. Appends-nil was;
+  }
+
+  module _ (now : Engine B) (left is : Option (List ℕ)) (s : SoFar now left is false) where
+    same_site : site now ≡ at
+    same_site = ap site_of s.kept.rules
+
+    -- a line is read, and something becomes of it
+    pub record Heard (fate : Fate) (over shown : Option (List ℕ)) (Broken : Type 0) : Type 0 where
+      pub read : IsRead echo (IsFate at.policy at.schemes) left over is shown Broken fate
+      pub fits : FateFits at.policy at.schemes fate
+
+    module _ (fate : Fate) (over shown : Option (List ℕ)) (Broken : Type 0) (l : Heard fate over shown Broken) where
+      abbrev turn : Turn
+      turn = l.read.turn
+
+      abbrev turns : List Turn
+      turns = s.turns ++ turn ∷ []
+
+      fits_now : EventsFit at (events_in turns)
+      fits_now = subst (EventsFit at) (sym (events-snoc s.turns turn)) (all-append _ (events_in s.turns) (events_of turn.fate) s.fits (subst (λ (x : Fate). EventsFit at (events_of x)) (sym l.read.same) (fate_fits at fate l.fits)))
+
+      lines_now : AreLines echo at.policy at.schemes given over turns
+      lines_now = lines-snoc echo at.policy at.schemes given left over s.turns turn s.lines s.last_is l.read.is_turn
+
+      broken_now : list_any (λ (t : Turn). is_failed t.fate) turns ≡ true → Broken
+      broken_now h = l.read.broken (sym l.read.same ∙ failed_there s.turns turn s.last_is h)
+
+      module _ (new : Engine B) (after : Option (List ℕ)) (clean : is_clean new.base → is_clean now.base) (kept : IsKept state is_clean now new) where
+        kept_now : IsKept state is_clean first new
+        kept_now = record { rules = kept.rules ∙ s.kept.rules; ready = kept.ready }
+
+        -- what becomes of the line, from the world up to here
+        moved : {r : Result (Unit {0}) RunFault} → (c : is_clean new.base) → IsFollowed (site now) (world_of state now) fate shown after (world_of state new) r
+            → IsFollowed at (end_of at w (events_in s.turns)) turn.fate shown after (world_of state new) r
+        moved {r} c h =
+            subst (λ (x : Fate). IsFollowed at (end_of at w (events_in s.turns)) x shown after (world_of state new) r) (sym l.read.same)
+            (subst (λ (u : World). IsFollowed at u fate shown after (world_of state new) r) (s.world (clean c))
+            (subst (λ (p : Site). IsFollowed p (world_of state now) fate shown after (world_of state new) r) same_site h))
+
+        pub so_far_more : is_lost fate ≡ false → (is_clean new.base → IsFollowed (site now) (world_of state now) fate shown after (world_of state new) (Ok tt))
+            → SoFar new over after (is_last fate)
+        so_far_more found h = record {
+          turns = turns;
+          clean = λ c. s.clean (clean c);
+          kept = kept_now;
+          none_lost = any-snoc (λ (t : Turn). is_lost t.fate) s.turns turn ∙ ap (λ b. b || is_lost turn.fate) s.none_lost ∙ ap is_lost l.read.same ∙ found;
+          last_is = any-snoc (λ (t : Turn). is_last t.fate) s.turns turn ∙ ap (λ b. b || is_last turn.fate) s.last_is ∙ ap is_last l.read.same;
+          fits = fits_now;
+          lines = lines_now;
+          world = λ c. let k = moved c (h c) in k.world ∙ ap (λ (e : Result (Unit {0}) RunFault). end_of at (end_of at w (events_in s.turns)) (standing (events_of turn.fate) e)) k.ok ∙ world-snoc at w s.turns turn;
+          written = λ c. let k = moved c (h c) in
+              subst (Appends was after) (sym (desk-snoc at w s.turns turn))
+              (Appends-trans was is after (desk at w s.turns) _ (s.written (clean c))
+              (subst (Appends is after)
+              (ap (λ l. turn.shown ++ l) (sym (append-nil k.part) ∙ ap (λ l. k.part ++ l) (sym k.all) ∙ k.whole) ∙ sym (append_assoc turn.shown (answers_to at (end_of at w (events_in s.turns)) (events_of turn.fate)) (mark_of turn.fate)))
+              (Appends-trans is shown after turn.shown k.part l.read.shown k.bytes)));
+        }
+
+        -- ---- a desk that is given up at the line
+
+        abbrev later : Result (Unit {0}) RunFault → Result (Unit {0}) RunFault
+        later (Ok u) = Ok tt
+        later (Err f) = Err (record { event = length (events_in s.turns) + f.event; cause = f.cause; done = f.done })
+
+        later_fault : (end : Result (Unit {0}) RunFault) → IfErr end (IsFaultOf (events_of turn.fate)) → IfErr (later end) (IsFaultOf (events_in s.turns ++ events_of turn.fate))
+        later_fault (Ok u) h = tt
+        later_fault (Err f) h = record {
+          first = let some = h.first in omega (arith, some);
+          last = let most = h.last in subst (λ n. length (events_in s.turns) + f.event ≤ n) (sym (length-append (events_in s.turns) (events_of turn.fate))) (omega (arith, most));
+          write = h.write;
+        }
+
+        later_cause : (end : Result (Unit {0}) RunFault) (fault : RunFault) → IfErr end (λ f. f.cause ≡ fault.cause) → IfErr (later end) (λ f. f.cause ≡ fault.cause)
+        later_cause (Ok u) fault h = tt
+        later_cause (Err f) fault h = h
+
+        at_more : (n : ℕ) → end_of at (end_of at w (events_in s.turns)) (take n (events_of turn.fate)) ≡ end_of at w (take (length (events_in s.turns) + n) (events_in s.turns ++ events_of turn.fate))
+        at_more n = sym (ap (end_of at w) (take-append-add (events_in s.turns) (events_of turn.fate) n) ∙ end_of-append at w (events_in s.turns) (take n (events_of turn.fate)))
+
+        left_by : (f : RunFault) → IsFaultOf (events_of turn.fate) f → (u : World) (done : Bool) → u ≡ end_of at (end_of at w (events_in s.turns)) (take (cond done f.event (f.event - 1)) (events_of turn.fate))
+            → u ≡ end_of at w (take (cond done (length (events_in s.turns) + f.event) ((length (events_in s.turns) + f.event) - 1)) (events_in s.turns ++ events_of turn.fate))
+        left_by f is u true h = h ∙ at_more f.event
+        left_by f is u false h = h ∙ at_more (f.event - 1) ∙ ap (λ n. end_of at w (take n (events_in s.turns ++ events_of turn.fate))) less
+          where
+            less : length (events_in s.turns) + (f.event - 1) ≡ (length (events_in s.turns) + f.event) - 1
+            less = let some = is.first in omega (arith, some)
+
+        later_world : (end : Result (Unit {0}) RunFault) → IfErr end (IsFaultOf (events_of turn.fate)) → (u : World) → u ≡ end_of at (end_of at w (events_in s.turns)) (standing (events_of turn.fate) end)
+            → u ≡ end_of at w (standing (events_in s.turns ++ events_of turn.fate) (later end))
+        later_world (Ok u) is v h = h ∙ sym (end_of-append at w (events_in s.turns) (events_of turn.fate))
+        later_world (Err f) is v h = left_by f is v f.done h
+
+        pub broken : (fault : RunFault) (c : is_clean new.base) → IsFollowed (site now) (world_of state now) fate shown after (world_of state new) (Err fault)
+            → IsService echo at given over Broken (Appends was after) (Err fault) w (world_of state new)
+        broken fault c h =
+            let k = moved c h in
+            let front = desk at w s.turns in
+            let answers = answers_to at (end_of at w (events_in s.turns)) (events_of turn.fate) in
+            let told = sym (events-snoc s.turns turn) in
+            record {
+              service = record {
+                turns = turns;
+                run_end = later k.end;
+                lines = lines_now;
+                broken = broken_now;
+                written = at_line s.turns turn (turn.shown ++ k.part) k.rest refl
+                    (Appends-trans was is after front (turn.shown ++ k.part) (s.written (clean c)) (Appends-trans is shown after turn.shown k.part l.read.shown k.bytes))
+                    (append_assoc turn.shown k.part k.rest ∙ ap (λ l. turn.shown ++ l) k.whole ∙ sym (append_assoc turn.shown answers (mark_of turn.fate)))
+                    (λ n. let m = k.no_mark n in (m.0, append_assoc turn.shown k.part m.0 ∙ ap (λ l. turn.shown ++ l) m.1));
+                ends = record {
+                  ok = tt;
+                  is = subst (λ (es : List Event). IfErr (later k.end) (IsFaultOf es)) told (later_fault k.end k.fault);
+                  cause = later_cause k.end fault k.cause;
+                };
+              };
+              fits = fits_now;
+              world = subst (λ (es : List Event). world_of state new ≡ end_of at w (standing es (later k.end))) told (later_world k.end k.fault (world_of state new) k.world);
+            }
+
+        -- ---- it ends well at a line behind which no other is read
+
+        pub over_last : is_lost fate ≡ false → (is_clean new.base → IsFollowed (site now) (world_of state now) fate shown after (world_of state new) (Ok tt)) → is_last fate ≡ true → is_clean new.base
+            → IsService echo at given over Broken (Appends was after) (Ok (ending_if (is_failed fate))) w (world_of state new)
+        unfolding so_far_more
+        over_last found h last c =
+            let all = so_far_more found h in
+            let fails : list_any (λ (t : Turn). is_failed t.fate) turns ≡ is_failed fate =
+            any-snoc (λ (t : Turn). is_failed t.fate) s.turns turn ∙ ap (λ b. b || is_failed turn.fate) (none_failed s.turns s.last_is) ∙ ap is_failed l.read.same in
+            record {
+              service = record {
+                turns = turns;
+                run_end = Ok tt;
+                lines = lines_now;
+                broken = broken_now;
+                written = record {
+                  written = all.written c;
+                  status = ap ending_if (sym fails);
+                  none_lost = all.none_lost;
+                  all = failed_last s.turns turn over
+                      (last_line turn.fate over (ap is_last l.read.same ∙ last) (ap is_lost l.read.same ∙ found) (λ e. l.read.over (sym l.read.same ∙ e)));
+                };
+                ends = record { ok = refl; is = tt; cause = tt };
+              };
+              fits = fits_now;
+              world = all.world c;
+            }
+
+    -- ---- it is given up between two lines
+
+    pub worn_out : (Broken : Type 0) (fault : RunFault) → fault.cause ≡ Memory → is_clean now.base → IsService echo at given left Broken (Appends was is) (Err fault) w (world_of state now)
+    worn_out Broken fault memory c = record {
+      service = record {
+        turns = s.turns;
+        run_end = Ok tt;
+        lines = s.lines;
+        broken = λ f. absurd (true≢false (sym f ∙ none_failed s.turns s.last_is));
+        written = between memory (s.written c);
+        ends = record { ok = tt; is = tt; cause = tt };
+      };
+      fits = s.fits;
+      world = s.world c;
+    }
+
+-- ---- at a site that is the same
+
+pub heard_at : (echo : List ℕ → List ℕ) (q : Site) (policy : Tables) (schemes : Schemes) (a b c d : Option (List ℕ)) (Broken : Type 0) (fate : Fate) → q.policy ≡ policy → q.schemes ≡ schemes
+    → IsRead echo (IsFate policy schemes) a b c d Broken fate → IsRead echo (IsFate q.policy q.schemes) a b c d Broken fate
+heard_at echo q policy schemes a b c d Broken fate e f h =
+    subst (λ y. IsRead echo (IsFate q.policy y) a b c d Broken fate) (sym f) (subst (λ x. IsRead echo (IsFate x schemes) a b c d Broken fate) (sym e) h)
+
+-- lines are answered at what is the same site, from and to what are the same worlds
+pub service_at : (echo : List ℕ → List ℕ) (before after : Option (List ℕ)) (Broken : Type 0) (Wrote : List ℕ → Type 0) (end : Result Ending RunFault) (s t : Site) (v x w y : World) → s ≡ t → v ≡ x → w ≡ y
+    → IsService echo s before after Broken Wrote end v w → IsService echo t before after Broken Wrote end x y
+service_at echo before after Broken Wrote end s t v x w y e f g k =
+    subst (λ w. IsService echo t before after Broken Wrote end x w) g
+    (subst (λ v. IsService echo t before after Broken Wrote end v w) f (subst (λ s. IsService echo s before after Broken Wrote end v w) e k))

@@ -1,0 +1,40 @@
+-- A shell answers what a desk of its one session does.
+use Rattle.std.proofs.Common.{◌≡◌, Bool, true, false, true≢false, ◌&&◌, nat_eq, eqb-true, List, [], ◌∷◌, ◌++◌, refl, sym, ap, ◌∙◌, append-nil}
+use Rattle.std.specs.Str.{bytes_eq}
+use Rattle.std.specs.List.{list_all}
+use Rattle.mls_script.specs.declared.event.Event.{Event}
+use Rattle.mls_machine.specs.declared.form.Form.TheVariants.{Lines}
+use Rattle.mls_machine.specs.Site.{Site}
+use Rattle.mls_machine.specs.Machine.{World, step, end_of}
+use Rattle.mls_machine.specs.Observation.{run_shows, reader_of}
+use Rattle.mls_machine.specs.Serving.{answer_to, answers_to}
+use Rattle.mls_host.specs.Running.{form_of}
+use Rattle.mls_shells.specs.declared.seat.Seat.{Seat}
+use Rattle.mls_shells.specs.Shell.{audience_at, is_own, answers}
+use Rattle.mls_shells.proofs.ShellLemmas.{prints-append, prints-none}
+use Rattle.mls_runs.specs.Laws.{ShellsAreDesks}
+use Rattle.mls_runs.proofs.AnsweringLemmas.{shown_one}
+
+both : (a b : Bool) → (a && b) ≡ true → (a ≡ true) × (b ≡ true)
+both true b h = (refl, h)
+both false b h = absurd (true≢false (sym h))
+
+module _ (site : Site) (seat : Seat) (plain : seat.has_prompt ≡ false) where
+  one : (w : World) (e : Event) → is_own seat e ≡ true → answers site seat w (e ∷ []) ≡ answers_to site w (e ∷ [])
+  one w e own =
+      let level = eqb-true e.level seat.level (both (nat_eq e.level seat.level) (bytes_eq e.session seat.user) own).0 in
+      ap (λ b. run_shows site (reader_of seat.level (form_of b)) w (e ∷ [])) plain
+      ∙ ap (λ l. run_shows site (reader_of l Lines) w (e ∷ [])) (sym level) ∙ shown_one site w e
+
+  all : (w : World) (es : List Event) → list_all (is_own seat) es ≡ true → answers site seat w es ≡ answers_to site w es
+  unfolding answers_to end_of
+  all w [] h = prints-none site (audience_at seat) w
+  all w (e ∷ es) h =
+      let own = both (is_own seat e) (list_all (is_own seat) es) h in
+      let v = (step site w e).world in
+      prints-append site (audience_at seat) w (e ∷ []) es
+      ∙ (λ i. one w e own.0 i ++ all v es own.1 i)
+      ∙ ap (λ l. l ++ answers_to site v es) (append-nil (answer_to site w e))
+
+pub shells_are_desks : ShellsAreDesks
+shells_are_desks site seat w es plain own = all site seat plain w es own

@@ -1,0 +1,186 @@
+//! A desk: lines of many sessions, each answered before the next is read.
+ghost use Rattle.std.specs.Prelude.{◌≡◌, ◌<◌, ◌≤◌, false, length, IfErr, OnOk};
+ghost use Rattle.mls_machine.specs.Observation.{EventsFit};
+ghost use Rattle.mls_sessions.specs.Engine.{site, world_of, IsReady, IsKept};
+ghost use Rattle.mls_sessions.specs.World.{IsSound};
+ghost use Rattle.mls_host.specs.Hosting.{IsAppended};
+ghost use Rattle.mls_host.specs.Running.{site_of};
+ghost use Rattle.mls_shells.specs.Shell.{events_of, is_failed, is_lost, FateFits};
+ghost use Rattle.mls_runs.specs.Desk.{MayServe, IsDone, IsFollowed, IsService, IsDesk};
+
+use crate::marks::write_mark;
+use crate::reading::next_fate;
+use mls_filterview::Base;
+use mls_host::{Ending, ending_if};
+use mls_lattice::{Items, Policy};
+use mls_lines::TypedLines;
+use mls_machine::{Audience, Form};
+use mls_scheme::Schemes;
+use mls_script::Event;
+use mls_sessions::{Engine, RunCause, RunFault, Stored, run_to};
+use mls_shells::{Fate, is_last};
+use std::alloc::Global;
+use std::io::Write;
+
+/// Answers the event of a line, if there is one, for the level of its session alone.
+fn answer<B: Base, W: Write>(
+    engine: &mut Engine<B>,
+    events: &[Event],
+    out: &mut W,
+) -> Result<(), RunFault>
+    requires ready { IsReady B.state B.is_clean engine.old }
+    requires fits { EventsFit (site engine.old) events.now }
+    requires one { length events.now ≤ 1 }
+    ensures clean { B.is_clean engine.new.base → B.is_clean engine.old.base }
+    ensures count { B.failures engine.old.base ≤ B.failures engine.new.base }
+    ensures kept { IsKept B.state B.is_clean engine.old engine.new }
+    ensures store { B.is_clean engine.new.base → IfErr result
+        (λ f. f.cause ≡ RunCause.Store → B.failures engine.old.base < B.failures engine.new.base) }
+    ensures done { B.is_clean engine.new.base → IsDone (site engine.old) (world_of B.state engine.old) events.now
+        (W.contents out.old) (W.contents out.new) (world_of B.state engine.new) result }
+{
+    match events.first() {
+        Some(event) => {
+            let audience = Audience {
+                reader: Some(event.level),
+                form: Form::Lines,
+            };
+            run_to(engine, events, audience, out)
+        }
+        None => Ok(()),
+    }
+}
+
+/// Does what becomes of a line, without its mark. The number of a fault is no line's: it is 0, or that of an event among those of the line.
+fn perform<B: Base, W: Write>(
+    engine: &mut Engine<B>,
+    fate: &Fate,
+    out: &mut W,
+) -> Result<(), RunFault>
+    requires ready { IsReady B.state B.is_clean engine.old }
+    requires fits { FateFits (site engine.old).policy (site engine.old).schemes fate.now }
+    requires one { length (events_of fate.now) ≤ 1 }
+    ensures clean { B.is_clean engine.new.base → B.is_clean engine.old.base }
+    ensures count { B.failures engine.old.base ≤ B.failures engine.new.base }
+    ensures kept { IsKept B.state B.is_clean engine.old engine.new }
+    ensures store { B.is_clean engine.new.base → IfErr result
+        (λ f. f.cause ≡ RunCause.Store → B.failures engine.old.base < B.failures engine.new.base) }
+    ensures done { B.is_clean engine.new.base → IsDone (site engine.old) (world_of B.state engine.old)
+        (events_of fate.now) (W.contents out.old) (W.contents out.new) (world_of B.state engine.new) result }
+    ensures found { OnOk result (is_lost fate.now ≡ false) }
+{
+    match fate {
+        Fate::Said(events) => answer(engine, events, out),
+        Fate::Lost(cause) => Err(RunFault {
+            event: 0,
+            cause: *cause,
+            done: false,
+        }),
+        _ => Ok(()),
+    }
+}
+
+/// Does what becomes of a line, and writes its mark behind that.
+fn follow<B: Base, W: Write>(
+    alloc: Global,
+    engine: &mut Engine<B>,
+    fate: &Fate,
+    out: &mut W,
+) -> Result<(), RunFault>
+    requires ready { IsReady B.state B.is_clean engine.old }
+    requires fits { FateFits (site engine.old).policy (site engine.old).schemes fate.now }
+    requires one { length (events_of fate.now) ≤ 1 }
+    ensures clean { B.is_clean engine.new.base → B.is_clean engine.old.base }
+    ensures count { B.failures engine.old.base ≤ B.failures engine.new.base }
+    ensures kept { IsKept B.state B.is_clean engine.old engine.new }
+    ensures store { B.is_clean engine.new.base → IfErr result
+        (λ f. f.cause ≡ RunCause.Store → B.failures engine.old.base < B.failures engine.new.base) }
+    ensures followed { B.is_clean engine.new.base → IsFollowed (site engine.old) (world_of B.state engine.old) fate.now
+        (W.contents out.old) (W.contents out.new) (world_of B.state engine.new) result }
+    ensures found { OnOk result (is_lost fate.now ≡ false) }
+{
+    perform(engine, fate, out)?;
+    match write_mark(alloc, fate, out) {
+        Ok(()) => Ok(()),
+        Err(cause) => Err(RunFault {
+            event: 0,
+            cause,
+            done: true,
+        }),
+    }
+}
+
+fn is_failed(fate: &Fate) -> bool
+    ensures { result ≡ is_failed fate.now }
+{
+    match fate {
+        Fate::Unreadable => true,
+        _ => false,
+    }
+}
+
+/// Answers each line before it reads the next, as long as there are lines.
+fn serve<B: Base, L: TypedLines, W: Write>(
+    alloc: Global,
+    engine: &mut Engine<B>,
+    policy: &Policy,
+    schemes: &Schemes,
+    lines: &mut L,
+    out: &mut W,
+) -> Result<Ending, RunFault>
+    requires ready { IsReady B.state B.is_clean engine.old }
+    requires policy { (site engine.old).policy ≡ policy.now }
+    requires schemes { (site engine.old).schemes ≡ schemes.now }
+    ensures clean { B.is_clean engine.new.base → B.is_clean engine.old.base }
+    ensures count { B.failures engine.old.base ≤ B.failures engine.new.base }
+    ensures kept { IsKept B.state B.is_clean engine.old engine.new }
+    ensures store { B.is_clean engine.new.base → IfErr result
+        (λ f. f.cause ≡ RunCause.Store → B.failures engine.old.base < B.failures engine.new.base) }
+    ensures service { B.is_clean engine.new.base → IsService L.echo (site engine.old) (L.remaining lines.old)
+        (L.remaining lines.new) (L.breaks lines.new) (IsAppended W.contents out.old out.new) result
+        (world_of B.state engine.old) (world_of B.state engine.new) }
+{
+    for _ in 0..u64::MAX {
+        let fate = next_fate(alloc, policy, schemes, lines, out);
+        follow(alloc, engine, &fate, out)?;
+        if is_last(&fate) {
+            return Ok(ending_if(is_failed(&fate)));
+        }
+    }
+    Err(RunFault {
+        event: 0,
+        cause: RunCause::Memory,
+        done: false,
+    })
+}
+
+/// A desk over a base, which is given back: line by line the events that each tells, as a script's line does, each answered for the level
+/// of its session alone, and behind each answer its mark. Of a line that tells none nothing is done.
+///
+/// Each answer stands before the next line is read: a host that shows each line among what is written shows it right before its answer.
+/// What sessions are answered whose levels a level dominates passes nothing down to that level but what is released.
+pub fn desk_on<B: Base, L: TypedLines, W: Write>(
+    alloc: Global,
+    policy: &Policy,
+    schemes: &Schemes,
+    stored: Items<Stored>,
+    base: B,
+    lines: &mut L,
+    out: &mut W,
+) -> (Result<Ending, RunFault>, B)
+    requires may { MayServe (site_of policy.now schemes.now stored) }
+    requires idle { (B.state base).begun ≡ false }
+    requires sound { B.is_clean base → IsSound (site_of policy.now schemes.now stored) (B.state base).now }
+    ensures clean { B.is_clean result.1 → B.is_clean base }
+    ensures idle { (B.state result.1).begun ≡ false }
+    ensures count { B.failures base ≤ B.failures result.1 }
+    ensures store { B.is_clean result.1 → IfErr result.0
+        (λ f. f.cause ≡ RunCause.Store → B.failures base < B.failures result.1) }
+    ensures desk { B.is_clean result.1 → IsDesk L.echo (site_of policy.now schemes.now stored) (L.remaining lines.old)
+        (L.remaining lines.new) (L.breaks lines.new) (IsAppended W.contents out.old out.new) result.0
+        (B.state base).now (B.state result.1).now }
+{
+    let mut engine = Engine::new(alloc, base, policy, schemes, stored);
+    let outcome = serve(alloc, &mut engine, policy, schemes, lines, out);
+    (outcome, engine.finish())
+}

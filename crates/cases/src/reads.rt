@@ -112,6 +112,10 @@ impl Base for Broken {
         Err(BaseFault::NotBegun)
     }
 
+    fn audit_clear(&mut self) -> Result<(), BaseFault> {
+        Err(BaseFault::NotBegun)
+    }
+
     fn audit_all(&mut self) -> Result<Items<Items<u8>>, BaseFault> {
         Ok(Items::from(Vec::new(self.alloc)))
     }

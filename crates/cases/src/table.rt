@@ -39,9 +39,10 @@ pub enum Subject {
     Prints,
     Labels,
     Labels2,
+    Ranges,
 }
 
-pub static TABLES: [(&str, Table); 18] = [
+pub static TABLES: [(&str, Table); 19] = [
     ("policies.txt", Table::Each(Subject::Policies)),
     ("schemes.txt", Table::Each(Subject::Schemes)),
     ("documents.txt", Table::Each(Subject::Documents)),
@@ -60,6 +61,7 @@ pub static TABLES: [(&str, Table); 18] = [
     ("evaluations.txt", Table::Evaluations),
     ("labels.txt", Table::Each(Subject::Labels)),
     ("labels2.txt", Table::Each(Subject::Labels2)),
+    ("ranges.txt", Table::Each(Subject::Ranges)),
 ];
 
 /// What is told of the cases of a table, under the sample policy and schemes.
@@ -139,7 +141,7 @@ fn tell_case(
         Subject::Certificates => certificates::tell(alloc, case.head, out),
         Subject::Texts => texts::tell_line(alloc, policy, schemes, case.head, out),
         Subject::TextLimits => text_limits::tell(alloc, policy, schemes, case.head, out),
-        Subject::Prints | Subject::Labels | Subject::Labels2 => {
+        Subject::Prints | Subject::Labels | Subject::Labels2 | Subject::Ranges => {
             texts::tell_block(alloc, policy, schemes, subject, case, out);
         }
     }

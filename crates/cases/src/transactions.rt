@@ -4,4 +4,5 @@ pub mod evaluations;
 mod labels;
 pub mod limits;
 mod prints;
+mod ranges;
 pub mod texts;

@@ -10,11 +10,12 @@ macro_rules! forms {
 }
 
 /// A verb, and the form of its command.
-static FORMS: [(&str, &str); 9] = forms! {
+static FORMS: [(&str, &str); 10] = forms! {
     "open" " USER"
     "close" ""
     "view" " RELATION at LABEL [highest] [class OP LABEL] [first N] [where CONDITION]"
     "count" " RELATION at LABEL [highest] [class OP LABEL] [where CONDITION]"
+    "dump" " RELATION"
     "insert" " RELATION key (VALUE, ..) values (VALUE, ..)"
     "update" " RELATION key (VALUE, ..) class LABEL from LABEL set ATTRIBUTE = VALUE, .."
     "delete" " RELATION key (VALUE, ..) class LABEL"
@@ -23,7 +24,7 @@ static FORMS: [(&str, &str); 9] = forms! {
 };
 
 const NO_VERB: &str =
-    "  The form: LABEL SESSION, then open, close, view, count, insert, update, delete, audit or call.\n";
+    "  The form: LABEL SESSION, then open, close, view, count, dump, insert, update, delete, audit or call.\n";
 
 const KINDS: &str = "  The kinds are int and text.\n";
 

@@ -15,7 +15,7 @@ use Rattle.mls_host.specs.declared.ending.Ending.TheVariants.{Well}
 use Rattle.mls_host.specs.declared.job.Inputs.{Inputs}
 use Rattle.mls_host.specs.declared.reason.Reason.{Reason}
 use Rattle.mls_host.specs.declared.refusal.Refusal.{Refusal}
-use Rattle.mls_host.specs.declared.refusal.Refusal.TheVariants.{Before, Run, NotClosed, Output, Served, Unread}
+use Rattle.mls_host.specs.declared.refusal.Refusal.TheVariants.{Before, Run, NotClosed, Output, Served, Unread, Turned}
 use Rattle.mls_host.specs.Deed.{Deed, IsQuiet, end_text}
 use Rattle.mls_host.specs.declared.errors.Errors.{Errors}
 use Rattle.mls_host.specs.Hosting.{Hosted, KeepsStores, IsTold}
@@ -56,6 +56,7 @@ module _ (h : Hosted) (inputs : Inputs) (store : Option (List ℕ)) where
     run_ended Output k quiet = absurd k.1
     run_ended (Served cause) k quiet = absurd k.1
     run_ended Unread k quiet = absurd k.1
+    run_ended (Turned cause) k quiet = absurd k.1
 
     -- one that was given up, at the exit of a `?`
     pub run_given_up : (r : Result (Unit {0}) Refusal) (e : Refusal) → r ≡ Err e → IsRunEnd r → told [] → (end : Result Ending Refusal) → IsErrAnd end (λ x. x ≡ e)
@@ -75,6 +76,7 @@ module _ (h : Hosted) (inputs : Inputs) (store : Option (List ℕ)) where
   shell_ended label user wrote told (Err Output) caused k = absurd k
   shell_ended label user wrote told (Err (Served cause)) caused k = absurd k
   shell_ended label user wrote told (Err Unread) caused k = absurd k
+  shell_ended label user wrote told (Err (Turned cause)) caused k = absurd k
 
   -- a desk that ended, or was given up
   pub desk_ended : (wrote told : List ℕ → Type 0) (r : Result Ending Refusal) → IsCaused h store r
@@ -87,6 +89,7 @@ module _ (h : Hosted) (inputs : Inputs) (store : Option (List ℕ)) where
   desk_ended wrote told (Err Output) caused k quiet = absurd k
   desk_ended wrote told (Err (Served cause)) caused k quiet = absurd k
   desk_ended wrote told (Err Unread) caused k quiet = absurd k
+  desk_ended wrote told (Err (Turned cause)) caused k quiet = absurd k
 
 -- ---- jobs
 
@@ -128,6 +131,7 @@ module _ (h : Hosted) (wrote told more : List ℕ → Type 0) (f : (text : List 
     shell_end_told label user (Err Output) k = k
     shell_end_told label user (Err (Served cause)) k = k
     shell_end_told label user (Err Unread) k = k
+    shell_end_told label user (Err (Turned cause)) k = k
 
     desk_end_told : (end : Result Ending Refusal) → IsRunDeed h inputs store tasks.Serve (record { wrote = wrote; told = told; end = end })
         → IsRunDeed h inputs store tasks.Serve (record { wrote = wrote; told = more; end = end })
@@ -138,6 +142,7 @@ module _ (h : Hosted) (wrote told more : List ℕ → Type 0) (f : (text : List 
     desk_end_told (Err Output) k = k
     desk_end_told (Err (Served cause)) k = k
     desk_end_told (Err Unread) k = k
+    desk_end_told (Err (Turned cause)) k = k
 
     run_end_told : (at : Option (Bor (List ℕ))) (is_table : Bool) (end : Result Ending Refusal) → IsRunDeed h inputs store (tasks.Run at is_table) (record { wrote = wrote; told = told; end = end })
         → IsRunDeed h inputs store (tasks.Run at is_table) (record { wrote = wrote; told = more; end = end })
@@ -148,6 +153,7 @@ module _ (h : Hosted) (wrote told more : List ℕ → Type 0) (f : (text : List 
     run_end_told at is_table (Err Output) k = k
     run_end_told at is_table (Err (Served cause)) k = k
     run_end_told at is_table (Err Unread) k = k
+    run_end_told at is_table (Err (Turned cause)) k = k
 
     printed_told : (task : Task) (end : Result Ending Refusal) → KeepsStores h × IsPrinting (Prints inputs task) (IsTaskRefused h inputs store task) (record { wrote = wrote; told = told; end = end })
         → KeepsStores h × IsPrinting (Prints inputs task) (IsTaskRefused h inputs store task) (record { wrote = wrote; told = more; end = end })
@@ -158,6 +164,7 @@ module _ (h : Hosted) (wrote told more : List ℕ → Type 0) (f : (text : List 
     task_told end (tasks.Run at is_table) k = run_end_told at is_table end k
     task_told end (tasks.Shell label user) k = shell_end_told label user end k
     task_told end tasks.Serve k = (k.0, k.1, desk_end_told k.0 k.2)
+    task_told end (tasks.Turn at) k = (k.0, k.1, k.2, f [] k.3, k.4)
     task_told end tasks.ShowPolicy k = printed_told tasks.ShowPolicy end k
     task_told end tasks.Picture k = printed_told tasks.Picture end k
     task_told end tasks.Certify k = printed_told tasks.Certify end k

@@ -6,7 +6,7 @@ use Rattle.mls_host.specs.declared.ending.Ending.{Ending}
 use Rattle.mls_host.specs.declared.reason.Reason.{Reason}
 use Rattle.mls_host.specs.declared.reason.Reason.TheVariants.{Memory}
 use Rattle.mls_host.specs.declared.refusal.Refusal.{Refusal}
-use Rattle.mls_host.specs.declared.refusal.Refusal.TheVariants.{Before, Run, NotClosed, Output, Served, Unread}
+use Rattle.mls_host.specs.declared.refusal.Refusal.TheVariants.{Before, Run, NotClosed, Output, Served, Unread, Turned}
 use Rattle.mls_host.specs.Deed.{Deed, IsQuiet}
 use Rattle.mls_command.specs.declared.listing.Listing.{Listing}
 use Rattle.mls_command.specs.Printing.{IsListed, IsPrintingTo, IsPrinting}
@@ -23,6 +23,7 @@ module _ (Prints : List ℕ → List ℕ → Ending → Type 0) (Refuses : Reaso
   listed_to l d prints (Err NotClosed) k = k
   listed_to l d prints (Err (Served cause)) k = k
   listed_to l d prints (Err Unread) k = k
+  listed_to l d prints (Err (Turned cause)) k = k
   listed_to l d prints (Err Output) k = (k.0, k.1, k.2, listed l prints k.0 k.1 k.2 k.3, k.4, k.5)
 
   -- a listing with such texts
@@ -40,6 +41,7 @@ module _ (Prints : List ℕ → List ℕ → Ending → Type 0) (Refuses : Reaso
   made_to made d prints refused (Err NotClosed) k = k
   made_to made d prints refused (Err (Served cause)) k = k
   made_to made d prints refused (Err Unread) k = k
+  made_to made d prints refused (Err (Turned cause)) k = k
 
   refused_to : (d : Deed) (end : Result Ending Refusal) (reason : Reason) → IsErrAnd end (λ e. e ≡ Before reason) → Refuses reason → IsQuiet d → IsPrintingTo Prints Refuses d end
   refused_to d (Ok end) reason is refused quiet = absurd is
@@ -64,4 +66,5 @@ module _ (Prints : List ℕ → List ℕ → Ending → Type 0) (Refuses : Reaso
     printing_told (Err NotClosed) k = k
     printing_told (Err (Served cause)) k = k
     printing_told (Err Unread) k = k
+    printing_told (Err (Turned cause)) k = k
     printing_told (Err Output) k = (k.0, k.1, k.2, k.3, k.4, f [] k.5)

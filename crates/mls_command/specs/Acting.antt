@@ -5,7 +5,7 @@ use Rattle.mls_scheme.specs.Canon as scheme
 use Rattle.mls_sessions.specs.declared.cause.RunFault.{RunFault}
 use Rattle.mls_host.specs.declared.words.Job.{Job}
 use Rattle.mls_host.specs.declared.words.Task.{Task}
-use Rattle.mls_host.specs.declared.words.Task.TheVariants.{ShowPolicy, Picture, Run, Shell, Serve, Certify, Check, Explain}
+use Rattle.mls_host.specs.declared.words.Task.TheVariants.{ShowPolicy, Picture, Run, Shell, Serve, Turn, Certify, Check, Explain}
 use Rattle.mls_host.specs.Words.{named}
 use Rattle.mls_host.specs.declared.ending.Ending.{Ending}
 use Rattle.mls_host.specs.declared.ending.Ending.TheVariants.{Well}
@@ -17,8 +17,8 @@ use Rattle.mls_host.specs.Hosting.{Hosted, KeepsStores}
 use Rattle.mls_host.specs.Stopping.{IsCaused}
 use Rattle.mls_host.specs.Deed.{Deed, IsQuiet}
 use Rattle.mls_host.specs.declared.refusal.Refusal.{Refusal}
-use Rattle.mls_host.specs.Refusal.{IsEnd, served}
-use Rattle.mls_host.specs.Causes.{IsNotBegun}
+use Rattle.mls_host.specs.Refusal.{IsEnd, served, turned}
+use Rattle.mls_host.specs.Causes.{IsBarred, IsNotBegun}
 use Rattle.mls_host.specs.Reading.{AreInputs, AreInputsRefused}
 use Rattle.mls_command.specs.Printing.{IsPrinting}
 use Rattle.mls_command.specs.Showing.{IsPictured}
@@ -28,9 +28,10 @@ use Rattle.mls_command.specs.Explaining.{IsExplained, IsUnexplained}
 use Rattle.mls_runs.specs.ScriptRun.{IsScriptRun}
 use Rattle.mls_shells.specs.ShellRun.{IsShellRun, IsShellRefused}
 use Rattle.mls_runs.specs.DeskRun.{IsDeskRun}
+use Rattle.mls_runs.specs.TurnRun.{IsTurnRun}
 
 module _ (inputs : Inputs) where
-  -- what a command other than a run or a shell prints on standard output,
+  -- what a command prints that runs nothing and turns nothing, on standard output,
   -- what it tells on standard error, and how it ends
   abbrev pub Prints : Task → List ℕ → List ℕ → Ending → Type 0
   Prints ShowPolicy text told end =
@@ -76,11 +77,19 @@ module _ (h : Hosted) (inputs : Inputs) (store : Option (List ℕ)) where
       (end : Result Ending Refusal) × (d.end ≡ served end)
       × IsRunDeed Serve (record { wrote = d.wrote; told = d.told; end = end })
 
-  -- what is no run, no shell and no desk is printed, and each store keeps what it kept
+  -- an audit list is turned, or that is given up; it is told without a number why
+  abbrev pub IsTurnDeed : Deed → Type 0
+  IsTurnDeed d =
+      (end : Result (Unit {0}) Refusal) × (d.end ≡ turned end) × IsCaused h store end × d.told []
+      × IsEnd (λ e. IsTurnRun inputs.setting d.wrote e h store)
+      (λ reason. IsBarred h.before inputs.setting.policy inputs.setting.file store reason × d.wrote []) end
+
+  -- all else is printed, and each store keeps what it kept
   abbrev pub IsTaskDeed : Task → Deed → Type 0
   IsTaskDeed (Run at is_table) d = IsRunDeed (Run at is_table) d
   IsTaskDeed (Shell label user) d = IsRunDeed (Shell label user) d
   IsTaskDeed Serve d = IsDeskDeed d
+  IsTaskDeed (Turn at) d = IsTurnDeed d
   IsTaskDeed task d = KeepsStores h × IsPrinting (Prints inputs task) (IsTaskRefused task) d
 
 module _ (h : Hosted) (job : Job) where

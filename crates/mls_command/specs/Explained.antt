@@ -8,8 +8,9 @@ use Rattle.clap.specs.Words.{Text}
 -- the commands whose inputs can be explained
 abbrev pub is_other_command : Text → Bool
 is_other_command name =
-    bytes_eq name (codes "run") || bytes_eq name (codes "shell") || bytes_eq name (codes "show-policy")
-    || bytes_eq name (codes "certify") || bytes_eq name (codes "check")
+    bytes_eq name (codes "run") || bytes_eq name (codes "shell") || bytes_eq name (codes "serve")
+    || bytes_eq name (codes "turn") || bytes_eq name (codes "show-policy") || bytes_eq name (codes "certify")
+    || bytes_eq name (codes "check")
 
 -- `explain` and the name of another command behind it
 abbrev pub is_explained : Text → Text → Bool

@@ -17,9 +17,9 @@ use crate::listing::print_made;
 use crate::showing::texts;
 use crate::telling::explain_refusal;
 use mls_host::{
-    Ending, Errors, Host, Inputs, Job, Refusal, Task, Usage, inputs_of, job_of, served,
+    Ending, Errors, Host, Inputs, Job, Refusal, Task, Usage, inputs_of, job_of, served, turned,
 };
-use mls_runs::{run_desk, run_script};
+use mls_runs::{run_desk, run_script, turn_store};
 use mls_shells::run_shell;
 use std::alloc::Global;
 use std::io::Write;
@@ -73,6 +73,7 @@ fn perform_task<H: Host, W: Write, E: Write>(
             run_shell(alloc, host, store, inputs, label, user, out, err)
         }
         Task::Serve => served(run_desk(alloc, host, store, inputs, out)),
+        Task::Turn { .. } => turned(turn_store(alloc, host, store, &inputs.setting, out)),
     }
 }
 

@@ -11,6 +11,8 @@ fn is_other_command(name: &str) -> bool
 {
     name == "run"
         || name == "shell"
+        || name == "serve"
+        || name == "turn"
         || name == "show-policy"
         || name == "certify"
         || name == "check"

@@ -10,6 +10,7 @@ use crate::teller::{Teller, Told};
 use mls_certcheck::Rule;
 use mls_certificate::{Cert, Cert2, Certificate};
 use mls_lattice::{Items, Label};
+use mls_ranges::{Told as Release, ranges_of, whole, words};
 use mls_translang::Stmt;
 
 /// The labels of the variables after a statement, where there are rows of them.
@@ -111,15 +112,47 @@ impl Teller<'_> {
         }
     }
 
-    /// What each release tells to which label.
-    pub(crate) fn releases_to(&self, text: &mut String) -> Told {
-        for (place, statement) in self.statements.iter().enumerate() {
-            if let Stmt::Release { to, .. } = statement.stmt {
-                four_to(text, place + 1)?;
-                let label = self.label(*to);
-                writeln!(text, "  releases to {label}")?;
-            }
+    /// Adds over which rows a loop goes; a branch adds nothing.
+    fn loop_to(&self, text: &mut String, number: usize) -> Told {
+        if let Some(
+            Stmt::For {
+                relation,
+                label,
+                ..
+            },
+        ) = self.stmt(number)
+        {
+            let (relation, label) = (self.relation(*relation), self.label(*label));
+            write!(text, ", for each row of {relation} that {label} sees")?;
         }
         Ok(())
+    }
+
+    /// Adds what a release tells to which label, how much, and how often.
+    fn release_to(&self, text: &mut String, number: usize, release: &Release) -> Told {
+        four_to(text, number)?;
+        let label = self.label(release.to);
+        let words = words(self.alloc, release, self.kind(usize::from(release.into)))?;
+        write!(text, "  releases to {label}: {words}")?;
+        for around in &self.all_around(number)? {
+            self.loop_to(text, *around)?;
+        }
+        text.push_str("\n")
+    }
+
+    /// What each release tells, and all together.
+    pub(crate) fn releases_to(&self, text: &mut String) -> Told {
+        let releases = ranges_of(self.alloc, self.tx)?;
+        let mut count: usize = 0;
+        for (place, statement) in self.statements.iter().enumerate() {
+            if let (Stmt::Release { .. }, Some(release)) = (statement.stmt, releases.get(count)) {
+                self.release_to(text, place + 1, release)?;
+                count = count.saturating_add(1);
+            }
+        }
+        match whole(self.alloc, self.tx, &releases)? {
+            Some(words) => writeln!(text, "      all releases: {words}"),
+            None => Ok(()),
+        }
     }
 }

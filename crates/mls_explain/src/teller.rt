@@ -5,7 +5,7 @@ ghost use Rattle.std.specs.Option.{unwrap_or};
 use crate::numbering::four_to;
 use crate::statements::Statement;
 use mls_lattice::{LabelNo, Policy};
-use mls_scheme::{RelNo, Schemes};
+use mls_scheme::{Kind, RelNo, Schemes};
 use mls_translang::{Stmt, Tx};
 use std::alloc::{AllocError, Global};
 
@@ -42,6 +42,16 @@ impl<'a> Teller<'a> {
             vars.name(place)
         } else {
             ""
+        }
+    }
+
+    /// The kind of a variable.
+    pub(crate) fn kind(&self, place: usize) -> Kind {
+        let vars = self.tx.vars();
+        if place < vars.len() {
+            *vars.get(place)
+        } else {
+            Kind::Int
         }
     }
 

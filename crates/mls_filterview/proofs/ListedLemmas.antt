@@ -1,13 +1,13 @@
 -- The tuples listed from a map of rows are the rows of the table.
 use Rattle.std.proofs.Common.{◌≡◌, ℕ, true, cond, List, [], ◌∷◌, length, map, Option, Some, refl, sym, ap, ◌∙◌, subst}
 use Rattle.std.specs.Prelude.{◌↔◌}
-use Rattle.std.specs.List.{filter, AllByRecursion}
+use Rattle.std.specs.List.{filter, flat_map, AllByRecursion}
 use Rattle.std.specs.List.Sorted.{IsStrictlySortedBy}
 use Rattle.std.specs.Map.{lookup, keys_of}
 use Rattle.std.specs.BTreeMap.{is_at}
 use Rattle.std.specs.Ordering.{is_lt}
 use Rattle.std.specs.declared.cmp.Ordering.TheVariants.{Less}
-use Rattle.std.specs.FinMap.{find, is_sorted}
+use Rattle.std.specs.FinMap.{find, entries, is_sorted}
 use Rattle.std.specs.FinMap.Entries.{below_all}
 use Rattle.std.proofs.lemmas.Bool.{and_from}
 use Rattle.std.proofs.lemmas.Map.Keys.{sorted_head, sorted_tail}
@@ -20,11 +20,12 @@ use Rattle.mls_scheme.proofs.OrderLemmas.{is_place}
 use Rattle.mls_filterview.specs.declared.fragment.Node.{Node}
 use Rattle.mls_filterview.specs.declared.fragment.Cell.{Cell}
 use Rattle.mls_filterview.specs.Subsumption.{is_max_among}
-use Rattle.mls_filterview.specs.View.{View, rows, IsAmong, AreInOrder}
+use Rattle.mls_filterview.specs.View.{View, low, rows, IsAmong, AreInOrder}
 use Rattle.mls_filterview.specs.Stored.{IsStored}
 use Rattle.mls_filterview.specs.Assembly.{CellPlace, AreValues, AreRows, AreLow}
+use Rattle.mls_filterview.specs.Reach.{upward, of_class, low_tuples}
 use Rattle.mls_filterview.proofs.EntryLemmas.{Entry, found_in, among_found, so_from}
-use Rattle.mls_filterview.proofs.RowLemmas.{rows-listed, rows_are_the_view}
+use Rattle.mls_filterview.proofs.RowLemmas.{low-listed, rows-listed, rows_are_the_view}
 use Rattle.mls_filterview.proofs.AssemblyLemmas.{rows_low}
 
 -- ---- the entries of a map in order
@@ -49,12 +50,21 @@ in_map es s e = (
 
 -- ---- the rows
 
-pub listed_rows : (ls : Labels) (n : ℕ) (T : Table) (c : ℕ) (ns : List Node) (ds : List Cell) (held : CellPlace → Option (Option Value)) (es : List Entry) → IsStored ls n T → AreLow ls T c (length ls) ns ds → AreValues ds held
-    → IsStrictlySortedBy place_cmp (keys_of es) → AreRows held ns (λ q. lookup (is_at (place_cmp q)) es) → map (λ e. tuple_at e.0 e.1) (filter (is_max_among es) es) ≡ rows ls c T
-listed_rows ls n T c ns ds held es stored low values s found =
-    rows-listed ls c T es (sorted_keys es s) (λ e.
-    let r = rows_low ls n T stored c ns ds low held values (λ q. lookup (is_at (place_cmp q)) es) found e in
-    ((λ i. r.0 ((in_map es s e).0 i)), (λ h. (in_map es s e).1 (r.1 h))))
+module _ (ls : Labels) (n : ℕ) (T : Table) (c : ℕ) (ns : List Node) (ds : List Cell) (held : CellPlace → Option (Option Value)) (es : List Entry) (stored : IsStored ls n T) (are : AreLow ls T c (length ls) ns ds) (values : AreValues ds held)
+    (s : IsStrictlySortedBy place_cmp (keys_of es)) (found : AreRows held ns (λ q. lookup (is_at (place_cmp q)) es)) where
+  listed_low : es ≡ entries (low ls c T)
+  listed_low =
+      low-listed ls c T es (sorted_keys es s) (λ e.
+      let r = rows_low ls n T stored c ns ds are held values (λ q. lookup (is_at (place_cmp q)) es) found e in
+      ((λ i. r.0 ((in_map es s e).0 i)), (λ h. (in_map es s e).1 (r.1 h))))
+
+  pub listed_rows : map (λ e. tuple_at e.0 e.1) (filter (is_max_among es) es) ≡ rows ls c T
+  listed_rows = rows-listed ls c T es listed_low
+
+  -- and class by class they are the low tuples
+  pub listed_by_reach : flat_map (of_class es) (upward ls) ≡ low_tuples ls c T
+  unfolding low_tuples
+  listed_by_reach = ap (λ xs. flat_map (of_class xs) (upward ls)) listed_low
 
 -- so they are just the tuples of the view, each once, in the order of places
 pub listed_view : (ls : Labels) → AreDistinct ls → (n : ℕ) (T : Table) → IsStored ls n T → (c : ℕ) (ts : List Tuple) → ts ≡ rows ls c T → (t : Tuple) → IsAmong t ts ↔ View ls (IsIn T) c t

@@ -1,6 +1,6 @@
 -- The tuples of classes that a level dominates, by look-up.
 use Rattle.std.proofs.Common.{◌≡◌, ℕ, true, false, cond, map, None, refl, sym, ap, ◌∙◌}
-use Rattle.std.specs.List.{filter}
+use Rattle.std.specs.List.{filter, flat_map}
 use Rattle.std.specs.FinMap.{get, entries}
 use Rattle.std.proofs.lemmas.Option.{none-some}
 use Rattle.mls_lattice.specs.Labels.{Labels, below}
@@ -11,6 +11,7 @@ use Rattle.mls_scheme.specs.declared.place.Place.{Place}
 use Rattle.mls_scheme.proofs.TableLemmas.{get_kept, same_table}
 use Rattle.mls_filterview.specs.View.{low, rows}
 use Rattle.mls_filterview.specs.Subsumption.{is_max_among}
+use Rattle.mls_filterview.specs.Reach.{upward, of_class, low_tuples}
 
 pub get_low : (ls : Labels) (c : ℕ) (T : Table) (q : Place) → get (low ls c T) q ≡ cond (below ls q.class c) (get T q) None
 unfolding low
@@ -50,6 +51,10 @@ low_under ls c d S T h under = same_low ls d S T (λ q at_d.
     sym (get_low_in ls c S q at_c) ∙ ap (λ U. get U q) h ∙ get_low_in ls c T q at_c)
 
 -- so what d sees of them is the same
+pub low_tuples_under : (ls : Labels) (c d : ℕ) (S T : Table) → low ls c S ≡ low ls c T → below ls d c ≡ true → low_tuples ls d S ≡ low_tuples ls d T
+unfolding low_tuples
+low_tuples_under ls c d S T h under = ap (λ U. flat_map (of_class (entries U)) (upward ls)) (low_under ls c d S T h under)
+
 pub rows_under : (ls : Labels) (c d : ℕ) (S T : Table) → low ls c S ≡ low ls c T → below ls d c ≡ true → rows ls d S ≡ rows ls d T
 unfolding rows
 rows_under ls c d S T h under = ap (λ U. map (λ e. tuple_at e.0 e.1) (filter (is_max_among (entries U)) (entries U))) (low_under ls c d S T h under)

@@ -80,16 +80,19 @@ module _ (ls : Labels) (distinct : AreDistinct ls) (n : ℕ) (T : Table) (stored
         in_table e (among_entries L e (among_filter (is_max_among (entries L)) (entries L) e i).0)),
   )
 
--- so the rows may be computed from the tuples of classes that c dominates, in order
-pub rows-listed : (ls : Labels) (c : ℕ) (T : Table) (es : List Entry) → is_sorted place_cmp es ≡ true → ((e : Entry) → IsAmong e es ↔ ((get T e.0 ≡ Some e.1) × (below ls e.0.class c ≡ true)))
-    → map (λ e. tuple_at e.0 e.1) (filter (is_max_among es) es) ≡ rows ls c T
-unfolding rows
-rows-listed ls c T es s h =
-    ap (λ xs. map (λ (e : Entry). tuple_at e.0 e.1) (filter (is_max_among xs) xs))
-    (entries_are (low ls c T) es (so_from _ s) (λ e. (
+-- the tuples of classes that c dominates, in order, are the entries of low
+pub low-listed : (ls : Labels) (c : ℕ) (T : Table) (es : List Entry) → is_sorted place_cmp es ≡ true → ((e : Entry) → IsAmong e es ↔ ((get T e.0 ≡ Some e.1) × (below ls e.0.class c ≡ true)))
+    → es ≡ entries (low ls c T)
+low-listed ls c T es s h =
+    entries_are (low ls c T) es (so_from _ s) (λ e. (
       (λ i. (let k = (h e).0 i in get_low_in ls c T e.0 k.1 ∙ k.0)),
       (λ g. (let f = from_low ls c T (tuple_at e.0 e.1) e.0.class g in (h e).1 f)),
-    )))
+    ))
+
+-- so the rows may be computed from them
+pub rows-listed : (ls : Labels) (c : ℕ) (T : Table) (es : List Entry) → es ≡ entries (low ls c T) → map (λ e. tuple_at e.0 e.1) (filter (is_max_among es) es) ≡ rows ls c T
+unfolding rows
+rows-listed ls c T es same = ap (λ xs. map (λ (e : Entry). tuple_at e.0 e.1) (filter (is_max_among xs) xs)) same
 
 pub rows_are_the_view : RowsAreTheView
 rows_are_the_view ls distinct n T stored c = (λ t. rows-view ls distinct n T stored c t, rows-sorted ls distinct n T stored c)

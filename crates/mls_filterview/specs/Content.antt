@@ -38,6 +38,9 @@ with_relation s rel T = record s { now = record { db = with_table s.now.db rel T
 abbrev pub with_entry : State → List ℕ → State
 with_entry s bytes = record s { now = record { db = s.now.db; audit = s.now.audit ++ bytes ∷ [] } }
 
+abbrev pub with_no_entries : State → State
+with_no_entries s = record s { now = record { db = s.now.db; audit = [] } }
+
 -- a change that fails ends; what fails outside a change leaves all as it was
 abbrev pub failed : State → State
 failed s = if s.begun then ended s else s

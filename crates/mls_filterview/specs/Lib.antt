@@ -10,5 +10,6 @@ pub mod Filtering
 pub mod Rules
 pub mod Checking
 pub mod RowOrder
+pub mod Reach
 pub mod Widen
 pub mod Laws

@@ -6,7 +6,7 @@ ghost use Rattle.std.specs.FinMap.{get, insert, remove};
 ghost use Rattle.mls_scheme.specs.declared.tuple.Element.{Element as SpecElement};
 ghost use Rattle.mls_scheme.specs.Table.{change};
 ghost use Rattle.mls_scheme.specs.Spelling.{HasSpelling, IsSpelledKey};
-ghost use Rattle.mls_filterview.specs.Content.{State, begun_change, committed, ended, failed, with_relation, with_entry};
+ghost use Rattle.mls_filterview.specs.Content.{State, begun_change, committed, ended, failed, with_relation, with_entry, with_no_entries};
 ghost use Rattle.mls_filterview.specs.Calls.{IsCall, IsServed};
 ghost use Rattle.mls_filterview.specs.Fragment.{IsFragment, IsEntityPart, classes, IsMadeOf, place_of_node, HasCell, set_in, IsAlone, IsCellOf};
 
@@ -178,6 +178,14 @@ pub trait Base {
         ensures no_other { IsErrOf result BaseFault.Begun → ⊥ }
         ensures mode { OnOk result ((state self.new).begun ≡ (state self.old).begun) }
         ensures done { is_clean self.new → OnOk result (state self.new ≡ with_entry (state self.old) bytes.now) };
+
+    /// Removes all entries of the audit list. `NotBegun` where no change is begun.
+    fn audit_clear(&mut self) -> Result<(), BaseFault>
+        ensures call { IsCall is_clean failures state self.old self.new result }
+        ensures not_begun { (result ≡ Err BaseFault.NotBegun) ↔ ((state self.old).begun ≡ false) }
+        ensures no_other { IsErrOf result BaseFault.Begun → ⊥ }
+        ensures mode { OnOk result ((state self.new).begun ≡ (state self.old).begun) }
+        ensures done { is_clean self.new → OnOk result (state self.new ≡ with_no_entries (state self.old)) };
 
     /// The entries of the audit list, in the order in which they were added.
     fn audit_all(&mut self) -> Result<Items<Items<u8>>, BaseFault>

@@ -9,7 +9,7 @@ ghost use Rattle.mls_scheme.specs.Table.{Table, IsIn};
 ghost use Rattle.mls_scheme.specs.declared.tuple.Tuple.{Tuple as SpecTuple};
 ghost use Rattle.mls_filterview.specs.View.{hide, filtered, View, rows, IsAmong};
 ghost use Rattle.mls_filterview.specs.Stored.{IsStored};
-ghost use Rattle.mls_filterview.specs.Filtering.{EachOnce, seen, greatest_from, row_of, row_cmp};
+ghost use Rattle.mls_filterview.specs.Filtering.{EachOnce, seen, greatest_from, class_number, row_of, row_cmp};
 
 use crate::maximal::maximal_tuples;
 use crate::row::Row;
@@ -132,7 +132,8 @@ fn rows_of(alloc: Global, policy: &Policy, tuples: Vec<Tuple>) -> Result<Vec<Row
 pub(crate) fn greatest_class(policy: &Policy, key_class: LabelNo, elements: &[Element]) -> LabelNo
     requires key_class { key_class < length policy.now.labels }
     requires elements { AllByRecursion (λ e. e.class < length policy.now.labels) elements.now }
-    ensures { result ≡ greatest_from (labels_of policy.now) key_class elements.now }
+    ensures class { result ≡ greatest_from (labels_of policy.now) key_class elements.now }
+    ensures known { result < length policy.now.labels }
 {
     let mut class = key_class;
     for element in elements {
@@ -141,6 +142,16 @@ pub(crate) fn greatest_class(policy: &Policy, key_class: LabelNo, elements: &[El
         }
     }
     class
+}
+
+/// The number of the greatest of the classes of a tuple, where there is one: it is then that of the tuple's class.
+#[tactic(auto, unfolding(crate::specs::Filtering::class_number))]
+pub fn class_number(policy: &Policy, tuple: &Tuple) -> LabelNo
+    requires { HasClassesBelow (length policy.now.labels) tuple.now }
+    ensures class { result ≡ class_number (labels_of policy.now) tuple.now }
+    ensures known { result < length policy.now.labels }
+{
+    greatest_class(policy, tuple.key_class, &tuple.elements)
 }
 
 /// Puts items in order, and keeps one of those that tie.

@@ -11,6 +11,7 @@ mod fitting;
 mod fragment;
 mod laws;
 mod maximal;
+mod reach;
 mod recovering;
 mod row;
 mod rule;
@@ -25,7 +26,7 @@ pub use base::{Base, BaseFault, abandon, made};
 pub use checking::integrity;
 pub use entity::{is_entity, is_same_entity};
 pub use entity_rules::is_same_label;
-pub use filtering::filter;
+pub use filtering::{class_number, filter};
 pub use fragment::{Cell, Fragment, Node};
 pub use laws::{
     content_needs_its_labels, rows_are_the_view, stored_has_integrity, view_is_max_of_low,
@@ -38,5 +39,5 @@ pub use rule::{Broken, Rule};
 pub use shared::{SharedTuple, SharedView};
 pub use splitting::{add_cells, cells_of, classes_of, node_of, nodes_of};
 pub use subsumption::subsumes;
-pub use viewing::view;
+pub use viewing::{low_tuples, view};
 pub use widening::{are_below, widened};

@@ -8,11 +8,13 @@ ghost use Rattle.mls_filterview.specs.View.{View, rows, IsAmong, AreInOrder};
 ghost use Rattle.mls_filterview.specs.Stored.{IsStored};
 ghost use Rattle.mls_filterview.specs.Calls.{IsCall, IsServed};
 ghost use Rattle.mls_filterview.specs.Assembly.{AreLow};
+ghost use Rattle.mls_filterview.specs.Reach.{low_tuples};
 
 use crate::assembly::{entries_of, rows_of, values_of};
 use crate::base::{Base, BaseFault, made};
 use crate::fragment::{Cell, Fragment, Node};
 use crate::maximal::maximal_tuples;
+use crate::reach::by_reach;
 use mls_lattice::{Items, LabelNo, Policy};
 use mls_scheme::{RelNo, Tuple};
 use std::alloc::{AllocError, Global};
@@ -74,6 +76,45 @@ fn tuples_of(alloc: Global, low: Fragment) -> Result<Vec<Tuple>, AllocError>
     let found = rows_of(alloc, low.nodes, &values)?;
     let rows = entries_of(alloc, found)?;
     maximal_tuples(alloc, rows)
+}
+
+/// The tuples, class by class, that a level may see of the relation whose low fragments these are.
+fn tuples_by_reach(alloc: Global, policy: &Policy, low: Fragment) -> Result<Vec<Tuple>, AllocError>
+    ensures { IfOk result (λ v. (n : ℕ) (T : Table) (c : ℕ) → IsStored (labels_of policy.now) n T
+        → AreLow (labels_of policy.now) T c (length (labels_of policy.now)) low.nodes low.cells
+        → v.items ≡ low_tuples (labels_of policy.now) c T) }
+{
+    let values = values_of(alloc, low.cells)?;
+    let found = rows_of(alloc, low.nodes, &values)?;
+    let rows = entries_of(alloc, found)?;
+    by_reach(alloc, policy, &rows)
+}
+
+/// The tuples of a relation whose classes a level dominates, also those that others subsume: class by class, those classes
+/// first that dominate the fewest declared labels, and within one in the order of places.
+///
+/// It reads the fragments of the labels that the level dominates, and no other. Where the store fails or a growth is
+/// refused, a change that is begun has ended.
+pub fn low_tuples<B: Base>(
+    alloc: Global,
+    base: &mut B,
+    policy: &Policy,
+    rel: RelNo,
+    label: LabelNo,
+) -> Result<Vec<Tuple>, BaseFault>
+    requires label { label < length policy.now.labels }
+    requires stored { B.is_clean base.old → (n : ℕ)
+        × IsStored (labels_of policy.now) n ((B.state base.old).now.db rel) }
+    ensures call { IsCall B.is_clean B.failures B.state base.old base.new result }
+    ensures served { IfErr result IsServed }
+    ensures mode { OnOk result ((B.state base.new).begun ≡ (B.state base.old).begun) }
+    ensures tuples { B.is_clean base.new → IfOk result (λ v. v.items
+        ≡ low_tuples (labels_of policy.now) label ((B.state base.old).now.db rel)) }
+    ensures same { B.is_clean base.new → OnOk result (B.state base.new ≡ B.state base.old) }
+{
+    let low = low_fragment(alloc, base, policy, rel, label)?;
+    let tuples = made(base, tuples_by_reach(alloc, policy, low))?;
+    Ok(tuples)
 }
 
 /// What a level sees of a relation, in the order of key, number of the key class and number of the class.

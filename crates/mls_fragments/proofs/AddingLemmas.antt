@@ -30,7 +30,7 @@ use Rattle.mls_filterview.proofs.EntryLemmas.{Entry}
 use Rattle.mls_filterview.proofs.FragmentLemmas.{cell_among}
 use Rattle.mls_statements.specs.declared.rows.AuditRow.{AuditRow}
 use Rattle.mls_statements.specs.Rows.{Tables, described, numbered}
-use Rattle.mls_statements.specs.Statements.{AddsEntry}
+use Rattle.mls_statements.specs.Statements.{AddsEntry, ClearsEntries}
 use Rattle.mls_fragments.specs.Holding.{Holds, HoldsTable, IsSharedTuple, AddsTuple, node_row, cell_row, nodes_in, cells_in}
 use Rattle.mls_fragments.proofs.WrittenLemmas.{holds_same, holds_with}
 
@@ -71,6 +71,14 @@ holds_entry t u c bytes held adds =
           subst (λ l. IsPermutation l u.audit) (sym (numbered_push 1 c.audit bytes))
           (IsPermutation-trans _ _ _ (IsPermutation-to_front (numbered 1 c.audit) entry) (IsPermutation-trans _ _ _ (IsPermutation-cons entry _ _ held.audit) adds.1));
     }
+
+pub holds_no_entries : (t u : Tables) (c : Content) → Holds t c → ClearsEntries t u → Holds u (record c { audit = [] })
+holds_no_entries t u c held clears = record {
+  tables = λ rel. holds_same t u rel (c.db rel) (held.tables rel)
+      (IsPermutation-same _ _ (ap (λ w. filter (λ n. nat_eq n.rel rel) w.nodes) (sym clears)))
+      (IsPermutation-same _ _ (ap (λ w. filter (λ x. nat_eq x.rel rel) w.cells) (sym clears)));
+  audit = IsPermutation-same _ _ (ap (λ w. w.audit) (sym clears));
+}
 
 -- ---- rows that are added
 

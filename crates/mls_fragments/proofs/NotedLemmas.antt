@@ -16,17 +16,17 @@ use Rattle.mls_filterview.specs.Content.{Content, with_table, with_relation}
 use Rattle.mls_filterview.specs.Fragment.{place_of_node, IsMadeOf, IsCellOf, HasCell, IsAlone}
 use Rattle.mls_filterview.proofs.MadeLemmas.{elements_made}
 use Rattle.mls_statements.specs.Rows.{Tables, described}
-use Rattle.mls_statements.specs.Statements.{SetsCell, AddsEntry}
+use Rattle.mls_statements.specs.Statements.{SetsCell, AddsEntry, ClearsEntries}
 use Rattle.mls_statements.specs.Store.{TableState, IsClean}
 use Rattle.mls_fragments.specs.declared.noted.Noted.{Noted}
 use Rattle.mls_fragments.specs.Changes.{Change, Entries, found, content_of}
-use Rattle.mls_fragments.specs.Changes.Change.{Finds, Adds, Sets, Drops, Appends}
+use Rattle.mls_fragments.specs.Changes.Change.{Finds, Adds, Sets, Drops, Appends, Clears}
 use Rattle.mls_fragments.specs.Based.{IsNoted, IsBased, base_state, state_with, state_of}
 use Rattle.mls_fragments.specs.Finding.{HasByteClasses, AreReadable}
 use Rattle.mls_fragments.specs.Holdings.{HaveOneMeta}
 use Rattle.mls_fragments.proofs.HoldingsLemmas.{meta_made}
 use Rattle.mls_fragments.specs.Holding.{Holds, AddsTuple, DropsTuple, node_row, cell_row, value_row}
-use Rattle.mls_fragments.proofs.AddingLemmas.{holds_none, holds_tuple, holds_entry}
+use Rattle.mls_fragments.proofs.AddingLemmas.{holds_none, holds_tuple, holds_entry, holds_no_entries}
 use Rattle.mls_fragments.proofs.ByteLemmas.{none_bytes, tuple_bytes, value_bytes, rest_bytes}
 use Rattle.mls_fragments.proofs.SettingLemmas.{holds_value}
 use Rattle.mls_fragments.proofs.DroppingLemmas.{holds_rest}
@@ -95,6 +95,9 @@ module _ (t u : Tables) (here new : Noted) (was : IsNoted t here) where
       let next : here.last +ℤ pos 1 ≡ pos (length c.audit + 1) = ap (λ n. n +ℤ pos 1) was.last in
       noted_as u new _ changes (last ∙ next ∙ ap pos (sym (length-append c.audit (bytes ∷ [])))) (meta_stays t u (ap (λ (x : Tables). x.meta) adds.0) was.meta) was.classes
       (holds_entry t u c bytes was.holds (subst (λ n. AddsEntry (record { number = n; bytes = bytes }) t u) next adds))
+
+  pub noted_clear : new.content.changes ≡ Clears ∷ here.content.changes → new.last ≡ pos 0 → ClearsEntries t u → IsNoted u new
+  noted_clear changes last clears = noted_as u new _ changes last (meta_stays t u (ap (λ (x : Tables). x.meta) clears) was.meta) was.classes (holds_no_entries t u c was.holds clears)
 
 -- the state in a change, with a tuple more
 pub state_added : (t u : TableState) (here last : Noted) (changes : List Change) (rel : ℕ) (n : Node) (cells : List Cell) (es : List Element) → t.begun ≡ true → u.begun ≡ true

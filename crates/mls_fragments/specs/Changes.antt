@@ -24,6 +24,9 @@ without_tuple c rel p = record c { db = with_table c.db rel (remove (c.db rel) p
 abbrev pub with_bytes : Content → List ℕ → Content
 with_bytes c bytes = record c { audit = c.audit ++ bytes ∷ [] }
 
+abbrev pub without_entries : Content → Content
+without_entries c = record c { audit = [] }
+
 -- tuples with their places, in the order of places
 abbrev pub Entries : Type 0
 Entries = List (Place × List Element)
@@ -36,13 +39,15 @@ table_in tables rel = table_of (slice_index_or tables rel [])
 abbrev pub found : List Entries → List (List ℕ) → Content
 found tables audit = record { db = table_in tables; audit = audit }
 
--- what a store has when it is opened; or a tuple more, a value in the place of another, a tuple less, or an entry more
+-- what a store has when it is opened; or a tuple more, a value in the place of another, a tuple less, an entry more, or
+-- no entry
 pub data Change : Type 0 where
   Finds : (tables : List Entries) (audit : List (List ℕ)) → Change
   Adds : (rel : ℕ) (node : Node) (cells : List Cell) → Change
   Sets : (rel : ℕ) (place : Place) (attr : ℕ) (value : Option Value) → Change
   Drops : (rel : ℕ) (place : Place) → Change
   Appends : (bytes : List ℕ) → Change
+  Clears : Change
 
 -- the content that changes make, the last one first
 abbrev pub content_of : List Change → Content
@@ -52,3 +57,4 @@ content_of (Adds rel node cells ∷ before) = with_tuple (content_of before) rel
 content_of (Sets rel place attr value ∷ before) = with_value (content_of before) rel place attr value
 content_of (Drops rel place ∷ before) = without_tuple (content_of before) rel place
 content_of (Appends bytes ∷ before) = with_bytes (content_of before) bytes
+content_of (Clears ∷ before) = without_entries (content_of before)

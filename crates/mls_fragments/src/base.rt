@@ -241,6 +241,19 @@ impl<S: Alter> Base for SqlBase<S> {
         }
     }
 
+    fn audit_clear(&mut self) -> Result<(), BaseFault> {
+        if !self.store.is_begun() {
+            return Err(BaseFault::NotBegun);
+        }
+        match self.store.clear_entries() {
+            Ok(_) => {
+                self.now.clear();
+                Ok(())
+            }
+            Err(fault) => Err(fall(&mut self.now, &self.kept, fault)),
+        }
+    }
+
     fn audit_all(&mut self) -> Result<Items<Items<u8>>, BaseFault> {
         match read_entries(&mut self.store, self.alloc) {
             Ok(entries) => Ok(entries),

@@ -1,7 +1,7 @@
 //! What the rows hold: the changes that made it, which only clauses read, and the number of its last entry.
 ghost use Rattle.std.specs.Prelude.{◌≡◌, pos, [], ◌∷◌, map};
 ghost use Rattle.mls_fragments.specs.Based.{fault_of};
-ghost use Rattle.mls_fragments.specs.Changes.Change.{Finds, Appends};
+ghost use Rattle.mls_fragments.specs.Changes.Change.{Finds, Appends, Clears};
 
 use crate::finding::Found;
 use crate::recalled::Recalled;
@@ -57,6 +57,15 @@ impl Noted {
     {
         self.content.append(bytes);
         self.last = number;
+    }
+
+    /// No entry.
+    pub fn clear(&mut self)
+        ensures content { self.new.content.changes ≡ Clears ∷ self.old.content.changes }
+        ensures last { self.new.last ≡ pos 0 }
+    {
+        self.content.clear();
+        self.last = 0;
     }
 }
 

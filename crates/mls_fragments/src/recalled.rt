@@ -2,7 +2,7 @@
 ghost use Rattle.std.specs.Prelude.{◌≡◌, List, [], ◌∷◌, map};
 ghost use Rattle.std.specs.Borrow.{ftrue};
 ghost use Rattle.mls_fragments.specs.Changes.{Change};
-ghost use Rattle.mls_fragments.specs.Changes.Change.{Finds, Adds, Sets, Drops, Appends};
+ghost use Rattle.mls_fragments.specs.Changes.Change.{Finds, Adds, Sets, Drops, Appends, Clears};
 
 use mls_filterview::{Cell, Node, Rows};
 use mls_lattice::Items;
@@ -84,5 +84,12 @@ impl Recalled {
         ensures { self.new.changes ≡ Appends bytes.now ∷ self.old.changes }
     {
         self.note(&bytes);
+    }
+
+    /// No entry.
+    pub fn clear(&mut self)
+        ensures { self.new.changes ≡ Clears ∷ self.old.changes }
+    {
+        self.keep();
     }
 }

@@ -18,7 +18,7 @@ use Rattle.mls_sessions.proofs.StartLemmas.{no_content_sound}
 use Rattle.mls_host.specs.declared.host.CloseFault.{CloseFault}
 use Rattle.mls_host.specs.declared.refusal.Refusal.{Refusal}
 use Rattle.mls_host.specs.declared.reason.Reason.{Reason}
-use Rattle.mls_host.specs.declared.refusal.Refusal.TheVariants.{Before, Run, NotClosed, Output, Served, Unread}
+use Rattle.mls_host.specs.declared.refusal.Refusal.TheVariants.{Before, Run, NotClosed, Output, Served, Unread, Turned}
 use Rattle.mls_host.specs.Refusal.{ended, IsEnd}
 use Rattle.mls_host.specs.Running.{first_world, IsRun}
 
@@ -81,6 +81,7 @@ module _ {A : Type 0} (Ends : Result A RunFault â†’ Type 0) (Nothing : Reason â†
   end_weaker More Less f g (Err Output) h = absurd h
   end_weaker More Less f g (Err (Served cause)) h = absurd h
   end_weaker More Less f g (Err Unread) h = absurd h
+  end_weaker More Less f g (Err (Turned cause)) h = absurd h
 
 -- ---- at the exit of a `?`
 

@@ -7,7 +7,7 @@ use Rattle.mls_sessions.specs.declared.cause.RunFault.{RunFault}
 use Rattle.mls_host.specs.declared.host.CloseFault.{CloseFault}
 use Rattle.mls_host.specs.declared.reason.Reason.{Reason}
 use Rattle.mls_host.specs.declared.refusal.Refusal.{Refusal}
-use Rattle.mls_host.specs.declared.refusal.Refusal.TheVariants.{Before, Run, NotClosed, Output, Served, Unread}
+use Rattle.mls_host.specs.declared.refusal.Refusal.TheVariants.{Before, Run, NotClosed, Output, Served, Unread, Turned}
 use Rattle.mls_host.specs.Hosting.{Hosting, Hosted, KeepSame, KeepsStores}
 use Rattle.mls_host.specs.Refusal.{ended}
 use Rattle.mls_host.specs.Stopping.{IsCaused, IsCausedInMemory}
@@ -36,6 +36,7 @@ module _ {A : Type 0} (h : Hosted) where
   caused_without kept (Err Output) k = absurd k
   caused_without kept (Err (Served cause)) k = absurd k
   caused_without kept (Err Unread) k = absurd k
+  caused_without kept (Err (Turned cause)) k = absurd k
 
   -- over a store, of which a call failed where more have failed than before
   pub caused_in_store : (path : List ℕ) (outcome : Result A RunFault) (closed : Result (Unit {0}) CloseFault) (before after : ℕ) → (IsErr closed → h.after.is_unclosed) → (0 < after → h.after.has_failed)

@@ -8,7 +8,7 @@ use Rattle.clap.specs.declared.error.kind.ErrorKind.{ErrorKind}
 use Rattle.clap.specs.declared.error.kind.ErrorKind.TheVariants as kind
 use Rattle.clap.specs.declared.parser.matches.ArgMatches.{ArgMatches}
 use Rattle.mls_host.specs.declared.words.Task.{Task}
-use Rattle.mls_host.specs.declared.words.Task.TheVariants.{ShowPolicy, Picture, Run, Shell, Serve, Certify, Check, Explain}
+use Rattle.mls_host.specs.declared.words.Task.TheVariants.{ShowPolicy, Picture, Run, Shell, Serve, Turn, Certify, Check, Explain}
 use Rattle.mls_host.specs.declared.words.Job.{Job}
 use Rattle.mls_host.specs.declared.usage.Usage.{Usage}
 use Rattle.mls_host.specs.declared.usage.Usage.TheVariants as usage
@@ -22,17 +22,18 @@ begins b (x ∷ xs) = x == b
 apart : (b : ℕ) (s t : Text) → begins b s ≡ true → begins b t ≡ false → s ≡ t → ⊥
 apart b s t h k e = true≢false (sym h ∙ ap (begins b) e ∙ k)
 
--- the name of a task's command is one of seven
-pub no_task : (name : Text) (rows : List Row) → (name ≡ codes "run" → ⊥) → (name ≡ codes "shell" → ⊥) → (name ≡ codes "serve" → ⊥) → (name ≡ codes "show-policy" → ⊥) → (name ≡ codes "certify" → ⊥) → (name ≡ codes "check" → ⊥) → (name ≡ codes "explain" → ⊥)
+-- the name of a task's command is one of eight
+pub no_task : (name : Text) (rows : List Row) → (name ≡ codes "run" → ⊥) → (name ≡ codes "shell" → ⊥) → (name ≡ codes "serve" → ⊥) → (name ≡ codes "turn" → ⊥) → (name ≡ codes "show-policy" → ⊥) → (name ≡ codes "certify" → ⊥) → (name ≡ codes "check" → ⊥) → (name ≡ codes "explain" → ⊥)
     → (task : Task) → IsTask name rows task → ⊥
-no_task name rows run shell serve show certify check explain ShowPolicy h = show h
-no_task name rows run shell serve show certify check explain (Run at is_table) h = run h.0
-no_task name rows run shell serve show certify check explain (Shell label user) h = shell h.0
-no_task name rows run shell serve show certify check explain Serve h = serve h
-no_task name rows run shell serve show certify check explain Certify h = certify h.0
-no_task name rows run shell serve show certify check explain Check h = check h.0
-no_task name rows run shell serve show certify check explain Picture h = explain h.0
-no_task name rows run shell serve show certify check explain (Explain only) h = explain h.0
+no_task name rows run shell serve turn show certify check explain ShowPolicy h = show h
+no_task name rows run shell serve turn show certify check explain (Run at is_table) h = run h.0
+no_task name rows run shell serve turn show certify check explain (Shell label user) h = shell h.0
+no_task name rows run shell serve turn show certify check explain Serve h = serve h
+no_task name rows run shell serve turn show certify check explain (Turn at) h = turn h.0
+no_task name rows run shell serve turn show certify check explain Certify h = certify h.0
+no_task name rows run shell serve turn show certify check explain Check h = check h.0
+no_task name rows run shell serve turn show certify check explain Picture h = explain h.0
+no_task name rows run shell serve turn show certify check explain (Explain only) h = explain h.0
 
 nothing : {A X : Type 0} (x : X) (o : Option X) → Some x ≡ o → o ≡ None → A
 nothing x o h k = let e : Some x ≡ None = h ∙ k in absurd cc
@@ -46,6 +47,7 @@ no_certify rows none ShowPolicy h = let e : codes "certify" ≡ codes "show-poli
 no_certify rows none (Run at is_table) h = let e : codes "certify" ≡ codes "run" = h.0 in absurd cc
 no_certify rows none (Shell label user) h = absurd (apart 99 (codes "certify") (codes "shell") refl refl h.0)
 no_certify rows none Serve h = absurd (apart 99 (codes "certify") (codes "serve") refl refl h)
+no_certify rows none (Turn at) h = absurd (apart 99 (codes "certify") (codes "turn") refl refl h.0)
 no_certify rows none Certify h = missing _ h.1 none
 no_certify rows none Check h = let e : codes "certify" ≡ codes "check" = h.0 in absurd cc
 no_certify rows none Picture h = absurd (apart 99 (codes "certify") (codes "explain") refl refl h.0)
@@ -56,6 +58,7 @@ no_transactions rows none ShowPolicy h = let e : codes "check" ≡ codes "show-p
 no_transactions rows none (Run at is_table) h = let e : codes "check" ≡ codes "run" = h.0 in absurd cc
 no_transactions rows none (Shell label user) h = absurd (apart 99 (codes "check") (codes "shell") refl refl h.0)
 no_transactions rows none Serve h = absurd (apart 99 (codes "check") (codes "serve") refl refl h)
+no_transactions rows none (Turn at) h = absurd (apart 99 (codes "check") (codes "turn") refl refl h.0)
 no_transactions rows none Certify h = let e : codes "check" ≡ codes "certify" = h.0 in absurd cc
 no_transactions rows none Check h = missing _ h.1 none
 no_transactions rows none Picture h = absurd (apart 99 (codes "check") (codes "explain") refl refl h.0)
@@ -66,10 +69,23 @@ no_certificates rows none ShowPolicy h = let e : codes "check" ≡ codes "show-p
 no_certificates rows none (Run at is_table) h = let e : codes "check" ≡ codes "run" = h.0 in absurd cc
 no_certificates rows none (Shell label user) h = absurd (apart 99 (codes "check") (codes "shell") refl refl h.0)
 no_certificates rows none Serve h = absurd (apart 99 (codes "check") (codes "serve") refl refl h)
+no_certificates rows none (Turn at) h = absurd (apart 99 (codes "check") (codes "turn") refl refl h.0)
 no_certificates rows none Certify h = let e : codes "check" ≡ codes "certify" = h.0 in absurd cc
 no_certificates rows none Check h = missing _ h.2 none
 no_certificates rows none Picture h = absurd (apart 99 (codes "check") (codes "explain") refl refl h.0)
 no_certificates rows none (Explain only) h = absurd (apart 99 (codes "check") (codes "explain") refl refl h.0)
+
+-- a turning names its store
+pub no_store : (rows : List Row) → first_of (codes "store") rows ≡ None → (task : Task) → IsTask (codes "turn") rows task → ⊥
+no_store rows none ShowPolicy h = absurd (apart 116 (codes "turn") (codes "show-policy") refl refl h)
+no_store rows none (Run at is_table) h = absurd (apart 116 (codes "turn") (codes "run") refl refl h.0)
+no_store rows none (Shell label user) h = absurd (apart 116 (codes "turn") (codes "shell") refl refl h.0)
+no_store rows none Serve h = absurd (apart 116 (codes "turn") (codes "serve") refl refl h)
+no_store rows none (Turn at) h = missing _ h.2 none
+no_store rows none Certify h = absurd (apart 116 (codes "turn") (codes "certify") refl refl h.0)
+no_store rows none Check h = absurd (apart 116 (codes "turn") (codes "check") refl refl h.0)
+no_store rows none Picture h = absurd (apart 116 (codes "turn") (codes "explain") refl refl h.0)
+no_store rows none (Explain only) h = absurd (apart 116 (codes "turn") (codes "explain") refl refl h.0)
 
 longer : codes "shell" ≡ codes "show-policy" → ⊥
 longer h = true≢false (sym (ap (λ t. nat_lt 5 (length t)) h))
@@ -87,6 +103,7 @@ no_label rows none ShowPolicy h = absurd (longer h)
 no_label rows none (Run at is_table) h = absurd (apart 115 (codes "shell") (codes "run") refl refl h.0)
 no_label rows none (Shell label user) h = nothing _ _ h.1 none
 no_label rows none Serve h = absurd (unlike h)
+no_label rows none (Turn at) h = absurd (apart 115 (codes "shell") (codes "turn") refl refl h.0)
 no_label rows none Certify h = absurd (apart 115 (codes "shell") (codes "certify") refl refl h.0)
 no_label rows none Check h = absurd (apart 115 (codes "shell") (codes "check") refl refl h.0)
 no_label rows none Picture h = absurd (apart 115 (codes "shell") (codes "explain") refl refl h.0)
@@ -97,6 +114,7 @@ no_user rows none ShowPolicy h = absurd (longer h)
 no_user rows none (Run at is_table) h = absurd (apart 115 (codes "shell") (codes "run") refl refl h.0)
 no_user rows none (Shell label user) h = nothing _ _ h.2 none
 no_user rows none Serve h = absurd (unlike h)
+no_user rows none (Turn at) h = absurd (apart 115 (codes "shell") (codes "turn") refl refl h.0)
 no_user rows none Certify h = absurd (apart 115 (codes "shell") (codes "certify") refl refl h.0)
 no_user rows none Check h = absurd (apart 115 (codes "shell") (codes "check") refl refl h.0)
 no_user rows none Picture h = absurd (apart 115 (codes "shell") (codes "explain") refl refl h.0)

@@ -10,7 +10,7 @@ use Rattle.mls_host.specs.declared.host.CloseFault.{CloseFault}
 use Rattle.mls_host.specs.declared.reason.Reason.{Reason}
 use Rattle.mls_host.specs.declared.reason.Role.TheVariants as role
 use Rattle.mls_host.specs.declared.refusal.Refusal.{Refusal}
-use Rattle.mls_host.specs.declared.refusal.Refusal.TheVariants.{Before, Run, NotClosed, Output, Served, Unread}
+use Rattle.mls_host.specs.declared.refusal.Refusal.TheVariants.{Before, Run, NotClosed, Output, Served, Unread, Turned}
 use Rattle.mls_host.specs.declared.ending.Ending.{Ending}
 use Rattle.mls_host.specs.declared.ending.Ending.TheVariants.{Well, Refused}
 use Rattle.mls_host.specs.Reason.{fault_text, reason_text, reason_status}
@@ -21,6 +21,9 @@ run_text f = codes "mldb: run: " ++ cause_word f.cause ++ codes " at " ++ decima
 abbrev pub served_text : RunCause → List ℕ
 served_text cause = codes "mldb: serve: " ++ cause_word cause ++ codes "\n"
 
+abbrev pub turned_text : RunCause → List ℕ
+turned_text cause = codes "mldb: turn: " ++ cause_word cause ++ codes "\n"
+
 -- what is told of a refusal
 abbrev pub refusal_text : Refusal → List ℕ
 refusal_text (Before reason) = reason_text reason
@@ -29,6 +32,7 @@ refusal_text NotClosed = fault_text role.Store (store_faults.code_of stores.Stor
 refusal_text Output = codes "mldb: output: Write\n"
 refusal_text (Served cause) = served_text cause
 refusal_text Unread = codes "mldb: serve: Unreadable\n"
+refusal_text (Turned cause) = turned_text cause
 
 abbrev pub refusal_status : Refusal → ℕ
 refusal_status (Before reason) = reason_status reason
@@ -37,6 +41,7 @@ refusal_status NotClosed = 3
 refusal_status Output = 3
 refusal_status (Served cause) = 3
 refusal_status Unread = 1
+refusal_status (Turned cause) = 3
 
 -- ---- over a store
 
@@ -57,6 +62,7 @@ module _ {A : Type 0} where
   IsEnd Ends Nothing (Err Output) = ⊥
   IsEnd Ends Nothing (Err (Served cause)) = ⊥
   IsEnd Ends Nothing (Err Unread) = ⊥
+  IsEnd Ends Nothing (Err (Turned cause)) = ⊥
 
 -- how a desk ended, as it is told: without a number, and a line that could not be read as a refusal
 abbrev pub served : Result Ending Refusal → Result Ending Refusal
@@ -64,3 +70,9 @@ served (Ok Well) = Ok Well
 served (Ok Refused) = Err Unread
 served (Err (Run fault)) = Err (Served fault.cause)
 served (Err refusal) = Err refusal
+
+-- how a turning ended, as it is told: without a number
+abbrev pub turned : Result (Unit {0}) Refusal → Result Ending Refusal
+turned (Ok _) = Ok Well
+turned (Err (Run fault)) = Err (Turned fault.cause)
+turned (Err refusal) = Err refusal

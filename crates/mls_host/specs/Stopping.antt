@@ -3,7 +3,7 @@ use Rattle.std.specs.Prelude.{◌≡◌, ◌≢◌, ℕ, List, Option, Some, Non
 use Rattle.mls_sessions.specs.declared.cause.RunCause.TheVariants.{Store}
 use Rattle.mls_sessions.specs.declared.cause.RunFault.{RunFault}
 use Rattle.mls_host.specs.declared.refusal.Refusal.{Refusal}
-use Rattle.mls_host.specs.declared.refusal.Refusal.TheVariants.{Before, Run, NotClosed, Output, Served, Unread}
+use Rattle.mls_host.specs.declared.refusal.Refusal.TheVariants.{Before, Run, NotClosed, Output, Served, Unread, Turned}
 use Rattle.mls_host.specs.Hosting.{Hosted, KeepsStores, LeavesStores}
 
 module _ (h : Hosted) where
@@ -28,6 +28,7 @@ module _ (h : Hosted) where
   IsCaused store (Err Output) = ⊥
   IsCaused store (Err (Served cause)) = ⊥
   IsCaused store (Err Unread) = ⊥
+  IsCaused store (Err (Turned cause)) = ⊥
 
 -- without a store it stops for none, and none is not closed
 abbrev pub IsCausedInMemory : {A : Type 0} → Result A Refusal → Type 0
@@ -38,3 +39,4 @@ IsCausedInMemory (Err NotClosed) = ⊥
 IsCausedInMemory (Err Output) = ⊥
 IsCausedInMemory (Err (Served cause)) = ⊥
 IsCausedInMemory (Err Unread) = ⊥
+IsCausedInMemory (Err (Turned cause)) = ⊥

@@ -10,7 +10,7 @@ use Rattle.mls_host.specs.declared.words.Job.{Job}
 use Rattle.mls_host.specs.declared.words.Documents.{Documents}
 use Rattle.mls_host.specs.declared.words.Files.{Files}
 use Rattle.mls_host.specs.declared.words.Task.{Task}
-use Rattle.mls_host.specs.declared.words.Task.TheVariants.{ShowPolicy, Picture, Run, Shell, Serve, Certify, Check, Explain}
+use Rattle.mls_host.specs.declared.words.Task.TheVariants.{ShowPolicy, Picture, Run, Shell, Serve, Turn, Certify, Check, Explain}
 use Rattle.mls_host.specs.declared.usage.Usage.{Usage}
 use Rattle.mls_host.specs.declared.usage.Usage.TheVariants as usage
 
@@ -30,7 +30,11 @@ place id = record (new_rule id) { required = true }
 abbrev pub option : Text → Rule
 option id = record (new_rule id) { long = Some id; value_names = 1 }
 
--- an option without one
+-- an option that must not be left out
+abbrev pub needed : Text → Rule
+needed id = record (option id) { required = true }
+
+-- an option without a value
 abbrev pub flag : Text → Rule
 flag id = record (new_rule id) { long = Some id; action = Some SetTrue }
 
@@ -53,6 +57,9 @@ shell =
 
 abbrev pub serve : App
 serve = with_documents (with_stored (with_rule (new_app (codes "serve")) (option (codes "store"))))
+
+abbrev pub turn : App
+turn = with_documents (with_rule (with_rule (new_app (codes "turn")) (option (codes "at"))) (needed (codes "store")))
 
 abbrev pub show_policy : App
 show_policy = with_documents (new_app (codes "show-policy"))
@@ -77,7 +84,7 @@ program =
 abbrev pub command_line : App
 command_line =
     with_subcommand (with_subcommand (with_subcommand (with_subcommand (with_subcommand (with_subcommand (with_subcommand
-    program run.top) shell.top) serve.top) show_policy.top) certify.top) check.top) explain.top
+    (with_subcommand program run.top) shell.top) serve.top) turn.top) show_policy.top) certify.top) check.top) explain.top
 
 -- ---- jobs
 
@@ -102,6 +109,8 @@ IsTask name rows (Run at is_table) =
 IsTask name rows (Shell label user) =
     (name ≡ codes "shell") × (Some label.now ≡ first_of (codes "LABEL") rows) × (Some user.now ≡ first_of (codes "USER") rows)
 IsTask name rows Serve = name ≡ codes "serve"
+IsTask name rows (Turn at) =
+    (name ≡ codes "turn") × (named at ≡ first_of (codes "at") rows) × (is_some (first_of (codes "store") rows) ≡ true)
 IsTask name rows Certify = (name ≡ codes "certify") × (is_some (first_of (codes "TRANSACTIONS") rows) ≡ true)
 IsTask name rows Check =
     (name ≡ codes "check") × (is_some (first_of (codes "TRANSACTIONS") rows) ≡ true)
@@ -129,6 +138,7 @@ AreFilesOf rows (Shell label user) files =
 AreFilesOf rows Serve files =
     AreNamed files (first_of (codes "store") rows) (first_of (codes "transactions") rows)
     (first_of (codes "certificates") rows) (first_of (codes "SCRIPT") rows)
+AreFilesOf rows (Turn at) files = AreNamed files (first_of (codes "store") rows) None None None
 AreFilesOf rows Certify files = AreNamed files None (first_of (codes "TRANSACTIONS") rows) None None
 AreFilesOf rows Check files =
     AreNamed files None (first_of (codes "TRANSACTIONS") rows) (first_of (codes "CERTIFICATES") rows) None
@@ -167,6 +177,7 @@ at_of Picture = None
 at_of (Run at is_table) = named at
 at_of (Shell label user) = Some label.now
 at_of Serve = None
+at_of (Turn at) = named at
 at_of Certify = None
 at_of Check = None
 at_of (Explain name) = None

@@ -26,7 +26,7 @@ pub use crate::job::{Inputs, Setting};
 pub use crate::readers::read_script;
 pub use crate::reading::{inputs_of, setting_of};
 pub use crate::reason::{Reason, Role};
-pub use crate::refusal::{Refusal, ended, served};
+pub use crate::refusal::{Refusal, ended, served, turned};
 pub use crate::storing::{cert_named, stored_from, stored_of};
 pub use crate::telling::Tally;
 pub use crate::usage::{Usage, tell_memory};

@@ -1,7 +1,7 @@
 //! Why a command ends without success, and how that is told.
 ghost use Rattle.std.specs.Prelude.{◌≡◌, OnOk};
 ghost use Rattle.std.specs.Io.KnownBytes.{Appends};
-ghost use Rattle.mls_host.specs.Refusal.{run_text, served_text, refusal_text, refusal_status, ended, served};
+ghost use Rattle.mls_host.specs.Refusal.{run_text, served_text, turned_text, refusal_text, refusal_status, ended, served, turned};
 
 use crate::ending::Ending;
 use crate::host::CloseFault;
@@ -27,6 +27,8 @@ pub enum Refusal {
     Served(RunCause),
     /// A line of a desk could not be read.
     Unread,
+    /// An audit list was not turned: no entry of it is dropped.
+    Turned(RunCause),
 }
 
 fn tell_run<W: Write>(err: &mut W, fault: &RunFault) -> Result<(), WriteFault<W>>
@@ -49,6 +51,13 @@ fn tell_served<W: Write>(err: &mut W, cause: RunCause) -> Result<(), WriteFault<
     write_pieces(err, &pieces)
 }
 
+fn tell_turned<W: Write>(err: &mut W, cause: RunCause) -> Result<(), WriteFault<W>>
+    ensures { OnOk result (Appends (W.contents err.old) (W.contents err.new) (turned_text cause)) }
+{
+    let pieces = [Text("mldb: turn: "), Text(cause.word()), Text("\n")];
+    write_pieces(err, &pieces)
+}
+
 impl Refusal {
     /// The exit status: 2 where an input was refused, 1 where a line of a desk was not read, 3 for store, writing and memory.
     pub fn status(&self) -> u8
@@ -57,7 +66,11 @@ impl Refusal {
         match self {
             Refusal::Before(reason) => reason.status(),
             Refusal::Unread => 1,
-            Refusal::Run(_) | Refusal::NotClosed | Refusal::Output | Refusal::Served(_) => 3,
+            Refusal::Run(_)
+            | Refusal::NotClosed
+            | Refusal::Output
+            | Refusal::Served(_)
+            | Refusal::Turned(_) => 3,
         }
     }
 
@@ -77,6 +90,7 @@ impl Refusal {
             Refusal::Output => write_bytes(err, b"mldb: output: Write\n"),
             Refusal::Served(cause) => tell_served(err, *cause),
             Refusal::Unread => write_bytes(err, b"mldb: serve: Unreadable\n"),
+            Refusal::Turned(cause) => tell_turned(err, *cause),
         }
     }
 }
@@ -103,6 +117,17 @@ pub fn served(outcome: Result<Ending, Refusal>) -> Result<Ending, Refusal>
         Ok(Ending::Well) => Ok(Ending::Well),
         Ok(Ending::Refused) => Err(Refusal::Unread),
         Err(Refusal::Run(fault)) => Err(Refusal::Served(fault.cause)),
+        Err(refusal) => Err(refusal),
+    }
+}
+
+/// How a turning ended, as it is told: a fault without a number.
+pub fn turned(outcome: Result<(), Refusal>) -> Result<Ending, Refusal>
+    ensures { result ≡ turned outcome }
+{
+    match outcome {
+        Ok(()) => Ok(Ending::Well),
+        Err(Refusal::Run(fault)) => Err(Refusal::Turned(fault.cause)),
         Err(refusal) => Err(refusal),
     }
 }

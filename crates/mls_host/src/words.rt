@@ -6,7 +6,7 @@ ghost use Rattle.clap.specs.declared.builder.command.Command.TheViews.{out-Comma
 ghost use Rattle.mls_host.specs.declared.words.Task.{Task as SpecTask};
 ghost use Rattle.mls_host.specs.declared.words.Job.{Job as SpecJob};
 ghost use Rattle.mls_host.specs.declared.usage.Usage.TheVariants.{Memory};
-ghost use Rattle.mls_host.specs.Words.{at_of, texts_of, place, option, flag, is_on, AreFilesOf, with_stored, run, shell, serve, show_policy, certify, check, explain, program, command_line, IsTask, IsCommand, IsCommandOf, Asks, AskNothing};
+ghost use Rattle.mls_host.specs.Words.{at_of, texts_of, place, option, flag, is_on, AreFilesOf, with_stored, needed, run, shell, serve, turn, show_policy, certify, check, explain, program, command_line, IsTask, IsCommand, IsCommandOf, Asks, AskNothing};
 
 use crate::usage::Usage;
 use clap::error::ErrorKind;
@@ -69,6 +69,18 @@ Example:
 Status: 0 all lines were answered; 1 a line could not be read; 2 an input was refused, and nothing ran; 3 store, writing or memory.
 ";
 
+const TURN_NOTES: &str = "\
+Prints the entries of the audit list, each behind the label that may see it, and then empties the list, in one change: where the output
+is not taken, no entry is dropped. With --at fewer are printed, and all are dropped. No session can do this: it is for whoever has the
+file. Keep what it prints.
+
+Example:
+  mldb turn --store fleet.db samples/policy.toml samples/schemes.toml >audit.2026
+
+Status: 0 the list is printed and empty; 2 an input was refused, and nothing is dropped; 3 store, writing or memory, and nothing is
+dropped, unless the store is only not closed.
+";
+
 const CERTIFY_NOTES: &str = "\
 Certificates go to standard output. Each transaction that has none is told on standard error, with the statement and the rule
 that even its least labels break.
@@ -126,6 +138,8 @@ const TABLE: &str = "Prints views as tables, for a screen";
 const STORE: &str =
     "The database, which the run goes on with; without it the run begins with an empty one, in memory";
 
+const TURNED_STORE: &str = "The database whose audit list is printed and emptied";
+
 const STORED_TRANSACTIONS: &str = "The stored transactions, which the script can call";
 
 const STORED_CERTIFICATES: &str = "Their certificates: without one that holds, no call is allowed";
@@ -150,6 +164,8 @@ pub enum Task<'a> {
     Shell { label: &'a str, user: &'a str },
     /// Lines of many sessions are answered, each for the level of its own.
     Serve,
+    /// The audit list is printed, for the label of a name alone, where there is one, and emptied.
+    Turn { at: Option<&'a str> },
     /// Transactions get their certificates.
     Certify,
     /// Certificates are held against transactions.
@@ -166,7 +182,7 @@ impl<'a> Task<'a> {
         ensures { option_map (λ p. p.now) result ≡ at_of self.entry }
     {
         match self {
-            Task::Run { at, .. } => at,
+            Task::Run { at, .. } | Task::Turn { at } => at,
             Task::Shell { label, .. } => Some(label),
             _ => None,
         }
@@ -259,6 +275,27 @@ fn with_option<'a>(
             .help(help)
             .long(name)
             .value_name(value),
+    )
+}
+
+/// With an option that has a value, and must not be left out.
+fn with_needed<'a>(
+    alloc: Global,
+    command: Command<'a>,
+    name: &'a str,
+    value: &'a str,
+    help: &'a str,
+) -> Result<Command<'a>, AllocError>
+    ensures app { IfOk result (λ c. app_of c ≡ with_rule (app_of command.entry) (needed name.entry.now)) }
+    ensures local { (fields_of command.entry).has_globals ≡ false
+        → IfOk result (λ c. (fields_of c).has_globals ≡ false) }
+{
+    command.arg(
+        Arg::new(alloc, name)
+            .help(help)
+            .long(name)
+            .value_name(value)
+            .required(true),
     )
 }
 
@@ -360,6 +397,22 @@ fn serve_command<'a>(alloc: Global) -> Result<Command<'a>, AllocError>
     with_documents(alloc, with_stored(alloc, serve)?)
 }
 
+fn turn_command<'a>(alloc: Global) -> Result<Command<'a>, AllocError>
+    ensures app { IfOk result (λ c. app_of c ≡ turn) }
+    ensures local { IfOk result (λ c. (fields_of c).has_globals ≡ false) }
+{
+    let about = "Prints the audit list of a store, and empties it";
+    let turn = with_option(
+        alloc,
+        bare(alloc, "turn", about, TURN_NOTES),
+        "at",
+        "LABEL",
+        AT,
+    )?;
+    let turn = with_needed(alloc, turn, "store", "FILE", TURNED_STORE)?;
+    with_documents(alloc, turn)
+}
+
 fn show_command<'a>(alloc: Global) -> Result<Command<'a>, AllocError>
     ensures app { IfOk result (λ c. app_of c ≡ show_policy) }
     ensures local { IfOk result (λ c. (fields_of c).has_globals ≡ false) }
@@ -415,6 +468,7 @@ fn command_line<'a>(alloc: Global) -> Result<Command<'a>, AllocError>
     let line = program(alloc).subcommand(run_command(alloc)?)?;
     let line = line.subcommand(shell_command(alloc)?)?;
     let line = line.subcommand(serve_command(alloc)?)?;
+    let line = line.subcommand(turn_command(alloc)?)?;
     let line = line.subcommand(show_command(alloc)?)?;
     let line = line.subcommand(certify_command(alloc)?)?;
     let line = line.subcommand(check_command(alloc)?)?;
@@ -438,7 +492,7 @@ fn said(alloc: Global, error: &Error) -> Usage
 fn no_command(alloc: Global) -> Usage {
     match String::from_str(
         alloc,
-        "mldb: run | shell | serve | show-policy | certify | check | explain\n",
+        "mldb: run | shell | serve | turn | show-policy | certify | check | explain\n",
     ) {
         Ok(text) => Usage::Text(text),
         Err(_) => Usage::Memory,
@@ -470,6 +524,19 @@ fn shell_task<'a>(matches: &ArgMatches<'a>) -> Option<Task<'a>>
     match (value_of(matches, "LABEL"), value_of(matches, "USER")) {
         (Some(label), Some(user)) => Some(Task::Shell { label, user }),
         _ => None,
+    }
+}
+
+fn turn_task<'a>(matches: &ArgMatches<'a>) -> Option<Task<'a>>
+    ensures some { IfSome result (IsTask (codes "turn") (rows_of (found_of matches.now))) }
+    ensures none { result ≡ None → (task : SpecTask) → IsTask (codes "turn") (rows_of (found_of matches.now)) task
+        → ⊥ }
+{
+    match value_of(matches, "store") {
+        Some(_) => Some(Task::Turn {
+            at: value_of(matches, "at"),
+        }),
+        None => None,
     }
 }
 
@@ -520,6 +587,7 @@ fn task_of<'a>(name: &str, matches: &ArgMatches<'a>) -> Option<Task<'a>>
         }),
         "shell" => shell_task(matches),
         "serve" => Some(Task::Serve),
+        "turn" => turn_task(matches),
         "show-policy" => Some(Task::ShowPolicy),
         "certify" => certify_task(matches),
         "check" => check_task(matches),
@@ -540,6 +608,10 @@ fn files_of<'a>(matches: &ArgMatches<'a>, task: Task<'a>) -> Files<'a>
             certificates: value_of(matches, "certificates"),
             script: value_of(matches, "SCRIPT"),
         },
+        Task::Turn { .. } => {
+            let store = value_of(matches, "store");
+            Files { store, ..NO_FILES }
+        }
         Task::Certify | Task::Explain { .. } => Files {
             store: None,
             transactions: value_of(matches, "TRANSACTIONS"),

@@ -9,7 +9,7 @@ use Rattle.mls_lattice.specs.Labels.{Labels, below}
 use Rattle.mls_lattice.proofs.LatticeLemmas.{below-trans}
 use Rattle.mls_scheme.specs.Table.{Table}
 use Rattle.mls_filterview.specs.View.{low}
-use Rattle.mls_filterview.proofs.LowLemmas.{rows_under}
+use Rattle.mls_filterview.proofs.LowLemmas.{rows_under, low_tuples_under}
 use Rattle.mls_updates.specs.Writes.{Write, Insert, Update, Delete, Written, write}
 use Rattle.mls_updates.proofs.LawLemmas.{low_use_low}
 use Rattle.mls_audit.specs.declared.entry.Entry.{Entry}
@@ -20,10 +20,10 @@ use Rattle.mls_script.specs.declared.event.Event.{Event}
 use Rattle.mls_script.specs.declared.event.Command.{Command}
 use Rattle.mls_script.specs.declared.event.Command.TheVariants as commands
 use Rattle.mls_machine.specs.declared.reply.Denial.{Denial}
-use Rattle.mls_machine.specs.declared.reply.Reply.TheVariants.{Rows, Wrote, Entries}
+use Rattle.mls_machine.specs.declared.reply.Reply.TheVariants.{Rows, Dumped, Wrote, Entries}
 use Rattle.mls_machine.specs.Site.{Site, site_labels, site_scheme}
 use Rattle.mls_machine.specs.Denying.{first_denial, cleared, user_named, view_denials}
-use Rattle.mls_machine.specs.Machine.{World, Step, in_session, unless, denial_entry, denied, viewed, wrote, listed, step_inside, open_step, step_outside, step_at, step}
+use Rattle.mls_machine.specs.Machine.{World, Step, in_session, unless, denial_entry, denied, viewed, dumped, wrote, listed, step_inside, open_step, step_outside, step_at, step}
 use Rattle.mls_machine.proofs.DenyingLemmas.{view_below}
 use Rattle.mls_machine.specs.Observation.{IsNoCall}
 use Rattle.mls_machine.proofs.LowLemmas.{LowAgree}
@@ -77,6 +77,9 @@ module _ (site : Site) (c : ℕ) (v w : World) (e : Event) (seen : below (site_l
       let lower = below-trans ls label e.level c (view_below site e.level user rel label none) seen in
       record { world = h; reply = ap (λ ts. Rows (found ls query ts)) (rows_under ls c label (v.db rel) (w.db rel) (h.tables rel) lower) }
 
+  alike_dump : (rel : ℕ) → Alike (dumped site v rel e.level) (dumped site w rel e.level)
+  alike_dump rel = record { world = h; reply = ap Dumped (low_tuples_under (site_labels site) c e.level (v.db rel) (w.db rel) (h.tables rel) seen) }
+
   abbrev result : World → ℕ → Write → Written
   result u rel wr = write (site_labels site) (site_scheme site rel) e.level wr (u.db rel)
 
@@ -123,6 +126,7 @@ module _ (site : Site) (c : ℕ) (v w : World) (e : Event) (seen : below (site_l
   alike_inside commands.Close user plain = record { world = alike_session None; reply = refl }
   alike_inside commands.Audit user plain = alike_listed
   alike_inside (commands.View rel label query counts) user plain = alike_unless _ user _ _ (alike_view user rel label query)
+  alike_inside (commands.Dump rel) user plain = alike_unless _ user _ _ (λ none. alike_dump rel)
   alike_inside (commands.Insert rel key values) user plain = alike_write _ user rel (Insert key values)
   alike_inside (commands.Update rel key key_class from sets) user plain = alike_write _ user rel (Update key key_class from sets)
   alike_inside (commands.Delete rel key key_class) user plain = alike_write _ user rel (Delete key key_class)
@@ -137,6 +141,7 @@ module _ (site : Site) (c : ℕ) (v w : World) (e : Event) (seen : below (site_l
   alike_outside commands.Close = record { world = h; reply = refl }
   alike_outside commands.Audit = record { world = h; reply = refl }
   alike_outside (commands.View rel label query counts) = record { world = h; reply = refl }
+  alike_outside (commands.Dump rel) = record { world = h; reply = refl }
   alike_outside (commands.Insert rel key values) = record { world = h; reply = refl }
   alike_outside (commands.Update rel key key_class from sets) = record { world = h; reply = refl }
   alike_outside (commands.Delete rel key key_class) = record { world = h; reply = refl }

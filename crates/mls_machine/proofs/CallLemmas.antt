@@ -176,6 +176,7 @@ module _ (site : Site) (distinct : AreDistinct (site_labels site)) (c : ℕ) (v 
   shown_plain commands.Close h = refl
   shown_plain commands.Audit h = refl
   shown_plain (commands.View rel label query counts) h = refl
+  shown_plain (commands.Dump rel) h = refl
   shown_plain (commands.Insert rel key values) h = refl
   shown_plain (commands.Update rel key key_class from sets) h = refl
   shown_plain (commands.Delete rel key key_class) h = refl
@@ -187,6 +188,7 @@ module _ (site : Site) (distinct : AreDistinct (site_labels site)) (c : ℕ) (v 
   plain_back a commands.Close p q = q
   plain_back a commands.Audit p q = q
   plain_back a (commands.View rel label query counts) p q = q
+  plain_back a (commands.Dump rel) p q = q
   plain_back a (commands.Insert rel key values) p q = q
   plain_back a (commands.Update rel key key_class from sets) p q = q
   plain_back a (commands.Delete rel key key_class) p q = q
@@ -225,6 +227,7 @@ module _ (site : Site) (distinct : AreDistinct (site_labels site)) (c : ℕ) (v 
   from_call name vs commands.Close safe q = absurd (plain_no_call name _ _ tt q)
   from_call name vs commands.Audit safe q = absurd (plain_no_call name _ _ tt q)
   from_call name vs (commands.View rel label query counts) safe q = absurd (plain_no_call name _ _ tt q)
+  from_call name vs (commands.Dump rel) safe q = absurd (plain_no_call name _ _ tt q)
   from_call name vs (commands.Insert rel key values) safe q = absurd (plain_no_call name _ _ tt q)
   from_call name vs (commands.Update rel key key_class from sets) safe q = absurd (plain_no_call name _ _ tt q)
   from_call name vs (commands.Delete rel key key_class) safe q = absurd (plain_no_call name _ _ tt q)
@@ -238,6 +241,7 @@ module _ (site : Site) (distinct : AreDistinct (site_labels site)) (c : ℕ) (v 
   pair commands.Close b safe q = from_plain commands.Close b tt q
   pair commands.Audit b safe q = from_plain commands.Audit b tt q
   pair (commands.View rel label query counts) b safe q = from_plain (commands.View rel label query counts) b tt q
+  pair (commands.Dump rel) b safe q = from_plain (commands.Dump rel) b tt q
   pair (commands.Insert rel key values) b safe q = from_plain (commands.Insert rel key values) b tt q
   pair (commands.Update rel key key_class from sets) b safe q = from_plain (commands.Update rel key key_class from sets) b tt q
   pair (commands.Delete rel key key_class) b safe q = from_plain (commands.Delete rel key key_class) b tt q

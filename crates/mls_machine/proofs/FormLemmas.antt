@@ -2,6 +2,8 @@
 use Rattle.std.proofs.Common.{◌≡◌, ℕ, true, false, cond, List, [], ◌∷◌, ◌++◌, map, refl, sym, ap, ◌∙◌}
 use Rattle.std.proofs.lemmas.List.Elements.{filter-append}
 use Rattle.mls_lattice.specs.Labels.{Labels, below}
+use Rattle.mls_tokens.specs.Writing.{printable}
+use Rattle.mls_lattice.specs.Policy.{Name}
 use Rattle.mls_scheme.specs.declared.tuple.Tuple.{Tuple}
 use Rattle.mls_script.specs.declared.event.Event.{Event}
 use Rattle.mls_script.specs.declared.event.Command.{Command}
@@ -9,9 +11,9 @@ use Rattle.mls_script.specs.declared.event.Command.TheVariants as commands
 use Rattle.mls_machine.specs.declared.form.Form.{Form}
 use Rattle.mls_machine.specs.declared.form.Form.TheVariants.{Lines, Table}
 use Rattle.mls_machine.specs.declared.reply.Reply.{Reply}
-use Rattle.mls_machine.specs.declared.reply.Reply.TheVariants.{Rows, Ran}
+use Rattle.mls_machine.specs.declared.reply.Reply.TheVariants.{Rows, Dumped, Ran}
 use Rattle.mls_machine.specs.Site.{Site, site_labels}
-use Rattle.mls_machine.specs.Output.{Line, line, item_lines, lines_with, escaped_line, view_texts, table_texts, call_texts, reply_texts, texts_in_table, reply_lines, reply_lines_in}
+use Rattle.mls_machine.specs.Output.{Line, line, item_lines, lines_with, escaped_line, view_texts, table_texts, dump_texts, call_texts, reply_texts, texts_in_table, reply_lines, reply_lines_in}
 use Rattle.mls_machine.specs.Observation.{out, shown, glimpse, reply_shown}
 use Rattle.mls_machine.proofs.ItemLemmas.{filter-map, lines_seen}
 use Rattle.mls_machine.proofs.HiddenLemmas.{hidden_lines}
@@ -34,15 +36,21 @@ module _ (site : Site) (c : ℕ) where
   same_calls (commands.Call name args) = refl
   same_calls a = refl
 
-  same_texts : (a : Command) (r : Reply) → reply_texts site (shown site c a) (reply_shown ls c r) ≡ reply_texts site a r
-  same_texts a (Rows tuples) = same_views a tuples
-  same_texts a (Ran run) = same_calls a
-  same_texts a r = refl
+  same_dumps : (session : Name) (a : Command) (tuples : List Tuple) → dump_texts site session (shown site c a) tuples ≡ dump_texts site session a tuples
+  same_dumps session (commands.Call name args) tuples = refl
+  same_dumps session a tuples = refl
 
-  same_in_table : (a : Command) (r : Reply) → texts_in_table site (shown site c a) (reply_shown ls c r) ≡ texts_in_table site a r
-  same_in_table a (Rows tuples) = same_tables a tuples
-  same_in_table a (Ran run) = same_calls a
-  same_in_table a r = refl
+  same_texts : (session : Name) (a : Command) (r : Reply) → reply_texts site session (shown site c a) (reply_shown ls c r) ≡ reply_texts site session a r
+  same_texts session a (Rows tuples) = same_views a tuples
+  same_texts session a (Dumped tuples) = same_dumps (printable session) a tuples
+  same_texts session a (Ran run) = same_calls a
+  same_texts session a r = refl
+
+  same_in_table : (session : Name) (a : Command) (r : Reply) → texts_in_table site session (shown site c a) (reply_shown ls c r) ≡ texts_in_table site session a r
+  same_in_table session a (Rows tuples) = same_tables a tuples
+  same_in_table session a (Dumped tuples) = same_dumps (printable session) a tuples
+  same_in_table session a (Ran run) = same_calls a
+  same_in_table session a r = refl
 
   module _ (e : Event) where
     abbrev on_level : List (List ℕ) → List Line
@@ -66,18 +74,18 @@ module _ (site : Site) (c : ℕ) where
           ∙ (λ i. texts_seen texts i ++ items_seen r i) ∙ ap (λ t. on_level t ++ item_lines site.policy e (reply_shown ls c r)) (sym same)
 
       pub seen_in : (r : Reply) (form : Form) → out ls c (reply_lines_in form site e r) ≡ reply_lines_in form site (glimpse site c e) (reply_shown ls c r)
-      seen_in r Lines = with_seen r (reply_texts site e.command r) (reply_texts site (shown site c e.command) (reply_shown ls c r)) (same_texts e.command r)
+      seen_in r Lines = with_seen r (reply_texts site e.session e.command r) (reply_texts site e.session (shown site c e.command) (reply_shown ls c r)) (same_texts e.session e.command r)
       seen_in r Table =
-          filter-map (λ l. below ls l.label c) escaped_line (lines_with site e (texts_in_table site e.command r) r)
+          filter-map (λ l. below ls l.label c) escaped_line (lines_with site e (texts_in_table site e.session e.command r) r)
           ∙ ap (map escaped_line)
-          (with_seen r (texts_in_table site e.command r) (texts_in_table site (shown site c e.command) (reply_shown ls c r)) (same_in_table e.command r))
+          (with_seen r (texts_in_table site e.session e.command r) (texts_in_table site e.session (shown site c e.command) (reply_shown ls c r)) (same_in_table e.session e.command r))
 
     -- ---- at another
 
     module _ (hidden : below ls e.level c ≡ false) (r : Reply) (silent : out ls c (reply_lines site e r) ≡ []) where
       items_hidden : out ls c (item_lines site.policy e r) ≡ []
       items_hidden =
-          let texts = reply_texts site e.command r in
+          let texts = reply_texts site e.session e.command r in
           ap (λ l. l ++ out ls c (item_lines site.policy e r)) (sym (hidden_lines ls c site.policy e e.level hidden texts))
           ∙ sym (filter-append (λ l. below ls l.label c) (on_level texts) (item_lines site.policy e r)) ∙ silent
 
@@ -89,4 +97,4 @@ module _ (site : Site) (c : ℕ) where
       pub hidden_in : (form : Form) → out ls c (reply_lines_in form site e r) ≡ []
       hidden_in Lines = silent
       hidden_in Table =
-          filter-map (λ l. below ls l.label c) escaped_line (lines_with site e (texts_in_table site e.command r) r) ∙ ap (map escaped_line) (with_hidden (texts_in_table site e.command r))
+          filter-map (λ l. below ls l.label c) escaped_line (lines_with site e (texts_in_table site e.session e.command r) r) ∙ ap (map escaped_line) (with_hidden (texts_in_table site e.session e.command r))

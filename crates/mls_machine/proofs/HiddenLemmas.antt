@@ -27,7 +27,7 @@ use Rattle.mls_machine.specs.declared.stored.Stored.{Stored}
 use Rattle.mls_machine.specs.declared.stored.Stored.TheVariants.{Certified, Plain}
 use Rattle.mls_machine.specs.Site.{Site, site_labels, site_scheme}
 use Rattle.mls_machine.specs.Denying.{first_denial, cleared, user_named, stored_named, fitted, call_denials}
-use Rattle.mls_machine.specs.Machine.{World, Step, in_session, unless, denial_entry, denied, viewed, wrote, call_entries, called, call_step, step_inside, open_step, step_outside, step_at, step}
+use Rattle.mls_machine.specs.Machine.{World, Step, in_session, unless, denial_entry, denied, viewed, dumped, wrote, call_entries, called, call_step, step_inside, open_step, step_outside, step_at, step}
 use Rattle.mls_machine.specs.Output.{line, reply_texts, item_lines, reply_lines}
 use Rattle.mls_machine.specs.Observation.{AreStored, out, released_in}
 use Rattle.mls_machine.proofs.LowLemmas.{LowAgree, lows_same}
@@ -44,8 +44,8 @@ hidden_lines ls c p e label h (text ∷ texts) =
 
 hidden_reply : (site : Site) (c : ℕ) (e : Event) (r : Reply) → below (site_labels site) e.level c ≡ false → out (site_labels site) c (item_lines site.policy e r) ≡ [] → out (site_labels site) c (reply_lines site e r) ≡ []
 hidden_reply site c e r h items =
-    filter-append (λ l. below (site_labels site) l.label c) (map (line site.policy e e.level) (reply_texts site e.command r)) (item_lines site.policy e r)
-    ∙ (λ i. hidden_lines (site_labels site) c site.policy e e.level h (reply_texts site e.command r) i ++ items i)
+    filter-append (λ l. below (site_labels site) l.label c) (map (line site.policy e e.level) (reply_texts site e.session e.command r)) (item_lines site.policy e r)
+    ∙ (λ i. hidden_lines (site_labels site) c site.policy e e.level h (reply_texts site e.session e.command r) i ++ items i)
 
 -- ---- steps
 
@@ -141,6 +141,7 @@ module _ (site : Site) (distinct : AreDistinct (site_labels site)) (c : ℕ) (w 
   hidden_inside commands.Close user safe = without_items _ (hidden_session None) refl refl
   hidden_inside commands.Audit user safe = same _ refl refl
   hidden_inside (commands.View rel label query counts) user safe = hidden_unless _ user (viewed site w rel label query) (λ none. same _ refl refl)
+  hidden_inside (commands.Dump rel) user safe = hidden_unless _ user (dumped site w rel e.level) (λ none. same _ refl refl)
   hidden_inside (commands.Insert rel key values) user safe = hidden_write _ user rel (Insert key values)
   hidden_inside (commands.Update rel key key_class from sets) user safe = hidden_write _ user rel (Update key key_class from sets)
   hidden_inside (commands.Delete rel key key_class) user safe = hidden_write _ user rel (Delete key key_class)
@@ -155,6 +156,7 @@ module _ (site : Site) (distinct : AreDistinct (site_labels site)) (c : ℕ) (w 
   hidden_outside commands.Close = same _ refl refl
   hidden_outside commands.Audit = same _ refl refl
   hidden_outside (commands.View rel label query counts) = same _ refl refl
+  hidden_outside (commands.Dump rel) = same _ refl refl
   hidden_outside (commands.Insert rel key values) = same _ refl refl
   hidden_outside (commands.Update rel key key_class from sets) = same _ refl refl
   hidden_outside (commands.Delete rel key key_class) = same _ refl refl

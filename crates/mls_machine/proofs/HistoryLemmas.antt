@@ -1,9 +1,11 @@
 -- Histories, as a level sees them: each run by the law of runs, and what it leaves by the next.
-use Rattle.std.proofs.Common.{◌≡◌, ℕ, List, [], ◌∷◌, map, refl, sym, ap, ◌∙◌, subst, inr, ◌⊎◌}
+use Rattle.std.proofs.Common.{◌≡◌, ℕ, Bool, true, false, cond, List, [], ◌∷◌, ◌++◌, map, refl, sym, ap, ◌∙◌, subst, inr, ◌⊎◌}
 use Rattle.std.specs.Bool.{⊤}
 use Rattle.std.specs.List.{AllByRecursion, AllZip}
 use Rattle.std.proofs.lemmas.Simd.{map-map}
-use Rattle.mls_lattice.specs.Labels.{Labels, AreDistinct}
+use Rattle.std.proofs.lemmas.List.Elements.{filter-append}
+use Rattle.mls_lattice.specs.Labels.{Labels, AreDistinct, below}
+use Rattle.mls_lattice.specs.Policy.{Tables}
 use Rattle.mls_scheme.specs.Table.{Database}
 use Rattle.mls_scheme.specs.Scheme.{Schemes}
 use Rattle.mls_meaning.specs.Secure as secure
@@ -13,28 +15,62 @@ use Rattle.mls_machine.specs.Site.{Site, site_labels}
 use Rattle.mls_machine.specs.Machine.{World, end_of}
 use Rattle.mls_machine.specs.Output.{run_lines, printed}
 use Rattle.mls_machine.specs.Observation.{AreStored, EventsFit, AreSecure, AreCertified, HaveNoCall, AgreeAt, EndAlike, seen, released_to, AreBelowCeiling, out, replies_shown}
-use Rattle.mls_machine.specs.History.{RunAt, settled, run_end, history_end, history_lines, history_replies, KeepsIntegrityInHistory, LookAlike, ReleaseAlike, HistoriesEndAlike, HistoryFits, HistoryHasNoCall, IsSiteUnder, IsHistoryUnder, EachPassesOnlyReleasesDown, HistoriesKeepIntegrity, LowHistoriesAreAlike, SecureHistoriesAreAlike, AcceptedHistoriesAreAlike, HistoriesPassWhatRunsPass, HistoriesShowOnlyReleases}
+use Rattle.mls_machine.specs.Turning.{turn_line, turn_lines, turned, TurnedWorldsAreAlike, TurningsShowTheSame}
+use Rattle.mls_machine.specs.History.{RunAt, settled, run_start, run_end, turning_lines, history_end, history_lines, history_replies, KeepsIntegrityInHistory, LookAlike, ReleaseAlike, HistoriesEndAlike, HistoryFits, HistoryHasNoCall, IsSiteUnder, IsHistoryUnder, EachPassesOnlyReleasesDown, HistoriesKeepIntegrity, LowHistoriesAreAlike, SecureHistoriesAreAlike, AcceptedHistoriesAreAlike, HistoriesPassWhatRunsPass, HistoriesShowOnlyReleases}
+use Rattle.mls_machine.proofs.ItemLemmas.{filter-map}
 use Rattle.mls_machine.proofs.KeepingLemmas.{run_stored, all_calls_read, keep_integrity}
 use Rattle.mls_machine.proofs.RunLemmas.{secure_alike, certified_secure, runs_alike, unseen_ceilings, none_seen, none_secure}
+
+-- ---- turnings
+
+pub turned_alike : TurnedWorldsAreAlike
+turned_alike ls c v w h = record { views = h.views; sessions = h.sessions; entries = refl }
+
+pub turned_lines : TurningsShowTheSame
+turned_lines p ls c v w h =
+    filter-map (λ l. below ls l.label c) (turn_line p) v.audit ∙ ap (map (turn_line p)) h.entries ∙ sym (filter-map (λ l. below ls l.label c) (turn_line p) w.audit)
+
+-- the list is turned in both worlds, or in neither
+module _ (ls : Labels) (c : ℕ) (v w : World) (h : AgreeAt ls c v w) where
+  both_turned : (b : Bool) → AgreeAt ls c (cond b (turned v) v) (cond b (turned w) w)
+  both_turned true = turned_alike ls c v w h
+  both_turned false = h
+
+  both_lines : (p : Tables) (b : Bool) → out ls c (cond b (turn_lines p v.audit) []) ≡ out ls c (cond b (turn_lines p w.audit) [])
+  both_lines p true = turned_lines p ls c v w h
+  both_lines p false = refl
+
+  starts_alike : (r s : RunAt) → LookAlike c r s → AgreeAt ls c (run_start v r) (run_start w s)
+  starts_alike r s look = subst (λ b. AgreeAt ls c (run_start v r) (cond b (turned w) w)) look.turns (both_turned r.turns)
+
+  turnings_alike : (r s : RunAt) → LookAlike c r s → out ls c (turning_lines v r) ≡ out ls c (turning_lines w s)
+  turnings_alike r s look = both_lines r.site.policy r.turns ∙ (λ i. out ls c (cond (look.turns i) (turn_lines (look.site i).policy w.audit) []))
+
+-- a turning leaves the database
+start_stored : (P : Database → Type 0) (w : World) (b : Bool) → P w.db → P (cond b (turned w) w).db
+start_stored P w true h = h
+start_stored P w false h = h
+
+-- ---- runs
 
 settled_alike : {ls : Labels} {c : ℕ} {v w : World} → AgreeAt ls c v w → AgreeAt ls c (settled v) (settled w)
 settled_alike h = record { views = h.views; sessions = λ l n b. refl; entries = h.entries }
 
 -- what two runs release to c is the same, or c dominates all that the calls that it sees can read
-abbrev ReleaseSame : Site → ℕ → World → List Event → World → RunAt → Type 0
-ReleaseSame site c v es w s = (released_to site c v es ≡ released_to s.site c w s.events) ⊎ AreBelowCeiling site c es
+abbrev ReleaseSame : Site → ℕ → World → List Event → Site → World → List Event → Type 0
+ReleaseSame site c v es other w fs = (released_to site c v es ≡ released_to other c w fs) ⊎ AreBelowCeiling site c es
 
 -- a run from v passes nothing down but what it releases, to any other run of which so much is known
 abbrev Passes : (List Event → Type 0) → World → RunAt → Type 0
 Passes Other v r =
     (c : ℕ) (w : World) (fs : List Event) → AreStored r.site w.db → EventsFit r.site fs → Other fs
     → AgreeAt (site_labels r.site) c v w → seen r.site c r.events ≡ seen r.site c fs
-    → ReleaseSame r.site c v r.events w (record { site = r.site; events = fs })
+    → ReleaseSame r.site c v r.events r.site w fs
     → EndAlike r.site c v w r.events fs
 
 abbrev EachPasses : (List Event → Type 0) → World → List RunAt → Type 0
 EachPasses Other v [] = ⊤
-EachPasses Other v (r ∷ rs) = Passes Other v r × EachPasses Other (run_end v r) rs
+EachPasses Other v (r ∷ rs) = Passes Other (run_start v r) r × EachPasses Other (run_end v r) rs
 
 -- nothing is known of it
 abbrev Any : List Event → Type 0
@@ -60,26 +96,35 @@ module _ (ls : Labels) (schemes : Schemes) (distinct : AreDistinct ls) where
     stored_end : (w : World) (es : List Event) → EventsFit site es → secure.AreStored ls schemes w.db → secure.AreStored ls schemes (end_of site w es).db
     stored_end w es fits h = stored_back _ (run_stored site distinct_at w es (stored_at w.db h) fits (all_calls_read site distinct_at under.read es))
 
+  start_at : (w : World) (r : RunAt) → secure.AreStored ls schemes w.db → secure.AreStored ls schemes (run_start w r).db
+  start_at w r h = start_stored (secure.AreStored ls schemes) w r.turns h
+
   -- ---- two runs
 
   record RunsEnd (c : ℕ) (v w : World) (r s : RunAt) : Type 0 where
-    pub lines : (form : Form) → out ls c (run_lines form r.site v r.events) ≡ out ls c (run_lines form s.site w s.events)
-    pub replies : replies_shown r.site c v r.events ≡ replies_shown s.site c w s.events
+    pub lines : (form : Form) → out ls c (turning_lines v r ++ run_lines form r.site (run_start v r) r.events) ≡ out ls c (turning_lines w s ++ run_lines form s.site (run_start w s) s.events)
+    pub replies : replies_shown r.site c (run_start v r) r.events ≡ replies_shown s.site c (run_start w s) s.events
     pub world : AgreeAt ls c (run_end v r) (run_end w s)
 
-  runs_end : (Other : List Event → Type 0) (c : ℕ) (r s : RunAt) (v w : World) → IsSiteUnder ls schemes r.site → LookAlike c r s → Passes Other v r
-      → secure.AreStored ls schemes w.db → EventsFit s.site s.events → Other s.events → AgreeAt ls c v w → ReleaseSame r.site c v r.events w s → RunsEnd c v w r s
+  runs_end : (Other : List Event → Type 0) (c : ℕ) (r s : RunAt) (v w : World) → IsSiteUnder ls schemes r.site → LookAlike c r s → Passes Other (run_start v r) r
+      → secure.AreStored ls schemes w.db → EventsFit s.site s.events → Other s.events → AgreeAt ls c v w
+      → ReleaseSame r.site c (run_start v r) r.events s.site (run_start w s) s.events → RunsEnd c v w r s
   runs_end Other c r s v w under look passes sw fits other agree released =
-      let end = passes c w s.events (stored_at r.site under w.db sw) (subst (λ x. EventsFit x s.events) (sym look.site) fits) other
-      (subst (λ l. AgreeAt l c v w) (sym under.labels) agree)
+      let x = run_start v r in let y = run_start w s in
+      let end = passes c y s.events (stored_at r.site under y.db (start_at w s sw)) (subst (λ at. EventsFit at s.events) (sym look.site) fits) other
+      (subst (λ l. AgreeAt l c x y) (sym under.labels) (starts_alike ls c v w agree r s look))
       look.events
-      (subst (λ x. ReleaseSame r.site c v r.events w (record { site = x; events = s.events })) (sym look.site) released) in
+      (subst (λ at. ReleaseSame r.site c x r.events at y s.events) (sym look.site) released) in
+      let ran : (form : Form) → out ls c (run_lines form r.site x r.events) ≡ out ls c (run_lines form s.site y s.events)
+      = λ form. ap (λ l. out l c (run_lines form r.site x r.events)) (sym under.labels) ∙ end.out form ∙ (λ i. out (under.labels i) c (run_lines form (look.site i) y s.events)) in
       record {
-        lines = λ form. ap (λ l. out l c (run_lines form r.site v r.events)) (sym under.labels) ∙ end.out form ∙ (λ i. out (under.labels i) c (run_lines form (look.site i) w s.events));
-        replies = end.replies ∙ (λ i. replies_shown (look.site i) c w s.events);
+        lines = λ form. filter-append (λ l. below ls l.label c) (turning_lines v r) (run_lines form r.site x r.events)
+            ∙ (λ i. turnings_alike ls c v w agree r s look i ++ ran form i)
+            ∙ sym (filter-append (λ l. below ls l.label c) (turning_lines w s) (run_lines form s.site y s.events));
+        replies = end.replies ∙ (λ i. replies_shown (look.site i) c y s.events);
         world = settled_alike
-            (subst (λ x. AgreeAt ls c (end_of r.site v r.events) (end_of x w s.events)) look.site
-            (subst (λ l. AgreeAt l c (end_of r.site v r.events) (end_of r.site w s.events)) under.labels end.worlds));
+            (subst (λ at. AgreeAt ls c (end_of r.site x r.events) (end_of at y s.events)) look.site
+            (subst (λ l. AgreeAt l c (end_of r.site x r.events) (end_of r.site y s.events)) under.labels end.worlds));
       }
 
   -- ---- run by run
@@ -93,7 +138,7 @@ module _ (ls : Labels) (schemes : Schemes) (distinct : AreDistinct ls) where
   alike Other c (r ∷ rs) [] v w under passes sw fits other agree look released = absurd look
   alike Other c (r ∷ rs) (s ∷ ss) v w under passes sw fits other agree look released =
       let end = runs_end Other c r s v w under.0 look.0 passes.0 sw fits.0 other.0 agree released.0 in
-      let left = stored_end s.site (subst (IsSiteUnder ls schemes) look.0.site under.0) w s.events fits.0 sw in
+      let left = stored_end s.site (subst (IsSiteUnder ls schemes) look.0.site under.0) (run_start w s) s.events fits.0 (start_at w s sw) in
       let rest = alike Other c rs ss (run_end v r) (run_end w s) under.1 passes.1 left fits.1 other.1 end.world look.1 released.1 in
       record { lines = λ form. λ i. end.lines form i ∷ rest.lines form i; replies = λ i. end.replies i ∷ rest.replies i; worlds = rest.worlds }
 
@@ -103,17 +148,17 @@ module _ (ls : Labels) (schemes : Schemes) (distinct : AreDistinct ls) where
   secure_pass v [] sv under fits safe = tt
   secure_pass v (r ∷ rs) sv under fits safe = (
     (λ c w fs sw ff other agree same released.
-        secure_alike r.site (distinct_at r.site under.0) under.0.read safe.0 v r.events (stored_at r.site under.0 v.db sv) fits.0 c w fs sw ff agree same released),
-    secure_pass (run_end v r) rs (stored_end r.site under.0 v r.events fits.0 sv) under.1 fits.1 safe.1,
+        secure_alike r.site (distinct_at r.site under.0) under.0.read safe.0 (run_start v r) r.events (stored_at r.site under.0 (run_start v r).db (start_at v r sv)) fits.0 c w fs sw ff agree same released),
+    secure_pass (run_end v r) rs (stored_end r.site under.0 (run_start v r) r.events fits.0 (start_at v r sv)) under.1 fits.1 safe.1,
   )
 
   plain_pass : (v : World) (rs : List RunAt) → secure.AreStored ls schemes v.db → IsHistoryUnder ls schemes rs → HistoryFits rs → HistoryHasNoCall rs → EachPasses HaveNoCall v rs
   plain_pass v [] sv under fits plain = tt
   plain_pass v (r ∷ rs) sv under fits plain = (
     (λ c w fs sw ff other agree same released.
-        runs_alike r.site (distinct_at r.site under.0) v r.events (stored_at r.site under.0 v.db sv) fits.0 (none_secure r.site r.events plain.0) c w fs sw ff
+        runs_alike r.site (distinct_at r.site under.0) (run_start v r) r.events (stored_at r.site under.0 (run_start v r).db (start_at v r sv)) fits.0 (none_secure r.site r.events plain.0) c w fs sw ff
         (none_secure r.site fs other) (none_seen r.site c r.events plain.0) agree same),
-    plain_pass (run_end v r) rs (stored_end r.site under.0 v r.events fits.0 sv) under.1 fits.1 plain.1,
+    plain_pass (run_end v r) rs (stored_end r.site under.0 (run_start v r) r.events fits.0 (start_at v r sv)) under.1 fits.1 plain.1,
   )
 
   any_pass : (v : World) (rs : List RunAt) → EachPassesOnlyReleasesDown v rs → EachPasses Any v rs
@@ -127,8 +172,8 @@ module _ (ls : Labels) (schemes : Schemes) (distinct : AreDistinct ls) where
   integrity : (v : World) (rs : List RunAt) → secure.AreStored ls schemes v.db → IsHistoryUnder ls schemes rs → HistoryFits rs → KeepsIntegrityInHistory v rs
   integrity v [] sv under fits = tt
   integrity v (r ∷ rs) sv under fits = (
-    keep_integrity r.site (distinct_at r.site under.0) under.0.read v r.events (stored_at r.site under.0 v.db sv) fits.0,
-    integrity (run_end v r) rs (stored_end r.site under.0 v r.events fits.0 sv) under.1 fits.1,
+    keep_integrity r.site (distinct_at r.site under.0) under.0.read (run_start v r) r.events (stored_at r.site under.0 (run_start v r).db (start_at v r sv)) fits.0,
+    integrity (run_end v r) rs (stored_end r.site under.0 (run_start v r) r.events fits.0 (start_at v r sv)) under.1 fits.1,
   )
 
 -- no call reads anything

@@ -82,6 +82,7 @@ module _ (site : Site) (P : ℕ → Table → Type 0) (keeps : Kept site P) wher
     inside_holds commands.Close user fits read = all
     inside_holds commands.Audit user fits read = all
     inside_holds (commands.View rel label query counts) user fits read = unless_holds _ w e user _ all (λ none. all)
+    inside_holds (commands.Dump rel) user fits read = unless_holds _ w e user _ all (λ none. all)
     inside_holds (commands.Insert rel key values) user fits read =
         write_holds user rel (Insert key values) _ (record { numbers = (level_fits, AllZip-long _ (site_scheme site rel).others values fits.2); kinds = (fits.1, fits.2) })
     inside_holds (commands.Update rel key key_class from sets) user fits read =
@@ -98,6 +99,7 @@ module _ (site : Site) (P : ℕ → Table → Type 0) (keeps : Kept site P) wher
     outside_holds commands.Close = all
     outside_holds commands.Audit = all
     outside_holds (commands.View rel label query counts) = all
+    outside_holds (commands.Dump rel) = all
     outside_holds (commands.Insert rel key values) = all
     outside_holds (commands.Update rel key key_class from sets) = all
     outside_holds (commands.Delete rel key key_class) = all

@@ -17,6 +17,7 @@ pub mod LineLemmas
 pub mod ScreenLemmas
 pub mod OneLineLemmas
 pub mod RowLineLemmas
+pub mod DumpLineLemmas
 pub mod PartingLemmas
 pub mod PickingLemmas
 pub mod SampleLemmas

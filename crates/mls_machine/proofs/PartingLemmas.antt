@@ -9,12 +9,13 @@ use Rattle.std.proofs.lemmas.List.Splits.{slice_split_at}
 use Rattle.mls_tokens.specs.Writing.{printable}
 use Rattle.mls_lattice.specs.Policy.{Name}
 use Rattle.mls_lattice.specs.Name.{is_name}
-use Rattle.mls_lattice.specs.Canon.{user_name}
+use Rattle.mls_lattice.specs.Canon.{label_name, user_name}
 use Rattle.mls_scheme.specs.Scheme.{Scheme, Attribute, IsScheme, scheme_of}
 use Rattle.mls_scheme.specs.declared.tuple.Tuple.{Tuple}
 use Rattle.mls_updates.specs.declared.outcome.Outcome.{Outcome}
 use Rattle.mls_updates.specs.declared.outcome.Outcome.TheVariants as outcomes
 use Rattle.mls_updates.specs.Outcome.{is_done, code_of as outcome_code, word_of as outcome_word}
+use Rattle.mls_audit.specs.Entry.{label_of}
 use Rattle.mls_meaning.specs.Meaning.{Item}
 use Rattle.mls_script.specs.declared.event.Event.{Event}
 use Rattle.mls_script.specs.declared.event.Command.{Command}
@@ -24,14 +25,17 @@ use Rattle.mls_machine.specs.declared.form.Form.TheVariants.{Lines, Table}
 use Rattle.mls_machine.specs.declared.reply.Denial.{Denial}
 use Rattle.mls_machine.specs.declared.reply.Denial.TheVariants as denials
 use Rattle.mls_machine.specs.declared.reply.Reply.{Reply}
-use Rattle.mls_machine.specs.declared.reply.Reply.TheVariants.{Opened, Closed, Rows, Wrote, Ran, Entries, Denied}
+use Rattle.mls_machine.specs.declared.reply.Reply.TheVariants.{Opened, Closed, Rows, Dumped, Wrote, Ran, Entries, Denied}
 use Rattle.mls_machine.specs.Site.{Site, site_labels}
 use Rattle.mls_machine.specs.Reply.{code_of, word_of}
+use Rattle.mls_machine.specs.Dumping.{made_again}
 use Rattle.mls_machine.specs.Machine.{World, step}
-use Rattle.mls_machine.specs.Output.{Line, cell_text, row_text, entry_text, outcome_text, denial_text, view_texts, table_texts, table_widths, call_texts, reply_texts, texts_in_table, front, line, item_line, item_lines, lines_with, escaped_line, reply_lines_in, run_lines, printed}
+use Rattle.mls_machine.specs.Output.{Line, cell_text, row_text, entry_text, outcome_text, denial_text, view_texts, table_texts, table_widths, made_text, dump_texts, call_texts, reply_texts, texts_in_table, front, line, item_line, item_lines, lines_with, escaped_line, reply_lines_in, run_lines, printed}
 use Rattle.mls_machine.specs.Observation.{heard, out}
-use Rattle.mls_machine.specs.Parting.{is_line_feed, IsOneLine, HasPlainNames, IsPlain, PoliciesArePlain, RepliesAreLines, RunsAreLines, RunsPartIntoLines}
+use Rattle.mls_machine.specs.Turning.{turn_line}
+use Rattle.mls_machine.specs.Parting.{is_line_feed, IsOneLine, HasPlainNames, IsPlain, PoliciesArePlain, RepliesAreLines, RunsAreLines, TurningsAreLines, RunsPartIntoLines}
 use Rattle.mls_machine.proofs.OneLineLemmas.{one_line-append, one_line-at, each, each_if, each-append, each-map, one_line-printable, one_line-decimal, one_line-escaped, one_line-name, first_of, second_of}
+use Rattle.mls_machine.proofs.DumpLineLemmas.{dump_line, made_line}
 use Rattle.mls_machine.proofs.RowLineLemmas.{cell_line, scheme_line, label_line, row_line, heading_line, count_line, table_lines, entry_line}
 
 -- ---- outcomes and denials
@@ -87,6 +91,7 @@ module _ (site : Site) (plain : IsPlain site) where
   view_lines (commands.Open name) tuples = tt
   view_lines commands.Close tuples = tt
   view_lines commands.Audit tuples = tt
+  view_lines (commands.Dump rel) tuples = tt
   view_lines (commands.Insert rel key values) tuples = tt
   view_lines (commands.Update rel key key_class from sets) tuples = tt
   view_lines (commands.Delete rel key key_class) tuples = tt
@@ -100,6 +105,7 @@ module _ (site : Site) (plain : IsPlain site) where
   in_table (commands.Open name) tuples = tt
   in_table commands.Close tuples = tt
   in_table commands.Audit tuples = tt
+  in_table (commands.Dump rel) tuples = tt
   in_table (commands.Insert rel key values) tuples = tt
   in_table (commands.Update rel key key_class from sets) tuples = tt
   in_table (commands.Delete rel key key_class) tuples = tt
@@ -111,30 +117,48 @@ module _ (site : Site) (plain : IsPlain site) where
   call_lines commands.Close = tt
   call_lines commands.Audit = tt
   call_lines (commands.View rel label query counts) = tt
+  call_lines (commands.Dump rel) = tt
   call_lines (commands.Insert rel key values) = tt
   call_lines (commands.Update rel key key_class from sets) = tt
   call_lines (commands.Delete rel key key_class) = tt
 
+  dump_lines : (session : Name) → IsOneLine session → (command : Command) (tuples : List Tuple) → AllByRecursion IsOneLine (dump_texts site session command tuples)
+  dump_lines session h (commands.Dump rel) tuples = (
+    dump_line (scheme_of site.schemes rel) (scheme_line site.schemes rel plain.relations),
+    each-map IsOneLine (λ t. made_text site (made_again site session rel t)) tuples
+        (each (λ t. IsOneLine (made_text site (made_again site session rel t))) (λ t. made_line site plain session h rel t) tuples),
+  )
+  dump_lines session h (commands.Open name) tuples = tt
+  dump_lines session h commands.Close tuples = tt
+  dump_lines session h commands.Audit tuples = tt
+  dump_lines session h (commands.View rel label query counts) tuples = tt
+  dump_lines session h (commands.Insert rel key values) tuples = tt
+  dump_lines session h (commands.Update rel key key_class from sets) tuples = tt
+  dump_lines session h (commands.Delete rel key key_class) tuples = tt
+  dump_lines session h (commands.Call name args) tuples = tt
+
   opened_line : (user : ℕ) → IsOneLine (codes "opened " ++ user_name site.policy.users user)
   opened_line user = one_line-append (codes "opened ") (user_name site.policy.users user) refl (one_line-at (λ u. u.name) site.policy.users user plain.users)
 
-  reply_text_lines : (command : Command) (r : Reply) → AllByRecursion IsOneLine (reply_texts site command r)
-  reply_text_lines command (Opened user) = (opened_line user, tt)
-  reply_text_lines command Closed = (refl, tt)
-  reply_text_lines command (Rows tuples) = view_lines command tuples
-  reply_text_lines command (Wrote o) = (outcome_line o, tt)
-  reply_text_lines command (Ran run) = call_lines command
-  reply_text_lines command (Entries es) = (refl, each-map IsOneLine (entry_text site.policy) es (each (λ e. IsOneLine (entry_text site.policy e)) (entry_line site.policy plain.labels) es))
-  reply_text_lines command (Denied d) = (denial_line d, tt)
+  reply_text_lines : (session : Name) (command : Command) (r : Reply) → AllByRecursion IsOneLine (reply_texts site session command r)
+  reply_text_lines session command (Opened user) = (opened_line user, tt)
+  reply_text_lines session command Closed = (refl, tt)
+  reply_text_lines session command (Rows tuples) = view_lines command tuples
+  reply_text_lines session command (Dumped tuples) = dump_lines (printable session) (one_line-printable session) command tuples
+  reply_text_lines session command (Wrote o) = (outcome_line o, tt)
+  reply_text_lines session command (Ran run) = call_lines command
+  reply_text_lines session command (Entries es) = (refl, each-map IsOneLine (entry_text site.policy) es (each (λ e. IsOneLine (entry_text site.policy e)) (entry_line site.policy plain.labels) es))
+  reply_text_lines session command (Denied d) = (denial_line d, tt)
 
-  table_text_lines : (command : Command) (r : Reply) → AllByRecursion IsOneLine (texts_in_table site command r)
-  table_text_lines command (Opened user) = (opened_line user, tt)
-  table_text_lines command Closed = (refl, tt)
-  table_text_lines command (Rows tuples) = in_table command tuples
-  table_text_lines command (Wrote o) = (outcome_line o, tt)
-  table_text_lines command (Ran run) = call_lines command
-  table_text_lines command (Entries es) = reply_text_lines command (Entries es)
-  table_text_lines command (Denied d) = (denial_line d, tt)
+  table_text_lines : (session : Name) (command : Command) (r : Reply) → AllByRecursion IsOneLine (texts_in_table site session command r)
+  table_text_lines session command (Opened user) = (opened_line user, tt)
+  table_text_lines session command Closed = (refl, tt)
+  table_text_lines session command (Rows tuples) = in_table command tuples
+  table_text_lines session command (Dumped tuples) = dump_lines (printable session) (one_line-printable session) command tuples
+  table_text_lines session command (Wrote o) = (outcome_line o, tt)
+  table_text_lines session command (Ran run) = call_lines command
+  table_text_lines session command (Entries es) = reply_text_lines session command (Entries es)
+  table_text_lines session command (Denied d) = (denial_line d, tt)
 
   -- ---- lines
 
@@ -155,6 +179,7 @@ module _ (site : Site) (plain : IsPlain site) where
   whole_items e (Opened user) = tt
   whole_items e Closed = tt
   whole_items e (Rows tuples) = tt
+  whole_items e (Dumped tuples) = tt
   whole_items e (Wrote o) = tt
   whole_items e (Ran run) =
       each-append Whole (map (item_line site.policy e (codes "emit ")) run.emitted) (map (item_line site.policy e (codes "release ")) run.released)
@@ -169,10 +194,10 @@ module _ (site : Site) (plain : IsPlain site) where
       (whole_items e r)
 
   whole_reply : (form : Form) (e : Event) (r : Reply) → AllByRecursion Whole (reply_lines_in form site e r)
-  whole_reply Lines e r = whole_lines e (reply_texts site e.command r) r (reply_text_lines e.command r)
+  whole_reply Lines e r = whole_lines e (reply_texts site e.session e.command r) r (reply_text_lines e.session e.command r)
   whole_reply Table e r =
-      let lines = lines_with site e (texts_in_table site e.command r) r in
-      each-map Whole escaped_line lines (each_if Whole (λ l. Whole (escaped_line l)) (λ l k. one_line-escaped l.text k) lines (whole_lines e (texts_in_table site e.command r) r (table_text_lines e.command r)))
+      let lines = lines_with site e (texts_in_table site e.session e.command r) r in
+      each-map Whole escaped_line lines (each_if Whole (λ l. Whole (escaped_line l)) (λ l k. one_line-escaped l.text k) lines (whole_lines e (texts_in_table site e.session e.command r) r (table_text_lines e.session e.command r)))
 
   whole_run : (form : Form) (w : World) (es : List Event) → AllByRecursion Whole (run_lines form site w es)
   unfolding run_lines
@@ -180,6 +205,14 @@ module _ (site : Site) (plain : IsPlain site) where
   whole_run form w (e ∷ es) =
       let s = step site w e in
       each-append Whole (reply_lines_in form site e s.reply) (run_lines form site s.world es) (whole_reply form e s.reply) (whole_run form s.world es)
+
+pub turnings_whole : TurningsAreLines
+turnings_whole site plain entries =
+    let p = site.policy in
+    each-map Whole (turn_line p) entries
+    (each (λ e. Whole (turn_line p e))
+    (λ e. one_line-append (label_name p.labels (label_of e) ++ codes " ") (entry_text p e) (one_line-append (label_name p.labels (label_of e)) (codes " ") (label_line p plain.labels (label_of e)) refl) (entry_line p plain.labels e))
+    entries)
 
 -- ---- parted again
 

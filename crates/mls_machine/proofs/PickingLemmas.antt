@@ -16,7 +16,7 @@ use Rattle.mls_meaning.specs.Meaning.{Item}
 use Rattle.mls_script.specs.declared.event.Event.{Event}
 use Rattle.mls_machine.specs.declared.form.Form.TheVariants.{Lines}
 use Rattle.mls_machine.specs.declared.reply.Reply.{Reply}
-use Rattle.mls_machine.specs.declared.reply.Reply.TheVariants.{Opened, Closed, Rows, Wrote, Ran, Entries, Denied}
+use Rattle.mls_machine.specs.declared.reply.Reply.TheVariants.{Opened, Closed, Rows, Dumped, Wrote, Ran, Entries, Denied}
 use Rattle.mls_machine.specs.Site.{Site, site_labels}
 use Rattle.mls_machine.specs.Machine.{World, step}
 use Rattle.mls_machine.specs.Output.{Line, cell_text, reply_texts, front, line, item_line, item_lines, reply_lines, run_lines, EntriesAreKnown, ItemsAreKnown, ReplyIsKnown}
@@ -84,6 +84,7 @@ module _ (p : Tables) (policy : IsPolicy p) where
   tells_items e (Opened user) h = tt
   tells_items e Closed h = tt
   tells_items e (Rows tuples) h = tt
+  tells_items e (Dumped tuples) h = tt
   tells_items e (Wrote o) h = tt
   tells_items e (Ran run) h =
       each-append Tells (map (item_line p e (codes "emit ")) run.emitted) (map (item_line p e (codes "release ")) run.released)
@@ -94,7 +95,7 @@ module _ (p : Tables) (policy : IsPolicy p) where
 module _ (site : Site) (policy : IsPolicy site.policy) (read : AreRead site) where
   tells_reply : (e : Event) (r : Reply) → e.level < length site.policy.labels → ReplyIsKnown site.policy r → AllByRecursion (Tells site.policy policy) (reply_lines site e r)
   tells_reply e r within h =
-      let texts = reply_texts site e.command r in
+      let texts = reply_texts site e.session e.command r in
       each-append (Tells site.policy policy) (map (line site.policy e e.level) texts) (item_lines site.policy e r)
       (each-map (Tells site.policy policy) (line site.policy e e.level) texts
       (each (λ t. Tells site.policy policy (line site.policy e e.level t)) (λ t. tells_line site.policy policy e e.level t within) texts))

@@ -87,6 +87,7 @@ module _ (site : Site) (w : World) (e : Event) where
   inside_left commands.Close user = record { db = λ h. absurd h; sessions = λ h. absurd h; audit = sym (append-nil w.audit) }
   inside_left commands.Audit user = all_left _ (Some user) _ refl refl
   inside_left (commands.View rel label query counts) user = unless_left _ _ user _ (all_left _ (Some user) _ refl refl)
+  inside_left (commands.Dump rel) user = unless_left _ _ user _ (all_left _ (Some user) _ refl refl)
   inside_left (commands.Insert rel key values) user = unless_left _ _ user _ (wrote_left _ user rel (Insert key values) refl)
   inside_left (commands.Update rel key key_class from sets) user = unless_left _ _ user _ (wrote_left _ user rel (Update key key_class from sets) refl)
   inside_left (commands.Delete rel key key_class) user = unless_left _ _ user _ (wrote_left _ user rel (Delete key key_class) refl)
@@ -101,6 +102,7 @@ module _ (site : Site) (w : World) (e : Event) where
   outside_left commands.Close = all_left _ None _ refl refl
   outside_left commands.Audit = all_left _ None _ refl refl
   outside_left (commands.View rel label query counts) = all_left _ None _ refl refl
+  outside_left (commands.Dump rel) = all_left _ None _ refl refl
   outside_left (commands.Insert rel key values) = all_left _ None _ refl refl
   outside_left (commands.Update rel key key_class from sets) = all_left _ None _ refl refl
   outside_left (commands.Delete rel key key_class) = all_left _ None _ refl refl

@@ -1,7 +1,8 @@
 -- Over content of the stored form the numbers in a reply are those of the policy.
+use Rattle.std.specs.Prelude.{nat_eq}
 use Rattle.std.proofs.Common.{◌≡◌, ℕ, suc, ◌<◌, Bool, true, false, cond, not, List, [], ◌∷◌, ◌++◌, length, map, Option, Some, None, Ok, Err, inl, inr, refl, sym, subst, arith}
-use Rattle.std.specs.List.{AllByRecursion, filter, list_any}
-use Rattle.std.specs.FinMap.{get}
+use Rattle.std.specs.List.{AllByRecursion, filter, flat_map, list_any}
+use Rattle.std.specs.FinMap.{get, entries}
 use Rattle.std.specs.Option.{IfSome}
 use Rattle.std.proofs.lemmas.List.{length-map}
 use Rattle.mls_lattice.specs.Labels.{Labels, below, AreDistinct}
@@ -13,7 +14,11 @@ use Rattle.mls_scheme.specs.declared.value.Value.{Value}
 use Rattle.mls_scheme.specs.Tuple.{at, HasClassesBelow}
 use Rattle.mls_scheme.specs.Table.{Table, tuple_at}
 use Rattle.mls_filterview.specs.Stored.{IsStored}
-use Rattle.mls_filterview.specs.View.{rows}
+use Rattle.mls_filterview.specs.View.{low, rows}
+use Rattle.mls_filterview.specs.Reach.{upward, of_class, low_tuples}
+use Rattle.mls_filterview.proofs.AmongLemmas.{each_among}
+use Rattle.mls_filterview.proofs.EntryLemmas.{among_entries}
+use Rattle.mls_filterview.proofs.LowLemmas.{from_low}
 use Rattle.mls_filterview.proofs.RowLemmas.{rows_are_the_view}
 use Rattle.mls_translang.specs.Tx.{Tx}
 use Rattle.mls_translang.specs.Fits.{IsReadUnder}
@@ -35,13 +40,18 @@ use Rattle.mls_machine.specs.declared.stored.Stored.{Stored}
 use Rattle.mls_machine.specs.declared.stored.Stored.TheVariants.{Certified, Plain}
 use Rattle.mls_machine.specs.Site.{Site, site_labels, site_scheme}
 use Rattle.mls_machine.specs.Denying.{first_denial, exceed, clearance_of, cleared, user_named, stored_named, fitted, call_denials}
-use Rattle.mls_machine.specs.Machine.{World, Step, unless, denial_entry, release_entry, call_entries, viewed, wrote, called, call_step, step_inside, open_step, step_outside, step_at, step}
+use Rattle.mls_machine.specs.Machine.{World, Step, unless, denial_entry, release_entry, call_entries, viewed, dumped, wrote, called, call_step, step_inside, open_step, step_outside, step_at, step}
 use Rattle.mls_machine.specs.Output.{EntriesAreKnown, ItemsAreKnown, ReplyIsKnown}
 use Rattle.mls_machine.specs.Observation.{AreStored, AreRead}
 use Rattle.mls_machine.proofs.DenyingLemmas.{user_below}
+use Rattle.mls_machine.proofs.OneLineLemmas.{each-append}
 use Rattle.mls_machine.proofs.CalledLemmas.{certified_of, all_read}
 
 -- ---- rows
+
+each-flat_map : {A B : Type 0} (P : B → Type 0) (f : A → List B) → ((x : A) → AllByRecursion P (f x)) → (xs : List A) → AllByRecursion P (flat_map f xs)
+each-flat_map P f h [] = tt
+each-flat_map P f h (x ∷ xs) = each-append P (f x) (flat_map f xs) (h x) (each-flat_map P f h xs)
 
 all_below : (n : ℕ) (es : List Element) → ((i : ℕ) → i < length es → (at es i).class < n) → AllByRecursion (λ e. e.class < n) es
 all_below n [] h = tt
@@ -59,6 +69,13 @@ module _ (ls : Labels) (n : ℕ) (T : Table) (stored : IsStored ls n T) where
   tuples_below : (es : List (Place × List Element)) → AllByRecursion (λ e. get T e.0 ≡ Some e.1) es → AllByRecursion (HasClassesBelow (length ls)) (map (λ e. tuple_at e.0 e.1) es)
   tuples_below [] h = tt
   tuples_below (e ∷ es) h = (tuple_below e.0 e.1 h.0, tuples_below es h.1)
+
+  low_below : (c : ℕ) → AllByRecursion (HasClassesBelow (length ls)) (low_tuples ls c T)
+  unfolding low_tuples
+  low_below c =
+      let es = entries (low ls c T) in
+      let has = each_among (λ e. get T e.0 ≡ Some e.1) es (λ e i. (from_low ls c T (tuple_at e.0 e.1) e.0.class (among_entries (low ls c T) e i)).0) in
+      each-flat_map (HasClassesBelow (length ls)) (of_class es) (λ m. (let p = (λ (e : Place × List Element). nat_eq e.0.class m) in tuples_below (filter p es) (all_filter (λ e. get T e.0 ≡ Some e.1) p es has))) (upward ls)
 
   rows_below : AreDistinct ls → (c : ℕ) → AllByRecursion (HasClassesBelow (length ls)) (rows ls c T)
   rows_below distinct c =
@@ -116,6 +133,11 @@ module _ (site : Site) (distinct : AreDistinct (site_labels site)) (read : AreRe
   viewed_known : (rel label : ℕ) (query : Query) → AllByRecursion (HasClassesBelow (length site.policy.labels)) (found (site_labels site) query (rows (site_labels site) label (w.db rel)))
   viewed_known rel label query = found_all (HasClassesBelow (length site.policy.labels)) (site_labels site) (rows (site_labels site) label (w.db rel)) (seen_known rel label) query
 
+  dumped_known : (rel level : ℕ) → AllByRecursion (HasClassesBelow (length site.policy.labels)) (low_tuples (site_labels site) level (w.db rel))
+  dumped_known rel level =
+      subst (λ n. AllByRecursion (HasClassesBelow n) (low_tuples (site_labels site) level (w.db rel))) (length-map site.policy.labels (λ l. l.value))
+      (low_below (site_labels site) (length (site_scheme site rel).others) (w.db rel) (stored rel) level)
+
   wrote_known : (denial : Option Denial) (user rel : ℕ) (wr : Write) → IsKnown site (unless site denial w e user (wrote site w e.level rel wr))
   wrote_known denial user rel wr = unless_known denial user (wrote site w e.level rel wr) (record { reply = tt; audit = known })
 
@@ -142,6 +164,7 @@ module _ (site : Site) (distinct : AreDistinct (site_labels site)) (read : AreRe
   inside_known commands.Close user = record { reply = tt; audit = known }
   inside_known commands.Audit user = record { reply = filter_known (λ x. below (site_labels site) (label_of x) e.level) site.policy w.audit known; audit = known }
   inside_known (commands.View rel label query counts) user = unless_known _ user (viewed site w rel label query) (record { reply = viewed_known rel label query; audit = known })
+  inside_known (commands.Dump rel) user = unless_known _ user (dumped site w rel e.level) (record { reply = dumped_known rel e.level; audit = known })
   inside_known (commands.Insert rel key values) user = wrote_known _ user rel (Insert key values)
   inside_known (commands.Update rel key key_class from sets) user = wrote_known _ user rel (Update key key_class from sets)
   inside_known (commands.Delete rel key key_class) user = wrote_known _ user rel (Delete key key_class)
@@ -160,6 +183,7 @@ module _ (site : Site) (distinct : AreDistinct (site_labels site)) (read : AreRe
   outside_known commands.Close = record { reply = tt; audit = known }
   outside_known commands.Audit = record { reply = tt; audit = known }
   outside_known (commands.View rel label query counts) = record { reply = tt; audit = known }
+  outside_known (commands.Dump rel) = record { reply = tt; audit = known }
   outside_known (commands.Insert rel key values) = record { reply = tt; audit = known }
   outside_known (commands.Update rel key key_class from sets) = record { reply = tt; audit = known }
   outside_known (commands.Delete rel key key_class) = record { reply = tt; audit = known }

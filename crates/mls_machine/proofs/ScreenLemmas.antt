@@ -31,13 +31,13 @@ shown-escaped ls reader lines = printed-escaped (heard ls reader lines) ∙ ap p
 -- the lines of a run, before they are escaped
 bare : Site → World → List Event → List Line
 bare site w [] = []
-bare site w (e ∷ es) = lines_with site e (texts_in_table site e.command (step site w e).reply) (step site w e).reply ++ bare site (step site w e).world es
+bare site w (e ∷ es) = lines_with site e (texts_in_table site e.session e.command (step site w e).reply) (step site w e).reply ++ bare site (step site w e).world es
 
 bare-escaped : (site : Site) (w : World) (es : List Event) → run_lines Table site w es ≡ map escaped_line (bare site w es)
 unfolding run_lines bare
 bare-escaped site w [] = refl
 bare-escaped site w (e ∷ es) =
-    let first = lines_with site e (texts_in_table site e.command (step site w e).reply) (step site w e).reply in
+    let first = lines_with site e (texts_in_table site e.session e.command (step site w e).reply) (step site w e).reply in
     ap (λ l. map escaped_line first ++ l) (bare-escaped site (step site w e).world es) ∙ sym (map-append escaped_line first (bare site (step site w e).world es))
 
 pub tables_harmless : TablesAreHarmless

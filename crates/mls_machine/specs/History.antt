@@ -1,5 +1,6 @@
--- Histories: runs one after another over one database, each at its own site. Between runs no session is left.
-use Rattle.std.specs.Prelude.{◌≡◌, ℕ, List, [], ◌∷◌, map, ◌⊎◌, ⊤}
+-- Histories: runs one after another over one database, each at its own site. Between runs no session is left, and the
+-- audit list may be turned.
+use Rattle.std.specs.Prelude.{◌≡◌, ℕ, Bool, true, false, if◌then◌else◌, List, [], ◌∷◌, ◌++◌, map, ◌⊎◌, ⊤}
 use Rattle.std.specs.List.{AllByRecursion, AllZip}
 use Rattle.mls_lattice.specs.Labels.{Labels, AreDistinct}
 use Rattle.mls_scheme.specs.Scheme.{Schemes}
@@ -14,12 +15,23 @@ use Rattle.mls_machine.specs.Output.{Line, run_lines, printed}
 use Rattle.mls_machine.specs.Observation.{EventsFit, AreRead, AreSecure, AreCertified, HaveNoCall, AgreeAt, seen}
 use Rattle.mls_machine.specs.Observation.{released_to, AreBelowCeiling, out, heard, reader_of, replies_shown}
 use Rattle.mls_machine.specs.Observation.{PassesOnlyReleasesDown}
+use Rattle.mls_machine.specs.Turning.{turn_lines, turned}
 use Rattle.mls_machine.specs.Laws.{KeepsIntegrity}
 
--- events at a site: users, rights and stored transactions may change from run to run
+-- events at a site: users, rights and stored transactions may change from run to run; and whether the audit list is
+-- turned before them
 pub record RunAt : Type 0 where
   pub site : Site
+  pub turns : Bool
   pub events : List Event
+
+-- a run before which the list is not turned
+abbrev pub run_at : Site → List Event → RunAt
+run_at site events = record { site = site; turns = false; events = events }
+
+-- a turning alone
+abbrev pub turning_at : Site → RunAt
+turning_at site = record { site = site; turns = true; events = [] }
 
 -- ---- what histories do
 
@@ -27,23 +39,33 @@ pub record RunAt : Type 0 where
 abbrev pub settled : World → World
 settled w = record w { sessions = no_sessions }
 
+-- what the events of a run begin with
+abbrev pub run_start : World → RunAt → World
+run_start w r = if r.turns then turned w else w
+
 -- what a run leaves for the next
 abbrev pub run_end : World → RunAt → World
-run_end w r = settled (end_of r.site w r.events)
+run_end w r = settled (end_of r.site (run_start w r) r.events)
 
 unfoldable pub history_end : World → List RunAt → World
 history_end w [] = w
 history_end w (r ∷ rs) = history_end (run_end w r) rs
 
--- the lines of each run
+-- what a turning prints before a run
+abbrev pub turning_lines : World → RunAt → List Line
+turning_lines w r = if r.turns then turn_lines r.site.policy w.audit else []
+
+-- the lines of each run: those of the turning before it, and of its events
 unfoldable pub history_lines : Form → World → List RunAt → List (List Line)
 history_lines form w [] = []
-history_lines form w (r ∷ rs) = run_lines form r.site w r.events ∷ history_lines form (run_end w r) rs
+history_lines form w (r ∷ rs) =
+    (turning_lines w r ++ run_lines form r.site (run_start w r) r.events) ∷ history_lines form (run_end w r) rs
 
 -- what c sees of the replies of each run
 unfoldable pub history_replies : ℕ → World → List RunAt → List (List Reply)
 history_replies c w [] = []
-history_replies c w (r ∷ rs) = replies_shown r.site c w r.events ∷ history_replies c (run_end w r) rs
+history_replies c w (r ∷ rs) =
+    replies_shown r.site c (run_start w r) r.events ∷ history_replies c (run_end w r) rs
 
 -- the bytes of each run that an audience is shown
 abbrev pub history_bytes : Labels → Audience → World → List RunAt → List (List ℕ)
@@ -52,13 +74,15 @@ history_bytes ls a w rs = map (λ lines. printed (heard ls a.reader lines)) (his
 -- each database on the way of each run has the four integrity properties
 abbrev pub KeepsIntegrityInHistory : World → List RunAt → Type 0
 KeepsIntegrityInHistory w [] = ⊤
-KeepsIntegrityInHistory w (r ∷ rs) = KeepsIntegrity r.site w r.events × KeepsIntegrityInHistory (run_end w r) rs
+KeepsIntegrityInHistory w (r ∷ rs) =
+    KeepsIntegrity r.site (run_start w r) r.events × KeepsIntegrityInHistory (run_end w r) rs
 
 -- ---- what a level sees of them
 
--- two runs at one site, and c sees the same of their events
+-- two runs at one site, both after a turning or neither, and c sees the same of their events
 pub record LookAlike (c : ℕ) (r s : RunAt) : Type 0 where
   pub site : r.site ≡ s.site
+  pub turns : r.turns ≡ s.turns
   pub events : seen r.site c r.events ≡ seen r.site c s.events
 
 -- run by run two histories release the same to c, or c dominates all that the calls that it sees can read
@@ -66,7 +90,8 @@ abbrev pub ReleaseAlike : ℕ → World → World → List RunAt → List RunAt 
 ReleaseAlike c v w [] ss = ⊤
 ReleaseAlike c v w (r ∷ rs) [] = ⊤
 ReleaseAlike c v w (r ∷ rs) (s ∷ ss) =
-    ((released_to r.site c v r.events ≡ released_to s.site c w s.events) ⊎ AreBelowCeiling r.site c r.events)
+    ((released_to r.site c (run_start v r) r.events ≡ released_to s.site c (run_start w s) s.events)
+    ⊎ AreBelowCeiling r.site c r.events)
     × ReleaseAlike c (run_end v r) (run_end w s) rs ss
 
 -- two histories show the same lines to c run by run, in each form, and the same replies, and end in worlds that look
@@ -117,11 +142,11 @@ module _ (ls : Labels) (schemes : Schemes) where
       → AgreeAt ls c v w → AllZip (LookAlike c) rs ss → ReleaseAlike c v w rs ss
       → history_bytes ls (reader_of c form) v rs ≡ history_bytes ls (reader_of c form) w ss
 
--- each run of a history passes nothing down but what it releases, from the world that it begins in
+-- each run of a history passes nothing down but what it releases, from the world that its events begin in
 abbrev pub EachPassesOnlyReleasesDown : World → List RunAt → Type 0
 EachPassesOnlyReleasesDown w [] = ⊤
 EachPassesOnlyReleasesDown w (r ∷ rs) =
-    PassesOnlyReleasesDown r.site w r.events × EachPassesOnlyReleasesDown (run_end w r) rs
+    PassesOnlyReleasesDown r.site (run_start w r) r.events × EachPassesOnlyReleasesDown (run_end w r) rs
 
 -- ---- laws
 

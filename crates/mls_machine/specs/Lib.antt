@@ -3,9 +3,11 @@ pub mod Site
 pub mod Reply
 pub mod Denying
 pub mod Machine
+pub mod Dumping
 pub mod Output
 pub mod Observation
 pub mod Serving
+pub mod Turning
 pub mod Parting
 pub mod Laws
 pub mod History

@@ -8,6 +8,7 @@ use Rattle.mls_lattice.specs.Canon.{user_name}
 use Rattle.mls_scheme.specs.declared.value.Value.{Value}
 use Rattle.mls_scheme.specs.Table.{Database}
 use Rattle.mls_filterview.specs.View.{rows}
+use Rattle.mls_filterview.specs.Reach.{low_tuples}
 use Rattle.mls_filterview.specs.Content.{with_table}
 use Rattle.mls_updates.specs.Writes.{Write, Insert, Update, Delete, write}
 use Rattle.mls_audit.specs.declared.entry.Entry.{Entry}
@@ -24,7 +25,7 @@ use Rattle.mls_machine.specs.declared.reply.Denial.{Denial}
 use Rattle.mls_machine.specs.declared.reply.Denial.TheVariants.{NoSession, AlreadyOpen, UnknownTransaction}
 use Rattle.mls_machine.specs.declared.reply.Denial.TheVariants.{NotCertified}
 use Rattle.mls_machine.specs.declared.reply.Reply.{Reply}
-use Rattle.mls_machine.specs.declared.reply.Reply.TheVariants.{Opened, Closed, Rows, Wrote, Ran, Entries, Denied}
+use Rattle.mls_machine.specs.declared.reply.Reply.TheVariants.{Opened, Closed, Rows, Dumped, Wrote, Ran, Entries, Denied}
 use Rattle.mls_machine.specs.declared.stored.Stored.{Stored}
 use Rattle.mls_machine.specs.declared.stored.Stored.TheVariants.{Certified, Plain}
 use Rattle.mls_machine.specs.Site.{Site, site_labels, site_scheme}
@@ -89,6 +90,10 @@ module _ (site : Site) where
   viewed w rel label query =
       record { world = w; reply = Rows (found (site_labels site) query (rows (site_labels site) label (w.db rel))) }
 
+  -- the tuples whose classes the level of the session dominates, each behind those that it is derived from
+  abbrev pub dumped : World → ℕ → ℕ → Step
+  dumped w rel level = record { world = w; reply = Dumped (low_tuples (site_labels site) level (w.db rel)) }
+
   -- a write at the level of the session
   abbrev pub wrote : World → ℕ → ℕ → Write → Step
   wrote w level rel wr =
@@ -126,6 +131,11 @@ module _ (site : Site) where
   view_step w event user rel label query =
       unless (first_denial (view_denials site event.level user rel label)) w event user (viewed w rel label query)
 
+  -- as a view at the level of the session
+  abbrev pub dump_step : World → Event → ℕ → ℕ → Step
+  dump_step w event user rel =
+      unless (first_denial (view_denials site event.level user rel event.level)) w event user (dumped w rel event.level)
+
   abbrev pub write_step : World → Event → ℕ → ℕ → Write → Step
   write_step w event user rel wr =
       unless (first_denial (write_denials site event.level user rel wr)) w event user (wrote w event.level rel wr)
@@ -144,6 +154,7 @@ module _ (site : Site) where
   step_inside w event commands.Close user = closed w event
   step_inside w event commands.Audit user = listed w event.level
   step_inside w event (commands.View rel label query counts) user = view_step w event user rel label query
+  step_inside w event (commands.Dump rel) user = dump_step w event user rel
   step_inside w event (commands.Insert rel key values) user = write_step w event user rel (Insert key values)
   step_inside w event (commands.Update rel key key_class from sets) user =
       write_step w event user rel (Update key key_class from sets)

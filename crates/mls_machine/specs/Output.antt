@@ -1,11 +1,12 @@
 -- The printed output: the lines of the replies, in order, with a line feed after each.
-use Rattle.std.specs.Prelude.{ℕ, Bool, if◌then◌else◌, is_some, List, [], ◌∷◌, ◌++◌, map, Option, Some, None, codes, length, ◌<◌, ⊤}
+use Rattle.std.specs.Prelude.{◌≡◌, ℕ, Bool, true, if◌then◌else◌, is_some, List, [], ◌∷◌, ◌++◌, map, Option, Some, None, codes, length, ◌<◌, ⊤}
 use Rattle.std.specs.List.{flat_map, AllByRecursion}
 use Rattle.std.specs.Fmt.{decimal, signed_decimal}
 use Rattle.mls_tokens.specs.Writing.{printable, quoted}
 use Rattle.mls_screen.specs.Screen.{escaped}
 use Rattle.mls_screen.specs.Table.{wider, padded, ruled}
 use Rattle.mls_lattice.specs.Lattice.{Pair, same_pair}
+use Rattle.mls_lattice.specs.Name.{is_name}
 use Rattle.mls_lattice.specs.Policy.{Name, Named, Tables, labels_of}
 use Rattle.mls_lattice.specs.Canon.{label_name, user_name}
 use Rattle.mls_scheme.specs.declared.value.Value.{Value}
@@ -23,12 +24,14 @@ use Rattle.mls_queries.specs.declared.query.Query.{Query}
 use Rattle.mls_script.specs.declared.event.Event.{Event}
 use Rattle.mls_script.specs.declared.event.Command.{Command}
 use Rattle.mls_script.specs.declared.event.Command.TheVariants as commands
+use Rattle.mls_script.specs.Writing.{line_text, is_writable}
 use Rattle.mls_machine.specs.declared.form.Form.{Form}
 use Rattle.mls_machine.specs.declared.form.Form.TheVariants.{Lines, Table}
 use Rattle.mls_machine.specs.declared.reply.Denial.{Denial}
 use Rattle.mls_machine.specs.declared.reply.Reply.{Reply}
-use Rattle.mls_machine.specs.declared.reply.Reply.TheVariants.{Opened, Closed, Rows, Wrote, Ran, Entries, Denied}
+use Rattle.mls_machine.specs.declared.reply.Reply.TheVariants.{Opened, Closed, Rows, Dumped, Wrote, Ran, Entries, Denied}
 use Rattle.mls_machine.specs.Site.{Site}
+use Rattle.mls_machine.specs.Dumping.{made_again}
 use Rattle.mls_machine.specs.Reply.{code_of, word_of}
 use Rattle.mls_machine.specs.Machine.{World, step}
 
@@ -138,6 +141,22 @@ table_texts site (commands.View rel label query counts) tuples =
     (table_widths site.policy (scheme_of site.schemes rel) tuples) tuples
 table_texts site command tuples = []
 
+-- ---- dumps
+
+abbrev pub dump_heading : Scheme → List ℕ
+dump_heading s = codes "dump " ++ s.name ++ codes ":"
+
+-- the line of a script that makes a tuple; no script can hold one with a value that is not writable
+abbrev pub made_text : Site → Event → List ℕ
+made_text site e = (if is_writable e then codes "line " else codes "unread ") ++ line_text site.policy site.schemes e
+
+-- the texts of a dump, which answers a command of its own and nothing else
+abbrev pub dump_texts : Site → Name → Command → List Tuple → List (List ℕ)
+dump_texts site session (commands.Dump rel) tuples =
+    dump_heading (scheme_of site.schemes rel)
+    ∷ map (λ t. made_text site (made_again site session rel t)) tuples
+dump_texts site session command tuples = []
+
 -- ---- entries
 
 -- the label, what was done, the user and the session
@@ -167,20 +186,21 @@ abbrev pub call_texts : Command → List (List ℕ)
 call_texts (commands.Call name args) = (codes "called " ++ printable name) ∷ []
 call_texts command = []
 
--- the texts of a reply to a command, one for each of its lines at the level of the session
-abbrev pub reply_texts : Site → Command → Reply → List (List ℕ)
-reply_texts site command (Opened user) = (codes "opened " ++ user_name site.policy.users user) ∷ []
-reply_texts site command Closed = codes "closed" ∷ []
-reply_texts site command (Rows tuples) = view_texts site command tuples
-reply_texts site command (Wrote o) = outcome_text o ∷ []
-reply_texts site command (Ran run) = call_texts command
-reply_texts site command (Entries es) = codes "audit" ∷ map (entry_text site.policy) es
-reply_texts site command (Denied d) = denial_text d ∷ []
+-- the texts of a reply to a command of a session, one for each of its lines at the level of the session
+abbrev pub reply_texts : Site → Name → Command → Reply → List (List ℕ)
+reply_texts site session command (Opened user) = (codes "opened " ++ user_name site.policy.users user) ∷ []
+reply_texts site session command Closed = codes "closed" ∷ []
+reply_texts site session command (Rows tuples) = view_texts site command tuples
+reply_texts site session command (Dumped tuples) = dump_texts site (printable session) command tuples
+reply_texts site session command (Wrote o) = outcome_text o ∷ []
+reply_texts site session command (Ran run) = call_texts command
+reply_texts site session command (Entries es) = codes "audit" ∷ map (entry_text site.policy) es
+reply_texts site session command (Denied d) = denial_text d ∷ []
 
 -- the same with a table for a view
-abbrev pub texts_in_table : Site → Command → Reply → List (List ℕ)
-texts_in_table site command (Rows tuples) = table_texts site command tuples
-texts_in_table site command r = reply_texts site command r
+abbrev pub texts_in_table : Site → Name → Command → Reply → List (List ℕ)
+texts_in_table site session command (Rows tuples) = table_texts site command tuples
+texts_in_table site session command r = reply_texts site session command r
 
 -- ---- lines
 
@@ -213,7 +233,7 @@ abbrev pub lines_with : Site → Event → List (List ℕ) → Reply → List Li
 lines_with site e texts r = map (line site.policy e e.level) texts ++ item_lines site.policy e r
 
 abbrev pub reply_lines : Site → Event → Reply → List Line
-reply_lines site e r = lines_with site e (reply_texts site e.command r) r
+reply_lines site e r = lines_with site e (reply_texts site e.session e.command r) r
 
 -- a line for a screen, of the same label
 abbrev pub escaped_line : Line → Line
@@ -221,7 +241,7 @@ escaped_line l = record { label = l.label; text = escaped l.text }
 
 abbrev pub reply_lines_in : Form → Site → Event → Reply → List Line
 reply_lines_in Lines site e r = reply_lines site e r
-reply_lines_in Table site e r = map escaped_line (lines_with site e (texts_in_table site e.command r) r)
+reply_lines_in Table site e r = map escaped_line (lines_with site e (texts_in_table site e.session e.command r) r)
 
 -- the lines of a run from w
 unfoldable pub run_lines : Form → Site → World → List Event → List Line
@@ -237,6 +257,7 @@ printed = flat_map (λ l. l.text ++ codes "\n")
 
 abbrev pub CommandIsKnown : Site → Command → Type 0
 CommandIsKnown site (commands.View rel label query counts) = (rel < length site.schemes) × (label < length site.policy.labels)
+CommandIsKnown site (commands.Dump rel) = rel < length site.schemes
 CommandIsKnown site command = ⊤
 
 -- the labels of entries are declared
@@ -251,6 +272,7 @@ abbrev pub ReplyIsKnown : Tables → Reply → Type 0
 ReplyIsKnown p (Opened user) = user < length p.users
 ReplyIsKnown p Closed = ⊤
 ReplyIsKnown p (Rows tuples) = AllByRecursion (HasClassesBelow (length p.labels)) tuples
+ReplyIsKnown p (Dumped tuples) = AllByRecursion (HasClassesBelow (length p.labels)) tuples
 ReplyIsKnown p (Wrote o) = ⊤
 ReplyIsKnown p (Ran run) = ItemsAreKnown p run.emitted × ItemsAreKnown p run.released
 ReplyIsKnown p (Entries es) = EntriesAreKnown p es
@@ -258,5 +280,6 @@ ReplyIsKnown p (Denied d) = ⊤
 
 pub record CanBePrinted (site : Site) (e : Event) (r : Reply) : Type 0 where
   pub level : e.level < length site.policy.labels
+  pub session : is_name e.session ≡ true
   pub command : CommandIsKnown site e.command
   pub reply : ReplyIsKnown site.policy r

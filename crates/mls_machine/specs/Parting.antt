@@ -6,6 +6,7 @@ use Rattle.std.specs.Str.{bytes_eq}
 use Rattle.mls_lattice.specs.Labels.{Labels, below}
 use Rattle.mls_lattice.specs.Policy.{Tables, IsPolicy}
 use Rattle.mls_scheme.specs.Scheme.{Scheme, AreSchemes}
+use Rattle.mls_audit.specs.declared.entry.Entry.{Entry}
 use Rattle.mls_script.specs.declared.event.Event.{Event}
 use Rattle.mls_machine.specs.declared.form.Form.{Form}
 use Rattle.mls_machine.specs.declared.form.Audience.{Audience}
@@ -15,6 +16,7 @@ use Rattle.mls_machine.specs.Machine.{World}
 use Rattle.mls_machine.specs.declared.form.Form.TheVariants.{Lines}
 use Rattle.mls_machine.specs.Output.{reply_lines_in, run_lines, EntriesAreKnown}
 use Rattle.mls_machine.specs.Observation.{AreStored, AreRead, EventsFit, everyone, out, heard, run_shows}
+use Rattle.mls_machine.specs.Turning.{turn_lines}
 
 abbrev pub is_line_feed : ℕ → Bool
 is_line_feed b = b == 10
@@ -52,6 +54,12 @@ abbrev pub RunsAreLines : Type 0
 RunsAreLines =
     (site : Site) → IsPlain site → (form : Form) (w : World) (es : List Event)
     → AllByRecursion (λ l. IsOneLine l.text) (run_lines form site w es)
+
+-- nor in a line of a turning
+abbrev pub TurningsAreLines : Type 0
+TurningsAreLines =
+    (site : Site) → IsPlain site → (entries : List Entry)
+    → AllByRecursion (λ l. IsOneLine l.text) (turn_lines site.policy entries)
 
 -- what a run shows, parted at its line feeds, is the lines that may be heard, in order, and nothing behind the last
 abbrev pub RunsPartIntoLines : Type 0

@@ -1,7 +1,8 @@
 //! The laws of the machine, each the contract of a function.
 ghost use Rattle.mls_machine.specs.History.{HistoriesKeepIntegrity, LowHistoriesAreAlike, SecureHistoriesAreAlike, AcceptedHistoriesAreAlike, HistoriesPassWhatRunsPass, HistoriesShowOnlyReleases};
+ghost use Rattle.mls_machine.specs.Turning.{TurnedWorldsAreAlike, TurningsShowTheSame};
 ghost use Rattle.mls_machine.specs.Laws.{RefusalsChangeNothing, DenialsAndCallsAreEntered, RunsKeepIntegrity, LowRunsAreAlike, SecureRunsAreAlike, AcceptedRunsAreAlike, TablesAreHarmless};
-ghost use Rattle.mls_machine.specs.Parting.{PoliciesArePlain, RepliesAreLines, RunsAreLines, RunsPartIntoLines, LinesArePicked};
+ghost use Rattle.mls_machine.specs.Parting.{PoliciesArePlain, RepliesAreLines, RunsAreLines, TurningsAreLines, RunsPartIntoLines, LinesArePicked};
 ghost use Rattle.mls_machine.specs.Serving.{ServedRunsAreAlike};
 
 /// A command that is denied, a view, an audit, and a write that is refused leave the database and the sessions as they
@@ -46,8 +47,15 @@ pub fn served_runs_are_alike()
     ensures { ServedRunsAreAlike }
 {}
 
-/// So of a history of runs, where users, rights and stored transactions may change from run to run: each database on the
-/// way of each run has the four integrity properties.
+/// Two worlds that look alike to a level look alike to it when the audit list of each is turned, which shows it the same
+/// lines.
+pub fn turnings_are_alike()
+    ensures worlds { TurnedWorldsAreAlike }
+    ensures lines { TurningsShowTheSame }
+{}
+
+/// So of a history of runs, where users, rights and stored transactions may change from run to run, and the audit list may
+/// be turned between them: each database on the way of each run has the four integrity properties.
 pub fn histories_keep_integrity()
     ensures { HistoriesKeepIntegrity }
 {}
@@ -86,6 +94,7 @@ pub fn lines_have_no_line_feed()
     ensures names { PoliciesArePlain }
     ensures replies { RepliesAreLines }
     ensures runs { RunsAreLines }
+    ensures turnings { TurningsAreLines }
     ensures parts { RunsPartIntoLines }
 {}
 

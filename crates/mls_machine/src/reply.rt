@@ -6,6 +6,7 @@ use mls_audit::Entry;
 use mls_lattice::{Items, UserNo};
 use mls_meaning::Run;
 use mls_queries::Selection;
+use mls_scheme::Tuple;
 use mls_updates::Outcome;
 
 /// Why a command is denied. A denial changes no tuple and no session.
@@ -81,6 +82,8 @@ pub enum Reply {
     Closed,
     /// What was found of a view, in the order of rows.
     Rows(Selection),
+    /// The tuples of a relation whose classes the session's level dominates, in the order in which they can be made.
+    Dumped(Items<Tuple>),
     /// What became of a write.
     Wrote(Outcome),
     /// What the transaction that was called gave.

@@ -205,6 +205,13 @@ impl Base for MemoryBase {
         }
     }
 
+    fn audit_clear(&mut self) -> Result<(), BaseFault> {
+        match self.base.audit_clear() {
+            Err(BaseFault::Store) => Err(BaseFault::Memory),
+            answer => answer,
+        }
+    }
+
     fn audit_all(&mut self) -> Result<Items<Items<u8>>, BaseFault> {
         match self.base.audit_all() {
             Err(BaseFault::Store) => Err(BaseFault::Memory),

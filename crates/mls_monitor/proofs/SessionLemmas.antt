@@ -138,6 +138,7 @@ module _ (site : Site) (event : Event) where
   not_opening w commands.Close other = refl
   not_opening w commands.Audit other = refl
   not_opening w (commands.View rel label query counts) other = refl
+  not_opening w (commands.Dump rel) other = refl
   not_opening w (commands.Insert rel key values) other = refl
   not_opening w (commands.Update rel key key_class from sets) other = refl
   not_opening w (commands.Delete rel key key_class) other = refl

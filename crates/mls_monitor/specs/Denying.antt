@@ -14,6 +14,7 @@ denial_in site level user (commands.Open name) = Some AlreadyOpen
 denial_in site level user commands.Close = None
 denial_in site level user commands.Audit = None
 denial_in site level user (commands.View rel label query counts) = first_denial (view_denials site level user rel label)
+denial_in site level user (commands.Dump rel) = first_denial (view_denials site level user rel level)
 denial_in site level user (commands.Insert rel key values) =
     first_denial (write_denials site level user rel (Insert key values))
 denial_in site level user (commands.Update rel key key_class from sets) =

@@ -108,6 +108,10 @@ pub fn denial_of(rules: &Rules, level: LabelNo, user: UserNo, command: &Command)
             let modes = [Modes::READ, Modes::WRITE];
             access_denial(rules, level, user, *rel, &modes, &[*label])
         }
+        Command::Dump { rel } => {
+            let modes = [Modes::READ, Modes::WRITE];
+            access_denial(rules, level, user, *rel, &modes, &[level])
+        }
         Command::Insert { rel, .. } => {
             let modes = [Modes::APPEND, Modes::WRITE];
             access_denial(rules, level, user, *rel, &modes, &[])

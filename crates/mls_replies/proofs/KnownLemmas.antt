@@ -7,7 +7,7 @@ use Rattle.mls_scheme.specs.declared.tuple.Tuple.{Tuple}
 use Rattle.mls_scheme.specs.Tuple.{HasClassesBelow}
 use Rattle.mls_lattice.specs.Policy.{Tables}
 use Rattle.mls_machine.specs.declared.reply.Reply.{Reply}
-use Rattle.mls_machine.specs.declared.reply.Reply.TheVariants.{Opened, Closed, Rows, Wrote, Ran, Entries, Denied}
+use Rattle.mls_machine.specs.declared.reply.Reply.TheVariants.{Opened, Closed, Rows, Dumped, Wrote, Ran, Entries, Denied}
 use Rattle.mls_machine.specs.Output.{ReplyIsKnown}
 use Rattle.mls_replies.specs.Known.{elements_known, tuples_known, HasKnownNumbers}
 
@@ -37,6 +37,7 @@ pub numbers_known : (policy : Tables) (r : Reply) → ReplyIsKnown policy r → 
 numbers_known policy (Opened user) h = h
 numbers_known policy Closed h = h
 numbers_known policy (Rows tuples) h = tt
+numbers_known policy (Dumped tuples) h = tt
 numbers_known policy (Wrote o) h = h
 numbers_known policy (Ran run) h = h
 numbers_known policy (Entries es) h = h

@@ -6,6 +6,7 @@ use Rattle.std.proofs.lemmas.List.{get_or-map, flat_map_more, take_more}
 use Rattle.std.proofs.lemmas.Option.{slice_get-get_or}
 use Rattle.mls_lattice.specs.Lattice.{Pair, same_pair, bottom}
 use Rattle.mls_lattice.specs.Labels.{label_of}
+use Rattle.mls_lattice.specs.Name.{is_name}
 use Rattle.mls_lattice.specs.Policy.{Name, Named, Tables}
 use Rattle.mls_lattice.specs.Canon.{label_name}
 use Rattle.mls_scheme.specs.Scheme.{Attribute, Scheme, Schemes, column_of}
@@ -25,11 +26,13 @@ use Rattle.mls_script.specs.declared.event.Command.TheVariants as commands
 use Rattle.mls_machine.specs.declared.form.Form.{Form}
 use Rattle.mls_machine.specs.declared.form.Form.TheVariants.{Lines, Table}
 use Rattle.mls_machine.specs.declared.reply.Reply.{Reply}
-use Rattle.mls_machine.specs.declared.reply.Reply.TheVariants.{Opened, Closed, Rows, Wrote, Ran, Entries, Denied}
+use Rattle.mls_machine.specs.declared.reply.Reply.TheVariants.{Opened, Closed, Rows, Dumped, Wrote, Ran, Entries, Denied}
 use Rattle.mls_machine.specs.declared.stored.Stored.{Stored}
 use Rattle.mls_machine.specs.Site.{Site, site_scheme}
-use Rattle.mls_machine.specs.Output.{Line, name_of, cell_text, front, line, item_line, heading, count_text, row_text, entry_text, view_texts, call_texts, reply_texts, reply_lines, reply_lines_in, lines_with, escaped_line, table_texts, texts_in_table, printed}
+use Rattle.mls_machine.specs.Dumping.{made_again}
+use Rattle.mls_machine.specs.Output.{Line, name_of, cell_text, front, line, item_line, heading, count_text, row_text, entry_text, view_texts, dump_heading, made_text, dump_texts, call_texts, reply_texts, reply_lines, reply_lines_in, lines_with, escaped_line, table_texts, texts_in_table, printed}
 use Rattle.mls_replies.specs.Under.{site_under}
+use Rattle.mls_replies.proofs.DumpLemmas.{printable_name}
 
 abbrev no_label : Named
 no_label = record { name = []; value = bottom }
@@ -85,6 +88,7 @@ no_texts : (site : Site) (command : Command) (tuples : List Tuple) → ((rel lab
 no_texts site (commands.Open name) tuples other = refl
 no_texts site commands.Close tuples other = refl
 no_texts site commands.Audit tuples other = refl
+no_texts site (commands.Dump rel) tuples other = refl
 no_texts site (commands.View rel label query counts) tuples other = absurd (other rel label query counts refl)
 no_texts site (commands.Insert rel key values) tuples other = refl
 no_texts site (commands.Update rel key key_class from sets) tuples other = refl
@@ -96,6 +100,7 @@ no_call_texts (commands.Open name) other = refl
 no_call_texts commands.Close other = refl
 no_call_texts commands.Audit other = refl
 no_call_texts (commands.View rel label query counts) other = refl
+no_call_texts (commands.Dump rel) other = refl
 no_call_texts (commands.Insert rel key values) other = refl
 no_call_texts (commands.Update rel key key_class from sets) other = refl
 no_call_texts (commands.Delete rel key key_class) other = refl
@@ -149,6 +154,28 @@ module _ (site : Site) (e : Event) where
   pub rows_printed : (r : Reply) (tuples : List Tuple) → r ≡ Rows tuples → flat_map on_line (view_texts site e.command tuples) ≡ printed (reply_lines site e r)
   rows_printed r tuples is = sym (ap (λ x. printed (reply_lines site e x)) is ∙ only_texts (view_texts site e.command tuples))
 
+  -- ---- dumps
+
+  -- after a heading
+  dump_lines : (rel : ℕ) (tuples : List Tuple) → e.command ≡ commands.Dump rel
+      → on_line (dump_heading (site_scheme site rel)) ++ flat_map (λ t. on_line (made_text site (made_again site e.session rel t))) tuples
+      ≡ flat_map on_line (dump_texts site e.session e.command tuples)
+  dump_lines rel tuples is =
+      ap (λ l. on_line (dump_heading (site_scheme site rel)) ++ l) (sym (flat_map-map on_line (λ t. made_text site (made_again site e.session rel t)) tuples))
+      ∙ sym (ap (λ x. flat_map on_line (dump_texts site e.session x tuples)) is)
+
+  pub dump_more : (rel : ℕ) (tuples : List Tuple) → e.command ≡ commands.Dump rel → (old new : List ℕ) → {A F : Type 0} (r : Result A F)
+      → OnOk r (new ≡ old ++ (on_line (dump_heading (site_scheme site rel)) ++ flat_map (λ t. on_line (made_text site (made_again site e.session rel t))) tuples))
+      → OnOk r (new ≡ old ++ flat_map on_line (dump_texts site e.session e.command tuples))
+  dump_more rel tuples is old new (Ok x) h = h ∙ ap (λ l. old ++ l) (dump_lines rel tuples is)
+  dump_more rel tuples is old new (Err f) h = h
+
+  pub dump_printed : is_name e.session ≡ true → (r : Reply) (tuples : List Tuple) → r ≡ Dumped tuples
+      → flat_map on_line (dump_texts site e.session e.command tuples) ≡ printed (reply_lines site e r)
+  dump_printed named r tuples is =
+      ap (λ session. flat_map on_line (dump_texts site session e.command tuples)) (sym (printable_name e.session named))
+      ∙ sym (ap (λ x. printed (reply_lines site e x)) is ∙ only_texts (dump_texts site (printable e.session) e.command tuples))
+
   pub entries_printed : (r : Reply) (es : List Entry) → r ≡ Entries es
       → on_line (codes "audit") ++ flat_map (λ x. on_line (entry_text site.policy x)) es ≡ printed (reply_lines site e r)
   entries_printed r es is =
@@ -189,31 +216,39 @@ same_views p s stored (commands.Open name) tuples = refl
 same_views p s stored commands.Close tuples = refl
 same_views p s stored commands.Audit tuples = refl
 same_views p s stored (commands.View rel label query counts) tuples = refl
+same_views p s stored (commands.Dump rel) tuples = refl
 same_views p s stored (commands.Insert rel key values) tuples = refl
 same_views p s stored (commands.Update rel key key_class from sets) tuples = refl
 same_views p s stored (commands.Delete rel key key_class) tuples = refl
 same_views p s stored (commands.Call name args) tuples = refl
 
-same_texts : (p : Tables) (s : Schemes) (stored : List Stored) (command : Command) (r : Reply)
-    → reply_texts (site_under p s) command r ≡ reply_texts (record { policy = p; schemes = s; stored = stored }) command r
-same_texts p s stored command (Opened user) = refl
-same_texts p s stored command Closed = refl
-same_texts p s stored command (Rows tuples) = same_views p s stored command tuples
-same_texts p s stored command (Wrote o) = refl
-same_texts p s stored command (Ran run) = refl
-same_texts p s stored command (Entries es) = refl
-same_texts p s stored command (Denied d) = refl
+same_dumps : (p : Tables) (s : Schemes) (stored : List Stored) (session : Name) (command : Command) (tuples : List Tuple)
+    → dump_texts (site_under p s) session command tuples ≡ dump_texts (record { policy = p; schemes = s; stored = stored }) session command tuples
+same_dumps p s stored session (commands.Dump rel) tuples = refl
+same_dumps p s stored session command tuples = refl
+
+same_texts : (p : Tables) (s : Schemes) (stored : List Stored) (session : Name) (command : Command) (r : Reply)
+    → reply_texts (site_under p s) session command r ≡ reply_texts (record { policy = p; schemes = s; stored = stored }) session command r
+same_texts p s stored session command (Opened user) = refl
+same_texts p s stored session command Closed = refl
+same_texts p s stored session command (Rows tuples) = same_views p s stored command tuples
+same_texts p s stored session command (Dumped tuples) = same_dumps p s stored (printable session) command tuples
+same_texts p s stored session command (Wrote o) = refl
+same_texts p s stored session command (Ran run) = refl
+same_texts p s stored session command (Entries es) = refl
+same_texts p s stored session command (Denied d) = refl
 
 same_tables : (p : Tables) (s : Schemes) (stored : List Stored) (command : Command) (tuples : List Tuple)
     → table_texts (site_under p s) command tuples ≡ table_texts (record { policy = p; schemes = s; stored = stored }) command tuples
 same_tables p s stored (commands.View rel label query counts) tuples = refl
+same_tables p s stored (commands.Dump rel) tuples = refl
 same_tables p s stored command tuples = refl
 
-same_in_table : (p : Tables) (s : Schemes) (stored : List Stored) (command : Command) (r : Reply)
-    → texts_in_table (site_under p s) command r ≡ texts_in_table (record { policy = p; schemes = s; stored = stored }) command r
-same_in_table p s stored command (Rows tuples) = same_tables p s stored command tuples
-same_in_table p s stored command r = same_texts p s stored command r
+same_in_table : (p : Tables) (s : Schemes) (stored : List Stored) (session : Name) (command : Command) (r : Reply)
+    → texts_in_table (site_under p s) session command r ≡ texts_in_table (record { policy = p; schemes = s; stored = stored }) session command r
+same_in_table p s stored session command (Rows tuples) = same_tables p s stored command tuples
+same_in_table p s stored session command r = same_texts p s stored session command r
 
 pub lines_under : (form : Form) (site : Site) (e : Event) (r : Reply) → reply_lines_in form (site_under site.policy site.schemes) e r ≡ reply_lines_in form site e r
-lines_under Lines site e r = ap (λ texts. lines_with site e texts r) (same_texts site.policy site.schemes site.stored e.command r)
-lines_under Table site e r = ap (λ texts. map escaped_line (lines_with site e texts r)) (same_in_table site.policy site.schemes site.stored e.command r)
+lines_under Lines site e r = ap (λ texts. lines_with site e texts r) (same_texts site.policy site.schemes site.stored e.session e.command r)
+lines_under Table site e r = ap (λ texts. map escaped_line (lines_with site e texts r)) (same_in_table site.policy site.schemes site.stored e.session e.command r)

@@ -34,13 +34,13 @@ module _ (site : Site) (e : Event) (reader : Option ℕ) where
   none_heard h texts = sym (ap printed (texts_heard reader false h texts))
 
   pub rows_heard : (r : Reply) (tuples : List Tuple) → r ≡ Rows tuples
-      → printed (heard ls reader (on_level (table_texts site e.command tuples))) ≡ printed (heard ls reader (lines_with site e (texts_in_table site e.command r) r))
+      → printed (heard ls reader (on_level (table_texts site e.command tuples))) ≡ printed (heard ls reader (lines_with site e (texts_in_table site e.session e.command r) r))
   rows_heard r tuples is =
       ap (λ l. printed (heard ls reader l)) (sym (append-nil (on_level (table_texts site e.command tuples))))
-      ∙ ap (λ x. printed (heard ls reader (lines_with site e (texts_in_table site e.command x) x))) (sym is)
+      ∙ ap (λ x. printed (heard ls reader (lines_with site e (texts_in_table site e.session e.command x) x))) (sym is)
 
   -- another reply is shown as it is
-  pub others_heard : (r : Reply) → ((tuples : List Tuple) → r ≡ Rows tuples → ⊥) → printed (heard ls reader (reply_lines site e r)) ≡ printed (heard ls reader (lines_with site e (texts_in_table site e.command r) r))
+  pub others_heard : (r : Reply) → ((tuples : List Tuple) → r ≡ Rows tuples → ⊥) → printed (heard ls reader (reply_lines site e r)) ≡ printed (heard ls reader (lines_with site e (texts_in_table site e.session e.command r) r))
   others_heard (Rows tuples) other = absurd (other tuples refl)
   others_heard r other = refl
 

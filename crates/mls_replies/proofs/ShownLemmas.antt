@@ -6,7 +6,7 @@ use Rattle.mls_meaning.specs.declared.run.Run.{Run}
 use Rattle.mls_meaning.specs.Meaning.{Item}
 use Rattle.mls_script.specs.declared.event.Event.{Event}
 use Rattle.mls_machine.specs.declared.reply.Reply.{Reply}
-use Rattle.mls_machine.specs.declared.reply.Reply.TheVariants.{Opened, Closed, Rows, Wrote, Ran, Entries, Denied}
+use Rattle.mls_machine.specs.declared.reply.Reply.TheVariants.{Opened, Closed, Rows, Dumped, Wrote, Ran, Entries, Denied}
 use Rattle.mls_machine.specs.Site.{Site, site_labels}
 use Rattle.mls_machine.specs.Output.{Line, line, item_line, call_texts, reply_texts, reply_lines, printed}
 use Rattle.mls_machine.specs.Observation.{out}
@@ -35,13 +35,14 @@ module _ (site : Site) (e : Event) (c : ℕ) where
 
   -- a reply without items
   plain_lines : (b : Bool) → below ls e.level c ≡ b → (r : Reply) → ((run : Run) → r ≡ Ran run → ⊥) → out ls c (reply_lines site e r) ≡ cond b (reply_lines site e r) []
-  plain_lines b h (Opened user) other = all_or_none b h (reply_texts site e.command (Opened user))
-  plain_lines b h Closed other = all_or_none b h (reply_texts site e.command Closed)
-  plain_lines b h (Rows tuples) other = all_or_none b h (reply_texts site e.command (Rows tuples))
-  plain_lines b h (Wrote o) other = all_or_none b h (reply_texts site e.command (Wrote o))
+  plain_lines b h (Opened user) other = all_or_none b h (reply_texts site e.session e.command (Opened user))
+  plain_lines b h Closed other = all_or_none b h (reply_texts site e.session e.command Closed)
+  plain_lines b h (Rows tuples) other = all_or_none b h (reply_texts site e.session e.command (Rows tuples))
+  plain_lines b h (Dumped tuples) other = all_or_none b h (reply_texts site e.session e.command (Dumped tuples))
+  plain_lines b h (Wrote o) other = all_or_none b h (reply_texts site e.session e.command (Wrote o))
   plain_lines b h (Ran run) other = absurd (other run refl)
-  plain_lines b h (Entries es) other = all_or_none b h (reply_texts site e.command (Entries es))
-  plain_lines b h (Denied d) other = all_or_none b h (reply_texts site e.command (Denied d))
+  plain_lines b h (Entries es) other = all_or_none b h (reply_texts site e.session e.command (Entries es))
+  plain_lines b h (Denied d) other = all_or_none b h (reply_texts site e.session e.command (Denied d))
 
   pub plain_seen : (b : Bool) → below ls e.level c ≡ b → (r : Reply) → ((run : Run) → r ≡ Ran run → ⊥) → printed (cond b (reply_lines site e r) []) ≡ printed (out ls c (reply_lines site e r))
   plain_seen b h r other = sym (ap printed (plain_lines b h r other))

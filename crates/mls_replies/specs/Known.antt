@@ -5,7 +5,7 @@ use Rattle.mls_lattice.specs.Policy.{Tables}
 use Rattle.mls_scheme.specs.declared.tuple.Element.{Element}
 use Rattle.mls_scheme.specs.declared.tuple.Tuple.{Tuple}
 use Rattle.mls_machine.specs.declared.reply.Reply.{Reply}
-use Rattle.mls_machine.specs.declared.reply.Reply.TheVariants.{Opened, Closed, Rows, Wrote, Ran, Entries, Denied}
+use Rattle.mls_machine.specs.declared.reply.Reply.TheVariants.{Opened, Closed, Rows, Dumped, Wrote, Ran, Entries, Denied}
 use Rattle.mls_machine.specs.Output.{EntriesAreKnown, ItemsAreKnown}
 
 -- ---- classes, as a test
@@ -26,6 +26,7 @@ abbrev pub HasKnownNumbers : Tables → Reply → Type 0
 HasKnownNumbers policy (Opened user) = user < length policy.users
 HasKnownNumbers policy Closed = ⊤
 HasKnownNumbers policy (Rows tuples) = ⊤
+HasKnownNumbers policy (Dumped tuples) = ⊤
 HasKnownNumbers policy (Wrote o) = ⊤
 HasKnownNumbers policy (Ran run) = ItemsAreKnown policy run.emitted × ItemsAreKnown policy run.released
 HasKnownNumbers policy (Entries es) = EntriesAreKnown policy es

@@ -36,6 +36,17 @@ fn are_rows_known(count: usize, rows: &Selection) -> bool
     true
 }
 
+fn are_tuples_known(count: usize, tuples: &[Tuple]) -> bool
+    ensures { result ≡ tuples_known count tuples.now }
+{
+    for tuple in tuples {
+        if !is_tuple_known(count, tuple) {
+            return false;
+        }
+    }
+    true
+}
+
 /// Whether the classes in a reply are declared, as they are over a clean store.
 #[tactic(auto, using(crate::proofs::KnownLemmas::known_steps))]
 pub fn is_known(policy: &Policy, reply: &Reply) -> bool
@@ -45,6 +56,7 @@ pub fn is_known(policy: &Policy, reply: &Reply) -> bool
 {
     match reply {
         Reply::Rows(rows) => are_rows_known(policy.label_count(), rows),
+        Reply::Dumped(tuples) => are_tuples_known(policy.label_count(), tuples),
         _ => true,
     }
 }

@@ -3,7 +3,9 @@
 #![tactic(auto)]
 
 mod asked;
+mod dumping;
 mod known;
+mod made;
 mod printing;
 mod printing_items;
 mod printing_rows;
@@ -11,8 +13,10 @@ mod replies;
 mod showing;
 mod shown;
 mod table;
+mod turning;
 
 pub use known::is_known;
 pub use replies::reply_bytes;
 pub use showing::shown_to;
 pub use shown::shown_bytes;
+pub use turning::turn_bytes;

@@ -9,6 +9,7 @@ ghost use Rattle.mls_replies.specs.Under.{site_under};
 ghost use Rattle.mls_machine.specs.Output.{front, heading, count_text, outcome_text, denial_text, row_text, entry_text, view_texts, reply_lines, printed, CommandIsKnown, EntriesAreKnown, CanBePrinted};
 
 use crate::asked::{Asked, push_asked};
+use crate::dumping::dump_bytes;
 use crate::printing::{push_entry, push_front, push_number};
 use crate::printing_items::ran_bytes;
 use crate::printing_rows::push_row;
@@ -308,6 +309,7 @@ pub fn reply_bytes(
         Reply::Opened(user) => opened_bytes(alloc, policy, event, *user),
         Reply::Closed => line_bytes(alloc, policy, event, "closed"),
         Reply::Rows(rows) => view_bytes(alloc, policy, schemes, event, rows),
+        Reply::Dumped(tuples) => dump_bytes(alloc, policy, schemes, event, tuples),
         Reply::Wrote(outcome) => {
             line_bytes(alloc, policy, event, &outcome_text(alloc, *outcome)?)
         }

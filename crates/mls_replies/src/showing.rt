@@ -92,7 +92,8 @@ fn bare_bytes(
     ensures { IfOk result (λ text. text.items
         ≡ printed (heard (labels_of policy.now) reader
         (lines_with (site_under policy.now schemes.now) event.now
-        (texts_in_table (site_under policy.now schemes.now) event.now.command reply.now) reply.now))) }
+        (texts_in_table (site_under policy.now schemes.now) event.now.session event.now.command reply.now)
+        reply.now))) }
 {
     match reply {
         Reply::Rows(rows) => heard_table(alloc, policy, schemes, event, rows, reader),

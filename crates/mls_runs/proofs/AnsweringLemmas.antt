@@ -1,8 +1,7 @@
 -- A line of a desk: its event is answered, and its mark written behind that.
-use Rattle.std.proofs.Common.{◌≡◌, ◌≢◌, ℕ, ◌-◌, ◌<◌, ◌≤◌, List, [], ◌∷◌, ◌++◌, length, Option, Some, None, Result, Ok, Err, OnOk, IfErr, refl, sym, ap, ◌∙◌, subst, append_assoc, append-nil, arith}
+use Rattle.std.proofs.Common.{◌≡◌, ◌≢◌, ℕ, ◌-◌, ◌<◌, ◌≤◌, List, [], ◌∷◌, ◌++◌, length, Option, Some, Result, Ok, Err, OnOk, IfErr, refl, sym, ap, ◌∙◌, subst, append_assoc, append-nil, arith}
 use Rattle.std.specs.Prelude.{IsErrAnd}
-use Rattle.std.proofs.Common.{slice_get}
-use Rattle.std.proofs.lemmas.Option.{same_Some}
+use Rattle.std.proofs.Common.{get_or}
 use Rattle.std.specs.Io.KnownBytes.{Appends}
 use Rattle.std.proofs.KnownBytes.{Appends-nil, Appends-trans}
 use Rattle.mls_script.specs.declared.event.Event.{Event}
@@ -77,21 +76,11 @@ module _ (site : Site) (w : World) where
       (subst (λ (l : List Event). IfErr r (IsStopped site (reader_of e.level Lines) w l was is new)) same err)
       (subst (λ (l : List Event). IfErr r (IsFaultOf l)) same fault)))
 
-  -- the first of the events of a line
-  first_is : (es : List Event) (e : Event) → Some e ≡ slice_get es 0 → (rest : List Event) × (es ≡ e ∷ rest)
-  first_is [] e h = absurd cc
-  first_is (x ∷ xs) e h = (xs, ap (λ y. y ∷ xs) (sym (same_Some e x h)))
-
-  none_first : (es : List Event) → None ≡ slice_get es 0 → es ≡ []
-  none_first [] h = refl
-  none_first (x ∷ xs) h = absurd cc
-
-  pub first_level : (es : List Event) (e : Event) → Some e ≡ slice_get es 0 → EventsFit site es → e.level < length site.policy.labels
-  first_level es e h fits = let (rest, is) = first_is es e h in (subst (EventsFit site) is fits).0.level
-
-  pub done_first : (e : Event) (es : List Event) → Some e ≡ slice_get es 0 → length es ≤ 1 → (was is : Option (List ℕ)) (new : World) (r : Result (Unit {0}) RunFault)
+  -- of a line with a first event
+  pub done_first : (e d : Event) (es : List Event) → 1 ≤ length es → e ≡ get_or es 0 d → length es ≤ 1 → (was is : Option (List ℕ)) (new : World) (r : Result (Unit {0}) RunFault)
       → OnOk r (IsWhole site (reader_of e.level Lines) w es was is new) → IfErr r (IsStopped site (reader_of e.level Lines) w es was is new) → IfErr r (IsFaultOf es) → IsDone site w es was is new r
-  done_first e es h one was is new r = let (rest, first) = first_is es e h in done_one e rest es first one was is new r
+  done_first e d [] some h one was is new r ok err fault = absurd (let k = some in omega (arith, k))
+  done_first e d (x ∷ xs) some h one was is new r ok err fault = done_one e xs (x ∷ xs) (ap (λ y. y ∷ xs) (sym h)) one was is new r ok err fault
 
   -- ---- none
 
@@ -106,8 +95,9 @@ module _ (site : Site) (w : World) where
   pub done_none : (es : List Event) → es ≡ [] → (a : Option (List ℕ)) (r : Result (Unit {0}) RunFault) → IsDone site w es a a w r
   done_none es none a r = subst (λ (l : List Event). IsDone site w l a a w r) (sym none) (none_done a r)
 
-  pub done_without : (es : List Event) → None ≡ slice_get es 0 → (a : Option (List ℕ)) (r : Result (Unit {0}) RunFault) → IsDone site w es a a w r
-  done_without es none a r = done_none es (none_first es none) a r
+  pub done_without : (es : List Event) → length es < 1 → (a : Option (List ℕ)) (r : Result (Unit {0}) RunFault) → IsDone site w es a a w r
+  done_without [] none a r = none_done a r
+  done_without (e ∷ es) none a r = absurd (let k = none in omega (arith, k))
 
   pub done_default : (fate : Fate) → ((events : List Event) → fate ≡ fates.Said events → ⊥) → (a : Option (List ℕ)) (r : Result (Unit {0}) RunFault) → IsDone site w (events_of fate) a a w r
   done_default fate h a r = done_none (events_of fate) (no_events fate h) a r

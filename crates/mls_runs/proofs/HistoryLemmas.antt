@@ -23,12 +23,14 @@ use Rattle.mls_script.specs.declared.event.Event.{Event}
 use Rattle.mls_machine.specs.declared.form.Audience.{Audience}
 use Rattle.mls_machine.specs.declared.stored.Stored.{Stored}
 use Rattle.mls_machine.specs.Site.{Site}
-use Rattle.mls_machine.specs.Machine.{World}
+use Rattle.mls_machine.specs.Machine.{World, end_of}
 use Rattle.mls_machine.specs.Output.{run_lines, printed}
 use Rattle.mls_machine.specs.Observation.{AreCertified, EventsFit, heard}
-use Rattle.mls_machine.specs.History.{RunAt, settled, run_end, history_end, history_lines, history_bytes, HistoryFits, IsHistoryUnder, IsSiteUnder, ShowsOnlyReleasesInHistory}
+use Rattle.mls_machine.specs.Turning.{turn_lines, turned}
+use Rattle.mls_machine.specs.History.{RunAt, settled, run_at, turning_at, run_start, run_end, turning_lines, history_end, history_lines, history_bytes, HistoryFits, IsHistoryUnder, IsSiteUnder, ShowsOnlyReleasesInHistory}
 use Rattle.mls_machine.proofs.HistoryLemmas.{histories_keep, accepted_histories, histories_show}
 use Rattle.mls_machine.proofs.OneLineLemmas.{each-append}
+use Rattle.mls_sessions.specs.World.{entries_in}
 use Rattle.mls_sessions.specs.declared.cause.RunFault.{RunFault}
 use Rattle.mls_host.specs.Running.{site_of, IsRun}
 use Rattle.mls_runs.specs.declared.history.Run.{Run}
@@ -49,16 +51,25 @@ bytes_more : (ls : Labels) (audience : Audience) (w : World) (rs ss : List RunAt
 unfolding history_end history_lines
 bytes_more ls audience w [] ss = refl
 bytes_more ls audience w (r ∷ rs) ss =
-    let here = printed (heard ls audience.reader (run_lines audience.form r.site w r.events)) in
+    let here = printed (heard ls audience.reader (turning_lines w r ++ run_lines audience.form r.site (run_start w r) r.events)) in
     ap (λ l. here ++ l) (bytes_more ls audience (run_end w r) rs ss) ∙ sym (append_assoc here (concat (history_bytes ls audience (run_end w r) rs)) (concat (history_bytes ls audience (history_end (run_end w r) rs) ss)))
 
 bytes_none : (ls : Labels) (audience : Audience) (w : World) → concat (history_bytes ls audience w []) ≡ []
 unfolding history_lines
 bytes_none ls audience w = refl
 
-bytes_one : (ls : Labels) (audience : Audience) (w : World) (r : RunAt) → concat (history_bytes ls audience w (r ∷ [])) ≡ printed (heard ls audience.reader (run_lines audience.form r.site w r.events))
+bytes_one : (ls : Labels) (audience : Audience) (w : World) (site : Site) (es : List Event) → concat (history_bytes ls audience w (run_at site es ∷ [])) ≡ printed (heard ls audience.reader (run_lines audience.form site w es))
 unfolding history_lines
-bytes_one ls audience w r = append-nil (printed (heard ls audience.reader (run_lines audience.form r.site w r.events)))
+bytes_one ls audience w site es = append-nil (printed (heard ls audience.reader (run_lines audience.form site w es)))
+
+bytes_turning : (ls : Labels) (audience : Audience) (w : World) (site : Site) → concat (history_bytes ls audience w (turning_at site ∷ [])) ≡ printed (heard ls audience.reader (turn_lines site.policy w.audit))
+unfolding history_lines run_lines
+bytes_turning ls audience w site =
+    append-nil (printed (heard ls audience.reader (turn_lines site.policy w.audit ++ []))) ∙ ap (λ l. printed (heard ls audience.reader l)) (append-nil (turn_lines site.policy w.audit))
+
+end_turning : (w : World) (site : Site) → history_end w (turning_at site ∷ []) ≡ settled (turned w)
+unfolding history_end end_of
+end_turning w site = refl
 
 end_none : (w : World) → history_end w [] ≡ w
 unfolding history_end
@@ -154,9 +165,19 @@ module _ (policy : Tables) (schemes : Schemes) where
     no_runs audience Wrote first sound wrote =
         history_run audience [] Wrote first first tt sound (subst Wrote (sym (bytes_none (labels_of policy) audience (world_of policy first))) wrote) (end_none (world_of policy first)) sound
 
-    module _ (stored : List Stored) (events : List Event) (audience : Audience) (ready : IsReady (record { site = site_of policy schemes stored; events = events })) where
+    -- a turning alone leaves the tuples
+    pub one_turning : (audience : Audience) (Wrote : List ℕ → Type 0) (first : Content) → IsSoundContent policy schemes first
+        → Wrote (printed (heard (labels_of policy) audience.reader (turn_lines policy (entries_in (length policy.labels) first.audit))))
+        → IsHistoryRun policy schemes audience (turning_at (site_of policy schemes []) ∷ []) Wrote first (record first { audit = [] })
+    one_turning audience Wrote first sound wrote =
+        let site = site_of policy schemes [] in
+        let ready : AreReady (turning_at site ∷ []) = ((record { labels = refl; relations = refl; read = tt }, tt, tt), tt) in
+        history_run audience (turning_at site ∷ []) Wrote first (record first { audit = [] }) ready sound (subst Wrote (sym (bytes_turning (labels_of policy) audience (world_of policy first) site)) wrote)
+        (end_turning (world_of policy first) site) (record { content = sound.content; entries = tt })
+
+    module _ (stored : List Stored) (events : List Event) (audience : Audience) (ready : IsReady (run_at (site_of policy schemes stored) events)) where
       abbrev At : RunAt
-      At = record { site = site_of policy schemes stored; events = events }
+      At = run_at (site_of policy schemes stored) events
 
       -- what a run leaves without its sessions
       left_world : (Wrote : List ℕ → Type 0) (end : Result (Unit {0}) RunFault) (first left : Content) → IsRun At.site audience events Wrote end first left → run_end (world_of policy first) (run_to At end) ≡ world_of policy left
@@ -164,7 +185,7 @@ module _ (policy : Tables) (schemes : Schemes) where
 
       one_run : (Wrote : List ℕ → Type 0) (first left : Content) → IsSoundContent policy schemes first → IsRun At.site audience events Wrote (Ok tt) first left → IsHistoryRun policy schemes audience (At ∷ []) Wrote first left
       one_run Wrote first left sound r =
-          history_run audience (At ∷ []) Wrote first left (ready, tt) sound (subst Wrote (sym (bytes_one (labels_of policy) audience (world_of policy first) At)) r.written)
+          history_run audience (At ∷ []) Wrote first left (ready, tt) sound (subst Wrote (sym (bytes_one (labels_of policy) audience (world_of policy first) At.site events)) r.written)
           (end_one (world_of policy first) At ∙ left_world Wrote (Ok tt) first left r) (record { content = r.sound.content; entries = r.sound.entries })
 
       -- with whole runs before it, up to where it stopped
@@ -195,9 +216,9 @@ told_runs policy schemes audience rs P Q first left f h = record { begins = h.be
 -- ---- one run over files
 
 module _ {D : Type 0} (g : Ghosts D) (policy : Tables) (file : SchemesFile) (audience : Audience) (distinct : AreDistinct (labels_of policy)) (start now : Files D) (stored : List Stored) (events : List Event)
-    (Wrote : List ℕ → Type 0) (first left : Content) (ready : IsReady policy file.schemes (record { site = site_of policy file.schemes stored; events = events })) (sound : IsSoundContent policy file.schemes first) where
+    (Wrote : List ℕ → Type 0) (first left : Content) (ready : IsReady policy file.schemes (run_at (site_of policy file.schemes stored) events)) (sound : IsSoundContent policy file.schemes first) where
   abbrev One : RunAt
-  One = record { site = site_of policy file.schemes stored; events = events }
+  One = run_at (site_of policy file.schemes stored) events
 
   -- it begins with what is found in the files
   abbrev pub Ran : Result (Unit {0}) RunFault → Type 0
@@ -259,9 +280,9 @@ module _ {D : Type 0} (g : Ghosts D) (policy : Tables) (file : SchemesFile) (aud
       }
 
   module _ (rs : List RunAt) (stored : List Stored) (events : List Event) (a b c : Option (List ℕ)) (mid now : Files D) (ready : AreReady policy file.schemes rs)
-      (fits : IsReady policy file.schemes (record { site = site_of policy file.schemes stored; events = events })) (over : AreRunsOver g policy file audience start rs (Appends a b) mid) where
+      (fits : IsReady policy file.schemes (run_at (site_of policy file.schemes stored) events)) (over : AreRunsOver g policy file audience start rs (Appends a b) mid) where
     abbrev Next : RunAt
-    Next = record { site = site_of policy file.schemes stored; events = events }
+    Next = run_at (site_of policy file.schemes stored) events
 
     -- a whole run more
     pub whole_more : AreRunsOver g policy file audience mid (Next ∷ []) (Appends b c) now → AreRunsOver g policy file audience start (rs ++ Next ∷ []) (Appends a c) now

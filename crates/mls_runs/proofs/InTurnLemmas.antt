@@ -23,7 +23,7 @@ use Rattle.mls_machine.specs.Machine.{World, no_sessions}
 use Rattle.mls_machine.specs.Output.{run_lines, printed}
 use Rattle.mls_machine.specs.Observation.{AreRead, PassesOnlyReleasesDown, heard}
 use Rattle.mls_machine.specs.Laws.{KeepsIntegrity}
-use Rattle.mls_machine.specs.History.{settled, run_end, history_end, history_lines, IsHistoryUnder, EachPassesOnlyReleasesDown}
+use Rattle.mls_machine.specs.History.{settled, run_at, run_end, history_end, history_lines, IsHistoryUnder, EachPassesOnlyReleasesDown}
 use Rattle.mls_machine.proofs.KeepingLemmas.{first_integrity}
 use Rattle.mls_machine.proofs.HistoryLemmas.{histories_pass}
 use Rattle.mls_sessions.specs.declared.cause.RunFault.{RunFault}
@@ -80,7 +80,7 @@ abbrev world_with : ℕ → Content → World
 world_with count c = record { db = c.db; sessions = no_sessions; audit = entries_in count c.audit }
 
 -- what a run leaves, without its sessions
-left_world : (site : Site) (first left : Content) (es : List Event) → IsLeftBy site first es left → run_end (first_world site first) (record { site = site; events = es }) ≡ first_world site left
+left_world : (site : Site) (first left : Content) (es : List Event) → IsLeftBy site first es left → run_end (first_world site first) (run_at site es) ≡ first_world site left
 left_world site first left es h = ap settled (sym h.1)
 
 -- ---- a store that keeps one content

@@ -8,3 +8,4 @@ pub mod AnsweringLemmas
 pub mod DeskLemmas
 pub mod DeskEndLemmas
 pub mod LawLemmas
+pub mod TurningLemmas

@@ -17,7 +17,7 @@ use Rattle.mls_fragments.specs.declared.open_fault.OpenFault.{OpenFault}
 use Rattle.mls_machine.specs.declared.form.Audience.{Audience}
 use Rattle.mls_machine.specs.Machine.{World, no_sessions}
 use Rattle.mls_machine.specs.Observation.{AreRead, AreCertified, EventsFit}
-use Rattle.mls_machine.specs.History.{RunAt, history_bytes, ShowsOnlyReleasesInHistory}
+use Rattle.mls_machine.specs.History.{RunAt, run_at, history_bytes, ShowsOnlyReleasesInHistory}
 use Rattle.mls_sessions.specs.World.{entries_in}
 use Rattle.mls_sessions.specs.declared.cause.RunFault.{RunFault}
 use Rattle.mls_runs.specs.declared.history.Run.{Run}
@@ -31,7 +31,7 @@ use Rattle.mls_host.specs.Running.{site_of, IsRun}
 
 module _ (policy : Tables) (schemes : Schemes) where
   abbrev pub run_of : Run → RunAt
-  run_of run = record { site = site_of policy schemes run.stored; events = run.events.items }
+  run_of run = run_at (site_of policy schemes run.stored) run.events.items
 
   -- what it stores was read and checked, and its events fit
   pub record IsPrepared (run : Run) : Type 0 where

@@ -6,7 +6,7 @@ use Rattle.mls_scheme.specs.Scheme.{Schemes}
 use Rattle.mls_filterview.specs.Content.{Content}
 use Rattle.mls_machine.specs.declared.form.Audience.{Audience}
 use Rattle.mls_machine.specs.Machine.{World}
-use Rattle.mls_machine.specs.History.{RunAt, history_end, history_bytes, KeepsIntegrityInHistory}
+use Rattle.mls_machine.specs.History.{RunAt, run_at, history_end, history_bytes, KeepsIntegrityInHistory}
 use Rattle.mls_machine.specs.History.{PassesOnlyReleasesDownInHistory}
 use Rattle.mls_sessions.specs.declared.cause.RunFault.{RunFault}
 use Rattle.mls_fragments.specs.Holdings.{Holdings}
@@ -54,7 +54,7 @@ module _ {h : Hosted} {Wrote : List ℕ → Type 0} {path : List ℕ} (r : Store
 
   -- up to where it ended or stopped
   abbrev pub run : RunAt
-  run = run_to (record { site = site_under setting r.is.stored; events = r.inputs.events }) r.end
+  run = run_to (run_at (site_under setting r.is.stored) r.inputs.events) r.end
 
   -- the worlds before and after it, without sessions
   abbrev pub world_before : World

@@ -8,3 +8,4 @@ pub mod DeskRun
 pub mod Laws
 pub mod Marks
 pub mod Reading
+pub mod TurnRun

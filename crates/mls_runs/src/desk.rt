@@ -39,15 +39,15 @@ fn answer<B: Base, W: Write>(
     ensures done { B.is_clean engine.new.base → IsDone (site engine.old) (world_of B.state engine.old) events.now
         (W.contents out.old) (W.contents out.new) (world_of B.state engine.new) result }
 {
-    match events.first() {
-        Some(event) => {
+    match events {
+        [] => Ok(()),
+        [event, ..] => {
             let audience = Audience {
                 reader: Some(event.level),
                 form: Form::Lines,
             };
             run_to(engine, events, audience, out)
         }
-        None => Ok(()),
     }
 }
 

@@ -1,4 +1,4 @@
-//! Scripts that are run over a database: of a host, in memory, and one after another over the files of a store; and desks over a host.
+//! Scripts that are run over a database: of a host, in memory, and one after another over the files of a store; desks over a host; and audit lists that are turned.
 #![tactic(auto)]
 
 ghost use Rattle.mls_runs.specs.Laws.{ShellsAreDesks};
@@ -10,6 +10,7 @@ mod marks;
 mod memory;
 mod reading;
 mod running;
+mod turning;
 mod turns;
 
 pub use crate::desk::desk_on;
@@ -17,6 +18,7 @@ pub use crate::desks::run_desk;
 pub use crate::history::{HistoryCause, HistoryFault, Run, run_history};
 pub use crate::memory::{HeldFile, MemoryHost, runs_in_memory_are_in_turn};
 pub use crate::running::{run_on, run_script};
+pub use crate::turning::turn_store;
 pub use crate::turns::{runs_are_in_turn, runs_write_the_same};
 
 /// A shell is a desk of one session: where nobody types at a terminal, it answers to events of its session what a desk answers to them.

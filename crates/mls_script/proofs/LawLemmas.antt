@@ -25,7 +25,7 @@ use Rattle.mls_script.specs.declared.fault.LineFault.{LineFault}
 use Rattle.mls_script.specs.declared.fault.ScriptFault.{ScriptFault}
 use Rattle.mls_script.specs.declared.draft.Draft.{Draft}
 use Rattle.mls_script.specs.declared.grammar.Verb.{Verb}
-use Rattle.mls_script.specs.declared.grammar.Verb.TheVariants.{Open, Close, Audit, View, Count, Insert, Update, Delete, Call}
+use Rattle.mls_script.specs.declared.grammar.Verb.TheVariants.{Open, Close, Audit, View, Count, Dump, Insert, Update, Delete, Call}
 use Rattle.mls_script.specs.declared.grammar.Part.TheVariants as parts
 use Rattle.mls_script.specs.Event.{CommandFits, EventFits}
 use Rattle.mls_script.specs.Grammar.{verbs, verb_word, parts_of, blank, no_query, command_of, event_of}
@@ -60,6 +60,7 @@ module _ (policy : Tables) (schemes : Schemes) where
   parts_rise Audit = tt
   parts_rise View = (omega arith, (omega arith, tt))
   parts_rise Count = (omega arith, (omega arith, tt))
+  parts_rise Dump = (omega arith, tt)
   parts_rise Insert = (omega arith, (omega arith, (omega arith, tt)))
   parts_rise Update = (omega arith, (omega arith, (omega arith, (omega arith, (omega arith, tt)))))
   parts_rise Delete = (omega arith, (omega arith, (omega arith, tt)))
@@ -104,6 +105,7 @@ module _ (policy : Tables) (schemes : Schemes) where
   tail_found Audit d q l y fits e was = no_tail Audit d q l y (λ p. refl) (λ p h tokens. tt) e was
   tail_found View d q l y fits e was = a_query View false d q l y refl (λ h. (h.0, h.1.0)) fits.0 e was
   tail_found Count d q l y fits e was = a_query Count true d q l y refl (λ h. (h.0, h.1.0)) fits.0 e was
+  tail_found Dump d q l y fits e was = no_tail Dump d q l y (λ p. refl) (λ p h tokens. h.0) e was
   tail_found Insert d q l y fits e was = no_tail Insert d q l y (λ p. refl) (λ p h tokens. (h.0, h.1.0, h.1.1.0)) e was
   tail_found Update d q l y fits e was = no_tail Update d q l y (λ p. refl) (λ p h tokens. (h.0, h.1.0, h.1.1.0, h.1.1.1.0, h.1.1.1.1.0)) e was
   tail_found Delete d q l y fits e was = no_tail Delete d q l y (λ p. refl) (λ p h tokens. (h.0, h.1.0, h.1.1.0)) e was
@@ -116,6 +118,7 @@ module _ (policy : Tables) (schemes : Schemes) where
   tokens_kept Audit d q = refl
   tokens_kept View d q = refl
   tokens_kept Count d q = refl
+  tokens_kept Dump d q = refl
   tokens_kept Insert d q = refl
   tokens_kept Update d q = refl
   tokens_kept Delete d q = refl

@@ -9,3 +9,5 @@ pub mod LawLemmas
 pub mod AgainLemmas
 pub mod QueryAgain
 pub mod TellingLemmas
+pub mod WritingSteps
+pub mod WritingLemmas

@@ -216,6 +216,7 @@ known_verb v.Close = refl
 known_verb v.Audit = refl
 known_verb v.View = refl
 known_verb v.Count = refl
+known_verb v.Dump = refl
 known_verb v.Insert = refl
 known_verb v.Update = refl
 known_verb v.Delete = refl
@@ -252,6 +253,7 @@ event_again level session commands.Close = refl
 event_again level session commands.Audit = refl
 event_again level session (commands.View rel label query false) = refl
 event_again level session (commands.View rel label query true) = refl
+event_again level session (commands.Dump rel) = refl
 event_again level session (commands.Insert rel key values) = refl
 event_again level session (commands.Update rel key key_class from sets) = refl
 event_again level session (commands.Delete rel key key_class) = refl
@@ -263,6 +265,7 @@ module _ (policy : Tables) (schemes : Schemes) where
   front_same level session commands.Close = refl
   front_same level session commands.Audit = refl
   front_same level session (commands.View rel label query counts) = refl
+  front_same level session (commands.Dump rel) = refl
   front_same level session (commands.Insert rel key values) = refl
   front_same level session (commands.Update rel key key_class from sets) = refl
   front_same level session (commands.Delete rel key key_class) = refl
@@ -274,6 +277,7 @@ module _ (policy : Tables) (schemes : Schemes) where
   parts_fit b commands.Audit h = tt
   parts_fit b (commands.View rel label query false) h = (h.0, (h.1, tt))
   parts_fit b (commands.View rel label query true) h = (h.0, (h.1, tt))
+  parts_fit b (commands.Dump rel) h = (h, tt)
   parts_fit b (commands.Insert rel key values) h = (h.0, (h.1, (h.2, tt)))
   parts_fit b (commands.Update rel key key_class from sets) h = (h.0, (h.1, (h.2, (h.3, (h.4, tt)))))
   parts_fit b (commands.Delete rel key key_class) h = (h.0, (h.1, (h.2, tt)))
@@ -286,6 +290,7 @@ module _ (policy : Tables) (schemes : Schemes) where
     parts_known b f commands.Audit h = tt
     parts_known b f (commands.View rel label query false) h = (tt, (tt, tt))
     parts_known b f (commands.View rel label query true) h = (tt, (tt, tt))
+    parts_known b f (commands.Dump rel) h = (tt, tt)
     parts_known b f (commands.Insert rel key values) h = (tt, ((refl, h.0), ((refl, h.0), tt)))
     parts_known b f (commands.Update rel key key_class from sets) h = (tt, ((refl, h.0), (tt, (tt, ((refl, h.0), tt)))))
     parts_known b f (commands.Delete rel key key_class) h = (tt, ((refl, h.0), (tt, tt)))
@@ -303,6 +308,7 @@ module _ (policy : Tables) (schemes : Schemes) where
     tail_read b (commands.View rel label query true) ts l fits tells e =
         gets_is (query_at policy schemes true (relation_in schemes (Ok (record b { rel = rel; label = label }))) l) (query_at policy schemes true (Some rel) l) l (λ x. x ≡ Ok query) []
         (rw (lt-ltb rel (length schemes) fits.0) refl) (query_read policy schemes rel is_policy true query ts l fits.2 tells e)
+    tail_read b (commands.Dump rel) ts l fits tells e = gets_done (Ok no_query) l (λ x. x ≡ Ok no_query) [] refl (e ∙ tells)
     tail_read b (commands.Insert rel key values) ts l fits tells e = gets_done (Ok no_query) l (λ x. x ≡ Ok no_query) [] refl (e ∙ tells)
     tail_read b (commands.Update rel key key_class from sets) ts l fits tells e = gets_done (Ok no_query) l (λ x. x ≡ Ok no_query) [] refl (e ∙ tells)
     tail_read b (commands.Delete rel key key_class) ts l fits tells e = gets_done (Ok no_query) l (λ x. x ≡ Ok no_query) [] refl (e ∙ tells)
@@ -314,6 +320,7 @@ module _ (policy : Tables) (schemes : Schemes) where
     tail_no_comma commands.Close ts tells = subst (NotNext (is_sign Comma)) (sym tells) tt
     tail_no_comma commands.Audit ts tells = subst (NotNext (is_sign Comma)) (sym tells) tt
     tail_no_comma (commands.View rel label query counts) ts tells = subst (NotNext (is_sign Comma)) (sym tells.tokens) (query_no_comma policy schemes rel query tells.behind tells.test)
+    tail_no_comma (commands.Dump rel) ts tells = subst (NotNext (is_sign Comma)) (sym tells) tt
     tail_no_comma (commands.Insert rel key values) ts tells = subst (NotNext (is_sign Comma)) (sym tells) tt
     tail_no_comma (commands.Update rel key key_class from sets) ts tells = subst (NotNext (is_sign Comma)) (sym tells) tt
     tail_no_comma (commands.Delete rel key key_class) ts tells = subst (NotNext (is_sign Comma)) (sym tells) tt

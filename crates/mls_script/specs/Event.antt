@@ -12,7 +12,7 @@ use Rattle.mls_parser.specs.Conditions.{IsConditionOf}
 use Rattle.mls_queries.specs.declared.query.Query.{Query}
 use Rattle.mls_script.specs.declared.event.Event.{Event}
 use Rattle.mls_script.specs.declared.event.Command.{Command}
-use Rattle.mls_script.specs.declared.event.Command.TheVariants.{Open, Close, Audit, View, Insert, Update, Delete, Call}
+use Rattle.mls_script.specs.declared.event.Command.TheVariants.{Open, Close, Audit, View, Dump, Insert, Update, Delete, Call}
 
 -- new values of attributes outside the key, by their numbers
 abbrev pub Sets : Type 0
@@ -41,6 +41,7 @@ CommandFits policy schemes Close = ⊤
 CommandFits policy schemes Audit = ⊤
 CommandFits policy schemes (View rel label query counts) =
     (rel < length schemes) × (label < length policy.labels) × QueryFits policy schemes rel query counts
+CommandFits policy schemes (Dump rel) = rel < length schemes
 CommandFits policy schemes (Insert rel key values) =
     (rel < length schemes) × HaveKinds (scheme_of schemes rel).keys key × HaveKinds (scheme_of schemes rel).others values
 CommandFits policy schemes (Update rel key key_class from sets) =

@@ -7,12 +7,12 @@ use Rattle.mls_script.specs.declared.event.Command.{Command}
 use Rattle.mls_script.specs.declared.event.Command.TheVariants as commands
 use Rattle.mls_script.specs.declared.draft.Draft.{Draft}
 use Rattle.mls_script.specs.declared.grammar.Verb.{Verb}
-use Rattle.mls_script.specs.declared.grammar.Verb.TheVariants.{Open, Close, Audit, View, Count, Insert, Update, Delete, Call}
+use Rattle.mls_script.specs.declared.grammar.Verb.TheVariants.{Open, Close, Audit, View, Count, Dump, Insert, Update, Delete, Call}
 use Rattle.mls_script.specs.declared.grammar.Part.{Part}
 use Rattle.mls_script.specs.declared.grammar.Part.TheVariants.{Level, Session, Name, Relation, Key, Values, Arguments, At, Class, From, Sets}
 
 abbrev pub verbs : List Verb
-verbs = Open ∷ Close ∷ Audit ∷ View ∷ Count ∷ Insert ∷ Update ∷ Delete ∷ Call ∷ []
+verbs = Open ∷ Close ∷ Audit ∷ View ∷ Count ∷ Dump ∷ Insert ∷ Update ∷ Delete ∷ Call ∷ []
 
 abbrev pub verb_word : Verb → List ℕ
 verb_word Open = codes "open"
@@ -20,6 +20,7 @@ verb_word Close = codes "close"
 verb_word Audit = codes "audit"
 verb_word View = codes "view"
 verb_word Count = codes "count"
+verb_word Dump = codes "dump"
 verb_word Insert = codes "insert"
 verb_word Update = codes "update"
 verb_word Delete = codes "delete"
@@ -31,6 +32,7 @@ parts_of Close = []
 parts_of Audit = []
 parts_of View = Relation ∷ At ∷ []
 parts_of Count = Relation ∷ At ∷ []
+parts_of Dump = Relation ∷ []
 parts_of Insert = Relation ∷ Key ∷ Values ∷ []
 parts_of Update = Relation ∷ Key ∷ Class ∷ From ∷ Sets ∷ []
 parts_of Delete = Relation ∷ Key ∷ Class ∷ []
@@ -67,6 +69,7 @@ command_of Close d q = commands.Close
 command_of Audit d q = commands.Audit
 command_of View d q = commands.View d.rel d.label q false
 command_of Count d q = commands.View d.rel d.label q true
+command_of Dump d q = commands.Dump d.rel
 command_of Insert d q = commands.Insert d.rel d.key d.values
 command_of Update d q = commands.Update d.rel d.key d.label d.from d.sets
 command_of Delete d q = commands.Delete d.rel d.key d.label
@@ -82,6 +85,7 @@ verb_of (commands.Open user) = Open
 verb_of commands.Close = Close
 verb_of commands.Audit = Audit
 verb_of (commands.View rel label query counts) = if counts then Count else View
+verb_of (commands.Dump rel) = Dump
 verb_of (commands.Insert rel key values) = Insert
 verb_of (commands.Update rel key key_class from sets) = Update
 verb_of (commands.Delete rel key key_class) = Delete
@@ -93,6 +97,7 @@ draft_of d (commands.Open user) = record d { name = user }
 draft_of d commands.Close = d
 draft_of d commands.Audit = d
 draft_of d (commands.View rel label query counts) = record d { rel = rel; label = label }
+draft_of d (commands.Dump rel) = record d { rel = rel }
 draft_of d (commands.Insert rel key values) = record d { rel = rel; key = key; values = values }
 draft_of d (commands.Update rel key key_class from sets) = record d { rel = rel; key = key; label = key_class; from = from; sets = sets }
 draft_of d (commands.Delete rel key key_class) = record d { rel = rel; key = key; label = key_class }

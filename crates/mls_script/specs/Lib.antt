@@ -6,3 +6,4 @@ pub mod QueryTokens
 pub mod ReadQuery
 pub mod Reading
 pub mod Script
+pub mod Writing

@@ -72,6 +72,7 @@ impl Draft {
                 query,
                 counts: true,
             },
+            Verb::Dump => Command::Dump { rel },
             Verb::Insert => Command::Insert { rel, key, values },
             Verb::Update => Command::Update {
                 rel,

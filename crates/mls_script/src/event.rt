@@ -29,6 +29,10 @@ pub enum Command {
         /// Whether only the number of the rows that are found is told.
         counts: bool,
     },
+    /// Shows the lines of a script that make again what the session's level sees of a relation.
+    Dump {
+        rel: RelNo,
+    },
     /// Adds a tuple at the session's level.
     Insert {
         rel: RelNo,

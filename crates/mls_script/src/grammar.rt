@@ -10,6 +10,7 @@ pub(crate) enum Verb {
     Audit,
     View,
     Count,
+    Dump,
     Insert,
     Update,
     Delete,
@@ -44,12 +45,13 @@ pub(crate) enum Part {
 }
 
 /// Every verb.
-pub(crate) static VERBS: [Verb; 9] = [
+pub(crate) static VERBS: [Verb; 10] = [
     Verb::Open,
     Verb::Close,
     Verb::Audit,
     Verb::View,
     Verb::Count,
+    Verb::Dump,
     Verb::Insert,
     Verb::Update,
     Verb::Delete,
@@ -66,6 +68,7 @@ impl Verb {
             Verb::Audit => "audit",
             Verb::View => "view",
             Verb::Count => "count",
+            Verb::Dump => "dump",
             Verb::Insert => "insert",
             Verb::Update => "update",
             Verb::Delete => "delete",
@@ -82,6 +85,7 @@ impl Verb {
             Verb::Close => &[],
             Verb::Audit => &[],
             Verb::View | Verb::Count => &[Part::Relation, Part::At],
+            Verb::Dump => &[Part::Relation],
             Verb::Insert => &[Part::Relation, Part::Key, Part::Values],
             Verb::Update => &[
                 Part::Relation,

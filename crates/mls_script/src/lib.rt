@@ -2,6 +2,7 @@
 #![tactic(auto)]
 
 ghost use Rattle.mls_script.specs.Script.{ScriptsAreOnce};
+ghost use Rattle.mls_script.specs.Writing.{LinesAreRead};
 
 mod draft;
 mod event;
@@ -12,12 +13,19 @@ mod lookup;
 mod query;
 mod reading;
 mod sentence;
+mod writing;
 
 pub use event::{Command, Event};
 pub use fault::{ScriptCause, ScriptFault};
 pub use reading::script;
+pub use writing::{is_writable, push_event};
 
 /// A text tells the events of one list at most.
 pub fn scripts_are_read_once()
     ensures { ScriptsAreOnce }
+{}
+
+/// What is written of events is read as these events.
+pub fn lines_are_read()
+    ensures { LinesAreRead }
 {}

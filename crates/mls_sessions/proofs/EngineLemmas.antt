@@ -22,7 +22,7 @@ use Rattle.mls_machine.specs.Denying.{stored_named, call_denial}
 use Rattle.mls_machine.specs.declared.reply.Reply.{Reply}
 use Rattle.mls_machine.specs.declared.reply.Reply.TheVariants.{Closed}
 use Rattle.mls_machine.specs.Site.{Site, site_labels}
-use Rattle.mls_machine.specs.Machine.{World, Step, with_session, closed, denied, unless, viewed, wrote, listed, called, call_step, step_inside, step_outside, step_at, step}
+use Rattle.mls_machine.specs.Machine.{World, Step, with_session, closed, denied, unless, viewed, dumped, wrote, listed, called, call_step, step_inside, step_outside, step_at, step}
 use Rattle.mls_machine.proofs.KeepingLemmas.{step_content}
 use Rattle.mls_sessions.specs.declared.engine.Engine.{Engine}
 use Rattle.mls_monitor.specs.declared.session.Session.{Session}
@@ -63,6 +63,7 @@ module _ (at : Site) (w : World) (e : Event) where
     denied_inside commands.Close d h = none_is d h
     denied_inside commands.Audit d h = none_is d h
     denied_inside (commands.View rel label query counts) d h = ap (λ o. unless at o w e user (viewed at w rel label query)) h
+    denied_inside (commands.Dump rel) d h = ap (λ o. unless at o w e user (dumped at w rel e.level)) h
     denied_inside (commands.Insert rel key values) d h = ap (λ o. unless at o w e user (wrote at w e.level rel (Insert key values))) h
     denied_inside (commands.Update rel key key_class from sets) d h = ap (λ o. unless at o w e user (wrote at w e.level rel (Update key key_class from sets))) h
     denied_inside (commands.Delete rel key key_class) d h = ap (λ o. unless at o w e user (wrote at w e.level rel (Delete key key_class))) h
@@ -75,6 +76,11 @@ module _ (at : Site) (w : World) (e : Event) where
     viewed_is rel label query counts is h =
         inside_is ∙ ap (λ x. step_inside at w e x user) is
         ∙ ap (λ o. unless at o w e user (viewed at w rel label query)) (sym (ap (denial_in at e.level user) is) ∙ h)
+
+    pub dumped_is : (rel : ℕ) → e.command ≡ commands.Dump rel → denial_in at e.level user e.command ≡ None → step at w e ≡ dumped at w rel e.level
+    dumped_is rel is h =
+        inside_is ∙ ap (λ x. step_inside at w e x user) is
+        ∙ ap (λ o. unless at o w e user (dumped at w rel e.level)) (sym (ap (denial_in at e.level user) is) ∙ h)
 
     pub listed_is : e.command ≡ commands.Audit → step at w e ≡ listed at w e.level
     listed_is is = inside_is ∙ ap (λ x. step_inside at w e x user) is

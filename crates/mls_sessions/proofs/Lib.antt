@@ -8,3 +8,4 @@ pub mod EngineLemmas
 pub mod NamingLemmas
 pub mod AnswerLemmas
 pub mod StartLemmas
+pub mod TurningLemmas

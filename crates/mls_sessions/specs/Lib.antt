@@ -4,3 +4,4 @@ pub mod Engine
 pub mod Calling
 pub mod Cause
 pub mod Run
+pub mod Turning

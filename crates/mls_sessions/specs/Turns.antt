@@ -54,6 +54,7 @@ is_write (commands.Open name) = false
 is_write commands.Close = false
 is_write commands.Audit = false
 is_write (commands.View rel label query counts) = false
+is_write (commands.Dump rel) = false
 is_write (commands.Insert rel key values) = true
 is_write (commands.Update rel key key_class from sets) = true
 is_write (commands.Delete rel key key_class) = true

@@ -10,7 +10,7 @@ ghost use Rattle.mls_sessions.specs.Engine.{site, world_of, IsReady, IsStep, IsK
 ghost use Rattle.mls_replies.specs.Known.{HasKnownNumbers};
 
 use crate::change::{Deed, change};
-use crate::looking::{audit, look};
+use crate::looking::{audit, dump, look};
 use crate::notice::Notice;
 use mls_filterview::{Base, BaseFault};
 use mls_lattice::{Items, LabelNo, Policy, UserNo};
@@ -147,6 +147,7 @@ impl<'a, B: Base> Engine<'a, B> {
                 *label,
                 query,
             ),
+            Command::Dump { rel } => dump(&self.rules, &mut self.base, *rel, event.level),
             Command::Audit => audit(&self.rules, &mut self.base, event.level),
             Command::Insert { .. } | Command::Update { .. } | Command::Delete { .. } => {
                 let deed = Deed::Write;

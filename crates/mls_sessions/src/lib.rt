@@ -8,6 +8,7 @@ mod engine;
 mod looking;
 mod notice;
 mod running;
+mod turning;
 mod writing;
 
 pub use cause::{RunCause, RunFault};
@@ -17,4 +18,5 @@ pub use mls_meaning::Run;
 pub use mls_script::{Command, Event, ScriptCause, ScriptFault};
 pub use notice::Notice;
 pub use running::{run, run_to};
+pub use turning::turn;
 pub use writing::write_whole;

@@ -1,9 +1,9 @@
-//! Events that look at the base: views and audits. They change no content.
+//! Events that look at the base: views, dumps and audits. They change no content.
 ghost use Rattle.std.specs.Prelude.{◌≡◌, ◌<◌, false, length, IfOk};
 ghost use Rattle.mls_lattice.specs.Policy.{labels_of};
 ghost use Rattle.mls_audit.specs.Entry.{visible};
 ghost use Rattle.mls_audit.specs.Reading.{entry_at};
-ghost use Rattle.mls_machine.specs.Machine.{viewed, listed};
+ghost use Rattle.mls_machine.specs.Machine.{viewed, dumped, listed};
 ghost use Rattle.mls_machine.specs.Output.{EntriesAreKnown};
 ghost use Rattle.mls_monitor.specs.Sessions.{site_of};
 ghost use Rattle.mls_sessions.specs.World.{declared, entries_in, IsSound};
@@ -12,14 +12,14 @@ ghost use Rattle.mls_sessions.specs.Turns.{IsTurn, IsStepOver};
 ghost use Rattle.mls_views.specs.Views.{AreViews};
 
 use mls_audit::{Entry, EntryFault, entry_of, visible};
-use mls_filterview::{Base, BaseFault, made};
-use mls_lattice::{Items, LabelNo};
+use mls_filterview::{Base, BaseFault, low_tuples, made};
+use mls_lattice::{Items, LabelNo, Policy};
 use mls_machine::Reply;
 use mls_monitor::Rules;
 use mls_queries::{Query, find};
 use mls_scheme::RelNo;
 use mls_views::Views;
-use std::alloc::AllocError;
+use std::alloc::{AllocError, Global};
 
 /// Answers a view by what its query finds.
 pub(crate) fn look<B: Base>(
@@ -55,13 +55,33 @@ pub(crate) fn look<B: Base>(
     Ok(Reply::Rows(found))
 }
 
-/// The entry of a declared label that bytes spell.
-fn declared_entry(rules: &Rules, bytes: &[u8]) -> Result<Option<Entry>, AllocError>
-    ensures { IfOk result (λ o. o ≡ declared (length rules.now.policy.now.labels) (entry_at bytes.now)) }
+/// Answers a dump by the tuples whose classes a session's level dominates.
+pub(crate) fn dump<B: Base>(
+    rules: &Rules,
+    base: &mut B,
+    rel: RelNo,
+    level: LabelNo,
+) -> Result<Reply, BaseFault>
+    requires idle { (B.state base.old).begun ≡ false }
+    requires level { level < length rules.now.policy.now.labels }
+    requires sound { B.is_clean base.old → IsSound (site_of rules.now) (B.state base.old).now }
+    ensures turn { IsTurn B.is_clean B.failures (λ b. (B.state b).now) base.old base.new result }
+    ensures idle { (B.state base.new).begun ≡ false }
+    ensures done { B.is_clean base.new → IfOk result (IsStepOver (site_of rules.now)
+        (λ w. dumped (site_of rules.now) w rel level) (B.state base.old).now (B.state base.new).now) }
+    ensures known { IfOk result (HasKnownNumbers rules.now.policy.now) }
 {
-    match entry_of(rules.alloc, bytes) {
+    let tuples = low_tuples(rules.alloc, base, rules.policy, rel, level)?;
+    Ok(Reply::Dumped(Items::from(tuples)))
+}
+
+/// The entry of a declared label that bytes spell.
+fn declared_entry(alloc: Global, policy: &Policy, bytes: &[u8]) -> Result<Option<Entry>, AllocError>
+    ensures { IfOk result (λ o. o ≡ declared (length policy.now.labels) (entry_at bytes.now)) }
+{
+    match entry_of(alloc, bytes) {
         Ok(entry) => {
-            if entry.label().index() < rules.policy.label_count() {
+            if entry.label().index() < policy.label_count() {
                 Ok(Some(entry))
             } else {
                 Ok(None)
@@ -73,12 +93,17 @@ fn declared_entry(rules: &Rules, bytes: &[u8]) -> Result<Option<Entry>, AllocErr
 }
 
 /// The entries of declared labels that strings spell.
-fn entries_of(rules: &Rules, strings: &[Items<u8>]) -> Result<Vec<Entry>, AllocError>
-    ensures { IfOk result (λ v. v.items ≡ entries_in (length rules.now.policy.now.labels) strings.now) }
+pub(crate) fn entries_of(
+    alloc: Global,
+    policy: &Policy,
+    strings: &[Items<u8>],
+) -> Result<Vec<Entry>, AllocError>
+    ensures exact { IfOk result (λ v. v.items ≡ entries_in (length policy.now.labels) strings.now) }
+    ensures known { IfOk result (λ v. EntriesAreKnown policy.now v.items) }
 {
-    let mut entries = Vec::new(rules.alloc);
+    let mut entries = Vec::new(alloc);
     for string in strings {
-        let found = declared_entry(rules, string)?;
+        let found = declared_entry(alloc, policy, string)?;
         match found {
             Some(entry) => entries.push(entry)?,
             None => {}
@@ -88,14 +113,19 @@ fn entries_of(rules: &Rules, strings: &[Items<u8>]) -> Result<Vec<Entry>, AllocE
 }
 
 /// The entries among strings whose labels a label dominates.
-fn seen_of(rules: &Rules, strings: &[Items<u8>], label: LabelNo) -> Result<Vec<Entry>, AllocError>
-    requires { label < length rules.now.policy.now.labels }
-    ensures exact { IfOk result (λ v. v.items ≡ visible (labels_of rules.now.policy.now) label
-        (entries_in (length rules.now.policy.now.labels) strings.now)) }
-    ensures known { IfOk result (λ v. EntriesAreKnown rules.now.policy.now v.items) }
+pub(crate) fn seen_of(
+    alloc: Global,
+    policy: &Policy,
+    strings: &[Items<u8>],
+    label: LabelNo,
+) -> Result<Vec<Entry>, AllocError>
+    requires { label < length policy.now.labels }
+    ensures exact { IfOk result (λ v. v.items ≡ visible (labels_of policy.now) label
+        (entries_in (length policy.now.labels) strings.now)) }
+    ensures known { IfOk result (λ v. EntriesAreKnown policy.now v.items) }
 {
-    let entries = entries_of(rules, strings)?;
-    visible(rules.alloc, rules.policy, &entries, label)
+    let entries = entries_of(alloc, policy, strings)?;
+    visible(alloc, policy, &entries, label)
 }
 
 /// Answers an audit of a session's level.
@@ -113,6 +143,6 @@ pub(crate) fn audit<B: Base>(
     ensures known { IfOk result (HasKnownNumbers rules.now.policy.now) }
 {
     let strings = base.audit_all()?;
-    let entries = made(base, seen_of(rules, &strings, level))?;
+    let entries = made(base, seen_of(rules.alloc, rules.policy, &strings, level))?;
     Ok(Reply::Entries(Items::from(entries)))
 }

@@ -40,6 +40,7 @@ fn unknown_user_to(text: &mut String, to: &Listener<'_>) -> Result<(), AllocErro
 fn object_of<'a>(to: &Listener<'a>, command: &'a Command) -> &'a str {
     match command {
         Command::View { rel, .. }
+        | Command::Dump { rel }
         | Command::Insert { rel, .. }
         | Command::Update { rel, .. }
         | Command::Delete { rel, .. } => relation_name(to.schemes, *rel),
@@ -51,7 +52,7 @@ fn object_of<'a>(to: &Listener<'a>, command: &'a Command) -> &'a str {
 /// What a command does to it, and the modes of which one is wanted.
 fn right_of(command: &Command) -> (&'static str, &'static str) {
     match command {
-        Command::View { .. } => ("read", "no read and no write"),
+        Command::View { .. } | Command::Dump { .. } => ("read", "no read and no write"),
         Command::Insert { .. } => ("write", "no append and no write"),
         Command::Call { .. } => ("run", "no execute"),
         _ => ("change", "no write"),
@@ -71,7 +72,7 @@ fn no_right_to(text: &mut String, to: &Listener<'_>, command: &Command) -> Resul
 /// The label that a command names and another does not dominate, the first if there are several.
 fn named_beyond(to: &Listener<'_>, command: &Command, limit: LabelNo) -> Option<LabelNo> {
     match command {
-        Command::Open(_) => Some(to.seat.level),
+        Command::Open(_) | Command::Dump { .. } => Some(to.seat.level),
         Command::View { label, .. } => Some(*label),
         Command::Update {
             key_class,

@@ -8,8 +8,8 @@ use mls_scheme::{Attributes, Column, RelNo, Scheme};
 use std::alloc::AllocError;
 
 const NO_TOPIC: &str =
-    "  No command is called so. There are view, count, insert, update, delete, call,
-  audit, describe, help, close, quit and exit.
+    "  No command is called so. There are view, count, dump, insert, update, delete,
+  call, audit, describe, help, close, quit and exit.
 ";
 
 /// What is told of a line that asks for more.

@@ -16,7 +16,7 @@ const TOO_LONG: &str =
     "  A line has at most 1,048,575 bytes before its end. Nothing of this one was done.\n";
 
 const NO_VERB: &str =
-    "  A line begins with view, count, insert, update, delete, call, audit or close. `help` has examples.\n";
+    "  A line begins with view, count, dump, insert, update, delete, call, audit or close. `help` has examples.\n";
 
 const MORE_WORDS: &str =
     "  `describe` shows what is declared, and `quit` and `exit` end the shell too.\n";

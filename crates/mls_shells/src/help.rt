@@ -6,6 +6,7 @@ insert SOD key (\"Enterprise\") values (\"Exploration\", null)     adds a tuple 
 view SOD at U                                                  shows what is seen of a relation at a label
 view SOD at U highest where Objective = \"Spying\"               shows, of what holds, the rows that a condition finds
 count SOD at U class = U                                       counts the rows that a view would show
+dump SOD                                                       shows what you see of a relation as lines of a script
 update SOD key (\"Enterprise\") class U from U set Objective = \"Spying\"
                                                                gives attributes of a tuple new values at your level
 delete SOD key (\"Enterprise\") class U                          removes your level's tuple of a key
@@ -19,7 +20,7 @@ const LEAVING: &str = "  close
 ";
 
 /// Each command, and its form, an example and what it does.
-pub(crate) static TOPICS: [(&str, &str); 12] = [
+pub(crate) static TOPICS: [(&str, &str); 13] = [
     (
         "view",
         "  view RELATION at LABEL [highest] [class OP LABEL] [first N] [where CONDITION]
@@ -32,6 +33,13 @@ pub(crate) static TOPICS: [(&str, &str); 12] = [
         "  count RELATION at LABEL [highest] [class OP LABEL] [where CONDITION]
   For example: count SOD at U class = U
   It counts the rows that a view would show.
+",
+    ),
+    (
+        "dump",
+        "  dump RELATION
+  For example: dump SOD
+  It shows the lines of a script that make again what is seen of a relation.
 ",
     ),
     (

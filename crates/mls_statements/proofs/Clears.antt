@@ -14,15 +14,15 @@ use Rattle.sqlite_schema.specs.declared.schema.Keys.TheVariants.{Enforced}
 use Rattle.sqlite_trees.specs.View.{is_int}
 use Rattle.sqlite_rules.specs.Edit.{Applies, edit_of}
 use Rattle.sqlite_rules.specs.Calls.{ids_of}
-use Rattle.mls_statements.specs.Schema.{schema, node, cell, meta}
-use Rattle.mls_statements.specs.Rows.{node_of, is_node_row, cell_of, is_cell_row, meta_of, is_meta_row, tables_of}
-use Rattle.mls_statements.specs.Statements.{IsReady, IsNext, AreRows, Changes, ClearsNodes, ClearsCells, ClearsMeta}
-use Rattle.mls_statements.proofs.Texts.{every, clear_nodes, clear_nodes_is, clear_cells, clear_cells_is, clear_meta, clear_meta_is}
+use Rattle.mls_statements.specs.Schema.{schema, node, cell, audit, meta}
+use Rattle.mls_statements.specs.Rows.{node_of, is_node_row, cell_of, is_cell_row, audit_of, is_audit_row, meta_of, is_meta_row, tables_of}
+use Rattle.mls_statements.specs.Statements.{IsReady, IsNext, AreRows, Changes, ClearsNodes, ClearsCells, ClearsEntries, ClearsMeta}
+use Rattle.mls_statements.proofs.Texts.{every, clear_nodes, clear_nodes_is, clear_cells, clear_cells_is, clear_entries, clear_entries_is, clear_meta, clear_meta_is}
 use Rattle.mls_statements.proofs.PlainWrites.{drops}
 use Rattle.mls_statements.proofs.QueryAnswers.{passes, answered}
 use Rattle.mls_statements.proofs.TableEdits.{dropped}
 use Rattle.mls_statements.proofs.SchemaLemmas.{at_rest}
-use Rattle.mls_statements.proofs.ReadyLemmas.{nodes_changed, cells_changed, meta_changed}
+use Rattle.mls_statements.proofs.ReadyLemmas.{nodes_changed, cells_changed, audit_changed, meta_changed}
 
 none_left : {X : Type 0} (xs : List X) → filter (λ x. not true) xs ≡ []
 none_left [] = refl
@@ -60,6 +60,16 @@ module _ (old new : State) (ready : IsReady old.now) where
   pub clears_cells : (r : Result ℕ Error) → Executes clear_cells [] old new r → OnOk r (Changes ClearsCells old new)
   clears_cells (Err e) h = tt
   clears_cells (Ok count) h = cells_cleared (drops old new (schema ready.0.others) ready.0.is clear_cells 1 cell refl (at_rest ready.0.others ready.0.apart cell.tree) [] count h (every 2) (clear_cells_is ready.0.others))
+
+  entries_cleared : TakesOut audit [] → Changes ClearsEntries old new
+  entries_cleared did =
+      let left = cleared is_audit_row audit_of audit (λ r h. (and_parts _ _ h).0) refl ready.1.1.1.0 did in
+      let all = audit_changed old.now new.now ready did.0 left.0 did.3.tables in
+      record { ready = all.0; rows = all.1 ∙ ap (λ es. record (tables_of old.now.trees) { audit = es }) left.1; next = did.4 }
+
+  pub clears_entries : (r : Result ℕ Error) → Executes clear_entries [] old new r → OnOk r (Changes ClearsEntries old new)
+  clears_entries (Err e) h = tt
+  clears_entries (Ok count) h = entries_cleared (drops old new (schema ready.0.others) ready.0.is clear_entries 2 audit refl (at_rest ready.0.others ready.0.apart audit.tree) [] count h (every 4) (clear_entries_is ready.0.others))
 
   meta_cleared : TakesOut meta [] → Changes ClearsMeta old new
   meta_cleared did =

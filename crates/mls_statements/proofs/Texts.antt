@@ -197,6 +197,13 @@ pub clear_cells_is : (o : Others) → Means (schema o) clear_cells (Delete 1 (al
 unfolding understood everything
 clear_cells_is o = (refl, (refl, refl))
 
+abbrev pub clear_entries : List ℕ
+clear_entries = codes "DELETE FROM audit"
+
+pub clear_entries_is : (o : Others) → Means (schema o) clear_entries (Delete 2 (alone (every 4)))
+unfolding understood everything
+clear_entries_is o = (refl, (refl, refl))
+
 abbrev pub clear_meta : List ℕ
 clear_meta = codes "DELETE FROM meta"
 

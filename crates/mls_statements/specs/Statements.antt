@@ -71,6 +71,9 @@ ClearsCells old new = new ≡ record old { cells = [] }
 abbrev pub ClearsMeta : Tables → Tables → Type 0
 ClearsMeta old new = new ≡ record old { meta = [] }
 
+abbrev pub ClearsEntries : Tables → Tables → Type 0
+ClearsEntries old new = new ≡ record old { audit = [] }
+
 -- the entries alone stay
 abbrev pub ClearsStore : Tables → Tables → Type 0
 ClearsStore old new = new ≡ record old { nodes = []; cells = []; meta = [] }

@@ -7,7 +7,7 @@ ghost use Rattle.sqlite.specs.declared.error.ErrorCode.TheVariants.{OutOfMemory}
 ghost use Rattle.mls_statements.specs.declared.rows.CellRow.{CellRow as SpecCell};
 ghost use Rattle.mls_statements.specs.Rows.{Tables, tables_of, described, is_node_at, is_node, is_cell_at, is_cell_in, cell_beside};
 ghost use Rattle.mls_statements.specs.Schema.{no_schema};
-ghost use Rattle.mls_statements.specs.Statements.{IsReady, AddsNode, DropsNode, AddsCells, SetsCell, DropsCells, AddsEntry, IsOne, has_key_of, HasSettled};
+ghost use Rattle.mls_statements.specs.Statements.{IsReady, AddsNode, DropsNode, AddsCells, SetsCell, DropsCells, AddsEntry, ClearsEntries, IsOne, has_key_of, HasSettled};
 ghost use Rattle.mls_statements.specs.Store.{IsClean, IsFault, IsCall, HasFailed, Writes, IsSame, HasEnded};
 
 use crate::remembered::Remembered;
@@ -468,6 +468,19 @@ impl<S: Alter> TableStore<S> {
         ensures done { IsClean self.new → OnOk result (Writes (AddsEntry entry.now) self.old self.new) }
     {
         match audit::add_entry(&mut self.conn, entry) {
+            Ok(_) => Ok(()),
+            Err(error) => Err(fail(&mut self.conn, &mut self.begun, &mut self.failures, error)),
+        }
+    }
+
+    /// Drops every entry.
+    pub fn clear_entries(&mut self) -> Result<(), StoreFault>
+        requires begun { self.old.begun ≡ true }
+        ensures call { IsCall self.old self.new result }
+        ensures mode { OnOk result (self.new.begun ≡ true) }
+        ensures done { IsClean self.new → OnOk result (Writes ClearsEntries self.old self.new) }
+    {
+        match audit::clear_entries(&mut self.conn) {
             Ok(_) => Ok(()),
             Err(error) => Err(fail(&mut self.conn, &mut self.begun, &mut self.failures, error)),
         }

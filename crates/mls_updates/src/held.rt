@@ -80,6 +80,14 @@ impl Held {
         self.audit.push(entry)?;
         Ok(())
     }
+
+    /// Removes all entries of the audit list.
+    pub(crate) fn clear_entries(&mut self)
+        ensures rows { self.new.rows ≡ self.old.rows }
+        ensures audit { self.new.audit.items ≡ [] }
+    {
+        self.audit.clear();
+    }
 }
 
 /// The bytes of an entry, of its own.

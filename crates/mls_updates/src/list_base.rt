@@ -149,6 +149,14 @@ impl Base for ListBase {
         }
     }
 
+    fn audit_clear(&mut self) -> Result<(), BaseFault> {
+        if !self.is_begun() {
+            return Err(BaseFault::NotBegun);
+        }
+        self.held.clear_entries();
+        Ok(())
+    }
+
     fn audit_all(&mut self) -> Result<Items<Items<u8>>, BaseFault> {
         match copy_entries(&self.held.audit) {
             Ok(entries) => Ok(Items::from(entries)),

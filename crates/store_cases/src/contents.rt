@@ -41,6 +41,21 @@ pub fn content_of(alloc: Global, site: &Site<'_>, script: &str, probe: &str) -> 
     probed(alloc, &out.bytes)
 }
 
+/// What it holds after a script, and what is left of that where the audit list is turned: no entry.
+pub fn turned_of(alloc: Global, site: &Site<'_>, script: &str, probe: &str) -> Option<Vec<String>> {
+    let content = content_of(alloc, site, script, probe)?;
+    let mut left = Told::new(alloc);
+    for line in content.lines() {
+        if !line.contains(" entry ") {
+            left.push_line(line);
+        }
+    }
+    let mut contents = Vec::new(alloc);
+    contents.push(content).ok()?;
+    contents.push(left.finish().ok()?).ok()?;
+    Some(contents)
+}
+
 /// What a base over lists holds before a script, and after each of its lines.
 pub fn contents_of(
     alloc: Global,

@@ -15,7 +15,7 @@ use mls_host::stored_from;
 use mls_machine::{Audience, Form, Stored};
 use mls_runs::{Run, run_on};
 use mls_script::script;
-use mls_sessions::{RunCause, RunFault};
+use mls_sessions::{RunCause, RunFault, turn};
 use mls_trusted::evaluate;
 use std::alloc::Global;
 
@@ -26,13 +26,15 @@ pub enum Task<'a> {
     Run(&'a str),
     /// The first of the stored transactions is evaluated alone.
     Evaluate,
+    /// The audit list is turned.
+    Turn,
 }
 
-/// The script of a task: that of an evaluation is empty.
+/// The script of a task, which only a run has.
 fn script_of<'a>(task: Task<'a>) -> &'a str {
     match task {
         Task::Run(text) => text,
-        Task::Evaluate => "",
+        Task::Evaluate | Task::Turn => "",
     }
 }
 
@@ -152,6 +154,19 @@ fn evaluate_over<B: Base>(alloc: Global, site: &Site<'_>, run: &Run, base: B) ->
     (end, base)
 }
 
+/// Turns the audit list over a base.
+fn turn_over<B: Base>(alloc: Global, site: &Site<'_>, base: B, out: &mut Narrow) -> (End, B)
+    requires idle { (B.state base).begun ≡ false }
+    ensures { (B.state result.1).begun ≡ false }
+{
+    let mut base = base;
+    let end = match turn(alloc, &site.policy, &mut base, None, out) {
+        Ok(()) => End::Whole,
+        Err(fault) => End::Stopped(RunFault { event: 1, ..fault }),
+    };
+    (end, base)
+}
+
 /// Does a task over a base.
 pub fn do_task<B: Base>(
     alloc: Global,
@@ -170,5 +185,6 @@ pub fn do_task<B: Base>(
     match task {
         Task::Run(_) => run_over(alloc, site, run, base, out),
         Task::Evaluate => evaluate_over(alloc, site, &run, base),
+        Task::Turn => turn_over(alloc, site, base, out),
     }
 }

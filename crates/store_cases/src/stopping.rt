@@ -1,10 +1,11 @@
 //! The tables of stops.
-use crate::contents::{contents_of, ends_of};
+use crate::contents::{contents_of, ends_of, turned_of};
 use crate::cuts::tell_cuts;
 use crate::disks::Copies;
 use crate::runs::Task;
 use crate::site::{Names, Site};
 use crate::stops::{Plan, Series, tell_series};
+use crate::stores::made;
 use crate::texts::Texts;
 use case_tables::{Told, case_at};
 use std::alloc::{AllocError, Global};
@@ -130,4 +131,49 @@ pub fn tell_evaluations(
         return Ok(());
     };
     tell_evaluation(alloc, &site, texts, lines, out)
+}
+
+/// The names of the places of a turning.
+const TURNING_PLACES: [&str; 3] = ["opening", "turning", "closing"];
+
+/// Tells the series of a table, of stops of a turning of the audit list that the events of a script leave.
+fn tell_turning(
+    alloc: Global,
+    site: &Site<'_>,
+    texts: &Texts,
+    lines: &[&str],
+    out: &mut Told,
+) -> io::Result<()> {
+    let probe = texts.named("probe.script");
+    let script = texts.named("stops.script");
+    let Some(contents) = turned_of(alloc, site, script, probe) else {
+        out.push_line("no contents");
+        return Ok(());
+    };
+    let plan = Plan {
+        site,
+        earlier: None,
+        start: &made(alloc, site, script)?,
+        task: Task::Turn,
+        names: &TURNING_PLACES,
+        contents: &contents,
+        probe,
+    };
+    tell_plan(alloc, &plan, lines, out)
+}
+
+/// Tells the stops of turnings.
+pub fn tell_turnings(
+    alloc: Global,
+    texts: &Texts,
+    lines: &[&str],
+    out: &mut Told,
+) -> io::Result<()> {
+    match Site::of(alloc, texts, Names::of("policy.toml")) {
+        Some(site) => tell_turning(alloc, &site, texts, lines, out),
+        None => {
+            out.push_line("no site");
+            Ok(())
+        }
+    }
 }

@@ -38,7 +38,7 @@ fn calls_of(series: &str, part: &str, calls: u64) -> u64 {
 /// A series has fewer places than this.
 const MOST: u64 = 1000;
 
-/// Does a task, which a stop ends after so many calls; the store of a run is closed then.
+/// Does a task, which a stop ends after so many calls; the store is closed then, but that of an evaluation.
 fn stopped(alloc: Global, plan: &Plan<'_>, series: &str, calls: u64) -> io::Result<Done> {
     let job = Job {
         work: Work::Do(plan.site, plan.task),
@@ -47,7 +47,7 @@ fn stopped(alloc: Global, plan: &Plan<'_>, series: &str, calls: u64) -> io::Resu
             db: calls_of(series, "file", calls),
             replies: calls_of(series, "writer", calls),
         },
-        closes: matches!(plan.task, Task::Run(_)),
+        closes: !matches!(plan.task, Task::Evaluate),
     };
     do_job(alloc, job, plan.start)
 }

@@ -14,15 +14,17 @@ pub enum Table {
     Again,
     Histories,
     Migrations,
+    Turnings,
 }
 
-pub const TABLES: [(&str, Table); 6] = [
+pub const TABLES: [(&str, Table); 7] = [
     ("again.txt", Table::Again),
     ("damage.txt", Table::Damage),
     ("evaluations.txt", Table::Evaluations),
     ("histories.txt", Table::Histories),
     ("migrations.txt", Table::Migrations),
     ("stops.txt", Table::Stops),
+    ("turnings.txt", Table::Turnings),
 ];
 
 /// Tells the cases of a table.
@@ -36,6 +38,7 @@ fn tell_lines(
     match table {
         Table::Stops => stopping::tell_runs(alloc, texts, lines, out),
         Table::Evaluations => stopping::tell_evaluations(alloc, texts, lines, out),
+        Table::Turnings => stopping::tell_turnings(alloc, texts, lines, out),
         Table::Damage => damage::tell_lines(alloc, texts, lines, out),
         Table::Migrations => migrations::tell_lines(alloc, texts, lines, out),
         Table::Again => again::tell_lines(alloc, texts, lines, out),

@@ -2,7 +2,7 @@
 use std::rt::Files;
 use std::{fs, io};
 
-const NAMES: [&str; 22] = [
+const NAMES: [&str; 23] = [
     "again.txt",
     "certificates.txt",
     "damage.script",
@@ -21,6 +21,7 @@ const NAMES: [&str; 22] = [
     "schemes.toml",
     "stops.script",
     "stops.txt",
+    "turnings.txt",
     "transactions.txt",
     "wide.policy.toml",
     "wide.schemes.toml",

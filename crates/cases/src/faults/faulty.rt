@@ -219,6 +219,16 @@ impl<B: Base> Base for Faulty<B> {
         self.base.audit_add(bytes)
     }
 
+    fn audit_clear(&mut self) -> Result<(), BaseFault> {
+        if !self.is_begun() {
+            return Err(BaseFault::NotBegun);
+        }
+        if self.is_due() {
+            return Err(self.fail());
+        }
+        self.base.audit_clear()
+    }
+
     fn audit_all(&mut self) -> Result<Items<Items<u8>>, BaseFault> {
         if self.is_due() {
             return Err(self.fail());

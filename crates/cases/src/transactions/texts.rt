@@ -4,6 +4,7 @@ ghost use Rattle.mls_translang.specs.Fits.{IsReadUnder};
 
 use super::labels::{push_labels, push_labels2};
 use super::prints::{push_prints, push_size};
+use super::ranges::push_ranges;
 use crate::table::Subject;
 use case_tables::{Case, Told, joined, unfolded};
 use mls_lattice::Policy;
@@ -37,6 +38,7 @@ fn push_txs(
         Subject::Prints => push_prints(alloc, policy, schemes, txs, out),
         Subject::Labels => push_labels(alloc, policy, txs, out),
         Subject::Labels2 => push_labels2(alloc, policy, txs, out),
+        Subject::Ranges => push_ranges(alloc, policy, txs, out),
         Subject::TextLimits => push_size(alloc, policy, schemes, txs, out),
         _ => out.push("read"),
     }

@@ -3,7 +3,7 @@ ghost use Rattle.sqlite.specs.State.{HasCleanDisk, IsUnchanged};
 ghost use Rattle.sqlite.specs.Held.{state};
 ghost use Rattle.mls_statements.specs.Rows.{tables_of, audit_columns};
 ghost use Rattle.mls_statements.specs.Schema.{HasTables};
-ghost use Rattle.mls_statements.specs.Statements.{IsReady, Changes, AddsEntry, IsEnded};
+ghost use Rattle.mls_statements.specs.Statements.{IsReady, Changes, AddsEntry, ClearsEntries, IsEnded};
 
 use crate::decode::entries_from;
 use crate::rows::AuditRow;
@@ -22,6 +22,17 @@ pub fn add_entry<S: Alter>(conn: &mut Connection<S>, entry: &AuditRow) -> Result
         "INSERT INTO audit (number, bytes) VALUES (?1, ?2)",
         params![&entry.number, entry.bytes.as_slice()],
     )
+}
+
+/// Drops every entry.
+pub fn clear_entries<S: Alter>(conn: &mut Connection<S>) -> Result<usize, Error>
+    ensures cleared { HasCleanDisk (state S.Store conn.new) → IsReady (state S.Store conn.old).now
+        → OnOk result (Changes ClearsEntries (state S.Store conn.old) (state S.Store conn.new)) }
+    ensures err { HasCleanDisk (state S.Store conn.new)
+        → OnErr result (IsEnded (state S.Store conn.old) (state S.Store conn.new)) }
+    ensures clean { HasCleanDisk (state S.Store conn.new) → HasCleanDisk (state S.Store conn.old) }
+{
+    conn.execute("DELETE FROM audit", &[])
 }
 
 /// Every entry, as a row of its two columns, in a database of the four tables.

@@ -131,3 +131,11 @@ returns-in-Serve g c =
       desk_ended h c.args.inputs store (IsAppended g.W.Write.contents c.args.out.now c.run_desk.new.out) (IsTold g.E.Write.contents c.args.err.now c.args.err.now)
           c.run_desk.result c.run_desk.ensures.caused c.run_desk.ensures.desk (told_nothing g.E.Write.contents c.args.err.now),
     )
+
+pub returns-in-Turn : goal.returns-in-Turn
+returns-in-Turn g c =
+    let h = hosted g.H.Host.hosting g.H.Lines.TypedLines.echo c.args.host.now c.turn_store.new.host in
+    let store = named c.args.job.files.store in
+    let d = deed g.W.Write.contents c.args.out.now c.turn_store.new.out g.E.Write.contents c.args.err.now c.args.err.now c.turned.result in
+    for_task h c.args.inputs store d c.args.job.task _ c.in-Turn.is
+    (c.turn_store.result, c.turned.ensures, c.turn_store.ensures.caused, told_nothing g.E.Write.contents c.args.err.now, c.turn_store.ensures.ends)

@@ -1,11 +1,11 @@
 use Rattle.std.proofs.Common.{refl, sym, ap, ◌∙◌, None}
 use Rattle.std.proofs.lemmas.Result.{IfOk-weaker}
-use Rattle.mls_machine.specs.Machine.{with_session, denied, viewed, listed, step_inside}
+use Rattle.mls_machine.specs.Machine.{with_session, denied, viewed, dumped, listed, step_inside}
 use Rattle.mls_monitor.specs.Sessions.{sessions_of}
 use Rattle.mls_sessions.specs.Turns.{is_call}
 use Rattle.mls_sessions.specs.Engine.{site, world_of}
 use Rattle.mls_monitor.proofs.SessionLemmas.{user_known}
-use Rattle.mls_sessions.proofs.EngineLemmas.{none_from, denied_is, viewed_is, listed_is, closed_is, wrote_is, answers_over, answers_stay, answers_closed}
+use Rattle.mls_sessions.proofs.EngineLemmas.{none_from, denied_is, viewed_is, dumped_is, listed_is, closed_is, wrote_is, answers_over, answers_stay, answers_closed}
 use Rattle.mls_sessions.proofs.engine.Engine.inside.Goals as goal
 
 pub denial_of-requires-clause-user : goal.denial_of-requires-clause-user
@@ -47,6 +47,16 @@ pub returns-in-Audit-clause-done : goal.returns-in-Audit-clause-done
 returns-in-Audit-clause-done g c =
     (answers_stay g.B.Base.state g.B.Base.is_clean g.B.Base.failures c.args.self.now c.requires.ready c.args.event.now c.requires.fits c.audit.new.base
     (λ w. listed (site c.args.self.now) w c.args.event.now.level) (listed_is (site c.args.self.now) (world_of g.B.Base.state c.args.self.now) c.args.event.now c.args.user c.requires.held c.in-Audit.is) c.args.self.now.views c.audit.result c.audit.ensures.turn c.audit.ensures.idle c.audit.ensures.done refl refl).done
+
+pub returns-in-Dump-clause-kept : goal.returns-in-Dump-clause-kept
+returns-in-Dump-clause-kept g c =
+    (answers_stay g.B.Base.state g.B.Base.is_clean g.B.Base.failures c.args.self.now c.requires.ready c.args.event.now c.requires.fits c.dump.new.base
+    (λ w. dumped (site c.args.self.now) w c.in-Dump.rel c.args.event.now.level) (dumped_is (site c.args.self.now) (world_of g.B.Base.state c.args.self.now) c.args.event.now c.args.user c.requires.held c.in-Dump.rel c.in-Dump.is (sym c.denial_of.ensures ∙ none_from c.denial_of.result c.in_default.not-Some)) c.args.self.now.views c.dump.result c.dump.ensures.turn c.dump.ensures.idle c.dump.ensures.done refl refl).kept
+
+pub returns-in-Dump-clause-done : goal.returns-in-Dump-clause-done
+returns-in-Dump-clause-done g c =
+    (answers_stay g.B.Base.state g.B.Base.is_clean g.B.Base.failures c.args.self.now c.requires.ready c.args.event.now c.requires.fits c.dump.new.base
+    (λ w. dumped (site c.args.self.now) w c.in-Dump.rel c.args.event.now.level) (dumped_is (site c.args.self.now) (world_of g.B.Base.state c.args.self.now) c.args.event.now c.args.user c.requires.held c.in-Dump.rel c.in-Dump.is (sym c.denial_of.ensures ∙ none_from c.denial_of.result c.in_default.not-Some)) c.args.self.now.views c.dump.result c.dump.ensures.turn c.dump.ensures.idle c.dump.ensures.done refl refl).done
 
 pub returns-in-Insert-clause-kept : goal.returns-in-Insert-clause-kept
 returns-in-Insert-clause-kept g c =

@@ -1,0 +1,116 @@
+-- No line feed stands in the lines of a dump, where none stands in a name.
+use Rattle.std.proofs.Common.{ℕ, zero, suc, Bool, true, false, cond, List, [], ◌∷◌, ◌++◌, map, Option, Some, None, refl}
+use Rattle.std.specs.Prelude.{codes, nat_eq, length, slice_index_or}
+use Rattle.std.specs.List.{flat_map, AllByRecursion}
+use Rattle.mls_lattice.specs.Policy.{Name}
+use Rattle.mls_lattice.specs.Canon.{label_name}
+use Rattle.mls_scheme.specs.declared.value.Value.{Value}
+use Rattle.mls_scheme.specs.declared.value.Value.TheVariants as values
+use Rattle.mls_scheme.specs.declared.tuple.Tuple.{Tuple}
+use Rattle.mls_scheme.specs.Scheme.{Attribute, Scheme, no_attribute, scheme_of, other_of}
+use Rattle.mls_script.specs.declared.event.Event.{Event}
+use Rattle.mls_script.specs.declared.event.Command.{Command}
+use Rattle.mls_script.specs.declared.event.Command.TheVariants.{Insert, Update}
+use Rattle.mls_script.specs.Event.{Sets}
+use Rattle.mls_script.specs.Tokens.{relation_name}
+use Rattle.mls_script.specs.Writing.{value_text, behind_comma, listed, list_text, set_text, keyed, command_text, line_text, is_writable}
+use Rattle.mls_filterview.specs.Filtering.{class_number}
+use Rattle.mls_machine.specs.Site.{Site, site_labels, site_scheme}
+use Rattle.mls_machine.specs.Dumping.{own_sets, class_below, made_by, made_again}
+use Rattle.mls_machine.specs.Output.{dump_heading, made_text}
+use Rattle.mls_machine.specs.Parting.{IsOneLine, HasPlainNames, IsPlain}
+use Rattle.mls_machine.proofs.OneLineLemmas.{one_line-append, one_line-flat_map, one_line-quoted, one_line-signed, each}
+use Rattle.mls_machine.proofs.RowLineLemmas.{scheme_line, label_line}
+
+pub dump_line : (s : Scheme) → HasPlainNames s → IsOneLine (dump_heading s)
+dump_line s h = one_line-append (codes "dump ") (s.name ++ codes ":") refl (one_line-append s.name (codes ":") h.name refl)
+
+-- ---- values
+
+written_line : (v : Option Value) → IsOneLine (value_text v)
+written_line None = refl
+written_line (Some (values.Int n)) = one_line-signed n
+written_line (Some (values.Text s)) = one_line-quoted s
+
+listed_line : {X : Type 0} (text : X → List ℕ) → ((x : X) → IsOneLine (text x)) → (xs : List X) → IsOneLine (listed text xs)
+listed_line text h [] = refl
+listed_line text h (x ∷ xs) =
+    one_line-append (text x) (flat_map (behind_comma text) xs) (h x)
+    (one_line-flat_map (behind_comma text) xs (each (λ y. IsOneLine (behind_comma text y)) (λ y. one_line-append (codes ", ") (text y) refl (h y)) xs))
+
+list_line : (vs : List (Option Value)) → IsOneLine (list_text vs)
+list_line vs =
+    one_line-append (codes "(") (listed value_text vs ++ codes ")") refl (one_line-append (listed value_text vs) (codes ")") (listed_line value_text written_line vs) refl)
+
+attribute_line : (xs : List Attribute) (i : ℕ) → AllByRecursion (λ a. IsOneLine a.name) xs → IsOneLine (slice_index_or xs i no_attribute).name
+attribute_line [] i h = refl
+attribute_line (x ∷ xs) zero h = h.0
+attribute_line (x ∷ xs) (suc i) h = attribute_line xs i h.1
+
+set_line : (s : Scheme) → HasPlainNames s → (x : ℕ × Option Value) → IsOneLine (set_text s x)
+set_line s h x =
+    one_line-append ((other_of s x.0).name ++ codes " = ") (value_text x.1)
+    (one_line-append (other_of s x.0).name (codes " = ") (attribute_line s.others x.0 h.others) refl) (written_line x.1)
+
+-- ---- commands
+
+module _ (site : Site) (plain : IsPlain site) where
+  keyed_line : (verb : List ℕ) (rel : ℕ) (key : List (Option Value)) → IsOneLine verb → IsOneLine (keyed site.schemes verb rel key)
+  keyed_line verb rel key h =
+      let name = relation_name site.schemes rel in
+      one_line-append ((verb ++ name) ++ codes " key ") (list_text key)
+      (one_line-append (verb ++ name) (codes " key ") (one_line-append verb name h (scheme_line site.schemes rel plain.relations).name) refl) (list_line key)
+
+  insert_line : (rel : ℕ) (key values : List (Option Value)) → IsOneLine (command_text site.policy site.schemes (Insert rel key values))
+  insert_line rel key values =
+      let start = keyed site.schemes (codes "insert ") rel key in
+      one_line-append (start ++ codes " values ") (list_text values)
+      (one_line-append start (codes " values ") (keyed_line (codes "insert ") rel key refl) refl) (list_line values)
+
+  update_line : (rel : ℕ) (key : List (Option Value)) (key_class from : ℕ) (sets : Sets) → IsOneLine (command_text site.policy site.schemes (Update rel key key_class from sets))
+  update_line rel key key_class from sets =
+      let s = scheme_of site.schemes rel in
+      let class = label_name site.policy.labels key_class in
+      let origin = label_name site.policy.labels from in
+      let start = keyed site.schemes (codes "update ") rel key in
+      one_line-append (((((start ++ codes " class ") ++ class) ++ codes " from ") ++ origin) ++ codes " set ") (listed (set_text s) sets)
+      (one_line-append ((((start ++ codes " class ") ++ class) ++ codes " from ") ++ origin) (codes " set ")
+      (one_line-append (((start ++ codes " class ") ++ class) ++ codes " from ") origin
+      (one_line-append ((start ++ codes " class ") ++ class) (codes " from ")
+      (one_line-append (start ++ codes " class ") class
+      (one_line-append start (codes " class ") (keyed_line (codes "update ") rel key refl) refl)
+      (label_line site.policy plain.labels key_class))
+      refl)
+      (label_line site.policy plain.labels from))
+      refl)
+      (listed_line (set_text s) (set_line s (scheme_line site.schemes rel plain.relations)) sets)
+
+  made_command_line : (rel m : ℕ) (t : Tuple) → IsOneLine (command_text site.policy site.schemes (made_by site rel m t))
+  made_command_line rel m t =
+      let key = map Some t.key in
+      let values = map (λ e. e.value) t.elements in
+      let from = class_below (site_labels site) m t in
+      let sets = own_sets m (length (site_scheme site rel).others) 0 t.elements in
+      elim (nat_eq m t.key_class) as (λ b. IsOneLine (command_text site.policy site.schemes (cond b (Insert rel key values) (Update rel key t.key_class from sets)))) [
+        | true ↦ insert_line rel key values
+        | false ↦ update_line rel key t.key_class from sets
+      ]
+
+  word_line : (b : Bool) → IsOneLine (cond b (codes "line ") (codes "unread "))
+  word_line true = refl
+  word_line false = refl
+
+  -- in a session whose name has none
+  pub made_line : (session : Name) → IsOneLine session → (rel : ℕ) (t : Tuple) → IsOneLine (made_text site (made_again site session rel t))
+  made_line session h rel t =
+      let e = made_again site session rel t in
+      let name = label_name site.policy.labels e.level in
+      let command = command_text site.policy site.schemes e.command in
+      one_line-append (cond (is_writable e) (codes "line ") (codes "unread ")) (line_text site.policy site.schemes e) (word_line (is_writable e))
+      (one_line-append (((name ++ codes " ") ++ session) ++ codes " ") command
+      (one_line-append ((name ++ codes " ") ++ session) (codes " ")
+      (one_line-append (name ++ codes " ") session
+      (one_line-append name (codes " ") (label_line site.policy plain.labels e.level) refl)
+      h)
+      refl)
+      (made_command_line rel (class_number (site_labels site) t) t))

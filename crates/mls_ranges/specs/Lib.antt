@@ -1,0 +1,4 @@
+pub mod Ranges
+pub mod Releases
+pub mod Covers
+pub mod Laws

@@ -4,67 +4,35 @@ use std::alloc::{AllocError, Global};
 /// That something was added to a text, or that memory lacks.
 pub(crate) type Told = Result<(), AllocError>;
 
-/// Appends a text so many times.
-pub(crate) fn copies_to(text: &mut String, words: &str, count: usize) -> Told {
-    for _ in 0..count {
-        text.push_str(words)?;
-    }
-    Ok(())
-}
-
 /// The bytes of the longest cell of a column.
 fn width_of(rows: &[Vec<String>], place: usize) -> usize {
     let mut width = 0;
     for row in rows {
-        if let Some(cell) = row.get(place) {
-            width = cell.len().max(width);
-        }
+        width = row.get(place).map_or(0, |cell| cell.len()).max(width);
     }
     width
 }
 
-/// The widths of all columns.
-fn widths_of(alloc: Global, rows: &[Vec<String>]) -> Result<Vec<usize>, AllocError> {
-    let mut widths = Vec::new(alloc);
-    for place in 0..rows.first().map_or(0, |heading| heading.len()) {
-        widths.push(width_of(rows, place))?;
-    }
-    Ok(widths)
-}
-
-/// Appends a row; nothing stands behind its last cell.
-fn row_to(text: &mut String, widths: &[usize], row: &[String]) -> Told {
-    let last = row.len().saturating_sub(1);
-    text.push_str("  ")?;
-    for (place, cell) in row.iter().enumerate() {
-        text.push_str(cell)?;
-        if place < last {
-            let width = widths.get(place).copied().unwrap_or(0);
-            copies_to(text, " ", width.saturating_sub(cell.len()))?;
-            text.push_str(" | ")?;
+/// Appends rows of ASCII, with dashes below the first; nothing stands behind the last cell of a row.
+pub(crate) fn columns_to(text: &mut String, rows: &[Vec<String>]) -> Told {
+    for (number, row) in rows.iter().enumerate() {
+        text.push_str("  ")?;
+        cells_to(text, rows, row)?;
+        if number == 0 {
+            rule_to(text, rows, row.len())?;
         }
     }
-    text.push_str("\n")
+    Ok(())
 }
 
-/// Appends the dashes below a heading.
-fn rule_to(text: &mut String, widths: &[usize]) -> Told {
-    let last = widths.len().saturating_sub(1);
-    text.push_str("  ")?;
-    for width in widths.iter().take(last) {
-        copies_to(text, "-", *width)?;
-        text.push_str("-+-")?;
-    }
-    text.push_str("---\n")
-}
-
-/// Appends rows of ASCII, with dashes below the first.
-pub(crate) fn columns_to(alloc: Global, text: &mut String, rows: &[Vec<String>]) -> Told {
-    let widths = widths_of(alloc, rows)?;
-    for (place, row) in rows.iter().enumerate() {
-        row_to(text, &widths, row)?;
-        if place == 0 {
-            rule_to(text, &widths)?;
+/// Appends the cells of one of some rows.
+fn cells_to(text: &mut String, rows: &[Vec<String>], row: &[String]) -> Told {
+    for (place, cell) in row.iter().enumerate() {
+        if place + 1 == row.len() {
+            writeln!(text, "{cell}")?;
+        } else {
+            let width = width_of(rows, place);
+            write!(text, "{cell:width$} | ")?;
         }
     }
     Ok(())
@@ -77,4 +45,14 @@ pub(crate) fn row_of(alloc: Global, words: &[&str]) -> Result<Vec<String>, Alloc
         row.push(String::from_str(alloc, word)?)?;
     }
     Ok(row)
+}
+
+/// Appends the dashes below a heading of so many cells.
+fn rule_to(text: &mut String, rows: &[Vec<String>], count: usize) -> Told {
+    text.push_str("  ")?;
+    for place in 1..count {
+        let width = width_of(rows, place - 1);
+        write!(text, "{:-<width$}-+-", "")?;
+    }
+    text.push_str("---\n")
 }

@@ -1,7 +1,8 @@
 //! A policy and schemes for people: labels in rows, which covers which, users and rights, and the intervals of attributes.
 ghost use Rattle.std.specs.Prelude.{◌<◌, length};
 
-use crate::columns::{Told, columns_to, copies_to, row_of};
+use crate::columns::{Told, columns_to, row_of};
+use crate::names::label_name;
 use bitflags::Flags;
 use mls_lattice::{LabelNo, Modes, Policy, UserNo};
 use mls_scheme::{Attributes, RelNo, Schemes};
@@ -23,13 +24,8 @@ struct Drawing<'a> {
 impl<'a> Drawing<'a> {
     // ---- labels
 
-    /// The name of a label; none of one that is not declared.
     fn name_of(&self, label: LabelNo) -> &'a str {
-        if label.index() < self.policy.label_count() {
-            self.policy.name(label)
-        } else {
-            ""
-        }
+        label_name(self.policy, label)
     }
 
     /// Whether the one label dominates the other, and is another one.
@@ -43,67 +39,17 @@ impl<'a> Drawing<'a> {
 
     /// Whether a declared label stands between two others.
     fn has_between(&self, high: LabelNo, low: LabelNo) -> bool {
-        for place in 0..self.policy.label_count() {
+        (0..self.policy.label_count()).any(|place| {
             let middle = LabelNo::new(place as u8);
-            if self.is_over(high, middle) && self.is_over(middle, low) {
-                return true;
-            }
-        }
-        false
+            self.is_over(high, middle) && self.is_over(middle, low)
+        })
     }
 
     /// How many other labels a label dominates.
     fn weight(&self, label: LabelNo) -> usize {
-        let mut count: usize = 0;
-        for place in 0..self.policy.label_count() {
-            if self.is_over(label, LabelNo::new(place as u8)) {
-                count = count.saturating_add(1);
-            }
-        }
-        count
-    }
-
-    /// The labels that dominate so many others.
-    fn rank(&self, count: usize) -> Result<Vec<LabelNo>, AllocError> {
-        let mut labels = Vec::new(self.alloc);
-        for place in 0..self.policy.label_count() {
-            let label = LabelNo::new(place as u8);
-            if self.weight(label) == count {
-                labels.push(label)?;
-            }
-        }
-        Ok(labels)
-    }
-
-    /// The rows of labels, from the top down.
-    fn ranks(&self) -> Result<Vec<Vec<LabelNo>>, AllocError> {
-        let mut rows = Vec::new(self.alloc);
-        for count in (0..self.policy.label_count()).rev() {
-            rows.push(self.rank(count)?)?;
-        }
-        Ok(rows)
-    }
-
-    /// The names of labels, side by side.
-    fn rank_text(&self, labels: &[LabelNo]) -> Result<String, AllocError> {
-        let mut text = String::new(self.alloc);
-        for label in labels {
-            let name = self.name_of(*label);
-            write!(text, "   {name}")?;
-        }
-        Ok(text)
-    }
-
-    /// The texts of rows of labels, and how wide the widest is.
-    fn texts_of(&self, rows: &[Vec<LabelNo>]) -> Result<(Vec<String>, usize), AllocError> {
-        let mut texts = Vec::new(self.alloc);
-        let mut widest = 0;
-        for row in rows {
-            let text = self.rank_text(row)?;
-            widest = text.len().max(widest);
-            texts.push(text)?;
-        }
-        Ok((texts, widest))
+        (0..self.policy.label_count())
+            .filter(|place| self.is_over(label, LabelNo::new(*place as u8)))
+            .count()
     }
 
     /// Appends a label, and those that it covers.
@@ -122,24 +68,35 @@ impl<'a> Drawing<'a> {
         text.push_str(end)
     }
 
-    fn covers_to(&self, text: &mut String, labels: &[LabelNo]) -> Told {
-        for label in labels {
-            self.cover_to(text, *label)?;
+    /// Appends the labels that dominate so many others, side by side, and what each covers.
+    fn rank_to(&self, row: &mut String, covers: &mut String, count: usize) -> Told {
+        for place in 0..self.policy.label_count() {
+            let label = LabelNo::new(place as u8);
+            if self.weight(label) == count {
+                let name = self.name_of(label);
+                write!(row, "   {name}")?;
+                self.cover_to(covers, label)?;
+            }
         }
         Ok(())
     }
 
+    /// Appends the labels in rows, from the top down, and then what each covers.
     fn labels_to(&self, text: &mut String) -> Told {
-        let rows = self.ranks()?;
-        let (texts, widest) = self.texts_of(&rows)?;
+        let mut rows = Vec::new(self.alloc);
+        let mut covers = String::new(self.alloc);
+        let mut widest = 0;
+        for count in (0..self.policy.label_count()).rev() {
+            let mut row = String::new(self.alloc);
+            self.rank_to(&mut row, &mut covers, count)?;
+            widest = row.len().max(widest);
+            rows.push(row)?;
+        }
         if widest <= WIDEST {
-            drawing_to(text, widest, &texts)?;
+            drawing_to(text, widest, &rows)?;
         }
         text.push_str("labels, from the top down, each with those next below it:\n")?;
-        for row in &rows {
-            self.covers_to(text, row)?;
-        }
-        Ok(())
+        text.push_str(&covers)
     }
 
     // ---- users and rights
@@ -173,7 +130,7 @@ impl<'a> Drawing<'a> {
             }
         }
         text.push_str("users:\n")?;
-        columns_to(self.alloc, text, &rows)
+        columns_to(text, &rows)
     }
 
     /// The word `user`, and the objects that rights are on, each once.
@@ -229,7 +186,7 @@ impl<'a> Drawing<'a> {
         }
         rows.insert(0, heading)?;
         text.push_str("rights (e execute, r read, a append, w write):\n")?;
-        columns_to(self.alloc, text, &rows)
+        columns_to(text, &rows)
     }
 
     // ---- relations
@@ -262,7 +219,7 @@ impl<'a> Drawing<'a> {
             self.part_to(&mut rows, scheme.name(), "attribute", scheme.others())?;
         }
         text.push_str("relations:\n")?;
-        columns_to(self.alloc, text, &rows)
+        columns_to(text, &rows)
     }
 }
 
@@ -271,8 +228,8 @@ fn drawing_to(text: &mut String, room: usize, rows: &[String]) -> Told {
     text.push_str("labels, each below those that dominate it:\n")?;
     for row in rows {
         if !row.is_empty() {
-            copies_to(text, " ", room.saturating_sub(row.len()) / 2)?;
-            writeln!(text, "{row}")?;
+            let indent = room.saturating_sub(row.len()) / 2;
+            writeln!(text, "{:indent$}{row}", "")?;
         }
     }
     Ok(())

@@ -1,12 +1,11 @@
 //! What is told of a policy or of schemes that are refused.
 use crate::advice::advice_of;
 use crate::columns::Told;
-use crate::excerpts::{cut_off, document_excerpt, file_line};
+use crate::excerpts::{cut_off, excerpt, file_line};
 use crate::keys::{Known, POLICY, SCHEMES, Thing, known_at};
 use crate::nearest::{label_names, nearest_line, push_name};
 use crate::shown::{bytes_to, text_to};
-use mls_lattice::{Policy, PolicyFault, Refused, Step, Str};
-use mls_scheme::SchemeFault;
+use mls_lattice::{Policy, PolicyFault, Step, Str};
 use mls_tokens::spot_at;
 use std::alloc::{AllocError, Global};
 use toml::{Table, Value};
@@ -280,7 +279,8 @@ impl Site<'_> {
             return Err(AllocError);
         };
         let spot = spot_at(bytes, span.start);
-        let mut text = document_excerpt(self.alloc, self.path, spot.line, spot.column, bytes)?;
+        let (line, column) = (spot.line, Some(spot.column));
+        let mut text = excerpt(self.alloc, self.path, line, column, false, bytes)?;
         let message = fault.message();
         writeln!(text, "  The reader of TOML says: {message}.")?;
         Ok(text)
@@ -298,10 +298,9 @@ impl Site<'_> {
 
 /// Appends the lower end of an interval, whose other end stands beside it.
 fn low_to(text: &mut String, table: Option<&Table>) -> Told {
-    let Some(table) = table else {
-        return Ok(());
-    };
-    if let Some(Value::String(low)) = table.get("low") {
+    if let Some(table) = table
+        && let Some(Value::String(low)) = table.get("low")
+    {
         text.push_str("  At low stands `")?;
         bytes_to(text, cut_off(low.as_bytes(), SHOWN))?;
         text.push_str("`.\n")?;
@@ -309,37 +308,22 @@ fn low_to(text: &mut String, table: Option<&Table>) -> Told {
     Ok(())
 }
 
-/// What is told of a policy that is refused: where, what stands there, what is wanted, and what to do.
-pub fn policy_lines<'a>(
+/// What is told of a policy, or of schemes under a policy, that are refused with the number of a fault, where reading stopped at the end of
+/// some steps: where that is, what stands there, what is wanted, and what to do.
+pub fn refused_lines<'a>(
     alloc: Global,
     path: &'a str,
+    policy: Option<&'a Policy>,
     bytes: &[u8],
-    refused: &'a Refused<PolicyFault>,
+    code: u8,
+    steps: &'a [Step],
 ) -> Result<String, AllocError> {
     let site = Site {
         alloc,
         path,
-        policy: None,
-        code: refused.fault.code(),
-        steps: refused.at.steps(),
-    };
-    site.lines_of(bytes)
-}
-
-/// The same of schemes, under the policy that declares their labels.
-pub fn schemes_lines<'a>(
-    alloc: Global,
-    path: &'a str,
-    policy: &'a Policy,
-    bytes: &[u8],
-    refused: &'a Refused<SchemeFault>,
-) -> Result<String, AllocError> {
-    let site = Site {
-        alloc,
-        path,
-        policy: Some(policy),
-        code: refused.fault.code(),
-        steps: refused.at.steps(),
+        policy,
+        code,
+        steps,
     };
     site.lines_of(bytes)
 }

@@ -2,7 +2,7 @@
 ghost use Rattle.std.specs.Prelude.{◌≡◌, ◌++◌, string_bytes, OnOk, IfOk};
 ghost use Rattle.mls_advice.specs.Excerpt.{Begins, place_line, file_line};
 
-use crate::columns::{Told, copies_to};
+use crate::columns::Told;
 use crate::shown::{bytes_to, text_to};
 use mls_lattice::is_name_byte;
 use mls_screen::columns;
@@ -180,9 +180,7 @@ fn pointed(
     bytes_to(&mut text, ending(first(line, skipped), BEFORE))?;
     let indent = before.saturating_add(columns(text.as_bytes()));
     bytes_to(&mut text, cut_off(behind(line, skipped), BEHIND))?;
-    text.push_str("\n")?;
-    copies_to(&mut text, " ", indent)?;
-    text.push_str("^\n")?;
+    writeln!(text, "\n{:indent$}^", "")?;
     standing_to(&mut text, behind(bytes, skipped))?;
     Ok(text)
 }
@@ -211,8 +209,9 @@ fn shown_line(
     pointed(alloc, before, skipped, bytes)
 }
 
-/// A place in a file: its line, and a caret where a column is told.
-fn told_at(
+/// A place in a file: the path, the line and the column, what stands in that line, and, where there is a column, a caret below it. Columns
+/// count bytes from 1. Texts between quotes go by the rules of scripts, or not.
+pub fn excerpt(
     alloc: Global,
     path: &str,
     line: usize,
@@ -220,6 +219,7 @@ fn told_at(
     by_rules: bool,
     bytes: &[u8],
 ) -> Result<String, AllocError>
+    // The place is the one that was given.
     ensures { IfOk result (λ s. Begins (place_line path.now line column) (string_bytes s)) }
 {
     let mut text = String::new(alloc);
@@ -235,34 +235,8 @@ fn told_at(
     Ok(text)
 }
 
-/// A place in a script, in transactions or in certificates: the file, the line and the column, what stands in that line, and, where
-/// there is a column, a caret below it. Columns count bytes from 1.
-pub fn excerpt(
-    alloc: Global,
-    path: &str,
-    line: usize,
-    column: Option<usize>,
-    bytes: &[u8],
-) -> Result<String, AllocError>
-    // The place is the one that was given.
-    ensures { IfOk result (λ s. Begins (place_line path.now line column) (string_bytes s)) }
-{
-    told_at(alloc, path, line, column, true, bytes)
-}
-
 /// A line that was typed, with a caret below a column, and what stands there.
 pub fn typed_excerpt(alloc: Global, column: usize, line: &[u8]) -> Result<String, AllocError> {
     let shown = shown_line(alloc, 2, Some(column), true, line)?;
     format!(in alloc; "  {shown}")
-}
-
-/// A place in a document of TOML.
-pub(crate) fn document_excerpt(
-    alloc: Global,
-    path: &str,
-    line: usize,
-    column: usize,
-    bytes: &[u8],
-) -> Result<String, AllocError> {
-    told_at(alloc, path, line, Some(column), false, bytes)
 }

@@ -101,20 +101,16 @@ fn ignored(search: Search, tables: &[&str], bytes: &[u8]) -> Result<String, Allo
 /// A line for each field of a policy that nobody reads, with the nearest key that is read; no text where there is none, and of bytes
 /// that are no document.
 pub fn ignored_in_policy(alloc: Global, path: &str, bytes: &[u8]) -> Result<String, AllocError> {
-    let search = Search {
-        alloc,
-        path,
-        keys: &POLICY,
-    };
-    ignored(search, &["label", "user", "matrix"], bytes)
+    let keys: &[Known] = &POLICY;
+    ignored(
+        Search { alloc, path, keys },
+        &["label", "user", "matrix"],
+        bytes,
+    )
 }
 
 /// The same of schemes.
 pub fn ignored_in_schemes(alloc: Global, path: &str, bytes: &[u8]) -> Result<String, AllocError> {
-    let search = Search {
-        alloc,
-        path,
-        keys: &SCHEMES,
-    };
-    ignored(search, &["relation"], bytes)
+    let keys: &[Known] = &SCHEMES;
+    ignored(Search { alloc, path, keys }, &["relation"], bytes)
 }

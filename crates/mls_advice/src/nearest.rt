@@ -82,14 +82,10 @@ pub(crate) fn nearest<'a>(
     Ok(found)
 }
 
-fn has(names: &[Str], name: &[u8]) -> bool {
-    names.iter().any(|other| other.as_str().as_bytes() == name)
-}
-
 /// A line that tells the nearest name; no text where none is near, or where the name itself is among them.
 pub fn nearest_line(alloc: Global, name: &[u8], names: &[Str]) -> Result<String, AllocError> {
     let mut text = String::new(alloc);
-    if has(names, name) {
+    if names.iter().any(|other| other.as_str().as_bytes() == name) {
         return Ok(text);
     }
     if let Some(other) = nearest(alloc, name, names)? {

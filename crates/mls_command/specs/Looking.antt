@@ -10,7 +10,7 @@ use Rattle.mls_host.specs.declared.ending.Ending.TheVariants.{Well, Refused}
 use Rattle.mls_host.specs.declared.reason.Reason.TheVariants.{Store}
 use Rattle.mls_host.specs.Hosting.{Hosting}
 use Rattle.mls_host.specs.Reason.{reason_text}
-use Rattle.mls_diagnosis.specs.Diagnosis.{IsDiagnosis}
+use Rattle.mls_explain.specs.Diagnosis.{IsDiagnosis}
 use Rattle.mls_command.specs.declared.looking.TheConstants.{ACCEPTED}
 
 -- what is found of the store at a path: why its files are not shown, but for want of memory; or what opening a store with

@@ -1,4 +1,7 @@
 //! Words that ask what becomes of the inputs of another command.
+//! The bytes of a refused file are asked for once more, since a reader keeps none; so are policy and schemes. The
+//! opening of a shell's session is asked for too; what the commands of a script are denied is no matter of its inputs.
+//! A refused store ends it with 1: 3 says that nothing could be told.
 ghost use Rattle.std.specs.Prelude.{◌≡◌, option_map, IfOk};
 ghost use Rattle.mls_host.specs.Words.{texts_of};
 ghost use Rattle.mls_command.specs.Explained.{is_other_command, is_explained, explained_of};

@@ -40,6 +40,8 @@ impl Listing {
 }
 
 /// Prints a listing, where there was memory for one.
+/// It takes what could be made, or want of memory: a listing made beside the inputs of a job, with `?` at each, cost
+/// six minutes of proof.
 pub(crate) fn print_made<W: Write, E: Write>(
     made: Result<Listing, AllocError>,
     out: &mut W,

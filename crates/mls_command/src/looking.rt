@@ -11,7 +11,7 @@ use crate::accounting::listing_of;
 use crate::listing::Listing;
 use crate::telling::push_reason;
 use mls_advice::file_line;
-use mls_diagnosis::{Diagnosis, diagnosis_of};
+use mls_explain::{Diagnosis, diagnosis_of};
 use mls_fragments::OpenFault;
 use mls_host::{Ending, Host, Job, Reason, Setting, StoreCause, setting_of};
 use std::alloc::{AllocError, Global};

@@ -1,4 +1,6 @@
 //! What is told of an input that is refused.
+//! The whole form of a script's line is told where a token is not expected: a line is short. The grammar of
+//! transactions is a parser and no table, so nothing more is told there.
 ghost use Rattle.std.specs.Prelude.{◌≡◌, ◌++◌, [], List, ℕ, false, string_bytes, option_map, IfOk, OnOk};
 ghost use Rattle.mls_host.specs.Hosting.{IsTold};
 ghost use Rattle.mls_host.specs.Reason.{reason_text};
@@ -10,11 +12,11 @@ use crate::documents::ignored_of;
 use crate::looking::store_lines;
 use crate::paths::{place_of, source_of};
 use mls_advice::{
-    advice_of, declared_names, excerpt, file_line, form_at, kinds_at, nearest_line, policy_lines,
-    schemes_lines, token_at,
+    advice_of, declared_names, excerpt, file_line, form_at, kinds_at, nearest_line, refused_lines,
+    token_at,
 };
 use mls_host::{Errors, Host, Job, Reason, Refusal, policy_of, schemes_of};
-use mls_lattice::{Policy, Str};
+use mls_lattice::{Policy, Refused, Str};
 use mls_scheme::SchemesFile;
 use std::alloc::{AllocError, Global};
 use std::io::Write;
@@ -91,7 +93,9 @@ fn document_lines<H: Host>(
     if let Reason::Policy(_) = reason {
         return match Policy::read_at(alloc, bytes) {
             Ok(_) => file_line(alloc, path),
-            Err(refused) => policy_lines(alloc, path, bytes, &refused),
+            Err(Refused { fault, at }) => {
+                refused_lines(alloc, path, None, bytes, fault.code(), at.steps())
+            }
         };
     }
     let Ok(policy) = policy_of(alloc, host, job.documents) else {
@@ -99,7 +103,9 @@ fn document_lines<H: Host>(
     };
     match SchemesFile::read_at(alloc, &policy, bytes) {
         Ok(_) => file_line(alloc, path),
-        Err(refused) => schemes_lines(alloc, path, &policy, bytes, &refused),
+        Err(Refused { fault, at }) => {
+            refused_lines(alloc, path, Some(&policy), bytes, fault.code(), at.steps())
+        }
     }
 }
 
@@ -116,7 +122,7 @@ fn lines_in<H: Host>(
 {
     match (reason, place_of(reason)) {
         (_, Some(place)) => {
-            let mut text = excerpt(alloc, path, place.line, place.column, bytes)?;
+            let mut text = excerpt(alloc, path, place.line, place.column, true, bytes)?;
             text.push_str(&hint_of(alloc, host, job, reason, bytes)?)?;
             Ok(text)
         }

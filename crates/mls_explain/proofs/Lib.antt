@@ -1,1 +1,2 @@
+pub mod SearchLemmas
 pub mod TellingLemmas

@@ -10,7 +10,7 @@ use Rattle.mls_certcheck.specs.Rules.{Rules, claim}
 use Rattle.mls_labeller.specs.Least.{IsOf, IsLeast}
 use Rattle.mls_labeller.specs.Fault.{IsFirst}
 use Rattle.mls_labeller.specs.declared.fault.LabelFault.TheVariants.{NoLabels}
-use Rattle.mls_chains.specs.Chains.{IsChainTo}
+use Rattle.mls_explain.specs.Chains.{IsChainTo}
 use Rattle.mls_explain.specs.declared.outcome.Outcome.{Outcome}
 use Rattle.mls_explain.specs.declared.outcome.Outcome.TheVariants.{Labelled, Refused}
 
@@ -25,7 +25,7 @@ IsOutcome p tx (Labelled (One cert)) = Rules (claim p tx (One cert)) × IsLeast 
 IsOutcome p tx (Labelled (Two cert)) =
     NonePasses version.First p tx × Rules (claim p tx (Two cert)) × IsLeast version.Second p tx (Two cert)
 IsOutcome p tx (Refused stmt r chain) =
-    NonePasses version.First p tx × NonePasses version.Second p tx × IsFirst version.Second p tx (NoLabels stmt r) × IsChainTo p tx stmt r chain
+    NonePasses version.First p tx × NonePasses version.Second p tx × IsFirst version.Second p tx (NoLabels stmt r) × IsChainTo p tx (record { stmt = stmt; rule = r }) chain
 
 abbrev pub has_labels : Outcome → Bool
 has_labels (Labelled cert) = true

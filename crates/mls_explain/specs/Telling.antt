@@ -12,8 +12,7 @@ use Rattle.mls_scheme.specs.Scheme.{Schemes}
 use Rattle.mls_scheme.specs.declared.value.Kind.{Kind}
 use Rattle.mls_translang.specs.Tokens.{printed}
 use Rattle.mls_translang.specs.Tx.{Tx}
-use Rattle.mls_certificate.specs.declared.cert.Cert.{Cert}
-use Rattle.mls_certificate.specs.declared.cert.Cert2.{Cert2}
+use Rattle.mls_certificate.specs.declared.cert.Certificate.{Certificate}
 use Rattle.mls_certificate.specs.declared.cert.Certificate.TheVariants.{One, Two}
 use Rattle.mls_certcheck.specs.declared.refusal.Rule.{Rule}
 use Rattle.mls_certcheck.specs.Refusal.{text_of}
@@ -64,11 +63,9 @@ module _ (p : Tables) (vars : List (Name × Kind)) where
   abbrev pub statement_lines : List (List Label) → List Label → List ℕ
   statement_lines rows labels = flat_map (statement_line rows) (enumerate_from 0 labels)
 
-  abbrev pub one_lines : Cert → List ℕ
-  one_lines cert = codes "labels, version 1:\n" ++ (variable_lines cert.var_labels ++ statement_lines [] cert.pc_labels)
-
-  abbrev pub two_lines : Cert2 → List ℕ
-  two_lines cert = codes "labels, version 2:\n" ++ statement_lines cert.rows cert.pc_labels
+  abbrev pub label_lines : Certificate → List ℕ
+  label_lines (One cert) = codes "labels, version 1:\n" ++ (variable_lines cert.var_labels ++ statement_lines [] cert.pc_labels)
+  label_lines (Two cert) = codes "labels, version 2:\n" ++ statement_lines cert.rows cert.pc_labels
 
 -- the name, the place and the rule of a refusal
 unfoldable pub refused_front : Name → List ℕ
@@ -79,8 +76,7 @@ refused_line name stmt r = refused_front name ++ decimal stmt ++ codes " " ++ te
 
 -- what came of the least labels
 abbrev pub head : Tables → Tx → Outcome → List ℕ
-head p tx (Labelled (One cert)) = one_lines p tx.vars cert
-head p tx (Labelled (Two cert)) = two_lines p tx.vars cert
+head p tx (Labelled cert) = label_lines p tx.vars cert
 head p tx (Refused stmt r chain) = refused_line tx.name stmt r
 
 -- ---- the whole

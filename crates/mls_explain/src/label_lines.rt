@@ -1,14 +1,14 @@
 //! The lines of least labels, of a refusal, and of what is released.
 ghost use Rattle.std.specs.Prelude.{◌≡◌, ◌++◌, ◌+◌, ◌<◌, ◌^◌, [], slice_get, string_bytes, OnOk};
 ghost use Rattle.std.specs.Option.{unwrap_or};
-ghost use Rattle.mls_explain.specs.Telling.{variable_line, variable_lines, at_line, statement_line, statement_lines, one_lines, two_lines, refused_front, refused_line, head};
+ghost use Rattle.mls_explain.specs.Telling.{variable_line, variable_lines, at_line, statement_line, statement_lines, label_lines, refused_front, refused_line, head};
 
 use crate::naming::words_of;
 use crate::numbering::four_to;
 use crate::outcome::Outcome;
 use crate::teller::{Teller, Told};
 use mls_certcheck::Rule;
-use mls_certificate::{Cert, Cert2, Certificate};
+use mls_certificate::Certificate;
 use mls_lattice::{Items, Label};
 use mls_ranges::{Told as Release, ranges_of, whole, words};
 use mls_translang::Stmt;
@@ -81,23 +81,21 @@ impl Teller<'_> {
         Ok(())
     }
 
-    fn one_to(&self, text: &mut String, cert: &Cert) -> Told
+    fn labels_to(&self, text: &mut String, cert: &Certificate) -> Told
         ensures { OnOk result (string_bytes text.new ≡ string_bytes text.old
-            ++ one_lines self.now.policy.now self.now.tx.now.vars cert.now) }
+            ++ label_lines self.now.policy.now self.now.tx.now.vars cert.now) }
     {
-        text.push_str("labels, version 1:\n")?;
-        self.variables_to(text, &cert.var_labels)?;
-        self.statements_to(text, &[], &cert.pc_labels)?;
-        Ok(())
-    }
-
-    fn two_to(&self, text: &mut String, cert: &Cert2) -> Told
-        ensures { OnOk result (string_bytes text.new ≡ string_bytes text.old
-            ++ two_lines self.now.policy.now self.now.tx.now.vars cert.now) }
-    {
-        text.push_str("labels, version 2:\n")?;
-        self.statements_to(text, &cert.rows, &cert.pc_labels)?;
-        Ok(())
+        match cert {
+            Certificate::One(cert) => {
+                text.push_str("labels, version 1:\n")?;
+                self.variables_to(text, &cert.var_labels)?;
+                self.statements_to(text, &[], &cert.pc_labels)
+            }
+            Certificate::Two(cert) => {
+                text.push_str("labels, version 2:\n")?;
+                self.statements_to(text, &cert.rows, &cert.pc_labels)
+            }
+        }
     }
 
     /// The labels of a certificate, or the place and the rule of a refusal.
@@ -106,8 +104,7 @@ impl Teller<'_> {
             ++ head self.now.policy.now self.now.tx.now outcome.now) }
     {
         match outcome {
-            Outcome::Labelled(Certificate::One(cert)) => self.one_to(text, cert),
-            Outcome::Labelled(Certificate::Two(cert)) => self.two_to(text, cert),
+            Outcome::Labelled(cert) => self.labels_to(text, cert),
             Outcome::Refused { stmt, rule, .. } => refused_to(text, self.tx.name(), *stmt, *rule),
         }
     }
@@ -145,12 +142,15 @@ impl Teller<'_> {
         let releases = ranges_of(self.alloc, self.tx)?;
         let mut count: usize = 0;
         for (place, statement) in self.statements.iter().enumerate() {
-            if let (Stmt::Release { .. }, Some(release)) = (statement.stmt, releases.get(count)) {
+            if let (Stmt::Release { .. }, Some(release)) = (
+                statement.stmt,
+                releases.told.get(count),
+            ) {
                 self.release_to(text, place + 1, release)?;
                 count = count.saturating_add(1);
             }
         }
-        match whole(self.alloc, self.tx, &releases)? {
+        match whole(self.alloc, &releases)? {
             Some(words) => writeln!(text, "      all releases: {words}"),
             None => Ok(()),
         }

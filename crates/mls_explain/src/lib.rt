@@ -1,6 +1,9 @@
-//! What is told of transactions: their texts with numbers, and their least labels, or why they have none and how to mend them.
+//! What is told of transactions and of their least labels, and of stores that are opened over copies of their files.
 #![tactic(auto)]
 
+mod chain;
+mod copies;
+mod diagnosis;
 mod explaining;
 mod label_lines;
 mod mending;
@@ -9,9 +12,13 @@ mod numbering;
 mod outcome;
 mod reading;
 mod refusing;
+mod rows;
+mod search;
 mod statements;
-mod steps;
+mod step;
 mod teller;
+mod ways;
 
+pub use diagnosis::{Diagnosis, diagnosis_of};
 pub use explaining::{Explained, explain};
 pub use outcome::Outcome;

@@ -1,9 +1,8 @@
 //! How a transaction is mended, so that it has labels.
 
-use crate::steps::Way;
 use crate::teller::{Teller, Told};
-use mls_certcheck::Slot;
-use mls_chains::Origin;
+use crate::ways::Way;
+use mls_certcheck::{Slot, Source};
 use mls_lattice::LabelNo;
 use mls_translang::Stmt;
 use std::alloc::AllocError;
@@ -96,13 +95,13 @@ impl Teller<'_> {
     }
 
     /// Ends them with a release of the value in front of the statement.
-    fn before_way_to(&self, text: &mut String, out: &Outlet, end: Origin) -> Told {
+    fn before_way_to(&self, text: &mut String, out: &Outlet, end: Source) -> Told {
         let (what, into) = match (out.deed, end) {
             (Deed::Emit, _) => ("the value", "a variable"),
-            (Deed::Write, Origin::Held(Slot::Variable { place, .. })) => {
+            (Deed::Write, Source::Held(Slot::Variable { place, .. })) => {
                 (self.variable(place), "another variable")
             }
-            (Deed::Write, Origin::Parameter(place)) => {
+            (Deed::Write, Source::Parameter(place)) => {
                 (self.parameter(usize::from(place)), "a variable")
             }
             _ => return text.push_str(".\n"),

@@ -3,6 +3,7 @@ ghost use Rattle.std.specs.Prelude.{◌≡◌, ◌++◌, map, string_bytes, IfOk
 ghost use Rattle.std.specs.Str.Lines.{lines};
 ghost use Rattle.mls_explain.specs.Telling.{four, shown, IsListing};
 
+use crate::teller::Told;
 use std::alloc::{AllocError, Global};
 
 /// Whether a statement begins on a line behind the first ones.
@@ -12,15 +13,14 @@ fn begins(line: &str) -> bool {
 }
 
 /// Adds a number at the right end of four columns.
-
-pub(crate) fn four_to(text: &mut String, number: usize) -> Result<(), AllocError>
+pub(crate) fn four_to(text: &mut String, number: usize) -> Told
     ensures { OnOk result (string_bytes text.new ≡ string_bytes text.old ++ four number) }
 {
     write!(text, "{number:>4}")
 }
 
 /// Adds a line behind a number, if it has one.
-fn line_to(text: &mut String, number: Option<usize>, line: &str) -> Result<(), AllocError>
+fn line_to(text: &mut String, number: Option<usize>, line: &str) -> Told
     ensures { OnOk result (string_bytes text.new ≡ string_bytes text.old ++ shown number line.now) }
 {
     match number {

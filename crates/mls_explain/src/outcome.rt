@@ -1,11 +1,10 @@
 //! What came of the least labels of a transaction.
 ghost use Rattle.std.specs.Prelude.{◌≡◌, IfOk};
-ghost use Rattle.mls_certificate.specs.declared.cert.Version.TheVariants as version;
-ghost use Rattle.mls_explain.specs.Explaining.{IsOutcome, NonePasses, has_labels};
+ghost use Rattle.mls_explain.specs.Explaining.{IsOutcome, has_labels};
 
-use mls_certcheck::Rule;
+use crate::chain::{Chain, chain_to};
+use mls_certcheck::{Refusal, Rule};
 use mls_certificate::Certificate;
-use mls_chains::{Chain, chain_to};
 use mls_labeller::{LabelFault, label_tx, label_tx2};
 use mls_lattice::Policy;
 use mls_translang::Tx;
@@ -35,28 +34,21 @@ impl Outcome {
     }
 }
 
-/// What comes of version 2, where no certificate of version 1 passes.
-fn second_of(alloc: Global, policy: &Policy, tx: &Tx) -> Result<Outcome, AllocError>
-    requires { NonePasses version.First policy.now tx.now }
-    ensures { IfOk result (IsOutcome policy.now tx.now) }
-{
-    match label_tx2(alloc, policy, tx) {
-        Ok(cert) => Ok(Outcome::Labelled(Certificate::Two(cert))),
-        Err(LabelFault::NoLabels { stmt, rule }) => {
-            let chain = chain_to(alloc, policy, tx, stmt, rule)?;
-            Ok(Outcome::Refused { stmt, rule, chain })
-        }
-        Err(LabelFault::Memory) => Err(AllocError),
-    }
-}
-
 /// What comes of the least labels: version 1 where its certificates pass, else version 2.
 pub(crate) fn outcome_of(alloc: Global, policy: &Policy, tx: &Tx) -> Result<Outcome, AllocError>
     ensures { IfOk result (IsOutcome policy.now tx.now) }
 {
     match label_tx(alloc, policy, tx) {
-        Ok(cert) => Ok(Outcome::Labelled(Certificate::One(cert))),
-        Err(LabelFault::NoLabels { .. }) => second_of(alloc, policy, tx),
+        Ok(cert) => return Ok(Outcome::Labelled(Certificate::One(cert))),
+        Err(LabelFault::NoLabels { .. }) => {}
+        Err(LabelFault::Memory) => return Err(AllocError),
+    }
+    match label_tx2(alloc, policy, tx) {
+        Ok(cert) => Ok(Outcome::Labelled(Certificate::Two(cert))),
+        Err(LabelFault::NoLabels { stmt, rule }) => {
+            let chain = chain_to(alloc, policy, tx, Refusal { stmt, rule })?;
+            Ok(Outcome::Refused { stmt, rule, chain })
+        }
         Err(LabelFault::Memory) => Err(AllocError),
     }
 }

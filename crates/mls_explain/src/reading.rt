@@ -1,8 +1,7 @@
 //! What statements read.
 
 use crate::teller::{Teller, Told};
-use mls_certcheck::Slot;
-use mls_chains::Origin;
+use mls_certcheck::{Slot, Source};
 use mls_lattice::LabelNo;
 use mls_translang::{Expr, Stmt, Term};
 use std::alloc::AllocError;
@@ -41,9 +40,7 @@ impl<'a> Teller<'a> {
         match self.stmt(number) {
             Some(
                 Stmt::Assign { value, .. } | Stmt::Release { value, .. } | Stmt::Emit { value, .. },
-            ) => {
-                names_to(&mut names, value)?;
-            }
+            ) => names_to(&mut names, value)?,
             Some(Stmt::If { guard, .. }) => names_to(&mut names, guard)?,
             Some(Stmt::Insert { key, values, .. }) => {
                 all_names_to(&mut names, key)?;
@@ -64,9 +61,8 @@ impl<'a> Teller<'a> {
         let mut loops = Vec::new(self.alloc);
         let all = self.all_around(number)?;
         for around in &all {
-            match self.stmt(*around) {
-                Some(stmt @ Stmt::For { .. }) => loops.push(stmt)?,
-                _ => {}
+            if let Some(stmt @ Stmt::For { .. }) = self.stmt(*around) {
+                loops.push(stmt)?;
             }
         }
         Ok(loops)
@@ -133,19 +129,24 @@ impl<'a> Teller<'a> {
         text.push_str("what stands there")
     }
 
+    fn slot_to(&self, text: &mut String, slot: Slot) -> Told {
+        match slot {
+            Slot::Variable { place, .. } => text.push_str(self.variable(place)),
+            Slot::Statement(other) => write!(text, "whether {other} runs"),
+        }
+    }
+
     /// Adds what a statement reads of a source.
-    pub(crate) fn value_to(&self, text: &mut String, number: usize, source: Origin) -> Told {
+    pub(crate) fn value_to(&self, text: &mut String, number: usize, source: Source) -> Told {
         match source {
-            Origin::Held(Slot::Variable { place, .. }) => text.push_str(self.variable(place)),
-            Origin::Held(Slot::Statement(other)) => write!(text, "whether {other} runs"),
-            Origin::Parameter(place) => {
+            Source::Held(slot) => self.slot_to(text, slot),
+            Source::Parameter(place) => {
                 let place = usize::from(place);
                 let name = self.parameter(place);
                 let label = self.label(self.parameter_label(place));
                 write!(text, "the parameter {name} ({label})")
             }
-            Origin::Declared(label) => {
-                let label = LabelNo::new(label);
+            Source::Declared(label) => {
                 self.field_to(text, number, label)?;
                 let label = self.label(label);
                 write!(text, ", of a row that {label} sees")

@@ -1,11 +1,11 @@
 //! Why a transaction is refused, in sentences.
 
+use crate::chain::Chain;
 use crate::mending::{Deed, Outlet};
 use crate::outcome::Outcome;
-use crate::steps::Way;
 use crate::teller::{Teller, Told};
-use mls_certcheck::{Rule, Slot};
-use mls_chains::{Chain, Origin};
+use crate::ways::Way;
+use mls_certcheck::{Rule, Slot, Source};
 use mls_lattice::LabelNo;
 use mls_translang::Stmt;
 use std::alloc::AllocError;
@@ -157,24 +157,24 @@ impl Teller<'_> {
     fn known_to(&self, text: &mut String, way: &Way, number: usize) -> Told {
         let root = self.label(way.root);
         match way.end {
-            Origin::Parameter(place) => {
+            Source::Parameter(place) => {
                 let name = self.parameter(usize::from(place));
                 write!(text, "The parameter {name} is at {root}")
             }
-            Origin::Declared(_) => {
+            Source::Declared(_) => {
                 self.field_to(text, number, way.root)?;
                 write!(text, " is of a row that {root} sees")
             }
-            Origin::Held(Slot::Variable { place, .. }) => {
+            Source::Held(Slot::Variable { place, .. }) => {
                 let name = self.variable(place);
                 write!(text, "{name} may hold here what is known at {root}")
             }
-            Origin::Held(Slot::Statement(_)) if way.cause == Some(0) => {
+            Source::Held(Slot::Statement(_)) if way.cause == Some(0) => {
                 let tx = self.tx.name();
                 write!(text, "That this runs is known at {root}")?;
                 write!(text, ", where the levels of {tx} begin")
             }
-            Origin::Held(Slot::Statement(_)) => {
+            Source::Held(Slot::Statement(_)) => {
                 text.push_str(if self.turns(way) {
                     "How often"
                 } else {
@@ -221,7 +221,7 @@ impl Teller<'_> {
         self.unseen_to(text, way.root)?;
         let root = self.label(way.root);
         match way.end {
-            Origin::Held(Slot::Variable { place, .. }) => {
+            Source::Held(Slot::Variable { place, .. }) => {
                 let name = self.variable(place);
                 write!(text, " After this {name} may hold what is known at {root}")?;
             }

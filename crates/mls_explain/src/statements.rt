@@ -1,7 +1,7 @@
 //! The statements of a transaction by number, as a list.
 
+use crate::teller::Told;
 use mls_translang::{Block, Stmt};
-use std::alloc::AllocError;
 
 /// A statement, and the number of the loop or branch around it: 0 is the transaction itself.
 #[derive(Clone, Copy)]
@@ -12,11 +12,7 @@ pub(crate) struct Statement<'a> {
 
 /// Adds the statements of a block.
 #[cycle(walk)]
-pub(crate) fn block_to<'a>(
-    all: &mut Vec<Statement<'a>>,
-    around: usize,
-    block: &'a Block,
-) -> Result<(), AllocError> {
+pub(crate) fn block_to<'a>(all: &mut Vec<Statement<'a>>, around: usize, block: &'a Block) -> Told {
     for stmt in &block.stmts {
         stmt_to(all, around, stmt)?;
     }
@@ -25,11 +21,7 @@ pub(crate) fn block_to<'a>(
 
 /// Adds a statement, and then those inside it.
 #[cycle(walk)]
-fn stmt_to<'a>(
-    all: &mut Vec<Statement<'a>>,
-    around: usize,
-    stmt: &'a Stmt,
-) -> Result<(), AllocError> {
+fn stmt_to<'a>(all: &mut Vec<Statement<'a>>, around: usize, stmt: &'a Stmt) -> Told {
     all.push(Statement { stmt, around })?;
     let number = all.len();
     match stmt {

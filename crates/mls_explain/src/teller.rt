@@ -4,6 +4,7 @@ ghost use Rattle.std.specs.Option.{unwrap_or};
 
 use crate::numbering::four_to;
 use crate::statements::Statement;
+use mls_advice::label_name;
 use mls_lattice::{LabelNo, Policy};
 use mls_scheme::{Kind, RelNo, Schemes};
 use mls_translang::{Stmt, Tx};
@@ -27,11 +28,7 @@ impl<'a> Teller<'a> {
     // ---- names
 
     pub(crate) fn label(&self, label: LabelNo) -> &'a str {
-        if label.index() < self.policy.label_count() {
-            self.policy.name(label)
-        } else {
-            ""
-        }
+        label_name(self.policy, label)
     }
 
     pub(crate) fn variable(&self, place: usize) -> &'a str
@@ -113,12 +110,7 @@ impl<'a> Teller<'a> {
 
     /// A lowest declared label that sees both: below the ceiling, where that sees them.
     pub(crate) fn lowest_over(&self, one: LabelNo, other: LabelNo) -> Option<LabelNo> {
-        let ceiling = self.tx.hi();
-        let mut lowest = if self.sees_both(ceiling, one, other) {
-            Some(ceiling)
-        } else {
-            None
-        };
+        let mut lowest = Some(self.tx.hi()).filter(|high| self.sees_both(*high, one, other));
         for place in 0..self.policy.label_count() {
             let label = LabelNo::new(place as u8);
             let is_lower = match lowest {

@@ -8,6 +8,8 @@ use Rattle.mls_host.specs.Hosting.{IsAppended, IsTold}
 use Rattle.mls_host.specs.Refusal.{refusal_text, refusal_status}
 
 -- which bytes it wrote on standard output and told on standard error, as these show it, and how it ended
+-- (predicates and no lists of bytes: what is written over a store is known where that store is clean, which the type of
+-- a base leaves undecided)
 pub record Deed : Type 1 where
   pub wrote : List ℕ → Type 0
   pub told : List ℕ → Type 0

@@ -12,6 +12,7 @@ use Rattle.mls_host.specs.declared.host.StoreCause.{StoreCause}
 use Rattle.mls_host.specs.declared.errors.Errors.{Errors}
 
 -- A host, as contracts see it.
+-- A host that cannot know why it gives nothing says that any cause may be.
 pub record Hosting : Type 1 where
   -- the bytes that it gives for the file at a path, and, with no path, for the standard input
   pub gives : Option (List ℕ) → List ℕ → Type 0
@@ -53,6 +54,7 @@ module _ {Host : Type 0} (hosting : Host → Hosting) (echo : List ℕ → List 
 -- ---- stores
 
 -- each store keeps what it kept
+-- (of what each path keeps, both ways: an equation between hosts, whose fields are predicates, fits no clause)
 abbrev pub KeepSame : Hosting → Hosting → Type 0
 KeepSame old new = (path : List ℕ) (h : Holdings) → new.keeps path h ↔ old.keeps path h
 

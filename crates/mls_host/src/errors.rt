@@ -11,6 +11,9 @@ use std::io::Write;
 
 /// Where a command tells what it refuses. A failure of the writer changes nothing but what is promised of it: what was told is
 /// written whole unless a write failed, and a fault of this writer stands for that, which nothing but a write makes.
+/// No contract of a writer tells a refused write from one that was never made. It names the type of its writer, so no
+/// fault comes from another that always fails. A text is handed over in parts, since what can be shown may fail by
+/// itself.
 #[derive(Drop)]
 pub struct Errors<E: Write> {
     pub(crate) writer: E,

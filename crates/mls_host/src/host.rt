@@ -58,6 +58,9 @@ pub enum StoreCause {
 /// what is typed there, whether reading that may fail, and whether it is a terminal, as standard error may be; what the store at a path
 /// keeps, and why it is not opened; which bytes its files are shown to have, and why they are not shown; and of the store which it took back last, whether it was
 /// clean, whether a call of it failed, and whether it was closed.
+/// Whether a call of the store failed is asked of the store that it took back last, and not how many; the failed calls
+/// of an opening count too. Whether there is a terminal is asked when the host is made, and kept: a contract can name a
+/// field, and not what a stream would answer.
 pub trait Host {
     ghost hosting: { Self → Hosting };
 

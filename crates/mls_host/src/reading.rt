@@ -66,6 +66,7 @@ fn contents_of<H: Host>(
 }
 
 /// Reads what a job reads, in its order, up to the first input that is refused. No store is opened.
+/// The label of `--at` is looked up right after the policy, long before a store is made.
 pub fn inputs_of<H: Host>(alloc: Global, host: &H, job: Job) -> Result<Inputs, Reason>
     ensures read { IfOk result (AreInputs (H.hosting host.now) job.entry) }
     ensures ready { IfOk result AreReady }

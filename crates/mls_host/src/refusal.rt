@@ -19,7 +19,8 @@ pub enum Refusal {
     /// It was given up before anything was written.
     Before(Reason),
     Run(RunFault),
-    /// All was done, and the store was not closed.
+    /// All was done, and the store was not closed. The lines are written, so it is told as the store's and not as the
+    /// run's.
     NotClosed,
     /// What a command other than a run prints was not taken.
     Output,

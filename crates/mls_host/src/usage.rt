@@ -8,6 +8,8 @@ use std::alloc::AllocError;
 use std::io::Write;
 
 /// Why words ask for nothing that can be done.
+/// A type of its own: no function that does a job can answer it, and a [`Refusal`](crate::Refusal), which has no text,
+/// is copied.
 #[derive(Drop)]
 pub enum Usage {
     /// The text that is printed.

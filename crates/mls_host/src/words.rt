@@ -15,7 +15,7 @@ use std::alloc::{AllocError, Global};
 
 const ABOUT: &str = "A relational database whose elements have security levels, proved";
 
-const VERSION: &str = "1.1.0 (stores of versions 1 and 2)";
+const VERSION: &str = "2.0.0 (stores of versions 1 and 2)";
 
 const EXAMPLE: &str = "\
 Without any words mldb runs the script on standard input under a sample policy and schemes.
@@ -462,6 +462,8 @@ fn program<'a>(alloc: Global) -> Command<'a>
         .subcommand_required(true)
 }
 
+/// The commands and their words. They are built by calls and not from a table: the checker sees no table of structs
+/// that hold slices.
 fn command_line<'a>(alloc: Global) -> Result<Command<'a>, AllocError>
     ensures { IfOk result (λ c. app_of c ≡ command_line) }
 {

@@ -5,7 +5,6 @@ use Rattle.std.specs.List.{flat_map, AllByRecursion}
 use Rattle.mls_lattice.specs.Policy.{Name}
 use Rattle.mls_lattice.specs.Canon.{label_name}
 use Rattle.mls_scheme.specs.declared.value.Value.{Value}
-use Rattle.mls_scheme.specs.declared.value.Value.TheVariants as values
 use Rattle.mls_scheme.specs.declared.tuple.Tuple.{Tuple}
 use Rattle.mls_scheme.specs.Scheme.{Attribute, Scheme, no_attribute, scheme_of, other_of}
 use Rattle.mls_script.specs.declared.event.Event.{Event}
@@ -13,24 +12,19 @@ use Rattle.mls_script.specs.declared.event.Command.{Command}
 use Rattle.mls_script.specs.declared.event.Command.TheVariants.{Insert, Update}
 use Rattle.mls_script.specs.Event.{Sets}
 use Rattle.mls_script.specs.Tokens.{relation_name}
-use Rattle.mls_script.specs.Writing.{value_text, behind_comma, listed, list_text, set_text, keyed, command_text, line_text, is_writable}
+use Rattle.mls_script.specs.Writing.{cell_text, behind_comma, listed, list_text, set_text, keyed, command_text, line_text, is_writable}
 use Rattle.mls_filterview.specs.Filtering.{class_number}
 use Rattle.mls_machine.specs.Site.{Site, site_labels, site_scheme}
-use Rattle.mls_machine.specs.Dumping.{own_sets, class_below, made_by, made_again}
-use Rattle.mls_machine.specs.Output.{dump_heading, made_text}
+use Rattle.mls_machine.specs.Dumping.{own_sets, class_below, dump_command, dump_event}
+use Rattle.mls_machine.specs.Output.{dump_heading, script_text}
 use Rattle.mls_machine.specs.Parting.{IsOneLine, HasPlainNames, IsPlain}
-use Rattle.mls_machine.proofs.OneLineLemmas.{one_line-append, one_line-flat_map, one_line-quoted, one_line-signed, each}
-use Rattle.mls_machine.proofs.RowLineLemmas.{scheme_line, label_line}
+use Rattle.mls_machine.proofs.OneLineLemmas.{one_line-append, one_line-flat_map, each}
+use Rattle.mls_machine.proofs.RowLineLemmas.{cell_line, scheme_line, label_line}
 
 pub dump_line : (s : Scheme) → HasPlainNames s → IsOneLine (dump_heading s)
 dump_line s h = one_line-append (codes "dump ") (s.name ++ codes ":") refl (one_line-append s.name (codes ":") h.name refl)
 
--- ---- values
-
-written_line : (v : Option Value) → IsOneLine (value_text v)
-written_line None = refl
-written_line (Some (values.Int n)) = one_line-signed n
-written_line (Some (values.Text s)) = one_line-quoted s
+-- ---- lists
 
 listed_line : {X : Type 0} (text : X → List ℕ) → ((x : X) → IsOneLine (text x)) → (xs : List X) → IsOneLine (listed text xs)
 listed_line text h [] = refl
@@ -40,7 +34,7 @@ listed_line text h (x ∷ xs) =
 
 list_line : (vs : List (Option Value)) → IsOneLine (list_text vs)
 list_line vs =
-    one_line-append (codes "(") (listed value_text vs ++ codes ")") refl (one_line-append (listed value_text vs) (codes ")") (listed_line value_text written_line vs) refl)
+    one_line-append (codes "(") (listed cell_text vs ++ codes ")") refl (one_line-append (listed cell_text vs) (codes ")") (listed_line cell_text cell_line vs) refl)
 
 attribute_line : (xs : List Attribute) (i : ℕ) → AllByRecursion (λ a. IsOneLine a.name) xs → IsOneLine (slice_index_or xs i no_attribute).name
 attribute_line [] i h = refl
@@ -49,8 +43,8 @@ attribute_line (x ∷ xs) (suc i) h = attribute_line xs i h.1
 
 set_line : (s : Scheme) → HasPlainNames s → (x : ℕ × Option Value) → IsOneLine (set_text s x)
 set_line s h x =
-    one_line-append ((other_of s x.0).name ++ codes " = ") (value_text x.1)
-    (one_line-append (other_of s x.0).name (codes " = ") (attribute_line s.others x.0 h.others) refl) (written_line x.1)
+    one_line-append ((other_of s x.0).name ++ codes " = ") (cell_text x.1)
+    (one_line-append (other_of s x.0).name (codes " = ") (attribute_line s.others x.0 h.others) refl) (cell_line x.1)
 
 -- ---- commands
 
@@ -85,7 +79,7 @@ module _ (site : Site) (plain : IsPlain site) where
       refl)
       (listed_line (set_text s) (set_line s (scheme_line site.schemes rel plain.relations)) sets)
 
-  made_command_line : (rel m : ℕ) (t : Tuple) → IsOneLine (command_text site.policy site.schemes (made_by site rel m t))
+  made_command_line : (rel m : ℕ) (t : Tuple) → IsOneLine (command_text site.policy site.schemes (dump_command site rel m t))
   made_command_line rel m t =
       let key = map Some t.key in
       let values = map (λ e. e.value) t.elements in
@@ -101,9 +95,9 @@ module _ (site : Site) (plain : IsPlain site) where
   word_line false = refl
 
   -- in a session whose name has none
-  pub made_line : (session : Name) → IsOneLine session → (rel : ℕ) (t : Tuple) → IsOneLine (made_text site (made_again site session rel t))
+  pub made_line : (session : Name) → IsOneLine session → (rel : ℕ) (t : Tuple) → IsOneLine (script_text site (dump_event site session rel t))
   made_line session h rel t =
-      let e = made_again site session rel t in
+      let e = dump_event site session rel t in
       let name = label_name site.policy.labels e.level in
       let command = command_text site.policy site.schemes e.command in
       one_line-append (cond (is_writable e) (codes "line ") (codes "unread ")) (line_text site.policy site.schemes e) (word_line (is_writable e))

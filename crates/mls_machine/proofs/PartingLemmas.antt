@@ -28,9 +28,10 @@ use Rattle.mls_machine.specs.declared.reply.Reply.{Reply}
 use Rattle.mls_machine.specs.declared.reply.Reply.TheVariants.{Opened, Closed, Rows, Dumped, Wrote, Ran, Entries, Denied}
 use Rattle.mls_machine.specs.Site.{Site, site_labels}
 use Rattle.mls_machine.specs.Reply.{code_of, word_of}
-use Rattle.mls_machine.specs.Dumping.{made_again}
+use Rattle.mls_machine.specs.Dumping.{dump_event}
 use Rattle.mls_machine.specs.Machine.{World, step}
-use Rattle.mls_machine.specs.Output.{Line, cell_text, row_text, entry_text, outcome_text, denial_text, view_texts, table_texts, table_widths, made_text, dump_texts, call_texts, reply_texts, texts_in_table, front, line, item_line, item_lines, lines_with, escaped_line, reply_lines_in, run_lines, printed}
+use Rattle.mls_script.specs.Writing.{cell_text}
+use Rattle.mls_machine.specs.Output.{Line, row_text, entry_text, outcome_text, denial_text, view_texts, table_texts, table_widths, script_text, dump_texts, call_texts, reply_texts, texts_in_table, front, line, item_line, item_lines, lines_with, escaped_line, reply_lines_in, run_lines, printed}
 use Rattle.mls_machine.specs.Observation.{heard, out}
 use Rattle.mls_machine.specs.Turning.{turn_line}
 use Rattle.mls_machine.specs.Parting.{is_line_feed, IsOneLine, HasPlainNames, IsPlain, PoliciesArePlain, RepliesAreLines, RunsAreLines, TurningsAreLines, RunsPartIntoLines}
@@ -125,8 +126,8 @@ module _ (site : Site) (plain : IsPlain site) where
   dump_lines : (session : Name) → IsOneLine session → (command : Command) (tuples : List Tuple) → AllByRecursion IsOneLine (dump_texts site session command tuples)
   dump_lines session h (commands.Dump rel) tuples = (
     dump_line (scheme_of site.schemes rel) (scheme_line site.schemes rel plain.relations),
-    each-map IsOneLine (λ t. made_text site (made_again site session rel t)) tuples
-        (each (λ t. IsOneLine (made_text site (made_again site session rel t))) (λ t. made_line site plain session h rel t) tuples),
+    each-map IsOneLine (λ t. script_text site (dump_event site session rel t)) tuples
+        (each (λ t. IsOneLine (script_text site (dump_event site session rel t))) (λ t. made_line site plain session h rel t) tuples),
   )
   dump_lines session h (commands.Open name) tuples = tt
   dump_lines session h commands.Close tuples = tt

@@ -24,16 +24,16 @@ class_below ls m t = greatest_from ls t.key_class (filter (λ e. not (nat_eq e.c
 
 module _ (site : Site) where
   -- the command that makes a tuple of class m at that level: a root is inserted, any other is derived
-  abbrev pub made_by : ℕ → ℕ → Tuple → Command
-  made_by rel m t =
+  abbrev pub dump_command : ℕ → ℕ → Tuple → Command
+  dump_command rel m t =
       if nat_eq m t.key_class then Insert rel (map Some t.key) (map (λ e. e.value) t.elements)
       else Update rel (map Some t.key) t.key_class (class_below (site_labels site) m t)
       (own_sets m (length (site_scheme site rel).others) 0 t.elements)
 
   -- the event that makes a tuple: in a session of this name at the class of the tuple
-  abbrev pub made_again : Name → ℕ → Tuple → Event
-  made_again session rel t = record {
+  abbrev pub dump_event : Name → ℕ → Tuple → Event
+  dump_event session rel t = record {
     level = class_number (site_labels site) t;
     session = session;
-    command = made_by rel (class_number (site_labels site) t) t;
+    command = dump_command rel (class_number (site_labels site) t) t;
   }

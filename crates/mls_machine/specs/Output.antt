@@ -1,8 +1,8 @@
 -- The printed output: the lines of the replies, in order, with a line feed after each.
 use Rattle.std.specs.Prelude.{◌≡◌, ℕ, Bool, true, if◌then◌else◌, is_some, List, [], ◌∷◌, ◌++◌, map, Option, Some, None, codes, length, ◌<◌, ⊤}
 use Rattle.std.specs.List.{flat_map, AllByRecursion}
-use Rattle.std.specs.Fmt.{decimal, signed_decimal}
-use Rattle.mls_tokens.specs.Writing.{printable, quoted}
+use Rattle.std.specs.Fmt.{decimal}
+use Rattle.mls_tokens.specs.Writing.{printable}
 use Rattle.mls_screen.specs.Screen.{escaped}
 use Rattle.mls_screen.specs.Table.{wider, padded, ruled}
 use Rattle.mls_lattice.specs.Lattice.{Pair, same_pair}
@@ -10,7 +10,6 @@ use Rattle.mls_lattice.specs.Name.{is_name}
 use Rattle.mls_lattice.specs.Policy.{Name, Named, Tables, labels_of}
 use Rattle.mls_lattice.specs.Canon.{label_name, user_name}
 use Rattle.mls_scheme.specs.declared.value.Value.{Value}
-use Rattle.mls_scheme.specs.declared.value.Value.TheVariants as values
 use Rattle.mls_scheme.specs.declared.tuple.Tuple.{Tuple}
 use Rattle.mls_scheme.specs.Tuple.{tuple_class, HasClassesBelow}
 use Rattle.mls_scheme.specs.Scheme.{Scheme, scheme_of}
@@ -24,26 +23,16 @@ use Rattle.mls_queries.specs.declared.query.Query.{Query}
 use Rattle.mls_script.specs.declared.event.Event.{Event}
 use Rattle.mls_script.specs.declared.event.Command.{Command}
 use Rattle.mls_script.specs.declared.event.Command.TheVariants as commands
-use Rattle.mls_script.specs.Writing.{line_text, is_writable}
+use Rattle.mls_script.specs.Writing.{cell_text, line_text, is_writable}
 use Rattle.mls_machine.specs.declared.form.Form.{Form}
 use Rattle.mls_machine.specs.declared.form.Form.TheVariants.{Lines, Table}
 use Rattle.mls_machine.specs.declared.reply.Denial.{Denial}
 use Rattle.mls_machine.specs.declared.reply.Reply.{Reply}
 use Rattle.mls_machine.specs.declared.reply.Reply.TheVariants.{Opened, Closed, Rows, Dumped, Wrote, Ran, Entries, Denied}
 use Rattle.mls_machine.specs.Site.{Site}
-use Rattle.mls_machine.specs.Dumping.{made_again}
+use Rattle.mls_machine.specs.Dumping.{dump_event}
 use Rattle.mls_machine.specs.Reply.{code_of, word_of}
 use Rattle.mls_machine.specs.Machine.{World, step}
-
--- ---- values
-
-abbrev pub value_text : Value → List ℕ
-value_text (values.Int n) = signed_decimal n
-value_text (values.Text s) = quoted s
-
-abbrev pub cell_text : Option Value → List ℕ
-cell_text None = codes "null"
-cell_text (Some v) = value_text v
 
 -- ---- rows
 
@@ -147,14 +136,14 @@ abbrev pub dump_heading : Scheme → List ℕ
 dump_heading s = codes "dump " ++ s.name ++ codes ":"
 
 -- the line of a script that makes a tuple; no script can hold one with a value that is not writable
-abbrev pub made_text : Site → Event → List ℕ
-made_text site e = (if is_writable e then codes "line " else codes "unread ") ++ line_text site.policy site.schemes e
+abbrev pub script_text : Site → Event → List ℕ
+script_text site e = (if is_writable e then codes "line " else codes "unread ") ++ line_text site.policy site.schemes e
 
 -- the texts of a dump, which answers a command of its own and nothing else
 abbrev pub dump_texts : Site → Name → Command → List Tuple → List (List ℕ)
 dump_texts site session (commands.Dump rel) tuples =
     dump_heading (scheme_of site.schemes rel)
-    ∷ map (λ t. made_text site (made_again site session rel t)) tuples
+    ∷ map (λ t. script_text site (dump_event site session rel t)) tuples
 dump_texts site session command tuples = []
 
 -- ---- entries

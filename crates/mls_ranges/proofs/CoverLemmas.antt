@@ -1,200 +1,168 @@
 -- Runs of blocks that ranges cover.
-use Rattle.std.proofs.Common.{◌≡◌, ℕ, ◌+◌, Bool, true, false, cond, List, [], ◌∷◌, ◌++◌, length, Option, None, Some, refl, sym, ap, ◌∙◌, subst, append_assoc, length-append, arith, inl, inr}
-use Rattle.std.specs.Prelude.{nat_eq, slice_index_or}
-use Rattle.std.specs.List.{AllByRecursion, flat_map}
-use Rattle.std.proofs.lemmas.Bool.{eqb-true, eqb-false}
+use Rattle.std.proofs.Common.{◌≡◌, ℕ, suc, ◌+◌, ◌<◌, ◌≤◌, Bool, true, false, cond, List, [], ◌∷◌, ◌++◌, length, drop, get_or, Option, None, refl, sym, ap, ◌∙◌, subst, append_assoc, arith, drop-cons}
+use Rattle.std.proofs.Math.ListN.{drop_of_length-le}
 use Rattle.std.proofs.lemmas.List.{append-nil}
 use Rattle.mls_lattice.specs.Labels.{Labels}
 use Rattle.mls_scheme.specs.declared.value.Value.{Value}
 use Rattle.mls_scheme.specs.declared.tuple.Tuple.{Tuple}
 use Rattle.mls_scheme.specs.Scheme.{Schemes}
+use Rattle.mls_updates.specs.declared.outcome.Outcome.{Outcome}
 use Rattle.mls_filterview.specs.View.{rows}
-use Rattle.mls_translang.specs.Tree.{Expr, Stmt as Simple, Assign, Writing, Inserting, Updating, Deleting, Write_at, Release, Emit, Block, End, Do, If, For}
+use Rattle.mls_filterview.specs.Rules.{no_tuple}
+use Rattle.mls_translang.specs.Tree.{Expr, Stmt as Simple, Assign, Writing, Write_at, Release, Emit, Block, End, Do, If, For}
+use Rattle.mls_translang.specs.Tx.{Tx}
 use Rattle.mls_translang.specs.Blocks.{block_of}
 use Rattle.mls_translang.specs.declared.block.Stmt.{Stmt}
-use Rattle.mls_translang.specs.declared.block.Stmt.TheVariants as stmt
-use Rattle.mls_meaning.specs.Expressions.{Environment, value_in, holds_in}
-use Rattle.mls_meaning.specs.Meaning.{Item, Variables, Progress, set_var, environment, perform, for_each, run_block}
+use Rattle.mls_meaning.specs.Expressions.{value_in, holds_in}
+use Rattle.mls_meaning.specs.Meaning.{Item, Variables, Progress, start, set_var, set_outcome, environment, perform, for_each, run_block}
 use Rattle.mls_ranges.specs.declared.told.Told.{Told}
 use Rattle.mls_ranges.specs.declared.range.Range.{Range}
-use Rattle.mls_ranges.specs.Ranges.{Holds, AreHeld, any_value}
-use Rattle.mls_ranges.specs.Releases.{releases, Can, Silent, One, Then, Either, Turns, StmtCan, CanRelease}
-use Rattle.mls_ranges.specs.Covers.{Wider, Puts, PutsExpr, PutsOutcome, Tells, Goes, Covers}
+use Rattle.mls_ranges.specs.Ranges.{Holds, AreHeld, Wider, Gives}
+use Rattle.mls_ranges.specs.Releases.{CanRelease, Over, Silent, Gives as Released, One, Other, Never, Again, AreTold, Goes, Covers, Steps, Keeps}
 
--- ---- one part behind the other
+-- ---- runs
 
-alone : {A : Type 0} (a p q : List A) → a ≡ p ++ q → q ≡ [] → a ≡ p
-alone a p q h e = h ∙ ap (λ l. p ++ l) e ∙ append-nil p
+goes_weaker : (Can More : List Item → Type 0) {after : List Range} {released : List Item} {end : Progress} → ((items : List Item) → Can items → More items)
+    → Goes after Can released end → Goes after More released end
+goes_weaker Can More more g = record { vars = g.vars; items = g.items; released_is = g.released_is; can = more g.items g.can }
 
-then_more : (P Q : Can) (a b : List Told) (x y : List Item) → Then P Silent a x → Q b y → Then P Q (a ++ b) (x ++ y)
-then_more P Q a b x y h k = record {
-  a = h.a;
-  b = b;
-  x = h.x;
-  y = y;
-  told = ap (λ l. l ++ b) (alone a h.a h.b h.told h.other.told);
-  items = ap (λ l. l ++ y) (alone x h.x h.y h.items h.other.items);
-  one = h.one;
-  other = k;
+-- with items that were released before
+goes_behind : (Can More : List Item → Type 0) (released x : List Item) {after : List Range} {now : List Item} {end : Progress} → now ≡ released ++ x
+    → ((items : List Item) → Can items → More (x ++ items)) → Goes after Can now end → Goes after More released end
+goes_behind Can More released x is more g = record {
+  vars = g.vars;
+  items = x ++ g.items;
+  released_is = g.released_is ∙ ap (λ l. l ++ g.items) is ∙ append_assoc released x g.items;
+  can = more g.items g.can;
 }
 
-then_end : (P : Can) (a : List Told) (x : List Item) → P a x → Then P Silent a x
-then_end P a x h = record { a = a; b = []; x = x; y = []; told = sym (append-nil a); items = sym (append-nil x); one = h; other = record { told = refl; items = refl } }
-
-module _ (looped : Bool) where
-  pub covers_wider : (before from to : List Range) (block : Block) (told : List Told) → Wider before from → Covers looped from block to told → Covers looped before block to told
-  covers_wider before from to block told w h = record { count = h.count; runs = λ ls schemes args around s held. h.runs ls schemes args around s (λ x. w x (s.vars x) (held x)) }
-
-  pub covers_to : (before from to : List Range) (block : Block) (told : List Told) → Wider from to → Covers looped before block from told → Covers looped before block to told
-  covers_to before from to block told w h = record {
-    count = h.count;
-    runs = λ ls schemes args around s held.
-        let g = h.runs ls schemes args around s held in
-        let t = run_block ls schemes args block around s in
-        let more : Goes looped block to told s t = record { vars = λ x. w x (t.vars x) (g.vars x); items = g.items; released = g.released; can = g.can } in more;
-  }
-
-  pub covers_end : (ranges : List Range) → Covers looped ranges End ranges []
-  unfolding run_block
-  covers_end ranges = record { count = refl; runs = λ ls schemes args around s held. record { vars = held; items = []; released = sym (append-nil s.released); can = record { told = refl; items = refl } } }
-
-  covers_behind : (one rest all : Block) (before middle after : List Range) (a b : List Told)
-      → releases all ≡ releases one + releases rest
-      → ((x y : List Item) → CanRelease looped one a x → CanRelease looped rest b y → CanRelease looped all (a ++ b) (x ++ y))
-      → ((ls : Labels) (schemes : Schemes) (args : List (Option Value)) (around : List Tuple) (s : Progress) → run_block ls schemes args all around s ≡ run_block ls schemes args rest around (run_block ls schemes args one around s))
-      → Covers looped before one middle a → Covers looped middle rest after b → Covers looped before all after (a ++ b)
-  covers_behind one rest all before middle after a b count can run h k = record {
-    count = length-append a b ∙ (λ i. h.count i + k.count i) ∙ sym count;
-    runs = λ ls schemes args around s held.
-        let p = h.runs ls schemes args around s held in
-        let q = k.runs ls schemes args around (run_block ls schemes args one around s) p.vars in
-        let g : Goes looped all after (a ++ b) s (run_block ls schemes args rest around (run_block ls schemes args one around s)) = record {
-          vars = q.vars;
-          items = p.items ++ q.items;
-          released = q.released ∙ ap (λ l. l ++ q.items) p.released ∙ append_assoc s.released p.items q.items;
-          can = can p.items q.items p.can q.can;
-        } in
-        subst (Goes looped all after (a ++ b) s) (sym (run ls schemes args around s)) g;
-  }
-
-  module _ (before middle after : List Range) (a b : List Told) where
-    do_covers : (s : Simple) (rest : Block) → Covers looped before (Do s End) middle a → Covers looped middle rest after b → Covers looped before (Do s rest) after (a ++ b)
-    unfolding run_block
-    do_covers s rest = covers_behind (Do s End) rest (Do s rest) before middle after a b (omega arith) (λ x y. then_more (StmtCan looped s) (CanRelease looped rest) a b x y) (λ ls schemes args around s. refl)
-
-    -- the first statement of a block, and the rest
-    pub covers_first : (s : Stmt) (rest : List Stmt) → Covers looped before (block_of (s ∷ [])) middle a → Covers looped middle (block_of rest) after b → Covers looped before (block_of (s ∷ rest)) after (a ++ b)
-    unfolding run_block
-    covers_first (stmt.Assign x e) rest = do_covers _ (block_of rest)
-    covers_first (stmt.If guard one other) rest = covers_behind (If guard one other End) (block_of rest) (If guard one other (block_of rest)) before middle after a b (omega arith) (λ x y. then_more _ (CanRelease looped (block_of rest)) a b x y) (λ ls schemes args around s. refl)
-    covers_first (stmt.For row rel label body) rest = covers_behind (For row rel label body End) (block_of rest) (For row rel label body (block_of rest)) before middle after a b (omega arith) (λ x y. then_more _ (CanRelease looped (block_of rest)) a b x y) (λ ls schemes args around s. refl)
-    covers_first (stmt.Insert rel key values w outcome) rest = do_covers _ (block_of rest)
-    covers_first (stmt.Update rel key key_class from w sets outcome) rest = do_covers _ (block_of rest)
-    covers_first (stmt.Delete rel key key_class w outcome) rest = do_covers _ (block_of rest)
-    covers_first (stmt.Release e to into) rest = do_covers _ (block_of rest)
-    covers_first (stmt.Emit e label) rest = do_covers _ (block_of rest)
+covers_end : (ranges : List Range) → Covers ranges End ranges []
+unfolding run_block
+covers_end ranges = record { runs = λ ls schemes args around s held. record { vars = held; items = []; released_is = sym (append-nil s.released); can = Over } }
 
 -- ---- statements with no statement inside
 
-held_put : (before after : List Range) (x : ℕ) (r : Range) (vars : Variables) (v : Option Value) → Puts before x r after → AreHeld before vars → Holds r v → AreHeld after (set_var x v vars)
-held_put before after x r vars v p h k y =
-    elim (nat_eq y x) as (λ b. nat_eq y x ≡ b → Holds (slice_index_or after y any_value) (cond b v (vars y))) [
-      | true ↦ λ e. subst (λ z. Holds (slice_index_or after z any_value) v) (sym (eqb-true y x e)) (p.there v k)
-      | false ↦ λ e. p.others y (eqb-false y x e) (vars y) (h y)
-    ] refl
+pub steps_at : {before after : List Range} {told : List Told} (s t : Stmt) → s ≡ t → Steps before (λ rest. block_of (t ∷ rest)) after told → Steps before (λ rest. block_of (s ∷ rest)) after told
+steps_at {before} {after} {told} s t is = subst (λ (x : Stmt). Steps before (λ rest. block_of (x ∷ rest)) after told) (sym is)
 
-silent_end : Then Silent Silent [] []
-silent_end = record { a = []; b = []; x = []; y = []; told = refl; items = refl; one = record { told = refl; items = refl }; other = record { told = refl; items = refl } }
+-- a statement that releases nothing, with what came of it
+pub steps_same : {before after now : List Range} {front : List Stmt → Block} {told : List Told} → now ≡ after → told ≡ [] → Steps before front after [] → Steps before front now told
+steps_same {before} {after} {now} {front} {told} same none h = subst (λ n. Steps before front n told) (sym same) (subst (Steps before front after) (sym none) h)
 
-module _ (looped : Bool) (before after : List Range) where
-  pub covers_assign : (x : ℕ) (e : Expr) → PutsExpr before x e after → Covers looped before (Do (Assign x e) End) after []
-  unfolding run_block perform
-  covers_assign x e p = record {
-    count = refl;
-    runs = λ ls schemes args around s held. record {
-      vars = held_put before after x p.0 s.vars (value_in (environment args around s) e) p.2 held (p.1 (environment args around s) held);
-      items = [];
-      released = sym (append-nil s.released);
-      can = silent_end;
+module _ (before after : List Range) where
+  silent : (stmt : Simple) → ((ls : Labels) (schemes : Schemes) (args : List (Option Value)) (around : List Tuple) (s : Progress) → AreHeld before s.vars → AreHeld after (perform ls schemes args around stmt s).vars)
+      → ((rest : Block) (told : List Told) (items : List Item) → CanRelease rest told items → CanRelease (Do stmt rest) told items)
+      → ((ls : Labels) (schemes : Schemes) (args : List (Option Value)) (around : List Tuple) (s : Progress) → (perform ls schemes args around stmt s).released ≡ s.released ++ [])
+      → Steps before (λ rest. Do stmt (block_of rest)) after []
+  unfolding run_block
+  silent stmt held can none = record {
+    rest_covers = λ rest end more h. record {
+      runs = λ ls schemes args around s k. goes_behind (CanRelease (block_of rest) more) (CanRelease (Do stmt (block_of rest)) more) s.released [] (none ls schemes args around s) (can (block_of rest) more) (h.runs ls schemes args around _ (held ls schemes args around s k));
     };
   }
 
-  pub covers_release : (x : ℕ) (e : Expr) (to : ℕ) (r : Range) → ((env : Environment) → AreHeld before env.vars → Holds r (value_in env e)) → PutsExpr before x e after → Covers looped before (Do (Release e to x) End) after (record { to = to; into = x; range = r; looped = looped } ∷ [])
-  unfolding run_block perform
-  covers_release x e to r gives p = record {
-    count = refl;
-    runs = λ ls schemes args around s held.
-        let v = value_in (environment args around s) e in record {
-          vars = held_put before after x p.0 s.vars v p.2 held (p.1 (environment args around s) held);
-          items = (to, v) ∷ [];
-          released = refl;
-          can = then_end (One looped to) _ _ (record { of = record { to = to; into = x; range = r; looped = looped }; value = v; told = refl; items = refl; to = refl; looped = refl; holds = gives (environment args around s) held });
-        };
-  }
+  pub steps_assign : (x : ℕ) (e : Expr) (r : Range) → Gives before e r → ((vars : Variables) (v : Option Value) → AreHeld before vars → Holds r v → AreHeld after (set_var x v vars))
+      → Steps before (λ rest. Do (Assign x e) (block_of rest)) after []
+  unfolding perform
+  steps_assign x e r gives put = silent (Assign x e) (λ ls schemes args around s held. put s.vars _ held (gives (environment args around s) held)) (λ rest told items. Silent refl) (λ ls schemes args around s. sym (append-nil s.released))
 
-  pub covers_write : (rel w : ℕ) (writing : Writing) (outcome : Option ℕ) → PutsOutcome before outcome after → Covers looped before (Do (Write_at rel w writing outcome) End) after []
-  unfolding run_block perform
-  covers_write rel w writing None p = record {
-    count = refl;
-    runs = λ ls schemes args around s held. record { vars = subst (λ ranges. AreHeld ranges s.vars) (sym p) held; items = []; released = sym (append-nil s.released); can = silent_end };
-  }
-  covers_write rel w writing (Some x) p = record {
-    count = refl;
-    runs = λ ls schemes args around s held. record { vars = held_put before after x p.0 s.vars _ p.2 held (p.1 _); items = []; released = sym (append-nil s.released); can = silent_end };
-  }
+  pub steps_write : (rel w : ℕ) (writing : Writing) (outcome : Option ℕ) → ((vars : Variables) (o : Outcome) → AreHeld before vars → AreHeld after (set_outcome outcome o vars))
+      → Steps before (λ rest. Do (Write_at rel w writing outcome) (block_of rest)) after []
+  unfolding perform
+  steps_write rel w writing outcome put = silent (Write_at rel w writing outcome) (λ ls schemes args around s held. put s.vars _ held) (λ rest told items. Silent refl) (λ ls schemes args around s. sym (append-nil s.released))
 
-pub covers_emit : (looped : Bool) (ranges : List Range) (e : Expr) (label : ℕ) → Covers looped ranges (Do (Emit e label) End) ranges []
-unfolding run_block perform
-covers_emit looped ranges e label = record { count = refl; runs = λ ls schemes args around s held. record { vars = held; items = []; released = sym (append-nil s.released); can = silent_end } }
+  pub steps_emit : (e : Expr) (label : ℕ) → after ≡ before → Steps before (λ rest. Do (Emit e label) (block_of rest)) after []
+  unfolding perform
+  steps_emit e label same = silent (Emit e label) (λ ls schemes args around s held. subst (λ r. AreHeld r s.vars) (sym same) held) (λ rest told items. Silent refl) (λ ls schemes args around s. sym (append-nil s.released))
+
+  pub steps_release : (e : Expr) (this : Told) (r : Range) (told : List Told) → r ≡ this.range → told ≡ this ∷ [] → Gives before e this.range
+      → ((vars : Variables) (v : Option Value) → AreHeld before vars → Holds r v → AreHeld after (set_var this.into v vars)) → Steps before (λ rest. Do (Release e this.to this.into) (block_of rest)) after told
+  unfolding run_block perform
+  steps_release e this r told same is gives put = subst (Steps before (λ rest. Do (Release e this.to this.into) (block_of rest)) after) (sym is) (record {
+    rest_covers = λ rest end more h. record {
+      runs = λ ls schemes args around s held.
+          let v = value_in (environment args around s) e in
+          let value : Holds this.range v = gives (environment args around s) held in
+          goes_behind (CanRelease (block_of rest) more) (CanRelease (Do (Release e this.to this.into) (block_of rest)) (this ∷ more)) s.released _ refl (λ items. Released value)
+          (h.runs ls schemes args around _ (put s.vars v held (subst (λ (q : Range). Holds q v) (sym same) value)));
+    };
+  })
 
 -- ---- branches
 
-module _ (looped : Bool) (before here there after : List Range) (one other : Block) (a b : List Told) (guard : Expr) (h : Covers looped before one here a) (k : Covers looped before other there b) (w : Wider here after) (z : Wider there after) where
-  either_can : (x : List Item) → Either (releases one) (releases other) (CanRelease looped one) (CanRelease looped other) (a ++ b) x → CanRelease looped (If guard one other End) (a ++ b) x
-  either_can x e = then_end (Either (releases one) (releases other) (CanRelease looped one) (CanRelease looped other)) (a ++ b) x e
+module _ (guard : Expr) (one other rest : Block) (here there after end : List Range) (a b more : List Told) (w : Wider here after) (z : Wider there after) (run : Progress → Progress)
+    (h : (v : Progress) → AreHeld after v.vars → Goes end (CanRelease rest more) v.released (run v)) where
+  if_goes : (taken : Bool) (s t u : Progress) → Goes here (CanRelease one a) s.released t → Goes there (CanRelease other b) s.released u
+      → Goes end (CanRelease (If guard one other rest) ((a ++ b) ++ more)) s.released (run (cond taken t u))
+  if_goes true s t u p q = goes_behind (CanRelease rest more) _ s.released p.items p.released_is (λ items. One p.can q.can) (h t (λ x. w x (t.vars x) (p.vars x)))
+  if_goes false s t u p q = goes_behind (CanRelease rest more) _ s.released q.items q.released_is (λ items. Other p.can q.can) (h u (λ x. z x (u.vars x) (q.vars x)))
 
-  goes_if : (taken : Bool) (s t u : Progress) → Goes looped one here a s t → Goes looped other there b s u → Goes looped (If guard one other End) after (a ++ b) s (cond taken t u)
-  goes_if true s t u g f = record { vars = λ x. w x (t.vars x) (g.vars x); items = g.items; released = g.released; can = either_can g.items (record { a = a; b = b; told = refl; one_count = h.count; other_count = k.count; can = inl g.can }) }
-  goes_if false s t u g f = record { vars = λ x. z x (u.vars x) (f.vars x); items = f.items; released = f.released; can = either_can f.items (record { a = a; b = b; told = refl; one_count = h.count; other_count = k.count; can = inr f.can }) }
-
-  pub covers_if : Covers looped before (If guard one other End) after (a ++ b)
-  unfolding run_block
-  covers_if =
-      let n : releases one + releases other ≡ releases one + releases other + 0 = omega arith in record {
-        count = length-append a b ∙ (λ i. h.count i + k.count i) ∙ n;
-        runs = λ ls schemes args around s held. goes_if (holds_in (environment args around s) guard) s _ _ (h.runs ls schemes args around s held) (k.runs ls schemes args around s held);
-      }
+pub steps_if : (before here there after : List Range) (one other : Block) (a b told : List Told) → Covers before one here a → Covers before other there b → Wider here after → Wider there after
+    → told ≡ a ++ b → (guard : Expr) → Steps before (λ rest. If guard one other (block_of rest)) after told
+unfolding run_block
+steps_if before here there after one other a b told p q w z is guard = subst (Steps before (λ rest. If guard one other (block_of rest)) after) (sym is) (record {
+  rest_covers = λ rest end more h. record {
+    runs = λ ls schemes args around s held. if_goes guard one other (block_of rest) here there after end a b more w z (run_block ls schemes args (block_of rest) around) (h.runs ls schemes args around)
+        (holds_in (environment args around s) guard) s _ _ (p.runs ls schemes args around s held) (q.runs ls schemes args around s held);
+  };
+})
 
 -- ---- loops
 
-record GoesTurns (ranges : List Range) (body : Block) (told : List Told) (s t : Progress) : Type 0 where
-  vars : AreHeld ranges t.vars
-  turns : List (List Item)
-  each : AllByRecursion (CanRelease true body told) turns
-  released : t.released ≡ s.released ++ flat_map (λ turn. turn) turns
+module _ (ls : Labels) (schemes : Schemes) (args : List (Option Value)) (around : List Tuple) (name : List ℕ) (rel label : ℕ) (body rest : Block) (now end : List Range) (told more : List Told)
+    (b : Covers now body now told) (h : Covers now rest end more) where
+  for_goes : (rs : List Tuple) (s : Progress) → AreHeld now s.vars
+      → Goes end (CanRelease (For name rel label body rest) (told ++ more)) s.released (run_block ls schemes args rest around (for_each (λ row t. run_block ls schemes args body (row ∷ around) t) rs s))
+  for_goes [] s held = goes_weaker (CanRelease rest more) _ (λ items. Never (b.runs ls schemes args (no_tuple ∷ around) s held).can) (h.runs ls schemes args around s held)
+  for_goes (row ∷ rs) s held =
+      let p = b.runs ls schemes args (row ∷ around) s held in
+      goes_behind _ (CanRelease (For name rel label body rest) (told ++ more)) s.released p.items p.released_is (λ items. Again more p.can) (for_goes rs _ p.vars)
 
-module _ (ranges : List Range) (body : Block) (told : List Told) (h : Covers true ranges body ranges told) where
-  goes_turns : (ls : Labels) (schemes : Schemes) (args : List (Option Value)) (around : List Tuple) (rs : List Tuple) (s : Progress) → AreHeld ranges s.vars → GoesTurns ranges body told s (for_each (λ row t. run_block ls schemes args body (row ∷ around) t) rs s)
-  goes_turns ls schemes args around [] s held = record { vars = held; turns = []; each = tt; released = sym (append-nil s.released) }
-  goes_turns ls schemes args around (row ∷ rest) s held =
-      let p = h.runs ls schemes args (row ∷ around) s held in
-      let q = goes_turns ls schemes args around rest (run_block ls schemes args body (row ∷ around) s) p.vars in record {
-        vars = q.vars;
-        turns = p.items ∷ q.turns;
-        each = (p.can, q.each);
-        released = q.released ∙ ap (λ l. l ++ flat_map (λ turn. turn) q.turns) p.released ∙ append_assoc s.released p.items (flat_map (λ turn. turn) q.turns);
-      }
+pub steps_for : (before now : List Range) (body : Block) (told : List Told) → Keeps before body now told → (name : List ℕ) (rel label : ℕ) → Steps before (λ rest. For name rel label body (block_of rest)) now told
+unfolding run_block
+steps_for before now body told k name rel label = record {
+  rest_covers = λ rest end more h. record {
+    runs = λ ls schemes args around s held. for_goes ls schemes args around name rel label body (block_of rest) now end told more k.covers h (rows ls label (s.db rel)) s (λ x. k.wider x (s.vars x) (held x));
+  };
+}
 
-  pub covers_for : (looped : Bool) (name : List ℕ) (rel label : ℕ) → Covers looped ranges (For name rel label body End) ranges told
-  unfolding run_block
-  covers_for looped name rel label =
-      let n : releases body ≡ releases body + 0 = omega arith in record {
-        count = h.count ∙ n;
-        runs = λ ls schemes args around s held.
-            let g = goes_turns ls schemes args around (rows ls label (s.db rel)) s held in record {
-              vars = g.vars;
-              items = flat_map (λ turn. turn) g.turns;
-              released = g.released;
-              can = then_end (Turns (CanRelease true body)) told _ (record { turns = g.turns; items = refl; each = g.each });
-            };
-      }
+-- what a turn leaves is held before it
+pub keeps : (before now end : List Range) (body : Block) (told : List Told) → Wider before now → Wider end now → Covers now body end told → Keeps before body now told
+keeps before now end body told w z h = record {
+  wider = w;
+  covers = record {
+    runs = λ ls schemes args around s held. let g = h.runs ls schemes args around s held in let t = run_block ls schemes args body around s in
+        let more : Goes now (CanRelease body told) s.released t = record { vars = λ x. z x (t.vars x) (g.vars x); items = g.items; released_is = g.released_is; can = g.can } in more;
+  };
+}
+
+-- ---- the statements of a block, as far as a walk has come
+
+pub record Walking (items : List Stmt) (i : ℕ) (before now : List Range) (told : List Told) : Type 0 where
+  pub covers : (end : List Range) (more : List Told) → Covers now (block_of (drop i items)) end more → Covers before (block_of items) end (told ++ more)
+
+pub walking_none : (items : List Stmt) (before now : List Range) (told : List Told) → now ≡ before → told ≡ [] → Walking items 0 before now told
+walking_none items before now told same none = subst (λ n. Walking items 0 before n told) (sym same) (subst (Walking items 0 before before) (sym none) (record { covers = λ end more h. h }))
+
+pub walking_more : (items : List Stmt) (i : ℕ) (s : Stmt) → i < length items → s ≡ get_or items i s → (before now next : List Range) (told more new : List Told) → new ≡ told ++ more
+    → Walking items i before now told → Steps now (λ rest. block_of (s ∷ rest)) next more → Walking items (i + 1) before next new
+walking_more items i s within is before now next told more new e p q =
+    let one : suc i ≡ i + 1 = omega arith in
+    let here : drop i items ≡ s ∷ drop (i + 1) items = drop-cons items i s within ∙ (λ k. sym is k ∷ drop (one k) items) in
+    let walking : Walking items (i + 1) before next (told ++ more) = record {
+      covers = λ end rest h. subst (Covers before (block_of items) end) (sym (append_assoc told more rest))
+          (p.covers end (more ++ rest) (subst (λ (ss : List Stmt). Covers now (block_of ss) end (more ++ rest)) (sym here) (q.rest_covers (drop (i + 1) items) end rest h)));
+    } in
+    subst (Walking items (i + 1) before next) (sym e) walking
+
+pub walking_all : (items : List Stmt) (i : ℕ) → length items ≤ i → (block : Block) → block_of items ≡ block → (before now : List Range) (told : List Told) → Walking items i before now told → Covers before block now told
+walking_all items i end block is before now told p =
+    let none = subst (λ (ss : List Stmt). Covers now (block_of ss) now []) (sym (drop_of_length-le items end)) (covers_end now) in
+    subst (λ (b : Block). Covers before b now told) is (subst (Covers before (block_of items) now) (append-nil told) (p.covers now [] none))
+
+-- ---- a whole transaction
+
+pub are_told : (tx : Tx) (before after : List Range) (told : List Told) → AreHeld before (λ x. None) → Covers before tx.body after told → AreTold tx told
+are_told tx before after told held h ls schemes args db =
+    let g = h.runs ls schemes args [] (start db) held in
+    subst (CanRelease tx.body told) (sym g.released_is) g.can

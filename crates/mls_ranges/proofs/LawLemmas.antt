@@ -1,8 +1,7 @@
 -- More worlds than lists: two have one list, and look alike.
 use Rattle.std.proofs.Common.{◌≡◌, ℕ, zero, suc, ◌+◌, ◌<◌, true, false, cond, List, [], ◌∷◌, length, get_or, Option, refl, sym, ap, ◌∙◌, subst, arith, inl, inr}
 use Rattle.std.specs.Prelude.{◌⊎◌, nat_eq}
-use Rattle.std.proofs.lemmas.Bool.{eqb-true, eqb-false}
-use Rattle.std.proofs.lemmas.Bool.Decides.{eqb_tells}
+use Rattle.std.proofs.lemmas.Bool.Decides.{eqb_tells, nat_tests}
 use Rattle.std.proofs.lemmas.List.{get_or_default}
 use Rattle.mls_lattice.specs.Policy.{labels_of}
 use Rattle.mls_meaning.specs.Meaning.{Item}
@@ -29,22 +28,11 @@ moved m v a = cond (nat_eq a m) v a
 
 moved_below : (m v a : ℕ) → a < suc m → v < suc m → (a ≡ v → ⊥) → moved m v a < m
 unfolding moved
-moved_below m v a h k apart =
-    elim (nat_eq a m) as (λ b. nat_eq a m ≡ b → cond b v a < m) [
-      | true ↦ λ e. let is = eqb-true a m e in let other : v ≡ m → ⊥ = λ x. apart (is ∙ sym x) in omega (arith, other)
-      | false ↦ λ e. let other = eqb-false a m e in omega (arith, other)
-    ] refl
+moved_below m v a h k apart = grind (arith, nat_tests)
 
 moved_same : (m v a b : ℕ) → (a ≡ v → ⊥) → (b ≡ v → ⊥) → moved m v a ≡ moved m v b → a ≡ b
 unfolding moved
-moved_same m v a b h k =
-    elim (nat_eq a m) as (λ x. nat_eq a m ≡ x → cond x v a ≡ cond (nat_eq b m) v b → a ≡ b) [
-      | true ↦ λ e. elim (nat_eq b m) as (λ y. nat_eq b m ≡ y → v ≡ cond y v b → a ≡ b) [
-        | true ↦ λ f same. eqb-true a m e ∙ sym (eqb-true b m f)
-        | false ↦ λ f same. absurd (k (sym same))
-      ] refl
-      | false ↦ λ e. elim (nat_eq b m) as (λ y. nat_eq b m ≡ y → a ≡ cond y v b → a ≡ b) [ true ↦ λ f same. absurd (h same) | false ↦ λ f same. same ] refl
-    ] refl
+moved_same m v a b h k same = grind (arith, nat_tests)
 
 pigeon : (n many : ℕ) (f : ℕ → ℕ) → ((i : ℕ) → i < many → f i < n) → n < many → (i : ℕ) × (j : ℕ) × (i < j) × (j < many) × (f i ≡ f j)
 pigeon n zero f below h = absurd (omega (arith, h))
@@ -71,7 +59,7 @@ few policy tx secure told is schemes read c lists all worlds many more stored al
     let ls = labels_of policy in
     let released = λ (i : ℕ). (run_of policy schemes tx c (worlds i)).released in
     let seen = λ (i : ℕ). seen_items ls c (released i) in
-    let place = λ (i : ℕ). all (released i) (is.runs ls schemes (worlds i).args (worlds i).db) in
+    let place = λ (i : ℕ). all (released i) (is ls schemes (worlds i).args (worlds i).db) in
     let two = pigeon (length lists) many (λ i. (place i).0) (λ i l. (place i).1) more in
     let i = two.0 in
     let j = two.1 in

@@ -1,25 +1,21 @@
 -- What ranges hold.
-use Rattle.std.proofs.Common.{◌≡◌, ℕ, zero, suc, ◌+◌, [], ◌∷◌, ◌++◌, length-append, ◌<◌, Bool, true, false, cond, ℤ, pos, negsuc, ◌≤ℤ◌, List, length, Option, None, Some, refl, sym, ap, ◌∙◌, subst, arith, w64, FitsSigned, ◌≤◌, inl, inr}
-use Rattle.std.specs.Prelude.{slice_index_or, slice_set, nat_lt}
+use Rattle.std.proofs.Common.{◌≡◌, ℕ, zero, suc, ◌+◌, Bool, true, false, cond, ℤ, ◌≤ℤ◌, List, [], ◌∷◌, ◌++◌, length, Option, None, Some, refl, sym, ap, ◌∙◌, subst, arith, w64, FitsSigned}
+use Rattle.std.specs.Prelude.{slice_index_or, ◌&&◌}
+use Rattle.std.specs.Bool.{beq, Decides}
+use Rattle.std.specs.Option.{option_eq}
+use Rattle.std.specs.Cmp.{booleans_Decides}
+use Rattle.std.proofs.lemmas.Bool.Decides.{Decides-and}
 use Rattle.std.proofs.lemmas.Int.{ints}
-use Rattle.std.proofs.lemmas.Bool.{ltb-true, ltb-false}
-use Rattle.std.proofs.lemmas.Bool.Decides.{eqb_tells}
-use Rattle.std.proofs.Math.ListN.{get_or-eq_default, get_or-append}
-use Rattle.std.proofs.Math.Seq.{get_or-append_seam}
-use Rattle.std.proofs.lemmas.List.{get_or-set_other, get_or-set_same}
 use Rattle.mls_scheme.specs.declared.value.Value.{Value}
 use Rattle.mls_scheme.specs.declared.value.Value.TheVariants.{Int, Text}
 use Rattle.mls_scheme.specs.Value.{is_signed}
 use Rattle.mls_scheme.proofs.KindLemmas.{signed-from}
-use Rattle.mls_translang.specs.Tree.{Expr, Known, Null, Var, No, Op}
+use Rattle.mls_translang.specs.Tree.{Expr, Known, Null, Var, Op}
 use Rattle.mls_translang.specs.declared.operator.Operator.{Operator}
 use Rattle.mls_meaning.specs.Expressions.{Datum, value_of, calculate, apply, eval}
 use Rattle.mls_ranges.specs.declared.bounds.Bounds.{Bounds}
-use Rattle.mls_ranges.specs.declared.values.Values.{Values}
-use Rattle.mls_ranges.specs.declared.values.Values.TheVariants.{Between}
 use Rattle.mls_ranges.specs.declared.range.Range.{Range}
-use Rattle.mls_ranges.specs.Ranges.{Within, IsWithin, HoldsValue, Holds, Includes, any_value}
-use Rattle.mls_ranges.specs.Covers.{Gives, Wider, Puts}
+use Rattle.mls_ranges.specs.Ranges.{Within, IsBetween, Holds, Includes, any_value, Wider, Gives}
 
 -- ---- arithmetic
 
@@ -27,13 +23,19 @@ fits_between : (low n high : ℤ) → FitsSigned w64 low → FitsSigned w64 high
 fits_between low n high f g h k = omega (arith, ints)
 
 module _ (f : ℤ → ℤ → ℤ) (r q : Range) (left right b : Bounds) (null : Bool) (low : FitsSigned w64 b.low) (high : FitsSigned w64 b.high)
-    (in_left : (v : Value) → HoldsValue r.values v → IsWithin left v) (in_right : (v : Value) → HoldsValue q.values v → IsWithin right v)
-    (inside : (m n : ℤ) → Within left m → Within right n → Within b (f m n)) (null_left : r.null ≡ true → null ≡ true) (null_right : q.null ≡ true → null ≡ true) where
+    (is_left : r.bounds ≡ Some left) (is_right : q.bounds ≡ Some right) (inside : (m n : ℤ) → Within left m → Within right n → Within b (f m n))
+    (null_left : r.null ≡ true → null ≡ true) (null_right : q.null ≡ true → null ≡ true) where
   abbrev given : Range
-  given = record { null = null; values = Between b }
+  given = record { null = null; listed = None; bounds = Some b }
 
   within_holds : (n : ℤ) → Within b n → Holds given (cond (is_signed n) (Some (Int n)) None)
-  within_holds n h = subst (λ t. Holds given (cond t (Some (Int n)) None)) (sym (signed-from n (fits_between b.low n b.high low high h.0 h.1))) h
+  within_holds n h = subst (λ t. Holds given (cond t (Some (Int n)) None)) (sym (signed-from n (fits_between b.low n b.high low high h.0 h.1))) (tt, h)
+
+  in_left : (v : Value) → Holds r (Some v) → IsBetween (Some left) v
+  in_left v h = subst (λ o. IsBetween o v) is_left h.1
+
+  in_right : (v : Value) → Holds q (Some v) → IsBetween (Some right) v
+  in_right v h = subst (λ o. IsBetween o v) is_right h.1
 
   pub calculated_holds : (x y : Option Value) → Holds r x → Holds q y → Holds given (calculate f x y)
   calculated_holds None y h k = null_left h
@@ -44,85 +46,49 @@ module _ (f : ℤ → ℤ → ℤ) (r q : Range) (left right b : Bounds) (null :
 
 -- ---- expressions
 
-module _ (ranges : List Range) where
-  pub gives_known : (v : Value) (r : Range) → Holds r (Some v) → Gives ranges (Known v) r
+module _ (ranges : List Range) (e : Expr) (r : Range) where
+  pub gives_known : (v : Value) → Known v ≡ e → Holds r (Some v) → Gives ranges e r
   unfolding eval
-  gives_known v r h env held = h
+  gives_known v is h = subst (λ x. Gives ranges x r) is (λ env held. h)
 
-  pub gives_null : (r : Range) → Holds r None → Gives ranges Null r
+  pub gives_null : Null ≡ e → Holds r None → Gives ranges e r
   unfolding eval
-  gives_null r h env held = h
+  gives_null is h = subst (λ x. Gives ranges x r) is (λ env held. h)
 
-  pub gives_not : (e : Expr) (r : Range) → Holds r None → Gives ranges (No e) r
+  pub gives_var : (x : ℕ) → Var x ≡ e → r ≡ slice_index_or ranges x any_value → Gives ranges e r
   unfolding eval
-  gives_not e r h env held = h
+  gives_var x is h = subst (λ y. Gives ranges y r) is (λ env held. subst (λ (q : Range). Holds q (env.vars x)) (sym h) (held x))
 
-  pub gives_var : (x : ℕ) (r : Range) → r ≡ slice_index_or ranges x any_value → Gives ranges (Var x) r
+  pub gives_op : (op : Operator) (left right : Expr) (a b : Range) → Op op left right ≡ e → Gives ranges left a → Gives ranges right b
+      → ((x y : Datum) → Holds a (value_of x) → Holds b (value_of y) → Holds r (value_of (apply op x y))) → Gives ranges e r
   unfolding eval
-  gives_var x r is env held = subst (λ (q : Range). Holds q (env.vars x)) (sym is) (held x)
+  gives_op op left right a b is f g h = subst (λ x. Gives ranges x r) is (λ env held. h (eval env left) (eval env right) (f env held) (g env held))
 
-  pub gives_op : (op : Operator) (left right : Expr) (a b r : Range) → Gives ranges left a → Gives ranges right b
-      → ((x y : Datum) → Holds a (value_of x) → Holds b (value_of y) → Holds r (value_of (apply op x y))) → Gives ranges (Op op left right) r
-  unfolding eval
-  gives_op op left right a b r f g h env held = h (eval env left) (eval env right) (f env held) (g env held)
+-- ---- one more range
 
--- ---- one range changed
+pub wider_push : (f : ℕ → Range) (rs : List Range) (r : Range) → ((x : ℕ) → Includes (slice_index_or rs x any_value) (f x)) → Includes r (f (length rs))
+    → (x : ℕ) → Includes (slice_index_or (rs ++ r ∷ []) x any_value) (f x)
+wider_push f [] r h k zero = k
+wider_push f [] r h k (suc x) = h (suc x)
+wider_push f (q ∷ rs) r h k zero = h 0
+wider_push f (q ∷ rs) r h k (suc x) = wider_push (λ y. f (suc y)) rs r (λ y. h (suc y)) k x
 
-any_holds : (v : Option Value) → Holds any_value v
-any_holds None = refl
-any_holds (Some v) = tt
+pub wider_next : (rs old new : List Range) (r this : Range) (i : ℕ) → length old ≡ i → new ≡ old ++ r ∷ [] → this ≡ slice_index_or rs i any_value → Includes r this → Wider rs old → Wider rs new
+wider_next rs old new r this i count is at h k =
+    let here : slice_index_or rs (length old) any_value ≡ this = ap (λ n. slice_index_or rs n any_value) count ∙ sym at in
+    subst (Wider rs) (sym is) (wider_push (λ x. slice_index_or rs x any_value) old r k (λ v e. h v (subst (λ (q : Range). Holds q v) here e)))
 
-pub puts_set : (before : List Range) (x : ℕ) (r : Range) → x < length before → Puts before x r (slice_set before x r)
-puts_set before x r within = record {
-  there = λ v h. subst (λ (q : Range). Holds q v) (sym (get_or-set_same before x r any_value within)) h;
-  others = λ y apart v h. subst (λ (q : Range). Holds q v) (sym (get_or-set_other before x y r any_value apart)) h;
-}
+-- ---- equal ranges
 
-pub puts_past : (before : List Range) (x : ℕ) (r : Range) → length before ≤ x → Puts before x r before
-puts_past before x r past = record {
-  there = λ v h. subst (λ (q : Range). Holds q v) (sym (get_or-eq_default before any_value past)) (any_holds v);
-  others = λ y apart v h. h;
-}
+option_decides : {A : Type 0} (E : A → A → Bool) → ((a b : A) → Decides (E a b) (a ≡ b)) → (x y : Option A) → Decides (option_eq E x y) (x ≡ y)
+option_decides E d None None = (λ t. refl, λ e. refl)
+option_decides E d None (Some y) = (λ t. cc, λ e. cc)
+option_decides E d (Some x) None = (λ t. cc, λ e. cc)
+option_decides E d (Some x) (Some y) = (λ t. ap Some ((d x y).0 t), λ e. (d x y).1 (cc))
 
--- ---- all ranges
-
-pub null_push : (rs : List Range) (r : Range) → ((x : ℕ) → (slice_index_or rs x any_value).null ≡ true) → r.null ≡ true → (x : ℕ) → (slice_index_or (rs ++ r ∷ []) x any_value).null ≡ true
-null_push [] r h k zero = k
-null_push [] r h k (suc x) = refl
-null_push (q ∷ rs) r h k zero = h 0
-null_push (q ∷ rs) r h k (suc x) = null_push rs r (λ y. h (suc y)) k x
-
--- each of the first ranges holds what those at the same place do
-pub record Joining (rs qs joined : List Range) (i : ℕ) : Type 0 where
-  pub count : length joined ≡ i
-  pub these : (x : ℕ) → x < i → Includes (slice_index_or joined x any_value) (slice_index_or rs x any_value)
-  pub those : (x : ℕ) → x < i → Includes (slice_index_or joined x any_value) (slice_index_or qs x any_value)
-
-pub joining_none : (rs qs : List Range) → Joining rs qs [] 0
-joining_none rs qs = record { count = refl; these = λ x l. absurd (omega (arith, l)); those = λ x l. absurd (omega (arith, l)) }
-
-module _ (joined : List Range) (i : ℕ) (r : Range) (count : length joined ≡ i) where
-  pushed : (ps : List Range) → ((x : ℕ) → x < i → Includes (slice_index_or joined x any_value) (slice_index_or ps x any_value)) → Includes r (slice_index_or ps i any_value)
-      → (x : ℕ) → x < i + 1 → Includes (slice_index_or (joined ++ r ∷ []) x any_value) (slice_index_or ps x any_value)
-  pushed ps h k x l = elim (eqb_tells x i) [
-    | inl w ↦
-        let here : slice_index_or (joined ++ r ∷ []) x any_value ≡ r = ap (λ y. slice_index_or (joined ++ r ∷ []) y any_value) (w.1 ∙ sym count) ∙ get_or-append_seam joined r [] any_value in
-        λ v e. subst (λ (q : Range). Holds q v) (sym here) (k v (subst (λ y. Holds (slice_index_or ps y any_value) v) w.1 e))
-    | inr w ↦
-        let before : x < i = omega (arith, l, w.1) in
-        let there : slice_index_or (joined ++ r ∷ []) x any_value ≡ slice_index_or joined x any_value = get_or-append joined (r ∷ []) any_value x (subst (λ n. x < n) (sym count) before) in
-        λ v e. subst (λ (q : Range). Holds q v) (sym there) (h x before v e)
-  ]
-
-pub joining_more : (rs qs joined new : List Range) (i : ℕ) (r : Range) → new ≡ joined ++ r ∷ [] → Includes r (slice_index_or rs i any_value) → Includes r (slice_index_or qs i any_value) → Joining rs qs joined i → Joining rs qs new (i + 1)
-joining_more rs qs joined new i r e h k j =
-    let n : length joined + 1 ≡ i + 1 = ap (λ m. m + 1) j.count in
-    let more : Joining rs qs (joined ++ r ∷ []) (i + 1) = record { count = length-append joined (r ∷ []) ∙ n; these = pushed joined i r j.count rs j.these h; those = pushed joined i r j.count qs j.those k } in
-    subst (λ (l : List Range). Joining rs qs l (i + 1)) (sym e) more
-
-pub joined_wider : (joined ps : List Range) (i : ℕ) → length joined ≡ i → ((x : ℕ) → x < i → Includes (slice_index_or joined x any_value) (slice_index_or ps x any_value)) → Wider ps joined
-joined_wider joined ps i count h x v e =
-    elim (nat_lt x i) as (λ b. nat_lt x i ≡ b → Holds (slice_index_or joined x any_value) v) [
-      | true ↦ λ t. h x (ltb-true x i t) v e
-      | false ↦ λ t. subst (λ (q : Range). Holds q v) (sym (get_or-eq_default joined any_value (subst (λ n. n ≤ x) (sym count) (ltb-false x i t)))) (any_holds v)
-    ] refl
+pub range_decides : (V : List Value → List Value → Bool) → ((a b : List Value) → Decides (V a b) (a ≡ b)) → (B : Bounds → Bounds → Bool) → ((a b : Bounds) → Decides (B a b) (a ≡ b))
+    → (r q : Range) → Decides (beq r.null q.null && (option_eq V r.listed q.listed && option_eq B r.bounds q.bounds)) (r ≡ q)
+range_decides V v B b r q =
+    let inner = Decides-and (option_eq V r.listed q.listed) (option_eq B r.bounds q.bounds) (option_decides V v r.listed q.listed) (option_decides B b r.bounds q.bounds) in
+    let all = Decides-and (beq r.null q.null) (option_eq V r.listed q.listed && option_eq B r.bounds q.bounds) (booleans_Decides r.null q.null) inner in
+    (λ t i. record { null = (all.0 t).0 i; listed = (all.0 t).1.0 i; bounds = (all.0 t).1.1 i }, λ e. all.1 (ap (λ (x : Range). x.null) e, (ap (λ (x : Range). x.listed) e, ap (λ (x : Range). x.bounds) e)))

@@ -36,7 +36,7 @@ module _ (policy : Tables) (schemes : Schemes) (tx : Tx) (c : ℕ) where
   -- each list of items that can be released, as c sees it, is among these
   abbrev pub HasAll : List Told → List (List Item) → Type 0
   HasAll told lists =
-      (items : List Item) → CanRelease false tx.body told items → Contains lists (seen_items (labels_of policy) c items)
+      (items : List Item) → CanRelease tx.body told items → Contains lists (seen_items (labels_of policy) c items)
 
 -- by one call c can tell apart at most as many classes of worlds as there are lists of items of the ranges that are told
 abbrev pub CallsTellFew : Type 0

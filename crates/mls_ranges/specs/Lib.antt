@@ -1,4 +1,3 @@
 pub mod Ranges
 pub mod Releases
-pub mod Covers
 pub mod Laws

@@ -2,18 +2,15 @@
 #![tactic(auto)]
 
 mod bounds;
-mod counting;
 mod laws;
 mod range;
 mod ranges;
 mod telling;
 mod told;
-mod values;
 mod walking;
 
 pub use bounds::Bounds;
 pub use laws::calls_tell_few;
 pub use range::Range;
 pub use telling::{whole, words};
-pub use told::{Told, ranges_of};
-pub use values::Values;
+pub use told::{Releases, Told, ranges_of};

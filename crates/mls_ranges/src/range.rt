@@ -1,20 +1,66 @@
 //! What values something can have.
-ghost use Rattle.std.specs.Prelude.{◌≡◌, IsTrue, IfOk, Option as SpecOption, Some};
+ghost use Rattle.std.specs.Prelude.{◌≡◌, IfOk, OnOk, Option as SpecOption, Some};
+ghost use Rattle.std.specs.List.{Contains};
 ghost use Rattle.mls_scheme.specs.declared.value.Value.{Value as SpecValue};
 ghost use Rattle.mls_meaning.specs.Expressions.{Datum, value_of, apply, calculate};
-ghost use Rattle.mls_ranges.specs.Ranges.{Holds, Includes, any_value, arithmetic};
+ghost use Rattle.mls_ranges.specs.Ranges.{IsAmong, IsBetween, Holds, Includes, any_value, arithmetic};
 
-use crate::values::Values;
+use crate::bounds::Bounds;
 use mls_lattice::Items;
-use mls_scheme::Value;
+use mls_scheme::{Value, copy_key};
 use mls_translang::Operator;
 use std::alloc::{AllocError, Global};
 
-/// A set of values, with null or without.
-#[derive(Clone, Drop)]
+/// How many values are listed at most.
+const MOST: usize = 16;
+
+/// A set of values: of those that are listed, if they are, and of the integers between bounds, if there are bounds.
+#[derive(Clone, PartialEq, Drop)]
 pub struct Range {
+    /// Whether null is one of them.
     pub null: bool,
-    pub values: Values,
+    pub listed: Option<Items<Value>>,
+    pub bounds: Option<Bounds>,
+}
+
+/// Adds a value, unless it is there.
+fn add(all: &mut Vec<Value>, value: &Value) -> Result<(), AllocError>
+    ensures kept { OnOk result ((v : SpecValue) → Contains all.old.items v → Contains all.new.items v) }
+    ensures added { OnOk result (Contains all.new.items value.now) }
+{
+    for other in all.iter() {
+        if other.same(value) {
+            return Ok(());
+        }
+    }
+    all.push(value.copy()?)?;
+    Ok(())
+}
+
+/// These and others, where they are few enough to be listed.
+fn union(values: &Items<Value>, others: &[Value]) -> Result<Option<Items<Value>>, AllocError>
+    ensures these { IfOk result (λ all. (v : SpecValue) → Contains values.now v → IsAmong all v) }
+    ensures those { IfOk result (λ all. (v : SpecValue) → Contains others.now v → IsAmong all v) }
+{
+    let mut all = copy_key(values)?.into_vec();
+    for value in others {
+        add(&mut all, value)?;
+    }
+    if all.len() > MOST {
+        return Ok(None);
+    }
+    Ok(Some(Items::from(all)))
+}
+
+/// The integers from the least to the greatest of these and others.
+fn hull(these: Option<Bounds>, those: Option<Bounds>) -> Option<Bounds>
+    ensures these { (v : SpecValue) → IsBetween these v → IsBetween result v }
+    ensures those { (v : SpecValue) → IsBetween those v → IsBetween result v }
+{
+    let (these, those) = (these?, those?);
+    let low = these.low.min(those.low);
+    let high = these.high.max(those.high);
+    Some(Bounds { low, high })
 }
 
 impl Range {
@@ -24,7 +70,8 @@ impl Range {
     {
         Range {
             null: true,
-            values: Values::Any,
+            listed: None,
+            bounds: None,
         }
     }
 
@@ -32,9 +79,14 @@ impl Range {
     pub(crate) fn null(alloc: Global) -> Range
         ensures { Holds result None }
     {
+        let bounds = Bounds {
+            low: i64::MAX,
+            high: i64::MIN,
+        };
         Range {
             null: true,
-            values: Values::Among(Items::from(Vec::new(alloc))),
+            listed: Some(Items::from(Vec::new(alloc))),
+            bounds: Some(bounds),
         }
     }
 
@@ -43,9 +95,17 @@ impl Range {
         ensures { IfOk result (λ r. Holds r (Some value.now)) }
     {
         let values = vec![in alloc; value.copy()?]?;
+        let bounds = match value {
+            Value::Int(number) => Some(Bounds {
+                low: *number,
+                high: *number,
+            }),
+            Value::Text(_) => None,
+        };
         Ok(Range {
             null: false,
-            values: Values::Among(Items::from(values)),
+            listed: Some(Items::from(values)),
+            bounds,
         })
     }
 
@@ -56,67 +116,62 @@ impl Range {
         self.clone()
     }
 
-    /// Whether it holds all that another does.
-    pub(crate) fn includes(&self, other: &Range) -> bool
-        ensures { IsTrue result → Includes self.now other.now }
-    {
-        (self.null || !other.null) && self.values.include(&other.values)
-    }
-
-    /// What either holds, and perhaps more.
-    pub(crate) fn join(&self, other: &Range) -> Result<Range, AllocError>
+    /// What either holds, and perhaps more: any value where it widens and is not listed.
+    pub(crate) fn join(&self, other: &Range, widens: bool) -> Result<Range, AllocError>
         ensures these { IfOk result (λ r. Includes r self.now) }
         ensures those { IfOk result (λ r. Includes r other.now) }
     {
-        let values = self.values.join(&other.values)?;
+        let listed = match (&self.listed, &other.listed) {
+            (Some(these), Some(those)) => union(these, those)?,
+            _ => None,
+        };
+        if widens && listed.is_none() {
+            return Ok(Range::any());
+        }
         Ok(Range {
             null: self.null || other.null,
-            values,
+            listed,
+            bounds: hull(self.bounds, other.bounds),
         })
-    }
-
-    /// What holds what another does too: any value where it widens and did not hold that.
-    pub(crate) fn grown(&self, other: &Range, widens: bool) -> Result<Range, AllocError>
-        ensures these { IfOk result (λ r. Includes r self.now) }
-        ensures those { IfOk result (λ r. Includes r other.now) }
-    {
-        if !widens {
-            return self.join(other);
-        }
-        if self.includes(other) {
-            self.copy()
-        } else {
-            Ok(Range::any())
-        }
     }
 
     /// What arithmetic gives: any value where a result may lie out of bounds, since that is null.
     fn calculated(&self, operator: Operator, other: &Range) -> Range
-        ensures { (a b : SpecOption SpecValue) → Holds self.now a → Holds other.now b
-            → Holds result (calculate (arithmetic operator) a b) }
+        ensures { (x y : SpecOption SpecValue) → Holds self.now x → Holds other.now y
+            → Holds result (calculate (arithmetic operator) x y) }
     {
-        let (Some(left), Some(right)) = (self.values.bounds(), other.values.bounds()) else {
+        let (Some(left), Some(right)) = (self.bounds, other.bounds) else {
             return Range::any();
         };
         match left.apply(operator, right) {
             Some(bounds) => Range {
                 null: self.null || other.null,
-                values: Values::Between(bounds),
+                listed: None,
+                bounds: Some(bounds),
             },
             None => Range::any(),
         }
     }
 
-    /// What an operator gives: a truth value is no value.
-    pub(crate) fn apply(&self, alloc: Global, operator: Operator, other: &Range) -> Range
-        ensures { (a b : Datum) → Holds self.now (value_of a) → Holds other.now (value_of b)
-            → Holds result (value_of (apply operator a b)) }
+    /// What an operator gives.
+    pub(crate) fn apply(&self, operator: Operator, other: &Range) -> Range
+        ensures { (x y : Datum) → Holds self.now (value_of x) → Holds other.now (value_of y)
+            → Holds result (value_of (apply operator x y)) }
     {
         match operator {
             Operator::Plus => self.calculated(Operator::Plus, other),
             Operator::Minus => self.calculated(Operator::Minus, other),
-            Operator::Times => self.calculated(Operator::Times, other),
-            _ => Range::null(alloc),
+            _ => Range::any(),
         }
+    }
+
+    /// How many values it holds, as far as they can be counted.
+    pub(crate) fn count(&self) -> u64 {
+        let values = match (&self.listed, self.bounds) {
+            (Some(values), _) => values.len() as u64,
+            (None, Some(bounds)) => bounds.count(),
+            (None, None) => u64::MAX,
+        };
+        values.saturating_add(u64::from(self.null))
     }
 }

@@ -4,13 +4,10 @@ ghost use Rattle.mls_ranges.specs.Releases.{AreTold};
 
 use crate::range::Range;
 use crate::ranges::Ranges;
-use crate::walking::{Notes, Walk};
+use crate::walking::Walk;
 use mls_lattice::{Items, LabelNo};
 use mls_translang::Tx;
 use std::alloc::{AllocError, Global};
-
-/// How many passes over loops are made for a transaction at most.
-const PASSES: usize = 10_000;
 
 /// What is told of a release.
 #[derive(Drop)]
@@ -25,16 +22,22 @@ pub struct Told {
     pub looped: bool,
 }
 
-/// What is told of each release of a transaction, in the order of its text.
-pub fn ranges_of(alloc: Global, tx: &Tx) -> Result<Items<Told>, AllocError>
-    ensures { IfOk result (AreTold tx.now) }
+/// What is told of each release of a transaction, in the order of its text, and how many lists of values they can have together, as far
+/// as these can be counted.
+#[derive(Drop)]
+pub struct Releases {
+    pub told: Items<Told>,
+    pub lists: u64,
+}
+
+/// What is told of the releases of a transaction.
+pub fn ranges_of(alloc: Global, tx: &Tx) -> Result<Releases, AllocError>
+    ensures { IfOk result (λ r. AreTold tx.now r.told) }
 {
     let ranges = Ranges::nulls(alloc, tx.vars().len())?;
-    let told = Vec::new(alloc);
-    let passes = PASSES;
-    let mut notes = Notes { told, passes };
-    let looped = false;
-    ranges.after(Walk { alloc, looped }, tx.body(), &mut notes)?;
-    let Notes { told, .. } = notes;
-    Ok(Items::from(told))
+    let walked = Walk::new(alloc).block(&ranges, tx.body())?;
+    Ok(Releases {
+        told: Items::from(walked.told),
+        lists: walked.lists,
+    })
 }

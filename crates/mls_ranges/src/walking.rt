@@ -1,122 +1,172 @@
 //! How ranges change from statement to statement.
-ghost use Rattle.std.specs.Prelude.{◌≡◌, ◌∷◌, [], true, IfOk, OnOk};
+ghost use Rattle.std.specs.Prelude.{◌≡◌, ◌∷◌, ◌++◌, [], IfOk};
 ghost use Rattle.mls_translang.specs.Blocks.{block_of};
-ghost use Rattle.mls_ranges.specs.Covers.{PutsExpr, PutsOutcome, Steps};
+ghost use Rattle.mls_ranges.specs.Ranges.{Wider};
+ghost use Rattle.mls_ranges.specs.Releases.{Covers, Keeps, Steps};
 
-use crate::ranges::{Ranges, outcomes};
+use crate::ranges::Ranges;
 use crate::told::Told;
-use mls_translang::{Block, Expr, Stmt};
+use mls_translang::{Block, Stmt};
 use std::alloc::{AllocError, Global};
 
-/// How many passes go over one loop at most.
-const PASSES: usize = 100;
+/// How many turns of a loop are tried at most. A loop inside has a fourth of them.
+const TURNS: usize = 64;
 
-/// From which pass on what still grows becomes any value.
-const WIDENS: usize = 24;
-
-/// What a walk tells, and how many passes over loops are left, which bounds its time.
-#[derive(Drop)]
-pub(crate) struct Notes {
-    pub told: Vec<Told>,
-    pub passes: usize,
-}
-
-/// Whether a walk is in a loop.
+/// Where a walk is.
 #[derive(Clone, Copy)]
 pub(crate) struct Walk {
-    pub alloc: Global,
-    pub looped: bool,
+    alloc: Global,
+    looped: bool,
+    turns: usize,
+}
+
+/// The ranges after statements, what is told of their releases, and how many lists of values these can have, as far as they can be
+/// counted.
+#[derive(Drop)]
+pub(crate) struct Walked {
+    pub ranges: Ranges,
+    pub told: Vec<Told>,
+    pub lists: u64,
+}
+
+impl Walked {
+    /// After one of two blocks.
+    fn either(alloc: Global, one: Walked, other: Walked) -> Result<Walked, AllocError>
+        ensures one { IfOk result (λ w. Wider one.ranges.vars.items w.ranges.vars.items) }
+        ensures other { IfOk result (λ w. Wider other.ranges.vars.items w.ranges.vars.items) }
+        ensures told { IfOk result (λ w. w.told.items ≡ one.told.items ++ other.told.items) }
+    {
+        let ranges = one.ranges.joined(alloc, &other.ranges, false)?;
+        let mut told = one.told;
+        let mut more = other.told;
+        told.append(&mut more)?;
+        let lists = if told.is_empty() {
+            1
+        } else {
+            one.lists.saturating_add(other.lists)
+        };
+        Ok(Walked {
+            ranges,
+            told,
+            lists,
+        })
+    }
 }
 
 impl Walk {
-    /// The same, in a loop.
-    fn inside(self) -> Walk
-        ensures { result.looped ≡ true }
-    {
+    /// At the first statement of a transaction.
+    pub(crate) fn new(alloc: Global) -> Walk {
+        Walk {
+            alloc,
+            looped: false,
+            turns: TURNS,
+        }
+    }
+
+    /// At the first statement of a loop.
+    fn inside(self) -> Walk {
         Walk {
             alloc: self.alloc,
             looped: true,
+            turns: self.turns / 4,
         }
     }
-}
 
-impl Ranges {
-    /// A variable gets the value of an expression.
-    fn walk_expr(&mut self, walk: Walk, variable: u8, value: &Expr) -> Result<(), AllocError>
-        ensures { OnOk result (PutsExpr self.old.vars.items variable value.now self.new.vars.items) }
+    /// After a statement that releases nothing.
+    fn silent(self, ranges: Ranges) -> Walked
+        ensures ranges { result.ranges.vars.items ≡ ranges.vars.items }
+        ensures told { result.told.items ≡ [] }
     {
-        let range = self.range_of(walk.alloc, value)?;
-        self.put(variable, range);
-        Ok(())
-    }
-
-    /// A variable gets the outcome of a write.
-    fn walk_outcome(&mut self, outcome: Option<u8>) -> Result<(), AllocError>
-        ensures { OnOk result (PutsOutcome self.old.vars.items outcome self.new.vars.items) }
-    {
-        if let Some(variable) = outcome {
-            self.put(variable, outcomes());
+        Walked {
+            ranges,
+            told: Vec::new(self.alloc),
+            lists: 1,
         }
-        Ok(())
     }
 
-    /// Goes over a statement: over a loop until the ranges hold what its body leaves, or else are any.
+    /// A statement.
     #[cycle(walk)]
-    fn walk_stmt(&mut self, walk: Walk, stmt: &Stmt, notes: &mut Notes) -> Result<(), AllocError>
-        ensures { OnOk result (Steps walk.looped (block_of (stmt.now ∷ [])) self.old.vars.items notes.old.told.items
-            notes.new.told.items self.new.vars.items) }
+    fn stmt(self, before: &Ranges, stmt: &Stmt) -> Result<Walked, AllocError>
+        ensures { IfOk result (λ w. Steps before.now.vars.items (λ rest. block_of (stmt.now ∷ rest))
+            w.ranges.vars.items w.told.items) }
     {
+        let alloc = self.alloc;
         match stmt {
-            Stmt::Assign { variable, value } => self.walk_expr(walk, *variable, value),
+            Stmt::Assign { variable, value } => {
+                let range = before.range_of(alloc, value)?;
+                Ok(self.silent(before.put(*variable, range)?))
+            }
             Stmt::If { one, other, .. } => {
-                let first = self.after(walk, one, notes)?;
-                let second = self.after(walk, other, notes)?;
-                let joined = first.joined(walk.alloc, &second, false)?;
-                *self = joined;
-                Ok(())
+                let one = self.block(before, one)?;
+                let other = self.block(before, other)?;
+                Ok(Walked::either(alloc, one, other)?)
             }
             Stmt::For { body, .. } => {
-                let start = notes.told.len();
-                for number in 0..notes.passes.min(PASSES) {
-                    notes.passes = notes.passes.saturating_sub(1);
-                    let end = self.after(walk.inside(), body, notes)?;
-                    if self.include(&end) {
-                        return Ok(());
-                    }
-                    notes.told.truncate(start);
-                    let grown = self.joined(walk.alloc, &end, number >= WIDENS)?;
-                    *self = grown;
-                }
-                self.forget();
-                self.after(walk.inside(), body, notes)?;
-                Ok(())
+                let Walked { ranges, told, .. } = self.turns(before, body)?;
+                let lists = if told.is_empty() { 1 } else { u64::MAX };
+                Ok(Walked {
+                    ranges,
+                    told,
+                    lists,
+                })
             }
-            Stmt::Insert { outcome, .. } => self.walk_outcome(*outcome),
-            Stmt::Update { outcome, .. } => self.walk_outcome(*outcome),
-            Stmt::Delete { outcome, .. } => self.walk_outcome(*outcome),
+            Stmt::Insert { outcome, .. } => Ok(self.silent(before.put_outcome(*outcome)?)),
+            Stmt::Update { outcome, .. } => Ok(self.silent(before.put_outcome(*outcome)?)),
+            Stmt::Delete { outcome, .. } => Ok(self.silent(before.put_outcome(*outcome)?)),
             Stmt::Release { value, to, into } => {
-                self.tell(walk, value, *to, *into, &mut notes.told)?;
-                self.walk_expr(walk, *into, value)
+                let range = before.range_of(alloc, value)?;
+                let ranges = before.put(*into, range.copy()?)?;
+                let lists = range.count();
+                let told = vec![in alloc;
+                    Told {
+                        to: *to,
+                        into: *into,
+                        range,
+                        looped: self.looped
+                    },
+                ]?;
+                Ok(Walked {
+                    ranges,
+                    told,
+                    lists,
+                })
             }
-            Stmt::Emit { .. } => Ok(()),
+            Stmt::Emit { .. } => Ok(self.silent(before.copy()?)),
         }
     }
 
-    /// The ranges after a block.
+    /// The statements of a block.
     #[cycle(walk)]
-    pub(crate) fn after(
-        &self,
-        walk: Walk,
-        block: &Block,
-        notes: &mut Notes,
-    ) -> Result<Ranges, AllocError>
-        ensures { IfOk result (λ r. Steps walk.looped block.now self.now.vars.items notes.old.told.items
-            notes.new.told.items r.vars.items) }
+    pub(crate) fn block(self, before: &Ranges, block: &Block) -> Result<Walked, AllocError>
+        ensures { IfOk result (λ w. Covers before.now.vars.items block.now w.ranges.vars.items w.told.items) }
     {
-        let mut ranges = self.copy()?;
+        let mut walked = self.silent(before.copy()?);
         for stmt in &block.stmts {
-            ranges.walk_stmt(walk, stmt, notes)?;
+            let mut next = self.stmt(&walked.ranges, stmt)?;
+            walked.told.append(&mut next.told)?;
+            walked.ranges = next.ranges;
+            walked.lists = walked.lists.saturating_mul(next.lists);
         }
-        Ok(ranges)
+        Ok(walked)
+    }
+
+    /// Any number of turns of a loop: until the ranges hold what its body leaves, or else are any.
+    #[cycle(walk)]
+    fn turns(self, before: &Ranges, body: &Block) -> Result<Walked, AllocError>
+        ensures { IfOk result (λ w. Keeps before.now.vars.items body.now w.ranges.vars.items w.told.items) }
+    {
+        let mut ranges = before.copy()?;
+        for turn in 0..self.turns {
+            let walked = self.inside().block(&ranges, body)?;
+            let grown = ranges.joined(self.alloc, &walked.ranges, turn >= self.turns / 2)?;
+            if ranges.same(&grown) {
+                return Ok(Walked { ranges, ..walked });
+            }
+            ranges = grown;
+        }
+        let vars = Vec::new(self.alloc);
+        let ranges = Ranges { vars };
+        let walked = self.inside().block(&ranges, body)?;
+        Ok(Walked { ranges, ..walked })
     }
 }

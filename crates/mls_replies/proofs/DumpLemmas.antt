@@ -16,7 +16,7 @@ use Rattle.mls_queries.proofs.PlaceLemmas.{all_filter}
 use Rattle.mls_script.specs.declared.event.Command.TheVariants.{Insert, Update}
 use Rattle.mls_script.specs.Writing.{HasKnownNumbers, IsKnown}
 use Rattle.mls_machine.specs.Site.{Site, site_labels, site_scheme}
-use Rattle.mls_machine.specs.Dumping.{own_sets, class_below, made_by, made_again}
+use Rattle.mls_machine.specs.Dumping.{own_sets, class_below, dump_command, dump_event}
 
 -- ---- names
 
@@ -49,7 +49,7 @@ sets_known m n k (e ∷ es) =
     ] refl
 
 module _ (site : Site) (rel : ℕ) (t : Tuple) (within : rel < length site.schemes) (classes : HasClassesBelow (length site.policy.labels) t) where
-  command_known : (m : ℕ) → HasKnownNumbers site.policy site.schemes (made_by site rel m t)
+  command_known : (m : ℕ) → HasKnownNumbers site.policy site.schemes (dump_command site rel m t)
   command_known m =
       let ls = site_labels site in
       let count = length site.policy.labels in
@@ -66,5 +66,5 @@ module _ (site : Site) (rel : ℕ) (t : Tuple) (within : rel < length site.schem
   unfolding class_number
   level_known = greatest_known (site_labels site) (length site.policy.labels) t.key_class t.elements classes.key_class classes.elements
 
-  pub made_known : (session : Name) → IsKnown site.policy site.schemes (made_again site session rel t)
+  pub made_known : (session : Name) → IsKnown site.policy site.schemes (dump_event site session rel t)
   made_known session = record { level = level_known; command = command_known (class_number (site_labels site) t) }

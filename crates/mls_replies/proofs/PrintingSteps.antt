@@ -29,8 +29,9 @@ use Rattle.mls_machine.specs.declared.reply.Reply.{Reply}
 use Rattle.mls_machine.specs.declared.reply.Reply.TheVariants.{Opened, Closed, Rows, Dumped, Wrote, Ran, Entries, Denied}
 use Rattle.mls_machine.specs.declared.stored.Stored.{Stored}
 use Rattle.mls_machine.specs.Site.{Site, site_scheme}
-use Rattle.mls_machine.specs.Dumping.{made_again}
-use Rattle.mls_machine.specs.Output.{Line, name_of, cell_text, front, line, item_line, heading, count_text, row_text, entry_text, view_texts, dump_heading, made_text, dump_texts, call_texts, reply_texts, reply_lines, reply_lines_in, lines_with, escaped_line, table_texts, texts_in_table, printed}
+use Rattle.mls_machine.specs.Dumping.{dump_event}
+use Rattle.mls_script.specs.Writing.{cell_text}
+use Rattle.mls_machine.specs.Output.{Line, name_of, front, line, item_line, heading, count_text, row_text, entry_text, view_texts, dump_heading, script_text, dump_texts, call_texts, reply_texts, reply_lines, reply_lines_in, lines_with, escaped_line, table_texts, texts_in_table, printed}
 use Rattle.mls_replies.specs.Under.{site_under}
 use Rattle.mls_replies.proofs.DumpLemmas.{printable_name}
 
@@ -158,14 +159,14 @@ module _ (site : Site) (e : Event) where
 
   -- after a heading
   dump_lines : (rel : ℕ) (tuples : List Tuple) → e.command ≡ commands.Dump rel
-      → on_line (dump_heading (site_scheme site rel)) ++ flat_map (λ t. on_line (made_text site (made_again site e.session rel t))) tuples
+      → on_line (dump_heading (site_scheme site rel)) ++ flat_map (λ t. on_line (script_text site (dump_event site e.session rel t))) tuples
       ≡ flat_map on_line (dump_texts site e.session e.command tuples)
   dump_lines rel tuples is =
-      ap (λ l. on_line (dump_heading (site_scheme site rel)) ++ l) (sym (flat_map-map on_line (λ t. made_text site (made_again site e.session rel t)) tuples))
+      ap (λ l. on_line (dump_heading (site_scheme site rel)) ++ l) (sym (flat_map-map on_line (λ t. script_text site (dump_event site e.session rel t)) tuples))
       ∙ sym (ap (λ x. flat_map on_line (dump_texts site e.session x tuples)) is)
 
   pub dump_more : (rel : ℕ) (tuples : List Tuple) → e.command ≡ commands.Dump rel → (old new : List ℕ) → {A F : Type 0} (r : Result A F)
-      → OnOk r (new ≡ old ++ (on_line (dump_heading (site_scheme site rel)) ++ flat_map (λ t. on_line (made_text site (made_again site e.session rel t))) tuples))
+      → OnOk r (new ≡ old ++ (on_line (dump_heading (site_scheme site rel)) ++ flat_map (λ t. on_line (script_text site (dump_event site e.session rel t))) tuples))
       → OnOk r (new ≡ old ++ flat_map on_line (dump_texts site e.session e.command tuples))
   dump_more rel tuples is old new (Ok x) h = h ∙ ap (λ l. old ++ l) (dump_lines rel tuples is)
   dump_more rel tuples is old new (Err f) h = h

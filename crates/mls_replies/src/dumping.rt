@@ -4,11 +4,11 @@ ghost use Rattle.std.specs.List.{flat_map, AllByRecursion};
 ghost use Rattle.mls_scheme.specs.Scheme.{scheme_of};
 ghost use Rattle.mls_scheme.specs.Tuple.{HasClassesBelow};
 ghost use Rattle.mls_script.specs.Writing.{IsKnown};
-ghost use Rattle.mls_machine.specs.Dumping.{made_again};
-ghost use Rattle.mls_machine.specs.Output.{front, dump_heading, made_text, dump_texts, CommandIsKnown};
+ghost use Rattle.mls_machine.specs.Dumping.{dump_event};
+ghost use Rattle.mls_machine.specs.Output.{front, dump_heading, script_text, dump_texts, CommandIsKnown};
 ghost use Rattle.mls_replies.specs.Under.{site_under};
 
-use crate::made::made_again;
+use crate::dumped::dump_event;
 use crate::printing::push_front;
 use mls_lattice::Policy;
 use mls_scheme::{RelNo, Scheme, Schemes, Tuple};
@@ -43,7 +43,7 @@ fn push_heading_line(
 }
 
 /// Appends the line of a script that an event is, or says that no script can hold it.
-fn push_made(
+fn push_event_line(
     alloc: Global,
     text: &mut Vec<u8>,
     policy: &Policy,
@@ -52,7 +52,7 @@ fn push_made(
 ) -> Result<(), AllocError>
     requires { IsKnown policy.now schemes.now made.now }
     ensures { OnOk result (text.new.items ≡ text.old.items
-        ++ made_text (site_under policy.now schemes.now) made.now) }
+        ++ script_text (site_under policy.now schemes.now) made.now) }
 {
     if is_writable(made) {
         push_str(text, "line ")?;
@@ -74,11 +74,11 @@ fn push_tuple(
 ) -> Result<(), AllocError>
     requires classes { HasClassesBelow (length policy.now.labels) tuple.now }
     requires rel { rel < length schemes.now }
-    ensures { OnOk result (text.new.items ≡ text.old.items ++ made_text (site_under policy.now schemes.now)
-        (made_again (site_under policy.now schemes.now) session.now rel tuple.now)) }
+    ensures { OnOk result (text.new.items ≡ text.old.items ++ script_text (site_under policy.now schemes.now)
+        (dump_event (site_under policy.now schemes.now) session.now rel tuple.now)) }
 {
-    let made = made_again(alloc, policy, schemes, session, rel, tuple)?;
-    push_made(alloc, text, policy, schemes, &made)
+    let made = dump_event(alloc, policy, schemes, session, rel, tuple)?;
+    push_event_line(alloc, text, policy, schemes, &made)
 }
 
 /// Appends a line for each tuple.
@@ -96,8 +96,8 @@ fn push_tuple_lines(
     requires classes { AllByRecursion (HasClassesBelow (length policy.now.labels)) tuples.now }
     ensures { OnOk result (text.new.items ≡ text.old.items
         ++ flat_map (λ t. front policy.now event.now event.now.level
-        ++ made_text (site_under policy.now schemes.now)
-        (made_again (site_under policy.now schemes.now) event.now.session rel t)
+        ++ script_text (site_under policy.now schemes.now)
+        (dump_event (site_under policy.now schemes.now) event.now.session rel t)
         ++ codes "\n") tuples.now) }
 {
     for tuple in tuples {
@@ -124,8 +124,8 @@ fn push_dump(
     ensures { OnOk result (text.new.items ≡ text.old.items
         ++ ((front policy.now event.now event.now.level ++ dump_heading (scheme_of schemes.now rel) ++ codes "\n")
         ++ flat_map (λ t. front policy.now event.now event.now.level
-        ++ made_text (site_under policy.now schemes.now)
-        (made_again (site_under policy.now schemes.now) event.now.session rel t)
+        ++ script_text (site_under policy.now schemes.now)
+        (dump_event (site_under policy.now schemes.now) event.now.session rel t)
         ++ codes "\n") tuples.now)) }
 {
     push_heading_line(text, policy, schemes, event, rel)?;

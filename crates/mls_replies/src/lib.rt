@@ -3,9 +3,9 @@
 #![tactic(auto)]
 
 mod asked;
+mod dumped;
 mod dumping;
 mod known;
-mod made;
 mod printing;
 mod printing_items;
 mod printing_rows;

@@ -2,13 +2,12 @@
 ghost use Rattle.std.specs.Prelude.{◌≡◌, ◌<◌, ◌++◌, length, codes, OnOk};
 ghost use Rattle.std.specs.Fmt.{decimal};
 ghost use Rattle.mls_audit.specs.Entry.{label_of};
-ghost use Rattle.mls_machine.specs.Output.{value_text, cell_text, front, entry_front, entry_text};
+ghost use Rattle.mls_machine.specs.Output.{front, entry_front, entry_text};
 
 use mls_audit::Entry;
 use mls_lattice::{LabelNo, Policy};
-use mls_scheme::Value;
-use mls_script::Event;
-use mls_tokens::{push_int, push_printable, push_quoted, push_str};
+use mls_script::{Event, push_cell};
+use mls_tokens::{push_printable, push_str};
 use std::alloc::{AllocError, Global};
 
 /// Appends what stands before the text of a line that a label may see.
@@ -28,29 +27,6 @@ pub(crate) fn push_front(
     push_str(text, "/")?;
     push_printable(text, &event.session)?;
     push_str(text, " ")
-}
-
-/// Appends a value.
-pub(crate) fn push_value(alloc: Global, text: &mut Vec<u8>, value: &Value) -> Result<(), AllocError>
-    ensures { OnOk result (text.new.items ≡ text.old.items ++ value_text value.now) }
-{
-    match value {
-        Value::Int(number) => push_int(alloc, text, *number),
-        Value::Text(inside) => push_quoted(text, inside),
-    }
-}
-
-pub(crate) fn push_cell(
-    alloc: Global,
-    text: &mut Vec<u8>,
-    value: &Option<Value>,
-) -> Result<(), AllocError>
-    ensures { OnOk result (text.new.items ≡ text.old.items ++ cell_text value.now) }
-{
-    match value {
-        None => push_str(text, "null"),
-        Some(value) => push_value(alloc, text, value),
-    }
 }
 
 /// Appends a number.

@@ -2,13 +2,14 @@
 ghost use Rattle.std.specs.Prelude.{◌≡◌, ◌<◌, ◌++◌, length, codes, OnOk, IfOk};
 ghost use Rattle.std.specs.List.{flat_map};
 ghost use Rattle.mls_tokens.specs.Writing.{printable};
-ghost use Rattle.mls_machine.specs.Output.{cell_text, front, call_texts, ItemsAreKnown};
+ghost use Rattle.mls_script.specs.Writing.{cell_text};
+ghost use Rattle.mls_machine.specs.Output.{front, call_texts, ItemsAreKnown};
 
-use crate::printing::{push_cell, push_front};
+use crate::printing::push_front;
 use mls_lattice::{LabelNo, Policy};
 use mls_meaning::Run;
 use mls_scheme::Value;
-use mls_script::{Command, Event};
+use mls_script::{Command, Event, push_cell};
 use mls_tokens::{push_printable, push_str};
 use std::alloc::{AllocError, Global};
 

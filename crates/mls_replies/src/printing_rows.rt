@@ -7,10 +7,10 @@ ghost use Rattle.mls_lattice.specs.Policy.{labels_of};
 ghost use Rattle.mls_scheme.specs.Tuple.{tuple_class, HasClassesBelow};
 ghost use Rattle.mls_machine.specs.Output.{cell_entry, name_of, row_text};
 
-use crate::printing::{push_cell, push_value};
 use mls_filterview::is_same_label;
 use mls_lattice::{Label, LabelNo, Policy};
 use mls_scheme::{Element, Tuple, Value, tuple_class};
+use mls_script::{push_cell, push_value};
 use mls_tokens::push_str;
 use std::alloc::{AllocError, Global};
 

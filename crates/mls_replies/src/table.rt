@@ -9,14 +9,14 @@ ghost use Rattle.mls_replies.specs.Under.{site_under};
 ghost use Rattle.mls_machine.specs.Output.{front, table_cell, tuple_cells, name_cells, widths_with, table_title, table_names, table_rule, table_row, table_widths, table_texts, CommandIsKnown};
 
 use crate::asked::{Asked, push_asked};
-use crate::printing::{push_cell, push_front, push_value};
+use crate::printing::push_front;
 use crate::printing_rows::name_of;
 use crate::replies::push_count_line;
 use mls_lattice::{Items, LabelNo, Policy};
 use mls_queries::Selection;
 use mls_scheme::{Attributes, Element, Scheme, Schemes, Tuple, Value, tuple_class};
 use mls_screen::{escape, push_row, push_rule, wider};
-use mls_script::{Command, Event};
+use mls_script::{Command, Event, push_cell, push_value};
 use mls_tokens::push_str;
 use std::alloc::{AllocError, Global};
 

@@ -1,4 +1,5 @@
 -- Desks over stores: where they begin, and how they end.
+use Rattle.mls_sessions.proofs.FrameLemmas.{carried}
 use Rattle.std.proofs.Common.{◌≡◌, ℕ, List, [], Option, Some, None, Result, refl, sym, subst, take}
 use Rattle.std.specs.Prelude.{IsErrAnd}
 use Rattle.std.specs.Borrow.{Bor}
@@ -28,7 +29,6 @@ use Rattle.mls_host.specs.Running.{site_of, first_world}
 use Rattle.mls_host.proofs.RunningLemmas.{end_weaker}
 use Rattle.mls_host.specs.Words.{named}
 use Rattle.mls_shells.specs.Shell.{events_in}
-use Rattle.mls_shells.proofs.TalkLemmas.{carried}
 use Rattle.mls_runs.specs.Desk.{IsService, IsDesk}
 use Rattle.mls_runs.specs.DeskRun.{IsDeskFrom, IsDeskRun}
 

@@ -1,5 +1,5 @@
 -- A desk: lines of many sessions, each answered for the level of its own before the next is read.
-use Rattle.std.specs.Prelude.{◌≡◌, ◌≢◌, ℕ, Bool, true, false, not, List, [], ◌∷◌, ◌++◌, length, take, Option, ◌⊎◌}
+use Rattle.std.specs.Prelude.{◌≡◌, ◌≢◌, ℕ, ◌≤◌, Bool, true, false, not, List, [], ◌∷◌, ◌++◌, length, take, Option, ◌⊎◌}
 use Rattle.std.specs.Prelude.{Result, Ok, Err, OnOk, IfErr}
 use Rattle.std.specs.List.{list_any}
 use Rattle.std.specs.Str.{bytes_eq}
@@ -30,7 +30,7 @@ use Rattle.mls_host.specs.Ending.{ending_if}
 use Rattle.mls_host.specs.Running.{first_world, standing, IsLeftBy}
 use Rattle.mls_shells.specs.declared.seat.Fate.{Fate}
 use Rattle.mls_shells.specs.declared.seat.Fate.TheVariants.{Over, Said, Refused}
-use Rattle.mls_shells.specs.Shell.{Turn, IsTurn, events_of, events_in, is_last, is_failed, is_lost}
+use Rattle.mls_shells.specs.Shell.{Turn, IsTurn, FateFits, events_of, events_in, is_last, is_failed, is_lost}
 use Rattle.mls_runs.specs.Marks.{mark_of}
 
 -- A desk may begin: what is stored was read and checked under the policy.
@@ -70,6 +70,11 @@ pub data IsFate (policy : Tables) (schemes : Schemes) (line : List ℕ) (fate : 
       → list_any opens_other events ≡ true → fate ≡ Refused (other_name line) → IsFate policy schemes line fate
   refused : (fault : ScriptFault) → line ≢ [] → script_at policy schemes line ≡ Err fault → fate ≡ Refused fault
       → IsFate policy schemes line fate
+
+-- one event at most, which fits
+pub record TellsOne (policy : Tables) (schemes : Schemes) (fate : Fate) : Type 0 where
+  pub fits : FateFits policy schemes fate
+  pub one : length (events_of fate) ≤ 1
 
 -- ---- lines, one after another
 

@@ -1,4 +1,6 @@
 -- Two runs over one store, one after the other.
+-- That the second begins with what the first left is no promise of a host, since others may change a store between: it
+-- is a premise.
 use Rattle.std.specs.Prelude.{◌≡◌, ℕ, Bool, List, [], ◌∷◌, Some, Result}
 use Rattle.mls_lattice.specs.Labels.{Labels}
 use Rattle.mls_lattice.specs.Policy.{labels_of}

@@ -1,12 +1,14 @@
 //! A desk: lines of many sessions, each answered before the next is read.
-ghost use Rattle.std.specs.Prelude.{◌≡◌, ◌<◌, ◌≤◌, false, length, IfErr, OnOk};
+//! Blank lines and comments tell no events: no case of their own. A mark that tells a fault is made before any of it is
+//! written. A read that fails is told as a refusal, since all that was answered stands; no mark is printed.
+ghost use Rattle.std.specs.Prelude.{◌≡◌, ◌≤◌, false, length, OnOk};
 ghost use Rattle.mls_machine.specs.Observation.{EventsFit};
-ghost use Rattle.mls_sessions.specs.Engine.{site, world_of, IsReady, IsKept};
+ghost use Rattle.mls_sessions.specs.Engine.{site, world_of, IsReady, Continues, Leaves};
 ghost use Rattle.mls_sessions.specs.World.{IsSound};
 ghost use Rattle.mls_host.specs.Hosting.{IsAppended};
 ghost use Rattle.mls_host.specs.Running.{site_of};
-ghost use Rattle.mls_shells.specs.Shell.{events_of, is_failed, is_lost, FateFits};
-ghost use Rattle.mls_runs.specs.Desk.{MayServe, IsDone, IsFollowed, IsService, IsDesk};
+ghost use Rattle.mls_shells.specs.Shell.{events_of, is_failed, is_lost};
+ghost use Rattle.mls_runs.specs.Desk.{MayServe, TellsOne, IsDone, IsFollowed, IsService, IsDesk};
 
 use crate::marks::write_mark;
 use crate::reading::next_fate;
@@ -31,11 +33,7 @@ fn answer<B: Base, W: Write>(
     requires ready { IsReady B.state B.is_clean engine.old }
     requires fits { EventsFit (site engine.old) events.now }
     requires one { length events.now ≤ 1 }
-    ensures clean { B.is_clean engine.new.base → B.is_clean engine.old.base }
-    ensures count { B.failures engine.old.base ≤ B.failures engine.new.base }
-    ensures kept { IsKept B.state B.is_clean engine.old engine.new }
-    ensures store { B.is_clean engine.new.base → IfErr result
-        (λ f. f.cause ≡ RunCause.Store → B.failures engine.old.base < B.failures engine.new.base) }
+    ensures continues { Continues B.state B.is_clean B.failures engine.old engine.new result }
     ensures done { B.is_clean engine.new.base → IsDone (site engine.old) (world_of B.state engine.old) events.now
         (W.contents out.old) (W.contents out.new) (world_of B.state engine.new) result }
 {
@@ -58,13 +56,8 @@ fn perform<B: Base, W: Write>(
     out: &mut W,
 ) -> Result<(), RunFault>
     requires ready { IsReady B.state B.is_clean engine.old }
-    requires fits { FateFits (site engine.old).policy (site engine.old).schemes fate.now }
-    requires one { length (events_of fate.now) ≤ 1 }
-    ensures clean { B.is_clean engine.new.base → B.is_clean engine.old.base }
-    ensures count { B.failures engine.old.base ≤ B.failures engine.new.base }
-    ensures kept { IsKept B.state B.is_clean engine.old engine.new }
-    ensures store { B.is_clean engine.new.base → IfErr result
-        (λ f. f.cause ≡ RunCause.Store → B.failures engine.old.base < B.failures engine.new.base) }
+    requires line { TellsOne (site engine.old).policy (site engine.old).schemes fate.now }
+    ensures continues { Continues B.state B.is_clean B.failures engine.old engine.new result }
     ensures done { B.is_clean engine.new.base → IsDone (site engine.old) (world_of B.state engine.old)
         (events_of fate.now) (W.contents out.old) (W.contents out.new) (world_of B.state engine.new) result }
     ensures found { OnOk result (is_lost fate.now ≡ false) }
@@ -88,13 +81,8 @@ fn follow<B: Base, W: Write>(
     out: &mut W,
 ) -> Result<(), RunFault>
     requires ready { IsReady B.state B.is_clean engine.old }
-    requires fits { FateFits (site engine.old).policy (site engine.old).schemes fate.now }
-    requires one { length (events_of fate.now) ≤ 1 }
-    ensures clean { B.is_clean engine.new.base → B.is_clean engine.old.base }
-    ensures count { B.failures engine.old.base ≤ B.failures engine.new.base }
-    ensures kept { IsKept B.state B.is_clean engine.old engine.new }
-    ensures store { B.is_clean engine.new.base → IfErr result
-        (λ f. f.cause ≡ RunCause.Store → B.failures engine.old.base < B.failures engine.new.base) }
+    requires line { TellsOne (site engine.old).policy (site engine.old).schemes fate.now }
+    ensures continues { Continues B.state B.is_clean B.failures engine.old engine.new result }
     ensures followed { B.is_clean engine.new.base → IsFollowed (site engine.old) (world_of B.state engine.old) fate.now
         (W.contents out.old) (W.contents out.new) (world_of B.state engine.new) result }
     ensures found { OnOk result (is_lost fate.now ≡ false) }
@@ -131,11 +119,7 @@ fn serve<B: Base, L: TypedLines, W: Write>(
     requires ready { IsReady B.state B.is_clean engine.old }
     requires policy { (site engine.old).policy ≡ policy.now }
     requires schemes { (site engine.old).schemes ≡ schemes.now }
-    ensures clean { B.is_clean engine.new.base → B.is_clean engine.old.base }
-    ensures count { B.failures engine.old.base ≤ B.failures engine.new.base }
-    ensures kept { IsKept B.state B.is_clean engine.old engine.new }
-    ensures store { B.is_clean engine.new.base → IfErr result
-        (λ f. f.cause ≡ RunCause.Store → B.failures engine.old.base < B.failures engine.new.base) }
+    ensures continues { Continues B.state B.is_clean B.failures engine.old engine.new result }
     ensures service { B.is_clean engine.new.base → IsService L.echo (site engine.old) (L.remaining lines.old)
         (L.remaining lines.new) (L.breaks lines.new) (IsAppended W.contents out.old out.new) result
         (world_of B.state engine.old) (world_of B.state engine.new) }
@@ -171,11 +155,7 @@ pub fn desk_on<B: Base, L: TypedLines, W: Write>(
     requires may { MayServe (site_of policy.now schemes.now stored) }
     requires idle { (B.state base).begun ≡ false }
     requires sound { B.is_clean base → IsSound (site_of policy.now schemes.now stored) (B.state base).now }
-    ensures clean { B.is_clean result.1 → B.is_clean base }
-    ensures idle { (B.state result.1).begun ≡ false }
-    ensures count { B.failures base ≤ B.failures result.1 }
-    ensures store { B.is_clean result.1 → IfErr result.0
-        (λ f. f.cause ≡ RunCause.Store → B.failures base < B.failures result.1) }
+    ensures leaves { Leaves B.state B.is_clean B.failures base result.1 result.0 }
     ensures desk { B.is_clean result.1 → IsDesk L.echo (site_of policy.now schemes.now stored) (L.remaining lines.old)
         (L.remaining lines.new) (L.breaks lines.new) (IsAppended W.contents out.old out.new) result.0
         (B.state base).now (B.state result.1).now }

@@ -98,6 +98,8 @@ fn run_over<D: Disk + Drop, W: Write>(
 
 /// Answers a history of runs over the store in files, which is opened and closed for each run, for an audience. A
 /// fault breaks the history off. The files come back as they are then.
+/// One policy and schemes serve all runs. Where a run stopped and its store was not closed either, the fault is
+/// `NotClosed`: of the files it is known only what they may recover to.
 pub fn run_history<D: Disk + Drop, W: Write>(
     alloc: Global,
     policy: &Policy,

@@ -1,4 +1,6 @@
 //! What becomes of a line of a desk.
+//! That a line opens a session under another name is asked after the reading of the line, so a fault of the line comes
+//! first. The column is that of the fourth token, which a line that tells an opening has.
 ghost use Rattle.std.specs.Prelude.{◌≡◌, IfOk};
 ghost use Rattle.std.specs.List.{AllByRecursion, list_any};
 ghost use Rattle.mls_script.specs.Event.{EventFits};

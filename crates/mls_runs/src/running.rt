@@ -1,6 +1,7 @@
 //! Scripts that are run over a database: over an empty one in memory, or over that of a store.
-ghost use Rattle.std.specs.Prelude.{◌≡◌, ◌<◌, ◌≤◌, [], false, Some, IfErr};
+ghost use Rattle.std.specs.Prelude.{◌≡◌, [], false, Some};
 ghost use Rattle.mls_filterview.specs.Content.{Content, no_content};
+ghost use Rattle.mls_sessions.specs.Engine.{Leaves};
 ghost use Rattle.mls_sessions.specs.World.{IsSound};
 ghost use Rattle.mls_host.specs.Hosting.{hosted, IsAppended};
 ghost use Rattle.mls_host.specs.Stopping.{IsCaused, IsCausedInMemory};
@@ -9,7 +10,6 @@ ghost use Rattle.mls_host.specs.Reading.{AreReady};
 ghost use Rattle.mls_host.specs.Words.{named};
 ghost use Rattle.mls_host.specs.Refusal.{IsEnd};
 ghost use Rattle.mls_host.specs.Running.{site_of, IsRun};
-ghost use Rattle.mls_sessions.specs.declared.cause.RunCause.TheVariants.{Store as StoreFailed};
 ghost use Rattle.mls_runs.specs.ScriptRun.{MayRun, IsRunFrom, IsScriptRun};
 
 use mls_filterview::Base;
@@ -38,11 +38,7 @@ pub fn run_on<B: Base, W: Write>(
     requires may { MayRun (site_of policy.now schemes.now stored) audience events.now }
     requires idle { (B.state base).begun ≡ false }
     requires sound { B.is_clean base → IsSound (site_of policy.now schemes.now stored) (B.state base).now }
-    ensures clean { B.is_clean result.1 → B.is_clean base }
-    ensures idle { (B.state result.1).begun ≡ false }
-    ensures count { B.failures base ≤ B.failures result.1 }
-    ensures store { B.is_clean result.1 → IfErr result.0
-        (λ f. f.cause ≡ StoreFailed → B.failures base < B.failures result.1) }
+    ensures leaves { Leaves B.state B.is_clean B.failures base result.1 result.0 }
     ensures run { B.is_clean result.1 → IsRun (site_of policy.now schemes.now stored) audience events.now
         (IsAppended W.contents out.old out.new) result.0 (B.state base).now (B.state result.1).now }
 {

@@ -35,7 +35,7 @@ use Rattle.mls_script.specs.Event.{Sets, SetsFit, HasSomeKind, CommandFits, Even
 use Rattle.mls_script.specs.Tokens.{relation_name, value_token, list_tokens, set_tokens, event_tokens}
 use Rattle.mls_script.specs.QueryTokens.{TellsTail}
 use Rattle.mls_script.specs.Script.{Line, IsLineOf, ReadsScript}
-use Rattle.mls_script.specs.Writing.{value_text, behind_comma, listed, list_text, set_text, keyed, command_text, line_text, lines_text, is_writable_value, are_writable, is_writable_command, is_writable}
+use Rattle.mls_script.specs.Writing.{cell_text, behind_comma, listed, list_text, set_text, keyed, command_text, line_text, lines_text, is_writable_value, are_writable, is_writable_command, is_writable}
 
 -- ---- texts in one line
 
@@ -164,7 +164,7 @@ plain_of : (s : List ℕ) → list_all (λ b. not (is_control b)) s ≡ true →
 plain_of [] h = tt
 plain_of (b ∷ bs) h = let p = and_parts (not (is_control b)) (list_all (λ b. not (is_control b)) bs) h in (not-true (is_control b) p.0, plain_of bs p.1)
 
-value_written : (v : Option Value) → HasSomeKind v → is_writable_value v ≡ true → IsWritten (value_token v ∷ []) (value_text v)
+value_written : (v : Option Value) → HasSomeKind v → is_writable_value v ≡ true → IsWritten (value_token v ∷ []) (cell_text v)
 value_written None kind h = word_written (codes "null") (word_spelled (codes "null") refl refl refl)
 value_written (Some (values.Int n)) kind h = int_written n (kind-spelled (values.Int n) kind.0 kind.1).0
 value_written (Some (values.Text s)) kind h =
@@ -195,9 +195,9 @@ Holds v = HasSomeKind v × (is_writable_value v ≡ true)
 list_written : (vs : List (Option Value)) → AllByRecursion Holds vs → IsWritten (list_tokens vs) (list_text vs)
 list_written vs h =
     let end = sign_written sign.RightParen [] [] (λ e. absurd (omega (arith, e)), tt) (λ b. refl) none_written in
-    let inside = listed_written (λ v. value_token v ∷ []) value_text Holds (λ v h. value_written v h.0 h.1) vs h in
-    sign_written sign.LeftParen (separated (λ v. value_token v ∷ []) vs ++ Sign_token sign.RightParen ∷ []) (listed value_text vs ++ codes ")") (λ e. absurd (omega (arith, e)), tt) (λ b. refl)
-    (both (separated (λ v. value_token v ∷ []) vs) (Sign_token sign.RightParen ∷ []) (listed value_text vs) (codes ")") inside end (λ rest q. (refl, refl)))
+    let inside = listed_written (λ v. value_token v ∷ []) cell_text Holds (λ v h. value_written v h.0 h.1) vs h in
+    sign_written sign.LeftParen (separated (λ v. value_token v ∷ []) vs ++ Sign_token sign.RightParen ∷ []) (listed cell_text vs ++ codes ")") (λ e. absurd (omega (arith, e)), tt) (λ b. refl)
+    (both (separated (λ v. value_token v ∷ []) vs) (Sign_token sign.RightParen ∷ []) (listed cell_text vs) (codes ")") inside end (λ rest q. (refl, refl)))
 
 arguments_hold : (vs : List (Option Value)) → AllByRecursion HasSomeKind vs → are_writable vs ≡ true → AllByRecursion Holds vs
 arguments_hold [] kinds h = tt
@@ -220,11 +220,11 @@ module _ (scheme : Scheme) (valid : IsScheme scheme) where
 
   set_written : (s : ℕ × Option Value) → SetHolds s → IsWritten (set_tokens scheme s) (set_text scheme s)
   set_written s h =
-      let value = spaced (value_token s.1 ∷ []) (value_text s.1) (value_written s.1 h.1.0 h.1.1) in
-      subst (IsWritten (set_tokens scheme s)) (sym (append_assoc (other_of scheme s.0).name (codes " = ") (value_text s.1)))
-      (next (Word (other_of scheme s.0).name ∷ []) (Sign_token sign.Equals ∷ value_token s.1 ∷ []) (other_of scheme s.0).name (61 ∷ 32 ∷ value_text s.1)
+      let value = spaced (value_token s.1 ∷ []) (cell_text s.1) (value_written s.1 h.1.0 h.1.1) in
+      subst (IsWritten (set_tokens scheme s)) (sym (append_assoc (other_of scheme s.0).name (codes " = ") (cell_text s.1)))
+      (next (Word (other_of scheme s.0).name ∷ []) (Sign_token sign.Equals ∷ value_token s.1 ∷ []) (other_of scheme s.0).name (61 ∷ 32 ∷ cell_text s.1)
       (name_written (other_of scheme s.0).name (other_is_name scheme valid s.0 h.0))
-      (sign_written sign.Equals (value_token s.1 ∷ []) (32 ∷ value_text s.1) (λ e. absurd (omega (arith, e)), tt) (λ b. refl) value))
+      (sign_written sign.Equals (value_token s.1 ∷ []) (32 ∷ cell_text s.1) (λ e. absurd (omega (arith, e)), tt) (λ b. refl) value))
 
   sets_hold : (sets : Sets) → AllByRecursion (λ s. s.0 < length scheme.others) sets → AllByRecursion (λ s. fits_kind s.1 (other_of scheme s.0).kind ≡ true) sets
       → list_all (λ s. is_writable_value s.1) sets ≡ true → AllByRecursion SetHolds sets

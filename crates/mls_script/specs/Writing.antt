@@ -18,10 +18,13 @@ use Rattle.mls_script.specs.Reading.{script_at}
 
 -- ---- values
 
-abbrev pub value_text : Option Value → List ℕ
-value_text None = codes "null"
-value_text (Some (values.Int n)) = signed_decimal n
-value_text (Some (values.Text s)) = quoted s
+abbrev pub value_text : Value → List ℕ
+value_text (values.Int n) = signed_decimal n
+value_text (values.Text s) = quoted s
+
+abbrev pub cell_text : Option Value → List ℕ
+cell_text None = codes "null"
+cell_text (Some v) = value_text v
 
 abbrev pub behind_comma : {X : Type 0} → (X → List ℕ) → X → List ℕ
 behind_comma text x = codes ", " ++ text x
@@ -32,11 +35,11 @@ listed text [] = []
 listed text (x ∷ xs) = text x ++ flat_map (behind_comma text) xs
 
 abbrev pub list_text : List (Option Value) → List ℕ
-list_text vs = codes "(" ++ listed value_text vs ++ codes ")"
+list_text vs = codes "(" ++ listed cell_text vs ++ codes ")"
 
 -- an attribute outside the key, and its new value
 abbrev pub set_text : Scheme → ℕ × Option Value → List ℕ
-set_text scheme s = (other_of scheme s.0).name ++ codes " = " ++ value_text s.1
+set_text scheme s = (other_of scheme s.0).name ++ codes " = " ++ cell_text s.1
 
 -- ---- lines
 

@@ -18,7 +18,7 @@ mod writing;
 pub use event::{Command, Event};
 pub use fault::{ScriptCause, ScriptFault};
 pub use reading::script;
-pub use writing::{is_writable, push_event};
+pub use writing::{is_writable, push_cell, push_event, push_value};
 
 /// A text tells the events of one list at most.
 pub fn scripts_are_read_once()

@@ -3,7 +3,7 @@ ghost use Rattle.std.specs.Prelude.{◌≡◌, ◌<◌, ◌++◌, length, not, O
 ghost use Rattle.std.specs.List.{flat_map, list_all, AllByRecursion};
 ghost use Rattle.mls_tokens.specs.Writing.{is_control};
 ghost use Rattle.mls_script.specs.Tokens.{relation_name};
-ghost use Rattle.mls_script.specs.Writing.{value_text, behind_comma, listed, list_text, set_text, keyed, command_text, line_text, HasKnownNumbers, IsKnown, is_writable_text, is_writable_value, are_writable, is_writable};
+ghost use Rattle.mls_script.specs.Writing.{value_text, cell_text, behind_comma, listed, list_text, set_text, keyed, command_text, line_text, HasKnownNumbers, IsKnown, is_writable_text, is_writable_value, are_writable, is_writable};
 
 use crate::event::{Command, Event};
 use mls_lattice::{LabelNo, Policy};
@@ -16,13 +16,23 @@ const MAX_TEXT: usize = 1024;
 
 // ---- values
 
-fn push_value(alloc: Global, text: &mut Vec<u8>, value: &Option<Value>) -> Result<(), AllocError>
+/// Appends a value, a text between quotes.
+pub fn push_value(alloc: Global, text: &mut Vec<u8>, value: &Value) -> Result<(), AllocError>
     ensures { OnOk result (text.new.items ≡ text.old.items ++ value_text value.now) }
 {
     match value {
+        Value::Int(number) => push_int(alloc, text, *number),
+        Value::Text(inside) => push_quoted(text, inside),
+    }
+}
+
+/// Appends a value, or `null`.
+pub fn push_cell(alloc: Global, text: &mut Vec<u8>, value: &Option<Value>) -> Result<(), AllocError>
+    ensures { OnOk result (text.new.items ≡ text.old.items ++ cell_text value.now) }
+{
+    match value {
         None => push_str(text, "null"),
-        Some(Value::Int(number)) => push_int(alloc, text, *number),
-        Some(Value::Text(inside)) => push_quoted(text, inside),
+        Some(value) => push_value(alloc, text, value),
     }
 }
 
@@ -32,11 +42,11 @@ fn push_more_values(
     text: &mut Vec<u8>,
     values: &[Option<Value>],
 ) -> Result<(), AllocError>
-    ensures { OnOk result (text.new.items ≡ text.old.items ++ flat_map (behind_comma value_text) values.now) }
+    ensures { OnOk result (text.new.items ≡ text.old.items ++ flat_map (behind_comma cell_text) values.now) }
 {
     for value in values {
         push_str(text, ", ")?;
-        push_value(alloc, text, value)?;
+        push_cell(alloc, text, value)?;
     }
     Ok(())
 }
@@ -46,12 +56,12 @@ fn push_values(
     text: &mut Vec<u8>,
     values: &[Option<Value>],
 ) -> Result<(), AllocError>
-    ensures { OnOk result (text.new.items ≡ text.old.items ++ listed value_text values.now) }
+    ensures { OnOk result (text.new.items ≡ text.old.items ++ listed cell_text values.now) }
 {
     match values {
         [] => Ok(()),
         [first, rest @ ..] => {
-            push_value(alloc, text, first)?;
+            push_cell(alloc, text, first)?;
             push_more_values(alloc, text, rest)
         }
     }
@@ -78,7 +88,7 @@ fn push_set(
 {
     push_str(text, scheme.others().name(set.0))?;
     push_str(text, " = ")?;
-    push_value(alloc, text, &set.1)
+    push_cell(alloc, text, &set.1)
 }
 
 /// Appends new values, a comma before each.

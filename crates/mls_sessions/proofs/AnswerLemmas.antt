@@ -20,8 +20,10 @@ use Rattle.mls_machine.specs.Observation.{AreStored, EventsFit, reply_shows, run
 use Rattle.mls_machine.proofs.LineLemmas.{nothing_heard, end_more, printed_more}
 use Rattle.mls_machine.proofs.ReplyLemmas.{step_known}
 use Rattle.mls_sessions.specs.declared.cause.RunCause.{RunCause}
+use Rattle.mls_sessions.specs.declared.cause.RunFault.{RunFault}
 use Rattle.mls_sessions.specs.declared.cause.RunCause.TheVariants.{Store, Memory, Write}
 use Rattle.mls_sessions.specs.declared.engine.Engine.{Engine}
+use Rattle.mls_sessions.specs.declared.notice.Notice.{Notice}
 use Rattle.mls_sessions.specs.Cause.{cause_of}
 use Rattle.mls_monitor.specs.Sessions.{site_of}
 use Rattle.mls_sessions.specs.Engine.{site, world_of, IsReady, IsStep, IsKept}
@@ -65,6 +67,23 @@ module _ {B : Type 0} (state : B → State) (old new : Engine B) (audience : Aud
 
 pub stored_at : {B : Type 0} (state : B → State) (is_clean : B → Type 0) (e : Engine B) → IsReady state is_clean e → is_clean e.base → AreStored (site e) (world_of state e).db
 stored_at state is_clean e ready c rel = ((ready.sound c).content rel).stored
+
+-- a notice is noted
+module _ {B : Type 0} (state : B → State) (is_clean : B → Type 0) where
+  ready_noted : (e : Engine B) (notice : Option Notice) → IsReady state is_clean e → IsReady state is_clean (record e { notice = notice })
+  ready_noted e notice ready = record {
+    under = ready.under;
+    distinct = ready.distinct;
+    read = ready.read;
+    certified = ready.certified;
+    users = ready.users;
+    idle = ready.idle;
+    sound = ready.sound;
+    views = ready.views;
+  }
+
+  pub noted : (old new : Engine B) (notice : Option Notice) → IsKept state is_clean old new → IsKept state is_clean old (record new { notice = notice })
+  noted old new notice kept = record { rules = kept.rules; ready = ready_noted new notice kept.ready }
 
 -- over a sound base the reply can be printed
 module _ {B : Type 0} (state : B → State) (is_clean : B → Type 0) (old new : Engine B) (event : Event) (r : Reply) where
@@ -133,19 +152,7 @@ module _ {B : Type 0} (state : B → State) (is_clean : B → Type 0) (failures 
   running_start ready = record {
     clean = λ c. c;
     count = omega arith;
-    kept = record {
-      rules = refl;
-      ready = record {
-        under = ready.under;
-        distinct = ready.distinct;
-        read = ready.read;
-        certified = ready.certified;
-        users = ready.users;
-        idle = ready.idle;
-        sound = ready.sound;
-        views = ready.views;
-      };
-    };
+    kept = record { rules = refl; ready = ready_noted state is_clean first None ready };
     noticed = λ c. refl;
     bytes = λ c. subst (Appends start start) (sym (nothing_heard (site_labels (site first)) audience.reader)) (Appends-nil start);
     world = λ c. refl;
@@ -208,9 +215,9 @@ module _ {B : Type 0} (state : B → State) (is_clean : B → Type 0) (failures 
         same : i ≡ i + 1 - 1
         same = omega arith
 
-    pub running_stopped : (cause : RunCause) (done : Bool) → (is_clean new.base → IsHalted (site now) audience (world_of state now) e held after (world_of state new) cause done) → is_clean new.base
+    stopped_at : (cause : RunCause) (done : Bool) → (is_clean new.base → IsHalted (site now) audience (world_of state now) e held after (world_of state new) cause done) → is_clean new.base
         → IsStopped (site first) audience w es start after (world_of state new) (record { event = i + 1; cause = cause; done = done })
-    running_stopped cause done halt c =
+    stopped_at cause done halt c =
         let h : IsHalted (site first) audience (at i) e held after (world_of state new) cause done =
         moved (λ p v. IsHalted p audience v e held after (world_of state new) cause done) (site now) (site first) (world_of state now) (at i) same_site (r.world (clean c)) (halt c) in
         record {
@@ -225,6 +232,12 @@ module _ {B : Type 0} (state : B → State) (is_clean : B → Type 0) (failures 
       where
         same : i ≡ i + 1 - 1
         same = omega arith
+
+    pub running_stopped : (f : RunFault) → f.event ≡ i + 1 → (is_clean new.base → IsHalted (site now) audience (world_of state now) e held after (world_of state new) f.cause f.done) → is_clean new.base
+        → IsStopped (site first) audience w es start after (world_of state new) f
+    running_stopped f number halt c =
+        subst (IsStopped (site first) audience w es start after (world_of state new)) (λ j. record { event = sym number j; cause = f.cause; done = f.done })
+        (stopped_at f.cause f.done halt c)
 
 fits_at : {X : Type 0} (P : X → Type 0) (xs : List X) (i : ℕ) (x : X) → AllByRecursion P xs → i < length xs → get_or xs i x ≡ x → P x
 fits_at P [] i x h l e = absurd (omega arith)

@@ -33,7 +33,7 @@ use Rattle.mls_monitor.specs.Sessions.{IsSessionStep}
 use Rattle.mls_sessions.specs.Turns.{IsTurn, IsStepOver}
 use Rattle.mls_views.specs.Views.{Kept, AreViews}
 use Rattle.mls_views.proofs.WrittenLemmas.{kept_same}
-use Rattle.mls_sessions.specs.Engine.{site, world_of, IsReady, IsStep, IsKept, IsEngineTurn}
+use Rattle.mls_sessions.specs.Engine.{site, world_of, IsReady, IsStep, IsKept, IsEngineTurn, Answers}
 
 -- ---- the machine's step
 
@@ -114,11 +114,8 @@ module _ {B : Type 0} (state : B → State) (is_clean : B → Type 0) (failures 
   abbrev now : B → Content
   now b = (state b).now
 
-  -- what an event leaves and answers
-  pub record Answers (new : Engine B) (r : Result Reply BaseFault) : Type 0 where
-    pub turn : IsEngineTurn state is_clean failures old new r
-    pub kept : IsKept state is_clean old new
-    pub done : is_clean new.base → IfOk r (IsStep state old s new)
+  abbrev Answered : Engine B → Result Reply BaseFault → Type 0
+  Answered = Answers state is_clean failures old event
 
   -- ---- over a base that a call left
 
@@ -161,7 +158,7 @@ module _ {B : Type 0} (state : B → State) (is_clean : B → Type 0) (failures 
     db_stays (Ok r) t h same c = ap (λ (x : World). x.db) (over_world r (h c)) ∙ ap (λ (x : Step). x.world.db) is ∙ same
     db_stays (Err e) t h same c = ap (λ (x : Content). x.db) (t.fault.same c)
 
-    pub answers_over : (r : Result Reply BaseFault) → IsTurn is_clean failures now old.base b r → (state b).begun ≡ false → (is_clean b → Over r) → Are views → Answers new r
+    pub answers_over : (r : Result Reply BaseFault) → IsTurn is_clean failures now old.base b r → (state b).begun ≡ false → (is_clean b → Over r) → Are views → Answered new r
     answers_over r t idle h are = record {
       turn = over_turn r t;
       kept = record {
@@ -180,7 +177,7 @@ module _ {B : Type 0} (state : B → State) (is_clean : B → Type 0) (failures 
       done = λ c. over_done r (h c);
     }
 
-    pub answers_stay : (r : Result Reply BaseFault) → IsTurn is_clean failures now old.base b r → (state b).begun ≡ false → (is_clean b → Over r) → (X w).world.db ≡ w.db → views ≡ old.views → Answers new r
+    pub answers_stay : (r : Result Reply BaseFault) → IsTurn is_clean failures now old.base b r → (state b).begun ≡ false → (is_clean b → Over r) → (X w).world.db ≡ w.db → views ≡ old.views → Answered new r
     answers_stay r t idle h same kept =
         answers_over r t idle h
         (subst Are (sym kept) (kept_same (site old).policy is_clean state old.base b old.views t.clean (db_stays r t h same) ready.views))
@@ -194,7 +191,7 @@ module _ {B : Type 0} (state : B → State) (is_clean : B → Type 0) (failures 
     them_kept : IsKept state is_clean old with_them
     them_kept = record { rules = refl; ready = record { under = ready.under; distinct = ready.distinct; read = ready.read; certified = ready.certified; users = users; idle = ready.idle; sound = ready.sound; views = ready.views } }
 
-    pub answers_closed : sessions_of sessions.items ≡ with_session (sessions_of old.sessions.items) event.level event.session None → s ≡ closed w event → Answers with_them (Ok Closed)
+    pub answers_closed : sessions_of sessions.items ≡ with_session (sessions_of old.sessions.items) event.level event.session None → s ≡ closed w event → Answered with_them (Ok Closed)
     answers_closed h is = record {
       turn = record { clean = λ c. c; count = omega arith; fault = tt };
       kept = them_kept;
@@ -226,5 +223,5 @@ module _ {B : Type 0} (state : B → State) (is_clean : B → Type 0) (failures 
     }
     opened_done (Err e) is h = tt
 
-    pub answers_opened : (r : Result Reply BaseFault) → s ≡ step_outside (site old) w event event.command → Opens r → IfErr r (λ e. e ≡ faults.Memory) → OnErr r (sessions.items ≡ old.sessions.items) → Answers with_them r
+    pub answers_opened : (r : Result Reply BaseFault) → s ≡ step_outside (site old) w event event.command → Opens r → IfErr r (λ e. e ≡ faults.Memory) → OnErr r (sessions.items ≡ old.sessions.items) → Answered with_them r
     answers_opened r is h memory same = record { turn = opened_turn r memory same; kept = them_kept; done = λ c. opened_done r is h }

@@ -9,3 +9,4 @@ pub mod NamingLemmas
 pub mod AnswerLemmas
 pub mod StartLemmas
 pub mod TurningLemmas
+pub mod FrameLemmas

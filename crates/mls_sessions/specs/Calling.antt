@@ -1,22 +1,38 @@
 -- What calls do: they run a transaction, and leave entries.
-use Rattle.std.specs.Prelude.{◌≡◌, IfOk, List, ◌++◌, length, map, Option, Result}
+use Rattle.std.specs.Prelude.{◌≡◌, ℕ, ◌<◌, true, IfOk, OnOk, List, ◌++◌, length, map, Option, Result}
+use Rattle.std.specs.List.{AllByRecursion}
+use Rattle.mls_lattice.specs.Name.{is_name}
 use Rattle.mls_lattice.specs.Policy.{Tables, labels_of}
 use Rattle.mls_scheme.specs.declared.value.Value.{Value}
 use Rattle.mls_scheme.specs.Scheme.{Schemes}
 use Rattle.mls_filterview.specs.declared.base.BaseFault.{BaseFault}
 use Rattle.mls_filterview.specs.Content.{State}
 use Rattle.mls_audit.specs.declared.entry.Entry.{Entry}
-use Rattle.mls_audit.specs.Spelling.{entry_spelling}
+use Rattle.mls_audit.specs.Spelling.{HasSpelling, entry_spelling}
 use Rattle.mls_translang.specs.Tx.{Tx}
 use Rattle.mls_translang.specs.Fits.{IsReadUnder}
 use Rattle.mls_meaning.specs.declared.run.Run.{Run}
 use Rattle.mls_meaning.specs.Meaning.{Progress, run_tx}
+use Rattle.mls_script.specs.declared.event.Event.{Event}
 use Rattle.mls_machine.specs.Denying.{fitted}
 use Rattle.mls_trusted.specs.Runs.{with_database, IsEvaluated, HasItems}
 
 -- more entries at the end of the audit list
 abbrev pub with_entries : State → List Entry → State
 with_entries s es = record s { now = record { db = s.now.db; audit = s.now.audit ++ map entry_spelling es } }
+
+module _ {Self : Type 0} (state : Self → State) where
+  -- a change is begun, and an entry can spell the user and the session of an event
+  pub record MayEnter (policy : Tables) (event : Event) (user : ℕ) (base : Self) : Type 0 where
+    pub begun : (state base).begun ≡ true
+    pub declared : user < length policy.users
+    pub named : is_name event.session ≡ true
+
+  -- entries are at the end of the audit list, each as it is spelled
+  pub record HasEntered (is_clean : Self → Type 0) (entries : List Entry) (old new : Self) {A : Type 0}
+      (result : Result A BaseFault) : Type 0 where
+    pub done : is_clean new → OnOk result (state new ≡ with_entries (state old) entries)
+    pub spelled : OnOk result (AllByRecursion HasSpelling entries)
 
 -- a transaction was read under the policy and the schemes, and has as many arguments as parameters
 pub record MayRun (policy : Tables) (schemes : Schemes) (tx : Tx) (args : List (Option Value)) : Type 0 where

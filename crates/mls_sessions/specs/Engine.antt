@@ -1,5 +1,5 @@
 -- The world that an engine holds, and what an engine keeps to.
-use Rattle.std.specs.Prelude.{◌≡◌, ℕ, false, length, Result}
+use Rattle.std.specs.Prelude.{◌≡◌, ℕ, ◌<◌, ◌≤◌, false, length, IfOk, IfErr, Result}
 use Rattle.mls_lattice.specs.Labels.{AreDistinct}
 use Rattle.mls_scheme.specs.Scheme.{AreUnder}
 use Rattle.mls_filterview.specs.declared.base.BaseFault.{BaseFault}
@@ -7,7 +7,10 @@ use Rattle.mls_filterview.specs.Content.{State}
 use Rattle.mls_machine.specs.declared.reply.Reply.{Reply}
 use Rattle.mls_machine.specs.Site.{Site, site_labels}
 use Rattle.mls_machine.specs.Observation.{AreRead, AreCertified}
-use Rattle.mls_machine.specs.Machine.{World, Step}
+use Rattle.mls_machine.specs.Machine.{World, Step, step}
+use Rattle.mls_script.specs.declared.event.Event.{Event}
+use Rattle.mls_sessions.specs.declared.cause.RunCause.TheVariants.{Store}
+use Rattle.mls_sessions.specs.declared.cause.RunFault.{RunFault}
 use Rattle.mls_sessions.specs.declared.engine.Engine.{Engine}
 use Rattle.mls_monitor.specs.Sessions.{site_of, sessions_of, AreForUsers}
 use Rattle.mls_sessions.specs.World.{world_at, IsSound}
@@ -42,6 +45,28 @@ module _ {B : Type 0} (state : B → State) where
     pub rules : new.rules ≡ old.rules
     pub ready : IsReady is_clean new
 
-  -- an event of an engine, whatever it answers
-  abbrev pub IsEngineTurn : (B → Type 0) → (B → ℕ) → Engine B → Engine B → Result Reply BaseFault → Type 0
-  IsEngineTurn is_clean failures = IsTurn (λ e. is_clean e.base) (λ e. failures e.base) world_of
+  module _ (is_clean : B → Type 0) (failures : B → ℕ) where
+    -- an event of an engine, whatever it answers
+    abbrev pub IsEngineTurn : Engine B → Engine B → Result Reply BaseFault → Type 0
+    IsEngineTurn = IsTurn (λ e. is_clean e.base) (λ e. failures e.base) world_of
+
+    -- what an event leaves and answers
+    pub record Answers (old : Engine B) (event : Event) (new : Engine B) (result : Result Reply BaseFault) : Type 0 where
+      pub turn : IsEngineTurn old new result
+      pub kept : IsKept is_clean old new
+      pub done : is_clean new.base → IfOk result (IsStep old (step (site old) (world_of old) event) new)
+
+    -- events leave the engine ready; a store that is clean afterwards was clean before, and then `Store` stops them only
+    -- where a call of it failed
+    pub record Continues {A : Type 0} (old new : Engine B) (result : Result A RunFault) : Type 0 where
+      pub clean : is_clean new.base → is_clean old.base
+      pub count : failures old.base ≤ failures new.base
+      pub kept : IsKept is_clean old new
+      pub store : is_clean new.base → IfErr result (λ f. f.cause ≡ Store → failures old.base < failures new.base)
+
+    -- the same of a base that is given back: no change is begun
+    pub record Leaves {A : Type 0} (old new : B) (result : Result A RunFault) : Type 0 where
+      pub clean : is_clean new → is_clean old
+      pub idle : (state new).begun ≡ false
+      pub count : failures old ≤ failures new
+      pub store : is_clean new → IfErr result (λ f. f.cause ≡ Store → failures old < failures new)

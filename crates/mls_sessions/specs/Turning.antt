@@ -1,5 +1,5 @@
 -- An audit list that is turned over a base: its entries are written, and then it is empty.
-use Rattle.std.specs.Prelude.{◌≡◌, ℕ, ◌<◌, ◌≤◌, true, false, IfErr, OnOk, OnErr, List, [], ◌++◌, length, Option}
+use Rattle.std.specs.Prelude.{◌≡◌, ◌≢◌, ℕ, ◌<◌, ◌≤◌, ◌⊎◌, true, false, IfErr, OnOk, OnErr, List, [], ◌++◌, length, Option}
 use Rattle.std.specs.Prelude.{Result, Ok, Err}
 use Rattle.mls_lattice.specs.Policy.{Tables, labels_of}
 use Rattle.mls_filterview.specs.Content.{Content, State, begun_change}
@@ -8,7 +8,8 @@ use Rattle.mls_audit.specs.declared.entry.Entry.{Entry}
 use Rattle.mls_machine.specs.Output.{printed}
 use Rattle.mls_machine.specs.Observation.{heard}
 use Rattle.mls_machine.specs.Turning.{turn_lines}
-use Rattle.mls_sessions.specs.declared.cause.RunCause.TheVariants.{Store}
+use Rattle.mls_sessions.specs.declared.cause.RunCause.{RunCause}
+use Rattle.mls_sessions.specs.declared.cause.RunCause.TheVariants.{Store, Write}
 use Rattle.mls_sessions.specs.declared.cause.RunFault.{RunFault}
 use Rattle.mls_sessions.specs.Turns.{IsTurn}
 use Rattle.mls_sessions.specs.World.{entries_in}
@@ -22,18 +23,19 @@ abbrev pub list_text : Tables → Option ℕ → Content → List ℕ
 list_text policy reader first = turned_text policy reader (entries_in (length policy.labels) first.audit)
 
 module _ (policy : Tables) (reader : Option ℕ) (Wrote : List ℕ → Type 0) (first left : Content) where
-  -- a first part is written, and no entry is dropped
-  pub record IsKeptList : Type 0 where
+  -- no entry is dropped; a first part is written where the writer refused, and else none or all
+  pub record KeepsEntries (cause : RunCause) : Type 0 where
     pub part : List ℕ
     pub rest : List ℕ
     pub written : Wrote part
     pub whole : part ++ rest ≡ list_text policy reader first
+    pub parted : cause ≢ Write → (part ≡ []) ⊎ (rest ≡ [])
     pub same : left ≡ first
 
   -- the entries are written, and none is left; or it is given up
   abbrev pub IsTurned : Result (Unit {0}) RunFault → Type 0
   IsTurned (Ok _) = Wrote (list_text policy reader first) × (left ≡ record { db = first.db; audit = [] })
-  IsTurned (Err fault) = IsKeptList
+  IsTurned (Err fault) = KeepsEntries fault.cause
 
 module _ {Self : Type 0} (is_clean : Self → Type 0) (failures : Self → ℕ) (state : Self → State) where
   -- a change is begun, and nothing is changed; or it is over

@@ -109,6 +109,14 @@ module _ {Self : Type 0} (is_clean : Self → Type 0) (state : Self → State) w
     pub sound : is_clean base → IsSound site (state base).now
     pub views : AreViews site.policy is_clean state base kept
 
+-- an event that looks: no change is begun, and it is answered as by a step of the machine, by numbers of the policy
+module _ {Self : Type 0} (is_clean : Self → Type 0) (failures : Self → ℕ) (state : Self → State)
+    (site : Site) (step : World → Step) where
+  pub record HasLooked (old new : Self) (result : Result Reply BaseFault) : Type 0 where
+    pub over : IsOver is_clean failures state old new result
+    pub done : is_clean new → IfOk result (IsStepOver site step (state old).now (state new).now)
+    pub known : IfOk result (HasKnownNumbers site.policy)
+
 -- a deed is done, and answered by numbers of the policy
 module _ {Self : Type 0} (is_clean : Self → Type 0) (state : Self → State)
     (site : Site) (event : Event) (deed : Deed) where

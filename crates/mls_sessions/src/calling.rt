@@ -1,17 +1,15 @@
 //! Calls of stored transactions, inside a change: they are run, and entered with what they release.
-ghost use Rattle.std.specs.Prelude.{◌≡◌, ◌<◌, true, length, map, IfOk, IfErr, OnOk};
+ghost use Rattle.std.specs.Prelude.{◌≡◌, ◌<◌, ◌∷◌, [], true, length, map, IfOk, OnOk};
 ghost use Rattle.std.specs.List.{AllByRecursion};
 ghost use Rattle.mls_lattice.specs.Name.{is_name};
 ghost use Rattle.mls_lattice.specs.Canon.{user_name};
-ghost use Rattle.mls_filterview.specs.Calls.{IsCall, IsServed};
-ghost use Rattle.mls_filterview.specs.Content.{with_entry};
 ghost use Rattle.mls_audit.specs.declared.entry.Entry.TheVariants.{Called};
 ghost use Rattle.mls_audit.specs.Spelling.{HasSpelling, entry_spelling};
 ghost use Rattle.mls_meaning.specs.Laws.{IsItem};
 ghost use Rattle.mls_machine.specs.Machine.{release_entry, call_entries};
 ghost use Rattle.mls_monitor.specs.Sessions.{site_of};
 ghost use Rattle.mls_views.specs.Views.{AreViews};
-ghost use Rattle.mls_sessions.specs.Calling.{with_entries, MayRun, HasRun};
+ghost use Rattle.mls_sessions.specs.Calling.{MayEnter, HasEntered, MayRun, HasRun};
 ghost use Rattle.mls_sessions.specs.Turns.{MayDo, GoesOn, Finds, HasDone};
 
 use crate::change::Deed;
@@ -90,18 +88,11 @@ fn enter_call<B: Base>(
     user: UserNo,
     name: &str,
 ) -> Result<(), BaseFault>
-    requires begun { (B.state base.old).begun ≡ true }
-    requires user { user < length rules.now.policy.now.users }
-    requires session { is_name event.now.session ≡ true }
+    requires may { MayEnter B.state rules.now.policy.now event.now user base.old }
     requires name { is_name name.now ≡ true }
-    ensures call { IsCall B.is_clean B.failures B.state base.old base.new result }
-    ensures served { IfErr result IsServed }
-    ensures mode { OnOk result ((B.state base.new).begun ≡ true) }
-    ensures done { B.is_clean base.new → OnOk result (B.state base.new ≡ with_entry (B.state base.old)
-        (entry_spelling (Called event.now.level (user_name rules.now.policy.now.users user) event.now.session
-        name.now))) }
-    ensures spelled { OnOk result (HasSpelling (Called event.now.level
-        (user_name rules.now.policy.now.users user) event.now.session name.now)) }
+    ensures step { GoesOn B.is_clean B.failures B.state base.old base.new result }
+    ensures entered { HasEntered B.state B.is_clean (Called event.now.level
+        (user_name rules.now.policy.now.users user) event.now.session name.now ∷ []) base.old base.new result }
 {
     let bytes = made(base, called_bytes(rules, event, user, name))?;
     base.audit_add(&bytes)
@@ -115,16 +106,11 @@ fn enter_release<B: Base>(
     user: UserNo,
     item: &(LabelNo, Option<Value>),
 ) -> Result<(), BaseFault>
-    requires begun { (B.state base.old).begun ≡ true }
-    requires user { user < length rules.now.policy.now.users }
-    requires session { is_name event.now.session ≡ true }
+    requires may { MayEnter B.state rules.now.policy.now event.now user base.old }
     requires item { IsItem rules.now.policy.now item.now }
-    ensures call { IsCall B.is_clean B.failures B.state base.old base.new result }
-    ensures served { IfErr result IsServed }
-    ensures mode { OnOk result ((B.state base.new).begun ≡ true) }
-    ensures done { B.is_clean base.new → OnOk result (B.state base.new
-        ≡ with_entry (B.state base.old) (entry_spelling (release_entry (site_of rules.now) event.now user item.now))) }
-    ensures spelled { OnOk result (HasSpelling (release_entry (site_of rules.now) event.now user item.now)) }
+    ensures step { GoesOn B.is_clean B.failures B.state base.old base.new result }
+    ensures entered { HasEntered B.state B.is_clean
+        (release_entry (site_of rules.now) event.now user item.now ∷ []) base.old base.new result }
 {
     let bytes = made(base, released_bytes(rules, event, user, item))?;
     base.audit_add(&bytes)
@@ -138,17 +124,11 @@ fn enter_releases<B: Base>(
     user: UserNo,
     released: &[(LabelNo, Option<Value>)],
 ) -> Result<(), BaseFault>
-    requires begun { (B.state base.old).begun ≡ true }
-    requires user { user < length rules.now.policy.now.users }
-    requires session { is_name event.now.session ≡ true }
+    requires may { MayEnter B.state rules.now.policy.now event.now user base.old }
     requires items { AllByRecursion (IsItem rules.now.policy.now) released.now }
-    ensures call { IsCall B.is_clean B.failures B.state base.old base.new result }
-    ensures served { IfErr result IsServed }
-    ensures mode { OnOk result ((B.state base.new).begun ≡ true) }
-    ensures done { B.is_clean base.new → OnOk result (B.state base.new ≡ with_entries (B.state base.old)
-        (map (release_entry (site_of rules.now) event.now user) released.now)) }
-    ensures spelled { OnOk result (AllByRecursion HasSpelling
-        (map (release_entry (site_of rules.now) event.now user) released.now)) }
+    ensures step { GoesOn B.is_clean B.failures B.state base.old base.new result }
+    ensures entered { HasEntered B.state B.is_clean
+        (map (release_entry (site_of rules.now) event.now user) released.now) base.old base.new result }
 {
     for item in released {
         enter_release(rules, base, event, user, item)?;
@@ -165,18 +145,12 @@ fn enter_run<B: Base>(
     name: &str,
     released: &[(LabelNo, Option<Value>)],
 ) -> Result<(), BaseFault>
-    requires begun { (B.state base.old).begun ≡ true }
-    requires user { user < length rules.now.policy.now.users }
-    requires session { is_name event.now.session ≡ true }
+    requires may { MayEnter B.state rules.now.policy.now event.now user base.old }
     requires name { is_name name.now ≡ true }
     requires items { AllByRecursion (IsItem rules.now.policy.now) released.now }
-    ensures call { IsCall B.is_clean B.failures B.state base.old base.new result }
-    ensures served { IfErr result IsServed }
-    ensures mode { OnOk result ((B.state base.new).begun ≡ true) }
-    ensures done { B.is_clean base.new → OnOk result (B.state base.new ≡ with_entries (B.state base.old)
-        (call_entries (site_of rules.now) event.now user name.now released.now)) }
-    ensures spelled { OnOk result (AllByRecursion HasSpelling
-        (call_entries (site_of rules.now) event.now user name.now released.now)) }
+    ensures step { GoesOn B.is_clean B.failures B.state base.old base.new result }
+    ensures entered { HasEntered B.state B.is_clean
+        (call_entries (site_of rules.now) event.now user name.now released.now) base.old base.new result }
 {
     enter_call(rules, base, event, user, name)?;
     enter_releases(rules, base, event, user, released)

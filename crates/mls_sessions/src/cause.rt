@@ -39,6 +39,13 @@ pub struct RunFault {
     pub done: bool,
 }
 
+/// The fault of an event.
+pub(crate) fn fault_at(event: usize, cause: RunCause, done: bool) -> RunFault
+    ensures { result ≡ record { event = event; cause = cause; done = done } }
+{
+    RunFault { event, cause, done }
+}
+
 /// The cause that a fault of the store or of memory is.
 pub(crate) fn cause_of(fault: BaseFault) -> RunCause
     requires { IsServed fault }

@@ -2,11 +2,11 @@
 ghost use Rattle.std.specs.Prelude.{◌≡◌, false, length, Some, None, is_some, IfOk};
 ghost use Rattle.mls_scheme.specs.Scheme.{AreUnder};
 ghost use Rattle.mls_script.specs.Event.{EventFits};
-ghost use Rattle.mls_machine.specs.Machine.{no_sessions, step};
+ghost use Rattle.mls_machine.specs.Machine.{no_sessions};
 ghost use Rattle.mls_machine.specs.Observation.{AreRead, AreCertified};
 ghost use Rattle.mls_monitor.specs.Sessions.{sessions_of};
 ghost use Rattle.mls_sessions.specs.World.{world_at, IsSound};
-ghost use Rattle.mls_sessions.specs.Engine.{site, world_of, IsReady, IsStep, IsKept, IsEngineTurn};
+ghost use Rattle.mls_sessions.specs.Engine.{site, world_of, IsReady, Answers};
 ghost use Rattle.mls_replies.specs.Known.{HasKnownNumbers};
 
 use crate::change::{Deed, change};
@@ -104,10 +104,7 @@ impl<'a, B: Base> Engine<'a, B> {
         requires ready { IsReady B.state B.is_clean self.old }
         requires fits { EventFits (site self.old).policy (site self.old).schemes event.now }
         requires closed { sessions_of self.old.sessions.items event.now.level event.now.session ≡ None }
-        ensures turn { IsEngineTurn B.state B.is_clean B.failures self.old self.new result }
-        ensures kept { IsKept B.state B.is_clean self.old self.new }
-        ensures done { B.is_clean self.new.base → IfOk result
-            (IsStep B.state self.old (step (site self.old) (world_of B.state self.old) event.now) self.new) }
+        ensures answers { Answers B.state B.is_clean B.failures self.old event.now self.new result }
         ensures known { IfOk result (HasKnownNumbers (site self.old).policy) }
     {
         open(&self.rules, &mut self.sessions, event)
@@ -118,10 +115,7 @@ impl<'a, B: Base> Engine<'a, B> {
         requires ready { IsReady B.state B.is_clean self.old }
         requires fits { EventFits (site self.old).policy (site self.old).schemes event.now }
         requires held { sessions_of self.old.sessions.items event.now.level event.now.session ≡ Some user }
-        ensures turn { IsEngineTurn B.state B.is_clean B.failures self.old self.new result }
-        ensures kept { IsKept B.state B.is_clean self.old self.new }
-        ensures done { B.is_clean self.new.base → IfOk result
-            (IsStep B.state self.old (step (site self.old) (world_of B.state self.old) event.now) self.new) }
+        ensures answers { Answers B.state B.is_clean B.failures self.old event.now self.new result }
         ensures known { IfOk result (HasKnownNumbers (site self.old).policy) }
     {
         if let Some(denial) = denial_of(&self.rules, event.level, user, &event.command) {
@@ -167,10 +161,7 @@ impl<'a, B: Base> Engine<'a, B> {
     pub fn step(&mut self, event: &Event) -> Result<Reply, BaseFault>
         requires ready { IsReady B.state B.is_clean self.old }
         requires fits { EventFits (site self.old).policy (site self.old).schemes event.now }
-        ensures turn { IsEngineTurn B.state B.is_clean B.failures self.old self.new result }
-        ensures kept { IsKept B.state B.is_clean self.old self.new }
-        ensures done { B.is_clean self.new.base → IfOk result
-            (IsStep B.state self.old (step (site self.old) (world_of B.state self.old) event.now) self.new) }
+        ensures answers { Answers B.state B.is_clean B.failures self.old event.now self.new result }
         ensures known { IfOk result (HasKnownNumbers (site self.old).policy) }
     {
         match user_of(&self.sessions, event.level, &event.session) {

@@ -7,8 +7,7 @@ ghost use Rattle.mls_machine.specs.Machine.{viewed, dumped, listed};
 ghost use Rattle.mls_machine.specs.Output.{EntriesAreKnown};
 ghost use Rattle.mls_monitor.specs.Sessions.{site_of};
 ghost use Rattle.mls_sessions.specs.World.{declared, entries_in, IsSound};
-ghost use Rattle.mls_replies.specs.Known.{HasKnownNumbers};
-ghost use Rattle.mls_sessions.specs.Turns.{IsTurn, IsStepOver};
+ghost use Rattle.mls_sessions.specs.Turns.{Finds, HasLooked};
 ghost use Rattle.mls_views.specs.Views.{AreViews};
 
 use mls_audit::{Entry, EntryFault, entry_of, visible};
@@ -30,16 +29,11 @@ pub(crate) fn look<B: Base>(
     label: LabelNo,
     query: &Query,
 ) -> Result<Reply, BaseFault>
-    requires idle { (B.state base.old).begun ≡ false }
+    requires found { Finds B.is_clean B.state (site_of rules.now) false base.old views.old }
     requires rel { rel < length rules.now.schemes.now }
     requires label { label < length rules.now.policy.now.labels }
-    requires sound { B.is_clean base.old → IsSound (site_of rules.now) (B.state base.old).now }
-    requires views { AreViews rules.now.policy.now B.is_clean B.state base.old views.old }
-    ensures turn { IsTurn B.is_clean B.failures (λ b. (B.state b).now) base.old base.new result }
-    ensures idle { (B.state base.new).begun ≡ false }
-    ensures done { B.is_clean base.new → IfOk result (IsStepOver (site_of rules.now)
-        (λ w. viewed (site_of rules.now) w rel label query.now) (B.state base.old).now (B.state base.new).now) }
-    ensures known { IfOk result (HasKnownNumbers rules.now.policy.now) }
+    ensures looked { HasLooked B.is_clean B.failures B.state (site_of rules.now)
+        (λ w. viewed (site_of rules.now) w rel label query.now) base.old base.new result }
     ensures views { AreViews rules.now.policy.now B.is_clean B.state base.new views.new }
 {
     let found = find(
@@ -65,11 +59,8 @@ pub(crate) fn dump<B: Base>(
     requires idle { (B.state base.old).begun ≡ false }
     requires level { level < length rules.now.policy.now.labels }
     requires sound { B.is_clean base.old → IsSound (site_of rules.now) (B.state base.old).now }
-    ensures turn { IsTurn B.is_clean B.failures (λ b. (B.state b).now) base.old base.new result }
-    ensures idle { (B.state base.new).begun ≡ false }
-    ensures done { B.is_clean base.new → IfOk result (IsStepOver (site_of rules.now)
-        (λ w. dumped (site_of rules.now) w rel level) (B.state base.old).now (B.state base.new).now) }
-    ensures known { IfOk result (HasKnownNumbers rules.now.policy.now) }
+    ensures { HasLooked B.is_clean B.failures B.state (site_of rules.now)
+        (λ w. dumped (site_of rules.now) w rel level) base.old base.new result }
 {
     let tuples = low_tuples(rules.alloc, base, rules.policy, rel, level)?;
     Ok(Reply::Dumped(Items::from(tuples)))
@@ -136,11 +127,8 @@ pub(crate) fn audit<B: Base>(
 ) -> Result<Reply, BaseFault>
     requires idle { (B.state base.old).begun ≡ false }
     requires level { level < length rules.now.policy.now.labels }
-    ensures turn { IsTurn B.is_clean B.failures (λ b. (B.state b).now) base.old base.new result }
-    ensures idle { (B.state base.new).begun ≡ false }
-    ensures done { B.is_clean base.new → IfOk result (IsStepOver (site_of rules.now)
-        (λ w. listed (site_of rules.now) w level) (B.state base.old).now (B.state base.new).now) }
-    ensures known { IfOk result (HasKnownNumbers rules.now.policy.now) }
+    ensures { HasLooked B.is_clean B.failures B.state (site_of rules.now)
+        (λ w. listed (site_of rules.now) w level) base.old base.new result }
 {
     let strings = base.audit_all()?;
     let entries = made(base, seen_of(rules.alloc, rules.policy, &strings, level))?;

@@ -1,5 +1,5 @@
 //! Runs: events answered in order, and their replies written, whole or what one reader may see of them.
-ghost use Rattle.std.specs.Prelude.{◌≡◌, ◌≢◌, ℕ, ◌≤◌, ◌<◌, ◌||◌, true, not, length, take, is_some, IfOk, IfErr, OnOk, OnErr};
+ghost use Rattle.std.specs.Prelude.{◌≡◌, ◌≢◌, ℕ, ◌<◌, ◌||◌, true, not, length, take, is_some, IfOk, IfErr, OnOk, OnErr};
 ghost use Rattle.std.specs.Option.{IfSome};
 ghost use Rattle.mls_script.specs.Event.{EventFits};
 ghost use Rattle.mls_machine.specs.Machine.{step};
@@ -8,10 +8,10 @@ ghost use Rattle.mls_machine.specs.Observation.{EventsFit, PassesOnlyReleasesDow
 ghost use Rattle.mls_machine.specs.Laws.{KeepsIntegrity};
 ghost use Rattle.mls_monitor.specs.Sessions.{site_of};
 ghost use Rattle.mls_replies.specs.Known.{HasKnownNumbers};
-ghost use Rattle.mls_sessions.specs.Engine.{site, world_of, IsReady, IsKept};
+ghost use Rattle.mls_sessions.specs.Engine.{site, world_of, IsReady, Continues};
 ghost use Rattle.mls_sessions.specs.Run.{is_done, are_done, IsWhole, IsStopped, IsFaultOf, IsAnswered, IsHalted};
 
-use crate::cause::{RunCause, RunFault, cause_of};
+use crate::cause::{RunCause, RunFault, cause_of, fault_at};
 use crate::engine::Engine;
 use crate::notice::notice_with;
 use crate::writing::write_whole;
@@ -21,13 +21,6 @@ use mls_monitor::Rules;
 use mls_replies::{is_known, shown_to};
 use mls_script::Event;
 use std::io::Write;
-
-/// Why an event stops a run, and whether its change stands.
-#[derive(Clone, Copy)]
-struct Stop {
-    cause: RunCause,
-    done: bool,
-}
 
 /// The lines of the reply to an event that the audience is shown. `Store` is the cause where a class is not declared, as
 /// may be over a store that gives other content than was written.
@@ -60,29 +53,26 @@ fn text_of(
     }
 }
 
-/// Answers one event, notes why it was not done, and writes the lines of the reply that the audience is shown. Where there are
-/// none, nothing is asked of the writer.
+/// Answers one event, which has a number, notes why it was not done, and writes the lines of the reply that the audience is
+/// shown. Where there are none, nothing is asked of the writer.
 fn answer<B: Base, W: Write>(
     engine: &mut Engine<B>,
+    number: usize,
     event: &Event,
     audience: &Audience,
     out: &mut W,
-) -> Result<(), Stop>
+) -> Result<(), RunFault>
     requires ready { IsReady B.state B.is_clean engine.old }
     requires fits { EventFits (site engine.old).policy (site engine.old).schemes event.now }
     requires reader { IfSome audience.now.reader (λ c. c < length (site engine.old).policy.labels) }
-    ensures clean { B.is_clean engine.new.base → B.is_clean engine.old.base }
-    ensures count { B.failures engine.old.base ≤ B.failures engine.new.base }
-    ensures kept { IsKept B.state B.is_clean engine.old engine.new }
+    ensures continues { Continues B.state B.is_clean B.failures engine.old engine.new result }
     ensures done { B.is_clean engine.new.base → OnOk result (IsAnswered (site engine.old) audience.now
         (world_of B.state engine.old) event.now
         (W.contents out.old) (W.contents out.new) (world_of B.state engine.new)) }
     ensures stopped { B.is_clean engine.new.base → IfErr result
-        (λ s. IsHalted (site engine.old) audience.now (world_of B.state engine.old) event.now
-        (W.contents out.old) (W.contents out.new) (world_of B.state engine.new) s.cause s.done) }
-    ensures write { IfErr result (λ s. s.cause ≡ RunCause.Write → s.done ≡ true) }
-    ensures store { B.is_clean engine.new.base → IfErr result
-        (λ s. s.cause ≡ RunCause.Store → B.failures engine.old.base < B.failures engine.new.base) }
+        (λ f. IsHalted (site engine.old) audience.now (world_of B.state engine.old) event.now
+        (W.contents out.old) (W.contents out.new) (world_of B.state engine.new) f.cause f.done) }
+    ensures fault { IfErr result (λ f. (f.event ≡ number) × (f.cause ≡ RunCause.Write → f.done ≡ true)) }
     ensures noticed { B.is_clean engine.new.base → OnOk result (is_some engine.new.notice
         ≡ (is_some engine.old.notice || not (is_done
         (step (site engine.old) (world_of B.state engine.old) event.now).reply))) }
@@ -90,24 +80,16 @@ fn answer<B: Base, W: Write>(
     let earlier = engine.notice;
     let reply = match engine.step(event) {
         Ok(reply) => reply,
-        Err(fault) => {
-            return Err(Stop {
-                cause: cause_of(fault),
-                done: false,
-            });
-        }
+        Err(fault) => return Err(fault_at(number, cause_of(fault), false)),
     };
     engine.notice = notice_with(earlier, &reply);
     let bytes = match text_of(&engine.rules, event, &reply, audience) {
         Ok(bytes) => bytes,
-        Err(cause) => return Err(Stop { cause, done: true }),
+        Err(cause) => return Err(fault_at(number, cause, true)),
     };
     match write_whole(out, &bytes) {
         Ok(()) => Ok(()),
-        Err(_) => Err(Stop {
-            cause: RunCause::Write,
-            done: true,
-        }),
+        Err(_) => Err(fault_at(number, RunCause::Write, true)),
     }
 }
 
@@ -129,9 +111,7 @@ pub fn run_to<B: Base, W: Write>(
     requires ready { IsReady B.state B.is_clean engine.old }
     requires fits { EventsFit (site engine.old) events.now }
     requires reader { IfSome audience.reader (λ c. c < length (site engine.old).policy.labels) }
-    ensures clean { B.is_clean engine.new.base → B.is_clean engine.old.base }
-    ensures count { B.failures engine.old.base ≤ B.failures engine.new.base }
-    ensures kept { IsKept B.state B.is_clean engine.old engine.new }
+    ensures continues { Continues B.state B.is_clean B.failures engine.old engine.new result }
     ensures ok { B.is_clean engine.new.base → OnOk result (IsWhole (site engine.old) audience
         (world_of B.state engine.old) events.now
         (W.contents out.old) (W.contents out.new) (world_of B.state engine.new)) }
@@ -139,9 +119,6 @@ pub fn run_to<B: Base, W: Write>(
         (world_of B.state engine.old) events.now
         (W.contents out.old) (W.contents out.new) (world_of B.state engine.new)) }
     ensures fault { IfErr result (IsFaultOf events.now) }
-    // Over a clean store, Store comes only where a call of it failed.
-    ensures store { B.is_clean engine.new.base → IfErr result
-        (λ f. f.cause ≡ RunCause.Store → B.failures engine.old.base < B.failures engine.new.base) }
     // Each database on the way has the four integrity properties.
     ensures integrity { B.is_clean engine.new.base → KeepsIntegrity (site engine.old)
         (world_of B.state engine.old) events.now }
@@ -155,13 +132,7 @@ pub fn run_to<B: Base, W: Write>(
     engine.notice = None;
     let audience = &audience;
     for (place, event) in events.iter().enumerate() {
-        if let Err(stop) = answer(engine, event, audience, out) {
-            return Err(RunFault {
-                event: place + 1,
-                cause: stop.cause,
-                done: stop.done,
-            });
-        }
+        answer(engine, place + 1, event, audience, out)?;
     }
     Ok(())
 }
@@ -174,9 +145,7 @@ pub fn run<B: Base, W: Write>(
 ) -> Result<(), RunFault>
     requires ready { IsReady B.state B.is_clean engine.old }
     requires fits { EventsFit (site engine.old) events.now }
-    ensures clean { B.is_clean engine.new.base → B.is_clean engine.old.base }
-    ensures count { B.failures engine.old.base ≤ B.failures engine.new.base }
-    ensures kept { IsKept B.state B.is_clean engine.old engine.new }
+    ensures continues { Continues B.state B.is_clean B.failures engine.old engine.new result }
     ensures ok { B.is_clean engine.new.base → OnOk result (IsWhole (site engine.old) everyone
         (world_of B.state engine.old) events.now
         (W.contents out.old) (W.contents out.new) (world_of B.state engine.new)) }
@@ -184,8 +153,6 @@ pub fn run<B: Base, W: Write>(
         (world_of B.state engine.old) events.now
         (W.contents out.old) (W.contents out.new) (world_of B.state engine.new)) }
     ensures fault { IfErr result (IsFaultOf events.now) }
-    ensures store { B.is_clean engine.new.base → IfErr result
-        (λ f. f.cause ≡ RunCause.Store → B.failures engine.old.base < B.failures engine.new.base) }
     ensures integrity { B.is_clean engine.new.base → KeepsIntegrity (site engine.old)
         (world_of B.state engine.old) events.now }
     ensures secret { B.is_clean engine.new.base → (n : ℕ) → PassesOnlyReleasesDown (site engine.old)

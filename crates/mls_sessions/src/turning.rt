@@ -5,7 +5,7 @@ ghost use Rattle.std.specs.Io.KnownBytes.{Appends};
 ghost use Rattle.mls_sessions.specs.Turning.{turned_text, list_text, HasTurned, IsListed, IsEmptied};
 ghost use Rattle.mls_sessions.specs.World.{entries_in};
 
-use crate::cause::{RunCause, RunFault, cause_of};
+use crate::cause::{RunCause, RunFault, cause_of, fault_at};
 use crate::looking::{entries_of, seen_of};
 use crate::writing::write_whole;
 use mls_filterview::{Base, BaseFault, abandon, made};
@@ -64,16 +64,6 @@ fn empty<B: Base>(base: &mut B) -> Result<(), BaseFault>
     base.commit()
 }
 
-fn stopped(cause: RunCause) -> RunFault
-    ensures { result ≡ record { event = 0; cause = cause; done = false } }
-{
-    RunFault {
-        event: 0,
-        cause,
-        done: false,
-    }
-}
-
 /// Writes the entries of the audit list, each behind the label that may see it, and then empties the list, in one change: with a reader
 /// those that it may see, and else all. Where the writer refuses, no entry is dropped. The number of a fault is 0.
 pub fn turn<B: Base, W: Write>(
@@ -90,14 +80,14 @@ pub fn turn<B: Base, W: Write>(
 {
     let text = match begin(alloc, policy, base, reader) {
         Ok(text) => text,
-        Err(fault) => return Err(stopped(cause_of(fault))),
+        Err(fault) => return Err(fault_at(0, cause_of(fault), false)),
     };
     if write_whole(out, &text).is_err() {
         abandon(base);
-        return Err(stopped(RunCause::Write));
+        return Err(fault_at(0, RunCause::Write, false));
     }
     match empty(base) {
         Ok(()) => Ok(()),
-        Err(fault) => Err(stopped(cause_of(fault))),
+        Err(fault) => Err(fault_at(0, cause_of(fault), false)),
     }
 }

@@ -1,5 +1,6 @@
 -- Shells over stores: where they begin, and how they end.
-use Rattle.std.proofs.Common.{◌≡◌, ℕ, ◌<◌, length, true, ◌∷◌, List, [], Option, Some, None, Result, refl, sym, ap, subst}
+use Rattle.mls_sessions.proofs.FrameLemmas.{carried}
+use Rattle.std.proofs.Common.{◌≡◌, ℕ, ◌<◌, length, true, ◌∷◌, List, [], Option, Some, None, Result, refl, sym, subst}
 use Rattle.std.specs.Prelude.{IsErrAnd}
 use Rattle.std.specs.Borrow.{Bor}
 use Rattle.std.specs.Io.KnownBytes.{Appends}
@@ -32,7 +33,6 @@ use Rattle.mls_host.specs.Running.{site_of, first_world}
 use Rattle.mls_shells.specs.Shell.{audience_at, opening, events_in, IsConversation, IsShell}
 use Rattle.mls_shells.specs.ShellRun.{seat_of, IsShellFrom, IsShellRun, IsShellRefused, not_begun}
 use Rattle.mls_host.proofs.RunningLemmas.{run_at, end_weaker}
-use Rattle.mls_shells.proofs.TalkLemmas.{carried}
 
 pub opening_fits : (site : Site) (seat : Seat) → seat.level < length site.policy.labels → is_name seat.user ≡ true → EventsFit site (opening seat ∷ [])
 opening_fits site seat level name = (record { level = level; session = name; command = name }, tt)

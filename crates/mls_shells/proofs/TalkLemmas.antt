@@ -1,5 +1,4 @@
 -- Shells, line by line: what holds of the lines up to here, and how a shell ends.
-use Rattle.std.specs.Prelude.{IsErrAnd}
 use Rattle.std.proofs.Common.{◌≡◌, ℕ, suc, ◌+◌, ◌<◌, Bool, true, false, true≢false, not, ◌||◌, List, [], ◌∷◌, ◌++◌, length, Option, Result, Ok, Err, OnOk, IfErr, refl, sym, ap, ◌∙◌, subst, inl, inr, ◌⊎◌, append_assoc, append-nil, arith}
 use Rattle.std.specs.List.{list_any}
 use Rattle.std.specs.Io.KnownBytes.{Appends, IsAtEnd}
@@ -28,7 +27,7 @@ use Rattle.mls_shells.specs.Tally.{tally_with}
 use Rattle.mls_host.specs.Ending.{ending_if}
 use Rattle.mls_host.specs.Hosting.{IsTold}
 use Rattle.mls_host.proofs.HostingLemmas.{told_nothing, told_more}
-use Rattle.mls_shells.specs.Shell.{audience_at, verdicts_in, Turn, IsFate, events_of, events_in, opening, is_open, is_last, is_failed, is_lost, verdict_of, is_short, end_told, prompt_of, told_of, AreTold, AreAllTold, answers, after_opening, transcript, shown_to, AreTurns, tally_of, has_refused, IsSilent, FateFits, IsAnswered, IsFollowed, IsRead, IsConversation}
+use Rattle.mls_shells.specs.Shell.{audience_at, verdicts_in, Turn, IsFate, events_of, events_in, opening, is_open, is_last, is_failed, is_lost, verdict_of, is_short, end_told, prompt_of, told_of, AreTold, AreAllTold, answers, after_opening, transcript, shown_to, AreTurns, tally_of, IsSilent, FateFits, IsAnswered, IsFollowed, IsRead, IsConversation}
 use Rattle.mls_shells.proofs.ShellLemmas.{nothing_done, whole_more, stopped_more, fault_more, first_part, all-append, length-snoc, events-snoc, told-snoc, world-snoc, transcript-snoc, shown_before, shown_behind, shown_from, turns-snoc, AreFew, few_more, tally-snoc, none_failed, failed_there, silent_turn, silent_lines, any-snoc}
 
 -- the events of a line are answered
@@ -132,11 +131,6 @@ pub read_at : (echo : List ℕ → List ℕ) (q : Site) (policy : Tables) (schem
     → IsRead echo (IsFate policy schemes seat) a b c d Broken fate → IsRead echo (IsFate q.policy q.schemes seat) a b c d Broken fate
 read_at echo q policy schemes seat a b c d Broken fate e f h =
     subst (λ y. IsRead echo (IsFate q.policy y seat) a b c d Broken fate) (sym f) (subst (λ x. IsRead echo (IsFate x schemes seat) a b c d Broken fate) (sym e) h)
-
--- an error that is passed on
-pub carried : {A F : Type 0} (P : Result A F → Type 0) (r : Result A F) (f : F) → IsErrAnd r (λ e. e ≡ f) → P (Err f) → P r
-carried P (Ok a) f h p = absurd h
-carried P (Err e) f h p = subst (λ x. P (Err x)) (sym h) p
 
 -- a line behind which no other is read is the end, or it was not read, or the shell is given up at it
 pub last_line : (fate : Fate) (left : Option (List ℕ)) → is_last fate ≡ true → is_lost fate ≡ false → (fate ≡ fates.Over → IsAtEnd left) → IsAtEnd left ⊎ (is_failed fate ≡ true)

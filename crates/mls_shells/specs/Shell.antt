@@ -311,6 +311,8 @@ module _ (site : Site) (seat : Seat) (w : World) (turns : List Turn) (Wrote : Li
 
 module _ (echo : List ℕ → List ℕ) (site : Site) (seat : Seat) where
   -- lines are read one after another, none lost, each while the session is open, and none behind a last one
+  -- What is still to come stands between the lines, so a line, its reading, what is shown and what becomes of it are
+  -- one fact (`IsTurn`), which desks share. Of a reader that tells nothing of its bytes any line comes next.
   unfoldable pub AreTurns : World → Option (List ℕ) → Option (List ℕ) → List Turn → Type 0
   AreTurns w before after [] = before ≡ after
   AreTurns w before after (t ∷ ts) =

@@ -1,4 +1,5 @@
 //! What is told where a line asks how a command is typed, or what is declared.
+//! It leaves out what the session does not see. It advises, and is no contract.
 use crate::explaining::Listener;
 use crate::help::TOPICS;
 use crate::words::{attribute_name, is_dominated, label_name, relation_of};

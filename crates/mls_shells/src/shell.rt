@@ -1,7 +1,7 @@
 //! A shell: a session whose commands are typed, each answered before the next is read.
-ghost use Rattle.std.specs.Prelude.{◌≡◌, ◌<◌, ◌≤◌, ◌∷◌, ◌||◌, [], false, not, length, Some, is_some, IfErr, OnOk, Err};
+ghost use Rattle.std.specs.Prelude.{◌≡◌, ◌<◌, ◌∷◌, ◌||◌, [], false, not, length, Some, is_some, OnOk, Err};
 ghost use Rattle.mls_machine.specs.Observation.{EventsFit};
-ghost use Rattle.mls_sessions.specs.Engine.{site, world_of, IsReady, IsKept};
+ghost use Rattle.mls_sessions.specs.Engine.{site, world_of, IsReady, Continues, Leaves};
 ghost use Rattle.mls_sessions.specs.World.{IsSound};
 ghost use Rattle.mls_sessions.specs.Run.{are_done};
 ghost use Rattle.mls_host.specs.Ending.{ending_if};
@@ -46,11 +46,7 @@ fn answer<B: Base, W: Write>(
     requires ready { IsReady B.state B.is_clean engine.old }
     requires fits { EventsFit (site engine.old) events.now }
     requires level { seat.now.level < length (site engine.old).policy.labels }
-    ensures clean { B.is_clean engine.new.base → B.is_clean engine.old.base }
-    ensures count { B.failures engine.old.base ≤ B.failures engine.new.base }
-    ensures kept { IsKept B.state B.is_clean engine.old engine.new }
-    ensures store { B.is_clean engine.new.base → IfErr result
-        (λ f. f.cause ≡ RunCause.Store → B.failures engine.old.base < B.failures engine.new.base) }
+    ensures continues { Continues B.state B.is_clean B.failures engine.old engine.new result }
     ensures followed { B.is_clean engine.new.base → IsFollowed (site engine.old) (audience_at seat.now)
         (world_of B.state engine.old) events.now (W.contents out.old) (W.contents out.new)
         (world_of B.state engine.new) line result }
@@ -78,11 +74,7 @@ fn follow<B: Base, W: Write>(
     requires ready { IsReady B.state B.is_clean engine.old }
     requires fits { FateFits (site engine.old).policy (site engine.old).schemes fate.now }
     requires level { seat.now.level < length (site engine.old).policy.labels }
-    ensures clean { B.is_clean engine.new.base → B.is_clean engine.old.base }
-    ensures count { B.failures engine.old.base ≤ B.failures engine.new.base }
-    ensures kept { IsKept B.state B.is_clean engine.old engine.new }
-    ensures store { B.is_clean engine.new.base → IfErr result
-        (λ f. f.cause ≡ RunCause.Store → B.failures engine.old.base < B.failures engine.new.base) }
+    ensures continues { Continues B.state B.is_clean B.failures engine.old engine.new result }
     ensures followed { B.is_clean engine.new.base → IsFollowed (site engine.old) (audience_at seat.now)
         (world_of B.state engine.old) (events_of fate.now) (W.contents out.old) (W.contents out.new)
         (world_of B.state engine.new) line result }
@@ -139,11 +131,7 @@ fn converse<B: Base, L: TypedLines, W: Write, E: Write>(
     requires first { first.now ≡ opening seat.now ∷ [] }
     requires fits { EventsFit (site engine.old) (opening seat.now ∷ []) }
     requires level { seat.now.level < length policy.now.labels }
-    ensures clean { B.is_clean engine.new.base → B.is_clean engine.old.base }
-    ensures count { B.failures engine.old.base ≤ B.failures engine.new.base }
-    ensures kept { IsKept B.state B.is_clean engine.old engine.new }
-    ensures store { B.is_clean engine.new.base → IfErr result
-        (λ f. f.cause ≡ RunCause.Store → B.failures engine.old.base < B.failures engine.new.base) }
+    ensures continues { Continues B.state B.is_clean B.failures engine.old engine.new result }
     ensures conversation { B.is_clean engine.new.base → IsConversation L.echo (site engine.old) seat.now
         (L.remaining lines.old) (L.remaining lines.new) (W.contents out.old) (W.contents out.new) (L.breaks lines.new)
         (IsTold E.contents err.old err.new) result (world_of B.state engine.old) (world_of B.state engine.new) }
@@ -205,11 +193,7 @@ pub fn shell_on<B: Base, L: TypedLines, W: Write, E: Write>(
     requires may { MayTalk (site_of policy.now schemes.now stored) seat.now first.now }
     requires idle { (B.state base).begun ≡ false }
     requires sound { B.is_clean base → IsSound (site_of policy.now schemes.now stored) (B.state base).now }
-    ensures clean { B.is_clean result.1 → B.is_clean base }
-    ensures idle { (B.state result.1).begun ≡ false }
-    ensures count { B.failures base ≤ B.failures result.1 }
-    ensures store { B.is_clean result.1 → IfErr result.0
-        (λ f. f.cause ≡ RunCause.Store → B.failures base < B.failures result.1) }
+    ensures leaves { Leaves B.state B.is_clean B.failures base result.1 result.0 }
     ensures shell { B.is_clean result.1 → IsShell L.echo (site_of policy.now schemes.now stored) seat.now
         (L.remaining lines.old) (L.remaining lines.new) (L.breaks lines.new) (IsAppended W.contents out.old out.new)
         (IsTold E.contents err.old err.new) result.0 (B.state base).now (B.state result.1).now }

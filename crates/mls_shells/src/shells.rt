@@ -150,6 +150,7 @@ fn seated(
 }
 
 /// A shell for a user, at the label of a name, over what a job stores.
+/// The opening is made as an event and never as text. The status is the same at a pipe and at a terminal.
 pub fn run_shell<H: Host, W: Write, E: Write>(
     alloc: Global,
     host: &mut H,

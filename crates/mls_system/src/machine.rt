@@ -22,6 +22,8 @@ use std::io::{ErrorKind, Input, IsTerminal};
 use std::snapshot::Snapshot;
 
 /// What opens the stores at paths as bases, and closes them.
+/// The checker states no field and no associated type that is a base over files, since its bound `Alter` is met by a
+/// generic `impl` alone; a trait's parameter may be one.
 pub trait Opens<B: Base, L: Left> {
     // The bytes of the store's files before it is opened.
     ghost image: { Image };

@@ -1,4 +1,5 @@
 //! The files of a store as they stand, for who explains it: nothing is made, and nothing is written.
+//! A file without a log is read without the lock, which needs one: whoever has a store open has made its log.
 use mls_host::{StoreCause, StoreFiles};
 use sqlite::Unknown;
 use sqlite_disk::{Disk, Files};

@@ -5,7 +5,7 @@ use crate::site::{Names, Site};
 use crate::stores::{Job, Work, do_job, made};
 use crate::texts::Texts;
 use case_tables::{Case, Told, case_at, joined, text_of};
-use mls_diagnosis::diagnosis_of;
+use mls_explain::diagnosis_of;
 use std::alloc::Global;
 use std::io;
 

@@ -33,11 +33,11 @@ fn push_release(
 }
 
 fn push_tx(alloc: Global, policy: &Policy, tx: &Tx, out: &mut Told) -> Result<(), AllocError> {
-    let told = ranges_of(alloc, tx)?;
-    for release in told.as_slice() {
+    let releases = ranges_of(alloc, tx)?;
+    for release in releases.told.as_slice() {
         push_release(alloc, policy, tx, release, out)?;
     }
-    if let Some(text) = whole(alloc, tx, &told)? {
+    if let Some(text) = whole(alloc, &releases)? {
         out.push("in all: ");
         out.push_line(&text);
     }

@@ -1,6 +1,6 @@
 use Rattle.std.proofs.Common.{List, ℕ, Option, Result, Ok, Err, IfOk, sym, subst, subst₂}
 use Rattle.mls_fragments.specs.declared.open_fault.OpenFault.{OpenFault}
-use Rattle.mls_diagnosis.specs.Diagnosis.{IsDiagnosis}
+use Rattle.mls_explain.specs.Diagnosis.{IsDiagnosis}
 use Rattle.mls_command.specs.Looking.{IsSight, hidden, shown}
 use Rattle.mls_command.proofs.TellingLemmas.{if_ok, if_both}
 use Rattle.mls_command.proofs.looking.sight_of.Goals as goal

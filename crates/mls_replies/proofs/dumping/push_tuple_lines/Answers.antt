@@ -1,7 +1,7 @@
 use Rattle.std.proofs.Common.{◌++◌, ℕ, ◌<◌, List, length, ◌∙◌, ap, sym, subst, codes}
 use Rattle.mls_scheme.specs.declared.tuple.Tuple.{Tuple}
-use Rattle.mls_machine.specs.Dumping.{made_again}
-use Rattle.mls_machine.specs.Output.{front, made_text}
+use Rattle.mls_machine.specs.Dumping.{dump_event}
+use Rattle.mls_machine.specs.Output.{front, script_text}
 use Rattle.mls_replies.specs.Under.{site_under}
 use Rattle.mls_replies.proofs.PrintingSteps.{line_parts, one_more}
 use Rattle.mls_replies.proofs.dumping.push_tuple_lines.Goals as goal
@@ -9,7 +9,7 @@ use Rattle.mls_replies.proofs.dumping.push_tuple_lines.Goals as goal
 pub loop-tuple-preserved : goal.loop-tuple-preserved
 loop-tuple-preserved c =
     let site = site_under c.args.policy.now c.args.schemes.now in
-    let made : List ℕ → Tuple → List ℕ = λ session t. made_text site (made_again site session c.args.rel t) in
+    let made : List ℕ → Tuple → List ℕ = λ session t. script_text site (dump_event site session c.args.rel t) in
     let first = front c.args.policy.now c.args.event.now c.args.event.now.level in
     let text = made c.args.event.now.session c.tuple-item.result in
     one_more (λ x. first ++ made c.args.event.now.session x ++ codes "\n") c.args.tuples.now c.loop-tuple.tuple-index c.tuple-item.result c.tuple-item.result

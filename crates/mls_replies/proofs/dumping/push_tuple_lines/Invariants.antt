@@ -1,7 +1,7 @@
 use Rattle.std.proofs.Common.{◌≡◌, ◌++◌, take, codes}
 use Rattle.std.specs.List.{flat_map}
-use Rattle.mls_machine.specs.Dumping.{made_again}
-use Rattle.mls_machine.specs.Output.{front, made_text}
+use Rattle.mls_machine.specs.Dumping.{dump_event}
+use Rattle.mls_machine.specs.Output.{front, script_text}
 use Rattle.mls_replies.specs.Under.{site_under}
 use Rattle.mls_replies.proofs.dumping.push_tuple_lines.Given as goal
 
@@ -9,4 +9,4 @@ abbrev pub invariant-loop-tuple : goal.invariant-loop-tuple
 invariant-loop-tuple l =
     l.text.items
     ≡ l.initial.text.items
-    ++ flat_map (λ t. front l.policy l.event l.event.level ++ made_text (site_under l.policy l.schemes) (made_again (site_under l.policy l.schemes) l.event.session l.rel t) ++ codes "\n") (take l.tuple-index l.tuples)
+    ++ flat_map (λ t. front l.policy l.event l.event.level ++ script_text (site_under l.policy l.schemes) (dump_event (site_under l.policy l.schemes) l.event.session l.rel t) ++ codes "\n") (take l.tuple-index l.tuples)

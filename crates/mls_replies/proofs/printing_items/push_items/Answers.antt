@@ -1,5 +1,6 @@
 use Rattle.std.proofs.Common.{◌++◌, codes}
-use Rattle.mls_machine.specs.Output.{cell_text, front}
+use Rattle.mls_script.specs.Writing.{cell_text}
+use Rattle.mls_machine.specs.Output.{front}
 use Rattle.mls_replies.proofs.PrintingSteps.{one_more}
 use Rattle.mls_replies.proofs.printing_items.push_items.Goals as goal
 

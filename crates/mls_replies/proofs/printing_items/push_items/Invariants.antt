@@ -1,6 +1,7 @@
 use Rattle.std.proofs.Common.{◌≡◌, ◌++◌, take, codes}
 use Rattle.std.specs.List.{flat_map}
-use Rattle.mls_machine.specs.Output.{cell_text, front}
+use Rattle.mls_script.specs.Writing.{cell_text}
+use Rattle.mls_machine.specs.Output.{front}
 use Rattle.mls_replies.proofs.printing_items.push_items.Given as goal
 
 abbrev pub invariant-loop-item : goal.invariant-loop-item

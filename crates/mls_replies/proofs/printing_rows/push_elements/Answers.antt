@@ -1,6 +1,7 @@
 use Rattle.std.proofs.Common.{◌++◌, ℕ, List, ◌∙◌, ap, codes}
 use Rattle.mls_lattice.specs.Canon.{label_name}
-use Rattle.mls_machine.specs.Output.{cell_text, cell_entry}
+use Rattle.mls_script.specs.Writing.{cell_text}
+use Rattle.mls_machine.specs.Output.{cell_entry}
 use Rattle.mls_replies.proofs.PrintingSteps.{cell_parts, one_more}
 use Rattle.mls_replies.proofs.printing_rows.push_elements.Goals as goal
 

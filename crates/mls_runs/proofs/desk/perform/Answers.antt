@@ -3,16 +3,17 @@ use Rattle.mls_sessions.specs.Engine.{site, world_of}
 use Rattle.mls_shells.specs.Shell.{events_of, FateFits}
 use Rattle.mls_shells.proofs.TalkLemmas.{none_is_lost}
 use Rattle.mls_runs.proofs.AnsweringLemmas.{done_none, done_default}
+use Rattle.mls_sessions.proofs.FrameLemmas.{goes_nowhere}
 use Rattle.mls_runs.proofs.desk.perform.Goals as goal
 
 pub returns-in-Lost-clause-done : goal.returns-in-Lost-clause-done
 returns-in-Lost-clause-done g c = λ clean.
     done_none (site c.args.engine.now) (world_of g.B.Base.state c.args.engine.now) (events_of c.args.fate.now) (ap events_of c.in-Lost.is) (g.W.Write.contents c.args.out.now) _
 
-pub returns-in-Lost-clause-store : goal.returns-in-Lost-clause-store
-returns-in-Lost-clause-store g c = λ clean is.
+pub returns-in-Lost-clause-continues : goal.returns-in-Lost-clause-continues
+returns-in-Lost-clause-continues g c =
     let at = site c.args.engine.now in
-    absurd (subst (FateFits at.policy at.schemes) c.in-Lost.is c.requires.fits is)
+    goes_nowhere g.B.Base.state g.B.Base.is_clean g.B.Base.failures c.args.engine.now c.requires.ready _ (λ is. subst (FateFits at.policy at.schemes) c.in-Lost.is c.requires.line.fits is)
 
 pub returns-in_default-clause-done : goal.returns-in_default-clause-done
 returns-in_default-clause-done g c = λ clean.

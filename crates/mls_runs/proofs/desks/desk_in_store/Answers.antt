@@ -25,7 +25,7 @@ returns-clause-ends g c =
     c.args.file.now (Some c.args.path.now) (site_of c.args.policy.now c.args.file.now.schemes c.args.stored) in
     let ran : Runs c.desk_on-outcome.result.0 = λ honest.
     let clean = c.keep-closed.ensures.honest.0 honest in
-    record { first = _; left = _; begins = c.in-Ok.ensures.kept (c.desk_on-outcome.ensures.clean clean); kept = c.keep-closed.ensures.kept honest; leads = c.desk_on-outcome.ensures.desk clean } in
+    record { first = _; left = _; begins = c.in-Ok.ensures.kept (c.desk_on-outcome.ensures.leaves.clean clean); kept = c.keep-closed.ensures.kept honest; leads = c.desk_on-outcome.ensures.desk clean } in
     subst (λ (r : Result Ending Refusal). IsEnd Runs (λ reason. IsBarred (g.H.Host.hosting c.args.host.now) c.args.policy.now c.args.file.now (Some c.args.path.now) reason × Wrote []) r) (sym c.ended.ensures)
     (ended_so Runs (λ reason. IsBarred (g.H.Host.hosting c.args.host.now) c.args.policy.now c.args.file.now (Some c.args.path.now) reason × Wrote []) c.desk_on-outcome.result.0 c.keep-closed.result ran)
 
@@ -37,4 +37,4 @@ returns-clause-caused g c =
     let h = hosted g.H.Host.hosting g.L.TypedLines.echo c.args.host.now c.keep-closed.new.self in
     subst (λ (r : Result Ending Refusal). IsCaused h (Some c.args.path.now) r) (sym c.ended.ensures)
     (caused_in_store h c.args.path.now c.desk_on-outcome.result.0 c.keep-closed.result (g.H.Store.Base.failures c.in-Ok.base) (g.H.Store.Base.failures c.desk_on-outcome.result.1)
-    c.keep-closed.ensures.closed.1 c.keep-closed.ensures.failed.1 (λ honest. c.desk_on-outcome.ensures.store (c.keep-closed.ensures.honest.0 honest)))
+    c.keep-closed.ensures.closed.1 c.keep-closed.ensures.failed.1 (λ honest. c.desk_on-outcome.ensures.leaves.store (c.keep-closed.ensures.honest.0 honest)))

@@ -32,7 +32,7 @@ returns-in-Ok-close_files-clause-whole g c =
     (ready_run policy file.schemes c.args.run c.requires.prepared) c.in-Ok.ensures.sound outcome c.ended.result c.ended.ensures (λ clean.
     let was = c.in-Ok-close_files.ensures.clean clean in
     let kept = c.in-Ok-close_files.ensures.kept was in
-    ((begins (c.run_on-outcome.ensures.clean was), run was), (kept.row, kept.kept clean)))
+    ((begins (c.run_on-outcome.ensures.leaves.clean was), run was), (kept.row, kept.kept clean)))
 
 pub returns-in-Ok-close_files-clause-broken : goal.returns-in-Ok-close_files-clause-broken
 returns-in-Ok-close_files-clause-broken g c =
@@ -52,7 +52,7 @@ returns-in-Ok-close_files-clause-broken g c =
     (ready_run policy file.schemes c.args.run c.requires.prepared) c.in-Ok.ensures.sound outcome c.ended.result c.ended.ensures (λ clean.
     let was = c.in-Ok-close_files.ensures.clean clean in
     let kept = c.in-Ok-close_files.ensures.kept was in
-    ((begins (c.run_on-outcome.ensures.clean was), run was), (kept.row, kept.kept clean)))
+    ((begins (c.run_on-outcome.ensures.leaves.clean was), run was), (kept.row, kept.kept clean)))
 
 pub returns-clause-broken : goal.returns-clause-broken
 returns-clause-broken g c clean =
@@ -64,7 +64,7 @@ returns-clause-broken g c clean =
     let first = (state_of c.in-Ok.base).now in
     let left = (state_of c.run_on-outcome.result.1).now in
     let was = c.in-Err-close_files.ensures.unclosed.clean clean in
-    let base = c.run_on-outcome.ensures.clean was in
+    let base = c.run_on-outcome.ensures.leaves.clean was in
     let begins : BeginsIn g.D.Disk policy file c.args.files first
     = (c.in-Ok.ensures.clean base, base_is_taken (FindsHoldings (image_of g.D.Disk c.args.files)) policy file c.in-Ok.base (c.in-Ok.ensures.over base)) in
     let run : IsRun at c.args.audience.now c.args.run.events.items wrote outcome first left

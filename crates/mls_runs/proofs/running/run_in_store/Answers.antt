@@ -23,7 +23,7 @@ returns-clause-ends g c =
     = IsRunFrom h c.args.file.now (Some c.args.path.now) (site_of c.args.policy.now c.args.file.now.schemes c.args.stored) c.args.audience c.args.events.now Wrote in
     let ran : Runs c.run_on-outcome.result.0 = λ honest.
     let clean = c.keep-closed.ensures.honest.0 honest in
-    record { first = _; left = _; begins = c.in-Ok.ensures.kept (c.run_on-outcome.ensures.clean clean); kept = c.keep-closed.ensures.kept honest; leads = c.run_on-outcome.ensures.run clean } in
+    record { first = _; left = _; begins = c.in-Ok.ensures.kept (c.run_on-outcome.ensures.leaves.clean clean); kept = c.keep-closed.ensures.kept honest; leads = c.run_on-outcome.ensures.run clean } in
     subst (λ (r : Result (Unit {0}) Refusal). IsEnd Runs (λ reason. IsBarred (g.H.Host.hosting c.args.host.now) c.args.policy.now c.args.file.now (Some c.args.path.now) reason × Wrote []) r) (sym c.ended.ensures)
     (ended_so Runs (λ reason. IsBarred (g.H.Host.hosting c.args.host.now) c.args.policy.now c.args.file.now (Some c.args.path.now) reason × Wrote []) c.run_on-outcome.result.0 c.keep-closed.result ran)
 
@@ -35,4 +35,4 @@ returns-clause-caused g c =
     let h = hosted g.H.Host.hosting g.H.Lines.TypedLines.echo c.args.host.now c.keep-closed.new.self in
     subst (λ (r : Result (Unit {0}) Refusal). IsCaused h (Some c.args.path.now) r) (sym c.ended.ensures)
     (caused_in_store h c.args.path.now c.run_on-outcome.result.0 c.keep-closed.result (g.H.Store.Base.failures c.in-Ok.base) (g.H.Store.Base.failures c.run_on-outcome.result.1)
-    c.keep-closed.ensures.closed.1 c.keep-closed.ensures.failed.1 (λ honest. c.run_on-outcome.ensures.store (c.keep-closed.ensures.honest.0 honest)))
+    c.keep-closed.ensures.closed.1 c.keep-closed.ensures.failed.1 (λ honest. c.run_on-outcome.ensures.leaves.store (c.keep-closed.ensures.honest.0 honest)))

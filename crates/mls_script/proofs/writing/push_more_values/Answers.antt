@@ -1,8 +1,8 @@
-use Rattle.mls_script.specs.Writing.{value_text}
+use Rattle.mls_script.specs.Writing.{cell_text}
 use Rattle.mls_script.proofs.WritingSteps.{one_more}
 use Rattle.mls_script.proofs.writing.push_more_values.Goals as goal
 
 pub loop-value-preserved : goal.loop-value-preserved
 loop-value-preserved c =
-    one_more value_text c.args.values.now c.loop-value.value-index c.value-item.result c.loop-value-test.true c.value-item.is
-    _ _ _ _ c.loop-value.invariant c.in_ok-push_str.ensures c.in_ok-push_value.ensures
+    one_more cell_text c.args.values.now c.loop-value.value-index c.value-item.result c.loop-value-test.true c.value-item.is
+    _ _ _ _ c.loop-value.invariant c.in_ok-push_str.ensures c.in_ok-push_cell.ensures

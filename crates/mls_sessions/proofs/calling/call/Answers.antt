@@ -47,9 +47,9 @@ returns-clause-done g c = record {
       call_over site e c.args.user c.in-Call.tx c.in-Call.args c.in-Call.is c.requires.may.asked.2 k
       (sym (ap (λ xs. stored_named xs c.deref-2.result.now) c.deref.ensures ∙ ap (stored_named c.args.rules.now.stored) c.deref-2.ensures) ∙ c.certified_named-certified.ensures)
       s m t run
-      (subst (λ (args : List (Option Value)). IsEvaluated (ran args) (with_database s (ran args).db) m run) c.deref-3.ensures (c.in_ok-run.ensures.run.done (c.in_ok-enter_run.ensures.call.clean clean)))
-      (c.in_ok-enter_run.ensures.done clean ∙ (λ i. with_entries m (call_entries site e c.args.user (c.deref-4.ensures i) (c.deref-5.ensures i))))
-      (subst (AllByRecursion HasSpelling) (λ i. call_entries site e c.args.user (c.deref-4.ensures i) (c.deref-5.ensures i)) c.in_ok-enter_run.ensures.spelled)
+      (subst (λ (args : List (Option Value)). IsEvaluated (ran args) (with_database s (ran args).db) m run) c.deref-3.ensures (c.in_ok-run.ensures.run.done (c.in_ok-enter_run.ensures.step.call.clean clean)))
+      (c.in_ok-enter_run.ensures.entered.done clean ∙ (λ i. with_entries m (call_entries site e c.args.user (c.deref-4.ensures i) (c.deref-5.ensures i))))
+      (subst (AllByRecursion HasSpelling) (λ i. call_entries site e c.args.user (c.deref-4.ensures i) (c.deref-5.ensures i)) c.in_ok-enter_run.ensures.entered.spelled)
       c.requires.may.fits.level c.in_ok-run.ensures.run.items.released;
   known = (
     items_known c.args.rules.now.policy.now c.in_ok-run.run'.emitted c.in_ok-run.ensures.run.items.emitted,

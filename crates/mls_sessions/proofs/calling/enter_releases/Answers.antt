@@ -9,7 +9,7 @@ pub loop-item-init : goal.loop-item-init
 loop-item-init g c = record {
   clean = λ h. h;
   count = omega arith;
-  begun = c.requires.begun;
+  begun = c.requires.may.begun;
   way = λ h. none_entered (g.B.Base.state c.args.base.now);
   spelled = tt;
 }
@@ -20,18 +20,18 @@ loop-item-preserved g c =
     let inv = c.loop-item.invariant in
     let one = c.in_ok-enter_release.ensures in
     record {
-      clean = λ h. inv.clean (one.call.clean h);
-      count = (let a = inv.count in let b = one.call.count in omega (arith, a, b));
-      begun = one.mode;
+      clean = λ h. inv.clean (one.step.call.clean h);
+      count = (let a = inv.count in let b = one.step.call.count in omega (arith, a, b));
+      begun = one.step.mode;
       way = λ h. entered_more f c.args.released.now c.loop-item.item-index c.item-item.result c.loop-item-test.true c.item-item.is
-          (g.B.Base.state c.args.base.now) (g.B.Base.state c.loop-item.base) (g.B.Base.state c.enter_release.new.base) (inv.way (one.call.clean h)) (one.done h);
-      spelled = each_more f c.args.released.now c.loop-item.item-index c.item-item.result c.loop-item-test.true c.item-item.is HasSpelling inv.spelled one.spelled;
+          (g.B.Base.state c.args.base.now) (g.B.Base.state c.loop-item.base) (g.B.Base.state c.enter_release.new.base) (inv.way (one.step.call.clean h)) (one.entered.done h);
+      spelled = each_more f c.args.released.now c.loop-item.item-index c.item-item.result c.loop-item-test.true c.item-item.is HasSpelling inv.spelled one.entered.spelled.0;
     }
 
-pub returns-clause-done : goal.returns-clause-done
-returns-clause-done g c = λ clean.
-    entered_all (release_entry (site_of c.args.rules.now) c.args.event.now c.args.user) c.args.released.now c.loop-item.item-index c.loop-item-test.false
-    (g.B.Base.state c.args.base.now) (g.B.Base.state c.loop-item.base) (c.loop-item.invariant.way clean)
-
-pub returns-clause-spelled : goal.returns-clause-spelled
-returns-clause-spelled g c = each_all (release_entry (site_of c.args.rules.now) c.args.event.now c.args.user) c.args.released.now c.loop-item.item-index c.loop-item-test.false HasSpelling c.loop-item.invariant.spelled
+pub returns-clause-entered : goal.returns-clause-entered
+returns-clause-entered g c =
+    let f = release_entry (site_of c.args.rules.now) c.args.event.now c.args.user in
+    record {
+      done = λ clean. entered_all f c.args.released.now c.loop-item.item-index c.loop-item-test.false (g.B.Base.state c.args.base.now) (g.B.Base.state c.loop-item.base) (c.loop-item.invariant.way clean);
+      spelled = each_all f c.args.released.now c.loop-item.item-index c.loop-item-test.false HasSpelling c.loop-item.invariant.spelled;
+    }

@@ -1,23 +1,55 @@
-use Rattle.std.proofs.Common.{◌||◌, not, sym, ap, ◌∙◌}
+use Rattle.std.proofs.Common.{◌||◌, not, sym, ap, ◌∙◌, subst}
 use Rattle.std.specs.Prelude.{is_some}
-use Rattle.mls_sessions.proofs.AnswerLemmas.{halted_before, halted_unprinted, reply_known, not_store, only_store}
-use Rattle.mls_sessions.specs.Run.{is_done}
+use Rattle.mls_sessions.specs.declared.cause.RunFault.{RunFault}
+use Rattle.mls_sessions.specs.Engine.{site, world_of}
+use Rattle.mls_sessions.specs.Run.{is_done, IsHalted}
+use Rattle.mls_sessions.proofs.AnswerLemmas.{halted_before, halted_unprinted, reply_known, not_store, only_store, noted}
 use Rattle.mls_sessions.proofs.running.answer.Goals as goal
 
+pub returns-in-Err-clause-continues : goal.returns-in-Err-clause-continues
+returns-in-Err-clause-continues g c =
+    let step = c.in-Err.ensures.answers in
+    record {
+      clean = step.turn.clean;
+      count = step.turn.count;
+      kept = step.kept;
+      store = λ h k. step.turn.fault.store (only_store c.in-Err.fault step.turn.fault.served (sym c.cause_of.ensures ∙ ap (λ (f : RunFault). f.cause) (sym c.fault_at.ensures) ∙ k));
+    }
+
 pub returns-in-Err-clause-stopped : goal.returns-in-Err-clause-stopped
-returns-in-Err-clause-stopped g c = λ h. halted_before g.B.Base.state c.args.engine.now c.step.new.self c.args.audience.now c.args.event.now (g.W.Write.contents c.args.out.now) (g.W.Write.contents c.args.out.now) c.cause_of.result (c.in-Err.ensures.turn.fault.same h)
+returns-in-Err-clause-stopped g c = λ h.
+    let before = g.W.Write.contents c.args.out.now in
+    subst (λ (f : RunFault). IsHalted (site c.args.engine.now) c.args.audience.now (world_of g.B.Base.state c.args.engine.now) c.args.event.now before before (world_of g.B.Base.state c.step.new.self) f.cause f.done) (sym c.fault_at.ensures)
+    (halted_before g.B.Base.state c.args.engine.now c.step.new.self c.args.audience.now c.args.event.now before before c.cause_of.result (c.in-Err.ensures.answers.turn.fault.same h))
+
+pub returns-in-Err-text_of-clause-continues : goal.returns-in-Err-text_of-clause-continues
+returns-in-Err-text_of-clause-continues g c =
+    let step = c.step.ensures.answers in
+    record {
+      clean = step.turn.clean;
+      count = step.turn.count;
+      kept = noted g.B.Base.state g.B.Base.is_clean c.args.engine.now c.step.new.self c.notice_with-engine.result step.kept;
+      store = λ h k.
+          absurd (not_store c.in-Err-text_of.cause (c.in-Err-text_of.ensures.failed
+          (reply_known g.B.Base.state g.B.Base.is_clean c.args.engine.now c.step.new.self c.args.event.now c.in-Ok.reply (c.in-Ok.ensures.answers.done h) step.kept.rules
+          c.requires.ready (step.turn.clean h) c.requires.fits)) (ap (λ (f : RunFault). f.cause) (sym c.fault_at-in-Err-text_of.ensures) ∙ k));
+    }
 
 pub returns-in-Err-text_of-clause-stopped : goal.returns-in-Err-text_of-clause-stopped
-returns-in-Err-text_of-clause-stopped g c = λ h. halted_unprinted g.B.Base.state c.args.engine.now c.step.new.self c.args.audience.now c.args.event.now (g.W.Write.contents c.args.out.now) (g.W.Write.contents c.args.out.now) c.in-Ok.reply (c.in-Ok.ensures.done h) c.in-Err-text_of.cause
+returns-in-Err-text_of-clause-stopped g c = λ h.
+    let before = g.W.Write.contents c.args.out.now in
+    subst (λ (f : RunFault). IsHalted (site c.args.engine.now) c.args.audience.now (world_of g.B.Base.state c.args.engine.now) c.args.event.now before before (world_of g.B.Base.state c.step.new.self) f.cause f.done) (sym c.fault_at-in-Err-text_of.ensures)
+    (halted_unprinted g.B.Base.state c.args.engine.now c.step.new.self c.args.audience.now c.args.event.now before before c.in-Ok.reply (c.in-Ok.ensures.answers.done h) c.in-Err-text_of.cause)
 
-pub returns-in-Err-clause-store : goal.returns-in-Err-clause-store
-returns-in-Err-clause-store g c = λ h k. c.in-Err.ensures.turn.fault.store (only_store c.in-Err.fault c.in-Err.ensures.turn.fault.served (sym c.cause_of.ensures ∙ k))
-
-pub returns-in-Err-text_of-clause-store : goal.returns-in-Err-text_of-clause-store
-returns-in-Err-text_of-clause-store g c = λ h k.
-    absurd (not_store c.in-Err-text_of.cause (c.in-Err-text_of.ensures.failed
-    (reply_known g.B.Base.state g.B.Base.is_clean c.args.engine.now c.step.new.self c.args.event.now c.in-Ok.reply (c.in-Ok.ensures.done h) c.step.ensures.kept.rules
-    c.requires.ready (c.step.ensures.turn.clean h) c.requires.fits)) k)
+pub returns-in-Ok-write_whole-clause-continues : goal.returns-in-Ok-write_whole-clause-continues
+returns-in-Ok-write_whole-clause-continues g c =
+    let step = c.step.ensures.answers in
+    record {
+      clean = step.turn.clean;
+      count = step.turn.count;
+      kept = noted g.B.Base.state g.B.Base.is_clean c.args.engine.now c.step.new.self c.notice_with-engine.result step.kept;
+      store = λ h. tt;
+    }
 
 pub returns-in-Ok-write_whole-clause-noticed : goal.returns-in-Ok-write_whole-clause-noticed
-returns-in-Ok-write_whole-clause-noticed g c = λ h. c.notice_with-engine.ensures ∙ ap (λ r. is_some c.args.engine.now.notice || not (is_done r)) (c.in-Ok.ensures.done h).reply
+returns-in-Ok-write_whole-clause-noticed g c = λ h. c.notice_with-engine.ensures ∙ ap (λ r. is_some c.args.engine.now.notice || not (is_done r)) (c.in-Ok.ensures.answers.done h).reply

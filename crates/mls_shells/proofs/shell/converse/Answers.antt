@@ -1,20 +1,20 @@
-use Rattle.std.proofs.Common.{◌≡◌, ◌+◌, ◌<◌, false, ◌||◌, Ok, Err, IfErr, not, refl, sym, ap, ◌∙◌, subst, rules, arith}
+use Rattle.std.proofs.Common.{◌≡◌, ◌+◌, false, ◌||◌, Ok, Err, not, refl, sym, ap, ◌∙◌, subst, rules}
 use Rattle.std.specs.Prelude.{is_some}
 use Rattle.mls_monitor.specs.Sessions.{site_of}
-use Rattle.mls_sessions.specs.declared.cause.RunCause.TheVariants.{Store}
-use Rattle.mls_sessions.specs.Engine.{site, world_of}
+use Rattle.mls_sessions.specs.Engine.{site, world_of, Continues}
 use Rattle.mls_host.specs.Ending.{ending_if}
 use Rattle.mls_host.specs.Hosting.{IsTold}
 use Rattle.mls_shells.specs.Shell.{audience_at, verdict_of, is_short, end_told, IsFollowed, IsConversation}
 use Rattle.mls_shells.specs.Tally.{tally_with}
 use Rattle.mls_shells.proofs.ShellLemmas.{said_more, said_once}
-use Rattle.mls_shells.proofs.TalkLemmas.{SoFar, Line, so_far_start, so_far_more, broken, broken_first, over_closed, over_last, worn_out, fits_at, level_at, read_at, carried}
+use Rattle.mls_shells.proofs.TalkLemmas.{SoFar, Line, so_far_start, so_far_more, broken, broken_first, over_closed, over_last, worn_out, fits_at, level_at, read_at}
+use Rattle.mls_sessions.proofs.FrameLemmas.{carried, goes_first, goes_well, goes_on, goes_to, worn_frame}
 use Rattle.mls_shells.proofs.shell.converse.Goals as goal
 
-pub returns-in_err-answer-clause-store : goal.returns-in_err-answer-clause-store
-returns-in_err-answer-clause-store g c = λ clean.
-    carried (λ r. IfErr r (λ f. f.cause ≡ Store → g.B.Base.failures c.args.engine.now.base < g.B.Base.failures c.answer.new.engine.base)) c.from_residual.result c.in_err-answer.field-0.0 c.from_residual.ensures.1
-    (c.in_err-answer.ensures.store clean)
+pub returns-in_err-answer-clause-continues : goal.returns-in_err-answer-clause-continues
+returns-in_err-answer-clause-continues g c =
+    carried (λ r. Continues g.B.Base.state g.B.Base.is_clean g.B.Base.failures c.args.engine.now c.answer.new.engine r) c.from_residual.result c.in_err-answer.field-0.0 c.from_residual.ensures.1
+    (goes_first g.B.Base.state g.B.Base.is_clean g.B.Base.failures c.args.engine.now c.answer.new.engine c.in_err-answer.field-0.0 c.in_err-answer.ensures.continues)
 
 pub returns-in_err-answer-clause-conversation : goal.returns-in_err-answer-clause-conversation
 returns-in_err-answer-clause-conversation g c = λ clean.
@@ -25,24 +25,18 @@ returns-in_err-answer-clause-conversation g c = λ clean.
 
 pub loop-before-init : goal.loop-before-init
 loop-before-init g c = (
-  c.answer.ensures.count,
+  goes_well g.B.Base.state g.B.Base.is_clean g.B.Base.failures c.args.engine.now c.answer.new.engine tt c.in_ok-answer.ensures.continues tt,
   so_far_start g.B.Base.state g.B.Base.is_clean g.E.Write.contents g.L.TypedLines.echo c.args.seat.now c.args.engine.now c.args.err.now (g.L.TypedLines.remaining c.args.lines.now) (g.W.Write.contents c.args.out.now) c.answer.new.engine (g.W.Write.contents c.answer.new.out) c.is_open-was_opened.result
       (record {
-        clean = c.answer.ensures.clean;
-        kept = c.answer.ensures.kept;
+        clean = c.answer.ensures.continues.clean;
+        kept = c.answer.ensures.continues.kept;
         followed = λ clean. subst (λ es. IsFollowed (site c.args.engine.now) (audience_at c.args.seat.now) (world_of g.B.Base.state c.args.engine.now) es (g.W.Write.contents c.args.out.now) (g.W.Write.contents c.answer.new.out) (world_of g.B.Base.state c.answer.new.engine) 0 (Ok tt)) c.requires.first (c.in_ok-answer.ensures.followed clean);
         opened_is = c.is_open-was_opened.ensures ∙ ap (λ n. is_some ((world_of g.B.Base.state c.answer.new.engine).sessions c.args.seat.now.level n)) c.as_str.ensures;
       }) c.tell_more.new.err c.tell_more.ensures,
 )
 
-pub returns-then-not-is_open-clause-clean : goal.returns-then-not-is_open-clause-clean
-returns-then-not-is_open-clause-clean g c = c.loop-before.invariant.1.clean
-
-pub returns-then-not-is_open-clause-kept : goal.returns-then-not-is_open-clause-kept
-returns-then-not-is_open-clause-kept g c = c.loop-before.invariant.1.kept
-
-pub returns-then-not-is_open-clause-count : goal.returns-then-not-is_open-clause-count
-returns-then-not-is_open-clause-count g c = c.loop-before.invariant.0
+pub returns-then-not-is_open-clause-continues : goal.returns-then-not-is_open-clause-continues
+returns-then-not-is_open-clause-continues g c = goes_well g.B.Base.state g.B.Base.is_clean g.B.Base.failures c.args.engine.now c.loop-before.engine tt c.loop-before.invariant.0 _
 
 pub returns-then-not-is_open-clause-conversation : goal.returns-then-not-is_open-clause-conversation
 returns-then-not-is_open-clause-conversation g c = λ clean.
@@ -61,23 +55,10 @@ pub follow-requires-clause-level : goal.follow-requires-clause-level
 follow-requires-clause-level g c =
     level_at (site c.loop-before.engine) (site c.args.engine.now) c.args.policy.now (ap site_of c.loop-before.invariant.1.kept.rules) c.requires.policy c.args.seat.now.level c.requires.level
 
-pub returns-in_err-follow-clause-clean : goal.returns-in_err-follow-clause-clean
-returns-in_err-follow-clause-clean g c = λ clean. c.loop-before.invariant.1.clean (c.follow.ensures.clean clean)
-
-pub returns-in_err-follow-clause-kept : goal.returns-in_err-follow-clause-kept
-returns-in_err-follow-clause-kept g c = record { rules = c.follow.ensures.kept.rules ∙ c.loop-before.invariant.1.kept.rules; ready = c.follow.ensures.kept.ready }
-
-pub returns-in_err-follow-clause-count : goal.returns-in_err-follow-clause-count
-returns-in_err-follow-clause-count g c =
-    let before = c.loop-before.invariant.0 in
-    let here = c.follow.ensures.count in
-    omega (arith, before, here)
-
-pub returns-in_err-follow-clause-store : goal.returns-in_err-follow-clause-store
-returns-in_err-follow-clause-store g c = λ clean.
-    let before = c.loop-before.invariant.0 in
-    carried (λ r. IfErr r (λ f. f.cause ≡ Store → g.B.Base.failures c.args.engine.now.base < g.B.Base.failures c.follow.new.engine.base)) c.from_residual-in_err-follow.result c.in_err-follow.field-0.0 c.from_residual-in_err-follow.ensures.1
-    (λ is. let more = c.in_err-follow.ensures.store clean is in omega (arith, before, more))
+pub returns-in_err-follow-clause-continues : goal.returns-in_err-follow-clause-continues
+returns-in_err-follow-clause-continues g c =
+    carried (λ r. Continues g.B.Base.state g.B.Base.is_clean g.B.Base.failures c.args.engine.now c.follow.new.engine r) c.from_residual-in_err-follow.result c.in_err-follow.field-0.0 c.from_residual-in_err-follow.ensures.1
+    (goes_to g.B.Base.state g.B.Base.is_clean g.B.Base.failures c.args.engine.now c.loop-before.engine c.follow.new.engine tt c.loop-before.invariant.0 c.in_err-follow.field-0.0 c.in_err-follow.ensures.continues)
 
 pub returns-in_err-follow-clause-conversation : goal.returns-in_err-follow-clause-conversation
 returns-in_err-follow-clause-conversation g c = λ clean.
@@ -90,19 +71,10 @@ returns-in_err-follow-clause-conversation g c = λ clean.
     } in
     carried (λ r. IsConversation g.L.TypedLines.echo (site c.args.engine.now) c.args.seat.now (g.L.TypedLines.remaining c.args.lines.now) (g.L.TypedLines.remaining c.next_fate-fate.new.lines) (g.W.Write.contents c.args.out.now) (g.W.Write.contents c.follow.new.out) (g.L.TypedLines.breaks c.next_fate-fate.new.lines) (IsTold g.E.Write.contents c.args.err.now c.tell_fate.new.err) r (world_of g.B.Base.state c.args.engine.now) (world_of g.B.Base.state c.follow.new.engine))
     c.from_residual-in_err-follow.result c.in_err-follow.field-0.0 c.from_residual-in_err-follow.ensures.1
-    (broken g.B.Base.state g.B.Base.is_clean g.E.Write.contents g.L.TypedLines.echo c.args.seat.now c.args.engine.now c.args.err.now (g.L.TypedLines.remaining c.args.lines.now) (g.W.Write.contents c.args.out.now) c.loop-before.before c.loop-before.engine c.loop-before.err (g.L.TypedLines.remaining c.loop-before.lines) (g.W.Write.contents c.loop-before.out) c.is_open-was_opened.result c.loop-before.tally c.loop-before.invariant.1 c.next_fate-fate.result c.ask.new.err c.tell_fate.new.err (g.L.TypedLines.remaining c.next_fate-fate.new.lines) (g.W.Write.contents c.next_fate-fate.new.out) (g.L.TypedLines.breaks c.next_fate-fate.new.lines) line c.follow.new.engine (g.W.Write.contents c.follow.new.out) c.follow.ensures.clean c.follow.ensures.kept c.requires.fits c.in_err-follow.field-0.0 clean (c.in_err-follow.ensures.followed clean))
+    (broken g.B.Base.state g.B.Base.is_clean g.E.Write.contents g.L.TypedLines.echo c.args.seat.now c.args.engine.now c.args.err.now (g.L.TypedLines.remaining c.args.lines.now) (g.W.Write.contents c.args.out.now) c.loop-before.before c.loop-before.engine c.loop-before.err (g.L.TypedLines.remaining c.loop-before.lines) (g.W.Write.contents c.loop-before.out) c.is_open-was_opened.result c.loop-before.tally c.loop-before.invariant.1 c.next_fate-fate.result c.ask.new.err c.tell_fate.new.err (g.L.TypedLines.remaining c.next_fate-fate.new.lines) (g.W.Write.contents c.next_fate-fate.new.out) (g.L.TypedLines.breaks c.next_fate-fate.new.lines) line c.follow.new.engine (g.W.Write.contents c.follow.new.out) c.follow.ensures.continues.clean c.follow.ensures.continues.kept c.requires.fits c.in_err-follow.field-0.0 clean (c.in_err-follow.ensures.followed clean))
 
-pub returns-then-is_last-clause-clean : goal.returns-then-is_last-clause-clean
-returns-then-is_last-clause-clean g c = λ clean. c.loop-before.invariant.1.clean (c.follow.ensures.clean clean)
-
-pub returns-then-is_last-clause-kept : goal.returns-then-is_last-clause-kept
-returns-then-is_last-clause-kept g c = record { rules = c.follow.ensures.kept.rules ∙ c.loop-before.invariant.1.kept.rules; ready = c.follow.ensures.kept.ready }
-
-pub returns-then-is_last-clause-count : goal.returns-then-is_last-clause-count
-returns-then-is_last-clause-count g c =
-    let before = c.loop-before.invariant.0 in
-    let here = c.follow.ensures.count in
-    omega (arith, before, here)
+pub returns-then-is_last-clause-continues : goal.returns-then-is_last-clause-continues
+returns-then-is_last-clause-continues g c = goes_on g.B.Base.state g.B.Base.is_clean g.B.Base.failures c.args.engine.now c.loop-before.engine c.follow.new.engine tt c.loop-before.invariant.0 tt _ c.in_ok-follow.ensures.continues
 
 pub returns-then-is_last-clause-conversation : goal.returns-then-is_last-clause-conversation
 returns-then-is_last-clause-conversation g c = λ clean.
@@ -116,7 +88,7 @@ returns-then-is_last-clause-conversation g c = λ clean.
     let notice = c.notice-notice.result in
     let same : is_some notice ≡ is_some c.follow.new.engine.notice = ap is_some c.notice-notice.ensures in
     subst (λ e. IsConversation g.L.TypedLines.echo (site c.args.engine.now) c.args.seat.now (g.L.TypedLines.remaining c.args.lines.now) (g.L.TypedLines.remaining c.next_fate-fate.new.lines) (g.W.Write.contents c.args.out.now) (g.W.Write.contents c.follow.new.out) (g.L.TypedLines.breaks c.next_fate-fate.new.lines) (IsTold g.E.Write.contents c.args.err.now c.finish-then-is_last.new.err) (Ok e) (world_of g.B.Base.state c.args.engine.now) (world_of g.B.Base.state c.follow.new.engine)) (sym (c.finish-then-is_last.ensures.is ∙ ap (λ t. ending_if (not c.is_open-was_opened.result || is_short t)) c.tally_with-tally.ensures))
-    (over_last g.B.Base.state g.B.Base.is_clean g.E.Write.contents g.L.TypedLines.echo c.args.seat.now c.args.engine.now c.args.err.now (g.L.TypedLines.remaining c.args.lines.now) (g.W.Write.contents c.args.out.now) c.requires.fits (g.L.TypedLines.breaks c.next_fate-fate.new.lines) c.loop-before.before c.loop-before.engine c.loop-before.err (g.L.TypedLines.remaining c.loop-before.lines) (g.W.Write.contents c.loop-before.out) c.is_open-was_opened.result c.loop-before.tally c.loop-before.invariant.1 c.next_fate-fate.result c.ask.new.err c.tell_more-in-loop-before.new.err (g.L.TypedLines.remaining c.next_fate-fate.new.lines) (g.W.Write.contents c.next_fate-fate.new.out) line c.follow.new.engine (g.W.Write.contents c.follow.new.out) c.follow.ensures.clean c.follow.ensures.kept c.in_ok-follow.ensures.found c.in_ok-follow.ensures.followed
+    (over_last g.B.Base.state g.B.Base.is_clean g.E.Write.contents g.L.TypedLines.echo c.args.seat.now c.args.engine.now c.args.err.now (g.L.TypedLines.remaining c.args.lines.now) (g.W.Write.contents c.args.out.now) c.requires.fits (g.L.TypedLines.breaks c.next_fate-fate.new.lines) c.loop-before.before c.loop-before.engine c.loop-before.err (g.L.TypedLines.remaining c.loop-before.lines) (g.W.Write.contents c.loop-before.out) c.is_open-was_opened.result c.loop-before.tally c.loop-before.invariant.1 c.next_fate-fate.result c.ask.new.err c.tell_more-in-loop-before.new.err (g.L.TypedLines.remaining c.next_fate-fate.new.lines) (g.W.Write.contents c.next_fate-fate.new.out) line c.follow.new.engine (g.W.Write.contents c.follow.new.out) c.follow.ensures.continues.clean c.follow.ensures.continues.kept c.in_ok-follow.ensures.found c.in_ok-follow.ensures.followed
     (not (is_some notice)) (λ h. ap (λ b. verdict_of (not b) c.next_fate-fate.result) same ∙ c.in_ok-follow.ensures.noticed h) (sym c.is_last.ensures ∙ c.if-is_last.true) clean
     c.finish-then-is_last.new.err (subst (λ t. IsTold g.E.Write.contents c.tell_more-in-loop-before.new.err c.finish-then-is_last.new.err (end_told c.args.seat.now t)) c.tally_with-tally.ensures c.finish-then-is_last.ensures.told))
 
@@ -131,26 +103,15 @@ loop-before-preserved g c =
     } in
     let notice = c.notice-notice.result in
     let same : is_some notice ≡ is_some c.follow.new.engine.notice = ap is_some c.notice-notice.ensures in
-    let before = c.loop-before.invariant.0 in
-    let here = c.follow.ensures.count in
-    let next = so_far_more g.B.Base.state g.B.Base.is_clean g.E.Write.contents g.L.TypedLines.echo c.args.seat.now c.args.engine.now c.args.err.now (g.L.TypedLines.remaining c.args.lines.now) (g.W.Write.contents c.args.out.now) c.loop-before.before c.loop-before.engine c.loop-before.err (g.L.TypedLines.remaining c.loop-before.lines) (g.W.Write.contents c.loop-before.out) c.is_open-was_opened.result c.loop-before.tally c.loop-before.invariant.1 c.next_fate-fate.result c.ask.new.err c.tell_more-in-loop-before.new.err (g.L.TypedLines.remaining c.next_fate-fate.new.lines) (g.W.Write.contents c.next_fate-fate.new.out) (g.L.TypedLines.breaks c.next_fate-fate.new.lines) line c.follow.new.engine (g.W.Write.contents c.follow.new.out) c.follow.ensures.clean c.follow.ensures.kept c.in_ok-follow.ensures.found c.in_ok-follow.ensures.followed
+    let next = so_far_more g.B.Base.state g.B.Base.is_clean g.E.Write.contents g.L.TypedLines.echo c.args.seat.now c.args.engine.now c.args.err.now (g.L.TypedLines.remaining c.args.lines.now) (g.W.Write.contents c.args.out.now) c.loop-before.before c.loop-before.engine c.loop-before.err (g.L.TypedLines.remaining c.loop-before.lines) (g.W.Write.contents c.loop-before.out) c.is_open-was_opened.result c.loop-before.tally c.loop-before.invariant.1 c.next_fate-fate.result c.ask.new.err c.tell_more-in-loop-before.new.err (g.L.TypedLines.remaining c.next_fate-fate.new.lines) (g.W.Write.contents c.next_fate-fate.new.out) (g.L.TypedLines.breaks c.next_fate-fate.new.lines) line c.follow.new.engine (g.W.Write.contents c.follow.new.out) c.follow.ensures.continues.clean c.follow.ensures.continues.kept c.in_ok-follow.ensures.found c.in_ok-follow.ensures.followed
     (not (is_some notice)) (λ h. ap (λ b. verdict_of (not b) c.next_fate-fate.result) same ∙ c.in_ok-follow.ensures.noticed h) in (
-      omega (arith, before, here),
+      goes_on g.B.Base.state g.B.Base.is_clean g.B.Base.failures c.args.engine.now c.loop-before.engine c.follow.new.engine tt c.loop-before.invariant.0 tt tt c.in_ok-follow.ensures.continues,
       subst (λ t. SoFar g.B.Base.state g.B.Base.is_clean g.E.Write.contents g.L.TypedLines.echo c.args.seat.now c.args.engine.now c.args.err.now (g.L.TypedLines.remaining c.args.lines.now) (g.W.Write.contents c.args.out.now) (c.loop-before.before + 1) c.follow.new.engine c.tell_more-in-loop-before.new.err (g.L.TypedLines.remaining c.next_fate-fate.new.lines) (g.W.Write.contents c.follow.new.out) c.is_open-was_opened.result t false) (sym c.tally_with-tally.ensures)
           (subst (λ b. SoFar g.B.Base.state g.B.Base.is_clean g.E.Write.contents g.L.TypedLines.echo c.args.seat.now c.args.engine.now c.args.err.now (g.L.TypedLines.remaining c.args.lines.now) (g.W.Write.contents c.args.out.now) (c.loop-before.before + 1) c.follow.new.engine c.tell_more-in-loop-before.new.err (g.L.TypedLines.remaining c.next_fate-fate.new.lines) (g.W.Write.contents c.follow.new.out) c.is_open-was_opened.result (tally_with c.loop-before.tally (verdict_of (not (is_some notice)) c.next_fate-fate.result)) b) (sym c.is_last.ensures ∙ c.if-is_last.false) next),
     )
 
-pub returns-clause-clean : goal.returns-clause-clean
-returns-clause-clean g c = c.loop-before.invariant.1.clean
-
-pub returns-clause-kept : goal.returns-clause-kept
-returns-clause-kept g c = c.loop-before.invariant.1.kept
-
-pub returns-clause-count : goal.returns-clause-count
-returns-clause-count g c = c.loop-before.invariant.0
-
-pub returns-clause-store : goal.returns-clause-store
-returns-clause-store g c = λ clean is. cc
+pub returns-clause-continues : goal.returns-clause-continues
+returns-clause-continues g c = worn_frame g.B.Base.state g.B.Base.is_clean g.B.Base.failures c.args.engine.now c.loop-before.engine tt c.loop-before.invariant.0 _ refl
 
 pub returns-clause-conversation : goal.returns-clause-conversation
 returns-clause-conversation g c = λ clean. worn_out g.B.Base.state g.B.Base.is_clean g.E.Write.contents g.L.TypedLines.echo c.args.seat.now c.args.engine.now c.args.err.now (g.L.TypedLines.remaining c.args.lines.now) (g.W.Write.contents c.args.out.now) c.requires.fits (g.L.TypedLines.breaks c.loop-before.lines) c.loop-before.before c.loop-before.engine c.loop-before.err (g.L.TypedLines.remaining c.loop-before.lines) (g.W.Write.contents c.loop-before.out) c.is_open-was_opened.result c.loop-before.tally c.loop-before.invariant.1 clean _ (search rules)

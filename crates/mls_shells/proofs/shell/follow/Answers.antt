@@ -1,20 +1,21 @@
-use Rattle.std.proofs.Common.{not, sym, subst}
+use Rattle.std.proofs.Common.{not, subst}
 use Rattle.std.proofs.lemmas.Result.{on_ok_weaker}
 use Rattle.std.specs.Prelude.{is_some}
 use Rattle.mls_sessions.specs.Run.{are_done}
 use Rattle.mls_sessions.specs.Engine.{site, world_of}
 use Rattle.mls_shells.specs.Shell.{audience_at, events_of, FateFits}
 use Rattle.mls_shells.proofs.TalkLemmas.{followed_lost, followed_none, none_is_lost, verdict_same, verdict_noticed}
+use Rattle.mls_sessions.proofs.FrameLemmas.{goes_nowhere}
 use Rattle.mls_shells.proofs.shell.follow.Goals as goal
 
 pub returns-in-Lost-clause-followed : goal.returns-in-Lost-clause-followed
 returns-in-Lost-clause-followed g c = λ clean.
     followed_lost (site c.args.engine.now) (audience_at c.args.seat.now) (world_of g.B.Base.state c.args.engine.now) c.args.fate.now (g.W.Write.contents c.args.out.now) c.args.line c.in-Lost.cause c.in-Lost.is
 
-pub returns-in-Lost-clause-store : goal.returns-in-Lost-clause-store
-returns-in-Lost-clause-store g c = λ clean is.
+pub returns-in-Lost-clause-continues : goal.returns-in-Lost-clause-continues
+returns-in-Lost-clause-continues g c =
     let at = site c.args.engine.now in
-    absurd (subst (FateFits at.policy at.schemes) c.in-Lost.is c.requires.fits is)
+    goes_nowhere g.B.Base.state g.B.Base.is_clean g.B.Base.failures c.args.engine.now c.requires.ready _ (λ is. subst (FateFits at.policy at.schemes) c.in-Lost.is c.requires.fits is)
 
 pub returns-in_default-clause-followed : goal.returns-in_default-clause-followed
 returns-in_default-clause-followed g c = λ clean.

@@ -1,14 +1,14 @@
-use Rattle.std.proofs.Common.{◌≡◌, ◌<◌, ◌≤◌, false, IfErr, ◌∷◌, [], sym, ap, subst, ◌∙◌}
+use Rattle.std.proofs.Common.{◌≡◌, ◌∷◌, [], sym, ap, subst, ◌∙◌}
 use Rattle.mls_lattice.specs.Labels.{AreDistinct}
 use Rattle.mls_machine.specs.Site.{Site, site_labels}
 use Rattle.mls_machine.specs.Observation.{EventsFit}
-use Rattle.mls_sessions.specs.declared.cause.RunCause.TheVariants.{Store}
 use Rattle.mls_sessions.specs.World.{world_at, IsSound}
 use Rattle.mls_monitor.specs.Sessions.{site_of, sessions_of}
 use Rattle.mls_host.specs.Hosting.{IsTold}
 use Rattle.mls_host.specs.Running.{first_world, site_of as site_for}
 use Rattle.mls_shells.specs.Shell.{opening}
 use Rattle.mls_shells.proofs.ShellEndLemmas.{opening_fits, conversation_at, shell_at}
+use Rattle.mls_sessions.proofs.FrameLemmas.{left_behind}
 use Rattle.mls_shells.proofs.shell.shell_on.Goals as goal
 
 pub converse-outcome-requires-clause-policy : goal.converse-outcome-requires-clause-policy
@@ -21,25 +21,10 @@ pub converse-outcome-requires-clause-fits : goal.converse-outcome-requires-claus
 converse-outcome-requires-clause-fits g c = subst (λ (at : Site). EventsFit at (opening c.args.seat.now ∷ [])) (sym c.new-engine.ensures.site)
     (opening_fits (site_for c.args.policy.now c.args.schemes.now c.args.stored) c.args.seat.now c.requires.may.level c.requires.may.user)
 
-pub returns-clause-clean : goal.returns-clause-clean
-returns-clause-clean g c = λ clean.
-    subst g.B.Base.is_clean c.new-engine.ensures.base (c.converse-outcome.ensures.clean (subst g.B.Base.is_clean c.finish.ensures clean))
-
-pub returns-clause-idle : goal.returns-clause-idle
-returns-clause-idle g c = subst (λ b. (g.B.Base.state b).begun ≡ false) (sym c.finish.ensures) c.converse-outcome.ensures.kept.ready.idle
-
-pub returns-clause-count : goal.returns-clause-count
-returns-clause-count g c =
-    subst (λ b. g.B.Base.failures c.args.base ≤ g.B.Base.failures b) (sym c.finish.ensures)
-    (subst (λ b. g.B.Base.failures b ≤ g.B.Base.failures c.converse-outcome.new.engine.base) c.new-engine.ensures.base c.converse-outcome.ensures.count)
-
-pub returns-clause-store : goal.returns-clause-store
-returns-clause-store g c = λ clean.
-    let new = c.converse-outcome.new.engine.base in
-    let outcome = c.converse-outcome.result in
-    subst (λ b. IfErr outcome (λ f. f.cause ≡ Store → g.B.Base.failures c.args.base < g.B.Base.failures b)) (sym c.finish.ensures)
-    (subst (λ b. IfErr outcome (λ f. f.cause ≡ Store → g.B.Base.failures b < g.B.Base.failures new)) c.new-engine.ensures.base
-    (c.converse-outcome.ensures.store (subst g.B.Base.is_clean c.finish.ensures clean)))
+pub returns-clause-leaves : goal.returns-clause-leaves
+returns-clause-leaves g c =
+    left_behind g.B.Base.state g.B.Base.is_clean g.B.Base.failures c.args.base c.new-engine.result c.converse-outcome.new.engine c.finish.result c.converse-outcome.result
+    c.new-engine.ensures.base c.finish.ensures c.converse-outcome.ensures.continues
 
 pub returns-clause-shell : goal.returns-clause-shell
 returns-clause-shell g c = λ clean.
@@ -49,12 +34,12 @@ returns-clause-shell g c = λ clean.
     let first = (g.B.Base.state c.args.base).now in
     let left = (g.B.Base.state c.finish.result).now in
     let sessions = sessions_of new.sessions.items in
-    let same : site_of new.rules ≡ at = ap site_of c.converse-outcome.ensures.kept.rules ∙ c.new-engine.ensures.site in
+    let same : site_of new.rules ≡ at = ap site_of c.converse-outcome.ensures.continues.kept.rules ∙ c.new-engine.ensures.site in
     let held : (g.B.Base.state new.base).now ≡ left = ap (λ b. (g.B.Base.state b).now) (sym c.finish.ensures) in
-    let sound : IsSound at left = subst (λ x. IsSound at x) held (subst (λ x. IsSound x (g.B.Base.state new.base).now) same (c.converse-outcome.ensures.kept.ready.sound was)) in
+    let sound : IsSound at left = subst (λ x. IsSound at x) held (subst (λ x. IsSound x (g.B.Base.state new.base).now) same (c.converse-outcome.ensures.continues.kept.ready.sound was)) in
     let last : world_at (site_of new.rules) sessions (g.B.Base.state new.base).now ≡ world_at at sessions left = λ i. world_at (same i) sessions (held i) in
     let distinct : AreDistinct (site_labels at) = subst (λ (s : Site). AreDistinct (site_labels s)) c.new-engine.ensures.site c.new-engine.ensures.ready.distinct in
-    let start = c.requires.sound (subst g.B.Base.is_clean c.new-engine.ensures.base (c.converse-outcome.ensures.clean was)) in
+    let start = c.requires.sound (subst g.B.Base.is_clean c.new-engine.ensures.base (c.converse-outcome.ensures.continues.clean was)) in
     shell_at g.L.TypedLines.echo at c.args.seat.now sessions first left (g.L.TypedLines.remaining c.args.lines.now) (g.L.TypedLines.remaining c.converse-outcome.new.lines) (g.W.Write.contents c.args.out.now) (g.W.Write.contents c.converse-outcome.new.out) (g.L.TypedLines.breaks c.converse-outcome.new.lines)
     (IsTold g.E.Write.contents c.args.err.now c.converse-outcome.new.err) c.converse-outcome.result distinct c.requires.may.read c.requires.may.certified start sound
     (conversation_at g.L.TypedLines.echo c.args.seat.now (g.L.TypedLines.remaining c.args.lines.now) (g.L.TypedLines.remaining c.converse-outcome.new.lines) (g.W.Write.contents c.args.out.now) (g.W.Write.contents c.converse-outcome.new.out) (g.L.TypedLines.breaks c.converse-outcome.new.lines)

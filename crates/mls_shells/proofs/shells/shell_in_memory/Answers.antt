@@ -40,4 +40,4 @@ returns-clause-ends g c =
 pub returns-clause-caused : goal.returns-clause-caused
 returns-clause-caused g c =
     subst (λ (r : Result Ending Refusal). IsCausedInMemory r) (sym c.ended.ensures)
-    (ended_in_memory c.shell_on-outcome.result.0 (c.shell_on-outcome.ensures.store c.close.ensures.clean))
+    (ended_in_memory c.shell_on-outcome.result.0 (c.shell_on-outcome.ensures.leaves.store c.close.ensures.clean))

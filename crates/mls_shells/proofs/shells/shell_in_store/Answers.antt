@@ -27,7 +27,7 @@ returns-clause-ends g c =
     c.args.file.now (Some c.args.path.now) (site_of c.args.policy.now c.args.file.now.schemes c.args.stored) c.args.seat.now in
     let ran : Runs c.shell_on-outcome.result.0 = λ honest.
     let clean = c.keep-closed.ensures.honest.0 honest in
-    record { first = _; left = _; begins = c.in-Ok.ensures.kept (c.shell_on-outcome.ensures.clean clean); kept = c.keep-closed.ensures.kept honest; leads = c.shell_on-outcome.ensures.shell clean } in
+    record { first = _; left = _; begins = c.in-Ok.ensures.kept (c.shell_on-outcome.ensures.leaves.clean clean); kept = c.keep-closed.ensures.kept honest; leads = c.shell_on-outcome.ensures.shell clean } in
     subst (λ (r : Result Ending Refusal). IsEnd Runs (λ reason. IsBarred (g.H.Host.hosting c.args.host.now) c.args.policy.now c.args.file.now (Some c.args.path.now) reason × Wrote [] × Told []) r) (sym c.ended.ensures)
     (ended_so Runs (λ reason. IsBarred (g.H.Host.hosting c.args.host.now) c.args.policy.now c.args.file.now (Some c.args.path.now) reason × Wrote [] × Told []) c.shell_on-outcome.result.0 c.keep-closed.result ran)
 
@@ -39,4 +39,4 @@ returns-clause-caused g c =
     let h = hosted g.H.Host.hosting g.L.TypedLines.echo c.args.host.now c.keep-closed.new.self in
     subst (λ (r : Result Ending Refusal). IsCaused h (Some c.args.path.now) r) (sym c.ended.ensures)
     (caused_in_store h c.args.path.now c.shell_on-outcome.result.0 c.keep-closed.result (g.H.Store.Base.failures c.in-Ok.base) (g.H.Store.Base.failures c.shell_on-outcome.result.1)
-    c.keep-closed.ensures.closed.1 c.keep-closed.ensures.failed.1 (λ honest. c.shell_on-outcome.ensures.store (c.keep-closed.ensures.honest.0 honest)))
+    c.keep-closed.ensures.closed.1 c.keep-closed.ensures.failed.1 (λ honest. c.shell_on-outcome.ensures.leaves.store (c.keep-closed.ensures.honest.0 honest)))

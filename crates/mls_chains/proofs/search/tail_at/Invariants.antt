@@ -1,7 +1,0 @@
-use Rattle.std.proofs.Common.{take}
-use Rattle.std.specs.List.{AllByRecursion}
-use Rattle.mls_chains.specs.Search.{IsAt}
-use Rattle.mls_chains.proofs.search.tail_at.Given as goal
-
-abbrev pub invariant-loop-tail : goal.invariant-loop-tail
-invariant-loop-tail l = AllByRecursion (λ t. IsAt l.limit l.slot t → ⊥) (take l.tail-index l.tails)

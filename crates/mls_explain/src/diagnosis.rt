@@ -1,0 +1,118 @@
+//! What opening a store comes to.
+ghost use Rattle.std.specs.Prelude.{◌≢◌, length, IfOk, IfSome};
+ghost use Rattle.mls_scheme.specs.Scheme.{AreUnder};
+ghost use Rattle.mls_explain.specs.Diagnosis.{IsDiagnosis};
+
+use crate::copies::{connection, verdict};
+use crate::rows::tell_bad;
+use crate::teller::Told;
+use mls_advice::{difference_to, relations_to};
+use mls_fragments::{OpenFault, texts_of};
+use mls_lattice::Policy;
+use mls_scheme::SchemesFile;
+use mls_screen::escape;
+use mls_statements::read_description;
+use sqlite::{Alter, Connection};
+use std::alloc::{AllocError, Global};
+
+const DAMAGED: &str =
+    "  The file is no database, or a damaged one.\n  Name another, or take the last copy of the store that was sound.\n";
+
+const OF_OTHERS: &str =
+    "  The store is of another policy or of other schemes.\n  Name its own, or files of version 2 that only add labels, or attributes, behind those of the store.\n  Any other change needs a new store: name a path where no file is, and insert the rows again.\n";
+
+const CHANGED: &str =
+    "  Something other than mldb has changed the store.\n  Take the last copy of it that was sound.\n";
+
+/// Why a store is not opened, if it is not, and lines that say more of that.
+#[derive(Drop)]
+pub struct Diagnosis {
+    pub fault: Option<OpenFault>,
+    pub text: Vec<u8>,
+}
+
+/// Appends how the texts of a connection's store differ from those of the files: the labels, or else the schemes.
+fn tell_others<S: Alter>(
+    alloc: Global,
+    text: &mut String,
+    policy: &Policy,
+    file: &SchemesFile,
+    conn: &mut Connection<S>,
+) -> Told
+    requires under { AreUnder (length policy.now.labels) file.now.schemes }
+{
+    let (labels, schemes) = texts_of(alloc, policy, file)?;
+    let Ok(found) = read_description(conn, alloc) else {
+        return Err(AllocError);
+    };
+    if found.lattice.as_str() != labels.as_str() {
+        return difference_to(text, "labels", found.lattice.as_str(), &labels);
+    }
+    difference_to(text, "schemes", found.schemes.as_str(), &schemes)?;
+    relations_to(text, found.schemes.as_str(), &schemes)
+}
+
+/// What to do where a store is not opened; nothing for want of memory.
+fn advice_of(fault: OpenFault) -> Option<&'static str>
+    ensures { IfSome result (λ _. fault ≢ OpenFault.Memory) }
+{
+    match fault {
+        OpenFault::Store => Some(DAMAGED),
+        OpenFault::OtherPolicy => Some(OF_OTHERS),
+        OpenFault::BadRows => Some(CHANGED),
+        OpenFault::Memory => None,
+    }
+}
+
+/// What is told of a store that is not opened, and what to do: lines without control characters. One of others, or with bad rows, was
+/// opened before, so that only memory can lack.
+fn lines_of(
+    alloc: Global,
+    log: &[u8],
+    db: &[u8],
+    policy: &Policy,
+    file: &SchemesFile,
+    fault: OpenFault,
+) -> Result<Vec<u8>, AllocError>
+    requires under { AreUnder (length policy.now.labels) file.now.schemes }
+    ensures { IfOk result (λ _. fault ≢ OpenFault.Memory) }
+{
+    let Some(advice) = advice_of(fault) else {
+        return Err(AllocError);
+    };
+    let mut text = String::new(alloc);
+    match (fault, connection(alloc, log, db)) {
+        (OpenFault::OtherPolicy, Ok(mut conn)) => {
+            tell_others(alloc, &mut text, policy, file, &mut conn)?
+        }
+        (OpenFault::BadRows, Ok(mut conn)) => tell_bad(alloc, &mut text, policy, file, &mut conn)?,
+        (OpenFault::Store, _) => {}
+        _ => return Err(AllocError),
+    }
+    text.push_str(advice)?;
+    Ok(escape(alloc, text.as_bytes())?)
+}
+
+/// What opening a store comes to whose log and database file have these bytes, under a policy and schemes. All is done over copies of
+/// them, one after another.
+pub fn diagnosis_of(
+    alloc: Global,
+    log: &[u8],
+    db: &[u8],
+    policy: &Policy,
+    file: &SchemesFile,
+) -> Result<Diagnosis, AllocError>
+    requires under { AreUnder (length policy.now.labels) file.now.schemes }
+    ensures { IfOk result (λ d. IsDiagnosis policy.now file.now log.now db.now d.fault) }
+{
+    match verdict(alloc, log, db, policy, file) {
+        Ok(()) => Ok(Diagnosis {
+            fault: None,
+            text: Vec::new(alloc),
+        }),
+        Err(fault) => Ok(Diagnosis {
+            fault: Some(fault),
+            text: lines_of(alloc, log, db, policy, file, fault)?,
+        }),
+    }
+}

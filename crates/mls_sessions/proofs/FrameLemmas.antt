@@ -1,0 +1,68 @@
+-- What runs leave of an engine and of its base, put together.
+use Rattle.std.proofs.Common.{◌≡◌, ℕ, ◌<◌, ◌≤◌, Result, Ok, Err, IfErr, refl, sym, ◌∙◌, subst, arith}
+use Rattle.std.specs.Prelude.{IsErrAnd}
+use Rattle.mls_filterview.specs.Content.{State}
+use Rattle.mls_sessions.specs.declared.cause.RunCause.TheVariants.{Store, Memory}
+use Rattle.mls_sessions.specs.declared.cause.RunFault.{RunFault}
+use Rattle.mls_sessions.specs.declared.engine.Engine.{Engine}
+use Rattle.mls_sessions.specs.Engine.{IsReady, Continues, Leaves}
+
+-- an error that is passed on
+pub carried : {A F : Type 0} (P : Result A F → Type 0) (r : Result A F) (f : F) → IsErrAnd r (λ e. e ≡ f) → P (Err f) → P r
+carried P (Ok a) f h p = absurd h
+carried P (Err e) f h p = subst (λ x. P (Err x)) (sym h) p
+
+least : {a b c : ℕ} → a ≤ b → b ≤ c → a ≤ c
+least h k = omega arith
+
+less : {a b c : ℕ} → a ≤ b → b < c → a < c
+less h k = omega arith
+
+module _ {B : Type 0} (state : B → State) (is_clean : B → Type 0) (failures : B → ℕ) where
+  abbrev Goes : {A : Type 0} → Engine B → Engine B → Result A RunFault → Type 0
+  Goes = Continues state is_clean failures
+
+  -- up to here all went well
+  abbrev pub WentWell : Engine B → Engine B → Type 0
+  WentWell old now = let all : Result (Unit {0}) RunFault = Ok tt in Goes old now all
+
+  -- nothing was done
+  pub goes_nowhere : {A : Type 0} (e : Engine B) → IsReady state is_clean e → (r : Result A RunFault) → IfErr r (λ f. f.cause ≡ Store → ⊥) → Goes e e r
+  goes_nowhere e ready (Ok a) h = record { clean = λ c. c; count = omega arith; kept = record { rules = refl; ready = ready }; store = λ c. tt }
+  goes_nowhere e ready (Err f) h = record { clean = λ c. c; count = omega arith; kept = record { rules = refl; ready = ready }; store = λ c is. absurd (h is) }
+
+  -- the first of it stopped
+  pub goes_first : {A C : Type 0} (a b : Engine B) (f : RunFault) → Goes {A = A} a b (Err f) → Goes {A = C} a b (Err f)
+  goes_first a b f h = record { clean = h.clean; count = h.count; kept = h.kept; store = h.store }
+
+  -- all is done, or memory stops it
+  module _ {A C : Type 0} (a b : Engine B) (x : A) (h : Goes a b (Ok x)) where
+    pub goes_well : (y : C) → Goes a b (Ok y)
+    goes_well y = record { clean = h.clean; count = h.count; kept = h.kept; store = λ is. tt }
+
+    pub worn_frame : (f : RunFault) → f.cause ≡ Memory → Goes {A = C} a b (Err f)
+    worn_frame f memory = record { clean = h.clean; count = h.count; kept = h.kept; store = λ is store. absurd (let e : Memory ≡ Store = sym memory ∙ store in cc) }
+
+  module _ {A C D : Type 0} (a b c : Engine B) (x : A) (h : Goes a b (Ok x)) where
+    -- all is done, or the last of it stopped
+    pub goes_on : (y : C) (z : D) → Goes b c (Ok y) → Goes a c (Ok z)
+    goes_on y z k = record {
+      clean = λ is. h.clean (k.clean is);
+      count = least h.count k.count;
+      kept = record { rules = k.kept.rules ∙ h.kept.rules; ready = k.kept.ready };
+      store = λ is. tt;
+    }
+
+    pub goes_to : (f : RunFault) → Goes {A = C} b c (Err f) → Goes {A = D} a c (Err f)
+    goes_to f k = record {
+      clean = λ is. h.clean (k.clean is);
+      count = least h.count k.count;
+      kept = record { rules = k.kept.rules ∙ h.kept.rules; ready = k.kept.ready };
+      store = λ is s. less h.count (k.store is s);
+    }
+
+  -- a base is given back
+  pub left_behind : {A : Type 0} (base : B) (old new : Engine B) (left : B) (r : Result A RunFault) → old.base ≡ base → left ≡ new.base → Goes old new r → Leaves state is_clean failures base left r
+  left_behind base old new left r from to h =
+      subst (λ b. Leaves state is_clean failures base b r) (sym to) (subst (λ b. Leaves state is_clean failures b new.base r) from
+      (record { clean = h.clean; idle = h.kept.ready.idle; count = h.count; store = h.store }))

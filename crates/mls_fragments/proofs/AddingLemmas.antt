@@ -107,13 +107,13 @@ module _ (T : Table) (p : Place) (es : List Element) (none : get T p ≡ None) w
   abbrev with_tuple : Table
   with_tuple = insert T p es
 
-  entries_new : IsPermutation (entries with_tuple) ((p, es) ∷ entries T)
+  pub entries_new : IsPermutation (entries with_tuple) ((p, es) ∷ entries T)
   entries_new = subst (λ l. IsPermutation l ((p, es) ∷ entries T)) (sym (entries-insert place_total T p es)) (put_new p es (entries T) (sym (get-entries T p) ∙ none))
 
-  get_new : (q : Place) → q ≡ p → get with_tuple q ≡ Some es
+  pub get_new : (q : Place) → q ≡ p → get with_tuple q ≡ Some es
   get_new q e = get_put T p es q ∙ cond-true _ _ _ (is_place-same q p e)
 
-  get_old : (q : Place) (us : List Element) → get T q ≡ Some us → get with_tuple q ≡ Some us
+  pub get_old : (q : Place) (us : List Element) → get T q ≡ Some us → get with_tuple q ≡ Some us
   get_old q us e = get_put T p es q ∙ cond-false _ _ _ (false_from_ne_true (is_place q p) (λ b. none-some us (sym none ∙ ap (get T) (sym (is_place-true q p b)) ∙ e))) ∙ e
 
   -- tuples stay shared

@@ -233,7 +233,7 @@ pub none_sorted : IsStrictlySortedBy place_cmp (keys_of {K = Place} {X = List El
 unfolding IsStrictlySortedBy
 none_sorted = tt
 
-nothing : (p : Place) (es : List Element) → get (table_of []) p ≡ Some es → ⊥
+pub nothing : (p : Place) (es : List Element) → get (table_of []) p ≡ Some es → ⊥
 nothing p es h = (in_table_of [] none_sorted (p, es)).1 h
 
 empty_content : (ls : Labels) (scheme : Scheme) → IsContent ls scheme (table_of [])

@@ -5,6 +5,10 @@ pub mod CallLemmas
 pub mod DroppingLemmas
 pub mod FindingLemmas
 pub mod KnownLemmas
+pub mod PartLemmas
+pub mod JoiningLemmas
+pub mod CutLemmas
+pub mod JudgingLemmas
 pub mod WithinLemmas
 pub mod MigratingLemmas
 pub mod NotedLemmas

@@ -55,6 +55,10 @@ noted_as rows n changes is last meta bytes holds = record {
   last = last ∙ ap (λ cs. pos (length (content_of cs).audit)) (sym is);
 }
 
+-- so of a note that is copied
+pub noted_copied : (rows : Tables) (n m : Noted) → m.content.changes ≡ n.content.changes → m.last ≡ n.last → IsNoted rows n → IsNoted rows m
+noted_copied rows n m changes last noted = noted_as rows m n.content.changes changes (last ∙ noted.last) noted.meta noted.classes noted.holds
+
 -- a new store holds nothing
 pub noted_none : (version : Version) (lattice schemes : List ℕ) (rows : Tables) (n : Noted) → rows ≡ described (version_number version) lattice schemes → n.content.changes ≡ [] → n.last ≡ pos 0 → IsNoted rows n
 noted_none version lattice schemes rows n is changes last =

@@ -1,6 +1,6 @@
 -- Content, and the changes that make it.
 use Rattle.std.specs.Prelude.{ℕ, List, [], ◌∷◌, ◌++◌, slice_index_or, Option}
-use Rattle.std.specs.FinMap.{get, insert, remove}
+use Rattle.std.specs.FinMap.{get, insert, remove, entries}
 use Rattle.mls_scheme.specs.declared.value.Value.{Value}
 use Rattle.mls_scheme.specs.declared.tuple.Element.{Element}
 use Rattle.mls_scheme.specs.declared.place.Place.{Place}
@@ -39,10 +39,20 @@ table_in tables rel = table_of (slice_index_or tables rel [])
 abbrev pub found : List Entries → List (List ℕ) → Content
 found tables audit = record { db = table_in tables; audit = audit }
 
--- what a store has when it is opened; or a tuple more, a value in the place of another, a tuple less, an entry more, or
+-- a table with more tuples
+abbrev pub with_entries : Table → Entries → Table
+with_entries T [] = T
+with_entries T (e ∷ es) = insert (with_entries T es) e.0 e.1
+
+-- content with the tuples of more tables
+abbrev pub with_tables : Content → List Entries → Content
+with_tables c tables = record c { db = λ rel. with_entries (c.db rel) (entries (table_in tables rel)) }
+
+-- what a store has when it is opened, all at once or table by table; or a tuple more, a value in the place of another, a tuple less, an entry more, or
 -- no entry
 pub data Change : Type 0 where
   Finds : (tables : List Entries) (audit : List (List ℕ)) → Change
+  Joins : (tables : List Entries) → Change
   Adds : (rel : ℕ) (node : Node) (cells : List Cell) → Change
   Sets : (rel : ℕ) (place : Place) (attr : ℕ) (value : Option Value) → Change
   Drops : (rel : ℕ) (place : Place) → Change
@@ -53,6 +63,7 @@ pub data Change : Type 0 where
 abbrev pub content_of : List Change → Content
 content_of [] = no_content
 content_of (Finds tables audit ∷ before) = found tables audit
+content_of (Joins tables ∷ before) = with_tables (content_of before) tables
 content_of (Adds rel node cells ∷ before) = with_tuple (content_of before) rel node cells
 content_of (Sets rel place attr value ∷ before) = with_value (content_of before) rel place attr value
 content_of (Drops rel place ∷ before) = without_tuple (content_of before) rel place

@@ -7,4 +7,5 @@ pub mod Finding
 pub mod Migrating
 pub mod Opening
 pub mod OneContent
+pub mod Parts
 pub mod Again

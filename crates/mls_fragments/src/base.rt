@@ -1,5 +1,5 @@
 //! A base over the tables of a store.
-ghost use Rattle.std.specs.Prelude.{◌≡◌, List, ℕ, pos, false, length, IsTrue};
+ghost use Rattle.std.specs.Prelude.{◌≡◌, List, ℕ, false, IsTrue};
 ghost use Rattle.sqlite.specs.State.{HasCleanDisk};
 ghost use Rattle.sqlite.specs.Held.{state};
 ghost use Rattle.mls_filterview.specs.Content.{no_content};
@@ -9,13 +9,12 @@ ghost use Rattle.mls_statements.specs.declared.rows.MetaRow.{MetaRow};
 ghost use Rattle.mls_statements.specs.Rows.{described, tables_of};
 ghost use Rattle.mls_statements.specs.Statements.{IsReady};
 ghost use Rattle.mls_statements.specs.Store.{IsClean};
-ghost use Rattle.mls_fragments.specs.Based.{HasRow, state_of};
-ghost use Rattle.mls_fragments.specs.Finding.{HasByteClasses, content_found};
+ghost use Rattle.mls_fragments.specs.Based.{HasRow, IsNoted, state_of};
+ghost use Rattle.mls_fragments.specs.Changes.{content_of};
 ghost use Rattle.mls_fragments.specs.Holding.{Holds};
 ghost use Rattle.mls_fragments.specs.Holdings.{HasHoldings, HaveOneMeta, holdings_of};
 
 use crate::entity::{read_entity, read_pattern};
-use crate::finding::Found;
 use crate::noted::{Noted, fall};
 use crate::reading::{read_entries, read_fragment};
 use crate::writing::{add_entry, add_tuple, drop_tuple, set_value};
@@ -65,22 +64,25 @@ impl<S: Alter> SqlBase<S> {
         }
     }
 
-    /// A base over tables that hold what was found.
-    pub(crate) fn over_found(alloc: Global, store: TableStore<S>, found: &Found) -> SqlBase<S>
+    /// A base over tables that hold what is noted.
+    pub(crate) fn over_found(alloc: Global, store: TableStore<S>, found: Noted) -> SqlBase<S>
         requires mode { store.begun ≡ false }
         requires kept { IsClean store → store.kept ≡ store.now }
-        requires meta { IsClean store → HaveOneMeta store.now }
-        requires holds { IsClean store → Holds store.now (content_found found.now) }
-        requires classes { HasByteClasses (content_found found.now) }
-        requires last { found.now.last ≡ pos (length found.now.entries) }
-        ensures content { state_of result ≡ record { now = content_found found.now; kept = content_found found.now; begun = false } }
+        requires noted { IsClean store → IsNoted store.now found }
+        ensures content { state_of result ≡ record {
+          now = content_of found.content.changes;
+          kept = content_of found.content.changes;
+          begun = false;
+        } }
         ensures tables { result.tables ≡ store }
     {
+        let mut kept = Noted::new();
+        kept.copy(&found);
         SqlBase {
             alloc,
             store,
-            now: Noted::find(found),
-            kept: Noted::find(found),
+            now: found,
+            kept,
         }
     }
 

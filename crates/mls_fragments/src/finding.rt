@@ -129,7 +129,7 @@ fn pass_numbered(rows: &[AuditRow], at: &mut Where) {
 }
 
 /// The entries of rows whose numbers are 1, 2, .. up to their count.
-fn entries_of(
+pub(crate) fn entries_of(
     alloc: Global,
     labels: usize,
     mut rows: Vec<AuditRow>,

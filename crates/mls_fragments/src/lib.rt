@@ -6,6 +6,7 @@ mod base;
 mod comparing;
 mod entity;
 mod finding;
+mod judging;
 mod laws;
 mod migrating;
 mod noted;

@@ -26,8 +26,10 @@ ghost use Rattle.mls_fragments.specs.Opening.{IsFoundIn, IsFoundUnadopted, IsRef
 
 use crate::base::SqlBase;
 use crate::comparing::{cell_rows, node_rows};
-use crate::finding::{Found, find};
+use crate::finding::Found;
+use crate::judging::judge;
 use crate::migrating::{Older, Standing, find_widened, standing_of};
+use crate::noted::Noted;
 use crate::open_fault::OpenFault;
 use crate::place::Where;
 use mls_lattice::Policy;
@@ -105,9 +107,8 @@ fn taken<S: Alter>(
         Ok(rows) => rows,
         Err(fault) => return Err((OpenFault::from(fault), conn)),
     };
-    let mut at = Where::start();
-    match find(alloc, policy, schemes, policy.label_count(), rows, &mut at) {
-        Ok(found) => Ok(SqlBase::over_found(alloc, TableStore::over(alloc, conn), &found)),
+    match judge(alloc, policy, schemes, policy.label_count(), rows) {
+        Ok(noted) => Ok(SqlBase::over_found(alloc, TableStore::over(alloc, conn), noted)),
         Err(fault) => Err((OpenFault::from(fault), conn)),
     }
 }
@@ -175,7 +176,11 @@ fn migrated<S: Alter>(
         Err(fault) => return Err((OpenFault::from(fault), conn)),
     };
     match rewritten(alloc, &mut conn, &found, texts) {
-        Ok(()) => Ok(SqlBase::over_found(alloc, TableStore::over(alloc, conn), &found)),
+        Ok(()) => Ok(SqlBase::over_found(
+            alloc,
+            TableStore::over(alloc, conn),
+            Noted::find(&found),
+        )),
         Err(fault) => Err((fault, conn)),
     }
 }

@@ -2,7 +2,7 @@
 ghost use Rattle.std.specs.Prelude.{◌≡◌, List, [], ◌∷◌, map};
 ghost use Rattle.std.specs.Borrow.{ftrue};
 ghost use Rattle.mls_fragments.specs.Changes.{Change};
-ghost use Rattle.mls_fragments.specs.Changes.Change.{Finds, Adds, Sets, Drops, Appends, Clears};
+ghost use Rattle.mls_fragments.specs.Changes.Change.{Finds, Joins, Adds, Sets, Drops, Appends, Clears};
 
 use mls_filterview::{Cell, Node, Rows};
 use mls_lattice::Items;
@@ -56,6 +56,13 @@ impl Recalled {
         ensures { self.new.changes ≡ Finds (map (λ t. t.entries) tables.now) entries.now ∷ [] }
     {
         self.note(&(tables, entries));
+    }
+
+    /// The tuples of more tables.
+    pub fn join(&mut self, tables: &[Rows])
+        ensures { self.new.changes ≡ Joins (map (λ t. t.entries) tables.now) ∷ self.old.changes }
+    {
+        self.note(&tables);
     }
 
     /// One tuple more.

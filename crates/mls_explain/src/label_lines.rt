@@ -111,16 +111,16 @@ impl Teller<'_> {
 
     /// Adds over which rows a loop goes; a branch adds nothing.
     fn loop_to(&self, text: &mut String, number: usize) -> Told {
-        if let Some(
-            Stmt::For {
+        if let Some(stmt) = self.stmt(number) {
+            if let Stmt::For {
                 relation,
                 label,
                 ..
-            },
-        ) = self.stmt(number)
-        {
-            let (relation, label) = (self.relation(*relation), self.label(*label));
-            write!(text, ", for each row of {relation} that {label} sees")?;
+            } = stmt
+            {
+                let (relation, label) = (self.relation(*relation), self.label(*label));
+                write!(text, ", for each row of {relation} that {label} sees")?;
+            }
         }
         Ok(())
     }
@@ -140,14 +140,12 @@ impl Teller<'_> {
     /// What each release tells, and all together.
     pub(crate) fn releases_to(&self, text: &mut String) -> Told {
         let releases = ranges_of(self.alloc, self.tx)?;
-        let mut count: usize = 0;
+        let mut told = releases.told.iter();
         for (place, statement) in self.statements.iter().enumerate() {
-            if let (Stmt::Release { .. }, Some(release)) = (
-                statement.stmt,
-                releases.told.get(count),
-            ) {
-                self.release_to(text, place + 1, release)?;
-                count = count.saturating_add(1);
+            if let Stmt::Release { .. } = statement.stmt {
+                if let Some(release) = told.next() {
+                    self.release_to(text, place + 1, release)?;
+                }
             }
         }
         match whole(self.alloc, &releases)? {

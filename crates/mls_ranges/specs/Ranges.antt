@@ -6,7 +6,7 @@ use Rattle.mls_scheme.specs.declared.value.Value.TheVariants.{Int, Text}
 use Rattle.mls_translang.specs.declared.operator.Operator.{Operator}
 use Rattle.mls_translang.specs.declared.operator.Operator.TheVariants.{Plus}
 use Rattle.mls_translang.specs.Tree.{Expr}
-use Rattle.mls_meaning.specs.Expressions.{Environment, value_in}
+use Rattle.mls_meaning.specs.Expressions.{Datum, value_of, calculate, apply, Environment, value_in}
 use Rattle.mls_meaning.specs.Meaning.{Variables}
 use Rattle.mls_ranges.specs.declared.bounds.Bounds.{Bounds}
 use Rattle.mls_ranges.specs.declared.range.Range.{Range}
@@ -41,6 +41,10 @@ Includes r q = (v : Option Value) → Holds q v → Holds r v
 abbrev pub arithmetic : Operator → (ℤ → ℤ → ℤ)
 arithmetic Plus = ◌+ℤ◌
 arithmetic _ = ◌-ℤ◌
+
+abbrev pub IsArithmetic : Operator → Type 0
+IsArithmetic operator =
+    (x y : Datum) → value_of (apply operator x y) ≡ calculate (arithmetic operator) (value_of x) (value_of y)
 
 -- ---- variables
 

@@ -1,6 +1,6 @@
 //! Integers from one to another.
-ghost use Rattle.std.specs.Prelude.{ℤ, ◌+ℤ◌, ◌-ℤ◌, IfSome};
-ghost use Rattle.mls_ranges.specs.Ranges.{Within, arithmetic};
+ghost use Rattle.std.specs.Prelude.{ℤ, ◌+ℤ◌, ◌-ℤ◌, IfSome, IsSome};
+ghost use Rattle.mls_ranges.specs.Ranges.{Within, arithmetic, IsArithmetic};
 
 use mls_translang::Operator;
 
@@ -32,7 +32,8 @@ impl Bounds {
 
     /// What the results of an operator lie within, where that is told.
     pub(crate) fn apply(self, operator: Operator, other: Bounds) -> Option<Bounds>
-        ensures { IfSome result (λ b. (m n : ℤ) → Within self m → Within other n → Within b (arithmetic operator m n)) }
+        ensures within { IfSome result (λ b. (m n : ℤ) → Within self m → Within other n → Within b (arithmetic operator m n)) }
+        ensures arithmetic { IsSome result → IsArithmetic operator }
     {
         match operator {
             Operator::Plus => self.plus(other),

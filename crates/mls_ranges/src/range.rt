@@ -2,8 +2,8 @@
 ghost use Rattle.std.specs.Prelude.{◌≡◌, IfOk, OnOk, Option as SpecOption, Some};
 ghost use Rattle.std.specs.List.{Contains};
 ghost use Rattle.mls_scheme.specs.declared.value.Value.{Value as SpecValue};
-ghost use Rattle.mls_meaning.specs.Expressions.{Datum, value_of, apply, calculate};
-ghost use Rattle.mls_ranges.specs.Ranges.{IsAmong, IsBetween, Holds, Includes, any_value, arithmetic};
+ghost use Rattle.mls_meaning.specs.Expressions.{Datum, value_of, apply};
+ghost use Rattle.mls_ranges.specs.Ranges.{IsAmong, IsBetween, Holds, Includes, any_value};
 
 use crate::bounds::Bounds;
 use mls_lattice::Items;
@@ -135,10 +135,10 @@ impl Range {
         })
     }
 
-    /// What arithmetic gives: any value where a result may lie out of bounds, since that is null.
-    fn calculated(&self, operator: Operator, other: &Range) -> Range
-        ensures { (x y : SpecOption SpecValue) → Holds self.now x → Holds other.now y
-            → Holds result (calculate (arithmetic operator) x y) }
+    /// What an operator gives: any value where a result may lie out of bounds, since that is null.
+    pub(crate) fn apply(&self, operator: Operator, other: &Range) -> Range
+        ensures { (x y : Datum) → Holds self.now (value_of x) → Holds other.now (value_of y)
+            → Holds result (value_of (apply operator x y)) }
     {
         let (Some(left), Some(right)) = (self.bounds, other.bounds) else {
             return Range::any();
@@ -150,18 +150,6 @@ impl Range {
                 bounds: Some(bounds),
             },
             None => Range::any(),
-        }
-    }
-
-    /// What an operator gives.
-    pub(crate) fn apply(&self, operator: Operator, other: &Range) -> Range
-        ensures { (x y : Datum) → Holds self.now (value_of x) → Holds other.now (value_of y)
-            → Holds result (value_of (apply operator x y)) }
-    {
-        match operator {
-            Operator::Plus => self.calculated(Operator::Plus, other),
-            Operator::Minus => self.calculated(Operator::Minus, other),
-            _ => Range::any(),
         }
     }
 

@@ -64,6 +64,7 @@ impl Ranges {
     }
 
     /// What values an expression can have.
+    #[tactic(auto, unfolding(mls_meaning::specs::Expressions::eval))]
     pub fn range_of(&self, alloc: Global, expr: &Expr) -> Result<Range, AllocError>
         ensures { IfOk result (Gives self.now.vars.items expr.now) }
     {

@@ -37,11 +37,9 @@ fn parts_of(alloc: Global, range: &Range, kind: Kind) -> Result<Vec<String>, All
             }
         }
     } else {
-        let kind = match kind {
-            Kind::Int => "integer",
-            Kind::Text => "text",
-        };
-        parts.push(format!(in alloc; "any {kind}")?)?;
+        let number = kind == Kind::Int;
+        let any = if number { "any integer" } else { "any text" };
+        parts.push(String::from_str(alloc, any)?)?;
     }
     if range.null {
         parts.push(String::from_str(alloc, "null")?)?;
@@ -65,12 +63,9 @@ pub fn words(alloc: Global, told: &Told, kind: Kind) -> Result<String, AllocErro
     let mut text = String::new(alloc);
     let parts = parts_of(alloc, &told.range, kind)?;
     for (place, part) in parts.iter().enumerate() {
+        let last = place + 1 == parts.len();
         if place > 0 {
-            text.push_str(if place + 1 == parts.len() {
-                " or "
-            } else {
-                ", "
-            })?;
+            text.push_str(if last { " or " } else { ", " })?;
         }
         text.push_str(part)?;
     }

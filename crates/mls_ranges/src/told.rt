@@ -4,7 +4,7 @@ ghost use Rattle.mls_ranges.specs.Releases.{AreTold};
 
 use crate::range::Range;
 use crate::ranges::Ranges;
-use crate::walking::Walk;
+use crate::walking::{TURNS, Walk};
 use mls_lattice::{Items, LabelNo};
 use mls_translang::Tx;
 use std::alloc::{AllocError, Global};
@@ -35,7 +35,12 @@ pub fn ranges_of(alloc: Global, tx: &Tx) -> Result<Releases, AllocError>
     ensures { IfOk result (λ r. AreTold tx.now r.told) }
 {
     let ranges = Ranges::nulls(alloc, tx.vars().len())?;
-    let walked = Walk::new(alloc).block(&ranges, tx.body())?;
+    let walk = Walk {
+        alloc,
+        looped: false,
+        turns: TURNS,
+    };
+    let walked = walk.block(&ranges, tx.body())?;
     Ok(Releases {
         told: Items::from(walked.told),
         lists: walked.lists,

@@ -1,14 +1,8 @@
-use Rattle.std.proofs.Common.{sym, ◌∙◌, subst, arith, take}
+use Rattle.std.proofs.Common.{sym, subst, arith, take}
 use Rattle.std.specs.List.{All, Contains}
 use Rattle.std.proofs.lemmas.List.{take_all}
-use Rattle.std.proofs.lemmas.List.Elements.{All-contains, All-nil, All-weaker, All-more}
+use Rattle.std.proofs.lemmas.List.Elements.{All-contains, All-weaker, All-more}
 use Rattle.mls_ranges.proofs.range.union.Goals as goal
-
-pub loop-value-init : goal.loop-value-init
-loop-value-init c = record {
-  these = λ v h. subst (λ l. Contains l v) (sym (c.into_vec-all.ensures ∙ c.in_ok-copy_key.ensures)) h;
-  those = All-nil (Contains c.into_vec-all.result.items);
-}
 
 pub loop-value-preserved : goal.loop-value-preserved
 loop-value-preserved c =

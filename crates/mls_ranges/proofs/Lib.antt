@@ -1,3 +1,0 @@
-pub mod RangeLemmas
-pub mod CoverLemmas
-pub mod LawLemmas

@@ -1,2 +1,3 @@
+-- The definitions of tables of cases.
 pub mod Lines
 pub mod Told

@@ -13,7 +13,7 @@ use Rattle.mls_filterview.specs.Stored.{AreContent}
 use Rattle.mls_translang.specs.declared.tx.Parameter.{Parameter}
 use Rattle.mls_translang.specs.Tx.{Tx}
 use Rattle.mls_scheme.specs.Value.{fits_kind}
-use Rattle.mls_meaning.specs.Laws.{ArgsFit}
+use Rattle.mls_certcheck.specs.MeaningLaws.{ArgsFit}
 use Rattle.mls_machine.specs.declared.stored.Stored.{Stored}
 use Rattle.mls_sessions.specs.World.{IsSound}
 use Rattle.mls_lattice.specs.Policy.{Tables}

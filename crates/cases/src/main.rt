@@ -1,5 +1,6 @@
-//! Cases: what the public calls answer for the tables in `data/`, and what runs of its scripts leave where something fails. Adding a case is
-//! adding a line there, and its answer to `stdout`.
+//! Cases: what the public calls answer for the tables in `data/`, and what runs of its scripts leave where
+//! something fails. Adding a case is adding a line there, and its answer to `stdout`. It needs none of the
+//! command line, so that it is proved beside that.
 #![tactic(auto)]
 
 ghost use Rattle.std.specs.Prelude.{length};

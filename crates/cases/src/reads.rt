@@ -26,11 +26,11 @@ struct Broken {
     failures: u64,
 }
 
-fn fragment_of(alloc: Global, rows: &[Row], label: LabelNo) -> Result<Fragment, AllocError> {
+fn fragments_of(alloc: Global, rows: &[Row], labels: &[LabelNo]) -> Result<Fragment, AllocError> {
     let mut nodes = Vec::new(alloc);
     let mut cells = Vec::new(alloc);
     for row in rows {
-        if row.place.class == label {
+        if labels.contains(&row.place.class) {
             nodes.push(node_of(alloc, &row.place, &row.elements)?)?;
             add_cells(&mut cells, &row.place, &row.elements)?;
         }
@@ -39,6 +39,27 @@ fn fragment_of(alloc: Global, rows: &[Row], label: LabelNo) -> Result<Fragment, 
         nodes: Items::from(nodes),
         cells: Items::from(cells),
     })
+}
+
+impl Broken {
+    ghost use Rattle.std.specs.Prelude.{false};
+    ghost use Rattle.mls_filterview.specs.Calls.{IsRead};
+    ghost use Rattle.mls_filterview.specs.Content.{no_content};
+
+    /// What these labels hold.
+    fn held(&mut self, labels: &[LabelNo]) -> Result<Fragment, BaseFault>
+        ensures { IsRead (λ _. ⊥) (λ b. b.failures) (λ _. record { now = no_content; kept = no_content; begun = false })
+            self.old self.new result }
+    {
+        if labels.contains(&self.broken) {
+            self.failures = self.failures.checked_add(1).ok_or(BaseFault::Memory)?;
+            return Err(BaseFault::Store);
+        }
+        match fragments_of(self.alloc, &self.rows, labels) {
+            Ok(fragment) => Ok(fragment),
+            Err(_) => Err(BaseFault::Memory),
+        }
+    }
 }
 
 impl Base for Broken {
@@ -68,14 +89,11 @@ impl Base for Broken {
     }
 
     fn fragment(&mut self, _rel: RelNo, label: LabelNo) -> Result<Fragment, BaseFault> {
-        if self.broken == label {
-            self.failures = self.failures.checked_add(1).ok_or(BaseFault::Memory)?;
-            return Err(BaseFault::Store);
-        }
-        match fragment_of(self.alloc, &self.rows, label) {
-            Ok(fragment) => Ok(fragment),
-            Err(_) => Err(BaseFault::Memory),
-        }
+        self.held(&[label])
+    }
+
+    fn fragments(&mut self, _rel: RelNo, labels: &[LabelNo]) -> Result<Fragment, BaseFault> {
+        self.held(labels)
     }
 
     fn entity(&mut self, _rel: RelNo, _place: &Place) -> Result<Fragment, BaseFault> {

@@ -1,8 +1,8 @@
 //! mldb: a relational database whose elements have security levels.
 #![tactic(auto)]
 
+use mls_command::run;
 use mls_host::Usage;
-use mls_system::run;
 use std::io::ErrorKind;
 use std::process::ExitCode;
 

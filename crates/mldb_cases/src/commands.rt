@@ -2,7 +2,7 @@
 use crate::files::{make_copy, make_lines, make_text};
 use crate::stores::{FilesOfStore, store_word};
 use case_tables::{Case, Told, joined, text_of};
-use mls_system::{Written, run_kept};
+use mls_command::{Written, run_kept};
 use std::io;
 
 /// The file that has what stands below a command line.

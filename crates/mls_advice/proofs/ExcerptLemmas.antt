@@ -7,7 +7,7 @@ use Rattle.std.specs.Fmt.{digits, padded_integral, format_spec}
 use Rattle.std.proofs.lemmas.Fmt.{hex_byte}
 use Rattle.std.proofs.lemmas.Str.{chars_past_char, chars-nil}
 use Rattle.std.proofs.lemmas.List.{nil_from_length}
-use Rattle.mls_screen.specs.Screen.{hex_escape}
+use Rattle.mls_tokens.specs.Screen.{hex_escape}
 use Rattle.mls_advice.specs.Excerpt.{shown_char, shown}
 
 pub escape_written : (n : ℕ) → n < 256 → codes "\\x" ++ padded_integral (format_spec 32 0 4 2 (2 ^ 64 - 1)) false [] (digits 16 false n) ≡ hex_escape n

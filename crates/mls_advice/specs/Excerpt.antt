@@ -3,7 +3,7 @@ use Rattle.std.specs.Prelude.{◌≡◌, ℕ, Bool, if◌then◌else◌, List, �
 use Rattle.std.specs.List.{flat_map}
 use Rattle.std.specs.Char.{is_control, encode_utf8}
 use Rattle.std.specs.Fmt.{decimal}
-use Rattle.mls_screen.specs.Screen.{hex_escape}
+use Rattle.mls_tokens.specs.Screen.{hex_escape}
 
 -- a character as a screen is given it
 abbrev pub shown_char : ℕ → List ℕ

@@ -1,1 +1,2 @@
+-- The definitions of what is told of a place in a file.
 pub mod Excerpt

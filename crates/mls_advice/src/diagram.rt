@@ -81,7 +81,8 @@ impl<'a> Drawing<'a> {
         Ok(())
     }
 
-    /// Appends the labels in rows, from the top down, and then what each covers.
+    /// Appends the labels in rows, from the top down, and then what each covers, since rows have no edges. Each
+    /// label stands below those that dominate it, and no two of a row are comparable.
     fn labels_to(&self, text: &mut String) -> Told {
         let mut rows = Vec::new(self.alloc);
         let mut covers = String::new(self.alloc);

@@ -5,7 +5,7 @@ ghost use Rattle.mls_advice.specs.Excerpt.{Begins, place_line, file_line};
 use crate::columns::Told;
 use crate::shown::{bytes_to, text_to};
 use mls_lattice::is_name_byte;
-use mls_screen::columns;
+use mls_tokens::columns;
 use std::alloc::{AllocError, Global};
 
 /// How many bytes of a line are shown before a place, and how many from there on.

@@ -1,6 +1,6 @@
 //! Texts as a screen is given them: no control character, and no byte that is no UTF-8.
 ghost use Rattle.std.specs.Prelude.{◌≡◌, ◌++◌, ◌<◌, string_bytes, OnOk};
-ghost use Rattle.mls_screen.specs.Screen.{hex_escape};
+ghost use Rattle.mls_tokens.specs.Screen.{hex_escape};
 ghost use Rattle.mls_advice.specs.Excerpt.{shown_char, shown};
 
 use std::alloc::AllocError;

@@ -1,3 +1,4 @@
+//! Entries of the audit list.
 ghost use Rattle.std.specs.Prelude.{◌≡◌, ◌↔◌, IsTrue, IfOk};
 ghost use Rattle.mls_audit.specs.Entry.{label_of};
 

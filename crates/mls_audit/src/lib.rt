@@ -9,6 +9,7 @@ mod viewing;
 mod writing;
 
 pub use entry::Entry;
+// The fault of a value is that of its entry.
 pub use mls_scheme::KeyFault as EntryFault;
 pub use reading::entry_of;
 pub use viewing::visible;

@@ -1,3 +1,4 @@
+//! Entries from bytes, which are read from left to right.
 ghost use Rattle.std.specs.Prelude.{◌≡◌, IfOk, Ok};
 ghost use Rattle.mls_scheme.specs.KeyReading.{Gives, utf8_at, value_at};
 ghost use Rattle.mls_audit.specs.declared.entry.Entry.{Entry as SpecEntry};
@@ -154,7 +155,9 @@ fn all_of(alloc: Global, bytes: &[u8]) -> Result<Entry, EntryFault>
     Ok(entry)
 }
 
-/// The entry that the bytes spell, all of the bytes. No memory is asked for a length that the bytes don't have.
+/// The entry that the bytes spell, all of the bytes. Its label, its names and its code may be any that bytes
+/// can hold: who knows the policy asks whether the label is declared. No memory is asked for a length that the
+/// bytes don't have.
 pub fn entry_of(alloc: Global, bytes: &[u8]) -> Result<Entry, EntryFault>
     // What is read is spelled so.
     ensures found { IfOk result (λ e. HasSpelling e × (bytes.now ≡ entry_spelling e)) }

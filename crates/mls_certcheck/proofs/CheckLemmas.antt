@@ -8,7 +8,7 @@ use Rattle.mls_lattice.specs.Policy.{Name, Tables, labels_of}
 use Rattle.mls_translang.specs.declared.tx.Parameter.{Parameter}
 use Rattle.mls_translang.specs.Tree.{Block}
 use Rattle.mls_translang.specs.Tx.{Tx}
-use Rattle.mls_meaning.specs.Secure.{Secure}
+use Rattle.mls_certcheck.specs.Secure.{Secure}
 use Rattle.mls_certificate.specs.declared.cert.Certificate.{Certificate}
 use Rattle.mls_certcheck.specs.Lines.{by, variables, within_ends, all_places}
 use Rattle.mls_certcheck.specs.Rules.{Claim, Rules, after, claim}

@@ -24,10 +24,10 @@ use Rattle.mls_translang.specs.Tree.{Expr, Stmt, Writing, Assign, Write_at, Rele
 use Rattle.mls_translang.specs.Scope.{Scope, in_loop}
 use Rattle.mls_translang.specs.Fits.{BlockFits}
 use Rattle.mls_translang.specs.Tx.{Tx}
-use Rattle.mls_meaning.specs.Expressions.{is_true, same, value_in, holds_in}
-use Rattle.mls_meaning.specs.Meaning.{Item, Variables, Progress, set_var, set_outcome, do_write, environment, perform, for_each, run_block}
-use Rattle.mls_meaning.specs.Secure.{AreStored, seen_items, Split}
-use Rattle.mls_meaning.proofs.KeepingLemmas.{Extends, cond_kept, for_each_kept, perform_stored, block_stored, block_extends}
+use Rattle.mls_certcheck.specs.Expressions.{is_true, same, value_in, holds_in}
+use Rattle.mls_certcheck.specs.Meaning.{Item, Variables, Progress, set_var, set_outcome, do_write, environment, perform, for_each, run_block}
+use Rattle.mls_certcheck.specs.Secure.{AreStored, seen_items, Split}
+use Rattle.mls_certcheck.proofs.KeepingLemmas.{Extends, cond_kept, for_each_kept, perform_stored, block_stored, block_extends}
 use Rattle.mls_certificate.specs.declared.cert.Certificate.{Certificate}
 use Rattle.mls_certcheck.specs.Place.{Plain, directs, last, places}
 use Rattle.mls_certcheck.specs.Lines.{target}

@@ -9,9 +9,9 @@ use Rattle.mls_lattice.specs.Policy.{Tables, labels_of}
 use Rattle.mls_scheme.specs.declared.value.Value.{Value}
 use Rattle.mls_filterview.proofs.LevelLemmas.{low_from_views, views_from_low}
 use Rattle.mls_translang.specs.Tx.{Tx, scope_of}
-use Rattle.mls_meaning.specs.Meaning.{start}
-use Rattle.mls_meaning.specs.Secure.{SameArgs, param_labels}
-use Rattle.mls_meaning.proofs.KeepingLemmas.{block_stored}
+use Rattle.mls_certcheck.specs.Meaning.{start}
+use Rattle.mls_certcheck.specs.Secure.{SameArgs, param_labels}
+use Rattle.mls_certcheck.proofs.KeepingLemmas.{block_stored}
 use Rattle.mls_certcheck.specs.Rules.{claim, pc}
 use Rattle.mls_certcheck.specs.Laws.{RulesMakeSecure}
 use Rattle.mls_certcheck.proofs.LineLemmas.{rules_everywhere}

@@ -11,3 +11,8 @@ pub mod ScopeLemmas
 pub mod FlowLemmas
 pub mod LawLemmas
 pub mod LiftLemmas
+pub mod KeepingLemmas
+pub mod KindLemmas
+pub mod MeaningLemmas
+pub mod SampleLemmas
+pub mod ThroughoutLemmas

@@ -9,8 +9,8 @@ use Rattle.mls_lattice.proofs.LatticeLemmas.{join-left, join-right}
 use Rattle.mls_filterview.specs.Rules.{no_tuple}
 use Rattle.mls_updates.specs.Writes.{Insert, Update, Delete}
 use Rattle.mls_translang.specs.Tree.{Expr, Known, Null, Var, Param, Field, No, Op, Writing, Inserting, Updating, Deleting}
-use Rattle.mls_meaning.specs.Expressions.{Plain, Truth, is_true, value_of, cell_of, apply, Environment, eval, value_in}
-use Rattle.mls_meaning.specs.Meaning.{values_set, write_in}
+use Rattle.mls_certcheck.specs.Expressions.{Plain, Truth, is_true, value_of, cell_of, apply, Environment, eval, value_in}
+use Rattle.mls_certcheck.specs.Meaning.{values_set, write_in}
 use Rattle.mls_certcheck.specs.Lines.{operands}
 use Rattle.mls_certcheck.specs.Rules.{Claim, after, param_label}
 use Rattle.mls_certcheck.proofs.LineLemmas.{lab}

@@ -4,7 +4,7 @@ use Rattle.std.specs.List.{AllByRecursion}
 use Rattle.mls_lattice.specs.Labels.{AreDistinct}
 use Rattle.mls_lattice.specs.Policy.{Tables, labels_of}
 use Rattle.mls_translang.specs.Tx.{Tx}
-use Rattle.mls_meaning.specs.Secure.{Secure}
+use Rattle.mls_certcheck.specs.Secure.{Secure}
 use Rattle.mls_certificate.specs.declared.cert.Cert.{Cert}
 use Rattle.mls_certificate.specs.declared.cert.Cert2.{Cert2}
 use Rattle.mls_certificate.specs.declared.cert.Certificate.{Certificate}

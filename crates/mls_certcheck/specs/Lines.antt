@@ -13,7 +13,8 @@ pub use Rattle.mls_certcheck.specs.declared.flow.Line.{Line}
 use Rattle.mls_certcheck.specs.declared.refusal.Rule.{Rule}
 use Rattle.mls_certcheck.specs.declared.refusal.Rule.TheVariants as rule
 
--- the lines of a rule at a statement
+-- the lines of a rule at a statement; the name beside them alone ties its number to them: two numbers that are
+-- swapped, here and in the code, are proved
 abbrev pub by : ℕ → Rule → List Flow → List Line
 by n r flows = map (λ f. record { flow = f; refusal = record { stmt = n; rule = r } }) flows
 
@@ -57,7 +58,8 @@ all_kept n ends = map (λ m. Kept m n None) ends
 
 -- ---- the rules of a statement: its own number is n, it begins after b, and the rows are those of the loops around
 
--- ceiling (own): nothing lies above the upper end
+-- ceiling (own): nothing lies above the upper end; in version 1 that is true of variables at each statement,
+-- once it is true of them in the transaction
 abbrev pub ceiling : ℕ → ℕ → List Line
 ceiling vars n = by n rule.AboveCeiling (Under (Held (Statement n) ∷ variables n vars) ∷ [])
 

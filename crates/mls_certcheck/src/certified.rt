@@ -1,5 +1,6 @@
+//! Transactions with certificates that were found to hold.
 ghost use Rattle.std.specs.Prelude.{◌≡◌, Err, IfOk, IfErr};
-ghost use Rattle.mls_meaning.specs.Secure.{Secure};
+ghost use Rattle.mls_certcheck.specs.Secure.{Secure};
 ghost use Rattle.mls_certcheck.specs.Rules.{Rules, claim};
 ghost use Rattle.mls_certcheck.specs.Checks.{First};
 ghost use Rattle.mls_certcheck.specs.Certified.{Rules-prop};
@@ -11,8 +12,9 @@ use mls_lattice::Policy;
 use mls_translang::Tx;
 use std::snapshot::Snapshot;
 
-/// A transaction that was checked, with its certificate. Contracts see of it the policy that it was checked under, too, and
-/// that the rules hold under that policy.
+/// A transaction that was checked, with its certificate. Contracts see of it the policy that it was checked
+/// under, too, and that the rules hold under that policy: a caller only has to ask whether that is its own.
+/// Neither takes bytes.
 #[derive(Drop)]
 pub struct Certified {
     tx: Tx,

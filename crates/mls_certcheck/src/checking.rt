@@ -2,7 +2,7 @@
 ghost use Rattle.std.specs.Prelude.{◌≡◌, ◌↔◌, Ok, IfOk, length, nat_eq};
 ghost use Rattle.std.specs.List.{list_all};
 ghost use Rattle.mls_translang.specs.Tree.{statements};
-ghost use Rattle.mls_meaning.specs.Secure.{Secure};
+ghost use Rattle.mls_certcheck.specs.Secure.{Secure};
 ghost use Rattle.mls_certcheck.specs.Lines.{all_places, tx_lines, within_ends};
 ghost use Rattle.mls_certcheck.specs.Rules.{Rules, claim, var_rows};
 ghost use Rattle.mls_certcheck.specs.Checks.{First, count_verdict, counts, holds, verdict};
@@ -102,8 +102,10 @@ impl Checker<'_> {
     }
 }
 
-/// Whether a certificate of a transaction holds under a policy: else the first rule that is broken, in the order of `First`.
-/// It takes no memory. Each statement is tested once, and counted a few times for each statement around it.
+/// Whether a certificate of a transaction holds under a policy: else the first rule that is broken, in the
+/// order of `First`. It takes no memory. Each statement is tested once, and counted a few times for each
+/// statement around it. A number that is no label counts as the lowest, in the rules too; that labels are
+/// distinct is known of the policy: so it has no condition.
 pub fn check(policy: &Policy, tx: &Tx, cert: &Certificate) -> Result<(), Refusal>
     // Ok exactly where the rules hold.
     ensures rules { result ≡ Ok tt ↔ Rules (claim policy.now tx.now cert.now) }

@@ -27,7 +27,8 @@ pub enum Source {
 /// What flows.
 #[derive(Drop)]
 pub enum Flow {
-    /// Each source flows into each target: the label of the target dominates that of the source.
+    /// Each source flows into each target: the label of the target dominates that of the source. Sources and
+    /// targets stand apart, so that a long guard over many statements does not multiply out.
     Into {
         targets: Items<Slot>,
         sources: Items<Source>,

@@ -1,3 +1,4 @@
+//! The place of a statement among the others.
 use crate::rows::Rows;
 
 /// Where a statement stands: its number, that of the statement after which it begins, and the loops around it.

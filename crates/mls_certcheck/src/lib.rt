@@ -8,9 +8,11 @@ mod flow;
 mod here;
 mod keeping;
 mod laws;
+mod meaning;
 mod own;
 mod refusal;
 mod rows;
+mod run;
 mod walk;
 
 pub use certified::Certified;
@@ -18,4 +20,8 @@ pub use checking::check;
 pub use flow::{Flow, Line, Slot, Source};
 pub use keeping::{is_target, last_number};
 pub use laws::{flat_certificates_lift, rules_make_secure};
+pub use meaning::{
+    calls_give_items, calls_keep_content, calls_keep_form, calls_keep_form_throughout,
+};
 pub use refusal::{Refusal, Rule};
+pub use run::Run;

@@ -1,3 +1,4 @@
+//! The rules of certificates, and which of them is broken where.
 ghost use Rattle.std.specs.Prelude.{◌≡◌};
 ghost use Rattle.mls_certcheck.specs.Checks.{unless};
 ghost use Rattle.mls_certcheck.specs.Refusal.{text_of};

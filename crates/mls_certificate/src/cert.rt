@@ -1,3 +1,4 @@
+//! Certificates of the two versions.
 ghost use Rattle.std.specs.Prelude.{◌≡◌, IfOk};
 
 use mls_lattice::{Items, Label};

@@ -1,3 +1,4 @@
+//! Why a text is no certificate, and in which line.
 ghost use Rattle.std.specs.Prelude.{◌≡◌};
 ghost use Rattle.mls_certificate.specs.declared.fault.CertCause.TheVariants.{Memory};
 ghost use Rattle.mls_certificate.specs.Fault.{code_of, word_of};

@@ -163,7 +163,8 @@ fn file_of(alloc: Global, bytes: &[u8]) -> Result<Vec<(Str, Certificate)>, CertF
     blocks_of(alloc, &lines)
 }
 
-/// Reads a file of certificates of either version, each with the name of its transaction.
+/// Reads a file of certificates of either version, each with the name of its transaction. A line `row` has any
+/// number of labels: that there are as many as variables is a rule, since a text knows no transaction.
 pub fn certs_read(alloc: Global, bytes: &[u8]) -> Result<Vec<(Str, Certificate)>, CertFault>
     // What is read has names that differ, and the bytes are its text.
     ensures found { IfOk result (λ v. IsFile v.items × (bytes.now ≡ file_text v.items)) }

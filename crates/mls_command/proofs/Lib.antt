@@ -3,3 +3,4 @@ pub mod AccountLemmas
 pub mod TellingLemmas
 pub mod CertifyingLemmas
 pub mod PrintingLemmas
+pub mod ClosingLemmas

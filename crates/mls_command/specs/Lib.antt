@@ -1,3 +1,4 @@
+-- The definitions of commands: `Answering` says what comes of a command line, `Acting` what a job does.
 pub mod Explained
 pub mod Acting
 pub mod Opening
@@ -10,3 +11,5 @@ pub mod Certifying
 pub mod Checking
 pub mod Explaining
 pub mod Showing
+pub mod Closing
+pub mod AnsweringOver

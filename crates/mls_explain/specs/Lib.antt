@@ -1,3 +1,4 @@
+-- The definitions of what is told: of transactions in `Telling`, of stores in `Diagnosis`.
 pub mod Steps
 pub mod Chains
 pub mod Search

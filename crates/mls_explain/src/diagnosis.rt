@@ -10,8 +10,8 @@ use mls_advice::{difference_to, relations_to};
 use mls_fragments::{OpenFault, texts_of};
 use mls_lattice::Policy;
 use mls_scheme::SchemesFile;
-use mls_screen::escape;
 use mls_statements::read_description;
+use mls_tokens::escape;
 use sqlite::{Alter, Connection};
 use std::alloc::{AllocError, Global};
 

@@ -9,8 +9,8 @@ use crate::outcome::Outcome;
 use crate::teller::{Teller, Told};
 use mls_certcheck::Rule;
 use mls_certificate::Certificate;
+use mls_labeller::{Told as Release, ranges_of, whole, words};
 use mls_lattice::{Items, Label};
-use mls_ranges::{Told as Release, ranges_of, whole, words};
 use mls_translang::Stmt;
 
 /// The labels of the variables after a statement, where there are rows of them.

@@ -1,4 +1,6 @@
-//! What is told of transactions and of their least labels, and of stores that are opened over copies of their files.
+//! What is told of transactions and of their least labels, and of stores that are opened over copies of their
+//! files. The labeller is asked as `certify` asks it, so the labeller's contract alone ties what is told to the
+//! least labels.
 #![tactic(auto)]
 
 mod chain;

@@ -1,4 +1,5 @@
-//! Labels as words.
+//! Labels as words. One that is not declared is told by the declared ones below it, since a rank or a category
+//! has no look-up by its number.
 ghost use Rattle.std.specs.Prelude.{◌≡◌, string_bytes, IfOk};
 ghost use Rattle.mls_lattice.specs.Lattice.{pair_of};
 ghost use Rattle.mls_explain.specs.Telling.{is_named, names_of, words_of};

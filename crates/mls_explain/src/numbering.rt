@@ -1,4 +1,5 @@
-//! The lines of a transaction's text, with the numbers of statements.
+//! The lines of a transaction's canonical text, with the numbers of statements: on each line one begins at
+//! most.
 ghost use Rattle.std.specs.Prelude.{◌≡◌, ◌++◌, map, string_bytes, IfOk, OnOk};
 ghost use Rattle.std.specs.Str.Lines.{lines};
 ghost use Rattle.mls_explain.specs.Telling.{four, shown, IsListing};

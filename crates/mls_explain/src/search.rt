@@ -1,4 +1,6 @@
-//! The search: breadth first, back from where something must not be.
+//! The search: breadth first, back from where something must not be, one slot further in each round. A step is
+//! taken once, so rounds end, and a chain is shortest. Slots that only keep what they hold count too; the text
+//! leaves them out.
 ghost use Rattle.std.specs.Prelude.{◌≡◌, ◌≢◌, ◌↔◌, ◌++◌, [], true, false, None, IsTrue, IfOk, OnOk, IfSome};
 ghost use Rattle.std.specs.List.{AllByRecursion, Contains};
 ghost use Rattle.mls_lattice.specs.Policy.{Tables};

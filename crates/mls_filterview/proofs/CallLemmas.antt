@@ -1,7 +1,7 @@
 -- Calls over a base, one after another.
 use Rattle.std.proofs.Common.{◌≡◌, ℕ, ◌≤◌, arith, true, false, cond, Result, Err, refl, sym, ap, ◌∙◌, subst}
 use Rattle.mls_filterview.specs.Content.{State, after, failed, ended}
-use Rattle.mls_filterview.specs.Calls.{begun_after, IsCall, IsServed}
+use Rattle.mls_filterview.specs.Calls.{begun_after, IsCall, IsRead, IsServed}
 use Rattle.mls_filterview.specs.declared.base.BaseFault.{BaseFault}
 use Rattle.mls_filterview.specs.declared.base.BaseFault.TheVariants.{Store, Memory, NotBegun, Begun}
 
@@ -40,6 +40,13 @@ module _ {Self : Type 0} (is_clean : Self → Type 0) (failures : Self → ℕ) 
       → (is_clean mid → state mid ≡ state old) → IsCall is_clean failures state {A = A} mid new (Err e) → IsServed e → r ≡ Err e → IsCall is_clean failures state old new r
   fault_after_reads old mid new e r clean count mode same last served is =
       fault_after old mid new e r clean count mode (λ h. ap (after e) (same h)) last served is
+
+  -- such a fault is one of a read
+  pub fault_read : {A C : Type 0} (old mid new : Self) (e : BaseFault) (r : Result C BaseFault) → (is_clean mid → is_clean old) → failures old ≤ failures mid → (state mid).begun ≡ (state old).begun
+      → (is_clean mid → state mid ≡ state old) → IsCall is_clean failures state {A = A} mid new (Err e) → IsServed e → r ≡ Err e → IsRead is_clean failures state old new r
+  fault_read old mid new e r clean count mode same last served is =
+      subst (IsRead is_clean failures state old new) (sym is)
+      (record { call = fault_after_reads old mid new e (Err e) clean count mode same last served refl; served = served; mode = tt; same = λ h. tt })
 
   -- after steps of a change
   pub fault_after_steps : {A C : Type 0} (old mid new : Self) (e : BaseFault) (r : Result C BaseFault) → (is_clean mid → is_clean old) → failures old ≤ failures mid → (state old).begun ≡ true → (state mid).begun ≡ true

@@ -24,7 +24,7 @@ use Rattle.mls_filterview.proofs.EntryLemmas.{Entry}
 
 -- ---- entities in order
 
-ent_total : IsTotalOrder entity_cmp
+pub ent_total : IsTotalOrder entity_cmp
 ent_total = then_total (on_total (λ (p : Place). p.key) (lists_total value_total)) (on_total (λ (p : Place). p.key_class) nat_cmp_total)
 
 then_assoc : (a b c : Ordering) → ordering_then a (ordering_then b c) ≡ ordering_then (ordering_then a b) c
@@ -40,10 +40,10 @@ by_entity p q = then_assoc (slice_cmp value_cmp p.key q.key) (nat_cmp p.key_clas
 abbrev pub same : Place → Place → Bool
 same p q = is_entity p q
 
-same_ent : (p q : Place) → same p q ≡ true → entity_cmp p q ≡ Equal
+pub same_ent : (p q : Place) → same p q ≡ true → entity_cmp p q ≡ Equal
 same_ent p q h = ap (λ r. entity_cmp r q) (is_place-true p (with_class q p.class) h) ∙ tied_itself ent_total q
 
-ent_same : (p q : Place) → entity_cmp p q ≡ Equal → same p q ≡ true
+pub ent_same : (p q : Place) → entity_cmp p q ≡ Equal → same p q ≡ true
 ent_same p q e =
     ap is_eq (by_entity p (with_class q p.class) ∙ ap (λ o. ordering_then o (nat_cmp p.class p.class)) e ∙ tied_itself nat_cmp_total p.class)
 
@@ -59,7 +59,7 @@ entities_sorted (e ∷ es) s = let p = and_parts (below_all place_cmp e.0 es) (i
     after [] h = tt
     after (d ∷ ds) h = let p = and_parts (is_lt (place_cmp e.0 d.0)) (below_all place_cmp e.0 ds) h in (not_after e.0 d.0 p.0, after ds p.1)
 
-ent_turned : (p q : Place) → entity_cmp p q ≡ Equal → entity_cmp q p ≡ Equal
+pub ent_turned : (p q : Place) → entity_cmp p q ≡ Equal → entity_cmp q p ≡ Equal
 ent_turned p q e = ent_total.antisymm q p ∙ ap ordering_reverse e
 
 -- z comes after h and before y: where y is of the entity of h, so is z

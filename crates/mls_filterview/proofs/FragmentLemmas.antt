@@ -1,7 +1,7 @@
 -- The fragments of the labels that a label dominates.
-use Rattle.std.proofs.Common.{◌≡◌, ◌+◌, ◌<◌, ℕ, zero, suc, true, false, cond, List, [], ◌∷◌, ◌++◌, length, map, Some, refl, sym, ap, subst, ◌∙◌, inl, inr, arith}
-use Rattle.std.specs.Prelude.{◌↔◌, ◌⊎◌, nat_eq, IsPermutation}
-use Rattle.std.specs.List.{flat_map}
+use Rattle.std.proofs.Common.{◌≡◌, ◌+◌, ◌<◌, ℕ, zero, suc, Bool, true, false, cond, ◌||◌, List, [], ◌∷◌, ◌++◌, length, map, Some, refl, sym, ap, subst, ◌∙◌, inl, inr, arith}
+use Rattle.std.specs.Prelude.{◌↔◌, nat_eq, IsPermutation}
+use Rattle.std.specs.List.{filter, flat_map, list_any}
 use Rattle.std.specs.FinMap.{get, entries}
 use Rattle.std.proofs.lemmas.Bool.{true≢false, cases_lt, eqb-true, eq-eqb}
 use Rattle.mls_lattice.specs.Labels.{Labels, below}
@@ -13,9 +13,10 @@ use Rattle.mls_filterview.specs.declared.fragment.Node.{Node}
 use Rattle.mls_filterview.specs.declared.fragment.Cell.{Cell}
 use Rattle.mls_filterview.specs.declared.fragment.Fragment.{Fragment}
 use Rattle.mls_filterview.specs.View.{IsAmong}
-use Rattle.mls_filterview.specs.Fragment.{of_class, node_of, cell_at, cells_from, cells_of, IsFragment}
+use Rattle.mls_filterview.specs.Fragment.{of_classes, node_of, cell_at, cells_from, cells_of, AreFragments}
 use Rattle.mls_filterview.specs.Assembly.{IsLowEntry, AreOf, AreLow}
-use Rattle.mls_filterview.proofs.AmongLemmas.{among_map, map_among, among_filter, filter_among, among_append, among_left, among_right, among_permutation, among_flat_map, flat_map_among}
+use Rattle.mls_filterview.specs.Reach.{numbers}
+use Rattle.mls_filterview.proofs.AmongLemmas.{among_map, map_among, among_filter, filter_among, among_left, among_push, push_last, among_permutation, among_flat_map, flat_map_among}
 use Rattle.mls_filterview.proofs.EntryLemmas.{Entry, among_entries, entries_among}
 
 -- ---- the cells of a tuple
@@ -60,27 +61,69 @@ cells_among es ds p d = (
   (λ h. (among_permutation _ _ p d).0 (flat_map_among cells_of es h.0 d h.1 h.2)),
 )
 
--- ---- what a fragment has
+-- ---- what fragments have
 
-in_class : (T : Table) (m : ℕ) (e : Entry) → IsAmong e (of_class m T) ↔ ((get T e.0 ≡ Some e.1) × (e.0.class ≡ m))
-in_class T m e = (
-  (λ i. (let f = among_filter (λ (e : Entry). nat_eq e.0.class m) (entries T) e i in (among_entries T e f.0, eqb-true e.0.class m f.1))),
-  (λ h. filter_among (λ (e : Entry). nat_eq e.0.class m) (entries T) e (entries_among T e.0 e.1 h.0) (eq-eqb e.0.class m h.1)),
+among_any : (m : ℕ) (ms : List ℕ) → list_any (λ k. nat_eq m k) ms ≡ true → IsAmong m ms
+among_any m [] h = absurd (true≢false (sym h))
+among_any m (k ∷ ks) h =
+    elim (nat_eq m k) as (λ b. nat_eq m k ≡ b → (b || list_any (λ k. nat_eq m k) ks) ≡ true → IsAmong m (k ∷ ks)) [
+      | true ↦ λ e t. inl (eqb-true m k e)
+      | false ↦ λ e t. inr (among_any m ks t)
+    ] refl h
+
+any_among : (m : ℕ) (ms : List ℕ) → IsAmong m ms → list_any (λ k. nat_eq m k) ms ≡ true
+any_among m [] h = absurd h
+any_among m (k ∷ ks) (inl e) = ap (λ b. b || list_any (λ k. nat_eq m k) ks) (eq-eqb m k e)
+any_among m (k ∷ ks) (inr i) = ap (λ b. nat_eq m k || b) (any_among m ks i) ∙ or_true (nat_eq m k)
+  where
+    or_true : (b : Bool) → (b || true) ≡ true
+    or_true true = refl
+    or_true false = refl
+
+in_classes : (T : Table) (ms : List ℕ) (e : Entry) → IsAmong e (of_classes ms T) ↔ ((get T e.0 ≡ Some e.1) × IsAmong e.0.class ms)
+in_classes T ms e = (
+  (λ i. (let f = among_filter (λ (e : Entry). list_any (λ m. nat_eq e.0.class m) ms) (entries T) e i in (among_entries T e f.0, among_any e.0.class ms f.1))),
+  (λ h. filter_among (λ (e : Entry). list_any (λ m. nat_eq e.0.class m) ms) (entries T) e (entries_among T e.0 e.1 h.0) (any_among e.0.class ms h.1)),
 )
 
-pub fragment_nodes : (T : Table) (m : ℕ) (f : Fragment) → IsFragment T m f → (n : Node) → IsAmong n f.nodes ↔ ((e : Entry) × (get T e.0 ≡ Some e.1) × (e.0.class ≡ m) × (n ≡ node_of e))
-fragment_nodes T m f is n =
-    let r = nodes_among (of_class m T) f.nodes is.nodes n in (
-      (λ i. (let h = r.0 i in let g = (in_class T m h.0).0 h.1 in (h.0, g.0, g.1, h.2))),
-      (λ h. r.1 (h.0, (in_class T m h.0).1 (h.1, h.2), h.3)),
-    )
+numbers_below : (n m : ℕ) → IsAmong m (numbers n) → m < n
+numbers_below zero m i = absurd i
+numbers_below (suc n) m i = elim (among_push (numbers n) n m i) [ inl j ↦ (let l = numbers_below n m j in omega (arith, l)) | inr e ↦ omega (arith, e) ]
 
-pub fragment_cells : (T : Table) (m : ℕ) (f : Fragment) → IsFragment T m f → (d : Cell) → IsAmong d f.cells ↔ ((e : Entry) × (get T e.0 ≡ Some e.1) × (e.0.class ≡ m) × IsAmong d (cells_of e))
-fragment_cells T m f is d =
-    let r = cells_among (of_class m T) f.cells is.cells d in (
-      (λ i. (let h = r.0 i in let g = (in_class T m h.0).0 h.1 in (h.0, g.0, g.1, h.2))),
-      (λ h. r.1 (h.0, (in_class T m h.0).1 (h.1, h.2), h.3)),
-    )
+below_numbers : (n m : ℕ) → m < n → IsAmong m (numbers n)
+below_numbers zero m l = absurd (omega (arith, l))
+below_numbers (suc n) m l = elim (cases_lt m n) [
+  | inl less ↦ among_left (numbers n) (n ∷ []) m (below_numbers n m less)
+  | inr more ↦ (let e : m ≡ n = omega (arith, l, more) in subst (λ k. IsAmong k (numbers n ++ n ∷ [])) (sym e) (push_last (numbers n) n))
+]
+
+-- the fragments of the labels below n that c dominates are the parts of its low tuples
+module _ (ls : Labels) (T : Table) (c n : ℕ) where
+  abbrev dominated : List ℕ
+  dominated = filter (λ m. below ls m c) (numbers n)
+
+  low_classes : (e : Entry) → IsAmong e (of_classes dominated T) ↔ IsLowEntry ls T c n e
+  low_classes e = (
+    (λ i.
+        let h = (in_classes T dominated e).0 i in
+        let f = among_filter (λ m. below ls m c) (numbers n) e.0.class h.1 in
+        (h.0, numbers_below n e.0.class f.0, f.1)),
+    (λ h. (in_classes T dominated e).1 (h.0, filter_among (λ m. below ls m c) (numbers n) e.0.class (below_numbers n e.0.class h.1) h.2)),
+  )
+
+  pub low_fragments : (f : Fragment) → AreFragments T dominated f → AreLow ls T c n f.nodes f.cells
+  low_fragments f is = record {
+    nodes = λ n.
+        let r = nodes_among (of_classes dominated T) f.nodes is.nodes n in (
+          (λ i. (let h = r.0 i in (h.0, (low_classes h.0).0 h.1, h.2))),
+          (λ h. r.1 (h.0, (low_classes h.0).1 h.1, h.2)),
+        );
+    cells = λ d.
+        let r = cells_among (of_classes dominated T) f.cells is.cells d in (
+          (λ i. (let h = r.0 i in (h.0, (low_classes h.0).0 h.1, h.2))),
+          (λ h. r.1 (h.0, (low_classes h.0).1 h.1, h.2)),
+        );
+  }
 
 -- ---- what all nodes and all cells of a table are
 
@@ -97,60 +140,3 @@ all_of T ns ds p q = record {
         (λ h. r.1 (h.0, entries_among T h.0.0 h.0.1 h.1, h.2)),
       );
 }
-
--- ---- from label to label
-
-module _ (ls : Labels) (T : Table) (c k : ℕ) where
-  same_entries : (e : Entry) → below ls k c ≡ false → IsLowEntry ls T c k e ↔ IsLowEntry ls T c (k + 1) e
-  same_entries e out = (
-    (λ h. (h.0, omega (arith, h.1), h.2)),
-    (λ h. elim (cases_lt e.0.class k) [ inl l ↦ (h.0, l, h.2) | inr g ↦ (let q : e.0.class ≡ k = omega (arith, h.1) in absurd (true≢false (sym h.2 ∙ ap (λ m. below ls m c) q ∙ out))) ]),
-  )
-
-  more_entries : (e : Entry) → below ls k c ≡ true → IsLowEntry ls T c (k + 1) e ↔ (IsLowEntry ls T c k e ⊎ ((get T e.0 ≡ Some e.1) × (e.0.class ≡ k)))
-  more_entries e in' = (
-    (λ h. elim (cases_lt e.0.class k) [ inl l ↦ inl (h.0, l, h.2) | inr g ↦ inr (h.0, omega (arith, h.1)) ]),
-    (λ h. elim h [ inl l ↦ (l.0, omega (arith, l.1), l.2) | inr q ↦ (q.0, omega (arith, q.1), subst (λ m. below ls m c ≡ true) (sym q.1) in') ]),
-  )
-
-  -- a label that c doesn't dominate adds nothing
-  pub low_same : (ns : List Node) (ds : List Cell) → AreLow ls T c k ns ds → below ls k c ≡ false → AreLow ls T c (k + 1) ns ds
-  low_same ns ds low out = record {
-    nodes = λ n. (
-      (λ i. (let h = (low.nodes n).0 i in (h.0, (same_entries h.0 out).0 h.1, h.2))),
-      (λ h. (low.nodes n).1 (h.0, (same_entries h.0 out).1 h.1, h.2)),
-    );
-    cells = λ d. (
-      (λ i. (let h = (low.cells d).0 i in (h.0, (same_entries h.0 out).0 h.1, h.2))),
-      (λ h. (low.cells d).1 (h.0, (same_entries h.0 out).1 h.1, h.2)),
-    );
-  }
-
-  -- one that it dominates adds its fragment
-  pub low_more : (ns : List Node) (ds : List Cell) (f : Fragment) → AreLow ls T c k ns ds → below ls k c ≡ true → IsFragment T k f → AreLow ls T c (k + 1) (ns ++ f.nodes) (ds ++ f.cells)
-  low_more ns ds f low in' is = record {
-    nodes = λ n. (
-      (λ i.
-          elim (among_append ns f.nodes n i) [
-            | inl j ↦ (let h = (low.nodes n).0 j in (h.0, (more_entries h.0 in').1 (inl h.1), h.2))
-            | inr j ↦ (let h = (fragment_nodes T k f is n).0 j in (h.0, (more_entries h.0 in').1 (inr (h.1, h.2)), h.3))
-          ]),
-      (λ h.
-          elim ((more_entries h.0 in').0 h.1) [
-            | inl l ↦ among_left ns f.nodes n ((low.nodes n).1 (h.0, l, h.2))
-            | inr q ↦ among_right ns f.nodes n ((fragment_nodes T k f is n).1 (h.0, q.0, q.1, h.2))
-          ]),
-    );
-    cells = λ d. (
-      (λ i.
-          elim (among_append ds f.cells d i) [
-            | inl j ↦ (let h = (low.cells d).0 j in (h.0, (more_entries h.0 in').1 (inl h.1), h.2))
-            | inr j ↦ (let h = (fragment_cells T k f is d).0 j in (h.0, (more_entries h.0 in').1 (inr (h.1, h.2)), h.3))
-          ]),
-      (λ h.
-          elim ((more_entries h.0 in').0 h.1) [
-            | inl l ↦ among_left ds f.cells d ((low.cells d).1 (h.0, l, h.2))
-            | inr q ↦ among_right ds f.cells d ((fragment_cells T k f is d).1 (h.0, q.0, q.1, h.2))
-          ]),
-    );
-  }

@@ -30,3 +30,6 @@ pub mod PlaceLemmas
 pub mod WidenLemmas
 pub mod WideningLemmas
 pub mod WidenedRowLemmas
+pub mod FilteredLemmas
+pub mod PartLemmas
+pub mod MendLemmas

@@ -1,6 +1,17 @@
 -- What every call over a base promises.
-use Rattle.std.specs.Prelude.{◌≡◌, ℕ, ◌<◌, ◌≤◌, Bool, false, IfErr, Result}
+use Rattle.std.specs.Prelude.{◌≡◌, ◌≢◌, ◌↔◌, ℕ, ◌<◌, ◌≤◌, Bool, true, false, List, length, Option, None, IfSome, IfErr, OnOk, IsErrOf, Result, Err}
+use Rattle.std.specs.List.{AllByRecursion}
+use Rattle.std.specs.FinMap.{get}
+use Rattle.mls_lattice.specs.Policy.{Tables, labels_of}
+use Rattle.mls_scheme.specs.declared.value.Value.{Value}
+use Rattle.mls_scheme.specs.declared.place.Place.{Place}
+use Rattle.mls_scheme.specs.declared.tuple.Element.{Element}
+use Rattle.mls_scheme.specs.Spelling.{HasSpelling, IsSpelledKey}
+use Rattle.mls_filterview.specs.declared.fragment.Node.{Node}
+use Rattle.mls_filterview.specs.declared.fragment.Cell.{Cell}
 use Rattle.mls_filterview.specs.Content.{State, after}
+use Rattle.mls_filterview.specs.Stored.{IsStored}
+use Rattle.mls_filterview.specs.Fragment.{IsMadeOf, place_of_node, HasCell, IsAlone, IsCellOf}
 use Rattle.mls_filterview.specs.declared.base.BaseFault.{BaseFault}
 use Rattle.mls_filterview.specs.declared.base.BaseFault.TheVariants.{Store, Memory, NotBegun, Begun}
 
@@ -10,6 +21,10 @@ begun_after Store b = false
 begun_after Memory b = false
 begun_after NotBegun b = b
 begun_after Begun b = b
+
+-- a fault of the store or of memory
+abbrev pub IsServed : BaseFault → Type 0
+IsServed e = (e ≡ NotBegun → ⊥) × (e ≡ Begun → ⊥)
 
 -- of a base: whether its store is clean, how many calls of the store have failed, and what it holds
 module _ {Self : Type 0} (is_clean : Self → Type 0) (failures : Self → ℕ) (state : Self → State) where
@@ -28,6 +43,57 @@ module _ {Self : Type 0} (is_clean : Self → Type 0) (failures : Self → ℕ) 
     pub count : failures old ≤ failures new
     pub fault : IfErr result (λ e. IsFault e old new)
 
--- a fault of the store or of memory
-abbrev pub IsServed : BaseFault → Type 0
-IsServed e = (e ≡ NotBegun → ⊥) × (e ≡ Begun → ⊥)
+  -- a call that reads: it is refused nowhere, and an answer leaves all as it was
+  pub record IsRead {A : Type 0} (old new : Self) (result : Result A BaseFault) : Type 0 where
+    pub call : IsCall old new result
+    pub served : IfErr result IsServed
+    pub mode : OnOk result ((state new).begun ≡ (state old).begun)
+    pub same : is_clean new → OnOk result (state new ≡ state old)
+
+  -- a step of a change that is begun: an answer leaves it begun
+  pub record IsStep {A : Type 0} (old new : Self) (result : Result A BaseFault) : Type 0 where
+    pub call : IsCall old new result
+    pub served : IfErr result IsServed
+    pub mode : OnOk result ((state new).begun ≡ true)
+
+  -- a call that belongs into a change: it is refused just where none is begun, and whether one is begun after an answer
+  pub record IsChange {A : Type 0} (then : Bool) (old new : Self) (result : Result A BaseFault) : Type 0 where
+    pub call : IsCall old new result
+    pub not_begun : (result ≡ Err NotBegun) ↔ ((state old).begun ≡ false)
+    pub no_other : IsErrOf result Begun → ⊥
+    pub mode : OnOk result ((state new).begun ≡ then)
+
+  -- a call that belongs into no change: it is refused just where one is begun, and whether one is begun after an answer
+  pub record IsOutside {A : Type 0} (then : Bool) (old new : Self) (result : Result A BaseFault) : Type 0 where
+    pub call : IsCall old new result
+    pub begun : (result ≡ Err Begun) ↔ ((state old).begun ≡ true)
+    pub no_other : IsErrOf result NotBegun → ⊥
+    pub mode : OnOk result ((state new).begun ≡ then)
+
+-- ---- what may be asked of a base
+
+module _ {Self : Type 0} (is_clean : Self → Type 0) (state : Self → State) (base : Self) (rel : ℕ) where
+  -- a declared label looks at a relation of the stored form
+  pub record CanSee (policy : Tables) (c : ℕ) : Type 0 where
+    pub label : c < length policy.labels
+    pub stored : is_clean base → (n : ℕ) × IsStored (labels_of policy) n ((state base).now.db rel)
+
+  -- a tuple is added where none is, with the cells of its class, and its other elements in the tuples there
+  pub record CanAdd (n : Node) (ds : List Cell) : Type 0 where
+    pub key : IsSpelledKey n.key
+    pub cells : AllByRecursion (IsCellOf n) ds
+    pub absent : is_clean base → get ((state base).now.db rel) (place_of_node n) ≡ None
+    pub made : is_clean base → (es : List Element) × IsMadeOf ((state base).now.db rel) n ds es
+
+  -- a cell is set that a tuple has
+  pub record CanSet (p : Place) (i : ℕ) (v : Option Value) : Type 0 where
+    pub key : IsSpelledKey p.key
+    pub attr : i < 15
+    pub value : IfSome v HasSpelling
+    pub there : is_clean base → HasCell ((state base).now.db rel) p i
+
+  -- a tuple is dropped whose cells no other has
+  pub record CanDrop (p : Place) : Type 0 where
+    pub key : IsSpelledKey p.key
+    pub there : is_clean base → get ((state base).now.db rel) p ≢ None
+    pub alone : is_clean base → IsAlone ((state base).now.db rel) p

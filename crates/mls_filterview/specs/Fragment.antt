@@ -1,6 +1,6 @@
 -- What one label holds of a relation, and of one entity: tuples without values, and the elements of that class in them.
 use Rattle.std.specs.Prelude.{◌≡◌, ◌≢◌, ℕ, suc, ◌<◌, true, ◌&&◌, if◌then◌else◌, nat_eq, List, [], ◌∷◌, map, length, Option, Some, IfSome, IsPermutation}
-use Rattle.std.specs.List.{filter, flat_map}
+use Rattle.std.specs.List.{filter, flat_map, list_any}
 use Rattle.std.specs.Ordering.{eq_by_cmp}
 use Rattle.std.specs.FinMap.{get, entries}
 use Rattle.mls_scheme.specs.declared.value.Value.{Value}
@@ -17,6 +17,10 @@ use Rattle.mls_filterview.specs.declared.fragment.Fragment.{Fragment}
 -- the tuples of a class, in the order of places
 abbrev pub of_class : ℕ → Table → List (Place × List Element)
 of_class m T = filter (λ e. nat_eq e.0.class m) (entries T)
+
+-- the tuples of these classes, in the order of places
+abbrev pub of_classes : List ℕ → Table → List (Place × List Element)
+of_classes ms T = filter (λ e. list_any (λ m. nat_eq e.0.class m) ms) (entries T)
 
 -- the tuple of an entity and a class, where there is one
 abbrev pub at_place : Place → Table → List (Place × List Element)
@@ -50,7 +54,11 @@ pub record ArePartsOf (es : List (Place × List Element)) (f : Fragment) : Type 
 abbrev pub IsFragment : Table → ℕ → Fragment → Type 0
 IsFragment T m = ArePartsOf (of_class m T)
 
--- the part of it that belongs to one entity
+-- the fragments of these labels, as one
+abbrev pub AreFragments : Table → List ℕ → Fragment → Type 0
+AreFragments T ms = ArePartsOf (of_classes ms T)
+
+-- the part of a fragment that belongs to one entity
 abbrev pub IsEntityPart : Table → Place → Fragment → Type 0
 IsEntityPart T p = ArePartsOf (at_place p T)
 

@@ -3,11 +3,13 @@ use Rattle.std.specs.Prelude.{◌≡◌, ℕ, ◌<◌, true, length, ◌↔◌}
 use Rattle.mls_lattice.specs.Labels.{Labels, label_of, below, AreDistinct}
 use Rattle.mls_scheme.specs.declared.tuple.Tuple.{Tuple}
 use Rattle.mls_scheme.specs.Tuple.{tuple_class}
+use Rattle.mls_scheme.specs.declared.place.Place.{Place}
 use Rattle.mls_scheme.specs.Table.{Table, Has, IsIn}
 use Rattle.mls_filterview.specs.Subsumption.{IsMax}
 use Rattle.mls_filterview.specs.View.{View, low, rows, IsAmong, AreInOrder}
 use Rattle.mls_filterview.specs.Stored.{IsStored}
 use Rattle.mls_filterview.specs.Integrity.{HasIntegrity}
+use Rattle.mls_filterview.specs.Entities.{of_entity, AgreeOutside, mended}
 
 -- the stored form has the four integrity properties
 abbrev pub StoredHasIntegrity : Type 0
@@ -35,3 +37,10 @@ RowsAreTheView =
     (ls : Labels) → AreDistinct ls → (n : ℕ) (T : Table) → IsStored ls n T → (c : ℕ)
     → ((t : Tuple) → IsAmong t (rows ls c T) ↔ View ls (IsIn T) c t)
     × AreInOrder T (rows ls c T)
+
+-- where tables agree outside of an entity, the rows of the one are those of the other, in their order, but for the rows of
+-- the entity, which are those of its tuples alone
+abbrev pub ViewsAreMended : Type 0
+ViewsAreMended =
+    (ls : Labels) (c : ℕ) (p : Place) (S T : Table) → AgreeOutside p S T
+    → rows ls c T ≡ mended p (rows ls c (of_entity p T)) (rows ls c S)

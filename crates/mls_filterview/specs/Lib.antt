@@ -1,3 +1,5 @@
+-- The definitions of relations: `View` says what a level sees, `Stored` in which form tuples are kept,
+-- `Calls` what a base promises, and `Laws` what follows.
 pub mod Subsumption
 pub mod View
 pub mod Stored
@@ -11,5 +13,6 @@ pub mod Rules
 pub mod Checking
 pub mod RowOrder
 pub mod Reach
+pub mod Entities
 pub mod Widen
 pub mod Laws

@@ -54,7 +54,10 @@ pub record IsClosed (ls : Labels) (ts : List Tuple) (t : Tuple) : Type 0 where
   pub comparable : (a b : ℕ) → OccursIn t a → OccursIn t b → (below ls a b ≡ true) ⊎ (below ls b a ≡ true)
   pub each : (m : ℕ) → OccursIn t m → (s : Tuple) × IsAmong s ts × IsOfClass ls s t m
 
--- row i of the list keeps a rule
+-- Row i of the list keeps a rule. Entity and Null are asked of whatever elements the row has, before Interval
+-- asks how many there are, of which kinds and of which classes. After Entity, that a null has the key class is
+-- the same as that it is not above it. The class of a tuple is the join of its classes, so Poly has a meaning
+-- before Closure is asked.
 abbrev pub Keeps : Labels → Scheme → List Tuple → ℕ → Rule → Type 0
 Keeps ls scheme ts i Entity = (k : ℕ) → k < length (row_at ts i).elements → below ls (row_at ts i).key_class (at (row_at ts i).elements k).class ≡ true
 Keeps ls scheme ts i Null = (k : ℕ) → k < length (row_at ts i).elements → (at (row_at ts i).elements k).value ≡ None → (at (row_at ts i).elements k).class ≡ (row_at ts i).key_class

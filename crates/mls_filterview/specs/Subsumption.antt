@@ -1,4 +1,4 @@
--- Subsumption (Jajodia and Sandhu 1991).
+-- Subsumption: which tuples say all that others say (Jajodia and Sandhu 1991).
 use Rattle.std.specs.Prelude.{◌≡◌, ⊤, ℕ, ◌<◌, Bool, true, false, not, ◌&&◌, ◌||◌, nat_eq, List, [], ◌∷◌, length, is_some, ◌⊎◌, if◌then◌else◌}
 use Rattle.std.specs.List.{list_any, AllByRecursion}
 use Rattle.std.specs.Ordering.{nat_cmp, on, then_cmp}
@@ -46,7 +46,7 @@ all_cover (a ∷ as') (b ∷ bs) = covers a b && all_cover as' bs
 abbrev pub subsumes_entry : Place × List Element → Place × List Element → Bool
 subsumes_entry d e = is_entity d.0 e.0 && all_cover d.1 e.1
 
--- whether this entry subsumes each entry that subsumes it
+-- whether this entry subsumes each entry that subsumes it: such an entry stays, in `view` and in `filter`
 abbrev pub is_max_among : List (Place × List Element) → Place × List Element → Bool
 is_max_among es e = not (list_any (λ d. subsumes_entry d e && not (subsumes_entry e d)) es)
 

@@ -20,7 +20,7 @@ nulls n key_class = replicate n (record { value = None; class = key_class })
 abbrev pub widened : ℕ → Tuple → Tuple
 widened n t = record { key = t.key; key_class = t.key_class; elements = t.elements ++ nulls n t.key_class }
 
--- each tuple of X, widened
+-- each tuple of X, widened; X need not be in the stored form
 abbrev pub Widen : ℕ → (Tuple → Type 0) → Tuple → Type 0
 Widen n X t = (s : Tuple) × X s × (t ≡ widened n s)
 
@@ -30,7 +30,7 @@ Widen n X t = (s : Tuple) × X s × (t ≡ widened n s)
 abbrev pub widened_entry : ℕ → Place × List Element → Place × List Element
 widened_entry n e = (e.0, e.1 ++ nulls n e.0.key_class)
 
--- W has the tuples of T, widened, each at its place
+-- W has the tuples of T, widened, each at its place, which is looked up and not computed again
 abbrev pub IsWidened : ℕ → Table → Table → Type 0
 IsWidened n T W = (p : Place) → get W p ≡ option_map (λ es. es ++ nulls n p.key_class) (get T p)
 

@@ -1,14 +1,14 @@
-//! Where content is kept.
-ghost use Rattle.std.specs.Prelude.{◌≡◌, ◌≢◌, ◌↔◌, ◌<◌, ◌≤◌, ℕ, List, false, true, IfOk, IfErr, IfSome, IsErrOf, OnOk, Ok, None};
+//! Bases: what keeps content, and what each of their calls promises.
+ghost use Rattle.std.specs.Prelude.{◌≡◌, ◌<◌, ◌≤◌, ℕ, List, false, true, IfOk, IfErr, OnOk, Ok};
 ghost use Rattle.std.specs.List.{AllByRecursion};
 ghost use Rattle.std.specs.Option.{option_map};
 ghost use Rattle.std.specs.FinMap.{get, insert, remove};
 ghost use Rattle.mls_scheme.specs.declared.tuple.Element.{Element as SpecElement};
 ghost use Rattle.mls_scheme.specs.Table.{change};
-ghost use Rattle.mls_scheme.specs.Spelling.{HasSpelling, IsSpelledKey};
+ghost use Rattle.mls_scheme.specs.Spelling.{IsSpelledKey};
 ghost use Rattle.mls_filterview.specs.Content.{State, begun_change, committed, ended, failed, with_relation, with_entry, with_no_entries};
-ghost use Rattle.mls_filterview.specs.Calls.{IsCall, IsServed};
-ghost use Rattle.mls_filterview.specs.Fragment.{IsFragment, IsEntityPart, classes, IsMadeOf, place_of_node, HasCell, set_in, IsAlone, IsCellOf};
+ghost use Rattle.mls_filterview.specs.Calls.{IsCall, IsRead, IsChange, IsOutside, IsServed, CanAdd, CanSet, CanDrop};
+ghost use Rattle.mls_filterview.specs.Fragment.{IsFragment, AreFragments, IsEntityPart, classes, IsMadeOf, place_of_node, set_in};
 
 use crate::fragment::{Cell, Fragment, Node};
 use mls_lattice::{Items, LabelNo};
@@ -54,10 +54,11 @@ impl<T: Drop> From<AllocFailed<T>> for BaseFault {
 /// have failed; and whether the store gives back what was written to it. A store can be found unclean at any call and
 /// never becomes clean again, so what is said of content after a call has the premise that the store is clean then.
 ///
-/// Whether a change is begun is known without that premise: an `Ok` of `begin` begins one, an `Ok` of `commit` and of
-/// `rollback`, and each `Store` and `Memory`, ends it, and every other answer keeps it. `NotBegun` and `Begun` come just
-/// where no change, or one, is begun, and the store is not asked then. After `Store` or `Memory` inside a change the
-/// content is that of the last commit.
+/// Whether a change is begun is known without that premise: an `Ok` of `begin` begins one, an `Ok` of `commit`
+/// and of `rollback`, and each `Store` and `Memory`, ends it, and every other answer keeps it. `NotBegun` and
+/// `Begun` come just where no change, or one, is begun, and the store is not asked then. After `Store` or
+/// `Memory` inside a change the content is that of the last commit, as it is outside of a change: a law
+/// (`settled`), and no clause of each call.
 ///
 /// Keys and values that a call takes have a spelling as bytes.
 pub trait Base {
@@ -73,66 +74,50 @@ pub trait Base {
 
     /// Begins a change. `Begun` where one is begun.
     fn begin(&mut self) -> Result<(), BaseFault>
-        ensures call { IsCall is_clean failures state self.old self.new result }
-        ensures begun { (result ≡ Err BaseFault.Begun) ↔ ((state self.old).begun ≡ true) }
-        ensures no_other { IsErrOf result BaseFault.NotBegun → ⊥ }
-        ensures mode { OnOk result ((state self.new).begun ≡ true) }
+        ensures outside { IsOutside is_clean failures state true self.old self.new result }
         ensures done { is_clean self.new → OnOk result (state self.new ≡ begun_change (state self.old)) };
 
     /// Keeps what the change did, and ends it. `NotBegun` where none is begun.
     fn commit(&mut self) -> Result<(), BaseFault>
-        ensures call { IsCall is_clean failures state self.old self.new result }
-        ensures not_begun { (result ≡ Err BaseFault.NotBegun) ↔ ((state self.old).begun ≡ false) }
-        ensures no_other { IsErrOf result BaseFault.Begun → ⊥ }
-        ensures mode { OnOk result ((state self.new).begun ≡ false) }
+        ensures change { IsChange is_clean failures state false self.old self.new result }
         ensures done { is_clean self.new → OnOk result (state self.new ≡ committed (state self.old)) };
 
     /// Goes back to the last commit, and ends the change. `NotBegun` where none is begun.
     fn rollback(&mut self) -> Result<(), BaseFault>
-        ensures call { IsCall is_clean failures state self.old self.new result }
-        ensures not_begun { (result ≡ Err BaseFault.NotBegun) ↔ ((state self.old).begun ≡ false) }
-        ensures no_other { IsErrOf result BaseFault.Begun → ⊥ }
-        ensures mode { OnOk result ((state self.new).begun ≡ false) }
+        ensures change { IsChange is_clean failures state false self.old self.new result }
         ensures done { is_clean self.new → OnOk result (state self.new ≡ ended (state self.old)) };
 
     /// What a label holds of a relation.
     fn fragment(&mut self, rel: RelNo, label: LabelNo) -> Result<Fragment, BaseFault>
-        ensures call { IsCall is_clean failures state self.old self.new result }
-        ensures served { IfErr result IsServed }
-        ensures mode { OnOk result ((state self.new).begun ≡ (state self.old).begun) }
-        ensures found { is_clean self.new → IfOk result (IsFragment ((state self.old).now.db rel) label) }
-        ensures same { is_clean self.new → OnOk result (state self.new ≡ state self.old) };
+        ensures read { IsRead is_clean failures state self.old self.new result }
+        ensures found { is_clean self.new → IfOk result (IsFragment ((state self.old).now.db rel) label) };
+
+    /// What these labels hold of a relation, as one. Each of them is below 64.
+    fn fragments(&mut self, rel: RelNo, labels: &[LabelNo]) -> Result<Fragment, BaseFault>
+        requires few { AllByRecursion (λ m. m < 64) labels.now }
+        ensures read { IsRead is_clean failures state self.old self.new result }
+        ensures found { is_clean self.new → IfOk result (AreFragments ((state self.old).now.db rel) labels.now) };
 
     /// What the class of a place holds of the place's entity: the part of the fragment that belongs to it.
     fn entity(&mut self, rel: RelNo, place: &Place) -> Result<Fragment, BaseFault>
         requires key { IsSpelledKey place.now.key }
-        ensures call { IsCall is_clean failures state self.old self.new result }
-        ensures served { IfErr result IsServed }
-        ensures mode { OnOk result ((state self.new).begun ≡ (state self.old).begun) }
-        ensures found { is_clean self.new → IfOk result (IsEntityPart ((state self.old).now.db rel) place.now) }
-        ensures same { is_clean self.new → OnOk result (state self.new ≡ state self.old) };
+        ensures read { IsRead is_clean failures state self.old self.new result }
+        ensures found { is_clean self.new → IfOk result (IsEntityPart ((state self.old).now.db rel) place.now) };
 
     /// The classes of the elements of the tuple at a place, where there is one. Nothing of the tuple is read but its node.
     fn pattern(&mut self, rel: RelNo, place: &Place) -> Result<Option<Items<LabelNo>>, BaseFault>
         requires key { IsSpelledKey place.now.key }
-        ensures call { IsCall is_clean failures state self.old self.new result }
-        ensures served { IfErr result IsServed }
-        ensures mode { OnOk result ((state self.new).begun ≡ (state self.old).begun) }
+        ensures read { IsRead is_clean failures state self.old self.new result }
         ensures found { is_clean self.new → IfOk result (λ pattern. pattern
-            ≡ option_map classes (get ((state self.old).now.db rel) place.now)) }
-        ensures same { is_clean self.new → OnOk result (state self.new ≡ state self.old) };
+            ≡ option_map classes (get ((state self.old).now.db rel) place.now)) };
 
-    /// Adds a tuple: its node, and the cells of its class in the order of attributes. `NotBegun` where no change is begun.
+    /// Adds a tuple: its node, and the cells of its class in the order of attributes. The node's pattern says
+    /// which these are, so a base sorts nothing and looks for no cell. An element of another class stands at
+    /// its place in the entity's tuple of that class, which is long enough to have it: else it would have no
+    /// row. `NotBegun` where no change is begun.
     fn add(&mut self, rel: RelNo, node: Node, cells: &[Cell]) -> Result<(), BaseFault>
-        requires key { IsSpelledKey node.key }
-        requires cells { AllByRecursion (IsCellOf node) cells.now }
-        requires absent { is_clean self.old → get ((state self.old).now.db rel) (place_of_node node) ≡ None }
-        requires made { is_clean self.old → (es : List SpecElement)
-            × IsMadeOf ((state self.old).now.db rel) node cells.now es }
-        ensures call { IsCall is_clean failures state self.old self.new result }
-        ensures not_begun { (result ≡ Err BaseFault.NotBegun) ↔ ((state self.old).begun ≡ false) }
-        ensures no_other { IsErrOf result BaseFault.Begun → ⊥ }
-        ensures mode { OnOk result ((state self.new).begun ≡ (state self.old).begun) }
+        requires { CanAdd is_clean state self.old rel node cells.now }
+        ensures change { IsChange is_clean failures state (state self.old).begun self.old self.new result }
         ensures done { is_clean self.new → (es : List SpecElement)
             → IsMadeOf ((state self.old).now.db rel) node cells.now es
             → OnOk result (state self.new
@@ -147,53 +132,33 @@ pub trait Base {
         attr: usize,
         value: Option<Value>,
     ) -> Result<(), BaseFault>
-        requires key { IsSpelledKey place.now.key }
-        requires attr { attr < 15 }
-        requires value { IfSome value HasSpelling }
-        requires there { is_clean self.old → HasCell ((state self.old).now.db rel) place.now attr }
-        ensures call { IsCall is_clean failures state self.old self.new result }
-        ensures not_begun { (result ≡ Err BaseFault.NotBegun) ↔ ((state self.old).begun ≡ false) }
-        ensures no_other { IsErrOf result BaseFault.Begun → ⊥ }
-        ensures mode { OnOk result ((state self.new).begun ≡ (state self.old).begun) }
+        requires { CanSet is_clean state self.old rel place.now attr value }
+        ensures change { IsChange is_clean failures state (state self.old).begun self.old self.new result }
         ensures done { is_clean self.new → OnOk result (state self.new
             ≡ with_relation (state self.old) rel
             (change (set_in place.now attr value) ((state self.old).now.db rel))) };
 
     /// Removes the tuple at a place and its cells, which no other tuple may have. `NotBegun` where no change is begun.
     fn drop_at(&mut self, rel: RelNo, place: &Place) -> Result<(), BaseFault>
-        requires key { IsSpelledKey place.now.key }
-        requires there { is_clean self.old → get ((state self.old).now.db rel) place.now ≢ None }
-        requires alone { is_clean self.old → IsAlone ((state self.old).now.db rel) place.now }
-        ensures call { IsCall is_clean failures state self.old self.new result }
-        ensures not_begun { (result ≡ Err BaseFault.NotBegun) ↔ ((state self.old).begun ≡ false) }
-        ensures no_other { IsErrOf result BaseFault.Begun → ⊥ }
-        ensures mode { OnOk result ((state self.new).begun ≡ (state self.old).begun) }
+        requires { CanDrop is_clean state self.old rel place.now }
+        ensures change { IsChange is_clean failures state (state self.old).begun self.old self.new result }
         ensures done { is_clean self.new → OnOk result (state self.new
             ≡ with_relation (state self.old) rel (remove ((state self.old).now.db rel) place.now)) };
 
     /// Adds an entry at the end of the audit list. `NotBegun` where no change is begun.
     fn audit_add(&mut self, bytes: &[u8]) -> Result<(), BaseFault>
-        ensures call { IsCall is_clean failures state self.old self.new result }
-        ensures not_begun { (result ≡ Err BaseFault.NotBegun) ↔ ((state self.old).begun ≡ false) }
-        ensures no_other { IsErrOf result BaseFault.Begun → ⊥ }
-        ensures mode { OnOk result ((state self.new).begun ≡ (state self.old).begun) }
+        ensures change { IsChange is_clean failures state (state self.old).begun self.old self.new result }
         ensures done { is_clean self.new → OnOk result (state self.new ≡ with_entry (state self.old) bytes.now) };
 
     /// Removes all entries of the audit list. `NotBegun` where no change is begun.
     fn audit_clear(&mut self) -> Result<(), BaseFault>
-        ensures call { IsCall is_clean failures state self.old self.new result }
-        ensures not_begun { (result ≡ Err BaseFault.NotBegun) ↔ ((state self.old).begun ≡ false) }
-        ensures no_other { IsErrOf result BaseFault.Begun → ⊥ }
-        ensures mode { OnOk result ((state self.new).begun ≡ (state self.old).begun) }
+        ensures change { IsChange is_clean failures state (state self.old).begun self.old self.new result }
         ensures done { is_clean self.new → OnOk result (state self.new ≡ with_no_entries (state self.old)) };
 
     /// The entries of the audit list, in the order in which they were added.
     fn audit_all(&mut self) -> Result<Items<Items<u8>>, BaseFault>
-        ensures call { IsCall is_clean failures state self.old self.new result }
-        ensures served { IfErr result IsServed }
-        ensures mode { OnOk result ((state self.new).begun ≡ (state self.old).begun) }
-        ensures found { is_clean self.new → IfOk result (λ entries. entries ≡ (state self.old).now.audit) }
-        ensures same { is_clean self.new → OnOk result (state self.new ≡ state self.old) };
+        ensures read { IsRead is_clean failures state self.old self.new result }
+        ensures found { is_clean self.new → IfOk result (λ entries. entries ≡ (state self.old).now.audit) };
 
     ghost settled: { (b : Self) → is_clean b → (state b).begun ≡ false → (state b).kept ≡ (state b).now };
 }

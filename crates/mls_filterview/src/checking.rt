@@ -16,7 +16,8 @@ use mls_scheme::{Scheme, Tuple};
 /// The first row that breaks the stored form, and the first rule that it breaks. None where the tuples are those of a
 /// relation of the stored form, each once, with the kinds and intervals of the scheme.
 ///
-/// It takes no memory.
+/// It takes tuples in any order, and no memory: so it compares each with each, where `is_content` looks up by
+/// places.
 pub fn integrity(policy: &Policy, scheme: &Scheme, tuples: &[Tuple]) -> Option<Broken>
     requires classes { AllByRecursion (HasClassesBelow (length policy.now.labels)) tuples.now }
     requires under { IsUnder (length policy.now.labels) scheme.now }

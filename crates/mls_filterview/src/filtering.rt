@@ -20,7 +20,9 @@ use std::alloc::{AllocError, Global};
 /// What a level sees of a list of tuples: each of them with what the level does not dominate hidden, but for those
 /// that others subsume, each once.
 ///
-/// Tuples of the stored form come in the order of key, number of the key class and number of the tuple class.
+/// Rows are put in order, and then compared within an entity. Tuples of the stored form come in the order of
+/// key, number of the key class and number of the tuple class; of others the last part is the class that is
+/// reached from the key class by climbing to each that dominates.
 pub fn filter(
     alloc: Global,
     policy: &Policy,

@@ -11,7 +11,8 @@ pub struct Node {
     pub pattern: Items<LabelNo>,
 }
 
-/// The element of an entity at an attribute and a class. Attributes outside the key are numbered from 0.
+/// The element of an entity at an attribute and a class. Attributes outside the key are numbered from 0. Its
+/// entity is named, since the lists of a fragment are in any order.
 #[derive(Drop)]
 pub struct Cell {
     pub key: Items<Value>,

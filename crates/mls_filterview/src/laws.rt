@@ -1,5 +1,5 @@
 //! The laws of views and of the stored form, each the contract of a function.
-ghost use Rattle.mls_filterview.specs.Laws.{StoredHasIntegrity, ViewIsMaxOfLow, ViewTellsLow, ViewsAndLowAgree, RowsAreTheView};
+ghost use Rattle.mls_filterview.specs.Laws.{StoredHasIntegrity, ViewIsMaxOfLow, ViewTellsLow, ViewsAndLowAgree, RowsAreTheView, ViewsAreMended};
 ghost use Rattle.mls_filterview.specs.Widen.{ViewOfWidened, ViewOfWidenedTable, WideningKeepsContent, WidenedWasContent, ContentNeedsItsLabels};
 
 /// The stored form has the four integrity properties.
@@ -25,6 +25,11 @@ pub fn views_and_low_agree()
 /// The rows of a level are the tuples of its view, in the order of places.
 pub fn rows_are_the_view()
     ensures { RowsAreTheView }
+{}
+
+/// Where tables agree outside of an entity, so do the rows of a level, and those of the entity are seen in its tuples alone.
+pub fn views_are_mended()
+    ensures { ViewsAreMended }
 {}
 
 /// What a level sees of widened tuples is what it sees of the tuples, widened.

@@ -11,6 +11,8 @@ mod fitting;
 mod fragment;
 mod laws;
 mod maximal;
+mod mending;
+mod parts;
 mod reach;
 mod recovering;
 mod row;
@@ -30,9 +32,11 @@ pub use filtering::{class_number, filter};
 pub use fragment::{Cell, Fragment, Node};
 pub use laws::{
     content_needs_its_labels, rows_are_the_view, stored_has_integrity, view_is_max_of_low,
-    view_of_widened, view_of_widened_table, view_tells_low, views_and_low_agree,
+    view_of_widened, view_of_widened_table, view_tells_low, views_and_low_agree, views_are_mended,
     widened_was_content, widening_keeps_content,
 };
+pub use mending::mend;
+pub use parts::{entity_parts, gather};
 pub use recovering::is_content;
 pub use row::tuple_at;
 pub use rule::{Broken, Rule};

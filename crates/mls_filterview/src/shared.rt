@@ -56,6 +56,19 @@ impl SharedView {
         })
     }
 
+    /// The tuples, to change them. They are copied where there is another owner.
+    pub fn into_tuples(self, alloc: Global) -> Result<Vec<Tuple>, AllocError>
+        ensures { IfOk result (λ v. v.items ≡ self) }
+    {
+        match self.tuples {
+            None => Ok(Vec::new(alloc)),
+            Some(tuples) => match Rc::try_unwrap(tuples) {
+                Ok(tuples) => Ok(tuples.into_vec()),
+                Err(shared) => copy_tuples(shared.as_ref()),
+            },
+        }
+    }
+
     /// The same view, for one owner more. It fails only where there are as many as can be counted.
     pub fn share(&self) -> Result<SharedView, AllocError>
         ensures { IfOk result (λ v. v ≡ self.now) }
@@ -86,6 +99,13 @@ impl SharedView {
         let view = self.share()?;
         Ok(SharedTuple { view, place })
     }
+}
+
+/// The same tuples.
+fn copy_tuples(tuples: &Items<Tuple>) -> Result<Vec<Tuple>, AllocError>
+    ensures { IfOk result (λ v. v.items ≡ tuples.now) }
+{
+    Ok(tuples.clone()?.into_vec())
 }
 
 impl SharedTuple {

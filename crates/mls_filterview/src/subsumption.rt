@@ -1,4 +1,4 @@
-//! Subsumption (Jajodia and Sandhu 1991).
+//! Subsumption: which tuples say all that others say (Jajodia and Sandhu 1991).
 ghost use Rattle.std.specs.Prelude.{◌≡◌, ◌↔◌, IsTrue};
 ghost use Rattle.mls_filterview.specs.Subsumption.{covers, all_cover, Subsumes};
 ghost use Rattle.mls_filterview.specs.Filtering.{subsumes_tuple};

@@ -1,36 +1,40 @@
 //! What a level sees of a relation, read from the fragments of the labels that it dominates.
-ghost use Rattle.std.specs.Prelude.{◌≡◌, ◌↔◌, ◌<◌, ◌++◌, ℕ, length, IfOk, IfErr, OnOk};
-ghost use Rattle.mls_lattice.specs.Labels.{Labels, AreDistinct};
+ghost use Rattle.std.specs.Prelude.{◌≡◌, ◌↔◌, ◌<◌, ℕ, length, IfOk, OnOk};
+ghost use Rattle.std.specs.List.{filter, AllByRecursion};
+ghost use Rattle.mls_lattice.specs.Labels.{Labels, AreDistinct, below};
 ghost use Rattle.mls_lattice.specs.Policy.{labels_of};
 ghost use Rattle.mls_scheme.specs.Table.{Table, IsIn};
 ghost use Rattle.mls_scheme.specs.declared.tuple.Tuple.{Tuple as SpecTuple};
 ghost use Rattle.mls_filterview.specs.View.{View, rows, IsAmong, AreInOrder};
 ghost use Rattle.mls_filterview.specs.Stored.{IsStored};
-ghost use Rattle.mls_filterview.specs.Calls.{IsCall, IsServed};
+ghost use Rattle.mls_filterview.specs.Calls.{IsRead, CanSee};
 ghost use Rattle.mls_filterview.specs.Assembly.{AreLow};
-ghost use Rattle.mls_filterview.specs.Reach.{low_tuples};
+ghost use Rattle.mls_filterview.specs.Reach.{numbers, low_tuples};
 
 use crate::assembly::{entries_of, rows_of, values_of};
 use crate::base::{Base, BaseFault, made};
-use crate::fragment::{Cell, Fragment, Node};
+use crate::fragment::Fragment;
 use crate::maximal::maximal_tuples;
 use crate::reach::by_reach;
-use mls_lattice::{Items, LabelNo, Policy};
+use mls_lattice::{LabelNo, Policy};
 use mls_scheme::{RelNo, Tuple};
 use std::alloc::{AllocError, Global};
 
-/// Puts a fragment behind what was gathered.
-fn gather(
-    nodes: &mut Vec<Node>,
-    cells: &mut Vec<Cell>,
-    fragment: Fragment,
-) -> Result<(), AllocError>
-    ensures nodes { OnOk result (nodes.new.items ≡ nodes.old.items ++ fragment.nodes) }
-    ensures cells { OnOk result (cells.new.items ≡ cells.old.items ++ fragment.cells) }
+/// The labels that a label dominates, by number.
+fn low_labels(alloc: Global, policy: &Policy, label: LabelNo) -> Result<Vec<LabelNo>, AllocError>
+    requires { label < length policy.now.labels }
+    ensures labels { IfOk result (λ v. v.items
+        ≡ filter (λ m. below (labels_of policy.now) m label) (numbers (length policy.now.labels))) }
+    ensures few { IfOk result (λ v. AllByRecursion (λ m. m < 64) v.items) }
 {
-    nodes.append(&mut fragment.nodes.into_vec())?;
-    cells.append(&mut fragment.cells.into_vec())?;
-    Ok(())
+    let mut labels = Vec::new(alloc);
+    for number in 0..policy.label_count() {
+        let low = LabelNo::new(number as u8);
+        if policy.dominates(label, low) {
+            labels.push(low)?;
+        }
+    }
+    Ok(labels)
 }
 
 /// The fragments of the labels that a label dominates, as one.
@@ -43,32 +47,19 @@ fn low_fragment<B: Base>(
 ) -> Result<Fragment, BaseFault>
     requires { label < length policy.now.labels }
     ensures distinct { AreDistinct (labels_of policy.now) }
-    ensures call { IsCall B.is_clean B.failures B.state base.old base.new result }
-    ensures served { IfErr result IsServed }
-    ensures mode { OnOk result ((B.state base.new).begun ≡ (B.state base.old).begun) }
+    ensures read { IsRead B.is_clean B.failures B.state base.old base.new result }
     ensures low { B.is_clean base.new → IfOk result
         (λ f. AreLow (labels_of policy.now) ((B.state base.old).now.db rel) label
         (length policy.now.labels) f.nodes f.cells) }
-    ensures same { B.is_clean base.new → OnOk result (B.state base.new ≡ B.state base.old) }
 {
-    let mut nodes = Vec::new(alloc);
-    let mut cells = Vec::new(alloc);
-    for number in 0..policy.label_count() {
-        let low = LabelNo::new(number as u8);
-        if !policy.dominates(label, low) {
-            continue;
-        }
-        let fragment = base.fragment(rel, low)?;
-        made(base, gather(&mut nodes, &mut cells, fragment))?;
-    }
-    Ok(Fragment {
-        nodes: Items::from(nodes),
-        cells: Items::from(cells),
-    })
+    // That the labels of a policy are distinct.
+    let _count = policy.label_count();
+    let labels = made(base, low_labels(alloc, policy, label))?;
+    base.fragments(rel, &labels)
 }
 
 /// What a level sees of the relation whose low fragments these are.
-fn tuples_of(alloc: Global, low: Fragment) -> Result<Vec<Tuple>, AllocError>
+pub(crate) fn tuples_of(alloc: Global, low: Fragment) -> Result<Vec<Tuple>, AllocError>
     ensures { IfOk result (λ v. (ls : Labels) (n : ℕ) (T : Table) (c : ℕ) → IsStored ls n T
         → AreLow ls T c (length ls) low.nodes low.cells → v.items ≡ rows ls c T) }
 {
@@ -93,7 +84,7 @@ fn tuples_by_reach(alloc: Global, policy: &Policy, low: Fragment) -> Result<Vec<
 /// The tuples of a relation whose classes a level dominates, also those that others subsume: class by class, those classes
 /// first that dominate the fewest declared labels, and within one in the order of places.
 ///
-/// It reads the fragments of the labels that the level dominates, and no other. Where the store fails or a growth is
+/// It reads the fragments of the labels that the level dominates at once, and no other. Where the store fails or a growth is
 /// refused, a change that is begun has ended.
 pub fn low_tuples<B: Base>(
     alloc: Global,
@@ -102,15 +93,10 @@ pub fn low_tuples<B: Base>(
     rel: RelNo,
     label: LabelNo,
 ) -> Result<Vec<Tuple>, BaseFault>
-    requires label { label < length policy.now.labels }
-    requires stored { B.is_clean base.old → (n : ℕ)
-        × IsStored (labels_of policy.now) n ((B.state base.old).now.db rel) }
-    ensures call { IsCall B.is_clean B.failures B.state base.old base.new result }
-    ensures served { IfErr result IsServed }
-    ensures mode { OnOk result ((B.state base.new).begun ≡ (B.state base.old).begun) }
+    requires { CanSee B.is_clean B.state base.old rel policy.now label }
+    ensures read { IsRead B.is_clean B.failures B.state base.old base.new result }
     ensures tuples { B.is_clean base.new → IfOk result (λ v. v.items
         ≡ low_tuples (labels_of policy.now) label ((B.state base.old).now.db rel)) }
-    ensures same { B.is_clean base.new → OnOk result (B.state base.new ≡ B.state base.old) }
 {
     let low = low_fragment(alloc, base, policy, rel, label)?;
     let tuples = made(base, tuples_by_reach(alloc, policy, low))?;
@@ -119,7 +105,7 @@ pub fn low_tuples<B: Base>(
 
 /// What a level sees of a relation, in the order of key, number of the key class and number of the class.
 ///
-/// It reads the fragments of the labels that the level dominates, and no other. Where the store fails or a growth is
+/// It reads the fragments of the labels that the level dominates at once, and no other. Where the store fails or a growth is
 /// refused, a change that is begun has ended.
 pub fn view<B: Base>(
     alloc: Global,
@@ -128,18 +114,13 @@ pub fn view<B: Base>(
     rel: RelNo,
     label: LabelNo,
 ) -> Result<Vec<Tuple>, BaseFault>
-    requires label { label < length policy.now.labels }
-    requires stored { B.is_clean base.old → (n : ℕ)
-        × IsStored (labels_of policy.now) n ((B.state base.old).now.db rel) }
-    ensures call { IsCall B.is_clean B.failures B.state base.old base.new result }
-    ensures served { IfErr result IsServed }
-    ensures mode { OnOk result ((B.state base.new).begun ≡ (B.state base.old).begun) }
+    requires { CanSee B.is_clean B.state base.old rel policy.now label }
+    ensures read { IsRead B.is_clean B.failures B.state base.old base.new result }
     ensures rows { B.is_clean base.new → IfOk result (λ v. v.items
         ≡ rows (labels_of policy.now) label ((B.state base.old).now.db rel)) }
     ensures seen { B.is_clean base.new → IfOk result (λ v. (t : SpecTuple)
         → IsAmong t v.items ↔ View (labels_of policy.now) (IsIn ((B.state base.old).now.db rel)) label t) }
     ensures ordered { B.is_clean base.new → IfOk result (λ v. AreInOrder ((B.state base.old).now.db rel) v.items) }
-    ensures same { B.is_clean base.new → OnOk result (B.state base.new ≡ B.state base.old) }
 {
     let low = low_fragment(alloc, base, policy, rel, label)?;
     let tuples = made(base, tuples_of(alloc, low))?;

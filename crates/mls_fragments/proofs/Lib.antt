@@ -22,3 +22,4 @@ pub mod WrittenLemmas
 pub mod OneContentLemmas
 pub mod HoldingsLemmas
 pub mod AgainLemmas
+pub mod BitLemmas

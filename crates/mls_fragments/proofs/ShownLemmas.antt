@@ -1,4 +1,4 @@
--- The rows of a relation and a label show its fragment, and those of a place what belongs to its entity.
+-- The rows of a relation and some labels show their fragments, and those of a place what belongs to its entity.
 use Rattle.std.proofs.Common.{◌≡◌, ℕ, Bool, true, false, cond, ◌&&◌, List, [], ◌∷◌, map, filter, flat_map, Option, Some, None, refl, sym, ap, ◌∙◌, subst, append-nil, arith, IsPermutation}
 use Rattle.std.specs.Prelude.{nat_eq, IfSome, slice_get}
 use Rattle.std.specs.List.{AllByRecursion}
@@ -19,14 +19,14 @@ use Rattle.mls_filterview.specs.declared.fragment.Node.{Node}
 use Rattle.mls_filterview.specs.declared.fragment.Cell.{Cell}
 use Rattle.mls_filterview.specs.declared.fragment.Fragment.{Fragment}
 use Rattle.mls_filterview.specs.Content.{Content}
-use Rattle.mls_filterview.specs.Fragment.{ArePartsOf, IsFragment, IsEntityPart, of_class, at_place, classes, node_of, cells_of}
+use Rattle.mls_filterview.specs.Fragment.{ArePartsOf, IsEntityPart, at_place, classes, node_of, cells_of}
 use Rattle.mls_filterview.specs.View.{IsAmong}
 use Rattle.mls_filterview.proofs.AmongLemmas.{each_among, among_filter, among_flat_map}
 use Rattle.mls_filterview.proofs.EntryLemmas.{Entry, among_entries}
 use Rattle.mls_filterview.proofs.FragmentLemmas.{cell_found}
 use Rattle.mls_filterview.proofs.PlaceLemmas.{tuples, at_place-get, nil_permuted, one_permuted}
 use Rattle.mls_statements.specs.declared.rows.NodeRow.{NodeRow}
-use Rattle.mls_statements.specs.Rows.{Tables, is_node_at, is_cell_at, is_node, is_cell_in}
+use Rattle.mls_statements.specs.Rows.{Tables, is_node, is_cell_in}
 use Rattle.mls_fragments.specs.Holding.{Holds, HoldsTable, IsSpelledNode, IsSpelledCell, value_bytes, node_row, cell_row}
 use Rattle.mls_fragments.proofs.WrittenLemmas.{filter_each, spelled_keys, entity_test, place_test, cells_where}
 
@@ -105,37 +105,37 @@ module _ (t : Tables) (rel : ℕ) (T : Table) (held : HoldsTable t rel T) (test 
     cells = reflects IsSpelledCell (cell_row rel) (same_cell rel) _ f.cells cells_spelled cs cells;
   }
 
--- ---- the rows of a label
+-- ---- the rows of some labels
 
-module _ (t : Tables) (rel label : ℕ) (T : Table) (held : HoldsTable t rel T) where
-  nodes_at : IsPermutation (map (node_row rel) (map node_of (of_class label T))) (filter (is_node_at rel label) t.nodes)
-  nodes_at =
-      subst (IsPermutation (map (node_row rel) (map node_of (of_class label T)))) (filter_both (λ n. nat_eq n.label label) (λ n. nat_eq n.rel rel) t.nodes)
-      (subst (λ l. IsPermutation l (filter (λ n. nat_eq n.label label) (filter (λ n. nat_eq n.rel rel) t.nodes)))
-      (filter-map (λ n. nat_eq n.label label) (node_row rel) (map node_of (entries T)) ∙ ap (map (node_row rel)) (filter-map (λ n. nat_eq n.label label) node_of (entries T)))
-      (IsPermutation-filter (λ n. nat_eq n.label label) _ _ held.nodes))
+module _ (t : Tables) (rel : ℕ) (has : ℕ → Bool) (T : Table) (held : HoldsTable t rel T) where
+  nodes_where : IsPermutation (map (node_row rel) (map node_of (filter (λ e. has e.0.class) (entries T)))) (filter (λ n. nat_eq n.rel rel && has n.label) t.nodes)
+  nodes_where =
+      subst (IsPermutation (map (node_row rel) (map node_of (filter (λ e. has e.0.class) (entries T))))) (filter_both (λ n. has n.label) (λ n. nat_eq n.rel rel) t.nodes)
+      (subst (λ l. IsPermutation l (filter (λ n. has n.label) (filter (λ n. nat_eq n.rel rel) t.nodes)))
+      (filter-map (λ n. has n.label) (node_row rel) (map node_of (entries T)) ∙ ap (map (node_row rel)) (filter-map (λ n. has n.label) node_of (entries T)))
+      (IsPermutation-filter (λ n. has n.label) _ _ held.nodes))
 
   -- the cells of a tuple have its class
-  label_test : (e : Entry) → IsAmong e (entries T) → (d : Cell) → IsAmong d (cells_of e) → nat_eq d.label label ≡ nat_eq e.0.class label
-  label_test e i d k = let f = cell_found 0 e.0 e.1 d k in ap (λ m. nat_eq m label) (ap (λ x. x.label) f.1.1 ∙ f.1.2)
+  label_test : (e : Entry) → IsAmong e (entries T) → (d : Cell) → IsAmong d (cells_of e) → has d.label ≡ has e.0.class
+  label_test e i d k = let f = cell_found 0 e.0 e.1 d k in ap has (ap (λ x. x.label) f.1.1 ∙ f.1.2)
 
-  cells_at : IsPermutation (map (cell_row rel) (flat_map cells_of (of_class label T))) (filter (is_cell_at rel label) t.cells)
+  cells_at : IsPermutation (map (cell_row rel) (flat_map cells_of (filter (λ e. has e.0.class) (entries T)))) (filter (λ c. nat_eq c.rel rel && has c.label) t.cells)
   cells_at =
-      subst (IsPermutation (map (cell_row rel) (flat_map cells_of (of_class label T)))) (filter_both (λ c. nat_eq c.label label) (λ c. nat_eq c.rel rel) t.cells)
-      (subst (λ l. IsPermutation l (filter (λ c. nat_eq c.label label) (filter (λ c. nat_eq c.rel rel) t.cells)))
-      (filter-map (λ c. nat_eq c.label label) (cell_row rel) (flat_map cells_of (entries T))
-      ∙ ap (map (cell_row rel)) (filter_each cells_of (λ d. nat_eq d.label label) (λ e. nat_eq e.0.class label) (entries T) label_test))
-      (IsPermutation-filter (λ c. nat_eq c.label label) _ _ held.cells))
+      subst (IsPermutation (map (cell_row rel) (flat_map cells_of (filter (λ e. has e.0.class) (entries T))))) (filter_both (λ c. has c.label) (λ c. nat_eq c.rel rel) t.cells)
+      (subst (λ l. IsPermutation l (filter (λ c. has c.label) (filter (λ c. nat_eq c.rel rel) t.cells)))
+      (filter-map (λ c. has c.label) (cell_row rel) (flat_map cells_of (entries T))
+      ∙ ap (map (cell_row rel)) (filter_each cells_of (λ d. has d.label) (λ e. has e.0.class) (entries T) label_test))
+      (IsPermutation-filter (λ c. has c.label) _ _ held.cells))
 
-pub shows_fragment : (t : Tables) (c : Content) (rel label : ℕ) (f : Fragment) → Holds t c
+pub shows_labels : (t : Tables) (c : Content) (rel : ℕ) (has : ℕ → Bool) (f : Fragment) → Holds t c
     → AllByRecursion IsSpelledNode f.nodes → AllByRecursion IsSpelledCell f.cells
-    → IsPermutation (filter (is_node_at rel label) t.nodes) (map (node_row rel) f.nodes)
-    → IsPermutation (filter (is_cell_at rel label) t.cells) (map (cell_row rel) f.cells)
-    → IsFragment (c.db rel) label f
-shows_fragment t c rel label f holds ns cs nodes cells =
+    → IsPermutation (filter (λ n. nat_eq n.rel rel && has n.label) t.nodes) (map (node_row rel) f.nodes)
+    → IsPermutation (filter (λ d. nat_eq d.rel rel && has d.label) t.cells) (map (cell_row rel) f.cells)
+    → ArePartsOf (filter (λ e. has e.0.class) (entries (c.db rel))) f
+shows_labels t c rel has f holds ns cs nodes cells =
     let T = c.db rel in
     let held = holds.tables rel in
-    show_parts t rel T held (λ e. nat_eq e.0.class label) f ns cs (IsPermutation-trans _ _ _ (nodes_at t rel label T held) nodes) (IsPermutation-trans _ _ _ (cells_at t rel label T held) cells)
+    show_parts t rel T held (λ e. has e.0.class) f ns cs (IsPermutation-trans _ _ _ (nodes_where t rel has T held) nodes) (IsPermutation-trans _ _ _ (cells_at t rel has T held) cells)
 
 -- ---- the rows of a place
 

@@ -29,7 +29,9 @@ use Rattle.mls_fragments.specs.declared.open_fault.OpenFault.{OpenFault}
 abbrev pub FindsHoldings : Image → Holdings → Type 0
 FindsHoldings image h = (db : Database) × IsFoundIn image db × HasHoldings db h
 
--- the database file is empty and there is nothing, or the files hold a database, which has this
+-- The database file is empty and there is nothing, or the files hold a database, which has this. It is said of
+-- bytes and not of a disk, so of every image that a crash may leave; what is left of a creation that a crash
+-- cut off is nothing. That it is one thing is said where an opening finds something (`KeptIsFound`).
 pub data KeepsHoldings (image : Image) (h : Holdings) : Type 0 where
   empty : image.db ≡ [] → h ≡ no_holdings → KeepsHoldings image h
   rows : (db : Database) → ∥ HoldsDatabase image db.trees ∥₁ → IsDatabase db → HasHoldings db h → KeepsHoldings image h

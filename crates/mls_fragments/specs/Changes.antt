@@ -48,8 +48,8 @@ with_entries T (e ∷ es) = insert (with_entries T es) e.0 e.1
 abbrev pub with_tables : Content → List Entries → Content
 with_tables c tables = record c { db = λ rel. with_entries (c.db rel) (entries (table_in tables rel)) }
 
--- what a store has when it is opened, all at once or table by table; or a tuple more, a value in the place of another, a tuple less, an entry more, or
--- no entry
+-- what a store has when it is opened, all at once or table by table, so that content is a list of changes from
+-- the first on; or a tuple more, a value in the place of another, a tuple less, an entry more, or no entry
 pub data Change : Type 0 where
   Finds : (tables : List Entries) (audit : List (List ℕ)) → Change
   Joins : (tables : List Entries) → Change

@@ -1,5 +1,5 @@
 -- What the rows of a store hold.
-use Rattle.std.specs.Prelude.{◌≡◌, ℕ, suc, ◌<◌, Bool, ◌&&◌, nat_eq, nat_lt, List, [], ◌∷◌, ◌++◌, map, length}
+use Rattle.std.specs.Prelude.{◌≡◌, ℕ, suc, ◌<◌, ◌≤◌, pos, Bool, ◌&&◌, nat_eq, nat_lt, List, [], ◌∷◌, ◌++◌, map, length}
 use Rattle.std.specs.Prelude.{slice_index_or, Option, Some, IfSome, IsPermutation}
 use Rattle.std.specs.List.{AllByRecursion, filter, flat_map, list_all}
 use Rattle.std.specs.List.Sorted.{IsStrictlySortedBy}
@@ -12,7 +12,7 @@ use Rattle.mls_scheme.specs.declared.value.Value.{Value}
 use Rattle.mls_scheme.specs.declared.tuple.Element.{Element}
 use Rattle.mls_scheme.specs.declared.place.Place.{Place}
 use Rattle.mls_scheme.specs.Spelling.{HasSpelling, IsSpelledKey}
-use Rattle.mls_scheme.specs.Scheme.{Schemes, scheme_of}
+use Rattle.mls_scheme.specs.Scheme.{Schemes, scheme_of, AreSchemes}
 use Rattle.mls_scheme.specs.Table.{place_cmp, Table}
 use Rattle.mls_filterview.specs.declared.fragment.Node.{Node}
 use Rattle.mls_filterview.specs.declared.fragment.Cell.{Cell}
@@ -23,6 +23,8 @@ use Rattle.mls_audit.specs.Spelling.{IsEntryOf}
 use Rattle.mls_filterview.specs.Content.{Content}
 use Rattle.mls_statements.specs.declared.rows.NodeRow.{NodeRow}
 use Rattle.mls_statements.specs.declared.rows.CellRow.{CellRow}
+use Rattle.mls_statements.specs.declared.adopting.AllRows.{AllRows}
+use Rattle.mls_statements.specs.Adopting.{AreAll}
 use Rattle.mls_statements.specs.Rows.{Tables}
 use Rattle.mls_fragments.specs.declared.reading.RowFault.{RowFault}
 use Rattle.mls_fragments.specs.declared.reading.RowFault.TheVariants.{Memory}
@@ -51,7 +53,8 @@ pub record IsCellRow (r : CellRow) : Type 0 where
   pub label : cell.label < 256
   pub is : r ≡ cell_row r.rel cell
 
--- the classes of all tuples are numbers of one byte
+-- the classes of all tuples are numbers of one byte, so a row that does not read shows that its store is not
+-- clean
 abbrev pub HasByteClasses : Content → Type 0
 HasByteClasses c = (rel : ℕ) (p : Place) (es : List Element) → get (c.db rel) p ≡ Some es → (p.key_class < 256)
     × (p.class < 256)
@@ -112,6 +115,18 @@ pub record IsSoundWithin (policy : Policy) (schemes : Schemes) (labels : ℕ) (c
 -- what is found
 abbrev pub content_found : Found → Content
 content_found f = found (map (λ t. t.entries) f.tables.items) f.entries
+
+-- all rows of a store, put together: sound content in which the first labels alone occur
+pub record HasFound (policy : Policy) (schemes : Schemes) (labels : ℕ) (rows : AllRows) (f : Found) : Type 0 where
+  pub held : (t : Tables) → AreAll t rows → Holds t (content_found f)
+  pub sound : IsSoundWithin policy schemes labels (content_found f)
+  pub classes : HasByteClasses (content_found f)
+  pub few : length policy.labels ≤ 64
+  pub spelled : AllByRecursion (λ t. AllByRecursion IsSpelledEntry t.entries) f.tables.items
+  pub sorted : AllByRecursion (λ t. IsStrictlySortedBy place_cmp (keys_of t.entries)) f.tables.items
+  pub count : length f.tables.items ≡ length schemes
+  pub valid : AreSchemes schemes
+  pub last : f.last ≡ pos (length f.entries)
 
 -- two lists have the same rows of each relation
 abbrev pub AreAlike : {R : Type 0} → (R → ℕ) → List R → List R → Type 0

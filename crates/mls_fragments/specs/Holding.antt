@@ -63,7 +63,8 @@ pub record HoldsTable (t : Tables) (rel : ℕ) (T : Table) : Type 0 where
   pub cells : IsPermutation (map (cell_row rel) (cells_in T)) (filter (λ c. nat_eq c.rel rel) t.cells)
   pub shared : (p : Place) (es : List Element) → get T p ≡ Some es → IsSharedTuple T p es
 
--- the rows are those of the content, in any order
+-- The rows are those of the content, in any order. A base that kept content beside its store, and never wrote
+-- it, would break this.
 pub record Holds (t : Tables) (c : Content) : Type 0 where
   pub tables : (rel : ℕ) → HoldsTable t rel (c.db rel)
   pub audit : IsPermutation (numbered 1 c.audit) t.audit

@@ -29,7 +29,8 @@ holdings_of row c = record { meta = Some row; content = c }
 
 -- ---- who has them
 
--- one row describes the store, of version 1 or 2
+-- One row describes the store, of version 1 or 2. A base tells nothing of it, so a host says that the store
+-- keeps some row with what a run leaves.
 pub record HaveOneMeta (t : Tables) : Type 0 where
   pub row : MetaRow
   pub one : t.meta ≡ row ∷ []

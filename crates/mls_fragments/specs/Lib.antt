@@ -1,3 +1,6 @@
+-- The definitions of stores: `Holding` says which rows content has, `Opening` what is opened, `Again` what
+-- files keep.
+pub mod Calls
 pub mod Holding
 pub mod Holdings
 pub mod Changes

@@ -1,5 +1,6 @@
 -- Stores of older policies and schemes, and content under schemes with more attributes.
-use Rattle.std.specs.Prelude.{◌≡◌, ◌⊎◌, ℕ, suc, ◌-◌, ◌≤◌, List, [], ◌∷◌, length, map, slice_index_or}
+use Rattle.std.specs.Prelude.{◌≡◌, ◌⊎◌, ℕ, suc, ◌-◌, ◌≤◌, pos, List, [], ◌∷◌, length, map, slice_index_or, IsPermutation}
+use Rattle.std.specs.List.{AllByRecursion}
 use Rattle.mls_lattice.specs.Policy.{Tables as Policy}
 use Rattle.mls_lattice.specs.declared.version.Version.TheVariants.{Two}
 use Rattle.mls_lattice.specs.Canon as lattice
@@ -11,10 +12,15 @@ use Rattle.mls_scheme.specs.Extending as older_schemes
 use Rattle.mls_filterview.specs.Content.{Content}
 use Rattle.mls_filterview.specs.Widen.{IsWidened, widened_entry}
 use Rattle.mls_statements.specs.declared.rows.MetaRow.{MetaRow}
+use Rattle.mls_statements.specs.declared.adopting.AllRows.{AllRows}
+use Rattle.mls_statements.specs.Adopting.{AreAll}
+use Rattle.mls_statements.specs.Rows.{Tables, numbered}
 use Rattle.mls_fragments.specs.declared.migrating.Standing.{Standing}
 use Rattle.mls_fragments.specs.declared.migrating.Standing.TheVariants.{Same, Older}
 use Rattle.mls_fragments.specs.Changes.{Entries}
-use Rattle.mls_fragments.specs.Finding.{IsSoundWithin}
+use Rattle.mls_fragments.specs.declared.finding.Found.{Found}
+use Rattle.mls_fragments.specs.Finding.{HasByteClasses, IsSoundContent, IsSoundWithin, IsSpelledEntry, content_found, node_rows, cell_rows}
+use Rattle.mls_fragments.specs.Holding.{Holds}
 
 -- ---- what the description of a store says to a policy and schemes
 
@@ -67,3 +73,16 @@ abbrev pub wide_tables : Schemes → List ℕ → ℕ → List Entries → List 
 wide_tables schemes counts k [] = []
 wide_tables schemes counts k (es ∷ tables) =
     map (widened_entry (more schemes counts k)) es ∷ wide_tables schemes counts (suc k) tables
+
+-- all rows of an older store, put together and widened: sound content
+pub record HasWidened (policy : Policy) (schemes : Schemes) (labels : ℕ) (counts : List ℕ) (rows : AllRows) (f : Found) : Type 0 where
+  pub widened : (c : Content) × ((t : Tables) → AreAll t rows → Holds t c) × IsSoundBefore policy schemes labels counts c × IsWidenedContent schemes counts c (content_found f)
+  pub sound : IsSoundContent policy schemes (content_found f)
+  pub classes : HasByteClasses (content_found f)
+  pub holds : (t : Tables) → IsPermutation (node_rows 0 (map (λ t. t.entries) f.tables.items)) t.nodes
+      → IsPermutation (cell_rows 0 (map (λ t. t.entries) f.tables.items)) t.cells
+      → IsPermutation (numbered 1 f.entries) t.audit → Holds t (content_found f)
+  pub listed : (t : Tables) → AreAll t rows → IsPermutation (numbered 1 f.entries) t.audit
+  pub spelled : AllByRecursion (λ t. AllByRecursion IsSpelledEntry t.entries) f.tables.items
+  pub count : length f.tables.items ≤ 256
+  pub last : f.last ≡ pos (length f.entries)

@@ -107,8 +107,8 @@ impl<D: Disk + Drop> SqlBase<FileStore<D>> {
         }
     }
 
-    /// Closes the files: the database file alone then keeps what was committed, also after a crash. Where that fails, the log keeps the
-    /// rest.
+    /// Closes the files: the database file alone then keeps what was committed, also after a crash. Where that
+    /// fails, the log keeps the rest. The files come back, since nothing could be said of them else.
     pub fn close_files(self) -> Result<Files<D>, (OpenFault, Files<D>)>
         requires begun { (state_of self).begun ≡ false }
         ensures usable { IfOk result (λ files. IsTrue (D.Disk.is_usable files.log)

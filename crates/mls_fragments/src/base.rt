@@ -16,7 +16,7 @@ ghost use Rattle.mls_fragments.specs.Holdings.{HasHoldings, HaveOneMeta, holding
 
 use crate::entity::{read_entity, read_pattern};
 use crate::noted::{Noted, fall};
-use crate::reading::{read_entries, read_fragment};
+use crate::reading::{read_entries, read_fragment, read_fragments};
 use crate::writing::{add_entry, add_tuple, drop_tuple, set_value};
 use mls_filterview::{Base, BaseFault, Cell, Fragment, Node};
 use mls_lattice::{Items, LabelNo};
@@ -166,6 +166,13 @@ impl<S: Alter> Base for SqlBase<S> {
 
     fn fragment(&mut self, rel: RelNo, label: LabelNo) -> Result<Fragment, BaseFault> {
         match read_fragment(&mut self.store, self.alloc, rel, label) {
+            Ok(fragment) => Ok(fragment),
+            Err(fault) => Err(fall(&mut self.now, &self.kept, fault)),
+        }
+    }
+
+    fn fragments(&mut self, rel: RelNo, labels: &[LabelNo]) -> Result<Fragment, BaseFault> {
+        match read_fragments(&mut self.store, self.alloc, rel, labels) {
             Ok(fragment) => Ok(fragment),
             Err(fault) => Err(fall(&mut self.now, &self.kept, fault)),
         }

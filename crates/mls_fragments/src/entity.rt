@@ -1,12 +1,13 @@
 //! What the tables hold of one entity.
-ghost use Rattle.std.specs.Prelude.{◌≡◌, [], map, filter, slice_get, IfOk, IfErr, IsPermutation, OnOk};
+ghost use Rattle.std.specs.Prelude.{◌≡◌, [], map, filter, slice_get, IfOk, IfErr, IsPermutation};
 ghost use Rattle.std.specs.Option.{option_map};
 ghost use Rattle.std.specs.FinMap.{get};
 ghost use Rattle.mls_scheme.specs.Spelling.{IsSpelledKey};
 ghost use Rattle.mls_filterview.specs.Content.{Content};
 ghost use Rattle.mls_filterview.specs.Fragment.{IsEntityPart, classes};
 ghost use Rattle.mls_statements.specs.Rows.{is_node, is_cell_in};
-ghost use Rattle.mls_statements.specs.Store.{IsClean, IsCall, IsSame};
+ghost use Rattle.mls_statements.specs.Store.{IsClean};
+ghost use Rattle.mls_fragments.specs.Calls.{IsRead};
 ghost use Rattle.mls_fragments.specs.Finding.{IsMemory, AreReadable};
 ghost use Rattle.mls_fragments.specs.Holding.{Holds};
 
@@ -26,12 +27,10 @@ fn nodes_at<S: Alter>(
     place: &Place,
     ent: &[u8],
 ) -> Result<Vec<NodeRow>, StoreFault>
-    ensures call { IsCall store.old store.new result }
-    ensures mode { OnOk result (store.new.begun ≡ store.old.begun) }
+    ensures read { IsRead store.old store.new result }
     ensures found { IsClean store.new → IfOk result
         (λ rows. IsPermutation (filter (is_node rel ent.now place.now.key_class place.now.class) store.old.now.nodes)
         rows.items) }
-    ensures same { IsClean store.new → OnOk result (IsSame store.old store.new) }
 {
     store.nodes_of(
         u32::from(rel.byte()),
@@ -48,12 +47,10 @@ fn cells_at<S: Alter>(
     place: &Place,
     ent: &[u8],
 ) -> Result<Vec<CellRow>, StoreFault>
-    ensures call { IsCall store.old store.new result }
-    ensures mode { OnOk result (store.new.begun ≡ store.old.begun) }
+    ensures read { IsRead store.old store.new result }
     ensures found { IsClean store.new → IfOk result
         (λ rows. IsPermutation (filter (is_cell_in rel ent.now place.now.key_class place.now.class)
         store.old.now.cells) rows.items) }
-    ensures same { IsClean store.new → OnOk result (IsSame store.old store.new) }
 {
     store.cells_of(
         u32::from(rel.byte()),
@@ -82,11 +79,9 @@ pub(crate) fn read_entity<S: Alter>(
 ) -> Result<Fragment, StoreFault>
     requires key { IsSpelledKey place.now.key }
     requires readable { IsClean store.old → AreReadable store.old.now }
-    ensures call { IsCall store.old store.new result }
-    ensures mode { OnOk result (store.new.begun ≡ store.old.begun) }
+    ensures read { IsRead store.old store.new result }
     ensures found { IsClean store.new → (c : Content) → Holds store.old.now c
         → IfOk result (IsEntityPart (c.db rel) place.now) }
-    ensures same { IsClean store.new → OnOk result (IsSame store.old store.new) }
 {
     let ent = match ent_of(alloc, &place.key) {
         Ok(ent) => ent,
@@ -110,12 +105,10 @@ fn patterns_at<S: Alter>(
     place: &Place,
     ent: &[u8],
 ) -> Result<Vec<Items<u8>>, StoreFault>
-    ensures call { IsCall store.old store.new result }
-    ensures mode { OnOk result (store.new.begun ≡ store.old.begun) }
+    ensures read { IsRead store.old store.new result }
     ensures found { IsClean store.new → IfOk result
         (λ patterns. IsPermutation (map (λ n. n.pattern)
         (filter (is_node rel ent.now place.now.key_class place.now.class) store.old.now.nodes)) patterns.items) }
-    ensures same { IsClean store.new → OnOk result (IsSame store.old store.new) }
 {
     store.patterns_of(
         u32::from(rel.byte()),
@@ -144,11 +137,9 @@ pub(crate) fn read_pattern<S: Alter>(
     place: &Place,
 ) -> Result<Option<Items<LabelNo>>, StoreFault>
     requires key { IsSpelledKey place.now.key }
-    ensures call { IsCall store.old store.new result }
-    ensures mode { OnOk result (store.new.begun ≡ store.old.begun) }
+    ensures read { IsRead store.old store.new result }
     ensures found { IsClean store.new → (c : Content) → Holds store.old.now c
         → IfOk result (λ pattern. pattern ≡ option_map classes (get (c.db rel) place.now)) }
-    ensures same { IsClean store.new → OnOk result (IsSame store.old store.new) }
 {
     let ent = match ent_of(alloc, &place.key) {
         Ok(ent) => ent,

@@ -10,7 +10,7 @@ ghost use Rattle.mls_audit.specs.Spelling.{IsEntryOf};
 ghost use Rattle.mls_filterview.specs.Content.{Content};
 ghost use Rattle.mls_statements.specs.Adopting.{AreAll};
 ghost use Rattle.mls_statements.specs.Rows.{Tables, numbered};
-ghost use Rattle.mls_fragments.specs.Finding.{HasByteClasses, IsMemory, IsNodeRow, IsCellRow, IsAssembled, AreAssembled, AreTables, IsSpelledEntry, is_within, IsSoundWithin, content_found};
+ghost use Rattle.mls_fragments.specs.Finding.{HasByteClasses, IsMemory, IsNodeRow, IsCellRow, IsAssembled, AreAssembled, AreTables, IsSpelledEntry, is_within, IsSoundWithin, HasFound};
 ghost use Rattle.mls_fragments.specs.Holding.{Holds};
 
 use crate::comparing::have_rows;
@@ -204,18 +204,9 @@ pub(crate) fn find(
     at: &mut Where,
 ) -> Result<Found, RowFault>
     requires under { AreUnder (length policy.now.labels) schemes.now }
-    ensures held { IfOk result (λ f. (t : Tables) → AreAll t rows → Holds t (content_found f)) }
-    ensures sound { IfOk result (λ f. IsSoundWithin policy.now schemes.now labels (content_found f)) }
-    ensures classes { IfOk result (λ f. HasByteClasses (content_found f)) }
-    ensures few { OnOk result (length policy.now.labels ≤ 64) }
-    ensures spelled { IfOk result (λ f. AllByRecursion (λ t. AllByRecursion IsSpelledEntry t.entries) f.tables.items) }
-    ensures sorted { IfOk result (λ f. AllByRecursion
-        (λ t. IsStrictlySortedBy place_cmp (keys_of t.entries)) f.tables.items) }
-    ensures count { IfOk result (λ f. length f.tables.items ≡ length schemes.now) }
-    ensures valid { OnOk result (AreSchemes schemes.now) }
+    ensures found { IfOk result (HasFound policy.now schemes.now labels rows) }
     ensures only { (t : Tables) → AreAll t rows → (c : Content) → Holds t c
         → IsSoundWithin policy.now schemes.now labels c → IfErr result IsMemory }
-    ensures last { IfOk result (λ f. f.last ≡ pos (length f.entries)) }
 {
     let AllRows {
         nodes,

@@ -1,6 +1,7 @@
-//! Stores of older policies and schemes, whose content is widened.
-ghost use Rattle.std.specs.Prelude.{◌≡◌, ◌≤◌, ℕ, List, map, length, pos, string_bytes, None, IfOk, IfErr, IfSome, OnOk, OnErr, IsPermutation};
-ghost use Rattle.std.specs.List.{AllZip, AllByRecursion};
+//! Stores of older policies and schemes, whose content is widened. That is a transaction of its own, before the
+//! base is made: a base has no state between two schemes.
+ghost use Rattle.std.specs.Prelude.{◌≡◌, ◌≤◌, ℕ, List, map, length, string_bytes, None, IfOk, IfErr, IfSome, OnOk, OnErr};
+ghost use Rattle.std.specs.List.{AllZip};
 ghost use Rattle.sqlite.specs.State.{HasCleanDisk};
 ghost use Rattle.sqlite.specs.Held.{state};
 ghost use Rattle.mls_lattice.specs.Policy.{labels_of};
@@ -11,10 +12,10 @@ ghost use Rattle.mls_scheme.specs.Canon as scheme;
 ghost use Rattle.mls_scheme.specs.Extending as older_schemes;
 ghost use Rattle.mls_filterview.specs.Content.{Content};
 ghost use Rattle.mls_statements.specs.Adopting.{AreAll};
-ghost use Rattle.mls_statements.specs.Rows.{Tables, numbered};
-ghost use Rattle.mls_fragments.specs.Finding.{HasByteClasses, IsMemory, IsSoundContent, IsSpelledEntry, content_found, node_rows, cell_rows};
+ghost use Rattle.mls_statements.specs.Rows.{Tables};
+ghost use Rattle.mls_fragments.specs.Finding.{IsMemory};
 ghost use Rattle.mls_fragments.specs.Holding.{Holds};
-ghost use Rattle.mls_fragments.specs.Migrating.{IsStanding, IsOther, IsBefore, wide_tables, IsWidenedContent, IsSoundBefore};
+ghost use Rattle.mls_fragments.specs.Migrating.{IsStanding, IsOther, IsBefore, wide_tables, IsSoundBefore, HasWidened};
 
 use crate::finding::{Found, find};
 use crate::place::Where;
@@ -66,7 +67,9 @@ fn older_of(
     Ok(Some(Older { labels, counts }))
 }
 
-/// How a store stands to a policy and schemes with these texts, if it is not of others.
+/// How a store stands to a policy and schemes with these texts, if it is not of others. The texts decide that,
+/// and not the version that the store tells: the first line of schemes has their version, so the same schemes
+/// in version 2 are another text, and the lines of a policy that a store keeps have none.
 pub fn standing_of(
     alloc: Global,
     policy: &Policy,
@@ -120,7 +123,9 @@ fn widened_tables(
     Ok(wide)
 }
 
-/// What the rows of an older store hold, with its relations widened.
+/// What the rows of an older store hold, with its relations widened. The older relations are the new ones with
+/// fewer attributes, and the older labels the first ones, so its rows are found as those of any other store,
+/// and then widened.
 pub(crate) fn find_widened(
     alloc: Global,
     policy: &Policy,
@@ -131,19 +136,8 @@ pub(crate) fn find_widened(
 ) -> Result<Found, RowFault>
     requires under { AreUnder (length policy.now.labels) schemes.now }
     requires before { IsBefore policy.now schemes.now older.now.labels older.now.counts.items }
-    ensures widened { IfOk result (λ f. (c : Content) × ((t : Tables) → AreAll t rows → Holds t c)
-        × IsSoundBefore policy.now schemes.now older.now.labels older.now.counts.items c
-        × IsWidenedContent schemes.now older.now.counts.items c (content_found f)) }
-    ensures sound { IfOk result (λ f. IsSoundContent policy.now schemes.now (content_found f)) }
-    ensures classes { IfOk result (λ f. HasByteClasses (content_found f)) }
-    ensures holds { IfOk result (λ f. (t : Tables)
-        → IsPermutation (node_rows 0 (map (λ t. t.entries) f.tables.items)) t.nodes
-        → IsPermutation (cell_rows 0 (map (λ t. t.entries) f.tables.items)) t.cells
-        → IsPermutation (numbered 1 f.entries) t.audit → Holds t (content_found f)) }
-    ensures listed { IfOk result (λ f. (t : Tables) → AreAll t rows → IsPermutation (numbered 1 f.entries) t.audit) }
-    ensures spelled { IfOk result (λ f. AllByRecursion (λ t. AllByRecursion IsSpelledEntry t.entries) f.tables.items) }
-    ensures count { IfOk result (λ f. length f.tables.items ≤ 256) }
-    ensures last { IfOk result (λ f. f.last ≡ pos (length f.entries)) }
+    ensures widened { IfOk result
+        (HasWidened policy.now schemes.now older.now.labels older.now.counts.items rows) }
     ensures only { (t : Tables) → AreAll t rows → (c : Content) → Holds t c
         → IsSoundBefore policy.now schemes.now older.now.labels older.now.counts.items c → IfErr result IsMemory }
 {

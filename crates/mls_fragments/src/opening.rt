@@ -221,11 +221,13 @@ fn opened<S: Alter>(
 }
 
 impl<S: Alter> SqlBase<S> {
-    /// A base over the store of a connection. A store that has no table, index or view gets the four tables and the row that
-    /// describes it, in one transaction. Of a store with the four tables all rows are read; users and the matrix of rights are not
-    /// compared. One of an older policy or older schemes, which these extend in version 2, is migrated in one transaction: its tuples
-    /// get null at their key class for each new attribute. Every other store is refused as BadRows. An `Err` hands the connection
-    /// back.
+    /// A base over the store of a connection. A store that has no table, index or view gets the four tables and
+    /// the row that describes it, in one transaction. Of a store with the four tables all rows are read; users
+    /// and the matrix of rights are not compared. One of an older policy or older schemes, which these extend
+    /// in version 2, is migrated in one transaction: its tuples get null at their key class for each new
+    /// attribute. Every other store is refused as BadRows. An `Err` hands the connection back. It asks that no
+    /// transaction is begun only where the connection is open and its disk clean: no more is known of one that
+    /// `into_connection` gives back.
     pub fn adopt(
         alloc: Global,
         conn: Connection<S>,
@@ -281,9 +283,11 @@ fn connected<F: Start>(
 }
 
 impl<F: Start> SqlBase<FileStore<FileFrom<F>>> {
-    /// A base over the store in the files at a path, as `adopt` opens it; they are made where there are none. `F` stands for what
-    /// the files held, which nobody knows before they are read: a program passes `Unknown`. An `Err` hands the connection back where
-    /// the files were opened; where they were not, it is Store or Memory.
+    /// A base over the store in the files at a path, as `adopt` opens it; they are made where there are none.
+    /// `F` stands for what the files held, which nobody knows before they are read: a program passes `Unknown`.
+    /// New files get no sums of pages, so that other programs of SQLite read and write them. An `Err` hands the
+    /// connection back where the files were opened, since only of one can be said that the store is as it was;
+    /// where they were not, it is Store or Memory.
     pub fn open_from(
         rt: &HostRuntime,
         path: &str,

@@ -1,12 +1,12 @@
 //! Nodes, cells and entries from rows.
 ghost use Rattle.std.specs.Prelude.{◌≡◌, ◌↔◌, ◌<◌, ◌≤◌, ℕ, List, map, filter, nat_eq, Option, IsOk, IfOk, IfErr, IfSome, OnOk, IsPermutation};
-ghost use Rattle.std.specs.List.{AllByRecursion};
+ghost use Rattle.std.specs.List.{AllByRecursion, list_any};
 ghost use Rattle.mls_scheme.specs.declared.value.Value.{Value as SpecValue};
 ghost use Rattle.mls_scheme.specs.declared.key_fault.KeyFault.TheVariants.{Memory as KeyMemory};
 ghost use Rattle.mls_scheme.specs.Spelling.{HasSpelling, IsSpelledKey, key_spelling};
 ghost use Rattle.mls_filterview.specs.Content.{Content};
-ghost use Rattle.mls_filterview.specs.Fragment.{IsFragment};
-ghost use Rattle.mls_statements.specs.Rows.{numbered};
+ghost use Rattle.mls_filterview.specs.Fragment.{IsFragment, AreFragments};
+ghost use Rattle.mls_statements.specs.Rows.{numbered, has_bit};
 ghost use Rattle.mls_statements.specs.Store.{IsClean, IsFault, IsCall, IsSame};
 ghost use Rattle.mls_fragments.specs.declared.reading.RowFault.TheVariants.{Memory};
 ghost use Rattle.mls_fragments.specs.Finding.{IsMemory, IsNodeRow, IsCellRow, AreReadable};
@@ -222,6 +222,42 @@ pub(crate) fn read_fragment<S: Alter>(
 {
     let nodes = store.nodes_at(u32::from(rel.byte()), u32::from(label.byte()))?;
     let cells = store.cells_at(u32::from(rel.byte()), u32::from(label.byte()))?;
+    match fragment_in(alloc, rel, &nodes, &cells) {
+        Ok(fragment) => Ok(fragment),
+        Err(fault) => Err(give_up(store, fault)),
+    }
+}
+
+/// The labels as bits.
+fn bits_of(labels: &[LabelNo]) -> u64
+    requires { AllByRecursion (λ m. m < 64) labels.now }
+    ensures { (m : ℕ) → has_bit result m ≡ list_any (λ k. nat_eq m k) labels.now }
+{
+    let mut bits = 0u64;
+    for label in labels {
+        bits |= 1u64 << label.index();
+    }
+    bits
+}
+
+/// What labels hold of a relation, read in one scan.
+pub(crate) fn read_fragments<S: Alter>(
+    store: &mut TableStore<S>,
+    alloc: Global,
+    rel: RelNo,
+    labels: &[LabelNo],
+) -> Result<Fragment, StoreFault>
+    requires few { AllByRecursion (λ m. m < 64) labels.now }
+    requires readable { IsClean store.old → AreReadable store.old.now }
+    ensures call { IsCall store.old store.new result }
+    ensures mode { OnOk result (store.new.begun ≡ store.old.begun) }
+    ensures found { IsClean store.new → (c : Content) → Holds store.old.now c
+        → IfOk result (AreFragments (c.db rel) labels.now) }
+    ensures same { IsClean store.new → OnOk result (IsSame store.old store.new) }
+{
+    let bits = bits_of(labels);
+    let nodes = store.nodes_among(u32::from(rel.byte()), bits)?;
+    let cells = store.cells_among(u32::from(rel.byte()), bits)?;
     match fragment_in(alloc, rel, &nodes, &cells) {
         Ok(fragment) => Ok(fragment),
         Err(fault) => Err(give_up(store, fault)),

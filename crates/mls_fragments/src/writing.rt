@@ -2,11 +2,10 @@
 ghost use Rattle.std.specs.Prelude.{◌≡◌, ◌<◌, ◌+ℤ◌, pos, true, map, IfOk, IfErr, IfSome, OnOk};
 ghost use Rattle.std.specs.List.{AllByRecursion};
 ghost use Rattle.mls_scheme.specs.Spelling.{HasSpelling, IsSpelledKey, key_spelling};
-ghost use Rattle.mls_filterview.specs.Fragment.{IsCellOf};
-ghost use Rattle.mls_statements.specs.declared.rows.CellRow.{CellRow as SpecCell};
 ghost use Rattle.mls_statements.specs.Rows.{cell_beside};
-ghost use Rattle.mls_statements.specs.Statements.{SetsCell, AddsEntry, IsOne, has_key_of};
-ghost use Rattle.mls_statements.specs.Store.{IsClean, IsCall, Writes};
+ghost use Rattle.mls_statements.specs.Statements.{SetsCell, AddsEntry};
+ghost use Rattle.mls_statements.specs.Store.{IsClean, Writes};
+ghost use Rattle.mls_fragments.specs.Calls.{IsStep, IsSpelledTuple, CanSetValue};
 ghost use Rattle.mls_fragments.specs.Finding.{IsMemory};
 ghost use Rattle.mls_fragments.specs.Holding.{node_row, cell_row, value_bytes, IsSpelledCell, value_row, own_cell, AddsTuple, DropsTuple};
 
@@ -154,8 +153,7 @@ fn rows_of_tuple(
     node: &Node,
     cells: &[Cell],
 ) -> Result<TupleRows, RowFault>
-    requires key { IsSpelledKey node.now.key }
-    requires cells { AllByRecursion (IsCellOf node.now) cells.now }
+    requires { IsSpelledTuple node.now cells.now }
     ensures node { IfOk result (λ rows. rows.node ≡ node_row rel node.now) }
     ensures own { IfOk result (λ rows. map (cell_beside rows.node) rows.own.items ≡ map (cell_row rel) cells.now) }
     ensures classes { OnOk result ((node.now.key_class < 256) × (node.now.label < 256)) }
@@ -176,10 +174,8 @@ pub(crate) fn add_tuple<S: Alter>(
     cells: &[Cell],
 ) -> Result<(), StoreFault>
     requires begun { store.old.begun ≡ true }
-    requires key { IsSpelledKey node.now.key }
-    requires cells { AllByRecursion (IsCellOf node.now) cells.now }
-    ensures call { IsCall store.old store.new result }
-    ensures mode { OnOk result (store.new.begun ≡ true) }
+    requires tuple { IsSpelledTuple node.now cells.now }
+    ensures step { IsStep store.old store.new result }
     ensures classes { OnOk result ((node.now.key_class < 256) × (node.now.label < 256)) }
     ensures done { IsClean store.new → OnOk result
         (Writes (AddsTuple (node_row rel node.now) (map (cell_row rel) cells.now)) store.old store.new) }
@@ -203,12 +199,8 @@ pub(crate) fn set_value<S: Alter>(
     value: &Option<Value>,
 ) -> Result<(), StoreFault>
     requires begun { store.old.begun ≡ true }
-    requires key { IsSpelledKey place.now.key }
-    requires value { IfSome value.now HasSpelling }
-    requires there { IsClean store.old → (was : SpecCell)
-        × IsOne (has_key_of (value_row rel place.now attr value.now)) store.old.now.cells was }
-    ensures call { IsCall store.old store.new result }
-    ensures mode { OnOk result (store.new.begun ≡ true) }
+    requires can { CanSetValue store.old rel place.now attr value.now }
+    ensures step { IsStep store.old store.new result }
     ensures done { IsClean store.new → OnOk result
         (Writes (SetsCell (value_row rel place.now attr value.now)) store.old store.new) }
 {
@@ -227,8 +219,7 @@ pub(crate) fn drop_tuple<S: Alter>(
 ) -> Result<(), StoreFault>
     requires begun { store.old.begun ≡ true }
     requires key { IsSpelledKey place.now.key }
-    ensures call { IsCall store.old store.new result }
-    ensures mode { OnOk result (store.new.begun ≡ true) }
+    ensures step { IsStep store.old store.new result }
     ensures done { IsClean store.new → OnOk result (Writes (DropsTuple rel place.now) store.old store.new) }
 {
     let ent = match ent_of(alloc, &place.key) {
@@ -271,8 +262,7 @@ pub(crate) fn add_entry<S: Alter>(
     bytes: &[u8],
 ) -> Result<i64, StoreFault>
     requires begun { store.old.begun ≡ true }
-    ensures call { IsCall store.old store.new result }
-    ensures mode { OnOk result (store.new.begun ≡ true) }
+    ensures step { IsStep store.old store.new result }
     ensures number { IfOk result (λ number. number ≡ last +ℤ pos 1) }
     ensures done { IsClean store.new → OnOk result
         (Writes (AddsEntry (record { number = last +ℤ pos 1; bytes = bytes.now })) store.old store.new) }

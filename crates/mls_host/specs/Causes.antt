@@ -1,5 +1,5 @@
--- Why a command is given up before anything is written: an input is refused, a
--- word names nothing, a store is not opened, or memory.
+-- Why a command is given up before anything is written: an input is refused, a word names nothing, a store is
+-- not opened, or memory runs out.
 use Rattle.std.specs.Prelude.{◌≡◌, ◌≢◌, ℕ, List, Option, Some, None, Err, ⊤}
 use Rattle.std.specs.List.{position}
 use Rattle.std.specs.Str.{bytes_eq}

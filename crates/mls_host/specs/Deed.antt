@@ -1,4 +1,4 @@
--- What a command did.
+-- What a command did: what it wrote and told, and how it ended.
 use Rattle.std.specs.Prelude.{ℕ, List, [], Option, Result, Ok, Err}
 use Rattle.mls_host.specs.declared.ending.Ending.{Ending}
 use Rattle.mls_host.specs.declared.errors.Errors.{Errors}

@@ -34,7 +34,7 @@ pub record Hosting : Type 1 where
   pub shows : List ℕ → List ℕ → List ℕ → Type 0
   -- why none are shown
   pub hides : List ℕ → StoreCause → Type 0
-  -- the store that it took back last is clean
+  -- the store that it took back last is clean: a premise of what is said of that, since a base may be any
   pub is_honest : Type 0
   -- a call of that store failed since it was opened
   pub has_failed : Type 0

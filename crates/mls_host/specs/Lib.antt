@@ -1,3 +1,5 @@
+-- The definitions of hosts and command lines: `Hosting` has what contracts see of a host, `Words` what words
+-- ask for, `Running` what a run writes.
 pub mod Hosting
 pub mod Reason
 pub mod Refusal

@@ -6,7 +6,7 @@ ghost use Rattle.mls_host.specs.Words.{usage_text};
 
 use crate::refusal::Refusal;
 use crate::usage::Usage;
-use mls_lines::{WriteFault, write_bytes};
+use mls_tokens::{WriteFault, write_bytes};
 use std::io::Write;
 
 /// Where a command tells what it refuses. A failure of the writer changes nothing but what is promised of it: what was told is

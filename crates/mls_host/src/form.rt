@@ -1,4 +1,4 @@
-//! The form of what is shown.
+//! The form of replies, as the words of a command line ask for it.
 ghost use Rattle.std.specs.Prelude.{◌≡◌};
 ghost use Rattle.mls_host.specs.Running.{form_of};
 

@@ -10,8 +10,8 @@ ghost use Rattle.mls_host.specs.Hosting.{Hosting, KeepSame};
 use mls_filterview::Base;
 use mls_fragments::OpenFault;
 use mls_lattice::Policy;
-use mls_lines::{MOST_BYTES, TypedLines};
 use mls_scheme::SchemesFile;
+use mls_tokens::{MOST_BYTES, TypedLines};
 use std::alloc::Global;
 use std::io::{ErrorKind, Read};
 

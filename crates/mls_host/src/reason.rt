@@ -8,11 +8,11 @@ use crate::usage::tell_memory;
 use mls_certificate::{CertCause, CertFault};
 use mls_fragments::OpenFault;
 use mls_lattice::PolicyFault;
-use mls_lines::Piece::{Number, Text};
-use mls_lines::{WriteFault, write_bytes, write_pieces};
 use mls_parser::{TextCause, TextFault};
 use mls_scheme::SchemeFault;
 use mls_script::{ScriptCause, ScriptFault};
+use mls_tokens::Piece::{Number, Text};
+use mls_tokens::{WriteFault, write_bytes, write_pieces};
 use std::alloc::AllocError;
 use std::io::Write;
 

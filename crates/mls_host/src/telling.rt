@@ -5,9 +5,9 @@ ghost use Rattle.mls_host.specs.Hosting.{IsTold};
 ghost use Rattle.mls_host.specs.Telling.{prompt_text, line_told, fault_told, lines_word, tally_told};
 
 use crate::errors::Errors;
-use mls_lines::Piece::{Number, Text};
-use mls_lines::{WriteFault, write_pieces};
 use mls_script::ScriptCause;
+use mls_tokens::Piece::{Number, Text};
+use mls_tokens::{WriteFault, write_pieces};
 use std::io::Write;
 
 /// What is counted of lines that are typed.

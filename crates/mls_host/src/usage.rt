@@ -3,7 +3,7 @@ ghost use Rattle.std.specs.Prelude.{◌≡◌, OnOk};
 ghost use Rattle.std.specs.Io.KnownBytes.{Appends};
 ghost use Rattle.mls_host.specs.Words.{memory_text, usage_text, usage_status};
 
-use mls_lines::{WriteFault, write_bytes};
+use mls_tokens::{WriteFault, write_bytes};
 use std::alloc::AllocError;
 use std::io::Write;
 

@@ -1,4 +1,4 @@
-//! The command line.
+//! The words of a command line, and what they ask for.
 ghost use Rattle.std.specs.Prelude.{◌≡◌, ◌⊎◌, ◌≤◌, false, [], length, Some, None, codes, option_map, IfOk, IfErr};
 ghost use Rattle.std.specs.Option.{IfSome};
 ghost use Rattle.clap.specs.Words.{app_of, fault_of, first_of, found_of, kind_of, new_app, new_rule, rows_of, subcommand_of, subcommand_rows_of, with_rule};

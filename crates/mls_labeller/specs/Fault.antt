@@ -1,4 +1,4 @@
--- What it says of a transaction that it has no labels.
+-- What it says of a transaction that it gets no certificate.
 use Rattle.std.specs.Prelude.{◌≡◌, Err}
 use Rattle.mls_lattice.specs.Policy.{Tables}
 use Rattle.mls_translang.specs.Tx.{Tx}

@@ -1,3 +1,4 @@
+//! Why a transaction gets no certificate.
 use mls_certcheck::{Refusal, Rule};
 use std::alloc::AllocError;
 use thiserror::Error;

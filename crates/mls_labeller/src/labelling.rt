@@ -1,3 +1,4 @@
+//! The least certificate of a transaction, of either version.
 ghost use Rattle.std.specs.Prelude.{◌≡◌, IfOk, IfErr};
 ghost use Rattle.mls_certcheck.specs.Rules.{Rules, claim};
 ghost use Rattle.mls_labeller.specs.Least.{IsLeast, Below};
@@ -35,8 +36,10 @@ fn labelled(
     Ok(cert)
 }
 
-/// The least certificate of version 1 that passes under a policy (after Denning and Denning 1977), or why there is none. The labels
-/// rise from the lowest until each lower bound holds, so that none is higher than it must be; where they break another rule, so do all.
+/// The least certificate of version 1 that passes under a policy (after Denning and Denning 1977), or why there
+/// is none. The labels rise from the lowest until each lower bound holds, so that none is higher than it must
+/// be; where they break another rule, so do all. They are joins of declared labels, and need not be declared
+/// themselves.
 pub fn label_tx(alloc: Global, policy: &Policy, tx: &Tx) -> Result<Cert, LabelFault>
     ensures obeys { IfOk result (λ cert. Rules (claim policy.now tx.now (One cert))) }
     ensures least { IfOk result (λ cert. IsLeast version.First policy.now tx.now (One cert)) }

@@ -207,7 +207,8 @@ impl Labeller<'_> {
         rose
     }
 
-    /// The least labels that meet all lower bounds.
+    /// The least labels that meet all lower bounds. Rounds take no memory, and no number of them is set: each
+    /// but the last raises a label.
     pub(crate) fn least(
         &self,
         alloc: Global,

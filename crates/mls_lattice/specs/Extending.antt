@@ -9,7 +9,8 @@ abbrev pub lattice_before : Tables → ℕ → ℕ → ℕ → List ℕ
 lattice_before p i j k =
     flat_map level_line (take i p.levels) ++ flat_map category_line (take j p.categories) ++ flat_map (label_line p.levels p.categories) (take k p.labels)
 
--- The policy extends the lattice that an old text says, of which the first labels are the old ones.
+-- The policy extends the lattice that an old text says, of which the first labels are the old ones. Levels and
+-- categories are first parts too, so an old label keeps its rank and its categories.
 pub record Extends (p : Tables) (old : List ℕ) (labels : ℕ) : Type 0 where
   pub levels : ℕ
   pub categories : ℕ
@@ -20,7 +21,7 @@ pub record Extends (p : Tables) (old : List ℕ) (labels : ℕ) : Type 0 where
   pub few_labels : labels ≤ length p.labels
   pub text : old ≡ lattice_before p levels categories labels
 
--- the number of old labels is one
+-- the number of old labels is one, since each line begins with a word for its kind and ends with its line feed
 abbrev pub OldLabelsAreOne : Type 0
 OldLabelsAreOne = (p : Tables) (old : List ℕ) (k l : ℕ) → Extends p old k → Extends p old l → k ≡ l
 

@@ -1,4 +1,4 @@
--- The numbers and names of faults.
+-- The numbers and names of the faults of policies.
 use Rattle.std.specs.Prelude.{ℕ, List, codes}
 use Rattle.mls_lattice.specs.declared.fault.PolicyFault.{PolicyFault}
 use Rattle.mls_lattice.specs.declared.fault.PolicyFault.TheVariants.{NotToml, MissingField, WrongKind, Repeated, UnknownName, TooMany, BadName, EmptyInterval, Memory}

@@ -1,3 +1,5 @@
+-- The definitions of labels and policies: `Lattice` has the order of labels, `Policy` what a policy is,
+-- `Says` how one is written.
 pub mod Fault
 pub mod Name
 pub mod Version

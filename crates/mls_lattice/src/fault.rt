@@ -1,3 +1,4 @@
+//! Why a policy is refused.
 ghost use Rattle.std.specs.Prelude.{◌≡◌};
 ghost use Rattle.mls_lattice.specs.declared.fault.PolicyFault.TheVariants.{Memory};
 ghost use Rattle.mls_lattice.specs.Fault.{code_of, word_of};

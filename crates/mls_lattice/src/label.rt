@@ -1,3 +1,4 @@
+//! Labels as pairs of a rank and a set of categories.
 ghost use Rattle.std.specs.Prelude.{◌≡◌, ◌<◌, ◌↔◌, IsTrue};
 ghost use Rattle.std.specs.FinSet as set;
 ghost use Rattle.mls_lattice.specs.Lattice.{cats_of, pair_of, same_pair, join, meet, Dominates};

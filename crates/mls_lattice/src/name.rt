@@ -1,3 +1,4 @@
+//! Names, and the words that are reserved.
 ghost use Rattle.std.specs.Prelude.{◌≡◌};
 ghost use Rattle.std.specs.List.{list_all};
 ghost use Rattle.mls_lattice.specs.Name.{is_name, is_reserved, is_name_byte};

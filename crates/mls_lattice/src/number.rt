@@ -1,3 +1,4 @@
+//! Labels and users by their numbers.
 ghost use Rattle.std.specs.Prelude.{◌≡◌};
 
 use std::marker::Model;

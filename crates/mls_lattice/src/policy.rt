@@ -1,3 +1,4 @@
+//! Policies, and what is asked of them.
 ghost use Rattle.std.specs.Prelude.{◌≡◌, true, ◌≢◌, ◌↔◌, ◌<◌, ◌≤◌, ℕ, IsTrue, length, map, position, slice_get, Some, None, IfSome, IfOk, IfErr, option_map, IsUtf8};
 ghost use Rattle.std.specs.List.{IsDistinct};
 ghost use Rattle.std.specs.Str.{bytes_eq};
@@ -35,7 +36,8 @@ use std::alloc::{AllocError, Global};
 use std::marker::Model;
 use toml::Table;
 
-/// Version, levels, categories, labels, users and rights, as a policy file declares them.
+/// Version, levels, categories, labels, users and rights, as a policy file declares them: a policy is the whole
+/// file.
 #[derive(Drop)]
 pub struct Policy {
     version: Version,
@@ -169,7 +171,8 @@ impl Policy {
         Ok(self.labels_before(alloc, old)?.is_some())
     }
 
-    /// How many labels are declared. What holds of every policy is told here too.
+    /// How many labels are declared. What holds of every policy is told here too: a getter that touches no
+    /// field of a policy would not learn it.
     pub fn label_count(&self) -> usize
         ensures count { result ≡ length self.now.labels }
         ensures few { length self.now.labels ≤ 64 }

@@ -10,7 +10,9 @@ pub struct Step {
     pub item: Option<usize>,
 }
 
-/// The field that a reader looks at: its steps from the top of the document.
+/// The field that a reader looks at: its steps from the top of the document, of which there are three at most,
+/// so that no memory is asked for them. No contract speaks of it: it would stand in every definition of what a
+/// document says.
 #[derive(Clone, Copy)]
 pub struct Trail {
     steps: [Step; 3],

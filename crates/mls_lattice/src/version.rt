@@ -1,3 +1,4 @@
+//! Versions of files.
 ghost use Rattle.std.specs.Prelude.{◌≡◌, max};
 ghost use Rattle.mls_lattice.specs.Version.{version_number, version_text, later};
 

@@ -10,7 +10,7 @@ use Rattle.mls_scheme.specs.declared.value.Value.{Value}
 use Rattle.mls_scheme.specs.Value.{fits_kind}
 use Rattle.mls_translang.specs.declared.tx.Parameter.{Parameter}
 use Rattle.mls_translang.specs.Tx.{Tx}
-use Rattle.mls_meaning.specs.Laws.{ArgsFit}
+use Rattle.mls_certcheck.specs.MeaningLaws.{ArgsFit}
 use Rattle.mls_machine.specs.Denying.{are_wrong_at, fitted}
 use Rattle.mls_machine.specs.Observation.{blanked}
 

@@ -12,9 +12,9 @@ use Rattle.mls_scheme.specs.declared.value.Value.{Value}
 use Rattle.mls_filterview.proofs.LevelLemmas.{low_from_views, views_from_low}
 use Rattle.mls_audit.specs.Entry.{label_of, visible}
 use Rattle.mls_translang.specs.Tx.{Tx}
-use Rattle.mls_meaning.specs.Meaning.{Item, run_tx}
-use Rattle.mls_meaning.specs.Secure.{seen_items, Split}
-use Rattle.mls_meaning.proofs.LawLemmas.{keep_form}
+use Rattle.mls_certcheck.specs.Meaning.{Item, run_tx}
+use Rattle.mls_certcheck.specs.Secure.{seen_items, Split}
+use Rattle.mls_certcheck.proofs.MeaningLemmas.{keep_form}
 use Rattle.mls_script.specs.declared.event.Event.{Event}
 use Rattle.mls_script.specs.declared.event.Command.{Command}
 use Rattle.mls_script.specs.declared.event.Command.TheVariants as commands

@@ -11,9 +11,9 @@ use Rattle.mls_filterview.specs.View.{low}
 use Rattle.mls_scheme.specs.declared.value.Value.{Value}
 use Rattle.mls_filterview.proofs.LevelLemmas.{low_from_views}
 use Rattle.mls_translang.specs.Tx.{Tx}
-use Rattle.mls_meaning.specs.Meaning.{run_tx}
-use Rattle.mls_meaning.specs.Secure.{seen_items}
-use Rattle.mls_meaning.proofs.LawLemmas.{keep_form}
+use Rattle.mls_certcheck.specs.Meaning.{run_tx}
+use Rattle.mls_certcheck.specs.Secure.{seen_items}
+use Rattle.mls_certcheck.proofs.MeaningLemmas.{keep_form}
 use Rattle.mls_updates.specs.Writes.{Write, Insert, Update, Delete, write}
 use Rattle.mls_updates.proofs.LawLemmas.{high_leave_low}
 use Rattle.mls_audit.specs.Entry.{label_of, visible}

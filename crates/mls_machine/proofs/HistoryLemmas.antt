@@ -8,7 +8,7 @@ use Rattle.mls_lattice.specs.Labels.{Labels, AreDistinct, below}
 use Rattle.mls_lattice.specs.Policy.{Tables}
 use Rattle.mls_scheme.specs.Table.{Database}
 use Rattle.mls_scheme.specs.Scheme.{Schemes}
-use Rattle.mls_meaning.specs.Secure as secure
+use Rattle.mls_certcheck.specs.Secure as secure
 use Rattle.mls_script.specs.declared.event.Event.{Event}
 use Rattle.mls_machine.specs.declared.form.Form.{Form}
 use Rattle.mls_machine.specs.Site.{Site, site_labels}

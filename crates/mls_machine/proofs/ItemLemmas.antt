@@ -8,8 +8,8 @@ use Rattle.mls_lattice.specs.Policy.{Name, Tables}
 use Rattle.mls_audit.specs.declared.entry.Entry.{Entry}
 use Rattle.mls_audit.specs.declared.entry.Entry.TheVariants as entries
 use Rattle.mls_audit.specs.Entry.{label_of, visible}
-use Rattle.mls_meaning.specs.Meaning.{Item}
-use Rattle.mls_meaning.specs.Secure.{seen_items}
+use Rattle.mls_certcheck.specs.Meaning.{Item}
+use Rattle.mls_certcheck.specs.Secure.{seen_items}
 use Rattle.mls_script.specs.declared.event.Event.{Event}
 use Rattle.mls_machine.specs.declared.reply.Reply.TheVariants.{Ran}
 use Rattle.mls_machine.specs.Site.{Site}

@@ -15,10 +15,10 @@ use Rattle.mls_updates.specs.Writes.{Write, Insert, Update, Delete, WriteFits, W
 use Rattle.mls_updates.proofs.LawLemmas.{keep_form, keep_content}
 use Rattle.mls_translang.specs.Tx.{Tx}
 use Rattle.mls_translang.specs.Fits.{IsReadUnder}
-use Rattle.mls_meaning.specs.Meaning.{run_tx}
-use Rattle.mls_meaning.specs.Throughout.{Throughout}
-use Rattle.mls_meaning.proofs.LawLemmas.{keep_form as call_form, keep_content as call_content}
-use Rattle.mls_meaning.proofs.ThroughoutLemmas.{form_throughout}
+use Rattle.mls_certcheck.specs.Meaning.{run_tx}
+use Rattle.mls_certcheck.specs.Throughout.{Throughout}
+use Rattle.mls_certcheck.proofs.MeaningLemmas.{keep_form as call_form, keep_content as call_content}
+use Rattle.mls_certcheck.proofs.ThroughoutLemmas.{form_throughout}
 use Rattle.mls_script.specs.declared.event.Event.{Event}
 use Rattle.mls_script.specs.declared.event.Command.{Command}
 use Rattle.mls_script.specs.declared.event.Command.TheVariants as commands

@@ -9,8 +9,8 @@ use Rattle.std.proofs.lemmas.Bool.Decides.{nat_tests}
 use Rattle.std.proofs.lemmas.List.Folds.{list_any-append}
 use Rattle.std.proofs.Math.ListN.{replicate}
 use Rattle.mls_tokens.specs.Writing.{is_control, hex_digit, printable_byte, printable, is_escaped, quoted_byte, quoted}
-use Rattle.mls_screen.specs.Screen.{is_hidden, is_c1, hex_escape, pending, shown_byte, written, escaped_from, escaped}
-use Rattle.mls_screen.specs.Table.{columns, padding, padded, ruled}
+use Rattle.mls_tokens.specs.Screen.{is_hidden, is_c1, hex_escape, pending, shown_byte, written, escaped_from, escaped}
+use Rattle.mls_tokens.specs.Table.{columns, padding, padded, ruled}
 use Rattle.mls_machine.specs.Parting.{is_line_feed, IsOneLine}
 use Rattle.mls_lattice.specs.Name.{is_name, is_name_byte, is_reserved}
 

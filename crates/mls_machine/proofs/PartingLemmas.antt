@@ -16,7 +16,7 @@ use Rattle.mls_updates.specs.declared.outcome.Outcome.{Outcome}
 use Rattle.mls_updates.specs.declared.outcome.Outcome.TheVariants as outcomes
 use Rattle.mls_updates.specs.Outcome.{is_done, code_of as outcome_code, word_of as outcome_word}
 use Rattle.mls_audit.specs.Entry.{label_of}
-use Rattle.mls_meaning.specs.Meaning.{Item}
+use Rattle.mls_certcheck.specs.Meaning.{Item}
 use Rattle.mls_script.specs.declared.event.Event.{Event}
 use Rattle.mls_script.specs.declared.event.Command.{Command}
 use Rattle.mls_script.specs.declared.event.Command.TheVariants as commands

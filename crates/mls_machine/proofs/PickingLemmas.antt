@@ -12,7 +12,7 @@ use Rattle.mls_lattice.specs.Name.{is_name, is_name_byte, is_reserved}
 use Rattle.mls_lattice.specs.Policy.{Tables, IsPolicy}
 use Rattle.mls_lattice.specs.Canon.{label_name}
 use Rattle.mls_lattice.proofs.NamedLemmas.{label_found, label_again, label_is_name}
-use Rattle.mls_meaning.specs.Meaning.{Item}
+use Rattle.mls_certcheck.specs.Meaning.{Item}
 use Rattle.mls_script.specs.declared.event.Event.{Event}
 use Rattle.mls_machine.specs.declared.form.Form.TheVariants.{Lines}
 use Rattle.mls_machine.specs.declared.reply.Reply.{Reply}

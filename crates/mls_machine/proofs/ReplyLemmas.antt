@@ -22,8 +22,8 @@ use Rattle.mls_filterview.proofs.LowLemmas.{from_low}
 use Rattle.mls_filterview.proofs.RowLemmas.{rows_are_the_view}
 use Rattle.mls_translang.specs.Tx.{Tx}
 use Rattle.mls_translang.specs.Fits.{IsReadUnder}
-use Rattle.mls_meaning.specs.Meaning.{Item, run_tx}
-use Rattle.mls_meaning.proofs.LawLemmas.{call_labelled}
+use Rattle.mls_certcheck.specs.Meaning.{Item, run_tx}
+use Rattle.mls_certcheck.proofs.MeaningLemmas.{call_labelled}
 use Rattle.mls_updates.specs.Writes.{Write, Insert, Update, Delete}
 use Rattle.mls_queries.specs.declared.query.Query.{Query}
 use Rattle.mls_queries.specs.Query.{has_class, meets, is_above, highest_of, first_of, found}

@@ -5,7 +5,7 @@ use Rattle.std.specs.List.{flat_map, AllByRecursion}
 use Rattle.std.specs.Fmt.{decimal}
 use Rattle.std.proofs.lemmas.List.Folds.{list_any-append}
 use Rattle.mls_tokens.specs.Writing.{printable}
-use Rattle.mls_screen.specs.Table.{padded, ruled}
+use Rattle.mls_tokens.specs.Table.{padded, ruled}
 use Rattle.mls_lattice.specs.Lattice.{Pair, same_pair}
 use Rattle.mls_lattice.specs.Policy.{Name, Named, Tables, labels_of}
 use Rattle.mls_lattice.specs.Canon.{label_name}

@@ -5,8 +5,8 @@ use Rattle.std.proofs.lemmas.Bool.{cases_Bool}
 use Rattle.std.proofs.lemmas.List.{append_cancel_left}
 use Rattle.std.proofs.lemmas.List.Elements.{filter-append}
 use Rattle.mls_lattice.specs.Labels.{below, AreDistinct}
-use Rattle.mls_meaning.specs.Meaning.{Item}
-use Rattle.mls_meaning.specs.Secure.{seen_items, Split, Secure}
+use Rattle.mls_certcheck.specs.Meaning.{Item}
+use Rattle.mls_certcheck.specs.Secure.{seen_items, Split, Secure}
 use Rattle.mls_certcheck.specs.Rules.{Rules, claim}
 use Rattle.mls_certcheck.proofs.FlowLemmas.{split_more}
 use Rattle.mls_certcheck.proofs.LawLemmas.{secure_rules}

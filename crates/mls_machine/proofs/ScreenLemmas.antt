@@ -2,9 +2,9 @@
 use Rattle.std.proofs.Common.{◌≡◌, ℕ, List, [], ◌∷◌, ◌++◌, map, Option, Some, None, refl, sym, ap, ◌∙◌, subst, append_assoc, false}
 use Rattle.std.specs.Prelude.{codes}
 use Rattle.std.proofs.lemmas.List.{map-append}
-use Rattle.mls_screen.specs.Screen.{escaped, IsHarmless}
-use Rattle.mls_screen.proofs.EscapingLemmas.{escaped-line}
-use Rattle.mls_screen.proofs.HarmlessLemmas.{escaped_harmless}
+use Rattle.mls_tokens.specs.Screen.{escaped, IsHarmless}
+use Rattle.mls_tokens.proofs.EscapingLemmas.{escaped-line}
+use Rattle.mls_tokens.proofs.HarmlessLemmas.{escaped_harmless}
 use Rattle.mls_lattice.specs.Labels.{Labels, below}
 use Rattle.mls_script.specs.declared.event.Event.{Event}
 use Rattle.mls_machine.specs.declared.form.Form.TheVariants.{Table}

@@ -1,4 +1,5 @@
 -- Why commands are denied (after Bell and LaPadula 1976): conditions and their denials, in the order of their numbers.
+-- Which of them a command can have is said by its own step.
 use Rattle.std.specs.Prelude.{ℕ, ◌==◌, Bool, true, not, ◌&&◌, ◌||◌, bit_and, nat_eq, slice_index_or, List, [], ◌∷◌}
 use Rattle.std.specs.Prelude.{length, map, zip, Option, Some, None, Result, Ok, Err, if◌then◌else◌}
 use Rattle.std.specs.List.{list_any, position, find}
@@ -86,7 +87,7 @@ labels_named (Delete key key_class) = key_class ∷ []
 
 -- ---- calls
 
--- the first stored transaction of a name
+-- the first stored transaction of a name, which a call runs: several of one name are no error
 abbrev pub stored_named : List Stored → Name → Option Stored
 stored_named stored name = find (λ s. bytes_eq (tx_of s).name name) stored
 

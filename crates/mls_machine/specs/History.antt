@@ -4,7 +4,7 @@ use Rattle.std.specs.Prelude.{◌≡◌, ℕ, Bool, true, false, if◌then◌els
 use Rattle.std.specs.List.{AllByRecursion, AllZip}
 use Rattle.mls_lattice.specs.Labels.{Labels, AreDistinct}
 use Rattle.mls_scheme.specs.Scheme.{Schemes}
-use Rattle.mls_meaning.specs.Secure.{AreStored}
+use Rattle.mls_certcheck.specs.Secure.{AreStored}
 use Rattle.mls_script.specs.declared.event.Event.{Event}
 use Rattle.mls_machine.specs.declared.form.Form.{Form}
 use Rattle.mls_machine.specs.declared.form.Audience.{Audience}
@@ -79,7 +79,8 @@ KeepsIntegrityInHistory w (r ∷ rs) =
 
 -- ---- what a level sees of them
 
--- two runs at one site, both after a turning or neither, and c sees the same of their events
+-- two runs at one site (who is cleared for what is seen by all), both after a turning or neither, and c sees
+-- the same of their events
 pub record LookAlike (c : ℕ) (r s : RunAt) : Type 0 where
   pub site : r.site ≡ s.site
   pub turns : r.turns ≡ s.turns
@@ -108,7 +109,8 @@ abbrev pub HistoryHasNoCall : List RunAt → Type 0
 HistoryHasNoCall = AllByRecursion (λ r. HaveNoCall r.events)
 
 module _ (ls : Labels) (schemes : Schemes) where
-  -- a site of these labels and schemes
+  -- a site of these labels and schemes, which stay from run to run: a label is a number, and the tuples of a
+  -- view have one shape
   pub record IsSiteUnder (site : Site) : Type 0 where
     pub labels : site_labels site ≡ ls
     pub relations : site.schemes ≡ schemes

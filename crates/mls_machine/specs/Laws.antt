@@ -1,6 +1,6 @@
 -- The laws of the machine: refusals change nothing, runs keep integrity, and no information flows down but by releases.
 use Rattle.std.specs.Prelude.{◌≡◌, ℕ, false, List, [], ◌∷◌, ◌++◌, take, Option, Some, ⊤}
-use Rattle.mls_screen.specs.Screen.{IsHarmless}
+use Rattle.mls_tokens.specs.Screen.{IsHarmless}
 use Rattle.mls_lattice.specs.Labels.{AreDistinct}
 use Rattle.mls_lattice.specs.Policy.{Name}
 use Rattle.mls_scheme.specs.declared.value.Value.{Value}
@@ -8,7 +8,7 @@ use Rattle.mls_scheme.specs.Table.{Database}
 use Rattle.mls_filterview.specs.Integrity.{HasIntegrity}
 use Rattle.mls_updates.specs.Outcome.{is_done}
 use Rattle.mls_audit.specs.declared.entry.Entry.{Entry}
-use Rattle.mls_meaning.specs.Throughout.{Throughout}
+use Rattle.mls_certcheck.specs.Throughout.{Throughout}
 use Rattle.mls_script.specs.declared.event.Event.{Event}
 use Rattle.mls_script.specs.declared.event.Command.{Command}
 use Rattle.mls_script.specs.declared.event.Command.TheVariants.{Call}

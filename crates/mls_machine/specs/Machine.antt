@@ -15,7 +15,7 @@ use Rattle.mls_audit.specs.declared.entry.Entry.{Entry}
 use Rattle.mls_audit.specs.declared.entry.Entry.TheVariants as entries
 use Rattle.mls_audit.specs.Entry.{visible}
 use Rattle.mls_translang.specs.Tx.{Tx}
-use Rattle.mls_meaning.specs.Meaning.{Item, run_tx}
+use Rattle.mls_certcheck.specs.Meaning.{Item, run_tx}
 use Rattle.mls_queries.specs.declared.query.Query.{Query}
 use Rattle.mls_queries.specs.Query.{found}
 use Rattle.mls_script.specs.declared.event.Event.{Event}
@@ -33,7 +33,8 @@ use Rattle.mls_machine.specs.Reply.{code_of}
 use Rattle.mls_machine.specs.Denying.{first_denial, user_named, stored_named, fitted, cleared, view_denials}
 use Rattle.mls_machine.specs.Denying.{write_denials, call_denials}
 
--- the user of each open session, by its level and name
+-- the user of each open session, by its level and name; an event changes one place at most, so nothing asks
+-- that they are finitely many
 abbrev pub Sessions : Type 0
 Sessions = ℕ → Name → Option ℕ
 
@@ -90,7 +91,8 @@ module _ (site : Site) where
   viewed w rel label query =
       record { world = w; reply = Rows (found (site_labels site) query (rows (site_labels site) label (w.db rel))) }
 
-  -- the tuples whose classes the level of the session dominates, each behind those that it is derived from
+  -- the tuples whose classes the level of the session dominates, each behind those that it is derived from:
+  -- also a root that is subsumed, which has to be there before what is derived from it
   abbrev pub dumped : World → ℕ → ℕ → Step
   dumped w rel level = record { world = w; reply = Dumped (low_tuples (site_labels site) level (w.db rel)) }
 

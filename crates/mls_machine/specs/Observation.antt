@@ -13,8 +13,8 @@ use Rattle.mls_filterview.specs.Stored.{IsStored}
 use Rattle.mls_audit.specs.Entry.{visible}
 use Rattle.mls_translang.specs.declared.tx.Parameter.{Parameter}
 use Rattle.mls_translang.specs.Fits.{IsReadUnder}
-use Rattle.mls_meaning.specs.Meaning.{Item}
-use Rattle.mls_meaning.specs.Secure.{seen_items, Secure}
+use Rattle.mls_certcheck.specs.Meaning.{Item}
+use Rattle.mls_certcheck.specs.Secure.{seen_items, Secure}
 use Rattle.mls_script.specs.declared.event.Event.{Event}
 use Rattle.mls_script.specs.declared.event.Command.{Command}
 use Rattle.mls_script.specs.declared.event.Command.TheVariants.{Call}
@@ -175,7 +175,8 @@ pub record AgreeAt (ls : Labels) (c : ℕ) (v w : World) : Type 0 where
 
 -- ---- runs
 
--- two runs show the same lines to c in each form, and the same replies, and end in worlds that look alike to it
+-- two runs show the same lines to c in each form, and the same replies, so that another printer needs no new
+-- law, and end in worlds that look alike to it
 pub record EndAlike (site : Site) (c : ℕ) (v w : World) (es fs : List Event) : Type 0 where
   pub out : (form : Form)
       → out (site_labels site) c (run_lines form site v es) ≡ out (site_labels site) c (run_lines form site w fs)

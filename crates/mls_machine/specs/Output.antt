@@ -3,8 +3,8 @@ use Rattle.std.specs.Prelude.{◌≡◌, ℕ, Bool, true, if◌then◌else◌, i
 use Rattle.std.specs.List.{flat_map, AllByRecursion}
 use Rattle.std.specs.Fmt.{decimal}
 use Rattle.mls_tokens.specs.Writing.{printable}
-use Rattle.mls_screen.specs.Screen.{escaped}
-use Rattle.mls_screen.specs.Table.{wider, padded, ruled}
+use Rattle.mls_tokens.specs.Screen.{escaped}
+use Rattle.mls_tokens.specs.Table.{wider, padded, ruled}
 use Rattle.mls_lattice.specs.Lattice.{Pair, same_pair}
 use Rattle.mls_lattice.specs.Name.{is_name}
 use Rattle.mls_lattice.specs.Policy.{Name, Named, Tables, labels_of}
@@ -18,7 +18,7 @@ use Rattle.mls_updates.specs.Outcome.{is_done, code_of as outcome_code, word_of 
 use Rattle.mls_audit.specs.declared.entry.Entry.{Entry}
 use Rattle.mls_audit.specs.declared.entry.Entry.TheVariants as entries
 use Rattle.mls_audit.specs.Entry.{label_of}
-use Rattle.mls_meaning.specs.Meaning.{Item}
+use Rattle.mls_certcheck.specs.Meaning.{Item}
 use Rattle.mls_queries.specs.declared.query.Query.{Query}
 use Rattle.mls_script.specs.declared.event.Event.{Event}
 use Rattle.mls_script.specs.declared.event.Command.{Command}
@@ -135,7 +135,8 @@ table_texts site command tuples = []
 abbrev pub dump_heading : Scheme → List ℕ
 dump_heading s = codes "dump " ++ s.name ++ codes ":"
 
--- the line of a script that makes a tuple; no script can hold one with a value that is not writable
+-- the line of a script that makes a tuple; no script can hold one with a value that is not writable, which
+-- another word tells, so that no row is lost in silence
 abbrev pub script_text : Site → Event → List ℕ
 script_text site e = (if is_writable e then codes "line " else codes "unread ") ++ line_text site.policy site.schemes e
 
@@ -175,7 +176,8 @@ abbrev pub call_texts : Command → List (List ℕ)
 call_texts (commands.Call name args) = (codes "called " ++ printable name) ∷ []
 call_texts command = []
 
--- the texts of a reply to a command of a session, one for each of its lines at the level of the session
+-- the texts of a reply to a command of a session, one for each of its lines at the level of the session; a name
+-- that a command gave is made printable, and that of a user, which the policy gave, is so
 abbrev pub reply_texts : Site → Name → Command → Reply → List (List ℕ)
 reply_texts site session command (Opened user) = (codes "opened " ++ user_name site.policy.users user) ∷ []
 reply_texts site session command Closed = codes "closed" ∷ []

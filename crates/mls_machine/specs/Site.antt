@@ -1,4 +1,4 @@
--- What a run is under.
+-- Sites: the policy, the schemes and the stored transactions that a run is under.
 use Rattle.std.specs.Prelude.{ℕ, List}
 use Rattle.mls_lattice.specs.Labels.{Labels}
 use Rattle.mls_lattice.specs.Policy.{Tables, labels_of}

@@ -3,8 +3,8 @@ ghost use Rattle.std.specs.Prelude.{◌≡◌};
 ghost use Rattle.mls_machine.specs.Reply.{code_of, word_of};
 
 use mls_audit::Entry;
+use mls_certcheck::Run;
 use mls_lattice::{Items, UserNo};
-use mls_meaning::Run;
 use mls_queries::Selection;
 use mls_scheme::Tuple;
 use mls_updates::Outcome;

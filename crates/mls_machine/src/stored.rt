@@ -1,3 +1,4 @@
+//! Stored transactions, with a certificate or without.
 ghost use Rattle.std.specs.Prelude.{◌≡◌};
 
 use mls_certcheck::Certified;

@@ -1,1 +1,2 @@
+-- The definition of a file in memory.
 pub mod MemoryFile

@@ -1,4 +1,4 @@
-//! A base over a store in memory.
+//! A base over a store in memory, in a crate of its own, so that its files are linked only where it is used.
 #![tactic(auto)]
 
 mod memory_base;

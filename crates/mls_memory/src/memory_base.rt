@@ -31,7 +31,9 @@ const PAGE_BYTES: usize = 1024;
 /// How many pages are kept. To keep one spares one copy of it.
 const CACHE_PAGES: usize = 64;
 
-/// A base over a store in memory: over files that keep each write at once. It fails for want of memory alone.
+/// A base over a store in memory: over files that keep each write at once. It fails for want of memory alone:
+/// these files refuse nothing but growths, which [`SqlBase`] reports as Store, and so it answers Memory for
+/// that.
 #[derive(Drop)]
 pub struct MemoryBase {
     base: SqlBase<FileStore<MemoryFile>>,
@@ -45,7 +47,8 @@ impl Model for MemoryBase {
     ghost view = { λ b. b.base };
 }
 
-/// The files of an empty store in memory, opened.
+/// The files of an empty store in memory, opened. It is made part by part, since `open_files` has no size for
+/// the pages of a new file.
 fn empty_files(alloc: Global) -> Result<FileStore<MemoryFile>, OpenFault>
     ensures fresh { IfOk result (λ s. view.IsClean (store.view s) → IsFresh (store.view s)) }
     ensures empty { IfOk result (λ s. (store.view s).trees catalog_tree ≡ []) }
@@ -152,6 +155,13 @@ impl Base for MemoryBase {
 
     fn fragment(&mut self, rel: RelNo, label: LabelNo) -> Result<Fragment, BaseFault> {
         match self.base.fragment(rel, label) {
+            Err(BaseFault::Store) => Err(BaseFault::Memory),
+            answer => answer,
+        }
+    }
+
+    fn fragments(&mut self, rel: RelNo, labels: &[LabelNo]) -> Result<Fragment, BaseFault> {
+        match self.base.fragments(rel, labels) {
             Err(BaseFault::Store) => Err(BaseFault::Memory),
             answer => answer,
         }

@@ -1,4 +1,6 @@
--- The faults of transactions whose form is right: unknown names, wrong kinds, repeated names and labels out of order.
+-- The faults of transactions whose form is right: unknown names, wrong kinds, repeated names and labels out of
+-- order. Each form of the tree has a list of them, with no word of the order in which they are found. What
+-- hangs on an unknown name takes it for the first that it may name; in an expression it is null.
 use Rattle.std.specs.Prelude.{ℕ, Bool, false, not, ◌||◌, ◌==◌, nat_eq, if◌then◌else◌, List, [], ◌∷◌, ◌++◌, length, Option, Some, None, is_some, option_to_list}
 use Rattle.std.specs.List.{list_any}
 use Rattle.std.specs.Str.{bytes_eq}

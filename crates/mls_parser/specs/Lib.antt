@@ -1,3 +1,5 @@
+-- The definitions of texts of transactions: `Parsing` says what a text says, `Faults` what may be wrong in
+-- it.
 pub mod Fault
 pub mod Marks
 pub mod Names

@@ -142,10 +142,11 @@ fn resolved(
     context.truth(alloc, &written)
 }
 
-/// The condition on a row of a relation that a syntax tree stands for: a name is an attribute of the row, key or other, and so
-/// is a name behind the name of the relation. Or the least fault, by place and then by number: 23 UnknownName at what is no
-/// attribute and at what is not the relation, and 24 Kind at a `not` or an operator whose operands do not fit and at the first
-/// token of what is no truth value. 29 Memory may stand in place of any answer.
+/// The condition on a row of a relation that a syntax tree stands for: a name is an attribute of the row, key
+/// or other, and so is a name behind the name of the relation. Or the least fault, by place and then by number:
+/// 23 UnknownName at what is no attribute and at what is not the relation, and 24 Kind at a `not` or an
+/// operator whose operands do not fit and at the first token of what is no truth value. 29 Memory may stand in
+/// place of any answer. Tests are operations, so kinds, faults and meaning are those of transactions.
 pub fn condition(
     alloc: Global,
     policy: &Policy,

@@ -1,3 +1,4 @@
+//! Why a text of transactions is refused, and where.
 ghost use Rattle.std.specs.Prelude.{◌≡◌, Some};
 ghost use Rattle.mls_parser.specs.declared.fault.TextCause.TheVariants.{Memory};
 ghost use Rattle.mls_parser.specs.Fault.{code_of, word_of, unless, is_before, sooner, least_from, in_text, from_syntax};

@@ -6,7 +6,7 @@ use Rattle.mls_scheme.specs.declared.value.Value.{Value}
 use Rattle.mls_scheme.specs.declared.tuple.Tuple.{Tuple}
 use Rattle.mls_scheme.specs.Tuple.{at, null_element}
 use Rattle.mls_filterview.specs.Rules.{no_tuple}
-use Rattle.mls_meaning.specs.Expressions.{cell_of}
+use Rattle.mls_certcheck.specs.Expressions.{cell_of}
 
 no_cell : (i : ℕ) → cell_of no_tuple i ≡ None
 no_cell i = elim (nat_lt i 0) as (λ b. cond b (slice_index_or (map Some []) i None) (at [] (i - 0)).value ≡ None) [

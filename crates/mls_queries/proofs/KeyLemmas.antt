@@ -1,123 +1,29 @@
 -- The tuples of one key, and the key that a condition demands.
-use Rattle.std.proofs.Common.{◌≡◌, ℕ, suc, Bool, true, false, cond, ◌&&◌, ◌||◌, ◌-◌, List, [], ◌∷◌, ◌++◌, length, map, Option, Some, None, refl, sym, ap, ◌∙◌, subst, arith, eqb-true}
-use Rattle.std.specs.Prelude.{⊤, not, nat_eq, nat_lt, slice_index_or}
-use Rattle.std.specs.List.{filter, list_any, AllByRecursion}
-use Rattle.std.specs.FinMap.{get, entries, entries_sorted, retain_keys}
-use Rattle.std.proofs.lemmas.Bool.{true≢false, and_parts, false_from_ne_true, lt-ltb}
+use Rattle.std.proofs.Common.{◌≡◌, ℕ, suc, true, false, cond, ◌-◌, List, [], ◌∷◌, ◌++◌, length, map, Option, Some, None, refl, sym, ap, ◌∙◌, subst, arith, eqb-true}
+use Rattle.std.specs.Prelude.{⊤, nat_eq, nat_lt, slice_index_or}
+use Rattle.std.specs.List.{filter}
+use Rattle.std.proofs.lemmas.Bool.{true≢false, and_parts, lt-ltb}
 use Rattle.std.proofs.lemmas.List.{length-append}
 use Rattle.std.proofs.lemmas.Option.{none-some, same_Some}
-use Rattle.mls_lattice.specs.Labels.{Labels, below}
+use Rattle.mls_lattice.specs.Labels.{Labels}
 use Rattle.mls_scheme.specs.declared.value.Value.{Value}
 use Rattle.mls_scheme.specs.declared.tuple.Tuple.{Tuple}
-use Rattle.mls_scheme.specs.declared.place.Place.{Place}
 use Rattle.mls_scheme.specs.Tuple.{at}
-use Rattle.mls_scheme.specs.Table.{Table, tuple_at}
-use Rattle.mls_scheme.proofs.OrderLemmas.{value_eq-true, is_place-true}
-use Rattle.mls_scheme.proofs.TableLemmas.{get_kept, same_table}
-use Rattle.mls_filterview.specs.View.{low, rows, IsAmong}
-use Rattle.mls_filterview.specs.Stored.{with_class}
-use Rattle.mls_filterview.specs.Subsumption.{subsumes_entry, is_max_among}
-use Rattle.mls_filterview.proofs.LowLemmas.{get_low}
-use Rattle.mls_filterview.proofs.AmongLemmas.{among_filter, filter_among}
-use Rattle.mls_filterview.proofs.EntryLemmas.{Entry, among_entries, entries_among, sorted_filter, so_true, so_from, entries_are}
+use Rattle.mls_scheme.specs.Table.{Table}
+use Rattle.mls_scheme.proofs.OrderLemmas.{value_eq-true}
+use Rattle.mls_filterview.specs.View.{rows}
 use Rattle.mls_translang.specs.declared.operator.Operator.TheVariants as operators
 use Rattle.mls_translang.specs.Tree.{Expr, Known, Null, Var, Param, Field, No, Op}
-use Rattle.mls_meaning.specs.Expressions.{eval, same, cell_of, value_in}
+use Rattle.mls_certcheck.specs.Expressions.{eval, same, cell_of, value_in}
 use Rattle.mls_queries.specs.Query.{passes, is_key, reading}
-use Rattle.mls_queries.proofs.PlaceLemmas.{map_filter}
+use Rattle.mls_filterview.proofs.MendLemmas.{rows_of_those}
 use Rattle.mls_queries.specs.Demanded.{either, is_field, value_known, equated, demanded, put_first, demanded_from, of_key}
-
--- ---- filters
-
--- a filter in a filter, by a test that says the same of what passes the other
-pub within_filter : {A : Type 0} (h p q : A → Bool) → ((x : A) → h x ≡ true → p x ≡ q x) → (xs : List A) → filter p (filter h xs) ≡ filter h (filter q xs)
-within_filter h p q same [] = refl
-within_filter h p q same (x ∷ xs) =
-    elim (h x) as (λ b. h x ≡ b → filter p (cond b (x ∷ filter h xs) (filter h xs)) ≡ filter h (cond (q x) (x ∷ filter q xs) (filter q xs))) [
-      | true ↦ λ e.
-          ap (λ b. cond b (x ∷ filter p (filter h xs)) (filter p (filter h xs))) (same x e)
-          ∙ ap (λ ys. cond (q x) (x ∷ ys) ys) (within_filter h p q same xs)
-          ∙ (elim (q x) as (λ b. cond b (x ∷ filter h (filter q xs)) (filter h (filter q xs)) ≡ filter h (cond b (x ∷ filter q xs) (filter q xs))) [
-            | true ↦ ap (λ b. cond b (x ∷ filter h (filter q xs)) (filter h (filter q xs))) (sym e)
-            | false ↦ refl
-          ])
-      | false ↦ λ e.
-          within_filter h p q same xs
-          ∙ (elim (q x) as (λ b. filter h (filter q xs) ≡ filter h (cond b (x ∷ filter q xs) (filter q xs))) [
-            | true ↦ ap (λ b. cond b (x ∷ filter h (filter q xs)) (filter h (filter q xs))) (sym e)
-            | false ↦ refl
-          ])
-    ] refl
-
--- whether one of them passes a test that the filter lets through
-pub any_filter : {A : Type 0} (h r : A → Bool) → ((x : A) → r x ≡ true → h x ≡ true) → (xs : List A) → list_any r (filter h xs) ≡ list_any r xs
-any_filter h r through [] = refl
-any_filter h r through (x ∷ xs) =
-    elim (h x) as (λ b. h x ≡ b → list_any r (cond b (x ∷ filter h xs) (filter h xs)) ≡ (r x || list_any r xs)) [
-      | true ↦ λ e. ap (λ b. r x || b) (any_filter h r through xs)
-      | false ↦ λ e.
-          any_filter h r through xs ∙ ap (λ b. b || list_any r xs) (sym (false_from_ne_true (r x) (λ t. true≢false (sym (through x t) ∙ e))))
-    ] refl
-
--- a filter in a filter that lets through what passes of the list
-pub filter_where : {A : Type 0} (p q : A → Bool) (xs : List A) → AllByRecursion (λ x. p x ≡ true → q x ≡ true) xs → filter p (filter q xs) ≡ filter p xs
-filter_where p q [] h = refl
-filter_where p q (x ∷ xs) h =
-    elim (q x) as (λ b. q x ≡ b → filter p (cond b (x ∷ filter q xs) (filter q xs)) ≡ filter p (x ∷ xs)) [
-      | true ↦ λ e. ap (λ ys. cond (p x) (x ∷ ys) ys) (filter_where p q xs h.1)
-      | false ↦ λ e. filter_where p q xs h.1 ∙ ap (λ b. cond b (x ∷ filter p xs) (filter p xs)) (sym (false_from_ne_true (p x) (λ t. true≢false (sym (h.0 t) ∙ e))))
-    ] refl
 
 -- ---- the tuples of one key
 
-entries_kept : (T : Table) (test : Place → Bool) → entries (retain_keys T test) ≡ filter (λ e. test e.0) (entries T)
-entries_kept T test =
-    sym (entries_are (retain_keys T test) (filter (λ e. test e.0) (entries T))
-    (so_from _ (sorted_filter (λ e. test e.0) (entries T) (so_true _ (entries_sorted T))))
-    (λ e. (to e, from e)))
-  where
-    to : (e : Entry) → IsAmong e (filter (λ e. test e.0) (entries T)) → get (retain_keys T test) e.0 ≡ Some e.1
-    to e i = let r = among_filter (λ e. test e.0) (entries T) e i in get_kept T test e.0 ∙ ap (λ b. cond b (get T e.0) None) r.1 ∙ among_entries T e r.0
-
-    from : (e : Entry) → get (retain_keys T test) e.0 ≡ Some e.1 → IsAmong e (filter (λ e. test e.0) (entries T))
-    from e g =
-        elim (test e.0) as (λ b. test e.0 ≡ b → cond b (get T e.0) None ≡ Some e.1 → IsAmong e (filter (λ e. test e.0) (entries T))) [
-          | true ↦ λ t k. filter_among (λ e. test e.0) (entries T) e (entries_among T e.0 e.1 k) t
-          | false ↦ λ t k. absurd (none-some e.1 k)
-        ] refl (sym (get_kept T test e.0) ∙ g)
-
-low_of_key : (ls : Labels) (c : ℕ) (key : List Value) (T : Table) → low ls c (of_key key T) ≡ of_key key (low ls c T)
-low_of_key ls c key T = same_table _ _ (λ p.
-    get_low ls c (of_key key T) p
-    ∙ ap (λ o. cond (below ls p.class c) o None) (get_kept T (λ q. is_key q.key key) p)
-    ∙ exchanged (below ls p.class c) (is_key p.key key) p
-    ∙ ap (λ o. cond (is_key p.key key) o None) (sym (get_low ls c T p))
-    ∙ sym (get_kept (low ls c T) (λ q. is_key q.key key) p))
-  where
-    exchanged : (a b : Bool) (p : Place) → cond a (cond b (get T p) None) None ≡ cond b (cond a (get T p) None) None
-    exchanged true true p = refl
-    exchanged true false p = refl
-    exchanged false true p = refl
-    exchanged false false p = refl
-
--- what subsumes an entry has its key
-subsumed_key : (d e : Entry) → subsumes_entry d e ≡ true → d.0.key ≡ e.0.key
-subsumed_key d e h = ap (λ p. p.key) (is_place-true d.0 (with_class e.0 d.0.class) (and_parts _ _ h).0)
-
-max_in_key : (key : List Value) (es : List Entry) (e : Entry) → is_key e.0.key key ≡ true → is_max_among (filter (λ d. is_key d.0.key key) es) e ≡ is_max_among es e
-max_in_key key es e h =
-    ap not (any_filter (λ d. is_key d.0.key key) (λ d. subsumes_entry d e && not (subsumes_entry e d))
-    (λ d t. ap (λ k. is_key k key) (subsumed_key d e (and_parts _ _ t).0) ∙ h) es)
-
 -- the rows of the tuples of a key are those rows that have it
 pub rows_of_key : (ls : Labels) (c : ℕ) (key : List Value) (T : Table) → rows ls c (of_key key T) ≡ filter (λ t. is_key t.key key) (rows ls c T)
-unfolding rows
-rows_of_key ls c key T =
-    let es = entries (low ls c T) in
-    let has = λ (e : Entry). is_key e.0.key key in
-    ap (λ xs. map (λ e. tuple_at e.0 e.1) (filter (is_max_among xs) xs)) (ap entries (low_of_key ls c key T) ∙ entries_kept (low ls c T) (λ p. is_key p.key key))
-    ∙ ap (map (λ e. tuple_at e.0 e.1)) (within_filter has (is_max_among (filter has es)) (is_max_among es) (max_in_key key es) es)
-    ∙ map_filter (λ e. tuple_at e.0 e.1) (λ t. is_key t.key key) (filter (is_max_among es) es)
+rows_of_key ls c key T = rows_of_those ls c (λ values key_class. is_key values key) T
 
 -- ---- the key that a condition demands
 

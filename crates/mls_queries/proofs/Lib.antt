@@ -9,3 +9,7 @@ pub mod PartLemmas
 pub mod SeenLemmas
 pub mod DemandLemmas
 pub mod LookLemmas
+pub mod ViewsLemmas
+pub mod KeptSeenLemmas
+pub mod KeptLemmas
+pub mod WrittenLemmas

@@ -1,5 +1,5 @@
 -- Rows at places.
-use Rattle.std.proofs.Common.{◌≡◌, ℕ, zero, suc, ◌+◌, ◌<◌, Bool, true, false, cond, ◌&&◌, List, [], ◌∷◌, ◌++◌, length, map, take, Option, Some, None, refl, sym, ap, ◌∙◌, subst, arith}
+use Rattle.std.proofs.Common.{◌≡◌, ℕ, zero, suc, ◌+◌, ◌<◌, Bool, true, false, cond, ◌&&◌, List, [], ◌∷◌, ◌++◌, length, take, Option, Some, None, refl, sym, ap, ◌∙◌, subst, arith}
 use Rattle.std.specs.Prelude.{not, is_none, slice_index_or}
 use Rattle.std.specs.List.{filter, AllByRecursion}
 use Rattle.std.proofs.lemmas.Bool.{true≢false, and_parts, not-true}
@@ -7,6 +7,7 @@ use Rattle.std.proofs.lemmas.List.{map-append, take-map, take_more}
 use Rattle.mls_lattice.specs.Labels.{Labels}
 use Rattle.mls_scheme.specs.declared.tuple.Tuple.{Tuple}
 use Rattle.mls_filterview.specs.Rules.{no_tuple}
+use Rattle.mls_filterview.proofs.FilteredLemmas.{map_filter}
 use Rattle.mls_queries.specs.declared.query.Query.{Query}
 use Rattle.mls_queries.specs.Query.{first_of, is_wanted, has_class, meets, highest_of, found}
 use Rattle.mls_queries.specs.Places.{rows_at, AreWithin, places_from, asks_nothing}
@@ -26,14 +27,6 @@ all_take : {A : Type 0} (P : A → Type 0) (n : ℕ) (xs : List A) → AllByRecu
 all_take P zero xs h = tt
 all_take P (suc n) [] h = tt
 all_take P (suc n) (x ∷ xs) h = (h.0, all_take P n xs h.1)
-
-pub map_filter : {A B : Type 0} (f : A → B) (g : B → Bool) (xs : List A) → map f (filter (λ x. g (f x)) xs) ≡ filter g (map f xs)
-map_filter f g [] = refl
-map_filter f g (x ∷ xs) =
-    elim (g (f x)) as (λ b. map f (cond b (x ∷ filter (λ x. g (f x)) xs) (filter (λ x. g (f x)) xs)) ≡ cond b (f x ∷ filter g (map f xs)) (filter g (map f xs))) [
-      | true ↦ ap (λ ys. f x ∷ ys) (map_filter f g xs)
-      | false ↦ map_filter f g xs
-    ]
 
 -- two tests, one after the other
 pub filter_both : {A : Type 0} (p q : A → Bool) (xs : List A) → filter (λ x. p x && q x) xs ≡ filter q (filter p xs)

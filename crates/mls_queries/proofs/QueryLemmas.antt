@@ -19,7 +19,8 @@ use Rattle.mls_queries.specs.Demanded.{demanded_from, of_key}
 use Rattle.mls_queries.specs.Laws.{QueriesUseTheView, RowsThatPassAreOfTheView, KeysAreLookedUp, IsAskedFor, for_all}
 use Rattle.mls_queries.proofs.PlaceLemmas.{all_filter}
 use Rattle.mls_queries.proofs.TopLemmas.{own_key, same_key}
-use Rattle.mls_queries.proofs.KeyLemmas.{within_filter, any_filter, filter_where, rows_of_key, key_demanded}
+use Rattle.mls_queries.proofs.KeyLemmas.{rows_of_key, key_demanded}
+use Rattle.mls_filterview.proofs.FilteredLemmas.{within_filter, any_filter, filter_where}
 
 pub queries_use_the_view : QueriesUseTheView
 queries_use_the_view ls distinct n S T s t c label lower views q =

@@ -1,7 +1,8 @@
 -- The key that a condition demands.
-use Rattle.std.specs.Prelude.{ℕ, zero, suc, Bool, false, ◌&&◌, if◌then◌else◌, nat_eq, List, [], ◌∷◌, Option, Some, None}
+use Rattle.std.specs.Prelude.{◌≡◌, ℕ, zero, suc, Bool, false, ◌&&◌, if◌then◌else◌, nat_eq, List, [], ◌∷◌, Option, Some, None}
 use Rattle.std.specs.FinMap.{retain_keys}
 use Rattle.mls_scheme.specs.declared.value.Value.{Value}
+use Rattle.mls_scheme.specs.Spelling.{IsSpelledKey}
 use Rattle.mls_scheme.specs.Table.{Table}
 use Rattle.mls_translang.specs.declared.operator.Operator.TheVariants.{And, Equal}
 use Rattle.mls_translang.specs.Tree.{Expr, Known, Field, Op}
@@ -44,6 +45,11 @@ demanded_from k (suc n) e = put_first (demanded k e) (demanded_from (suc k) n e)
 abbrev pub demanded_by : ℕ → Option Expr → Option (List Value)
 demanded_by count None = None
 demanded_by count (Some e) = demanded_from 0 count e
+
+-- it demands this key, which has a spelling
+pub record IsDemanded (count : ℕ) (test : Option Expr) (k : List Value) : Type 0 where
+  pub key : IsSpelledKey k
+  pub demanded : demanded_by count test ≡ Some k
 
 -- the tuples of one key
 abbrev pub of_key : List Value → Table → Table

@@ -6,24 +6,22 @@ use Rattle.mls_scheme.specs.declared.value.Value.{Value}
 use Rattle.mls_scheme.specs.declared.tuple.Element.{Element}
 use Rattle.mls_scheme.specs.declared.place.Place.{Place}
 use Rattle.mls_scheme.specs.declared.tuple.Tuple.{Tuple}
+use Rattle.mls_scheme.specs.Spelling.{IsSpelledKey}
 use Rattle.mls_scheme.specs.Table.{Table}
 use Rattle.mls_filterview.specs.Checking.{are_declared}
 
 module _ (ls : Labels) (T : Table) (c : ℕ) (values : List Value) where
-  -- a tuple of the key with these values and the key class kc, of a class below m that c dominates
-  pub record IsOfEntity (kc m : ℕ) (e : Place × List Element) : Type 0 where
-    pub has : get T e.0 ≡ Some e.1
-    pub key : e.0.key ≡ values
-    pub key_class : e.0.key_class ≡ kc
-    pub class : e.0.class < m
-    pub low : below ls e.0.class c ≡ true
-
   -- a tuple of the key with these values and a key class below k, of a class that c dominates
   pub record IsOfKey (k : ℕ) (e : Place × List Element) : Type 0 where
     pub has : get T e.0 ≡ Some e.1
     pub key : e.0.key ≡ values
     pub key_class : e.0.key_class < k
     pub low : below ls e.0.class c ≡ true
+
+-- a key class below count, and a place whose key has a spelling
+pub record IsKeyPlace (count kc : ℕ) (p : Place) : Type 0 where
+  pub key_class : kc < count
+  pub key : IsSpelledKey p.key
 
 -- the classes of a tuple are below count
 abbrev pub has_known : ℕ → Tuple → Bool

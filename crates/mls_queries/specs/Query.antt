@@ -10,7 +10,7 @@ use Rattle.mls_scheme.specs.declared.tuple.Tuple.{Tuple}
 use Rattle.mls_scheme.specs.Value.{value_cmp}
 use Rattle.mls_scheme.specs.Tuple.{tuple_class}
 use Rattle.mls_translang.specs.Tree.{Expr}
-use Rattle.mls_meaning.specs.Expressions.{Environment, holds_in}
+use Rattle.mls_certcheck.specs.Expressions.{Environment, holds_in}
 use Rattle.mls_queries.specs.declared.query.Comparison.{Comparison}
 use Rattle.mls_queries.specs.declared.query.Comparison.TheVariants as compared
 use Rattle.mls_queries.specs.declared.query.ClassTest.{ClassTest}
@@ -47,7 +47,8 @@ stands compared.AtMost class label = class ⊑ label
 stands compared.Greater class label = is_under label class
 stands compared.AtLeast class label = label ⊑ class
 
--- the class of a row, as the view shows it, passes the test, if there is one
+-- the class of a row, as the view shows it, passes the test, if there is one; a number of no label counts as
+-- the bottom, in the code too, so nothing is asked of a store that is not clean
 abbrev pub has_class : Labels → Option ClassTest → Tuple → Bool
 has_class ls None t = true
 has_class ls (Some c) t = stands c.comparison (tuple_class ls t) (label_of ls c.label)

@@ -1,6 +1,6 @@
 //! What expressions give.
 ghost use Rattle.std.specs.Prelude.{◌≡◌};
-ghost use Rattle.mls_meaning.specs.Expressions.{Plain, value_of, is_true};
+ghost use Rattle.mls_certcheck.specs.Expressions.{Plain, value_of, is_true};
 ghost use Rattle.mls_queries.specs.Data.{datum_of, number_of, is_null, of_number};
 
 use mls_scheme::Value;

@@ -1,15 +1,16 @@
 //! What a query finds at a level.
-ghost use Rattle.std.specs.Prelude.{◌≡◌, ◌<◌, ℕ, Some, length, IfOk, IfErr, OnOk};
+ghost use Rattle.std.specs.Prelude.{◌≡◌, ◌<◌, length, IfOk, OnOk};
 ghost use Rattle.mls_lattice.specs.Policy.{labels_of};
 ghost use Rattle.mls_scheme.specs.Scheme.{scheme_of};
-ghost use Rattle.mls_scheme.specs.Spelling.{IsSpelledKey};
 ghost use Rattle.mls_filterview.specs.View.{rows};
-ghost use Rattle.mls_filterview.specs.Stored.{IsStored, IsContent};
-ghost use Rattle.mls_filterview.specs.Calls.{IsCall, IsServed};
-ghost use Rattle.mls_views.specs.Views.{AreViews};
+ghost use Rattle.mls_filterview.specs.Stored.{IsContent};
+ghost use Rattle.mls_filterview.specs.Calls.{IsRead, CanSee};
+ghost use Rattle.mls_queries.specs.Views.{AreViews};
 ghost use Rattle.mls_queries.specs.Query.{found};
-ghost use Rattle.mls_queries.specs.Demanded.{demanded_by};
+ghost use Rattle.mls_queries.specs.Demanded.{IsDemanded};
+ghost use Rattle.mls_queries.specs.Finding.{CanFind};
 
+use crate::Views;
 use crate::demand::demanded_key;
 use crate::looking::look_up;
 use crate::query::Query;
@@ -18,7 +19,6 @@ use crate::selection::Selection;
 use mls_filterview::{Base, BaseFault, SharedView, made};
 use mls_lattice::{Items, LabelNo, Policy};
 use mls_scheme::{RelNo, Scheme, Schemes, Value};
-use mls_views::Views;
 use std::alloc::Global;
 
 /// What a query finds among the rows of a view. After a fault nothing is known of what is kept.
@@ -31,16 +31,11 @@ fn find_in_view<B: Base>(
     label: LabelNo,
     query: &Query,
 ) -> Result<Selection, BaseFault>
-    requires label { label < length policy.now.labels }
-    requires stored { B.is_clean base.old → (n : ℕ) × IsStored (labels_of policy.now) n
-        ((B.state base.old).now.db rel) }
+    requires see { CanSee B.is_clean B.state base.old rel policy.now label }
     requires views { AreViews policy.now B.is_clean B.state base.old views.old }
-    ensures call { IsCall B.is_clean B.failures B.state base.old base.new result }
-    ensures served { IfErr result IsServed }
-    ensures mode { OnOk result ((B.state base.new).begun ≡ (B.state base.old).begun) }
+    ensures read { IsRead B.is_clean B.failures B.state base.old base.new result }
     ensures rows { B.is_clean base.new → IfOk result (λ ts. ts ≡ found (labels_of policy.now) query.now
         (rows (labels_of policy.now) label ((B.state base.old).now.db rel))) }
-    ensures same { B.is_clean base.new → OnOk result (B.state base.new ≡ B.state base.old) }
     ensures views { OnOk result (AreViews policy.now B.is_clean B.state base.new views.new) }
 {
     let view = views.view(alloc, base, policy, rel, label)?;
@@ -60,16 +55,12 @@ fn find_by_key<B: Base>(
     key: Items<Value>,
 ) -> Result<Selection, BaseFault>
     requires label { label < length policy.now.labels }
-    requires key { IsSpelledKey key }
-    requires demanded { demanded_by (length scheme.now.keys) query.now.test ≡ Some key }
+    requires demanded { IsDemanded (length scheme.now.keys) query.now.test key }
     requires content { B.is_clean base.old → IsContent (labels_of policy.now) scheme.now
         ((B.state base.old).now.db rel) }
-    ensures call { IsCall B.is_clean B.failures B.state base.old base.new result }
-    ensures served { IfErr result IsServed }
-    ensures mode { OnOk result ((B.state base.new).begun ≡ (B.state base.old).begun) }
+    ensures read { IsRead B.is_clean B.failures B.state base.old base.new result }
     ensures rows { B.is_clean base.new → IfOk result (λ ts. ts ≡ found (labels_of policy.now) query.now
         (rows (labels_of policy.now) label ((B.state base.old).now.db rel))) }
-    ensures same { B.is_clean base.new → OnOk result (B.state base.new ≡ B.state base.old) }
 {
     let tuples = look_up(alloc, base, policy, rel, label, key)?;
     let view = made(base, SharedView::new(alloc, tuples))?;
@@ -88,16 +79,10 @@ fn find_now<B: Base>(
     label: LabelNo,
     query: &Query,
 ) -> Result<Selection, BaseFault>
-    requires label { label < length policy.now.labels }
-    requires content { B.is_clean base.old → IsContent (labels_of policy.now) scheme.now
-        ((B.state base.old).now.db rel) }
-    requires views { AreViews policy.now B.is_clean B.state base.old views.old }
-    ensures call { IsCall B.is_clean B.failures B.state base.old base.new result }
-    ensures served { IfErr result IsServed }
-    ensures mode { OnOk result ((B.state base.new).begun ≡ (B.state base.old).begun) }
+    requires { CanFind B.is_clean B.state base.old policy.now scheme.now rel label views.old }
+    ensures read { IsRead B.is_clean B.failures B.state base.old base.new result }
     ensures rows { B.is_clean base.new → IfOk result (λ ts. ts ≡ found (labels_of policy.now) query.now
         (rows (labels_of policy.now) label ((B.state base.old).now.db rel))) }
-    ensures same { B.is_clean base.new → OnOk result (B.state base.new ≡ B.state base.old) }
     ensures views { OnOk result (AreViews policy.now B.is_clean B.state base.new views.new) }
 {
     let key = made(base, demanded_key(alloc, scheme, query))?;
@@ -109,8 +94,9 @@ fn find_now<B: Base>(
 
 /// What a query finds of what a level sees of a relation.
 ///
-/// Where its condition demands a whole key, the tuples of that key are looked up, and no fragment is read. Else the
-/// view is taken from what is kept, or resolved and kept, as [`Views::view`] does. After a fault nothing is kept.
+/// Where its condition demands a whole key, the tuples of that key are looked up, and no fragment is read. Else
+/// the view is taken from what is kept, or resolved and kept, as [`Views::view`] does. After a fault nothing is
+/// kept. The contract tells what is found, and not on which way.
 pub fn find<B: Base>(
     alloc: Global,
     base: &mut B,
@@ -122,16 +108,10 @@ pub fn find<B: Base>(
     query: &Query,
 ) -> Result<Selection, BaseFault>
     requires rel { rel < length schemes.now }
-    requires label { label < length policy.now.labels }
-    requires content { B.is_clean base.old → IsContent (labels_of policy.now) (scheme_of schemes.now rel)
-        ((B.state base.old).now.db rel) }
-    requires views { AreViews policy.now B.is_clean B.state base.old views.old }
-    ensures call { IsCall B.is_clean B.failures B.state base.old base.new result }
-    ensures served { IfErr result IsServed }
-    ensures mode { OnOk result ((B.state base.new).begun ≡ (B.state base.old).begun) }
+    requires can { CanFind B.is_clean B.state base.old policy.now (scheme_of schemes.now rel) rel label views.old }
+    ensures read { IsRead B.is_clean B.failures B.state base.old base.new result }
     ensures rows { B.is_clean base.new → IfOk result (λ ts. ts ≡ found (labels_of policy.now) query.now
         (rows (labels_of policy.now) label ((B.state base.old).now.db rel))) }
-    ensures same { B.is_clean base.new → OnOk result (B.state base.new ≡ B.state base.old) }
     ensures views { AreViews policy.now B.is_clean B.state base.new views.new }
 {
     let scheme = schemes.scheme(rel);

@@ -9,11 +9,14 @@ mod finding;
 mod highest;
 mod laws;
 mod looking;
+mod naming;
 mod operator;
 mod parts;
 mod query;
+mod seen;
 mod selecting;
 mod selection;
+mod views;
 mod wanted;
 
 pub use condition::holds;
@@ -22,3 +25,4 @@ pub use laws::{keys_are_looked_up, queries_use_the_view, rows_that_pass_are_of_t
 pub use query::{ClassTest, Comparison, Query};
 pub use selecting::select;
 pub use selection::Selection;
+pub use views::Views;

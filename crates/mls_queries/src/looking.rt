@@ -1,5 +1,5 @@
 //! What a level sees of the tuples of one key.
-ghost use Rattle.std.specs.Prelude.{◌≡◌, ◌<◌, ℕ, map, length, IfOk, IfErr, OnOk};
+ghost use Rattle.std.specs.Prelude.{◌≡◌, ◌<◌, ℕ, map, length, IfOk};
 ghost use Rattle.std.specs.List.{filter};
 ghost use Rattle.std.specs.BTreeMap.{IsOrdered};
 ghost use Rattle.mls_lattice.specs.Policy.{labels_of};
@@ -7,7 +7,7 @@ ghost use Rattle.mls_scheme.specs.Spelling.{IsSpelledKey};
 ghost use Rattle.mls_scheme.specs.Table.{Table, place_cmp, tuple_at};
 ghost use Rattle.mls_filterview.specs.View.{rows};
 ghost use Rattle.mls_filterview.specs.Stored.{IsStored};
-ghost use Rattle.mls_filterview.specs.Calls.{IsCall, IsServed};
+ghost use Rattle.mls_filterview.specs.Calls.{IsRead, CanSee};
 ghost use Rattle.mls_filterview.specs.Assembly.{AreLow};
 ghost use Rattle.mls_queries.specs.Demanded.{of_key};
 ghost use Rattle.mls_filterview.specs.Checking.{are_declared};
@@ -82,16 +82,11 @@ pub(crate) fn look_up<B: Base>(
     label: LabelNo,
     key: Items<Value>,
 ) -> Result<Vec<Tuple>, BaseFault>
-    requires label { label < length policy.now.labels }
+    requires see { CanSee B.is_clean B.state base.old rel policy.now label }
     requires key { IsSpelledKey key }
-    requires stored { B.is_clean base.old → (n : ℕ) × IsStored (labels_of policy.now) n
-        ((B.state base.old).now.db rel) }
-    ensures call { IsCall B.is_clean B.failures B.state base.old base.new result }
-    ensures served { IfErr result IsServed }
-    ensures mode { OnOk result ((B.state base.new).begun ≡ (B.state base.old).begun) }
+    ensures read { IsRead B.is_clean B.failures B.state base.old base.new result }
     ensures rows { B.is_clean base.new → IfOk result (λ v. v.items ≡ rows (labels_of policy.now) label
         (of_key key ((B.state base.old).now.db rel))) }
-    ensures same { B.is_clean base.new → OnOk result (B.state base.new ≡ B.state base.old) }
 {
     let parts = key_parts(alloc, base, policy, rel, label, key)?;
     let tuples = made(base, seen(alloc, policy, parts, label))?;

@@ -17,8 +17,8 @@ use Rattle.std.proofs.lemmas.Grind.{flat_map-append}
 use Rattle.mls_tokens.specs.Writing.{printable}
 use Rattle.mls_scheme.specs.declared.tuple.Tuple.{Tuple}
 use Rattle.mls_audit.specs.declared.entry.Entry.{Entry}
-use Rattle.mls_meaning.specs.declared.run.Run.{Run}
-use Rattle.mls_meaning.specs.Meaning.{Item}
+use Rattle.mls_certcheck.specs.declared.run.Run.{Run}
+use Rattle.mls_certcheck.specs.Meaning.{Item}
 use Rattle.mls_queries.specs.declared.query.Query.{Query}
 use Rattle.mls_script.specs.declared.event.Event.{Event}
 use Rattle.mls_script.specs.declared.event.Command.{Command}

@@ -13,7 +13,7 @@ use Rattle.mls_queries.specs.declared.query.Query.{Query}
 use Rattle.mls_script.specs.declared.event.Event.{Event}
 use Rattle.mls_script.specs.declared.event.Command.{Command}
 use Rattle.mls_script.specs.declared.event.Command.TheVariants as commands
-use Rattle.mls_screen.specs.Table.{wider, padded}
+use Rattle.mls_tokens.specs.Table.{wider, padded}
 use Rattle.mls_machine.specs.Site.{Site, site_scheme}
 use Rattle.mls_machine.specs.Output.{front, count_text, tuple_cells, name_cells, widths_with, table_widths, table_title, table_names, table_rule, table_row, table_of, table_texts}
 

@@ -47,7 +47,8 @@ fn are_tuples_known(count: usize, tuples: &[Tuple]) -> bool
     true
 }
 
-/// Whether the classes in a reply are declared, as they are over a clean store.
+/// Whether the classes in a reply are declared, as they are over a clean store. Over another one a view
+/// promises nothing of them: where they are not, the engine answers Store.
 #[tactic(auto, using(crate::proofs::KnownLemmas::known_steps))]
 pub fn is_known(policy: &Policy, reply: &Reply) -> bool
     requires { HasKnownNumbers policy.now reply.now }

@@ -6,8 +6,8 @@ ghost use Rattle.mls_script.specs.Writing.{cell_text};
 ghost use Rattle.mls_machine.specs.Output.{front, call_texts, ItemsAreKnown};
 
 use crate::printing::push_front;
+use mls_certcheck::Run;
 use mls_lattice::{LabelNo, Policy};
-use mls_meaning::Run;
 use mls_scheme::Value;
 use mls_script::{Command, Event, push_cell};
 use mls_tokens::{push_printable, push_str};

@@ -16,8 +16,8 @@ use mls_lattice::{LabelNo, Policy};
 use mls_machine::{Audience, Form, Reply};
 use mls_queries::Selection;
 use mls_scheme::Schemes;
-use mls_screen::escape;
 use mls_script::Event;
+use mls_tokens::escape;
 use std::alloc::{AllocError, Global};
 
 /// The lines of a reply whose labels the reader dominates, or all where there is no reader.

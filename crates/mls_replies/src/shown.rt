@@ -9,9 +9,9 @@ ghost use Rattle.mls_machine.specs.Observation.{out};
 
 use crate::printing_items::{called_bytes, push_item};
 use crate::replies::reply_bytes;
+use mls_certcheck::Run;
 use mls_lattice::{LabelNo, Policy};
 use mls_machine::Reply;
-use mls_meaning::Run;
 use mls_scheme::{Schemes, Value};
 use mls_script::Event;
 use std::alloc::{AllocError, Global};

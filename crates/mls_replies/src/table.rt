@@ -1,10 +1,11 @@
-//! A view as a table.
+//! A view as a table. Cells are made twice, for the widths and for the rows, and so no list of all cells is
+//! kept.
 ghost use Rattle.std.specs.Prelude.{◌≡◌, ◌<◌, ◌++◌, map, length, codes, OnOk, IfOk, Some, []};
 ghost use Rattle.std.specs.List.{flat_map, AllByRecursion};
 ghost use Rattle.mls_lattice.specs.Canon.{label_name};
 ghost use Rattle.mls_scheme.specs.Tuple.{HasClassesBelow};
-ghost use Rattle.mls_screen.specs.Screen.{escaped};
-ghost use Rattle.mls_screen.specs.Table.{wider, padded};
+ghost use Rattle.mls_tokens.specs.Screen.{escaped};
+ghost use Rattle.mls_tokens.specs.Table.{wider, padded};
 ghost use Rattle.mls_replies.specs.Under.{site_under};
 ghost use Rattle.mls_machine.specs.Output.{front, table_cell, tuple_cells, name_cells, widths_with, table_title, table_names, table_rule, table_row, table_widths, table_texts, CommandIsKnown};
 
@@ -15,9 +16,8 @@ use crate::replies::push_count_line;
 use mls_lattice::{Items, LabelNo, Policy};
 use mls_queries::Selection;
 use mls_scheme::{Attributes, Element, Scheme, Schemes, Tuple, Value, tuple_class};
-use mls_screen::{escape, push_row, push_rule, wider};
 use mls_script::{Command, Event, push_cell, push_value};
-use mls_tokens::push_str;
+use mls_tokens::{escape, push_row, push_rule, push_str, wider};
 use std::alloc::{AllocError, Global};
 
 // ---- cells

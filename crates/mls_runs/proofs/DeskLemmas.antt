@@ -13,7 +13,7 @@ use Rattle.mls_machine.specs.Site.{Site}
 use Rattle.mls_machine.specs.Machine.{World, end_of}
 use Rattle.mls_machine.specs.Observation.{EventsFit}
 use Rattle.mls_machine.specs.Serving.{answers_to}
-use Rattle.mls_monitor.specs.Sessions.{site_of}
+use Rattle.mls_sessions.specs.Sessions.{site_of}
 use Rattle.mls_sessions.specs.declared.cause.RunCause.TheVariants.{Memory}
 use Rattle.mls_sessions.specs.declared.cause.RunFault.{RunFault}
 use Rattle.mls_sessions.specs.declared.engine.Engine.{Engine}

@@ -18,7 +18,7 @@ use Rattle.mls_fragments.specs.Holdings.{holdings_of}
 use Rattle.mls_fragments.specs.Finding.{IsSoundContent}
 use Rattle.mls_fragments.proofs.AgainLemmas.{kept_is_taken}
 use Rattle.mls_fragments.proofs.HoldingsLemmas.{sound_is_taken}
-use Rattle.mls_meaning.specs.Secure.{AreStored}
+use Rattle.mls_certcheck.specs.Secure.{AreStored}
 use Rattle.mls_script.specs.declared.event.Event.{Event}
 use Rattle.mls_machine.specs.declared.form.Audience.{Audience}
 use Rattle.mls_machine.specs.declared.stored.Stored.{Stored}

@@ -9,7 +9,7 @@ use Rattle.mls_script.specs.declared.fault.ScriptFault.{ScriptFault}
 use Rattle.mls_script.specs.Reading.{script_at}
 use Rattle.mls_script.specs.Script.{Line, ReadsScript}
 use Rattle.mls_script.proofs.LawLemmas.{script_found}
-use Rattle.mls_lines.specs.Typing.{HasNoFeed, IsNext, IsLong}
+use Rattle.mls_tokens.specs.Typing.{HasNoFeed, IsNext, IsLong}
 use Rattle.mls_shells.specs.declared.seat.Fate.{Fate}
 use Rattle.mls_shells.specs.declared.seat.Fate.TheVariants as fates
 use Rattle.mls_shells.specs.Reading.{Becomes}

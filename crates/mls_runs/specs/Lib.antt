@@ -1,3 +1,5 @@
+-- The definitions of runs over a host: `ScriptRun`, `DeskRun` and `TurnRun` say what each does, `History`
+-- what several leave.
 pub mod ScriptRun
 pub mod InTurn
 pub mod Memory

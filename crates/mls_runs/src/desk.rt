@@ -15,12 +15,12 @@ use crate::reading::next_fate;
 use mls_filterview::Base;
 use mls_host::{Ending, ending_if};
 use mls_lattice::{Items, Policy};
-use mls_lines::TypedLines;
 use mls_machine::{Audience, Form};
 use mls_scheme::Schemes;
 use mls_script::Event;
 use mls_sessions::{Engine, RunCause, RunFault, Stored, run_to};
 use mls_shells::{Fate, is_last};
+use mls_tokens::TypedLines;
 use std::alloc::Global;
 use std::io::Write;
 

@@ -15,10 +15,10 @@ use crate::desk::desk_on;
 use mls_fragments::OpenFault;
 use mls_host::{Ending, Host, Inputs, Reason, Refusal, ended, stored_of};
 use mls_lattice::{Items, Policy};
-use mls_lines::TypedLines;
 use mls_memory::MemoryBase;
 use mls_scheme::SchemesFile;
 use mls_sessions::Stored;
+use mls_tokens::TypedLines;
 use std::alloc::Global;
 use std::io::Write;
 

@@ -6,8 +6,8 @@ ghost use Rattle.mls_runs.specs.Memory.{IsUncopied, file_named, cause_of, in_mem
 use mls_fragments::{OpenFault, SqlBase};
 use mls_host::{CloseFault, Host, HostFault, StoreCause, StoreFiles};
 use mls_lattice::{Items, Policy, Str};
-use mls_lines::{BytesIn, LinesOf, MOST_BYTES};
 use mls_scheme::SchemesFile;
+use mls_tokens::{BytesIn, LinesOf, MOST_BYTES};
 use sqlite::{Connection, MemStore};
 use std::alloc::Global;
 use std::io::Write;

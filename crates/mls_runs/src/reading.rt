@@ -10,12 +10,11 @@ ghost use Rattle.mls_runs.specs.Desk.{opens_other, name_column, IsFate};
 ghost use Rattle.mls_runs.specs.Reading.{fate_of_events, fate_of};
 
 use mls_lattice::{Items, Policy};
-use mls_lines::{Typed, TypedLines, TypingFault};
 use mls_scheme::Schemes;
 use mls_script::{Command, Event, ScriptCause, ScriptFault, script};
 use mls_sessions::RunCause;
 use mls_shells::Fate;
-use mls_tokens::{TokenFault, Tokens};
+use mls_tokens::{TokenFault, Tokens, Typed, TypedLines, TypingFault};
 use std::alloc::Global;
 use std::io::Write;
 

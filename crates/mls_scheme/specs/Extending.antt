@@ -21,7 +21,8 @@ schemes_before (n ∷ counts) (s ∷ schemes) = scheme_before n s ∷ schemes_be
 abbrev pub Contains : Labels → ℕ → ℕ → Attribute → Type 0
 Contains ls low high a = (below ls a.low low ≡ true) × (below ls high a.high ≡ true)
 
--- each attribute past the first n may have every class that the key may have
+-- each attribute past the first n may have every class that the key may have: it begins as null at the key
+-- class
 abbrev pub CoversKey : Labels → ℕ → Scheme → Type 0
 CoversKey ls n s = AllByRecursion (Contains ls (first_key s).low (first_key s).high) (drop n s.others)
 

@@ -1,3 +1,5 @@
+-- The definitions of values, tuples and schemes: `Scheme` says what a relation is, `Table` what it has,
+-- `Document` how schemes are written.
 pub mod Value
 pub mod Tuple
 pub mod Table

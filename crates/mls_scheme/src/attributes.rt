@@ -1,3 +1,4 @@
+//! Attributes of a relation, by their places and by their names.
 ghost use Rattle.std.specs.Prelude.{◌≡◌, ◌==◌, ◌<◌, ◌≤◌, ◌++◌, [], ◌∷◌, false, length, map, take, position, slice_get, string_bytes, Some, IfOk, IfSome, OnOk, option_map};
 ghost use Rattle.std.specs.List.{IsDistinct};
 ghost use Rattle.std.specs.Str.{bytes_eq};

@@ -1,3 +1,4 @@
+//! Why schemes are refused.
 ghost use Rattle.std.specs.Prelude.{◌≡◌};
 ghost use Rattle.mls_scheme.specs.declared.fault.SchemeFault.TheVariants.{Memory};
 ghost use Rattle.mls_scheme.specs.Fault.{code_of, word_of, scheme_fault_of};

@@ -16,7 +16,8 @@ use crate::scheme::Schemes;
 use mls_lattice::{Policy, Refused, Trail, Version};
 use std::alloc::{AllocError, Global};
 
-/// What a file of schemes says: its version, and its relations.
+/// What a file of schemes says: its version, for which only an opening asks, and its relations. That no
+/// interval is empty takes the policy's labels, so `read` promises it.
 #[derive(Drop)]
 pub struct SchemesFile {
     pub version: Version,

@@ -1,3 +1,4 @@
+//! Whether a value and a class may stand at an attribute.
 ghost use Rattle.std.specs.Prelude.{◌≡◌, ◌<◌, length};
 ghost use Rattle.mls_lattice.specs.Policy.{labels_of};
 ghost use Rattle.mls_scheme.specs.Value.{fits_kind};

@@ -1,3 +1,4 @@
+//! Why bytes are no key, no value and no entry.
 ghost use Rattle.std.specs.Prelude.{◌≡◌};
 ghost use Rattle.mls_scheme.specs.declared.key_fault.KeyFault.TheVariants.{Memory};
 ghost use Rattle.mls_scheme.specs.KeyWords.{key_word_of};

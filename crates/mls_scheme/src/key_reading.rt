@@ -1,3 +1,4 @@
+//! Keys and values from bytes, which are read from left to right.
 ghost use Rattle.std.specs.Prelude.{◌≡◌, ◌≤◌, ◌++◌, List, ℕ, [], length, drop, IfOk, Ok};
 ghost use Rattle.std.specs.Int.{w32};
 ghost use Rattle.mls_scheme.specs.declared.value.Value.{Value as SpecValue};
@@ -114,8 +115,8 @@ fn sized_front_of(alloc: Global, bytes: &[u8]) -> Result<(Value, usize), KeyFaul
     Ok((value, bytes.len() - rest.len()))
 }
 
-/// The value at the front of the bytes, and how many bytes it took; never Trailing. No memory is asked for a length
-/// that the bytes don't have.
+/// The value at the front of the bytes, and how many bytes it took; never Trailing. The byte `00` is BadTag,
+/// since null is no value. No memory is asked for a length that the bytes don't have.
 pub fn value_of(alloc: Global, bytes: &[u8]) -> Result<(Value, usize), KeyFault>
     // What is read is spelled so.
     ensures found { IfOk result (λ x. HasSpelling x.0 × (bytes.now ≡ value_spelling x.0 ++ drop x.1 bytes.now)) }

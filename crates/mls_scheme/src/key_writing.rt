@@ -1,3 +1,4 @@
+//! Keys and values as bytes.
 ghost use Rattle.std.specs.Prelude.{◌≡◌, ◌++◌, OnOk, IfOk};
 ghost use Rattle.std.specs.List.{AllByRecursion};
 ghost use Rattle.mls_scheme.specs.Spelling.{value_spelling, key_spelling, IsValue, IsShort, IsKey};

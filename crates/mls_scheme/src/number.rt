@@ -1,3 +1,4 @@
+//! Relations by their numbers.
 ghost use Rattle.std.specs.Prelude.{◌≡◌};
 
 use std::marker::Model;

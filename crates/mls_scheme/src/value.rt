@@ -1,3 +1,4 @@
+//! Values and their kinds.
 ghost use Rattle.std.specs.Prelude.{◌≡◌, ◌↔◌, IsTrue, IfOk};
 ghost use Rattle.std.specs.Cmp.Lexicographic.{slice_cmp};
 ghost use Rattle.mls_scheme.specs.Value.{kind_of, is_kind, is_signed, is_text, value_cmp};
@@ -15,7 +16,7 @@ const TEXT_LIMIT: usize = 4_294_967_296;
 pub enum Kind {
     /// 64 signed bits.
     Int,
-    /// A text of fewer than 4,294,967,296 bytes.
+    /// A text of fewer than 4,294,967,296 bytes, so that what fits a scheme has a spelling.
     Text,
 }
 

@@ -22,6 +22,7 @@ pub record TellsEvent (policy : Tables) (schemes : Schemes) (text : List ℕ) (e
   pub tokens : AreTokens (event_tokens policy schemes e ++ tail) text
   pub query : TellsTail policy schemes e.command tail
 
+-- the text tells this event, or none: a relation, since an expression can be written with other parentheses
 abbrev pub Tells : Tables → Schemes → List ℕ → Option Event → Type 0
 Tells policy schemes text None = AreTokens [] text
 Tells policy schemes text (Some e) = TellsEvent policy schemes text e

@@ -9,7 +9,8 @@ use mls_queries::Query;
 use mls_scheme::{RelNo, Value};
 use std::alloc::Global;
 
-/// What the parts of a line say; what no part says is blank.
+/// What the parts of a line say; what no part says is blank. It is set part by part, in its place: one that
+/// every part took and handed on made the proofs three times as long.
 #[derive(Drop)]
 pub(crate) struct Draft {
     pub level: LabelNo,

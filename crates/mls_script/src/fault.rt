@@ -1,3 +1,4 @@
+//! Why a script is refused, and where.
 ghost use Rattle.std.specs.Prelude.{◌≡◌};
 ghost use Rattle.mls_script.specs.Fault.{code_of, word_of, lifted, of_form, of_condition, in_line};
 

@@ -11,7 +11,8 @@ use crate::lists::{Listed, Sets, Setting};
 use mls_lattice::{Items, LabelNo, Policy, Str};
 use mls_scheme::{Attributes, RelNo, Scheme, Schemes, Value, fits_kind};
 
-/// What the parts of a line say up to here; or the first fault of their names and kinds.
+/// What the parts of a line say up to here; or the first fault of their names and kinds, which waits until the
+/// form of the whole line is read.
 pub(crate) type Looked = Result<Draft, LineFault>;
 
 /// The number of the label of a name.

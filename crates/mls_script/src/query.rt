@@ -1,4 +1,5 @@
-//! What stands behind the label of a view: which of its rows are asked for.
+//! What stands behind the label of a view: which of its rows are asked for. It is no part of the grammar: any
+//! part of a query may be missing, and an owned tree in the draft would make the proof of each part dearer.
 ghost use Rattle.std.specs.Prelude.{◌≡◌, ◌<◌, length, option_map, IfSome};
 ghost use Rattle.mls_tokens.specs.Scanning.{Reads};
 ghost use Rattle.mls_script.specs.QueryTokens.{comparison_sign};

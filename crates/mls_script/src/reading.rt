@@ -93,9 +93,10 @@ fn events_of(
     Ok(events)
 }
 
-/// The events of a script, in order. The first line that has a fault refuses the whole: on it 21 Token, 22 Expected, 26
-/// Depth, 27 TooLong and 30 Unterminated come before 23 UnknownName, 24 Kind and 25 Repeated. 29 Memory may stand in place of any
-/// answer.
+/// The events of a script, in order. The first line that has a fault refuses the whole: on it 21 Token, 22
+/// Expected, 26 Depth, 27 TooLong and 30 Unterminated come before 23 UnknownName, 24 Kind and 25 Repeated. 29
+/// Memory may stand in place of any answer: at the token that is copied, or else at column 0 or 1 of the line.
+/// A call has any name and any values, since a script is read without the transactions.
 pub fn script(
     alloc: Global,
     policy: &Policy,

@@ -25,7 +25,7 @@ use Rattle.mls_sessions.specs.declared.cause.RunCause.TheVariants.{Store, Memory
 use Rattle.mls_sessions.specs.declared.engine.Engine.{Engine}
 use Rattle.mls_sessions.specs.declared.notice.Notice.{Notice}
 use Rattle.mls_sessions.specs.Cause.{cause_of}
-use Rattle.mls_monitor.specs.Sessions.{site_of}
+use Rattle.mls_sessions.specs.Sessions.{site_of}
 use Rattle.mls_sessions.specs.Engine.{site, world_of, IsReady, IsStep, IsKept}
 use Rattle.mls_sessions.specs.Run.{is_done, are_done, printed_to, world_after, IsWhole, IsStopped, IsPart, answer_text, IsAnswered, IsHalted}
 use Rattle.mls_sessions.proofs.StepLemmas.{entries_known}

@@ -15,9 +15,9 @@ use Rattle.mls_audit.specs.declared.entry.Entry.{Entry}
 use Rattle.mls_audit.specs.Entry.{label_of}
 use Rattle.mls_audit.specs.Spelling.{IsEntryOf, HasSpelling, entry_spelling}
 use Rattle.mls_certcheck.specs.declared.certified.Certified.{Certified as Checked}
-use Rattle.mls_meaning.specs.declared.run.Run.{Run}
-use Rattle.mls_meaning.specs.Meaning.{Item, run_tx}
-use Rattle.mls_meaning.specs.Laws.{IsItem}
+use Rattle.mls_certcheck.specs.declared.run.Run.{Run}
+use Rattle.mls_certcheck.specs.Meaning.{Item, run_tx}
+use Rattle.mls_certcheck.specs.MeaningLaws.{IsItem}
 use Rattle.mls_script.specs.declared.event.Event.{Event}
 use Rattle.mls_script.specs.declared.event.Command.TheVariants as commands
 use Rattle.mls_machine.specs.declared.reply.Denial.TheVariants.{UnknownTransaction, NotCertified}
@@ -30,7 +30,7 @@ use Rattle.mls_machine.specs.Machine.{unless, release_entry, call_entries, calle
 use Rattle.mls_machine.specs.Output.{ItemsAreKnown}
 use Rattle.mls_machine.proofs.DenyingLemmas.{may_run}
 use Rattle.mls_trusted.specs.Runs.{with_database, IsEvaluated}
-use Rattle.mls_monitor.specs.Denying.{denial_in}
+use Rattle.mls_sessions.specs.Denying.{denial_in}
 use Rattle.mls_sessions.specs.World.{entries_in, world_at}
 use Rattle.mls_sessions.specs.Calling.{with_entries}
 use Rattle.mls_sessions.specs.Turns.{IsStepOver}

@@ -25,14 +25,14 @@ use Rattle.mls_machine.specs.Site.{Site, site_labels}
 use Rattle.mls_machine.specs.Machine.{World, Step, with_session, closed, denied, unless, viewed, dumped, wrote, listed, called, call_step, step_inside, step_outside, step_at, step}
 use Rattle.mls_machine.proofs.KeepingLemmas.{step_content}
 use Rattle.mls_sessions.specs.declared.engine.Engine.{Engine}
-use Rattle.mls_monitor.specs.declared.session.Session.{Session}
-use Rattle.mls_monitor.specs.Denying.{denial_in}
-use Rattle.mls_monitor.specs.Sessions.{sessions_of, AreForUsers}
+use Rattle.mls_sessions.specs.declared.session.Session.{Session}
+use Rattle.mls_sessions.specs.Denying.{denial_in}
+use Rattle.mls_sessions.specs.Sessions.{sessions_of, AreForUsers}
 use Rattle.mls_sessions.specs.World.{world_at, IsSound}
-use Rattle.mls_monitor.specs.Sessions.{IsSessionStep}
+use Rattle.mls_sessions.specs.Sessions.{IsSessionStep}
 use Rattle.mls_sessions.specs.Turns.{IsTurn, IsStepOver}
-use Rattle.mls_views.specs.Views.{Kept, AreViews}
-use Rattle.mls_views.proofs.WrittenLemmas.{kept_same}
+use Rattle.mls_queries.specs.Views.{Kept, AreViews}
+use Rattle.mls_queries.proofs.WrittenLemmas.{kept_same}
 use Rattle.mls_sessions.specs.Engine.{site, world_of, IsReady, IsStep, IsKept, IsEngineTurn, Answers}
 
 -- ---- the machine's step

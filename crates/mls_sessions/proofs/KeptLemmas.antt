@@ -1,15 +1,15 @@
 -- What is kept of views after what an event changes.
-use Rattle.std.proofs.Common.{◌≡◌, ℕ, length, Result, Ok, Err, IfOk, OnOk, sym, ap, ◌∙◌, subst}
+use Rattle.std.proofs.Common.{◌≡◌, ℕ, ◌<◌, length, Result, Ok, Err, IfOk, OnOk, sym, ap, ◌∙◌, subst}
 use Rattle.mls_lattice.specs.Policy.{Tables, labels_of}
 use Rattle.mls_scheme.specs.Scheme.{Scheme}
 use Rattle.mls_filterview.specs.declared.base.BaseFault.{BaseFault}
 use Rattle.mls_filterview.specs.Content.{State}
 use Rattle.mls_filterview.specs.Stored.{IsContent}
 use Rattle.mls_updates.specs.declared.outcome.Outcome.{Outcome}
-use Rattle.mls_updates.specs.Writes.{Write}
+use Rattle.mls_updates.specs.Writes.{Write, named}
 use Rattle.mls_updates.specs.Calls.{IsWritten}
-use Rattle.mls_views.specs.Views.{Kept, AreViews, left_by}
-use Rattle.mls_views.proofs.WrittenLemmas.{kept_same, kept_written}
+use Rattle.mls_queries.specs.Views.{Kept, AreViews, AreLeftBy}
+use Rattle.mls_queries.proofs.WrittenLemmas.{kept_same, kept_written}
 use Rattle.mls_script.specs.declared.event.Event.{Event}
 use Rattle.mls_machine.specs.declared.reply.Denial.{Denial}
 use Rattle.mls_machine.specs.declared.reply.Reply.{Reply}
@@ -26,10 +26,10 @@ module _ {B : Type 0} (is_clean : B → Type 0) (state : B → State) where
   denied_views site event user denial a c es (Err e) back done views = tt
 
   -- a write, and what is given up after it
-  pub written_views : (policy : Tables) (scheme : Scheme) (rel level : ℕ) (wr : Write) (a b c : B) (o : Outcome) (es new left : Kept) → c ≡ b → left ≡ new → new ≡ left_by (labels_of policy) rel level o es
+  pub written_views : (policy : Tables) (scheme : Scheme) (rel level : ℕ) (wr : Write) (a b c : B) (o : Outcome) (es new left : Kept) → c ≡ b → left ≡ new → AreLeftBy (labels_of policy) rel level (named level wr) o es new → (named level wr).key_class < length policy.labels
       → (is_clean b → is_clean a) → (is_clean b → IsContent (labels_of policy) scheme ((state a).now.db rel)) → (is_clean b → IsWritten (labels_of policy) scheme rel level wr (state a) (state b) o)
       → AreViews policy is_clean state a es → AreViews policy is_clean state c left
-  written_views policy scheme rel level wr a b c o es new left base kept is back content written views =
+  written_views policy scheme rel level wr a b c o es new left base kept is within back content written views =
       subst (λ x. AreViews policy is_clean state x left) (sym base)
-      (subst (AreViews policy is_clean state b) (sym (kept ∙ is))
-      (kept_written policy is_clean state scheme (length scheme.others) rel level wr a b o es back (λ k. (content k).stored) written views))
+      (subst (AreViews policy is_clean state b) (sym kept)
+      (kept_written policy is_clean state scheme (length scheme.others) rel level wr a b o es new back (λ k. (content k).stored) written within views is))

@@ -10,3 +10,6 @@ pub mod AnswerLemmas
 pub mod StartLemmas
 pub mod TurningLemmas
 pub mod FrameLemmas
+pub mod ArgumentLemmas
+pub mod SessionLemmas
+pub mod StoredLemmas

@@ -12,10 +12,10 @@ use Rattle.mls_script.specs.declared.event.Event.{Event}
 use Rattle.mls_sessions.specs.declared.cause.RunCause.TheVariants.{Store}
 use Rattle.mls_sessions.specs.declared.cause.RunFault.{RunFault}
 use Rattle.mls_sessions.specs.declared.engine.Engine.{Engine}
-use Rattle.mls_monitor.specs.Sessions.{site_of, sessions_of, AreForUsers}
+use Rattle.mls_sessions.specs.Sessions.{site_of, sessions_of, AreForUsers}
 use Rattle.mls_sessions.specs.World.{world_at, IsSound}
 use Rattle.mls_sessions.specs.Turns.{IsTurn}
-use Rattle.mls_views.specs.Views.{AreViews}
+use Rattle.mls_queries.specs.Views.{AreViews}
 
 abbrev pub site : {B : Type 0} → Engine B → Site
 site e = site_of e.rules
@@ -25,6 +25,8 @@ module _ {B : Type 0} (state : B → State) where
   world_of e = world_at (site e) (sessions_of e.sessions.items) (state e.base).now
 
   -- what an engine holds between events; over a clean base each view that it keeps is that of the content now
+  -- (no invariant of its type: that needs a code for the value, and a stored transaction keeps a proof, which
+  -- has none)
   pub record IsReady (is_clean : B → Type 0) (e : Engine B) : Type 0 where
     pub under : AreUnder (length (site e).policy.labels) (site e).schemes
     pub distinct : AreDistinct (site_labels (site e))

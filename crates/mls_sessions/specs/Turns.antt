@@ -6,7 +6,7 @@ use Rattle.mls_filterview.specs.declared.base.BaseFault.{BaseFault}
 use Rattle.mls_filterview.specs.declared.base.BaseFault.TheVariants as faults
 use Rattle.mls_filterview.specs.Calls.{IsCall, IsServed}
 use Rattle.mls_filterview.specs.Content.{Content, State}
-use Rattle.mls_views.specs.Views.{Kept, AreViews}
+use Rattle.mls_queries.specs.Views.{Kept, AreViews}
 use Rattle.mls_script.specs.declared.event.Event.{Event}
 use Rattle.mls_script.specs.declared.event.Command.{Command}
 use Rattle.mls_script.specs.declared.event.Command.TheVariants as commands
@@ -18,7 +18,7 @@ use Rattle.mls_machine.specs.Observation.{AreRead}
 use Rattle.mls_replies.specs.Known.{HasKnownNumbers}
 use Rattle.mls_sessions.specs.declared.change.Deed.{Deed}
 use Rattle.mls_sessions.specs.declared.change.Deed.TheVariants.{Deny, Write, Call}
-use Rattle.mls_monitor.specs.Denying.{denial_in}
+use Rattle.mls_sessions.specs.Denying.{denial_in}
 use Rattle.mls_audit.specs.Spelling.{IsEntryOf}
 use Rattle.mls_sessions.specs.World.{world_at, IsSound}
 

@@ -5,26 +5,25 @@ ghost use Rattle.mls_lattice.specs.Name.{is_name};
 ghost use Rattle.mls_lattice.specs.Canon.{user_name};
 ghost use Rattle.mls_audit.specs.declared.entry.Entry.TheVariants.{Called};
 ghost use Rattle.mls_audit.specs.Spelling.{HasSpelling, entry_spelling};
-ghost use Rattle.mls_meaning.specs.Laws.{IsItem};
+ghost use Rattle.mls_certcheck.specs.MeaningLaws.{IsItem};
 ghost use Rattle.mls_machine.specs.Machine.{release_entry, call_entries};
-ghost use Rattle.mls_monitor.specs.Sessions.{site_of};
-ghost use Rattle.mls_views.specs.Views.{AreViews};
+ghost use Rattle.mls_sessions.specs.Sessions.{site_of};
+ghost use Rattle.mls_queries.specs.Views.{AreViews};
 ghost use Rattle.mls_sessions.specs.Calling.{MayEnter, HasEntered, MayRun, HasRun};
 ghost use Rattle.mls_sessions.specs.Turns.{MayDo, GoesOn, Finds, HasDone};
 
 use crate::change::Deed;
+use crate::{Rules, certified_named, fitted};
 use mls_audit::{Entry, entry_bytes};
-use mls_certcheck::Certified;
+use mls_certcheck::{Certified, Run};
 use mls_filterview::{Base, BaseFault, made};
 use mls_lattice::{LabelNo, Str, UserNo};
 use mls_machine::Reply;
-use mls_meaning::Run;
-use mls_monitor::{Rules, certified_named, fitted};
+use mls_queries::Views;
 use mls_scheme::Value;
 use mls_script::{Command, Event};
 use mls_trusted::evaluate_in;
 use mls_updates::copy_value;
-use mls_views::Views;
 use std::alloc::AllocError;
 
 /// The bytes of the entry of a call.

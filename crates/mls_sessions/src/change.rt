@@ -3,19 +3,19 @@ ghost use Rattle.std.specs.Prelude.{◌≡◌, ◌<◌, true, false, length, IfO
 ghost use Rattle.mls_audit.specs.Spelling.{HasSpelling, entry_spelling};
 ghost use Rattle.mls_script.specs.Event.{EventFits};
 ghost use Rattle.mls_machine.specs.Machine.{denial_entry};
-ghost use Rattle.mls_monitor.specs.Sessions.{site_of};
+ghost use Rattle.mls_sessions.specs.Sessions.{site_of};
 ghost use Rattle.mls_sessions.specs.Turns.{MayDo, GoesOn, IsOver, Finds, HasDone};
-ghost use Rattle.mls_views.specs.Views.{AreViews};
+ghost use Rattle.mls_queries.specs.Views.{AreViews};
 
+use crate::Rules;
 use crate::calling::call;
 use mls_audit::{Entry, entry_bytes};
 use mls_filterview::{Base, BaseFault, made};
 use mls_lattice::{Str, UserNo};
 use mls_machine::{Denial, Reply};
-use mls_monitor::Rules;
+use mls_queries::Views;
 use mls_script::{Command, Event};
 use mls_updates::{delete, insert, update};
-use mls_views::Views;
 use std::alloc::AllocError;
 
 /// What an event of an open session changes.
@@ -72,7 +72,7 @@ fn enter<B: Base>(
     Ok(Reply::Denied(denial))
 }
 
-/// Makes the write of an event at its level, inside a change, and gives up the views that it may have changed.
+/// Makes the write of an event at its level, inside a change, and notes it in the views that it may have changed.
 fn write<B: Base>(
     rules: &Rules,
     base: &mut B,
@@ -95,7 +95,7 @@ fn write<B: Base>(
     let outcome = match &event.command {
         Command::Insert { rel, key, values } => {
             let outcome = insert(alloc, base, policy, schemes, *rel, level, key, values)?;
-            views.follow(policy, *rel, level, outcome);
+            views.follow(alloc, policy, *rel, level, key, level, outcome);
             outcome
         }
         Command::Update {
@@ -108,7 +108,7 @@ fn write<B: Base>(
             let outcome = update(
                 alloc, base, policy, schemes, *rel, level, key, *key_class, *from, sets,
             )?;
-            views.follow(policy, *rel, level, outcome);
+            views.follow(alloc, policy, *rel, level, key, *key_class, outcome);
             outcome
         }
         Command::Delete {
@@ -117,7 +117,7 @@ fn write<B: Base>(
             key_class,
         } => {
             let outcome = delete(alloc, base, policy, schemes, *rel, level, key, *key_class)?;
-            views.follow(policy, *rel, level, outcome);
+            views.follow(alloc, policy, *rel, level, key, *key_class, outcome);
             outcome
         }
         _ => unreachable!(),

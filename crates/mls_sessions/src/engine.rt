@@ -4,7 +4,7 @@ ghost use Rattle.mls_scheme.specs.Scheme.{AreUnder};
 ghost use Rattle.mls_script.specs.Event.{EventFits};
 ghost use Rattle.mls_machine.specs.Machine.{no_sessions};
 ghost use Rattle.mls_machine.specs.Observation.{AreRead, AreCertified};
-ghost use Rattle.mls_monitor.specs.Sessions.{sessions_of};
+ghost use Rattle.mls_sessions.specs.Sessions.{sessions_of};
 ghost use Rattle.mls_sessions.specs.World.{world_at, IsSound};
 ghost use Rattle.mls_sessions.specs.Engine.{site, world_of, IsReady, Answers};
 ghost use Rattle.mls_replies.specs.Known.{HasKnownNumbers};
@@ -12,13 +12,13 @@ ghost use Rattle.mls_replies.specs.Known.{HasKnownNumbers};
 use crate::change::{Deed, change};
 use crate::looking::{audit, dump, look};
 use crate::notice::Notice;
+use crate::{Rules, Session, close, denial_of, open, user_of};
 use mls_filterview::{Base, BaseFault};
 use mls_lattice::{Items, LabelNo, Policy, UserNo};
 use mls_machine::{Reply, Stored};
-use mls_monitor::{Rules, Session, close, denial_of, open, user_of};
+use mls_queries::Views;
 use mls_scheme::Schemes;
 use mls_script::{Command, Event};
-use mls_views::Views;
 use std::alloc::Global;
 
 /// Sessions over a base, under a policy and its schemes. It keeps the views that were asked for last.

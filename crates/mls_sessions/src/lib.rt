@@ -1,22 +1,33 @@
 //! Sessions: the engine that answers their commands over a base, and the runs of scripts.
 #![tactic(auto)]
 
+mod arguments;
 mod calling;
 mod cause;
 mod change;
+mod denying;
+mod denying_calls;
 mod engine;
+mod finding;
 mod looking;
 mod notice;
+mod rules;
 mod running;
+mod session;
 mod turning;
 mod writing;
 
+pub use arguments::fitted;
 pub use cause::{RunCause, RunFault};
+pub use denying::denial_of;
 pub use engine::Engine;
+pub use finding::certified_named;
+pub use mls_certcheck::Run;
 pub use mls_machine::{Denial, Reply, Stored};
-pub use mls_meaning::Run;
 pub use mls_script::{Command, Event, ScriptCause, ScriptFault};
 pub use notice::Notice;
+pub use rules::Rules;
 pub use running::{run, run_to};
+pub use session::{Session, close, open, user_of};
 pub use turning::turn;
 pub use writing::write_whole;

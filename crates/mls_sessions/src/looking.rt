@@ -5,19 +5,18 @@ ghost use Rattle.mls_audit.specs.Entry.{visible};
 ghost use Rattle.mls_audit.specs.Reading.{entry_at};
 ghost use Rattle.mls_machine.specs.Machine.{viewed, dumped, listed};
 ghost use Rattle.mls_machine.specs.Output.{EntriesAreKnown};
-ghost use Rattle.mls_monitor.specs.Sessions.{site_of};
+ghost use Rattle.mls_sessions.specs.Sessions.{site_of};
 ghost use Rattle.mls_sessions.specs.World.{declared, entries_in, IsSound};
 ghost use Rattle.mls_sessions.specs.Turns.{Finds, HasLooked};
-ghost use Rattle.mls_views.specs.Views.{AreViews};
+ghost use Rattle.mls_queries.specs.Views.{AreViews};
 
+use crate::Rules;
 use mls_audit::{Entry, EntryFault, entry_of, visible};
 use mls_filterview::{Base, BaseFault, low_tuples, made};
 use mls_lattice::{Items, LabelNo, Policy};
 use mls_machine::Reply;
-use mls_monitor::Rules;
-use mls_queries::{Query, find};
+use mls_queries::{Query, Views, find};
 use mls_scheme::RelNo;
-use mls_views::Views;
 use std::alloc::{AllocError, Global};
 
 /// Answers a view by what its query finds.

@@ -9,7 +9,8 @@ use std::io::{Error, ErrorKind, Result, Write};
 /// How often a write that a signal interrupts is tried again.
 const MOST_TRIES: u32 = u32::MAX;
 
-/// Writes some of the bytes: one write, tried again where a signal interrupts it.
+/// Writes some of the bytes: one write, tried again where a signal interrupts it. `write_all` would not say
+/// what a failed write leaves.
 fn write_some<W: Write>(out: &mut W, bytes: &[u8]) -> Result<usize>
     ensures bound { WritesAtMost result bytes.now }
     ensures ok { IfOk result (λ n. Appends (W.contents out.old) (W.contents out.new) (take n bytes.now)) }

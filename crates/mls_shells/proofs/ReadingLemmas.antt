@@ -14,7 +14,7 @@ use Rattle.mls_script.proofs.LawLemmas.{script_found}
 use Rattle.mls_script.proofs.TellingLemmas.{script_again}
 use Rattle.mls_sessions.specs.declared.cause.RunCause.{RunCause}
 use Rattle.mls_sessions.specs.declared.cause.RunCause.TheVariants.{Memory}
-use Rattle.mls_lines.specs.Typing.{IsNext, IsLong, IsLost}
+use Rattle.mls_tokens.specs.Typing.{IsNext, IsLong, IsLost}
 use Rattle.mls_shells.specs.declared.seat.Seat.{Seat}
 use Rattle.mls_shells.specs.declared.seat.Fate.{Fate}
 use Rattle.mls_shells.specs.declared.seat.Fate.TheVariants as fates

@@ -23,7 +23,7 @@ use Rattle.mls_machine.specs.Observation.{EventsFit, AreRead, AreCertified, run_
 use Rattle.mls_sessions.specs.declared.cause.RunCause.TheVariants.{Store}
 use Rattle.mls_sessions.specs.declared.cause.RunFault.{RunFault}
 use Rattle.mls_sessions.specs.Run.{are_done, IsWhole, IsStopped, IsFaultOf}
-use Rattle.mls_lines.specs.Typing.{IsNext, IsLong}
+use Rattle.mls_tokens.specs.Typing.{IsNext, IsLong}
 use Rattle.mls_host.specs.declared.ending.Ending.{Ending}
 use Rattle.mls_host.specs.declared.telling.Tally.{Tally}
 use Rattle.mls_shells.specs.declared.help.TheConstants.{HELP}

@@ -10,10 +10,10 @@ ghost use Rattle.mls_shells.specs.Reading.{fate_of_fault, fate_of, Becomes};
 
 use crate::seat::{Fate, Seat};
 use mls_lattice::{Items, Policy, Str};
-use mls_lines::{Typed, TypedLines, TypingFault};
 use mls_scheme::Schemes;
 use mls_script::{Command, Event, ScriptCause, ScriptFault, script};
 use mls_sessions::RunCause;
+use mls_tokens::{Typed, TypedLines, TypingFault};
 use std::alloc::{AllocError, Global};
 use std::io::Write;
 

@@ -17,11 +17,11 @@ use crate::telling::{ask, tell_end, tell_fate, tell_more};
 use mls_filterview::Base;
 use mls_host::{Ending, Errors, Tally, ending_if, form_of};
 use mls_lattice::{Items, Policy};
-use mls_lines::TypedLines;
 use mls_machine::Audience;
 use mls_scheme::Schemes;
 use mls_script::Event;
 use mls_sessions::{Engine, RunCause, RunFault, Stored, run_to};
+use mls_tokens::TypedLines;
 use std::alloc::Global;
 use std::io::Write;
 

@@ -18,11 +18,11 @@ use crate::shell::shell_on;
 use mls_fragments::OpenFault;
 use mls_host::{Ending, Errors, Host, Inputs, Reason, Refusal, ended, stored_of};
 use mls_lattice::{Items, LabelNo, Policy, Str};
-use mls_lines::TypedLines;
 use mls_memory::MemoryBase;
 use mls_scheme::SchemesFile;
 use mls_script::Event;
 use mls_sessions::Stored;
+use mls_tokens::TypedLines;
 use std::alloc::{AllocError, Global};
 use std::io::Write;
 
@@ -149,8 +149,8 @@ fn seated(
     Ok((seat, first))
 }
 
-/// A shell for a user, at the label of a name, over what a job stores.
-/// The opening is made as an event and never as text. The status is the same at a pipe and at a terminal.
+/// A shell for a user, at the label of a name, over what a job stores. The opening is made as an event and
+/// never as text. The status is the same at a pipe and at a terminal, and tells no more than the replies do.
 pub fn run_shell<H: Host, W: Write, E: Write>(
     alloc: Global,
     host: &mut H,

@@ -1,5 +1,5 @@
 -- What calls leave of a connection, whatever their texts, and where changes begin and end.
-use Rattle.std.proofs.Common.{◌≡◌, inl, inr, ℕ, List, [], true, false, if◌then◌else◌, Option, Some, None, Ok, Err, Result, IsTrue, OnOk, OnErr, IfOk, IfErr, Vec, codes, length, refl, sym, ap, subst, subst₂, true≢false, ◌∙◌}
+use Rattle.std.proofs.Common.{◌≡◌, ◌⊎◌, inl, inr, ℕ, List, [], true, false, if◌then◌else◌, Option, Some, None, Ok, Err, Result, IsTrue, OnOk, OnErr, IfOk, IfErr, Vec, codes, length, refl, sym, ap, subst, subst₂, true≢false, ◌∙◌}
 use Rattle.std.specs.declared.alloc.Global.{Global}
 use Rattle.std.proofs.lemmas.Bool.{cases_Bool}
 use Rattle.sqlite.specs.Order.{Row}
@@ -8,7 +8,7 @@ use Rattle.sqlite.specs.Clock.{timed}
 use Rattle.sqlite.specs.Command.{Command}
 use Rattle.sqlite.specs.Command.TheVariants.{Begin, Commit, Rollback}
 use Rattle.sqlite.specs.Listing.{understood}
-use Rattle.sqlite.specs.State.{State, IsUnchanged, IsRolledBack, KeepsCommit, Executes, ExecutesIn, IsNotRun, IsNoStatement, RunsAlone, shows_rows, Shown, ShowsRows, FailsToQuery, FailsToShow, Commits, Writes}
+use Rattle.sqlite.specs.State.{State, IsUnchanged, IsRolledBack, Fails, KeepsCommit, Executes, ExecutesIn, IsNotRun, IsNoStatement, RunsAlone, shows_rows, Shown, ShowsRows, FailsToQuery, FailsToShow, Commits, Writes}
 use Rattle.sqlite.specs.declared.error.Error.{Error}
 use Rattle.sqlite.proofs.Callers.{runs_as, IsPlain, command_of}
 use Rattle.sqlite_resolve.specs.declared.compiled.Compiled.{Compiled}
@@ -49,6 +49,23 @@ keeps old new (inr undone) = record { was_open = undone.was_open; committed = λ
 pub ended_keeps : (old new : State) (r : Result ℕ Error) → OnErr r (IsEnded old new) → OnErr r (KeepsCommit old new)
 ended_keeps old new (Ok count) h = tt
 ended_keeps old new (Err e) h = keeps old new h
+
+-- so it is of a query that does not begin
+pub refused_keeps : (old new : State) (sql : List ℕ) (params : Row) (e : Error) → FailsToQuery sql params old new e → KeepsCommit old new
+refused_keeps old new sql params e h = keeps old new (fails_ended old new sql params e h)
+
+-- so it is of a query that goes on from where nothing was changed
+pub stopped_keeps : (first old new : State) (e : Error) → IsUnchanged first old → Fails old new ⊥ e ⊎ IsUnchanged old new → KeepsCommit first new
+stopped_keeps first old new e same (inl failed) = record { was_open = λ shows. same.0.was_open; committed = λ shows. (failed.3.undone shows).1 ∙ same.0.committed_is }
+stopped_keeps first old new e same (inr stays) = record { was_open = λ shows. same.0.was_open; committed = λ shows. stays.0.committed_is ∙ same.0.committed_is }
+
+pub always_ok : {A E : Type 0} (r : Result A E) (P : Type 0) → P → OnOk r P
+always_ok (Ok x) P p = p
+always_ok (Err e) P p = tt
+
+pub always_err : {A E : Type 0} (r : Result A E) (P : Type 0) → P → OnErr r P
+always_err (Ok x) P p = tt
+always_err (Err e) P p = p
 
 -- so it is of a query
 pub query_ended : (old new : State) (sql : List ℕ) (params : Row) (r : Result (Vec Row Global) Error) → IfErr r (FailsToQuery sql params old new) → OnErr r (IsEnded old new)

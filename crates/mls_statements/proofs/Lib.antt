@@ -15,9 +15,9 @@ pub mod NumberedLemmas
 pub mod PlainWrites
 pub mod QueryAnswers
 pub mod ReadyLemmas
-pub mod RisingLemmas
 pub mod RowLists
 pub mod SchemaLemmas
+pub mod StreamingLemmas
 pub mod TableEdits
 pub mod TableRows
 pub mod Texts

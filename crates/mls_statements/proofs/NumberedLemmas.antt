@@ -13,7 +13,7 @@ use Rattle.mls_statements.specs.Rows.{numbered, are_numbered}
 has_number : ℕ → AuditRow → Bool
 has_number j a = int_eq a.number (pos j)
 
-equal_ints : (m n : ℤ) → int_eq m n ≡ true → m ≡ n
+pub equal_ints : (m n : ℤ) → int_eq m n ≡ true → m ≡ n
 equal_ints m n h = grind (arith, ints, nat_tests)
 
 apart_ints : (j k : ℕ) → j < k → int_eq (pos k) (pos j) ≡ false

@@ -7,7 +7,8 @@ use Rattle.sqlite.specs.Schema.{Schema}
 use Rattle.sqlite.specs.Table.{Table}
 use Rattle.sqlite.specs.Term.{Term, lit, col, op2}
 use Rattle.sqlite.specs.Query.{Query}
-use Rattle.sqlite_sql.specs.declared.ops.BinaryOp.TheVariants.{Compare}
+use Rattle.sqlite_sql.specs.declared.ops.BinaryOp.TheVariants.{Compare, Bits}
+use Rattle.sqlite_sql.specs.declared.ops.BitOp.TheVariants as bit
 use Rattle.sqlite_sql.specs.declared.ops.CompareOp.TheVariants.{Eq}
 use Rattle.sqlite.specs.Collation.TheVariants.{Binary}
 use Rattle.sqlite_value.specs.Keys.{ascending}
@@ -222,12 +223,23 @@ node_shown = col 1 1 ∷ col 1 2 ∷ col 1 3 ∷ col 1 4 ∷ col 1 5 ∷ []
 abbrev pub by_label : List Term
 by_label = same 1 0 ∷ same 4 1 ∷ []
 
+-- the bit of the label is set in the parameter
+abbrev pub by_labels : List Term
+by_labels = same 1 0 ∷ op2 (Bits bit.And) (col 0 1) (op2 (Bits bit.Shl) (lit (Int (pos 1))) (col 1 4)) ∷ []
+
 abbrev pub nodes_at : List ℕ
 nodes_at = codes "SELECT rel, ent, kclass, label, pattern FROM node WHERE rel = ?1 AND label = ?2"
 
 pub nodes_at_is : (o : Others) → Asks (schema o) nodes_at (Select (alone (rows_by 0 by_label node_shown)) node_names)
 unfolding understood everything
 nodes_at_is o = (refl, (refl, refl), refl)
+
+abbrev pub nodes_among : List ℕ
+nodes_among = codes "SELECT rel, ent, kclass, label, pattern FROM node WHERE rel = ?1 AND ?2 & (1 << label)"
+
+pub nodes_among_is : (o : Others) → Asks (schema o) nodes_among (Select (alone (rows_by 0 by_labels node_shown)) node_names)
+unfolding understood everything
+nodes_among_is o = (refl, (refl, refl), refl)
 
 abbrev pub nodes_of : List ℕ
 nodes_of = codes "SELECT rel, ent, kclass, label, pattern FROM node WHERE rel = ?1 AND ent = ?2 AND kclass = ?3 AND label = ?4"
@@ -248,6 +260,13 @@ cells_at = codes "SELECT rel, ent, kclass, label, attr, value FROM cell WHERE re
 pub cells_at_is : (o : Others) → Asks (schema o) cells_at (Select (alone (rows_by 2 by_label cell_shown)) cell_names)
 unfolding understood everything
 cells_at_is o = (refl, (refl, refl), refl)
+
+abbrev pub cells_among : List ℕ
+cells_among = codes "SELECT rel, ent, kclass, label, attr, value FROM cell WHERE rel = ?1 AND ?2 & (1 << label)"
+
+pub cells_among_is : (o : Others) → Asks (schema o) cells_among (Select (alone (rows_by 2 by_labels cell_shown)) cell_names)
+unfolding understood everything
+cells_among_is o = (refl, (refl, refl), refl)
 
 abbrev pub cells_of : List ℕ
 cells_of = codes "SELECT rel, ent, kclass, label, attr, value FROM cell WHERE rel = ?1 AND ent = ?2 AND kclass = ?3 AND label = ?4"

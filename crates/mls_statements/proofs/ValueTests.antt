@@ -1,8 +1,15 @@
 -- What SQL's tests on the columns of a row say of the row as plain data.
-use Rattle.std.proofs.Common.{◌≡◌, ℕ, pos, negsuc, List, [], ◌∷◌, Bool, true, false, ◌&&◌, nat_eq, refl, sym, ap, ◌∙◌, true≢false, arith}
+use Rattle.std.proofs.Common.{◌≡◌, ℕ, ◌<◌, ◌≤◌, ◌*◌, ◌^◌, ◌%◌, zero, suc, not, cond, pos, negsuc, List, [], ◌∷◌, Bool, true, false, ◌&&◌, nat_eq, refl, sym, ap, ◌∙◌, true≢false, arith}
+use Rattle.std.specs.Prelude.{bit_and, int_lt, nat_lt}
+use Rattle.std.specs.Int.{w64, bit_at, cast_signed, cast_unsigned, int_bit_and, int_shl}
+use Rattle.std.specs.Int.Bits.{and_zero_r}
+use Rattle.std.proofs.Math.Pow.{pow-lt, pow_pos}
+use Rattle.std.proofs.Math.Nat.{mod-eq_of_lt}
+use Rattle.std.proofs.lemmas.Int.{of_z-to_z}
+use Rattle.std.proofs.lemmas.Nat.Bits.{and_pow, bit_at-lt, bit_at_above}
 use Rattle.std.specs.Str.{bytes_eq}
-use Rattle.std.specs.Ordering.{is_eq, int_cmp}
-use Rattle.std.proofs.lemmas.Bool.{and_parts}
+use Rattle.std.specs.Ordering.{is_eq, int_cmp, int_eq}
+use Rattle.std.proofs.lemmas.Bool.{and_parts, false_from_ne_true, ltb-true, ltb-false}
 use Rattle.std.proofs.lemmas.Bool.Decides.{nat_tests}
 use Rattle.std.proofs.lemmas.Int.{ints}
 use Rattle.std.proofs.lemmas.Map.Text.{is_eq-slice_cmp}
@@ -15,13 +22,16 @@ use Rattle.sqlite_trees.specs.View.{is_int}
 use Rattle.sqlite_rules.proofs.TableLemmas.{int_is}
 use Rattle.sqlite.specs.Term.{eval_all}
 use Rattle.sqlite.specs.Ops.{binary, is_true}
-use Rattle.sqlite_sql.specs.declared.ops.BinaryOp.TheVariants.{Compare}
+use Rattle.sqlite_sql.specs.declared.ops.BinaryOp.TheVariants.{Compare, Bits}
+use Rattle.sqlite_sql.specs.declared.ops.BitOp.TheVariants as bit
+use Rattle.sqlite_sql.specs.Ops.{shifted}
 use Rattle.sqlite_sql.specs.declared.ops.CompareOp.TheVariants.{Eq}
 use Rattle.sqlite.specs.Collation.TheVariants.{Binary}
-use Rattle.mls_statements.specs.Rows.{nat_in, blob_in, is_nat, is_blob, node_of, is_node_row, cell_of, is_cell_row, audit_of, is_audit_row, node_values, cell_values, audit_values, is_node_at, is_node, is_cell_at, is_cell_in, is_cell, class_values}
+use Rattle.mls_statements.specs.Rows.{nat_in, blob_in, is_nat, is_blob, node_of, is_node_row, cell_of, is_cell_row, audit_of, is_audit_row, node_values, cell_values, audit_values, is_node_at, is_node_among, has_bit, is_node, is_cell_at, is_cell_among, is_cell_in, is_cell, class_values}
 use Rattle.mls_statements.specs.declared.rows.CellRow.{CellRow}
+use Rattle.mls_statements.proofs.NumberedLemmas.{equal_ints}
 use Rattle.mls_statements.proofs.QueryAnswers.{passes, equals_int, equals_blob}
-use Rattle.mls_statements.proofs.Texts.{by_class, by_cell, by_label, node_shown, cell_shown, audit_shown}
+use Rattle.mls_statements.proofs.Texts.{by_class, by_cell, by_label, by_labels, node_shown, cell_shown, audit_shown}
 
 pub nat_is : (v : Value) → is_nat v ≡ true → v ≡ Int (pos (nat_in v))
 nat_is Null h = absurd (true≢false (sym h))
@@ -91,6 +101,52 @@ cell_parts r h =
     let f = and_parts _ _ e.1 in
     record { id = a.0; rel = b.0; ent = c.0; kclass = d.0; label = e.0; attr = f.0; value = f.1 }
 
+-- ---- bits
+
+not_below : (n : ℕ) → int_lt (pos n) (pos 0) ≡ false
+not_below n = grind (arith, ints)
+
+module _ (mask n : ℕ) (within : mask < 2 ^ 64) where
+  -- a bit that a number of 64 bits can have
+  low_bit : n < 64 → int_bit_and w64 (cast_signed w64 mask) (int_shl w64 (pos 1) n) ≡ cast_signed w64 (bit_at mask n * 2 ^ n)
+  low_bit l =
+      let small : 2 ^ n < 2 ^ 64 = pow-lt l in
+      let one : 1 * 2 ^ n ≡ 2 ^ n = omega arith in
+      (λ i. cast_signed w64 (bit_and (of_z-to_z w64 mask within i) (cast_unsigned w64 (cast_signed w64 (one i % 2 ^ 64)))))
+      ∙ (λ i. cast_signed w64 (bit_and mask (cast_unsigned w64 (cast_signed w64 (mod-eq_of_lt small i)))))
+      ∙ (λ i. cast_signed w64 (bit_and mask (of_z-to_z w64 (2 ^ n) small i)))
+      ∙ ap (cast_signed w64) (and_pow mask n)
+
+  -- no other number has a bit
+  high_bit : 64 ≤ n → int_bit_and w64 (cast_signed w64 mask) (pos 0) ≡ pos 0
+  high_bit l = ap (cast_signed w64) (and_zero_r (cast_unsigned w64 (cast_signed w64 mask)))
+
+  not_zero : n < 64 → int_eq (cast_signed w64 (2 ^ n)) (pos 0) ≡ false
+  not_zero l = false_from_ne_true _ (λ t.
+      let same : 2 ^ n ≡ 0 = sym (of_z-to_z w64 (2 ^ n) (pow-lt l)) ∙ ap (cast_unsigned w64) (equal_ints (cast_signed w64 (2 ^ n)) (pos 0) t) in
+      let some = pow_pos n in
+      absurd (omega (arith, same, some)))
+
+  is_set : (b : ℕ) → b < 2 → bit_at mask n ≡ b → n < 64 → is_true (Int (cast_signed w64 (bit_at mask n * 2 ^ n))) ≡ nat_eq (bit_at mask n) 1
+  is_set zero few is l =
+      let none : 0 * 2 ^ n ≡ 0 = omega arith in
+      (λ i. is_true (Int (cast_signed w64 (is i * 2 ^ n)))) ∙ (λ i. is_true (Int (cast_signed w64 (none i)))) ∙ sym (ap (λ b. nat_eq b 1) is)
+  is_set (suc zero) few is l =
+      let one : 1 * 2 ^ n ≡ 2 ^ n = omega arith in
+      (λ i. is_true (Int (cast_signed w64 (is i * 2 ^ n)))) ∙ (λ i. is_true (Int (cast_signed w64 (one i)))) ∙ ap not (not_zero l) ∙ sym (ap (λ b. nat_eq b 1) is)
+  is_set (suc (suc b)) few is l = absurd (omega (arith, few))
+
+  tested : (b : Bool) → nat_lt n 64 ≡ b → is_true (Int (int_bit_and w64 (cast_signed w64 mask) (cond b (int_shl w64 (pos 1) n) (pos 0)))) ≡ nat_eq (bit_at mask n) 1
+  tested true t = let l = ltb-true n 64 t in ap (λ z. is_true (Int z)) (low_bit l) ∙ is_set (bit_at mask n) (bit_at-lt mask n) refl l
+  tested false f = let l = ltb-false n 64 f in ap (λ z. is_true (Int z)) (high_bit l) ∙ sym (ap (λ b. nat_eq b 1) (bit_at_above mask 64 n within l))
+
+set_bit : (v : Value) (mask : ℕ) → mask < 2 ^ 64 → is_nat v ≡ true → is_true (binary (Bits bit.And) (Int (cast_signed w64 mask)) (binary (Bits bit.Shl) (Int (pos 1)) v)) ≡ has_bit mask (nat_in v)
+unfolding binary
+set_bit v mask within h =
+    ap (λ x. is_true (binary (Bits bit.And) (Int (cast_signed w64 mask)) (binary (Bits bit.Shl) (Int (pos 1)) x))) (nat_is v h)
+    ∙ ap (λ b. is_true (Int (int_bit_and w64 (cast_signed w64 mask) (shifted (cond b false true) (pos 1) (nat_in v))))) (not_below (nat_in v))
+    ∙ tested mask (nat_in v) within (nat_lt (nat_in v) 64) refl
+
 -- ---- the tests of the statements
 
 pub node_in_class : (rel : ℕ) (ent : List ℕ) (kclass label : ℕ) (r : Row) → is_node_row r ≡ true
@@ -117,6 +173,11 @@ pub node_at_label : (rel label : ℕ) (r : Row) → is_node_row r ≡ true
 node_at_label rel label r h =
     let c = node_parts r h in rw (same_nat (column r 1) rel c.rel, same_nat (column r 4) label c.label, and_true (nat_eq (nat_in (column r 4)) label))
 
+pub node_among_labels : (rel labels : ℕ) → labels < 2 ^ 64 → (r : Row) → is_node_row r ≡ true
+    → (passes by_labels (Int (pos rel) ∷ Int (cast_signed w64 labels) ∷ []) r ≡ is_node_among rel labels (node_of r))
+node_among_labels rel labels within r h =
+    let c = node_parts r h in rw (same_nat (column r 1) rel c.rel, set_bit (column r 4) labels within c.label, and_true (has_bit labels (nat_in (column r 4))))
+
 pub node_shows : (params r : Row) → is_node_row r ≡ true → eval_all node_shown (params ∷ r ∷ []) ≡ node_values (node_of r)
 node_shows params r h =
     let c = node_parts r h in
@@ -126,6 +187,11 @@ pub cell_at_label : (rel label : ℕ) (r : Row) → is_cell_row r ≡ true
     → (passes by_label (Int (pos rel) ∷ Int (pos label) ∷ []) r ≡ is_cell_at rel label (cell_of r))
 cell_at_label rel label r h =
     let c = cell_parts r h in rw (same_nat (column r 1) rel c.rel, same_nat (column r 4) label c.label, and_true (nat_eq (nat_in (column r 4)) label))
+
+pub cell_among_labels : (rel labels : ℕ) → labels < 2 ^ 64 → (r : Row) → is_cell_row r ≡ true
+    → (passes by_labels (Int (pos rel) ∷ Int (cast_signed w64 labels) ∷ []) r ≡ is_cell_among rel labels (cell_of r))
+cell_among_labels rel labels within r h =
+    let c = cell_parts r h in rw (same_nat (column r 1) rel c.rel, set_bit (column r 4) labels within c.label, and_true (has_bit labels (nat_in (column r 4))))
 
 pub cell_shows : (params r : Row) → is_cell_row r ≡ true → eval_all cell_shown (params ∷ r ∷ []) ≡ cell_values (cell_of r)
 cell_shows params r h =

@@ -1,8 +1,7 @@
 -- What the rows that a query showed of a whole table say of the table's.
-use Rattle.std.proofs.Common.{◌≡◌, ◌≢◌, ℕ, ℤ, List, [], ◌∷◌, map, Bool, true, false, Ok, Err, Result, Vec, OnOk, IfOk, IfErr, IsPermutation, refl, sym, ap, subst, ◌∙◌, int_lt, arith, length}
+use Rattle.std.proofs.Common.{◌≡◌, ℕ, ℤ, List, [], ◌∷◌, map, Bool, true, false, IsPermutation, refl, sym, ap, subst, ◌∙◌, int_lt, arith, length}
 use Rattle.std.specs.List.{AllByRecursion}
 use Rattle.std.specs.Ordering.{is_eq, int_cmp}
-use Rattle.std.specs.declared.alloc.Global.{Global}
 use Rattle.std.proofs.lemmas.Bool.Decides.{nat_tests}
 use Rattle.std.proofs.lemmas.Int.{ints}
 use Rattle.std.proofs.lemmas.List.Sorted.{IsPermutation-refl, IsPermutation-cons, IsPermutation-trans, IsPermutation-sym, IsPermutation-map}
@@ -15,14 +14,9 @@ use Rattle.sqlite_trees.specs.View.{is_int}
 use Rattle.sqlite_trees.proofs.ListLemmas.{along_permutation, all-permutation, all_from_map, ascending_from_map, map-map}
 use Rattle.sqlite_rules.specs.Edit.{id_in}
 use Rattle.sqlite_rules.proofs.TableLemmas.{int_is}
-use Rattle.sqlite.specs.declared.error.ErrorCode.TheVariants.{OutOfMemory}
-use Rattle.sqlite.specs.declared.error.Error.{Error}
-use Rattle.sqlite.specs.declared.error.Error.TheVariants.{SqliteFailure}
 use Rattle.sqlite.proofs.Callers.{one_permutation}
-use Rattle.mls_statements.specs.declared.adopting.AdoptFault.{AdoptFault}
-use Rattle.mls_statements.specs.declared.adopting.AdoptFault.TheVariants.{BadRows}
 use Rattle.mls_statements.specs.Statements.{IsApart, AreRows}
-use Rattle.mls_statements.specs.Adopting.{IsInteger, HaveIds, Refutes, Blames, AreRising}
+use Rattle.mls_statements.specs.Adopting.{AreRising}
 use Rattle.mls_statements.proofs.ApartRows.{other_way, swapped}
 
 abbrev differ : Value → Value → Type 0
@@ -130,25 +124,3 @@ module _ {X : Type 0} (columns : Row → Row) (show : Row → X) (rows found : L
       each : (rows : List Row) → AllByRecursion (λ r. shows (columns r) ≡ true) rows → AllByRecursion (λ r. is_row r ≡ true) rows
       each [] h = tt
       each (r ∷ rows) h = (fits r h.0, each rows h.1)
-
--- ---- tables that are read whole
-
-module _ {X : Type 0} (columns : Row → Row) (at : ℕ) (place : (r : Row) → column (columns r) at ≡ rowid r) (rows found : List Row) (same : IsPermutation (map columns rows) found)
-    (read : Result (Vec X Global) Error) where
-  pub read_whole : (show : Row → X) (shows is_row : Row → Bool) → ((r : Row) → shows (columns r) ≡ true → is_int (rowid r) ≡ true → is_row r ≡ true) → (result : Result (Vec X Global) AdoptFault)
-      → IfOk read (λ xs. xs.items ≡ map show found) → IfOk read (λ _. AllByRecursion (λ r. shows r ≡ true) found) → IfOk result (λ xs. read ≡ Ok xs) → OnOk result (AreRising at found)
-      → IfOk result (λ xs. AreRows is_row rows × IsPermutation (map (λ r. show (columns r)) rows) xs.items)
-  read_whole show shows is_row fits (Err e) shown whole is up = tt
-  read_whole show shows is_row fits (Ok xs) shown whole is up =
-      let items : xs.items ≡ map show found = subst (λ r. IfOk r (λ xs. xs.items ≡ map show found)) is shown in
-      let all = subst (λ r. IfOk r (λ _. AllByRecursion (λ r. shows r ≡ true) found)) is whole in
-      (are_rows columns rows found same at place shows is_row fits all up, subst (IsPermutation (map (λ r. show (columns r)) rows)) (sym items) (items_shown columns rows found same show))
-
-  pub read_badly : (Reads : Row → Type 0) (result : Result (Vec X Global) AdoptFault) → IfErr read (Refutes (AllByRecursion Reads found))
-      → IfErr result (λ e. e ≡ BadRows → HaveIds at found → (error : Error) × (read ≡ Err error) × (error ≢ SqliteFailure OutOfMemory))
-      → IfErr result (Blames (AllByRecursion Reads (map columns rows) × HaveIds at (map columns rows)))
-  read_badly Reads (Ok xs) refused bad = tt
-  read_badly Reads (Err e) refused bad = λ is all.
-      let why = bad is (all_shown columns rows found same (λ r. IsInteger (column r at)) all.1) in
-      let no = subst (λ r. IfErr r (Refutes (AllByRecursion Reads found))) why.1 refused in
-      no why.2 (all_shown columns rows found same Reads all.0)

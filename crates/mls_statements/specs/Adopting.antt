@@ -1,5 +1,5 @@
 -- Which tables are adopted, and what is read of them.
-use Rattle.std.specs.Prelude.{◌≡◌, ◌≢◌, ◌⊎◌, ℕ, ◌^◌, ◌<◌, ℤ, pos, true, false, int_lt, List, [], ◌∷◌, map, IsTrue, IsUtf8, IsPermutation}
+use Rattle.std.specs.Prelude.{◌≡◌, ◌≢◌, ◌⊎◌, ℕ, ◌^◌, ◌<◌, ℤ, pos, true, false, int_lt, List, [], ◌∷◌, ◌++◌, Bool, map, IsTrue, IsUtf8, IsPermutation}
 use Rattle.std.specs.List.{AllByRecursion}
 use Rattle.sqlite_value.specs.declared.value.Value.{Value}
 use Rattle.sqlite_value.specs.declared.value.Value.TheVariants.{Int, Text, Blob}
@@ -11,7 +11,7 @@ use Rattle.sqlite.specs.declared.error.ErrorCode.TheVariants.{OutOfMemory}
 use Rattle.sqlite.specs.declared.error.Error.{Error}
 use Rattle.sqlite.specs.declared.error.Error.TheVariants.{SqliteFailure}
 use Rattle.sqlite.specs.Effect.{Database}
-use Rattle.sqlite.specs.State.{State}
+use Rattle.sqlite.specs.State.{State, Shown, Begins}
 use Rattle.mls_statements.specs.declared.rows.MetaRow.{MetaRow}
 use Rattle.mls_statements.specs.declared.adopting.AllRows.{AllRows}
 use Rattle.mls_statements.specs.declared.adopting.AdoptFault.{AdoptFault}
@@ -61,6 +61,15 @@ Refutes P e = e ≢ SqliteFailure OutOfMemory → ¬ P
 -- rows are called bad only where they are
 abbrev pub Blames : Type 0 → AdoptFault → Type 0
 Blames P e = e ≡ BadRows → ¬ P
+
+-- this is what the rows of a query show, whose rowids rise
+abbrev pub ShowsAll : {X : Type 0} → ℕ → (Row → X) → (Row → Bool) → List ℕ → State → State → List X → Type 0
+ShowsAll at show shows sql old new xs =
+    (given : List Row) × Shown sql [] old new given × (xs ≡ map show given) × AllByRecursion (λ r. shows r ≡ true) given × AreRising at given
+
+-- a query is called bad only where a row of its answer does not read
+abbrev pub BlamesOne : ℕ → (Row → Type 0) → List ℕ → State → AdoptFault → Type 0
+BlamesOne at Reads sql s e = e ≡ BadRows → (given : List Row) × (row : Row) × Begins sql [] s (given ++ row ∷ []) × ¬ (Reads row × IsInteger (column row at))
 
 -- ---- what is adopted
 

@@ -1,3 +1,5 @@
+-- The definitions of the four tables: `Schema` says what SQL defines, `Statements` what each statement does,
+-- `Store` what calls do.
 pub mod Adopting
 pub mod Rows
 pub mod Schema

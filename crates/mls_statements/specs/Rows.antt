@@ -1,6 +1,7 @@
 -- What the rows of the four tables are, as plain data.
 use Rattle.std.specs.Prelude.{ℕ, ◌+◌, ℤ, ◌+ℤ◌, pos, Bool, true, false, ◌&&◌, nat_eq, bytes_eq, List, [], ◌∷◌, ◌++◌, map}
 use Rattle.std.specs.List.{flat_map}
+use Rattle.std.specs.Int.{bit_at}
 use Rattle.std.specs.Ordering.{int_eq}
 use Rattle.sqlite_value.specs.declared.value.Value.{Value}
 use Rattle.sqlite_value.specs.declared.value.Value.TheVariants.{Int, Text, Blob}
@@ -34,6 +35,16 @@ is_node rel ent kclass label n = nat_eq n.rel rel && (bytes_eq n.ent ent && (nat
 
 abbrev pub is_cell_at : ℕ → ℕ → CellRow → Bool
 is_cell_at rel label c = nat_eq c.rel rel && nat_eq c.label label
+
+-- the label is one of those whose bits are set
+abbrev pub has_bit : ℕ → ℕ → Bool
+has_bit labels label = nat_eq (bit_at labels label) 1
+
+abbrev pub is_node_among : ℕ → ℕ → NodeRow → Bool
+is_node_among rel labels n = nat_eq n.rel rel && has_bit labels n.label
+
+abbrev pub is_cell_among : ℕ → ℕ → CellRow → Bool
+is_cell_among rel labels c = nat_eq c.rel rel && has_bit labels c.label
 
 -- the cells of one tuple's own class
 abbrev pub is_cell_in : ℕ → List ℕ → ℕ → ℕ → CellRow → Bool

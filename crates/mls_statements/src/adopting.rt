@@ -122,8 +122,9 @@ fn read_database<S: Alter>(conn: &mut Connection<S>, alloc: Global) -> Result<Al
     read_at_once(conn, alloc)
 }
 
-/// Every row of nodes, cells and entries of a store that one row describes, read in one transaction. No transaction is begun
-/// afterwards.
+/// Every row of nodes, cells and entries of a store that one row describes, read in one transaction, since
+/// nothing says of a connection outside of one that it shows what it has committed. No transaction is begun
+/// afterwards. Rowids that do not rise are a failure of the store, and not bad rows.
 pub fn read_store<S: Alter>(conn: &mut Connection<S>, alloc: Global) -> Result<AllRows, AdoptFault>
     requires described { HasCleanDisk (state S.Store conn.old)
         → AreRows is_meta_row ((state S.Store conn.old).now.trees 5) }
@@ -191,8 +192,9 @@ fn describe_database<S: Alter>(
     describe_at_once(conn, alloc)
 }
 
-/// The one row that describes a store of the four tables, of version 1 or 2, read in one transaction. No transaction is begun
-/// afterwards.
+/// The one row that describes a store of the four tables, of version 1 or 2, read in a transaction of its own:
+/// texts are judged before rows, and nobody writes between, since the connection keeps the file locked. No
+/// transaction is begun afterwards.
 pub fn read_description<S: Alter>(
     conn: &mut Connection<S>,
     alloc: Global,

@@ -1,17 +1,68 @@
 //! Rows of tables from rows that queries show.
-ghost use Rattle.std.specs.Prelude.{◌≡◌, ◌↔◌, pos, true, map, IfOk, IfErr};
+ghost use Rattle.std.specs.Prelude.{◌≡◌, pos, Bool, true, map, IfOk, IfErr};
 ghost use Rattle.std.specs.List.{AllByRecursion};
-ghost use Rattle.sqlite_value.specs.Order.{column};
+ghost use Rattle.sqlite_value.specs.Order.{Row as SqlRow, column};
 ghost use Rattle.sqlite_trees.specs.View.{is_int};
 ghost use Rattle.sqlite_rules.specs.Edit.{id_in};
 ghost use Rattle.mls_statements.specs.Rows.{nat_in, blob_in, text_in, is_nat, is_blob, is_text, shown_node, shows_node, shown_cell, shows_cell, shown_entry, shows_entry, shown_meta, shows_meta, are_numbered};
 ghost use Rattle.mls_statements.specs.Pattern.{shown_bytes};
-ghost use Rattle.mls_statements.specs.Adopting.{IsNumber, IsInteger, IsBytes, IsText, ReadsNode, ReadsCell, ReadsEntry, ReadsMeta, HaveIds, Refutes, AreRising};
+ghost use Rattle.mls_statements.specs.Adopting.{IsNumber, IsInteger, IsBytes, IsText, ReadsNode, ReadsCell, ReadsEntry, ReadsMeta, Refutes};
 
 use crate::rows::{AuditRow, CellRow, MetaRow, NodeRow};
 use mls_lattice::{Items, Str};
 use sqlite::{Error, Row};
 use std::alloc::Global;
+
+/// What a row of a table stands for, as a query of all its columns shows it.
+pub(crate) trait Shown: Drop {
+    // What a row shows, whether it shows as much, and which rows read.
+    ghost show: { SqlRow → Self };
+
+    ghost shows: { SqlRow → Bool };
+
+    ghost reads: { SqlRow → Type 0 };
+
+    /// What a row shows.
+    fn from_row(row: &Row) -> Result<Self, Error>
+        ensures ok { IfOk result (λ x. (x ≡ show row.now) × (shows row.now ≡ true)) }
+        ensures refused { IfErr result (Refutes (reads row.now)) };
+}
+
+impl Shown for NodeRow {
+    ghost show = { shown_node };
+
+    ghost shows = { shows_node };
+
+    ghost reads = { ReadsNode };
+
+    fn from_row(row: &Row) -> Result<NodeRow, Error> {
+        node_from(row)
+    }
+}
+
+impl Shown for CellRow {
+    ghost show = { shown_cell };
+
+    ghost shows = { shows_cell };
+
+    ghost reads = { ReadsCell };
+
+    fn from_row(row: &Row) -> Result<CellRow, Error> {
+        cell_from(row)
+    }
+}
+
+impl Shown for AuditRow {
+    ghost show = { shown_entry };
+
+    ghost shows = { shows_entry };
+
+    ghost reads = { ReadsEntry };
+
+    fn from_row(row: &Row) -> Result<AuditRow, Error> {
+        entry_from(row)
+    }
+}
 
 fn bytes_at(row: &Row, at: usize) -> Result<Items<u8>, Error>
     ensures ok { IfOk result (λ bytes. (bytes ≡ blob_in (column row.now at)) × (is_blob (column row.now at) ≡ true)) }
@@ -36,7 +87,7 @@ fn number_at(row: &Row, at: usize) -> Result<u32, Error>
     row.get(at)
 }
 
-fn integer_at(row: &Row, at: usize) -> Result<i64, Error>
+pub(crate) fn integer_at(row: &Row, at: usize) -> Result<i64, Error>
     ensures ok { IfOk result (λ n. (n ≡ id_in (column row.now at)) × (is_int (column row.now at) ≡ true)) }
     ensures refused { IfErr result (Refutes (IsInteger (column row.now at))) }
 {
@@ -167,25 +218,6 @@ pub fn meta_from(alloc: Global, rows: &[Row]) -> Result<Vec<MetaRow>, Error>
         found.push(description_from(row)?)?;
     }
     Ok(found)
-}
-
-/// Whether the rowids of rows, which stand at one place, rise.
-pub(crate) fn rowids_rise(rows: &[Row], at: usize) -> Result<bool, Error>
-    ensures rise { IfOk result (λ up. up ≡ true ↔ AreRising at rows.now) }
-    ensures refused { IfErr result (Refutes (HaveIds at rows.now)) }
-{
-    let [first, more @ ..] = rows else {
-        return Ok(true);
-    };
-    let mut last = integer_at(first, at)?;
-    for row in more {
-        let id = integer_at(row, at)?;
-        if id <= last {
-            return Ok(false);
-        }
-        last = id;
-    }
-    Ok(true)
 }
 
 /// Whether the entries have the numbers 1, 2, .. in order.

@@ -1,3 +1,4 @@
+//! The rows of the four tables.
 use mls_lattice::{Items, Str};
 
 /// A row of the table of nodes: a tuple without its values.

@@ -1,3 +1,6 @@
+//! The statements on the four tables, whatever tables follow these. A function makes one call of the engine,
+//! since several in one body cost minutes of proof.
+
 /// The audit list.
 pub mod audit;
 /// The table of cells.
@@ -12,5 +15,7 @@ pub mod meta;
 pub mod node;
 /// The tables that a database has.
 pub mod schema;
+/// Whole tables of nodes and cells, row by row.
+pub(crate) mod streaming;
 /// Whole tables, at an adoption.
 pub mod whole;

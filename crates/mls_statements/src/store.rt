@@ -1,3 +1,4 @@
+//! The four tables over a connection, with the rows of the last commit.
 ghost use Rattle.std.specs.Prelude.{◌≡◌, ◌≢◌, ◌⊎◌, ◌↔◌, ◌+◌, ◌<◌, ◌≤◌, true, false, map, filter, ℕ, List, IsTrue, IfOk, IfErr, OnOk, IsPermutation};
 ghost use Rattle.std.specs.Borrow.{ftrue};
 ghost use Rattle.sqlite.specs.State.{HasCleanDisk};
@@ -5,7 +6,7 @@ ghost use Rattle.sqlite.specs.Held.{state};
 ghost use Rattle.sqlite.specs.declared.error.Error.TheVariants.{SqliteFailure};
 ghost use Rattle.sqlite.specs.declared.error.ErrorCode.TheVariants.{OutOfMemory};
 ghost use Rattle.mls_statements.specs.declared.rows.CellRow.{CellRow as SpecCell};
-ghost use Rattle.mls_statements.specs.Rows.{Tables, tables_of, described, is_node_at, is_node, is_cell_at, is_cell_in, cell_beside};
+ghost use Rattle.mls_statements.specs.Rows.{Tables, tables_of, described, is_node_at, is_node_among, is_node, is_cell_at, is_cell_among, is_cell_in, cell_beside};
 ghost use Rattle.mls_statements.specs.Schema.{no_schema};
 ghost use Rattle.mls_statements.specs.Statements.{IsReady, AddsNode, DropsNode, AddsCells, SetsCell, DropsCells, AddsEntry, ClearsEntries, IsOne, has_key_of, HasSettled};
 ghost use Rattle.mls_statements.specs.Store.{IsClean, IsFault, IsCall, HasFailed, Writes, IsSame, HasEnded};
@@ -55,8 +56,9 @@ impl Failures {
 
 /// The four tables over a connection.
 ///
-/// Contracts see the rows now and as of the last commit, whether a change is begun, whether the disk is clean, and how
-/// many calls of the store have failed. A fault ends the change, and leaves the rows of the last commit.
+/// Contracts see the rows now and as of the last commit, whether a change is begun, whether the disk is clean,
+/// and how many calls of the store have failed. A fault ends the change, and leaves the rows of the last
+/// commit. These are remembered for contracts alone, since a connection that has shut says nothing of them.
 #[derive(Drop)]
 pub struct TableStore<S: Alter> {
     conn: Connection<S>,
@@ -221,7 +223,9 @@ impl<S: Alter> TableStore<S> {
         }
     }
 
-    /// Counts a failure of a store whose disk gave back other rows than were written to it, and ends the change, if one is begun.
+    /// Counts a failure of a store whose disk gave back other rows than were written to it, and ends the
+    /// change, if one is begun. It is for a store that is not clean, so a base has no way to a `Store` of its
+    /// own.
     pub fn condemn(&mut self)
         requires { IsClean self.old → ⊥ }
         ensures clean { IsClean self.new → ⊥ }
@@ -241,7 +245,9 @@ impl<S: Alter> TableStore<S> {
         self.begun
     }
 
-    /// Begins a change.
+    /// Begins a change. That a `Store` has a cause is said of the begin and the ends of a change: a statement
+    /// on rows may also be refused for a constraint, a size or a limit of steps, and that none of these comes
+    /// is not said.
     pub fn begin(&mut self) -> Result<(), StoreFault>
         requires begun { self.old.begun ≡ false }
         ensures call { IsCall self.old self.new result }
@@ -333,6 +339,20 @@ impl<S: Alter> TableStore<S> {
         ensures same { IsClean self.new → OnOk result (IsSame self.old self.new) }
     {
         match node::read_nodes_at(&mut self.conn, self.alloc, rel, label) {
+            Ok(rows) => Ok(rows),
+            Err(error) => Err(fail(&mut self.conn, &mut self.begun, &mut self.failures, error)),
+        }
+    }
+
+    /// The nodes of the labels whose bits are set, in one scan of the table.
+    pub fn nodes_among(&mut self, rel: u32, labels: u64) -> Result<Vec<NodeRow>, StoreFault>
+        ensures call { IsCall self.old self.new result }
+        ensures mode { OnOk result (self.new.begun ≡ self.old.begun) }
+        ensures found { IsClean self.new → IfOk result
+            (λ rows. IsPermutation (filter (is_node_among rel labels) self.old.now.nodes) rows.items) }
+        ensures same { IsClean self.new → OnOk result (IsSame self.old self.new) }
+    {
+        match node::read_nodes_among(&mut self.conn, self.alloc, rel, labels) {
             Ok(rows) => Ok(rows),
             Err(error) => Err(fail(&mut self.conn, &mut self.begun, &mut self.failures, error)),
         }
@@ -440,6 +460,20 @@ impl<S: Alter> TableStore<S> {
         }
     }
 
+    /// The cells of the labels whose bits are set, in one scan of the table.
+    pub fn cells_among(&mut self, rel: u32, labels: u64) -> Result<Vec<CellRow>, StoreFault>
+        ensures call { IsCall self.old self.new result }
+        ensures mode { OnOk result (self.new.begun ≡ self.old.begun) }
+        ensures found { IsClean self.new → IfOk result
+            (λ rows. IsPermutation (filter (is_cell_among rel labels) self.old.now.cells) rows.items) }
+        ensures same { IsClean self.new → OnOk result (IsSame self.old self.new) }
+    {
+        match cell::read_cells_among(&mut self.conn, self.alloc, rel, labels) {
+            Ok(rows) => Ok(rows),
+            Err(error) => Err(fail(&mut self.conn, &mut self.begun, &mut self.failures, error)),
+        }
+    }
+
     /// The cells of one tuple's own class.
     pub fn cells_of(
         &mut self,
@@ -460,7 +494,8 @@ impl<S: Alter> TableStore<S> {
         }
     }
 
-    /// Adds an entry under its number.
+    /// Adds an entry under its number, which is handed in: an opened store is not known to hand out rising
+    /// ones.
     pub fn add_entry(&mut self, entry: &AuditRow) -> Result<(), StoreFault>
         requires begun { self.old.begun ≡ true }
         ensures call { IsCall self.old self.new result }
@@ -486,7 +521,8 @@ impl<S: Alter> TableStore<S> {
         }
     }
 
-    /// Every entry, in any order.
+    /// Every entry, in any order. A base orders them and tests their numbers, which it knows over a clean
+    /// store.
     pub fn entries(&mut self) -> Result<Vec<AuditRow>, StoreFault>
         ensures call { IsCall self.old self.new result }
         ensures mode { OnOk result (self.new.begun ≡ self.old.begun) }

@@ -1,3 +1,5 @@
+-- The definitions of syntax trees: `ExprTree` and `Tree` have the trees, `Spelling` their tokens, `Reading`
+-- says how these are read.
 pub mod ExprTree
 pub mod ExprCode
 pub mod Exprs

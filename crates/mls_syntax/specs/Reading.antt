@@ -1,4 +1,5 @@
--- What a text says as syntax trees, or its first fault.
+-- What a text says as syntax trees, or its first fault: it is read from left to right, so the first that is met
+-- is the first in the text. Reading recurs on the depth: on how many levels may still stand inside.
 use Rattle.std.specs.Prelude.{ℕ, zero, suc, if◌then◌else◌, List, [], ◌∷◌, ◌++◌, codes, Option, Some, None, Result, Ok, Err}
 use Rattle.mls_lattice.specs.Reading.{◌>>=◌}
 use Rattle.mls_scheme.specs.declared.value.Kind.{Kind}

@@ -1,4 +1,4 @@
-//! Statements, and blocks of them.
+//! Statements as they are written, and blocks of them.
 ghost use Rattle.std.specs.Prelude.{◌≡◌};
 ghost use Rattle.mls_syntax.specs.Blocks.{block_of};
 

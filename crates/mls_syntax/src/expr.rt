@@ -1,4 +1,4 @@
-//! Expressions.
+//! Expressions as they are written, with their places.
 ghost use Rattle.std.specs.Prelude.{◌≡◌};
 ghost use Rattle.mls_syntax.specs.ReadCondition.{place_of};
 

@@ -1,3 +1,4 @@
+//! Why the first pass refuses a text, and where.
 ghost use Rattle.std.specs.Prelude.{◌≡◌};
 ghost use Rattle.mls_syntax.specs.declared.fault.SyntaxCause.TheVariants.{Memory};
 ghost use Rattle.mls_syntax.specs.Fault.{lifted};

@@ -1,3 +1,4 @@
+//! Lists of expressions.
 use crate::expr::Expr;
 use mls_lattice::Items;
 

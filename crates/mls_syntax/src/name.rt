@@ -1,3 +1,4 @@
+//! Names as they are written, with their places.
 ghost use Rattle.std.specs.Prelude.{◌≡◌};
 
 use mls_lattice::Str;

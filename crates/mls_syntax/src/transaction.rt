@@ -1,3 +1,4 @@
+//! Transactions as they are written, with their parameters and variables.
 use crate::block::Block;
 use crate::name::Name;
 use mls_lattice::Items;

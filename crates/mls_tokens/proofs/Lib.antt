@@ -11,3 +11,8 @@ pub mod TokensLemmas
 pub mod PassingSteps
 pub mod PassedLemmas
 pub mod NextLemmas
+pub mod EscapingLemmas
+pub mod TableSteps
+pub mod HarmlessLemmas
+pub mod TypingLemmas
+pub mod PieceLemmas

@@ -116,7 +116,7 @@ pub record IsOver (bytes : List ℕ) : Type 0 where
   pub is_gap : IsGap gap
   pub is_last : IsLast last
 
--- the text is these tokens
+-- the text is these tokens: no word of a scan, so that a printed text can be shown to read back
 abbrev pub AreTokens : List Token → List ℕ → Type 0
 AreTokens [] bytes = IsOver bytes
 AreTokens (t ∷ ts) bytes = (rest : List ℕ) × Begins bytes t rest × AreTokens ts rest

@@ -1,3 +1,4 @@
+//! Why a text is refused by its tokens, and where.
 ghost use Rattle.std.specs.Prelude.{◌≡◌};
 ghost use Rattle.mls_tokens.specs.declared.fault.TokenCause.TheVariants.{Memory};
 

@@ -1,4 +1,4 @@
-//! Numbers.
+//! Numbers at the front of bytes: how far one goes, and what it is.
 ghost use Rattle.std.specs.Prelude.{◌≡◌, ◌≤◌, length, IsTrue};
 ghost use Rattle.mls_tokens.specs.Scanning.{Gives, int_in, IsIntText, int_len, starts_int, int_at};
 

@@ -1,4 +1,4 @@
-//! Signs.
+//! Signs: how each is written, and which stands at the front of bytes.
 ghost use Rattle.std.specs.Prelude.{◌≡◌, option_map};
 ghost use Rattle.mls_tokens.specs.Sign.{sign_text, first_sign, sign_at};
 

@@ -1,3 +1,4 @@
+//! Tokens, and tokens with their places.
 ghost use Rattle.std.specs.Prelude.{◌≡◌};
 ghost use Rattle.mls_tokens.specs.Passing.{is_word, is_sign, name_in};
 

@@ -1,3 +1,5 @@
+-- The definitions of transactions: `Tree` and `Tx` have the trees, `Tokens` their texts, and `Tells` says
+-- which a text tells.
 pub mod Tree
 pub mod ExprCode
 pub mod Exprs

@@ -1,4 +1,4 @@
--- Things by name.
+-- Lists of things that are found by name.
 use Rattle.std.specs.Prelude.{Bool, List, String, string_bytes}
 use Rattle.std.specs.List.{list_any}
 use Rattle.std.specs.Str.{bytes_eq}

@@ -34,7 +34,8 @@ TellsEach policy schemes [] ts = ts ≡ []
 TellsEach policy schemes (tx ∷ txs) ts =
     (a r : List Token) × (ts ≡ a ++ r) × TellsTx (outermost policy schemes tx) tx a × TellsEach policy schemes txs r
 
--- the text tells these transactions, which are read under both
+-- the text tells these transactions, which are read under both; only whether an empty other block is written is
+-- left open
 pub record Tells (policy : Tables) (schemes : Schemes) (bytes : List ℕ) (txs : List Tx) : Type 0 where
   pub tokens : List Token
   pub text : AreTokens tokens bytes

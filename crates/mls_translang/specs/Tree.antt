@@ -14,7 +14,7 @@ pub data Expr : Type 0 where
   No : (e : Expr) → Expr
   Op : (op : Operator) (left right : Expr) → Expr
 
--- a write, with its operands
+-- a write, with its operands: one statement for all three, so that inductions are short
 pub data Writing : Type 0 where
   Inserting : (key values : List Expr) → Writing
   Updating : (key : List Expr) (key_class from : ℕ) (sets : List (ℕ × Expr)) → Writing
@@ -27,7 +27,7 @@ pub data Stmt : Type 0 where
   Release : (value : Expr) (to into : ℕ) → Stmt
   Emit : (value : Expr) (label : ℕ) → Stmt
 
--- statements, one after another; a loop's row has a name
+-- statements, each with the rest behind it; a loop's row has a name
 pub data Block : Type 0 where
   End : Block
   Do : (stmt : Stmt) (rest : Block) → Block

@@ -1,4 +1,4 @@
-//! Statements, and blocks of them.
+//! Statements, and blocks of them, with their names as numbers.
 ghost use Rattle.std.specs.Prelude.{◌≡◌, ℕ, ◌<◌, ◌^◌, [], ◌∷◌};
 ghost use Rattle.mls_translang.specs.Tree.{statements, is_end};
 ghost use Rattle.mls_translang.specs.Blocks.{block_of};
@@ -15,7 +15,8 @@ pub struct Block {
     pub stmts: Vec<Stmt>,
 }
 
-/// A statement. Variables are named by their places among the variables, from 0.
+/// A statement. Names are numbers: variables and parameters by their places, from 0; rows by how many loops
+/// stand between; attributes by number, the key first.
 #[derive(Drop)]
 #[cycle(block)]
 pub enum Stmt {

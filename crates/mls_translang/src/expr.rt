@@ -1,4 +1,4 @@
-//! Expressions.
+//! Expressions, with their names as numbers.
 ghost use Rattle.std.specs.Prelude.{◌≡◌};
 
 use crate::operator::Operator;

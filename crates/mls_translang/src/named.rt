@@ -1,4 +1,4 @@
-//! Things by name.
+//! Lists of things that are found by place and by name.
 ghost use Rattle.std.specs.Prelude.{◌≡◌, ◌==◌, ◌<◌, ◌++◌, [], ◌∷◌, false, length, position, slice_get, string_bytes, Some, IfErr, IfSome, OnOk, option_map};
 ghost use Rattle.std.specs.List.{list_any};
 ghost use Rattle.std.specs.Str.{bytes_eq};

@@ -1,3 +1,5 @@
+//! The operators of expressions.
+
 /// What stands between two operands.
 #[derive(Clone, Copy, PartialEq, Eq)]
 pub enum Operator {

@@ -5,9 +5,9 @@ ghost use Rattle.std.specs.List.{AllByRecursion, flat_map};
 ghost use Rattle.mls_tokens.specs.declared.token.Token.TheVariants as token;
 ghost use Rattle.mls_scheme.specs.Scheme.{scheme_of};
 ghost use Rattle.mls_translang.specs.Layout.{puts};
-ghost use Rattle.mls_translang.specs.Tx.{IsOwn};
-ghost use Rattle.mls_translang.specs.Fits.{IsLabel, ExprFits};
-ghost use Rattle.mls_translang.specs.Tree.{Inserting, Updating, Deleting};
+ghost use Rattle.mls_translang.specs.Tx.{IsOwn, StmtIsOwn};
+ghost use Rattle.mls_translang.specs.Fits.{IsLabel, ExprFits, StmtFits};
+ghost use Rattle.mls_translang.specs.Tree.{Write_at, Inserting, Updating, Deleting};
 ghost use Rattle.mls_tokens.specs.Text.{comma_tokens, separated};
 ghost use Rattle.mls_translang.specs.Tokens.{head_tokens, class_tokens, set_tokens, stmt_end, write_end, update_end, write_tokens};
 
@@ -68,13 +68,9 @@ pub(crate) fn insert_to(
     at: LabelNo,
     outcome: Option<u8>,
 ) -> Result<(), AllocError>
-    requires relation { relation < length names.now.schemes }
-    requires at { IsLabel names.now.policy at }
-    requires outcome { IfSome outcome (λ x. x < length names.now.scope.vars) }
-    requires own_key { AllByRecursion (IsOwn names.now.scope) key.now }
-    requires key { AllByRecursion (ExprFits names.now.schemes names.now.scope) key.now }
-    requires own_values { AllByRecursion (IsOwn names.now.scope) values.now }
-    requires values { AllByRecursion (ExprFits names.now.schemes names.now.scope) values.now }
+    requires own { StmtIsOwn names.now.scope (Write_at relation at (Inserting key.now values.now) outcome) }
+    requires fits { StmtFits names.now.policy names.now.schemes names.now.hi names.now.scope
+        (Write_at relation at (Inserting key.now values.now) outcome) }
     ensures { OnOk result (out.new ≡ puts out.old
         (write_tokens names.now relation at outcome (Inserting key.now values.now))) }
 {
@@ -95,12 +91,9 @@ pub(crate) fn delete_to(
     at: LabelNo,
     outcome: Option<u8>,
 ) -> Result<(), AllocError>
-    requires relation { relation < length names.now.schemes }
-    requires key_class { IsLabel names.now.policy key_class }
-    requires at { IsLabel names.now.policy at }
-    requires outcome { IfSome outcome (λ x. x < length names.now.scope.vars) }
-    requires own_key { AllByRecursion (IsOwn names.now.scope) key.now }
-    requires key { AllByRecursion (ExprFits names.now.schemes names.now.scope) key.now }
+    requires own { StmtIsOwn names.now.scope (Write_at relation at (Deleting key.now key_class) outcome) }
+    requires fits { StmtFits names.now.policy names.now.schemes names.now.hi names.now.scope
+        (Write_at relation at (Deleting key.now key_class) outcome) }
     ensures { OnOk result (out.new ≡ puts out.old
         (write_tokens names.now relation at outcome (Deleting key.now key_class))) }
 {
@@ -223,16 +216,9 @@ pub(crate) fn update_to(
     sets: &[(u8, Expr)],
     outcome: Option<u8>,
 ) -> Result<(), AllocError>
-    requires relation { relation < length names.now.schemes }
-    requires key_class { IsLabel names.now.policy classes.0 }
-    requires from { IsLabel names.now.policy classes.1 }
-    requires at { IsLabel names.now.policy classes.2 }
-    requires outcome { IfSome outcome (λ x. x < length names.now.scope.vars) }
-    requires own_key { AllByRecursion (IsOwn names.now.scope) key.now }
-    requires key { AllByRecursion (ExprFits names.now.schemes names.now.scope) key.now }
-    requires own_sets { AllByRecursion (λ x. IsOwn names.now.scope x.1) sets.now }
-    requires sets { AllByRecursion (λ x. (x.0 < length (scheme_of names.now.schemes relation).others)
-        × ExprFits names.now.schemes names.now.scope x.1) sets.now }
+    requires own { StmtIsOwn names.now.scope (Write_at relation classes.2 (Updating key.now classes.0 classes.1 sets.now) outcome) }
+    requires fits { StmtFits names.now.policy names.now.schemes names.now.hi names.now.scope
+        (Write_at relation classes.2 (Updating key.now classes.0 classes.1 sets.now) outcome) }
     ensures { OnOk result (out.new ≡ puts out.old
         (write_tokens names.now relation classes.2 outcome (Updating key.now classes.0 classes.1 sets.now))) }
 {

@@ -1,3 +1,4 @@
+//! The rows of loops, one inside another.
 ghost use Rattle.std.specs.Prelude.{◌≡◌, ◌∷◌, IfOk};
 
 use mls_lattice::Str;

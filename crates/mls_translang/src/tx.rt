@@ -1,4 +1,4 @@
-//! Transactions.
+//! Transactions, and what each keeps to.
 ghost use Rattle.std.specs.Prelude.{◌≡◌};
 ghost use Rattle.mls_translang.specs.Tree.{statements};
 ghost use Rattle.mls_translang.specs.Tx.{IsTx};
@@ -16,7 +16,9 @@ pub struct Parameter {
     pub label: LabelNo,
 }
 
-/// A transaction: what it is called, the labels that it runs between, its parameters, its variables and its statements.
+/// A transaction: what it is called, the labels that it runs between, its parameters, its variables and its
+/// statements. That its numbers are of its own lists is its invariant; what rests on policy or schemes is
+/// `IsReadUnder`.
 #[derive(Drop)]
 pub struct Tx {
     name: Str,

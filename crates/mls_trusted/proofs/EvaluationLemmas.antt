@@ -11,11 +11,11 @@ use Rattle.mls_scheme.specs.Scheme.{Schemes, scheme_of}
 use Rattle.mls_filterview.specs.Content.{State, begun_change, committed}
 use Rattle.mls_translang.specs.Tx.{Tx, IsTx}
 use Rattle.mls_translang.specs.Fits.{IsReadUnder}
-use Rattle.mls_meaning.specs.declared.run.Run.{Run}
-use Rattle.mls_meaning.specs.Meaning.{Item, start, run_tx}
-use Rattle.mls_meaning.specs.Laws.{ArgsFit, IsItem}
-use Rattle.mls_meaning.proofs.KindLemmas.{null_kinds}
-use Rattle.mls_meaning.proofs.LawLemmas.{arg_kind}
+use Rattle.mls_certcheck.specs.declared.run.Run.{Run}
+use Rattle.mls_certcheck.specs.Meaning.{Item, start, run_tx}
+use Rattle.mls_certcheck.specs.MeaningLaws.{ArgsFit, IsItem}
+use Rattle.mls_certcheck.proofs.KindLemmas.{null_kinds}
+use Rattle.mls_certcheck.proofs.MeaningLemmas.{arg_kind}
 use Rattle.mls_trusted.specs.declared.call.Call.{Call}
 use Rattle.mls_trusted.specs.declared.frame.Frame.{Frame}
 use Rattle.mls_trusted.specs.Runs.{with_database, IsEvaluated, HasItems}

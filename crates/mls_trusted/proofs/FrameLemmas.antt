@@ -5,12 +5,12 @@ use Rattle.mls_lattice.specs.Labels.{below}
 use Rattle.mls_lattice.specs.Policy.{labels_of}
 use Rattle.mls_scheme.specs.Table.{Database}
 use Rattle.mls_translang.specs.Tx.{scope_of}
-use Rattle.mls_meaning.specs.Kinds.{VarsFit}
-use Rattle.mls_meaning.specs.Laws.{IsItem}
-use Rattle.mls_meaning.specs.Meaning.{Variables}
+use Rattle.mls_certcheck.specs.Kinds.{VarsFit}
+use Rattle.mls_certcheck.specs.MeaningLaws.{IsItem}
+use Rattle.mls_certcheck.specs.Meaning.{Variables}
 use Rattle.mls_translang.specs.Tree.{Block}
-use Rattle.mls_meaning.proofs.KindLemmas.{EnvironmentFits}
-use Rattle.mls_views.specs.Views.{Kept}
+use Rattle.mls_certcheck.proofs.KindLemmas.{EnvironmentFits}
+use Rattle.mls_queries.specs.Views.{Kept}
 use Rattle.mls_trusted.specs.declared.call.Call.{Call}
 use Rattle.mls_trusted.specs.declared.frame.Frame.{Frame}
 use Rattle.mls_trusted.specs.Frames.{around_of, progress_of, env_in, inside, MayRun, HasVars, IsFrame}

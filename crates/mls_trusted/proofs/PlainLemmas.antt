@@ -10,11 +10,11 @@ use Rattle.mls_scheme.specs.Value.{fits_kind}
 use Rattle.mls_translang.specs.Tree.{Expr, Assign, Release, Emit, Block, Do, End}
 use Rattle.mls_translang.specs.Kinds.{HasKind, Assigns}
 use Rattle.mls_translang.specs.Tx.{scope_of}
-use Rattle.mls_meaning.specs.Expressions.{value_in}
-use Rattle.mls_meaning.specs.Kinds.{VarsFit}
-use Rattle.mls_meaning.specs.Laws.{IsItem}
-use Rattle.mls_meaning.specs.Meaning.{set_var, perform, run_block}
-use Rattle.mls_meaning.proofs.KindLemmas.{set_kind, value_kind, assigned}
+use Rattle.mls_certcheck.specs.Expressions.{value_in}
+use Rattle.mls_certcheck.specs.Kinds.{VarsFit}
+use Rattle.mls_certcheck.specs.MeaningLaws.{IsItem}
+use Rattle.mls_certcheck.specs.Meaning.{set_var, perform, run_block}
+use Rattle.mls_certcheck.proofs.KindLemmas.{set_kind, value_kind, assigned}
 use Rattle.mls_trusted.specs.declared.call.Call.{Call}
 use Rattle.mls_trusted.specs.declared.frame.Frame.{Frame}
 use Rattle.mls_trusted.specs.Frames.{around_of, vars_of, progress_of, env_in, inside, MayRun, run_of, IsFrame, HasVars, IsStep}

@@ -20,10 +20,10 @@ use Rattle.mls_translang.specs.Blocks.{block_of}
 use Rattle.mls_translang.specs.Scope.{Scope}
 use Rattle.mls_translang.specs.Kinds.{BlockKinds}
 use Rattle.mls_translang.proofs.BlockLemmas.{own_more, fits_more}
-use Rattle.mls_meaning.specs.Expressions.{holds_in}
-use Rattle.mls_meaning.specs.Kinds.{RowKinds}
-use Rattle.mls_meaning.specs.Meaning.{Progress, for_each, run_block}
-use Rattle.mls_views.specs.Views.{Kept, AreViews}
+use Rattle.mls_certcheck.specs.Expressions.{holds_in}
+use Rattle.mls_certcheck.specs.Kinds.{RowKinds}
+use Rattle.mls_certcheck.specs.Meaning.{Progress, for_each, run_block}
+use Rattle.mls_queries.specs.Views.{Kept, AreViews}
 use Rattle.mls_trusted.specs.declared.call.Call.{Call}
 use Rattle.mls_trusted.specs.declared.frame.Frame.{Frame}
 use Rattle.mls_trusted.specs.Runs.{with_database}

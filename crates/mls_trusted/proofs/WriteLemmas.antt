@@ -1,20 +1,20 @@
 -- Writes of a run.
-use Rattle.std.proofs.Common.{◌≡◌, ℕ, true, length, Option, sym, ap, ◌∙◌, subst}
+use Rattle.std.proofs.Common.{◌≡◌, ℕ, ◌<◌, true, length, Option, sym, ap, ◌∙◌, subst}
 use Rattle.mls_lattice.specs.Policy.{labels_of}
 use Rattle.mls_scheme.specs.Scheme.{scheme_of}
 use Rattle.mls_filterview.specs.Content.{State}
 use Rattle.mls_filterview.specs.Stored.{IsContent, AreContent}
 use Rattle.mls_updates.specs.declared.outcome.Outcome.{Outcome}
-use Rattle.mls_updates.specs.Writes.{Write, WriteFits, WriteKinds, write}
+use Rattle.mls_updates.specs.Writes.{Write, WriteFits, WriteKinds, write, named}
 use Rattle.mls_updates.specs.Calls.{IsWritten}
 use Rattle.mls_updates.proofs.StateLemmas.{table_of}
 use Rattle.mls_translang.specs.Tree.{Block, Writing, Do, Write_at, End}
 use Rattle.mls_translang.specs.Tx.{scope_of}
-use Rattle.mls_meaning.specs.Meaning.{set_outcome, write_in, perform, run_block}
-use Rattle.mls_meaning.proofs.KeepingLemmas.{table_holds, write_fits}
-use Rattle.mls_meaning.proofs.KindLemmas.{write_kinds, outcome_kind}
-use Rattle.mls_views.specs.Views.{AreViews, left_by}
-use Rattle.mls_views.proofs.WrittenLemmas.{kept_written}
+use Rattle.mls_certcheck.specs.Meaning.{set_outcome, write_in, perform, run_block}
+use Rattle.mls_certcheck.proofs.KeepingLemmas.{table_holds, write_fits}
+use Rattle.mls_certcheck.proofs.KindLemmas.{write_kinds, outcome_kind}
+use Rattle.mls_queries.specs.Views.{AreViews, AreLeftBy}
+use Rattle.mls_queries.proofs.WrittenLemmas.{kept_written}
 use Rattle.mls_trusted.specs.declared.call.Call.{Call}
 use Rattle.mls_trusted.specs.declared.frame.Frame.{Frame}
 use Rattle.mls_trusted.specs.Runs.{with_database}
@@ -36,7 +36,8 @@ module _ (call : Call) (f : Frame) (rel w : ℕ) (writing : Writing) (outcome : 
       (back : is_clean c → is_clean a) (begun : (state c).begun ≡ true)
       (done : is_clean c → IsWritten (labels_of call.policy.now) (scheme_of call.schemes.now rel) rel w (write_in (env_in call.args.now f) writing) (state a) (state c) o)
       (kept : is_clean c → IsContent (labels_of call.policy.now) (scheme_of call.schemes.now rel) ((state c).now.db rel))
-      (v : HasVars (set_outcome outcome o (vars_of f)) (left_by (labels_of call.policy.now) rel w o f.views) f g) where
+      (v : HasVars (set_outcome outcome o (vars_of f)) g.views f g) (within : (named w (write_in (env_in call.args.now f) writing)).key_class < length call.policy.now.labels)
+      (left : AreLeftBy (labels_of call.policy.now) rel w (named w (write_in (env_in call.args.now f) writing)) o f.views g.views) where
     content : is_clean c → AreContent (labels_of call.policy.now) call.schemes.now (state c).now.db
     content k =
         let ls = labels_of call.policy.now in
@@ -57,8 +58,7 @@ module _ (call : Call) (f : Frame) (rel w : ℕ) (writing : Writing) (outcome : 
     views =
         let ls = labels_of call.policy.now in
         let scheme = scheme_of call.schemes.now rel in
-        subst (AreViews call.policy.now is_clean state c) (sym v.views)
-        (kept_written call.policy.now is_clean state scheme (length scheme.others) rel w (write_in (env_in call.args.now f) writing) a c o f.views back (λ k. (h.content (back k) rel).stored) done h.views)
+        kept_written call.policy.now is_clean state scheme (length scheme.others) rel w (write_in (env_in call.args.now f) writing) a c o f.views g.views back (λ k. (h.content (back k) rel).stored) done within h.views left
 
     -- a write that was made, and its outcome kept
     run_write : IsRun call is_clean state (run_of call block (around_of f)) a c f g
@@ -67,7 +67,7 @@ module _ (call : Call) (f : Frame) (rel w : ℕ) (writing : Writing) (outcome : 
         under = h.under;
         begun = begun;
         content = content;
-        frame = vars_frame call (set_outcome outcome o (vars_of f)) (left_by (labels_of call.policy.now) rel w o f.views) f g v h.frame
+        frame = vars_frame call (set_outcome outcome o (vars_of f)) g.views f g v h.frame
             (outcome_kind (scope_of call.tx.now) outcome o (vars_of f) m.kinds.0.1 h.frame.vars);
         views = views;
       };
@@ -87,10 +87,11 @@ module _ (call : Call) (f : Frame) (rel w : ℕ) (writing : Writing) (outcome : 
       → IsReady call is_clean state a f → MayRun call (around_of f) block → (is_clean c → is_clean b) → (state c).begun ≡ true
       → (is_clean c → IsWritten (labels_of call.policy.now) (scheme_of call.schemes.now rel) rel w wr (state b) (state c) o)
       → (is_clean c → IsContent (labels_of call.policy.now) (scheme_of call.schemes.now rel) ((state c).now.db rel))
-      → HasVars (set_outcome outcome o (vars_of f)) (left_by (labels_of call.policy.now) rel w o f.views) f g → IsRun call is_clean state (run_of call block (around_of f)) a c f g
-  run_written is_clean state a b c g o wr same is h m back begun done kept v =
+      → HasVars (set_outcome outcome o (vars_of f)) g.views f g → (named w wr).key_class < length call.policy.now.labels → AreLeftBy (labels_of call.policy.now) rel w (named w wr) o f.views g.views
+      → IsRun call is_clean state (run_of call block (around_of f)) a c f g
+  run_written is_clean state a b c g o wr same is h m back begun done kept v within left =
       let ls = labels_of call.policy.now in
       let scheme = scheme_of call.schemes.now rel in
       run_write is_clean state a c g o h m (λ k. subst is_clean same (back k)) begun
       (λ k. subst (λ x. IsWritten ls scheme rel w (write_in (env_in call.args.now f) writing) (state x) (state c) o) same (subst (λ y. IsWritten ls scheme rel w y (state b) (state c) o) is (done k)))
-      kept v
+      kept v (subst (λ y. (named w y).key_class < length call.policy.now.labels) is within) (subst (λ y. AreLeftBy ls rel w (named w y) o f.views g.views) is left)

@@ -16,11 +16,11 @@ use Rattle.mls_translang.specs.Scope.{Scope}
 use Rattle.mls_translang.specs.Tx.{scope_of, BlockIsOwn}
 use Rattle.mls_translang.specs.Kinds.{BlockKinds}
 use Rattle.mls_translang.specs.Fits.{IsLabel, BlockFits}
-use Rattle.mls_meaning.specs.Expressions.{Environment}
-use Rattle.mls_meaning.specs.Meaning.{Variables, Progress, for_each, run_block}
-use Rattle.mls_meaning.specs.Kinds.{RowKinds, VarsFit, AroundFits}
-use Rattle.mls_meaning.specs.Laws.{IsItem}
-use Rattle.mls_views.specs.Views.{Kept, AreViews}
+use Rattle.mls_certcheck.specs.Expressions.{Environment}
+use Rattle.mls_certcheck.specs.Meaning.{Variables, Progress, for_each, run_block}
+use Rattle.mls_certcheck.specs.Kinds.{RowKinds, VarsFit, AroundFits}
+use Rattle.mls_certcheck.specs.MeaningLaws.{IsItem}
+use Rattle.mls_queries.specs.Views.{Kept, AreViews}
 use Rattle.mls_trusted.specs.declared.call.Call.{Call}
 use Rattle.mls_trusted.specs.declared.frame.Frame.{Frame}
 use Rattle.mls_trusted.specs.Runs.{with_database}
@@ -109,6 +109,13 @@ module _ (call : Call) where
       pub content : is_clean base → AreContent labels call.schemes.now (state base).now.db
       pub frame : IsFrame f
       pub views : AreViews call.policy.now is_clean state base f.views
+
+    -- a declared label looks at a relation, with views that are kept
+    pub record MayLook (rel c : ℕ) (kept : Kept) (base : B) : Type 0 where
+      pub label : c < length call.policy.now.labels
+      pub relation : rel < length call.schemes.now
+      pub content : is_clean base → AreContent labels call.schemes.now (state base).now.db
+      pub views : AreViews call.policy.now is_clean state base kept
 
     -- a part of a run: all but the database stays
     pub record IsRun (run : Progress → Progress) (old new : B) (f g : Frame) : Type 0 where

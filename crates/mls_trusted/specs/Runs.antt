@@ -1,12 +1,19 @@
 -- What evaluations promise.
-use Rattle.std.specs.Prelude.{◌≡◌}
+use Rattle.std.specs.Prelude.{◌≡◌, true, List, length, Option, Result, IfOk, OnOk}
 use Rattle.std.specs.List.{AllByRecursion}
-use Rattle.mls_lattice.specs.Policy.{Tables}
+use Rattle.mls_lattice.specs.Policy.{Tables, labels_of}
+use Rattle.mls_scheme.specs.declared.value.Value.{Value}
+use Rattle.mls_scheme.specs.Scheme.{Schemes, AreUnder}
 use Rattle.mls_scheme.specs.Table.{Database}
+use Rattle.mls_filterview.specs.declared.base.BaseFault.{BaseFault}
 use Rattle.mls_filterview.specs.Content.{State}
-use Rattle.mls_meaning.specs.declared.run.Run.{Run}
-use Rattle.mls_meaning.specs.Meaning.{Progress}
-use Rattle.mls_meaning.specs.Laws.{IsItem}
+use Rattle.mls_filterview.specs.Stored.{AreContent}
+use Rattle.mls_translang.specs.Tx.{Tx}
+use Rattle.mls_translang.specs.Fits.{IsReadUnder}
+use Rattle.mls_certcheck.specs.declared.run.Run.{Run}
+use Rattle.mls_certcheck.specs.Meaning.{Progress, run_tx}
+use Rattle.mls_certcheck.specs.MeaningLaws.{IsItem, ArgsFit}
+use Rattle.mls_queries.specs.Views.{Kept, AreViews}
 
 -- another database: the audit list, the content at the last commit and whether a change is begun stay
 abbrev pub with_database : State → Database → State
@@ -22,3 +29,25 @@ pub record IsEvaluated (p : Progress) (left new : State) (r : Run) : Type 0 wher
 pub record HasItems (policy : Tables) (r : Run) : Type 0 where
   pub emitted : AllByRecursion (IsItem policy) r.emitted
   pub released : AllByRecursion (IsItem policy) r.released
+
+-- ---- calls of a transaction with these arguments
+
+module _ {Self : Type 0} (is_clean : Self → Type 0) (state : Self → State) (policy : Tables) (schemes : Schemes) (tx : Tx) (given : List (Option Value)) where
+  -- what may be called: a transaction that was read for these schemes, an argument for each parameter, content of the stored form
+  pub record MayCall (base : Self) : Type 0 where
+    pub under : AreUnder (length policy.labels) schemes
+    pub read : IsReadUnder policy schemes tx
+    pub args : ArgsFit tx given
+    pub content : is_clean base → AreContent (labels_of policy) schemes (state base).now.db
+
+  -- inside a change, with views that are kept
+  pub record MayCallInside (kept : Kept) (base : Self) : Type 0 where
+    pub call : MayCall base
+    pub begun : (state base).begun ≡ true
+    pub views : AreViews policy is_clean state base kept
+
+  -- what a call does, and then finish: what is emitted, released and left is what the transaction means
+  pub record IsCalled (finish : State → State) (old new : Self) (result : Result Run BaseFault) : Type 0 where
+    pub items : IfOk result (HasItems policy)
+    pub done : is_clean new → let run = run_tx (labels_of policy) schemes tx given (state old).now.db in IfOk result (IsEvaluated run (finish (with_database (state old) run.db)) (state new))
+    pub content : is_clean new → OnOk result (AreContent (labels_of policy) schemes (state new).now.db)

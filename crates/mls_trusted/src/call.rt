@@ -1,3 +1,4 @@
+//! What a call is of, and under what it runs.
 use mls_lattice::Policy;
 use mls_scheme::{Schemes, Value};
 use mls_translang::Tx;

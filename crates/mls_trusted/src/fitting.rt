@@ -1,23 +1,23 @@
 //! Rows of a view, of the kinds of their relation.
-ghost use Rattle.std.specs.Prelude.{◌≡◌, ◌↔◌, ◌<◌, ◌+◌, true, length, IsTrue, IfOk, IfErr, OnOk};
+ghost use Rattle.std.specs.Prelude.{◌≡◌, ◌↔◌, ◌+◌, length, IsTrue, IfOk};
 ghost use Rattle.std.specs.List.{AllByRecursion};
 ghost use Rattle.mls_lattice.specs.Policy.{labels_of};
 ghost use Rattle.mls_scheme.specs.Scheme.{scheme_of};
-ghost use Rattle.mls_filterview.specs.Calls.{IsCall, IsServed};
-ghost use Rattle.mls_filterview.specs.Stored.{AreContent};
+ghost use Rattle.mls_filterview.specs.Calls.{IsRead};
 ghost use Rattle.mls_filterview.specs.View.{rows};
 ghost use Rattle.mls_translang.specs.Kinds.{field_of};
-ghost use Rattle.mls_meaning.specs.Expressions.{value_of};
-ghost use Rattle.mls_meaning.specs.Kinds.{RowKinds};
-ghost use Rattle.mls_views.specs.Views.{AreViews};
+ghost use Rattle.mls_certcheck.specs.Expressions.{value_of};
+ghost use Rattle.mls_certcheck.specs.Kinds.{RowKinds};
+ghost use Rattle.mls_queries.specs.Views.{AreViews};
 ghost use Rattle.mls_trusted.specs.Data.{datum_of};
+ghost use Rattle.mls_trusted.specs.Frames.{MayLook};
 
 use crate::call::Call;
 use crate::environment::cell;
 use mls_filterview::{Base, BaseFault, SharedView};
 use mls_lattice::LabelNo;
+use mls_queries::Views;
 use mls_scheme::{Kind, RelNo, Scheme, Tuple};
-use mls_views::Views;
 
 /// The kind of an attribute by number, the key first; past the last one it is that of numbers.
 fn kind_of(scheme: &Scheme, attribute: usize) -> Kind
@@ -66,8 +66,9 @@ fn are_of_kinds(scheme: &Scheme, rows: &[Tuple]) -> bool
     true
 }
 
-/// What a level sees of a relation, from the views that are kept where it is among them. Only a store that does not give back what was
-/// written to it can give values of other kinds: then there are no rows.
+/// What a level sees of a relation, from the views that are kept where it is among them. Only a store that does
+/// not give back what was written to it can give values of other kinds: then there are no rows, so the kinds of
+/// what a call writes hold over every store.
 pub(crate) fn rows_at<B: Base>(
     call: &Call<'_>,
     base: &mut B,
@@ -75,19 +76,11 @@ pub(crate) fn rows_at<B: Base>(
     relation: RelNo,
     label: LabelNo,
 ) -> Result<SharedView, BaseFault>
-    requires label { label < length call.now.policy.now.labels }
-    requires relation { relation < length call.now.schemes.now }
-    requires begun { (B.state base.old).begun ≡ true }
-    requires content { B.is_clean base.old → AreContent (labels_of call.now.policy.now) call.now.schemes.now
-        (B.state base.old).now.db }
-    requires views { AreViews call.now.policy.now B.is_clean B.state base.old views.old }
-    ensures call { IsCall B.is_clean B.failures B.state base.old base.new result }
-    ensures served { IfErr result IsServed }
-    ensures mode { OnOk result ((B.state base.new).begun ≡ true) }
+    requires { MayLook call.now B.is_clean B.state relation label views.old base.old }
+    ensures read { IsRead B.is_clean B.failures B.state base.old base.new result }
     ensures kinds { IfOk result (λ v. AllByRecursion (RowKinds (scheme_of call.now.schemes.now relation)) v) }
     ensures rows { B.is_clean base.new → IfOk result (λ v. v ≡ rows (labels_of call.now.policy.now) label
         ((B.state base.old).now.db relation)) }
-    ensures same { B.is_clean base.new → OnOk result (B.state base.new ≡ B.state base.old) }
     ensures views { AreViews call.now.policy.now B.is_clean B.state base.new views.new }
 {
     // That the labels of a policy are distinct.

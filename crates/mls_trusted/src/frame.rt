@@ -3,19 +3,20 @@ ghost use Rattle.std.specs.Prelude.{◌≡◌, ◌<◌, ◌++◌, ◌∷◌, [],
 ghost use Rattle.mls_lattice.specs.Policy.{labels_of};
 ghost use Rattle.mls_scheme.specs.Table.{Database};
 ghost use Rattle.mls_scheme.specs.declared.tuple.Tuple.{Tuple as Row};
-ghost use Rattle.mls_meaning.specs.Meaning.{set_outcome, set_var, start};
-ghost use Rattle.mls_views.specs.Views.{AreDeclared, left_by};
+ghost use Rattle.mls_certcheck.specs.Meaning.{set_outcome, set_var, start};
+ghost use Rattle.mls_updates.specs.Writes.{place};
+ghost use Rattle.mls_queries.specs.Views.{AreDeclared, AreLeftBy};
 ghost use Rattle.mls_trusted.specs.Data.{env_of};
 ghost use Rattle.mls_trusted.specs.Frames.{vars_of, progress_of, env_in, IsFrame, HasVars};
 
 use crate::call::Call;
 use crate::environment::Environment;
+use mls_certcheck::Run;
 use mls_filterview::SharedTuple;
-use mls_lattice::{Items, LabelNo, Policy};
-use mls_meaning::Run;
+use mls_lattice::{Items, LabelNo};
+use mls_queries::Views;
 use mls_scheme::{RelNo, Value};
 use mls_updates::Outcome;
-use mls_views::Views;
 use std::alloc::{AllocError, Global};
 
 /// Variables and items of a call, the rows of the loops that it is in, and the views that are kept.
@@ -91,22 +92,34 @@ impl Frame {
         }
     }
 
-    /// Keeps what a write of a relation at a label came to: its outcome, and of the views those that it can't have changed.
+    /// Keeps what a write of an entity of a relation at a label came to: its outcome, and what it leaves of the views.
     pub fn wrote(
         &mut self,
-        policy: &Policy,
+        call: &Call<'_>,
         relation: RelNo,
         at: LabelNo,
+        key: &[Option<Value>],
+        key_class: LabelNo,
         variable: Option<u8>,
         outcome: Outcome,
     )
-        requires at { at < length policy.now.labels }
+        requires at { at < length call.now.policy.now.labels }
+        requires key_class { key_class < length call.now.policy.now.labels }
         requires variable { IfSome variable (λ x. x < length self.old.vars.items) }
-        requires declared { AreDeclared (length policy.now.labels) self.old.views }
-        ensures { HasVars (set_outcome variable outcome (vars_of self.old))
-            (left_by (labels_of policy.now) relation at outcome self.old.views) self.old self.new }
+        requires declared { AreDeclared (length call.now.policy.now.labels) self.old.views }
+        ensures vars { HasVars (set_outcome variable outcome (vars_of self.old)) self.new.views self.old self.new }
+        ensures views { AreLeftBy (labels_of call.now.policy.now) relation at (place key.now key_class at) outcome
+            self.old.views self.new.views }
     {
-        self.views.follow(policy, relation, at, outcome);
+        self.views.follow(
+            call.alloc,
+            call.policy,
+            relation,
+            at,
+            key,
+            key_class,
+            outcome,
+        );
         self.set_outcome(variable, outcome);
     }
 

@@ -14,4 +14,4 @@ mod plain;
 mod write;
 
 pub use evaluation::{evaluate, evaluate_in};
-pub use mls_meaning::Run;
+pub use mls_certcheck::Run;

@@ -1,7 +1,7 @@
 //! Values of expressions, copied.
 ghost use Rattle.std.specs.Prelude.{◌≡◌, map, IfOk};
-ghost use Rattle.mls_meaning.specs.Expressions.{value_in};
-ghost use Rattle.mls_meaning.specs.Meaning.{values_set};
+ghost use Rattle.mls_certcheck.specs.Expressions.{value_in};
+ghost use Rattle.mls_certcheck.specs.Meaning.{values_set};
 ghost use Rattle.mls_trusted.specs.Data.{env_of};
 
 use crate::environment::Environment;

@@ -2,8 +2,8 @@
 ghost use Rattle.std.specs.Prelude.{◌≡◌, map, IfOk, IfErr, OnOk};
 ghost use Rattle.mls_filterview.specs.Calls.{IsCall, IsServed};
 ghost use Rattle.mls_translang.specs.Tree.{Do, Write_at, Inserting, Updating, Deleting, End};
-ghost use Rattle.mls_meaning.specs.Expressions.{value_in};
-ghost use Rattle.mls_meaning.specs.Meaning.{values_set};
+ghost use Rattle.mls_certcheck.specs.Expressions.{value_in};
+ghost use Rattle.mls_certcheck.specs.Meaning.{values_set};
 ghost use Rattle.mls_trusted.specs.Frames.{around_of, env_in, MayRun, run_of, IsReady, IsRun};
 
 use crate::call::Call;
@@ -87,7 +87,7 @@ pub(crate) fn insert_at<B: Base>(
     } = *call;
     let (key, values) = made(base, insert_operands(call, frame, key, values))?;
     let done = insert(alloc, base, policy, schemes, relation, at, &key, &values)?;
-    frame.wrote(policy, relation, at, outcome, done);
+    frame.wrote(call, relation, at, &key, at, outcome, done);
     Ok(())
 }
 
@@ -123,7 +123,7 @@ pub(crate) fn update_at<B: Base>(
     let done = update(
         alloc, base, policy, schemes, relation, at, &key, key_class, from, &sets,
     )?;
-    frame.wrote(policy, relation, at, outcome, done);
+    frame.wrote(call, relation, at, &key, key_class, outcome, done);
     Ok(())
 }
 
@@ -155,6 +155,6 @@ pub(crate) fn delete_at<B: Base>(
     } = *call;
     let key = made(base, delete_operands(call, frame, key))?;
     let done = delete(alloc, base, policy, schemes, relation, at, &key, key_class)?;
-    frame.wrote(policy, relation, at, outcome, done);
+    frame.wrote(call, relation, at, &key, key_class, outcome, done);
     Ok(())
 }

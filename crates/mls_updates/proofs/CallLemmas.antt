@@ -1,6 +1,8 @@
 -- What a call leaves is what the definition of its write says.
-use Rattle.std.proofs.Common.{◌≡◌, ℕ, zero, suc, ◌<◌, arith, List, [], ◌∷◌, length, Option, None, refl, sym, ap, ◌∙◌, subst}
+use Rattle.std.proofs.Common.{◌≡◌, ℕ, true, zero, suc, ◌<◌, arith, List, [], ◌∷◌, length, Option, None, refl, sym, ap, ◌∙◌, subst}
+use Rattle.std.proofs.lemmas.Bool.{true≢false}
 use Rattle.std.proofs.lemmas.List.{length-map, get_or-map}
+use Rattle.std.proofs.lemmas.Result.{on_ok_weaker}
 use Rattle.mls_lattice.specs.Labels.{Labels, AreDistinct}
 use Rattle.mls_scheme.specs.declared.value.Value.{Value}
 use Rattle.mls_scheme.specs.declared.tuple.Element.{Element}
@@ -11,7 +13,7 @@ use Rattle.std.specs.Prelude.{◌≤◌, Result, Ok, Err, IfErr}
 use Rattle.std.specs.Result.{IsErrOf}
 use Rattle.mls_filterview.specs.declared.base.BaseFault.{BaseFault}
 use Rattle.mls_filterview.specs.declared.base.BaseFault.TheVariants.{NotBegun, Begun}
-use Rattle.mls_filterview.specs.Calls.{begun_after, IsCall, IsFault, IsServed}
+use Rattle.mls_filterview.specs.Calls.{begun_after, IsCall, IsChange, IsFault, IsServed, IsStep}
 use Rattle.mls_filterview.specs.Content.{State, after}
 use Rattle.mls_filterview.specs.Stored.{IsContent}
 use Rattle.mls_filterview.specs.declared.fragment.Node.{Node}
@@ -62,15 +64,34 @@ written_content ls distinct scheme rel w wr s t o fits kinds content h =
 
 -- ---- faults of the store or of memory
 
-pub served_not_begun : {A : Type 0} (r : Result A BaseFault) → IfErr r IsServed → IsErrOf r NotBegun → ⊥
+served_not_begun : {A : Type 0} (r : Result A BaseFault) → IfErr r IsServed → IsErrOf r NotBegun → ⊥
 served_not_begun r h e = (subst (λ x. IfErr x IsServed) e h).0 refl
 
-pub served_no_other : {A : Type 0} (r : Result A BaseFault) → IfErr r IsServed → IsErrOf r Begun → ⊥
+served_no_other : {A : Type 0} (r : Result A BaseFault) → IfErr r IsServed → IsErrOf r Begun → ⊥
 served_no_other r h e = (subst (λ x. IfErr x IsServed) e h).1 refl
 
-pub served_from : {A : Type 0} (r : Result A BaseFault) → (IsErrOf r NotBegun → ⊥) → (IsErrOf r Begun → ⊥) → IfErr r IsServed
+served_from : {A : Type 0} (r : Result A BaseFault) → (IsErrOf r NotBegun → ⊥) → (IsErrOf r Begun → ⊥) → IfErr r IsServed
 served_from (Ok x) n o = tt
 served_from (Err e) n o = (λ h. n (ap Err h), λ h. o (ap Err h))
+
+-- where a change is begun
+module _ {Self : Type 0} (is_clean : Self → Type 0) (failures : Self → ℕ) (state : Self → State) {A : Type 0} (old new : Self) (r : Result A BaseFault) (begun : (state old).begun ≡ true) where
+  -- a call that belongs into it is a step of it
+  pub change_step : IsChange is_clean failures state (state old).begun old new r → IsStep is_clean failures state old new r
+  change_step c = record {
+    call = c.call;
+    served = served_from r (λ e. true≢false (sym begun ∙ c.not_begun.0 e)) c.no_other;
+    mode = on_ok_weaker r (λ m. m ∙ begun) c.mode;
+  }
+
+  -- and a step is such a call
+  pub step_change : IsStep is_clean failures state old new r → IsChange is_clean failures state true old new r
+  step_change c = record {
+    call = c.call;
+    not_begun = (λ e. absurd (served_not_begun r c.served e), λ b. absurd (true≢false (sym begun ∙ b)));
+    no_other = served_no_other r c.served;
+    mode = c.mode;
+  }
 
 -- a call after one that left the state as it was
 module _ {Self : Type 0} (is_clean : Self → Type 0) (failures : Self → ℕ) (state : Self → State) {A : Type 0} (old mid new : Self) (mode : (state mid).begun ≡ (state old).begun) (same : is_clean mid → state mid ≡ state old) where

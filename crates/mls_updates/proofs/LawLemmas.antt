@@ -1,11 +1,12 @@
 -- The laws of writes, from their lemmas.
 use Rattle.std.proofs.Common.{◌≡◌, sym, ap, ◌∙◌}
 use Rattle.mls_filterview.proofs.LevelLemmas.{low_from_views, views_from_low}
-use Rattle.mls_updates.specs.Laws.{WritesKeepForm, WritesKeepContent, HighWritesLeaveLow, HighWritesAreUnseen, LowWritesUseLow, LowWritesSeeLow}
+use Rattle.mls_updates.specs.Laws.{WritesKeepForm, WritesKeepContent, HighWritesLeaveLow, HighWritesAreUnseen, LowWritesUseLow, LowWritesSeeLow, WritesChangeOneEntity}
 use Rattle.mls_updates.specs.Writes.{write}
 use Rattle.mls_updates.proofs.LowWriteLemmas.{low_written, write-low, write-high}
 use Rattle.mls_updates.proofs.KeptLemmas.{write-stored}
 use Rattle.mls_updates.proofs.FittingLemmas.{write-content}
+use Rattle.mls_updates.proofs.EntityLemmas.{other_entities}
 
 pub keep_form : WritesKeepForm
 keep_form ls distinct scheme n w T stored wr fits = write-stored ls distinct scheme n w T stored wr fits
@@ -30,3 +31,6 @@ low_see_low ls distinct scheme n c w S T s t wr fits h views =
       ap (λ r. r.outcome) both,
       views_from_low ls n n _ _ (write-stored ls distinct scheme n w S s wr fits) (write-stored ls distinct scheme n w T t wr fits) c (ap (λ r. r.table) both),
     )
+
+pub change_one_entity : WritesChangeOneEntity
+change_one_entity ls scheme w T wr q out = other_entities ls scheme w T wr q out

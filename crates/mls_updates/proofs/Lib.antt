@@ -20,3 +20,4 @@ pub mod SpellingLemmas
 pub mod LeftLemmas
 pub mod DecidingLemmas
 pub mod LoopLemmas
+pub mod EntityLemmas

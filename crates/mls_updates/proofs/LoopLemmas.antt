@@ -16,33 +16,33 @@ numbered_more f F step front xs i d l =
     ∙ ap (λ k. front ++ f i (get_or xs i d) ∷ F k (drop (i + 1) xs)) n
     ∙ ap (λ ys. front ++ ys) (sym (ap (F i) (drop_more xs i d l) ∙ step i (get_or xs i d) (drop (i + 1) xs)))
 
--- of the rows of a relation and a label, where r is the next row
-module _ (rel label : ℕ) (rows : List Row) (i : ℕ) (r : Row) (within : i < length rows) (is : r ≡ get_or rows i r) where
+-- of the rows of a relation and some labels, where r is the next row
+module _ (rel : ℕ) (labels : List ℕ) (rows : List Row) (i : ℕ) (r : Row) (within : i < length rows) (is : r ≡ get_or rows i r) where
   here : List Row
-  here = filter (is_of rel label) (take i rows)
+  here = filter (is_of rel labels) (take i rows)
 
-  row_more : filter (is_of rel label) (take (i + 1) rows) ≡ here ++ cond (is_of rel label r) (r ∷ []) []
+  row_more : filter (is_of rel labels) (take (i + 1) rows) ≡ here ++ cond (is_of rel labels r) (r ∷ []) []
   unfolding here
-  row_more = filter_more (is_of rel label) rows i r within ∙ ap (λ s. here ++ cond (is_of rel label s) (s ∷ []) []) (sym is)
+  row_more = filter_more (is_of rel labels) rows i r within ∙ ap (λ s. here ++ cond (is_of rel labels s) (s ∷ []) []) (sym is)
 
-  row_in : is_of rel label r ≡ true → filter (is_of rel label) (take (i + 1) rows) ≡ here ++ r ∷ []
+  row_in : is_of rel labels r ≡ true → filter (is_of rel labels) (take (i + 1) rows) ≡ here ++ r ∷ []
   row_in b = row_more ∙ ap (λ t. here ++ cond t (r ∷ []) []) b
 
-  row_out : is_of rel label r ≡ false → filter (is_of rel label) (take (i + 1) rows) ≡ here
+  row_out : is_of rel labels r ≡ false → filter (is_of rel labels) (take (i + 1) rows) ≡ here
   row_out b = row_more ∙ ap (λ t. here ++ cond t (r ∷ []) []) b ∙ append-nil here
 
-  pub node_in : is_of rel label r ≡ true → nodes_of rel label (take i rows) ++ node_of (entry_of r) ∷ [] ≡ nodes_of rel label (take (i + 1) rows)
+  pub node_in : is_of rel labels r ≡ true → nodes_of rel labels (take i rows) ++ node_of (entry_of r) ∷ [] ≡ nodes_of rel labels (take (i + 1) rows)
   unfolding here
   node_in b = sym (ap (map (λ s. node_of (entry_of s))) (row_in b) ∙ map-append (λ s. node_of (entry_of s)) here (r ∷ []))
 
-  pub node_out : is_of rel label r ≡ false → nodes_of rel label (take i rows) ≡ nodes_of rel label (take (i + 1) rows)
+  pub node_out : is_of rel labels r ≡ false → nodes_of rel labels (take i rows) ≡ nodes_of rel labels (take (i + 1) rows)
   unfolding here
   node_out b = sym (ap (map (λ s. node_of (entry_of s))) (row_out b))
 
-  pub cells_more : is_of rel label r ≡ true → cells_in rel label (take i rows) ++ cells_of (entry_of r) ≡ cells_in rel label (take (i + 1) rows)
+  pub cells_more : is_of rel labels r ≡ true → cells_in rel labels (take i rows) ++ cells_of (entry_of r) ≡ cells_in rel labels (take (i + 1) rows)
   unfolding here
   cells_more b = flat_map_more (λ s. cells_of (entry_of s)) [] here r ∙ sym (ap (flat_map (λ s. cells_of (entry_of s))) (row_in b))
 
-  pub cells_out : is_of rel label r ≡ false → cells_in rel label (take i rows) ≡ cells_in rel label (take (i + 1) rows)
+  pub cells_out : is_of rel labels r ≡ false → cells_in rel labels (take i rows) ≡ cells_in rel labels (take (i + 1) rows)
   unfolding here
   cells_out b = sym (ap (flat_map (λ s. cells_of (entry_of s))) (row_out b))

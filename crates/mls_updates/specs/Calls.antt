@@ -1,17 +1,20 @@
 -- What the three calls promise.
-use Rattle.std.specs.Prelude.{◌≡◌, ℕ, ◌&&◌, not, if◌then◌else◌, List, [], Option, None}
+use Rattle.std.specs.Prelude.{◌≡◌, ℕ, ◌<◌, ◌&&◌, not, if◌then◌else◌, List, [], length, Option, None}
+use Rattle.std.specs.List.{AllByRecursion}
 use Rattle.std.specs.Option.{option_map, unwrap_or}
 use Rattle.std.specs.FinMap.{get, insert, retain_keys}
 use Rattle.mls_lattice.specs.Labels.{Labels, below}
 use Rattle.mls_scheme.specs.declared.value.Value.{Value}
 use Rattle.mls_scheme.specs.declared.place.Place.{Place}
-use Rattle.mls_scheme.specs.Scheme.{Scheme}
+use Rattle.mls_lattice.specs.Policy.{Tables, labels_of}
+use Rattle.mls_scheme.specs.Scheme.{Scheme, Schemes, scheme_of, AreUnder}
+use Rattle.mls_scheme.specs.Fits.{HaveKinds}
 use Rattle.mls_scheme.specs.Table.{change}
 use Rattle.mls_filterview.specs.Content.{State, with_relation}
 use Rattle.mls_updates.specs.declared.outcome.Outcome.{Outcome}
-use Rattle.mls_filterview.specs.Stored.{with_class}
+use Rattle.mls_filterview.specs.Stored.{with_class, IsContent}
 use Rattle.mls_filterview.specs.Fragment.{classes}
-use Rattle.mls_updates.specs.Writes.{Sets, Write, Written, written, write, first_refusal, root_refusals, drop_refusals, own_refusals, below_refusals, root, derived, update_in, is_above}
+use Rattle.mls_updates.specs.Writes.{Key, Sets, Write, Insert, Update, WriteKinds, Written, written, write, first_refusal, root_refusals, drop_refusals, own_refusals, below_refusals, root, derived, update_in, is_above}
 
 -- from s, a call answered o and left t: the outcome and the table of a relation are these
 pub record IsLeft (rel : ℕ) (written : Written) (s t : State) (o : Outcome) : Type 0 where
@@ -47,3 +50,32 @@ IsDerived ls scheme rel p from sets s =
 abbrev pub classes_below : Labels → (rel : ℕ) → Place → ℕ → State → Option (List ℕ)
 classes_below ls rel p from s =
     if below ls p.key_class from && below ls from p.class then option_map classes (get (s.now.db rel) (with_class p from)) else None
+
+-- ---- what a write at w of a relation may be asked of: declared labels, attributes of their kinds, and stored content
+
+module _ {Self : Type 0} (is_clean : Self → Type 0) (state : Self → State) (base : Self) (policy : Tables) (schemes : Schemes) (rel w : ℕ) where
+  pub record CanInsert (key : Key) (values : List (Option Value)) : Type 0 where
+    pub label : w < length policy.labels
+    pub relation : rel < length schemes
+    pub under : AreUnder (length policy.labels) schemes
+    pub kinds : WriteKinds (scheme_of schemes rel) (Insert key values)
+    pub stored : is_clean base → IsContent (labels_of policy) (scheme_of schemes rel) ((state base).now.db rel)
+
+  pub record CanUpdate (k : Key) (kc m : ℕ) (sets : Sets) : Type 0 where
+    pub label : w < length policy.labels
+    pub key_class : kc < length policy.labels
+    pub from : m < length policy.labels
+    pub relation : rel < length schemes
+    pub under : AreUnder (length policy.labels) schemes
+    pub named : 0 < length sets
+    pub fits : AllByRecursion (λ s. s.0 < length (scheme_of schemes rel).others) sets
+    pub key : HaveKinds (scheme_of schemes rel).keys k
+    pub kinds : WriteKinds (scheme_of schemes rel) (Update k kc m sets)
+    pub stored : is_clean base → IsContent (labels_of policy) (scheme_of schemes rel) ((state base).now.db rel)
+
+  pub record CanDelete (k : Key) (kc : ℕ) : Type 0 where
+    pub label : w < length policy.labels
+    pub key_class : kc < length policy.labels
+    pub relation : rel < length schemes
+    pub key : HaveKinds (scheme_of schemes rel).keys k
+    pub stored : is_clean base → IsContent (labels_of policy) (scheme_of schemes rel) ((state base).now.db rel)

@@ -6,7 +6,8 @@ use Rattle.mls_scheme.specs.Table.{Table, IsIn}
 use Rattle.mls_scheme.specs.Scheme.{Scheme}
 use Rattle.mls_filterview.specs.View.{View, low}
 use Rattle.mls_filterview.specs.Stored.{IsStored, IsContent}
-use Rattle.mls_updates.specs.Writes.{Write, WriteFits, WriteKinds, write}
+use Rattle.mls_filterview.specs.Entities.{AgreeOutside}
+use Rattle.mls_updates.specs.Writes.{Write, WriteFits, WriteKinds, write, named}
 
 -- a write keeps the stored form
 abbrev pub WritesKeepForm : Type 0
@@ -47,3 +48,8 @@ LowWritesSeeLow =
     → ((t : Tuple) → View ls (IsIn S) c t ↔ View ls (IsIn T) c t)
     → ((write ls scheme w wr S).outcome ≡ (write ls scheme w wr T).outcome)
     × ((t : Tuple) → View ls (IsIn (write ls scheme w wr S).table) c t ↔ View ls (IsIn (write ls scheme w wr T).table) c t)
+
+-- a write leaves the tuples of all entities but the one that it names
+abbrev pub WritesChangeOneEntity : Type 0
+WritesChangeOneEntity =
+    (ls : Labels) (scheme : Scheme) (w : ℕ) (T : Table) (wr : Write) → AgreeOutside (named w wr) T (write ls scheme w wr T).table

@@ -1,3 +1,5 @@
+-- The definitions of writes: `Writes` says what each does, `Calls` what the code promises, and `Laws` what
+-- follows.
 pub mod Outcome
 pub mod Writes
 pub mod Laws

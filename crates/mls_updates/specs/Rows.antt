@@ -2,7 +2,7 @@
 use Rattle.std.specs.Prelude.{◌≡◌, ℕ, Bool, not, ◌&&◌, if◌then◌else◌, nat_eq, List, [], ◌∷◌, map, Option, Some, None}
 use Rattle.std.specs.Ordering.{eq_by_cmp}
 use Rattle.std.specs.Option.{unwrap_or}
-use Rattle.std.specs.List.{filter, flat_map}
+use Rattle.std.specs.List.{filter, flat_map, list_any}
 use Rattle.std.specs.FinMap.{from_entries}
 use Rattle.mls_scheme.specs.declared.value.Value.{Value}
 use Rattle.mls_scheme.specs.declared.tuple.Element.{Element}
@@ -45,16 +45,16 @@ abbrev pub HavePlaces : List Row → Type 0
 HavePlaces [] = Unit {0}
 HavePlaces (r ∷ rs) = (found_at r.rel r.place rs ≡ None) × HavePlaces rs
 
--- ---- what one label holds
+-- ---- what labels hold
 
-abbrev pub is_of : ℕ → ℕ → Row → Bool
-is_of rel label r = nat_eq r.rel rel && nat_eq r.place.class label
+abbrev pub is_of : ℕ → List ℕ → Row → Bool
+is_of rel labels r = nat_eq r.rel rel && list_any (λ m. nat_eq r.place.class m) labels
 
-abbrev pub nodes_of : ℕ → ℕ → List Row → List Node
-nodes_of rel label rows = map (λ r. node_of (entry_of r)) (filter (is_of rel label) rows)
+abbrev pub nodes_of : ℕ → List ℕ → List Row → List Node
+nodes_of rel labels rows = map (λ r. node_of (entry_of r)) (filter (is_of rel labels) rows)
 
-abbrev pub cells_in : ℕ → ℕ → List Row → List Cell
-cells_in rel label rows = flat_map (λ r. cells_of (entry_of r)) (filter (is_of rel label) rows)
+abbrev pub cells_in : ℕ → List ℕ → List Row → List Cell
+cells_in rel labels rows = flat_map (λ r. cells_of (entry_of r)) (filter (is_of rel labels) rows)
 
 -- ---- one tuple put together
 

@@ -160,6 +160,12 @@ write ls scheme w (Insert key values) T = insert_row ls scheme w key values T
 write ls scheme w (Update key key_class from sets) T = update_row ls scheme w key key_class from sets T
 write ls scheme w (Delete key key_class) T = delete_row ls scheme w key key_class T
 
+-- the place of class w of the entity that a write names
+abbrev pub named : ℕ → Write → Place
+named w (Insert key values) = place key w w
+named w (Update key key_class from sets) = place key key_class w
+named w (Delete key key_class) = place key key_class w
+
 -- ---- what a write must fit
 
 -- a relation with n attributes outside its key, and a declared label; an update names at least one attribute

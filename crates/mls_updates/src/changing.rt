@@ -1,12 +1,13 @@
 //! Elements of an entity changed at their class.
-ghost use Rattle.std.specs.Prelude.{◌≡◌, ◌<◌, List, true, length, IfOk, IfErr, IfSome, OnOk, Some};
+ghost use Rattle.std.specs.Prelude.{◌≡◌, ◌<◌, List, length, IfOk, IfSome, Some};
 ghost use Rattle.std.specs.List.{AllByRecursion};
 ghost use Rattle.std.specs.FinMap.{get};
 ghost use Rattle.mls_lattice.specs.Policy.{labels_of};
 ghost use Rattle.mls_scheme.specs.Scheme.{Scheme};
-ghost use Rattle.mls_scheme.specs.Spelling.{HasSpelling, IsSpelledKey};
+ghost use Rattle.mls_scheme.specs.Spelling.{HasSpelling};
 ghost use Rattle.mls_scheme.specs.declared.tuple.Element.{Element as SpecElement};
-ghost use Rattle.mls_filterview.specs.Calls.{IsCall, IsServed};
+ghost use Rattle.mls_filterview.specs.Calls.{IsStep};
+ghost use Rattle.mls_updates.specs.Steps.{IsBegunAt};
 ghost use Rattle.mls_updates.specs.Calls.{IsChanged};
 
 use crate::deciding::own_outcome;
@@ -24,16 +25,11 @@ pub(crate) fn update_own<B: Base>(
     place: &Place,
     sets: &[(usize, Option<Value>)],
 ) -> Result<Outcome, BaseFault>
-    requires class { place.now.class < length policy.now.labels }
-    requires key_class { place.now.key_class < length policy.now.labels }
-    requires begun { (B.state base.old).begun ≡ true }
-    requires key { IsSpelledKey place.now.key }
+    requires at { IsBegunAt B.state base.old (length policy.now.labels) place.now }
     requires sets { AllByRecursion (λ s. (s.0 < 15) × IfSome s.1 HasSpelling) sets.now }
     requires fits { B.is_clean base.old → (es : List SpecElement)
         → get ((B.state base.old).now.db rel) place.now ≡ Some es → AllByRecursion (λ s. s.0 < length es) sets.now }
-    ensures call { IsCall B.is_clean B.failures B.state base.old base.new result }
-    ensures served { IfErr result IsServed }
-    ensures mode { OnOk result ((B.state base.new).begun ≡ true) }
+    ensures step { IsStep B.is_clean B.failures B.state base.old base.new result }
     ensures done { B.is_clean base.new → IfOk result (λ o. (scheme : Scheme)
         → IsChanged (labels_of policy.now) scheme rel place.now sets.now (B.state base.old) (B.state base.new) o) }
 {

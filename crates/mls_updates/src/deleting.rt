@@ -1,15 +1,14 @@
 //! Tuples of an entity removed.
-ghost use Rattle.std.specs.Prelude.{◌≡◌, ◌<◌, ◌↔◌, ℕ, true, false, not, length, IfOk, IfErr, IsErrOf, OnOk};
+ghost use Rattle.std.specs.Prelude.{◌≡◌, ℕ, true, not, length, IfOk, OnOk};
 ghost use Rattle.std.specs.FinMap.{retain_keys};
 ghost use Rattle.mls_lattice.specs.Policy.{labels_of};
 ghost use Rattle.mls_scheme.specs.Scheme.{Scheme as SpecScheme, scheme_of};
-ghost use Rattle.mls_scheme.specs.Fits.{HaveKinds};
-ghost use Rattle.mls_scheme.specs.Spelling.{IsSpelledKey};
-ghost use Rattle.mls_filterview.specs.Calls.{IsCall, IsServed};
+ghost use Rattle.mls_filterview.specs.Calls.{IsStep, IsChange};
 ghost use Rattle.mls_filterview.specs.Content.{with_relation};
 ghost use Rattle.mls_filterview.specs.Stored.{IsStored, IsContent};
 ghost use Rattle.mls_updates.specs.Writes.{Delete, is_above};
-ghost use Rattle.mls_updates.specs.Calls.{IsDeleted, IsWritten};
+ghost use Rattle.mls_updates.specs.Steps.{IsBegunAt};
+ghost use Rattle.mls_updates.specs.Calls.{CanDelete, IsDeleted, IsWritten};
 
 use crate::deciding::drop_outcome;
 use crate::dropping::drop_each;
@@ -30,14 +29,10 @@ fn drop_above<B: Base>(
     rel: RelNo,
     place: Place,
 ) -> Result<(), BaseFault>
-    requires class { place.class < length policy.now.labels }
-    requires begun { (B.state base.old).begun ≡ true }
-    requires key { IsSpelledKey place.key }
+    requires at { IsBegunAt B.state base.old (length policy.now.labels) place }
     requires stored { B.is_clean base.old → (n : ℕ)
         × IsStored (labels_of policy.now) n ((B.state base.old).now.db rel) }
-    ensures call { IsCall B.is_clean B.failures B.state base.old base.new result }
-    ensures served { IfErr result IsServed }
-    ensures mode { OnOk result ((B.state base.new).begun ≡ true) }
+    ensures step { IsStep B.is_clean B.failures B.state base.old base.new result }
     ensures done { B.is_clean base.new → OnOk result (B.state base.new
         ≡ with_relation (B.state base.old) rel
         (retain_keys ((B.state base.old).now.db rel) (λ q. not (is_above (labels_of policy.now) place q)))) }
@@ -54,15 +49,10 @@ fn delete_at<B: Base>(
     rel: RelNo,
     place: Place,
 ) -> Result<Outcome, BaseFault>
-    requires class { place.class < length policy.now.labels }
-    requires key_class { place.key_class < length policy.now.labels }
-    requires begun { (B.state base.old).begun ≡ true }
-    requires key { IsSpelledKey place.key }
+    requires at { IsBegunAt B.state base.old (length policy.now.labels) place }
     requires stored { B.is_clean base.old → (n : ℕ)
         × IsStored (labels_of policy.now) n ((B.state base.old).now.db rel) }
-    ensures call { IsCall B.is_clean B.failures B.state base.old base.new result }
-    ensures served { IfErr result IsServed }
-    ensures mode { OnOk result ((B.state base.new).begun ≡ true) }
+    ensures step { IsStep B.is_clean B.failures B.state base.old base.new result }
     ensures done { B.is_clean base.new → IfOk result (λ o. (scheme : SpecScheme)
         → IsDeleted (labels_of policy.now) scheme rel place (B.state base.old) (B.state base.new) o) }
 {
@@ -75,7 +65,8 @@ fn delete_at<B: Base>(
     Ok(outcome)
 }
 
-/// Removes the entity's tuple of class `w` and each of its tuples whose class dominates `w`, inside a change.
+/// Removes the entity's tuple of class `w` and each of its tuples whose class dominates `w`, inside a change:
+/// from the highest class down, since `drop_at` asks that no other tuple has one of the cells.
 ///
 /// `NotBegun` comes before any outcome. After `Store` or `Memory` the change has ended.
 pub fn delete<B: Base>(
@@ -88,16 +79,8 @@ pub fn delete<B: Base>(
     key: &[Option<Value>],
     key_class: LabelNo,
 ) -> Result<Outcome, BaseFault>
-    requires label { w < length policy.now.labels }
-    requires key_class { key_class < length policy.now.labels }
-    requires relation { rel < length schemes.now }
-    requires key { HaveKinds (scheme_of schemes.now rel).keys key.now }
-    requires stored { B.is_clean base.old → IsContent (labels_of policy.now) (scheme_of schemes.now rel)
-        ((B.state base.old).now.db rel) }
-    ensures call { IsCall B.is_clean B.failures B.state base.old base.new result }
-    ensures not_begun { (result ≡ Err BaseFault.NotBegun) ↔ ((B.state base.old).begun ≡ false) }
-    ensures no_other { IsErrOf result BaseFault.Begun → ⊥ }
-    ensures mode { OnOk result ((B.state base.new).begun ≡ true) }
+    requires { CanDelete B.is_clean B.state base.old policy.now schemes.now rel w key.now key_class }
+    ensures change { IsChange B.is_clean B.failures B.state true base.old base.new result }
     ensures done { B.is_clean base.new → IfOk result
         (IsWritten (labels_of policy.now) (scheme_of schemes.now rel) rel w (Delete key.now key_class)
         (B.state base.old) (B.state base.new)) }

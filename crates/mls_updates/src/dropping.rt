@@ -1,9 +1,9 @@
 //! Tuples of an entity removed one after another.
-ghost use Rattle.std.specs.Prelude.{◌≡◌, true, IfErr, OnOk};
+ghost use Rattle.std.specs.Prelude.{◌≡◌, true, OnOk};
 ghost use Rattle.std.specs.FinMap.{remove};
 ghost use Rattle.mls_scheme.specs.Spelling.{IsSpelledKey};
 ghost use Rattle.mls_filterview.specs.Content.{with_relation};
-ghost use Rattle.mls_filterview.specs.Calls.{IsCall, IsServed};
+ghost use Rattle.mls_filterview.specs.Calls.{IsStep};
 ghost use Rattle.mls_filterview.specs.Fragment.{IsAlone};
 ghost use Rattle.mls_updates.specs.Steps.{drop_each, AreAlone};
 
@@ -17,9 +17,7 @@ fn drop_one<B: Base>(base: &mut B, rel: RelNo, place: &Place) -> Result<(), Base
     requires begun { (B.state base.old).begun ≡ true }
     requires key { IsSpelledKey place.now.key }
     requires alone { B.is_clean base.old → IsAlone ((B.state base.old).now.db rel) place.now }
-    ensures call { IsCall B.is_clean B.failures B.state base.old base.new result }
-    ensures served { IfErr result IsServed }
-    ensures mode { OnOk result ((B.state base.new).begun ≡ true) }
+    ensures step { IsStep B.is_clean B.failures B.state base.old base.new result }
     ensures done { B.is_clean base.new → OnOk result (B.state base.new
         ≡ with_relation (B.state base.old) rel (remove ((B.state base.old).now.db rel) place.now)) }
 {
@@ -39,9 +37,7 @@ pub(crate) fn drop_each<B: Base>(
     requires begun { (B.state base.old).begun ≡ true }
     requires key { IsSpelledKey place.key }
     requires alone { B.is_clean base.old → AreAlone place classes.now ((B.state base.old).now.db rel) }
-    ensures call { IsCall B.is_clean B.failures B.state base.old base.new result }
-    ensures served { IfErr result IsServed }
-    ensures mode { OnOk result ((B.state base.new).begun ≡ true) }
+    ensures step { IsStep B.is_clean B.failures B.state base.old base.new result }
     ensures done { B.is_clean base.new → OnOk result (B.state base.new
         ≡ with_relation (B.state base.old) rel (drop_each place classes.now ((B.state base.old).now.db rel))) }
 {

@@ -1,13 +1,14 @@
 //! The first tuple of an entity.
-ghost use Rattle.std.specs.Prelude.{◌≡◌, ◌<◌, ◌↔◌, true, false, length, IfOk, IfErr, IfSome, IsErrOf, OnOk};
+ghost use Rattle.std.specs.Prelude.{true, length, IfOk, IfSome, OnOk};
 ghost use Rattle.std.specs.List.{AllByRecursion};
 ghost use Rattle.mls_lattice.specs.Policy.{labels_of};
-ghost use Rattle.mls_scheme.specs.Scheme.{scheme_of, IsUnder, AreUnder};
-ghost use Rattle.mls_scheme.specs.Spelling.{HasSpelling, IsSpelledKey};
-ghost use Rattle.mls_filterview.specs.Calls.{IsCall, IsServed};
+ghost use Rattle.mls_scheme.specs.Scheme.{scheme_of, IsUnder};
+ghost use Rattle.mls_scheme.specs.Spelling.{HasSpelling};
+ghost use Rattle.mls_filterview.specs.Calls.{IsStep, IsChange};
 ghost use Rattle.mls_filterview.specs.Stored.{IsContent};
-ghost use Rattle.mls_updates.specs.Writes.{Insert, WriteKinds};
-ghost use Rattle.mls_updates.specs.Calls.{IsInserted, IsWritten};
+ghost use Rattle.mls_updates.specs.Writes.{Insert};
+ghost use Rattle.mls_updates.specs.Steps.{IsBegunAt};
+ghost use Rattle.mls_updates.specs.Calls.{CanInsert, IsInserted, IsWritten};
 
 use crate::deciding::root_outcome;
 use crate::finding::has_tuple;
@@ -29,14 +30,10 @@ fn insert_at<B: Base>(
     place: Place,
     values: &[Option<Value>],
 ) -> Result<Outcome, BaseFault>
-    requires class { place.class < length policy.now.labels }
+    requires at { IsBegunAt B.state base.old (length policy.now.labels) place }
     requires under { IsUnder (length policy.now.labels) scheme.now }
-    requires begun { (B.state base.old).begun ≡ true }
-    requires key { IsSpelledKey place.key }
     requires values { AllByRecursion (λ v. IfSome v HasSpelling) values.now }
-    ensures call { IsCall B.is_clean B.failures B.state base.old base.new result }
-    ensures served { IfErr result IsServed }
-    ensures mode { OnOk result ((B.state base.new).begun ≡ true) }
+    ensures step { IsStep B.is_clean B.failures B.state base.old base.new result }
     ensures done { B.is_clean base.new → IfOk result
         (IsInserted (labels_of policy.now) scheme.now rel place values.now (B.state base.old) (B.state base.new)) }
 {
@@ -62,16 +59,8 @@ pub fn insert<B: Base>(
     key: &[Option<Value>],
     values: &[Option<Value>],
 ) -> Result<Outcome, BaseFault>
-    requires label { w < length policy.now.labels }
-    requires relation { rel < length schemes.now }
-    requires under { AreUnder (length policy.now.labels) schemes.now }
-    requires kinds { WriteKinds (scheme_of schemes.now rel) (Insert key.now values.now) }
-    requires stored { B.is_clean base.old → IsContent (labels_of policy.now) (scheme_of schemes.now rel)
-        ((B.state base.old).now.db rel) }
-    ensures call { IsCall B.is_clean B.failures B.state base.old base.new result }
-    ensures not_begun { (result ≡ Err BaseFault.NotBegun) ↔ ((B.state base.old).begun ≡ false) }
-    ensures no_other { IsErrOf result BaseFault.Begun → ⊥ }
-    ensures mode { OnOk result ((B.state base.new).begun ≡ true) }
+    requires { CanInsert B.is_clean B.state base.old policy.now schemes.now rel w key.now values.now }
+    ensures change { IsChange B.is_clean B.failures B.state true base.old base.new result }
     ensures done { B.is_clean base.new → IfOk result
         (IsWritten (labels_of policy.now) (scheme_of schemes.now rel) rel w (Insert key.now values.now)
         (B.state base.old) (B.state base.new)) }

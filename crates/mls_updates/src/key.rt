@@ -28,8 +28,8 @@ fn values_of(alloc: Global, key: &[Option<Value>]) -> Result<Vec<Value>, AllocEr
     Ok(values)
 }
 
-/// The place of the tuple of a class.
-pub(crate) fn place_of(
+/// The place of the tuple of a class, of the entity that a write names.
+pub fn place_of(
     alloc: Global,
     key: &[Option<Value>],
     key_class: LabelNo,

@@ -1,5 +1,5 @@
 //! The laws of writes, each the contract of a function.
-ghost use Rattle.mls_updates.specs.Laws.{WritesKeepForm, WritesKeepContent, HighWritesLeaveLow, LowWritesUseLow, HighWritesAreUnseen, LowWritesSeeLow};
+ghost use Rattle.mls_updates.specs.Laws.{WritesKeepForm, WritesKeepContent, HighWritesLeaveLow, LowWritesUseLow, HighWritesAreUnseen, LowWritesSeeLow, WritesChangeOneEntity};
 
 /// Each write keeps the stored form.
 pub fn writes_keep_form()
@@ -29,4 +29,9 @@ pub fn high_writes_are_unseen()
 /// What a write at a label that a level dominates does depends on the level's view alone.
 pub fn low_writes_see_low()
     ensures { LowWritesSeeLow }
+{}
+
+/// A write leaves the stored tuples of all entities but the one that it names.
+pub fn writes_change_one_entity()
+    ensures { WritesChangeOneEntity }
 {}

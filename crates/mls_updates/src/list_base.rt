@@ -10,6 +10,7 @@ use mls_scheme::{Place, RelNo, Value};
 use std::alloc::Global;
 
 /// A base that keeps whole tuples and entries in lists, and at a change those of the last commit beside them.
+/// They are copied when the change begins, so commit and rollback take no memory.
 ///
 /// Its calls answer no `Store`.
 #[derive(Drop)]
@@ -85,7 +86,14 @@ impl Base for ListBase {
     }
 
     fn fragment(&mut self, rel: RelNo, label: LabelNo) -> Result<Fragment, BaseFault> {
-        match self.held.rows.fragment(self.alloc, rel, label) {
+        match self.held.rows.fragments(self.alloc, rel, &[label]) {
+            Ok(fragment) => Ok(fragment),
+            Err(_) => Err(self.fail()),
+        }
+    }
+
+    fn fragments(&mut self, rel: RelNo, labels: &[LabelNo]) -> Result<Fragment, BaseFault> {
+        match self.held.rows.fragments(self.alloc, rel, labels) {
             Ok(fragment) => Ok(fragment),
             Err(_) => Err(self.fail()),
         }

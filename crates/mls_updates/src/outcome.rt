@@ -1,3 +1,4 @@
+//! What becomes of writes.
 ghost use Rattle.std.specs.Prelude.{◌≡◌};
 ghost use Rattle.mls_updates.specs.Outcome.{is_done, code_of, word_of};
 

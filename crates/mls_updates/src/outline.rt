@@ -1,13 +1,11 @@
 //! A new tuple of an update: its classes, and the values of its own class.
-ghost use Rattle.std.specs.Prelude.{◌≡◌, List, true, IfOk, IfErr, IfSome, OnOk, None};
-ghost use Rattle.std.specs.List.{AllByRecursion};
+ghost use Rattle.std.specs.Prelude.{◌≡◌, List, IfOk, OnOk, None};
 ghost use Rattle.std.specs.FinMap.{get, insert};
-ghost use Rattle.mls_scheme.specs.Spelling.{HasSpelling, IsSpelledKey};
 ghost use Rattle.mls_scheme.specs.declared.tuple.Element.{Element as SpecElement};
 ghost use Rattle.mls_filterview.specs.Content.{with_relation};
-ghost use Rattle.mls_filterview.specs.Calls.{IsCall, IsServed};
+ghost use Rattle.mls_filterview.specs.Calls.{IsStep};
 ghost use Rattle.mls_filterview.specs.Fragment.{IsMadeOf, node_of, cells_of};
-ghost use Rattle.mls_updates.specs.Steps.{outline};
+ghost use Rattle.mls_updates.specs.Steps.{outline, CanAddRow};
 ghost use Rattle.mls_updates.specs.Writes.{set_element};
 
 use crate::adding::add_row;
@@ -79,16 +77,8 @@ pub(crate) fn add_outline<B: Base>(
     sets: &[(usize, Option<Value>)],
     pattern: &[LabelNo],
 ) -> Result<(), BaseFault>
-    requires begun { (B.state base.old).begun ≡ true }
-    requires key { IsSpelledKey place.key }
-    requires values { AllByRecursion (λ s. IfSome s.1 HasSpelling) sets.now }
-    requires absent { B.is_clean base.old → get ((B.state base.old).now.db rel) place ≡ None }
-    requires made { B.is_clean base.old → (es : List SpecElement)
-        × IsMadeOf ((B.state base.old).now.db rel) (node_of (place, outline place.class sets.now 0 pattern.now))
-        (cells_of (place, outline place.class sets.now 0 pattern.now)) es }
-    ensures call { IsCall B.is_clean B.failures B.state base.old base.new result }
-    ensures served { IfErr result IsServed }
-    ensures mode { OnOk result ((B.state base.new).begun ≡ true) }
+    requires { CanAddRow B.is_clean B.state base.old (record { rel = rel; place = place; elements = outline place.class sets.now 0 pattern.now }) }
+    ensures step { IsStep B.is_clean B.failures B.state base.old base.new result }
     ensures done { B.is_clean base.new → (es : List SpecElement)
         → IsMadeOf ((B.state base.old).now.db rel) (node_of (place, outline place.class sets.now 0 pattern.now))
         (cells_of (place, outline place.class sets.now 0 pattern.now)) es

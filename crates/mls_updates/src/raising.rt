@@ -1,11 +1,9 @@
 //! A tuple of an entity made from a lower one.
-ghost use Rattle.std.specs.Prelude.{◌≡◌, ◌≢◌, ◌<◌, true, length, IfOk, IfErr, IfSome, OnOk};
-ghost use Rattle.std.specs.List.{AllByRecursion};
+ghost use Rattle.std.specs.Prelude.{◌≡◌, ◌<◌, length, IfOk};
 ghost use Rattle.mls_lattice.specs.Policy.{labels_of};
-ghost use Rattle.mls_scheme.specs.Scheme.{IsUnder};
-ghost use Rattle.mls_scheme.specs.Spelling.{HasSpelling, IsSpelledKey};
-ghost use Rattle.mls_filterview.specs.Calls.{IsCall, IsServed};
-ghost use Rattle.mls_filterview.specs.Stored.{IsStored, with_class};
+ghost use Rattle.mls_filterview.specs.Calls.{IsRead, IsStep};
+ghost use Rattle.mls_filterview.specs.Stored.{with_class};
+ghost use Rattle.mls_updates.specs.Steps.{IsBegunAt, CanDerive};
 ghost use Rattle.mls_updates.specs.Calls.{IsDerived, classes_below};
 
 use crate::deciding::below_outcome;
@@ -27,15 +25,10 @@ fn pattern_below<B: Base>(
     w: LabelNo,
 ) -> Result<Option<Items<LabelNo>>, BaseFault>
     requires label { w < length policy.now.labels }
-    requires class { place.now.class < length policy.now.labels }
-    requires key_class { place.now.key_class < length policy.now.labels }
-    requires key { IsSpelledKey place.now.key }
-    ensures call { IsCall B.is_clean B.failures B.state base.old base.new result }
-    ensures served { IfErr result IsServed }
-    ensures mode { OnOk result ((B.state base.new).begun ≡ (B.state base.old).begun) }
+    requires at { IsBegunAt B.state base.old (length policy.now.labels) place.now }
+    ensures read { IsRead B.is_clean B.failures B.state base.old base.new result }
     ensures found { B.is_clean base.new → IfOk result (λ pattern. pattern
         ≡ classes_below (labels_of policy.now) rel (with_class place.now w) place.now.class (B.state base.old)) }
-    ensures same { B.is_clean base.new → OnOk result (B.state base.new ≡ B.state base.old) }
 {
     if !policy.dominates(place.class, place.key_class) {
         return Ok(None);
@@ -58,20 +51,10 @@ fn derive<B: Base>(
     sets: &[(usize, Option<Value>)],
     pattern: Option<Items<LabelNo>>,
 ) -> Result<Outcome, BaseFault>
-    requires class { place.class < length policy.now.labels }
-    requires other { from ≢ place.class }
-    requires under { IsUnder (length policy.now.labels) scheme.now }
-    requires fits { AllByRecursion (λ s. s.0 < length scheme.now.others) sets.now }
-    requires begun { (B.state base.old).begun ≡ true }
-    requires key { IsSpelledKey place.key }
-    requires values { AllByRecursion (λ s. IfSome s.1 HasSpelling) sets.now }
+    requires can { CanDerive B.is_clean B.state base.old rel place policy.now scheme.now from sets.now }
     requires found { B.is_clean base.old → pattern
         ≡ classes_below (labels_of policy.now) rel place from (B.state base.old) }
-    requires stored { B.is_clean base.old → IsStored (labels_of policy.now) (length scheme.now.others)
-        ((B.state base.old).now.db rel) }
-    ensures call { IsCall B.is_clean B.failures B.state base.old base.new result }
-    ensures served { IfErr result IsServed }
-    ensures mode { OnOk result ((B.state base.new).begun ≡ true) }
+    ensures step { IsStep B.is_clean B.failures B.state base.old base.new result }
     ensures done { B.is_clean base.new → IfOk result
         (IsDerived (labels_of policy.now) scheme.now rel place from sets.now (B.state base.old) (B.state base.new)) }
 {
@@ -107,20 +90,8 @@ pub(crate) fn update_below<B: Base>(
     place: Place,
     sets: &[(usize, Option<Value>)],
 ) -> Result<Outcome, BaseFault>
-    requires label { w < length policy.now.labels }
-    requires class { place.class < length policy.now.labels }
-    requires key_class { place.key_class < length policy.now.labels }
-    requires other { place.class ≢ w }
-    requires under { IsUnder (length policy.now.labels) scheme.now }
-    requires fits { AllByRecursion (λ s. s.0 < length scheme.now.others) sets.now }
-    requires begun { (B.state base.old).begun ≡ true }
-    requires key { IsSpelledKey place.key }
-    requires values { AllByRecursion (λ s. IfSome s.1 HasSpelling) sets.now }
-    requires stored { B.is_clean base.old → IsStored (labels_of policy.now) (length scheme.now.others)
-        ((B.state base.old).now.db rel) }
-    ensures call { IsCall B.is_clean B.failures B.state base.old base.new result }
-    ensures served { IfErr result IsServed }
-    ensures mode { OnOk result ((B.state base.new).begun ≡ true) }
+    requires { CanDerive B.is_clean B.state base.old rel (with_class place w) policy.now scheme.now place.class sets.now }
+    ensures step { IsStep B.is_clean B.failures B.state base.old base.new result }
     ensures done { B.is_clean base.new → IfOk result
         (IsDerived (labels_of policy.now) scheme.now rel (with_class place w) place.class sets.now (B.state base.old)
         (B.state base.new)) }

@@ -1,11 +1,10 @@
 //! The root of an entity: a tuple of one class.
-ghost use Rattle.std.specs.Prelude.{◌≡◌, true, IfOk, IfErr, IfSome, OnOk, None};
-ghost use Rattle.std.specs.List.{AllByRecursion};
-ghost use Rattle.std.specs.FinMap.{get, insert};
-ghost use Rattle.mls_scheme.specs.Spelling.{HasSpelling, IsSpelledKey};
-ghost use Rattle.mls_filterview.specs.Calls.{IsCall, IsServed};
+ghost use Rattle.std.specs.Prelude.{◌≡◌, IfOk, OnOk};
+ghost use Rattle.std.specs.FinMap.{insert};
+ghost use Rattle.mls_filterview.specs.Calls.{IsStep};
 ghost use Rattle.mls_filterview.specs.Content.{with_relation};
 ghost use Rattle.mls_updates.specs.Writes.{root};
+ghost use Rattle.mls_updates.specs.Steps.{CanAddRow};
 
 use crate::adding::add_row;
 use crate::row::Row;
@@ -58,13 +57,8 @@ pub(crate) fn add_root<B: Base>(
     place: Place,
     values: &[Option<Value>],
 ) -> Result<(), BaseFault>
-    requires begun { (B.state base.old).begun ≡ true }
-    requires key { IsSpelledKey place.key }
-    requires values { AllByRecursion (λ v. IfSome v HasSpelling) values.now }
-    requires absent { B.is_clean base.old → get ((B.state base.old).now.db rel) place ≡ None }
-    ensures call { IsCall B.is_clean B.failures B.state base.old base.new result }
-    ensures served { IfErr result IsServed }
-    ensures mode { OnOk result ((B.state base.new).begun ≡ true) }
+    requires { CanAddRow B.is_clean B.state base.old (record { rel = rel; place = place; elements = root place.class values.now }) }
+    ensures step { IsStep B.is_clean B.failures B.state base.old base.new result }
     ensures done { B.is_clean base.new → OnOk result (B.state base.new
         ≡ with_relation (B.state base.old) rel
         (insert ((B.state base.old).now.db rel) place (root place.class values.now))) }

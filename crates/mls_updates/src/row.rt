@@ -1,5 +1,6 @@
 //! One tuple, whole.
 ghost use Rattle.std.specs.Prelude.{◌≡◌, ◌++◌, ◌&&◌, if◌then◌else◌, nat_eq, IfOk, OnOk};
+ghost use Rattle.std.specs.List.{list_any};
 ghost use Rattle.mls_filterview.specs.Fragment.{node_of, cells_of, set_from};
 ghost use Rattle.mls_updates.specs.Rows.{entry_of, is_of, is_at, set_row};
 
@@ -17,11 +18,11 @@ pub(crate) struct Row {
 }
 
 impl Row {
-    /// Whether the row is of a relation and a label.
-    pub(crate) fn is_of(&self, rel: RelNo, label: LabelNo) -> bool
-        ensures { result ≡ is_of rel label self.now }
+    /// Whether the row is of a relation and one of these labels.
+    pub(crate) fn is_of(&self, rel: RelNo, labels: &[LabelNo]) -> bool
+        ensures { result ≡ is_of rel labels.now self.now }
     {
-        self.rel == rel && self.place.class == label
+        self.rel == rel && is_any(labels, self.place.class)
     }
 
     /// Whether the row is the tuple of a relation at a place.
@@ -69,6 +70,13 @@ impl Row {
             elements: Items::from(elements),
         })
     }
+}
+
+/// Whether a class is one of these labels.
+fn is_any(labels: &[LabelNo], class: LabelNo) -> bool
+    ensures { result ≡ list_any (λ m. nat_eq class m) labels.now }
+{
+    labels.iter().any(|label| class == *label)
 }
 
 /// The elements, with a new value at an attribute where its class is the label.

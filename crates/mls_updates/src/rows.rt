@@ -2,7 +2,7 @@
 ghost use Rattle.std.specs.Prelude.{◌≡◌, ◌++◌, ◌∷◌, [], IfOk, OnOk, OnErr, map, None};
 ghost use Rattle.std.specs.Option.{option_map, option_map_or};
 ghost use Rattle.std.specs.FinMap.{get};
-ghost use Rattle.mls_filterview.specs.Fragment.{IsFragment, IsEntityPart, classes, node_of, cells_of};
+ghost use Rattle.mls_filterview.specs.Fragment.{AreFragments, IsEntityPart, classes, node_of, cells_of};
 ghost use Rattle.mls_filterview.specs.Assembly.{elements_from};
 ghost use Rattle.mls_updates.specs.Rows.{entry_of, table_of, nodes_of, cells_in, held_in, found_at, set_row, without};
 
@@ -50,17 +50,17 @@ impl Rows {
         Ok(Rows { vec })
     }
 
-    /// What a label holds of a relation.
-    pub(crate) fn fragment(
+    /// What labels hold of a relation.
+    pub(crate) fn fragments(
         &self,
         alloc: Global,
         rel: RelNo,
-        label: LabelNo,
+        labels: &[LabelNo],
     ) -> Result<Fragment, AllocError>
-        ensures { IfOk result (IsFragment (table_of self.now rel) label) }
+        ensures { IfOk result (AreFragments (table_of self.now rel) labels.now) }
     {
-        let nodes = nodes_of(alloc, &self.vec, rel, label)?;
-        let cells = cells_of(alloc, &self.vec, rel, label)?;
+        let nodes = nodes_of(alloc, &self.vec, rel, labels)?;
+        let cells = cells_of(alloc, &self.vec, rel, labels)?;
         Ok(Fragment {
             nodes: Items::from(nodes),
             cells: Items::from(cells),
@@ -146,36 +146,36 @@ fn copy_rows(rows: &Vec<Row>) -> Result<Vec<Row>, AllocError>
     rows.clone()
 }
 
-/// The nodes of a relation and a label.
+/// The nodes of a relation and some labels.
 fn nodes_of(
     alloc: Global,
     rows: &[Row],
     rel: RelNo,
-    label: LabelNo,
+    labels: &[LabelNo],
 ) -> Result<Vec<Node>, AllocError>
-    ensures { IfOk result (λ v. v.items ≡ nodes_of rel label rows.now) }
+    ensures { IfOk result (λ v. v.items ≡ nodes_of rel labels.now rows.now) }
 {
     let mut nodes = Vec::new(alloc);
     for row in rows {
-        if row.is_of(rel, label) {
+        if row.is_of(rel, labels) {
             nodes.push(row.node(alloc)?)?;
         }
     }
     Ok(nodes)
 }
 
-/// The cells of a relation and a label.
+/// The cells of a relation and some labels.
 fn cells_of(
     alloc: Global,
     rows: &[Row],
     rel: RelNo,
-    label: LabelNo,
+    labels: &[LabelNo],
 ) -> Result<Vec<Cell>, AllocError>
-    ensures { IfOk result (λ v. v.items ≡ cells_in rel label rows.now) }
+    ensures { IfOk result (λ v. v.items ≡ cells_in rel labels.now rows.now) }
 {
     let mut cells = Vec::new(alloc);
     for row in rows {
-        if row.is_of(rel, label) {
+        if row.is_of(rel, labels) {
             row.add_cells(&mut cells)?;
         }
     }

@@ -1,13 +1,11 @@
 //! Elements of an entity changed at their class, or a tuple made from a lower one.
-ghost use Rattle.std.specs.Prelude.{◌≡◌, ◌<◌, ◌↔◌, true, false, length, IfOk, IsErrOf, OnOk};
-ghost use Rattle.std.specs.List.{AllByRecursion};
+ghost use Rattle.std.specs.Prelude.{true, IfOk, OnOk};
 ghost use Rattle.mls_lattice.specs.Policy.{labels_of};
-ghost use Rattle.mls_scheme.specs.Scheme.{scheme_of, AreUnder};
-ghost use Rattle.mls_scheme.specs.Fits.{HaveKinds};
-ghost use Rattle.mls_filterview.specs.Calls.{IsCall};
+ghost use Rattle.mls_scheme.specs.Scheme.{scheme_of};
+ghost use Rattle.mls_filterview.specs.Calls.{IsChange};
 ghost use Rattle.mls_filterview.specs.Stored.{IsContent};
-ghost use Rattle.mls_updates.specs.Writes.{Update, WriteKinds};
-ghost use Rattle.mls_updates.specs.Calls.{IsWritten};
+ghost use Rattle.mls_updates.specs.Writes.{Update};
+ghost use Rattle.mls_updates.specs.Calls.{CanUpdate, IsWritten};
 
 use crate::changing::update_own;
 use crate::key::{has_null, place_of};
@@ -35,21 +33,8 @@ pub fn update<B: Base>(
     from: LabelNo,
     sets: &[(usize, Option<Value>)],
 ) -> Result<Outcome, BaseFault>
-    requires label { w < length policy.now.labels }
-    requires key_class { key_class < length policy.now.labels }
-    requires from { from < length policy.now.labels }
-    requires relation { rel < length schemes.now }
-    requires under { AreUnder (length policy.now.labels) schemes.now }
-    requires named { 0 < length sets.now }
-    requires fits { AllByRecursion (λ s. s.0 < length (scheme_of schemes.now rel).others) sets.now }
-    requires key { HaveKinds (scheme_of schemes.now rel).keys key.now }
-    requires kinds { WriteKinds (scheme_of schemes.now rel) (Update key.now key_class from sets.now) }
-    requires stored { B.is_clean base.old → IsContent (labels_of policy.now) (scheme_of schemes.now rel)
-        ((B.state base.old).now.db rel) }
-    ensures call { IsCall B.is_clean B.failures B.state base.old base.new result }
-    ensures not_begun { (result ≡ Err BaseFault.NotBegun) ↔ ((B.state base.old).begun ≡ false) }
-    ensures no_other { IsErrOf result BaseFault.Begun → ⊥ }
-    ensures mode { OnOk result ((B.state base.new).begun ≡ true) }
+    requires { CanUpdate B.is_clean B.state base.old policy.now schemes.now rel w key.now key_class from sets.now }
+    ensures change { IsChange B.is_clean B.failures B.state true base.old base.new result }
     ensures done { B.is_clean base.new → IfOk result
         (IsWritten (labels_of policy.now) (scheme_of schemes.now rel) rel w (Update key.now key_class from sets.now)
         (B.state base.old) (B.state base.new)) }

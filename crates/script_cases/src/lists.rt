@@ -1,10 +1,11 @@
-//! A machine with the files of a desk, whose stores are lists.
+//! A machine with the files of a desk, whose stores are lists, and whose lines own their bytes: a function that
+//! makes a machine and calls `act` takes none whose lines are borrowed.
 use crate::desk::{file_of, lines_of};
 use mls_fragments::OpenFault;
 use mls_host::{CloseFault, Host, HostFault, StoreCause, StoreFiles, read_whole};
 use mls_lattice::Policy;
-use mls_lines::{AnyReader, LinesOf};
 use mls_scheme::SchemesFile;
+use mls_tokens::{AnyReader, LinesOf};
 use mls_updates::ListBase;
 use std::alloc::Global;
 use std::io::Cursor;

@@ -1,8 +1,10 @@
 //! Runs over a base.
-ghost use Rattle.std.specs.Prelude.{◌≡◌, false};
+ghost use Rattle.std.specs.Prelude.{◌≡◌, false, []};
 ghost use Rattle.std.specs.Option.{IfSome};
 ghost use Rattle.mls_lattice.specs.Policy.{labels_of};
 ghost use Rattle.mls_filterview.specs.Stored.{AreContent};
+ghost use Rattle.mls_translang.specs.Fits.{IsReadUnder};
+ghost use Rattle.mls_certcheck.specs.MeaningLaws.{ArgsFit};
 ghost use Rattle.mls_fragments.specs.Finding.{IsSoundContent};
 ghost use Rattle.mls_machine.specs.Observation.{AreRead};
 ghost use Rattle.mls_host.specs.Running.{site_of};
@@ -10,6 +12,7 @@ ghost use Rattle.mls_runs.specs.History.{IsPrepared};
 
 use crate::narrow::Narrow;
 use crate::site::Site;
+use mls_certcheck::Certified;
 use mls_filterview::{Base, BaseFault, abandon};
 use mls_host::stored_from;
 use mls_machine::{Audience, Form, Stored};
@@ -118,6 +121,24 @@ fn run_over<B: Base>(
     (end_of(outcome), left)
 }
 
+/// Evaluates a transaction that takes no arguments.
+fn evaluate_alone<B: Base>(
+    alloc: Global,
+    site: &Site<'_>,
+    certified: &Certified,
+    base: &mut B,
+) -> End
+    requires read { IsReadUnder site.now.policy site.now.file.schemes certified.now.tx }
+    requires args { ArgsFit certified.now.tx [] }
+    requires content { B.is_clean base.old → AreContent (labels_of site.now.policy) site.now.file.schemes (B.state base.old).now.db }
+{
+    let (policy, schemes) = (&site.policy, &site.file.schemes);
+    match evaluate(alloc, base, policy, schemes, certified, &[]) {
+        Ok(_) => End::Whole,
+        Err(fault) => stop_of(fault),
+    }
+}
+
 /// Evaluates the first of these transactions, which takes no arguments.
 fn evaluate_first<B: Base>(alloc: Global, site: &Site<'_>, stored: &[Stored], base: &mut B) -> End
     requires read { AreRead (site_of site.now.policy site.now.file.schemes stored.now) }
@@ -129,17 +150,7 @@ fn evaluate_first<B: Base>(alloc: Global, site: &Site<'_>, stored: &[Stored], ba
     if !certified.tx().params().is_empty() {
         return End::Failed;
     }
-    match evaluate(
-        alloc,
-        base,
-        &site.policy,
-        &site.file.schemes,
-        certified,
-        &[],
-    ) {
-        Ok(_) => End::Whole,
-        Err(fault) => stop_of(fault),
-    }
+    evaluate_alone(alloc, site, certified, base)
 }
 
 /// Evaluates the first transaction that a run stores over a base.

@@ -38,7 +38,9 @@ pub enum Work<'a> {
     Do(&'a Site<'a>, Task<'a>),
 }
 
-/// Work over a store, what of it stops, and whether the store is closed where the work ends well: else its files are left as they are.
+/// Work over a store, what of it stops, and whether the store is closed where the work ends well: else its
+/// files are left as they are. It is data, so that one function alone names the type of a store, which is dear
+/// to prove.
 #[derive(Clone, Copy)]
 pub struct Job<'a> {
     pub work: Work<'a>,

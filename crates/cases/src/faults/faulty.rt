@@ -159,6 +159,13 @@ impl<B: Base> Base for Faulty<B> {
         self.base.fragment(rel, label)
     }
 
+    fn fragments(&mut self, rel: RelNo, labels: &[LabelNo]) -> Result<Fragment, BaseFault> {
+        if self.fuse.is_due() {
+            return Err(self.fail());
+        }
+        self.base.fragments(rel, labels)
+    }
+
     fn entity(&mut self, rel: RelNo, place: &Place) -> Result<Fragment, BaseFault> {
         if self.is_due() {
             return Err(self.fail());

@@ -6,7 +6,7 @@ ghost use Rattle.mls_lattice.specs.Policy.{labels_of};
 ghost use Rattle.mls_scheme.specs.Scheme.{AreUnder};
 ghost use Rattle.mls_filterview.specs.Stored.{AreContent};
 ghost use Rattle.mls_translang.specs.Fits.{IsReadUnder};
-ghost use Rattle.mls_meaning.specs.Laws.{IsItem};
+ghost use Rattle.mls_certcheck.specs.MeaningLaws.{IsItem};
 
 use crate::certificates::certificate_of;
 use case_tables::{Case, Told, case_at, joined};

@@ -1,7 +1,7 @@
 //! What is told of the releases of transactions.
 use case_tables::Told;
+use mls_labeller::{Told as Release, ranges_of, whole, words};
 use mls_lattice::Policy;
-use mls_ranges::{Told as Release, ranges_of, whole, words};
 use mls_scheme::Kind;
 use mls_translang::Tx;
 use std::alloc::{AllocError, Global};

@@ -1,10 +1,11 @@
+//! Statements on the table of cells. Its key has `attr` before `label`: the rows of an entity at a key class
+//! are looked up by what the key begins with, and those of a class are chosen among them.
 ghost use Rattle.std.specs.Prelude.{◌≡◌, ◌<◌, ◌≤◌, ◌+◌, ◌*◌, length, take, map, filter, IsTrue, IfOk, OnOk, OnErr, IsPermutation};
 ghost use Rattle.sqlite.specs.State.{HasCleanDisk, IsUnchanged, KeepsCommit};
 ghost use Rattle.sqlite.specs.Held.{state};
 ghost use Rattle.sqlite.specs.Values.{bound};
 ghost use Rattle.mls_statements.specs.declared.rows.CellRow.{CellRow as SpecCell};
-ghost use Rattle.mls_statements.specs.Rows.{tables_of, is_cell_at, is_cell_in, cell_beside, own_values, cell_values, cell_columns};
-ghost use Rattle.mls_statements.specs.Schema.{HasTables};
+ghost use Rattle.mls_statements.specs.Rows.{tables_of, is_cell_at, is_cell_among, is_cell_in, cell_beside, own_values, cell_values};
 ghost use Rattle.mls_statements.specs.Statements.{IsReady, Changes, AddsCell, AddsCells, ClearsCells, SetsCell, DropsCells, IsOne, has_key_of, IsEnded, IsWithin, GoesOn};
 
 use crate::decode::cells_from;
@@ -196,6 +197,29 @@ pub fn cells_at<S: Alter>(conn: &mut Connection<S>, rel: u32, label: u32) -> Res
     )
 }
 
+/// The cells of the labels whose bits are set, as rows of their six columns.
+pub fn cells_among<S: Alter>(
+    conn: &mut Connection<S>,
+    rel: u32,
+    labels: u64,
+) -> Result<Vec<Row>, Error>
+    ensures found { HasCleanDisk (state S.Store conn.new) → IsReady (state S.Store conn.old).now
+        → IfOk result (λ rows. IsPermutation
+        (map cell_values (filter (is_cell_among rel labels) (tables_of (state S.Store conn.old).now.trees).cells))
+        rows.items) }
+    ensures open { HasCleanDisk (state S.Store conn.new) → OnOk result (IsTrue (state S.Store conn.old).is_open) }
+    ensures same { HasCleanDisk (state S.Store conn.new) → IsReady (state S.Store conn.old).now
+        → OnOk result (IsUnchanged (state S.Store conn.old) (state S.Store conn.new)) }
+    ensures err { HasCleanDisk (state S.Store conn.new)
+        → OnErr result (IsEnded (state S.Store conn.old) (state S.Store conn.new)) }
+    ensures clean { HasCleanDisk (state S.Store conn.new) → HasCleanDisk (state S.Store conn.old) }
+{
+    conn.query_all(
+        "SELECT rel, ent, kclass, label, attr, value FROM cell WHERE rel = ?1 AND ?2 & (1 << label)",
+        params![rel, labels.cast_signed()],
+    )
+}
+
 /// The cells of one tuple's own class, as rows of their six columns.
 pub fn cells_of<S: Alter>(
     conn: &mut Connection<S>,
@@ -221,23 +245,6 @@ pub fn cells_of<S: Alter>(
     )
 }
 
-/// Every row of the table of cells, with its rowid last, in a database of the four tables.
-pub fn all_cells<S: Alter>(conn: &mut Connection<S>) -> Result<Vec<Row>, Error>
-    ensures found { HasCleanDisk (state S.Store conn.new) → HasTables (state S.Store conn.old).now.schema
-        → IfOk result (λ rows. IsPermutation (map cell_columns ((state S.Store conn.old).now.trees 2)) rows.items) }
-    ensures open { HasCleanDisk (state S.Store conn.new) → OnOk result (IsTrue (state S.Store conn.old).is_open) }
-    ensures same { HasCleanDisk (state S.Store conn.new) → HasTables (state S.Store conn.old).now.schema
-        → OnOk result (IsUnchanged (state S.Store conn.old) (state S.Store conn.new)) }
-    ensures err { HasCleanDisk (state S.Store conn.new)
-        → OnErr result (IsEnded (state S.Store conn.old) (state S.Store conn.new)) }
-    ensures clean { HasCleanDisk (state S.Store conn.new) → HasCleanDisk (state S.Store conn.old) }
-{
-    conn.query_all(
-        "SELECT rel, ent, kclass, label, attr, value, rowid FROM cell ORDER BY rowid",
-        &[],
-    )
-}
-
 /// The cells of one class.
 pub fn read_cells_at<S: Alter>(
     conn: &mut Connection<S>,
@@ -257,6 +264,27 @@ pub fn read_cells_at<S: Alter>(
     ensures clean { HasCleanDisk (state S.Store conn.new) → HasCleanDisk (state S.Store conn.old) }
 {
     cells_from(alloc, &cells_at(conn, rel, label)?)
+}
+
+/// The cells of the labels whose bits are set.
+pub fn read_cells_among<S: Alter>(
+    conn: &mut Connection<S>,
+    alloc: Global,
+    rel: u32,
+    labels: u64,
+) -> Result<Vec<CellRow>, Error>
+    ensures found { HasCleanDisk (state S.Store conn.new) → IsReady (state S.Store conn.old).now
+        → IfOk result (λ found. IsPermutation
+        (filter (is_cell_among rel labels) (tables_of (state S.Store conn.old).now.trees).cells) found.items) }
+    ensures open { HasCleanDisk (state S.Store conn.new) → OnOk result (IsTrue (state S.Store conn.old).is_open) }
+    ensures same { HasCleanDisk (state S.Store conn.new) → IsReady (state S.Store conn.old).now
+        → OnOk result (IsUnchanged (state S.Store conn.old) (state S.Store conn.new)) }
+    ensures err { HasCleanDisk (state S.Store conn.new)
+        → (IsTrue (state S.Store conn.old).is_open → IsReady (state S.Store conn.old).now)
+        → OnErr result (IsEnded (state S.Store conn.old) (state S.Store conn.new)) }
+    ensures clean { HasCleanDisk (state S.Store conn.new) → HasCleanDisk (state S.Store conn.old) }
+{
+    cells_from(alloc, &cells_among(conn, rel, labels)?)
 }
 
 /// The cells of one tuple's own class.

@@ -1,3 +1,4 @@
+//! How changes begin and end.
 ghost use Rattle.std.specs.Prelude.{◌≡◌, ◌≤◌, false, IsTrue, IfErr, OnOk, OnErr};
 ghost use Rattle.sqlite.specs.State.{HasCleanDisk, IsRolledBack, Commits, Fails};
 ghost use Rattle.sqlite.specs.Held.{state};

@@ -1,3 +1,4 @@
+//! Statements on the row that describes a store.
 ghost use Rattle.std.specs.Prelude.{◌≡◌, map, IsTrue, IfOk, OnOk, OnErr, IsPermutation};
 ghost use Rattle.sqlite.specs.State.{HasCleanDisk, IsUnchanged};
 ghost use Rattle.sqlite.specs.Held.{state};

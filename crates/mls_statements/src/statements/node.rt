@@ -1,9 +1,9 @@
+//! Statements on the table of nodes.
 ghost use Rattle.std.specs.Prelude.{◌≡◌, map, filter, IsTrue, IfOk, OnOk, OnErr, IsPermutation};
 ghost use Rattle.sqlite.specs.State.{HasCleanDisk, IsUnchanged, KeepsCommit};
 ghost use Rattle.sqlite.specs.Held.{state};
-ghost use Rattle.mls_statements.specs.Rows.{tables_of, is_node_at, is_node, node_values, node_columns};
+ghost use Rattle.mls_statements.specs.Rows.{tables_of, is_node_at, is_node_among, is_node, node_values};
 ghost use Rattle.mls_statements.specs.Pattern.{pattern_values};
-ghost use Rattle.mls_statements.specs.Schema.{HasTables};
 ghost use Rattle.mls_statements.specs.Statements.{IsReady, Changes, AddsNode, AddsNodes, ClearsNodes, DropsNode, IsEnded, IsWithin, GoesOn};
 
 use crate::decode::{bytes_from, nodes_from};
@@ -96,6 +96,29 @@ pub fn nodes_at<S: Alter>(conn: &mut Connection<S>, rel: u32, label: u32) -> Res
     )
 }
 
+/// The nodes of the labels whose bits are set, as rows of their five columns.
+pub fn nodes_among<S: Alter>(
+    conn: &mut Connection<S>,
+    rel: u32,
+    labels: u64,
+) -> Result<Vec<Row>, Error>
+    ensures found { HasCleanDisk (state S.Store conn.new) → IsReady (state S.Store conn.old).now
+        → IfOk result (λ rows. IsPermutation
+        (map node_values (filter (is_node_among rel labels) (tables_of (state S.Store conn.old).now.trees).nodes))
+        rows.items) }
+    ensures open { HasCleanDisk (state S.Store conn.new) → OnOk result (IsTrue (state S.Store conn.old).is_open) }
+    ensures same { HasCleanDisk (state S.Store conn.new) → IsReady (state S.Store conn.old).now
+        → OnOk result (IsUnchanged (state S.Store conn.old) (state S.Store conn.new)) }
+    ensures err { HasCleanDisk (state S.Store conn.new)
+        → OnErr result (IsEnded (state S.Store conn.old) (state S.Store conn.new)) }
+    ensures clean { HasCleanDisk (state S.Store conn.new) → HasCleanDisk (state S.Store conn.old) }
+{
+    conn.query_all(
+        "SELECT rel, ent, kclass, label, pattern FROM node WHERE rel = ?1 AND ?2 & (1 << label)",
+        params![rel, labels.cast_signed()],
+    )
+}
+
 /// The node at a key, as rows of its five columns.
 pub fn nodes_of<S: Alter>(
     conn: &mut Connection<S>,
@@ -146,23 +169,6 @@ pub fn patterns_of<S: Alter>(
     )
 }
 
-/// Every row of the table of nodes, with its rowid last, in a database of the four tables.
-pub fn all_nodes<S: Alter>(conn: &mut Connection<S>) -> Result<Vec<Row>, Error>
-    ensures found { HasCleanDisk (state S.Store conn.new) → HasTables (state S.Store conn.old).now.schema
-        → IfOk result (λ rows. IsPermutation (map node_columns ((state S.Store conn.old).now.trees 0)) rows.items) }
-    ensures open { HasCleanDisk (state S.Store conn.new) → OnOk result (IsTrue (state S.Store conn.old).is_open) }
-    ensures same { HasCleanDisk (state S.Store conn.new) → HasTables (state S.Store conn.old).now.schema
-        → OnOk result (IsUnchanged (state S.Store conn.old) (state S.Store conn.new)) }
-    ensures err { HasCleanDisk (state S.Store conn.new)
-        → OnErr result (IsEnded (state S.Store conn.old) (state S.Store conn.new)) }
-    ensures clean { HasCleanDisk (state S.Store conn.new) → HasCleanDisk (state S.Store conn.old) }
-{
-    conn.query_all(
-        "SELECT rel, ent, kclass, label, pattern, rowid FROM node ORDER BY rowid",
-        &[],
-    )
-}
-
 /// The nodes of one class.
 pub fn read_nodes_at<S: Alter>(
     conn: &mut Connection<S>,
@@ -182,6 +188,27 @@ pub fn read_nodes_at<S: Alter>(
     ensures clean { HasCleanDisk (state S.Store conn.new) → HasCleanDisk (state S.Store conn.old) }
 {
     nodes_from(alloc, &nodes_at(conn, rel, label)?)
+}
+
+/// The nodes of the labels whose bits are set.
+pub fn read_nodes_among<S: Alter>(
+    conn: &mut Connection<S>,
+    alloc: Global,
+    rel: u32,
+    labels: u64,
+) -> Result<Vec<NodeRow>, Error>
+    ensures found { HasCleanDisk (state S.Store conn.new) → IsReady (state S.Store conn.old).now
+        → IfOk result (λ found. IsPermutation
+        (filter (is_node_among rel labels) (tables_of (state S.Store conn.old).now.trees).nodes) found.items) }
+    ensures open { HasCleanDisk (state S.Store conn.new) → OnOk result (IsTrue (state S.Store conn.old).is_open) }
+    ensures same { HasCleanDisk (state S.Store conn.new) → IsReady (state S.Store conn.old).now
+        → OnOk result (IsUnchanged (state S.Store conn.old) (state S.Store conn.new)) }
+    ensures err { HasCleanDisk (state S.Store conn.new)
+        → (IsTrue (state S.Store conn.old).is_open → IsReady (state S.Store conn.old).now)
+        → OnErr result (IsEnded (state S.Store conn.old) (state S.Store conn.new)) }
+    ensures clean { HasCleanDisk (state S.Store conn.new) → HasCleanDisk (state S.Store conn.old) }
+{
+    nodes_from(alloc, &nodes_among(conn, rel, labels)?)
 }
 
 /// The node at a key, where there is one.

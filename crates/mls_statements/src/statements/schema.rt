@@ -228,8 +228,9 @@ fn is_whole(found: &Schema) -> bool
         && refer_to_nothing(found.tables.as_slice())
 }
 
-/// Whether the database has the four tables, made before any other, with no other index on them, and no view. Other tables may stand
-/// behind them that have no foreign keys.
+/// Whether the database has the four tables, made before any other, with no other index on them, and no view.
+/// Other tables may stand behind them that have no foreign keys. A foreign key might set off actions, and an
+/// index of others might refuse a row.
 pub fn has_tables<S: Alter>(conn: &Connection<S>) -> bool
     ensures { IsTrue result ↔ HasTables (state S.Store conn.now).now.schema }
 {

@@ -1,50 +1,20 @@
-//! Whole tables, whose rows are all read, and found to differ in their rowids.
-ghost use Rattle.std.specs.Prelude.{◌≡◌, ◌≢◌, true, [], ◌∷◌, map, IfOk, IfErr, OnOk, OnErr, IsPermutation};
+//! Whole tables, whose rows are all read.
+ghost use Rattle.std.specs.Prelude.{◌≡◌, true, [], ◌∷◌, map, IfOk, IfErr, OnOk, OnErr, IsPermutation};
 ghost use Rattle.std.specs.List.{AllByRecursion};
 ghost use Rattle.sqlite.specs.State.{HasCleanDisk, IsUnchanged, KeepsCommit};
 ghost use Rattle.sqlite.specs.Held.{state};
-ghost use Rattle.sqlite.specs.declared.error.Error.{Error as SqlError};
-ghost use Rattle.sqlite.specs.declared.error.Error.TheVariants.{SqliteFailure};
-ghost use Rattle.sqlite.specs.declared.error.ErrorCode.TheVariants.{OutOfMemory};
 ghost use Rattle.mls_statements.specs.declared.rows.MetaRow.{MetaRow as SpecMeta};
 ghost use Rattle.mls_statements.specs.Rows.{tables_of, shown_meta, shows_meta, node_columns, cell_columns, audit_columns, is_node_row, is_cell_row, is_audit_row};
 ghost use Rattle.mls_statements.specs.Schema.{HasTables};
 ghost use Rattle.mls_statements.specs.Statements.{AreRows};
-ghost use Rattle.mls_statements.specs.Adopting.{Blames, HaveIds, AreNodes, AreCells, AreEntries, ReadsMeta, IsVersion, IsReadDescription, IsDescribed, AreRising};
+ghost use Rattle.mls_statements.specs.Adopting.{Blames, AreNodes, AreCells, AreEntries, ReadsMeta, IsVersion, IsReadDescription, IsDescribed};
 
 use crate::adopting::AdoptFault;
-use crate::decode::{cells_from, entries_from, meta_from, nodes_from, rowids_rise};
+use crate::decode::meta_from;
 use crate::rows::{AuditRow, CellRow, MetaRow, NodeRow};
-use crate::statements::{audit, cell, meta, node};
-use sqlite::{Alter, Connection, Error, Row};
+use crate::statements::{meta, streaming};
+use sqlite::{Alter, Connection, Row};
 use std::alloc::Global;
-
-/// Tests that the rowids of rows, which stand at one place, rise.
-fn test_rowids(rows: &[Row], at: usize) -> Result<(), AdoptFault>
-    ensures rise { OnOk result (AreRising at rows.now) }
-    ensures bad { IfErr result (Blames (HaveIds at rows.now)) }
-{
-    match rowids_rise(rows, at) {
-        Ok(true) => Ok(()),
-        Ok(false) => Err(AdoptFault::Store),
-        Err(error) => Err(AdoptFault::of_row(error)),
-    }
-}
-
-/// What was read of rows, where their rowids rise.
-fn tested<T: Drop>(
-    rows: &[Row],
-    at: usize,
-    read: Result<Vec<T>, Error>,
-) -> Result<Vec<T>, AdoptFault>
-    ensures read { IfOk result (λ xs. read ≡ Ok xs) }
-    ensures rise { OnOk result (AreRising at rows.now) }
-    ensures bad { IfErr result (λ e. e ≡ AdoptFault.BadRows → HaveIds at rows.now
-        → (error : SqlError) × (read ≡ Err error) × (error ≢ SqliteFailure OutOfMemory)) }
-{
-    test_rowids(rows, at)?;
-    read.map_err(AdoptFault::of_row)
-}
 
 /// Every node.
 pub fn nodes<S: Alter>(conn: &mut Connection<S>, alloc: Global) -> Result<Vec<NodeRow>, AdoptFault>
@@ -59,8 +29,9 @@ pub fn nodes<S: Alter>(conn: &mut Connection<S>, alloc: Global) -> Result<Vec<No
         → IfErr result (Blames (AreNodes (map node_columns ((state S.Store conn.old).now.trees 0)))) }
     ensures clean { HasCleanDisk (state S.Store conn.new) → HasCleanDisk (state S.Store conn.old) }
 {
-    match node::all_nodes(conn) {
-        Ok(rows) => tested(&rows, 5, nodes_from(alloc, &rows)),
+    let sql = "SELECT rel, ent, kclass, label, pattern, rowid FROM node ORDER BY rowid";
+    match streaming::each::<S, NodeRow>(conn, alloc, sql, 5) {
+        Ok(read) => read,
         Err(error) => Err(AdoptFault::of_store(error)),
     }
 }
@@ -78,8 +49,9 @@ pub fn cells<S: Alter>(conn: &mut Connection<S>, alloc: Global) -> Result<Vec<Ce
         → IfErr result (Blames (AreCells (map cell_columns ((state S.Store conn.old).now.trees 2)))) }
     ensures clean { HasCleanDisk (state S.Store conn.new) → HasCleanDisk (state S.Store conn.old) }
 {
-    match cell::all_cells(conn) {
-        Ok(rows) => tested(&rows, 6, cells_from(alloc, &rows)),
+    let sql = "SELECT rel, ent, kclass, label, attr, value, rowid FROM cell ORDER BY rowid";
+    match streaming::each::<S, CellRow>(conn, alloc, sql, 6) {
+        Ok(read) => read,
         Err(error) => Err(AdoptFault::of_store(error)),
     }
 }
@@ -100,8 +72,9 @@ pub fn entries<S: Alter>(
         → IfErr result (Blames (AreEntries (map audit_columns ((state S.Store conn.old).now.trees 4)))) }
     ensures clean { HasCleanDisk (state S.Store conn.new) → HasCleanDisk (state S.Store conn.old) }
 {
-    match audit::all_entries(conn) {
-        Ok(rows) => tested(&rows, 0, entries_from(alloc, &rows)),
+    let sql = "SELECT number, bytes FROM audit ORDER BY number";
+    match streaming::each::<S, AuditRow>(conn, alloc, sql, 0) {
+        Ok(read) => read,
         Err(error) => Err(AdoptFault::of_store(error)),
     }
 }

@@ -11,7 +11,7 @@ returns-clause-tuples g c = λ clean.
     let ls = labels_of c.args.policy.now in
     let T = (g.B.Base.state c.args.base.now).now.db c.args.rel in
     let before = c.in_ok-tuples.ensures.call.clean clean in
-    let stored = c.requires.stored (c.in_ok-low.ensures.call.clean before) in
+    let stored = c.requires.stored (c.in_ok-low.ensures.read.call.clean before) in
     let low = subst (λ k. AreLow ls T c.args.label k c.in_ok-low.low.nodes c.in_ok-low.low.cells) (sym (length-map c.args.policy.now.labels (λ l. l.value))) (c.in_ok-low.ensures.low before) in
     subst (λ r. IfOk r (λ v. v.items ≡ low_tuples ls c.args.label T)) c.in_ok-tuples.ensures.value
     (IfOk-weaker c.tuples_by_reach.result _ _ (λ v each. each stored.0 T c.args.label stored.1 low) c.tuples_by_reach.ensures)

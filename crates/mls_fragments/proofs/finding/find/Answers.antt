@@ -12,6 +12,7 @@ use Rattle.mls_scheme.specs.Table.{place_cmp}
 use Rattle.mls_statements.specs.Adopting.{AreAll}
 use Rattle.mls_statements.specs.Rows.{Tables}
 use Rattle.mls_fragments.specs.Changes.{found}
+use Rattle.mls_fragments.specs.Holding.{Holds}
 use Rattle.mls_fragments.proofs.WithinLemmas.{classes_within, rows_within}
 use Rattle.mls_fragments.proofs.KnownLemmas.{node_rows_read, cell_rows_read, tables_are, same_node_rows, same_cell_rows}
 use Rattle.mls_fragments.proofs.finding.find.Goals as goal
@@ -21,39 +22,41 @@ have_rows-requires-clause-spelled c =
     subst (AllByRecursion (λ t. AllByRecursion IsSpelledEntry t.entries)) (sym c.deref-5.ensures.value)
     (tables_spelled (λ t. t.entries) c.deref-2.result.now c.deref-3.result.now c.in_ok-tables.tables.items c.in_ok-tables.ensures.assembled)
 
-pub returns-clause-held : goal.returns-clause-held
-returns-clause-held c t all =
+pub returns-clause-found : goal.returns-clause-found
+returns-clause-found c =
+    let ls = labels_of c.args.policy.now in
+    let schemes = c.args.schemes.now in
     let tables = map (λ t. t.entries) c.in_ok-tables.tables.items in
+    let content = found tables c.in_ok-entries.entries in
     let same = c.in_ok-have_rows.ensures.same c.if-not-branch-2.false in
-    finds (labels_of c.args.policy.now) c.args.schemes.now c.args.rows tables c.in_ok-entries.entries
+    let are : AreTables ls schemes tables = subst (λ ts. AreTables ls schemes (map (λ t. t.entries) ts)) c.deref-4.ensures.value (c.in_ok-are_content.ensures.0 c.if-not-branch.false) in
+    let held : (t : Tables) → AreAll t c.args.rows → Holds t content = λ t all.
+    finds ls schemes c.args.rows tables c.in_ok-entries.entries
     (subst₂ (λ nodes cells. AreAssembled nodes cells tables) c.deref-2.ensures.value c.deref-3.ensures.value c.in_ok-tables.ensures.assembled)
-    (subst (λ ts. AreTables (labels_of c.args.policy.now) c.args.schemes.now (map (λ t. t.entries) ts)) c.deref-4.ensures.value (c.in_ok-are_content.ensures.0 c.if-not-branch.false))
+    are
     (subst (λ ts. IsPermutation (node_rows 0 (map (λ t. t.entries) ts)) c.args.rows.nodes.items) c.deref-5.ensures.value same.0)
     (subst (λ ts. IsPermutation (cell_rows 0 (map (λ t. t.entries) ts)) c.args.rows.cells.items) c.deref-5.ensures.value same.1)
-    c.in_ok-entries.ensures.numbered t all
-
-pub returns-clause-sound : goal.returns-clause-sound
-returns-clause-sound c = record {
-  content = are_content (labels_of c.args.policy.now) c.args.schemes.now (map (λ t. t.entries) c.in_ok-tables.tables.items)
-      (subst (λ ts. AreTables (labels_of c.args.policy.now) c.args.schemes.now (map (λ t. t.entries) ts)) c.deref-4.ensures.value (c.in_ok-are_content.ensures.0 c.if-not-branch.false));
-  classes = λ rel.
-      let t : Tables = record { nodes = c.args.rows.nodes.items; cells = c.args.rows.cells.items; audit = c.args.rows.entries.items; meta = [] } in
-      let all : AreAll t c.args.rows = (IsPermutation-refl t.nodes, (IsPermutation-refl t.cells, IsPermutation-refl t.audit)) in
-      classes_within c.args.labels t c.args.rows all (found (map (λ t. t.entries) c.in_ok-tables.tables.items) c.in_ok-entries.entries) (returns-clause-held c t all)
-      (subst (λ ns. list_all (is_within c.args.labels) ns ≡ true) c.deref.ensures.value (sym c.are_within.ensures ∙ c.if-not-are_within.false)) rel;
-  entries = c.in_ok-entries.ensures.entries;
-}
-
-pub returns-clause-classes : goal.returns-clause-classes
-returns-clause-classes c =
-    content_bytes (labels_of c.args.policy.now) c.args.schemes.now (found (map (λ t. t.entries) c.in_ok-tables.tables.items) c.in_ok-entries.entries)
-    (few_labels c.args.policy.now c.label_count-labels.ensures.few) (returns-clause-sound c).content
-
-pub returns-clause-spelled : goal.returns-clause-spelled
-returns-clause-spelled c = tables_spelled (λ t. t.entries) c.deref-2.result.now c.deref-3.result.now c.in_ok-tables.tables.items c.in_ok-tables.ensures.assembled
-
-pub returns-clause-sorted : goal.returns-clause-sorted
-returns-clause-sorted c = tables_each (λ es. IsStrictlySortedBy place_cmp (keys_of es)) (λ t. t.entries) c.in_ok-tables.tables.items (λ rel l. (c.in_ok-tables.ensures.assembled rel l).sorted)
+    c.in_ok-entries.ensures.numbered t all in
+    let all_content = are_content ls schemes tables are in
+    record {
+      held = held;
+      sound = record {
+        content = all_content;
+        classes = λ rel.
+            let t : Tables = record { nodes = c.args.rows.nodes.items; cells = c.args.rows.cells.items; audit = c.args.rows.entries.items; meta = [] } in
+            let all : AreAll t c.args.rows = (IsPermutation-refl t.nodes, (IsPermutation-refl t.cells, IsPermutation-refl t.audit)) in
+            classes_within c.args.labels t c.args.rows all content (held t all)
+            (subst (λ ns. list_all (is_within c.args.labels) ns ≡ true) c.deref.ensures.value (sym c.are_within.ensures ∙ c.if-not-are_within.false)) rel;
+        entries = c.in_ok-entries.ensures.entries;
+      };
+      classes = content_bytes ls schemes content (few_labels c.args.policy.now c.label_count-labels.ensures.few) all_content;
+      few = search rules;
+      spelled = tables_spelled (λ t. t.entries) c.deref-2.result.now c.deref-3.result.now c.in_ok-tables.tables.items c.in_ok-tables.ensures.assembled;
+      sorted = tables_each (λ es. IsStrictlySortedBy place_cmp (keys_of es)) (λ t. t.entries) c.in_ok-tables.tables.items (λ rel l. (c.in_ok-tables.ensures.assembled rel l).sorted);
+      count = search rules;
+      valid = search rules;
+      last = search rules;
+    }
 
 pub returns-then-not-are_within-clause-only : goal.returns-then-not-are_within-clause-only
 returns-then-not-are_within-clause-only c t all content holds sound =

@@ -21,7 +21,7 @@ parts-preserved c =
     let joined = subst (λ ts. c.join.new.self.changes ≡ Joins (map (λ t. t.entries) ts) ∷ before) c.deref.ensures.value c.join.ensures in
     subst (λ changes. IsUnderWay a.policy.now a.schemes.now a.labels a.nodes.items a.cells.items a.entries.now c.take_part.new.nodes.items c.take_part.new.cells.items (content_of changes)) (sym joined)
     (goes_on a.policy.now a.schemes.now a.labels a.nodes.items a.cells.items a.entries.now c.parts.nodes.items c.take_part.new.nodes.items c.parts.cells.items c.take_part.new.cells.items (content_of before) c.parts.invariant taken.0 c.in_ok-part.part
-    taken.1 (map (λ t. t.entries) f.tables.items) f.entries c.in_ok-found.ensures.held c.in_ok-found.ensures.sound c.in_ok-part.ensures.nodes c.in_ok-part.ensures.cells)
+    taken.1 (map (λ t. t.entries) f.tables.items) f.entries c.in_ok-found.ensures.found.held c.in_ok-found.ensures.found.sound c.in_ok-part.ensures.nodes c.in_ok-part.ensures.cells)
 
 pub returns-in_err-found-clause-only : goal.returns-in_err-found-clause-only
 returns-in_err-found-clause-only c t nodes cells d holds sound =
@@ -40,7 +40,7 @@ returns-clause-judged c =
     let joined = subst (λ ts. c.join-2.new.self.changes ≡ Joins (map (λ t. t.entries) ts) ∷ before) c.deref-2.ensures.value c.join-2.ensures in
     subst (λ changes. IsJudged a.policy.now a.schemes.now a.labels (rows_in a.nodes.items a.cells.items) a.entries.now (content_of changes)) (sym joined)
     (ends a.policy.now a.schemes.now a.labels a.nodes.items a.cells.items a.entries.now (content_of before) rest c.parts.invariant c.new.ensures.items
-    (map (λ t. t.entries) f.tables.items) f.entries c.in_ok-found-2.ensures.held c.in_ok-found-2.ensures.sound)
+    (map (λ t. t.entries) f.tables.items) f.entries c.in_ok-found-2.ensures.found.held c.in_ok-found-2.ensures.found.sound)
 
 pub returns-in_err-found-2-clause-only : goal.returns-in_err-found-2-clause-only
 returns-in_err-found-2-clause-only c t nodes cells d holds sound =

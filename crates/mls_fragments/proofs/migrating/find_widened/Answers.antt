@@ -44,91 +44,61 @@ widened_tables-requires-clause-counts c =
 pub widened_tables-requires-clause-count : goal.widened_tables-requires-clause-count
 widened_tables-requires-clause-count c =
     let b = c.requires.before in
-    c.in_ok-tables.ensures.count ∙ ap length (c.in_ok-before.ensures ∙ ap (λ ns. schemes_before ns c.args.schemes.now) c.deref.ensures.value)
+    c.in_ok-tables.ensures.found.count ∙ ap length (c.in_ok-before.ensures ∙ ap (λ ns. schemes_before ns c.args.schemes.now) c.deref.ensures.value)
     ∙ before_long c.args.older.now.counts.items c.args.schemes.now (extends_long c.args.policy.now c.args.schemes.now b.text c.args.older.now.counts.items b.extends)
 
 -- ---- what is found
 
-pub returns-clause-sound : goal.returns-clause-sound
-returns-clause-sound c =
+pub returns-clause-widened : goal.returns-clause-widened
+returns-clause-widened c =
     let policy = c.args.policy.now in
     let ls = labels_of policy in
     let schemes = c.args.schemes.now in
     let counts = c.args.older.now.counts.items in
     let b = c.requires.before in
+    let f = c.in_ok-tables.ensures.found in
+    let lists = c.in_ok-tables.field-0.tables.items in
+    let entries = c.in_ok-tables.field-0.entries in
     let long = extends_long policy schemes b.text counts b.extends in
-    let tables = map (λ t. t.entries) c.in_ok-tables.field-0.tables.items in
+    let tables = map (λ t. t.entries) lists in
     let wide = map (λ t. t.entries) c.in_ok-widened_tables.field-0.items in
     let before : c.in_ok-before.before ≡ schemes_before counts schemes = c.in_ok-before.ensures ∙ ap (λ ns. schemes_before ns schemes) c.deref.ensures.value in
     let is : wide ≡ wide_tables schemes counts 0 tables = c.in_ok-widened_tables.ensures ∙ ap (λ ns. wide_tables schemes ns 0 tables) c.deref-2.ensures.value in
     let sorted : (rel : ℕ) → IsStrictlySortedBy place_cmp (keys_of (slice_index_or tables rel []))
-    = each_table (λ es. IsStrictlySortedBy place_cmp (keys_of es)) none_sorted tables (all-map (λ es. IsStrictlySortedBy place_cmp (keys_of es)) (λ t. t.entries) c.in_ok-tables.field-0.tables.items c.in_ok-tables.ensures.sorted) in
+    = each_table (λ es. IsStrictlySortedBy place_cmp (keys_of es)) none_sorted tables (all-map (λ es. IsStrictlySortedBy place_cmp (keys_of es)) (λ t. t.entries) lists f.sorted) in
+    let spelled : (rel : ℕ) → AllByRecursion IsSpelledEntry (slice_index_or tables rel [])
+    = each_table (AllByRecursion IsSpelledEntry) tt tables (all-map (AllByRecursion IsSpelledEntry) (λ t. t.entries) lists f.spelled) in
     let shorter : length c.in_ok-before.before ≡ length schemes = ap length before ∙ before_long counts schemes long in
-    let count : length wide ≡ length schemes
-    = ap length is ∙ wide_length schemes counts 0 tables ∙ length-map c.in_ok-tables.field-0.tables.items (λ t. t.entries) ∙ c.in_ok-tables.ensures.count ∙ shorter in
+    let listed : length wide ≡ length tables = ap length is ∙ wide_length schemes counts 0 tables in
+    let counted : length tables ≡ length c.in_ok-before.before = length-map lists (λ t. t.entries) ∙ f.count in
+    let count : length wide ≡ length schemes = listed ∙ counted ∙ shorter in
+    let all_content = are_content ls schemes wide (λ rel l.
+    let within : rel < length schemes = omega (arith, l, count) in
+    let at : scheme_of c.in_ok-before.before rel ≡ scheme_before (slice_index_or counts rel 0) (scheme_of schemes rel) = ap (λ (ss : Schemes). scheme_of ss rel) before ∙ before_at counts schemes rel long within in
+    content_wide schemes counts tables wide is sorted policy rel within
+    (subst (λ s. 0 < length s.keys) at (scheme_each IsScheme c.in_ok-before.before f.valid.each rel (omega (arith, within, shorter))).some_key)
+    (extends_at policy schemes b.text counts b.extends rel within)
+    (subst (λ n. IsUnder n (scheme_before (slice_index_or counts rel 0) (scheme_of schemes rel))) (sym (length-map policy.labels (λ l. l.value)))
+    (subst (IsUnder (length policy.labels)) (before_at counts schemes rel long within)
+    (scheme_each (IsUnder (length policy.labels)) (schemes_before counts schemes) (before_under (length policy.labels) counts schemes c.requires.under) rel (omega (arith, within, before_long counts schemes long)))))
+    (subst (λ s. IsContent ls s (table_in tables rel)) at (f.sound.content rel))) in
     record {
-      content = are_content ls schemes wide (λ rel l.
-          let within : rel < length schemes = omega (arith, l, count) in
-          let at : scheme_of c.in_ok-before.before rel ≡ scheme_before (slice_index_or counts rel 0) (scheme_of schemes rel) = ap (λ (ss : Schemes). scheme_of ss rel) before ∙ before_at counts schemes rel long within in
-          content_wide schemes counts tables wide is sorted policy rel within
-          (subst (λ s. 0 < length s.keys) at (scheme_each IsScheme c.in_ok-before.before c.in_ok-tables.ensures.valid.each rel (omega (arith, within, shorter))).some_key)
-          (extends_at policy schemes b.text counts b.extends rel within)
-          (subst (λ n. IsUnder n (scheme_before (slice_index_or counts rel 0) (scheme_of schemes rel))) (sym (length-map policy.labels (λ l. l.value)))
-          (subst (IsUnder (length policy.labels)) (before_at counts schemes rel long within)
-          (scheme_each (IsUnder (length policy.labels)) (schemes_before counts schemes) (before_under (length policy.labels) counts schemes c.requires.under) rel (omega (arith, within, before_long counts schemes long)))))
-          (subst (λ s. IsContent ls s (table_in tables rel)) at (c.in_ok-tables.ensures.sound.content rel)));
-      entries = entries_more c.args.older.now.labels (length policy.labels) b.few_labels c.in_ok-tables.field-0.entries c.in_ok-tables.ensures.sound.entries;
+      widened = (
+        found tables entries,
+        f.held,
+        subst (λ (ss : Schemes). IsSoundWithin policy ss c.args.older.now.labels (found tables entries)) before f.sound,
+        record { tables = tables_wide schemes counts tables wide is sorted; audit = refl },
+      );
+      sound = record {
+        content = all_content;
+        entries = entries_more c.args.older.now.labels (length policy.labels) b.few_labels entries f.sound.entries;
+      };
+      classes = content_bytes ls schemes (found wide entries) (few_labels policy f.few) all_content;
+      holds = λ t nodes cells audit.
+          holds_found ls wide entries t (sorted_wide schemes counts tables wide is sorted) (spelled_wide schemes counts tables wide is spelled)
+          (λ rel. (length (scheme_of schemes rel).others, (all_content rel).stored)) nodes cells audit;
+      listed = λ t all. (f.held t all).audit;
+      spelled = tables_each (AllByRecursion IsSpelledEntry) (λ t. t.entries) c.in_ok-widened_tables.field-0.items (λ rel l. spelled_wide schemes counts tables wide is spelled rel);
+      count = (let few = f.valid.few in omega (arith, listed, counted, few, length-map c.in_ok-widened_tables.field-0.items (λ t. t.entries)));
+      last = search rules;
     }
-
-pub returns-clause-classes : goal.returns-clause-classes
-returns-clause-classes c =
-    content_bytes (labels_of c.args.policy.now) c.args.schemes.now (found (map (λ t. t.entries) c.in_ok-widened_tables.field-0.items) c.in_ok-tables.field-0.entries)
-    (few_labels c.args.policy.now c.in_ok-tables.ensures.few) (returns-clause-sound c).content
-
-pub returns-clause-widened : goal.returns-clause-widened
-returns-clause-widened c =
-    let schemes = c.args.schemes.now in
-    let counts = c.args.older.now.counts.items in
-    let tables = map (λ t. t.entries) c.in_ok-tables.field-0.tables.items in
-    let wide = map (λ t. t.entries) c.in_ok-widened_tables.field-0.items in
-    let before : c.in_ok-before.before ≡ schemes_before counts schemes = c.in_ok-before.ensures ∙ ap (λ ns. schemes_before ns schemes) c.deref.ensures.value in
-    let is : wide ≡ wide_tables schemes counts 0 tables = c.in_ok-widened_tables.ensures ∙ ap (λ ns. wide_tables schemes ns 0 tables) c.deref-2.ensures.value in
-    let sorted : (rel : ℕ) → IsStrictlySortedBy place_cmp (keys_of (slice_index_or tables rel []))
-    = each_table (λ es. IsStrictlySortedBy place_cmp (keys_of es)) none_sorted tables (all-map (λ es. IsStrictlySortedBy place_cmp (keys_of es)) (λ t. t.entries) c.in_ok-tables.field-0.tables.items c.in_ok-tables.ensures.sorted) in (
-      found tables c.in_ok-tables.field-0.entries,
-      c.in_ok-tables.ensures.held,
-      subst (λ (ss : Schemes). IsSoundWithin c.args.policy.now ss c.args.older.now.labels (found tables c.in_ok-tables.field-0.entries)) before c.in_ok-tables.ensures.sound,
-      record { tables = tables_wide schemes counts tables wide is sorted; audit = refl },
-    )
-
-pub returns-clause-holds : goal.returns-clause-holds
-returns-clause-holds c t nodes cells listed =
-    let schemes = c.args.schemes.now in
-    let counts = c.args.older.now.counts.items in
-    let tables = map (λ t. t.entries) c.in_ok-tables.field-0.tables.items in
-    let wide = map (λ t. t.entries) c.in_ok-widened_tables.field-0.items in
-    let is : wide ≡ wide_tables schemes counts 0 tables = c.in_ok-widened_tables.ensures ∙ ap (λ ns. wide_tables schemes ns 0 tables) c.deref-2.ensures.value in
-    let sorted : (rel : ℕ) → IsStrictlySortedBy place_cmp (keys_of (slice_index_or tables rel []))
-    = each_table (λ es. IsStrictlySortedBy place_cmp (keys_of es)) none_sorted tables (all-map (λ es. IsStrictlySortedBy place_cmp (keys_of es)) (λ t. t.entries) c.in_ok-tables.field-0.tables.items c.in_ok-tables.ensures.sorted) in
-    let spelled : (rel : ℕ) → AllByRecursion IsSpelledEntry (slice_index_or tables rel [])
-    = each_table (AllByRecursion IsSpelledEntry) tt tables (all-map (AllByRecursion IsSpelledEntry) (λ t. t.entries) c.in_ok-tables.field-0.tables.items c.in_ok-tables.ensures.spelled) in
-    holds_found (labels_of c.args.policy.now) wide c.in_ok-tables.field-0.entries t (sorted_wide schemes counts tables wide is sorted) (spelled_wide schemes counts tables wide is spelled)
-    (λ rel. (length (scheme_of schemes rel).others, ((returns-clause-sound c).content rel).stored)) nodes cells listed
-
-pub returns-clause-spelled : goal.returns-clause-spelled
-returns-clause-spelled c =
-    let schemes = c.args.schemes.now in
-    let counts = c.args.older.now.counts.items in
-    let tables = map (λ t. t.entries) c.in_ok-tables.field-0.tables.items in
-    let wide = map (λ t. t.entries) c.in_ok-widened_tables.field-0.items in
-    let is : wide ≡ wide_tables schemes counts 0 tables = c.in_ok-widened_tables.ensures ∙ ap (λ ns. wide_tables schemes ns 0 tables) c.deref-2.ensures.value in
-    let spelled : (rel : ℕ) → AllByRecursion IsSpelledEntry (slice_index_or tables rel [])
-    = each_table (AllByRecursion IsSpelledEntry) tt tables (all-map (AllByRecursion IsSpelledEntry) (λ t. t.entries) c.in_ok-tables.field-0.tables.items c.in_ok-tables.ensures.spelled) in
-    tables_each (AllByRecursion IsSpelledEntry) (λ t. t.entries) c.in_ok-widened_tables.field-0.items (λ rel l. spelled_wide schemes counts tables wide is spelled rel)
-
-pub returns-clause-count : goal.returns-clause-count
-returns-clause-count c =
-    let tables = map (λ t. t.entries) c.in_ok-tables.field-0.tables.items in
-    let wide = ap length c.in_ok-widened_tables.ensures ∙ wide_length c.args.schemes.now c.deref-2.result.now 0 tables ∙ length-map c.in_ok-tables.field-0.tables.items (λ t. t.entries) ∙ c.in_ok-tables.ensures.count in
-    let few = c.in_ok-tables.ensures.valid.few in
-    omega (arith, wide, few, length-map c.in_ok-widened_tables.field-0.items (λ t. t.entries))

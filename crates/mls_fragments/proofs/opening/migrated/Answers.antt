@@ -25,17 +25,17 @@ over_found-requires-clause-noted g c clean =
     let f = c.in-Ok-find_widened.found in
     let rewritten = c.in-Ok-rewritten.ensures.rewritten disk in
     let adopted = c.in-Ok.ensures.adopted (c.in-Ok-rewritten.ensures.clean disk) in
-    let listed = subst (IsPermutation (numbered 1 f.entries)) (sym (rewritten.rows.audit ∙ ap (λ db. (tables_of db.trees).audit) adopted.same)) (c.in-Ok-find_widened.ensures.listed (tables_of (state g.S.Store c.args.conn).now.trees) adopted.all) in
-    let holds = c.in-Ok-find_widened.ensures.holds (tables_of (state g.S.Store c.rewritten.new.conn).now.trees) rewritten.rows.nodes_are rewritten.rows.cells_are listed in
-    noted_found (map (λ t. t.entries) f.tables.items) f.entries c.over.result.now c.find.result c.find.ensures.content (c.find.ensures.last ∙ c.in-Ok-find_widened.ensures.last)
+    let listed = subst (IsPermutation (numbered 1 f.entries)) (sym (rewritten.rows.audit ∙ ap (λ db. (tables_of db.trees).audit) adopted.same)) (c.in-Ok-find_widened.ensures.widened.listed (tables_of (state g.S.Store c.args.conn).now.trees) adopted.all) in
+    let holds = c.in-Ok-find_widened.ensures.widened.holds (tables_of (state g.S.Store c.rewritten.new.conn).now.trees) rewritten.rows.nodes_are rewritten.rows.cells_are listed in
+    noted_found (map (λ t. t.entries) f.tables.items) f.entries c.over.result.now c.find.result c.find.ensures.content (c.find.ensures.last ∙ c.in-Ok-find_widened.ensures.widened.last)
     (subst HaveOneMeta (sym (c.over.ensures.rows clean).0) (record { row = _; one = rewritten.rows.meta; version = inr refl }))
-    c.in-Ok-find_widened.ensures.classes (subst (λ t. Holds t (content_found f)) (sym (c.over.ensures.rows clean).0) holds)
+    c.in-Ok-find_widened.ensures.widened.classes (subst (λ t. Holds t (content_found f)) (sym (c.over.ensures.rows clean).0) holds)
 
 pub returns-in-Ok-rewritten-clause-widened : goal.returns-in-Ok-rewritten-clause-widened
 returns-in-Ok-rewritten-clause-widened g c clean =
     let disk = c.over.ensures.clean (subst IsClean c.over_found.ensures.tables clean) in
     let adopted = c.in-Ok.ensures.adopted (c.in-Ok-rewritten.ensures.clean disk) in
-    let w = c.in-Ok-find_widened.ensures.widened in (
+    let w = c.in-Ok-find_widened.ensures.widened.widened in (
       w.0,
       w.1 _ adopted.all,
       w.2,

@@ -9,11 +9,11 @@ returns-clause-done g c clean =
     (c.from-rel.ensures ∙ c.byte.ensures) (c.from-kclass.ensures ∙ c.byte-2.ensures) (c.from-label.ensures ∙ c.byte-3.ensures)
     (search rules) (search rules) (c.in_ok-drop_node.ensures.done (c.drop_cells.ensures.call.clean clean)) (c.drop_cells.ensures.done clean)
 
-pub returns-in-Err-clause-call : goal.returns-in-Err-clause-call
-returns-in-Err-clause-call g c = grind (arith, common_steps)
+pub returns-in-Err-clause-step : goal.returns-in-Err-clause-step
+returns-in-Err-clause-step g c = record { call = grind (arith, common_steps); mode = search rules }
 
-pub returns-in_err-drop_node-clause-call : goal.returns-in_err-drop_node-clause-call
-returns-in_err-drop_node-clause-call g c = grind (arith, common_steps)
+pub returns-in_err-drop_node-clause-step : goal.returns-in_err-drop_node-clause-step
+returns-in_err-drop_node-clause-step g c = record { call = grind (arith, common_steps); mode = search rules }
 
-pub returns-clause-call : goal.returns-clause-call
-returns-clause-call g c = grind (arith, common_steps)
+pub returns-clause-step : goal.returns-clause-step
+returns-clause-step g c = record { call = grind (arith, common_steps); mode = search rules }

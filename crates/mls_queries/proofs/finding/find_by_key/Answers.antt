@@ -7,8 +7,8 @@ use Rattle.mls_queries.proofs.TopLemmas.{rows_by_key}
 use Rattle.mls_queries.proofs.LookLemmas.{looked_up}
 use Rattle.mls_queries.proofs.finding.find_by_key.Goals as goal
 
-pub look_up-requires-clause-stored : goal.look_up-requires-clause-stored
-look_up-requires-clause-stored g c = λ clean. (length c.args.scheme.now.others, (c.requires.content clean).stored)
+pub look_up-requires-clause-see : goal.look_up-requires-clause-see
+look_up-requires-clause-see g c = record { label = c.requires.label; stored = λ clean. (length c.args.scheme.now.others, (c.requires.content clean).stored) }
 
 pub returns-clause-rows : goal.returns-clause-rows
 returns-clause-rows g c = λ clean.
@@ -22,4 +22,4 @@ returns-clause-rows g c = λ clean.
     let by_key = subst AreByKey (sym seen) (rows_by_key ls c.args.label (of_key c.args.key T)) in
     subst (λ r. IfOk r (λ s. AreByKey view → s ≡ found ls c.args.query.now view)) c.in_ok-found.ensures.value c.select.ensures by_key
     ∙ ap (found ls c.args.query.now) seen
-    ∙ looked_up ls c.args.scheme.now T (c.requires.content (c.in_ok-tuples.ensures.call.clean before)) c.args.label c.args.query.now c.args.key c.requires.demanded
+    ∙ looked_up ls c.args.scheme.now T (c.requires.content (c.in_ok-tuples.ensures.read.call.clean before)) c.args.label c.args.query.now c.args.key c.requires.demanded.demanded

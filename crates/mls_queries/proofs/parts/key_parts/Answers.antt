@@ -5,16 +5,20 @@ use Rattle.mls_lattice.specs.Policy.{labels_of}
 use Rattle.mls_filterview.specs.Content.{State}
 use Rattle.mls_filterview.specs.Stored.{IsStored}
 use Rattle.mls_filterview.specs.Assembly.{AreOf}
-use Rattle.mls_filterview.proofs.CallLemmas.{fault_after_reads}
-use Rattle.mls_queries.specs.Parts.{IsOfEntity, IsOfKey}
+use Rattle.mls_filterview.proofs.CallLemmas.{fault_read}
+use Rattle.mls_filterview.specs.Entities.{IsOfEntity}
+use Rattle.mls_queries.specs.Parts.{IsOfKey}
 use Rattle.mls_queries.proofs.PartLemmas.{key_skipped, key_more, key_parts_low}
 use Rattle.mls_queries.proofs.parts.key_parts.Goals as goal
 
-pub entity_parts-requires-clause-stored : goal.entity_parts-requires-clause-stored
-entity_parts-requires-clause-stored g c = λ clean.
-    let inv = c.loop-number.invariant in
-    let stored = c.requires.stored (inv.clean clean) in
-    (stored.0, subst (λ (s : State). IsStored (labels_of c.args.policy.now) stored.0 (s.now.db c.args.rel)) (sym (inv.same clean)) stored.1)
+pub entity_parts-requires-clause-see : goal.entity_parts-requires-clause-see
+entity_parts-requires-clause-see g c = record {
+  label = c.requires.see.label;
+  stored = λ clean.
+      let inv = c.loop-number.invariant in
+      let stored = c.requires.see.stored (inv.clean clean) in
+      (stored.0, subst (λ (s : State). IsStored (labels_of c.args.policy.now) stored.0 (s.now.db c.args.rel)) (sym (inv.same clean)) stored.1);
+}
 
 pub loop-number-preserved-then-not-dominates : goal.loop-number-preserved-then-not-dominates
 loop-number-preserved-then-not-dominates g c =
@@ -27,7 +31,7 @@ loop-number-preserved-then-not-dominates g c =
       same = inv.same;
       key = inv.key;
       parts = λ clean.
-          let stored = c.requires.stored (inv.clean clean) in
+          let stored = c.requires.see.stored (inv.clean clean) in
           key_skipped ls ((g.B.Base.state c.args.base.now).now.db c.args.rel) c.args.label c.args.key stored.0 stored.1 c.loop-number.number c.loop-number.nodes.items c.loop-number.cells.items
           (ap (λ m. below ls m c.args.label) (sym c.new-key_class.ensures) ∙ sym c.if-not-dominates.ensures.order) (inv.parts clean);
     }
@@ -41,15 +45,15 @@ loop-number-preserved g c =
     let put = c.in_ok-made.ensures.value in
     let ls = labels_of c.args.policy.now in
     record {
-      clean = λ clean. inv.clean (f.ensures.call.clean (c.in_ok-made.ensures.call.clean clean));
-      count = (let x = inv.count in let y = f.ensures.call.count in let z = c.in_ok-made.ensures.call.count in omega (arith, x, y, z));
-      mode = ap (λ s. s.begun) here ∙ f.ensures.mode ∙ inv.mode;
-      same = λ clean. (let before = c.in_ok-made.ensures.call.clean clean in here ∙ f.ensures.same before ∙ inv.same (f.ensures.call.clean before));
+      clean = λ clean. inv.clean (f.ensures.read.call.clean (c.in_ok-made.ensures.call.clean clean));
+      count = (let x = inv.count in let y = f.ensures.read.call.count in let z = c.in_ok-made.ensures.call.count in omega (arith, x, y, z));
+      mode = ap (λ s. s.begun) here ∙ f.ensures.read.mode ∙ inv.mode;
+      same = λ clean. (let before = c.in_ok-made.ensures.call.clean clean in here ∙ f.ensures.read.same before ∙ inv.same (f.ensures.read.call.clean before));
       key = f.ensures.key ∙ inv.key;
       parts = λ clean.
           let before = c.in_ok-made.ensures.call.clean clean in
-          let start = f.ensures.call.clean before in
-          let stored = c.requires.stored (inv.clean start) in
+          let start = f.ensures.read.call.clean before in
+          let stored = c.requires.see.stored (inv.clean start) in
           let T = (B.state c.args.base.now).now.db c.args.rel in
           rw (subst (λ r. OnOk r (c.gather.new.nodes.items ≡ c.loop-number.nodes.items ++ f.parts.nodes)) put c.gather.ensures.nodes, subst (λ r. OnOk r (c.gather.new.cells.items ≡ c.loop-number.cells.items ++ f.parts.cells)) put c.gather.ensures.cells)
           (key_more ls T c.args.label c.args.key stored.0 stored.1 c.loop-number.number c.loop-number.nodes.items f.parts.nodes c.loop-number.cells.items f.parts.cells
@@ -63,24 +67,24 @@ pub returns-clause-parts : goal.returns-clause-parts
 returns-clause-parts g c = λ clean.
     let ls = labels_of c.args.policy.now in
     let T = (g.B.Base.state c.args.base.now).now.db c.args.rel in
-    let stored = c.requires.stored (c.loop-number.invariant.clean clean) in
+    let stored = c.requires.see.stored (c.loop-number.invariant.clean clean) in
     rw (c.from.ensures, c.from-2.ensures)
     (key_parts_low ls T c.args.label c.args.key stored.0 stored.1 c.loop-number.nodes.items c.loop-number.cells.items
     (subst (λ k. AreOf (IsOfKey ls T c.args.label c.args.key k) c.loop-number.nodes.items c.loop-number.cells.items)
     (omega (arith, length-map c.args.policy.now.labels (λ l. l.value))) (c.loop-number.invariant.parts clean)))
 
-pub returns-in_err-parts-clause-call : goal.returns-in_err-parts-clause-call
-returns-in_err-parts-clause-call g c =
+pub returns-in_err-parts-clause-read : goal.returns-in_err-parts-clause-read
+returns-in_err-parts-clause-read g c =
     let B = g.B.Base in
     let inv = c.loop-number.invariant in
-    fault_after_reads B.is_clean B.failures B.state c.args.base.now c.loop-number.base c.entity_parts.new.base c.in_err-parts.field-0.0 c.from_residual.result
-    inv.clean inv.count inv.mode inv.same c.in_err-parts.ensures.call c.in_err-parts.ensures.served (search rules)
+    fault_read B.is_clean B.failures B.state c.args.base.now c.loop-number.base c.entity_parts.new.base c.in_err-parts.field-0.0 c.from_residual.result
+    inv.clean inv.count inv.mode inv.same c.in_err-parts.ensures.read.call c.in_err-parts.ensures.read.served (search rules)
 
-pub returns-in_err-made-clause-call : goal.returns-in_err-made-clause-call
-returns-in_err-made-clause-call g c =
+pub returns-in_err-made-clause-read : goal.returns-in_err-made-clause-read
+returns-in_err-made-clause-read g c =
     let B = g.B.Base in
     let inv = c.loop-number.invariant in
-    let f = c.in_ok-parts.ensures in
+    let f = c.in_ok-parts.ensures.read in
     let first = inv.count in let second = f.call.count in
-    fault_after_reads B.is_clean B.failures B.state c.args.base.now c.entity_parts.new.base c.made.new.base c.in_err-made.field-0.0 c.from_residual-in_err-made.result
+    fault_read B.is_clean B.failures B.state c.args.base.now c.entity_parts.new.base c.made.new.base c.in_err-made.field-0.0 c.from_residual-in_err-made.result
     (λ h. inv.clean (f.call.clean h)) (omega (arith, first, second)) (f.mode ∙ inv.mode) (λ h. f.same h ∙ inv.same (f.call.clean h)) c.in_err-made.ensures.call c.in_err-made.ensures.served (search rules)

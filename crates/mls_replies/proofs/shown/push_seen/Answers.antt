@@ -1,6 +1,6 @@
 use Rattle.std.proofs.Common.{◌<◌, length, sym, subst}
 use Rattle.mls_lattice.proofs.PolicyLemmas.{row-at}
-use Rattle.mls_meaning.specs.Meaning.{Item}
+use Rattle.mls_certcheck.specs.Meaning.{Item}
 use Rattle.mls_replies.proofs.shown.push_seen.Goals as goal
 
 pub push_if_seen-requires-clause-label : goal.push_if_seen-requires-clause-label

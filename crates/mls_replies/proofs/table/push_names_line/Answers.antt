@@ -1,5 +1,5 @@
 use Rattle.std.proofs.Common.{◌++◌, ℕ, List, ◌∙◌, ap, codes}
-use Rattle.mls_screen.specs.Table.{padded}
+use Rattle.mls_tokens.specs.Table.{padded}
 use Rattle.mls_machine.specs.Output.{front}
 use Rattle.mls_replies.proofs.PrintingSteps.{item_parts}
 use Rattle.mls_replies.proofs.table.push_names_line.Goals as goal

@@ -1,6 +1,6 @@
 use Rattle.std.proofs.Common.{◌++◌, ℕ, List, ◌∙◌, ap, codes}
 use Rattle.std.specs.List.{flat_map}
-use Rattle.mls_screen.specs.Table.{ruled}
+use Rattle.mls_tokens.specs.Table.{ruled}
 use Rattle.mls_machine.specs.Output.{front}
 use Rattle.mls_replies.proofs.PrintingSteps.{item_parts}
 use Rattle.mls_replies.proofs.table.push_rule_line.Goals as goal

@@ -1,5 +1,5 @@
 use Rattle.std.proofs.Common.{◌≡◌, [], drop}
-use Rattle.mls_screen.specs.Table.{wider}
+use Rattle.mls_tokens.specs.Table.{wider}
 use Rattle.mls_machine.specs.Output.{widths_with}
 use Rattle.mls_replies.proofs.table.widths_of.Given as goal
 

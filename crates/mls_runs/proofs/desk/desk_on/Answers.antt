@@ -2,7 +2,7 @@ use Rattle.std.proofs.Common.{◌≡◌, sym, ap, subst, ◌∙◌}
 use Rattle.mls_lattice.specs.Labels.{AreDistinct}
 use Rattle.mls_machine.specs.Site.{Site, site_labels}
 use Rattle.mls_sessions.specs.World.{world_at, IsSound}
-use Rattle.mls_monitor.specs.Sessions.{site_of, sessions_of}
+use Rattle.mls_sessions.specs.Sessions.{site_of, sessions_of}
 use Rattle.mls_host.specs.Hosting.{IsAppended}
 use Rattle.mls_host.specs.Running.{first_world, site_of as site_for}
 use Rattle.mls_runs.proofs.DeskLemmas.{service_at}

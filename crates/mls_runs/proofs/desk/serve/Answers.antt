@@ -1,5 +1,5 @@
 use Rattle.std.proofs.Common.{Ok, refl, sym, ap, ◌∙◌, subst}
-use Rattle.mls_monitor.specs.Sessions.{site_of}
+use Rattle.mls_sessions.specs.Sessions.{site_of}
 use Rattle.mls_sessions.specs.Engine.{site, world_of, Continues}
 use Rattle.mls_host.specs.Ending.{ending_if}
 use Rattle.mls_host.specs.Hosting.{IsAppended}

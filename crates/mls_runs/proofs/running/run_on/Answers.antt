@@ -3,7 +3,7 @@ use Rattle.mls_machine.specs.Site.{Site}
 use Rattle.mls_machine.specs.Observation.{EventsFit}
 use Rattle.mls_sessions.specs.World.{world_at, IsSound}
 use Rattle.mls_sessions.specs.Engine.{world_of}
-use Rattle.mls_monitor.specs.Sessions.{site_of, sessions_of}
+use Rattle.mls_sessions.specs.Sessions.{site_of, sessions_of}
 use Rattle.mls_host.specs.Running.{first_world, site_of as site_for}
 use Rattle.mls_host.proofs.RunningLemmas.{IsEngineRun, run_at}
 use Rattle.mls_sessions.proofs.FrameLemmas.{left_behind}

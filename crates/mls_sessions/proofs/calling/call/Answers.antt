@@ -2,15 +2,15 @@ use Rattle.std.proofs.Common.{List, Option, length, sym, ap, ◌∙◌, subst}
 use Rattle.std.specs.List.{AllByRecursion}
 use Rattle.mls_audit.specs.Spelling.{HasSpelling}
 use Rattle.mls_scheme.specs.declared.value.Value.{Value}
-use Rattle.mls_meaning.specs.Meaning.{run_tx}
+use Rattle.mls_certcheck.specs.Meaning.{run_tx}
 use Rattle.mls_machine.specs.declared.stored.Stored.TheVariants.{Certified}
 use Rattle.mls_machine.specs.Site.{site_labels}
 use Rattle.mls_machine.specs.Denying.{stored_named, fitted}
 use Rattle.mls_machine.specs.Machine.{call_entries}
 use Rattle.mls_trusted.specs.Runs.{with_database, IsEvaluated}
-use Rattle.mls_monitor.specs.Sessions.{site_of}
+use Rattle.mls_sessions.specs.Sessions.{site_of}
 use Rattle.mls_sessions.specs.Calling.{with_entries}
-use Rattle.mls_monitor.proofs.StoredLemmas.{found_read}
+use Rattle.mls_sessions.proofs.StoredLemmas.{found_read}
 use Rattle.mls_sessions.proofs.CallLemmas.{certified_found, counted, items_known, call_allowed, call_over}
 use Rattle.mls_sessions.proofs.calling.call.Goals as goal
 

@@ -1,7 +1,7 @@
 use Rattle.std.proofs.Common.{arith}
 use Rattle.mls_audit.specs.Spelling.{HasSpelling}
 use Rattle.mls_machine.specs.Machine.{release_entry}
-use Rattle.mls_monitor.specs.Sessions.{site_of}
+use Rattle.mls_sessions.specs.Sessions.{site_of}
 use Rattle.mls_sessions.proofs.EnteringLemmas.{none_entered, entered_more, each_more, entered_all, each_all}
 use Rattle.mls_sessions.proofs.calling.enter_releases.Goals as goal
 

@@ -2,7 +2,7 @@ use Rattle.std.proofs.Common.{◌≡◌, ◌≤◌, true, take, map}
 use Rattle.std.specs.List.{AllByRecursion}
 use Rattle.mls_audit.specs.Spelling.{HasSpelling}
 use Rattle.mls_machine.specs.Machine.{release_entry}
-use Rattle.mls_monitor.specs.Sessions.{site_of}
+use Rattle.mls_sessions.specs.Sessions.{site_of}
 use Rattle.mls_sessions.specs.Calling.{with_entries}
 use Rattle.mls_sessions.proofs.calling.enter_releases.Given as goal
 

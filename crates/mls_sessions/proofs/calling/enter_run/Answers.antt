@@ -4,7 +4,7 @@ use Rattle.mls_audit.specs.declared.entry.Entry.TheVariants.{Called}
 use Rattle.mls_lattice.specs.Canon.{user_name}
 use Rattle.std.specs.Prelude.{map}
 use Rattle.mls_machine.specs.Machine.{release_entry}
-use Rattle.mls_monitor.specs.Sessions.{site_of}
+use Rattle.mls_sessions.specs.Sessions.{site_of}
 use Rattle.mls_sessions.specs.Calling.{with_entries}
 use Rattle.mls_sessions.proofs.EnteringLemmas.{first_entered}
 use Rattle.mls_sessions.proofs.calling.enter_run.Goals as goal

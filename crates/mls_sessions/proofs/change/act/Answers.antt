@@ -1,4 +1,4 @@
-use Rattle.mls_monitor.specs.Sessions.{site_of}
+use Rattle.mls_sessions.specs.Sessions.{site_of}
 use Rattle.mls_sessions.proofs.KeptLemmas.{denied_views}
 use Rattle.mls_sessions.proofs.change.act.Goals as goal
 

@@ -2,7 +2,7 @@ use Rattle.std.proofs.Common.{◌≡◌, OnOk, IfOk, ap, ◌∙◌, subst}
 use Rattle.mls_filterview.specs.Content.{with_entry}
 use Rattle.mls_audit.specs.Spelling.{HasSpelling, entry_spelling}
 use Rattle.mls_machine.specs.Machine.{denial_entry}
-use Rattle.mls_monitor.specs.Sessions.{site_of}
+use Rattle.mls_sessions.specs.Sessions.{site_of}
 use Rattle.mls_sessions.proofs.StepLemmas.{denied_over}
 use Rattle.mls_sessions.proofs.change.enter.Goals as goal
 

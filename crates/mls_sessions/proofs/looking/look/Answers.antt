@@ -1,4 +1,8 @@
 use Rattle.mls_sessions.proofs.looking.look.Goals as goal
 
-pub find-requires-clause-content : goal.find-requires-clause-content
-find-requires-clause-content g c = λ h. (c.requires.found.sound h).content c.args.rel
+pub find-requires-clause-can : goal.find-requires-clause-can
+find-requires-clause-can g c = record {
+  label = c.requires.label;
+  content = λ h. (c.requires.found.sound h).content c.args.rel;
+  views = c.requires.found.views;
+}

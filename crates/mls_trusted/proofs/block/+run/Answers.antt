@@ -9,7 +9,7 @@ use Rattle.mls_translang.specs.Tree.{Do, If, For, Assign, Release, Emit, End}
 use Rattle.mls_translang.specs.Blocks.{block_of}
 use Rattle.mls_translang.proofs.BlockLemmas.{size_step}
 use Rattle.mls_certcheck.proofs.EachLemmas.{all_at}
-use Rattle.mls_meaning.specs.Expressions.{is_true, eval}
+use Rattle.mls_certcheck.specs.Expressions.{is_true, eval}
 use Rattle.mls_trusted.specs.Frames.{around_of, progress_of, MayRun, run_of, rows_of, loop_of, IsReady, IsRun}
 use Rattle.mls_trusted.proofs.RunLemmas.{run_none, run_start, run_stmts, may_here, branch_one, branch_other, loop_same, run_rows_more, ok_same, ok_step, ready_read, may_each, entered, entered_around}
 use Rattle.mls_trusted.proofs.block.+run.Goals as goal
@@ -72,7 +72,7 @@ run_loop-run_rows-requires g t c κs within =
     let call = c.args.call.now in
     let f = c.args.frame.now in
     let read = c.in_ok-rows.ensures in
-    let ready = ready_read call g.B.Base.is_clean g.B.Base.state c.args.base.now c.rows_at.new.base f c.rows_at.new.views c.rows_at.ensures.call.clean read.mode read.same c.rows_at.ensures.views c.requires.ready in
+    let ready = ready_read call g.B.Base.is_clean g.B.Base.state c.args.base.now c.rows_at.new.base f c.rows_at.new.views read.read.call.clean (read.read.mode ∙ c.requires.ready.begun) read.read.same c.rows_at.ensures.views c.requires.ready in
     let may = may_each call (around_of f) c.args.relation c.args.label c.args.body.now c.requires.may c.in_ok-rows.rows read.kinds in
     (omega arith, (within, (ready, may)))
 

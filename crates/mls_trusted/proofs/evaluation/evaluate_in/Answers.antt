@@ -6,9 +6,9 @@ use Rattle.mls_filterview.specs.Stored.{AreContent}
 use Rattle.mls_translang.specs.Tree.{Block}
 use Rattle.mls_translang.specs.Tx.{Tx}
 use Rattle.mls_translang.specs.Fits.{IsReadUnder}
-use Rattle.mls_meaning.specs.Laws.{ArgsFit}
-use Rattle.mls_meaning.specs.Meaning.{start, run_tx}
-use Rattle.mls_views.specs.Views.{AreViews}
+use Rattle.mls_certcheck.specs.MeaningLaws.{ArgsFit}
+use Rattle.mls_certcheck.specs.Meaning.{start, run_tx}
+use Rattle.mls_queries.specs.Views.{AreViews}
 use Rattle.mls_trusted.specs.declared.call.Call.{Call}
 use Rattle.mls_trusted.specs.declared.frame.Frame.{Frame}
 use Rattle.mls_trusted.specs.Runs.{with_database, IsEvaluated}
@@ -23,9 +23,9 @@ run_block-requires-clause-ready g c =
     let views = subst (AreViews c.args.policy.now g.B.Base.is_clean g.B.Base.state c.made.new.base) (sym (is ∙ c.take_all.ensures.all))
     (subst (λ b. AreViews c.args.policy.now g.B.Base.is_clean g.B.Base.state b c.args.views.now) (sym c.in_ok-frame.ensures.same) c.requires.views) in
     record {
-      under = c.requires.under;
+      under = c.requires.call.under;
       begun = ap (λ b. (g.B.Base.state b).begun) c.in_ok-frame.ensures.same ∙ c.requires.begun;
-      content = λ k. subst (λ b. AreContent (labels_of c.args.policy.now) c.args.schemes.now (g.B.Base.state b).now.db) (sym c.in_ok-frame.ensures.same) (c.requires.content (c.in_ok-frame.ensures.call.clean k));
+      content = λ k. subst (λ b. AreContent (labels_of c.args.policy.now) c.args.schemes.now (g.B.Base.state b).now.db) (sym c.in_ok-frame.ensures.same) (c.requires.call.content (c.in_ok-frame.ensures.call.clean k));
       frame = IfOk-at_ok (IsFrame call) c.in_ok-frame.ensures.value c.new.ensures.frame;
       views = views;
     }
@@ -36,25 +36,22 @@ run_block-requires-clause-may g c =
     let f = c.in_ok-frame.frame in
     let none = IfOk-at_ok (λ (x : Frame). x.rows.items ≡ []) c.in_ok-frame.ensures.value c.new.ensures.rows in
     subst (MayRun call (around_of f)) (sym c.body.ensures.body)
-    (start_may call c.body.ensures.valid (subst (IsReadUnder c.args.policy.now c.args.schemes.now) (sym c.tx.ensures) c.requires.read) (subst (λ (x : Tx). ArgsFit x c.args.args.now) (sym c.tx.ensures) c.requires.args) f none)
+    (start_may call c.body.ensures.valid (subst (IsReadUnder c.args.policy.now c.args.schemes.now) (sym c.tx.ensures) c.requires.call.read) (subst (λ (x : Tx). ArgsFit x c.args.args.now) (sym c.tx.ensures) c.requires.call.args) f none)
 
-pub returns-clause-items : goal.returns-clause-items
-returns-clause-items g c =
-    let call : Call = record { alloc = c.args.alloc; policy = c.args.policy; schemes = c.args.schemes; tx = c.tx.result; args = c.args.args } in
-    gives_items call c.run_block.new.frame c.into_parts-run.result.0 c.into_parts-run.ensures.emitted c.into_parts-run.ensures.released c.in_ok-run_block.ensures.ran.ready.frame
-
-pub returns-clause-done : goal.returns-clause-done
-returns-clause-done g c = λ clean.
+pub returns-clause-called : goal.returns-clause-called
+returns-clause-called g c =
     let call : Call = record { alloc = c.args.alloc; policy = c.args.policy; schemes = c.args.schemes; tx = c.tx.result; args = c.args.args } in
     let f = c.in_ok-frame.frame in
     let state = g.B.Base.state in
     let ls = labels_of c.args.policy.now in
-    let none = IfOk-at_ok (λ (x : Frame). x.rows.items ≡ []) c.in_ok-frame.ensures.value c.new.ensures.rows in
-    let first = IfOk-at_ok (λ (x : Frame). (db : Database) → progress_of db x ≡ start db) c.in_ok-frame.ensures.value c.new.ensures.start in
-    let ran = subst (λ (x : Block). IsRun call g.B.Base.is_clean state (run_of call x (around_of f)) c.made.new.base c.run_block.new.base f c.run_block.new.frame) c.body.ensures.body c.in_ok-run_block.ensures.ran in
-    let evaluated = gives_run call g.B.Base.is_clean state c.made.new.base c.run_block.new.base f c.run_block.new.frame c.into_parts-run.result.0 first none ran c.into_parts-run.ensures.emitted c.into_parts-run.ensures.released clean in
-    subst (λ (x : Tx). let run = run_tx ls c.args.schemes.now x c.args.args.now (state c.args.base.now).now.db in IsEvaluated run (with_database (state c.args.base.now) run.db) (state c.run_block.new.base) c.into_parts-run.result.0) c.tx.ensures
-    (subst (λ b. let run = run_tx ls c.args.schemes.now c.tx.result.now c.args.args.now (state b).now.db in IsEvaluated run (with_database (state b) run.db) (state c.run_block.new.base) c.into_parts-run.result.0) c.in_ok-frame.ensures.same evaluated)
-
-pub returns-clause-content : goal.returns-clause-content
-returns-clause-content g c = λ clean. c.in_ok-run_block.ensures.ran.ready.content clean
+    record {
+      items = gives_items call c.run_block.new.frame c.into_parts-run.result.0 c.into_parts-run.ensures.emitted c.into_parts-run.ensures.released c.in_ok-run_block.ensures.ran.ready.frame;
+      done = λ clean.
+          let none = IfOk-at_ok (λ (x : Frame). x.rows.items ≡ []) c.in_ok-frame.ensures.value c.new.ensures.rows in
+          let first = IfOk-at_ok (λ (x : Frame). (db : Database) → progress_of db x ≡ start db) c.in_ok-frame.ensures.value c.new.ensures.start in
+          let ran = subst (λ (x : Block). IsRun call g.B.Base.is_clean state (run_of call x (around_of f)) c.made.new.base c.run_block.new.base f c.run_block.new.frame) c.body.ensures.body c.in_ok-run_block.ensures.ran in
+          let evaluated = gives_run call g.B.Base.is_clean state c.made.new.base c.run_block.new.base f c.run_block.new.frame c.into_parts-run.result.0 first none ran c.into_parts-run.ensures.emitted c.into_parts-run.ensures.released clean in
+          subst (λ (x : Tx). let run = run_tx ls c.args.schemes.now x c.args.args.now (state c.args.base.now).now.db in IsEvaluated run (with_database (state c.args.base.now) run.db) (state c.run_block.new.base) c.into_parts-run.result.0) c.tx.ensures
+          (subst (λ b. let run = run_tx ls c.args.schemes.now c.tx.result.now c.args.args.now (state b).now.db in IsEvaluated run (with_database (state b) run.db) (state c.run_block.new.base) c.into_parts-run.result.0) c.in_ok-frame.ensures.same evaluated);
+      content = λ clean. c.in_ok-run_block.ensures.ran.ready.content clean;
+    }

@@ -1,6 +1,6 @@
 use Rattle.std.proofs.Common.{drop}
 use Rattle.std.specs.List.{AllByRecursion}
-use Rattle.mls_meaning.specs.Kinds.{RowKinds}
+use Rattle.mls_certcheck.specs.Kinds.{RowKinds}
 use Rattle.mls_trusted.proofs.fitting.are_of_kinds.Given as goal
 
 -- what is left decides

@@ -18,29 +18,35 @@ pub returns-then-not-is_done-clause-done : goal.returns-then-not-is_done-clause-
 returns-then-not-is_done-clause-done g c = λ clean scheme.
     let s = g.B.Base.state c.args.base.now in
     left_same c.args.rel s (g.B.Base.state c.pattern.new.self) c.own_outcome-outcome.result _ _
-    (c.own_outcome-outcome.ensures scheme (get (s.now.db c.args.rel) c.args.place.now) (c.in_ok-found.ensures.found clean)) (sym c.if-not-is_done.ensures) (c.in_ok-found.ensures.same clean)
+    (c.own_outcome-outcome.ensures scheme (get (s.now.db c.args.rel) c.args.place.now) (c.in_ok-found.ensures.found clean)) (sym c.if-not-is_done.ensures) (c.in_ok-found.ensures.read.same clean)
 
-pub set_each-requires-clause-there : goal.set_each-requires-clause-there
-set_each-requires-clause-there g c = λ clean.
+pub set_each-requires : goal.set_each-requires
+set_each-requires g c =
     let ls = labels_of c.args.policy.now in
     let p = c.args.place.now in
     let sets = c.args.sets.now in
     let s = g.B.Base.state c.args.base.now in
     let T = s.now.db c.args.rel in
-    let first = c.own_outcome-outcome.ensures no_scheme (get T p) (c.in_ok-found.ensures.found clean) in
-    let passed = all_passed (own_refusals ls no_scheme p.class p.key_class sets (get T p)) refl (ap is_done (sym first) ∙ sym c.if-not-is_done.ensures) in
-    let found = (found_if ls p.class p.key_class p.class (get T p) passed.0).0 in
-    let start = c.in_ok-found.ensures.call.clean clean in
-    subst (λ x. AllByRecursion (λ r. HasCell (x.now.db c.args.rel) p r.0) sets) (sym (c.in_ok-found.ensures.same clean))
-    (cells_there p T (unwrap_or (get T p) []) found sets (c.requires.fits start (unwrap_or (get T p) []) found) passed.1.0)
+    record {
+      begun = c.in_ok-found.ensures.read.mode ∙ c.requires.at.begun;
+      key = c.requires.at.key;
+      sets = c.requires.sets;
+      there = λ clean.
+          let first = c.own_outcome-outcome.ensures no_scheme (get T p) (c.in_ok-found.ensures.found clean) in
+          let passed = all_passed (own_refusals ls no_scheme p.class p.key_class sets (get T p)) refl (ap is_done (sym first) ∙ sym c.if-not-is_done.ensures) in
+          let found = (found_if ls p.class p.key_class p.class (get T p) passed.0).0 in
+          let start = c.in_ok-found.ensures.read.call.clean clean in
+          subst (λ x. AllByRecursion (λ r. HasCell (x.now.db c.args.rel) p r.0) sets) (sym (c.in_ok-found.ensures.read.same clean))
+          (cells_there p T (unwrap_or (get T p) []) found sets (c.requires.fits start (unwrap_or (get T p) []) found) passed.1.0);
+    }
 
 pub returns-clause-done : goal.returns-clause-done
 returns-clause-done g c = λ clean scheme.
     let s = g.B.Base.state c.args.base.now in
     let p = c.args.place.now in
     let sets = c.args.sets.now in
-    let before = c.in_ok-set_each.ensures.call.clean clean in
-    let same = c.in_ok-found.ensures.same before in
+    let before = c.in_ok-set_each.ensures.step.call.clean clean in
+    let same = c.in_ok-found.ensures.read.same before in
     left_done c.args.rel s (g.B.Base.state c.set_each.new.base) c.own_outcome-outcome.result _ _
     (c.own_outcome-outcome.ensures scheme (get (s.now.db c.args.rel) p) (c.in_ok-found.ensures.found before)) (sym c.if-not-is_done.ensures)
     (c.in_ok-set_each.ensures.done clean ∙ (λ i. with_relation (same i) c.args.rel (set_each p sets ((same i).now.db c.args.rel))) ∙ ap (with_relation s c.args.rel) (all_set p sets (s.now.db c.args.rel)))

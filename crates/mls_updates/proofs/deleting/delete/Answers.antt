@@ -1,40 +1,21 @@
-use Rattle.std.proofs.Common.{◌≡◌, ◌<◌, length, IfOk, sym, ap, ◌∙◌, subst}
-use Rattle.std.proofs.lemmas.Bool.{true≢false}
+use Rattle.std.proofs.Common.{◌≡◌, length, IfOk, sym, ap, subst}
 use Rattle.std.proofs.lemmas.Result.{IfOk-weaker}
 use Rattle.mls_lattice.specs.Policy.{labels_of}
 use Rattle.mls_scheme.specs.Scheme.{Scheme, IsScheme, scheme_of}
-use Rattle.mls_scheme.specs.Spelling.{IsSpelledKey}
 use Rattle.mls_filterview.specs.Stored.{IsStored}
 use Rattle.mls_updates.specs.Writes.{Delete, place}
 use Rattle.mls_updates.specs.Calls.{IsDeleted, IsWritten}
-use Rattle.mls_updates.proofs.CallLemmas.{written_content, served_not_begun, served_no_other}
+use Rattle.mls_updates.proofs.CallLemmas.{written_content, step_change}
 use Rattle.mls_updates.proofs.LeftLemmas.{delete_null, delete_left}
 use Rattle.mls_updates.proofs.SpellingLemmas.{key_spelled}
+use Rattle.mls_filterview.specs.Calls.{IsStep}
+use Rattle.mls_updates.specs.Steps.{IsBegunAt}
 use Rattle.mls_updates.proofs.deleting.delete.Goals as goal
 
 pub returns-then-has_null-clause-done : goal.returns-then-has_null-clause-done
 returns-then-has_null-clause-done g c = λ clean.
     delete_null (labels_of c.args.policy.now) (scheme_of c.args.schemes.now c.args.rel) c.args.rel c.args.w c.args.key.now (g.B.Base.state c.args.base.now) c.args.key_class
     (sym c.if-has_null.ensures)
-
-pub delete_at-requires-clause-class : goal.delete_at-requires-clause-class
-delete_at-requires-clause-class g c =
-    let p = place c.args.key.now c.args.key_class c.args.w in
-    let here : c.in_ok-place.place ≡ p = subst (λ r. IfOk r (λ q. q ≡ p)) c.in_ok-place.ensures.value c.place_of.ensures in
-    subst (λ q. q.class < length c.args.policy.now.labels) (sym here) c.requires.label
-
-pub delete_at-requires-clause-key_class : goal.delete_at-requires-clause-key_class
-delete_at-requires-clause-key_class g c =
-    let p = place c.args.key.now c.args.key_class c.args.w in
-    let here : c.in_ok-place.place ≡ p = subst (λ r. IfOk r (λ q. q ≡ p)) c.in_ok-place.ensures.value c.place_of.ensures in
-    subst (λ q. q.key_class < length c.args.policy.now.labels) (sym here) c.requires.key_class
-
-pub delete_at-requires-clause-key : goal.delete_at-requires-clause-key
-delete_at-requires-clause-key g c =
-    let p = place c.args.key.now c.args.key_class c.args.w in
-    let here : c.in_ok-place.place ≡ p = subst (λ r. IfOk r (λ q. q ≡ p)) c.in_ok-place.ensures.value c.place_of.ensures in
-    subst (λ q. IsSpelledKey q.key) (sym here)
-    (key_spelled (scheme_of c.args.schemes.now c.args.rel) (subst IsScheme c.scheme-scheme.ensures.row c.scheme-scheme.ensures.valid) c.args.key.now (sym c.if-has_null.ensures) c.requires.key)
 
 pub delete_at-requires-clause-stored : goal.delete_at-requires-clause-stored
 delete_at-requires-clause-stored g c = λ clean.
@@ -66,11 +47,23 @@ returns-clause-kept g c = λ clean.
     let u = g.B.Base.state c.delete_at.new.base in
     IfOk-weaker c.delete_at.result (IsWritten ls scheme c.args.rel c.args.w wr s u) _
     (λ o. written_content ls c.label_count-count.ensures.distinct scheme c.args.rel c.args.w wr s u o tt tt
-    (c.requires.stored (c.in_ok-place.ensures.call.clean (c.delete_at.ensures.call.clean clean))))
+    (c.requires.stored (c.in_ok-place.ensures.call.clean (c.delete_at.ensures.step.call.clean clean))))
     (returns-clause-done g c clean)
 
-pub returns-clause-not_begun : goal.returns-clause-not_begun
-returns-clause-not_begun g c = (λ e. absurd (served_not_begun c.delete_at.result c.delete_at.ensures.served e), λ b. absurd (true≢false (c.if-not-is_begun.ensures ∙ b)))
+pub delete_at-requires-clause-at : goal.delete_at-requires-clause-at
+delete_at-requires-clause-at g c =
+    let count = length c.args.policy.now.labels in
+    let p = place c.args.key.now c.args.key_class c.args.w in
+    let here : c.in_ok-place.place ≡ p = subst (λ r. IfOk r (λ q. q ≡ p)) c.in_ok-place.ensures.value c.place_of.ensures in
+    subst (λ b. IsBegunAt g.B.Base.state b count c.in_ok-place.place) (sym c.in_ok-place.ensures.same)
+    (subst (IsBegunAt g.B.Base.state c.args.base.now count) (sym here) (record {
+      begun = sym c.if-not-is_begun.ensures;
+      class = c.requires.label;
+      key_class = c.requires.key_class;
+      key = key_spelled (scheme_of c.args.schemes.now c.args.rel) (subst IsScheme c.scheme-scheme.ensures.row c.scheme-scheme.ensures.valid) c.args.key.now (sym c.if-has_null.ensures) c.requires.key;
+    }))
 
-pub returns-clause-no_other : goal.returns-clause-no_other
-returns-clause-no_other g c = served_no_other c.delete_at.result c.delete_at.ensures.served
+pub returns-clause-change : goal.returns-clause-change
+returns-clause-change g c =
+    step_change g.B.Base.is_clean g.B.Base.failures g.B.Base.state c.args.base.now c.delete_at.new.base c.delete_at.result (sym c.if-not-is_begun.ensures)
+    (subst (λ b. IsStep g.B.Base.is_clean g.B.Base.failures g.B.Base.state b c.delete_at.new.base c.delete_at.result) c.in_ok-place.ensures.same c.delete_at.ensures.step)

@@ -25,7 +25,7 @@ returns-clause-done g c = λ clean.
     let t = g.B.Base.state c.made.new.base in
     let same : t ≡ g.B.Base.state c.args.base.now = ap g.B.Base.state c.in_ok-order.ensures.same in
     let above : AreAbove ls c.args.place.class c.in_ok-order.order.items = subst (λ r. IfOk r (λ o. AreAbove ls c.args.place.class o.items)) c.in_ok-order.ensures.value c.downwards.ensures in
-    let stored = c.requires.stored (c.in_ok-order.ensures.call.clean (c.drop_each.ensures.call.clean clean)) in
+    let stored = c.requires.stored (c.in_ok-order.ensures.call.clean (c.drop_each.ensures.step.call.clean clean)) in
     on_ok_weaker c.drop_each.result (λ e. e
     ∙ ap (with_relation t c.args.rel)
     (dropped_all ls stored.0 (t.now.db c.args.rel) (subst (λ x. IsStored ls stored.0 (x.now.db c.args.rel)) (sym same) stored.1) c.args.place c.deref.result.now (subst (AreAbove ls c.args.place.class) (sym c.deref.ensures.value) above))

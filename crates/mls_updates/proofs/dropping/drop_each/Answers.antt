@@ -20,17 +20,17 @@ loop-class-preserved g c =
     let q : Place = record { key = c.loop-class.place.key; key_class = c.loop-class.place.key_class; class = c.class-item.result } in
     let rest : List ℕ → Table → Table = λ ks S. drop_each c.args.place ks S in
     record {
-      clean = λ h. inv.clean (c.in_ok-drop_one.ensures.call.clean h);
-      count = (let a = inv.count in let b = c.in_ok-drop_one.ensures.call.count in omega (arith, a, b));
-      begun = c.in_ok-drop_one.ensures.mode;
+      clean = λ h. inv.clean (c.in_ok-drop_one.ensures.step.call.clean h);
+      count = (let a = inv.count in let b = c.in_ok-drop_one.ensures.step.call.count in omega (arith, a, b));
+      begun = c.in_ok-drop_one.ensures.step.mode;
       key = inv.key;
       key_class = inv.key_class;
       alone = λ h. (let e = c.in_ok-drop_one.ensures.done h in
           alone_next c.args.place q c.args.classes.now c.loop-class.class-index _ c.loop-class-test.true inv.key inv.key_class c.class-item.is T (u.now.db c.args.rel)
-          (ap (λ s. s.now.db c.args.rel) e ∙ table_of t c.args.rel (remove T q)) (inv.alone (c.in_ok-drop_one.ensures.call.clean h)));
+          (ap (λ s. s.now.db c.args.rel) e ∙ table_of t c.args.rel (remove T q)) (inv.alone (c.in_ok-drop_one.ensures.step.call.clean h)));
       way = λ h. (let e = c.in_ok-drop_one.ensures.done h in
           next_step c.args.rel t u _ (rest (drop c.loop-class.class-index c.args.classes.now)) (rest (drop (c.loop-class.class-index + 1) c.args.classes.now)) (remove T q)
-          (inv.way (c.in_ok-drop_one.ensures.call.clean h))
+          (inv.way (c.in_ok-drop_one.ensures.step.call.clean h))
           (drop_next c.args.place q c.args.classes.now c.loop-class.class-index _ c.loop-class-test.true inv.key inv.key_class c.class-item.is T) e);
     }
 

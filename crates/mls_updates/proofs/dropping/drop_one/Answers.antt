@@ -11,4 +11,4 @@ returns-else-branch-clause-done g c = λ clean.
     let s = g.B.Base.state c.args.base.now in
     let T = s.now.db c.args.rel in
     let none = none_if (get T c.args.place.now) (sym (c.in_ok-has_tuple.ensures.found clean) ∙ c.if-branch.false) in
-    c.in_ok-has_tuple.ensures.same clean ∙ sym (ap (with_relation s c.args.rel) (remove_none T c.args.place.now none) ∙ same_state s c.args.rel)
+    c.in_ok-has_tuple.ensures.read.same clean ∙ sym (ap (with_relation s c.args.rel) (remove_none T c.args.place.now none) ∙ same_state s c.args.rel)

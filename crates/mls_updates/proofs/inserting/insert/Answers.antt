@@ -1,33 +1,22 @@
-use Rattle.std.proofs.Common.{◌≡◌, ◌<◌, length, IfOk, sym, ap, ◌∙◌, subst}
+use Rattle.std.proofs.Common.{◌≡◌, ◌<◌, length, IfOk, sym, ap, subst}
 use Rattle.std.proofs.lemmas.List.{length-map}
 use Rattle.std.proofs.lemmas.Slice.Zip.{AllZip-long}
-use Rattle.std.proofs.lemmas.Bool.{true≢false}
 use Rattle.std.proofs.lemmas.Result.{IfOk-weaker}
 use Rattle.mls_lattice.specs.Policy.{labels_of}
 use Rattle.mls_scheme.specs.Scheme.{Scheme, IsScheme, IsUnder, scheme_of}
-use Rattle.mls_scheme.specs.Spelling.{IsSpelledKey}
 use Rattle.mls_updates.specs.Writes.{Insert, place}
 use Rattle.mls_updates.specs.Calls.{IsInserted, IsWritten}
-use Rattle.mls_updates.proofs.CallLemmas.{under_scheme, written_content, served_not_begun, served_no_other}
+use Rattle.mls_updates.proofs.CallLemmas.{under_scheme, written_content, step_change}
 use Rattle.mls_updates.proofs.LeftLemmas.{insert_null, insert_left}
 use Rattle.mls_updates.proofs.SpellingLemmas.{values_spelled, key_spelled}
+use Rattle.mls_filterview.specs.Calls.{IsStep}
+use Rattle.mls_updates.specs.Steps.{IsBegunAt}
 use Rattle.mls_updates.proofs.inserting.insert.Goals as goal
 
 pub returns-then-has_null-clause-done : goal.returns-then-has_null-clause-done
 returns-then-has_null-clause-done g c = λ clean.
     insert_null (labels_of c.args.policy.now) (scheme_of c.args.schemes.now c.args.rel) c.args.rel c.args.w c.args.key.now (g.B.Base.state c.args.base.now) c.args.values.now
     (sym c.if-has_null.ensures)
-
-pub insert_at-requires-clause-class : goal.insert_at-requires-clause-class
-insert_at-requires-clause-class g c =
-    let here : c.in_ok-place.place ≡ place c.args.key.now c.args.w c.args.w = subst (λ r. IfOk r (λ q. q ≡ place c.args.key.now c.args.w c.args.w)) c.in_ok-place.ensures.value c.place_of.ensures in
-    subst (λ q. q.class < length c.args.policy.now.labels) (sym here) c.requires.label
-
-pub insert_at-requires-clause-key : goal.insert_at-requires-clause-key
-insert_at-requires-clause-key g c =
-    let here : c.in_ok-place.place ≡ place c.args.key.now c.args.w c.args.w = subst (λ r. IfOk r (λ q. q ≡ place c.args.key.now c.args.w c.args.w)) c.in_ok-place.ensures.value c.place_of.ensures in
-    subst (λ q. IsSpelledKey q.key) (sym here)
-    (key_spelled (scheme_of c.args.schemes.now c.args.rel) (subst IsScheme c.scheme-scheme.ensures.row c.scheme-scheme.ensures.valid) c.args.key.now (sym c.if-has_null.ensures) c.requires.kinds.0)
 
 pub insert_at-requires-clause-values : goal.insert_at-requires-clause-values
 insert_at-requires-clause-values g c = values_spelled (scheme_of c.args.schemes.now c.args.rel).others c.args.values.now c.requires.kinds.1
@@ -59,7 +48,7 @@ returns-clause-kept g c = λ clean.
     let u = g.B.Base.state c.insert_at.new.base in
     IfOk-weaker c.insert_at.result (IsWritten ls scheme c.args.rel c.args.w wr s u) _
     (λ o. written_content ls c.label_count-count.ensures.distinct scheme c.args.rel c.args.w wr s u o
-    (declared, AllZip-long _ scheme.others c.args.values.now c.requires.kinds.1) c.requires.kinds (c.requires.stored (c.in_ok-place.ensures.call.clean (c.insert_at.ensures.call.clean clean))))
+    (declared, AllZip-long _ scheme.others c.args.values.now c.requires.kinds.1) c.requires.kinds (c.requires.stored (c.in_ok-place.ensures.call.clean (c.insert_at.ensures.step.call.clean clean))))
     (returns-clause-done g c clean)
 
 pub insert_at-requires-clause-under : goal.insert_at-requires-clause-under
@@ -67,8 +56,20 @@ insert_at-requires-clause-under g c =
     let count = length c.args.policy.now.labels in
     subst (IsUnder count) (sym c.scheme-scheme.ensures.row) (under_scheme count c.args.schemes.now c.args.rel c.requires.under c.requires.relation)
 
-pub returns-clause-not_begun : goal.returns-clause-not_begun
-returns-clause-not_begun g c = (λ e. absurd (served_not_begun c.insert_at.result c.insert_at.ensures.served e), λ b. absurd (true≢false (c.if-not-is_begun.ensures ∙ b)))
+pub insert_at-requires-clause-at : goal.insert_at-requires-clause-at
+insert_at-requires-clause-at g c =
+    let count = length c.args.policy.now.labels in
+    let p = place c.args.key.now c.args.w c.args.w in
+    let here : c.in_ok-place.place ≡ p = subst (λ r. IfOk r (λ q. q ≡ p)) c.in_ok-place.ensures.value c.place_of.ensures in
+    subst (λ b. IsBegunAt g.B.Base.state b count c.in_ok-place.place) (sym c.in_ok-place.ensures.same)
+    (subst (IsBegunAt g.B.Base.state c.args.base.now count) (sym here) (record {
+      begun = sym c.if-not-is_begun.ensures;
+      class = c.requires.label;
+      key_class = c.requires.label;
+      key = key_spelled (scheme_of c.args.schemes.now c.args.rel) (subst IsScheme c.scheme-scheme.ensures.row c.scheme-scheme.ensures.valid) c.args.key.now (sym c.if-has_null.ensures) c.requires.kinds.0;
+    }))
 
-pub returns-clause-no_other : goal.returns-clause-no_other
-returns-clause-no_other g c = served_no_other c.insert_at.result c.insert_at.ensures.served
+pub returns-clause-change : goal.returns-clause-change
+returns-clause-change g c =
+    step_change g.B.Base.is_clean g.B.Base.failures g.B.Base.state c.args.base.now c.insert_at.new.base c.insert_at.result (sym c.if-not-is_begun.ensures)
+    (subst (λ b. IsStep g.B.Base.is_clean g.B.Base.failures g.B.Base.state b c.insert_at.new.base c.insert_at.result) c.in_ok-place.ensures.same c.insert_at.ensures.step)

@@ -4,6 +4,8 @@ use Rattle.mls_lattice.specs.Policy.{labels_of}
 use Rattle.mls_filterview.specs.Content.{with_relation}
 use Rattle.mls_updates.specs.Outcome.{is_done}
 use Rattle.mls_updates.specs.Writes.{root, root_refusals}
+use Rattle.mls_updates.proofs.CallLemmas.{root_made}
+use Rattle.mls_updates.proofs.SpellingLemmas.{root_spelled}
 use Rattle.mls_updates.proofs.KeptLemmas.{all_passed, none_if}
 use Rattle.mls_updates.proofs.LeftLemmas.{left_same, left_done}
 use Rattle.mls_updates.proofs.inserting.insert_at.Goals as goal
@@ -12,21 +14,29 @@ pub returns-then-not-is_done-clause-done : goal.returns-then-not-is_done-clause-
 returns-then-not-is_done-clause-done g c = λ clean.
     let s = g.B.Base.state c.args.base.now in
     left_same c.args.rel s (g.B.Base.state c.has_tuple.new.base) c.root_outcome-outcome.result _ _
-    (c.root_outcome-outcome.ensures (get (s.now.db c.args.rel) c.args.place) (sym (c.in_ok-found.ensures.found clean))) (sym c.if-not-is_done.ensures) (c.in_ok-found.ensures.same clean)
+    (c.root_outcome-outcome.ensures (get (s.now.db c.args.rel) c.args.place) (sym (c.in_ok-found.ensures.found clean))) (sym c.if-not-is_done.ensures) (c.in_ok-found.ensures.read.same clean)
 
-pub add_root-requires-clause-absent : goal.add_root-requires-clause-absent
-add_root-requires-clause-absent g c = λ clean.
+pub add_root-requires : goal.add_root-requires
+add_root-requires g c =
+    let p = c.args.place in
     let s = g.B.Base.state c.args.base.now in
-    let o = get (s.now.db c.args.rel) c.args.place in
-    let first = c.root_outcome-outcome.ensures o (sym (c.in_ok-found.ensures.found clean)) in
-    ap (λ x. get (x.now.db c.args.rel) c.args.place) (c.in_ok-found.ensures.same clean)
-    ∙ none_if o (all_passed (root_refusals (labels_of c.args.policy.now) c.args.scheme.now c.args.place.class o) refl (ap is_done (sym first) ∙ sym c.if-not-is_done.ensures)).0
+    record {
+      begun = c.in_ok-found.ensures.read.mode ∙ c.requires.at.begun;
+      key = c.requires.at.key;
+      values = root_spelled p.class c.args.values.now c.requires.values;
+      absent = λ clean.
+          let o = get (s.now.db c.args.rel) p in
+          let first = c.root_outcome-outcome.ensures o (sym (c.in_ok-found.ensures.found clean)) in
+          ap (λ x. get (x.now.db c.args.rel) p) (c.in_ok-found.ensures.read.same clean)
+          ∙ none_if o (all_passed (root_refusals (labels_of c.args.policy.now) c.args.scheme.now p.class o) refl (ap is_done (sym first) ∙ sym c.if-not-is_done.ensures)).0;
+      made = λ clean. (root p.class c.args.values.now, root_made ((g.B.Base.state c.has_tuple.new.base).now.db c.args.rel) p c.args.values.now);
+    }
 
 pub returns-clause-done : goal.returns-clause-done
 returns-clause-done g c = λ clean.
     let s = g.B.Base.state c.args.base.now in
-    let before = c.in_ok-add_root.ensures.call.clean clean in
-    let same = c.in_ok-found.ensures.same before in
+    let before = c.in_ok-add_root.ensures.step.call.clean clean in
+    let same = c.in_ok-found.ensures.read.same before in
     left_done c.args.rel s (g.B.Base.state c.add_root.new.base) c.root_outcome-outcome.result _ _
     (c.root_outcome-outcome.ensures (get (s.now.db c.args.rel) c.args.place) (sym (c.in_ok-found.ensures.found before))) (sym c.if-not-is_done.ensures)
     (c.in_ok-add_root.ensures.done clean ∙ (λ i. with_relation (same i) c.args.rel (insert ((same i).now.db c.args.rel) c.args.place (root c.args.place.class c.args.values.now))))

@@ -1,33 +1,12 @@
 use Rattle.std.proofs.Common.{◌≡◌, IfOk, sym, ap, ◌∙◌, subst}
-use Rattle.std.specs.Prelude.{IfSome}
-use Rattle.std.specs.List.{AllByRecursion}
 use Rattle.std.specs.FinMap.{insert}
 use Rattle.std.proofs.lemmas.Result.{on_ok_weaker}
-use Rattle.mls_scheme.specs.Spelling.{HasSpelling}
 use Rattle.mls_filterview.specs.Content.{with_relation}
 use Rattle.mls_filterview.specs.Fragment.{IsMadeOf, node_of, cells_of}
 use Rattle.mls_updates.specs.declared.row.Row.{Row}
 use Rattle.mls_updates.specs.Rows.{entry_of}
-use Rattle.mls_updates.specs.Steps.{outline}
-use Rattle.mls_updates.proofs.SpellingLemmas.{outline_spelled}
+use Rattle.mls_updates.specs.Steps.{outline, CanAddRow}
 use Rattle.mls_updates.proofs.outline.add_outline.Goals as goal
-
-pub add_row-requires-clause-values : goal.add_row-requires-clause-values
-add_row-requires-clause-values g c =
-    let it : Row = record { rel = c.args.rel; place = c.args.place; elements = outline c.args.place.class c.args.sets.now 0 c.args.pattern.now } in
-    let row : c.in_ok-row.row ≡ it = subst (λ r. IfOk r (λ x. x ≡ it)) c.in_ok-row.ensures.value c.outline_at.ensures in
-    subst (λ (r : Row). AllByRecursion (λ e. IfSome e.value HasSpelling) r.elements) (sym row) (outline_spelled c.args.place.class c.args.sets.now 0 c.args.pattern.now c.requires.values)
-
-pub add_row-requires-clause-made : goal.add_row-requires-clause-made
-add_row-requires-clause-made g c = λ clean.
-    let it : Row = record { rel = c.args.rel; place = c.args.place; elements = outline c.args.place.class c.args.sets.now 0 c.args.pattern.now } in
-    let row : c.in_ok-row.row ≡ it = subst (λ r. IfOk r (λ x. x ≡ it)) c.in_ok-row.ensures.value c.outline_at.ensures in
-    let same : g.B.Base.state c.made.new.base ≡ g.B.Base.state c.args.base.now = ap g.B.Base.state c.in_ok-row.ensures.same in
-    let m = c.requires.made (c.in_ok-row.ensures.call.clean clean) in (
-      m.0,
-      (let here = subst (λ x. IsMadeOf (x.now.db c.args.rel) (node_of (entry_of it)) (cells_of (entry_of it)) m.0) (sym same) m.1 in
-          subst (λ (r : Row). IsMadeOf ((g.B.Base.state c.made.new.base).now.db r.rel) (node_of (entry_of r)) (cells_of (entry_of r)) m.0) (sym row) here),
-    )
 
 pub returns-clause-done : goal.returns-clause-done
 returns-clause-done g c = λ clean es is.
@@ -37,3 +16,9 @@ returns-clause-done g c = λ clean es is.
     let here = subst (λ x. IsMadeOf (x.now.db c.args.rel) (node_of (entry_of it)) (cells_of (entry_of it)) es) (sym same) is in
     on_ok_weaker c.add_row.result (λ e. e ∙ (λ i. with_relation (same i) (row i).rel (insert ((same i).now.db (row i).rel) (row i).place es)))
     (c.add_row.ensures.done clean es (subst (λ (r : Row). IsMadeOf ((g.B.Base.state c.made.new.base).now.db r.rel) (node_of (entry_of r)) (cells_of (entry_of r)) es) (sym row) here))
+
+pub add_row-requires : goal.add_row-requires
+add_row-requires g c =
+    let it : Row = record { rel = c.args.rel; place = c.args.place; elements = outline c.args.place.class c.args.sets.now 0 c.args.pattern.now } in
+    let row : c.in_ok-row.row ≡ it = subst (λ r. IfOk r (λ x. x ≡ it)) c.in_ok-row.ensures.value c.outline_at.ensures in
+    subst (λ b. CanAddRow g.B.Base.is_clean g.B.Base.state b c.in_ok-row.row) (sym c.in_ok-row.ensures.same) (subst (CanAddRow g.B.Base.is_clean g.B.Base.state c.args.base.now) (sym row) c.requires)

@@ -10,6 +10,7 @@ use Rattle.mls_filterview.specs.Fragment.{classes}
 use Rattle.mls_updates.specs.Outcome.{is_done}
 use Rattle.mls_updates.specs.Writes.{derived, below_refusals}
 use Rattle.mls_updates.proofs.DerivedLemmas.{outline_made, made_alike}
+use Rattle.mls_updates.proofs.SpellingLemmas.{outline_spelled}
 use Rattle.mls_updates.proofs.KeptLemmas.{all_passed, none_if}
 use Rattle.mls_updates.proofs.LeftLemmas.{left_same, left_done, below_found, below_tuple}
 use Rattle.mls_updates.proofs.raising.derive.Goals as goal
@@ -22,10 +23,10 @@ returns-in_default-clause-done g c = λ clean.
     let sets = c.args.sets.now in
     let s = g.B.Base.state c.args.base.now in
     let T = s.now.db c.args.rel in
-    let start = c.in_ok-is_there.ensures.call.clean clean in
+    let start = c.in_ok-is_there.ensures.read.call.clean clean in
     let pattern = c.requires.found start in
     let first = c.below_outcome-outcome.ensures.first p.key_class from (get T (with_class p from)) (get T p) (below_found ls c.args.rel p from s c.args.pattern pattern ∙ sym c.is_some.ensures) (sym (c.in_ok-is_there.ensures.found clean)) in
-    left_same c.args.rel s (g.B.Base.state c.has_tuple.new.base) c.below_outcome-outcome.result _ _ first (c.below_outcome-outcome.ensures.missing (c.is_some.ensures ∙ ap is_some c.in_default.is)) (c.in_ok-is_there.ensures.same clean)
+    left_same c.args.rel s (g.B.Base.state c.has_tuple.new.base) c.below_outcome-outcome.result _ _ first (c.below_outcome-outcome.ensures.missing (c.is_some.ensures ∙ ap is_some c.in_default.is)) (c.in_ok-is_there.ensures.read.same clean)
 
 pub returns-then-not-is_done-clause-done : goal.returns-then-not-is_done-clause-done
 returns-then-not-is_done-clause-done g c = λ clean.
@@ -35,43 +36,38 @@ returns-then-not-is_done-clause-done g c = λ clean.
     let sets = c.args.sets.now in
     let s = g.B.Base.state c.args.base.now in
     let T = s.now.db c.args.rel in
-    let start = c.in_ok-is_there.ensures.call.clean clean in
+    let start = c.in_ok-is_there.ensures.read.call.clean clean in
     let pattern = c.requires.found start in
     let first = c.below_outcome-outcome.ensures.first p.key_class from (get T (with_class p from)) (get T p) (below_found ls c.args.rel p from s c.args.pattern pattern ∙ sym c.is_some.ensures) (sym (c.in_ok-is_there.ensures.found clean)) in
-    left_same c.args.rel s (g.B.Base.state c.has_tuple.new.base) c.below_outcome-outcome.result _ _ first (sym c.if-not-is_done.ensures) (c.in_ok-is_there.ensures.same clean)
+    left_same c.args.rel s (g.B.Base.state c.has_tuple.new.base) c.below_outcome-outcome.result _ _ first (sym c.if-not-is_done.ensures) (c.in_ok-is_there.ensures.read.same clean)
 
-pub add_outline-requires-clause-absent : goal.add_outline-requires-clause-absent
-add_outline-requires-clause-absent g c = λ clean.
+pub add_outline-requires : goal.add_outline-requires
+add_outline-requires g c =
     let ls = labels_of c.args.policy.now in
     let p = c.args.place in
     let from = c.args.from in
     let sets = c.args.sets.now in
     let s = g.B.Base.state c.args.base.now in
     let T = s.now.db c.args.rel in
-    let start = c.in_ok-is_there.ensures.call.clean clean in
-    let pattern = c.requires.found start in
-    let first = c.below_outcome-outcome.ensures.first p.key_class from (get T (with_class p from)) (get T p) (below_found ls c.args.rel p from s c.args.pattern pattern ∙ sym c.is_some.ensures) (sym (c.in_ok-is_there.ensures.found clean)) in
-    let passed = all_passed (below_refusals ls c.args.scheme.now p.class p.key_class from sets (get T (with_class p from)) (get T p)) refl (ap is_done (sym first) ∙ sym c.if-not-is_done.ensures) in
-    ap (λ x. get (x.now.db c.args.rel) p) (c.in_ok-is_there.ensures.same clean) ∙ none_if (get T p) passed.1.0
-
-pub add_outline-requires-clause-made : goal.add_outline-requires-clause-made
-add_outline-requires-clause-made g c = λ clean.
-    let ls = labels_of c.args.policy.now in
-    let p = c.args.place in
-    let from = c.args.from in
-    let sets = c.args.sets.now in
-    let s = g.B.Base.state c.args.base.now in
-    let T = s.now.db c.args.rel in
-    let start = c.in_ok-is_there.ensures.call.clean clean in
-    let pattern = c.requires.found start in
-    let first = c.below_outcome-outcome.ensures.first p.key_class from (get T (with_class p from)) (get T p) (below_found ls c.args.rel p from s c.args.pattern pattern ∙ sym c.is_some.ensures) (sym (c.in_ok-is_there.ensures.found clean)) in
-    let same = c.in_ok-is_there.ensures.same clean in
-    let tuple = below_tuple ls c.args.rel p from s c.in-Some.pattern (sym c.in-Some.is ∙ pattern) in
-    let declared = subst (λ n. p.class < n) (sym (length-map c.args.policy.now.labels (λ l. l.value))) c.requires.class in
-    let made = made_alike ((g.B.Base.state c.has_tuple.new.base).now.db c.args.rel) T p p c.deref.result.now (classes tuple.0) sets (derived p.class sets tuple.0)
-    (ap (λ x. x.now.db c.args.rel) same) refl (c.deref.ensures ∙ tuple.2)
-    (outline_made ls c.label_count-count.ensures.distinct (length c.args.scheme.now.others) T (c.requires.stored start) (with_class p from) tuple.0 tuple.1 p.class declared tuple.4 c.requires.other sets) in
-    (derived p.class sets tuple.0, made)
+    record {
+      begun = c.in_ok-is_there.ensures.read.mode ∙ c.requires.can.at.begun;
+      key = c.requires.can.at.key;
+      values = outline_spelled p.class sets 0 c.deref.result.now c.requires.can.values;
+      absent = λ clean.
+          let pattern = c.requires.found (c.in_ok-is_there.ensures.read.call.clean clean) in
+          let first = c.below_outcome-outcome.ensures.first p.key_class from (get T (with_class p from)) (get T p) (below_found ls c.args.rel p from s c.args.pattern pattern ∙ sym c.is_some.ensures) (sym (c.in_ok-is_there.ensures.found clean)) in
+          let passed = all_passed (below_refusals ls c.args.scheme.now p.class p.key_class from sets (get T (with_class p from)) (get T p)) refl (ap is_done (sym first) ∙ sym c.if-not-is_done.ensures) in
+          ap (λ x. get (x.now.db c.args.rel) p) (c.in_ok-is_there.ensures.read.same clean) ∙ none_if (get T p) passed.1.0;
+      made = λ clean.
+          let start = c.in_ok-is_there.ensures.read.call.clean clean in
+          let tuple = below_tuple ls c.args.rel p from s c.in-Some.pattern (sym c.in-Some.is ∙ c.requires.found start) in
+          let declared = subst (λ n. p.class < n) (sym (length-map c.args.policy.now.labels (λ l. l.value))) c.requires.can.at.class in (
+            derived p.class sets tuple.0,
+            made_alike ((g.B.Base.state c.has_tuple.new.base).now.db c.args.rel) T p p c.deref.result.now (classes tuple.0) sets (derived p.class sets tuple.0)
+                (ap (λ x. x.now.db c.args.rel) (c.in_ok-is_there.ensures.read.same clean)) refl (c.deref.ensures ∙ tuple.2)
+                (outline_made ls c.label_count-count.ensures.distinct (length c.args.scheme.now.others) T (c.requires.can.stored start) (with_class p from) tuple.0 tuple.1 p.class declared tuple.4 c.requires.can.other sets),
+          );
+    }
 
 pub returns-clause-done : goal.returns-clause-done
 returns-clause-done g c = λ clean.
@@ -81,16 +77,16 @@ returns-clause-done g c = λ clean.
     let sets = c.args.sets.now in
     let s = g.B.Base.state c.args.base.now in
     let T = s.now.db c.args.rel in
-    let before = c.in_ok-add_outline.ensures.call.clean clean in
-    let start = c.in_ok-is_there.ensures.call.clean before in
+    let before = c.in_ok-add_outline.ensures.step.call.clean clean in
+    let start = c.in_ok-is_there.ensures.read.call.clean before in
     let pattern = c.requires.found start in
     let first = c.below_outcome-outcome.ensures.first p.key_class from (get T (with_class p from)) (get T p) (below_found ls c.args.rel p from s c.args.pattern pattern ∙ sym c.is_some.ensures) (sym (c.in_ok-is_there.ensures.found before)) in
-    let same = c.in_ok-is_there.ensures.same before in
+    let same = c.in_ok-is_there.ensures.read.same before in
     let tuple = below_tuple ls c.args.rel p from s c.in-Some.pattern (sym c.in-Some.is ∙ pattern) in
-    let declared = subst (λ n. p.class < n) (sym (length-map c.args.policy.now.labels (λ l. l.value))) c.requires.class in
+    let declared = subst (λ n. p.class < n) (sym (length-map c.args.policy.now.labels (λ l. l.value))) c.requires.can.at.class in
     let made = made_alike ((g.B.Base.state c.has_tuple.new.base).now.db c.args.rel) T p p c.deref.result.now (classes tuple.0) sets (derived p.class sets tuple.0)
     (ap (λ x. x.now.db c.args.rel) same) refl (c.deref.ensures ∙ tuple.2)
-    (outline_made ls c.label_count-count.ensures.distinct (length c.args.scheme.now.others) T (c.requires.stored start) (with_class p from) tuple.0 tuple.1 p.class declared tuple.4 c.requires.other sets) in
+    (outline_made ls c.label_count-count.ensures.distinct (length c.args.scheme.now.others) T (c.requires.can.stored start) (with_class p from) tuple.0 tuple.1 p.class declared tuple.4 c.requires.can.other sets) in
     left_done c.args.rel s (g.B.Base.state c.add_outline.new.base) c.below_outcome-outcome.result _ _ first (sym c.if-not-is_done.ensures)
     (c.in_ok-add_outline.ensures.done clean (derived p.class sets tuple.0) made
     ∙ (λ i. with_relation (same i) c.args.rel (insert ((same i).now.db c.args.rel) p (derived p.class sets (unwrap_or (sym tuple.1 i) [])))))

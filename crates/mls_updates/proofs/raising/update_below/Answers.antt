@@ -7,19 +7,33 @@ use Rattle.mls_updates.proofs.raising.update_below.Goals as goal
 
 pub derive-requires-clause-found : goal.derive-requires-clause-found
 derive-requires-clause-found g c = λ clean.
-    c.in_ok-pattern.ensures.found clean ∙ ap (classes_below (labels_of c.args.policy.now) c.args.rel (with_class c.args.place c.args.w) c.args.place.class) (sym (c.in_ok-pattern.ensures.same clean))
+    c.in_ok-pattern.ensures.found clean ∙ ap (classes_below (labels_of c.args.policy.now) c.args.rel (with_class c.args.place c.args.w) c.args.place.class) (sym (c.in_ok-pattern.ensures.read.same clean))
 
-pub derive-requires-clause-stored : goal.derive-requires-clause-stored
-derive-requires-clause-stored g c = λ clean.
-    subst (λ x. IsStored (labels_of c.args.policy.now) (length c.args.scheme.now.others) (x.now.db c.args.rel)) (sym (c.in_ok-pattern.ensures.same clean)) (c.requires.stored (c.in_ok-pattern.ensures.call.clean clean))
+pub pattern_below-requires-clause-at : goal.pattern_below-requires-clause-at
+pattern_below-requires-clause-at g c = record { begun = c.requires.at.begun; class = c.requires.from; key_class = c.requires.at.key_class; key = c.requires.at.key }
 
-pub returns-clause-call : goal.returns-clause-call
-returns-clause-call g c =
-    later_call g.B.Base.is_clean g.B.Base.failures g.B.Base.state c.args.base.now c.pattern_below.new.base c.derive.new.base c.in_ok-pattern.ensures.mode c.in_ok-pattern.ensures.same
-    _ c.derive.result c.in_ok-pattern.ensures.call c.derive.ensures.served c.derive.ensures.call
+pub derive-requires-clause-can : goal.derive-requires-clause-can
+derive-requires-clause-can g c = record {
+  at = record { begun = c.in_ok-pattern.ensures.read.mode ∙ c.requires.at.begun; class = c.requires.at.class; key_class = c.requires.at.key_class; key = c.requires.at.key };
+  from = c.requires.from;
+  other = c.requires.other;
+  under = c.requires.under;
+  fits = c.requires.fits;
+  values = c.requires.values;
+  stored = λ clean.
+      subst (λ x. IsStored (labels_of c.args.policy.now) (length c.args.scheme.now.others) (x.now.db c.args.rel)) (sym (c.in_ok-pattern.ensures.read.same clean)) (c.requires.stored (c.in_ok-pattern.ensures.read.call.clean clean));
+}
+
+pub returns-clause-step : goal.returns-clause-step
+returns-clause-step g c = record {
+  call = later_call g.B.Base.is_clean g.B.Base.failures g.B.Base.state c.args.base.now c.pattern_below.new.base c.derive.new.base c.in_ok-pattern.ensures.read.mode c.in_ok-pattern.ensures.read.same
+      _ c.derive.result c.in_ok-pattern.ensures.read.call c.derive.ensures.step.served c.derive.ensures.step.call;
+  served = c.derive.ensures.step.served;
+  mode = c.derive.ensures.step.mode;
+}
 
 pub returns-clause-done : goal.returns-clause-done
 returns-clause-done g c = λ clean.
     let u = g.B.Base.state c.derive.new.base in
     subst (λ x. IfOk c.derive.result (IsDerived (labels_of c.args.policy.now) c.args.scheme.now c.args.rel (with_class c.args.place c.args.w) c.args.place.class c.args.sets.now x u))
-    (c.in_ok-pattern.ensures.same (c.derive.ensures.call.clean clean)) (c.derive.ensures.done clean)
+    (c.in_ok-pattern.ensures.read.same (c.derive.ensures.step.call.clean clean)) (c.derive.ensures.done clean)

@@ -1,8 +1,7 @@
 use Rattle.std.proofs.Common.{sym, ap, ◌∙◌}
 use Rattle.std.proofs.lemmas.Bool.{cond-false}
-use Rattle.std.proofs.lemmas.List.{drop_more, drop_all}
+use Rattle.std.proofs.lemmas.List.{drop_more}
 use Rattle.std.proofs.lemmas.Result.{IfOk-weaker}
-use Rattle.mls_filterview.proofs.PlaceLemmas.{node_there, cells_there}
 use Rattle.mls_updates.specs.Rows.{is_at, found_at}
 use Rattle.mls_updates.proofs.RowsLemmas.{node_found, cells_found}
 use Rattle.mls_updates.proofs.rows.entity_of.Goals as goal

@@ -12,10 +12,10 @@ loop-row-preserved c =
     elim c.if-is_of.branch [
       | then-is_of+in_ok-node+in_ok-push w ↦ ap (λ v. v.items) w.nodes-is ∙ w.in_ok-push.ensures.items
           ∙ (λ i. c.loop-row.invariant i ++ w.in_ok-node.ensures i ∷ [])
-          ∙ node_in c.args.rel c.args.label rows c.loop-row.row-index r c.loop-row-test.true c.row-item.is (sym c.is_of.ensures ∙ w.if-is_of.true)
+          ∙ node_in c.args.rel c.args.labels.now rows c.loop-row.row-index r c.loop-row-test.true c.row-item.is (sym c.is_of.ensures ∙ w.if-is_of.true)
       | else-is_of w ↦ ap (λ v. v.items) w.nodes-is ∙ c.loop-row.invariant
-          ∙ node_out c.args.rel c.args.label rows c.loop-row.row-index r c.loop-row-test.true c.row-item.is (sym c.is_of.ensures ∙ w.if-is_of.false)
+          ∙ node_out c.args.rel c.args.labels.now rows c.loop-row.row-index r c.loop-row-test.true c.row-item.is (sym c.is_of.ensures ∙ w.if-is_of.false)
     ]
 
 pub returns : goal.returns
-returns c = c.loop-row.invariant ∙ ap (nodes_of c.args.rel c.args.label) (take_all c.loop-row.row-index c.args.rows.now c.loop-row-test.false)
+returns c = c.loop-row.invariant ∙ ap (nodes_of c.args.rel c.args.labels.now) (take_all c.loop-row.row-index c.args.rows.now c.loop-row-test.false)

@@ -28,37 +28,9 @@ loop-left-init g c =
       way = λ clean. sym (ap (λ ss. with_relation s c.args.rel (set_each c.args.place.now ss (s.now.db c.args.rel))) (drop_end sets (length sets) (omega arith)) ∙ same_state s c.args.rel);
     }
 
-pub set_one-requires-clause-attr : goal.set_one-requires-clause-attr
-set_one-requires-clause-attr g c =
-    let some = c.loop-left-test.true in
-    let most = c.loop-left.auto.left in
-    subst (λ x. x.0 < 15) (sym c.index-sets-left.is) (holds_at _ c.args.sets.now (c.loop-left.left - 1) c.index-sets-left.result (omega (arith, some, most)) c.requires.sets).0
-
-pub set_one-requires-clause-value : goal.set_one-requires-clause-value
-set_one-requires-clause-value g c =
-    let some = c.loop-left-test.true in
-    let most = c.loop-left.auto.left in
-    subst (λ x. IfSome x.1 HasSpelling) (sym c.index-sets-left.is) (holds_at _ c.args.sets.now (c.loop-left.left - 1) c.index-sets-left.result (omega (arith, some, most)) c.requires.sets).1
-
-pub set_one-requires-clause-there : goal.set_one-requires-clause-there
-set_one-requires-clause-there g c = λ clean.
-    let p = c.args.place.now in
-    let sets = c.args.sets.now in
-    let s = g.B.Base.state c.args.base.now in
-    let t = g.B.Base.state c.loop-left.base in
-    let T = s.now.db c.args.rel in
-    let i = c.loop-left.left - 1 in
-    let some = c.loop-left-test.true in
-    let most = c.loop-left.auto.left in
-    let n : c.loop-left.left ≡ i + 1 = omega (arith, some) in
-    let within : i < length sets = omega (arith, some, most) in
-    let now = ap (λ x. x.now.db c.args.rel) (c.loop-left.invariant.way clean) ∙ table_of s c.args.rel (set_each p (drop c.loop-left.left sets) T) ∙ ap (λ k. set_each p (drop k sets) T) n in
-    subst (λ x. HasCell (t.now.db c.args.rel) p x.0) (sym c.index-sets-left.is)
-    (cell_now p sets i c.index-sets-left.result within T (t.now.db c.args.rel) now (c.requires.there (c.loop-left.invariant.clean clean)))
-
 pub loop-left-preserved : goal.loop-left-preserved
 loop-left-preserved g c =
-    let call = c.in_ok-set_one.ensures.call in
+    let call = c.in_ok-set_one.ensures.step.call in
     let p = c.args.place.now in
     let sets = c.args.sets.now in
     let rel = c.args.rel in
@@ -77,8 +49,31 @@ loop-left-preserved g c =
     record {
       clean = λ clean. c.loop-left.invariant.clean (call.clean clean);
       count = (let before = c.loop-left.invariant.count in let after = call.count in omega (arith, before, after));
-      begun = c.in_ok-set_one.ensures.mode;
+      begun = c.in_ok-set_one.ensures.step.mode;
       way = λ clean. (let way = c.loop-left.invariant.way (call.clean clean) in
           c.in_ok-set_one.ensures.done clean ∙ (λ j. with_relation (way j) rel (f ((way j).now.db rel)))
           ∙ ap (λ S. with_relation (with_relation s rel X) rel (f S)) (table_of s rel X) ∙ put_twice s rel X (f X) ∙ ap (with_relation s rel) next);
+    }
+
+pub set_one-requires-clause-can : goal.set_one-requires-clause-can
+set_one-requires-clause-can g c =
+    let p = c.args.place.now in
+    let sets = c.args.sets.now in
+    let s = g.B.Base.state c.args.base.now in
+    let t = g.B.Base.state c.loop-left.base in
+    let T = s.now.db c.args.rel in
+    let i = c.loop-left.left - 1 in
+    let some = c.loop-left-test.true in
+    let most = c.loop-left.auto.left in
+    let n : c.loop-left.left ≡ i + 1 = omega (arith, some) in
+    let within : i < length sets = omega (arith, some, most) in
+    let fits = holds_at _ sets i c.index-sets-left.result within c.requires.sets in
+    record {
+      key = c.requires.key;
+      attr = subst (λ x. x.0 < 15) (sym c.index-sets-left.is) fits.0;
+      value = subst (λ x. IfSome x.1 HasSpelling) (sym c.index-sets-left.is) fits.1;
+      there = λ clean.
+          let now = ap (λ x. x.now.db c.args.rel) (c.loop-left.invariant.way clean) ∙ table_of s c.args.rel (set_each p (drop c.loop-left.left sets) T) ∙ ap (λ k. set_each p (drop k sets) T) n in
+          subst (λ x. HasCell (t.now.db c.args.rel) p x.0) (sym c.index-sets-left.is)
+          (cell_now p sets i c.index-sets-left.result within T (t.now.db c.args.rel) now (c.requires.there (c.loop-left.invariant.clean clean)));
     }

@@ -14,6 +14,6 @@ invariant_of-self g c =
     let p = c.args.place.now in
     let there = subst (λ (v : BaseState). IsClean v.tables → get ((content_of v.now).db rel) p ≢ None) (sym c.self.view_is) c.requires.there in
     let alone = subst (λ (v : BaseState). IsClean v.tables → IsAlone ((content_of v.now).db rel) p) (sym c.self.view_is) c.requires.alone in
-    let clean = c.in-Ok.ensures.call.clean in
-    based_on c.self.inside.store c.drop_tuple.new.store c.self.inside.now _ c.self.inside.kept c.self.invariant clean c.in-Ok.ensures.mode (λ h. (c.in-Ok.ensures.done h).1)
+    let clean = c.in-Ok.ensures.step.call.clean in
+    based_on c.self.inside.store c.drop_tuple.new.store c.self.inside.now _ c.self.inside.kept c.self.invariant clean c.in-Ok.ensures.step.mode (λ h. (c.in-Ok.ensures.done h).1)
     (λ h was. noted_rest _ _ c.self.inside.now _ was rel p c.drop_at.ensures refl c.requires.key (there (clean h)) (alone (clean h)) (c.in-Ok.ensures.done h).0)

@@ -1,10 +1,10 @@
 use Rattle.std.proofs.Common.{refl, sym, ap, ◌∙◌, None}
 use Rattle.std.proofs.lemmas.Result.{IfOk-weaker}
 use Rattle.mls_machine.specs.Machine.{with_session, denied, viewed, dumped, listed, step_inside}
-use Rattle.mls_monitor.specs.Sessions.{sessions_of}
+use Rattle.mls_sessions.specs.Sessions.{sessions_of}
 use Rattle.mls_sessions.specs.Turns.{is_call}
 use Rattle.mls_sessions.specs.Engine.{site, world_of}
-use Rattle.mls_monitor.proofs.SessionLemmas.{user_known}
+use Rattle.mls_sessions.proofs.SessionLemmas.{user_known}
 use Rattle.mls_sessions.proofs.EngineLemmas.{none_from, denied_is, viewed_is, dumped_is, listed_is, closed_is, wrote_is, answers_over, answers_stay, answers_closed}
 use Rattle.mls_sessions.proofs.engine.Engine.inside.Goals as goal
 

@@ -1,6 +1,3 @@
-use Rattle.std.proofs.Common.{ap, ◌∙◌}
-use Rattle.mls_filterview.proofs.PlaceLemmas.{node_there, cells_there}
-use Rattle.mls_updates.specs.Rows.{found_at}
 use Rattle.mls_updates.proofs.RowsLemmas.{found_entity}
 use Rattle.mls_updates.proofs.rows.Rows.entity.Goals as goal
 

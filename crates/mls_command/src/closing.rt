@@ -1,0 +1,68 @@
+//! Stores that are closed, and what their files keep then.
+ghost use Rattle.std.specs.Prelude.{◌≡◌, ◌↔◌, false, IsErr};
+ghost use Rattle.mls_statements.specs.Store.{IsClean};
+ghost use Rattle.mls_statements.specs.declared.rows.MetaRow.{MetaRow};
+ghost use Rattle.mls_fragments.specs.Based.{state_of};
+ghost use Rattle.mls_fragments.specs.Holdings.{Holdings, holdings_of};
+ghost use Rattle.mls_fragments.specs.declared.open_fault.OpenFault.{OpenFault};
+ghost use Rattle.mls_lattice.specs.Policy.{Tables};
+ghost use Rattle.mls_scheme.specs.declared.file.SchemesFile.{SchemesFile};
+ghost use Rattle.mls_command.specs.Closing.{IsBarred, KeepIn};
+ghost use Rattle.sqlite.specs.Recovery.{Image};
+
+use mls_fragments::SqlBase;
+use mls_host::CloseFault;
+use sqlite::{FileStore, Files};
+use sqlite_disk::Disk;
+
+/// What is left of a store.
+pub trait Left {
+    // Why a store is not opened under a policy and schemes in whose files this was found.
+    ghost bars: { Image → Tables → SchemesFile → OpenFault → Type 0 };
+
+    // What it keeps.
+    ghost keeps: { Self → Holdings → Type 0 };
+
+    // The store was not closed.
+    ghost is_open: { Self → Type 0 };
+}
+
+/// The files of a store that was closed, or could not be.
+#[derive(Drop)]
+pub struct LeftFiles<D: Disk + Drop> {
+    files: Files<D>,
+    is_closed: bool,
+}
+
+impl<D: Disk + Drop> Left for LeftFiles<D> {
+    ghost bars = { λ image policy file e. IsBarred D.Disk image policy file e };
+
+    ghost keeps = { λ l h. KeepIn D.Disk l.is_closed l.files h };
+
+    ghost is_open = { λ l. l.is_closed ≡ false };
+}
+
+/// Closes the store of a base.
+pub fn close<D: Disk + Drop>(store: SqlBase<FileStore<D>>) -> (Result<(), CloseFault>, LeftFiles<D>)
+    requires idle { (state_of store).begun ≡ false }
+    ensures kept { IsClean store.tables → (row : MetaRow)
+        × KeepIn D.Disk result.1.is_closed result.1.files (holdings_of row (state_of store).now) }
+    ensures closed { (result.1.is_closed ≡ false) ↔ IsErr result.0 }
+{
+    match store.close_files() {
+        Ok(files) => (
+            Ok(()),
+            LeftFiles {
+                files,
+                is_closed: true,
+            },
+        ),
+        Err((_, files)) => (
+            Err(CloseFault),
+            LeftFiles {
+                files,
+                is_closed: false,
+            },
+        ),
+    }
+}

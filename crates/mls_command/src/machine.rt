@@ -1,0 +1,166 @@
+//! Files, the standard input and stores, as the program has them.
+ghost use Rattle.std.specs.Prelude.{◌≡◌, ◌↔◌, false, length, IfOk, IfErr, IsErr};
+ghost use Rattle.mls_scheme.specs.Scheme.{AreUnder};
+ghost use Rattle.mls_statements.specs.declared.rows.MetaRow.{MetaRow};
+ghost use Rattle.mls_fragments.specs.Finding.{IsSoundContent};
+ghost use Rattle.mls_fragments.specs.Again.{FindsHoldings};
+ghost use Rattle.mls_fragments.specs.Holdings.{holdings_of, IsTakenOf};
+ghost use Rattle.sqlite.specs.Recovery.{Image};
+
+use crate::closing::{Left, LeftFiles, close};
+use crate::{private, shown};
+use mls_filterview::Base;
+use mls_fragments::{OpenFault, SqlBase};
+use mls_host::{CloseFault, Host, HostFault, StoreCause, StoreFiles, read_whole};
+use mls_lattice::Policy;
+use mls_scheme::SchemesFile;
+use mls_tokens::{AnyReader, LinesOf};
+use sqlite::{FileFrom, FileStore, Start};
+use std::alloc::Global;
+use std::fs;
+use std::io::{ErrorKind, Input, IsTerminal};
+use std::snapshot::Snapshot;
+
+/// What opens the stores at paths as bases, and closes them.
+/// The checker states no field and no associated type that is a base over files, since its bound `Alter` is met by a
+/// generic `impl` alone; a trait's parameter may be one.
+pub trait Opens<B: Base, L: Left> {
+    // The bytes of the store's files before it is opened.
+    ghost image: { Image };
+
+    /// The base over the store at a path, which is made where there is none.
+    fn open(&mut self, path: &str, policy: &Policy, file: &SchemesFile) -> Result<B, OpenFault>
+        requires under { AreUnder (length policy.now.labels) file.now.schemes }
+        ensures idle { IfOk result (λ b. (B.state b).begun ≡ false) }
+        ensures sound { IfOk result (λ b. IsSoundContent policy.now file.now.schemes (B.state b).now) }
+        ensures held { IfOk result (λ b. B.is_clean b
+            → IsTakenOf (FindsHoldings image) policy.now file.now (B.state b).now) }
+        ensures barred { IfErr result (L.bars image policy.now file.now) };
+
+    /// Closes the store of a base, and gives what is left of it.
+    fn close(&self, store: B) -> (Result<(), CloseFault>, L)
+        requires idle { (B.state store).begun ≡ false }
+        ensures kept { B.is_clean store → (row : MetaRow) × L.keeps result.1 (holdings_of row (B.state store).now) }
+        ensures closed { L.is_open result.1 ↔ IsErr result.0 };
+}
+
+/// Stores in files. `start` stands for what they held, and is there until the first is opened: a command opens no more.
+#[derive(Drop)]
+pub struct FilesOf<'a, F: Start> {
+    pub rt: &'a HostRuntime,
+    pub start: Option<F>,
+}
+
+impl<'a, F: Start> Opens<SqlBase<FileStore<FileFrom<F>>>, LeftFiles<FileFrom<F>>>
+    for FilesOf<'a, F> {
+    ghost use Rattle.sqlite.specs.WalFiles.{image_at};
+
+    ghost image = { image_at F.Start };
+
+    fn open(
+        &mut self,
+        path: &str,
+        policy: &Policy,
+        file: &SchemesFile,
+    ) -> Result<SqlBase<FileStore<FileFrom<F>>>, OpenFault> {
+        let start = self.start.take().ok_or(OpenFault::Store)?;
+        private::make(self.rt, path);
+        match SqlBase::open_from(self.rt, path, start, policy, file) {
+            Ok(base) => Ok(base),
+            Err((fault, _)) => Err(fault),
+        }
+    }
+
+    fn close(
+        &self,
+        store: SqlBase<FileStore<FileFrom<F>>>,
+    ) -> (Result<(), CloseFault>, LeftFiles<FileFrom<F>>) {
+        close(store)
+    }
+}
+
+/// The machine itself, and, for contracts alone, the store that a run left, as a base and as what is left of it.
+#[derive(Drop)]
+pub struct Machine<'a, B: Base + Drop, L: Left + Drop, O: Drop> {
+    rt: &'a HostRuntime,
+    stores: O,
+    is_terminal: bool,
+    is_watched: bool,
+    base: Option<Snapshot<B>>,
+    left: Option<Snapshot<L>>,
+}
+
+impl<'a, B: Base + Drop, L: Left + Drop, O: Opens<B, L> + Drop> Machine<'a, B, L, O> {
+    /// The files and the standard input of a runtime, and stores.
+    pub fn new(rt: &'a HostRuntime, stores: O) -> Machine<'a, B, L, O> {
+        Machine {
+            rt,
+            stores,
+            is_terminal: rt.stdin().is_terminal(),
+            is_watched: rt.stderr().is_terminal(),
+            base: None,
+            left: None,
+        }
+    }
+}
+
+impl<'a, B: Base + Drop, L: Left + Drop, O: Opens<B, L> + Drop> Host for Machine<'a, B, L, O> {
+    ghost use Rattle.mls_command.specs.AnsweringOver.{hosting};
+
+    ghost hosting = { hosting
+        (record { is_clean = B.is_clean; failures = B.failures })
+        (record { image = O.image; bars = L.bars; keeps = L.keeps; is_open = L.is_open }) };
+
+    type Store = B;
+
+    type Lines = LinesOf<AnyReader<<HostRuntime as Input>::Reader>>;
+
+    fn file(&self, alloc: Global, path: &str) -> Result<Vec<u8>, HostFault> {
+        match fs::open(self.rt, path) {
+            Ok(file) => read_whole(alloc, file),
+            Err(e) if e.kind() == ErrorKind::OutOfMemory => Err(HostFault::Memory),
+            Err(_) => Err(HostFault::Unreadable),
+        }
+    }
+
+    fn input(&self, alloc: Global) -> Result<Vec<u8>, HostFault> {
+        read_whole(alloc, self.rt.reader())
+    }
+
+    fn lines(&self) -> LinesOf<AnyReader<<HostRuntime as Input>::Reader>> {
+        LinesOf::new(AnyReader::new(self.rt.reader()))
+    }
+
+    fn is_terminal(&self) -> bool {
+        self.is_terminal
+    }
+
+    fn is_watched(&self) -> bool {
+        self.is_watched
+    }
+
+    fn store(
+        &mut self,
+        alloc: Global,
+        path: &str,
+        policy: &Policy,
+        file: &SchemesFile,
+    ) -> Result<B, OpenFault> {
+        match &self.left {
+            Some(_) => Err(OpenFault::Store),
+            None => self.stores.open(path, policy, file),
+        }
+    }
+
+    fn store_files(&self, alloc: Global, path: &str) -> Result<StoreFiles, StoreCause> {
+        shown::files_at(self.rt, alloc, path)
+    }
+
+    fn keep(&mut self, path: &str, store: B) -> Result<(), CloseFault> {
+        let base = Snapshot::of(&store);
+        let (closed, left) = self.stores.close(store);
+        self.base = Some(base);
+        self.left = Some(Snapshot::of(&left));
+        closed
+    }
+}

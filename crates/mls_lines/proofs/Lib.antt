@@ -1,2 +1,0 @@
-pub mod TypingLemmas
-pub mod PieceLemmas

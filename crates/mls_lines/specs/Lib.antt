@@ -1,2 +1,0 @@
-pub mod Typing
-pub mod Writing

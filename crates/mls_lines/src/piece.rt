@@ -1,9 +1,0 @@
-//! A part of a text.
-
-/// A part of a text: it is written without an allocation.
-#[derive(Clone, Copy)]
-pub enum Piece<'a> {
-    Text(&'a str),
-    /// In decimal digits.
-    Number(usize),
-}

@@ -1,7 +1,0 @@
-use Rattle.std.proofs.Common.{◌≡◌, drop}
-use Rattle.mls_machine.specs.Denying.{exceed}
-use Rattle.mls_monitor.specs.Sessions.{site_of}
-use Rattle.mls_monitor.proofs.denying.exceed.Given as goal
-
-abbrev pub invariant-loop-label : goal.invariant-loop-label
-invariant-loop-label l = exceed (site_of l.rules) l.limit (drop l.label-index l.labels) ≡ exceed (site_of l.rules) l.limit l.labels

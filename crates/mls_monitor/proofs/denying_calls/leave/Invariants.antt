@@ -1,8 +1,0 @@
-use Rattle.std.proofs.Common.{◌≡◌, drop, Some}
-use Rattle.mls_machine.specs.Site.{site_labels}
-use Rattle.mls_machine.specs.Denying.{lie_outside}
-use Rattle.mls_monitor.specs.Sessions.{site_of}
-use Rattle.mls_monitor.proofs.denying_calls.leave.Given as goal
-
-abbrev pub invariant-loop-label : goal.invariant-loop-label
-invariant-loop-label l = lie_outside (site_labels (site_of l.rules)) (Some (l.low, l.high)) (drop l.label-index l.labels) ≡ lie_outside (site_labels (site_of l.rules)) (Some (l.low, l.high)) l.labels

@@ -1,2 +1,0 @@
-pub mod Denying
-pub mod Sessions

@@ -1,3 +1,0 @@
-pub mod EscapingLemmas
-pub mod TableSteps
-pub mod HarmlessLemmas

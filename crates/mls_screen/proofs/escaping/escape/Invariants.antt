@@ -1,6 +1,0 @@
-use Rattle.std.proofs.Common.{◌≡◌, ◌++◌, drop}
-use Rattle.mls_screen.specs.Screen.{escaped_from, escaped}
-use Rattle.mls_screen.proofs.escaping.escape.Given as goal
-
-abbrev pub invariant-loop-byte : goal.invariant-loop-byte
-invariant-loop-byte l = l.text.items ++ escaped_from l.behind (drop l.byte-index l.bytes) ≡ escaped l.bytes

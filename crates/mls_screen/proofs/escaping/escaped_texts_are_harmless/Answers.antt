@@ -1,5 +1,0 @@
-use Rattle.mls_screen.proofs.HarmlessLemmas.{escaped_harmless}
-use Rattle.mls_screen.proofs.escaping.escaped_texts_are_harmless.Goals as goal
-
-pub returns : goal.returns
-returns c = escaped_harmless

@@ -1,2 +1,0 @@
-pub mod Screen
-pub mod Table

@@ -1,0 +1,123 @@
+//! Calls that are denied in open sessions.
+ghost use Rattle.std.specs.Prelude.{◌≡◌, ◌<◌, ◌&&◌, not, nat_eq, length, IfSome, Some, [], ◌∷◌};
+ghost use Rattle.std.specs.List.{AllByRecursion};
+ghost use Rattle.mls_lattice.specs.Labels.{below};
+ghost use Rattle.mls_machine.specs.Site.{site_labels};
+ghost use Rattle.mls_machine.specs.Denying.{first_denial, trusted_of, lie_outside, stored_named, call_denials, call_denial};
+ghost use Rattle.mls_machine.specs.Observation.{AreRead};
+ghost use Rattle.mls_sessions.specs.Sessions.{site_of};
+
+use crate::arguments::are_wrong;
+use crate::denying::{clearance, exceed, lacks_on};
+use crate::finding::stored_named;
+use crate::rules::Rules;
+use mls_lattice::{LabelNo, Modes, Policy, UserNo};
+use mls_machine::{Denial, Stored};
+use mls_scheme::Value;
+use mls_translang::Tx;
+
+/// The interval in which a user is trusted, if there is one.
+fn trusted(policy: &Policy, user: UserNo) -> Option<(LabelNo, LabelNo)>
+    requires { user < length policy.now.users }
+    ensures same { result ≡ trusted_of policy.now user }
+    ensures declared { IfSome result (λ i. (i.0 < length policy.now.labels) × (i.1 < length policy.now.labels)) }
+{
+    policy.trusted(user)
+}
+
+/// Whether a label lies between two others.
+fn is_between(rules: &Rules, low: LabelNo, high: LabelNo, label: LabelNo) -> bool
+    requires low { low < length rules.now.policy.now.labels }
+    requires high { high < length rules.now.policy.now.labels }
+    requires label { label < length rules.now.policy.now.labels }
+    ensures { result ≡ (below (site_labels (site_of rules.now)) low label
+        && below (site_labels (site_of rules.now)) label high) }
+{
+    rules.policy.dominates(label, low) && rules.policy.dominates(high, label)
+}
+
+/// Whether one of the labels does not lie between two others.
+fn leave(rules: &Rules, low: LabelNo, high: LabelNo, labels: &[LabelNo]) -> bool
+    requires low { low < length rules.now.policy.now.labels }
+    requires high { high < length rules.now.policy.now.labels }
+    requires labels { AllByRecursion (λ l. l < length rules.now.policy.now.labels) labels.now }
+    ensures { result ≡ lie_outside (site_labels (site_of rules.now)) (Some (low, high)) labels.now }
+{
+    for label in labels {
+        if !is_between(rules, low, high, *label) {
+            return true;
+        }
+    }
+    false
+}
+
+/// Whether a transaction reads above its lowest label and a user is not trusted with that.
+fn is_untrusted(rules: &Rules, user: UserNo, tx: &Tx) -> bool
+    requires user { user < length rules.now.policy.now.users }
+    requires lo { tx.now.lo < length rules.now.policy.now.labels }
+    requires hi { tx.now.hi < length rules.now.policy.now.labels }
+    ensures { result ≡ (not (nat_eq tx.now.hi tx.now.lo)
+        && lie_outside (site_labels (site_of rules.now)) (trusted_of rules.now.policy.now user)
+        (tx.now.lo ∷ tx.now.hi ∷ [])) }
+{
+    if tx.hi() == tx.lo() {
+        return false;
+    }
+    match trusted(rules.policy, user) {
+        None => true,
+        Some((low, high)) => leave(rules, low, high, &[tx.lo(), tx.hi()]),
+    }
+}
+
+/// Why a call of a transaction with a certificate is denied, if it is.
+#[tactic(auto, unfolding(mls_machine::specs::Denying::first_denial))]
+fn certified_denial(
+    rules: &Rules,
+    level: LabelNo,
+    user: UserNo,
+    tx: &Tx,
+    args: &[Option<Value>],
+) -> Option<Denial>
+    requires user { user < length rules.now.policy.now.users }
+    requires lo { tx.now.lo < length rules.now.policy.now.labels }
+    requires hi { tx.now.hi < length rules.now.policy.now.labels }
+    ensures { result ≡ first_denial (call_denials (site_of rules.now) level user tx.now args.now) }
+{
+    if lacks_on(rules, user, tx.name(), &[Modes::EXECUTE]) {
+        return Some(Denial::Ds);
+    }
+    if exceed(rules, clearance(rules.policy, user), &[tx.hi()]) {
+        return Some(Denial::Ss);
+    }
+    if tx.lo() != level {
+        return Some(Denial::Star);
+    }
+    if is_untrusted(rules, user, tx) {
+        return Some(Denial::Trust);
+    }
+    if are_wrong(tx, args) {
+        return Some(Denial::Arguments);
+    }
+    None
+}
+
+/// Why a call of what is stored by a name is denied, if it is.
+pub(crate) fn call_denial(
+    rules: &Rules,
+    level: LabelNo,
+    user: UserNo,
+    name: &str,
+    args: &[Option<Value>],
+) -> Option<Denial>
+    requires user { user < length rules.now.policy.now.users }
+    requires read { AreRead (site_of rules.now) }
+    ensures { result ≡ call_denial (site_of rules.now) level user args.now (stored_named rules.now.stored name.now) }
+{
+    match stored_named(&rules.stored, name) {
+        None => Some(Denial::UnknownTransaction),
+        Some(Stored::Plain(_)) => Some(Denial::NotCertified),
+        Some(Stored::Certified(certified)) => {
+            certified_denial(rules, level, user, certified.tx(), args)
+        }
+    }
+}

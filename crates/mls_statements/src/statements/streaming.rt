@@ -1,0 +1,85 @@
+//! The rows of a whole table, which are read one at a time, and found to differ in their rowids.
+ghost use Rattle.std.specs.Prelude.{◌≡◌, ◌++◌, true, [], ◌∷◌, int_lt, IfOk, IfErr, IfSome, OnOk, OnErr};
+ghost use Rattle.sqlite.specs.Given.{IsPlain};
+ghost use Rattle.sqlite.specs.Listing.{understood};
+ghost use Rattle.sqlite.specs.State.{HasCleanDisk, IsUnchanged, KeepsCommit};
+ghost use Rattle.sqlite.specs.Held.{state};
+ghost use Rattle.sqlite_value.specs.Order.{column};
+ghost use Rattle.sqlite_trees.specs.View.{is_int};
+ghost use Rattle.sqlite_rules.specs.Edit.{id_in};
+ghost use Rattle.mls_statements.specs.Adopting.{Blames, IsInteger, ShowsAll, BlamesOne};
+
+use crate::adopting::AdoptFault;
+use crate::decode::{Shown, integer_at};
+use sqlite::{Alter, Connection, Error, Row};
+use std::alloc::Global;
+
+/// The rowid of a row, which is above that of the row before.
+fn next_rowid(row: &Row, at: usize, last: Option<i64>) -> Result<i64, AdoptFault>
+    ensures read { IfOk result (λ id. (is_int (column row.now at) ≡ true) × (id ≡ id_in (column row.now at))) }
+    ensures above { IfOk result (λ id. IfSome last (λ low. int_lt low id ≡ true)) }
+    ensures bad { IfErr result (Blames (IsInteger (column row.now at))) }
+{
+    match (integer_at(row, at), last) {
+        (Ok(id), Some(low)) if id <= low => Err(AdoptFault::Store),
+        (Ok(id), _) => Ok(id),
+        (Err(error), _) => Err(AdoptFault::of_row(error)),
+    }
+}
+
+/// Keeps what a row shows, and answers its rowid, which is above that of the row before.
+fn keep<T: Shown>(
+    row: &Row,
+    at: usize,
+    last: Option<i64>,
+    found: &mut Vec<T>,
+) -> Result<i64, AdoptFault>
+    ensures kept { OnOk result ((found.new.items ≡ found.old.items ++ T.show row.now ∷ [])
+        × (T.shows row.now ≡ true)) }
+    ensures read { IfOk result (λ id. (is_int (column row.now at) ≡ true) × (id ≡ id_in (column row.now at))) }
+    ensures above { IfOk result (λ id. IfSome last (λ low. int_lt low id ≡ true)) }
+    ensures bad { IfErr result (Blames (T.reads row.now × IsInteger (column row.now at))) }
+{
+    let id = next_rowid(row, at, last)?;
+    match T::from_row(row).map_err(AdoptFault::of_row) {
+        Ok(shown) => match found.push(shown) {
+            Ok(()) => Ok(id),
+            Err(_) => Err(AdoptFault::Memory),
+        },
+        Err(fault) => Err(fault),
+    }
+}
+
+/// What every row of a query shows, with the rowid at a place, unless one does not read.
+pub fn each<S: Alter, T: Shown>(
+    conn: &mut Connection<S>,
+    alloc: Global,
+    sql: &str,
+    at: usize,
+) -> Result<Result<Vec<T>, AdoptFault>, Error>
+    ensures all { HasCleanDisk (state S.Store conn.new) → IsPlain (understood (state S.Store conn.old).now.schema sql.now)
+        → IfOk result (λ read. IfOk read (λ xs.
+        ShowsAll at T.show T.shows sql.now (state S.Store conn.old) (state S.Store conn.new) xs.items)) }
+    ensures bad { HasCleanDisk (state S.Store conn.new) → IsPlain (understood (state S.Store conn.old).now.schema sql.now)
+        → IfOk result (λ read. IfErr read (BlamesOne at T.reads sql.now (state S.Store conn.new))) }
+    ensures same { HasCleanDisk (state S.Store conn.new) → IsPlain (understood (state S.Store conn.old).now.schema sql.now)
+        → OnOk result (IsUnchanged (state S.Store conn.old) (state S.Store conn.new)) }
+    ensures err { HasCleanDisk (state S.Store conn.new) → IsPlain (understood (state S.Store conn.old).now.schema sql.now)
+        → OnErr result (KeepsCommit (state S.Store conn.old) (state S.Store conn.new)) }
+    ensures clean { HasCleanDisk (state S.Store conn.new) → HasCleanDisk (state S.Store conn.old) }
+{
+    let mut found = Vec::new(alloc);
+    let mut last = None;
+    let mut rows = conn.query(sql, &[])?;
+    'rows: for _ in 0..u64::MAX {
+        rows.advance()?;
+        let Some(row) = rows.get() else {
+            return Ok(Ok(found));
+        };
+        match keep::<T>(row, at, last, &mut found) {
+            Ok(id) => last = Some(id),
+            Err(fault) => return Ok(Err(fault)),
+        }
+    }
+    Ok(Err(AdoptFault::Store))
+}

@@ -1,0 +1,86 @@
+-- Lines of a reader: byte by byte.
+use Rattle.std.proofs.Common.{◌≡◌, ◌≢◌, ℕ, zero, suc, ◌≤◌, ◌<◌, Bool, true, false, List, [], ◌∷◌, ◌++◌, length, take, Option, Some, None, Result, Ok, Err, OnErr, refl, sym, ap, ◌∙◌, subst, inl, inr, append_assoc, append-nil, arith}
+use Rattle.std.proofs.lemmas.List.{length-append}
+use Rattle.std.specs.Io.KnownBytes.{Appends, Consumes, IsAtEnd, Keeps}
+use Rattle.std.proofs.KnownBytes.{Appends-nil, Consumes-nil, Consumes-trans, Consumes-kept, Appends-kept}
+use Rattle.mls_tokens.specs.Typing.{HasNoFeed, IsLong, IsTaken, IsSkipped, left_of, IsLost}
+
+pub kept_taken : (a b : Option (List ℕ)) → Keeps a b → Consumes a b []
+kept_taken a b h = Consumes-kept a a b [] (Consumes-nil a) h
+
+pub kept_written : (a b : Option (List ℕ)) → Keeps a b → Appends a b []
+kept_written a b h = Appends-kept a a b [] (Appends-nil a) h
+
+-- one byte of a buffer of one
+pub one_byte : (a b : Option (List ℕ)) (n : ℕ) (buf : List ℕ) (byte : ℕ) → Consumes a b (take n buf) → 0 < n → buf ≡ byte ∷ [] → Consumes a b (byte ∷ [])
+one_byte a b zero buf byte h some is = absurd (omega arith)
+one_byte a b (suc n) buf byte h some is = subst (Consumes a b) (ap (take (suc n)) is ∙ rest n) h
+  where
+    rest : (n : ℕ) → take (suc n) (byte ∷ []) ≡ byte ∷ []
+    rest zero = refl
+    rest (suc n) = refl
+
+pub no_byte : (a b : Option (List ℕ)) (buf : List ℕ) → Consumes a b (take 0 buf) → Consumes a b []
+no_byte a b buf h = h
+
+pub one_more : (a b c : Option (List ℕ)) (bytes : List ℕ) (byte : ℕ) → Consumes a b bytes → Consumes b c (byte ∷ []) → Consumes a c (bytes ++ byte ∷ [])
+one_more a b c bytes byte h k = Consumes-trans a b c bytes (byte ∷ []) h k
+
+pub no_more : (a b c : Option (List ℕ)) (bytes : List ℕ) → Consumes a b bytes → Consumes b c [] → Consumes a c bytes
+no_more a b c bytes h k = subst (Consumes a c) (append-nil bytes) (Consumes-trans a b c bytes [] h k)
+
+pub feedless_more : (text : List ℕ) (byte : ℕ) → HasNoFeed text → byte ≢ 10 → HasNoFeed (text ++ byte ∷ [])
+feedless_more [] byte h n = (n, tt)
+feedless_more (x ∷ xs) byte h n = (h.0, feedless_more xs byte h.1 n)
+
+pub feedless_append : (xs ys : List ℕ) → HasNoFeed xs → HasNoFeed ys → HasNoFeed (xs ++ ys)
+feedless_append [] ys h k = k
+feedless_append (x ∷ xs) ys h k = (h.0, feedless_append xs ys h.1 k)
+
+-- ---- lines
+
+all_read : (a b : Option (List ℕ)) (bytes : List ℕ) → Consumes a b bytes → IsAtEnd b → Consumes a (Some []) bytes
+all_read None b bytes h e = tt
+all_read (Some xs) None bytes h e = absurd h
+all_read (Some xs) (Some ys) bytes h e = h ∙ ap (λ l. bytes ++ l) e
+
+module _ (a b c : Option (List ℕ)) (text : List ℕ) (one : HasNoFeed text) (long : 1048576 ≤ length text) (read : Consumes a b text) where
+  longer : (more : List ℕ) → 1048576 ≤ length (text ++ more)
+  longer more = subst (λ n. 1048576 ≤ n) (sym (length-append text more)) (omega arith)
+
+  -- so many bytes of a line, and its rest
+  pub long_line : (over : Bool) → IsSkipped b c over → (x : List ℕ) × IsLong a (left_of over c) x × Unit {0}
+  long_line true h = (
+    text ++ h.0,
+    record {
+      long = longer h.0;
+      next = record { text = text ++ h.0; one = feedless_append text h.0 one h.1; read = all_read a c (text ++ h.0) (Consumes-trans a b c text h.0 read h.2) h.3; whole = inr (refl, refl) };
+    },
+    tt,
+  )
+  long_line false h =
+      let rest = h.0 ++ 10 ∷ [] in (
+        text ++ rest,
+        record {
+          long = longer rest;
+          next = record { text = text ++ h.0; one = feedless_append text h.0 one h.1; read = Consumes-trans a b c text rest read h.2; whole = inl (sym (append_assoc text h.0 (10 ∷ []))) };
+        },
+        tt,
+      )
+
+pub taken_more : (a b c : Option (List ℕ)) (text : List ℕ) → Consumes a b text → IsTaken b c → IsTaken a c
+taken_more a b c text h k = (text ++ k.0, Consumes-trans a b c text k.0 h k.1)
+
+-- ---- lines that are lost
+
+pub on_err : {A F P : Type 0} (r : Result A F) → P → OnErr r P
+on_err (Ok x) p = tt
+on_err (Err e) p = p
+
+pub lost_none : (a was is : Option (List ℕ)) → Keeps was is → IsLost (λ _. []) a a was is
+lost_none a was is h = record { bytes = []; line = []; shown = []; rest = []; read = Consumes-nil a; written = kept_written was is h; part = refl }
+
+pub lost_taken : (over : Bool) (a b was is : Option (List ℕ)) → over ≡ false → IsTaken a b → Keeps was is → IsLost (λ _. []) (left_of over a) (left_of over b) was is
+lost_taken over a b was is e h k =
+    subst (λ (o : Bool). IsLost (λ _. []) (left_of o a) (left_of o b) was is) (sym e)
+    (record { bytes = h.0; line = []; shown = []; rest = []; read = h.1; written = kept_written was is k; part = refl })

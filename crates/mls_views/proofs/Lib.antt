@@ -1,3 +1,0 @@
-pub mod ViewsLemmas
-pub mod KeptLemmas
-pub mod WrittenLemmas
